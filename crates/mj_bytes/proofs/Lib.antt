@@ -1,0 +1,4 @@
+pub mod AddLaws
+pub mod PartLaws
+pub mod DigitLaws
+pub mod NumberLaws

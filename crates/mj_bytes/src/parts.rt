@@ -1,0 +1,50 @@
+//! Lines, which each end with a newline, and fields, which single spaces part.
+
+ghost use Rattle.std.specs.Prelude.{◌≡◌, false, MatchOption, option_map};
+ghost use Rattle.std.specs.Option.{option_copied};
+ghost use Rattle.mj_bytes.specs.Parts.{has_byte, PartsAtFirst, BeginsWithLine, HasNoLine, BeginsWithField, IsOneField, parted, behind};
+
+/// The first line of a text, without its newline, and all that follows the newline; none where the
+/// text has no newline, and so no whole line.
+#[tactic(auto, using(crate::proofs::PartLaws::begins_with_line, crate::proofs::PartLaws::has_no_line))]
+pub fn split_line(text: &[u8]) -> Option<(&[u8], &[u8])>
+    ensures { MatchOption result (HasNoLine text.now) (λ x. BeginsWithLine text.now x.0.now x.1.now) }
+{
+    split_at_first(text, b'\n')
+}
+
+/// The first field of a text, without the space behind it, and all that follows the space; none where
+/// the text has no space, and so is one field.
+#[tactic(auto, using(crate::proofs::PartLaws::space_splits))]
+pub fn split_space(text: &[u8]) -> Option<(&[u8], &[u8])>
+    ensures cases { MatchOption result (IsOneField text.now) (λ x. BeginsWithField text.now x.0.now x.1.now) }
+    ensures parts { option_map (λ x. (x.0.now, x.1.now)) result ≡ parted text.now }
+{
+    let Some((field, rest)) = split_at_first(text, b' ') else {
+        return None;
+    };
+    Some((field, rest))
+}
+
+/// What stands behind a beginning of a text; none where the text doesn't begin so.
+#[tactic(auto, using(crate::proofs::PartLaws::strips))]
+pub fn strip<'a>(text: &'a [u8], beginning: &[u8]) -> Option<&'a [u8]>
+    ensures { option_copied result ≡ behind beginning.now text.now }
+{
+    let Some(rest) = text.strip_prefix(beginning) else {
+        return None;
+    };
+    Some(rest)
+}
+
+#[tactic(auto, using(crate::proofs::PartLaws::search_steps))]
+fn split_at_first(text: &[u8], byte: u8) -> Option<(&[u8], &[u8])>
+    ensures { MatchOption result (has_byte byte text.now ≡ false) (λ x. PartsAtFirst byte text.now x.0.now x.1.now) }
+{
+    for (at, found) in text.iter().enumerate() {
+        if *found == byte {
+            return Some((&text[..at], &text[at + 1..]));
+        }
+    }
+    None
+}
