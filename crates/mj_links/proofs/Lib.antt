@@ -1,0 +1,4 @@
+pub mod KnownLaws
+pub mod ReadLaws
+pub mod WriteLaws
+pub mod MemoryLaws

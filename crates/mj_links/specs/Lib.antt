@@ -1,0 +1,4 @@
+pub mod MemObjects
+pub mod Memory
+pub mod Sources
+pub mod Sinks
