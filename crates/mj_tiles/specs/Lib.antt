@@ -1,0 +1,4 @@
+pub mod Faces
+pub mod Counts
+pub mod Kinds
+pub mod Melds

@@ -1,0 +1,115 @@
+ghost use Rattle.std.specs.Prelude.{◌≡◌, ℕ, ◌<◌};
+ghost use Rattle.std.specs.Option.{SomeIff};
+ghost use Rattle.mj_tiles.specs.Faces.{kind_of, text_of, face_of};
+
+use crate::kind::Kind;
+use std::marker::Model;
+
+/// A tile, known by its face: faces 0 to 33 are the plain kinds, 34, 35 and 36 the red fives `5mr`, `5pr` and `5sr`.
+#[derive(Clone, Copy, Debug, PartialEq, Eq)]
+pub struct Tile {
+    pub(crate) face: u8,
+}
+
+impl Model for Tile {
+    ghost Value = { ℕ };
+
+    ghost view = { λ t. t.face };
+
+    ghost invariant = { λ t. t.face < 37 };
+
+    ghost inverse = { λ n. record { face = n } };
+}
+
+impl Tile {
+    /// The tile of that face; none exactly above 36.
+    pub fn of(face: u8) -> Option<Tile>
+        ensures { SomeIff result (face < 37) face }
+    {
+        if face < 37 {
+            return Some(Tile { face });
+        }
+        None
+    }
+
+    /// The face of the tile, 0 to 36.
+    pub fn face(self) -> u8
+        ensures value { result ≡ self }
+        ensures within { result < 37 }
+    {
+        self.face
+    }
+
+    /// The kind of the tile: a red five is a five of its suit.
+    pub fn kind(self) -> Kind
+        ensures { result ≡ kind_of self }
+    {
+        match self.face {
+            34 => Kind { number: 4 },
+            35 => Kind { number: 13 },
+            36 => Kind { number: 22 },
+            plain => Kind { number: plain },
+        }
+    }
+
+    /// The tile that the text names, as `1m`, `E` or `5pr`; none exactly where the text is none of the 37.
+    #[tactic(auto, unfolding(crate::specs::Faces::face_of))]
+    pub fn read(text: &[u8]) -> Option<Tile>
+        ensures { result ≡ face_of text.now }
+    {
+        for face in 0..37 {
+            let tile = Tile { face };
+            if tile.text() == text {
+                return Some(tile);
+            }
+        }
+        None
+    }
+
+    /// The text of the tile in mjai: a number and the letter of its suit with `r` for a red five, or the letter of an
+    /// honour.
+    #[tactic(auto, unfolding(crate::specs::Faces::text_of, crate::specs::Faces::texts))]
+    pub fn text(self) -> &'static [u8]
+        ensures { result.now ≡ text_of self }
+    {
+        match self.face {
+            0 => b"1m",
+            1 => b"2m",
+            2 => b"3m",
+            3 => b"4m",
+            4 => b"5m",
+            5 => b"6m",
+            6 => b"7m",
+            7 => b"8m",
+            8 => b"9m",
+            9 => b"1p",
+            10 => b"2p",
+            11 => b"3p",
+            12 => b"4p",
+            13 => b"5p",
+            14 => b"6p",
+            15 => b"7p",
+            16 => b"8p",
+            17 => b"9p",
+            18 => b"1s",
+            19 => b"2s",
+            20 => b"3s",
+            21 => b"4s",
+            22 => b"5s",
+            23 => b"6s",
+            24 => b"7s",
+            25 => b"8s",
+            26 => b"9s",
+            27 => b"E",
+            28 => b"S",
+            29 => b"W",
+            30 => b"N",
+            31 => b"P",
+            32 => b"F",
+            33 => b"C",
+            34 => b"5mr",
+            35 => b"5pr",
+            _ => b"5sr",
+        }
+    }
+}
