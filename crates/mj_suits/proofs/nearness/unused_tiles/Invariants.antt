@@ -1,0 +1,10 @@
+-- What is counted so far, and what is still to count, is the whole.
+use Rattle.std.proofs.Common.{◌≡◌, ◌+◌, ◌*◌, ◌≤◌, drop}
+use Rattle.mj_suits.specs.Targets.{missing}
+use Rattle.mj_suits.proofs.nearness.unused_tiles.Given as goal
+
+abbrev pub invariant-loop-n : goal.invariant-loop-n
+invariant-loop-n l = record {
+  counted : l.number + missing (drop l.n l.aim.counts) (drop l.n l.plan.target) ≡ missing (drop l.low l.aim.counts) (drop l.low l.plan.target);
+  few : l.number ≤ 4 * l.n;
+}

@@ -1,0 +1,5 @@
+pub mod Each
+pub mod Sets
+pub mod Search
+pub mod Targets
+pub mod Walk
