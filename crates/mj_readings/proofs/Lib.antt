@@ -1,0 +1,16 @@
+pub mod Tiles
+pub mod Order
+pub mod WayRules
+pub mod WayAll
+pub mod Distinct
+pub mod Members
+pub mod KindsBelow
+pub mod PairKinds
+pub mod WayOnce
+pub mod Orphans
+pub mod Sorting
+pub mod Picking
+pub mod Places
+pub mod Laws
+pub mod StandingLaws
+pub mod ReadingLaws

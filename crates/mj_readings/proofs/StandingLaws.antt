@@ -1,0 +1,87 @@
+-- The standings are all ways with all places of the winning tile, each once.
+use Rattle.std.proofs.Common.{ℕ, ◌≡◌, ◌<◌, ◌≤◌, ◌++◌, ◌∷◌, [], Bool, true, false, cond, List, length, get_or, map, refl, sym, ◌∙◌, ap, subst, arith, eqb, leb, zero, suc, zero-add, ◌⊎◌, inl, inr, Option, Some, None, ◌||◌, ◌&&◌, lit<}
+use Rattle.std.specs.List.{All, Contains, filter, range_with_len, slice_get, list_all}
+use Rattle.std.specs.Option.{option_map_or}
+use Rattle.std.proofs.lemmas.Bool.{or_cases, and_parts, eqb-true, false≢true}
+use Rattle.std.proofs.lemmas.List.Elements.{All-map, All-weaker, All-contains, filter_passes}
+use Rattle.std.proofs.lemmas.Option.{slice_get_within}
+use Rattle.mj_tiles.specs.Counts.{IsCounts}
+use Rattle.mj_readings.specs.declared.reading.Set.{Set}
+use Rattle.mj_readings.specs.declared.standing.Standing.{Standing}
+use Rattle.mj_readings.specs.Sets.{in_order}
+use Rattle.mj_readings.specs.Complete.{AreSetsAndPair}
+use Rattle.mj_readings.specs.Readings.{names_winning, set_has, is_first}
+use Rattle.mj_readings.specs.Ways.{Way, ways}
+use Rattle.mj_readings.specs.Standings.{win_places, standings, standings_of}
+use Rattle.mj_readings.proofs.WayRules.{IsWay, ways_sound}
+use Rattle.mj_readings.proofs.WayAll.{ways_complete}
+use Rattle.mj_readings.proofs.WayOnce.{ways_once}
+use Rattle.mj_readings.proofs.Distinct.{Distinct, Distinct-map}
+use Rattle.mj_readings.proofs.Members.{Contains-map, map-member, Contains-filter, Contains-range, Contains-flat_map, All-flat_map, Distinct-filter, Distinct-range, Distinct-flat_map}
+use Rattle.mj_readings.proofs.Laws.{way-are, are-way-in_order, none_above}
+
+-- A standing that makes up the counts.
+pub record IsStanding (counts : List ℕ) (number winning : ℕ) (standing : Standing) : Type 0 where
+  pub split : AreSetsAndPair counts number standing.sets standing.pair
+  pub order : in_order standing.sets ≡ true
+  pub win_place : names_winning standing.sets standing.pair winning standing.win ≡ true
+
+-- The winning tile has one of five places.
+win_below : (sets : List Set) (pair winning win : ℕ) → length sets ≤ 4 → names_winning sets pair winning win ≡ true → win < 5
+unfolding names_winning
+win_below sets pair winning win few names = split (or_cases (eqb win 4 && eqb pair winning) _ names)
+  where
+    in_set : (o : Option Set) → slice_get sets win ≡ o → option_map_or (λ set. set_has winning set && is_first sets win set) o false ≡ true → win < 5
+    in_set None is has = absurd (false≢true has)
+    in_set (Some set) is has = omega (arith, slice_get_within sets win set is, few)
+
+    split : ((eqb win 4 && eqb pair winning) ≡ true) ⊎ (option_map_or (λ set. set_has winning set && is_first sets win set) (slice_get sets win) false ≡ true) → win < 5
+    split (inl here) = omega (arith, eqb-true win 4 (and_parts (eqb win 4) (eqb pair winning) here).0)
+    split (inr set) = in_set (slice_get sets win) refl set
+
+pub standings_sound : (counts : List ℕ) (number winning : ℕ) → length counts ≡ 34 →
+    All (IsStanding counts number winning) (standings [] winning (ways counts 0 0 0 number None))
+unfolding standings win_places
+standings_sound counts number winning size =
+    All-flat_map (IsStanding counts number winning) (standings_of [] winning) (ways counts 0 0 0 number None)
+    (All-weaker (IsWay counts 0 0 0 number None) (λ way. All (IsStanding counts number winning) (standings_of [] winning way)) of_way
+    (ways counts 0 0 0 number None) (ways_sound counts 0 0 0 number None (omega (arith, size))))
+  where
+    of_way : (way : Way) → IsWay counts 0 0 0 number None way → All (IsStanding counts number winning) (standings_of [] winning way)
+    of_way way is =
+        let are = way-are counts number way size is in
+        All-map (IsStanding counts number winning) (λ win. record { sets = way.sets; pair = way.pair; win = win }) (filter (names_winning way.sets way.pair winning) (range_with_len 0 5))
+        (All-weaker (λ win. names_winning way.sets way.pair winning win ≡ true) (λ win. IsStanding counts number winning (record { sets = way.sets; pair = way.pair; win = win }))
+        (λ win names. record { split = are.0; order = are.1; win_place = names })
+        (filter (names_winning way.sets way.pair winning) (range_with_len 0 5)) (filter_passes (names_winning way.sets way.pair winning) (range_with_len 0 5)))
+
+pub standings_complete : (counts : List ℕ) (number winning : ℕ) (standing : Standing) → IsCounts counts → number ≤ 4 → IsStanding counts number winning standing →
+    Contains (standings [] winning (ways counts 0 0 0 number None)) standing
+unfolding standings win_places
+standings_complete counts number winning standing counts_are few is =
+    Contains-flat_map (standings_of [] winning) (ways counts 0 0 0 number None) (record { sets = standing.sets; pair = standing.pair }) standing
+    (ways_complete counts 0 0 0 number None (record { sets = standing.sets; pair = standing.pair }) (omega (arith, counts_are.size)) (none_above counts counts_are.within)
+    (are-way-in_order counts number standing.sets standing.pair counts_are.size is.split is.order))
+    (Contains-map (λ win. record { sets = standing.sets; pair = standing.pair; win = win }) (filter (names_winning standing.sets standing.pair winning) (range_with_len 0 5)) standing.win
+    (Contains-filter (names_winning standing.sets standing.pair winning) (range_with_len 0 5) standing.win is.win_place
+    (subst (Contains (range_with_len 0 5)) (zero-add standing.win)
+    (Contains-range 0 5 standing.win (win_below standing.sets standing.pair winning standing.win (omega (arith, is.split.so_many, few)) is.win_place)))))
+
+pub standings_once : (counts : List ℕ) (number winning : ℕ) → length counts ≡ 34 → Distinct (standings [] winning (ways counts 0 0 0 number None))
+unfolding standings win_places
+standings_once counts number winning size =
+    Distinct-flat_map (standings_of [] winning) (λ way. Unit {0}) (ways counts 0 0 0 number None) (ways_once counts 0 0 0 number None (omega (arith, size)))
+    (λ k d inside. tt) (λ way u. of_way way) apart
+  where
+    of_way : (way : Way) → Distinct (standings_of [] winning way)
+    of_way way =
+        Distinct-map (λ win. record { sets = way.sets; pair = way.pair; win = win }) (filter (names_winning way.sets way.pair winning) (range_with_len 0 5))
+        (λ a b e. ap (λ standing. standing.win) e) (Distinct-filter (names_winning way.sets way.pair winning) (range_with_len 0 5) (Distinct-range 0 5))
+
+    apart : (one other : Way) (standing : Standing) → Unit {0} → Unit {0} → Contains (standings_of [] winning one) standing → Contains (standings_of [] winning other) standing → one ≡ other
+    apart one other standing u v here there =
+        let a = map-member (λ win. record { sets = one.sets; pair = one.pair; win = win }) (filter (names_winning one.sets one.pair winning) (range_with_len 0 5)) standing here in
+        let b = map-member (λ win. record { sets = other.sets; pair = other.pair; win = win }) (filter (names_winning other.sets other.pair winning) (range_with_len 0 5)) standing there in
+        let sets : one.sets ≡ other.sets = ap (λ standing. standing.sets) (a.2 ∙ sym b.2) in
+        let pair : one.pair ≡ other.pair = ap (λ standing. standing.pair) (a.2 ∙ sym b.2) in
+        λ i. record { sets = sets i; pair = pair i }

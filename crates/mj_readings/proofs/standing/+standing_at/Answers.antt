@@ -1,0 +1,47 @@
+use Rattle.std.proofs.Common.{sym, ◌∙◌, ap, ◌++◌}
+use Rattle.mj_readings.specs.Ways.{sets_at}
+use Rattle.mj_readings.proofs.Picking.{branch-off, branch-on, triplet-off, triplet-on, pair-few, pair-made, pair-on, kind-few, kind-first, kind-second, kind-third, first_and_others}
+use Rattle.mj_readings.proofs.standing.+standing_at.Goals as goal
+
+pub branch_at-returns-then-not-can_begin : goal.branch_at-returns-then-not-can_begin
+branch_at-returns-then-not-can_begin t c =
+    branch-off c.args.others.now c.args.spot.now c.args.sets.now c.args.winning c.args.runs c.args.triplets c.args.index c.args.pair
+    c.can_begin.result c.can_begin.ensures c.if-not-can_begin.true
+
+pub branch_at-returns : goal.branch_at-returns
+branch_at-returns t c =
+    branch-on c.args.others.now c.args.spot.now c.args.sets.now c.sets_with.result c.args.winning c.args.runs c.args.triplets c.args.index c.args.pair
+    c.can_begin.result c.standing_at.result c.can_begin.ensures c.if-not-can_begin.false
+    (c.sets_with.ensures ∙ ap (λ kind. c.args.sets.now ++ sets_at kind c.args.runs c.args.triplets) c.in-Some.ensures.1) c.standing_at.ensures
+
+pub pair_at-returns-then-free-lt2 : goal.pair_at-returns-then-free-lt2
+pair_at-returns-then-free-lt2 t c =
+    pair-few c.args.others.now c.args.spot.now c.args.sets.now c.args.winning c.args.free c.args.index c.if-free-lt2.true
+
+pub pair_at-returns-then-is_some : goal.pair_at-returns-then-is_some
+pair_at-returns-then-is_some t c =
+    pair-made c.args.others.now c.args.spot.now c.args.sets.now c.args.winning c.args.free c.args.index (sym c.is_some.ensures ∙ c.if-is_some.true)
+
+pub standing_at-returns-then-count-spot : goal.standing_at-returns-then-count-spot
+standing_at-returns-then-count-spot t c =
+    kind-few c.args.numbers.now _ _ c.args.spot.now c.args.sets.now c.args.winning c.args.index
+    (first_and_others c.args.numbers.now c.in-len1-up.len_at_least) c.if-count-spot.true
+
+pub standing_at-returns-in-Ok : goal.standing_at-returns-in-Ok
+standing_at-returns-in-Ok t c =
+    kind-first c.args.numbers.now _ _ c.args.spot.now c.args.sets.now c.args.winning c.args.index c.in-Ok.standing
+    (first_and_others c.args.numbers.now c.in-len1-up.len_at_least) c.if-count-spot.false c.in-Ok.ensures
+
+pub standing_at-returns-in-Ok-triplet_at : goal.standing_at-returns-in-Ok-triplet_at
+standing_at-returns-in-Ok-triplet_at t c =
+    kind-second c.args.numbers.now _ _ c.args.spot.now c.args.sets.now c.args.winning c.args.index c.in-Err.rest c.in-Ok-triplet_at.standing
+    (first_and_others c.args.numbers.now c.in-len1-up.len_at_least) c.if-count-spot.false c.in-Err.ensures c.in-Ok-triplet_at.ensures
+
+pub standing_at-returns : goal.standing_at-returns
+standing_at-returns t c =
+    kind-third c.args.numbers.now _ _ c.args.spot.now c.args.sets.now c.args.winning c.args.index c.in-Err.rest c.in-Err-triplet_at.rest c.pair_at.result
+    (first_and_others c.args.numbers.now c.in-len1-up.len_at_least) c.if-count-spot.false c.in-Err.ensures c.in-Err-triplet_at.ensures c.pair_at.ensures
+
+pub triplet_at-returns-then-free-lt3 : goal.triplet_at-returns-then-free-lt3
+triplet_at-returns-then-free-lt3 t c =
+    triplet-off c.args.others.now c.args.spot.now c.args.sets.now c.args.winning c.args.free c.args.index c.if-free-lt3.true

@@ -1,0 +1,9 @@
+pub mod Sets
+pub mod SetLists
+pub mod Complete
+pub mod Readings
+pub mod Ways
+pub mod Standings
+pub mod Spots
+pub mod Tests
+pub mod ReadingLists

@@ -1,0 +1,157 @@
+ghost use Rattle.std.specs.Prelude.{slice_index, ◌≡◌, ℕ, ◌+◌, ◌≤◌, ◌<◌, ◌↔◌, Bool, IsTrue, length, count_by, ◌==◌, ◌||◌, ◌&&◌, nat_le};
+ghost use Rattle.std.specs.List.{list_all};
+ghost use Rattle.mj_tiles.specs.Counts.{all_kinds};
+ghost use Rattle.mj_readings.specs.Sets.{begins_run, is_orphan};
+ghost use Rattle.mj_readings.specs.Complete.{IsComplete, is_seven_pairs};
+ghost use Rattle.mj_readings.specs.Ways.{begins, has_way};
+ghost use Rattle.mj_readings.specs.Tests.{complete, one_more, orphan_double};
+
+use mj_tiles::{Counts, Kind};
+
+/// Whether concealed tiles with these counts and so many melds are a complete hand: four sets and a pair, each meld a
+/// set, or without melds seven different pairs or thirteen orphans. False at any other number of tiles than 14 less 3
+/// for each meld, and at more than four melds.
+pub fn is_complete(counts: &Counts, melds: u8) -> bool
+    ensures value { result ≡ complete counts.now melds }
+    ensures law { IsTrue result ↔ IsComplete counts.now melds }
+{
+    completes_hand(counts.numbers(), melds)
+}
+
+/// Whether the hand is complete with one tile more of the kind. Condition: fewer than four of it are held.
+pub fn is_complete_with(counts: &Counts, kind: Kind, melds: u8) -> bool
+    requires { slice_index counts.now kind < 4 }
+    ensures value { result ≡ complete (one_more counts.now kind) melds }
+    ensures law { IsTrue result ↔ IsComplete (one_more counts.now kind) melds }
+{
+    let mut numbers = *counts.numbers();
+    numbers[kind.number() as usize] += 1;
+    completes_hand(&numbers, melds)
+}
+
+/// The test of a complete hand on the numbers of its tiles by kind.
+#[tactic(auto, unfolding(crate::specs::Tests::complete))]
+fn completes_hand(numbers: &[u8], melds: u8) -> bool
+    requires { length numbers.now ≡ 34 }
+    ensures { result ≡ complete numbers.now melds }
+{
+    melds <= 4 && completes(numbers, 0, 0, 0, 4 - melds, false)
+        || melds == 0 && (are_seven_pairs(numbers) || double_of(numbers).is_some())
+}
+
+/// Whether the kinds from this one on can be made into so many sets, and a pair where there is none yet, with so many
+/// runs under way that began two kinds and one kind before.
+#[cycle(completes)]
+#[tactic(auto, unfolding(crate::specs::Ways::has_way))]
+fn completes(numbers: &[u8], kind: u8, first: u8, second: u8, left: u8, paired: bool) -> bool
+    requires kinds { kind + length numbers.now ≤ 34 }
+    requires first_few { first ≤ 4 }
+    requires second_few { second ≤ 4 }
+    requires few { left ≤ 4 }
+    ensures { result ≡ has_way numbers.now kind first second left paired }
+{
+    let [count, others @ ..] = numbers else {
+        return left == 0 && paired;
+    };
+    if *count < first + second {
+        return false;
+    }
+    let free = *count - (first + second);
+    goes_on(others, kind, second, free, 0, left, paired)
+        || free >= 3 && goes_on(others, kind, second, free - 3, 1, left, paired)
+        || free >= 2 && !paired && goes_on(others, kind, second, free - 2, 0, left, true)
+}
+
+/// The same after a kind at which so many runs and triplets begin.
+#[cycle(completes)]
+fn goes_on(
+    others: &[u8],
+    kind: u8,
+    second: u8,
+    runs: u8,
+    triplets: u8,
+    left: u8,
+    paired: bool,
+) -> bool
+    requires kinds { kind + length others.now < 34 }
+    requires second_few { second ≤ 4 }
+    requires triplet { triplets ≤ 1 }
+    requires few { left ≤ 4 }
+    ensures { result ≡ begins (λ runs left paired. has_way others.now (kind + 1) second runs left paired) kind runs triplets left paired }
+{
+    if !can_begin(kind, runs, triplets, left) {
+        return false;
+    }
+    completes(
+        others,
+        kind + 1,
+        second,
+        runs,
+        left - (runs + triplets),
+        paired,
+    )
+}
+
+/// Whether so many runs and triplets may begin at the kind, where so many sets are left to make.
+pub(crate) fn can_begin(kind: u8, runs: u8, triplets: u8, left: u8) -> bool
+    requires { triplets ≤ 1 }
+    ensures { result ≡ ((runs == 0 || begins_run kind) && nat_le (runs + triplets) left) }
+{
+    (runs == 0 || may_begin_run(kind)) && triplets <= left && runs <= left - triplets
+}
+
+/// Whether the kind is the lowest of three neighbouring ones of one suit.
+#[tactic(auto, unfolding(crate::specs::Sets::begins_run))]
+fn may_begin_run(kind: u8) -> bool
+    ensures { result ≡ begins_run kind }
+{
+    kind < 27 && kind % 9 < 7
+}
+
+/// Whether the counts are seven different kinds, two tiles of each.
+#[tactic(auto, unfolding(crate::specs::Complete::is_seven_pairs))]
+pub(crate) fn are_seven_pairs(numbers: &[u8]) -> bool
+    ensures { result ≡ is_seven_pairs numbers.now }
+{
+    let pairs = pairs_among(numbers);
+    only_pairs(numbers) && pairs == 7
+}
+
+fn only_pairs(numbers: &[u8]) -> bool
+    ensures { result ≡ list_all (λ number. number == 0 || number == 2) numbers.now }
+{
+    numbers.iter().all(|number| *number == 0 || *number == 2)
+}
+
+fn pairs_among(numbers: &[u8]) -> usize
+    ensures { result ≡ count_by (λ number. number == 2) numbers.now }
+{
+    numbers.iter().filter(|number| **number == 2).count()
+}
+
+/// The kind that stands twice in thirteen orphans; none where the counts are not those.
+pub(crate) fn double_of(numbers: &[u8]) -> Option<Kind>
+    requires { length numbers.now ≡ 34 }
+    ensures { result ≡ orphan_double numbers.now }
+{
+    let mut double = None;
+    for (kind, number) in numbers.iter().enumerate() {
+        let orphan = is_terminal_or_honour(kind as u8);
+        if *number == orphan as u8 {
+            continue;
+        }
+        if !orphan || *number != 2 || double.is_some() {
+            return None;
+        }
+        double = Kind::of(kind as u8);
+    }
+    double
+}
+
+/// Whether the kind is a one or a nine of a suit, a wind or a dragon.
+#[tactic(auto, unfolding(crate::specs::Sets::is_orphan))]
+fn is_terminal_or_honour(kind: u8) -> bool
+    ensures { result ≡ is_orphan kind }
+{
+    kind >= 27 || kind % 9 == 0 || kind % 9 == 8
+}

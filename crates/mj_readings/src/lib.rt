@@ -1,0 +1,14 @@
+//! Complete hands of riichi mahjong and the ways to read them: four sets and a pair, seven pairs, thirteen orphans.
+#![tactic(auto)]
+
+mod complete;
+mod listing;
+mod reading;
+mod sets;
+mod standing;
+#[cfg(test)]
+mod tests;
+
+pub use complete::{is_complete, is_complete_with};
+pub use listing::{reading_at, readings};
+pub use reading::{Case, Reading, Riichi, Set, SetForm};

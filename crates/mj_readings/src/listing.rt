@@ -1,0 +1,152 @@
+ghost use Rattle.std.specs.Prelude.{◌≡◌, ℕ, ◌≤◌, ◌<◌, ◌+◌, ◌++◌, ◌==◌, length, map, slice_get, slice_index, IfOk};
+ghost use Rattle.mj_tiles.specs.Counts.{IsCounts};
+ghost use Rattle.mj_readings.specs.Sets.{set_of_meld};
+ghost use Rattle.mj_readings.specs.Readings.{AreReadings};
+ghost use Rattle.mj_readings.specs.ReadingLists.{standard_of, standard_readings, pair_kinds, pairs_readings, orphans_readings, reading_list};
+ghost use Rattle.mj_readings.specs.Standings.{Picks};
+
+use crate::complete::{are_seven_pairs, double_of};
+use crate::reading::{Reading, Set, SetForm};
+use crate::sets::Sets;
+use crate::standing::{Spot, Standing, standing_at};
+use mj_tiles::{Counts, Form, Kind, Kinds, Meld};
+use std::alloc::{AllocError, Global};
+
+/// All readings of a hand: of its concealed tiles, the winning tile among them, its melds, and the kind of the winning
+/// tile; each once. `Err` is want of memory.
+pub fn readings(
+    alloc: Global,
+    counts: &Counts,
+    melds: &[Meld],
+    win: Kind,
+) -> Result<Vec<Reading>, AllocError>
+    ensures all { IfOk result (λ v. AreReadings counts.now melds.now win v.items) }
+    ensures listed { IfOk result (λ v. v.items ≡ reading_list counts.now melds.now win) }
+{
+    let mut found = Vec::new(alloc);
+    while let Some(reading) = reading_at(counts, melds, win, found.len()) {
+        found.push(reading)?;
+    }
+    Ok(found)
+}
+
+/// The reading at this place of the list that `readings` gives, from 0; none past its end. It takes no memory.
+pub fn reading_at(counts: &Counts, melds: &[Meld], win: Kind, index: usize) -> Option<Reading>
+    ensures at { result ≡ slice_get (reading_list counts.now melds.now win) index }
+    ensures law { AreReadings counts.now melds.now win (reading_list counts.now melds.now win) }
+{
+    match standard_at(counts, melds, win, index) {
+        Ok(reading) => Some(reading),
+        Err(rest) if melds.is_empty() => special_at(counts, rest),
+        Err(_) => None,
+    }
+}
+
+/// The standard reading at this place of their list; behind its end, how far behind.
+fn standard_at(counts: &Counts, melds: &[Meld], win: Kind, index: usize) -> Result<Reading, usize>
+    ensures listed { Picks (standard_readings counts.now melds.now win) index result }
+    ensures counted { IsCounts counts.now }
+{
+    let numbers = counts.numbers();
+    if melds.len() > 4 {
+        return Err(index);
+    }
+    let spot = Spot {
+        kind: 0,
+        first: 0,
+        second: 0,
+        left: 4 - melds.len() as u8,
+        pair: None,
+    };
+    match standing_at(numbers, &spot, &Sets::none(), win, index) {
+        Ok(standing) => Ok(as_reading(&standing, melds, win)),
+        Err(rest) => Err(rest),
+    }
+}
+
+/// The reading that these sets, the melds behind them, and the pair are.
+fn as_reading(standing: &Standing, melds: &[Meld], winning: Kind) -> Reading
+    requires { length standing.now.sets + length melds.now ≤ 4 }
+    ensures { result ≡ standard_of melds.now winning standing.now }
+{
+    let mut sets = standing.sets;
+    for meld in melds {
+        sets = sets.with(&set_of(meld));
+    }
+    Reading::Standard {
+        a: sets.get(0),
+        b: sets.get(1),
+        c: sets.get(2),
+        d: sets.get(3),
+        pair: standing.pair,
+        win: standing.win,
+        winning,
+    }
+}
+
+/// The set that a meld is.
+fn set_of(meld: &Meld) -> Set
+    ensures { result ≡ set_of_meld meld.now }
+{
+    let form = match meld.form {
+        Form::Chi => SetForm::Run,
+        Form::Pon => SetForm::Triplet,
+        _ => SetForm::Kan,
+    };
+    Set {
+        form,
+        low: meld.a.kind(),
+        shown: meld.form != Form::ClosedKan,
+    }
+}
+
+/// The reading as seven pairs or thirteen orphans at this place of their list.
+fn special_at(counts: &Counts, index: usize) -> Option<Reading>
+    ensures { result ≡ slice_get (pairs_readings counts.now ++ orphans_readings counts.now) index }
+{
+    match pairs_at(counts, index) {
+        Ok(reading) => Some(reading),
+        Err(rest) => orphans_at(counts, rest),
+    }
+}
+
+#[tactic(auto, unfolding(crate::specs::ReadingLists::pairs_readings))]
+fn pairs_at(counts: &Counts, index: usize) -> Result<Reading, usize>
+    ensures { Picks (pairs_readings counts.now) index result }
+{
+    if !are_seven_pairs(counts.numbers()) {
+        return Err(index);
+    }
+    if index > 0 {
+        return Err(index - 1);
+    }
+    Ok(Reading::Pairs {
+        kinds: kinds_of_pairs(counts),
+    })
+}
+
+/// The kinds of which there are two tiles.
+fn kinds_of_pairs(counts: &Counts) -> Kinds
+    ensures { result ≡ pair_kinds counts.now }
+{
+    let mut kinds = Kinds::none();
+    for (number, count) in counts.numbers().iter().enumerate() {
+        if *count == 2 {
+            if let Some(kind) = Kind::of(number as u8) {
+                kinds = kinds.with(kind);
+            }
+        }
+    }
+    kinds
+}
+
+#[tactic(auto, unfolding(crate::specs::ReadingLists::orphans_readings))]
+fn orphans_at(counts: &Counts, index: usize) -> Option<Reading>
+    ensures { result ≡ slice_get (orphans_readings counts.now) index }
+{
+    let double = double_of(counts.numbers())?;
+    if index > 0 {
+        return None;
+    }
+    Some(Reading::Orphans { double })
+}

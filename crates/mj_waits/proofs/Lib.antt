@@ -1,0 +1,2 @@
+pub mod AnyKind
+pub mod WaitSteps

@@ -1,0 +1,24 @@
+use Rattle.std.proofs.Common.{arith, ◌∙◌}
+use Rattle.mj_waits.proofs.WaitSteps.{waits-start, waits-yes, waits-no, waits-value, waits-law}
+use Rattle.mj_waits.proofs.ready_hand.waits.Goals as goal
+use Rattle.mj_waits.proofs.ready_hand.waits.Goals.{then-waits_on, else-waits_on}
+
+pub loop-number-init : goal.loop-number-init
+loop-number-init c = waits-start c.args.counts.now c.args.room.now c.args.melds c.none-kinds.result c.none-kinds.ensures
+
+pub loop-number-preserved : goal.loop-number-preserved
+loop-number-preserved c =
+    elim c.if-waits_on.branch [
+      | then-waits_on w ↦
+          waits-yes c.args.counts.now c.args.room.now c.args.melds c.loop-number.kinds c.if-waits_on.kinds c.loop-number.number c.in-Some.kind c.waits_on.result
+          c.loop-number.invariant c.loop-number-test.true c.in-Some.ensures.1 c.waits_on.ensures.value c.waits_on.ensures.law w.if-waits_on.true (w.kinds-is ∙ w.with-kinds.ensures)
+      | else-waits_on w ↦
+          waits-no c.args.counts.now c.args.room.now c.args.melds c.loop-number.kinds c.if-waits_on.kinds c.loop-number.number c.in-Some.kind c.waits_on.result
+          c.loop-number.invariant c.in-Some.ensures.1 c.waits_on.ensures.value c.waits_on.ensures.law w.if-waits_on.false w.kinds-is
+    ]
+
+pub returns : goal.returns
+returns c = record {
+  value = waits-value c.args.counts.now c.args.room.now c.args.melds c.loop-number.kinds c.loop-number.number c.loop-number.invariant (omega (arith, c.loop-number-test.false, c.loop-number.auto.number-end));
+  law = waits-law c.args.counts.now c.args.room.now c.args.melds c.loop-number.kinds c.loop-number.number c.loop-number.invariant (omega (arith, c.loop-number-test.false, c.loop-number.auto.number-end));
+}

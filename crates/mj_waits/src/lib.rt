@@ -1,0 +1,10 @@
+//! Waits and furiten of riichi mahjong. No call takes memory.
+#![tactic(auto)]
+
+mod furiten_rule;
+mod ready_hand;
+#[cfg(test)]
+mod tests;
+
+pub use furiten_rule::{Facts, furiten};
+pub use ready_hand::{ready, waits};
