@@ -1,0 +1,11 @@
+//! Fu of riichi mahjong: the lesser measure of what a reading of a hand is worth, and the forms that it looks at.
+//! No call takes memory.
+#![tactic(auto)]
+
+mod forms;
+mod parts;
+#[cfg(test)]
+mod tests;
+
+pub use forms::{is_concealed_at, is_dragon, is_outside, is_pinfu, is_run};
+pub use parts::fu;
