@@ -1,0 +1,45 @@
+use crate::four::Four;
+use crate::tiles::Tiles;
+use mj_ports::Name;
+use mj_tiles::{Kind, Tile};
+
+/// Who a line is written for.
+#[derive(Clone, Copy, Debug, PartialEq, Eq)]
+pub enum Viewer {
+    /// A seat, 0 to 3, which sees its own tiles.
+    Seat(u8),
+    /// The record, which hides nothing.
+    Record,
+}
+
+/// One deed of a game. Seats are 0 to 3.
+#[derive(Debug, Drop)]
+pub enum Deed {
+    /// The game starts, with the names of the four seats.
+    StartGame {
+        names: Four<Name>,
+    },
+    /// A hand starts: the wind of the round, the dealer's number from 1 on, the honba and the deposits on the table,
+    /// the dealer's seat, the first indicator, and the thirteen tiles dealt to each seat, in tile order.
+    StartHand {
+        round: Kind,
+        number: u8,
+        honba: u32,
+        deposits: u32,
+        dealer: u8,
+        indicator: Tile,
+        hands: Four<Tiles>,
+    },
+    /// A seat draws a tile, a live one or a replacement after a kan.
+    Draw {
+        seat: u8,
+        tile: Tile,
+        replacement: bool,
+    },
+    /// A seat discards a tile; `drawn` says that it is the one it drew.
+    Discard {
+        seat: u8,
+        tile: Tile,
+        drawn: bool,
+    },
+}

@@ -1,0 +1,180 @@
+ghost use Rattle.std.specs.Prelude.{◌≡◌, ◌-◌, ◌^◌, ◌++◌, ◌≤◌, IfOk, OnOk, min, length, option_to_list};
+ghost use Rattle.mj_tiles.specs.Faces.{number_in};
+ghost use Rattle.mj_deeds.specs.Facts.{concealed_tiles, river_tiles, gained, lost, gains_by, losses_by, discards_by, drawn_tile, drawn_by, live_draws, is_live_draw};
+ghost use Rattle.mj_deeds.specs.Four.{at_seat};
+
+use crate::deed::Deed;
+use crate::four::Four;
+use crate::tiles::{Tiles, less, number_among};
+use mj_tiles::Tile;
+use std::alloc::{AllocError, Global};
+
+/// The concealed tiles of a seat in one hand, in tile order: those given to it, less those that it put down.
+pub fn concealed(alloc: Global, deeds: &[Deed], seat: u8) -> Result<Tiles, AllocError>
+    ensures { IfOk result (λ t. t ≡ concealed_tiles deeds.now seat) }
+{
+    let given = all_gained(alloc, deeds, seat)?;
+    let put_down = all_lost(alloc, deeds, seat)?;
+    let tiles = less(alloc, given.as_slice(), put_down.as_slice())?;
+    Ok(Tiles::from_vec(tiles))
+}
+
+/// The river of a seat in one hand: all its discards, in order.
+pub fn river(alloc: Global, deeds: &[Deed], seat: u8) -> Result<Tiles, AllocError>
+    ensures { IfOk result (λ t. t ≡ river_tiles deeds.now seat) }
+{
+    let mut tiles = Vec::new(alloc);
+    for deed in deeds {
+        if let Some(tile) = discarded_by(deed, seat) {
+            tiles.push(tile)?;
+        }
+    }
+    Ok(Tiles::from_vec(tiles))
+}
+
+/// How many concealed tiles of the face of a tile a seat holds in one hand, four at most.
+pub fn held(deeds: &[Deed], seat: u8, tile: Tile) -> usize
+    ensures { result ≡ min (number_in (gained deeds.now seat) tile - number_in (lost deeds.now seat) tile) 4 }
+{
+    let given = number_gained(deeds, seat, tile);
+    let put_down = number_lost(deeds, seat, tile);
+    given.saturating_sub(put_down).min(4)
+}
+
+/// The tile that a seat has drawn and holds as drawn: that of the newest deed, where it is the seat's draw.
+pub fn drawn(deeds: &[Deed], seat: u8) -> Option<Tile>
+    ensures { result ≡ drawn_tile deeds.now seat }
+{
+    match deeds.last() {
+        Some(
+            Deed::Draw {
+                seat: who,
+                tile,
+                ..
+            },
+        ) if *who == seat => Some(*tile),
+        _ => None,
+    }
+}
+
+/// How many live tiles were drawn in one hand.
+pub fn live_drawn(deeds: &[Deed]) -> usize
+    ensures value { result ≡ live_draws deeds.now }
+    ensures within { result ≤ length deeds.now }
+{
+    deeds.iter().filter(|deed| is_live(deed)).count()
+}
+
+// Whether a deed is a draw from the live wall.
+fn is_live(deed: &Deed) -> bool
+    ensures { result ≡ is_live_draw deed.now }
+{
+    match deed {
+        Deed::Draw { replacement, .. } => !*replacement,
+        _ => false,
+    }
+}
+
+// The tile that a seat discards by a deed.
+fn discarded_by(deed: &Deed, seat: u8) -> Option<Tile>
+    ensures river { option_to_list result ≡ discards_by seat deed.now }
+    ensures lost { option_to_list result ≡ losses_by seat deed.now }
+{
+    match deed {
+        Deed::Discard {
+            seat: who,
+            tile,
+            ..
+        } if *who == seat => Some(*tile),
+        _ => None,
+    }
+}
+
+// The tiles dealt to a seat.
+fn dealt(hands: &Four<Tiles>, seat: u8) -> &[Tile]
+    ensures { result.now ≡ at_seat hands.now seat }
+{
+    hands.at(seat.min(3)).as_slice()
+}
+
+// Adds the tiles that a deed gives to a seat.
+fn gain(tiles: &mut Vec<Tile>, deed: &Deed, seat: u8) -> Result<(), AllocError>
+    ensures { OnOk result (tiles.new.items ≡ tiles.old.items ++ gains_by seat deed.now) }
+{
+    match deed {
+        Deed::StartHand { hands, .. } => tiles.extend_from_slice(dealt(hands, seat)),
+        Deed::Draw {
+            seat: who,
+            tile,
+            ..
+        } if *who == seat => {
+            tiles.push(*tile)?;
+            Ok(())
+        }
+        _ => Ok(()),
+    }
+}
+
+// All tiles that a seat was given.
+fn all_gained(alloc: Global, deeds: &[Deed], seat: u8) -> Result<Vec<Tile>, AllocError>
+    ensures { IfOk result (λ v. v.items ≡ gained deeds.now seat) }
+{
+    let mut tiles = Vec::new(alloc);
+    for deed in deeds {
+        gain(&mut tiles, deed, seat)?;
+    }
+    Ok(tiles)
+}
+
+// All tiles that a seat put down.
+fn all_lost(alloc: Global, deeds: &[Deed], seat: u8) -> Result<Vec<Tile>, AllocError>
+    ensures { IfOk result (λ v. v.items ≡ lost deeds.now seat) }
+{
+    let mut tiles = Vec::new(alloc);
+    for deed in deeds {
+        if let Some(tile) = discarded_by(deed, seat) {
+            tiles.push(tile)?;
+        }
+    }
+    Ok(tiles)
+}
+
+// How many tiles of a face a deed gives to a seat.
+fn gains(deed: &Deed, seat: u8, tile: Tile) -> usize
+    ensures { result ≡ number_in (gains_by seat deed.now) tile }
+{
+    match deed {
+        Deed::StartHand { hands, .. } => number_among(dealt(hands, seat), tile),
+        Deed::Draw {
+            seat: who,
+            tile: drawn,
+            ..
+        } if *who == seat => number_among(&[*drawn], tile),
+        _ => 0,
+    }
+}
+
+// How many tiles of a face a seat was given; a number too large for a usize counts as the largest.
+fn number_gained(deeds: &[Deed], seat: u8, tile: Tile) -> usize
+    ensures { result ≡ min (number_in (gained deeds.now seat) tile) (2 ^ 64 - 1) }
+{
+    let mut number: usize = 0;
+    for deed in deeds {
+        number = number.saturating_add(gains(deed, seat, tile));
+    }
+    number
+}
+
+// How many tiles of a face a seat put down: at most one by each deed.
+fn number_lost(deeds: &[Deed], seat: u8, tile: Tile) -> usize
+    ensures value { result ≡ number_in (lost deeds.now seat) tile }
+    ensures within { result ≤ length deeds.now }
+{
+    let mut number = 0;
+    for deed in deeds {
+        if discarded_by(deed, seat).is_some_and(|other| other.face() == tile.face()) {
+            number += 1;
+        }
+    }
+    number
+}

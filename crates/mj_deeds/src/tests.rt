@@ -1,0 +1,100 @@
+use crate::{Deed, Four, Tiles, concealed, drawn, held, live_drawn, river};
+use mj_tiles::{Kind, Tile};
+use std::alloc::Global;
+use std::test::Fail;
+
+fn tile(face: u8) -> Result<Tile, Fail> {
+    Ok(Tile::of(face).ok_or("no tile")?)
+}
+
+fn tiles(alloc: Global, faces: &[u8]) -> Result<Tiles, Fail> {
+    let mut items = Vec::new(alloc);
+    for face in faces {
+        items.push(tile(*face)?)?;
+    }
+    Ok(Tiles::from_vec(items))
+}
+
+fn draw(seat: u8, face: u8) -> Result<Deed, Fail> {
+    Ok(Deed::Draw {
+        seat,
+        tile: tile(face)?,
+        replacement: false,
+    })
+}
+
+fn discard(seat: u8, face: u8, drawn: bool) -> Result<Deed, Fail> {
+    Ok(Deed::Discard {
+        seat,
+        tile: tile(face)?,
+        drawn,
+    })
+}
+
+// Seat 0 holds `1m` twice, `2m` and `5m`, draws a red `5m` and discards `1m`; seat 1 draws and discards; seat 2 draws.
+fn deeds(alloc: Global) -> Result<Vec<Deed>, Fail> {
+    let mut deeds = Vec::new(alloc);
+    deeds.push(Deed::StartHand {
+        round: Kind::of(27).ok_or("no kind")?,
+        number: 1,
+        honba: 0,
+        deposits: 0,
+        dealer: 0,
+        indicator: tile(32)?,
+        hands: Four {
+            first: tiles(alloc, &[0, 0, 1, 4])?,
+            second: tiles(alloc, &[9])?,
+            third: tiles(alloc, &[])?,
+            fourth: tiles(alloc, &[])?,
+        },
+    })?;
+    deeds.push(draw(0, 34)?)?;
+    deeds.push(discard(0, 0, false)?)?;
+    deeds.push(draw(1, 33)?)?;
+    deeds.push(discard(1, 33, true)?)?;
+    deeds.push(draw(2, 20)?)?;
+    Ok(deeds)
+}
+
+#[test]
+fn each_seat_has_its_own(rt: HostRuntime) -> Result<(), Fail> {
+    let four = Four {
+        first: 10,
+        second: 11,
+        third: 12,
+        fourth: 13,
+    };
+    for (seat, thing) in [(0, 10), (1, 11), (2, 12), (3, 13)] {
+        assert_eq!(rt; *four.at(seat), thing);
+    }
+    Ok(())
+}
+
+#[test]
+fn a_red_five_stands_behind_the_plain_ones(rt: HostRuntime) -> Result<(), Fail> {
+    let alloc = rt.alloc();
+    let mixed = tiles(alloc, &[33, 35, 5, 13, 34, 4, 13])?;
+    let sorted = tiles(alloc, &[4, 34, 5, 13, 13, 35, 33])?;
+    let found = Tiles::sorted(alloc, mixed.as_slice())?;
+    assert_eq!(rt; found.as_slice(), sorted.as_slice());
+    Ok(())
+}
+
+#[test]
+fn tiles_move_from_the_hand_to_the_river(rt: HostRuntime) -> Result<(), Fail> {
+    let alloc = rt.alloc();
+    let deeds = deeds(alloc)?;
+    let deeds = deeds.as_slice();
+    let hand = tiles(alloc, &[0, 1, 4, 34])?;
+    assert_eq!(rt; concealed(alloc, deeds, 0)?.as_slice(), hand.as_slice());
+    let thrown = tiles(alloc, &[33])?;
+    assert_eq!(rt; river(alloc, deeds, 1)?.as_slice(), thrown.as_slice());
+    assert!(rt; river(alloc, deeds, 2)?.as_slice().is_empty());
+    for (face, number) in [(0, 1), (4, 1), (34, 1), (33, 0)] {
+        assert_eq!(rt; held(deeds, 0, tile(face)?), number);
+    }
+    assert!(rt; drawn(deeds, 2) == Some(tile(20)?));
+    assert!(rt; drawn(deeds, 1).is_none());
+    assert_eq!(rt; live_drawn(deeds), 3);
+    Ok(())
+}

@@ -1,0 +1,111 @@
+-- Tiles of which none is one too many: one tile more, and how many there can be.
+use Rattle.std.proofs.Common.{◌≡◌, ℕ, ◌+◌, ◌<◌, ◌≤◌, ◌^◌, Bool, true, false, Some, List, [], ◌∷◌, ◌++◌, length, take, drop, get_or, arith, inl, inr, refl, sym, ap, ◌∙◌, cond, leb, eqb}
+use Rattle.std.specs.Prelude.{All}
+use Rattle.std.proofs.lemmas.Bool.{cases_eq, eq-eqb, ne_eqb, leb-false, lt-leb, le-leb}
+use Rattle.std.proofs.lemmas.List.{take_more, drop_more, length-take-le}
+use Rattle.std.proofs.lemmas.List.Sums.{sum_by_push}
+use Rattle.std.proofs.lemmas.List.Elements.{All-nil, All-push}
+use Rattle.mj_tiles.specs.Faces.{number_in, tile_order}
+use Rattle.mj_wall.specs.Places.{number_in_wall, first_extra}
+use Rattle.mj_wall.proofs.TileOrder.{total, total-all}
+use Rattle.mj_wall.proofs.WallFaces.{face_below}
+
+-- Tiles of which none is one too many of its face.
+pub record AreWithin (red : Bool) (tiles : List ℕ) : Type 0 where
+  pub known : All (λ t. t < 37) tiles
+  pub few : (face : ℕ) → number_in tiles face ≤ number_in_wall red face
+
+pub within-none : (red : Bool) → AreWithin red []
+within-none red = record { known = All-nil (λ t. t < 37); few = λ face. omega arith }
+
+number_push : (tiles : List ℕ) (t face : ℕ) → number_in (tiles ++ t ∷ []) face ≡ number_in tiles face + cond (eqb t face) 1 0
+number_push tiles t face = sum_by_push (λ x. cond (eqb x face) 1 0) tiles t
+
+few-push : (red : Bool) (tiles : List ℕ) (t face : ℕ) → number_in tiles t < number_in_wall red t → number_in tiles face ≤ number_in_wall red face →
+    number_in (tiles ++ t ∷ []) face ≤ number_in_wall red face
+few-push red tiles t face room before = elim (cases_eq t face) [
+  | inl e ↦ few_same red tiles t face e room (number_push tiles t face) (eq-eqb t face e)
+  | inr n ↦ few_other red tiles t face before (number_push tiles t face) (ne_eqb t face n)
+]
+  where
+    few_same : (red : Bool) (tiles : List ℕ) (t face : ℕ) → t ≡ face → number_in tiles t < number_in_wall red t →
+        number_in (tiles ++ t ∷ []) face ≡ number_in tiles face + cond (eqb t face) 1 0 → eqb t face ≡ true →
+        number_in (tiles ++ t ∷ []) face ≤ number_in_wall red face
+    few_same red tiles t face e room push same =
+        let here = rw same at push in
+        let there = rw e at room in
+        omega arith
+
+    few_other : (red : Bool) (tiles : List ℕ) (t face : ℕ) → number_in tiles face ≤ number_in_wall red face →
+        number_in (tiles ++ t ∷ []) face ≡ number_in tiles face + cond (eqb t face) 1 0 → eqb t face ≡ false →
+        number_in (tiles ++ t ∷ []) face ≤ number_in_wall red face
+    few_other red tiles t face before push other =
+        let here = rw other at push in
+        omega arith
+
+-- One tile more that is not one too many.
+pub within-push : (red : Bool) (tiles : List ℕ) (t : ℕ) → AreWithin red tiles → leb (number_in_wall red t) (number_in tiles t) ≡ false → AreWithin red (tiles ++ t ∷ [])
+within-push red tiles t within passed = record {
+  known = All-push (λ x. x < 37) tiles t within.known (face_below red tiles t passed);
+  few = λ face. few-push red tiles t face (leb-false (number_in_wall red t) (number_in tiles t) passed) (within.few face);
+}
+
+-- How many tiles of these faces a wall has.
+abbrev allowed : Bool → List ℕ → ℕ
+allowed red [] = 0
+allowed red (face ∷ faces) = number_in_wall red face + allowed red faces
+
+allowed-all : (red : Bool) → allowed red tile_order ≡ 136
+unfolding tile_order
+allowed-all true = refl
+allowed-all false = refl
+
+total-le : (red : Bool) (tiles faces : List ℕ) → ((face : ℕ) → number_in tiles face ≤ number_in_wall red face) → total tiles faces ≤ allowed red faces
+total-le red tiles [] few = omega arith
+total-le red tiles (face ∷ faces) few =
+    let rest = total-le red tiles faces few in
+    let here = few face in
+    omega arith
+
+-- So there are at most 136.
+pub within-few : (red : Bool) (tiles : List ℕ) → AreWithin red tiles → length tiles ≤ 136
+within-few red tiles within =
+    let all = total-all tiles within.known in
+    let most = total-le red tiles tile_order within.few in
+    let whole = allowed-all red in
+    omega arith
+
+-- A list goes on with the tile at a place.
+drop_at : (tiles : List ℕ) (i t : ℕ) → i < length tiles → t ≡ get_or tiles i t → drop i tiles ≡ t ∷ drop (i + 1) tiles
+drop_at tiles i t inside is = drop_more tiles i t inside ∙ ap (λ x. x ∷ drop (i + 1) tiles) (sym is)
+
+take_at : (tiles : List ℕ) (i t : ℕ) → i < length tiles → t ≡ get_or tiles i t → take (i + 1) tiles ≡ take i tiles ++ t ∷ []
+take_at tiles i t inside is = take_more tiles i t inside ∙ ap (λ x. take i tiles ++ x ∷ []) (sym is)
+
+-- The place of a tile that is one too many is small.
+pub place_fits : (red : Bool) (tiles : List ℕ) (i : ℕ) → i < length tiles → AreWithin red (take i tiles) → i < 2 ^ 32
+place_fits red tiles i inside within =
+    let few = within-few red (take i tiles) within in
+    let long = length-take-le i tiles (omega arith) in
+    omega arith
+
+-- A tile that is one too many is the first such, where none before it is.
+pub extra_found : (red : Bool) (tiles : List ℕ) (i t most before : ℕ) → i < length tiles → t ≡ get_or tiles i t →
+    most ≡ number_in_wall red t → before ≡ number_in (take i tiles) t → most ≤ before →
+    first_extra red (take i tiles) (drop i tiles) ≡ first_extra red [] tiles → Some i ≡ first_extra red [] tiles
+extra_found red tiles i t most before inside is most_is before_is over same =
+    let extra : leb (number_in_wall red t) (number_in (take i tiles) t) ≡ true = le-leb (number_in_wall red t) (number_in (take i tiles) t) (omega arith) in
+    let here = rw (drop_at tiles i t inside is) at same in
+    let found = rw extra at here in
+    ap Some (sym (length-take-le i tiles (omega arith))) ∙ found
+
+-- Past a tile that is not one too many the search goes on, and still none is one too many.
+pub extra_passed : (red : Bool) (tiles : List ℕ) (i t most before : ℕ) → i < length tiles → t ≡ get_or tiles i t →
+    most ≡ number_in_wall red t → before ≡ number_in (take i tiles) t → before < most →
+    first_extra red (take i tiles) (drop i tiles) ≡ first_extra red [] tiles → AreWithin red (take i tiles) →
+    (first_extra red (take (i + 1) tiles) (drop (i + 1) tiles) ≡ first_extra red [] tiles) × AreWithin red (take (i + 1) tiles)
+extra_passed red tiles i t most before inside is most_is before_is under same within =
+    let passed : leb (number_in_wall red t) (number_in (take i tiles) t) ≡ false = lt-leb (number_in_wall red t) (number_in (take i tiles) t) (omega arith) in
+    let here = rw (drop_at tiles i t inside is) at same in
+    let found = rw passed at here in
+    rw (take_at tiles i t inside is) (found, within-push red (take i tiles) t within passed)

@@ -1,0 +1,3 @@
+pub mod TileOrder
+pub mod WallFaces
+pub mod Extras

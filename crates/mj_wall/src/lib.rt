@@ -1,0 +1,10 @@
+//! Walls and where their tiles are taken from, and the setting of a game: its walls and rules.
+#![tactic(auto)]
+
+mod setting;
+#[cfg(test)]
+mod tests;
+mod wall;
+
+pub use setting::{Rules, Setting, Walls};
+pub use wall::{BadWall, Wall};

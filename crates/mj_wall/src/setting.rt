@@ -1,0 +1,50 @@
+ghost use Rattle.std.specs.Prelude.{◌≡◌};
+
+use crate::wall::Wall;
+use std::marker::Model;
+
+/// The rules of a game that may differ: the limit of a window in milliseconds, from 1 to 3600000, whether the four
+/// draw reasons and the draw of nine kinds are in force, and whether there are red fives.
+#[derive(Clone, Copy, Debug, PartialEq, Eq)]
+pub struct Rules {
+    pub limit: u64,
+    pub draws: bool,
+    pub red: bool,
+}
+
+/// The walls of a game, in the order in which the hands take them.
+#[derive(Drop)]
+pub struct Walls {
+    items: Vec<Wall>,
+}
+
+impl Model for Walls {
+    ghost use Rattle.std.specs.Prelude.{ℕ, List};
+
+    ghost Value = { List (List ℕ) };
+
+    ghost view = { λ w. w.items.items };
+}
+
+impl Walls {
+    /// The list of these walls.
+    pub fn from_vec(items: Vec<Wall>) -> Walls
+        ensures { result ≡ items.items }
+    {
+        Walls { items }
+    }
+
+    /// Its walls, in order.
+    pub fn as_slice(&self) -> &[Wall]
+        ensures { result.now ≡ self.now }
+    {
+        self.items.as_slice()
+    }
+}
+
+/// What a game is played with.
+#[derive(Drop)]
+pub struct Setting {
+    pub walls: Walls,
+    pub rules: Rules,
+}

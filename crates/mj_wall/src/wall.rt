@@ -1,0 +1,135 @@
+ghost use Rattle.std.specs.Prelude.{◌≡◌, [], ◌≤◌, ◌*◌, ◌+◌, true, length, Some, None, IfOk, IfErr, OnOk, SomeIff, slice_index, option_map, take, drop};
+ghost use Rattle.mj_tiles.specs.Faces.{number_in};
+ghost use Rattle.mj_wall.specs.Places.{dealt_tile, live_tile, replacement_tile, indicator_tile, under_tile, number_in_wall, first_extra, bad_place, is_wall};
+
+use mj_tiles::Tile;
+use std::marker::Model;
+use thiserror::Error;
+
+/// A wall of 136 tiles.
+#[derive(Drop)]
+pub struct Wall {
+    tiles: [Tile; 136],
+}
+
+impl Model for Wall {
+    ghost use Rattle.std.specs.Prelude.{ℕ, List};
+
+    ghost Value = { List ℕ };
+
+    ghost view = { λ w. w.tiles };
+}
+
+/// Why tiles are no wall: the first place, from 0 on, of a tile that is one too many of its face; where there is none,
+/// the number of the tiles if it is below 136, else 136.
+#[derive(Debug, Drop, Error)]
+#[error("the tiles are no wall: see place {place}")]
+pub struct BadWall {
+    pub place: u32,
+}
+
+impl Wall {
+    /// The wall of these tiles: 136 of them, each plain face four times; with red fives each of these once, in the
+    /// place of a plain five.
+    #[tactic(auto, unfolding(crate::specs::Places::bad_place, crate::specs::Places::is_wall))]
+    pub fn read(tiles: &[Tile], red: bool) -> Result<Wall, BadWall>
+        ensures value { IfOk result (λ w. w ≡ tiles.now) }
+        ensures whole { OnOk result (is_wall red tiles.now ≡ true) }
+        ensures bad { IfErr result (λ e. bad_place red tiles.now ≡ Some e.place) }
+    {
+        if let Some(place) = extra_tile(tiles, red) {
+            return Err(BadWall { place });
+        }
+        if tiles.len() < 136 {
+            return Err(BadWall {
+                place: tiles.len() as u32,
+            });
+        }
+        if tiles.len() > 136 {
+            return Err(BadWall { place: 136 });
+        }
+        let mut places = [tiles[0]; 136];
+        places.copy_from_slice(tiles);
+        Ok(Wall { tiles: places })
+    }
+
+    /// Its 136 tiles, in order of their places.
+    pub fn tiles(&self) -> &[Tile]
+        ensures value { result.now ≡ self.now }
+        ensures whole { length self.now ≡ 136 }
+    {
+        &self.tiles
+    }
+
+    /// Tile `i`, 0 to 12, of the `k`-th seat that is dealt to, 0 to 3, the dealer being the first.
+    pub fn dealt(&self, k: u8, i: u8) -> Tile
+        requires seat { k ≤ 3 }
+        requires tile { i ≤ 12 }
+        ensures { result ≡ dealt_tile self.now k i }
+    {
+        self.tiles[13 * usize::from(k) + usize::from(i)]
+    }
+
+    /// The `k`-th live draw, 0 to 69.
+    pub fn draw(&self, k: u8) -> Tile
+        requires { k ≤ 69 }
+        ensures { result ≡ live_tile self.now k }
+    {
+        self.tiles[52 + usize::from(k)]
+    }
+
+    /// The `k`-th replacement tile after a kan, 0 to 3.
+    pub fn replacement(&self, k: u8) -> Tile
+        requires { k ≤ 3 }
+        ensures { result ≡ replacement_tile self.now k }
+    {
+        self.tiles[135 - usize::from(k)]
+    }
+
+    /// The `k`-th dora indicator, 0 to 4.
+    pub fn indicator(&self, k: u8) -> Tile
+        requires { k ≤ 4 }
+        ensures { result ≡ indicator_tile self.now k }
+    {
+        self.tiles[131 - 2 * usize::from(k)]
+    }
+
+    /// The hidden indicator under the `k`-th, 0 to 4.
+    pub fn under(&self, k: u8) -> Tile
+        requires { k ≤ 4 }
+        ensures { result ≡ under_tile self.now k }
+    {
+        self.tiles[130 - 2 * usize::from(k)]
+    }
+}
+
+// How often a wall has the face of a tile.
+fn copies(tile: Tile, red: bool) -> usize
+    ensures { result ≡ number_in_wall red tile }
+{
+    match tile.face() {
+        4 | 13 | 22 if red => 3,
+        34 | 35 | 36 => usize::from(red),
+        _ => 4,
+    }
+}
+
+// How often the face of a tile stands among the tiles.
+fn number_among(tiles: &[Tile], tile: Tile) -> usize
+    ensures { result ≡ number_in tiles.now tile }
+{
+    let face = tile.face();
+    tiles.iter().filter(|other| other.face() == face).count()
+}
+
+// The first place of a tile that is one too many of its face.
+fn extra_tile(tiles: &[Tile], red: bool) -> Option<u32>
+    ensures value { result ≡ first_extra red [] tiles.now }
+{
+    for (i, tile) in tiles.iter().enumerate() {
+        if copies(*tile, red) <= number_among(&tiles[..i], *tile) {
+            return Some(i as u32);
+        }
+    }
+    None
+}
