@@ -1,0 +1,6 @@
+pub mod Entries
+pub mod Legality
+pub mod Places
+pub mod Solo
+pub mod Follows
+pub mod OneWorld

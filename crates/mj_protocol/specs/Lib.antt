@@ -1,0 +1,6 @@
+pub mod Lines
+pub mod Reading
+pub mod After
+pub mod Trace
+pub mod Arrivals
+pub mod Laws
