@@ -1,0 +1,8 @@
+//! The course of a hand: which deed follows a closed window.
+#![tactic(auto)]
+
+mod course;
+#[cfg(test)]
+mod tests;
+
+pub use course::next;

@@ -1,0 +1,31 @@
+-- Texts that are read.
+use Rattle.std.proofs.Common.{◌≡◌, ◌≤◌, ◌<◌, ℕ, Bool, true, false, List, length, Decides, refl, sym, arith}
+use Rattle.std.specs.Prelude.{None, IsUtf8, bytes_eq}
+use Rattle.std.specs.Str.Lossy.{utf8_valid_len}
+use Rattle.std.proofs.lemmas.Str.{utf8_valid_len-IsUtf8}
+use Rattle.std.proofs.lemmas.Slice.Eq.{bytes_eq-Decides}
+use Rattle.serde_json.specs.Read.{read}
+use Rattle.mj_protocol.specs.Reading.{value_of, is_name}
+
+-- what is text is read as JSON
+pub value_of_text : (bytes : List ℕ) → IsUtf8 bytes → value_of bytes ≡ read bytes
+unfolding value_of
+value_of_text bytes h = grind (arith, utf8_valid_len-IsUtf8 bytes h)
+
+-- what is no text is no value
+pub value_of_no_text : (bytes : List ℕ) → utf8_valid_len bytes < length bytes → value_of bytes ≡ None
+unfolding value_of
+value_of_no_text bytes h = grind arith
+
+-- a name has at most 64 bytes
+pub name_fits : (text : List ℕ) → is_name text ≡ true → length text ≤ 64
+unfolding is_name
+name_fits text h = grind arith
+
+untrue : {P : Type 0} → (r : Bool) → Decides r P → (P → ⊥) → r ≡ false
+untrue true d h = absurd (h (d.0 refl))
+untrue false d h = refl
+
+-- another text is not equal
+pub unlike : (a b : List ℕ) → (b ≡ a → ⊥) → bytes_eq a b ≡ false
+unlike a b h = untrue (bytes_eq a b) (bytes_eq-Decides a b) (λ e. h (sym e))

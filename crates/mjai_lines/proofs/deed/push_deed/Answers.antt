@@ -1,0 +1,14 @@
+use Rattle.std.proofs.Common.{ap, sym}
+use Rattle.mj_protocol.specs.Lines.{line, start_hand_line}
+use Rattle.mjai_lines.proofs.Chains.{◌▸◌, as_piece}
+use Rattle.mjai_lines.proofs.deed.push_deed.Goals as goal
+
+pub returns-in_ok-push_all-in-StartHand-3 : goal.returns-in_ok-push_all-in-StartHand-3
+unfolding start_hand_line
+returns-in_ok-push_all-in-StartHand-3 c = as_piece (sym (ap (line c.args.viewer) c.in-StartHand.is))
+    (c.in_ok-push_place-in-StartHand.ensures
+    ▸ c.in_ok-push_all-in-StartHand.ensures.ok
+    ▸ c.in_ok-push_tile-in-StartHand.ensures
+    ▸ c.in_ok-push_all-in-StartHand-2.ensures.ok
+    ▸ c.in_ok-push_hands-in-StartHand.ensures
+    ▸ c.in_ok-push_all-in-StartHand-3.ensures.ok)

@@ -1,0 +1,188 @@
+ghost use Rattle.std.specs.Prelude.{◌≡◌, ◌∷◌, ◌++◌, [], OnOk, OnErr, codes, decimal};
+ghost use Rattle.mj_bytes.specs.Adds.{Adds};
+ghost use Rattle.mj_protocol.specs.Lines.{line as line_for, quoted, bracketed, sees as is_seen, seat_in_line as seat_written, start_game_line, draw_line, discard_line, hands_seen, quoted_tile, tile_seen};
+
+use crate::pieces::{push_quoted, push_tile, push_tile_seen, push_tiles_seen, push_truth};
+use mj_bytes::{push_all, push_number};
+use mj_deeds::{Deed, Four, Tiles, Viewer};
+use mj_ports::Name;
+use mj_tiles::{Kind, Tile};
+use std::alloc::{AllocError, Global};
+
+/// Writes the line of a deed, as the viewer sees it, behind a text: a seat sees its own tiles and a question mark for
+/// each hidden tile of another, the record sees all. The only error is want of memory, and then the text stays as it
+/// was.
+pub fn write(
+    alloc: Global,
+    viewer: Viewer,
+    deed: &Deed,
+    into: &mut Vec<u8>,
+) -> Result<(), AllocError>
+    ensures ok { OnOk result (Adds into.old.items into.new.items (line_for viewer deed.now)) }
+    ensures err { OnErr result (into.new.items ≡ into.old.items) }
+{
+    let mut line = Vec::new(alloc);
+    push_deed(&mut line, viewer, deed)?;
+    push_all(into, line.as_slice())
+}
+
+// Writes the line of a deed.
+fn push_deed(line: &mut Vec<u8>, viewer: Viewer, deed: &Deed) -> Result<(), AllocError>
+    ensures { OnOk result (Adds line.old.items line.new.items (line_for viewer deed.now)) }
+{
+    match deed {
+        Deed::StartGame { names } => push_start_game(line, seat_in_line(viewer), names),
+        Deed::StartHand {
+            round,
+            number,
+            honba,
+            deposits,
+            dealer,
+            indicator,
+            hands,
+        } => {
+            push_place(line, *round, *number, *honba, *deposits, *dealer)?;
+            push_all(line, b",\"dora_marker\":")?;
+            push_tile(line, *indicator)?;
+            push_all(line, b",\"tehais\":")?;
+            push_hands(line, viewer, hands)?;
+            push_all(line, b"}\n")?;
+            Ok(())
+        }
+        Deed::Draw { seat, tile, .. } => push_draw(line, *seat, sees(viewer, *seat), *tile),
+        Deed::Discard { seat, tile, drawn } => push_discard(line, *seat, *tile, *drawn),
+    }
+}
+
+// The seat that a line is written for.
+fn seat_in_line(viewer: Viewer) -> u8
+    ensures { result ≡ seat_written viewer }
+{
+    match viewer {
+        Viewer::Seat(seat) => seat,
+        Viewer::Record => 0,
+    }
+}
+
+// Whether a viewer sees the tiles of a seat.
+fn sees(viewer: Viewer, owner: u8) -> bool
+    ensures { result ≡ is_seen viewer owner }
+{
+    match viewer {
+        Viewer::Seat(seat) => seat == owner,
+        Viewer::Record => true,
+    }
+}
+
+// Writes the start of a game.
+#[tactic(auto, unfolding(mj_protocol::specs::Lines::start_game_line))]
+fn push_start_game(line: &mut Vec<u8>, id: u8, names: &Four<Name>) -> Result<(), AllocError>
+    ensures { OnOk result (Adds line.old.items line.new.items (start_game_line id names.now)) }
+{
+    push_all(line, b"{\"type\":\"start_game\",\"id\":")?;
+    push_number(line, u64::from(id))?;
+    push_all(line, b",\"names\":")?;
+    push_names(line, names)?;
+    push_all(line, b"}\n")?;
+    Ok(())
+}
+
+// Writes the four names, in brackets.
+fn push_names(line: &mut Vec<u8>, names: &Four<Name>) -> Result<(), AllocError>
+    ensures { OnOk result (Adds line.old.items line.new.items (bracketed
+        (quoted names.now.first ∷ quoted names.now.second ∷ quoted names.now.third
+        ∷ quoted names.now.fourth ∷ []))) }
+{
+    push_all(line, b"[")?;
+    push_quoted(line, names.first.as_slice())?;
+    push_all(line, b",")?;
+    push_quoted(line, names.second.as_slice())?;
+    push_all(line, b",")?;
+    push_quoted(line, names.third.as_slice())?;
+    push_all(line, b",")?;
+    push_quoted(line, names.fourth.as_slice())?;
+    push_all(line, b"]")?;
+    Ok(())
+}
+
+// Writes the front of the start of a hand, up to its dealer.
+fn push_place(
+    line: &mut Vec<u8>,
+    round: Kind,
+    number: u8,
+    honba: u32,
+    deposits: u32,
+    dealer: u8,
+) -> Result<(), AllocError>
+    ensures { OnOk result (Adds line.old.items line.new.items
+        (codes "{\"type\":\"start_kyoku\",\"bakaze\":" ++ quoted_tile round
+        ++ codes ",\"kyoku\":" ++ decimal number ++ codes ",\"honba\":" ++ decimal honba
+        ++ codes ",\"kyotaku\":" ++ decimal deposits ++ codes ",\"oya\":" ++ decimal dealer)) }
+{
+    push_all(line, b"{\"type\":\"start_kyoku\",\"bakaze\":")?;
+    push_kind(line, round)?;
+    push_all(line, b",\"kyoku\":")?;
+    push_number(line, u64::from(number))?;
+    push_all(line, b",\"honba\":")?;
+    push_number(line, u64::from(honba))?;
+    push_all(line, b",\"kyotaku\":")?;
+    push_number(line, u64::from(deposits))?;
+    push_all(line, b",\"oya\":")?;
+    push_number(line, u64::from(dealer))?;
+    Ok(())
+}
+
+// Writes the wind of a round, as its tile: each kind is the face of a plain tile.
+fn push_kind(line: &mut Vec<u8>, kind: Kind) -> Result<(), AllocError>
+    ensures { OnOk result (Adds line.old.items line.new.items (quoted_tile kind)) }
+{
+    match Tile::of(kind.number()) {
+        Some(tile) => push_tile(line, tile),
+        None => Ok(()),
+    }
+}
+
+// Writes the four hands as the viewer sees them, in brackets.
+fn push_hands(line: &mut Vec<u8>, viewer: Viewer, hands: &Four<Tiles>) -> Result<(), AllocError>
+    ensures { OnOk result (Adds line.old.items line.new.items (bracketed
+        (bracketed (hands_seen viewer hands.now).first ∷ bracketed (hands_seen viewer hands.now).second
+        ∷ bracketed (hands_seen viewer hands.now).third ∷ bracketed (hands_seen viewer hands.now).fourth
+        ∷ []))) }
+{
+    push_all(line, b"[")?;
+    push_tiles_seen(line, sees(viewer, 0), hands.first.as_slice())?;
+    push_all(line, b",")?;
+    push_tiles_seen(line, sees(viewer, 1), hands.second.as_slice())?;
+    push_all(line, b",")?;
+    push_tiles_seen(line, sees(viewer, 2), hands.third.as_slice())?;
+    push_all(line, b",")?;
+    push_tiles_seen(line, sees(viewer, 3), hands.fourth.as_slice())?;
+    push_all(line, b"]")?;
+    Ok(())
+}
+
+// Writes a draw.
+fn push_draw(line: &mut Vec<u8>, seat: u8, seen: bool, tile: Tile) -> Result<(), AllocError>
+    ensures { OnOk result (Adds line.old.items line.new.items (draw_line seat (tile_seen seen tile))) }
+{
+    push_all(line, b"{\"type\":\"tsumo\",\"actor\":")?;
+    push_number(line, u64::from(seat))?;
+    push_all(line, b",\"pai\":")?;
+    push_tile_seen(line, seen, tile)?;
+    push_all(line, b"}\n")?;
+    Ok(())
+}
+
+// Writes a discard.
+fn push_discard(line: &mut Vec<u8>, seat: u8, tile: Tile, drawn: bool) -> Result<(), AllocError>
+    ensures { OnOk result (Adds line.old.items line.new.items (discard_line seat tile drawn)) }
+{
+    push_all(line, b"{\"type\":\"dahai\",\"actor\":")?;
+    push_number(line, u64::from(seat))?;
+    push_all(line, b",\"pai\":")?;
+    push_tile(line, tile)?;
+    push_all(line, b",\"tsumogiri\":")?;
+    push_truth(line, drawn)?;
+    push_all(line, b"}\n")?;
+    Ok(())
+}

@@ -1,0 +1,17 @@
+//! The lines of mjai that go out and come in: deeds and refusals as they are written, answers and joins as they are
+//! read. A line that is written is compact JSON and ends with one newline.
+#![tactic(auto)]
+
+mod answer;
+mod deed;
+mod error;
+mod join;
+mod pieces;
+#[cfg(test)]
+mod tests;
+mod value;
+
+pub use answer::{names_later_type, read_answer};
+pub use deed::write;
+pub use error::error_line;
+pub use join::read_join;
