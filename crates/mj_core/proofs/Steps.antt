@@ -1,0 +1,215 @@
+-- What a table does is what the entries come to.
+use Rattle.std.proofs.Common.{◌≡◌, ℕ, ◌==◌, ◌&&◌, zero, suc, List, [], ◌∷◌, ◌++◌, length, map, Bool, true, false, Option, Some, None, refl, ap, ◌∙◌, sym, arith}
+use Rattle.std.specs.Prelude.{slice_get, slice_set, option_map, is_some, nat_lt, if◌then◌else◌}
+use Rattle.std.specs.Option.{option_map_or}
+use Rattle.std.proofs.lemmas.List.{map-set, map-append, length-set}
+use Rattle.mj_ports.specs.declared.entry.Entry.{Entry}
+use Rattle.mj_ports.specs.declared.entry.Entry.TheVariants.{Sat, Said}
+use Rattle.mj_ports.specs.declared.sitting.JoinLine.{JoinLine}
+use Rattle.mj_deeds.specs.declared.four.Four.{Four}
+use Rattle.mj_deeds.specs.declared.deed.Deed.{Deed}
+use Rattle.mj_deeds.specs.declared.deed.Deed.TheVariants.{StartGame}
+use Rattle.mj_deeds.specs.declared.answer.Answer.{Answer}
+use Rattle.mj_wall.specs.declared.setting.Setting.{Setting}
+use Rattle.mj_rules.specs.Outcome.{outcome}
+use Rattle.mj_protocol.specs.After.{After, Chair, Verdict, verdict_on, goes_on, seated, empty_slots, filled, is_ready, answers_in, lines_for, heard, own_part, names_of, next_deed, with_deed, step}
+use Rattle.mj_protocol.specs.Trace.{is_verdict_built, is_heard_built, is_deed_built, is_answer_built}
+use Rattle.mj_core.specs.Untold.{untold_chair, untold}
+use Rattle.mj_core.specs.Tables.{TakesNext, is_due, table_verdict, Hears}
+use Rattle.mj_core.proofs.Same.{names_of-same, with_deed-same}
+
+-- A step is what an entry changes of its own seat, and then the next deed.
+step-of : (setting : Setting) (now changed : After) (entry : Entry Answer) (deed : Option Deed) → own_part setting now entry ≡ changed → next_deed setting changed ≡ deed → step setting now entry ≡ with_deed changed deed
+unfolding step
+step-of setting now changed entry deed own next =
+    ap (λ (n : After). with_deed n (next_deed setting n)) own ∙ ap (with_deed changed) next
+
+-- The seat that a join takes.
+abbrev pub new_chair : ℕ → JoinLine → Chair
+new_chair author join = record { author = author; name = join.name; key = join.key; progress = seated }
+
+sat-own : (setting : Setting) (old : After) (author : ℕ) (join : JoinLine) → own_part setting old (Sat author join.name join.key) ≡ record old { chairs = old.chairs ++ new_chair author join ∷ [] }
+unfolding own_part
+sat-own setting old author join = refl
+
+-- Before the game nothing happens until four seats are held, and then it starts.
+next-waits : (setting : Setting) (now : After) → (length now.deeds == 0) ≡ true → (length now.chairs == 4) ≡ false → next_deed setting now ≡ None
+unfolding next_deed
+next-waits setting now d c = rw (d, c)
+
+next-starts : (setting : Setting) (now : After) → (length now.deeds == 0) ≡ true → (length now.chairs == 4) ≡ true → next_deed setting now ≡ Some (StartGame (names_of now.chairs))
+unfolding next_deed
+next-starts setting now d c = rw (d, c)
+
+-- Afterwards the window on the newest deed decides.
+next-plays : (setting : Setting) (now : After) → (length now.deeds == 0) ≡ false → next_deed setting now ≡ (if is_ready now.slots then outcome setting.walls now.deeds (answers_in now.slots) else None)
+unfolding next_deed
+next-plays setting now d = rw d
+
+untold-append : (chairs : List Chair) (chair other : Chair) → untold_chair chair ≡ untold_chair other → map untold_chair (chairs ++ chair ∷ []) ≡ map untold_chair (chairs ++ other ∷ [])
+untold-append chairs chair other e = rw (map-append untold_chair chairs (chair ∷ []), map-append untold_chair chairs (other ∷ []), e)
+
+same_length : (chairs : List Chair) (chair other : Chair) → length (chairs ++ chair ∷ []) ≡ length (chairs ++ other ∷ [])
+same_length [] chair other = refl
+same_length (c ∷ chairs) chair other = ap suc (same_length chairs chair other)
+
+one_longer : (chairs : List Chair) (chair : Chair) → length (chairs ++ chair ∷ []) ≡ suc (length chairs)
+one_longer [] chair = refl
+one_longer (c ∷ chairs) chair = ap suc (one_longer chairs chair)
+
+abbrev with_chairs : After → List Chair → After
+with_chairs now cs = record { deeds = now.deeds; chairs = cs; slots = now.slots }
+
+-- The seat is taken, and the game hasn't all its seats yet.
+pub takes-waits : (old : After) (author : ℕ) (join : JoinLine) (chair : Chair) → (length old.deeds == 0) ≡ true → untold_chair chair ≡ untold_chair (new_chair author join)
+    → (length (old.chairs ++ chair ∷ []) == 4) ≡ false → TakesNext old (with_chairs old (old.chairs ++ chair ∷ [])) author join
+takes-waits old author join chair d e c = record {
+  stepped = λ setting.
+      ap (with_chairs (untold old)) (untold-append old.chairs chair (new_chair author join) e)
+      ∙ sym (ap untold (step-of setting old _ (Sat author join.name join.key) None (sat-own setting old author join)
+      (next-waits setting _ d (ap (λ n. n == 4) (same_length old.chairs (new_chair author join) chair) ∙ c))));
+  one_more = one_longer old.chairs chair;
+  started = λ k. cc;
+}
+
+-- The fourth seat is taken, and the game starts.
+pub takes-starts : (old : After) (author : ℕ) (join : JoinLine) (chair : Chair) (names : Four (List ℕ)) → (length old.deeds == 0) ≡ true → untold_chair chair ≡ untold_chair (new_chair author join)
+    → length (old.chairs ++ chair ∷ []) ≡ 4 → names ≡ names_of (old.chairs ++ chair ∷ [])
+    → TakesNext old (record { deeds = old.deeds ++ StartGame names ∷ []; chairs = old.chairs ++ chair ∷ []; slots = empty_slots }) author join
+takes-starts old author join chair names d e c n = record {
+  stepped = λ setting.
+      let same : map untold_chair (old.chairs ++ chair ∷ []) ≡ map untold_chair (old.chairs ++ new_chair author join ∷ []) = untold-append old.chairs chair (new_chair author join) e in
+      let four : (length (old.chairs ++ new_chair author join ∷ []) == 4) ≡ true = ap (λ m. m == 4) (same_length old.chairs (new_chair author join) chair ∙ c) in
+      let said : names ≡ names_of (old.chairs ++ new_chair author join ∷ []) = n ∙ names_of-same _ _ same in
+      ap (λ (ns : Four (List ℕ)). let now : After = record { deeds = old.deeds ++ StartGame ns ∷ []; chairs = map untold_chair (old.chairs ++ chair ∷ []); slots = empty_slots } in now) said
+      ∙ ap (λ (cs : List Chair). let now : After = record { deeds = old.deeds ++ StartGame (names_of (old.chairs ++ new_chair author join ∷ [])) ∷ []; chairs = cs; slots = empty_slots } in now) same
+      ∙ sym (ap untold (step-of setting old _ (Sat author join.name join.key) _ (sat-own setting old author join) (next-starts setting _ d four)));
+  one_more = one_longer old.chairs chair;
+  started = λ k. c;
+}
+
+-- What a held seat says.
+said-own : (setting : Setting) (old : After) (author seat : ℕ) (answer : Answer) (chair : Chair) → slice_get old.chairs seat ≡ Some chair → own_part setting old (Said author seat answer) ≡ heard setting.rules.red old seat answer chair
+unfolding own_part
+said-own setting old author seat answer chair h = ap (λ (o : Option Chair). option_map_or (heard setting.rules.red old seat answer) o old) h
+
+abbrev gone_on : Setting → After → ℕ → Answer → Chair → Chair
+gone_on setting old seat answer chair =
+    record chair { progress = goes_on (lines_for seat old.deeds) (verdict_on setting.rules.red old.deeds seat answer chair.progress) chair.progress }
+
+heard-is : (setting : Setting) (old : After) (seat : ℕ) (answer : Answer) (chair : Chair) → heard setting.rules.red old seat answer chair ≡ record {
+  deeds = old.deeds;
+  chairs = slice_set old.chairs seat (gone_on setting old seat answer chair);
+  slots = filled (verdict_on setting.rules.red old.deeds seat answer chair.progress) old.slots seat answer;
+}
+unfolding heard
+heard-is setting old seat answer chair = refl
+
+untold-set : (chairs : List Chair) (seat : ℕ) (chair other : Chair) → untold_chair chair ≡ untold_chair other → map untold_chair (slice_set chairs seat chair) ≡ map untold_chair (slice_set chairs seat other)
+untold-set chairs seat chair other e =
+    map-set untold_chair chairs seat chair ∙ ap (λ (c : Chair). slice_set (map untold_chair chairs) seat c) e ∙ sym (map-set untold_chair chairs seat other)
+
+-- What is known when a held seat has answered: its verdict, the slots with its answer, and how far it has come.
+pub record Spoken (setting : Setting) (old : After) (seat : ℕ) (answer : Answer) (chair next : Chair) (verdict : Verdict) (slots : Four (Option Answer)) : Type 0 where
+  pub begun : (length old.deeds == 0) ≡ false
+  pub held : slice_get old.chairs seat ≡ Some chair
+  pub judged : verdict ≡ verdict_on setting.rules.red old.deeds seat answer chair.progress
+  pub may : is_verdict_built chair.progress.refused verdict ≡ true
+  pub filling : slots ≡ filled verdict old.slots seat answer
+  pub on : untold_chair next ≡ untold_chair (record chair { progress = goes_on (lines_for seat old.deeds) verdict chair.progress })
+
+abbrev pub table : List Deed → List Chair → Four (Option Answer) → After
+table deeds chairs slots = record { deeds = deeds; chairs = chairs; slots = slots }
+
+-- What the answer changes of its own seat.
+spoken-own : (setting : Setting) (old : After) (author seat : ℕ) (answer : Answer) (chair next : Chair) (verdict : Verdict) (slots : Four (Option Answer)) → Spoken setting old seat answer chair next verdict slots
+    → own_part setting old (Said author seat answer) ≡ table old.deeds (slice_set old.chairs seat (gone_on setting old seat answer chair)) slots
+spoken-own setting old author seat answer chair next verdict slots s =
+    said-own setting old author seat answer chair s.held ∙ heard-is setting old seat answer chair
+    ∙ ap (table old.deeds (slice_set old.chairs seat (gone_on setting old seat answer chair)))
+    (ap (λ (v : Verdict). filled v old.slots seat answer) (sym s.judged) ∙ sym s.filling)
+
+spoken-same : (setting : Setting) (old : After) (seat : ℕ) (answer : Answer) (chair next : Chair) (verdict : Verdict) (slots : Four (Option Answer)) → Spoken setting old seat answer chair next verdict slots
+    → map untold_chair (slice_set old.chairs seat next) ≡ map untold_chair (slice_set old.chairs seat (gone_on setting old seat answer chair))
+spoken-same setting old seat answer chair next verdict slots s =
+    untold-set old.chairs seat next _
+    (s.on ∙ ap (λ (v : Verdict). untold_chair (record chair { progress = goes_on (lines_for seat old.deeds) v chair.progress })) s.judged)
+
+spoken-step : (setting : Setting) (old : After) (author seat : ℕ) (answer : Answer) (chair next : Chair) (verdict : Verdict) (slots : Four (Option Answer)) (deed : Option Deed) → Spoken setting old seat answer chair next verdict slots
+    → (if is_ready slots then outcome setting.walls old.deeds (answers_in slots) else None) ≡ deed
+    → untold (with_deed (table old.deeds (slice_set old.chairs seat next) slots) deed) ≡ untold (step setting old (Said author seat answer))
+spoken-step setting old author seat answer chair next verdict slots deed s n =
+    let changed : After = table old.deeds (slice_set old.chairs seat (gone_on setting old seat answer chair)) slots in
+    with_deed-same _ changed deed (ap (λ (cs : List Chair). table old.deeds cs slots) (spoken-same setting old seat answer chair next verdict slots s))
+    ∙ sym (ap untold (step-of setting old changed (Said author seat answer) deed (spoken-own setting old author seat answer chair next verdict slots s) (next-plays setting changed s.begun ∙ n)))
+
+-- The verdict is one that the seat may get.
+heard-built : (red : Bool) (now : After) (seat : ℕ) (answer : Answer) (chair : Chair) (verdict : Verdict) (b : Bool) → slice_get now.chairs seat ≡ Some chair → verdict ≡ verdict_on red now.deeds seat answer chair.progress → is_verdict_built chair.progress.refused verdict ≡ b
+    → option_map_or (is_heard_built red now seat answer) (slice_get now.chairs seat) false ≡ b
+unfolding is_heard_built
+heard-built red now seat answer chair verdict b held judged may =
+    ap (λ (o : Option Chair). option_map_or (is_heard_built red now seat answer) o false) held
+    ∙ ap (is_verdict_built chair.progress.refused) (sym judged) ∙ may
+
+deed-built : (setting : Setting) (now : After) → (length now.deeds == 0) ≡ false → is_deed_built setting now ≡ (if is_ready now.slots then is_some (if is_ready now.slots then outcome setting.walls now.deeds (answers_in now.slots) else None) else true)
+unfolding is_deed_built
+deed-built setting now d = rw (next-plays setting now d)
+
+spoken-built : (setting : Setting) (old : After) (author seat : ℕ) (answer : Answer) (chair next : Chair) (verdict : Verdict) (slots : Four (Option Answer)) (b : Bool) → Spoken setting old seat answer chair next verdict slots
+    → (if is_ready slots then is_some (if is_ready slots then outcome setting.walls old.deeds (answers_in slots) else None) else true) ≡ b
+    → is_answer_built setting old author seat answer ≡ b
+unfolding is_answer_built
+spoken-built setting old author seat answer chair next verdict slots b s d =
+    ap (λ (h : Bool). h && is_deed_built setting (own_part setting old (Said author seat answer))) (heard-built setting.rules.red old seat answer chair verdict true s.held s.judged s.may)
+    ∙ ap (is_deed_built setting) (spoken-own setting old author seat answer chair next verdict slots s)
+    ∙ deed-built setting _ s.begun ∙ d
+
+same_many : (chairs : List Chair) (seat : ℕ) (chair : Chair) → length (slice_set chairs seat chair) ≡ length chairs
+same_many chairs seat chair = length-set chairs seat chair
+
+spoken-judged : (setting : Setting) (old : After) (seat : ℕ) (answer : Answer) (chair next : Chair) (verdict : Verdict) (slots : Four (Option Answer)) → Spoken setting old seat answer chair next verdict slots → table_verdict setting.rules.red old seat answer ≡ Some verdict
+spoken-judged setting old seat answer chair next verdict slots s =
+    ap (λ (o : Option Chair). option_map (λ (c : Chair). verdict_on setting.rules.red old.deeds seat answer c.progress) o) s.held ∙ ap Some (sym s.judged)
+
+-- The window stays open.
+pub hears-open : (setting : Setting) (old : After) (seat : ℕ) (answer : Answer) (chair next : Chair) (verdict : Verdict) (slots : Four (Option Answer)) → Spoken setting old seat answer chair next verdict slots
+    → is_ready slots ≡ false → Hears setting old (table old.deeds (slice_set old.chairs seat next) slots) seat answer verdict
+hears-open setting old seat answer chair next verdict slots s r = record {
+  judged = spoken-judged setting old seat answer chair next verdict slots s;
+  built = λ author. spoken-built setting old author seat answer chair next verdict slots true s (rw r);
+  stepped = λ author. spoken-step setting old author seat answer chair next verdict slots None s (rw r);
+  as_many = same_many old.chairs seat next;
+}
+
+-- The window closes, and the next deed comes.
+pub hears-closed : (setting : Setting) (old : After) (seat : ℕ) (answer : Answer) (chair next : Chair) (verdict : Verdict) (slots : Four (Option Answer)) (deed : Deed) → Spoken setting old seat answer chair next verdict slots
+    → is_ready slots ≡ true → outcome setting.walls old.deeds (answers_in slots) ≡ Some deed → Hears setting old (table (old.deeds ++ deed ∷ []) (slice_set old.chairs seat next) empty_slots) seat answer verdict
+hears-closed setting old seat answer chair next verdict slots deed s r o = record {
+  judged = spoken-judged setting old seat answer chair next verdict slots s;
+  built = λ author. spoken-built setting old author seat answer chair next verdict slots true s (rw (r, o));
+  stepped = λ author. spoken-step setting old author seat answer chair next verdict slots (Some deed) s (rw (r, o));
+  as_many = same_many old.chairs seat next;
+}
+
+-- The window closes, and what comes next isn't built.
+pub unbuilt-deed : (setting : Setting) (old : After) (author seat : ℕ) (answer : Answer) (chair next : Chair) (verdict : Verdict) (slots : Four (Option Answer)) → Spoken setting old seat answer chair next verdict slots
+    → is_ready slots ≡ true → outcome setting.walls old.deeds (answers_in slots) ≡ None → is_answer_built setting old author seat answer ≡ false
+unbuilt-deed setting old author seat answer chair next verdict slots s r o = spoken-built setting old author seat answer chair next verdict slots false s (rw (r, o))
+
+-- The seat may not get this verdict.
+pub unbuilt-verdict : (setting : Setting) (old : After) (author seat : ℕ) (answer : Answer) (chair : Chair) (verdict : Verdict) → slice_get old.chairs seat ≡ Some chair → verdict ≡ verdict_on setting.rules.red old.deeds seat answer chair.progress → is_verdict_built chair.progress.refused verdict ≡ false
+    → is_answer_built setting old author seat answer ≡ false
+unfolding is_answer_built
+unbuilt-verdict setting old author seat answer chair verdict held judged may = rw (heard-built setting.rules.red old seat answer chair verdict false held judged may)
+
+-- A held seat whose due deed exists sits at a game that has begun.
+begun-at : (now : After) (o : Option Chair) → option_map_or (λ (chair : Chair). nat_lt chair.progress.due (length now.deeds)) o false ≡ true → (length now.deeds == 0) ≡ false
+begun-at now None h = cc
+begun-at now (Some chair) h = lt-begun chair.progress.due (length now.deeds) h
+  where
+    lt-begun : (due n : ℕ) → nat_lt due n ≡ true → (n == 0) ≡ false
+    lt-begun due zero h = grind (arith, h)
+    lt-begun due (suc n) h = grind arith
+
+pub begun-due : (now : After) (seat : ℕ) → is_due now seat ≡ true → (length now.deeds == 0) ≡ false
+begun-due now seat h = begun-at now (slice_get now.chairs seat) h

@@ -1,0 +1,5 @@
+pub mod Untold
+pub mod Calls
+pub mod Windows
+pub mod Tables
+pub mod Kept

@@ -1,0 +1,199 @@
+ghost use Rattle.std.specs.Prelude.{◌≡◌, ℕ, ◌≤◌, length, [], Some, None, true, false, if◌then◌else◌, IfOk, OnOk, OnErr, IsTrue};
+ghost use Rattle.std.specs.List.{list_all};
+ghost use Rattle.mj_bytes.specs.Adds.{Adds};
+ghost use Rattle.mj_wall.specs.Places.{is_wall};
+ghost use Rattle.mj_protocol.specs.Reading.{join_of};
+ghost use Rattle.mj_protocol.specs.Trace.{can_say};
+ghost use Rattle.mj_core.specs.Calls.{IsSitAnswer, IsHeard, plain_answer, heard_by, standing, is_held, author_at, is_asked, pending_at};
+
+use crate::answers::{Heard, SitAnswer};
+use crate::entered::Entered;
+use crate::table::Table;
+use crate::verdict::Verdict;
+use mj_deeds::{Answer, Viewer};
+use mj_ports::{JoinLine, SitRefused};
+use mj_wall::{Rules, Setting, Wall, Walls};
+use mjai_lines::{names_later_type, read_answer, read_join, write};
+use std::alloc::{AllocError, Global};
+use std::marker::Model;
+
+/// One game: what it is played with, and all that was entered so far.
+#[derive(Drop)]
+pub struct Core {
+    setting: Setting,
+    entries: Vec<Entered>,
+    table: Table,
+}
+
+impl Model for Core {
+    ghost use Rattle.mj_protocol.specs.Trace.{Game};
+    ghost use Rattle.mj_core.specs.Kept.{IsKept};
+
+    ghost Value = { Game };
+
+    ghost view = { λ c. record { setting = c.setting; entries = c.entries.items } };
+
+    ghost invariant = { λ c. IsKept c.setting c.entries.items c.table };
+}
+
+impl Core {
+    /// A game before its first entry, with 1 to 200 walls, which have red fives exactly where the rules say so, and a
+    /// limit from 1 to 3600000 milliseconds.
+    pub fn new(alloc: Global, walls: Vec<Wall>, rules: Rules) -> Result<Core, AllocError>
+        requires some { 1 ≤ length walls.items }
+        requires few { length walls.items ≤ 200 }
+        requires whole { IsTrue (list_all (is_wall rules.red) walls.items) }
+        requires shortest { 1 ≤ rules.limit }
+        requires longest { rules.limit ≤ 3600000 }
+        ensures { IfOk result (λ core. core ≡ record { setting = record { walls = walls.items; rules = rules }; entries = [] }) }
+    {
+        let setting = Setting {
+            walls: Walls::from_vec(walls),
+            rules,
+        };
+        Ok(Core {
+            setting,
+            entries: Vec::new(alloc),
+            table: Table::new(alloc)?,
+        })
+    }
+
+    /// A line that wants a seat. The next seat is given under the name and key of the line, unless the line is no join, a
+    /// seat has the name, or all four are held. The author is the number of the worker that enters it.
+    pub fn sit(&mut self, alloc: Global, author: u8, line: &[u8]) -> SitAnswer
+        ensures { IsSitAnswer result self.old self.new author (join_of line.now) }
+    {
+        match read_join(alloc, line) {
+            Ok(Some(join)) => self.seat(author, &join),
+            Ok(None) => SitAnswer::Refused(SitRefused::BadName),
+            Err(_) => SitAnswer::NoMemory,
+        }
+    }
+
+    // A seat for a join.
+    fn seat(&mut self, author: u8, join: &JoinLine) -> SitAnswer
+        ensures { IsSitAnswer result self.old self.new author (Some join.now) }
+    {
+        if self.table.has_name(&join.name) {
+            return SitAnswer::Refused(SitRefused::NameTaken);
+        }
+        let seat = self.table.held();
+        if seat == 4 {
+            return SitAnswer::Refused(SitRefused::Full);
+        }
+        if self.entries.reserve(1).is_err() {
+            return SitAnswer::NoMemory;
+        }
+        match self.table.take_seat(author, join) {
+            Ok(()) => {
+                self.entries.push_reserved(Entered::sat(author, join));
+                SitAnswer::Sat(seat)
+            }
+            Err(_) => SitAnswer::NoMemory,
+        }
+    }
+
+    /// A line of a seat, 0 to 3, which is present by this author and whose due deed exists. The answer that the line reads
+    /// as is entered and judged, unless what it leads to is not built.
+    pub fn said(&mut self, alloc: Global, author: u8, seat: u8, line: &[u8]) -> Heard
+        requires { can_say (standing self.old) author seat ≡ true }
+        ensures { IsHeard result self.old self.new author seat (plain_answer line.now) }
+    {
+        match plain_answer(alloc, line) {
+            Ok(Some(answer)) => self.hear(alloc, author, seat, &answer),
+            Ok(None) => Heard::NotBuilt,
+            Err(_) => Heard::NoMemory,
+        }
+    }
+
+    // An answer of a seat.
+    fn hear(&mut self, alloc: Global, author: u8, seat: u8, answer: &Answer) -> Heard
+        requires { can_say (standing self.old) author seat ≡ true }
+        ensures { IsHeard result self.old self.new author seat (Some answer.now) }
+    {
+        if self.entries.reserve(1).is_err() {
+            return Heard::NoMemory;
+        }
+        match self.table.hear(alloc, &self.setting, seat, answer) {
+            Ok(Some(verdict)) => {
+                self.entries
+                    .push_reserved(Entered::said(author, seat, answer));
+                heard_by(&verdict)
+            }
+            Ok(None) => Heard::NotBuilt,
+            Err(_) => Heard::NoMemory,
+        }
+    }
+
+    /// Whether a seat is held.
+    pub fn present(&self, seat: u8) -> bool
+        ensures { result ≡ is_held self.now seat }
+    {
+        self.table.seat(seat).is_some()
+    }
+
+    /// The author by whom a seat is present; None exactly where it isn't held.
+    pub fn author(&self, seat: u8) -> Option<u8>
+        ensures { result ≡ author_at self.now seat }
+    {
+        match self.table.seat(seat) {
+            Some(held) => Some(held.author()),
+            None => None,
+        }
+    }
+
+    /// Whether a seat is held and the deed that its next line answers exists.
+    pub fn may_say(&self, seat: u8) -> bool
+        ensures asked { result ≡ is_asked self.now seat }
+        ensures by_author { result ≡ true → (author : ℕ) → author_at self.now seat ≡ Some author → can_say (standing self.now) author seat ≡ true }
+    {
+        self.table.is_due(seat)
+    }
+
+    /// The number of held seats, 0 to 4.
+    pub fn seats(&self) -> u8
+        ensures { result ≡ length (standing self.now).chairs }
+    {
+        self.table.held()
+    }
+
+    /// Writes behind what stands in `into` what is still to be told to a seat: the line of its due deed as soon as that
+    /// deed exists, unless an answer to it was refused. For a seat that isn't held there is nothing.
+    pub fn pending(&self, alloc: Global, seat: u8, into: &mut Vec<u8>) -> Result<(), AllocError>
+        ensures ok { OnOk result (Adds into.old.items into.new.items (pending_at self.now seat)) }
+        ensures err { OnErr result (into.new.items ≡ into.old.items) }
+    {
+        let Some(held) = self.table.seat(seat) else {
+            return Ok(());
+        };
+        if !held.is_fresh() {
+            return Ok(());
+        }
+        match self.table.deeds().get(held.due()) {
+            Some(deed) => write(alloc, Viewer::Seat(seat), deed, into),
+            None => Ok(()),
+        }
+    }
+}
+
+// What a line answers; None where it names an answer that is not built.
+fn plain_answer(alloc: Global, line: &[u8]) -> Result<Option<Answer>, AllocError>
+    ensures { IfOk result (λ answer. answer ≡ plain_answer line.now) }
+{
+    if names_later_type(alloc, line)? {
+        return Ok(None);
+    }
+    let answer = read_answer(alloc, line)?;
+    Ok(Some(answer))
+}
+
+// What a seat is answered by its verdict.
+fn heard_by(verdict: &Verdict) -> Heard
+    ensures { result ≡ heard_by verdict.now }
+{
+    match verdict {
+        Verdict::Taken => Heard::Taken,
+        Verdict::Late => Heard::Late,
+        Verdict::Refused(rule) => Heard::Refused(*rule),
+    }
+}

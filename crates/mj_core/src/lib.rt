@@ -1,0 +1,15 @@
+//! One game as it is played: who sits down, what the seats say, and what each is still to be told.
+#![tactic(auto)]
+
+mod answers;
+mod entered;
+mod game;
+mod held_seat;
+mod table;
+#[cfg(test)]
+mod tests;
+mod verdict;
+mod window;
+
+pub use answers::{Heard, SitAnswer};
+pub use game::Core;

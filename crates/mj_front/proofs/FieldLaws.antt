@@ -1,0 +1,88 @@
+-- Texts of three fields and of other numbers of fields.
+use Rattle.std.proofs.Common.{◌≡◌, ℕ, ◌^◌, ◌<◌, List, [], ◌∷◌, Bool, true, false, refl, ap, sym, cond}
+use Rattle.std.specs.Prelude.{Option, Some, None, option_map, option_and_then, ◌==◌, nat_lt}
+use Rattle.std.proofs.Common.{arith}
+use Rattle.std.proofs.lemmas.Bool.Decides.{nat_tests}
+use Rattle.mj_bytes.specs.Numbers.{number_of}
+use Rattle.mj_bytes.specs.Parts.{fields, onto_first}
+use Rattle.mj_protocol.specs.Arrivals.{NoForm, Expire, rules_of, expire_form, numbers_of}
+use Rattle.mj_front.specs.Forms.{three_of}
+
+-- a text has at least one field
+has_first : (text : List ℕ) → fields text ≡ [] → ⊥
+has_first [] h = cc h
+has_first (b ∷ bs) h = either (b == 32) (fields bs) (has_first bs) h
+  where
+    either : (t : Bool) (others : List (List ℕ)) → (others ≡ [] → ⊥) → cond t ([] ∷ others) (onto_first b others) ≡ [] → ⊥
+    either true others g k = cc k
+    either false [] g k = g refl
+    either false (x ∷ xs) g k = cc k
+
+more : (a b c : List ℕ) (others : List (List ℕ)) → (others ≡ [] → ⊥) → three_of (a ∷ b ∷ c ∷ others) ≡ None
+more a b c [] g = absurd (g refl)
+more a b c (x ∷ xs) g = refl
+
+pub one_field : (text a : List ℕ) → fields text ≡ a ∷ [] → None ≡ three_of (fields text)
+one_field text a e = rw e
+
+pub two_fields : (text a rest b : List ℕ) → fields text ≡ a ∷ fields rest → fields rest ≡ b ∷ [] → None ≡ three_of (fields text)
+two_fields text a rest b e f = rw (e, f)
+
+pub all_three : (text a rest b last c : List ℕ) → fields text ≡ a ∷ fields rest → fields rest ≡ b ∷ fields last → fields last ≡ c ∷ [] → Some (a, b, c) ≡ three_of (fields text)
+all_three text a rest b last c e f g = rw (e, f, g)
+
+pub more_fields : (text a rest b last c behind : List ℕ) → fields text ≡ a ∷ fields rest → fields rest ≡ b ∷ fields last → fields last ≡ c ∷ fields behind → None ≡ three_of (fields text)
+more_fields text a rest b last c behind e f g = rw (e, f, g, more a b c (fields behind) (has_first behind))
+
+pub ruleset three_fields = (one_field, two_fields, all_three, more_fields)
+
+-- other numbers of fields say no rules and no end of a window
+pub rules_of_others : (texts : List (List ℕ)) → three_of texts ≡ None → rules_of texts ≡ None
+unfolding rules_of
+rules_of_others [] h = refl
+rules_of_others (a ∷ []) h = refl
+rules_of_others (a ∷ b ∷ []) h = refl
+rules_of_others (a ∷ b ∷ c ∷ []) h = cc h
+rules_of_others (a ∷ b ∷ c ∷ d ∷ ds) h = refl
+
+pub expire_form_of_others : (texts : List (List ℕ)) → three_of texts ≡ None → expire_form (numbers_of texts) ≡ NoForm
+expire_form_of_others [] h = refl
+expire_form_of_others (a ∷ []) h = one (number_of a)
+  where
+    one : (o : Option ℕ) → expire_form (option_and_then (λ n. option_map (λ ns. n ∷ ns) (Some [])) o) ≡ NoForm
+    one None = refl
+    one (Some n) = refl
+expire_form_of_others (a ∷ b ∷ []) h = two (number_of a) (number_of b)
+  where
+    two : (o p : Option ℕ) → expire_form (option_and_then (λ n. option_map (λ ns. n ∷ ns) (option_and_then (λ n. option_map (λ ns. n ∷ ns) (Some [])) p)) o) ≡ NoForm
+    two None p = refl
+    two (Some n) None = refl
+    two (Some n) (Some m) = refl
+expire_form_of_others (a ∷ b ∷ c ∷ []) h = cc h
+expire_form_of_others (a ∷ b ∷ c ∷ d ∷ ds) h = four (number_of a) (number_of b) (number_of c) (number_of d) (numbers_of ds)
+  where
+    four : (o p q r : Option ℕ) (s : Option (List ℕ)) → expire_form (option_and_then (λ n. option_map (λ ns. n ∷ ns) (option_and_then (λ n. option_map (λ ns. n ∷ ns) (option_and_then (λ n. option_map (λ ns. n ∷ ns) (option_and_then (λ n. option_map (λ ns. n ∷ ns) s) r)) q)) p)) o) ≡ NoForm
+    four None p q r s = refl
+    four (Some n) None q r s = refl
+    four (Some n) (Some m) None r s = refl
+    four (Some n) (Some m) (Some k) None s = refl
+    four (Some n) (Some m) (Some k) (Some l) None = refl
+    four (Some n) (Some m) (Some k) (Some l) (Some ns) = refl
+
+abbrev texts_in : Option (List ℕ × List ℕ × List ℕ) → List (List ℕ)
+texts_in None = []
+texts_in (Some p) = p.0 ∷ p.1 ∷ p.2 ∷ []
+
+three_texts : (texts : List (List ℕ)) (a b c : List ℕ) → Some (a, b, c) ≡ three_of texts → texts ≡ a ∷ b ∷ c ∷ []
+three_texts [] a b c h = cc h
+three_texts (x ∷ []) a b c h = cc h
+three_texts (x ∷ y ∷ []) a b c h = cc h
+three_texts (x ∷ y ∷ z ∷ []) a b c h = sym (ap texts_in h)
+three_texts (x ∷ y ∷ z ∷ v ∷ vs) a b c h = cc h
+
+pub expire_form_of_three : (texts : List (List ℕ)) (a b c : List ℕ) (window t1 t2 : ℕ) → Some (a, b, c) ≡ three_of texts → Some window ≡ number_of a → Some t1 ≡ number_of b → Some t2 ≡ number_of c → window < 2 ^ 32 → Expire window t1 t2 ≡ expire_form (numbers_of texts)
+expire_form_of_three texts a b c window t1 t2 h f g k below =
+    let small : nat_lt window (2 ^ 32) ≡ true = grind (arith, nat_tests) in
+    rw (three_texts texts a b c h, ← f, ← g, ← k, small)
+
+pub ruleset expiries = (expire_form_of_others, expire_form_of_three)

@@ -1,0 +1,6 @@
+pub mod FieldLaws
+pub mod TileLaws
+pub mod StatusLaws
+pub mod Telling
+pub mod LineLaws
+pub mod RunLaws

@@ -1,0 +1,157 @@
+-- What one entry more changes of what a seat was told by its own entries.
+use Rattle.std.proofs.Common.{◌≡◌, ◌≢◌, ℕ, zero, suc, ◌==◌, false, List, [], ◌∷◌, ◌++◌, length, refl, ap, sym, ◌∙◌, arith, append-nil}
+use Rattle.std.specs.Prelude.{Option, Some, None, option_map, slice_get, slice_set}
+use Rattle.std.specs.Option.{option_map_or}
+use Rattle.std.proofs.lemmas.Bool.Decides.{eqb_tells, nat_tests}
+use Rattle.std.proofs.Common.{inl, inr}
+use Rattle.mj_ports.specs.declared.entry.Entry.{Entry}
+use Rattle.mj_ports.specs.declared.entry.Entry.TheVariants.{Sat, Said}
+use Rattle.mj_deeds.specs.declared.answer.Answer.{Answer}
+use Rattle.mj_deeds.specs.declared.deed.Deed.{Deed}
+use Rattle.mj_wall.specs.declared.setting.Setting.{Setting}
+use Rattle.mj_protocol.specs.Lines.{error_text}
+use Rattle.mj_protocol.specs.After.{After, Chair, Progress, Verdict, Taken, Late, Refused, verdict_on, goes_on, pending, lines_for, heard, own_part, next_deed, with_deed, step, seated, script_at, script_in}
+use Rattle.mj_protocol.specs.Trace.{Game}
+use Rattle.mj_protocol.proofs.Entries.{after-append}
+use Rattle.mj_protocol.proofs.Places.{slice_get-append_at, slice_get-append_other, slice_get-set_at, slice_get-set_other}
+use Rattle.mj_core.specs.Calls.{standing, Enters, verdict_at, pending_at}
+use Rattle.mj_front.specs.Hearing.{told_in, greeting}
+
+-- what a seat was told, among chairs
+abbrev told_at : ℕ → List Chair → List ℕ
+told_at seat chairs = option_map_or (λ (chair : Chair). chair.progress.told) (slice_get chairs seat) []
+
+-- a game with one entry more stands one step further
+standing-enters : (old new : Game) (entry : Entry Answer) → Enters old new entry → standing new ≡ step old.setting (standing old) entry
+standing-enters old new entry e = rw (e.setting, e.entries) (after-append old.setting old.entries entry)
+
+chairs-with_deed : (now : After) (deed : Option Deed) → (with_deed now deed).chairs ≡ now.chairs
+chairs-with_deed now None = refl
+chairs-with_deed now (Some deed) = refl
+
+-- a deed changes no chair
+chairs-step : (setting : Setting) (now : After) (entry : Entry Answer) → (step setting now entry).chairs ≡ (own_part setting now entry).chairs
+unfolding step
+chairs-step setting now entry = chairs-with_deed (own_part setting now entry) (next_deed setting (own_part setting now entry))
+
+chairs-enters : (old new : Game) (entry : Entry Answer) → Enters old new entry → (standing new).chairs ≡ (own_part old.setting (standing old) entry).chairs
+chairs-enters old new entry e = ap (λ (now : After). now.chairs) (standing-enters old new entry e) ∙ chairs-step old.setting (standing old) entry
+
+-- the chair of one that has just been seated
+abbrev new_chair : ℕ → List ℕ → Option (List ℕ) → Chair
+new_chair author name key = record { author = author; name = name; key = key; progress = seated }
+
+chairs-sat : (setting : Setting) (now : After) (author : ℕ) (name : List ℕ) (key : Option (List ℕ)) → (own_part setting now (Sat author name key)).chairs ≡ now.chairs ++ new_chair author name key ∷ []
+unfolding own_part
+chairs-sat setting now author name key = refl
+
+nobody_behind : (chairs : List Chair) → slice_get chairs (length chairs) ≡ None
+nobody_behind [] = refl
+nobody_behind (c ∷ cs) = nobody_behind cs
+
+-- one that is seated is greeted
+told-more : (seat : ℕ) (chairs : List Chair) (author : ℕ) (name : List ℕ) (key : Option (List ℕ)) → told_at seat (chairs ++ new_chair author name key ∷ []) ≡ told_at seat chairs ++ greeting (length chairs) seat
+told-more seat chairs author name key =
+    elim (eqb_tells (length chairs) seat) [
+      | inl p ↦ rw (p.0, ← p.1, slice_get-append_at chairs (new_chair author name key), nobody_behind chairs)
+      | inr p ↦ rw (p.0, slice_get-append_other chairs (new_chair author name key) seat (λ e. p.1 (sym e)), append-nil (told_at seat chairs))
+    ]
+
+pub told-sat : (seat author : ℕ) (name : List ℕ) (key : Option (List ℕ)) (old new : Game) → Enters old new (Sat author name key) →
+    told_in seat (standing new) ≡ told_in seat (standing old) ++ greeting (length (standing old).chairs) seat
+told-sat seat author name key old new e =
+    ap (told_at seat) (chairs-enters old new (Sat author name key) e ∙ chairs-sat old.setting (standing old) author name key)
+    ∙ told-more seat (standing old).chairs author name key
+
+-- a list that grew is not empty
+pub nonempty : {A : Type 0} (xs : List A) (x : A) → (length (xs ++ x ∷ []) == 0) ≡ false
+nonempty [] x = refl
+nonempty (y ∷ ys) x = grind (arith, nat_tests)
+
+-- a chair is among the chairs at a seat by whose author the seat is present
+pub has_chair : (o : Option Chair) (author : ℕ) → option_map (λ (chair : Chair). chair.author) o ≡ Some author → (chair : Chair) × (o ≡ Some chair) × (chair.author ≡ author)
+has_chair None author h = cc h
+has_chair (Some chair) author h = (chair, refl, cc h)
+
+-- the verdict on an answer, from the verdict that was told
+pub verdict-at : (game : Game) (seat : ℕ) (answer : Answer) (chair : Chair) (verdict : Verdict) → slice_get (standing game).chairs seat ≡ Some chair → verdict_at game seat answer ≡ Some verdict →
+    verdict_on game.setting.rules.red (standing game).deeds seat answer chair.progress ≡ verdict
+verdict-at game seat answer chair verdict e h = let k = rw e at h in cc k
+
+-- what an answer changes of the chairs
+chairs-said : (setting : Setting) (now : After) (author seat : ℕ) (answer : Answer) (chair : Chair) → slice_get now.chairs seat ≡ Some chair →
+    (own_part setting now (Said author seat answer)).chairs
+    ≡ slice_set now.chairs seat (record chair { progress = goes_on (lines_for seat now.deeds) (verdict_on setting.rules.red now.deeds seat answer chair.progress) chair.progress })
+unfolding own_part heard
+chairs-said setting now author seat answer chair e = rw e
+
+chairs-enters-said : (old new : Game) (author seat : ℕ) (answer : Answer) (chair : Chair) (verdict : Verdict) → Enters old new (Said author seat answer) → slice_get (standing old).chairs seat ≡ Some chair → verdict_at old seat answer ≡ Some verdict →
+    (standing new).chairs ≡ slice_set (standing old).chairs seat (record chair { progress = goes_on (lines_for seat (standing old).deeds) verdict chair.progress })
+chairs-enters-said old new author seat answer chair verdict e h v =
+    chairs-enters old new (Said author seat answer) e
+    ∙ chairs-said old.setting (standing old) author seat answer chair h
+    ∙ ap (λ (w : Verdict). slice_set (standing old).chairs seat (record chair { progress = goes_on (lines_for seat (standing old).deeds) w chair.progress }))
+    (verdict-at old seat answer chair verdict h v)
+
+-- what a verdict adds behind what was pending
+abbrev pub error_of : Verdict → List ℕ
+error_of Taken = []
+error_of Late = []
+error_of (Refused rule) = error_text rule
+
+told-goes_on : (lines : List (List ℕ)) (verdict : Verdict) (p : Progress) → (goes_on lines verdict p).told ≡ p.told ++ pending lines p ++ error_of verdict
+told-goes_on lines Taken p = sym (append-nil (p.told ++ pending lines p))
+told-goes_on lines Late p = sym (append-nil (p.told ++ pending lines p))
+told-goes_on lines (Refused rule) p = refl
+
+-- what a seat is told by its own answer
+pub told-own : (author seat : ℕ) (answer : Answer) (old new : Game) (chair : Chair) (verdict : Verdict) → Enters old new (Said author seat answer) → slice_get (standing old).chairs seat ≡ Some chair → verdict_at old seat answer ≡ Some verdict →
+    told_in seat (standing new) ≡ told_in seat (standing old) ++ pending_at old seat ++ error_of verdict
+told-own author seat answer old new chair verdict e h v =
+    ap (told_at seat) (chairs-enters-said old new author seat answer chair verdict e h v)
+    ∙ ap (λ (o : Option Chair). option_map_or (λ (c : Chair). c.progress.told) o []) (slice_get-set_at (standing old).chairs seat (record chair { progress = goes_on (lines_for seat (standing old).deeds) verdict chair.progress }) chair h)
+    ∙ told-goes_on (lines_for seat (standing old).deeds) verdict chair.progress
+    ∙ sym (rw h)
+
+-- another's answer tells a seat nothing
+pub told-other : (author who seat : ℕ) (answer : Answer) (old new : Game) (chair : Chair) (verdict : Verdict) → who ≢ seat → Enters old new (Said author who answer) → slice_get (standing old).chairs who ≡ Some chair → verdict_at old who answer ≡ Some verdict →
+    told_in seat (standing new) ≡ told_in seat (standing old)
+told-other author who seat answer old new chair verdict differs e h v =
+    ap (told_at seat) (chairs-enters-said old new author who answer chair verdict e h v)
+    ∙ ap (λ (o : Option Chair). option_map_or (λ (c : Chair). c.progress.told) o []) (slice_get-set_other (standing old).chairs who seat (record chair { progress = goes_on (lines_for who (standing old).deeds) verdict chair.progress }) differs)
+
+length-set : {A : Type 0} (xs : List A) (i : ℕ) (x : A) → length (slice_set xs i x) ≡ length xs
+length-set [] i x = refl
+length-set (y ∷ ys) zero x = refl
+length-set (y ∷ ys) (suc i) x = ap (λ (n : ℕ). suc n) (length-set ys i x)
+
+held : {A : Type 0} (xs : List A) (i : ℕ) (x : A) → slice_get xs i ≡ Some x → (length xs == 0) ≡ false
+held [] i x h = cc h
+held (y ∷ ys) i x h = grind (arith, nat_tests)
+
+-- after an answer seats are held
+pub held-said : (author seat : ℕ) (answer : Answer) (old new : Game) (chair : Chair) (verdict : Verdict) → Enters old new (Said author seat answer) → slice_get (standing old).chairs seat ≡ Some chair → verdict_at old seat answer ≡ Some verdict →
+    (length (standing new).chairs == 0) ≡ false
+held-said author seat answer old new chair verdict e h v =
+    ap (λ (chairs : List Chair). length chairs == 0) (chairs-enters-said old new author seat answer chair verdict e h v)
+    ∙ ap (λ (n : ℕ). n == 0) (length-set (standing old).chairs seat (record chair { progress = goes_on (lines_for seat (standing old).deeds) verdict chair.progress }))
+    ∙ held (standing old).chairs seat chair h
+
+-- after one has been seated, seats are held
+pub held-sat : (author : ℕ) (name : List ℕ) (key : Option (List ℕ)) (old new : Game) → Enters old new (Sat author name key) → (length (standing new).chairs == 0) ≡ false
+held-sat author name key old new e =
+    ap (λ (chairs : List Chair). length chairs == 0) (chairs-enters old new (Sat author name key) e ∙ chairs-sat old.setting (standing old) author name key)
+    ∙ nonempty (standing old).chairs (new_chair author name key)
+
+-- there are entries
+pub entered : (old new : Game) (entry : Entry Answer) → Enters old new entry → (length new.entries == 0) ≡ false
+entered old new entry e = ap (λ (entries : List (Entry Answer)). length entries == 0) e.entries ∙ nonempty old.entries entry
+
+-- what the connection of a seat gets: what it was told, and what is pending
+pub script-parts : (seat : ℕ) (game : Game) → script_in seat (standing game) ≡ told_in seat (standing game) ++ pending_at game seat
+unfolding script_at
+script-parts seat game = parts (slice_get (standing game).chairs seat)
+  where
+    parts : (o : Option Chair) → option_map_or (script_at seat (standing game)) o [] ≡ option_map_or (λ (chair : Chair). chair.progress.told) o [] ++ option_map_or (λ (chair : Chair). pending (lines_for seat (standing game).deeds) chair.progress) o []
+    parts None = refl
+    parts (Some chair) = refl

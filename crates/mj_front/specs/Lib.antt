@@ -1,0 +1,4 @@
+pub mod Forms
+pub mod Statuses
+pub mod Run
+pub mod Hearing

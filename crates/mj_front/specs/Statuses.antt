@@ -1,0 +1,35 @@
+-- What a status is answered with: the exit code of the program, and the text on standard error.
+use Rattle.std.specs.Prelude.{ℕ, List, [], ◌++◌, codes}
+use Rattle.mj_bytes.specs.Numbers.{number_text}
+use Rattle.mj_front.specs.declared.status.Status.{Status}
+use Rattle.mj_front.specs.declared.status.Status.TheVariants as statuses
+
+-- The exit code; 0 for success alone.
+abbrev pub code_of : Status → ℕ
+code_of statuses.Done = 0
+code_of statuses.Words = 2
+code_of statuses.ReadFault = 3
+code_of statuses.WriteFault = 4
+code_of statuses.NoMemory = 5
+code_of (statuses.BadArrival line) = 6
+code_of statuses.TooLong = 9
+code_of (statuses.NotBuilt line) = 10
+
+-- How the program is called.
+unfoldable pub usage : List ℕ
+usage = codes "usage: riichi_table referee SEAT | serve --seed HEX [--limit MS] [--port N] [--draws] [--red] | replay | hand WORDS | selfplay N\n"
+
+-- A fault at a line of the input, counted from 1.
+unfoldable pub at_line : List ℕ → ℕ → List ℕ
+at_line fault line = fault ++ (codes " at line " ++ (number_text line ++ codes "\n"))
+
+-- The text on standard error; none for success.
+abbrev pub status_words : Status → List ℕ
+status_words statuses.Done = []
+status_words statuses.Words = usage
+status_words statuses.ReadFault = codes "read fault\n"
+status_words statuses.WriteFault = codes "write fault\n"
+status_words statuses.NoMemory = codes "no memory\n"
+status_words (statuses.BadArrival line) = at_line (codes "bad arrival") line
+status_words statuses.TooLong = codes "input too long\n"
+status_words (statuses.NotBuilt line) = at_line (codes "not built") line

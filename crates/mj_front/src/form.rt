@@ -1,0 +1,234 @@
+//! The forms that a line of the arrivals may have.
+
+ghost use Rattle.std.specs.Prelude.{◌≡◌, ◌<◌, ◌≤◌, ◌^◌, IfOk, IfSome, codes, option_and_then, option_map};
+ghost use Rattle.std.specs.Option.{SomeIff, option_map_or};
+ghost use Rattle.mj_bytes.specs.Numbers.{number_of};
+ghost use Rattle.mj_bytes.specs.Parts.{fields, parted, behind};
+ghost use Rattle.mj_protocol.specs.Arrivals.{Header, WallOf, Leave, NoForm, form_of, rules_of, tiles_of, limit_of, switch_of, numbers_of};
+ghost use Rattle.mj_protocol.specs.Arrivals.{form_by as form_meant, sit_form as sit_meant, say_form as say_meant, expire_form as expire_meant};
+ghost use Rattle.mj_front.specs.Forms.{meaning, expiry_meant, three_of, IsLimited, HasLimit};
+
+use mj_bytes::{read_number, split_space, strip};
+use mj_tiles::Tile;
+use mj_wall::Rules;
+use std::alloc::{AllocError, Global};
+
+/// The most bytes that the line of a player may have.
+const LINE_LIMIT: usize = 4095;
+
+/// The form of a line, and what stands in it.
+#[derive(Drop)]
+pub(crate) enum Form<'a> {
+    /// `game` and the rules of the game.
+    Header(Rules),
+    /// `wall` and tiles, which need not make a wall.
+    Wall(Vec<Tile>),
+    /// `sit` and the line of one that wants a seat.
+    Sit(&'a [u8]),
+    /// `say`, a seat, and the line that it says.
+    Say { seat: u64, line: &'a [u8] },
+    /// `gone` and a seat.
+    Leave(u64),
+    /// `expire`, the number of a window, and two readings of a clock in milliseconds.
+    Expire { window: u32, t1: u64, t2: u64 },
+    /// None of these.
+    NoForm,
+}
+
+/// The form of a line, which stands here without its newline.
+#[tactic(auto, unfolding(mj_protocol::specs::Arrivals::form_of))]
+pub(crate) fn read_form(alloc: Global, line: &[u8]) -> Result<Form<'_>, AllocError>
+    ensures form { IfOk result (λ form. meaning form ≡ form_of line.now) }
+    ensures limit { IfOk result (λ form. HasLimit form) }
+{
+    match split_space(line) {
+        Some((word, text)) => form_by(alloc, word, text),
+        None => Ok(Form::NoForm),
+    }
+}
+
+// The form of a line by its first word and what follows it.
+#[tactic(auto, unfolding(mj_protocol::specs::Arrivals::form_by))]
+fn form_by<'a>(alloc: Global, word: &[u8], text: &'a [u8]) -> Result<Form<'a>, AllocError>
+    ensures form { IfOk result (λ form. meaning form ≡ form_meant word.now text.now) }
+    ensures limit { IfOk result (λ form. HasLimit form) }
+{
+    if word == b"game".as_slice() {
+        return Ok(header_form(text));
+    }
+    if word == b"wall".as_slice() {
+        return wall_form(alloc, text);
+    }
+    if word == b"sit".as_slice() {
+        return Ok(sit_form(text));
+    }
+    if word == b"say".as_slice() {
+        return Ok(say_form(text));
+    }
+    if word == b"gone".as_slice() {
+        return Ok(leave_form(text));
+    }
+    if word == b"expire".as_slice() {
+        return Ok(expire_form(text));
+    }
+    Ok(Form::NoForm)
+}
+
+fn header_form(text: &[u8]) -> Form<'_>
+    ensures form { meaning result ≡ option_map_or Header (rules_of (fields text.now)) NoForm }
+    ensures limit { HasLimit result }
+{
+    match read_rules(text) {
+        Some(rules) => Form::Header(rules),
+        None => Form::NoForm,
+    }
+}
+
+// The rules that three fields say: the limit of a window in milliseconds and two switches.
+#[tactic(auto, using(crate::proofs::FieldLaws::rules_of_others), unfolding(mj_protocol::specs::Arrivals::rules_of))]
+fn read_rules(text: &[u8]) -> Option<Rules>
+    ensures rules { result ≡ rules_of (fields text.now) }
+    ensures limit { IfSome result IsLimited }
+{
+    let (limit, draws, red) = three_fields(text)?;
+    Some(Rules {
+        limit: read_limit(limit)?,
+        draws: read_switch(draws, b"draws=")?,
+        red: read_switch(red, b"red=")?,
+    })
+}
+
+// A limit of 1 to 3600000 milliseconds.
+fn read_limit(field: &[u8]) -> Option<u64>
+    ensures value { result ≡ option_and_then limit_of (option_and_then number_of (behind (codes "limit=") field.now)) }
+    ensures bound { IfSome result (λ limit. (1 ≤ limit) × (limit ≤ 3600000)) }
+{
+    let limit = read_number(strip(field, b"limit=")?)?;
+    if (1..=3_600_000).contains(&limit) {
+        return Some(limit);
+    }
+    None
+}
+
+// A switch under a name, `0` or `1`.
+fn read_switch(field: &[u8], name: &[u8]) -> Option<bool>
+    ensures { result ≡ option_and_then switch_of (behind name.now field.now) }
+{
+    match strip(field, name)? {
+        b"0" => Some(false),
+        b"1" => Some(true),
+        _ => None,
+    }
+}
+
+fn wall_form<'a>(alloc: Global, text: &[u8]) -> Result<Form<'a>, AllocError>
+    ensures form { IfOk result (λ form. meaning form ≡ option_map_or WallOf (tiles_of (fields text.now)) NoForm) }
+    ensures limit { IfOk result (λ form. HasLimit form) }
+{
+    match read_tiles(alloc, text)? {
+        Some(tiles) => Ok(Form::Wall(tiles)),
+        None => Ok(Form::NoForm),
+    }
+}
+
+// The tiles that the fields of a text name, where each names one.
+#[tactic(auto, using(crate::proofs::TileLaws::reading))]
+fn read_tiles(alloc: Global, text: &[u8]) -> Result<Option<Vec<Tile>>, AllocError>
+    ensures { IfOk result (λ tiles. option_map (λ t. t.items) tiles ≡ tiles_of (fields text.now)) }
+{
+    let mut tiles = Vec::new(alloc);
+    let mut rest = text;
+    while let Some((field, others)) = split_space(rest) {
+        let Some(tile) = Tile::read(field) else {
+            return Ok(None);
+        };
+        tiles.push(tile)?;
+        rest = others;
+    }
+    let Some(tile) = Tile::read(rest) else {
+        return Ok(None);
+    };
+    tiles.push(tile)?;
+    Ok(Some(tiles))
+}
+
+fn sit_form(line: &[u8]) -> Form<'_>
+    ensures form { meaning result ≡ sit_meant line.now }
+    ensures limit { HasLimit result }
+{
+    if line.len() > LINE_LIMIT {
+        return Form::NoForm;
+    }
+    Form::Sit(line)
+}
+
+fn say_form(text: &[u8]) -> Form<'_>
+    ensures form { meaning result ≡ say_meant (parted text.now) }
+    ensures limit { HasLimit result }
+{
+    let Some((seat, line)) = split_space(text) else {
+        return Form::NoForm;
+    };
+    let Some(seat) = read_number(seat) else {
+        return Form::NoForm;
+    };
+    if line.len() > LINE_LIMIT {
+        return Form::NoForm;
+    }
+    Form::Say { seat, line }
+}
+
+fn leave_form<'a>(text: &[u8]) -> Form<'a>
+    ensures form { meaning result ≡ option_map_or Leave (number_of text.now) NoForm }
+    ensures limit { HasLimit result }
+{
+    match read_number(text) {
+        Some(seat) => Form::Leave(seat),
+        None => Form::NoForm,
+    }
+}
+
+fn expire_form<'a>(text: &[u8]) -> Form<'a>
+    ensures form { meaning result ≡ expire_meant (numbers_of (fields text.now)) }
+    ensures limit { HasLimit result }
+{
+    match read_expiry(text) {
+        Some((window, t1, t2)) => Form::Expire { window, t1, t2 },
+        None => Form::NoForm,
+    }
+}
+
+// The window, below 2^32, and the two readings that three fields say.
+#[tactic(auto, using(crate::proofs::FieldLaws::expiries))]
+fn read_expiry(text: &[u8]) -> Option<(u32, u64, u64)>
+    ensures { expiry_meant result ≡ expire_meant (numbers_of (fields text.now)) }
+{
+    let (window, t1, t2) = three_fields(text)?;
+    let window = read_number(window)?;
+    let t1 = read_number(t1)?;
+    let t2 = read_number(t2)?;
+    Some((window_below(window)?, t1, t2))
+}
+
+// The number of a window, where it is below 2^32.
+fn window_below(number: u64) -> Option<u32>
+    ensures { SomeIff result (number < 2 ^ 32) number }
+{
+    if number > u64::from(u32::MAX) {
+        return None;
+    }
+    Some(number as u32)
+}
+
+// The fields of a text that has three.
+#[tactic(auto, using(crate::proofs::FieldLaws::three_fields))]
+fn three_fields(text: &[u8]) -> Option<(&[u8], &[u8], &[u8])>
+    ensures { option_map (λ x. (x.0.now, x.1.now, x.2.now)) result ≡ three_of (fields text.now) }
+{
+    let (first, others) = split_space(text)?;
+    let (second, third) = split_space(others)?;
+    match split_space(third) {
+        Some(_) => None,
+        None => Some((first, second, third)),
+    }
+}

@@ -1,0 +1,346 @@
+//! The lines of the arrivals, heard one by one, and what they tell one seat.
+
+ghost use Rattle.std.specs.Prelude.{◌≡◌, ◌≤◌, ◌==◌, ℕ, true, false, List, [], ◌∷◌, ◌++◌, length, IfOk, OnOk, Some};
+ghost use Rattle.mj_bytes.specs.Adds.{Adds};
+ghost use Rattle.mj_bytes.specs.Parts.{whole_lines, unfinished};
+ghost use Rattle.mj_wall.specs.Places.{is_wall};
+ghost use Rattle.mj_protocol.specs.Arrivals.{Leave, Reading, hear_from, hear_on, header_arrives, nothing_read, at_end, input_of, arrives, behind_header, wall_arrives, sit_arrives, say_arrives};
+ghost use Rattle.mj_core.specs.Calls.{is_asked, author_at, standing, pending_at};
+ghost use Rattle.mj_front.specs.Hearing.{reading_of, headed, walled, greeting, InPlay, Does, Stops, ending, HearsAll, Tells};
+
+use crate::form::{Form, read_form};
+use mj_bytes::{push_all, split_line};
+use mj_core::{Core, Heard, SitAnswer};
+use mj_tiles::Tile;
+use mj_wall::{Rules, Wall};
+use mjai_lines::error_line;
+use std::alloc::{AllocError, Global};
+
+/// The first line of each connection.
+const HELLO: &[u8] = b"{\"type\":\"hello\",\"protocol\":\"mjsonp\",\"protocol_version\":3}\n";
+
+/// The author of each line that wants a seat.
+const JOINER: u8 = 1;
+
+/// What a line does.
+#[derive(Clone, Copy)]
+pub(crate) enum Step {
+    /// It is an arrival in its place.
+    Leads,
+    /// It asks for what isn't built.
+    NotBuilt,
+    /// It is no arrival in its place.
+    Bad,
+}
+
+/// How an input ends.
+#[derive(Clone, Copy)]
+pub(crate) enum End {
+    /// Each line is an arrival in its place.
+    Whole,
+    /// This line, counted from 1, is the first that is none.
+    Bad(u32),
+    /// This line, counted from 1, is the first that asks for what isn't built.
+    NotBuilt(u32),
+}
+
+/// What an input gives a seat: how the input ends, and the bytes that the seat's connection gets.
+#[derive(Drop)]
+pub(crate) struct Told {
+    pub(crate) end: End,
+    pub(crate) bytes: Vec<u8>,
+}
+
+// What tells the seat nothing.
+fn untold(alloc: Global, end: End) -> Told
+    ensures end { result.end ≡ end }
+    ensures bytes { result.bytes.items ≡ [] }
+{
+    Told {
+        end,
+        bytes: Vec::new(alloc),
+    }
+}
+
+/// Hears an input, of at most 67,108,864 bytes, for a seat.
+#[tactic(auto, unfolding(mj_protocol::specs::Arrivals::arrives))]
+pub(crate) fn hear(alloc: Global, seat: u8, input: &[u8]) -> Result<Told, AllocError>
+    requires { length input.now ≤ 67108864 }
+    ensures { IfOk result (λ told. Tells (input_of input.now) seat told.end told.bytes.items) }
+{
+    let Some((line, others)) = split_line(input) else {
+        return Ok(untold(alloc, end_at(input, 1)));
+    };
+    match read_form(alloc, line)? {
+        Form::Header(rules) => hear_header(alloc, seat, rules, others),
+        _ => Ok(untold(alloc, End::Bad(1))),
+    }
+}
+
+// Hears what stands behind a header. Red fives are no part of a game yet, and the draw reasons are not built.
+#[tactic(auto, unfolding(mj_protocol::specs::Arrivals::header_arrives))]
+fn hear_header(alloc: Global, seat: u8, rules: Rules, input: &[u8]) -> Result<Told, AllocError>
+    requires fits { length input.now ≤ 67108864 }
+    requires least { 1 ≤ rules.limit }
+    requires longest { rules.limit ≤ 3600000 }
+    ensures { IfOk result (λ told. Tells (hear_on (header_arrives nothing_read rules) (λ next. hear_from next 2 (whole_lines input.now) (unfinished input.now)) nothing_read 1) seat told.end told.bytes.items) }
+{
+    if rules.red {
+        return Ok(untold(alloc, End::Bad(1)));
+    }
+    if rules.draws {
+        return Ok(untold(alloc, End::NotBuilt(1)));
+    }
+    hear_headed(alloc, seat, rules, input)
+}
+
+// Hears all lines behind a header, the first of which is line 2: a wall stands there.
+#[tactic(auto, unfolding(mj_protocol::specs::Arrivals::arrives, mj_wall::specs::Places::is_wall, mj_protocol::specs::Arrivals::wall_arrives, mj_protocol::specs::Arrivals::sit_arrives, mj_protocol::specs::Arrivals::say_arrives))]
+fn hear_headed(alloc: Global, seat: u8, rules: Rules, input: &[u8]) -> Result<Told, AllocError>
+    requires fits { length input.now ≤ 67108864 }
+    requires least { 1 ≤ rules.limit }
+    requires longest { rules.limit ≤ 3600000 }
+    requires plain { rules.red ≡ false }
+    ensures { IfOk result (λ told. Tells (hear_from (headed rules) 2 (whole_lines input.now) (unfinished input.now)) seat told.end told.bytes.items) }
+{
+    let Some((line, others)) = split_line(input) else {
+        return Ok(untold(alloc, end_at(input, 2)));
+    };
+    match read_form(alloc, line)? {
+        Form::Wall(tiles) => match Wall::read(tiles.as_slice(), false) {
+            Ok(wall) => hear_walled(alloc, seat, rules, wall, others),
+            Err(_) => Ok(untold(alloc, End::Bad(2))),
+        },
+        _ => Ok(untold(alloc, End::Bad(2))),
+    }
+}
+
+// Hears all lines behind a header and a wall, and what is pending for the seat at the end.
+fn hear_walled(
+    alloc: Global,
+    seat: u8,
+    rules: Rules,
+    wall: Wall,
+    input: &[u8],
+) -> Result<Told, AllocError>
+    requires fits { length input.now ≤ 67108864 }
+    requires least { 1 ≤ rules.limit }
+    requires longest { rules.limit ≤ 3600000 }
+    requires plain { rules.red ≡ false }
+    requires whole { is_wall false wall ≡ true }
+    ensures { IfOk result (λ told. Tells (hear_from (walled rules wall) 3 (whole_lines input.now) (unfinished input.now)) seat told.end told.bytes.items) }
+{
+    let mut walls = Vec::new(alloc);
+    walls.push(wall)?;
+    let mut core = Core::new(alloc, walls, rules)?;
+    let mut bytes = Vec::new(alloc);
+    let end = hear_lines(alloc, seat, &mut core, &mut bytes, input)?;
+    core.pending(alloc, seat, &mut bytes)?;
+    Ok(Told { end, bytes })
+}
+
+// How an input ends behind its last whole line: nothing may stand there.
+fn end_at(rest: &[u8], number: u32) -> End
+    ensures { (reading : Reading) → at_end reading number rest.now ≡ record { reading = reading; ending = ending result } }
+{
+    match rest {
+        [] => End::Whole,
+        [_, ..] => End::Bad(number),
+    }
+}
+
+// Hears all lines of a game in play, the first of which is line 3.
+fn hear_lines(
+    alloc: Global,
+    seat: u8,
+    core: &mut Core,
+    told: &mut Vec<u8>,
+    input: &[u8],
+) -> Result<End, AllocError>
+    requires play { InPlay seat core.old told.old.items }
+    requires fits { length input.now ≤ 67108864 }
+    ensures { IfOk result (λ end. HearsAll (hear_from (reading_of core.old) 3 (whole_lines input.now) (unfinished input.now)) seat end core.new told.new.items) }
+{
+    let mut rest = input;
+    let mut number = 3;
+    while let Some((line, others)) = split_line(rest) {
+        match hear_line(alloc, seat, core, told, line)? {
+            Step::Leads => {}
+            Step::NotBuilt => return Ok(End::NotBuilt(number)),
+            Step::Bad => return Ok(End::Bad(number)),
+        }
+        rest = others;
+        number += 1;
+    }
+    Ok(end_at(rest, number))
+}
+
+// Hears one line of a game in play.
+#[tactic(auto, unfolding(mj_protocol::specs::Arrivals::arrives))]
+fn hear_line(
+    alloc: Global,
+    seat: u8,
+    core: &mut Core,
+    told: &mut Vec<u8>,
+    line: &[u8],
+) -> Result<Step, AllocError>
+    requires { InPlay seat core.old told.old.items }
+    ensures { IfOk result (λ step. Does step seat core.old core.new told.old.items told.new.items (arrives (reading_of core.old) line.now)) }
+{
+    match read_form(alloc, line)? {
+        Form::Header(_) => Ok(Step::Bad),
+        Form::Wall(tiles) => Ok(second_wall(core, tiles.as_slice())),
+        Form::Sit(line) => sit(alloc, seat, core, told, line),
+        Form::Say { seat: who, line } => say(alloc, seat, core, told, who, line),
+        Form::Leave(who) => Ok(leave(core, who)),
+        Form::Expire { .. } => Ok(Step::NotBuilt),
+        Form::NoForm => Ok(Step::Bad),
+    }
+}
+
+// A wall behind the first.
+#[tactic(auto, using(crate::proofs::LineLaws::walls))]
+fn second_wall(core: &Core, tiles: &[Tile]) -> Step
+    requires wall { (length core.now.setting.walls == 0) ≡ false }
+    requires begun { (length core.now.entries == 0) ≡ (length (standing core.now).chairs == 0) }
+    ensures { Stops result (wall_arrives (reading_of core.now) tiles.now) }
+{
+    if core.seats() > 0 {
+        return Step::Bad;
+    }
+    match Wall::read(tiles, false) {
+        Ok(_) => Step::NotBuilt,
+        Err(_) => Step::Bad,
+    }
+}
+
+// A seat is gone.
+fn leave(core: &Core, who: u64) -> Step
+    ensures { Stops result (behind_header (reading_of core.now) (Leave who)) }
+{
+    if who < u64::from(core.seats()) {
+        return Step::NotBuilt;
+    }
+    Step::Bad
+}
+
+// Somebody wants a seat. The seat whose bytes are gathered is greeted.
+fn sit(
+    alloc: Global,
+    seat: u8,
+    core: &mut Core,
+    told: &mut Vec<u8>,
+    line: &[u8],
+) -> Result<Step, AllocError>
+    requires { InPlay seat core.old told.old.items }
+    ensures { IfOk result (λ step. Does step seat core.old core.new told.old.items told.new.items (sit_arrives (reading_of core.old) line.now)) }
+{
+    match core.sit(alloc, JOINER, line) {
+        SitAnswer::Sat(taken) => {
+            greet(told, taken, seat)?;
+            Ok(Step::Leads)
+        }
+        SitAnswer::Refused(_) => Ok(Step::NotBuilt),
+        SitAnswer::NoMemory => Err(AllocError),
+    }
+}
+
+// Greets a seat, where it is the one that was taken.
+#[tactic(auto, unfolding(mj_protocol::specs::Lines::hello_line))]
+fn greet(told: &mut Vec<u8>, taken: u8, seat: u8) -> Result<(), AllocError>
+    ensures { OnOk result (Adds told.old.items told.new.items (greeting taken seat)) }
+{
+    if taken == seat {
+        return push_all(told, HELLO);
+    }
+    Ok(())
+}
+
+// Somebody says a line.
+#[tactic(auto, using(crate::proofs::LineLaws::saying))]
+fn say(
+    alloc: Global,
+    seat: u8,
+    core: &mut Core,
+    told: &mut Vec<u8>,
+    who: u64,
+    line: &[u8],
+) -> Result<Step, AllocError>
+    requires { InPlay seat core.old told.old.items }
+    ensures { IfOk result (λ step. Does step seat core.old core.new told.old.items told.new.items (say_arrives (reading_of core.old) who line.now)) }
+{
+    if who >= u64::from(core.seats()) {
+        return Ok(Step::Bad);
+    }
+    let who = who as u8;
+    let Some(author) = core.author(who) else {
+        return Ok(Step::Bad);
+    };
+    if !core.may_say(who) {
+        return Ok(Step::Bad);
+    }
+    if who == seat {
+        return own_line(alloc, seat, core, told, author, line);
+    }
+    others_line(alloc, seat, core, told, author, who, line)
+}
+
+// The seat itself says a line, once its due deed exists. It is first told what is pending, and the rule that it breaks.
+fn own_line(
+    alloc: Global,
+    seat: u8,
+    core: &mut Core,
+    told: &mut Vec<u8>,
+    author: u8,
+    line: &[u8],
+) -> Result<Step, AllocError>
+    requires play { InPlay seat core.old told.old.items }
+    requires present { author_at core.old seat ≡ Some author }
+    requires asked { is_asked core.old seat ≡ true }
+    ensures { IfOk result (λ step. Does step seat core.old core.new told.old.items told.new.items (say_arrives (reading_of core.old) seat line.now)) }
+{
+    let mut due = Vec::new(alloc);
+    core.pending(alloc, seat, &mut due)?;
+    match core.said(alloc, author, seat, line) {
+        Heard::Taken => {
+            push_all(told, due.as_slice())?;
+            Ok(Step::Leads)
+        }
+        Heard::Late => {
+            push_all(told, due.as_slice())?;
+            Ok(Step::Leads)
+        }
+        Heard::Refused(rule) => {
+            push_all(told, due.as_slice())?;
+            error_line(alloc, rule, told)?;
+            Ok(Step::Leads)
+        }
+        Heard::NotBuilt => Ok(Step::NotBuilt),
+        Heard::NoMemory => Err(AllocError),
+    }
+}
+
+// Another seat says a line, once its due deed exists.
+fn others_line(
+    alloc: Global,
+    seat: u8,
+    core: &mut Core,
+    told: &mut Vec<u8>,
+    author: u8,
+    who: u8,
+    line: &[u8],
+) -> Result<Step, AllocError>
+    requires play { InPlay seat core.old told.old.items }
+    requires present { author_at core.old who ≡ Some author }
+    requires asked { is_asked core.old who ≡ true }
+    requires another { (who == seat) ≡ false }
+    ensures { IfOk result (λ step. Does step seat core.old core.new told.old.items told.new.items (say_arrives (reading_of core.old) who line.now)) }
+{
+    match core.said(alloc, author, who, line) {
+        Heard::Taken => Ok(Step::Leads),
+        Heard::Late => Ok(Step::Leads),
+        Heard::Refused(_) => Ok(Step::Leads),
+        Heard::NotBuilt => Ok(Step::NotBuilt),
+        Heard::NoMemory => Err(AllocError),
+    }
+}

@@ -1,0 +1,78 @@
+//! How a run ended.
+
+ghost use Rattle.std.specs.Prelude.{◌≡◌, IfOk, OnOk, OnErr, codes};
+ghost use Rattle.mj_bytes.specs.Adds.{Adds};
+ghost use Rattle.mj_front.specs.Statuses.{code_of, status_words, at_line, usage};
+
+use mj_bytes::{push_all, push_number};
+use std::alloc::{AllocError, Global};
+
+/// How a run ended. Where several fit, the first of this order answers: `Words`; `ReadFault` or `TooLong`, whichever is met
+/// first; `WriteFault`; `BadArrival` or `NotBuilt`; `Done`.
+#[derive(Clone, Copy, Debug, PartialEq, Eq)]
+pub enum Status {
+    /// The input was read to its end and is valid, and what it tells the seat is written.
+    Done,
+    /// The words ask for no command, or for one with other arguments than its own.
+    Words,
+    /// A read failed. Nothing is written.
+    ReadFault,
+    /// A write failed. What is written is a prefix of what was to be.
+    WriteFault,
+    /// Memory was wanting. Nothing is written.
+    NoMemory,
+    /// The line, counted from 1, is the first that is no arrival in its place. What the lines before it tell is written.
+    BadArrival(u32),
+    /// The input has more than 67,108,864 bytes. Nothing is written.
+    TooLong,
+    /// The line, counted from 1, is the first that asks for what isn't built. What the lines before it tell is written.
+    NotBuilt(u32),
+}
+
+/// The exit code of a program that ends so.
+pub fn exit_code(status: &Status) -> u8
+    ensures { result ≡ code_of status.now }
+{
+    match status {
+        Status::Done => 0,
+        Status::Words => 2,
+        Status::ReadFault => 3,
+        Status::WriteFault => 4,
+        Status::NoMemory => 5,
+        Status::BadArrival(_) => 6,
+        Status::TooLong => 9,
+        Status::NotBuilt(_) => 10,
+    }
+}
+
+/// The text that a program that ends so writes on standard error, with its newline; empty for `Done`.
+#[tactic(auto, unfolding(crate::specs::Statuses::usage))]
+pub fn status_text(alloc: Global, status: &Status) -> Result<Vec<u8>, AllocError>
+    ensures { IfOk result (λ text. text.items ≡ status_words status.now) }
+{
+    match status {
+        Status::Done => Ok(Vec::new(alloc)),
+        Status::Words => Vec::from_slice(
+            alloc,
+            b"usage: riichi_table referee SEAT | serve --seed HEX [--limit MS] [--port N] [--draws] [--red] | replay | hand WORDS | selfplay N\n",
+        ),
+        Status::ReadFault => Vec::from_slice(alloc, b"read fault\n"),
+        Status::WriteFault => Vec::from_slice(alloc, b"write fault\n"),
+        Status::NoMemory => Vec::from_slice(alloc, b"no memory\n"),
+        Status::BadArrival(line) => text_at_line(alloc, b"bad arrival", *line),
+        Status::TooLong => Vec::from_slice(alloc, b"input too long\n"),
+        Status::NotBuilt(line) => text_at_line(alloc, b"not built", *line),
+    }
+}
+
+// The text on a fault at a line.
+#[tactic(auto, using(crate::proofs::StatusLaws::pieces), unfolding(crate::specs::Statuses::at_line))]
+fn text_at_line(alloc: Global, fault: &[u8], line: u32) -> Result<Vec<u8>, AllocError>
+    ensures { IfOk result (λ text. text.items ≡ at_line fault.now line) }
+{
+    let mut text = Vec::from_slice(alloc, fault)?;
+    push_all(&mut text, b" at line ")?;
+    push_number(&mut text, u64::from(line))?;
+    push_all(&mut text, b"\n")?;
+    Ok(text)
+}

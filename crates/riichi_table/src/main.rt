@@ -1,0 +1,42 @@
+//! A referee for four-player riichi mahjong over mjai: `riichi_table referee SEAT` reads the arrivals of a game from
+//! standard input and writes what the game tells the connection of that seat.
+#![tactic(auto)]
+
+use mj_front::{Status, exit_code, run, status_text};
+use mj_links::{ReaderSource, WriterSink};
+use std::alloc::AllocError;
+use std::env;
+use std::io::{ErrorKind, Write};
+use std::process::ExitCode;
+
+fn main(rt: HostRuntime) -> ExitCode {
+    let alloc = rt.alloc();
+    let status = match words(&rt) {
+        Ok(words) => run(
+            alloc,
+            words.as_slice(),
+            &mut ReaderSource::new(rt.stdin()),
+            &mut WriterSink::new(rt.stdout()),
+        ),
+        Err(_) => Status::NoMemory,
+    };
+    if let Ok(text) = status_text(alloc, &status) {
+        let _ = rt.stderr().write_all(text.as_slice());
+    }
+    ExitCode::from(exit_code(&status))
+}
+
+// The words behind the program's name. Where one of them is no text there are none, for no command has such a word.
+fn words(rt: &HostRuntime) -> Result<Vec<String>, AllocError> {
+    let mut words = Vec::new(rt.alloc());
+    match env::args(rt) {
+        Ok(args) => {
+            for word in args.skip(1) {
+                words.push(word)?;
+            }
+            Ok(words)
+        }
+        Err(error) if error.kind() == ErrorKind::OutOfMemory => Err(AllocError),
+        Err(_) => Ok(words),
+    }
+}
