@@ -1,0 +1,110 @@
+//! The jobs: each goes through hands and sums up what a call answers.
+
+use crate::hands::{Hands, ROOM, first_kind};
+use mj_readings::readings;
+use mj_suits::partitions;
+use mj_tiles::{Counts, Kind};
+use mj_waits::waits;
+use std::alloc::{AllocError, Global};
+
+/// What is timed.
+#[derive(Clone, Copy, PartialEq, Eq, Debug)]
+pub enum Job {
+    Waits,
+    WaitsOfReady,
+    Readings,
+    Partitions,
+}
+
+/// All jobs, in the order in which they are printed.
+pub const JOBS: [Job; 4] = [
+    Job::Waits,
+    Job::WaitsOfReady,
+    Job::Readings,
+    Job::Partitions,
+];
+
+impl Job {
+    /// What the job is called.
+    pub fn name(self) -> &'static str {
+        match self {
+            Job::Waits => "waits of 13 tiles",
+            Job::WaitsOfReady => "waits of a ready hand",
+            Job::Readings => "readings of a complete hand",
+            Job::Partitions => "partitions of one suit",
+        }
+    }
+
+    /// Goes through so many hands, and answers a checksum.
+    pub fn run(self, alloc: Global, hands: &mut Hands, times: u32) -> Result<u64, AllocError> {
+        let mut sum = 0u64;
+        for _ in 0..times {
+            let part = match self {
+                Job::Waits => waits_of(&hands.numbers(13)),
+                Job::WaitsOfReady => waits_of(&hands.ready_numbers()),
+                Job::Readings => readings_of(alloc, &hands.complete_numbers())?,
+                Job::Partitions => partitions_of(alloc, &hands.complete_numbers())?,
+            };
+            sum = sum.wrapping_mul(31).wrapping_add(part);
+        }
+        Ok(sum)
+    }
+}
+
+/// Makes the hands of a job and asks nothing, so that the time of making them can be taken off.
+pub fn make_only(job: Job, hands: &mut Hands, times: u32) -> u64 {
+    let mut sum = 0u64;
+    for _ in 0..times {
+        let numbers = match job {
+            Job::Waits => hands.numbers(13),
+            Job::WaitsOfReady => hands.ready_numbers(),
+            Job::Readings | Job::Partitions => hands.complete_numbers(),
+        };
+        sum = sum.wrapping_add(u64::from(numbers[0]));
+    }
+    sum
+}
+
+// How many kinds the tiles wait on.
+fn waits_of(numbers: &[u8; 34]) -> u64 {
+    let (Some(counts), Some(room)) = (Counts::of(*numbers), Counts::of(ROOM)) else {
+        return 0;
+    };
+    let kinds = waits(&counts, &room, 0);
+    let mut found = 0u64;
+    for number in 0..34u8 {
+        if let Some(kind) = Kind::of(number) {
+            if kinds.has(kind) {
+                found = found.wrapping_add(1);
+            }
+        }
+    }
+    found
+}
+
+// How many readings a hand has.
+fn readings_of(alloc: Global, numbers: &[u8; 34]) -> Result<u64, AllocError> {
+    let Some(counts) = Counts::of(*numbers) else {
+        return Ok(0);
+    };
+    let Some(win) = first_kind(&counts) else {
+        return Ok(0);
+    };
+    let found = readings(alloc, &counts, &[], win)?;
+    Ok(found.len() as u64)
+}
+
+// The numbers of the first suit.
+fn suit_of(numbers: &[u8; 34]) -> [u8; 9] {
+    let mut suit = [0u8; 9];
+    for place in 0..9 {
+        suit[place] = numbers[place].min(4);
+    }
+    suit
+}
+
+// In how many ways the first suit parts.
+fn partitions_of(alloc: Global, numbers: &[u8; 34]) -> Result<u64, AllocError> {
+    let found = partitions(alloc, suit_of(numbers), true)?;
+    Ok(found.len() as u64)
+}

@@ -1,0 +1,47 @@
+//! Times the calls that play leans on. With no word each job runs once over a few hands, and its checksum is printed; with
+//! the word `time` each job is printed with its nanoseconds a call and its calls a second.
+#![tactic(auto)]
+
+mod hands;
+mod jobs;
+
+use anyhow::Result;
+use hands::Hands;
+use jobs::JOBS;
+use std::env;
+use std::time::CpuClock;
+
+/// How many hands a job goes through for its checksum.
+const FEW: u32 = 2_000;
+
+/// How many it goes through when it is timed.
+const MANY: u32 = 200_000;
+
+fn main(rt: HostRuntime) -> Result<()> {
+    let timed = match env::args(&rt)?.nth(1) {
+        Some(word) => word.as_str() == "time",
+        None => false,
+    };
+    for job in JOBS {
+        let mut hands = Hands::new();
+        if timed {
+            let before = rt.process_cpu_time()?;
+            let sum = job.run(rt.alloc(), &mut hands, MANY)?;
+            let after = rt.process_cpu_time()?;
+            let made = rt.process_cpu_time()?;
+            let _ = jobs::make_only(job, &mut Hands::new(), MANY);
+            let making = rt.process_cpu_time()?;
+            let all = after.as_nanos().saturating_sub(before.as_nanos());
+            let making = making.as_nanos().saturating_sub(made.as_nanos());
+            let each = all.saturating_sub(making) / u128::from(MANY);
+            let name = job.name();
+            let rate = 1_000_000_000 / each.max(1);
+            println!(rt; "{name}: {each} ns a call, {rate} calls a second (checksum {sum})")?;
+        } else {
+            let sum = job.run(rt.alloc(), &mut hands, FEW)?;
+            let name = job.name();
+            println!(rt; "{name}: checksum {sum}")?;
+        }
+    }
+    Ok(())
+}
