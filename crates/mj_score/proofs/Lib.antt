@@ -1,0 +1,3 @@
+mod RowOrder
+mod ScoreOrder
+mod BestScore

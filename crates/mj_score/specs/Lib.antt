@@ -1,0 +1,3 @@
+pub mod Scores
+pub mod Worth
+pub mod Walks

@@ -1,0 +1,8 @@
+mod TileTests
+mod RowSets
+mod RowLists
+mod RowMembers
+mod Lists
+mod SomeHan
+mod SomeReading
+mod FewReadings

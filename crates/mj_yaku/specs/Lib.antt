@@ -1,0 +1,11 @@
+pub mod Rows
+pub mod Hands
+pub mod WholeHand
+pub mod Classes
+pub mod Wins
+pub mod SetForms
+pub mod Numbers
+pub mod Limits
+pub mod Han
+pub mod Yaku
+pub mod SomeYaku

@@ -1,0 +1,20 @@
+//! Yaku of riichi mahjong: which rows of the table of yaku a reading of a complete hand has, and their han.
+#![tactic(auto)]
+
+mod han;
+mod limits;
+mod numbers;
+mod set_forms;
+mod some_yaku;
+mod table;
+mod tiles;
+mod whole_hand;
+mod wins;
+mod yaku_list;
+mod yaku_set;
+
+pub use han::han_of;
+pub use some_yaku::has_yaku;
+pub use table::{is_closed, yaku};
+pub use yaku_list::YakuList;
+pub use yaku_set::YakuSet;
