@@ -3,6 +3,8 @@
 
 mod order;
 mod score;
+#[cfg(test)]
+mod tests;
 mod winning;
 
 pub use score::{Extra, Score};
