@@ -1,10 +1,12 @@
 //! The jobs: each goes through hands and sums up what a call answers.
 
 use crate::hands::{Hands, ROOM, first_kind};
-use mj_readings::readings;
+use mj_readings::{Case, Riichi, readings};
+use mj_score::{Extra, worth};
 use mj_suits::partitions;
 use mj_tiles::{Counts, Kind};
 use mj_waits::waits;
+use mj_yaku::is_closed;
 use std::alloc::{AllocError, Global};
 
 /// What is timed.
@@ -14,14 +16,16 @@ pub enum Job {
     WaitsOfReady,
     Readings,
     Partitions,
+    Worth,
 }
 
 /// All jobs, in the order in which they are printed.
-pub const JOBS: [Job; 4] = [
+pub const JOBS: [Job; 5] = [
     Job::Waits,
     Job::WaitsOfReady,
     Job::Readings,
     Job::Partitions,
+    Job::Worth,
 ];
 
 impl Job {
@@ -32,6 +36,7 @@ impl Job {
             Job::WaitsOfReady => "waits of a ready hand",
             Job::Readings => "readings of a complete hand",
             Job::Partitions => "partitions of one suit",
+            Job::Worth => "worth of a drawn closed hand",
         }
     }
 
@@ -44,6 +49,7 @@ impl Job {
                 Job::WaitsOfReady => waits_of(&hands.ready_numbers()),
                 Job::Readings => readings_of(alloc, &hands.complete_numbers())?,
                 Job::Partitions => partitions_of(alloc, &hands.complete_numbers())?,
+                Job::Worth => worth_of(alloc, &hands.complete_numbers())?,
             };
             sum = sum.wrapping_mul(31).wrapping_add(part);
         }
@@ -58,7 +64,7 @@ pub fn make_only(job: Job, hands: &mut Hands, times: u32) -> u64 {
         let numbers = match job {
             Job::Waits => hands.numbers(13),
             Job::WaitsOfReady => hands.ready_numbers(),
-            Job::Readings | Job::Partitions => hands.complete_numbers(),
+            Job::Readings | Job::Partitions | Job::Worth => hands.complete_numbers(),
         };
         sum = sum.wrapping_add(u64::from(numbers[0]));
     }
@@ -107,4 +113,39 @@ fn suit_of(numbers: &[u8; 34]) -> [u8; 9] {
 fn partitions_of(alloc: Global, numbers: &[u8; 34]) -> Result<u64, AllocError> {
     let found = partitions(alloc, suit_of(numbers), true)?;
     Ok(found.len() as u64)
+}
+
+// The base points of a closed hand in round east, drawn by the seat of wind south.
+fn worth_of(alloc: Global, numbers: &[u8; 34]) -> Result<u64, AllocError> {
+    let (Some(counts), Some(seat_wind), Some(round_wind)) = (
+        Counts::of(*numbers),
+        Kind::of(28),
+        Kind::of(27),
+    ) else {
+        return Ok(0);
+    };
+    let Some(win) = first_kind(&counts) else {
+        return Ok(0);
+    };
+    let case = Case {
+        seat_wind,
+        round_wind,
+        by_draw: true,
+        closed: is_closed(&[]),
+        riichi: Riichi::No,
+        ippatsu: false,
+        last: false,
+        rinshan: false,
+        robbed: false,
+        first: false,
+    };
+    let extra = Extra {
+        dora: 0,
+        under: 0,
+        red: 0,
+    };
+    match worth(alloc, &counts, &[], win, &case, extra)? {
+        Some(score) => Ok(u64::from(score.base)),
+        None => Ok(0),
+    }
 }
