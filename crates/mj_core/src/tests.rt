@@ -8,12 +8,14 @@ use std::test::Fail;
 
 const PASS: &str = "{\"type\":\"none\"}";
 
-// A game on the wall in order of kinds, before its first entry.
-fn on_sorted_wall(alloc: Global) -> Result<Core, Fail> {
+// A game on the wall in order of kinds but for the places 24 and 52, which are swapped, before its first entry.
+fn before_all(alloc: Global) -> Result<Core, Fail> {
     let mut tiles = [Tile::of(0).ok_or("no tile")?; 136];
     for place in 0..136 {
         tiles[place] = Tile::of(place as u8 / 4).ok_or("no tile")?;
     }
+    tiles[24] = Tile::of(13).ok_or("no tile")?;
+    tiles[52] = Tile::of(6).ok_or("no tile")?;
     let Ok(wall) = Wall::read(&tiles, false) else {
         return Err("no wall".into());
     };
@@ -32,7 +34,7 @@ fn sit(core: &mut Core, alloc: Global, name: &str) -> Result<SitAnswer, Fail> {
 
 // The same game with four seats.
 fn started(alloc: Global) -> Result<Core, Fail> {
-    let mut core = on_sorted_wall(alloc)?;
+    let mut core = before_all(alloc)?;
     for name in ["a", "b", "c", "d"] {
         sit(&mut core, alloc, name)?;
     }
@@ -63,7 +65,7 @@ fn told(core: &Core, alloc: Global, seat: u8) -> Result<Vec<u8>, Fail> {
 #[test]
 fn four_seats_are_given_and_no_name_twice(rt: HostRuntime) -> Result<(), Fail> {
     let alloc = rt.alloc();
-    let mut core = on_sorted_wall(alloc)?;
+    let mut core = before_all(alloc)?;
     assert_eq!(rt;
         core.sit(alloc, 1, b"{\"type\":\"none\"}"),
         SitAnswer::Refused(SitRefused::BadName)
@@ -107,7 +109,7 @@ fn each_seat_is_told_the_deed_of_the_window_once_all_have_answered(
     all_pass(&mut core, alloc)?;
     assert_eq!(rt;
         told(&core, alloc, 0)?.as_slice(),
-        "{\"type\":\"tsumo\",\"actor\":0,\"pai\":\"5p\"}\n".as_bytes()
+        "{\"type\":\"tsumo\",\"actor\":0,\"pai\":\"7m\"}\n".as_bytes()
     );
     assert_eq!(rt;
         told(&core, alloc, 1)?.as_slice(),
@@ -131,11 +133,11 @@ fn a_refused_answer_leaves_the_window_open(rt: HostRuntime) -> Result<(), Fail> 
         Heard::Refused(Rule::NotHeld)
     );
     assert!(rt; told(&core, alloc, 0)?.is_empty() && core.may_say(0) && !core.may_say(1));
-    let drawn = "{\"type\":\"dahai\",\"actor\":0,\"pai\":\"5p\",\"tsumogiri\":true}";
+    let drawn = "{\"type\":\"dahai\",\"actor\":0,\"pai\":\"7m\",\"tsumogiri\":true}";
     assert_eq!(rt; say(&mut core, alloc, 0, drawn)?, Heard::Taken);
     assert_eq!(rt;
         told(&core, alloc, 3)?.as_slice(),
-        "{\"type\":\"dahai\",\"actor\":0,\"pai\":\"5p\",\"tsumogiri\":true}\n".as_bytes()
+        "{\"type\":\"dahai\",\"actor\":0,\"pai\":\"7m\",\"tsumogiri\":true}\n".as_bytes()
     );
     Ok(())
 }
@@ -156,5 +158,41 @@ fn fifteen_answers_to_one_deed_are_refused(rt: HostRuntime) -> Result<(), Fail> 
     }
     assert_eq!(rt; say(&mut core, alloc, 0, "x")?, Heard::NotBuilt);
     assert_eq!(rt; say(&mut core, alloc, 0, PASS)?, Heard::Taken);
+    Ok(())
+}
+
+#[test]
+fn each_bid_on_a_discard_is_taken_in_whatever_order_they_come(rt: HostRuntime) -> Result<(), Fail> {
+    let alloc = rt.alloc();
+    let discard = "{\"type\":\"dahai\",\"actor\":0,\"pai\":\"7m\",\"tsumogiri\":true}";
+    let chi =
+        "{\"type\":\"chi\",\"actor\":1,\"target\":0,\"pai\":\"7m\",\"consumed\":[\"5m\",\"6m\"]}";
+    let pon =
+        "{\"type\":\"pon\",\"actor\":2,\"target\":0,\"pai\":\"7m\",\"consumed\":[\"7m\",\"7m\"]}";
+    let mut line = Vec::new(alloc);
+    line.extend_from_slice(pon.as_bytes())?;
+    line.push(b'\n')?;
+    for order in [[0, 1, 2, 3], [1, 0, 3, 2], [2, 3, 1, 0], [3, 2, 0, 1]] {
+        let mut core = started(alloc)?;
+        all_pass(&mut core, alloc)?;
+        all_pass(&mut core, alloc)?;
+        for seat in 0..4 {
+            say(
+                &mut core,
+                alloc,
+                seat,
+                if seat == 0 { discard } else { PASS },
+            )?;
+        }
+        for seat in order {
+            let answer = match seat {
+                1 => chi,
+                2 => pon,
+                _ => PASS,
+            };
+            assert_eq!(rt; say(&mut core, alloc, seat, answer)?, Heard::Taken);
+        }
+        assert_eq!(rt; told(&core, alloc, 3)?.as_slice(), line.as_slice());
+    }
     Ok(())
 }

@@ -42,4 +42,49 @@ pub enum Deed {
         tile: Tile,
         drawn: bool,
     },
+    /// A seat takes the newest discard, of the target, and makes a run of it and two tiles of its own, in tile order.
+    Chi {
+        seat: u8,
+        target: u8,
+        tile: Tile,
+        a: Tile,
+        b: Tile,
+    },
+    /// A seat takes the newest discard, of the target, and makes a triplet of it and two tiles of its own.
+    Pon {
+        seat: u8,
+        target: u8,
+        tile: Tile,
+        a: Tile,
+        b: Tile,
+    },
+    /// A seat takes the newest discard, of the target, and makes a kan of it and three tiles of its own.
+    OpenKan {
+        seat: u8,
+        target: u8,
+        tile: Tile,
+        a: Tile,
+        b: Tile,
+        c: Tile,
+    },
+    /// A seat makes a kan of four concealed tiles.
+    ClosedKan {
+        seat: u8,
+        a: Tile,
+        b: Tile,
+        c: Tile,
+        d: Tile,
+    },
+    /// A seat adds a concealed tile to a triplet that it took, whose tiles are `a`, `b` and `c`.
+    AddedKan {
+        seat: u8,
+        tile: Tile,
+        a: Tile,
+        b: Tile,
+        c: Tile,
+    },
+    /// After a kan the next indicator is shown.
+    Dora {
+        tile: Tile,
+    },
 }

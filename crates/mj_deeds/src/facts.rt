@@ -1,6 +1,6 @@
-ghost use Rattle.std.specs.Prelude.{◌≡◌, ◌-◌, ◌^◌, ◌++◌, ◌≤◌, IfOk, OnOk, min, length, option_to_list};
+ghost use Rattle.std.specs.Prelude.{◌≡◌, ◌-◌, ◌*◌, ◌^◌, ◌++◌, ◌≤◌, IfOk, OnOk, min, length, option_to_list};
 ghost use Rattle.mj_tiles.specs.Faces.{number_in};
-ghost use Rattle.mj_deeds.specs.Facts.{concealed_tiles, river_tiles, gained, lost, gains_by, losses_by, discards_by, drawn_tile, drawn_by, live_draws, is_live_draw};
+ghost use Rattle.mj_deeds.specs.Facts.{concealed_tiles, river_tiles, gained, lost, gains_by, losses_by, discards_by, drawn_tile, drawn_by};
 ghost use Rattle.mj_deeds.specs.Four.{at_seat};
 
 use crate::deed::Deed;
@@ -57,28 +57,9 @@ pub fn drawn(deeds: &[Deed], seat: u8) -> Option<Tile>
     }
 }
 
-/// How many live tiles were drawn in one hand.
-pub fn live_drawn(deeds: &[Deed]) -> usize
-    ensures value { result ≡ live_draws deeds.now }
-    ensures within { result ≤ length deeds.now }
-{
-    deeds.iter().filter(|deed| is_live(deed)).count()
-}
-
-// Whether a deed is a draw from the live wall.
-fn is_live(deed: &Deed) -> bool
-    ensures { result ≡ is_live_draw deed.now }
-{
-    match deed {
-        Deed::Draw { replacement, .. } => !*replacement,
-        _ => false,
-    }
-}
-
 // The tile that a seat discards by a deed.
 fn discarded_by(deed: &Deed, seat: u8) -> Option<Tile>
-    ensures river { option_to_list result ≡ discards_by seat deed.now }
-    ensures lost { option_to_list result ≡ losses_by seat deed.now }
+    ensures { option_to_list result ≡ discards_by seat deed.now }
 {
     match deed {
         Deed::Discard {
@@ -126,15 +107,58 @@ fn all_gained(alloc: Global, deeds: &[Deed], seat: u8) -> Result<Vec<Tile>, Allo
     Ok(tiles)
 }
 
+// Adds the tiles that a seat puts down by a deed.
+fn lose(tiles: &mut Vec<Tile>, deed: &Deed, seat: u8) -> Result<(), AllocError>
+    ensures { OnOk result (tiles.new.items ≡ tiles.old.items ++ losses_by seat deed.now) }
+{
+    match deed {
+        Deed::Discard {
+            seat: who,
+            tile,
+            ..
+        } if *who == seat => tiles.extend_from_slice(&[*tile]),
+        Deed::Chi {
+            seat: who,
+            a,
+            b,
+            ..
+        } if *who == seat => tiles.extend_from_slice(&[*a, *b]),
+        Deed::Pon {
+            seat: who,
+            a,
+            b,
+            ..
+        } if *who == seat => tiles.extend_from_slice(&[*a, *b]),
+        Deed::OpenKan {
+            seat: who,
+            a,
+            b,
+            c,
+            ..
+        } if *who == seat => tiles.extend_from_slice(&[*a, *b, *c]),
+        Deed::ClosedKan {
+            seat: who,
+            a,
+            b,
+            c,
+            d,
+        } if *who == seat => tiles.extend_from_slice(&[*a, *b, *c, *d]),
+        Deed::AddedKan {
+            seat: who,
+            tile,
+            ..
+        } if *who == seat => tiles.extend_from_slice(&[*tile]),
+        _ => Ok(()),
+    }
+}
+
 // All tiles that a seat put down.
 fn all_lost(alloc: Global, deeds: &[Deed], seat: u8) -> Result<Vec<Tile>, AllocError>
     ensures { IfOk result (λ v. v.items ≡ lost deeds.now seat) }
 {
     let mut tiles = Vec::new(alloc);
     for deed in deeds {
-        if let Some(tile) = discarded_by(deed, seat) {
-            tiles.push(tile)?;
-        }
+        lose(&mut tiles, deed, seat)?;
     }
     Ok(tiles)
 }
@@ -165,16 +189,60 @@ fn number_gained(deeds: &[Deed], seat: u8, tile: Tile) -> usize
     number
 }
 
-// How many tiles of a face a seat put down: at most one by each deed.
+// How many tiles of a face a seat puts down by a deed.
+fn losses(deed: &Deed, seat: u8, tile: Tile) -> usize
+    ensures value { result ≡ number_in (losses_by seat deed.now) tile }
+    ensures within { result ≤ 4 }
+{
+    match deed {
+        Deed::Discard {
+            seat: who,
+            tile: other,
+            ..
+        } if *who == seat => number_among(&[*other], tile),
+        Deed::Chi {
+            seat: who,
+            a,
+            b,
+            ..
+        } if *who == seat => number_among(&[*a, *b], tile),
+        Deed::Pon {
+            seat: who,
+            a,
+            b,
+            ..
+        } if *who == seat => number_among(&[*a, *b], tile),
+        Deed::OpenKan {
+            seat: who,
+            a,
+            b,
+            c,
+            ..
+        } if *who == seat => number_among(&[*a, *b, *c], tile),
+        Deed::ClosedKan {
+            seat: who,
+            a,
+            b,
+            c,
+            d,
+        } if *who == seat => number_among(&[*a, *b, *c, *d], tile),
+        Deed::AddedKan {
+            seat: who,
+            tile: other,
+            ..
+        } if *who == seat => number_among(&[*other], tile),
+        _ => 0,
+    }
+}
+
+// How many tiles of a face a seat put down: at most four by each deed.
 fn number_lost(deeds: &[Deed], seat: u8, tile: Tile) -> usize
     ensures value { result ≡ number_in (lost deeds.now seat) tile }
-    ensures within { result ≤ length deeds.now }
+    ensures within { result ≤ 4 * length deeds.now }
 {
     let mut number = 0;
     for deed in deeds {
-        if discarded_by(deed, seat).is_some_and(|other| other.face() == tile.face()) {
-            number += 1;
-        }
+        number += losses(deed, seat, tile);
     }
     number
 }

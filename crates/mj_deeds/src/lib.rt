@@ -2,9 +2,11 @@
 #![tactic(auto)]
 
 mod answer;
+mod course;
 mod deed;
 mod facts;
 mod four;
+mod meld;
 mod rule;
 #[cfg(test)]
 mod tests;
@@ -12,9 +14,11 @@ mod tiles;
 mod token;
 
 pub use answer::{Answer, Pai};
+pub use course::{kan_seat, kans, live_drawn, live_left, shown};
 pub use deed::{Deed, Viewer};
-pub use facts::{concealed, drawn, held, live_drawn, river};
+pub use facts::{concealed, drawn, held, river};
 pub use four::Four;
+pub use meld::{has_triplet, melds};
 pub use rule::Rule;
-pub use tiles::Tiles;
+pub use tiles::{Tiles, ordered};
 pub use token::Token;

@@ -1,5 +1,8 @@
-use crate::{Deed, Four, Tiles, concealed, drawn, held, live_drawn, river};
-use mj_tiles::{Kind, Tile};
+use crate::{
+    Deed, Four, Tiles, concealed, drawn, has_triplet, held, kan_seat, kans, live_drawn, live_left,
+    melds, ordered, river, shown,
+};
+use mj_tiles::{Form, Kind, Tile};
 use std::alloc::Global;
 use std::test::Fail;
 
@@ -77,6 +80,7 @@ fn a_red_five_stands_behind_the_plain_ones(rt: HostRuntime) -> Result<(), Fail> 
     let sorted = tiles(alloc, &[4, 34, 5, 13, 13, 35, 33])?;
     let found = Tiles::sorted(alloc, mixed.as_slice())?;
     assert_eq!(rt; found.as_slice(), sorted.as_slice());
+    assert_eq!(rt; ordered(5).face(), 34);
     Ok(())
 }
 
@@ -96,5 +100,64 @@ fn tiles_move_from_the_hand_to_the_river(rt: HostRuntime) -> Result<(), Fail> {
     assert!(rt; drawn(deeds, 2) == Some(tile(20)?));
     assert!(rt; drawn(deeds, 1).is_none());
     assert_eq!(rt; live_drawn(deeds), 3);
+    Ok(())
+}
+
+// Seat 2 takes the `1m` of seat 0 for a pon, seat 0 takes a `3p` for a chi, and seat 2 adds the fourth `1m`.
+fn calls(alloc: Global) -> Result<Vec<Deed>, Fail> {
+    let mut deeds = deeds(alloc)?;
+    deeds.push(Deed::Pon {
+        seat: 2,
+        target: 0,
+        tile: tile(0)?,
+        a: tile(0)?,
+        b: tile(0)?,
+    })?;
+    deeds.push(Deed::Chi {
+        seat: 0,
+        target: 3,
+        tile: tile(11)?,
+        a: tile(10)?,
+        b: tile(35)?,
+    })?;
+    deeds.push(Deed::Pon {
+        seat: 0,
+        target: 1,
+        tile: tile(34)?,
+        a: tile(4)?,
+        b: tile(4)?,
+    })?;
+    deeds.push(Deed::AddedKan {
+        seat: 2,
+        tile: tile(0)?,
+        a: tile(0)?,
+        b: tile(0)?,
+        c: tile(0)?,
+    })?;
+    deeds.push(Deed::Dora { tile: tile(9)? })?;
+    Ok(deeds)
+}
+
+#[test]
+fn a_pon_becomes_a_kan_and_takes_a_live_tile(rt: HostRuntime) -> Result<(), Fail> {
+    let alloc = rt.alloc();
+    let deeds = calls(alloc)?;
+    let deeds = deeds.as_slice();
+    let own = melds(alloc, deeds, 2)?;
+    assert_eq!(rt; own.len(), 1);
+    assert!(rt; own[0].form == Form::AddedKan);
+    assert!(rt; own[0].d.is_some());
+    let others = melds(alloc, deeds, 0)?;
+    assert_eq!(rt; others.len(), 2);
+    assert!(rt; others[0].form == Form::Chi);
+    assert_eq!(rt; others[0].b.face(), 11);
+    assert_eq!(rt; others[1].c.face(), 34);
+    assert!(rt; has_triplet(deeds, 0, tile(4)?, tile(4)?, tile(4)?, tile(34)?));
+    assert!(rt; !has_triplet(deeds, 2, tile(0)?, tile(0)?, tile(0)?, tile(0)?));
+    assert_eq!(rt; kans(deeds), 1);
+    assert_eq!(rt; shown(deeds), 2);
+    assert_eq!(rt; live_left(deeds), 66);
+    assert!(rt; kan_seat(deeds) == Some(2));
+    assert_eq!(rt; held(deeds, 0, tile(4)?), 0);
     Ok(())
 }

@@ -6,9 +6,60 @@ use mj_tiles::Tile;
 /// What one seat sees of a deed: what everybody sees and its own tiles.
 #[derive(Debug, Drop)]
 pub enum Token {
-    StartGame { names: Four<Name> },
-    StartHand { indicator: Tile, hand: Tiles },
+    StartGame {
+        names: Four<Name>,
+    },
+    StartHand {
+        indicator: Tile,
+        hand: Tiles,
+    },
     /// The tile is there where the seat drew it itself.
-    Draw { seat: u8, tile: Option<Tile> },
-    Discard { seat: u8, tile: Tile, drawn: bool },
+    Draw {
+        seat: u8,
+        tile: Option<Tile>,
+    },
+    Discard {
+        seat: u8,
+        tile: Tile,
+        drawn: bool,
+    },
+    Chi {
+        seat: u8,
+        target: u8,
+        tile: Tile,
+        a: Tile,
+        b: Tile,
+    },
+    Pon {
+        seat: u8,
+        target: u8,
+        tile: Tile,
+        a: Tile,
+        b: Tile,
+    },
+    OpenKan {
+        seat: u8,
+        target: u8,
+        tile: Tile,
+        a: Tile,
+        b: Tile,
+        c: Tile,
+    },
+    ClosedKan {
+        seat: u8,
+        a: Tile,
+        b: Tile,
+        c: Tile,
+        d: Tile,
+    },
+    AddedKan {
+        seat: u8,
+        tile: Tile,
+        a: Tile,
+        b: Tile,
+        c: Tile,
+    },
+    Dora {
+        tile: Tile,
+    },
 }

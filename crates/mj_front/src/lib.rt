@@ -1,6 +1,8 @@
 //! Arrivals read from a source, and what one seat is told written to a sink.
 #![tactic(auto)]
 
+#[cfg(test)]
+mod call_tests;
 mod form;
 mod hearing;
 mod referee;

@@ -10,7 +10,7 @@ const HELLO: &str = "{\"type\":\"hello\",\"protocol\":\"mjsonp\",\"protocol_vers
 
 const DISCARD: &str = "{\"type\":\"dahai\",\"actor\":0,\"pai\":\"5p\",\"tsumogiri\":true}\n";
 
-const HIDDEN: &str =
+pub(crate) const HIDDEN: &str =
     "[\"?\",\"?\",\"?\",\"?\",\"?\",\"?\",\"?\",\"?\",\"?\",\"?\",\"?\",\"?\",\"?\"]";
 
 // Gives one byte a read.
@@ -41,7 +41,7 @@ impl Sink for SlowSink {
     }
 }
 
-fn push(text: &mut Vec<u8>, piece: &str) -> Result<(), Fail> {
+pub(crate) fn push(text: &mut Vec<u8>, piece: &str) -> Result<(), Fail> {
     text.extend_from_slice(piece.as_bytes())?;
     Ok(())
 }
@@ -53,8 +53,8 @@ fn words(alloc: Global, seat: &str) -> Result<Vec<String>, Fail> {
     Ok(vec![in alloc; command, seat]?)
 }
 
-// How the referee of a seat ends with an input, and what it writes.
-fn referee(alloc: Global, seat: &str, input: &[u8]) -> Result<(Status, Vec<u8>), Fail> {
+/// How the referee of a seat ends with an input, and what it writes.
+pub(crate) fn referee(alloc: Global, seat: &str, input: &[u8]) -> Result<(Status, Vec<u8>), Fail> {
     let words = words(alloc, seat)?;
     let mut source = MemSource::new(input.to_vec(alloc)?, Vec::new(alloc));
     let mut sink = MemSink::new(Vec::new(alloc));
@@ -62,18 +62,26 @@ fn referee(alloc: Global, seat: &str, input: &[u8]) -> Result<(Status, Vec<u8>),
     Ok((status, sink.written().to_vec(alloc)?))
 }
 
-// A header and the wall in order of kinds, with places 13 and 26 swapped where that is asked.
-fn walled(alloc: Global, swapped: bool) -> Result<Vec<u8>, Fail> {
+// Where the tile of a place stands once the places of each pair are swapped.
+fn place_of(place: u8, swaps: &[(u8, u8)]) -> u8 {
+    for pair in swaps {
+        if place == pair.0 {
+            return pair.1;
+        }
+        if place == pair.1 {
+            return pair.0;
+        }
+    }
+    place
+}
+
+// A header and the wall in order of kinds, but for the places that are swapped.
+fn walled(alloc: Global, swaps: &[(u8, u8)]) -> Result<Vec<u8>, Fail> {
     let mut text = HEADER.as_bytes().to_vec(alloc)?;
     push(&mut text, "wall")?;
     for place in 0..136u8 {
-        let place = match place {
-            13 if swapped => 26,
-            26 if swapped => 13,
-            same => same,
-        };
         push(&mut text, " ")?;
-        if let Some(tile) = Tile::of(place / 4) {
+        if let Some(tile) = Tile::of(place_of(place, swaps) / 4) {
             text.extend_from_slice(tile.text())?;
         }
     }
@@ -91,9 +99,9 @@ fn pass(text: &mut Vec<u8>, order: [&str; 4]) -> Result<(), Fail> {
     Ok(())
 }
 
-// The arrivals up to the dealer's draw; the seats pass in that order.
-fn deal(alloc: Global, swapped: bool, order: [&str; 4]) -> Result<Vec<u8>, Fail> {
-    let mut text = walled(alloc, swapped)?;
+/// The arrivals up to the dealer's draw; the seats pass in that order.
+pub(crate) fn deal(alloc: Global, swaps: &[(u8, u8)], order: [&str; 4]) -> Result<Vec<u8>, Fail> {
+    let mut text = walled(alloc, swaps)?;
     for name in ["a", "b", "c", "d"] {
         push(&mut text, "sit {\"type\":\"join\",\"name\":\"")?;
         push(&mut text, name)?;
@@ -107,11 +115,11 @@ fn deal(alloc: Global, swapped: bool, order: [&str; 4]) -> Result<Vec<u8>, Fail>
 // The same, a refused discard, a lawful one, and the passes of the other seats in that order.
 fn first_discard(
     alloc: Global,
-    swapped: bool,
+    swaps: &[(u8, u8)],
     order: [&str; 4],
     others: [&str; 3],
 ) -> Result<Vec<u8>, Fail> {
-    let mut text = deal(alloc, swapped, order)?;
+    let mut text = deal(alloc, swaps, order)?;
     push(
         &mut text,
         "say 0 {\"type\":\"dahai\",\"actor\":0,\"pai\":\"9s\",\"tsumogiri\":false}\n",
@@ -128,8 +136,8 @@ fn first_discard(
     Ok(text)
 }
 
-// The lines that start the game and the hand, with the hands of the four seats.
-fn start(text: &mut Vec<u8>, id: &str, hands: [&str; 4]) -> Result<(), Fail> {
+/// The lines that start the game and the hand, with the hands of the four seats.
+pub(crate) fn start(text: &mut Vec<u8>, id: &str, hands: [&str; 4]) -> Result<(), Fail> {
     push(text, HELLO)?;
     push(text, "{\"type\":\"start_game\",\"id\":")?;
     push(text, id)?;
@@ -175,7 +183,7 @@ fn told_to_1(alloc: Global, hand: &str) -> Result<Vec<u8>, Fail> {
 #[test]
 fn a_seat_is_told_its_own_tiles_and_refusals_and_what_all_see(rt: HostRuntime) -> Result<(), Fail> {
     let alloc = rt.alloc();
-    let input = first_discard(alloc, false, ["0", "1", "2", "3"], ["1", "2", "3"])?;
+    let input = first_discard(alloc, &[], ["0", "1", "2", "3"], ["1", "2", "3"])?;
     let (status, bytes) = referee(alloc, "0", input.as_slice())?;
     let mut told = dealt_to_0(alloc)?;
     push(
@@ -198,8 +206,8 @@ fn others_tiles_refusals_and_order_of_arrival_change_nothing_that_a_seat_is_told
     rt: HostRuntime,
 ) -> Result<(), Fail> {
     let alloc = rt.alloc();
-    let input = first_discard(alloc, false, ["0", "1", "2", "3"], ["1", "2", "3"])?;
-    let mut other = first_discard(alloc, true, ["3", "1", "0", "2"], ["3", "2", "1"])?;
+    let input = first_discard(alloc, &[], ["0", "1", "2", "3"], ["1", "2", "3"])?;
+    let mut other = first_discard(alloc, &[(13, 26)], ["3", "1", "0", "2"], ["3", "2", "1"])?;
     push(&mut other, "say 2 x\n")?;
     let (_, bytes) = referee(alloc, "0", input.as_slice())?;
     let (status, same) = referee(alloc, "0", other.as_slice())?;
@@ -218,7 +226,7 @@ fn each_refusal_in_a_window_names_the_first_rule_that_is_broken(
     rt: HostRuntime,
 ) -> Result<(), Fail> {
     let alloc = rt.alloc();
-    let mut input = deal(alloc, false, ["0", "1", "2", "3"])?;
+    let mut input = deal(alloc, &[], ["0", "1", "2", "3"])?;
     for line in [
         "say 0 {\"type\":\"dahai\",\"actor\":0,\"pai\":\"?\",\"tsumogiri\":true}\n",
         "say 0 {\"type\":\"none\"}\n",
@@ -293,7 +301,7 @@ fn a_line_behind_the_wall_has_a_form_and_a_place(rt: HostRuntime) -> Result<(), 
         ("expire  0 0 0\n", Status::BadArrival(3)),
         ("expire 0 0 0\r\n", Status::BadArrival(3)),
     ] {
-        let mut input = walled(alloc, false)?;
+        let mut input = walled(alloc, &[])?;
         push(&mut input, line)?;
         let (answer, bytes) = referee(alloc, "0", input.as_slice())?;
         assert_eq!(rt; answer, status, "{line:?}");
@@ -306,7 +314,7 @@ fn a_line_behind_the_wall_has_a_form_and_a_place(rt: HostRuntime) -> Result<(), 
 fn the_line_of_a_player_has_at_most_4095_bytes(rt: HostRuntime) -> Result<(), Fail> {
     let alloc = rt.alloc();
     for (length, status) in [(4095, Status::NotBuilt(3)), (4096, Status::BadArrival(3))] {
-        let mut input = walled(alloc, false)?;
+        let mut input = walled(alloc, &[])?;
         push(&mut input, "sit ")?;
         let line = vec![in alloc; b'x'; length]?;
         input.extend_from_slice(line.as_slice())?;
@@ -345,7 +353,7 @@ fn other_words_than_a_referee_of_a_seat_are_refused(rt: HostRuntime) -> Result<(
 fn faults_of_the_outside_end_the_run(rt: HostRuntime) -> Result<(), Fail> {
     let alloc = rt.alloc();
     let words = words(alloc, "0")?;
-    let mut input = walled(alloc, false)?;
+    let mut input = walled(alloc, &[])?;
     push(&mut input, "sit {\"type\":\"join\",\"name\":\"a\"}\n")?;
     let mut broken = MemSource::new(input.as_slice().to_vec(alloc)?, [2].to_vec(alloc)?);
     let mut sink = MemSink::new(Vec::new(alloc));

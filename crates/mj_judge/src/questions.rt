@@ -1,113 +1,184 @@
-ghost use Rattle.std.specs.Prelude.{◌≡◌, option_and_then};
-ghost use Rattle.mj_deeds.specs.Facts.{newest, drawn_tile};
-ghost use Rattle.mj_rules.specs.Broken.{names_another, is_out_of_turn, is_that, actor_by, names_no_tile, is_no_tile, names_unheld, is_not_held, marks_wrongly, is_wrongly_marked, view_of};
+ghost use Rattle.std.specs.Prelude.{◌≡◌, not, option_map};
+ghost use Rattle.mj_deeds.specs.Facts.{newest};
+ghost use Rattle.mj_rules.specs.Broken.{is_unread, actor_of, is_another, names_another, is_own_act, is_discard, is_pass, is_pass_or_call, is_open, is_call, is_kan_answer, is_own_kan, view_of, turn_by, turn_in, misses_discard, misses_target, is_tile, is_too_late, is_before, is_not_left, is_fifth_kan, is_dry_kan};
 
-use mj_deeds::{Answer, Deed, Pai, drawn, held};
+use mj_deeds::{Answer, Deed, Pai, kans, live_left};
 use mj_tiles::Tile;
+
+// The line is no answer.
+pub(crate) fn is_unread(answer: &Answer) -> bool
+    ensures { result ≡ is_unread answer.now }
+{
+    matches!(answer, Answer::Unread)
+}
 
 // The answer names an actor, and another than the seat.
 pub(crate) fn names_another(seat: u8, answer: &Answer) -> bool
     ensures { result ≡ names_another seat answer.now }
 {
-    match answer {
-        Answer::Unread => false,
-        Answer::Pass { actor } => match actor {
-            Some(actor) => *actor != seat,
-            None => false,
-        },
-        Answer::Discard { actor, .. } => *actor != seat,
+    match actor_of(answer) {
+        Some(actor) => actor != seat,
+        None => false,
     }
 }
 
-// The answer isn't open to the seat: it discards where it isn't its turn, or passes where it is.
+// Such an answer is not open to the seat in this window.
 #[tactic(auto, unfolding(mj_rules::specs::Broken::view_of))]
-pub(crate) fn is_out_of_turn(deeds: &[Deed], seat: u8, answer: &Answer) -> bool
-    ensures { result ≡ is_out_of_turn seat (view_of deeds.now seat) answer.now }
-{
-    match answer {
-        Answer::Unread => false,
-        Answer::Pass { .. } => is_turn(deeds, seat),
-        Answer::Discard { .. } => !is_turn(deeds, seat),
-    }
-}
-
-// A named tile is one that the game doesn't have: a hidden one, or a red five where there are none.
-pub(crate) fn names_no_tile(red: bool, answer: &Answer) -> bool
-    ensures { result ≡ names_no_tile red answer.now }
-{
-    match answer {
-        Answer::Discard { tile, .. } => is_no_tile(red, tile),
-        _ => false,
-    }
-}
-
-// The named tile isn't among the concealed ones.
-pub(crate) fn names_unheld(deeds: &[Deed], seat: u8, answer: &Answer) -> bool
-    ensures { result ≡ names_unheld (view_of deeds.now seat) answer.now }
-{
-    match answer {
-        Answer::Discard { tile, .. } => is_not_held(deeds, seat, tile),
-        _ => false,
-    }
-}
-
-// The discard is marked as the drawn tile and isn't that one; or it isn't marked so, and the drawn tile is the only
-// one held of its face.
-pub(crate) fn marks_wrongly(deeds: &[Deed], seat: u8, answer: &Answer) -> bool
-    ensures { result ≡ marks_wrongly (view_of deeds.now seat) answer.now }
-{
-    match answer {
-        Answer::Discard { tile, drawn, .. } => is_wrongly_marked(deeds, seat, tile, *drawn),
-        _ => false,
-    }
-}
-
-// It is the turn of the seat: the newest deed is its draw.
-fn is_turn(deeds: &[Deed], seat: u8) -> bool
-    ensures { result ≡ is_that (option_and_then actor_by (newest deeds.now)) seat }
+pub(crate) fn is_closed(deeds: &[Deed], seat: u8, answer: &Answer) -> bool
+    ensures { result ≡ not (is_open seat (view_of deeds.now seat).turn answer.now) }
 {
     match deeds.last() {
-        Some(Deed::Draw { seat: who, .. }) => *who == seat,
+        Some(Deed::Draw { seat: who, .. }) if *who == seat => !is_own_act(answer),
+        Some(Deed::Discard { seat: who, .. }) if *who != seat => !is_pass_or_call(answer),
+        Some(Deed::Chi { seat: who, .. }) if *who == seat => !is_discard(answer),
+        Some(Deed::Pon { seat: who, .. }) if *who == seat => !is_discard(answer),
+        _ => !is_pass(answer),
+    }
+}
+
+// A call names another than the discarder, or another tile than the one that was discarded.
+#[tactic(auto, unfolding(mj_rules::specs::Broken::view_of))]
+pub(crate) fn misses_target(deeds: &[Deed], seat: u8, answer: &Answer) -> bool
+    ensures { result ≡ misses_target (view_of deeds.now seat).turn answer.now }
+{
+    match answer {
+        Answer::Chi { target, tile, .. } => misses_discard(deeds, *target, tile),
+        Answer::Pon { target, tile, .. } => misses_discard(deeds, *target, tile),
+        Answer::OpenKan { target, tile, .. } => misses_discard(deeds, *target, tile),
         _ => false,
     }
 }
 
-fn is_no_tile(red: bool, tile: &Pai) -> bool
-    ensures { result ≡ is_no_tile red tile.now }
+// A discard is called with no live tile left.
+#[tactic(auto, unfolding(mj_rules::specs::Broken::view_of))]
+pub(crate) fn is_too_late(deeds: &[Deed], seat: u8, answer: &Answer) -> bool
+    ensures { result ≡ is_too_late (view_of deeds.now seat) answer.now }
 {
-    match tile {
-        Pai::Known(tile) => tile.face() >= 34 && !red,
-        Pai::Hidden => true,
+    is_call(answer) && live_left(deeds) == 0
+}
+
+// A run is called from another seat than the one before.
+#[tactic(auto, unfolding(mj_rules::specs::Broken::view_of))]
+pub(crate) fn is_not_left(deeds: &[Deed], seat: u8, answer: &Answer) -> bool
+    ensures { result ≡ is_not_left seat (view_of deeds.now seat).turn answer.now }
+{
+    match answer {
+        Answer::Chi { .. } => !is_before(deeds, seat),
+        _ => false,
     }
 }
 
+// A kan where four stand already.
 #[tactic(auto, unfolding(mj_rules::specs::Broken::view_of))]
-fn is_not_held(deeds: &[Deed], seat: u8, tile: &Pai) -> bool
-    ensures { result ≡ is_not_held (view_of deeds.now seat) tile.now }
+pub(crate) fn is_fifth_kan(deeds: &[Deed], seat: u8, answer: &Answer) -> bool
+    ensures { result ≡ is_fifth_kan (view_of deeds.now seat) answer.now }
 {
-    match tile {
-        Pai::Known(tile) => held(deeds, seat, *tile) == 0,
+    is_kan(answer) && kans(deeds) >= 4
+}
+
+// A kan at one's own draw with no live tile left.
+#[tactic(auto, unfolding(mj_rules::specs::Broken::view_of))]
+pub(crate) fn is_dry_kan(deeds: &[Deed], seat: u8, answer: &Answer) -> bool
+    ensures { result ≡ is_dry_kan (view_of deeds.now seat) answer.now }
+{
+    is_own_kan(answer) && live_left(deeds) == 0
+}
+
+// The tile is known and has that face.
+pub(crate) fn is_tile(tile: Tile, pai: &Pai) -> bool
+    ensures { result ≡ is_tile tile pai.now }
+{
+    match pai {
+        Pai::Known(other) => other.face() == tile.face(),
         Pai::Hidden => false,
     }
 }
 
-#[tactic(auto, unfolding(mj_rules::specs::Broken::view_of))]
-fn is_wrongly_marked(deeds: &[Deed], seat: u8, tile: &Pai, marked: bool) -> bool
-    ensures { result ≡ is_wrongly_marked (view_of deeds.now seat) tile.now marked }
+// The seat that an answer names as its actor.
+fn actor_of(answer: &Answer) -> Option<u8>
+    ensures { result ≡ actor_of answer.now }
 {
-    match tile {
-        Pai::Known(tile) if marked => !is_drawn(deeds, seat, *tile),
-        Pai::Known(tile) => is_drawn(deeds, seat, *tile) && held(deeds, seat, *tile) == 1,
-        Pai::Hidden => false,
+    match answer {
+        Answer::Unread => None,
+        Answer::Pass { actor } => *actor,
+        Answer::Discard { actor, .. } => Some(*actor),
+        Answer::Chi { actor, .. } => Some(*actor),
+        Answer::Pon { actor, .. } => Some(*actor),
+        Answer::OpenKan { actor, .. } => Some(*actor),
+        Answer::ClosedKan { actor, .. } => Some(*actor),
+        Answer::AddedKan { actor, .. } => Some(*actor),
     }
 }
 
-// The tile has the face of the tile that the seat has drawn.
-fn is_drawn(deeds: &[Deed], seat: u8, tile: Tile) -> bool
-    ensures { result ≡ is_that (drawn_tile deeds.now seat) tile }
+// Who drew may discard or make a kan.
+fn is_own_act(answer: &Answer) -> bool
+    ensures { result ≡ is_own_act answer.now }
 {
-    match drawn(deeds, seat) {
-        Some(other) => other.face() == tile.face(),
-        None => false,
+    is_discard(answer) || is_own_kan(answer)
+}
+
+fn is_discard(answer: &Answer) -> bool
+    ensures { result ≡ is_discard answer.now }
+{
+    matches!(answer, Answer::Discard { .. })
+}
+
+fn is_pass(answer: &Answer) -> bool
+    ensures { result ≡ is_pass answer.now }
+{
+    matches!(answer, Answer::Pass { .. })
+}
+
+fn is_call(answer: &Answer) -> bool
+    ensures { result ≡ is_call answer.now }
+{
+    matches!(
+        answer,
+        Answer::Chi { .. } | Answer::Pon { .. } | Answer::OpenKan { .. }
+    )
+}
+
+fn is_pass_or_call(answer: &Answer) -> bool
+    ensures { result ≡ is_pass_or_call answer.now }
+{
+    is_pass(answer) || is_call(answer)
+}
+
+// A kan of concealed tiles, or by a tile added to a pon.
+fn is_own_kan(answer: &Answer) -> bool
+    ensures { result ≡ is_own_kan answer.now }
+{
+    matches!(answer, Answer::ClosedKan { .. } | Answer::AddedKan { .. })
+}
+
+fn is_kan(answer: &Answer) -> bool
+    ensures { result ≡ is_kan_answer answer.now }
+{
+    is_own_kan(answer) || matches!(answer, Answer::OpenKan { .. })
+}
+
+// The newest deed is no discard of that tile by the target.
+fn misses_discard(deeds: &[Deed], target: u8, tile: &Pai) -> bool
+    ensures { result ≡ misses_discard (turn_in (option_map turn_by (newest deeds.now))) target tile.now }
+{
+    match deeds.last() {
+        Some(
+            Deed::Discard {
+                seat: who,
+                tile: discarded,
+                ..
+            },
+        ) => !(target == *who && is_tile(*discarded, tile)),
+        _ => true,
+    }
+}
+
+// The newest deed is a discard of the seat before this one.
+fn is_before(deeds: &[Deed], seat: u8) -> bool
+    ensures { result ≡ is_before (turn_in (option_map turn_by (newest deeds.now))) seat }
+{
+    match deeds.last() {
+        Some(Deed::Discard { seat: who, .. }) => (*who % 4 + 1) % 4 == seat,
+        _ => false,
     }
 }

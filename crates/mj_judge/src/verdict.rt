@@ -1,8 +1,14 @@
 ghost use Rattle.std.specs.Prelude.{◌≡◌};
 ghost use Rattle.std.specs.Result.{result_err};
-ghost use Rattle.mj_rules.specs.Broken.{broken};
+ghost use Rattle.mj_rules.specs.Broken.{broken, first_broken};
 
-use crate::questions::{is_out_of_turn, marks_wrongly, names_another, names_no_tile, names_unheld};
+use crate::holding::{marks_wrongly, names_no_tile, names_unheld};
+use crate::questions::{
+    is_closed, is_dry_kan, is_fifth_kan, is_not_left, is_too_late, is_unread, misses_target,
+    names_another,
+};
+use crate::sets::is_bad_set;
+use crate::swap::{is_stuck, swaps};
 use mj_deeds::{Answer, Deed, Rule};
 use mj_wall::Rules;
 
@@ -12,23 +18,32 @@ use mj_wall::Rules;
 pub fn judge(rules: &Rules, deeds: &[Deed], seat: u8, answer: &Answer) -> Result<(), Rule>
     ensures { result_err result ≡ broken rules.now.red deeds.now seat answer.now }
 {
-    if matches!(answer, Answer::Unread) {
-        return Err(Rule::Unreadable);
-    }
-    if names_another(seat, answer) {
-        return Err(Rule::NotYours);
-    }
-    if is_out_of_turn(deeds, seat, answer) {
-        return Err(Rule::NotNow);
-    }
-    if names_no_tile(rules.red, answer) {
-        return Err(Rule::NoSuchTile);
-    }
-    if names_unheld(deeds, seat, answer) {
-        return Err(Rule::NotHeld);
-    }
-    if marks_wrongly(deeds, seat, answer) {
-        return Err(Rule::NotDrawn);
+    first_broken(&[
+        (is_unread(answer), Rule::Unreadable),
+        (names_another(seat, answer), Rule::NotYours),
+        (is_closed(deeds, seat, answer), Rule::NotNow),
+        (names_no_tile(rules.red, answer), Rule::NoSuchTile),
+        (misses_target(deeds, seat, answer), Rule::WrongTarget),
+        (is_too_late(deeds, seat, answer), Rule::LastTile),
+        (names_unheld(deeds, seat, answer), Rule::NotHeld),
+        (marks_wrongly(deeds, seat, answer), Rule::NotDrawn),
+        (is_bad_set(deeds, seat, answer), Rule::BadSet),
+        (is_not_left(deeds, seat, answer), Rule::NotLeft),
+        (swaps(deeds, seat, answer), Rule::SwapCall),
+        (is_stuck(deeds, seat, answer), Rule::StuckCall),
+        (is_fifth_kan(deeds, seat, answer), Rule::KanFull),
+        (is_dry_kan(deeds, seat, answer), Rule::KanDry),
+    ])
+}
+
+// The first rule of a list that is broken.
+fn first_broken(rules: &[(bool, Rule)]) -> Result<(), Rule>
+    ensures { result_err result ≡ first_broken rules.now }
+{
+    for (is_broken, rule) in rules {
+        if *is_broken {
+            return Err(*rule);
+        }
     }
     Ok(())
 }

@@ -1,18 +1,19 @@
-ghost use Rattle.std.specs.Prelude.{◌≡◌, ◌≤◌, length, IfOk};
-ghost use Rattle.mj_deeds.specs.Four.{at_seat};
+ghost use Rattle.std.specs.Prelude.{◌≡◌, ◌+◌, ◌%◌, ◌≤◌, length, IfOk};
 ghost use Rattle.mj_tiles.specs.Faces.{in_tile_order};
 ghost use Rattle.mj_wall.specs.Places.{dealt_tiles};
-ghost use Rattle.mj_rules.specs.Outcome.{outcome, first_hand, next_draw, act_of, discard_of};
+ghost use Rattle.mj_rules.specs.Outcome.{outcome, first_hand, next_draw, next_dora, next_replacement, or_else, call_of};
 
-use mj_deeds::{Answer, Deed, Four, Pai, Tiles, live_drawn};
+use crate::bids::{act, call};
+use mj_deeds::{Answer, Deed, Four, Tiles, kan_seat, kans, live_drawn, live_left, shown};
 use mj_tiles::Kind;
 use mj_wall::Wall;
 use std::alloc::{AllocError, Global};
 
 /// The one deed that follows the closed window on the newest deed, by its four answers: after the start of the game the
-/// first hand, then the dealer's draw, after a draw the discard that its seat answered, after a discard the draw of the
-/// next seat. None where there is no deed yet, where no live tile is left to draw, or where the seat whose turn it is
-/// answered no discard of a known tile. The first of the walls, 1 to 200, is played.
+/// first hand, then the dealer's draw; after a draw, a chi or a pon what its seat answered; after a discard a pon or a
+/// kan of it, else a chi, and else the draw of the next seat; after a kan the next indicator, and then its seat draws a
+/// replacement tile. None where there is no deed yet, where no live tile is left to draw, or where the seat whose turn
+/// it is answered neither a discard nor a kan of known tiles. The first of the walls, 1 to 200, is played.
 #[tactic(auto, unfolding(mj_rules::specs::Outcome::outcome))]
 pub fn next(
     alloc: Global,
@@ -28,9 +29,25 @@ pub fn next(
     match deeds.last() {
         Some(Deed::StartGame { .. }) => Ok(Some(first_hand(alloc, wall)?)),
         Some(Deed::StartHand { dealer, .. }) => Ok(next_draw(wall, deeds, *dealer)),
-        Some(Deed::Draw { seat, .. }) => Ok(act(*seat, answers.at((*seat).min(3)))),
-        Some(Deed::Discard { seat, .. }) => Ok(next_draw(wall, deeds, (*seat % 4 + 1) % 4)),
+        Some(Deed::Draw { seat, .. }) => Ok(act(*seat, answers)),
+        Some(Deed::Chi { seat, .. }) => Ok(act(*seat, answers)),
+        Some(Deed::Pon { seat, .. }) => Ok(act(*seat, answers)),
+        Some(Deed::Discard { seat, .. }) => Ok(after_discard(wall, deeds, *seat, answers)),
+        Some(Deed::OpenKan { .. }) => Ok(Some(next_dora(wall, deeds))),
+        Some(Deed::ClosedKan { .. }) => Ok(Some(next_dora(wall, deeds))),
+        Some(Deed::AddedKan { .. }) => Ok(Some(next_dora(wall, deeds))),
+        Some(Deed::Dora { .. }) => Ok(Some(next_replacement(wall, deeds))),
         None => Ok(None),
+    }
+}
+
+// After a discard its call, and else the draw of the next seat.
+fn after_discard(wall: &Wall, deeds: &[Deed], seat: u8, answers: &Four<Answer>) -> Option<Deed>
+    ensures { result ≡ or_else (call_of answers.now) (next_draw wall.now deeds.now ((seat + 1) % 4)) }
+{
+    match call(answers) {
+        Some(deed) => Some(deed),
+        None => next_draw(wall, deeds, (seat % 4 + 1) % 4),
     }
 }
 
@@ -80,36 +97,36 @@ fn hand(alloc: Global, wall: &Wall, k: usize) -> Result<Tiles, AllocError>
 fn next_draw(wall: &Wall, deeds: &[Deed], seat: u8) -> Option<Deed>
     ensures { result ≡ next_draw wall.now deeds.now seat }
 {
-    let drawn = live_drawn(deeds);
-    if drawn >= 70 {
+    if live_left(deeds) == 0 {
         return None;
     }
     Some(Deed::Draw {
         seat,
-        tile: wall.draw(drawn as u8),
+        tile: wall.draw(live_drawn(deeds) as u8),
         replacement: false,
     })
 }
 
-// The seat whose turn it is discards the tile that it answered.
-fn act(seat: u8, answer: &Answer) -> Option<Deed>
-    ensures { result ≡ act_of seat answer.now }
+// After a kan the next indicator is shown.
+#[tactic(auto, unfolding(mj_rules::specs::Outcome::next_dora))]
+fn next_dora(wall: &Wall, deeds: &[Deed]) -> Deed
+    ensures { result ≡ next_dora wall.now deeds.now }
 {
-    match answer {
-        Answer::Discard { tile, drawn, .. } => discard(seat, tile, *drawn),
-        _ => None,
+    let place = 131_usize.saturating_sub(2 * shown(deeds));
+    Deed::Dora {
+        tile: wall.tiles()[place],
     }
 }
 
-fn discard(seat: u8, tile: &Pai, drawn: bool) -> Option<Deed>
-    ensures { result ≡ discard_of seat tile.now drawn }
+// The seat of the newest kan draws the next replacement tile.
+#[tactic(auto, unfolding(mj_rules::specs::Outcome::next_replacement))]
+fn next_replacement(wall: &Wall, deeds: &[Deed]) -> Deed
+    ensures { result ≡ next_replacement wall.now deeds.now }
 {
-    match tile {
-        Pai::Known(tile) => Some(Deed::Discard {
-            seat,
-            tile: *tile,
-            drawn,
-        }),
-        Pai::Hidden => None,
+    let place = 135_usize.saturating_sub(kans(deeds).saturating_sub(1));
+    Deed::Draw {
+        seat: kan_seat(deeds).unwrap_or(0),
+        tile: wall.tiles()[place],
+        replacement: true,
     }
 }

@@ -1,6 +1,7 @@
 //! The course of a hand: which deed follows a closed window.
 #![tactic(auto)]
 
+mod bids;
 mod course;
 #[cfg(test)]
 mod tests;

@@ -131,3 +131,88 @@ fn nothing_is_drawn_past_the_last_live_tile(rt: HostRuntime) -> Result<(), Fail>
     assert!(rt; next(alloc, &walls, deeds.as_slice(), &answers)?.is_none());
     Ok(())
 }
+
+// Seat 1 bids a chi of the tile of face 2 that seat 0 discarded, and seat 3 answers as given.
+fn bids(fourth: Answer) -> Result<Four<Answer>, Fail> {
+    Ok(Four {
+        first: Answer::Pass { actor: None },
+        second: Answer::Chi {
+            actor: 1,
+            target: 0,
+            tile: Pai::Known(tile(2)?),
+            a: Pai::Known(tile(3)?),
+            b: Pai::Known(tile(34)?),
+        },
+        third: Answer::Pass { actor: None },
+        fourth,
+    })
+}
+
+// The number of the variant of a deed and the seat that makes it, where it is a call or a kan.
+fn call_of(deed: &Deed) -> (u8, u8) {
+    match deed {
+        Deed::Chi { seat, .. } => (0, *seat),
+        Deed::Pon { seat, .. } => (1, *seat),
+        Deed::OpenKan { seat, .. } => (2, *seat),
+        Deed::ClosedKan { seat, .. } => (3, *seat),
+        Deed::AddedKan { seat, .. } => (4, *seat),
+        _ => (255, 255),
+    }
+}
+
+#[test]
+fn a_pon_goes_before_a_chi(rt: HostRuntime) -> Result<(), Fail> {
+    let alloc = rt.alloc();
+    let walls = [wall()?];
+    let mut deeds = Vec::new(alloc);
+    deeds.push(Deed::Discard {
+        seat: 0,
+        tile: tile(2)?,
+        drawn: false,
+    })?;
+    let pon = Answer::Pon {
+        actor: 3,
+        target: 0,
+        tile: Pai::Known(tile(2)?),
+        a: Pai::Known(tile(2)?),
+        b: Pai::Known(tile(2)?),
+    };
+    let taken = next(alloc, &walls, deeds.as_slice(), &bids(pon)?)?.ok_or("no call")?;
+    assert!(rt; call_of(&taken) == (1, 3));
+    let alone = bids(Answer::Pass { actor: None })?;
+    let taken = next(alloc, &walls, deeds.as_slice(), &alone)?.ok_or("no call")?;
+    assert!(rt; call_of(&taken) == (0, 1));
+    Ok(())
+}
+
+#[test]
+fn a_kan_shows_an_indicator_and_draws_a_replacement(rt: HostRuntime) -> Result<(), Fail> {
+    let alloc = rt.alloc();
+    let walls = [wall()?];
+    let east = Pai::Known(tile(27)?);
+    let kan = bids(Answer::ClosedKan {
+        actor: 3,
+        a: east,
+        b: east,
+        c: east,
+        d: east,
+    })?;
+    let mut deeds = Vec::new(alloc);
+    deeds.push(Deed::Draw {
+        seat: 3,
+        tile: tile(27)?,
+        replacement: false,
+    })?;
+    let made = next(alloc, &walls, deeds.as_slice(), &kan)?.ok_or("no kan")?;
+    assert!(rt; call_of(&made) == (3, 3));
+    deeds.push(made)?;
+    let shown = next(alloc, &walls, deeds.as_slice(), &kan)?.ok_or("no indicator")?;
+    match &shown {
+        Deed::Dora { tile } => assert_eq!(rt; tile.face(), 32),
+        _ => return Err(Fail::from("no indicator")),
+    }
+    deeds.push(shown)?;
+    let drawn = next(alloc, &walls, deeds.as_slice(), &kan)?.ok_or("no draw")?;
+    assert_eq!(rt; draw_of(&drawn)?, (3, 33));
+    Ok(())
+}

@@ -1,16 +1,19 @@
 -- The law of one world: what a game tells a seat is what a machine tells that has nothing but what the seat learns. So two
 -- games that agree for a seat tell it the same.
-use Rattle.std.proofs.Common.{◌≡◌, ◌≢◌, ℕ, zero, suc, ◌+◌, ◌%◌, ◌==◌, ◌<◌, ◌⊎◌, inl, inr, ◌&&◌, Bool, true, false, cond, List, [], ◌∷◌, ◌++◌, length, map, refl, ap, sym, ◌∙◌, subst, arith}
+use Rattle.std.proofs.Common.{◌≡◌, ◌≢◌, ℕ, zero, suc, ◌+◌, ◌%◌, ◌==◌, ◌<◌, ◌⊎◌, inl, inr, ◌&&◌, Bool, true, false, not, cond, List, [], ◌∷◌, ◌++◌, length, map, refl, ap, sym, ◌∙◌, subst, arith}
 use Rattle.std.specs.Prelude.{Option, Some, None, option_map, unwrap_or, IsTrue, slice_get, slice_set}
 use Rattle.std.specs.Option.{option_map_or}
 use Rattle.std.specs.List.{list_all, slice_index_or}
 use Rattle.std.proofs.lemmas.List.{length-map, map-append}
+use Rattle.std.proofs.lemmas.Grind.{fold-append}
 use Rattle.std.proofs.lemmas.Bool.Decides.{eqb_tells}
 use Rattle.mj_ports.specs.declared.entry.Entry.{Entry}
 use Rattle.mj_ports.specs.declared.entry.Entry.TheVariants.{Sat, Back, Said, Gone, Expired}
 use Rattle.mj_deeds.specs.declared.answer.Answer.{Answer}
 use Rattle.mj_deeds.specs.declared.deed.Viewer.TheVariants.{Seat}
 use Rattle.mj_deeds.specs.declared.deed.Deed.{Deed}
+use Rattle.mj_deeds.specs.declared.deed.Deed.TheVariants as deeds
+use Rattle.mj_deeds.specs.Facts.{live_draws, is_live_draw, newest}
 use Rattle.mj_wall.specs.declared.setting.Setting.{Setting}
 use Rattle.mj_wall.specs.Places.{is_wall}
 use Rattle.mj_rules.specs.Broken.{broken, broken_by, view_of}
@@ -20,8 +23,8 @@ use Rattle.mj_protocol.specs.Lines.{line}
 use Rattle.mj_protocol.specs.After.{After, Chair, Progress, Verdict, verdict, verdict_on, goes_on, pending, lines_for, seated, heard, own_part, next_deed, with_deed, step, after_from, after, before_all, script_at, script_in, scripts, filled}
 use Rattle.mj_protocol.specs.Trace.{Item, OwnSat, OwnSaid, Saw, token, own_items, seen_items, trace_from, trace, IsLegal, Game, Agree, has_wall, has_ground}
 use Rattle.mj_protocol.proofs.Places.{slice_get-append_at, slice_get-append_other, slice_get-set_at, slice_get-set_other}
-use Rattle.mj_protocol.proofs.Solo.{Solo, at_first, view_in, view_follows, answered, learns, learns_all, learns_all-append, solo_script, told_by, line_in}
-use Rattle.mj_protocol.proofs.Follows.{IsCourse, DealsThirteen, line_follows, next_is_course}
+use Rattle.mj_protocol.proofs.Solo.{Solo, is_dora, live_draws_more, newest_in, newest_follows, at_first, view_in, view_follows, answered, learns, learns_all, learns_all-append, solo_script, told_by, line_in}
+use Rattle.mj_protocol.proofs.Follows.{after_dora, IsCourse, DealsThirteen, line_follows, next_is_course}
 
 -- how far a seat has come, where it is held
 abbrev pub progress_of : List Chair → ℕ → Option Progress
@@ -32,14 +35,15 @@ pub record Matches (seat : ℕ) (now : After) (s : Solo) : Type 0 where
   pub progress : progress_of now.chairs seat ≡ s.progress
   pub tokens : map (token seat) now.deeds ≡ s.tokens
   pub lines : lines_for seat now.deeds ≡ s.lines
+  pub draws : live_draws now.deeds ≡ s.draws
 
 -- the verdict on an answer follows from the tokens, and so does how far it brings the seat
 goes_on_follows : (red : Bool) (seat : ℕ) (now : After) (s : Solo) (answer : Answer) (p : Progress) → Matches seat now s →
     goes_on (lines_for seat now.deeds) (verdict_on red now.deeds seat answer p) p
-    ≡ goes_on s.lines (verdict p.due (length s.tokens) (broken_by red seat (view_in s.tokens seat) answer)) p
+    ≡ goes_on s.lines (verdict p.due (length s.tokens) (broken_by red seat (view_in s.tokens s.draws seat) answer)) p
 goes_on_follows red seat now s answer p m =
     let long : length now.deeds ≡ length s.tokens = sym (length-map now.deeds (token seat)) ∙ ap length m.tokens in
-    let seen : view_of now.deeds seat ≡ view_in s.tokens seat = view_follows seat now.deeds ∙ ap (λ ts. view_in ts seat) m.tokens in
+    let seen : view_of now.deeds seat ≡ view_in s.tokens s.draws seat = view_follows seat now.deeds ∙ (λ i. view_in (m.tokens i) (m.draws i) seat) in
     λ i. goes_on (m.lines i) (verdict p.due (long i) (broken_by red seat (seen i) answer)) p
 
 -- what an own answer changes
@@ -55,6 +59,7 @@ said_follows red seat now s answer (Some chair) at m =
       progress = ap (option_map (λ (c : Chair). c.progress)) (slice_get-set_at now.chairs seat _ chair at) ∙ ap Some (goes_on_follows red seat now s answer chair.progress m);
       tokens = m.tokens;
       lines = m.lines;
+      draws = m.draws;
     })
 
 -- what another's answer changes is nothing of the seat's
@@ -66,6 +71,7 @@ others_said red seat who now s answer (Some chair) ne m = record {
   progress = ap (option_map (λ (c : Chair). c.progress)) (slice_get-set_other now.chairs who seat _ ne) ∙ m.progress;
   tokens = m.tokens;
   lines = m.lines;
+  draws = m.draws;
 }
 
 -- who sits down: the seat itself, where its number is that of the seats before
@@ -77,11 +83,13 @@ sat_follows seat author name key setting now s m = elim (eqb_tells (length now.c
     progress = ap (option_map (λ (c : Chair). c.progress)) (ap (slice_get (now.chairs ++ _ ∷ [])) (sym p.1) ∙ slice_get-append_at now.chairs _);
     tokens = m.tokens;
     lines = m.lines;
+    draws = m.draws;
   })
   | inr p ↦ rw p.0 (record {
     progress = ap (option_map (λ (c : Chair). c.progress)) (slice_get-append_other now.chairs _ seat (λ e. p.1 (sym e))) ∙ m.progress;
     tokens = m.tokens;
     lines = m.lines;
+    draws = m.draws;
   })
 ]
 
@@ -104,8 +112,33 @@ own_follows seat (Back author who) setting now s m = m
 own_follows seat (Gone author who) setting now s m = m
 own_follows seat (Expired author window t1 t2) setting now s m = m
 
+-- how many live draws there are, with one deed more
+one_more : (n : ℕ) (b : Bool) → n + cond (not b) 1 0 ≡ cond b n (n + 1)
+one_more n true = omega arith
+one_more n false = refl
+
+dora_follows : (seat : ℕ) (o : Option Deed) → is_dora (option_map (token seat) o) ≡ after_dora o
+dora_follows seat None = refl
+dora_follows seat (Some (deeds.Dora tile)) = refl
+dora_follows seat (Some other) = refl
+
+counted : (ds : List Deed) (d : Deed) → live_draws (ds ++ d ∷ []) ≡ live_draws ds + cond (is_live_draw d) 1 0
+counted ds d = fold-append (λ (a : ℕ) (x : Deed). a + cond (is_live_draw x) 1 0) 0 ds (d ∷ [])
+
+draws_follow_by : (seat : ℕ) (wall : List ℕ) (ds : List Deed) (d : Deed) → IsCourse wall ds d →
+    live_draws ds + cond (is_live_draw d) 1 0 ≡ live_draws_more (newest_in (map (token seat) ds)) (token seat d) (live_draws ds)
+draws_follow_by seat wall ds (deeds.Draw who tile replacement) c =
+    ap (λ (b : Bool). live_draws ds + cond (not b) 1 0) c
+    ∙ one_more (live_draws ds) (after_dora (newest ds))
+    ∙ ap (λ (b : Bool). cond b (live_draws ds) (live_draws ds + 1)) (sym (ap is_dora (newest_follows (token seat) ds) ∙ dora_follows seat (newest ds)))
+draws_follow_by seat wall ds other c = omega arith
+
+draws_follow : (seat : ℕ) (wall : List ℕ) (ds : List Deed) (d : Deed) → IsCourse wall ds d →
+    live_draws (ds ++ d ∷ []) ≡ live_draws_more (newest_in (map (token seat) ds)) (token seat d) (live_draws ds)
+draws_follow seat wall ds d c = counted ds d ∙ draws_follow_by seat wall ds d c
+
 -- the deed that it adds
-deed_follows : (red : Bool) (seat : ℕ) (wall : List ℕ) (added : Option Deed) (now : After) (s : Solo) → DealsThirteen wall → ((d : Deed) → added ≡ Some d → IsCourse wall d) → Matches seat now s →
+deed_follows : (red : Bool) (seat : ℕ) (wall : List ℕ) (added : Option Deed) (now : After) (s : Solo) → DealsThirteen wall → ((d : Deed) → added ≡ Some d → IsCourse wall now.deeds d) → Matches seat now s →
     Matches seat (with_deed now added) (learns_all red seat s (seen_items seat added))
 deed_follows red seat wall None now s deals course m = m
 deed_follows red seat wall (Some d) now s deals course m = record {
@@ -113,7 +146,9 @@ deed_follows red seat wall (Some d) now s deals course m = record {
   tokens = map-append (token seat) now.deeds (d ∷ []) ∙ ap (λ ts. ts ++ token seat d ∷ []) m.tokens;
   lines = map-append (line (Seat seat)) now.deeds (d ∷ [])
       ∙ ap (λ ls. ls ++ line (Seat seat) d ∷ []) m.lines
-      ∙ ap (λ l. s.lines ++ l ∷ []) (line_follows seat wall d deals (course d refl));
+      ∙ ap (λ l. s.lines ++ l ∷ []) (line_follows seat wall now.deeds d deals (course d refl));
+  draws = draws_follow seat wall now.deeds d (course d refl)
+      ∙ (λ i. live_draws_more (newest_in (m.tokens i)) (token seat d) (m.draws i));
 }
 
 -- one entry
@@ -150,7 +185,7 @@ script_by seat now s (Some chair) at m =
     ap (λ ls. chair.progress.told ++ pending ls chair.progress) m.lines ∙ ap (λ (o : Option Progress). option_map_or (told_by s) o []) (sym some)
 
 nothing_known : (seat : ℕ) → Matches seat before_all at_first
-nothing_known seat = record { progress = refl; tokens = refl; lines = refl }
+nothing_known seat = record { progress = refl; tokens = refl; lines = refl; draws = refl }
 
 first_of : (n : ℕ) → 0 % suc n ≡ 0
 first_of n = omega arith

@@ -1,6 +1,6 @@
 -- A machine that has nothing of a game but what one seat learns, and tells that seat its bytes.
 use Rattle.std.proofs.Common.{◌≡◌, ℕ, ◌+◌, ◌-◌, ◌==◌, Bool, true, false, cond, List, [], ◌∷◌, ◌++◌, length, map, refl, ap, sym, ◌∙◌}
-use Rattle.std.specs.Prelude.{Option, Some, None, option_map, option_and_then, option_to_list, slice_get, flat_map, replicate, if◌then◌else◌}
+use Rattle.std.specs.Prelude.{Option, Some, None, option_map, option_and_then, option_to_list, slice_get, count_by, fold, flat_map, replicate, if◌then◌else◌, codes}
 use Rattle.std.specs.Option.{option_map_or}
 use Rattle.std.proofs.lemmas.Option.{slice_get-map}
 use Rattle.std.proofs.lemmas.List.{length-map}
@@ -11,53 +11,79 @@ use Rattle.mj_deeds.specs.declared.deed.Deed.{Deed}
 use Rattle.mj_deeds.specs.declared.deed.Deed.TheVariants as deeds
 use Rattle.mj_deeds.specs.declared.token.Token.{Token}
 use Rattle.mj_deeds.specs.declared.token.Token.TheVariants as tokens
-use Rattle.mj_deeds.specs.Facts.{newest, gained, lost, gains_by, losses_by, drawn_by, drawn_tile}
-use Rattle.mj_rules.specs.Broken.{View, view_of, actor_by, broken_by}
-use Rattle.mj_protocol.specs.Lines.{start_game_line, start_hand_line, draw_line, discard_line, quoted_tile, hidden}
+use Rattle.mj_tiles.specs.declared.meld.Meld.{Meld}
+use Rattle.mj_tiles.specs.declared.meld.Form.TheVariants as forms
+use Rattle.mj_calls.specs.Bans.{banned_kinds}
+use Rattle.mj_deeds.specs.Facts.{of_seat, newest, gained, lost, gains_by, losses_by, drawn_by, drawn_tile, meld_of_three, meld_of_four, makes_by, adds_by, with_added, seat_melds, is_kan, kans, live_draws}
+use Rattle.mj_rules.specs.Broken.{Turn, Drew, Discarded, Called, Nobodys, turn_by, turn_in, View, view_of, broken_by}
+use Rattle.mj_protocol.specs.Lines.{start_game_line, start_hand_line, draw_line, discard_line, call_line, closed_kan_line, added_kan_line, dora_line, quoted_tile, hidden}
 use Rattle.mj_protocol.specs.After.{Progress, Verdict, verdict, goes_on, pending, seated}
 use Rattle.mj_protocol.specs.Trace.{Item, OwnSat, OwnSaid, Saw, token, own_tile}
 
 -- the facts of deeds that a seat's view has, read off tokens
-abbrev pub actor_in : Token → Option ℕ
-actor_in (tokens.StartGame names) = None
-actor_in (tokens.StartHand indicator hand) = None
-actor_in (tokens.Draw who tile) = Some who
-actor_in (tokens.Discard who tile drawn) = None
+abbrev pub turn_seen : Token → Turn
+turn_seen (tokens.Draw who tile) = Drew who
+turn_seen (tokens.Discard who tile drawn) = Discarded who tile
+turn_seen (tokens.Chi who target tile a b) = Called who (banned_kinds (deeds.Chi who target tile a b))
+turn_seen (tokens.Pon who target tile a b) = Called who (banned_kinds (deeds.Pon who target tile a b))
+turn_seen other = Nobodys
 
 abbrev pub drawn_in : Token → Option ℕ
-drawn_in (tokens.StartGame names) = None
-drawn_in (tokens.StartHand indicator hand) = None
 drawn_in (tokens.Draw who tile) = tile
-drawn_in (tokens.Discard who tile drawn) = None
+drawn_in other = None
 
 abbrev pub gains_in : Token → List ℕ
-gains_in (tokens.StartGame names) = []
 gains_in (tokens.StartHand indicator hand) = hand
 gains_in (tokens.Draw who tile) = option_to_list tile
-gains_in (tokens.Discard who tile drawn) = []
+gains_in other = []
 
 abbrev pub losses_in : ℕ → Token → List ℕ
-losses_in seat (tokens.StartGame names) = []
-losses_in seat (tokens.StartHand indicator hand) = []
-losses_in seat (tokens.Draw who tile) = []
-losses_in seat (tokens.Discard who tile drawn) = if who == seat then tile ∷ [] else []
+losses_in seat (tokens.Discard who tile drawn) = of_seat seat who (tile ∷ [])
+losses_in seat (tokens.Chi who target tile a b) = of_seat seat who (a ∷ b ∷ [])
+losses_in seat (tokens.Pon who target tile a b) = of_seat seat who (a ∷ b ∷ [])
+losses_in seat (tokens.OpenKan who target tile a b c) = of_seat seat who (a ∷ b ∷ c ∷ [])
+losses_in seat (tokens.ClosedKan who a b c d) = of_seat seat who (a ∷ b ∷ c ∷ d ∷ [])
+losses_in seat (tokens.AddedKan who tile a b c) = of_seat seat who (tile ∷ [])
+losses_in seat other = []
+
+abbrev pub makes_in : ℕ → Token → List Meld
+makes_in seat (tokens.Chi who target tile a b) = of_seat seat who (meld_of_three forms.Chi tile a b ∷ [])
+makes_in seat (tokens.Pon who target tile a b) = of_seat seat who (meld_of_three forms.Pon tile a b ∷ [])
+makes_in seat (tokens.OpenKan who target tile a b c) = of_seat seat who (meld_of_four forms.OpenKan tile a b c ∷ [])
+makes_in seat (tokens.ClosedKan who a b c d) = of_seat seat who (meld_of_four forms.ClosedKan a b c d ∷ [])
+makes_in seat other = []
+
+abbrev pub adds_in : ℕ → Token → List ℕ
+adds_in seat (tokens.AddedKan who tile a b c) = of_seat seat who (tile ∷ [])
+adds_in seat other = []
+
+abbrev pub is_kan_in : Token → Bool
+is_kan_in (tokens.OpenKan who target tile a b c) = true
+is_kan_in (tokens.ClosedKan who a b c d) = true
+is_kan_in (tokens.AddedKan who tile a b c) = true
+is_kan_in other = false
 
 abbrev pub newest_in : List Token → Option Token
 newest_in ts = slice_get ts (length ts - 1)
 
-unfoldable pub view_in : List Token → ℕ → View
-view_in ts seat = record {
-  actor = option_and_then actor_in (newest_in ts);
+-- of the live draws the number is handed in
+unfoldable pub view_in : List Token → ℕ → ℕ → View
+view_in ts draws seat = record {
+  turn = turn_in (option_map turn_seen (newest_in ts));
   drawn = option_and_then drawn_in (newest_in ts);
   gained = flat_map gains_in ts;
   lost = flat_map (losses_in seat) ts;
+  melds = map (λ meld. with_added meld (flat_map (adds_in seat) ts)) (flat_map (makes_in seat) ts);
+  kans = count_by is_kan_in ts;
+  live = 70 - draws - count_by is_kan_in ts;
 }
 
-same_actor : (seat : ℕ) (d : Deed) → actor_by d ≡ actor_in (token seat d)
-same_actor seat (deeds.StartGame names) = refl
-same_actor seat (deeds.StartHand round number honba deposits dealer indicator hands) = refl
-same_actor seat (deeds.Draw who tile replacement) = refl
-same_actor seat (deeds.Discard who tile drawn) = refl
+same_turn : (seat : ℕ) (d : Deed) → turn_by d ≡ turn_seen (token seat d)
+same_turn seat (deeds.Draw who tile replacement) = refl
+same_turn seat (deeds.Discard who tile drawn) = refl
+same_turn seat (deeds.Chi who target tile a b) = refl
+same_turn seat (deeds.Pon who target tile a b) = refl
+same_turn seat other = refl
 
 tile_of : (b : Bool) (tile : ℕ) → cond b (Some tile) None ≡ own_tile b tile
 tile_of true tile = refl
@@ -68,47 +94,81 @@ tiles_of true tile = refl
 tiles_of false tile = refl
 
 same_drawn : (seat : ℕ) (d : Deed) → drawn_by seat d ≡ drawn_in (token seat d)
-same_drawn seat (deeds.StartGame names) = refl
-same_drawn seat (deeds.StartHand round number honba deposits dealer indicator hands) = refl
 same_drawn seat (deeds.Draw who tile replacement) = tile_of (who == seat) tile
-same_drawn seat (deeds.Discard who tile drawn) = refl
+same_drawn seat other = refl
 
 same_gains : (seat : ℕ) (d : Deed) → gains_by seat d ≡ gains_in (token seat d)
-same_gains seat (deeds.StartGame names) = refl
 same_gains seat (deeds.StartHand round number honba deposits dealer indicator hands) = refl
 same_gains seat (deeds.Draw who tile replacement) = tiles_of (who == seat) tile
-same_gains seat (deeds.Discard who tile drawn) = refl
+same_gains seat other = refl
 
 same_losses : (seat : ℕ) (d : Deed) → losses_by seat d ≡ losses_in seat (token seat d)
-same_losses seat (deeds.StartGame names) = refl
-same_losses seat (deeds.StartHand round number honba deposits dealer indicator hands) = refl
 same_losses seat (deeds.Draw who tile replacement) = refl
-same_losses seat (deeds.Discard who tile drawn) = refl
+same_losses seat other = refl
+
+same_makes : (seat : ℕ) (d : Deed) → makes_by seat d ≡ makes_in seat (token seat d)
+same_makes seat (deeds.Draw who tile replacement) = refl
+same_makes seat other = refl
+
+same_adds : (seat : ℕ) (d : Deed) → adds_by seat d ≡ adds_in seat (token seat d)
+same_adds seat (deeds.Draw who tile replacement) = refl
+same_adds seat other = refl
+
+same_kan : (seat : ℕ) (d : Deed) → is_kan d ≡ is_kan_in (token seat d)
+same_kan seat (deeds.Draw who tile replacement) = refl
+same_kan seat other = refl
 
 -- a fold over deeds whose function is one of the token is a fold over the tokens
 fold_follows : {A : Type 0} (f : Deed → List A) (g : Token → List A) (t : Deed → Token) → ((d : Deed) → f d ≡ g (t d)) → (ds : List Deed) → flat_map f ds ≡ flat_map g (map t ds)
 fold_follows f g t same [] = refl
 fold_follows f g t same (d ∷ ds) = ap (λ xs. xs ++ flat_map f ds) (same d) ∙ ap (λ xs. g (t d) ++ xs) (fold_follows f g t same ds)
 
+-- and so is a count
+count_follows_from : (f : Deed → Bool) (g : Token → Bool) (t : Deed → Token) → ((d : Deed) → f d ≡ g (t d)) → (n : ℕ) (ds : List Deed) →
+    fold (λ (a : ℕ) (x : Deed). a + cond (f x) 1 0) n ds ≡ fold (λ (a : ℕ) (x : Token). a + cond (g x) 1 0) n (map t ds)
+count_follows_from f g t same n [] = refl
+count_follows_from f g t same n (d ∷ ds) =
+    ap (λ (b : Bool). fold (λ (a : ℕ) (x : Deed). a + cond (f x) 1 0) (n + cond b 1 0) ds) (same d)
+    ∙ count_follows_from f g t same (n + cond (g (t d)) 1 0) ds
+
+count_follows : (f : Deed → Bool) (g : Token → Bool) (t : Deed → Token) → ((d : Deed) → f d ≡ g (t d)) → (ds : List Deed) → count_by f ds ≡ count_by g (map t ds)
+count_follows f g t same ds = count_follows_from f g t same 0 ds
+
 -- and so is what an option of a deed gives
 option_follows : {A : Type 0} (f : Deed → Option A) (g : Token → Option A) (t : Deed → Token) → ((d : Deed) → f d ≡ g (t d)) → (o : Option Deed) → option_and_then f o ≡ option_and_then g (option_map t o)
 option_follows f g t same None = refl
 option_follows f g t same (Some d) = same d
 
-newest_follows : (t : Deed → Token) (ds : List Deed) → newest_in (map t ds) ≡ option_map t (newest ds)
+turn_follows : (t : Deed → Token) → ((d : Deed) → turn_by d ≡ turn_seen (t d)) → (o : Option Deed) → turn_in (option_map turn_by o) ≡ turn_in (option_map turn_seen (option_map t o))
+turn_follows t same None = refl
+turn_follows t same (Some d) = same d
+
+pub newest_follows : (t : Deed → Token) (ds : List Deed) → newest_in (map t ds) ≡ option_map t (newest ds)
 newest_follows t ds = ap (λ n. slice_get (map t ds) (n - 1)) (length-map ds t) ∙ slice_get-map t ds (length ds - 1)
 
 -- what a seat may know follows from its tokens
-pub view_follows : (seat : ℕ) (ds : List Deed) → view_of ds seat ≡ view_in (map (token seat) ds) seat
+pub view_follows : (seat : ℕ) (ds : List Deed) → view_of ds seat ≡ view_in (map (token seat) ds) (live_draws ds) seat
 unfolding view_of view_in
 view_follows seat ds =
-    let actor : option_and_then actor_by (newest ds) ≡ option_and_then actor_in (newest_in (map (token seat) ds)) =
-    option_follows actor_by actor_in (token seat) (same_actor seat) (newest ds) ∙ ap (option_and_then actor_in) (sym (newest_follows (token seat) ds)) in
-    let drawn : drawn_tile ds seat ≡ option_and_then drawn_in (newest_in (map (token seat) ds)) =
+    let ts : List Token = map (token seat) ds in
+    let turn : turn_in (option_map turn_by (newest ds)) ≡ turn_in (option_map turn_seen (newest_in ts)) =
+    turn_follows (token seat) (same_turn seat) (newest ds) ∙ ap (λ (o : Option Token). turn_in (option_map turn_seen o)) (sym (newest_follows (token seat) ds)) in
+    let drawn : drawn_tile ds seat ≡ option_and_then drawn_in (newest_in ts) =
     option_follows (drawn_by seat) drawn_in (token seat) (same_drawn seat) (newest ds) ∙ ap (option_and_then drawn_in) (sym (newest_follows (token seat) ds)) in
-    let got : gained ds seat ≡ flat_map gains_in (map (token seat) ds) = fold_follows (gains_by seat) gains_in (token seat) (same_gains seat) ds in
-    let gone : lost ds seat ≡ flat_map (losses_in seat) (map (token seat) ds) = fold_follows (losses_by seat) (losses_in seat) (token seat) (same_losses seat) ds in
-    λ i. record { actor = actor i; drawn = drawn i; gained = got i; lost = gone i }
+    let got : gained ds seat ≡ flat_map gains_in ts = fold_follows (gains_by seat) gains_in (token seat) (same_gains seat) ds in
+    let gone : lost ds seat ≡ flat_map (losses_in seat) ts = fold_follows (losses_by seat) (losses_in seat) (token seat) (same_losses seat) ds in
+    let made : flat_map (makes_by seat) ds ≡ flat_map (makes_in seat) ts = fold_follows (makes_by seat) (makes_in seat) (token seat) (same_makes seat) ds in
+    let added : flat_map (adds_by seat) ds ≡ flat_map (adds_in seat) ts = fold_follows (adds_by seat) (adds_in seat) (token seat) (same_adds seat) ds in
+    let stood : kans ds ≡ count_by is_kan_in ts = count_follows is_kan is_kan_in (token seat) (same_kan seat) ds in
+    λ i. record {
+      turn = turn i;
+      drawn = drawn i;
+      gained = got i;
+      lost = gone i;
+      melds = map (λ meld. with_added meld (added i)) (made i);
+      kans = stood i;
+      live = 70 - live_draws ds - stood i;
+    }
 
 -- the tiles of a hand that is one's own, or thirteen hidden ones
 abbrev pub hand_known : Bool → List ℕ → List (List ℕ)
@@ -126,27 +186,45 @@ line_in seat (tokens.StartHand indicator hand) = start_hand_line 27 1 0 0 0 indi
     (record { first = hand_known (0 == seat) hand; second = hand_known (1 == seat) hand; third = hand_known (2 == seat) hand; fourth = hand_known (3 == seat) hand })
 line_in seat (tokens.Draw who tile) = draw_line who (tile_known tile)
 line_in seat (tokens.Discard who tile drawn) = discard_line who tile drawn
+line_in seat (tokens.Chi who target tile a b) = call_line (codes "chi") who target tile (a ∷ b ∷ [])
+line_in seat (tokens.Pon who target tile a b) = call_line (codes "pon") who target tile (a ∷ b ∷ [])
+line_in seat (tokens.OpenKan who target tile a b c) = call_line (codes "daiminkan") who target tile (a ∷ b ∷ c ∷ [])
+line_in seat (tokens.ClosedKan who a b c d) = closed_kan_line who (a ∷ b ∷ c ∷ d ∷ [])
+line_in seat (tokens.AddedKan who tile a b c) = added_kan_line who tile (a ∷ b ∷ c ∷ [])
+line_in seat (tokens.Dora tile) = dora_line tile
 
--- how far the seat has come, the tokens that it saw, and their lines
+-- how far the seat has come, the tokens that it saw, their lines, and how many live draws are among them
 pub record Solo : Type 0 where
   pub progress : Option Progress
   pub tokens : List Token
   pub lines : List (List ℕ)
+  pub draws : ℕ
+
+-- right after a new indicator a draw is a replacement, and else a live one
+abbrev pub is_dora : Option Token → Bool
+is_dora None = false
+is_dora (Some (tokens.Dora tile)) = true
+is_dora (Some other) = false
+
+abbrev pub live_draws_more : Option Token → Token → ℕ → ℕ
+live_draws_more before (tokens.Draw who tile) draws = if is_dora before then draws else draws + 1
+live_draws_more before other draws = draws
 
 abbrev pub at_first : Solo
-at_first = record { progress = None; tokens = []; lines = [] }
+at_first = record { progress = None; tokens = []; lines = []; draws = 0 }
 
 unfoldable pub answered : Bool → ℕ → Solo → Answer → Progress → Solo
 answered red seat s answer p = record {
-  progress = Some (goes_on s.lines (verdict p.due (length s.tokens) (broken_by red seat (view_in s.tokens seat) answer)) p);
+  progress = Some (goes_on s.lines (verdict p.due (length s.tokens) (broken_by red seat (view_in s.tokens s.draws seat) answer)) p);
   tokens = s.tokens;
   lines = s.lines;
+  draws = s.draws;
 }
 
 abbrev pub learns : Bool → ℕ → Solo → Item → Solo
-learns red seat s (OwnSat name key) = record { progress = Some seated; tokens = s.tokens; lines = s.lines }
+learns red seat s (OwnSat name key) = record { progress = Some seated; tokens = s.tokens; lines = s.lines; draws = s.draws }
 learns red seat s (OwnSaid answer) = option_map_or (answered red seat s answer) s.progress s
-learns red seat s (Saw t) = record { progress = s.progress; tokens = s.tokens ++ t ∷ []; lines = s.lines ++ line_in seat t ∷ [] }
+learns red seat s (Saw t) = record { progress = s.progress; tokens = s.tokens ++ t ∷ []; lines = s.lines ++ line_in seat t ∷ []; draws = live_draws_more (newest_in s.tokens) t s.draws }
 
 abbrev pub learns_all : Bool → ℕ → Solo → List Item → Solo
 learns_all red seat s [] = s

@@ -7,7 +7,7 @@ use Rattle.mj_deeds.specs.declared.rule.Rule.TheVariants as rules
 use Rattle.mj_deeds.specs.declared.deed.Viewer.{Viewer}
 use Rattle.mj_deeds.specs.declared.deed.Viewer.TheVariants.{Seat, Record}
 use Rattle.mj_deeds.specs.declared.deed.Deed.{Deed}
-use Rattle.mj_deeds.specs.declared.deed.Deed.TheVariants.{StartGame, StartHand, Draw, Discard}
+use Rattle.mj_deeds.specs.declared.deed.Deed.TheVariants.{StartGame, StartHand, Draw, Discard, Chi, Pon, OpenKan, ClosedKan, AddedKan, Dora}
 
 -- A text between quotation marks.
 abbrev pub quoted : List ℕ → List ℕ
@@ -75,6 +75,27 @@ discard_line seat tile drawn =
     codes "{\"type\":\"dahai\",\"actor\":" ++ decimal seat ++ codes ",\"pai\":" ++ quoted_tile tile
     ++ codes ",\"tsumogiri\":" ++ truth drawn ++ codes "}\n"
 
+-- A call of a discard, under its type, with the own tiles that it takes.
+unfoldable pub call_line : List ℕ → ℕ → ℕ → ℕ → List ℕ → List ℕ
+call_line type seat target tile own =
+    codes "{\"type\":" ++ quoted type ++ codes ",\"actor\":" ++ decimal seat ++ codes ",\"target\":" ++ decimal target
+    ++ codes ",\"pai\":" ++ quoted_tile tile ++ codes ",\"consumed\":" ++ bracketed (map quoted_tile own) ++ codes "}\n"
+
+-- A kan of four concealed tiles.
+unfoldable pub closed_kan_line : ℕ → List ℕ → List ℕ
+closed_kan_line seat own =
+    codes "{\"type\":\"ankan\",\"actor\":" ++ decimal seat ++ codes ",\"consumed\":" ++ bracketed (map quoted_tile own) ++ codes "}\n"
+
+-- A tile that is added to a triplet.
+unfoldable pub added_kan_line : ℕ → ℕ → List ℕ → List ℕ
+added_kan_line seat tile triplet =
+    codes "{\"type\":\"kakan\",\"actor\":" ++ decimal seat ++ codes ",\"pai\":" ++ quoted_tile tile
+    ++ codes ",\"consumed\":" ++ bracketed (map quoted_tile triplet) ++ codes "}\n"
+
+-- A new indicator.
+unfoldable pub dora_line : ℕ → List ℕ
+dora_line tile = codes "{\"type\":\"dora\",\"dora_marker\":" ++ quoted_tile tile ++ codes "}\n"
+
 -- The hands as a viewer sees them.
 abbrev pub hands_seen : Viewer → Four (List ℕ) → Four (List (List ℕ))
 hands_seen viewer hands = record {
@@ -95,6 +116,12 @@ line viewer (StartGame names) = start_game_line (seat_in_line viewer) names
 line viewer (StartHand round number honba deposits dealer indicator hands) = start_hand_line round number honba deposits dealer indicator (hands_seen viewer hands)
 line viewer (Draw seat tile replacement) = draw_line seat (tile_seen (sees viewer seat) tile)
 line viewer (Discard seat tile drawn) = discard_line seat tile drawn
+line viewer (Chi seat target tile a b) = call_line (codes "chi") seat target tile (a ∷ b ∷ [])
+line viewer (Pon seat target tile a b) = call_line (codes "pon") seat target tile (a ∷ b ∷ [])
+line viewer (OpenKan seat target tile a b c) = call_line (codes "daiminkan") seat target tile (a ∷ b ∷ c ∷ [])
+line viewer (ClosedKan seat a b c d) = closed_kan_line seat (a ∷ b ∷ c ∷ d ∷ [])
+line viewer (AddedKan seat tile a b c) = added_kan_line seat tile (a ∷ b ∷ c ∷ [])
+line viewer (Dora tile) = dora_line tile
 
 -- The number of a rule, by its place in the order of refusal, and its name.
 abbrev pub rule_number : Rule → ℕ

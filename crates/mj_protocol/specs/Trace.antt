@@ -92,6 +92,12 @@ token seat (deeds.StartGame names) = tokens.StartGame names
 token seat (deeds.StartHand round number honba deposits dealer indicator hands) = tokens.StartHand indicator (at_seat hands seat)
 token seat (deeds.Draw who tile replacement) = tokens.Draw who (own_tile (who == seat) tile)
 token seat (deeds.Discard who tile drawn) = tokens.Discard who tile drawn
+token seat (deeds.Chi who target tile a b) = tokens.Chi who target tile a b
+token seat (deeds.Pon who target tile a b) = tokens.Pon who target tile a b
+token seat (deeds.OpenKan who target tile a b c) = tokens.OpenKan who target tile a b c
+token seat (deeds.ClosedKan who a b c d) = tokens.ClosedKan who a b c d
+token seat (deeds.AddedKan who tile a b c) = tokens.AddedKan who tile a b c
+token seat (deeds.Dora tile) = tokens.Dora tile
 
 -- What a seat learns: its own entries without their author, and the token of each deed.
 pub data Item : Type 0 where

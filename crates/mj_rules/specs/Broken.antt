@@ -1,40 +1,68 @@
 -- Which rule an answer breaks, out of what its seat may know.
-use Rattle.std.specs.Prelude.{ℕ, ◌==◌, ◌&&◌, Bool, true, false, not, if◌then◌else◌, List, [], ◌∷◌, Option, Some, None, option_and_then, ◌-◌}
-use Rattle.mj_tiles.specs.Faces.{is_red, number_in}
+use Rattle.std.specs.Prelude.{ℕ, ◌+◌, ◌-◌, ◌%◌, ◌==◌, ◌&&◌, ◌||◌, Bool, true, false, not, nat_lt, nat_le, if◌then◌else◌, List, [], ◌∷◌, Option, Some, None, option_and_then, option_map, unwrap_or, flat_map}
+use Rattle.std.specs.List.{list_any, list_all}
+use Rattle.mj_tiles.specs.Faces.{is_red, number_in, kind_of, tile_order}
+use Rattle.mj_tiles.specs.declared.meld.Meld.{Meld}
+use Rattle.mj_calls.specs.Shapes.{makes_run, are_alike}
+use Rattle.mj_calls.specs.Bans.{banned_by_chi, banned_kinds, is_banned}
 use Rattle.mj_deeds.specs.declared.answer.Pai.{Pai}
 use Rattle.mj_deeds.specs.declared.answer.Pai.TheVariants.{Known, Hidden}
 use Rattle.mj_deeds.specs.declared.answer.Answer.{Answer}
-use Rattle.mj_deeds.specs.declared.answer.Answer.TheVariants.{Unread, Pass, Discard}
+use Rattle.mj_deeds.specs.declared.answer.Answer.TheVariants.{Unread, Pass, Discard, Chi, Pon, OpenKan, ClosedKan, AddedKan}
 use Rattle.mj_deeds.specs.declared.rule.Rule.{Rule}
-use Rattle.mj_deeds.specs.declared.rule.Rule.TheVariants.{Unreadable, NotYours, NotNow, NoSuchTile, NotHeld, NotDrawn}
+use Rattle.mj_deeds.specs.declared.rule.Rule.TheVariants as rules
 use Rattle.mj_deeds.specs.declared.deed.Deed.{Deed}
 use Rattle.mj_deeds.specs.declared.deed.Deed.TheVariants as deeds
-use Rattle.mj_deeds.specs.Facts.{newest, gained, lost, drawn_tile}
+use Rattle.mj_deeds.specs.Facts.{newest, gained, lost, drawn_tile, seat_melds, kans, live_tiles, is_pon}
 
--- The seat whose turn it is in the window on a deed: after a draw the one that drew, and else nobody's.
-abbrev pub actor_by : Deed → Option ℕ
-actor_by (deeds.StartGame names) = None
-actor_by (deeds.StartHand round number honba deposits dealer indicator hands) = None
-actor_by (deeds.Draw seat tile replacement) = Some seat
-actor_by (deeds.Discard seat tile drawn) = None
+-- What a window is about: whose turn it is and what it may be answered to.
+pub data Turn : Type 0 where
+  -- a seat drew
+  Drew : (seat : ℕ) → Turn
+  -- a seat discarded a tile, which others may take
+  Discarded : (seat tile : ℕ) → Turn
+  -- a seat took a discard and has to discard, but none of these kinds
+  Called : (seat : ℕ) (banned : List ℕ) → Turn
+  -- it is nobody's turn
+  Nobodys : Turn
+
+-- The turn in the window on a deed.
+abbrev pub turn_by : Deed → Turn
+turn_by (deeds.Draw seat tile replacement) = Drew seat
+turn_by (deeds.Discard seat tile drawn) = Discarded seat tile
+turn_by (deeds.Chi seat target tile a b) = Called seat (banned_kinds (deeds.Chi seat target tile a b))
+turn_by (deeds.Pon seat target tile a b) = Called seat (banned_kinds (deeds.Pon seat target tile a b))
+turn_by other = Nobodys
+
+abbrev pub turn_in : Option Turn → Turn
+turn_in None = Nobodys
+turn_in (Some turn) = turn
 
 -- What a seat may know of the hand that decides over its own answers.
 pub record View : Type 0 where
-  -- whose turn it is
-  pub actor : Option ℕ
+  -- what the window is about
+  pub turn : Turn
   -- the tile that the seat has drawn and may still discard as drawn
   pub drawn : Option ℕ
   -- all tiles that it was given, and all that it put down
   pub gained : List ℕ
   pub lost : List ℕ
+  -- its melds
+  pub melds : List Meld
+  -- how many kans stand, and how many live tiles are left
+  pub kans : ℕ
+  pub live : ℕ
 
 -- What a seat may know, read off the deeds.
 unfoldable pub view_of : List Deed → ℕ → View
 view_of deeds seat = record {
-  actor = option_and_then actor_by (newest deeds);
+  turn = turn_in (option_map turn_by (newest deeds));
   drawn = drawn_tile deeds seat;
   gained = gained deeds seat;
   lost = lost deeds seat;
+  melds = seat_melds deeds seat;
+  kans = kans deeds;
+  live = live_tiles deeds;
 }
 
 -- An option that has this number.
@@ -49,21 +77,66 @@ held view face = number_in view.gained face - number_in view.lost face
 -- The line is no answer.
 abbrev pub is_unread : Answer → Bool
 is_unread Unread = true
-is_unread (Pass actor) = false
-is_unread (Discard actor tile drawn) = false
+is_unread other = false
+
+-- The seat that an answer names as its actor.
+abbrev pub actor_of : Answer → Option ℕ
+actor_of Unread = None
+actor_of (Pass actor) = actor
+actor_of (Discard actor tile drawn) = Some actor
+actor_of (Chi actor target tile a b) = Some actor
+actor_of (Pon actor target tile a b) = Some actor
+actor_of (OpenKan actor target tile a b c) = Some actor
+actor_of (ClosedKan actor a b c d) = Some actor
+actor_of (AddedKan actor tile a b c) = Some actor
+
+abbrev pub is_another : ℕ → Option ℕ → Bool
+is_another seat None = false
+is_another seat (Some actor) = not (actor == seat)
 
 -- The answer names an actor, and another than the seat.
 abbrev pub names_another : ℕ → Answer → Bool
-names_another seat Unread = false
-names_another seat (Pass None) = false
-names_another seat (Pass (Some actor)) = not (actor == seat)
-names_another seat (Discard actor tile drawn) = not (actor == seat)
+names_another seat answer = is_another seat (actor_of answer)
 
--- The answer isn't open to the seat: it discards where it isn't its turn, or passes where it is.
-abbrev pub is_out_of_turn : ℕ → View → Answer → Bool
-is_out_of_turn seat view Unread = false
-is_out_of_turn seat view (Pass actor) = is_that view.actor seat
-is_out_of_turn seat view (Discard actor tile drawn) = not (is_that view.actor seat)
+-- Who drew may discard or make a kan of concealed tiles or by adding one.
+abbrev pub is_own_act : Answer → Bool
+is_own_act (Discard actor tile drawn) = true
+is_own_act (ClosedKan actor a b c d) = true
+is_own_act (AddedKan actor tile a b c) = true
+is_own_act other = false
+
+abbrev pub is_discard : Answer → Bool
+is_discard (Discard actor tile drawn) = true
+is_discard other = false
+
+abbrev pub is_pass : Answer → Bool
+is_pass (Pass actor) = true
+is_pass other = false
+
+-- Whoever did not discard may pass or take the tile for a chi, a pon or a kan.
+abbrev pub is_pass_or_call : Answer → Bool
+is_pass_or_call (Pass actor) = true
+is_pass_or_call (Chi actor target tile a b) = true
+is_pass_or_call (Pon actor target tile a b) = true
+is_pass_or_call (OpenKan actor target tile a b c) = true
+is_pass_or_call other = false
+
+-- Such an answer is open to the seat in this window.
+abbrev pub is_open : ℕ → Turn → Answer → Bool
+is_open seat (Drew who) answer = if who == seat then is_own_act answer else is_pass answer
+is_open seat (Discarded who tile) answer = if who == seat then is_pass answer else is_pass_or_call answer
+is_open seat (Called who banned) answer = if who == seat then is_discard answer else is_pass answer
+is_open seat Nobodys answer = is_pass answer
+
+-- All tiles that an answer names.
+abbrev pub named_tiles : Answer → List Pai
+named_tiles (Discard actor tile drawn) = tile ∷ []
+named_tiles (Chi actor target tile a b) = tile ∷ a ∷ b ∷ []
+named_tiles (Pon actor target tile a b) = tile ∷ a ∷ b ∷ []
+named_tiles (OpenKan actor target tile a b c) = tile ∷ a ∷ b ∷ c ∷ []
+named_tiles (ClosedKan actor a b c d) = a ∷ b ∷ c ∷ d ∷ []
+named_tiles (AddedKan actor tile a b c) = tile ∷ a ∷ b ∷ c ∷ []
+named_tiles other = []
 
 -- A tile that the game doesn't have: a hidden one, or a red five where there are none.
 abbrev pub is_no_tile : Bool → Pai → Bool
@@ -72,31 +145,157 @@ is_no_tile red (Known tile) = is_red tile && not red
 
 -- A named tile is one that the game doesn't have.
 abbrev pub names_no_tile : Bool → Answer → Bool
-names_no_tile red Unread = false
-names_no_tile red (Pass actor) = false
-names_no_tile red (Discard actor tile drawn) = is_no_tile red tile
+names_no_tile red answer = list_any (is_no_tile red) (named_tiles answer)
 
--- The named tile isn't among the concealed ones.
-abbrev pub is_not_held : View → Pai → Bool
-is_not_held view Hidden = false
-is_not_held view (Known tile) = held view tile == 0
+-- The tile is that one.
+abbrev pub is_tile : ℕ → Pai → Bool
+is_tile tile Hidden = false
+is_tile tile (Known other) = other == tile
 
+-- A call names the discarder and the tile that was discarded.
+abbrev pub misses_discard : Turn → ℕ → Pai → Bool
+misses_discard (Discarded who discarded) target tile = not (target == who && is_tile discarded tile)
+misses_discard other target tile = true
+
+abbrev pub misses_target : Turn → Answer → Bool
+misses_target turn (Chi actor target tile a b) = misses_discard turn target tile
+misses_target turn (Pon actor target tile a b) = misses_discard turn target tile
+misses_target turn (OpenKan actor target tile a b c) = misses_discard turn target tile
+misses_target turn other = false
+
+-- A call takes another's discard.
+abbrev pub is_call : Answer → Bool
+is_call (Chi actor target tile a b) = true
+is_call (Pon actor target tile a b) = true
+is_call (OpenKan actor target tile a b c) = true
+is_call other = false
+
+-- A discard is called with no live tile left.
+abbrev pub is_too_late : View → Answer → Bool
+is_too_late view answer = is_call answer && view.live == 0
+
+-- The own tiles that an answer names: of an added kan the added one alone.
+abbrev pub own_tiles : Answer → List Pai
+own_tiles (Discard actor tile drawn) = tile ∷ []
+own_tiles (Chi actor target tile a b) = a ∷ b ∷ []
+own_tiles (Pon actor target tile a b) = a ∷ b ∷ []
+own_tiles (OpenKan actor target tile a b c) = a ∷ b ∷ c ∷ []
+own_tiles (ClosedKan actor a b c d) = a ∷ b ∷ c ∷ d ∷ []
+own_tiles (AddedKan actor tile a b c) = tile ∷ []
+own_tiles other = []
+
+-- The face of a tile that is known.
+abbrev pub face_in : Pai → List ℕ
+face_in Hidden = []
+face_in (Known tile) = tile ∷ []
+
+-- The faces of the own tiles that an answer names.
+abbrev pub own_faces : Answer → List ℕ
+own_faces answer = flat_map face_in (own_tiles answer)
+
+-- The named own tiles aren't all among the concealed ones: of some face more are named than are held.
 abbrev pub names_unheld : View → Answer → Bool
-names_unheld view Unread = false
-names_unheld view (Pass actor) = false
-names_unheld view (Discard actor tile drawn) = is_not_held view tile
+names_unheld view answer = list_any (λ face. nat_lt (held view face) (number_in (own_faces answer) face)) (own_faces answer)
 
--- The discard is marked as the drawn tile and isn't that one; or it isn't marked so, and the drawn tile is the only
--- one held of its face.
+-- The discard is marked as the drawn tile and isn't that one; or it isn't marked so, and the drawn tile is the only one
+-- held of its face.
 abbrev pub is_wrongly_marked : View → Pai → Bool → Bool
 is_wrongly_marked view Hidden drawn = false
 is_wrongly_marked view (Known tile) true = not (is_that view.drawn tile)
-is_wrongly_marked view (Known tile) false = is_that view.drawn tile && (held view tile == 1)
+is_wrongly_marked view (Known tile) false = is_that view.drawn tile && held view tile == 1
 
 abbrev pub marks_wrongly : View → Answer → Bool
-marks_wrongly view Unread = false
-marks_wrongly view (Pass actor) = false
 marks_wrongly view (Discard actor tile drawn) = is_wrongly_marked view tile drawn
+marks_wrongly view other = false
+
+-- Two tiles are known and pass a test.
+abbrev pub both_are : (ℕ → ℕ → Bool) → Pai → Pai → Bool
+both_are test (Known a) (Known b) = test a b
+both_are test other another = false
+
+-- Three tiles are known and make a run.
+abbrev pub is_run : Pai → Pai → Pai → Bool
+is_run (Known tile) (Known a) (Known b) = makes_run tile a b
+is_run other another third = false
+
+abbrev pub is_alike : Pai → Pai → Bool
+is_alike a b = both_are are_alike a b
+
+-- The meld is a triplet that was taken, of just these tiles, and the tile is of its kind.
+abbrev pub is_own_pon : Pai → Pai → Pai → Pai → Meld → Bool
+is_own_pon tile a b c meld = is_pon meld.form && is_tile meld.a a && is_tile meld.b b && is_tile meld.c c && is_alike tile a
+
+-- The tiles make no such meld; a tile is added to no own triplet.
+abbrev pub is_bad_set : View → Answer → Bool
+is_bad_set view (Chi actor target tile a b) = not (is_run tile a b)
+is_bad_set view (Pon actor target tile a b) = not (is_alike tile a && is_alike tile b)
+is_bad_set view (OpenKan actor target tile a b c) = not (is_alike tile a && is_alike tile b && is_alike tile c)
+is_bad_set view (ClosedKan actor a b c d) = not (is_alike a b && is_alike a c && is_alike a d)
+is_bad_set view (AddedKan actor tile a b c) = not (list_any (is_own_pon tile a b c) view.melds)
+is_bad_set view other = false
+
+-- A run is called from the seat before alone.
+abbrev pub is_before : Turn → ℕ → Bool
+is_before (Discarded who tile) seat = (who + 1) % 4 == seat
+is_before other seat = false
+
+abbrev pub is_not_left : ℕ → Turn → Answer → Bool
+is_not_left seat turn (Chi actor target tile a b) = not (is_before turn seat)
+is_not_left seat turn other = false
+
+-- A tile of a banned kind.
+abbrev pub is_banned_tile : List ℕ → Pai → Bool
+is_banned_tile banned Hidden = false
+is_banned_tile banned (Known tile) = is_banned banned (kind_of tile)
+
+-- The kinds that the seat may not discard in this turn.
+abbrev pub banned_in : Turn → List ℕ
+banned_in (Called who banned) = banned
+banned_in other = []
+
+-- A discard that swap calling forbids.
+abbrev pub swaps : Turn → Answer → Bool
+swaps turn (Discard actor tile drawn) = is_banned_tile (banned_in turn) tile
+swaps turn other = false
+
+-- What a call would ban.
+abbrev pub bans_of_chi : Pai → Pai → Pai → List ℕ
+bans_of_chi (Known tile) (Known a) (Known b) = banned_by_chi (kind_of tile) (kind_of a) (kind_of b)
+bans_of_chi other another third = []
+
+abbrev pub bans_of_pon : Pai → List ℕ
+bans_of_pon Hidden = []
+bans_of_pon (Known tile) = kind_of tile ∷ []
+
+-- Every tile that is held besides these is of a banned kind.
+unfoldable pub has_nothing_else : View → List ℕ → List ℕ → Bool
+has_nothing_else view used banned = list_all (λ face. nat_le (held view face) (number_in used face) || is_banned banned (kind_of face)) tile_order
+
+-- After the call every discard would be forbidden.
+abbrev pub is_stuck : View → Answer → Bool
+is_stuck view (Chi actor target tile a b) = has_nothing_else view (own_faces (Chi actor target tile a b)) (bans_of_chi tile a b)
+is_stuck view (Pon actor target tile a b) = has_nothing_else view (own_faces (Pon actor target tile a b)) (bans_of_pon tile)
+is_stuck view other = false
+
+-- A kan by whichever way.
+abbrev pub is_kan_answer : Answer → Bool
+is_kan_answer (OpenKan actor target tile a b c) = true
+is_kan_answer (ClosedKan actor a b c d) = true
+is_kan_answer (AddedKan actor tile a b c) = true
+is_kan_answer other = false
+
+-- Four kans stand already.
+abbrev pub is_fifth_kan : View → Answer → Bool
+is_fifth_kan view answer = is_kan_answer answer && nat_le 4 view.kans
+
+-- A kan at one's own draw with no live tile left.
+abbrev pub is_own_kan : Answer → Bool
+is_own_kan (ClosedKan actor a b c d) = true
+is_own_kan (AddedKan actor tile a b c) = true
+is_own_kan other = false
+
+abbrev pub is_dry_kan : View → Answer → Bool
+is_dry_kan view answer = is_own_kan answer && view.live == 0
 
 -- The first rule of a list that is broken.
 abbrev pub first_broken : List (Bool × Rule) → Option Rule
@@ -106,12 +305,20 @@ first_broken (rule ∷ rules) = if rule.0 then Some rule.1 else first_broken rul
 -- The first rule that an answer of a seat breaks, by what the seat may know.
 unfoldable pub broken_by : Bool → ℕ → View → Answer → Option Rule
 broken_by red seat view answer = first_broken
-    ((is_unread answer, Unreadable)
-    ∷ (names_another seat answer, NotYours)
-    ∷ (is_out_of_turn seat view answer, NotNow)
-    ∷ (names_no_tile red answer, NoSuchTile)
-    ∷ (names_unheld view answer, NotHeld)
-    ∷ (marks_wrongly view answer, NotDrawn)
+    ((is_unread answer, rules.Unreadable)
+    ∷ (names_another seat answer, rules.NotYours)
+    ∷ (not (is_open seat view.turn answer), rules.NotNow)
+    ∷ (names_no_tile red answer, rules.NoSuchTile)
+    ∷ (misses_target view.turn answer, rules.WrongTarget)
+    ∷ (is_too_late view answer, rules.LastTile)
+    ∷ (names_unheld view answer, rules.NotHeld)
+    ∷ (marks_wrongly view answer, rules.NotDrawn)
+    ∷ (is_bad_set view answer, rules.BadSet)
+    ∷ (is_not_left seat view.turn answer, rules.NotLeft)
+    ∷ (swaps view.turn answer, rules.SwapCall)
+    ∷ (is_stuck view answer, rules.StuckCall)
+    ∷ (is_fifth_kan view answer, rules.KanFull)
+    ∷ (is_dry_kan view answer, rules.KanDry)
     ∷ [])
 
 -- The first rule that an answer of a seat breaks in the window on the newest deed.

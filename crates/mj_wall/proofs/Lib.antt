@@ -1,3 +1,4 @@
 pub mod TileOrder
 pub mod WallFaces
 pub mod Extras
+pub mod WallKinds

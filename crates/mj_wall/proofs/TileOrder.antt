@@ -1,9 +1,10 @@
 -- Putting tiles into tile order neither adds nor loses any.
-use Rattle.std.proofs.Common.{◌≡◌, ℕ, ◌+◌, ◌-◌, ◌<◌, true, List, [], ◌∷◌, length, arith, inl, inr, refl, sym, ◌∙◌, cond, eqb}
-use Rattle.std.specs.Prelude.{All, flat_map, replicate}
+use Rattle.std.proofs.Common.{◌≡◌, ℕ, ◌+◌, ◌-◌, ◌*◌, ◌<◌, ◌⊎◌, Bool, true, false, List, [], ◌∷◌, length, arith, inl, inr, refl, sym, ap, ◌∙◌, cond, eqb}
+use Rattle.std.specs.Prelude.{All, flat_map, replicate, count_by}
 use Rattle.std.proofs.lemmas.Bool.{cases_eq, eq-eqb, ne_eqb, agree_below_at, eqb-true}
 use Rattle.std.proofs.lemmas.List.{length-append, length-replicate}
-use Rattle.std.proofs.lemmas.List.Sums.{sum_by-cons}
+use Rattle.std.proofs.lemmas.List.Sums.{sum_by-cons, sum_by-append}
+use Rattle.std.proofs.lemmas.List.Folds.{sum_by-replicate}
 use Rattle.std.proofs.lemmas.List.Elements.{All-head, All-tail}
 use Rattle.mj_tiles.specs.Faces.{number_in, less, in_tile_order, tile_order}
 
@@ -63,3 +64,74 @@ length-by_face tiles (face ∷ faces) =
 pub length-in_tile_order : (tiles : List ℕ) → All (λ t. t < 37) tiles → length (in_tile_order tiles) ≡ length tiles
 unfolding in_tile_order less
 length-in_tile_order tiles h = length-by_face tiles tile_order ∙ total-all tiles h
+
+-- How many tiles of these faces pass a test.
+abbrev chosen : (ℕ → Bool) → List ℕ → List ℕ → ℕ
+chosen p tiles [] = 0
+chosen p tiles (face ∷ faces) = cond (p face) (number_in tiles face) 0 + chosen p tiles faces
+
+none_chosen : (b : Bool) → ◌≡◌ {A = ℕ} (cond b 0 0) 0
+none_chosen true = refl
+none_chosen false = refl
+
+chosen-none : (p : ℕ → Bool) (faces : List ℕ) → chosen p [] faces ≡ 0
+chosen-none p [] = refl
+chosen-none p (face ∷ faces) = let rest = chosen-none p faces in let here = none_chosen (p face) in omega arith
+
+-- One tile more counts as often as its face is named, where it passes.
+chosen-cons : (p : ℕ → Bool) (t : ℕ) (ts faces : List ℕ) → chosen p (t ∷ ts) faces ≡ cond (p t) (number_in faces t) 0 + chosen p ts faces
+chosen-cons p t ts [] = sym (pad (p t))
+  where
+    pad : (b : Bool) → cond b 0 0 + 0 ≡ 0
+    pad true = refl
+    pad false = refl
+chosen-cons p t ts (face ∷ faces) =
+    ap (λ n. cond (p face) n 0 + chosen p (t ∷ ts) faces) (number-cons t face ts)
+    ∙ ap (λ n. cond (p face) (cond (eqb t face) 1 0 + number_in ts face) 0 + n) (chosen-cons p t ts faces)
+    ∙ swapped (p face) (p t) (cond (eqb t face) 1 0) (cond (eqb face t) 1 0) (number_in ts face) (number_in faces t) (chosen p ts faces) (either_way t face) alike
+    ∙ ap (λ n. cond (p t) n 0 + (cond (p face) (number_in ts face) 0 + chosen p ts faces)) (sym (number-cons face t faces))
+  where
+    alike : (◌≡◌ {A = ℕ} (cond (eqb t face) 1 0) 0) ⊎ (p face ≡ p t)
+    alike = elim (cases_eq t face) [
+      | inl e ↦ inr (ap p (sym e))
+      | inr n ↦ inl (rw (ne_eqb t face n) refl)
+    ]
+
+    swapped : (a b : Bool) (x y n m rest : ℕ) → x ≡ y → (x ≡ 0) ⊎ (a ≡ b) → cond a (x + n) 0 + (cond b m 0 + rest) ≡ cond b (y + m) 0 + (cond a n 0 + rest)
+    swapped true true x y n m rest e h = omega arith
+    swapped false false x y n m rest e h = refl
+    swapped true false x y n m rest e (inl z) = omega arith
+    swapped true false x y n m rest e (inr h) = cc
+    swapped false true x y n m rest e (inl z) = omega arith
+    swapped false true x y n m rest e (inr h) = cc
+
+chosen-all : (p : ℕ → Bool) (tiles : List ℕ) → All (λ t. t < 37) tiles → chosen p tiles tile_order ≡ count_by p tiles
+chosen-all p [] h = chosen-none p tile_order
+chosen-all p (t ∷ ts) h =
+    chosen-cons p t ts tile_order
+    ∙ ap (λ n. cond (p t) n 0 + chosen p ts tile_order) (once_in_order t (All-head (λ x. x < 37) t ts h))
+    ∙ ap (λ n. cond (p t) 1 0 + n) (chosen-all p ts (All-tail (λ x. x < 37) t ts h))
+    ∙ sym (sum_by-cons (λ x. cond (p x) 1 0) t ts)
+
+chosen-replicate : (p : ℕ → Bool) (n face : ℕ) → count_by p (replicate n face) ≡ cond (p face) n 0
+chosen-replicate p n face = sum_by-replicate (λ x. cond (p x) 1 0) n face ∙ times (p face) n
+  where
+    times : (b : Bool) (n : ℕ) → n * cond b 1 0 ≡ cond b n 0
+    times true n = omega arith
+    times false n = omega arith
+
+count_by-by_face : (p : ℕ → Bool) (tiles faces : List ℕ) → count_by p (flat_map (λ face. replicate (number_in tiles face - number_in [] face) face) faces) ≡ chosen p tiles faces
+count_by-by_face p tiles [] = refl
+count_by-by_face p tiles (face ∷ faces) =
+    let rest = count_by-by_face p tiles faces in
+    let here = chosen-replicate p (number_in tiles face - 0) face in
+    let parts = sum_by-append (λ x. cond (p x) 1 0) (replicate (number_in tiles face - 0) face) (flat_map (λ f. replicate (number_in tiles f - number_in [] f) f) faces) in
+    parts ∙ ap (λ n. n + count_by p (flat_map (λ f. replicate (number_in tiles f - number_in [] f) f) faces)) here ∙ ap (λ n. cond (p face) (number_in tiles face - 0) 0 + n) rest ∙ ap (λ n. cond (p face) n 0 + chosen p tiles faces) (none_less (number_in tiles face))
+  where
+    none_less : (n : ℕ) → n - 0 ≡ n
+    none_less n = omega arith
+
+-- Of tiles in tile order as many pass a test as before.
+pub count_by-in_tile_order : (p : ℕ → Bool) (tiles : List ℕ) → All (λ t. t < 37) tiles → count_by p (in_tile_order tiles) ≡ count_by p tiles
+unfolding in_tile_order less
+count_by-in_tile_order p tiles h = count_by-by_face p tiles tile_order ∙ chosen-all p tiles h

@@ -12,7 +12,7 @@ none_above true face h = rw (le-ltb face 34 (omega arith)) (rw (le-ltb face 37 h
 none_above false face h = rw (le-ltb face 34 (omega arith)) refl
 
 -- Where no place is found, the tile is not one too many, and none behind it is.
-not_found : (extra : Bool) (place : ℕ) (rest : Option ℕ) → cond extra (Some place) rest ≡ None → (extra ≡ false) × (rest ≡ None)
+pub not_found : (extra : Bool) (place : ℕ) (rest : Option ℕ) → cond extra (Some place) rest ≡ None → (extra ≡ false) × (rest ≡ None)
 not_found true place rest h = cc
 not_found false place rest h = (refl, h)
 
@@ -38,7 +38,7 @@ right_length n h = elim (cases_eq n 136) [
 ]
 
 -- Where no place is bad, none is one too many, and there are 136.
-no_bad_place : (extra : Option ℕ) (n : ℕ) → is_none (bad_place_by extra n) ≡ true → (extra ≡ None) × (n ≡ 136)
+pub no_bad_place : (extra : Option ℕ) (n : ℕ) → is_none (bad_place_by extra n) ≡ true → (extra ≡ None) × (n ≡ 136)
 no_bad_place None n h = (refl, right_length n h)
 no_bad_place (Some place) n h = absurd (false≢true h)
 
@@ -51,3 +51,23 @@ wall_has_136 red wall h = (no_bad_place (first_extra red [] wall) (length wall) 
 pub wall_faces : (red : Bool) (wall : List ℕ) → is_wall red wall ≡ true → All (λ t. t < 37) wall
 unfolding is_wall bad_place
 wall_faces red wall h = faces_below red [] wall (no_bad_place (first_extra red [] wall) (length wall) h).0
+
+-- Without red fives each tile of a wall is a plain one.
+plain_below : (before tiles : List ℕ) → first_extra false before tiles ≡ None → All (λ t. t < 34) tiles
+plain_below before [] h = All-nil (λ t. t < 34)
+plain_below before (t ∷ ts) h =
+    let parts = not_found (leb (number_in_wall false t) (number_in before t)) (length before) (first_extra false (before ++ t ∷ []) ts) h in
+    All-cons (λ x. x < 34) t ts (plain before t parts.0) (plain_below (before ++ t ∷ []) ts parts.1)
+  where
+    none_red : (t : ℕ) → 34 ≤ t → number_in_wall false t ≡ 0
+    none_red t h = rw (le-ltb t 34 h) refl
+
+    plain : (before : List ℕ) (t : ℕ) → leb (number_in_wall false t) (number_in before t) ≡ false → t < 34
+    plain before t h = elim (cases_lt t 34) [
+      | inl below ↦ below
+      | inr above ↦ absurd (omega (arith, leb-false (number_in_wall false t) (number_in before t) h, none_red t above))
+    ]
+
+pub wall_plain_faces : (wall : List ℕ) → is_wall false wall ≡ true → All (λ t. t < 34) wall
+unfolding is_wall bad_place
+wall_plain_faces wall h = plain_below [] wall (no_bad_place (first_extra false [] wall) (length wall) h).0

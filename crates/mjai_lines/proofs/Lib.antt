@@ -1,3 +1,4 @@
 mod Chains
 mod Lists
+mod Named
 mod Texts

@@ -1,44 +1,59 @@
 ghost use Rattle.std.specs.Prelude.{◌≡◌, IfOk, codes, bytes_eq};
 ghost use Rattle.std.specs.List.{list_any};
 ghost use Rattle.serde_json.specs.View.{view};
-ghost use Rattle.mj_protocol.specs.Reading.{answer_of, answer_in as answer_read, answer_by as answer_of_type, pass_in as pass_read, discard_in as discard_read, pai_in as pai_read, pai_of as pai_of_text, names_later_type as later_type_named, later_types};
+ghost use Rattle.mj_protocol.specs.Reading.{answer_of, answer_in as answer_read, answer_by as answer_of_type, pass_in as pass_read, discard_in as discard_read, call_in as call_read, closed_kan_in as closed_kan_read, added_kan_in as added_kan_read, chi_by, pon_by, open_kan_by, with_three, with_four, pai_in as pai_read, pai_of as pai_of_text, names_later_type as later_type_named, later_types};
+ghost use Rattle.mj_deeds.specs.declared.answer.Answer.TheVariants.{ClosedKan, AddedKan};
+ghost use Rattle.mjai_lines.specs.Calls.{called};
 
+use crate::own::own_in;
 use crate::value::{read_value, seat_as, seat_in, text_in};
 use mj_deeds::{Answer, Pai};
 use mj_tiles::Tile;
 use serde_json::Value;
 use std::alloc::{AllocError, Global};
 
-/// What a line of a player reads as: a `none`, which may name its actor, or a `dahai`; every other line is unread. An
-/// answer is an object with the fields of its type in the right form: a seat is a whole number from 0 to 3, a tile one
-/// of the 37 texts or a question mark. Other fields are ignored, and of equal keys the last counts. The only error is
-/// want of memory.
+/// What a line of a player reads as: a `none`, which may name its actor, a `dahai`, a call (`chi`, `pon`, `daiminkan`)
+/// or an own kan (`ankan`, `kakan`); every other line is unread. An answer is an object with the fields of its type in
+/// the right form: a seat is a whole number from 0 to 3, a tile one of the 37 texts or a question mark, and the consumed
+/// tiles are as many as the type takes, in any order; they are read into tile order, hidden ones last. Other fields are
+/// ignored, and of equal keys the last counts. The only error is want of memory.
 #[tactic(auto, unfolding(mj_protocol::specs::Reading::answer_of))]
 pub fn read_answer(alloc: Global, line: &[u8]) -> Result<Answer, AllocError>
     ensures { IfOk result (λ a. a ≡ answer_of line.now) }
 {
-    match read_value(alloc, line)? {
-        Some(value) => Ok(answer_in(&value).unwrap_or(Answer::Unread)),
+    let Some(value) = read_value(alloc, line)? else {
+        return Ok(Answer::Unread);
+    };
+    match answer_in(alloc, &value)? {
+        Some(answer) => Ok(answer),
         None => Ok(Answer::Unread),
     }
 }
 
 // The answer that a value is.
 #[tactic(auto, unfolding(mj_protocol::specs::Reading::answer_in))]
-fn answer_in(value: &Value) -> Option<Answer>
-    ensures { result ≡ answer_read (view value.now) }
+fn answer_in(alloc: Global, value: &Value) -> Result<Option<Answer>, AllocError>
+    ensures { IfOk result (λ a. a ≡ answer_read (view value.now)) }
 {
-    answer_by(text_in("type", value)?, value)
+    match text_in("type", value) {
+        Some(type_name) => answer_by(alloc, type_name, value),
+        None => Ok(None),
+    }
 }
 
 // The answer of that type that a value is.
-fn answer_by(type_name: &str, value: &Value) -> Option<Answer>
-    ensures { result ≡ answer_of_type type_name.now (view value.now) }
+fn answer_by(alloc: Global, type_name: &str, value: &Value) -> Result<Option<Answer>, AllocError>
+    ensures { IfOk result (λ a. a ≡ answer_of_type type_name.now (view value.now)) }
 {
     match type_name {
-        "none" => pass_in(value),
-        "dahai" => discard_in(value),
-        _ => None,
+        "none" => Ok(pass_in(value)),
+        "dahai" => Ok(discard_in(value)),
+        "chi" => call_in(alloc, Call::Chi, value),
+        "pon" => call_in(alloc, Call::Pon, value),
+        "daiminkan" => call_in(alloc, Call::OpenKan, value),
+        "ankan" => closed_kan_in(alloc, value),
+        "kakan" => added_kan_in(alloc, value),
+        _ => Ok(None),
     }
 }
 
@@ -66,6 +81,157 @@ fn discard_in(value: &Value) -> Option<Answer>
     Some(Answer::Discard { actor, tile, drawn })
 }
 
+// A call of a discard.
+#[derive(Clone, Copy)]
+pub(crate) enum Call {
+    Chi,
+    Pon,
+    OpenKan,
+}
+
+// The call that a value is.
+#[tactic(auto, unfolding(mj_protocol::specs::Reading::call_in))]
+fn call_in(alloc: Global, call: Call, value: &Value) -> Result<Option<Answer>, AllocError>
+    ensures { IfOk result (λ a. a ≡ call_read (called call) (view value.now)) }
+{
+    let Some(actor) = seat_in("actor", value) else {
+        return Ok(None);
+    };
+    let Some(target) = seat_in("target", value) else {
+        return Ok(None);
+    };
+    let Some(tile) = pai_in("pai", value) else {
+        return Ok(None);
+    };
+    match own_in(alloc, value)? {
+        Some(own) => Ok(call_of(call, actor, target, tile, own.as_slice())),
+        None => Ok(None),
+    }
+}
+
+// The call with these own tiles, where they are as many as it takes.
+fn call_of(call: Call, actor: u8, target: u8, tile: Pai, own: &[Pai]) -> Option<Answer>
+    ensures { result ≡ called call actor target tile own.now }
+{
+    match call {
+        Call::Chi => chi_of(actor, target, tile, own),
+        Call::Pon => pon_of(actor, target, tile, own),
+        Call::OpenKan => open_kan_of(actor, target, tile, own),
+    }
+}
+
+// The chi with these own tiles, where they are two.
+fn chi_of(actor: u8, target: u8, tile: Pai, own: &[Pai]) -> Option<Answer>
+    ensures { result ≡ chi_by actor target tile own.now }
+{
+    match own {
+        [a, b] => Some(Answer::Chi {
+            actor,
+            target,
+            tile,
+            a: *a,
+            b: *b,
+        }),
+        _ => None,
+    }
+}
+
+// The pon with these own tiles, where they are two.
+fn pon_of(actor: u8, target: u8, tile: Pai, own: &[Pai]) -> Option<Answer>
+    ensures { result ≡ pon_by actor target tile own.now }
+{
+    match own {
+        [a, b] => Some(Answer::Pon {
+            actor,
+            target,
+            tile,
+            a: *a,
+            b: *b,
+        }),
+        _ => None,
+    }
+}
+
+// The open kan with these own tiles, where they are three.
+fn open_kan_of(actor: u8, target: u8, tile: Pai, own: &[Pai]) -> Option<Answer>
+    ensures { result ≡ open_kan_by actor target tile own.now }
+{
+    match own {
+        [a, b, c] => Some(Answer::OpenKan {
+            actor,
+            target,
+            tile,
+            a: *a,
+            b: *b,
+            c: *c,
+        }),
+        _ => None,
+    }
+}
+
+// The kan of concealed tiles that a value is.
+#[tactic(auto, unfolding(mj_protocol::specs::Reading::closed_kan_in))]
+fn closed_kan_in(alloc: Global, value: &Value) -> Result<Option<Answer>, AllocError>
+    ensures { IfOk result (λ a. a ≡ closed_kan_read (view value.now)) }
+{
+    let Some(actor) = seat_in("actor", value) else {
+        return Ok(None);
+    };
+    match own_in(alloc, value)? {
+        Some(own) => Ok(closed_kan_of(actor, own.as_slice())),
+        None => Ok(None),
+    }
+}
+
+// The kan of these concealed tiles, where they are four.
+fn closed_kan_of(actor: u8, own: &[Pai]) -> Option<Answer>
+    ensures { result ≡ with_four (λ a b c d. ClosedKan actor a b c d) own.now }
+{
+    match own {
+        [a, b, c, d] => Some(Answer::ClosedKan {
+            actor,
+            a: *a,
+            b: *b,
+            c: *c,
+            d: *d,
+        }),
+        _ => None,
+    }
+}
+
+// The added kan that a value is.
+#[tactic(auto, unfolding(mj_protocol::specs::Reading::added_kan_in))]
+fn added_kan_in(alloc: Global, value: &Value) -> Result<Option<Answer>, AllocError>
+    ensures { IfOk result (λ a. a ≡ added_kan_read (view value.now)) }
+{
+    let Some(actor) = seat_in("actor", value) else {
+        return Ok(None);
+    };
+    let Some(tile) = pai_in("pai", value) else {
+        return Ok(None);
+    };
+    match own_in(alloc, value)? {
+        Some(own) => Ok(added_kan_of(actor, tile, own.as_slice())),
+        None => Ok(None),
+    }
+}
+
+// The added kan with this triplet, where it has three tiles.
+fn added_kan_of(actor: u8, tile: Pai, own: &[Pai]) -> Option<Answer>
+    ensures { result ≡ with_three (λ a b c. AddedKan actor tile a b c) own.now }
+{
+    match own {
+        [a, b, c] => Some(Answer::AddedKan {
+            actor,
+            tile,
+            a: *a,
+            b: *b,
+            c: *c,
+        }),
+        _ => None,
+    }
+}
+
 // The tile that a field names.
 #[tactic(auto, unfolding(mj_protocol::specs::Reading::pai_in))]
 fn pai_in(name: &str, value: &Value) -> Option<Pai>
@@ -76,7 +242,7 @@ fn pai_in(name: &str, value: &Value) -> Option<Pai>
 
 // The tile that a text names.
 #[tactic(auto, unfolding(mj_protocol::specs::Reading::pai_of))]
-fn pai_of(text: &str) -> Option<Pai>
+pub(crate) fn pai_of(text: &str) -> Option<Pai>
     ensures { result ≡ pai_of_text text.now }
 {
     if text == "?" {
@@ -85,8 +251,8 @@ fn pai_of(text: &str) -> Option<Pai>
     Some(Pai::Known(Tile::read(text.as_bytes())?))
 }
 
-/// Whether the line is an object whose type is one of the answers that are not built: calls, kans, riichi, a win, and
-/// a draw declared with nine kinds. The only error is want of memory.
+/// Whether the line is an object whose type is one of the answers that are not built: riichi, a win, and a draw
+/// declared with nine kinds. The only error is want of memory.
 #[tactic(auto, unfolding(mj_protocol::specs::Reading::names_later_type))]
 pub fn names_later_type(alloc: Global, line: &[u8]) -> Result<bool, AllocError>
     ensures { IfOk result (λ b. b ≡ later_type_named line.now) }
@@ -101,8 +267,5 @@ pub fn names_later_type(alloc: Global, line: &[u8]) -> Result<bool, AllocError>
 fn is_later_type(type_name: &str) -> bool
     ensures { result ≡ list_any (λ other. bytes_eq other type_name.now) later_types }
 {
-    matches!(
-        type_name,
-        "chi" | "pon" | "daiminkan" | "ankan" | "kakan" | "reach" | "hora" | "ryukyoku"
-    )
+    matches!(type_name, "reach" | "hora" | "ryukyoku")
 }

@@ -1,6 +1,6 @@
 ghost use Rattle.std.specs.Prelude.{◌≡◌, ◌∷◌, ◌++◌, [], OnOk, OnErr, codes, decimal};
 ghost use Rattle.mj_bytes.specs.Adds.{Adds};
-ghost use Rattle.mj_protocol.specs.Lines.{line as line_for, quoted, bracketed, sees as is_seen, seat_in_line as seat_written, start_game_line, draw_line, discard_line, hands_seen, quoted_tile, tile_seen};
+ghost use Rattle.mj_protocol.specs.Lines.{line as line_for, quoted, bracketed, sees as is_seen, seat_in_line as seat_written, start_game_line, draw_line, discard_line, call_line, closed_kan_line, added_kan_line, dora_line, hands_seen, quoted_tile, tile_seen};
 
 use crate::pieces::{push_quoted, push_tile, push_tile_seen, push_tiles_seen, push_truth};
 use mj_bytes::{push_all, push_number};
@@ -51,6 +51,37 @@ fn push_deed(line: &mut Vec<u8>, viewer: Viewer, deed: &Deed) -> Result<(), Allo
         }
         Deed::Draw { seat, tile, .. } => push_draw(line, *seat, sees(viewer, *seat), *tile),
         Deed::Discard { seat, tile, drawn } => push_discard(line, *seat, *tile, *drawn),
+        Deed::Chi {
+            seat,
+            target,
+            tile,
+            a,
+            b,
+        } => push_call(line, b"chi", *seat, *target, *tile, &[*a, *b]),
+        Deed::Pon {
+            seat,
+            target,
+            tile,
+            a,
+            b,
+        } => push_call(line, b"pon", *seat, *target, *tile, &[*a, *b]),
+        Deed::OpenKan {
+            seat,
+            target,
+            tile,
+            a,
+            b,
+            c,
+        } => push_call(line, b"daiminkan", *seat, *target, *tile, &[*a, *b, *c]),
+        Deed::ClosedKan { seat, a, b, c, d } => push_closed_kan(line, *seat, &[*a, *b, *c, *d]),
+        Deed::AddedKan {
+            seat,
+            tile,
+            a,
+            b,
+            c,
+        } => push_added_kan(line, *seat, *tile, &[*a, *b, *c]),
+        Deed::Dora { tile } => push_dora(line, *tile),
     }
 }
 
@@ -183,6 +214,72 @@ fn push_discard(line: &mut Vec<u8>, seat: u8, tile: Tile, drawn: bool) -> Result
     push_tile(line, tile)?;
     push_all(line, b",\"tsumogiri\":")?;
     push_truth(line, drawn)?;
+    push_all(line, b"}\n")?;
+    Ok(())
+}
+
+// Writes a call of a discard, under its type.
+fn push_call(
+    line: &mut Vec<u8>,
+    type_name: &[u8],
+    seat: u8,
+    target: u8,
+    tile: Tile,
+    own: &[Tile],
+) -> Result<(), AllocError>
+    ensures { OnOk result (Adds line.old.items line.new.items (call_line type_name.now seat target tile own.now)) }
+{
+    push_all(line, b"{\"type\":")?;
+    push_quoted(line, type_name)?;
+    push_all(line, b",\"actor\":")?;
+    push_number(line, u64::from(seat))?;
+    push_all(line, b",\"target\":")?;
+    push_number(line, u64::from(target))?;
+    push_all(line, b",\"pai\":")?;
+    push_tile(line, tile)?;
+    push_all(line, b",\"consumed\":")?;
+    push_tiles_seen(line, true, own)?;
+    push_all(line, b"}\n")?;
+    Ok(())
+}
+
+// Writes a kan of concealed tiles.
+fn push_closed_kan(line: &mut Vec<u8>, seat: u8, own: &[Tile]) -> Result<(), AllocError>
+    ensures { OnOk result (Adds line.old.items line.new.items (closed_kan_line seat own.now)) }
+{
+    push_all(line, b"{\"type\":\"ankan\",\"actor\":")?;
+    push_number(line, u64::from(seat))?;
+    push_all(line, b",\"consumed\":")?;
+    push_tiles_seen(line, true, own)?;
+    push_all(line, b"}\n")?;
+    Ok(())
+}
+
+// Writes an added kan, with its triplet.
+fn push_added_kan(
+    line: &mut Vec<u8>,
+    seat: u8,
+    tile: Tile,
+    triplet: &[Tile],
+) -> Result<(), AllocError>
+    ensures { OnOk result (Adds line.old.items line.new.items (added_kan_line seat tile triplet.now)) }
+{
+    push_all(line, b"{\"type\":\"kakan\",\"actor\":")?;
+    push_number(line, u64::from(seat))?;
+    push_all(line, b",\"pai\":")?;
+    push_tile(line, tile)?;
+    push_all(line, b",\"consumed\":")?;
+    push_tiles_seen(line, true, triplet)?;
+    push_all(line, b"}\n")?;
+    Ok(())
+}
+
+// Writes a new indicator.
+fn push_dora(line: &mut Vec<u8>, tile: Tile) -> Result<(), AllocError>
+    ensures { OnOk result (Adds line.old.items line.new.items (dora_line tile)) }
+{
+    push_all(line, b"{\"type\":\"dora\",\"dora_marker\":")?;
+    push_tile(line, tile)?;
     push_all(line, b"}\n")?;
     Ok(())
 }

@@ -3,9 +3,12 @@
 #![tactic(auto)]
 
 mod answer;
+#[cfg(test)]
+mod call_tests;
 mod deed;
 mod error;
 mod join;
+mod own;
 mod pieces;
 #[cfg(test)]
 mod tests;

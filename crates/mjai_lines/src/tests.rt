@@ -156,8 +156,8 @@ fn nested(alloc: Global, depth: usize) -> Result<Vec<u8>, Fail> {
     Ok(line)
 }
 
-// What a line reads as: none where it is unread, else the actor that it names, and for a discard its tile and whether
-// it is the drawn one.
+// What a line reads as: none where it is unread, else the actor that a pass or a discard names, and for a discard its
+// tile and whether it is the drawn one.
 type Told = Option<(Option<u8>, Option<(&'static [u8], bool)>)>;
 
 fn told(alloc: Global, line: &[u8]) -> Result<Told, AllocError> {
@@ -167,6 +167,7 @@ fn told(alloc: Global, line: &[u8]) -> Result<Told, AllocError> {
         Answer::Discard { actor, tile, drawn } => {
             Ok(Some((Some(actor), Some((text_of(&tile), drawn)))))
         }
+        _ => Ok(Some((None, None))),
     }
 }
 
@@ -266,13 +267,14 @@ fn a_discard_names_a_tile_and_whether_it_is_the_drawn_one(rt: HostRuntime) -> Re
 fn the_types_of_other_answers_are_known(rt: HostRuntime) -> Result<(), Fail> {
     let alloc = rt.alloc();
     for (line, later) in [
-        ("{\"type\":\"pon\"}", true),
+        ("{\"type\":\"hora\"}", true),
+        ("{\"type\":\"pon\"}", false),
         ("{\"type\":\"reach\",\"actor\":9}", true),
         ("{\"type\":\"ryukyoku\"}", true),
         ("{\"type\":\"none\"}", false),
         ("{\"type\":\"join\"}", false),
-        ("[\"pon\"]", false),
-        ("pon", false),
+        ("[\"hora\"]", false),
+        ("hora", false),
     ] {
         assert_eq!(rt;
             names_later_type(alloc, line.as_bytes())?,

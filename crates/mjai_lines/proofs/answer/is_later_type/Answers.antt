@@ -4,6 +4,4 @@ use Rattle.mjai_lines.proofs.answer.is_later_type.Goals as goal
 
 pub returns-in_default : goal.returns-in_default
 returns-in_default c =
-    rw (unlike _ _ c.in_default.not-chi) (rw (unlike _ _ c.in_default.not-pon) (rw (unlike _ _ c.in_default.not-daiminkan)
-    (rw (unlike _ _ c.in_default.not-ankan) (rw (unlike _ _ c.in_default.not-kakan) (rw (unlike _ _ c.in_default.not-reach)
-    (rw (unlike _ _ c.in_default.not-hora) (rw (unlike _ _ c.in_default.not-ryukyoku) refl)))))))
+    rw (unlike _ _ c.in_default.not-reach) (rw (unlike _ _ c.in_default.not-hora) (rw (unlike _ _ c.in_default.not-ryukyoku) refl))

@@ -1,0 +1,10 @@
+//! Calls: which tiles make a meld, and what may not be discarded right after a call. No call takes memory.
+#![tactic(auto)]
+
+mod bans;
+mod shapes;
+#[cfg(test)]
+mod tests;
+
+pub use bans::banned;
+pub use shapes::{chi_shape, same_kind};

@@ -1,0 +1,75 @@
+ghost use Rattle.std.specs.Prelude.{◌≡◌};
+ghost use Rattle.std.specs.List.{list_any};
+ghost use Rattle.mj_deeds.specs.Facts.{seat_melds};
+ghost use Rattle.mj_rules.specs.Broken.{view_of, is_alike, is_run, is_own_pon, is_bad_set};
+
+use mj_calls::{chi_shape, same_kind};
+use mj_deeds::{Answer, Deed, Pai, has_triplet};
+
+// The tiles make no such meld; a tile is added to no own pon.
+#[tactic(auto, unfolding(mj_rules::specs::Broken::view_of))]
+pub(crate) fn is_bad_set(deeds: &[Deed], seat: u8, answer: &Answer) -> bool
+    ensures { result ≡ is_bad_set (view_of deeds.now seat) answer.now }
+{
+    match answer {
+        Answer::Chi { tile, a, b, .. } => !is_run(tile, a, b),
+        Answer::Pon { tile, a, b, .. } => !(is_alike(tile, a) && is_alike(tile, b)),
+        Answer::OpenKan { tile, a, b, c, .. } => {
+            !(is_alike(tile, a) && is_alike(tile, b) && is_alike(tile, c))
+        }
+        Answer::ClosedKan { a, b, c, d, .. } => {
+            !(is_alike(a, b) && is_alike(a, c) && is_alike(a, d))
+        }
+        Answer::AddedKan { tile, a, b, c, .. } => !has_own_pon(deeds, seat, tile, a, b, c),
+        _ => false,
+    }
+}
+
+// Three tiles are known and make a run.
+fn is_run(tile: &Pai, a: &Pai, b: &Pai) -> bool
+    ensures { result ≡ is_run tile.now a.now b.now }
+{
+    let Pai::Known(tile) = tile else {
+        return false;
+    };
+    let Pai::Known(a) = a else {
+        return false;
+    };
+    let Pai::Known(b) = b else {
+        return false;
+    };
+    chi_shape(*tile, *a, *b)
+}
+
+// Two tiles are known and of one kind.
+fn is_alike(a: &Pai, b: &Pai) -> bool
+    ensures { result ≡ is_alike a.now b.now }
+{
+    let Pai::Known(a) = a else {
+        return false;
+    };
+    let Pai::Known(b) = b else {
+        return false;
+    };
+    same_kind(*a, *b)
+}
+
+// The seat has a pon of just these tiles, and the tile is of its kind.
+#[tactic(auto, using(crate::proofs::Pons::shown_pon, crate::proofs::Pons::hidden_added, crate::proofs::Pons::hidden_first, crate::proofs::Pons::hidden_second, crate::proofs::Pons::hidden_third))]
+fn has_own_pon(deeds: &[Deed], seat: u8, tile: &Pai, a: &Pai, b: &Pai, c: &Pai) -> bool
+    ensures { result ≡ list_any (is_own_pon tile.now a.now b.now c.now) (seat_melds deeds.now seat) }
+{
+    let Pai::Known(tile) = tile else {
+        return false;
+    };
+    let Pai::Known(a) = a else {
+        return false;
+    };
+    let Pai::Known(b) = b else {
+        return false;
+    };
+    let Pai::Known(c) = c else {
+        return false;
+    };
+    has_triplet(deeds, seat, *tile, *a, *b, *c)
+}

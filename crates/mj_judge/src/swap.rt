@@ -1,0 +1,129 @@
+ghost use Rattle.std.specs.Prelude.{◌≡◌, ◌≤◌, length, flat_map, filter, option_map};
+ghost use Rattle.std.specs.List.{list_all};
+ghost use Rattle.mj_tiles.specs.Faces.{tile_order};
+ghost use Rattle.mj_tiles.specs.Kinds.{set_of};
+ghost use Rattle.mj_deeds.specs.Facts.{newest, gained, lost};
+ghost use Rattle.mj_rules.specs.Broken.{view_of, turn_by, turn_in, banned_in, face_in, swaps, bans_of_chi, bans_of_pon, is_stuck};
+ghost use Rattle.mj_judge.specs.Free.{is_used_up, is_free};
+ghost use Rattle.mj_rules.specs.Default.{last_of};
+
+use crate::holding::number_among;
+use mj_calls::banned;
+use mj_deeds::{Answer, Deed, Pai, held, ordered};
+use mj_tiles::{Kinds, Tile};
+
+// The discard is of a kind that is banned right after the call that is the newest deed.
+#[tactic(auto, using(crate::proofs::Swaps::swap_of), unfolding(mj_rules::specs::Broken::view_of))]
+pub(crate) fn swaps(deeds: &[Deed], seat: u8, answer: &Answer) -> bool
+    ensures { result ≡ swaps (view_of deeds.now seat).turn answer.now }
+{
+    let Answer::Discard { tile, .. } = answer else {
+        return false;
+    };
+    let Pai::Known(tile) = tile else {
+        return false;
+    };
+    newest_bans(deeds).has(tile.kind())
+}
+
+// The kinds that are banned right after the newest deed.
+#[tactic(auto, using(crate::proofs::Swaps::bans_of_turn))]
+pub(crate) fn newest_bans(deeds: &[Deed]) -> Kinds
+    ensures { result ≡ set_of (banned_in (turn_in (option_map turn_by (newest deeds.now)))) }
+{
+    match deeds.last() {
+        Some(deed) => banned(deed),
+        None => Kinds::none(),
+    }
+}
+
+// Every discard after the call would be of a banned kind.
+#[tactic(auto, unfolding(mj_rules::specs::Broken::view_of))]
+pub(crate) fn is_stuck(deeds: &[Deed], seat: u8, answer: &Answer) -> bool
+    ensures { result ≡ is_stuck (view_of deeds.now seat) answer.now }
+{
+    match answer {
+        Answer::Chi { tile, a, b, .. } => {
+            has_nothing_else(deeds, seat, &[*a, *b], banned_by_chi(tile, a, b))
+        }
+        Answer::Pon { tile, a, b, .. } => {
+            has_nothing_else(deeds, seat, &[*a, *b], banned_by_pon(tile))
+        }
+        _ => false,
+    }
+}
+
+// What a chi of these tiles bans.
+fn banned_by_chi(tile: &Pai, a: &Pai, b: &Pai) -> Kinds
+    ensures { result ≡ set_of (bans_of_chi tile.now a.now b.now) }
+{
+    let Pai::Known(tile) = tile else {
+        return Kinds::none();
+    };
+    let Pai::Known(a) = a else {
+        return Kinds::none();
+    };
+    let Pai::Known(b) = b else {
+        return Kinds::none();
+    };
+    banned(&Deed::Chi {
+        seat: 0,
+        target: 0,
+        tile: *tile,
+        a: *a,
+        b: *b,
+    })
+}
+
+// What a pon of the tile bans.
+fn banned_by_pon(tile: &Pai) -> Kinds
+    ensures { result ≡ set_of (bans_of_pon tile.now) }
+{
+    match tile {
+        Pai::Known(tile) => Kinds::none().with(tile.kind()),
+        Pai::Hidden => Kinds::none(),
+    }
+}
+
+// Every tile that is held besides these is of a banned kind.
+fn has_nothing_else(deeds: &[Deed], seat: u8, used: &[Pai], bans: Kinds) -> bool
+    requires { length used.now ≤ 2 }
+    ensures { result ≡ list_all (is_used_up (gained deeds.now seat) (lost deeds.now seat) (flat_map face_in used.now) bans) tile_order }
+{
+    for place in 0..37 {
+        let tile = ordered(place);
+        if !is_used_up(deeds, seat, used, bans, tile) {
+            return false;
+        }
+    }
+    true
+}
+
+// The seat holds no more tiles of the face than are used, or they are of a banned kind.
+fn is_used_up(deeds: &[Deed], seat: u8, used: &[Pai], bans: Kinds, tile: Tile) -> bool
+    requires { length used.now ≤ 2 }
+    ensures { result ≡ is_used_up (gained deeds.now seat) (lost deeds.now seat) (flat_map face_in used.now) bans tile }
+{
+    held(deeds, seat, tile) <= number_among(used, tile) || bans.has(tile.kind())
+}
+
+// The last tile in tile order that the seat holds and that is of no banned kind.
+pub(crate) fn last_free(deeds: &[Deed], seat: u8, bans: Kinds) -> Option<Tile>
+    ensures { result ≡ last_of (filter (is_free (gained deeds.now seat) (lost deeds.now seat) bans) tile_order) }
+{
+    let mut last = None;
+    for place in 0..37 {
+        let tile = ordered(place);
+        if is_free(deeds, seat, bans, tile) {
+            last = Some(tile);
+        }
+    }
+    last
+}
+
+// The seat holds the tile, and it is of no banned kind.
+fn is_free(deeds: &[Deed], seat: u8, bans: Kinds, tile: Tile) -> bool
+    ensures { result ≡ is_free (gained deeds.now seat) (lost deeds.now seat) bans tile }
+{
+    held(deeds, seat, tile) > 0 && !bans.has(tile.kind())
+}
