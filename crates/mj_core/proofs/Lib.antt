@@ -1,4 +1,5 @@
 pub mod Same
+pub mod Open
 pub mod Steps
 pub mod Pieces
 pub mod Games

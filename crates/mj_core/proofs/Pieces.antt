@@ -1,87 +1,142 @@
--- The laws of a table, stated over the pieces that the code holds.
-use Rattle.std.proofs.Common.{◌≡◌, ℕ, ◌<◌, ◌==◌, List, [], ◌∷◌, ◌++◌, length, get_or, Bool, true, false, Option, Some, None, refl, ap, ◌∙◌, sym, subst, arith}
-use Rattle.std.specs.Prelude.{slice_get, slice_set, nat_lt}
-use Rattle.std.specs.Option.{option_map_or}
-use Rattle.std.proofs.lemmas.Option.{slice_get_within, slice_get-get_or}
+-- The laws of a state, stated over the pieces that the code holds.
+use Rattle.std.proofs.Common.{◌≡◌, ℕ, suc, ◌<◌, ◌==◌, ◌+◌, List, [], ◌∷◌, ◌++◌, length, get_or, Bool, true, false, Option, Some, None, refl, ap, ◌∙◌, sym, subst, arith}
+use Rattle.std.specs.Prelude.{slice_get, slice_set, if◌then◌else◌}
+use Rattle.std.proofs.lemmas.Option.{slice_get-get_or}
+use Rattle.std.proofs.lemmas.List.{length-append}
 use Rattle.mj_ports.specs.declared.sitting.JoinLine.{JoinLine}
+use Rattle.mj_tiles.specs.Counts.{all_kinds}
 use Rattle.mj_deeds.specs.declared.four.Four.{Four}
 use Rattle.mj_deeds.specs.declared.deed.Deed.{Deed}
 use Rattle.mj_deeds.specs.declared.deed.Deed.TheVariants.{StartGame}
 use Rattle.mj_deeds.specs.declared.answer.Answer.{Answer}
+use Rattle.mj_deeds.specs.Fits.{fits, has_no_fifth}
+use Rattle.mj_wall.specs.declared.setting.Rules.{Rules}
 use Rattle.mj_wall.specs.declared.setting.Setting.{Setting}
 use Rattle.mj_rules.specs.Outcome.{outcome}
-use Rattle.mj_protocol.specs.After.{After, Chair, Verdict, verdict_on, goes_on, empty_slots, filled, is_ready, answers_in, names_of, lines_for}
-use Rattle.mj_protocol.specs.Trace.{is_verdict_built}
+use Rattle.mj_rules.specs.Played.{IsPlayed, AllLawful}
+use Rattle.mj_window.specs.Slots.{empty_slots}
+use Rattle.mj_protocol.specs.After.{After, Chair, Verdict, verdict_on, goes_on, filled, is_ready, answers_in, names_of, lines_for}
+use Rattle.mj_protocol.specs.Trace.{is_verdict_built, is_answer_built}
 use Rattle.mj_core.specs.Untold.{untold_chair}
-use Rattle.mj_core.specs.Tables.{TakesNext, is_due, Hears}
-use Rattle.mj_core.proofs.Steps.{table, new_chair, takes-waits, takes-starts, Spoken, begun-due, hears-open, hears-closed}
+use Rattle.mj_core.specs.States.{TakesNext, is_due, CanHear, Hears}
+use Rattle.mj_core.proofs.Open.{pieces, Spoken, begun-due, due-within}
+use Rattle.mj_core.proofs.Steps.{under, new_chair, takes-waits, takes-starts, hears-open, hears-closed, unbuilt-deed, spoken-played, spoken-lawful}
 
--- The pieces of a table that has taken the next seat are these.
+-- The pieces of a state that has taken the next seat are these.
 pub record Seated (deeds : List Deed) (chairs all : List Chair) (author : ℕ) (join : JoinLine) : Type 0 where
   pub chair : Chair
   pub before : (length deeds == 0) ≡ true
   pub new : chair ≡ untold_chair (new_chair author join)
   pub all_is : all ≡ chairs ++ chair ∷ []
 
-pub seated-waits : (deeds : List Deed) (chairs all : List Chair) (slots : Four (Option Answer)) (author : ℕ) (join : JoinLine) → Seated deeds chairs all author join
-    → (length all == 4) ≡ false → TakesNext (table deeds chairs slots) (table deeds all slots) author join
-seated-waits deeds chairs all slots author join s four =
-    let P : List Chair → Type 0 = λ cs. TakesNext (table deeds chairs slots) (table deeds cs slots) author join in
-    subst P (sym s.all_is) (takes-waits (table deeds chairs slots) author join s.chair s.before (ap untold_chair s.new)
-    (ap (λ (cs : List Chair). length cs == 4) (sym s.all_is) ∙ four))
+pub seated-waits : (rules : Rules) (deeds : List Deed) (chairs all : List Chair) (slots : Four (Option Answer)) (author : ℕ) (join : JoinLine) → Seated deeds chairs all author join
+    → (length chairs ≡ 3 → ⊥) → TakesNext (under rules (pieces deeds chairs slots)) (under rules (pieces deeds all slots)) author join
+seated-waits rules deeds chairs all slots author join s h =
+    let P : List Chair → Type 0 = λ cs. TakesNext (under rules (pieces deeds chairs slots)) (under rules (pieces deeds cs slots)) author join in
+    subst P (sym s.all_is) (takes-waits rules (pieces deeds chairs slots) author join s.chair s.before (ap untold_chair s.new)
+    (not_four (length (chairs ++ s.chair ∷ [])) (length chairs) (length-append chairs (s.chair ∷ [])) h))
+  where
+    not_four : (n m : ℕ) → n ≡ m + 1 → (m ≡ 3 → ⊥) → (n == 4) ≡ false
+    not_four n m e h = grind (arith, e, h)
 
-pub seated-starts : (deeds : List Deed) (chairs all : List Chair) (slots : Four (Option Answer)) (author : ℕ) (join : JoinLine) (names : Four (List ℕ)) → Seated deeds chairs all author join
-    → length all ≡ 4 → names ≡ names_of all → TakesNext (table deeds chairs slots) (table (deeds ++ StartGame names ∷ []) all empty_slots) author join
-seated-starts deeds chairs all slots author join names s four n =
-    let P : List Chair → Type 0 = λ cs. TakesNext (table deeds chairs slots) (table (deeds ++ StartGame names ∷ []) cs empty_slots) author join in
-    subst P (sym s.all_is) (takes-starts (table deeds chairs slots) author join s.chair names s.before (ap untold_chair s.new)
-    (ap length (sym s.all_is) ∙ four) (n ∙ ap names_of s.all_is))
+pub seated-starts : (rules after_rules : Rules) (deeds : List Deed) (chairs all : List Chair) (slots : Four (Option Answer)) (author : ℕ) (join : JoinLine) (names : Four (List ℕ)) → after_rules ≡ rules → (s : Seated deeds chairs all author join)
+    → length chairs ≡ 3 → names ≡ names_of (chairs ++ s.chair ∷ [])
+    → TakesNext (under rules (pieces deeds chairs slots)) (under after_rules (pieces (deeds ++ StartGame names ∷ []) all empty_slots)) author join
+seated-starts rules after_rules deeds chairs all slots author join names e s three n =
+    let P : List Chair → Type 0 = λ cs. TakesNext (under rules (pieces deeds chairs slots)) (under after_rules (pieces (deeds ++ StartGame names ∷ []) cs empty_slots)) author join in
+    subst P (sym s.all_is) (takes-starts rules after_rules (pieces deeds chairs slots) author join s.chair names e s.before (ap untold_chair s.new)
+    (length-append chairs (s.chair ∷ []) ∙ ap (λ (m : ℕ). m + 1) three) n)
 
--- A held seat whose due deed exists is one of the chairs.
-due-held : (n : ℕ) (o : Option Chair) (test : Chair → Bool) → option_map_or test o false ≡ true → (chair : Chair) × (o ≡ Some chair)
-due-held n None test h = cc
-due-held n (Some chair) test h = (chair, refl)
+-- The start of a game is its first deed.
+start_first : (red : Bool) (names : Four (List ℕ)) → fits red [] (StartGame names) ≡ true
+unfolding fits has_no_fifth all_kinds
+start_first true names = refl
+start_first false names = refl
 
-pub due-within : (now : After) (seat : ℕ) → is_due now seat ≡ true → seat < length now.chairs
-due-within now seat h =
-    let k = due-held 0 (slice_get now.chairs seat) (λ (chair : Chair). nat_lt chair.progress.due (length now.deeds)) h in
-    slice_get_within now.chairs seat k.0 k.1
+pub start-fits : (red : Bool) (deeds : List Deed) (names : Four (List ℕ)) → (length deeds == 0) ≡ true → fits red deeds (StartGame names) ≡ true
+start-fits red [] names h = start_first red names
+start-fits red (deed ∷ deeds) names h = absurd (more (length deeds) h)
+  where
+    more : (n : ℕ) → (suc n == 0) ≡ true → ⊥
+    more n h = grind (arith, h)
 
 -- The chair that was read.
 pub read-chair : (now : After) (seat place : ℕ) (chair : Chair) → is_due now seat ≡ true → place ≡ seat → chair ≡ get_or now.chairs place chair → slice_get now.chairs seat ≡ Some chair
 read-chair now seat place chair due at read =
     slice_get-get_or now.chairs seat chair (due-within now seat due) ∙ ap Some (ap (λ (i : ℕ). get_or now.chairs i chair) (sym at) ∙ sym read)
 
+-- The verdict, by the deeds of the table and its rules.
+pub judged-at : (setting : Setting) (rules : Rules) (deeds told : List Deed) (seat : ℕ) (answer : Answer) (chair : Chair) (verdict : Verdict) → rules ≡ setting.rules → told ≡ deeds → verdict ≡ verdict_on rules.red told seat answer chair.progress
+    → verdict ≡ verdict_on setting.rules.red deeds seat answer chair.progress
+judged-at setting rules deeds told seat answer chair verdict r d judged = judged ∙ (λ i. verdict_on (r i).red (d i) seat answer chair.progress)
+
 -- What is known when the held seat that was read has answered.
-pub spoken : (setting : Setting) (deeds : List Deed) (chairs : List Chair) (before : Four (Option Answer)) (seat place : ℕ) (answer : Answer) (chair next : Chair) (verdict : Verdict) (slots : Four (Option Answer))
-    → is_due (table deeds chairs before) seat ≡ true → place ≡ seat → chair ≡ get_or chairs place chair → verdict ≡ verdict_on setting.rules.red deeds seat answer chair.progress
+pub spoken : (setting : Setting) (rules : Rules) (deeds told : List Deed) (chairs : List Chair) (before : Four (Option Answer)) (seat place : ℕ) (answer : Answer) (chair next : Chair) (verdict : Verdict) (slots : Four (Option Answer))
+    → CanHear setting (under rules (pieces deeds chairs before)) seat answer → told ≡ deeds → place ≡ seat → chair ≡ get_or chairs place chair → verdict ≡ verdict_on rules.red told seat answer chair.progress
     → is_verdict_built chair.progress.refused verdict ≡ true → ((lines : List (List ℕ)) → next ≡ untold_chair (record chair { progress = goes_on lines verdict chair.progress }))
-    → slots ≡ filled verdict before seat answer → Spoken setting (table deeds chairs before) seat answer chair next verdict slots
-spoken setting deeds chairs before seat place answer chair next verdict slots due at read judged may on filling = record {
-  begun = begun-due (table deeds chairs before) seat due;
-  held = read-chair (table deeds chairs before) seat place chair due at read;
-  judged = judged;
+    → slots ≡ filled verdict before seat answer → Spoken setting (pieces deeds chairs before) seat answer chair next verdict slots
+spoken setting rules deeds told chairs before seat place answer chair next verdict slots k same at read judged may on filling = record {
+  begun = begun-due (pieces deeds chairs before) seat k.due;
+  due = k.due;
+  held = read-chair (pieces deeds chairs before) seat place chair k.due at read;
+  judged = judged-at setting rules deeds told seat answer chair verdict k.rules same judged;
   may = may;
   filling = filling;
   on = ap untold_chair (on (lines_for seat deeds));
 }
 
 -- The chair that was read is put back as it has come on.
-pub spoken-open : (setting : Setting) (deeds : List Deed) (chairs : List Chair) (before : Four (Option Answer)) (seat place : ℕ) (answer : Answer) (chair next : Chair) (verdict : Verdict) (slots : Four (Option Answer))
-    → place ≡ seat → Spoken setting (table deeds chairs before) seat answer chair next verdict slots → is_ready slots ≡ false
-    → Hears setting (table deeds chairs before) (table deeds (slice_set chairs place next) slots) seat answer verdict
-spoken-open setting deeds chairs before seat place answer chair next verdict slots at s r =
-    rw at (hears-open setting (table deeds chairs before) seat answer chair next verdict slots s r)
+pub spoken-open : (setting : Setting) (rules : Rules) (deeds : List Deed) (chairs : List Chair) (before : Four (Option Answer)) (seat place : ℕ) (answer : Answer) (chair next : Chair) (verdict : Verdict) (slots : Four (Option Answer))
+    → CanHear setting (under rules (pieces deeds chairs before)) seat answer → place ≡ seat → Spoken setting (pieces deeds chairs before) seat answer chair next verdict slots
+    → None ≡ (if is_ready slots then Some (answers_in slots) else None)
+    → Hears setting (under rules (pieces deeds chairs before)) (under rules (pieces deeds (slice_set chairs place next) slots)) seat answer verdict
+spoken-open setting rules deeds chairs before seat place answer chair next verdict slots k at s r =
+    rw at (hears-open setting rules (pieces deeds chairs before) seat answer chair next verdict slots s k.four k.empty (not_ready (is_ready slots) (answers_in slots) r))
+  where
+    not_ready : (b : Bool) (given : Four Answer) → None ≡ (if b then Some given else None) → b ≡ false
+    not_ready true given h = cc
+    not_ready false given h = refl
 
-pub spoken-closed : (setting : Setting) (deeds : List Deed) (chairs : List Chair) (before : Four (Option Answer)) (seat place : ℕ) (answer : Answer) (chair next : Chair) (verdict : Verdict) (slots : Four (Option Answer)) (deed : Deed)
-    → place ≡ seat → Spoken setting (table deeds chairs before) seat answer chair next verdict slots → (is_ready slots ≡ true) × (outcome setting.walls deeds (answers_in slots) ≡ Some deed)
-    → Hears setting (table deeds chairs before) (table (deeds ++ deed ∷ []) (slice_set chairs place next) empty_slots) seat answer verdict
-spoken-closed setting deeds chairs before seat place answer chair next verdict slots deed at s r =
-    rw at (hears-closed setting (table deeds chairs before) seat answer chair next verdict slots deed s r.0 r.1)
+-- All four have answered, and these are their answers.
+all_given : (b : Bool) (given found : Four Answer) → Some found ≡ (if b then Some given else None) → (b ≡ true) × (found ≡ given)
+all_given true given found h = (refl, cc)
+all_given false given found h = cc
+
+-- The deed that follows, over the deeds of the table and the walls that it was given.
+follows : (walls others : List (List ℕ)) (deeds told : List Deed) (given found : Four Answer) (deed : Option Deed) → others ≡ walls → told ≡ deeds → found ≡ given → deed ≡ outcome others told found → outcome walls deeds given ≡ deed
+follows walls others deeds told given found deed w e g o = sym (o ∙ (λ i. outcome (w i) (e i) (g i)))
+
+pub spoken-closed : (after_rules : Rules) (place : ℕ) (deed : Deed) (setting : Setting) (rules : Rules) (deeds told : List Deed) (walls : List (List ℕ)) (chairs : List Chair) (before : Four (Option Answer)) (seat : ℕ) (answer : Answer) (chair next : Chair) (verdict : Verdict) (slots : Four (Option Answer)) (found : Four Answer)
+    → after_rules ≡ rules → walls ≡ setting.walls → told ≡ deeds → place ≡ seat → Spoken setting (pieces deeds chairs before) seat answer chair next verdict slots
+    → Some found ≡ (if is_ready slots then Some (answers_in slots) else None) → Some deed ≡ outcome walls told found
+    → Hears setting (under rules (pieces deeds chairs before)) (under after_rules (pieces (deeds ++ deed ∷ []) (slice_set chairs place next) empty_slots)) seat answer verdict
+spoken-closed after_rules place deed setting rules deeds told walls chairs before seat answer chair next verdict slots found e w d at s r o =
+    let g = all_given (is_ready slots) (answers_in slots) found r in
+    rw at (hears-closed setting rules after_rules (pieces deeds chairs before) seat answer chair next verdict slots deed e s g.0 (follows setting.walls walls deeds told (answers_in slots) found (Some deed) w d g.1 o))
+
+pub spoken-unbuilt : (author : ℕ) (setting : Setting) (rules : Rules) (deeds told : List Deed) (walls : List (List ℕ)) (chairs : List Chair) (before : Four (Option Answer)) (seat : ℕ) (answer : Answer) (chair next : Chair) (verdict : Verdict) (slots : Four (Option Answer)) (found : Four Answer)
+    → walls ≡ setting.walls → told ≡ deeds → Spoken setting (pieces deeds chairs before) seat answer chair next verdict slots
+    → Some found ≡ (if is_ready slots then Some (answers_in slots) else None) → None ≡ outcome walls told found → is_answer_built setting (pieces deeds chairs before) author seat answer ≡ false
+spoken-unbuilt author setting rules deeds told walls chairs before seat answer chair next verdict slots found w d s r o =
+    let g = all_given (is_ready slots) (answers_in slots) found r in
+    unbuilt-deed setting (pieces deeds chairs before) author seat answer chair next verdict slots s g.0 (follows setting.walls walls deeds told (answers_in slots) found None w d g.1 o)
+
+-- The deeds of the table are played, and the four answers lawful.
+pub given-played : (setting : Setting) (rules : Rules) (deeds told : List Deed) (walls : List (List ℕ)) (chairs : List Chair) (before : Four (Option Answer)) (seat : ℕ) (answer : Answer) (chair next : Chair) (verdict : Verdict) (slots : Four (Option Answer)) (found : Four Answer)
+    → CanHear setting (under rules (pieces deeds chairs before)) seat answer → walls ≡ setting.walls → told ≡ deeds → Spoken setting (pieces deeds chairs before) seat answer chair next verdict slots
+    → IsPlayed rules.red walls told
+given-played setting rules deeds told walls chairs before seat answer chair next verdict slots found k w d s =
+    let played : IsPlayed setting.rules.red setting.walls deeds = spoken-played setting (pieces deeds chairs before) 0 seat answer chair next verdict slots s (k.going 0) in
+    rw (k.rules, w, d) played
+
+pub given-lawful : (setting : Setting) (rules : Rules) (deeds told : List Deed) (walls : List (List ℕ)) (chairs : List Chair) (before : Four (Option Answer)) (seat : ℕ) (answer : Answer) (chair next : Chair) (verdict : Verdict) (slots : Four (Option Answer)) (found : Four Answer)
+    → CanHear setting (under rules (pieces deeds chairs before)) seat answer → told ≡ deeds → Spoken setting (pieces deeds chairs before) seat answer chair next verdict slots
+    → Some found ≡ (if is_ready slots then Some (answers_in slots) else None) → AllLawful rules.red told found
+given-lawful setting rules deeds told walls chairs before seat answer chair next verdict slots found k d s r =
+    let g = all_given (is_ready slots) (answers_in slots) found r in
+    let lawful : AllLawful setting.rules.red deeds (answers_in slots) = spoken-lawful setting (pieces deeds chairs before) 0 seat answer chair next verdict slots s (k.going 0) g.0 in
+    rw (k.rules, d, g.1) lawful
 
 -- The place that was read lies within the chairs.
-pub place-within : (deeds : List Deed) (chairs : List Chair) (slots : Four (Option Answer)) (seat place len : ℕ) → is_due (table deeds chairs slots) seat ≡ true → place ≡ seat → len ≡ length chairs → place < len
-place-within deeds chairs slots seat place len due at n = let k : seat < length chairs = due-within (table deeds chairs slots) seat due in omega arith
-
-pub not-four : (chairs others : List Chair) → others ≡ chairs → (length others ≡ 4 → ⊥) → (length chairs == 4) ≡ false
-not-four chairs others e h = let k : length chairs ≡ 4 → ⊥ = rw e at h in grind (arith, k)
+pub place-within : (deeds : List Deed) (chairs : List Chair) (slots : Four (Option Answer)) (seat place len : ℕ) → is_due (pieces deeds chairs slots) seat ≡ true → place ≡ seat → len ≡ length chairs → place < len
+place-within deeds chairs slots seat place len due at n = let k : seat < length chairs = due-within (pieces deeds chairs slots) seat due in omega arith

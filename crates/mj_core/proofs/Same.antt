@@ -1,5 +1,5 @@
 -- What the connections were told changes nothing else.
-use Rattle.std.proofs.Common.{◌≡◌, ℕ, zero, suc, List, [], ◌∷◌, ◌++◌, map, Bool, true, false, Option, Some, None, refl, ap, ◌∙◌, sym}
+use Rattle.std.proofs.Common.{◌≡◌, ℕ, zero, suc, List, [], ◌∷◌, ◌++◌, map, Bool, true, false, Option, Some, None, refl, ap, ◌∙◌, sym, subst}
 use Rattle.std.specs.Prelude.{slice_get, slice_set, option_map, is_some, if◌then◌else◌}
 use Rattle.std.specs.Option.{option_map_or}
 use Rattle.std.proofs.lemmas.List.{map-set, map-append, length-map}
@@ -11,9 +11,10 @@ use Rattle.mj_deeds.specs.declared.deed.Deed.{Deed}
 use Rattle.mj_deeds.specs.declared.answer.Answer.{Answer}
 use Rattle.mj_wall.specs.declared.setting.Setting.{Setting}
 use Rattle.mj_protocol.specs.After.{After, Chair, Verdict, Taken, Late, Refused, verdict_on, seated, goes_on, filled, is_ready, lines_for, heard, own_part, name_at, names_of, next_deed, with_deed, step}
+use Rattle.mj_protocol.specs.Laws.{CanGoOn}
 use Rattle.mj_protocol.specs.Trace.{is_verdict_built, is_heard_built, is_deed_built, is_answer_built}
 use Rattle.mj_core.specs.Untold.{untold_chair, untold}
-use Rattle.mj_core.specs.Tables.{table_verdict}
+use Rattle.mj_core.specs.States.{state_verdict}
 
 untold-twice : (chairs : List Chair) → map untold_chair (map untold_chair chairs) ≡ map untold_chair chairs
 untold-twice [] = refl
@@ -118,8 +119,8 @@ pub seat_or-same : {A : Type 0} (f : Chair → A) → ((chair : Chair) → f (un
 seat_or-same f h d chairs others seat e =
     or-map f (slice_get chairs seat) d ∙ ap (λ (o : Option _). option_map_or (λ b. b) o d) (seat-same f h chairs others seat e) ∙ sym (or-map f (slice_get others seat) d)
 
-pub table_verdict-same : (red : Bool) (now other : After) (seat : ℕ) (answer : Answer) → untold now ≡ untold other → table_verdict red now seat answer ≡ table_verdict red other seat answer
-table_verdict-same red now other seat answer e =
+pub state_verdict-same : (red : Bool) (now other : After) (seat : ℕ) (answer : Answer) → untold now ≡ untold other → state_verdict red now seat answer ≡ state_verdict red other seat answer
+state_verdict-same red now other seat answer e =
     ap (λ (deeds : List Deed). option_map (λ (chair : Chair). verdict_on red deeds seat answer chair.progress) (slice_get now.chairs seat)) (ap (λ (n : After). n.deeds) e)
     ∙ seat-same (λ (chair : Chair). verdict_on red other.deeds seat answer chair.progress) (λ chair. refl) now.chairs other.chairs seat (ap (λ (n : After). n.chairs) e)
 
@@ -140,3 +141,15 @@ pub is_answer_built-same : (setting : Setting) (now other : After) (author seat 
 unfolding is_answer_built
 is_answer_built-same setting now other author seat answer e =
     rw (is_heard_built-same setting.rules.red now other seat answer e, is_deed_built-same setting _ _ (own_part-same setting now other (Said author seat answer) e))
+
+can_go_on-untold : (setting : Setting) (now : After) → CanGoOn setting now → CanGoOn setting (untold now)
+can_go_on-untold setting now c = record { played = c.played; taken = c.taken; ready = c.ready }
+
+can_go_on-told : (setting : Setting) (now : After) → CanGoOn setting (untold now) → CanGoOn setting now
+can_go_on-told setting now c = record { played = c.played; taken = c.taken; ready = c.ready }
+
+-- Where a deed may be added, it may whatever the connections were told.
+pub can_go_on-same : (setting : Setting) (now other : After) (entry : Entry Answer) → untold now ≡ untold other → CanGoOn setting (own_part setting other entry) → CanGoOn setting (own_part setting now entry)
+can_go_on-same setting now other entry e c =
+    can_go_on-told setting (own_part setting now entry)
+    (subst (CanGoOn setting) (sym (own_part-same setting now other entry e)) (can_go_on-untold setting (own_part setting other entry) c))

@@ -1,6 +1,6 @@
--- What a table does is what the entries come to.
-use Rattle.std.proofs.Common.{◌≡◌, ℕ, ◌==◌, ◌&&◌, zero, suc, List, [], ◌∷◌, ◌++◌, length, map, Bool, true, false, Option, Some, None, refl, ap, ◌∙◌, sym, arith}
-use Rattle.std.specs.Prelude.{slice_get, slice_set, option_map, is_some, nat_lt, if◌then◌else◌}
+-- What a state does is what the entries come to.
+use Rattle.std.proofs.Common.{◌≡◌, ℕ, ◌==◌, ◌&&◌, suc, List, [], ◌∷◌, ◌++◌, length, map, Bool, true, false, Option, Some, None, refl, ap, ◌∙◌, sym, subst, ◌≤◌}
+use Rattle.std.specs.Prelude.{slice_get, slice_set, option_map, is_some, if◌then◌else◌}
 use Rattle.std.specs.Option.{option_map_or}
 use Rattle.std.proofs.lemmas.List.{map-set, map-append, length-set}
 use Rattle.mj_ports.specs.declared.entry.Entry.{Entry}
@@ -10,19 +10,27 @@ use Rattle.mj_deeds.specs.declared.four.Four.{Four}
 use Rattle.mj_deeds.specs.declared.deed.Deed.{Deed}
 use Rattle.mj_deeds.specs.declared.deed.Deed.TheVariants.{StartGame}
 use Rattle.mj_deeds.specs.declared.answer.Answer.{Answer}
+use Rattle.mj_wall.specs.declared.setting.Rules.{Rules}
 use Rattle.mj_wall.specs.declared.setting.Setting.{Setting}
+use Rattle.mj_rules.specs.Played.{IsPlayed, AllLawful}
 use Rattle.mj_rules.specs.Outcome.{outcome}
-use Rattle.mj_protocol.specs.After.{After, Chair, Verdict, verdict_on, goes_on, seated, empty_slots, filled, is_ready, answers_in, lines_for, heard, own_part, names_of, next_deed, with_deed, step}
+use Rattle.mj_window.specs.Slots.{empty_slots}
+use Rattle.mj_protocol.specs.After.{After, Chair, Verdict, verdict_on, goes_on, seated, filled, is_ready, answers_in, lines_for, heard, own_part, names_of, next_deed, with_deed, step}
+use Rattle.mj_protocol.specs.Laws.{CanGoOn}
 use Rattle.mj_protocol.specs.Trace.{is_verdict_built, is_heard_built, is_deed_built, is_answer_built}
 use Rattle.mj_core.specs.Untold.{untold_chair, untold}
-use Rattle.mj_core.specs.Tables.{TakesNext, is_due, table_verdict, Hears}
+use Rattle.mj_core.specs.States.{Position, IsOpen, TakesNext, state_verdict, Hears}
 use Rattle.mj_core.proofs.Same.{names_of-same, with_deed-same}
+use Rattle.mj_core.proofs.Open.{pieces, Spoken, unbegun-open, empty-open, answered-open}
 
 -- A step is what an entry changes of its own seat, and then the next deed.
 step-of : (setting : Setting) (now changed : After) (entry : Entry Answer) (deed : Option Deed) → own_part setting now entry ≡ changed → next_deed setting changed ≡ deed → step setting now entry ≡ with_deed changed deed
 unfolding step
 step-of setting now changed entry deed own next =
     ap (λ (n : After). with_deed n (next_deed setting n)) own ∙ ap (with_deed changed) next
+
+abbrev pub under : Rules → After → Position
+under rules now = record { rules = rules; now = now }
 
 -- The seat that a join takes.
 abbrev pub new_chair : ℕ → JoinLine → Chair
@@ -61,22 +69,25 @@ abbrev with_chairs : After → List Chair → After
 with_chairs now cs = record { deeds = now.deeds; chairs = cs; slots = now.slots }
 
 -- The seat is taken, and the game hasn't all its seats yet.
-pub takes-waits : (old : After) (author : ℕ) (join : JoinLine) (chair : Chair) → (length old.deeds == 0) ≡ true → untold_chair chair ≡ untold_chair (new_chair author join)
-    → (length (old.chairs ++ chair ∷ []) == 4) ≡ false → TakesNext old (with_chairs old (old.chairs ++ chair ∷ [])) author join
-takes-waits old author join chair d e c = record {
+pub takes-waits : (rules : Rules) (old : After) (author : ℕ) (join : JoinLine) (chair : Chair) → (length old.deeds == 0) ≡ true → untold_chair chair ≡ untold_chair (new_chair author join)
+    → (length (old.chairs ++ chair ∷ []) == 4) ≡ false → TakesNext (under rules old) (under rules (with_chairs old (old.chairs ++ chair ∷ []))) author join
+takes-waits rules old author join chair d e c = record {
+  rules = refl;
   stepped = λ setting.
       ap (with_chairs (untold old)) (untold-append old.chairs chair (new_chair author join) e)
       ∙ sym (ap untold (step-of setting old _ (Sat author join.name join.key) None (sat-own setting old author join)
       (next-waits setting _ d (ap (λ n. n == 4) (same_length old.chairs (new_chair author join) chair) ∙ c))));
   one_more = one_longer old.chairs chair;
   started = λ k. cc;
+  empty = unbegun-open (with_chairs old (old.chairs ++ chair ∷ [])) d;
 }
 
 -- The fourth seat is taken, and the game starts.
-pub takes-starts : (old : After) (author : ℕ) (join : JoinLine) (chair : Chair) (names : Four (List ℕ)) → (length old.deeds == 0) ≡ true → untold_chair chair ≡ untold_chair (new_chair author join)
-    → length (old.chairs ++ chair ∷ []) ≡ 4 → names ≡ names_of (old.chairs ++ chair ∷ [])
-    → TakesNext old (record { deeds = old.deeds ++ StartGame names ∷ []; chairs = old.chairs ++ chair ∷ []; slots = empty_slots }) author join
-takes-starts old author join chair names d e c n = record {
+pub takes-starts : (rules after_rules : Rules) (old : After) (author : ℕ) (join : JoinLine) (chair : Chair) (names : Four (List ℕ)) → after_rules ≡ rules → (length old.deeds == 0) ≡ true
+    → untold_chair chair ≡ untold_chair (new_chair author join) → length (old.chairs ++ chair ∷ []) ≡ 4 → names ≡ names_of (old.chairs ++ chair ∷ [])
+    → TakesNext (under rules old) (under after_rules (pieces (old.deeds ++ StartGame names ∷ []) (old.chairs ++ chair ∷ []) empty_slots)) author join
+takes-starts rules after_rules old author join chair names r d e c n = record {
+  rules = r;
   stepped = λ setting.
       let same : map untold_chair (old.chairs ++ chair ∷ []) ≡ map untold_chair (old.chairs ++ new_chair author join ∷ []) = untold-append old.chairs chair (new_chair author join) e in
       let four : (length (old.chairs ++ new_chair author join ∷ []) == 4) ≡ true = ap (λ m. m == 4) (same_length old.chairs (new_chair author join) chair ∙ c) in
@@ -86,6 +97,7 @@ takes-starts old author join chair names d e c n = record {
       ∙ sym (ap untold (step-of setting old _ (Sat author join.name join.key) _ (sat-own setting old author join) (next-starts setting _ d four)));
   one_more = one_longer old.chairs chair;
   started = λ k. c;
+  empty = empty-open (old.deeds ++ StartGame names ∷ []) (old.chairs ++ chair ∷ []);
 }
 
 -- What a held seat says.
@@ -109,24 +121,12 @@ untold-set : (chairs : List Chair) (seat : ℕ) (chair other : Chair) → untold
 untold-set chairs seat chair other e =
     map-set untold_chair chairs seat chair ∙ ap (λ (c : Chair). slice_set (map untold_chair chairs) seat c) e ∙ sym (map-set untold_chair chairs seat other)
 
--- What is known when a held seat has answered: its verdict, the slots with its answer, and how far it has come.
-pub record Spoken (setting : Setting) (old : After) (seat : ℕ) (answer : Answer) (chair next : Chair) (verdict : Verdict) (slots : Four (Option Answer)) : Type 0 where
-  pub begun : (length old.deeds == 0) ≡ false
-  pub held : slice_get old.chairs seat ≡ Some chair
-  pub judged : verdict ≡ verdict_on setting.rules.red old.deeds seat answer chair.progress
-  pub may : is_verdict_built chair.progress.refused verdict ≡ true
-  pub filling : slots ≡ filled verdict old.slots seat answer
-  pub on : untold_chair next ≡ untold_chair (record chair { progress = goes_on (lines_for seat old.deeds) verdict chair.progress })
-
-abbrev pub table : List Deed → List Chair → Four (Option Answer) → After
-table deeds chairs slots = record { deeds = deeds; chairs = chairs; slots = slots }
-
 -- What the answer changes of its own seat.
 spoken-own : (setting : Setting) (old : After) (author seat : ℕ) (answer : Answer) (chair next : Chair) (verdict : Verdict) (slots : Four (Option Answer)) → Spoken setting old seat answer chair next verdict slots
-    → own_part setting old (Said author seat answer) ≡ table old.deeds (slice_set old.chairs seat (gone_on setting old seat answer chair)) slots
+    → own_part setting old (Said author seat answer) ≡ pieces old.deeds (slice_set old.chairs seat (gone_on setting old seat answer chair)) slots
 spoken-own setting old author seat answer chair next verdict slots s =
     said-own setting old author seat answer chair s.held ∙ heard-is setting old seat answer chair
-    ∙ ap (table old.deeds (slice_set old.chairs seat (gone_on setting old seat answer chair)))
+    ∙ ap (pieces old.deeds (slice_set old.chairs seat (gone_on setting old seat answer chair)))
     (ap (λ (v : Verdict). filled v old.slots seat answer) (sym s.judged) ∙ sym s.filling)
 
 spoken-same : (setting : Setting) (old : After) (seat : ℕ) (answer : Answer) (chair next : Chair) (verdict : Verdict) (slots : Four (Option Answer)) → Spoken setting old seat answer chair next verdict slots
@@ -137,10 +137,10 @@ spoken-same setting old seat answer chair next verdict slots s =
 
 spoken-step : (setting : Setting) (old : After) (author seat : ℕ) (answer : Answer) (chair next : Chair) (verdict : Verdict) (slots : Four (Option Answer)) (deed : Option Deed) → Spoken setting old seat answer chair next verdict slots
     → (if is_ready slots then outcome setting.walls old.deeds (answers_in slots) else None) ≡ deed
-    → untold (with_deed (table old.deeds (slice_set old.chairs seat next) slots) deed) ≡ untold (step setting old (Said author seat answer))
+    → untold (with_deed (pieces old.deeds (slice_set old.chairs seat next) slots) deed) ≡ untold (step setting old (Said author seat answer))
 spoken-step setting old author seat answer chair next verdict slots deed s n =
-    let changed : After = table old.deeds (slice_set old.chairs seat (gone_on setting old seat answer chair)) slots in
-    with_deed-same _ changed deed (ap (λ (cs : List Chair). table old.deeds cs slots) (spoken-same setting old seat answer chair next verdict slots s))
+    let changed : After = pieces old.deeds (slice_set old.chairs seat (gone_on setting old seat answer chair)) slots in
+    with_deed-same _ changed deed (ap (λ (cs : List Chair). pieces old.deeds cs slots) (spoken-same setting old seat answer chair next verdict slots s))
     ∙ sym (ap untold (step-of setting old changed (Said author seat answer) deed (spoken-own setting old author seat answer chair next verdict slots s) (next-plays setting changed s.begun ∙ n)))
 
 -- The verdict is one that the seat may get.
@@ -167,29 +167,48 @@ spoken-built setting old author seat answer chair next verdict slots b s d =
 same_many : (chairs : List Chair) (seat : ℕ) (chair : Chair) → length (slice_set chairs seat chair) ≡ length chairs
 same_many chairs seat chair = length-set chairs seat chair
 
-spoken-judged : (setting : Setting) (old : After) (seat : ℕ) (answer : Answer) (chair next : Chair) (verdict : Verdict) (slots : Four (Option Answer)) → Spoken setting old seat answer chair next verdict slots → table_verdict setting.rules.red old seat answer ≡ Some verdict
+spoken-judged : (setting : Setting) (old : After) (seat : ℕ) (answer : Answer) (chair next : Chair) (verdict : Verdict) (slots : Four (Option Answer)) → Spoken setting old seat answer chair next verdict slots → state_verdict setting.rules.red old seat answer ≡ Some verdict
 spoken-judged setting old seat answer chair next verdict slots s =
     ap (λ (o : Option Chair). option_map (λ (c : Chair). verdict_on setting.rules.red old.deeds seat answer c.progress) o) s.held ∙ ap Some (sym s.judged)
 
 -- The window stays open.
-pub hears-open : (setting : Setting) (old : After) (seat : ℕ) (answer : Answer) (chair next : Chair) (verdict : Verdict) (slots : Four (Option Answer)) → Spoken setting old seat answer chair next verdict slots
-    → is_ready slots ≡ false → Hears setting old (table old.deeds (slice_set old.chairs seat next) slots) seat answer verdict
-hears-open setting old seat answer chair next verdict slots s r = record {
+pub hears-open : (setting : Setting) (rules : Rules) (old : After) (seat : ℕ) (answer : Answer) (chair next : Chair) (verdict : Verdict) (slots : Four (Option Answer)) → Spoken setting old seat answer chair next verdict slots
+    → length old.chairs ≤ 4 → IsOpen old → is_ready slots ≡ false → Hears setting (under rules old) (under rules (pieces old.deeds (slice_set old.chairs seat next) slots)) seat answer verdict
+hears-open setting rules old seat answer chair next verdict slots s four empty r = record {
+  rules = refl;
   judged = spoken-judged setting old seat answer chair next verdict slots s;
   built = λ author. spoken-built setting old author seat answer chair next verdict slots true s (rw r);
   stepped = λ author. spoken-step setting old author seat answer chair next verdict slots None s (rw r);
   as_many = same_many old.chairs seat next;
+  empty = answered-open setting old seat answer chair next verdict slots s four empty;
 }
 
 -- The window closes, and the next deed comes.
-pub hears-closed : (setting : Setting) (old : After) (seat : ℕ) (answer : Answer) (chair next : Chair) (verdict : Verdict) (slots : Four (Option Answer)) (deed : Deed) → Spoken setting old seat answer chair next verdict slots
-    → is_ready slots ≡ true → outcome setting.walls old.deeds (answers_in slots) ≡ Some deed → Hears setting old (table (old.deeds ++ deed ∷ []) (slice_set old.chairs seat next) empty_slots) seat answer verdict
-hears-closed setting old seat answer chair next verdict slots deed s r o = record {
+pub hears-closed : (setting : Setting) (rules after_rules : Rules) (old : After) (seat : ℕ) (answer : Answer) (chair next : Chair) (verdict : Verdict) (slots : Four (Option Answer)) (deed : Deed) → after_rules ≡ rules
+    → Spoken setting old seat answer chair next verdict slots → is_ready slots ≡ true → outcome setting.walls old.deeds (answers_in slots) ≡ Some deed
+    → Hears setting (under rules old) (under after_rules (pieces (old.deeds ++ deed ∷ []) (slice_set old.chairs seat next) empty_slots)) seat answer verdict
+hears-closed setting rules after_rules old seat answer chair next verdict slots deed e s r o = record {
+  rules = e;
   judged = spoken-judged setting old seat answer chair next verdict slots s;
   built = λ author. spoken-built setting old author seat answer chair next verdict slots true s (rw (r, o));
   stepped = λ author. spoken-step setting old author seat answer chair next verdict slots (Some deed) s (rw (r, o));
   as_many = same_many old.chairs seat next;
+  empty = empty-open (old.deeds ++ deed ∷ []) (slice_set old.chairs seat next);
 }
+
+-- The deeds and the answers in the slots are fit for the next deed.
+pub spoken-goes : (setting : Setting) (old : After) (author seat : ℕ) (answer : Answer) (chair next : Chair) (verdict : Verdict) (slots : Four (Option Answer)) → Spoken setting old seat answer chair next verdict slots
+    → CanGoOn setting (own_part setting old (Said author seat answer)) → CanGoOn setting (pieces old.deeds (slice_set old.chairs seat (gone_on setting old seat answer chair)) slots)
+spoken-goes setting old author seat answer chair next verdict slots s going =
+    subst (CanGoOn setting) (spoken-own setting old author seat answer chair next verdict slots s) going
+
+pub spoken-played : (setting : Setting) (old : After) (author seat : ℕ) (answer : Answer) (chair next : Chair) (verdict : Verdict) (slots : Four (Option Answer)) → Spoken setting old seat answer chair next verdict slots
+    → CanGoOn setting (own_part setting old (Said author seat answer)) → IsPlayed setting.rules.red setting.walls old.deeds
+spoken-played setting old author seat answer chair next verdict slots s going = (spoken-goes setting old author seat answer chair next verdict slots s going).played
+
+pub spoken-lawful : (setting : Setting) (old : After) (author seat : ℕ) (answer : Answer) (chair next : Chair) (verdict : Verdict) (slots : Four (Option Answer)) → Spoken setting old seat answer chair next verdict slots
+    → CanGoOn setting (own_part setting old (Said author seat answer)) → is_ready slots ≡ true → AllLawful setting.rules.red old.deeds (answers_in slots)
+spoken-lawful setting old author seat answer chair next verdict slots s going ready = (spoken-goes setting old author seat answer chair next verdict slots s going).ready ready
 
 -- The window closes, and what comes next isn't built.
 pub unbuilt-deed : (setting : Setting) (old : After) (author seat : ℕ) (answer : Answer) (chair next : Chair) (verdict : Verdict) (slots : Four (Option Answer)) → Spoken setting old seat answer chair next verdict slots
@@ -201,15 +220,3 @@ pub unbuilt-verdict : (setting : Setting) (old : After) (author seat : ℕ) (ans
     → is_answer_built setting old author seat answer ≡ false
 unfolding is_answer_built
 unbuilt-verdict setting old author seat answer chair verdict held judged may = rw (heard-built setting.rules.red old seat answer chair verdict false held judged may)
-
--- A held seat whose due deed exists sits at a game that has begun.
-begun-at : (now : After) (o : Option Chair) → option_map_or (λ (chair : Chair). nat_lt chair.progress.due (length now.deeds)) o false ≡ true → (length now.deeds == 0) ≡ false
-begun-at now None h = cc
-begun-at now (Some chair) h = lt-begun chair.progress.due (length now.deeds) h
-  where
-    lt-begun : (due n : ℕ) → nat_lt due n ≡ true → (n == 0) ≡ false
-    lt-begun due zero h = grind (arith, h)
-    lt-begun due (suc n) h = grind arith
-
-pub begun-due : (now : After) (seat : ℕ) → is_due now seat ≡ true → (length now.deeds == 0) ≡ false
-begun-due now seat h = begun-at now (slice_get now.chairs seat) h

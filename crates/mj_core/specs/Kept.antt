@@ -3,14 +3,17 @@ use Rattle.std.specs.Prelude.{◌≡◌, ◌≤◌, List, length}
 use Rattle.mj_ports.specs.declared.entry.Entry.{Entry}
 use Rattle.mj_deeds.specs.declared.answer.Answer.{Answer}
 use Rattle.mj_wall.specs.declared.setting.Setting.{Setting}
-use Rattle.mj_protocol.specs.After.{After, after}
+use Rattle.mj_protocol.specs.After.{after}
+use Rattle.mj_protocol.specs.Trace.{IsLegal}
 use Rattle.mj_core.specs.Untold.{untold}
-use Rattle.mj_core.specs.Tables.{IsStarted}
+use Rattle.mj_core.specs.States.{Position, IsStarted, IsOpen}
 
--- The table is what the entries come to, and the game has 1 to 200 walls.
-pub record IsKept (setting : Setting) (entries : List (Entry Answer)) (table : After) : Type 0 where
-  pub same : untold table ≡ untold (after setting entries)
-  pub four : length table.chairs ≤ 4
-  pub started : IsStarted table
+-- The game is legal and has a wall, and the state is what its entries come to under its rules.
+pub record IsKept (setting : Setting) (entries : List (Entry Answer)) (state : Position) : Type 0 where
+  pub legal : IsLegal setting entries
   pub some : 1 ≤ length setting.walls
-  pub few : length setting.walls ≤ 200
+  pub rules : state.rules ≡ setting.rules
+  pub same : untold state.now ≡ untold (after setting entries)
+  pub four : length state.now.chairs ≤ 4
+  pub started : IsStarted state.now
+  pub empty : IsOpen state.now

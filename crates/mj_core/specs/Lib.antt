@@ -1,5 +1,4 @@
 pub mod Untold
 pub mod Calls
-pub mod Windows
-pub mod Tables
+pub mod States
 pub mod Kept

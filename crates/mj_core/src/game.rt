@@ -1,6 +1,7 @@
 ghost use Rattle.std.specs.Prelude.{◌≡◌, ℕ, ◌≤◌, length, [], Some, None, true, false, if◌then◌else◌, IfOk, OnOk, OnErr, IsTrue};
 ghost use Rattle.std.specs.List.{list_all};
 ghost use Rattle.mj_bytes.specs.Adds.{Adds};
+ghost use Rattle.mj_ports.specs.Names.{is_name};
 ghost use Rattle.mj_wall.specs.Places.{is_wall};
 ghost use Rattle.mj_protocol.specs.Reading.{join_of};
 ghost use Rattle.mj_protocol.specs.Trace.{can_say};
@@ -8,7 +9,7 @@ ghost use Rattle.mj_core.specs.Calls.{IsSitAnswer, IsHeard, plain_answer, heard_
 
 use crate::answers::{Heard, SitAnswer};
 use crate::entered::Entered;
-use crate::table::Table;
+use crate::state::State;
 use crate::verdict::Verdict;
 use mj_deeds::{Answer, Viewer};
 use mj_ports::{JoinLine, SitRefused};
@@ -22,7 +23,7 @@ use std::marker::Model;
 pub struct Core {
     setting: Setting,
     entries: Vec<Entered>,
-    table: Table,
+    state: State,
 }
 
 impl Model for Core {
@@ -33,7 +34,7 @@ impl Model for Core {
 
     ghost view = { λ c. record { setting = c.setting; entries = c.entries.items } };
 
-    ghost invariant = { λ c. IsKept c.setting c.entries.items c.table };
+    ghost invariant = { λ c. IsKept c.setting c.entries.items c.state };
 }
 
 impl Core {
@@ -54,7 +55,7 @@ impl Core {
         Ok(Core {
             setting,
             entries: Vec::new(alloc),
-            table: Table::new(alloc)?,
+            state: State::new(alloc, rules)?,
         })
     }
 
@@ -70,21 +71,22 @@ impl Core {
         }
     }
 
-    // A seat for a join.
+    // A seat for a join, whose name is of the right form.
     fn seat(&mut self, author: u8, join: &JoinLine) -> SitAnswer
+        requires { is_name join.now.name ≡ true }
         ensures { IsSitAnswer result self.old self.new author (Some join.now) }
     {
-        if self.table.has_name(&join.name) {
+        if self.state.has_name(&join.name) {
             return SitAnswer::Refused(SitRefused::NameTaken);
         }
-        let seat = self.table.held();
+        let seat = self.state.held();
         if seat == 4 {
             return SitAnswer::Refused(SitRefused::Full);
         }
         if self.entries.reserve(1).is_err() {
             return SitAnswer::NoMemory;
         }
-        match self.table.take_seat(author, join) {
+        match self.state.take_seat(author, join) {
             Ok(()) => {
                 self.entries.push_reserved(Entered::sat(author, join));
                 SitAnswer::Sat(seat)
@@ -114,7 +116,7 @@ impl Core {
         if self.entries.reserve(1).is_err() {
             return Heard::NoMemory;
         }
-        match self.table.hear(alloc, &self.setting, seat, answer) {
+        match self.state.hear(alloc, &self.setting, seat, answer) {
             Ok(Some(verdict)) => {
                 self.entries
                     .push_reserved(Entered::said(author, seat, answer));
@@ -129,14 +131,14 @@ impl Core {
     pub fn present(&self, seat: u8) -> bool
         ensures { result ≡ is_held self.now seat }
     {
-        self.table.seat(seat).is_some()
+        self.state.seat(seat).is_some()
     }
 
     /// The author by whom a seat is present; None exactly where it isn't held.
     pub fn author(&self, seat: u8) -> Option<u8>
         ensures { result ≡ author_at self.now seat }
     {
-        match self.table.seat(seat) {
+        match self.state.seat(seat) {
             Some(held) => Some(held.author()),
             None => None,
         }
@@ -147,14 +149,14 @@ impl Core {
         ensures asked { result ≡ is_asked self.now seat }
         ensures by_author { result ≡ true → (author : ℕ) → author_at self.now seat ≡ Some author → can_say (standing self.now) author seat ≡ true }
     {
-        self.table.is_due(seat)
+        self.state.is_due(seat)
     }
 
     /// The number of held seats, 0 to 4.
     pub fn seats(&self) -> u8
         ensures { result ≡ length (standing self.now).chairs }
     {
-        self.table.held()
+        self.state.held()
     }
 
     /// Writes behind what stands in `into` what is still to be told to a seat: the line of its due deed as soon as that
@@ -163,13 +165,13 @@ impl Core {
         ensures ok { OnOk result (Adds into.old.items into.new.items (pending_at self.now seat)) }
         ensures err { OnErr result (into.new.items ≡ into.old.items) }
     {
-        let Some(held) = self.table.seat(seat) else {
+        let Some(held) = self.state.seat(seat) else {
             return Ok(());
         };
         if !held.is_fresh() {
             return Ok(());
         }
-        match self.table.deeds().get(held.due()) {
+        match self.state.deeds().get(held.due()) {
             Some(deed) => write(alloc, Viewer::Seat(seat), deed, into),
             None => Ok(()),
         }

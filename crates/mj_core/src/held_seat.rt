@@ -5,10 +5,10 @@ ghost use Rattle.mj_core.specs.Untold.{untold_chair};
 ghost use Rattle.mj_core.specs.Calls.{meaning};
 
 use crate::verdict::Verdict;
-use mj_deeds::{Answer, Deed};
+use mj_deeds::Answer;
 use mj_judge::judge;
 use mj_ports::{JoinLine, Key, Name};
-use mj_wall::Rules;
+use mj_table::Table;
 use std::marker::Model;
 
 // A seat that is held: the author by whom it is present, the name and key of its join, the number of the deed that its
@@ -82,16 +82,17 @@ impl HeldSeat {
         self.refused == 0
     }
 
-    // The verdict on an answer of this seat.
-    pub fn verdict(&self, rules: &Rules, deeds: &[Deed], seat: u8, answer: &Answer) -> Verdict
-        requires { self.now.progress.due < length deeds.now }
+    // The verdict on an answer of this seat, where there are so many deeds.
+    pub fn verdict(&self, table: &Table, deeds: usize, seat: u8, answer: &Answer) -> Verdict
+        requires due { self.now.progress.due < deeds }
+        requires many { deeds ≡ length table.now.deeds }
         ensures room { self.now.progress.due < usize.MAX }
-        ensures judged { meaning result ≡ verdict_on rules.now.red deeds.now seat answer.now self.now.progress }
+        ensures judged { meaning result ≡ verdict_on table.now.rules.red table.now.deeds seat answer.now self.now.progress }
     {
-        if self.due + 1 < deeds.len() {
+        if self.due + 1 < deeds {
             return Verdict::Late;
         }
-        match judge(rules, deeds, seat, answer) {
+        match judge(table, seat, answer) {
             Ok(()) => Verdict::Taken,
             Err(rule) => Verdict::Refused(rule),
         }

@@ -5,7 +5,7 @@ mod answers;
 mod entered;
 mod game;
 mod held_seat;
-mod table;
+mod state;
 #[cfg(test)]
 mod tests;
 mod verdict;

@@ -3,13 +3,19 @@ use Rattle.std.proofs.Common.{◌≡◌, ℕ, ◌+◌, ◌-◌, ◌<◌, List, [
 use Rattle.std.specs.Prelude.{slice_get, option_to_list, flat_map}
 use Rattle.std.specs.Option.{option_or}
 use Rattle.std.proofs.lemmas.List.{length-append, take_more, flat_map_more}
+use Rattle.mj_deeds.specs.declared.deed.Deed.{Deed}
+use Rattle.mj_deeds.specs.Facts.{newest}
 
-at_end : (xs : List ℕ) (x : ℕ) → slice_get (xs ++ x ∷ []) (length xs) ≡ Some x
+at_end : {A : Type 0} (xs : List A) (x : A) → slice_get (xs ++ x ∷ []) (length xs) ≡ Some x
 at_end [] x = refl
 at_end (y ∷ ys) x = at_end ys x
 
-one_less : (xs : List ℕ) (x : ℕ) → length (xs ++ x ∷ []) - 1 ≡ length xs
+one_less : {A : Type 0} (xs : List A) (x : A) → length (xs ++ x ∷ []) - 1 ≡ length xs
 one_less xs x = simp length-append (omega arith)
+
+-- The newest deed is the one that was added last.
+pub newest_more : (ds : List Deed) (d : Deed) → newest (ds ++ d ∷ []) ≡ Some d
+newest_more ds d = rw (one_less ds d) (at_end ds d)
 
 -- What is added last is the last one; where nothing is added the last stays.
 last_more : (xs : List ℕ) (more : Option ℕ) →
@@ -18,7 +24,7 @@ last_more xs None = simp append-nil refl
 last_more xs (Some x) = rw (one_less xs x) (at_end xs x)
 
 -- What a list gives one item further.
-gathered_more : {A : Type 0} (f : A → List ℕ) (xs : List A) (i : ℕ) (x : A) (piece : List ℕ) → i < length xs → x ≡ get_or xs i x → piece ≡ f x →
+pub gathered_more : {A : Type 0} (f : A → List ℕ) (xs : List A) (i : ℕ) (x : A) (piece : List ℕ) → i < length xs → x ≡ get_or xs i x → piece ≡ f x →
     flat_map f (take (i + 1) xs) ≡ flat_map f (take i xs) ++ piece
 gathered_more f xs i x piece h is what =
     ap (flat_map f) (take_more xs i x h)

@@ -1,4 +1,5 @@
-ghost use Rattle.std.specs.Prelude.{◌≡◌, ◌≤◌, length, option_to_list, slice_get, ◌-◌};
+ghost use Rattle.std.specs.Prelude.{◌≡◌, ◌≤◌, length, option_copied, option_to_list, slice_get, ◌-◌};
+ghost use Rattle.mj_deeds.specs.Course.{cause};
 ghost use Rattle.mj_deeds.specs.Facts.{live_draws, is_live_draw, is_kan, kans, kan_seats, kan_seats_by, indicators, indicators_by, live_tiles};
 
 use crate::deed::Deed;
@@ -45,6 +46,32 @@ pub fn shown(deeds: &[Deed]) -> usize
     number
 }
 
+/// The indicator at a place of those that are shown in one hand, the first one at 0; none where no more are shown.
+pub fn indicator(deeds: &[Deed], place: usize) -> Option<Tile>
+    ensures { result ≡ slice_get (indicators deeds.now) place }
+{
+    let mut left = place;
+    for deed in deeds {
+        if let Some(tile) = shown_by(deed) {
+            if left == 0 {
+                return Some(tile);
+            }
+            left -= 1;
+        }
+    }
+    None
+}
+
+/// The deed that the newest one comes of: before an indicator the kan. None after every other deed.
+pub fn cause(deeds: &[Deed]) -> Option<&Deed>
+    ensures { option_copied result ≡ cause deeds.now }
+{
+    match deeds.split_last() {
+        Some((Deed::Dora { .. }, before)) => before.last(),
+        _ => None,
+    }
+}
+
 /// How many live tiles are left in one hand: there are 70 when the dealer draws first, and each kan takes one away.
 pub fn live_left(deeds: &[Deed]) -> usize
     ensures value { result ≡ live_tiles deeds.now }
@@ -66,7 +93,7 @@ fn is_live(deed: &Deed) -> bool
 }
 
 // Whether a deed is a kan.
-fn is_kan(deed: &Deed) -> bool
+pub(crate) fn is_kan(deed: &Deed) -> bool
     ensures { result ≡ is_kan deed.now }
 {
     matches!(

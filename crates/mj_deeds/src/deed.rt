@@ -1,7 +1,10 @@
+ghost use Rattle.std.specs.Prelude.{◌≡◌, IfOk};
+
 use crate::four::Four;
 use crate::tiles::Tiles;
 use mj_ports::Name;
 use mj_tiles::{Kind, Tile};
+use std::alloc::AllocError;
 
 /// Who a line is written for.
 #[derive(Clone, Copy, Debug, PartialEq, Eq)]
@@ -13,7 +16,7 @@ pub enum Viewer {
 }
 
 /// One deed of a game. Seats are 0 to 3.
-#[derive(Debug, Drop)]
+#[derive(Clone, Debug, Drop)]
 pub enum Deed {
     /// The game starts, with the names of the four seats.
     StartGame {
@@ -87,4 +90,13 @@ pub enum Deed {
     Dora {
         tile: Tile,
     },
+}
+
+impl Deed {
+    /// The same deed once more.
+    pub fn copy(&self) -> Result<Deed, AllocError>
+        ensures { IfOk result (λ d. d ≡ self.now) }
+    {
+        self.clone()
+    }
 }

@@ -5,8 +5,8 @@ ghost use Rattle.mj_deeds.specs.Four.{at_seat};
 
 use crate::deed::Deed;
 use crate::four::Four;
-use crate::tiles::{Tiles, less, number_among};
-use mj_tiles::Tile;
+use crate::tiles::{Tiles, less};
+use mj_tiles::{Tile, number_among};
 use std::alloc::{AllocError, Global};
 
 /// The concealed tiles of a seat in one hand, in tile order: those given to it, less those that it put down.
@@ -58,7 +58,7 @@ pub fn drawn(deeds: &[Deed], seat: u8) -> Option<Tile>
 }
 
 // The tile that a seat discards by a deed.
-fn discarded_by(deed: &Deed, seat: u8) -> Option<Tile>
+pub(crate) fn discarded_by(deed: &Deed, seat: u8) -> Option<Tile>
     ensures { option_to_list result ≡ discards_by seat deed.now }
 {
     match deed {

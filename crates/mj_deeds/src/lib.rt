@@ -2,11 +2,16 @@
 #![tactic(auto)]
 
 mod answer;
+mod bid;
+mod bringing;
+mod counting;
 mod course;
 mod deed;
 mod facts;
+mod fitting;
 mod four;
 mod meld;
+mod passed;
 mod rule;
 #[cfg(test)]
 mod tests;
@@ -14,11 +19,15 @@ mod tiles;
 mod token;
 
 pub use answer::{Answer, Pai};
-pub use course::{kan_seat, kans, live_drawn, live_left, shown};
+pub use bid::Bid;
+pub use counting::held_counts;
+pub use course::{cause, indicator, kan_seat, kans, live_drawn, live_left, shown};
 pub use deed::{Deed, Viewer};
 pub use facts::{concealed, drawn, held, river};
+pub use fitting::fits;
 pub use four::Four;
-pub use meld::{has_triplet, melds};
+pub use meld::{has_triplet, held_melds, melds};
+pub use passed::{own_kinds, passed_kinds};
 pub use rule::Rule;
 pub use tiles::{Tiles, ordered};
 pub use token::Token;

@@ -1,6 +1,6 @@
 use crate::{
-    Deed, Four, Tiles, concealed, drawn, has_triplet, held, kan_seat, kans, live_drawn, live_left,
-    melds, ordered, river, shown,
+    Deed, Four, Tiles, cause, concealed, drawn, fits, has_triplet, held, indicator, kan_seat, kans,
+    live_drawn, live_left, melds, ordered, own_kinds, passed_kinds, river, shown,
 };
 use mj_tiles::{Form, Kind, Tile};
 use std::alloc::Global;
@@ -159,5 +159,71 @@ fn a_pon_becomes_a_kan_and_takes_a_live_tile(rt: HostRuntime) -> Result<(), Fail
     assert_eq!(rt; live_left(deeds), 66);
     assert!(rt; kan_seat(deeds) == Some(2));
     assert_eq!(rt; held(deeds, 0, tile(4)?), 0);
+    Ok(())
+}
+
+#[test]
+fn readers_without_memory_agree(rt: HostRuntime) -> Result<(), Fail> {
+    let alloc = rt.alloc();
+    let deeds = calls(alloc)?;
+    let deeds = deeds.as_slice();
+    assert!(rt; indicator(deeds, 0) == Some(tile(32)?));
+    assert!(rt; indicator(deeds, 1) == Some(tile(9)?));
+    assert!(rt; indicator(deeds, 2).is_none());
+    assert!(rt; matches!(cause(deeds), Some(Deed::AddedKan { .. })));
+    assert!(rt; own_kinds(deeds, 0).has(tile(0)?.kind()));
+    assert!(rt; !own_kinds(deeds, 1).has(tile(0)?.kind()));
+    assert!(rt; passed_kinds(deeds, 0).has(tile(33)?.kind()));
+    assert!(rt; !passed_kinds(deeds, 1).has(tile(33)?.kind()));
+    let copy = deeds[0].copy()?;
+    assert!(rt; matches!(copy, Deed::StartHand { dealer: 0, .. }));
+    Ok(())
+}
+
+// Seat 0 has made four concealed kans, of `1m` to `4m`, and holds four `5m`; seat 1 holds four `6m`.
+fn four_kans(alloc: Global) -> Result<Vec<Deed>, Fail> {
+    let mut deeds = Vec::new(alloc);
+    for face in 0..4 {
+        for copy in 0..4 {
+            deeds.push(draw(0, face)?)?;
+        }
+        deeds.push(closed_kan(0, face)?)?;
+    }
+    for face in 4..6 {
+        for copy in 0..4 {
+            deeds.push(draw(face - 4, face)?)?;
+        }
+    }
+    Ok(deeds)
+}
+
+fn closed_kan(seat: u8, face: u8) -> Result<Deed, Fail> {
+    let tile = tile(face)?;
+    Ok(Deed::ClosedKan {
+        seat,
+        a: tile,
+        b: tile,
+        c: tile,
+        d: tile,
+    })
+}
+
+#[test]
+fn no_fifth_of_a_kind_and_no_fifth_kan_fits(rt: HostRuntime) -> Result<(), Fail> {
+    let alloc = rt.alloc();
+    let deeds = four_kans(alloc)?;
+    let deeds = deeds.as_slice();
+    // a fifth kan, of the seat with four melds and of one without
+    assert!(rt; !fits(false, deeds, &closed_kan(0, 4)?));
+    assert!(rt; !fits(false, deeds, &closed_kan(1, 5)?));
+    // a fifth tile of a kind, as a red five too
+    assert!(rt; !fits(false, deeds, &draw(1, 0)?));
+    assert!(rt; !fits(true, deeds, &draw(1, 34)?));
+    // a red five, in a game with them and without
+    assert!(rt; fits(true, deeds, &draw(1, 35)?));
+    assert!(rt; !fits(false, deeds, &draw(1, 35)?));
+    // a tile that isn't held, and one that is
+    assert!(rt; !fits(false, deeds, &discard(1, 0, false)?));
+    assert!(rt; fits(false, deeds, &discard(1, 5, false)?));
     Ok(())
 }

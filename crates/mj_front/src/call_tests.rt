@@ -1,5 +1,6 @@
 use crate::Status;
-use crate::tests::{HIDDEN, deal, push, referee, start};
+use crate::tests::{HIDDEN, deal, pass, push, referee, start};
+use mj_tiles::Tile;
 use std::alloc::Global;
 use std::test::Fail;
 
@@ -216,5 +217,38 @@ fn each_call_and_each_kan_with_its_indicator_and_replacement_is_told_to_all_seat
             told_of_each_call(alloc, seat, hands)?.as_slice()
         );
     }
+    Ok(())
+}
+
+// The seat of a turn, counted from 0, discards the tile that it drew, and nobody calls it.
+fn turn(text: &mut Vec<u8>, turn: u8, tile: Tile) -> Result<(), Fail> {
+    let seats = ["0", "1", "2", "3"];
+    let who = seats[usize::from(turn % 4)];
+    for seat in seats {
+        push(text, "say ")?;
+        push(text, seat)?;
+        if seat == who {
+            push(text, " {\"type\":\"dahai\",\"actor\":")?;
+            push(text, seat)?;
+            push(text, ",\"pai\":\"")?;
+            text.extend_from_slice(tile.text())?;
+            push(text, "\",\"tsumogiri\":true}\n")?;
+        } else {
+            push(text, " {\"type\":\"none\"}\n")?;
+        }
+    }
+    pass(text, seats)
+}
+
+#[test]
+fn a_hand_goes_on_until_the_last_live_tile_was_discarded(rt: HostRuntime) -> Result<(), Fail> {
+    let alloc = rt.alloc();
+    let mut text = deal(alloc, &[], ["0", "1", "2", "3"])?;
+    for number in 0..70u8 {
+        let tile = Tile::of((number + 52) / 4).ok_or("no tile")?;
+        turn(&mut text, number, tile)?;
+    }
+    let (status, _) = referee(alloc, "0", text.as_slice())?;
+    assert_eq!(rt; status, Status::NotBuilt(574));
     Ok(())
 }

@@ -89,8 +89,8 @@ fn walled(alloc: Global, swaps: &[(u8, u8)]) -> Result<Vec<u8>, Fail> {
     Ok(text)
 }
 
-// The four seats pass, in that order.
-fn pass(text: &mut Vec<u8>, order: [&str; 4]) -> Result<(), Fail> {
+/// The four seats pass, in that order.
+pub(crate) fn pass(text: &mut Vec<u8>, order: [&str; 4]) -> Result<(), Fail> {
     for seat in order {
         push(text, "say ")?;
         push(text, seat)?;

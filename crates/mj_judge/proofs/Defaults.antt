@@ -1,8 +1,8 @@
 -- The default answer breaks no rule.
-use Rattle.std.proofs.Common.{◌≡◌, ℕ, zero, suc, ◌+◌, ◌-◌, ◌<◌, ◌≤◌, ◌==◌, ◌&&◌, ◌||◌, not, Bool, true, false, cond, eqb, ltb, List, [], ◌∷◌, length, get_or, inl, inr, Option, Some, None, refl, sym, ap, ◌∙◌, subst, arith}
+use Rattle.std.proofs.Common.{◌≡◌, ℕ, zero, suc, ◌+◌, ◌-◌, ◌<◌, ◌==◌, ◌&&◌, ◌||◌, not, Bool, true, false, cond, eqb, List, [], ◌∷◌, length, get_or, inl, inr, Option, Some, None, refl, sym, ap, ◌∙◌, subst, arith}
 use Rattle.std.specs.Prelude.{nat_lt, slice_get, option_map, option_and_then, filter}
 use Rattle.std.specs.List.{list_all}
-use Rattle.std.proofs.lemmas.Bool.{cases_eq, ne_eqb, eq-eqb, eqb-true, and_parts, ltb-true, not-true, not-false}
+use Rattle.std.proofs.lemmas.Bool.{cases_eq, ne_eqb, eq-eqb, and_parts, ltb-true, not-true}
 use Rattle.std.proofs.lemmas.Option.{slice_get-get_or}
 use Rattle.std.proofs.lemmas.List.Sums.{sum_by-cons}
 use Rattle.mj_tiles.specs.Faces.{kind_of, number_in, is_red, tile_order}
@@ -12,10 +12,11 @@ use Rattle.mj_deeds.specs.declared.answer.Answer.TheVariants.{Pass, Discard}
 use Rattle.mj_deeds.specs.declared.deed.Deed.{Deed}
 use Rattle.mj_deeds.specs.declared.deed.Deed.TheVariants as deeds
 use Rattle.mj_deeds.specs.Facts.{newest, gained, lost, drawn_tile, drawn_by}
-use Rattle.mj_deeds.specs.Fits.{all_fit}
-use Rattle.mj_rules.specs.Broken.{View, view_of, Turn, Drew, Discarded, Called, Nobodys, turn_by, turn_in, held, is_open, is_no_tile, is_wrongly_marked, is_banned_tile, banned_in, is_that, broken, broken_by}
-use Rattle.mj_rules.specs.Default.{default_in, default_by, default_answer, discard_or_pass, free_faces, last_of}
-use Rattle.mj_judge.specs.Laws.{has_free, has_free_in, DefaultIsLawful}
+use Rattle.mj_rules.specs.Broken.{View, view_of, Turn, Drew, Discarded, Called, Nobodys, turn_by, turn_in, held, is_open, is_no_tile, is_wrongly_marked, is_banned_tile, banned_in, is_that, broken_by}
+use Rattle.mj_rules.specs.Default.{default_in, default_by, discard_or_pass, free_faces, last_of, has_free_in, has_free}
+use Rattle.mj_rules.proofs.Freeing.{some_tile_is_free}
+use Rattle.mj_rules.proofs.Playing.{played_deeds_fit}
+use Rattle.mj_judge.specs.Laws.{DefaultIsLawful, PlayedDefaultIsLawful}
 use Rattle.mj_judge.proofs.Lawful.{pass_lawful, discard_lawful}
 use Rattle.mj_judge.proofs.Given.{Owns, owns}
 
@@ -182,3 +183,7 @@ by_newest red ds seat (Some (deeds.Dora tile)) e owns free = passes red seat (vi
 pub default_is_lawful : DefaultIsLawful
 unfolding default_by view_of
 default_is_lawful red ds seat small fit free = by_newest red ds seat (newest ds) refl (owns red ds seat small fit) free
+
+pub played_default_is_lawful : PlayedDefaultIsLawful
+played_default_is_lawful red walls ds seat small whole played =
+    default_is_lawful red ds seat small (played_deeds_fit red walls ds whole played) (some_tile_is_free red walls ds seat played)

@@ -1,59 +1,18 @@
 -- What a seat is given in a hand whose deeds fit: it puts down no more than that, no red five where there are none, and it
 -- holds the tile that it drew last.
-use Rattle.std.proofs.Common.{◌≡◌, ℕ, zero, suc, ◌+◌, ◌-◌, ◌<◌, ◌≤◌, ◌==◌, ◌⊎◌, inl, inr, ◌&&◌, ◌||◌, not, Bool, true, false, cond, eqb, ltb, leb, List, [], ◌∷◌, ◌++◌, length, Option, Some, None, refl, sym, ap, ◌∙◌, subst, arith, append-nil, append_assoc}
-use Rattle.std.specs.Prelude.{nat_lt, nat_le, sum_by, flat_map, slice_get, option_and_then}
-use Rattle.std.specs.List.{list_all, list_any}
-use Rattle.std.proofs.lemmas.Bool.{cases_eq, ne_eqb, eq-eqb, and_parts, and_from, ltb-true, leb-true}
-use Rattle.std.proofs.lemmas.List.{length-append}
-use Rattle.std.proofs.lemmas.List.Sums.{sum_by-append, sum_by-cons}
+use Rattle.std.proofs.Common.{◌≡◌, ℕ, zero, suc, ◌+◌, ◌<◌, ◌≤◌, inl, inr, ◌&&◌, ◌||◌, not, Bool, true, false, cond, eqb, List, [], ◌∷◌, ◌++◌, Some, None, refl, sym, ap, ◌∙◌, subst, arith, append-nil, append_assoc}
+use Rattle.std.specs.Prelude.{option_and_then}
+use Rattle.std.specs.List.{list_all}
+use Rattle.std.proofs.lemmas.Bool.{cases_eq, ne_eqb, eq-eqb, and_parts, and_from}
 use Rattle.std.proofs.lemmas.List.Concat.{flat_map-append}
 use Rattle.std.proofs.lemmas.List.Folds.{list_all-append}
 use Rattle.mj_tiles.specs.Faces.{number_in, is_red}
-use Rattle.mj_deeds.specs.declared.four.Four.{Four}
 use Rattle.mj_deeds.specs.declared.deed.Deed.{Deed}
 use Rattle.mj_deeds.specs.declared.deed.Deed.TheVariants.{StartGame, StartHand, Draw, Discard, Chi, Pon, OpenKan, ClosedKan, AddedKan, Dora}
-use Rattle.mj_deeds.specs.Four.{at_seat}
-use Rattle.mj_deeds.specs.Facts.{newest, gained, gains_by, lost, losses_by, of_seat, drawn_tile, drawn_by}
+use Rattle.mj_deeds.specs.Facts.{gained, gains_by, lost, losses_by, drawn_tile, drawn_by}
+use Rattle.mj_deeds.proofs.Totals.{number_more, held_room}
+use Rattle.mj_deeds.proofs.Newest.{newest_more}
 use Rattle.mj_deeds.specs.Fits.{fits, all_fit, has_seats, is_held, is_held_by, are_held, has_tiles, faces_in}
-
--- Sums over what a list of deeds gives, one deed further.
-sum_more : (w : ℕ → ℕ) (f : Deed → List ℕ) (ds : List Deed) (d : Deed) → sum_by w (flat_map f (ds ++ d ∷ [])) ≡ sum_by w (flat_map f ds) + sum_by w (f d)
-sum_more w f ds d =
-    ap (sum_by w) (flat_map-append f ds (d ∷ []))
-    ∙ sum_by-append w (flat_map f ds) (f d ++ [])
-    ∙ ap (λ n. sum_by w (flat_map f ds) + n) (ap (sum_by w) (append-nil (f d)))
-
-number_more : (f : Deed → List ℕ) (ds : List Deed) (d : Deed) (face : ℕ) → number_in (flat_map f (ds ++ d ∷ [])) face ≡ number_in (flat_map f ds) face + number_in (f d) face
-number_more f ds d face = sum_more (λ x. cond (eqb x face) 1 0) f ds d
-
--- The tiles that are put down are held.
-all_or_none : (q : ℕ → Bool) (tiles : List ℕ) (face : ℕ) → list_all q tiles ≡ true → (q face ≡ true) ⊎ (number_in tiles face ≡ 0)
-all_or_none q [] face h = inr refl
-all_or_none q (t ∷ ts) face h =
-    let parts = and_parts (q t) (list_all q ts) h in
-    elim (cases_eq t face) [
-      | inl e ↦ inl (subst (λ x. q x ≡ true) e parts.0)
-      | inr ne ↦ elim (all_or_none q ts face parts.1) [
-        | inl there ↦ inl there
-        | inr none ↦ inr (sum_by-cons (λ x. cond (eqb x face) 1 0) t ts ∙ both _ _ (ap (λ b. cond b 1 0) (ne_eqb t face ne)) none)
-      ]
-    ]
-  where
-    both : (a b : ℕ) → a ≡ 0 → b ≡ 0 → a + b ≡ 0
-    both a b e g = omega arith
-
-held_room : (got gone tiles : List ℕ) (face : ℕ) → are_held got gone tiles ≡ true → number_in gone face ≤ number_in got face → number_in gone face + number_in tiles face ≤ number_in got face
-held_room got gone tiles face h within =
-    elim (all_or_none (λ x. nat_le (number_in tiles x) (number_in got x - number_in gone x)) tiles face h) [
-      | inl there ↦ some _ _ _ (leb-true _ _ there) within
-      | inr none ↦ without _ _ _ none within
-    ]
-  where
-    some : (t o g : ℕ) → t ≤ o - g → g ≤ o → g + t ≤ o
-    some t o g h k = omega arith
-
-    without : (t o g : ℕ) → t ≡ 0 → g ≤ o → g + t ≤ o
-    without t o g h k = omega arith
 
 -- What is true of a seat behind some deeds.
 pub record Owns (red : Bool) (ds : List Deed) (seat : ℕ) : Type 0 where
@@ -88,18 +47,6 @@ of_four p (suc (suc (suc (suc n)))) h all = absurd (too_many n h)
   where
     too_many : (n : ℕ) → suc (suc (suc (suc n))) < 4 → ⊥
     too_many n h = omega arith
-
--- the newest deed of a list that grows
-
-at_end : {A : Type 0} (xs : List A) (x : A) → slice_get (xs ++ x ∷ []) (length xs) ≡ Some x
-at_end [] x = refl
-at_end (y ∷ ys) x = at_end ys x
-
-one_less : {A : Type 0} (xs : List A) (x : A) → length (xs ++ x ∷ []) - 1 ≡ length xs
-one_less xs x = simp length-append (omega arith)
-
-newest_is : (ds : List Deed) (d : Deed) → newest (ds ++ d ∷ []) ≡ Some d
-newest_is ds d = rw (one_less ds d) (at_end ds d)
 
 -- red fives
 
@@ -191,7 +138,7 @@ owns_more red ds d seat small fit owns =
           (held_room (gained ds seat) (lost ds seat) (losses_by seat d) face held (owns.within face));
       real = real_step red ds d seat parts.tiles owns.real;
       drawn = λ tile h. further _ _ _ _ _ _ (number_more (losses_by seat) ds d tile) (number_more (gains_by seat) ds d tile)
-          (drawn_step seat tile d _ _ (ap (option_and_then (drawn_by seat)) (sym (newest_is ds d)) ∙ h) (owns.within tile));
+          (drawn_step seat tile d _ _ (ap (option_and_then (drawn_by seat)) (sym (newest_more ds d)) ∙ h) (owns.within tile));
     }
   where
     more : (l' l x g' g y : ℕ) → l' ≡ l + x → g' ≡ g + y → l + x ≤ g → l' ≤ g'

@@ -1,5 +1,5 @@
 -- Answers that break no rule: a pass where it is open, and a discard of a tile that is held, is marked as it is, and is free.
-use Rattle.std.proofs.Common.{◌≡◌, ℕ, ◌<◌, ◌≤◌, ◌==◌, ◌&&◌, ◌||◌, not, Bool, true, false, cond, eqb, ltb, List, [], ◌∷◌, Option, Some, None, refl, sym, ap, ◌∙◌, arith}
+use Rattle.std.proofs.Common.{◌≡◌, ℕ, ◌<◌, ◌||◌, not, Bool, true, false, cond, ltb, List, [], ◌∷◌, Some, None, refl, ap, ◌∙◌, arith}
 use Rattle.std.proofs.lemmas.Bool.{eq-eqb, le-ltb}
 use Rattle.mj_tiles.specs.Faces.{number_in}
 use Rattle.mj_deeds.specs.declared.answer.Pai.TheVariants.{Known}

@@ -1,5 +1,5 @@
 -- Sets and lists of banned kinds.
-use Rattle.std.proofs.Common.{◌≡◌, ℕ, Bool, Option, ◌&&◌, ◌||◌, not, List, [], ◌∷◌, eqb, refl, sym, ap, ◌∙◌}
+use Rattle.std.proofs.Common.{◌≡◌, ℕ, Bool, Option, ◌&&◌, ◌||◌, not, List, [], ◌∷◌, eqb, refl, ap, ◌∙◌}
 use Rattle.std.specs.Prelude.{nat_lt, nat_le, filter}
 use Rattle.std.specs.List.{list_all}
 use Rattle.mj_tiles.specs.Faces.{number_in, kind_of, tile_order}

@@ -5,11 +5,45 @@ ghost use Rattle.mj_deeds.specs.Facts.{drawn_tile};
 ghost use Rattle.mj_rules.specs.Broken.{view_of, held, is_that, is_no_tile, names_no_tile, face_in, names_unheld, is_wrongly_marked, marks_wrongly};
 
 use crate::questions::is_tile;
-use mj_deeds::{Answer, Deed, Pai, drawn, held};
+use mj_deeds::{Answer, Pai};
+use mj_table::Table;
 use mj_tiles::Tile;
 
 // A named tile is one that the game doesn't have: a hidden one, or a red five where there are none.
-pub(crate) fn names_no_tile(red: bool, answer: &Answer) -> bool
+pub(crate) fn names_no_tile(table: &Table, answer: &Answer) -> bool
+    ensures { result ≡ names_no_tile table.now.rules.red answer.now }
+{
+    names_tile_outside(table.rules().red, answer)
+}
+
+// The named own tiles aren't all among the concealed ones: of some face more are named than are held.
+pub(crate) fn names_unheld(table: &Table, seat: u8, answer: &Answer) -> bool
+    ensures { result ≡ names_unheld (view_of table.now.deeds seat) answer.now }
+{
+    match answer {
+        Answer::Discard { tile, .. } => has_unheld(table, seat, &[*tile]),
+        Answer::Chi { a, b, .. } => has_unheld(table, seat, &[*a, *b]),
+        Answer::Pon { a, b, .. } => has_unheld(table, seat, &[*a, *b]),
+        Answer::OpenKan { a, b, c, .. } => has_unheld(table, seat, &[*a, *b, *c]),
+        Answer::ClosedKan { a, b, c, d, .. } => has_unheld(table, seat, &[*a, *b, *c, *d]),
+        Answer::AddedKan { tile, .. } => has_unheld(table, seat, &[*tile]),
+        _ => false,
+    }
+}
+
+// The discard is marked as the drawn tile and isn't that one; or it isn't marked so, and the drawn tile is the only
+// one held of its face.
+pub(crate) fn marks_wrongly(table: &Table, seat: u8, answer: &Answer) -> bool
+    ensures { result ≡ marks_wrongly (view_of table.now.deeds seat) answer.now }
+{
+    match answer {
+        Answer::Discard { tile, drawn, .. } => is_wrongly_marked(table, seat, tile, *drawn),
+        _ => false,
+    }
+}
+
+// The same in a game with red fives or without.
+fn names_tile_outside(red: bool, answer: &Answer) -> bool
     ensures { result ≡ names_no_tile red answer.now }
 {
     match answer {
@@ -19,32 +53,6 @@ pub(crate) fn names_no_tile(red: bool, answer: &Answer) -> bool
         Answer::OpenKan { tile, a, b, c, .. } => has_no_tile(red, &[*tile, *a, *b, *c]),
         Answer::ClosedKan { a, b, c, d, .. } => has_no_tile(red, &[*a, *b, *c, *d]),
         Answer::AddedKan { tile, a, b, c, .. } => has_no_tile(red, &[*tile, *a, *b, *c]),
-        _ => false,
-    }
-}
-
-// The named own tiles aren't all among the concealed ones: of some face more are named than are held.
-pub(crate) fn names_unheld(deeds: &[Deed], seat: u8, answer: &Answer) -> bool
-    ensures { result ≡ names_unheld (view_of deeds.now seat) answer.now }
-{
-    match answer {
-        Answer::Discard { tile, .. } => has_unheld(deeds, seat, &[*tile]),
-        Answer::Chi { a, b, .. } => has_unheld(deeds, seat, &[*a, *b]),
-        Answer::Pon { a, b, .. } => has_unheld(deeds, seat, &[*a, *b]),
-        Answer::OpenKan { a, b, c, .. } => has_unheld(deeds, seat, &[*a, *b, *c]),
-        Answer::ClosedKan { a, b, c, d, .. } => has_unheld(deeds, seat, &[*a, *b, *c, *d]),
-        Answer::AddedKan { tile, .. } => has_unheld(deeds, seat, &[*tile]),
-        _ => false,
-    }
-}
-
-// The discard is marked as the drawn tile and isn't that one; or it isn't marked so, and the drawn tile is the only
-// one held of its face.
-pub(crate) fn marks_wrongly(deeds: &[Deed], seat: u8, answer: &Answer) -> bool
-    ensures { result ≡ marks_wrongly (view_of deeds.now seat) answer.now }
-{
-    match answer {
-        Answer::Discard { tile, drawn, .. } => is_wrongly_marked(deeds, seat, tile, *drawn),
         _ => false,
     }
 }
@@ -72,13 +80,13 @@ fn is_no_tile(red: bool, tile: &Pai) -> bool
 
 // Of some face of these tiles there are more than the seat holds.
 #[tactic(auto, unfolding(mj_rules::specs::Broken::view_of))]
-fn has_unheld(deeds: &[Deed], seat: u8, tiles: &[Pai]) -> bool
+fn has_unheld(table: &Table, seat: u8, tiles: &[Pai]) -> bool
     requires { length tiles.now ≤ 4 }
-    ensures { let faces = flat_map face_in tiles.now in result ≡ list_any (λ face. nat_lt (held (view_of deeds.now seat) face) (number_in faces face)) faces }
+    ensures { let faces = flat_map face_in tiles.now in result ≡ list_any (λ face. nat_lt (held (view_of table.now.deeds seat) face) (number_in faces face)) faces }
 {
     for tile in tiles {
         if let Pai::Known(tile) = tile {
-            if held(deeds, seat, *tile) < number_among(tiles, *tile) {
+            if table.held(seat, *tile) < number_among(tiles, *tile) {
                 return true;
             }
         }
@@ -101,21 +109,21 @@ pub(crate) fn number_among(tiles: &[Pai], tile: Tile) -> usize
 }
 
 #[tactic(auto, unfolding(mj_rules::specs::Broken::view_of))]
-fn is_wrongly_marked(deeds: &[Deed], seat: u8, tile: &Pai, marked: bool) -> bool
-    ensures { result ≡ is_wrongly_marked (view_of deeds.now seat) tile.now marked }
+fn is_wrongly_marked(table: &Table, seat: u8, tile: &Pai, marked: bool) -> bool
+    ensures { result ≡ is_wrongly_marked (view_of table.now.deeds seat) tile.now marked }
 {
     match tile {
-        Pai::Known(tile) if marked => !is_drawn(deeds, seat, *tile),
-        Pai::Known(tile) => is_drawn(deeds, seat, *tile) && held(deeds, seat, *tile) == 1,
+        Pai::Known(tile) if marked => !is_drawn(table, seat, *tile),
+        Pai::Known(tile) => is_drawn(table, seat, *tile) && table.held(seat, *tile) == 1,
         Pai::Hidden => false,
     }
 }
 
 // The tile has the face of the tile that the seat has drawn.
-fn is_drawn(deeds: &[Deed], seat: u8, tile: Tile) -> bool
-    ensures { result ≡ is_that (drawn_tile deeds.now seat) tile }
+fn is_drawn(table: &Table, seat: u8, tile: Tile) -> bool
+    ensures { result ≡ is_that (drawn_tile table.now.deeds seat) tile }
 {
-    match drawn(deeds, seat) {
+    match table.drawn(seat) {
         Some(other) => other.face() == tile.face(),
         None => false,
     }

@@ -2,7 +2,8 @@ ghost use Rattle.std.specs.Prelude.{◌≡◌, not, option_map};
 ghost use Rattle.mj_deeds.specs.Facts.{newest};
 ghost use Rattle.mj_rules.specs.Broken.{is_unread, actor_of, is_another, names_another, is_own_act, is_discard, is_pass, is_pass_or_call, is_open, is_call, is_kan_answer, is_own_kan, view_of, turn_by, turn_in, misses_discard, misses_target, is_tile, is_too_late, is_before, is_not_left, is_fifth_kan, is_dry_kan};
 
-use mj_deeds::{Answer, Deed, Pai, kans, live_left};
+use mj_deeds::{Answer, Deed, Pai};
+use mj_table::Table;
 use mj_tiles::Tile;
 
 // The line is no answer.
@@ -24,10 +25,10 @@ pub(crate) fn names_another(seat: u8, answer: &Answer) -> bool
 
 // Such an answer is not open to the seat in this window.
 #[tactic(auto, unfolding(mj_rules::specs::Broken::view_of))]
-pub(crate) fn is_closed(deeds: &[Deed], seat: u8, answer: &Answer) -> bool
-    ensures { result ≡ not (is_open seat (view_of deeds.now seat).turn answer.now) }
+pub(crate) fn is_closed(table: &Table, seat: u8, answer: &Answer) -> bool
+    ensures { result ≡ not (is_open seat (view_of table.now.deeds seat).turn answer.now) }
 {
-    match deeds.last() {
+    match table.newest() {
         Some(Deed::Draw { seat: who, .. }) if *who == seat => !is_own_act(answer),
         Some(Deed::Discard { seat: who, .. }) if *who != seat => !is_pass_or_call(answer),
         Some(Deed::Chi { seat: who, .. }) if *who == seat => !is_discard(answer),
@@ -38,50 +39,50 @@ pub(crate) fn is_closed(deeds: &[Deed], seat: u8, answer: &Answer) -> bool
 
 // A call names another than the discarder, or another tile than the one that was discarded.
 #[tactic(auto, unfolding(mj_rules::specs::Broken::view_of))]
-pub(crate) fn misses_target(deeds: &[Deed], seat: u8, answer: &Answer) -> bool
-    ensures { result ≡ misses_target (view_of deeds.now seat).turn answer.now }
+pub(crate) fn misses_target(table: &Table, seat: u8, answer: &Answer) -> bool
+    ensures { result ≡ misses_target (view_of table.now.deeds seat).turn answer.now }
 {
     match answer {
-        Answer::Chi { target, tile, .. } => misses_discard(deeds, *target, tile),
-        Answer::Pon { target, tile, .. } => misses_discard(deeds, *target, tile),
-        Answer::OpenKan { target, tile, .. } => misses_discard(deeds, *target, tile),
+        Answer::Chi { target, tile, .. } => misses_discard(table, *target, tile),
+        Answer::Pon { target, tile, .. } => misses_discard(table, *target, tile),
+        Answer::OpenKan { target, tile, .. } => misses_discard(table, *target, tile),
         _ => false,
     }
 }
 
 // A discard is called with no live tile left.
 #[tactic(auto, unfolding(mj_rules::specs::Broken::view_of))]
-pub(crate) fn is_too_late(deeds: &[Deed], seat: u8, answer: &Answer) -> bool
-    ensures { result ≡ is_too_late (view_of deeds.now seat) answer.now }
+pub(crate) fn is_too_late(table: &Table, seat: u8, answer: &Answer) -> bool
+    ensures { result ≡ is_too_late (view_of table.now.deeds seat) answer.now }
 {
-    is_call(answer) && live_left(deeds) == 0
+    is_call(answer) && table.live() == 0
 }
 
 // A run is called from another seat than the one before.
 #[tactic(auto, unfolding(mj_rules::specs::Broken::view_of))]
-pub(crate) fn is_not_left(deeds: &[Deed], seat: u8, answer: &Answer) -> bool
-    ensures { result ≡ is_not_left seat (view_of deeds.now seat).turn answer.now }
+pub(crate) fn is_not_left(table: &Table, seat: u8, answer: &Answer) -> bool
+    ensures { result ≡ is_not_left seat (view_of table.now.deeds seat).turn answer.now }
 {
     match answer {
-        Answer::Chi { .. } => !is_before(deeds, seat),
+        Answer::Chi { .. } => !is_before(table, seat),
         _ => false,
     }
 }
 
 // A kan where four stand already.
 #[tactic(auto, unfolding(mj_rules::specs::Broken::view_of))]
-pub(crate) fn is_fifth_kan(deeds: &[Deed], seat: u8, answer: &Answer) -> bool
-    ensures { result ≡ is_fifth_kan (view_of deeds.now seat) answer.now }
+pub(crate) fn is_fifth_kan(table: &Table, seat: u8, answer: &Answer) -> bool
+    ensures { result ≡ is_fifth_kan (view_of table.now.deeds seat) answer.now }
 {
-    is_kan(answer) && kans(deeds) >= 4
+    is_kan(answer) && table.kans() >= 4
 }
 
 // A kan at one's own draw with no live tile left.
 #[tactic(auto, unfolding(mj_rules::specs::Broken::view_of))]
-pub(crate) fn is_dry_kan(deeds: &[Deed], seat: u8, answer: &Answer) -> bool
-    ensures { result ≡ is_dry_kan (view_of deeds.now seat) answer.now }
+pub(crate) fn is_dry_kan(table: &Table, seat: u8, answer: &Answer) -> bool
+    ensures { result ≡ is_dry_kan (view_of table.now.deeds seat) answer.now }
 {
-    is_own_kan(answer) && live_left(deeds) == 0
+    is_own_kan(answer) && table.live() == 0
 }
 
 // The tile is known and has that face.
@@ -158,10 +159,10 @@ fn is_kan(answer: &Answer) -> bool
 }
 
 // The newest deed is no discard of that tile by the target.
-fn misses_discard(deeds: &[Deed], target: u8, tile: &Pai) -> bool
-    ensures { result ≡ misses_discard (turn_in (option_map turn_by (newest deeds.now))) target tile.now }
+fn misses_discard(table: &Table, target: u8, tile: &Pai) -> bool
+    ensures { result ≡ misses_discard (turn_in (option_map turn_by (newest table.now.deeds))) target tile.now }
 {
-    match deeds.last() {
+    match table.newest() {
         Some(
             Deed::Discard {
                 seat: who,
@@ -174,10 +175,10 @@ fn misses_discard(deeds: &[Deed], target: u8, tile: &Pai) -> bool
 }
 
 // The newest deed is a discard of the seat before this one.
-fn is_before(deeds: &[Deed], seat: u8) -> bool
-    ensures { result ≡ is_before (turn_in (option_map turn_by (newest deeds.now))) seat }
+fn is_before(table: &Table, seat: u8) -> bool
+    ensures { result ≡ is_before (turn_in (option_map turn_by (newest table.now.deeds))) seat }
 {
-    match deeds.last() {
+    match table.newest() {
         Some(Deed::Discard { seat: who, .. }) => (*who % 4 + 1) % 4 == seat,
         _ => false,
     }

@@ -4,12 +4,13 @@ ghost use Rattle.mj_deeds.specs.Facts.{seat_melds};
 ghost use Rattle.mj_rules.specs.Broken.{view_of, is_alike, is_run, is_own_pon, is_bad_set};
 
 use mj_calls::{chi_shape, same_kind};
-use mj_deeds::{Answer, Deed, Pai, has_triplet};
+use mj_deeds::{Answer, Pai};
+use mj_table::Table;
 
 // The tiles make no such meld; a tile is added to no own pon.
 #[tactic(auto, unfolding(mj_rules::specs::Broken::view_of))]
-pub(crate) fn is_bad_set(deeds: &[Deed], seat: u8, answer: &Answer) -> bool
-    ensures { result ≡ is_bad_set (view_of deeds.now seat) answer.now }
+pub(crate) fn is_bad_set(table: &Table, seat: u8, answer: &Answer) -> bool
+    ensures { result ≡ is_bad_set (view_of table.now.deeds seat) answer.now }
 {
     match answer {
         Answer::Chi { tile, a, b, .. } => !is_run(tile, a, b),
@@ -20,7 +21,7 @@ pub(crate) fn is_bad_set(deeds: &[Deed], seat: u8, answer: &Answer) -> bool
         Answer::ClosedKan { a, b, c, d, .. } => {
             !(is_alike(a, b) && is_alike(a, c) && is_alike(a, d))
         }
-        Answer::AddedKan { tile, a, b, c, .. } => !has_own_pon(deeds, seat, tile, a, b, c),
+        Answer::AddedKan { tile, a, b, c, .. } => !has_own_pon(table, seat, tile, a, b, c),
         _ => false,
     }
 }
@@ -56,8 +57,8 @@ fn is_alike(a: &Pai, b: &Pai) -> bool
 
 // The seat has a pon of just these tiles, and the tile is of its kind.
 #[tactic(auto, using(crate::proofs::Pons::shown_pon, crate::proofs::Pons::hidden_added, crate::proofs::Pons::hidden_first, crate::proofs::Pons::hidden_second, crate::proofs::Pons::hidden_third))]
-fn has_own_pon(deeds: &[Deed], seat: u8, tile: &Pai, a: &Pai, b: &Pai, c: &Pai) -> bool
-    ensures { result ≡ list_any (is_own_pon tile.now a.now b.now c.now) (seat_melds deeds.now seat) }
+fn has_own_pon(table: &Table, seat: u8, tile: &Pai, a: &Pai, b: &Pai, c: &Pai) -> bool
+    ensures { result ≡ list_any (is_own_pon tile.now a.now b.now c.now) (seat_melds table.now.deeds seat) }
 {
     let Pai::Known(tile) = tile else {
         return false;
@@ -71,5 +72,5 @@ fn has_own_pon(deeds: &[Deed], seat: u8, tile: &Pai, a: &Pai, b: &Pai, c: &Pai) 
     let Pai::Known(c) = c else {
         return false;
     };
-    has_triplet(deeds, seat, *tile, *a, *b, *c)
+    table.has_triplet(seat, *tile, *a, *b, *c)
 }

@@ -9,13 +9,14 @@ ghost use Rattle.mj_rules.specs.Default.{last_of};
 
 use crate::holding::number_among;
 use mj_calls::banned;
-use mj_deeds::{Answer, Deed, Pai, held, ordered};
+use mj_deeds::{Answer, Deed, Pai, ordered};
+use mj_table::Table;
 use mj_tiles::{Kinds, Tile};
 
 // The discard is of a kind that is banned right after the call that is the newest deed.
 #[tactic(auto, using(crate::proofs::Swaps::swap_of), unfolding(mj_rules::specs::Broken::view_of))]
-pub(crate) fn swaps(deeds: &[Deed], seat: u8, answer: &Answer) -> bool
-    ensures { result ≡ swaps (view_of deeds.now seat).turn answer.now }
+pub(crate) fn swaps(table: &Table, seat: u8, answer: &Answer) -> bool
+    ensures { result ≡ swaps (view_of table.now.deeds seat).turn answer.now }
 {
     let Answer::Discard { tile, .. } = answer else {
         return false;
@@ -23,15 +24,15 @@ pub(crate) fn swaps(deeds: &[Deed], seat: u8, answer: &Answer) -> bool
     let Pai::Known(tile) = tile else {
         return false;
     };
-    newest_bans(deeds).has(tile.kind())
+    newest_bans(table).has(tile.kind())
 }
 
 // The kinds that are banned right after the newest deed.
 #[tactic(auto, using(crate::proofs::Swaps::bans_of_turn))]
-pub(crate) fn newest_bans(deeds: &[Deed]) -> Kinds
-    ensures { result ≡ set_of (banned_in (turn_in (option_map turn_by (newest deeds.now)))) }
+pub(crate) fn newest_bans(table: &Table) -> Kinds
+    ensures { result ≡ set_of (banned_in (turn_in (option_map turn_by (newest table.now.deeds)))) }
 {
-    match deeds.last() {
+    match table.newest() {
         Some(deed) => banned(deed),
         None => Kinds::none(),
     }
@@ -39,15 +40,15 @@ pub(crate) fn newest_bans(deeds: &[Deed]) -> Kinds
 
 // Every discard after the call would be of a banned kind.
 #[tactic(auto, unfolding(mj_rules::specs::Broken::view_of))]
-pub(crate) fn is_stuck(deeds: &[Deed], seat: u8, answer: &Answer) -> bool
-    ensures { result ≡ is_stuck (view_of deeds.now seat) answer.now }
+pub(crate) fn is_stuck(table: &Table, seat: u8, answer: &Answer) -> bool
+    ensures { result ≡ is_stuck (view_of table.now.deeds seat) answer.now }
 {
     match answer {
         Answer::Chi { tile, a, b, .. } => {
-            has_nothing_else(deeds, seat, &[*a, *b], banned_by_chi(tile, a, b))
+            has_nothing_else(table, seat, &[*a, *b], banned_by_chi(tile, a, b))
         }
         Answer::Pon { tile, a, b, .. } => {
-            has_nothing_else(deeds, seat, &[*a, *b], banned_by_pon(tile))
+            has_nothing_else(table, seat, &[*a, *b], banned_by_pon(tile))
         }
         _ => false,
     }
@@ -86,13 +87,13 @@ fn banned_by_pon(tile: &Pai) -> Kinds
 }
 
 // Every tile that is held besides these is of a banned kind.
-fn has_nothing_else(deeds: &[Deed], seat: u8, used: &[Pai], bans: Kinds) -> bool
+fn has_nothing_else(table: &Table, seat: u8, used: &[Pai], bans: Kinds) -> bool
     requires { length used.now ≤ 2 }
-    ensures { result ≡ list_all (is_used_up (gained deeds.now seat) (lost deeds.now seat) (flat_map face_in used.now) bans) tile_order }
+    ensures { result ≡ list_all (is_used_up (gained table.now.deeds seat) (lost table.now.deeds seat) (flat_map face_in used.now) bans) tile_order }
 {
     for place in 0..37 {
         let tile = ordered(place);
-        if !is_used_up(deeds, seat, used, bans, tile) {
+        if !is_used_up(table, seat, used, bans, tile) {
             return false;
         }
     }
@@ -100,21 +101,21 @@ fn has_nothing_else(deeds: &[Deed], seat: u8, used: &[Pai], bans: Kinds) -> bool
 }
 
 // The seat holds no more tiles of the face than are used, or they are of a banned kind.
-fn is_used_up(deeds: &[Deed], seat: u8, used: &[Pai], bans: Kinds, tile: Tile) -> bool
+fn is_used_up(table: &Table, seat: u8, used: &[Pai], bans: Kinds, tile: Tile) -> bool
     requires { length used.now ≤ 2 }
-    ensures { result ≡ is_used_up (gained deeds.now seat) (lost deeds.now seat) (flat_map face_in used.now) bans tile }
+    ensures { result ≡ is_used_up (gained table.now.deeds seat) (lost table.now.deeds seat) (flat_map face_in used.now) bans tile }
 {
-    held(deeds, seat, tile) <= number_among(used, tile) || bans.has(tile.kind())
+    table.held(seat, tile) <= number_among(used, tile) || bans.has(tile.kind())
 }
 
 // The last tile in tile order that the seat holds and that is of no banned kind.
-pub(crate) fn last_free(deeds: &[Deed], seat: u8, bans: Kinds) -> Option<Tile>
-    ensures { result ≡ last_of (filter (is_free (gained deeds.now seat) (lost deeds.now seat) bans) tile_order) }
+pub(crate) fn last_free(table: &Table, seat: u8, bans: Kinds) -> Option<Tile>
+    ensures { result ≡ last_of (filter (is_free (gained table.now.deeds seat) (lost table.now.deeds seat) bans) tile_order) }
 {
     let mut last = None;
     for place in 0..37 {
         let tile = ordered(place);
-        if is_free(deeds, seat, bans, tile) {
+        if is_free(table, seat, bans, tile) {
             last = Some(tile);
         }
     }
@@ -122,8 +123,8 @@ pub(crate) fn last_free(deeds: &[Deed], seat: u8, bans: Kinds) -> Option<Tile>
 }
 
 // The seat holds the tile, and it is of no banned kind.
-fn is_free(deeds: &[Deed], seat: u8, bans: Kinds, tile: Tile) -> bool
-    ensures { result ≡ is_free (gained deeds.now seat) (lost deeds.now seat) bans tile }
+fn is_free(table: &Table, seat: u8, bans: Kinds, tile: Tile) -> bool
+    ensures { result ≡ is_free (gained table.now.deeds seat) (lost table.now.deeds seat) bans tile }
 {
-    held(deeds, seat, tile) > 0 && !bans.has(tile.kind())
+    table.held(seat, tile) > 0 && !bans.has(tile.kind())
 }

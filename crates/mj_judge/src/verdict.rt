@@ -9,30 +9,30 @@ use crate::questions::{
 };
 use crate::sets::is_bad_set;
 use crate::swap::{is_stuck, swaps};
-use mj_deeds::{Answer, Deed, Rule};
-use mj_wall::Rules;
+use mj_deeds::{Answer, Rule};
+use mj_table::Table;
 
 /// Whether an answer of a seat, 0 to 3, is lawful in the window on the newest deed; the error is the first rule in the
 /// order of refusal that it breaks.
 #[tactic(auto, unfolding(mj_rules::specs::Broken::broken_by))]
-pub fn judge(rules: &Rules, deeds: &[Deed], seat: u8, answer: &Answer) -> Result<(), Rule>
-    ensures { result_err result ≡ broken rules.now.red deeds.now seat answer.now }
+pub fn judge(table: &Table, seat: u8, answer: &Answer) -> Result<(), Rule>
+    ensures { result_err result ≡ broken table.now.rules.red table.now.deeds seat answer.now }
 {
     first_broken(&[
         (is_unread(answer), Rule::Unreadable),
         (names_another(seat, answer), Rule::NotYours),
-        (is_closed(deeds, seat, answer), Rule::NotNow),
-        (names_no_tile(rules.red, answer), Rule::NoSuchTile),
-        (misses_target(deeds, seat, answer), Rule::WrongTarget),
-        (is_too_late(deeds, seat, answer), Rule::LastTile),
-        (names_unheld(deeds, seat, answer), Rule::NotHeld),
-        (marks_wrongly(deeds, seat, answer), Rule::NotDrawn),
-        (is_bad_set(deeds, seat, answer), Rule::BadSet),
-        (is_not_left(deeds, seat, answer), Rule::NotLeft),
-        (swaps(deeds, seat, answer), Rule::SwapCall),
-        (is_stuck(deeds, seat, answer), Rule::StuckCall),
-        (is_fifth_kan(deeds, seat, answer), Rule::KanFull),
-        (is_dry_kan(deeds, seat, answer), Rule::KanDry),
+        (is_closed(table, seat, answer), Rule::NotNow),
+        (names_no_tile(table, answer), Rule::NoSuchTile),
+        (misses_target(table, seat, answer), Rule::WrongTarget),
+        (is_too_late(table, seat, answer), Rule::LastTile),
+        (names_unheld(table, seat, answer), Rule::NotHeld),
+        (marks_wrongly(table, seat, answer), Rule::NotDrawn),
+        (is_bad_set(table, seat, answer), Rule::BadSet),
+        (is_not_left(table, seat, answer), Rule::NotLeft),
+        (swaps(table, seat, answer), Rule::SwapCall),
+        (is_stuck(table, seat, answer), Rule::StuckCall),
+        (is_fifth_kan(table, seat, answer), Rule::KanFull),
+        (is_dry_kan(table, seat, answer), Rule::KanDry),
     ])
 }
 

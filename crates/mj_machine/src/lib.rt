@@ -3,7 +3,5 @@
 
 mod bids;
 mod course;
-#[cfg(test)]
-mod tests;
 
 pub use course::next;

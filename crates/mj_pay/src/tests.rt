@@ -4,6 +4,7 @@ use crate::{base, deposit, draw_deltas, ron_deltas, tsumo_deltas};
 fn base_points_follow_fu_below_five_han_and_the_limits_from_there(rt: HostRuntime) {
     assert_eq!(rt; base(1, 30), 240);
     assert_eq!(rt; base(2, 20), 320);
+    assert_eq!(rt; base(3, 25), 800);
     assert_eq!(rt; base(3, 30), 960);
     assert_eq!(rt; base(3, 70), 2000);
     assert_eq!(rt; base(4, 30), 1920);

@@ -1,13 +1,13 @@
--- Every deed of a legal game fits behind those before it.
-use Rattle.std.proofs.Common.{◌≡◌, ◌≢◌, ℕ, zero, suc, ◌+◌, ◌-◌, ◌%◌, ◌<◌, ◌≤◌, ◌==◌, ◌⊎◌, inl, inr, ◌&&◌, ◌||◌, Bool, true, false, cond, eqb, ltb, List, [], ◌∷◌, ◌++◌, length, refl, ap, sym, ◌∙◌, subst, arith}
-use Rattle.std.specs.Prelude.{Option, Some, None, All, is_some, unwrap_or, slice_get, slice_set, nat_lt, IsTrue}
+-- A game as far as its entries have come: its deeds are played, and the answers in its slots lawful.
+use Rattle.std.proofs.Common.{◌≡◌, ℕ, zero, suc, ◌+◌, ◌<◌, ◌≤◌, ◌==◌, ◌&&◌, ◌||◌, not, Bool, true, false, cond, ltb, List, [], ◌∷◌, ◌++◌, length, map, refl, ap, sym, ◌∙◌, subst, arith}
+use Rattle.std.specs.Prelude.{Option, Some, None, is_some, unwrap_or, slice_get, slice_set, nat_lt, bytes_eq, IsTrue}
 use Rattle.std.specs.Option.{option_map_or}
-use Rattle.std.specs.List.{list_all, slice_index_or}
-use Rattle.std.proofs.lemmas.Bool.{and_parts, and_from, ltb-true}
-use Rattle.std.proofs.lemmas.Bool.Decides.{eqb_tells}
-use Rattle.std.proofs.lemmas.List.{append-nil, append_assoc, length-append, length-set}
-use Rattle.std.proofs.lemmas.List.Elements.{All-nil}
+use Rattle.std.specs.List.{list_all, list_any}
+use Rattle.std.proofs.lemmas.Bool.{and_parts, and_from, or_parts, ltb-true, not-true}
+use Rattle.std.proofs.lemmas.List.{length-append, length-set}
+use Rattle.std.proofs.lemmas.List.Folds.{list_all-append, list_any-append}
 use Rattle.std.proofs.lemmas.Option.{slice_get_within}
+use Rattle.mj_ports.specs.Names.{is_name, are_different}
 use Rattle.mj_ports.specs.declared.entry.Entry.{Entry}
 use Rattle.mj_ports.specs.declared.entry.Entry.TheVariants.{Sat, Back, Said, Gone, Expired}
 use Rattle.mj_deeds.specs.declared.four.Four.{Four}
@@ -16,41 +16,64 @@ use Rattle.mj_deeds.specs.declared.answer.Answer.{Answer}
 use Rattle.mj_deeds.specs.declared.answer.Answer.TheVariants.{Unread}
 use Rattle.mj_deeds.specs.declared.deed.Deed.{Deed}
 use Rattle.mj_deeds.specs.declared.deed.Deed.TheVariants.{StartGame}
-use Rattle.mj_deeds.specs.Four.{at_seat}
-use Rattle.mj_deeds.specs.Facts.{newest, kan_seats}
-use Rattle.mj_deeds.specs.Fits.{fits, all_fit, has_seats}
 use Rattle.mj_wall.specs.declared.setting.Setting.{Setting}
-use Rattle.mj_wall.specs.Places.{is_wall}
-use Rattle.mj_wall.proofs.WallKinds.{up}
 use Rattle.mj_rules.specs.Broken.{broken}
-use Rattle.mj_rules.specs.Outcome.{wall_of, outcome}
-use Rattle.mj_protocol.specs.After.{After, Chair, Progress, Verdict, Taken, Late, Refused, verdict_by, verdict, verdict_on, put_at, filled, heard, own_part, names_of, answers_in, is_ready, next_deed, with_deed, empty_slots, step, after_from, after, before_all}
-use Rattle.mj_protocol.specs.Trace.{can_sit, is_permitted, all_permitted, has_wall, has_ground, IsLegal}
-use Rattle.mj_protocol.proofs.Entries.{after_from-append}
-use Rattle.mj_protocol.proofs.Places.{slice_get-append_at}
-use Rattle.mj_protocol.proofs.Standing.{Stage, NoGame, stage_before, stage_after, stage_of, Standing}
-use Rattle.mj_protocol.proofs.Kept.{IsNext, keeps}
-use Rattle.mj_protocol.proofs.Room.{deals_well, next_fits}
-use Rattle.mj_protocol.proofs.Answered.{IfAny, AllClean, either}
-use Rattle.mj_protocol.proofs.Turns.{outcome_next}
+use Rattle.mj_rules.specs.Outcome.{outcome}
+use Rattle.mj_rules.specs.Played.{AllLawful, are_listed_names, are_names, IsPlayedBehind, IsPlayed}
+use Rattle.mj_rules.proofs.Playing.{first_is_wall, played_deeds_fit, played_more, given_behind, behind_fits}
+use Rattle.mj_window.proofs.Closing.{all_answered}
+use Rattle.mj_window.specs.Slots.{put_at}
+use Rattle.mj_protocol.specs.After.{After, Chair, Verdict, Taken, Late, Refused, verdict_by, verdict_on, filled, heard, own_part, names_of, answers_in, is_ready, next_deed, with_deed, step, after_from, after, before_all, IsLawfulIn, AreLawfulIn}
+use Rattle.mj_protocol.specs.Trace.{has_name, can_sit, is_permitted, all_permitted, has_wall, IsLegal}
+use Rattle.mj_protocol.specs.Laws.{LegalGamesArePlayed, TakenAnswersAreLawful, OwnPartCanGoOn, NextDeedIsPlayed, LegalDeedsFit, NextDeedFits}
 
--- An answer in a slot breaks no rule for its seat.
-abbrev IsSlot : Bool → List Deed → ℕ → Option Answer → Type 0
-IsSlot red ds seat slot = IfAny (λ answer. broken red ds seat answer ≡ None) slot
-
-record AreSlots (red : Bool) (ds : List Deed) (slots : Four (Option Answer)) : Type 0 where
-  first : IsSlot red ds 0 slots.first
-  second : IsSlot red ds 1 slots.second
-  third : IsSlot red ds 2 slots.third
-  fourth : IsSlot red ds 3 slots.fourth
+-- The names of the seats.
+abbrev names_in : List Chair → List (List ℕ)
+names_in chairs = map (λ (chair : Chair). chair.name) chairs
 
 -- What is true of a game as far as its entries have come.
-record IsSound (red : Bool) (wall : List ℕ) (now : After) : Type 0 where
-  standing : Standing wall now.deeds (stage_of (newest now.deeds))
-  fit : all_fit red [] now.deeds ≡ true
-  seated : IfAny (λ d. has_seats d ≡ true) (newest now.deeds)
-  slots : AreSlots red now.deeds now.slots
+record IsSound (setting : Setting) (now : After) : Type 0 where
+  played : IsPlayed setting.rules.red setting.walls now.deeds
+  slots : AreLawfulIn setting.rules.red now.deeds now.slots
   few : length now.chairs ≤ 4
+  named : are_listed_names (names_in now.chairs) ≡ true
+
+-- names
+
+different-append : (names : List (List ℕ)) (name : List ℕ) → are_different names ≡ true → list_any (λ other. bytes_eq other name) names ≡ false → are_different (names ++ name ∷ []) ≡ true
+different-append [] name h k = refl
+different-append (first ∷ names) name h k =
+    let apart = and_parts (not (list_any (λ other. bytes_eq first other) names)) (are_different names) h in
+    let new = or_parts (bytes_eq first name) (list_any (λ other. bytes_eq other name) names) k in
+    and_from (not (list_any (λ other. bytes_eq first other) (names ++ name ∷ []))) _
+    (ap not (list_any-append (λ other. bytes_eq first other) names (name ∷ [])) ∙ ap not (neither _ _ (not-true _ apart.0) new.0))
+    (different-append names name apart.1 new.1)
+  where
+    neither : (a b : Bool) → a ≡ false → b ≡ false → (a || (b || false)) ≡ false
+    neither a b e f = rw (e, f) refl
+
+names-append : (names : List (List ℕ)) (name : List ℕ) → are_listed_names names ≡ true → is_name name ≡ true → list_any (λ other. bytes_eq other name) names ≡ false → are_listed_names (names ++ name ∷ []) ≡ true
+names-append names name h good new =
+    let parts = and_parts (list_all is_name names) (are_different names) h in
+    and_from (list_all is_name (names ++ name ∷ [])) _
+    (list_all-append is_name names (name ∷ []) ∙ and_from (list_all is_name names) _ parts.0 (and_from (is_name name) true good refl))
+    (different-append names name parts.1 new)
+
+taken_names : (chairs : List Chair) (name : List ℕ) → list_any (has_name name) chairs ≡ list_any (λ other. bytes_eq other name) (names_in chairs)
+taken_names [] name = refl
+taken_names (chair ∷ chairs) name = ap (λ b. bytes_eq chair.name name || b) (taken_names chairs name)
+
+names_sat : (chairs : List Chair) (chair : Chair) → names_in (chairs ++ chair ∷ []) ≡ names_in chairs ++ chair.name ∷ []
+names_sat [] chair = refl
+names_sat (first ∷ chairs) chair = ap (λ (names : List (List ℕ)). first.name ∷ names) (names_sat chairs chair)
+
+names_said : (chairs : List Chair) (seat : ℕ) (chair new : Chair) → slice_get chairs seat ≡ Some chair → new.name ≡ chair.name → names_in (slice_set chairs seat new) ≡ names_in chairs
+names_said [] seat chair new e same = refl
+names_said (first ∷ chairs) zero chair new e same = ap (λ (name : List ℕ). name ∷ names_in chairs) (same ∙ ap (λ (c : Chair). c.name) (some_is chair first e))
+  where
+    some_is : (a b : Chair) → Some b ≡ Some a → a ≡ b
+    some_is a b e = cc
+names_said (first ∷ chairs) (suc seat) chair new e same = ap (λ (names : List (List ℕ)). first.name ∷ names) (names_said chairs seat chair new e same)
 
 -- what an entry changes of its own seat
 
@@ -59,182 +82,36 @@ taken_clean true o h = cc
 taken_clean false None h = refl
 taken_clean false (Some rule) h = cc
 
-put_kept : (red : Bool) (ds : List Deed) (slots : Four (Option Answer)) (seat : ℕ) (answer : Answer) → seat < 4 → broken red ds seat answer ≡ None → AreSlots red ds slots → AreSlots red ds (put_at slots seat answer)
+put_kept : (red : Bool) (ds : List Deed) (slots : Four (Option Answer)) (seat : ℕ) (answer : Answer) → seat < 4 → broken red ds seat answer ≡ None → AreLawfulIn red ds slots → AreLawfulIn red ds (put_at slots seat answer)
 put_kept red ds slots zero answer small h s = record { first = h; second = s.second; third = s.third; fourth = s.fourth }
 put_kept red ds slots (suc zero) answer small h s = record { first = s.first; second = h; third = s.third; fourth = s.fourth }
 put_kept red ds slots (suc (suc zero)) answer small h s = record { first = s.first; second = s.second; third = h; fourth = s.fourth }
 put_kept red ds slots (suc (suc (suc zero))) answer small h s = record { first = s.first; second = s.second; third = s.third; fourth = h }
 put_kept red ds slots (suc (suc (suc (suc n)))) answer small h s = absurd (omega arith)
 
-filled_kept : (red : Bool) (ds : List Deed) (slots : Four (Option Answer)) (seat : ℕ) (answer : Answer) (v : Verdict) → seat < 4 → (v ≡ Taken → broken red ds seat answer ≡ None) → AreSlots red ds slots → AreSlots red ds (filled v slots seat answer)
+filled_kept : (red : Bool) (ds : List Deed) (slots : Four (Option Answer)) (seat : ℕ) (answer : Answer) (v : Verdict) → seat < 4 → (v ≡ Taken → broken red ds seat answer ≡ None) → AreLawfulIn red ds slots → AreLawfulIn red ds (filled v slots seat answer)
 filled_kept red ds slots seat answer Taken small h s = put_kept red ds slots seat answer small (h refl) s
 filled_kept red ds slots seat answer Late small h s = s
 filled_kept red ds slots seat answer (Refused rule) small h s = s
 
-said_sound : (red : Bool) (wall : List ℕ) (now : After) (seat : ℕ) (answer : Answer) (held : Option Chair) → slice_get now.chairs seat ≡ held → IsSound red wall now → IsSound red wall (option_map_or (heard red now seat answer) held now)
+said_slots : (red : Bool) (now : After) (seat : ℕ) (answer : Answer) (held : Option Chair) → slice_get now.chairs seat ≡ held → length now.chairs ≤ 4 → AreLawfulIn red now.deeds now.slots →
+    AreLawfulIn red (option_map_or (heard red now seat answer) held now).deeds (option_map_or (heard red now seat answer) held now).slots
 unfolding heard
-said_sound red wall now seat answer None e s = s
-said_sound red wall now seat answer (Some chair) e s =
-    let small : seat < 4 = below _ _ (slice_get_within now.chairs seat chair e) s.few in
-    record {
-      standing = s.standing;
-      fit = s.fit;
-      seated = s.seated;
-      slots = filled_kept red now.deeds now.slots seat answer (verdict_on red now.deeds seat answer chair.progress) small
-          (λ h. taken_clean (nat_lt (chair.progress.due + 1) (length now.deeds)) (broken red now.deeds seat answer) h) s.slots;
-      few = subst (λ (n : ℕ). n ≤ 4) (sym (length-set now.chairs seat _)) s.few;
-    }
+said_slots red now seat answer None e few s = s
+said_slots red now seat answer (Some chair) e few s =
+    filled_kept red now.deeds now.slots seat answer (verdict_on red now.deeds seat answer chair.progress) (below _ _ (slice_get_within now.chairs seat chair e) few)
+    (λ h. taken_clean (nat_lt (chair.progress.due + 1) (length now.deeds)) (broken red now.deeds seat answer) h) s
   where
     below : (seat n : ℕ) → seat < n → n ≤ 4 → seat < 4
     below seat n h k = omega arith
 
-sat_few : {A : Type 0} (chairs : List A) (chair : A) → length chairs < 4 → length (chairs ++ chair ∷ []) ≤ 4
-sat_few chairs chair h = more _ _ (length-append chairs (chair ∷ [])) h
-  where
-    more : (n m : ℕ) → n ≡ m + 1 → m < 4 → n ≤ 4
-    more n m e h = omega arith
-
-own_sound : (setting : Setting) (wall : List ℕ) (now : After) (entry : Entry Answer) → is_permitted setting now entry ≡ true → IsSound setting.rules.red wall now → IsSound setting.rules.red wall (own_part setting now entry)
-unfolding own_part can_sit
-own_sound setting wall now (Sat author name key) p s = record {
-  standing = s.standing;
-  fit = s.fit;
-  seated = s.seated;
-  slots = s.slots;
-  few = sat_few now.chairs _ (ltb-true (length now.chairs) 4 (and_parts (ltb (length now.chairs) 4) _ (and_parts _ (can_sit now.chairs name) p).1).0);
-}
-own_sound setting wall now (Said author seat answer) p s = said_sound setting.rules.red wall now seat answer (slice_get now.chairs seat) refl s
-own_sound setting wall now (Back author seat) p s = s
-own_sound setting wall now (Gone author seat) p s = s
-own_sound setting wall now (Expired author window t1 t2) p s = s
-
--- the deed that it adds
-
-slot_clean : (red : Bool) (ds : List Deed) (seat : ℕ) (slot : Option Answer) → is_some slot ≡ true → IsSlot red ds seat slot → broken red ds seat (unwrap_or slot Unread) ≡ None
-slot_clean red ds seat None h s = cc
-slot_clean red ds seat (Some answer) h s = s
-
-ready_clean : (red : Bool) (ds : List Deed) (slots : Four (Option Answer)) → is_ready slots ≡ true → AreSlots red ds slots → AllClean red ds (answers_in slots)
-ready_clean red ds slots h s =
-    let a = and_parts (is_some slots.first && is_some slots.second && is_some slots.third) (is_some slots.fourth) h in
-    let b = and_parts (is_some slots.first && is_some slots.second) (is_some slots.third) a.0 in
-    let c = and_parts (is_some slots.first) (is_some slots.second) b.0 in
-    record {
-      first = slot_clean red ds 0 slots.first c.0 s.first;
-      second = slot_clean red ds 1 slots.second c.1 s.second;
-      third = slot_clean red ds 2 slots.third b.1 s.third;
-      fourth = slot_clean red ds 3 slots.fourth a.1 s.fourth;
-    }
-
-game_next : (red : Bool) (wall : List ℕ) (ds : List Deed) (names : Four (List ℕ)) → (length ds == 0) ≡ true → IsNext red wall ds (StartGame names)
-game_next red wall [] names h = record { place = refl; seats = refl; held = λ seat. refl; triplet = refl; tiles = either_way red; live = refl; stage = refl; brings = tt }
-  where
-    either_way : (b : Bool) → (b || true) ≡ true
-    either_way true = refl
-    either_way false = refl
-game_next red wall (d ∷ ds) names h = absurd (longer (length ds) h)
-  where
-    longer : (n : ℕ) → ((suc n) == 0) ≡ true → ⊥
-    longer n h = grind (arith, h)
-
-next_next : (setting : Setting) (now : After) → is_wall setting.rules.red (wall_of setting.walls 0) ≡ true → IsSound setting.rules.red (wall_of setting.walls 0) now →
-    IfAny (IsNext setting.rules.red (wall_of setting.walls 0) now.deeds) (next_deed setting now)
-unfolding next_deed
-next_next setting now h s = by_length (length now.deeds == 0) refl
-  where
-    Next : Option Deed → Type 0
-    Next o = IfAny (IsNext setting.rules.red (wall_of setting.walls 0) now.deeds) o
-
-    by_ready : (b : Bool) → is_ready now.slots ≡ b → IfAny (IsNext setting.rules.red (wall_of setting.walls 0) now.deeds) (cond b (outcome setting.walls now.deeds (answers_in now.slots)) None)
-    by_ready true e = outcome_next setting.rules.red setting.walls now.deeds (answers_in now.slots) h s.standing.seats s.seated (ready_clean setting.rules.red now.deeds now.slots e s.slots)
-    by_ready false e = tt
-
-    by_length : (b : Bool) → (length now.deeds == 0) ≡ b →
-        IfAny (IsNext setting.rules.red (wall_of setting.walls 0) now.deeds) (cond b (cond (length now.chairs == 4) (Some (StartGame (names_of now.chairs))) None) (cond (is_ready now.slots) (outcome setting.walls now.deeds (answers_in now.slots)) None))
-    by_length true e = either (IsNext setting.rules.red (wall_of setting.walls 0) now.deeds) (length now.chairs == 4) _ None (game_next setting.rules.red (wall_of setting.walls 0) now.deeds (names_of now.chairs) e) tt
-    by_length false e = by_ready (is_ready now.slots) refl
-
-newest-append : (ds : List Deed) (d : Deed) → newest (ds ++ d ∷ []) ≡ Some d
-newest-append ds d = ap (slice_get (ds ++ d ∷ [])) (last _ _ (length-append ds (d ∷ []))) ∙ slice_get-append_at ds d
-  where
-    last : (n m : ℕ) → n ≡ m + 1 → n - 1 ≡ m
-    last n m e = omega arith
-
-all_fit-append : (red : Bool) (before ds : List Deed) (d : Deed) → all_fit red before ds ≡ true → fits red (before ++ ds) d ≡ true → all_fit red before (ds ++ d ∷ []) ≡ true
-all_fit-append red before [] d h k = and_from (fits red before d) true (subst (λ (xs : List Deed). fits red xs d ≡ true) (append-nil before) k) refl
-all_fit-append red before (x ∷ ds) d h k =
-    let parts = and_parts (fits red before x) (all_fit red (before ++ x ∷ []) ds) h in
-    and_from (fits red before x) _ parts.0
-    (all_fit-append red (before ++ x ∷ []) ds d parts.1 (subst (λ (xs : List Deed). fits red xs d ≡ true) (sym (append_assoc before (x ∷ []) ds)) k))
-
-deed_fits : (red : Bool) (wall : List ℕ) (now : After) (d : Deed) → is_wall red wall ≡ true → IsSound red wall now → IsNext red wall now.deeds d → fits red now.deeds d ≡ true
-deed_fits red wall now d h s next = next_fits red wall now.deeds d h (subst (Standing wall now.deeds) next.stage s.standing) next
-
-with_deed_sound : (red : Bool) (wall : List ℕ) (now : After) (added : Option Deed) → is_wall red wall ≡ true → IfAny (IsNext red wall now.deeds) added → IsSound red wall now → IsSound red wall (with_deed now added)
-with_deed_sound red wall now None h next s = s
-with_deed_sound red wall now (Some d) h next s = record {
-  standing = subst (λ (o : Option Deed). Standing wall (now.deeds ++ d ∷ []) (stage_of o)) (sym (newest-append now.deeds d))
-      (keeps red wall now.deeds d (deals_well red wall h) (subst (Standing wall now.deeds) next.stage s.standing) next);
-  fit = all_fit-append red [] now.deeds d s.fit (deed_fits red wall now d h s next);
-  seated = subst (IfAny (λ d. has_seats d ≡ true)) (sym (newest-append now.deeds d)) next.seats;
-  slots = record { first = tt; second = tt; third = tt; fourth = tt };
-  few = s.few;
-}
-
--- a whole game
-
-step_sound : (setting : Setting) (now : After) (entry : Entry Answer) → is_wall setting.rules.red (wall_of setting.walls 0) ≡ true → is_permitted setting now entry ≡ true → IsSound setting.rules.red (wall_of setting.walls 0) now →
-    IsSound setting.rules.red (wall_of setting.walls 0) (step setting now entry)
-unfolding step
-step_sound setting now entry h p s =
-    let own = own_sound setting (wall_of setting.walls 0) now entry p s in
-    with_deed_sound setting.rules.red (wall_of setting.walls 0) (own_part setting now entry) (next_deed setting (own_part setting now entry)) h (next_next setting (own_part setting now entry) h own) own
-
-game_sound : (setting : Setting) (now : After) (entries : List (Entry Answer)) → is_wall setting.rules.red (wall_of setting.walls 0) ≡ true → all_permitted setting now entries ≡ true → IsSound setting.rules.red (wall_of setting.walls 0) now →
-    IsSound setting.rules.red (wall_of setting.walls 0) (after_from setting now entries)
-game_sound setting now [] h p s = s
-game_sound setting now (entry ∷ entries) h p s =
-    let parts = and_parts (is_permitted setting now entry) (all_permitted setting (step setting now entry) entries) p in
-    game_sound setting (step setting now entry) entries h parts.1 (step_sound setting now entry h parts.0 s)
-
-nothing_sound : (red : Bool) (wall : List ℕ) → IsSound red wall before_all
-unfolding up
-nothing_sound red wall = record {
-  standing = record {
-    kinds = λ kind. refl;
-    hands = λ seat. refl;
-    shown = refl;
-    taken = refl;
-    fresh = refl;
-    live = omega arith;
-    four = omega arith;
-    held = λ seat face. omega arith;
-    seats = All-nil (λ s. s < 4);
-  };
-  fit = refl;
-  seated = tt;
-  slots = record { first = tt; second = tt; third = tt; fourth = tt };
-  few = omega arith;
-}
-
-first_of : (n : ℕ) → 0 % suc n ≡ 0
-first_of n = omega arith
-
-first_wall : (red : Bool) (walls : List (List ℕ)) → IsTrue (has_wall walls) → IsTrue (list_all (is_wall red) walls) → is_wall red (wall_of walls 0) ≡ true
-first_wall red [] ground whole = cc
-first_wall red (wall ∷ walls) ground whole =
-    ap (λ n. is_wall red (slice_index_or (wall ∷ walls) n [])) (first_of (length walls)) ∙ (and_parts (is_wall red wall) (list_all (is_wall red) walls) whole).0
-
-legal_sound : (setting : Setting) (entry : Entry Answer) (entries : List (Entry Answer)) → IsLegal setting (entry ∷ entries) → IsSound setting.rules.red (wall_of setting.walls 0) (after setting (entry ∷ entries))
-legal_sound setting entry entries legal =
-    game_sound setting before_all (entry ∷ entries) (first_wall setting.rules.red setting.walls legal.ground legal.whole) legal.permitted (nothing_sound setting.rules.red (wall_of setting.walls 0))
-
--- Every deed of a legal game fits behind those before it.
-pub legal_deeds_fit : (setting : Setting) (entries : List (Entry Answer)) → IsLegal setting entries → all_fit setting.rules.red [] (after setting entries).deeds ≡ true
-legal_deeds_fit setting [] legal = refl
-legal_deeds_fit setting (entry ∷ entries) legal = (legal_sound setting entry entries legal).fit
-
--- what a code needs at each step
+own_slots : (setting : Setting) (now : After) (entry : Entry Answer) → IsSound setting now → AreLawfulIn setting.rules.red (own_part setting now entry).deeds (own_part setting now entry).slots
+unfolding own_part
+own_slots setting now (Sat author name key) s = s.slots
+own_slots setting now (Said author seat answer) s = said_slots setting.rules.red now seat answer (slice_get now.chairs seat) refl s.few s.slots
+own_slots setting now (Back author seat) s = s.slots
+own_slots setting now (Gone author seat) s = s.slots
+own_slots setting now (Expired author window t1 t2) s = s.slots
 
 said_deeds : (red : Bool) (now : After) (seat : ℕ) (answer : Answer) (held : Option Chair) → (option_map_or (heard red now seat answer) held now).deeds ≡ now.deeds
 unfolding heard
@@ -249,6 +126,184 @@ own_deeds setting now (Back author seat) = refl
 own_deeds setting now (Gone author seat) = refl
 own_deeds setting now (Expired author window t1 t2) = refl
 
+sat_few : {A : Type 0} (chairs : List A) (chair : A) → length chairs < 4 → length (chairs ++ chair ∷ []) ≤ 4
+sat_few chairs chair h = more _ _ (length-append chairs (chair ∷ [])) h
+  where
+    more : (n m : ℕ) → n ≡ m + 1 → m < 4 → n ≤ 4
+    more n m e h = omega arith
+
+-- The seats after an entry.
+record AreSeats (chairs : List Chair) : Type 0 where
+  few : length chairs ≤ 4
+  named : are_listed_names (names_in chairs) ≡ true
+
+said_seats : (red : Bool) (now : After) (seat : ℕ) (answer : Answer) (held : Option Chair) → slice_get now.chairs seat ≡ held → AreSeats now.chairs → AreSeats (option_map_or (heard red now seat answer) held now).chairs
+unfolding heard
+said_seats red now seat answer None e s = s
+said_seats red now seat answer (Some chair) e s = record {
+  few = subst (λ (n : ℕ). n ≤ 4) (sym (length-set now.chairs seat _)) s.few;
+  named = ap are_listed_names (names_said now.chairs seat chair _ e refl) ∙ s.named;
+}
+
+sat_seats : (chairs : List Chair) (chair : Chair) → (is_name chair.name && can_sit chairs chair.name) ≡ true → AreSeats chairs → AreSeats (chairs ++ chair ∷ [])
+unfolding can_sit
+sat_seats chairs chair p s =
+    let parts = and_parts (is_name chair.name) (can_sit chairs chair.name) p in
+    let free = and_parts (ltb (length chairs) 4) (not (list_any (has_name chair.name) chairs)) parts.1 in
+    record {
+      few = sat_few chairs chair (ltb-true (length chairs) 4 free.0);
+      named = ap are_listed_names (names_sat chairs chair) ∙ names-append (names_in chairs) chair.name s.named parts.0 (sym (taken_names chairs chair.name) ∙ not-true _ free.1);
+    }
+
+own_seats : (setting : Setting) (now : After) (entry : Entry Answer) → is_permitted setting now entry ≡ true → AreSeats now.chairs → AreSeats (own_part setting now entry).chairs
+unfolding own_part
+own_seats setting now (Sat author name key) p s = sat_seats now.chairs _ p s
+own_seats setting now (Said author seat answer) p s = said_seats setting.rules.red now seat answer (slice_get now.chairs seat) refl s
+own_seats setting now (Back author seat) p s = s
+own_seats setting now (Gone author seat) p s = s
+own_seats setting now (Expired author window t1 t2) p s = s
+
+own_sound : (setting : Setting) (now : After) (entry : Entry Answer) → is_permitted setting now entry ≡ true → IsSound setting now → IsSound setting (own_part setting now entry)
+own_sound setting now entry p s =
+    let seats = own_seats setting now entry p (record { few = s.few; named = s.named }) in
+    record {
+      played = subst (IsPlayed setting.rules.red setting.walls) (sym (own_deeds setting now entry)) s.played;
+      slots = own_slots setting now entry s;
+      few = seats.few;
+      named = seats.named;
+    }
+
+-- the deed that it adds
+
+slot_clean : (red : Bool) (ds : List Deed) (seat : ℕ) (slot : Option Answer) → is_some slot ≡ true → IsLawfulIn red ds seat slot → broken red ds seat (unwrap_or slot Unread) ≡ None
+slot_clean red ds seat None h s = cc
+slot_clean red ds seat (Some answer) h s = s
+
+ready_clean : (red : Bool) (ds : List Deed) (slots : Four (Option Answer)) → is_ready slots ≡ true → AreLawfulIn red ds slots → AllLawful red ds (answers_in slots)
+ready_clean red ds slots h s =
+    let a = and_parts (is_some slots.first && is_some slots.second && is_some slots.third) (is_some slots.fourth) (all_answered slots h) in
+    let b = and_parts (is_some slots.first && is_some slots.second) (is_some slots.third) a.0 in
+    let c = and_parts (is_some slots.first) (is_some slots.second) b.0 in
+    record {
+      first = slot_clean red ds 0 slots.first c.0 s.first;
+      second = slot_clean red ds 1 slots.second c.1 s.second;
+      third = slot_clean red ds 2 slots.third b.1 s.third;
+      fourth = slot_clean red ds 3 slots.fourth a.1 s.fourth;
+    }
+
+four_names : (chairs : List Chair) → (length chairs == 4) ≡ true → are_listed_names (names_in chairs) ≡ true → are_names (names_of chairs) ≡ true
+four_names [] e h = cc
+four_names (a ∷ []) e h = cc
+four_names (a ∷ b ∷ []) e h = cc
+four_names (a ∷ b ∷ c ∷ []) e h = cc
+four_names (a ∷ b ∷ c ∷ d ∷ []) e h = h
+four_names (a ∷ b ∷ c ∷ d ∷ f ∷ chairs) e h = absurd (more (length chairs) e)
+  where
+    more : (n : ℕ) → ((suc (suc (suc (suc (suc n))))) == 4) ≡ true → ⊥
+    more n h = grind (arith, h)
+
+start_behind : (red : Bool) (walls : List (List ℕ)) (ds : List Deed) (names : Four (List ℕ)) → (length ds == 0) ≡ true → are_names names ≡ true → IsPlayedBehind red walls ds (StartGame names)
+start_behind red walls [] names e h = h
+start_behind red walls (d ∷ ds) names e h = absurd (longer (length ds) e)
+  where
+    longer : (n : ℕ) → ((suc n) == 0) ≡ true → ⊥
+    longer n h = grind (arith, h)
+
+next_behind : (setting : Setting) (now : After) (d : Deed) → IsSound setting now → next_deed setting now ≡ Some d → IsPlayedBehind setting.rules.red setting.walls now.deeds d
+unfolding next_deed
+next_behind setting now d s e = by_length (length now.deeds == 0) refl e
+  where
+    none_is : (d : Deed) → None ≡ Some d → ⊥
+    none_is d e = cc
+
+    started : (b : Bool) → (length now.deeds == 0) ≡ true → (length now.chairs == 4) ≡ b → cond b (Some (StartGame (names_of now.chairs))) None ≡ Some d → IsPlayedBehind setting.rules.red setting.walls now.deeds d
+    started true first four e =
+        subst (IsPlayedBehind setting.rules.red setting.walls now.deeds) (some_is _ d e)
+        (start_behind setting.rules.red setting.walls now.deeds (names_of now.chairs) first (four_names now.chairs four s.named))
+      where
+        some_is : (a b : Deed) → Some a ≡ Some b → a ≡ b
+        some_is a b e = cc
+    started false first four e = absurd (none_is d e)
+
+    by_ready : (b : Bool) → is_ready now.slots ≡ b → cond b (outcome setting.walls now.deeds (answers_in now.slots)) None ≡ Some d → IsPlayedBehind setting.rules.red setting.walls now.deeds d
+    by_ready true ready e = given_behind setting.rules.red setting.walls now.deeds (answers_in now.slots) d (ready_clean setting.rules.red now.deeds now.slots ready s.slots) e
+    by_ready false ready e = absurd (none_is d e)
+
+    by_length : (b : Bool) → (length now.deeds == 0) ≡ b →
+        cond b (cond (length now.chairs == 4) (Some (StartGame (names_of now.chairs))) None) (cond (is_ready now.slots) (outcome setting.walls now.deeds (answers_in now.slots)) None) ≡ Some d →
+        IsPlayedBehind setting.rules.red setting.walls now.deeds d
+    by_length true first e = started (length now.chairs == 4) first refl e
+    by_length false later e = by_ready (is_ready now.slots) refl e
+
+with_deed_sound : (setting : Setting) (now : After) (added : Option Deed) → next_deed setting now ≡ added → IsSound setting now → IsSound setting (with_deed now added)
+with_deed_sound setting now None e s = s
+with_deed_sound setting now (Some d) e s = record {
+  played = played_more setting.rules.red setting.walls now.deeds d s.played (next_behind setting now d s e);
+  slots = record { first = tt; second = tt; third = tt; fourth = tt };
+  few = s.few;
+  named = s.named;
+}
+
+-- a whole game
+
+step_sound : (setting : Setting) (now : After) (entry : Entry Answer) → is_permitted setting now entry ≡ true → IsSound setting now → IsSound setting (step setting now entry)
+unfolding step
+step_sound setting now entry p s = with_deed_sound setting (own_part setting now entry) (next_deed setting (own_part setting now entry)) refl (own_sound setting now entry p s)
+
+game_sound : (setting : Setting) (now : After) (entries : List (Entry Answer)) → all_permitted setting now entries ≡ true → IsSound setting now → IsSound setting (after_from setting now entries)
+game_sound setting now [] p s = s
+game_sound setting now (entry ∷ entries) p s =
+    let parts = and_parts (is_permitted setting now entry) (all_permitted setting (step setting now entry) entries) p in
+    game_sound setting (step setting now entry) entries parts.1 (step_sound setting now entry parts.0 s)
+
+legal_sound : (setting : Setting) (entries : List (Entry Answer)) → IsLegal setting entries → IsSound setting (after setting entries)
+legal_sound setting entries legal =
+    game_sound setting before_all entries legal.permitted
+    (record { played = tt; slots = record { first = tt; second = tt; third = tt; fourth = tt }; few = omega arith; named = refl })
+
+pub legal_games_are_played : LegalGamesArePlayed
+legal_games_are_played setting entries legal = (legal_sound setting entries legal).played
+
+pub taken_answers_are_lawful : TakenAnswersAreLawful
+taken_answers_are_lawful setting entries legal = (legal_sound setting entries legal).slots
+
+-- where a deed may be added
+
+pub own_part_can_go_on : OwnPartCanGoOn
+own_part_can_go_on setting entries entry legal =
+    let now : After = after setting entries in
+    let own : After = own_part setting now entry in
+    let s = legal_sound setting entries legal in
+    record {
+      played = subst (IsPlayed setting.rules.red setting.walls) (sym (own_deeds setting now entry)) s.played;
+      taken = own_slots setting now entry s;
+      ready = λ h. ready_clean setting.rules.red own.deeds own.slots h (own_slots setting now entry s);
+    }
+
+added_behind : (setting : Setting) (entries : List (Entry Answer)) (entry : Entry Answer) (d : Deed) → IsLegal setting entries → is_permitted setting (after setting entries) entry ≡ true →
+    next_deed setting (own_part setting (after setting entries) entry) ≡ Some d → IsPlayedBehind setting.rules.red setting.walls (after setting entries).deeds d
+added_behind setting entries entry d legal p e =
+    let now : After = after setting entries in
+    subst (λ (ds : List Deed). IsPlayedBehind setting.rules.red setting.walls ds d) (own_deeds setting now entry)
+    (next_behind setting (own_part setting now entry) d (own_sound setting now entry p (legal_sound setting entries legal)) e)
+
+pub next_deed_is_played : NextDeedIsPlayed
+next_deed_is_played setting entries entry d legal p e =
+    played_more setting.rules.red setting.walls (after setting entries).deeds d (legal_sound setting entries legal).played (added_behind setting entries entry d legal p e)
+
+-- what fits
+
+some_walls : (walls : List (List ℕ)) → IsTrue (has_wall walls) → 1 ≤ length walls
+some_walls [] h = cc
+some_walls (wall ∷ walls) h = omega arith
+
+pub legal_deeds_fit : LegalDeedsFit
+legal_deeds_fit setting [] legal = refl
+legal_deeds_fit setting (entry ∷ entries) legal =
+    played_deeds_fit setting.rules.red setting.walls (after setting (entry ∷ entries)).deeds
+    (first_is_wall setting.rules.red setting.walls (some_walls setting.walls legal.ground) legal.whole)
+    (legal_games_are_played setting (entry ∷ entries) legal)
+
 -- The first entry adds no deed.
 none_at_first : (setting : Setting) (entry : Entry Answer) → next_deed setting (own_part setting before_all entry) ≡ None
 unfolding own_part next_deed
@@ -258,21 +313,13 @@ none_at_first setting (Back author seat) = refl
 none_at_first setting (Gone author seat) = refl
 none_at_first setting (Expired author window t1 t2) = refl
 
-if_some : {A : Type 0} (P : A → Type 0) (o : Option A) (d : A) → IfAny P o → o ≡ Some d → P d
-if_some P o d h e = subst (IfAny P) e h
-
 no_deed : (o : Option Deed) (d : Deed) → o ≡ None → o ≡ Some d → ⊥
 no_deed o d e f = cc
 
--- The deed that a permitted entry adds to a legal game fits behind the game's deeds.
-pub next_deed_fits : (setting : Setting) (entries : List (Entry Answer)) (entry : Entry Answer) (d : Deed) → IsLegal setting entries → is_permitted setting (after setting entries) entry ≡ true →
-    next_deed setting (own_part setting (after setting entries) entry) ≡ Some d → fits setting.rules.red (after setting entries).deeds d ≡ true
+pub next_deed_fits : NextDeedFits
 next_deed_fits setting [] entry d legal p e = absurd (no_deed _ d (none_at_first setting entry) e)
 next_deed_fits setting (first ∷ entries) entry d legal p e =
-    let now : After = after setting (first ∷ entries) in
-    let red : Bool = setting.rules.red in
-    let wall : List ℕ = wall_of setting.walls 0 in
-    let whole = first_wall red setting.walls legal.ground legal.whole in
-    let own = own_sound setting wall now entry p (legal_sound setting first entries legal) in
-    let next = if_some (IsNext red wall (own_part setting now entry).deeds) _ d (next_next setting (own_part setting now entry) whole own) e in
-    subst (λ (ds : List Deed). fits red ds d ≡ true) (own_deeds setting now entry) (deed_fits red wall (own_part setting now entry) d whole own next)
+    behind_fits setting.rules.red setting.walls (after setting (first ∷ entries)).deeds d
+    (first_is_wall setting.rules.red setting.walls (some_walls setting.walls legal.ground) legal.whole)
+    (legal_games_are_played setting (first ∷ entries) legal)
+    (added_behind setting (first ∷ entries) entry d legal p e)

@@ -1,7 +1,6 @@
 -- The line of a deed that follows is the line of its token.
-use Rattle.std.proofs.Common.{◌≡◌, ◌≢◌, ℕ, zero, suc, ◌+◌, ◌-◌, ◌%◌, ◌==◌, ◌<◌, Bool, true, false, cond, List, [], ◌∷◌, ◌++◌, length, map, refl, ap, sym, ◌∙◌, subst, replicate, arith, eqb-true}
-use Rattle.std.specs.Prelude.{Option, Some, None, option_and_then, unwrap_or, IsTrue}
-use Rattle.std.specs.List.{list_all}
+use Rattle.std.proofs.Common.{◌≡◌, ℕ, ◌+◌, ◌%◌, ◌==◌, Bool, true, false, cond, List, length, map, refl, ap, sym, subst, replicate, eqb-true}
+use Rattle.std.specs.Prelude.{Option, Some, None, option_and_then}
 use Rattle.mj_deeds.specs.declared.four.Four.{Four}
 use Rattle.mj_deeds.specs.declared.answer.Pai.{Pai}
 use Rattle.mj_deeds.specs.declared.answer.Pai.TheVariants as pais
@@ -13,9 +12,9 @@ use Rattle.mj_deeds.specs.declared.deed.Deed.TheVariants as deeds
 use Rattle.mj_deeds.specs.Four.{at_seat, for_each_seat}
 use Rattle.mj_deeds.specs.Facts.{newest, live_draws, live_tiles}
 use Rattle.mj_wall.specs.declared.setting.Setting.{Setting}
-use Rattle.mj_wall.specs.Places.{is_wall, indicator_tile, live_tile}
+use Rattle.mj_wall.specs.Places.{indicator_tile, live_tile}
 use Rattle.mj_rules.specs.Outcome.{outcome, follows, first_hand, next_draw, next_dora, next_replacement, act_of, of_one, of_two, of_three, of_four, triplet_bid, run_bid, bid_by, call_of, or_else, wall_of, hand_dealt}
-use Rattle.mj_protocol.specs.Lines.{line, sees, hands_seen, shown_tiles, tile_seen, quoted_tile, hidden, start_hand_line, draw_line}
+use Rattle.mj_protocol.specs.Lines.{line, hands_seen, shown_tiles, tile_seen, quoted_tile, hidden, start_hand_line, draw_line}
 use Rattle.mj_protocol.specs.After.{After, next_deed, names_of, answers_in, is_ready}
 use Rattle.mj_protocol.specs.Trace.{token, own_tile}
 use Rattle.mj_protocol.proofs.Solo.{line_in, hand_known, tile_known}

@@ -5,6 +5,7 @@ use Rattle.std.specs.List.{list_all}
 use Rattle.std.proofs.Common.{suc, refl, ap, ◌∙◌, sym, subst, arith}
 use Rattle.serde_json.specs.Data.{Data}
 use Rattle.mj_bytes.specs.Parts.{whole_lines, unfinished}
+use Rattle.mj_ports.specs.Names.{is_name}
 use Rattle.mj_ports.specs.declared.entry.Entry.{Entry}
 use Rattle.mj_ports.specs.declared.entry.Entry.TheVariants.{Sat, Said}
 use Rattle.mj_ports.specs.declared.sitting.JoinLine.{JoinLine}
@@ -12,7 +13,7 @@ use Rattle.mj_deeds.specs.declared.answer.Answer.{Answer}
 use Rattle.mj_wall.specs.declared.setting.Rules.{Rules}
 use Rattle.mj_wall.specs.declared.setting.Setting.{Setting}
 use Rattle.mj_wall.specs.Places.{is_wall}
-use Rattle.mj_protocol.specs.Reading.{is_name, answer_of, join_of, join_in, name_of, text_in, names_later_type, value_of}
+use Rattle.mj_protocol.specs.Reading.{answer_of, join_of, join_in, name_of, text_in, names_later_type, value_of}
 use Rattle.mj_protocol.specs.After.{Chair, before_all, after}
 use Rattle.mj_protocol.specs.Trace.{can_sit, may_say, can_say, is_answer_built, is_permitted, all_permitted, has_wall, has_ground, IsLegal}
 use Rattle.mj_protocol.specs.Arrivals.{Form, Header, WallOf, Sit, Say, Leave, Expire, NoForm, form_of, Reading, setting_of, now_of, Arrival, Leads, NotBuilt, Bad, header_arrives, wall_arrives, with_entry, join_arrives, sit_arrives, answer_arrives, say_arrives, behind_header, first_line, arrives, Input, at_end, hear_on, hear_from, nothing_read, input_of}
@@ -93,7 +94,7 @@ entry-sound reading entry sound headed wall permitted = record {
 }
 
 -- The name of a join is a name.
-abbrev IsNamed : Option JoinLine → Type 0
+abbrev pub IsNamed : Option JoinLine → Type 0
 IsNamed None = Unit {0}
 IsNamed (Some join) = is_name join.name ≡ true
 
@@ -135,7 +136,7 @@ join_in-named value =
     (good_named _ (option_and_then name_of (text_in (codes "name") value)) (then_good (text_in (codes "name") value))
     (λ name good. key_named name _ good)))
 
-join_of-named : (text : List ℕ) → IsNamed (join_of text)
+pub join_of-named : (text : List ℕ) → IsNamed (join_of text)
 unfolding join_of
 join_of-named text = then_named join_in (value_of text) join_in-named
 

@@ -4,9 +4,4 @@ pub mod Places
 pub mod Solo
 pub mod Follows
 pub mod OneWorld
-pub mod Standing
-pub mod Kept
-pub mod Room
-pub mod Answered
-pub mod Turns
 pub mod Fitting

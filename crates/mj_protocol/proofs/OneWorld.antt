@@ -1,7 +1,7 @@
 -- The law of one world: what a game tells a seat is what a machine tells that has nothing but what the seat learns. So two
 -- games that agree for a seat tell it the same.
-use Rattle.std.proofs.Common.{◌≡◌, ◌≢◌, ℕ, zero, suc, ◌+◌, ◌%◌, ◌==◌, ◌<◌, ◌⊎◌, inl, inr, ◌&&◌, Bool, true, false, not, cond, List, [], ◌∷◌, ◌++◌, length, map, refl, ap, sym, ◌∙◌, subst, arith}
-use Rattle.std.specs.Prelude.{Option, Some, None, option_map, unwrap_or, IsTrue, slice_get, slice_set}
+use Rattle.std.proofs.Common.{◌≡◌, ◌≢◌, ℕ, suc, ◌+◌, ◌%◌, inl, inr, ◌&&◌, Bool, true, false, not, cond, List, [], ◌∷◌, ◌++◌, length, map, refl, ap, sym, ◌∙◌, subst, arith}
+use Rattle.std.specs.Prelude.{Option, Some, None, option_map, IsTrue, slice_get}
 use Rattle.std.specs.Option.{option_map_or}
 use Rattle.std.specs.List.{list_all, slice_index_or}
 use Rattle.std.proofs.lemmas.List.{length-map, map-append}
@@ -16,14 +16,14 @@ use Rattle.mj_deeds.specs.declared.deed.Deed.TheVariants as deeds
 use Rattle.mj_deeds.specs.Facts.{live_draws, is_live_draw, newest}
 use Rattle.mj_wall.specs.declared.setting.Setting.{Setting}
 use Rattle.mj_wall.specs.Places.{is_wall}
-use Rattle.mj_rules.specs.Broken.{broken, broken_by, view_of}
+use Rattle.mj_rules.specs.Broken.{broken_by, view_of}
 use Rattle.mj_rules.specs.Outcome.{wall_of, hand_dealt}
 use Rattle.mj_rules.proofs.Dealing.{hand_has_thirteen}
 use Rattle.mj_protocol.specs.Lines.{line}
-use Rattle.mj_protocol.specs.After.{After, Chair, Progress, Verdict, verdict, verdict_on, goes_on, pending, lines_for, seated, heard, own_part, next_deed, with_deed, step, after_from, after, before_all, script_at, script_in, scripts, filled}
-use Rattle.mj_protocol.specs.Trace.{Item, OwnSat, OwnSaid, Saw, token, own_items, seen_items, trace_from, trace, IsLegal, Game, Agree, has_wall, has_ground}
+use Rattle.mj_protocol.specs.After.{After, Chair, Progress, verdict, verdict_on, goes_on, pending, lines_for, heard, own_part, next_deed, with_deed, step, after_from, after, before_all, script_at, scripts}
+use Rattle.mj_protocol.specs.Trace.{Item, token, own_items, seen_items, trace_from, trace, IsLegal, Game, Agree, has_wall}
 use Rattle.mj_protocol.proofs.Places.{slice_get-append_at, slice_get-append_other, slice_get-set_at, slice_get-set_other}
-use Rattle.mj_protocol.proofs.Solo.{Solo, is_dora, live_draws_more, newest_in, newest_follows, at_first, view_in, view_follows, answered, learns, learns_all, learns_all-append, solo_script, told_by, line_in}
+use Rattle.mj_protocol.proofs.Solo.{Solo, is_dora, live_draws_more, newest_in, newest_follows, at_first, view_in, view_follows, answered, learns_all, learns_all-append, solo_script, told_by}
 use Rattle.mj_protocol.proofs.Follows.{after_dora, IsCourse, DealsThirteen, line_follows, next_is_course}
 
 -- how far a seat has come, where it is held

@@ -4,9 +4,7 @@ use Rattle.std.specs.Prelude.{Option, Some, None, option_map, option_and_then, o
 use Rattle.std.specs.Option.{option_map_or}
 use Rattle.std.proofs.lemmas.Option.{slice_get-map}
 use Rattle.std.proofs.lemmas.List.{length-map}
-use Rattle.std.proofs.lemmas.List.Folds.{flat_map-map}
 use Rattle.mj_deeds.specs.declared.answer.Answer.{Answer}
-use Rattle.mj_deeds.specs.declared.four.Four.{Four}
 use Rattle.mj_deeds.specs.declared.deed.Deed.{Deed}
 use Rattle.mj_deeds.specs.declared.deed.Deed.TheVariants as deeds
 use Rattle.mj_deeds.specs.declared.token.Token.{Token}
@@ -14,10 +12,10 @@ use Rattle.mj_deeds.specs.declared.token.Token.TheVariants as tokens
 use Rattle.mj_tiles.specs.declared.meld.Meld.{Meld}
 use Rattle.mj_tiles.specs.declared.meld.Form.TheVariants as forms
 use Rattle.mj_calls.specs.Bans.{banned_kinds}
-use Rattle.mj_deeds.specs.Facts.{of_seat, newest, gained, lost, gains_by, losses_by, drawn_by, drawn_tile, meld_of_three, meld_of_four, makes_by, adds_by, with_added, seat_melds, is_kan, kans, live_draws}
+use Rattle.mj_deeds.specs.Facts.{of_seat, newest, gained, lost, gains_by, losses_by, drawn_by, drawn_tile, meld_of_three, meld_of_four, makes_by, adds_by, with_added, is_kan, kans, live_draws}
 use Rattle.mj_rules.specs.Broken.{Turn, Drew, Discarded, Called, Nobodys, turn_by, turn_in, View, view_of, broken_by}
 use Rattle.mj_protocol.specs.Lines.{start_game_line, start_hand_line, draw_line, discard_line, call_line, closed_kan_line, added_kan_line, dora_line, quoted_tile, hidden}
-use Rattle.mj_protocol.specs.After.{Progress, Verdict, verdict, goes_on, pending, seated}
+use Rattle.mj_protocol.specs.After.{Progress, verdict, goes_on, pending, seated}
 use Rattle.mj_protocol.specs.Trace.{Item, OwnSat, OwnSaid, Saw, token, own_tile}
 
 -- the facts of deeds that a seat's view has, read off tokens

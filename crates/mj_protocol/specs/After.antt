@@ -1,5 +1,5 @@
 -- What a list of entries comes to: deeds, seats, slots, and what each seat is told.
-use Rattle.std.specs.Prelude.{ℕ, ◌+◌, ◌==◌, ◌&&◌, Bool, nat_lt, if◌then◌else◌, List, [], ◌∷◌, ◌++◌, length, map, Option, Some, None, is_some, unwrap_or, slice_get, slice_set}
+use Rattle.std.specs.Prelude.{◌≡◌, ℕ, ◌+◌, ◌==◌, Bool, true, nat_lt, if◌then◌else◌, List, [], ◌∷◌, ◌++◌, length, map, Option, Some, None, unwrap_or, slice_get, slice_set}
 use Rattle.std.specs.Option.{option_map_or}
 use Rattle.mj_ports.specs.declared.entry.Entry.{Entry}
 use Rattle.mj_ports.specs.declared.entry.Entry.TheVariants.{Sat, Back, Said, Gone, Expired}
@@ -13,6 +13,7 @@ use Rattle.mj_deeds.specs.declared.deed.Deed.TheVariants.{StartGame}
 use Rattle.mj_wall.specs.declared.setting.Setting.{Setting}
 use Rattle.mj_rules.specs.Broken.{broken}
 use Rattle.mj_rules.specs.Outcome.{outcome}
+use Rattle.mj_window.specs.Slots.{empty_slots, put_at, closes}
 use Rattle.mj_protocol.specs.Lines.{line, error_text, hello_line}
 
 -- How far a seat has come: the number of the deed that its next line answers, how many of its answers to it were
@@ -34,9 +35,6 @@ pub record After : Type 0 where
   pub deeds : List Deed
   pub chairs : List Chair
   pub slots : Four (Option Answer)
-
-abbrev pub empty_slots : Four (Option Answer)
-empty_slots = record { first = None; second = None; third = None; fourth = None }
 
 -- Before the first entry.
 abbrev pub before_all : After
@@ -75,13 +73,6 @@ abbrev pub goes_on : List (List ℕ) → Verdict → Progress → Progress
 goes_on lines Taken p = record { due = p.due + 1; refused = 0; told = p.told ++ pending lines p }
 goes_on lines Late p = record { due = p.due + 1; refused = 0; told = p.told ++ pending lines p }
 goes_on lines (Refused rule) p = record { due = p.due; refused = p.refused + 1; told = p.told ++ pending lines p ++ error_text rule }
-
--- The slots with the answer of a seat in its slot.
-abbrev pub put_at : Four (Option Answer) → ℕ → Answer → Four (Option Answer)
-put_at slots seat answer =
-    if seat == 0 then record slots { first = Some answer } else
-    (if seat == 1 then record slots { second = Some answer } else
-    (if seat == 2 then record slots { third = Some answer } else record slots { fourth = Some answer }))
 
 -- Only an answer that is taken fills the slot of its seat.
 abbrev pub filled : Verdict → Four (Option Answer) → ℕ → Answer → Four (Option Answer)
@@ -127,9 +118,13 @@ answers_in slots = record {
   fourth = unwrap_or slots.fourth Unread;
 }
 
+-- All four seats are present once a game has started.
+abbrev pub all_present : List Bool
+all_present = true ∷ true ∷ true ∷ true ∷ []
+
 -- The window closes once each seat has answered.
 abbrev pub is_ready : Four (Option Answer) → Bool
-is_ready slots = is_some slots.first && is_some slots.second && is_some slots.third && is_some slots.fourth
+is_ready slots = closes slots all_present
 
 -- The deed that comes next, if it comes now: the game starts once four seats are held, and each closed window has its one
 -- next deed.
@@ -169,3 +164,15 @@ script_in seat now = option_map_or (script_at seat now) (slice_get now.chairs se
 
 abbrev pub scripts : ℕ → Setting → List (Entry Answer) → List ℕ
 scripts seat setting entries = script_in seat (after setting entries)
+
+-- The answer in a slot breaks no rule for its seat in the window on the newest deed.
+abbrev pub IsLawfulIn : Bool → List Deed → ℕ → Option Answer → Type 0
+IsLawfulIn red deeds seat None = Unit {0}
+IsLawfulIn red deeds seat (Some answer) = broken red deeds seat answer ≡ None
+
+-- So does none of the answers in the four slots.
+pub record AreLawfulIn (red : Bool) (deeds : List Deed) (slots : Four (Option Answer)) : Type 0 where
+  pub first : IsLawfulIn red deeds 0 slots.first
+  pub second : IsLawfulIn red deeds 1 slots.second
+  pub third : IsLawfulIn red deeds 2 slots.third
+  pub fourth : IsLawfulIn red deeds 3 slots.fourth

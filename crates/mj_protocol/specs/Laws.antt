@@ -1,11 +1,12 @@
 -- The laws over the definitions of what is told.
-use Rattle.std.specs.Prelude.{◌≡◌, ℕ, List, [], true, Some}
+use Rattle.std.specs.Prelude.{◌≡◌, ℕ, List, [], ◌∷◌, ◌++◌, true, Some}
 use Rattle.mj_ports.specs.declared.entry.Entry.{Entry}
 use Rattle.mj_deeds.specs.declared.answer.Answer.{Answer}
 use Rattle.mj_deeds.specs.declared.deed.Deed.{Deed}
 use Rattle.mj_deeds.specs.Fits.{fits, all_fit}
 use Rattle.mj_wall.specs.declared.setting.Setting.{Setting}
-use Rattle.mj_protocol.specs.After.{after, own_part, next_deed, scripts}
+use Rattle.mj_rules.specs.Played.{AllLawful, IsPlayed}
+use Rattle.mj_protocol.specs.After.{After, after, own_part, next_deed, is_ready, answers_in, AreLawfulIn, scripts}
 use Rattle.mj_protocol.specs.Trace.{Game, Agree, IsLegal, is_permitted}
 use Rattle.mj_protocol.specs.Arrivals.{setting_of, input_of}
 
@@ -16,6 +17,30 @@ AgreeingGamesTellTheSame = (seat : ℕ) (g h : Game) → Agree seat g h → scri
 -- The game that an input gives is legal, whatever the input.
 abbrev pub ReadGamesAreLegal : Type 0
 ReadGamesAreLegal = (input : List ℕ) → IsLegal (setting_of (input_of input).reading) (input_of input).reading.entries
+
+-- The deeds of a legal game are played.
+abbrev pub LegalGamesArePlayed : Type 0
+LegalGamesArePlayed = (setting : Setting) (entries : List (Entry Answer)) → IsLegal setting entries → IsPlayed setting.rules.red setting.walls (after setting entries).deeds
+
+-- Each answer in a slot of a legal game breaks no rule for its seat.
+abbrev pub TakenAnswersAreLawful : Type 0
+TakenAnswersAreLawful = (setting : Setting) (entries : List (Entry Answer)) → IsLegal setting entries → AreLawfulIn setting.rules.red (after setting entries).deeds (after setting entries).slots
+
+-- What is true where a deed may be added: the deeds are played and the answers in the slots lawful, and where each slot has
+-- one, all four are.
+pub record CanGoOn (setting : Setting) (now : After) : Type 0 where
+  pub played : IsPlayed setting.rules.red setting.walls now.deeds
+  pub taken : AreLawfulIn setting.rules.red now.deeds now.slots
+  pub ready : is_ready now.slots ≡ true → AllLawful setting.rules.red now.deeds (answers_in now.slots)
+
+-- So it is in a legal game once an entry has changed what is its own seat's, whether or not that entry is permitted.
+abbrev pub OwnPartCanGoOn : Type 0
+OwnPartCanGoOn = (setting : Setting) (entries : List (Entry Answer)) (entry : Entry Answer) → IsLegal setting entries → CanGoOn setting (own_part setting (after setting entries) entry)
+
+-- The deeds of a legal game are played with the deed that a permitted entry adds.
+abbrev pub NextDeedIsPlayed : Type 0
+NextDeedIsPlayed = (setting : Setting) (entries : List (Entry Answer)) (entry : Entry Answer) (d : Deed) → IsLegal setting entries → is_permitted setting (after setting entries) entry ≡ true →
+    next_deed setting (own_part setting (after setting entries) entry) ≡ Some d → IsPlayed setting.rules.red setting.walls ((after setting entries).deeds ++ d ∷ [])
 
 -- Every deed of a legal game fits behind those before it.
 abbrev pub LegalDeedsFit : Type 0

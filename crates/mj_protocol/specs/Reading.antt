@@ -1,11 +1,12 @@
 -- What a line that is said reads as, and what a line asks that wants a seat. A line is one JSON value.
-use Rattle.std.specs.Prelude.{ℕ, ◌==◌, ◌&&◌, not, Bool, false, nat_lt, nat_le, if◌then◌else◌, List, [], ◌∷◌, length, codes, bytes_eq, Option, Some, None, unwrap_or, option_and_then, option_map, ◌++◌, map, flat_map, replicate, count_by, true}
-use Rattle.std.specs.List.{list_any, list_all}
+use Rattle.std.specs.Prelude.{ℕ, ◌==◌, Bool, false, nat_lt, nat_le, if◌then◌else◌, List, [], ◌∷◌, length, codes, bytes_eq, Option, Some, None, unwrap_or, option_and_then, option_map, ◌++◌, map, flat_map, replicate, count_by, true}
+use Rattle.std.specs.List.{list_any}
 use Rattle.std.specs.Str.Lossy.{utf8_valid_len}
 use Rattle.serde_json.specs.Data.{Data, Items, no_items, item}
 use Rattle.serde_json.specs.Find.{get, as_array, as_str, as_bool, as_number, as_u64}
 use Rattle.serde_json.specs.Read.{read}
 use Rattle.mj_tiles.specs.Faces.{face_of, in_tile_order}
+use Rattle.mj_ports.specs.Names.{is_name}
 use Rattle.mj_ports.specs.declared.sitting.JoinLine.{JoinLine}
 use Rattle.mj_deeds.specs.declared.answer.Pai.{Pai}
 use Rattle.mj_deeds.specs.declared.answer.Pai.TheVariants.{Known, Hidden}
@@ -154,10 +155,6 @@ later_types = codes "reach" ∷ codes "hora" ∷ codes "ryukyoku" ∷ []
 -- The line is an object with such a type.
 unfoldable pub names_later_type : List ℕ → Bool
 names_later_type bytes = unwrap_or (option_map (λ type. list_any (λ other. bytes_eq other type) later_types) (option_and_then (text_in (codes "type")) (value_of bytes))) false
-
--- A name has 1 to 64 bytes, none of them a quotation mark, a backslash or below 32.
-unfoldable pub is_name : List ℕ → Bool
-is_name text = nat_lt 0 (length text) && nat_le (length text) 64 && list_all (λ byte. nat_le 32 byte && not (byte == 34) && not (byte == 92)) text
 
 abbrev pub name_of : List ℕ → Option (List ℕ)
 name_of text = if is_name text then Some text else None

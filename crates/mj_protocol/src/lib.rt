@@ -2,7 +2,7 @@
 //! agreement, and the laws over them. Nothing here runs: the functions are the places where the laws are stated.
 #![tactic(auto)]
 
-ghost use Rattle.mj_protocol.specs.Laws.{AgreeingGamesTellTheSame, ReadGamesAreLegal, LegalDeedsFit, NextDeedFits};
+ghost use Rattle.mj_protocol.specs.Laws.{AgreeingGamesTellTheSame, ReadGamesAreLegal, LegalGamesArePlayed, TakenAnswersAreLawful, OwnPartCanGoOn, NextDeedIsPlayed, LegalDeedsFit, NextDeedFits};
 
 /// The law of one world: what a game tells a seat depends on nothing but what the seat learns of it, so two games that
 /// agree for a seat tell it the same bytes.
@@ -13,6 +13,28 @@ pub fn agreeing_games_tell_the_same()
 /// Whatever an input holds, the game that is read off it is legal.
 pub fn read_games_are_legal()
     ensures { ReadGamesAreLegal }
+{}
+
+/// The deeds of a legal game are played: the first starts it with four different good names, and each later one is what four
+/// lawful answers give.
+pub fn legal_games_are_played()
+    ensures { LegalGamesArePlayed }
+{}
+
+/// Each answer that a legal game has taken in the window on its newest deed breaks no rule for its seat.
+pub fn taken_answers_are_lawful()
+    ensures { TakenAnswersAreLawful }
+{}
+
+/// Once an entry has changed what is its own seat's, and before a deed is added, the deeds are played and the answers in the
+/// slots lawful; where each slot has one, all four are.
+pub fn own_part_can_go_on()
+    ensures { OwnPartCanGoOn }
+{}
+
+/// The deeds of a legal game are played with the deed that a permitted entry adds.
+pub fn next_deed_is_played()
+    ensures { NextDeedIsPlayed }
 {}
 
 /// Every deed of a legal game fits behind the deeds before it: the tiles of a wall are brought in from different places, so

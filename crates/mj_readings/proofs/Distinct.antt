@@ -1,7 +1,7 @@
 -- Lists in which nothing stands twice.
-use Rattle.std.proofs.Common.{ℕ, ◌≡◌, ◌≢◌, ◌<◌, ◌++◌, ◌∷◌, [], List, length, get_or, map, refl, sym, ◌∙◌, ap, arith, zero, suc, ◌⊎◌, inl, inr}
-use Rattle.std.specs.List.{All, AllPairs, flat_map}
-use Rattle.std.proofs.lemmas.List.Elements.{All-nil, All-append, All-map, All-weaker, All-head, All-tail, All-get_or}
+use Rattle.std.proofs.Common.{ℕ, ◌≡◌, ◌≢◌, ◌++◌, ◌∷◌, [], List, get_or, map, sym, ◌∙◌, ap, arith, zero, suc}
+use Rattle.std.specs.List.{All, AllPairs}
+use Rattle.std.proofs.lemmas.List.Elements.{All-append, All-map, All-weaker, All-head, All-tail, All-get_or}
 
 abbrev pub Distinct : {X : Type 0} → List X → Type 0
 Distinct [] = Unit {0}

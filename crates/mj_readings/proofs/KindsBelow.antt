@@ -1,8 +1,8 @@
 -- The kinds below a number that pass a test, as a set that grows by one kind after another.
-use Rattle.std.proofs.Common.{ℕ, ◌≡◌, ◌<◌, ◌^◌, ◌+◌, ◌&&◌, ◌||◌, Bool, true, false, refl, sym, ◌∙◌, ap, arith, eqb, ltb, ◌⊎◌, inl, inr, lit<}
+use Rattle.std.proofs.Common.{ℕ, ◌≡◌, ◌<◌, ◌^◌, ◌+◌, ◌&&◌, ◌||◌, Bool, true, false, sym, ◌∙◌, ap, arith, eqb, ltb, ◌⊎◌, inl, inr, lit<}
 use Rattle.std.proofs.lemmas.Bool.{cases_eq, eq-eqb, ne_eqb, and_left, le-ltb, lt-ltb}
 use Rattle.std.proofs.lemmas.Bool.Decides.{nat_tests}
-use Rattle.mj_tiles.specs.Kinds.{has_kind, no_kinds, with_kind, kinds_that}
+use Rattle.mj_tiles.specs.Kinds.{no_kinds, with_kind, kinds_that}
 use Rattle.mj_tiles.proofs.KindSets.{with_kind-within, has_kind-none, has_kind-with, same_kinds, has_kind-kinds_that, kinds_that-within, kinds_that-is}
 
 -- Tests that agree on the kinds give one set.
@@ -47,3 +47,17 @@ kinds_below-no test n fails =
 pub kinds_below-all : (test : ℕ → Bool) → kinds_below test 34 ≡ kinds_that test
 kinds_below-all test =
     kinds_that-same (λ kind. ltb kind 34 && test kind) test (λ kind within. ap (λ b. b && test kind) (lt-ltb kind 34 within))
+
+-- A step of a loop that gathers the kinds that pass a test.
+pub gathered-yes : (test : ℕ → Bool) (kinds next n kind : ℕ) (result : Bool) → kinds ≡ kinds_below test n → n < 34 → kind ≡ n → result ≡ test kind → result ≡ true →
+    next ≡ with_kind kinds kind → next ≡ kinds_below test (n + 1)
+gathered-yes test kinds next n kind result far within here value is more =
+    more ∙ ap (λ k. with_kind kinds k) here ∙ ap (λ ks. with_kind ks n) far ∙ kinds_below-yes test n within (ap test (sym here) ∙ sym value ∙ is)
+
+pub gathered-no : (test : ℕ → Bool) (kinds next n kind : ℕ) (result : Bool) → kinds ≡ kinds_below test n → kind ≡ n → result ≡ test kind → result ≡ false →
+    next ≡ kinds → next ≡ kinds_below test (n + 1)
+gathered-no test kinds next n kind result far here value is more =
+    more ∙ far ∙ kinds_below-no test n (ap test (sym here) ∙ sym value ∙ is)
+
+pub gathered-all : (test : ℕ → Bool) (kinds n : ℕ) → kinds ≡ kinds_below test n → n ≡ 34 → kinds ≡ kinds_that test
+gathered-all test kinds n far last = far ∙ ap (kinds_below test) last ∙ kinds_below-all test

@@ -1,19 +1,19 @@
 -- The test of a complete hand says what complete hands are.
-use Rattle.std.proofs.Common.{ℕ, ◌≡◌, ◌<◌, ◌≤◌, ◌+◌, ◌-◌, ◌*◌, ◌++◌, ◌∷◌, [], Bool, true, false, cond, List, length, get_or, set, length-set, get_or-set_same, get_or-set_other, map, refl, sym, ◌∙◌, ap, arith, eqb, leb, zero, suc, zero-add, add-zero, Option, Some, None, ◌⊎◌, inl, inr, ◌&&◌, ◌||◌}
-use Rattle.std.specs.List.{list_all, Contains, All, range_with_len, count_by, flat_map}
+use Rattle.std.proofs.Common.{ℕ, ◌≡◌, ◌<◌, ◌≤◌, ◌+◌, ◌-◌, ◌++◌, ◌∷◌, [], Bool, true, false, cond, List, length, get_or, set, length-set, get_or-set_same, get_or-set_other, map, refl, sym, ◌∙◌, ap, arith, eqb, leb, zero, suc, zero-add, add-zero, Option, Some, None, ◌⊎◌, inl, inr, ◌&&◌, ◌||◌}
+use Rattle.std.specs.List.{list_all, Contains, count_by, flat_map}
 use Rattle.std.specs.Option.{is_some, is_none}
 use Rattle.std.specs.Prelude.{not}
 use Rattle.std.proofs.lemmas.Bool.{and_parts, and_from, or_cases, or_left, or_right, leb-true, le-leb, false≢true, eqb-true, eq-eqb, cases_eq, cases_lt}
-use Rattle.std.proofs.lemmas.List.{length-append, length-map, set_past}
+use Rattle.std.proofs.lemmas.List.{set_past}
 use Rattle.std.proofs.lemmas.List.FromFn.{length-map-range_with_len, get_or-map-range_with_len, fill_by_all}
 use Rattle.mj_tiles.specs.Counts.{all_kinds, IsCounts}
 use Rattle.mj_readings.specs.declared.reading.Set.{Set}
 use Rattle.mj_readings.specs.Sets.{tally, tiles_of_set, is_concealed, begins_run, in_order}
 use Rattle.mj_readings.specs.Complete.{AreSetsAndPair, AreOrphans, IsComplete, is_seven_pairs}
-use Rattle.mj_readings.specs.Ways.{Way, sets_at, put, begin, begins, at_kind, end_of, ways, has_way}
+use Rattle.mj_readings.specs.Ways.{Way, sets_at, put, begin, begins, at_kind, ways, has_way}
 use Rattle.mj_readings.specs.Tests.{complete, orphan_double}
 use Rattle.mj_readings.proofs.Tiles.{number_at, count-flat_map}
-use Rattle.mj_readings.proofs.WayRules.{IsWay, PairFits, pair_tiles, carry, ways_sound}
+use Rattle.mj_readings.proofs.WayRules.{IsWay, pair_tiles, carry, ways_sound}
 use Rattle.mj_readings.proofs.WayAll.{ways_complete}
 use Rattle.std.proofs.lemmas.List.Elements.{All-contains}
 use Rattle.mj_readings.proofs.Sorting.{sorted, number_at-sorted, length-sorted, list_all-sorted, in_order-sorted}

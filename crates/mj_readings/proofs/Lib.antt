@@ -14,3 +14,4 @@ pub mod Places
 pub mod Laws
 pub mod StandingLaws
 pub mod ReadingLaws
+pub mod RuledOut

@@ -1,12 +1,12 @@
 -- Sets in order: the sets that begin at one kind stand first.
-use Rattle.std.proofs.Common.{ℕ, ◌≡◌, ◌<◌, ◌≤◌, ◌+◌, ◌*◌, ◌++◌, ◌∷◌, [], Bool, true, false, List, length, refl, sym, ◌∙◌, ap, arith, leb, ltb, replicate, zero, suc, ◌⊎◌, inl, inr, ◌&&◌, append_assoc}
+use Rattle.std.proofs.Common.{ℕ, ◌≡◌, ◌<◌, ◌≤◌, ◌+◌, ◌*◌, ◌++◌, ◌∷◌, [], Bool, true, false, List, refl, sym, ◌∙◌, ap, arith, leb, replicate, zero, suc, ◌⊎◌, inl, inr, append_assoc}
 use Rattle.std.specs.List.{list_all}
-use Rattle.std.proofs.lemmas.Bool.{and_parts, and_from, leb-true, le-leb, false≢true, cases_lt, ltb-true}
+use Rattle.std.proofs.lemmas.Bool.{and_parts, and_from, leb-true, le-leb, false≢true, cases_lt}
 use Rattle.std.proofs.lemmas.List.Folds.{list_all-append}
 use Rattle.mj_readings.specs.declared.reading.Set.{Set}
 use Rattle.mj_readings.specs.declared.reading.SetForm.{SetForm}
 use Rattle.mj_readings.specs.declared.reading.SetForm.TheVariants.{Run, Triplet, Kan}
-use Rattle.mj_readings.specs.Sets.{is_concealed, is_concealed_form, in_order, begins_run, place_of, place_of_form}
+use Rattle.mj_readings.specs.Sets.{is_concealed, in_order, begins_run, place_of, place_of_form}
 use Rattle.mj_readings.specs.Ways.{run_at, triplet_at, sets_at}
 
 -- What holds of each of equal sets.

@@ -1,10 +1,9 @@
 -- Picking an item of a list made of parts.
-use Rattle.std.proofs.Common.{ℕ, ◌≡◌, ◌<◌, ◌≤◌, ◌+◌, ◌-◌, ◌++◌, ◌∷◌, [], Bool, true, false, cond, List, length, map, take, drop, get_or, refl, sym, ◌∙◌, ap, subst, arith, zero, suc, add-zero, zero-add, Option, Some, None, Result, Ok, Err, eqb, leb, ◌&&◌, ◌||◌, append_assoc}
+use Rattle.std.proofs.Common.{ℕ, ◌≡◌, ◌<◌, ◌≤◌, ◌+◌, ◌-◌, ◌++◌, ◌∷◌, [], Bool, true, false, cond, List, length, map, take, drop, get_or, refl, sym, ◌∙◌, ap, subst, arith, zero, suc, zero-add, Option, Some, None, Result, Ok, Err, eqb, leb, ◌&&◌, ◌||◌, append_assoc}
 use Rattle.std.specs.List.{slice_get, flat_map}
 use Rattle.std.specs.Option.{is_none, is_some}
 use Rattle.std.proofs.lemmas.List.{length-append, length-map, append-nil, take_all}
 use Rattle.std.proofs.lemmas.List.Concat.{flat_map-append}
-use Rattle.std.proofs.lemmas.List.Folds.{flat_map-map}
 use Rattle.std.proofs.lemmas.Bool.{ne_eqb, lt-leb, le-leb, and_right, and_from, false≢true}
 use Rattle.mj_readings.specs.declared.reading.Set.{Set}
 use Rattle.mj_readings.specs.declared.standing.Standing.{Standing}
@@ -134,6 +133,12 @@ branch-on others spot sets made winning runs triplets place pair can result is o
     let as_made = ap (λ all. standings all winning (ways others (spot.kind + 1) spot.second runs (spot.left - (runs + triplets)) pair)) same in
     subst (λ items. Picks items place result) (as_made ∙ sym list) picks
 
+pub none-at : (sets : List Set) (kind runs triplets : ℕ) → runs + triplets ≡ 0 → sets ≡ sets ++ sets_at kind runs triplets
+none-at sets kind runs triplets none =
+    let no_runs : runs ≡ 0 = omega arith in
+    let no_triplets : triplets ≡ 0 = omega arith in
+    sym (ap (λ n. sets ++ sets_at kind n triplets) no_runs ∙ ap (λ n. sets ++ sets_at kind 0 n) no_triplets ∙ append-nil sets)
+
 pub triplet-off : (others : List ℕ) (spot : Spot) (sets : List Set) (winning free place : ℕ) → free < 3 →
     place ≡ length (standings sets winning (triplet_ways others spot free)) + place
 unfolding standings
@@ -230,3 +235,15 @@ kind-third numbers count others spot sets winning place behind last result is ro
     let three = standings sets winning (pair_ways others spot (count - (spot.first + spot.second))) in
     subst (λ items. Picks items place result) (sym (parts_of numbers count others spot sets winning is room))
     (picks-right (one ++ two) three place last result (picks-right one two place behind (Err last) past further) picks)
+
+-- With fewer than two free tiles runs alone begin.
+pub kind-alone : (numbers : List ℕ) (count : ℕ) (others : List ℕ) (spot : Spot) (sets : List Set) (winning place : ℕ) (result : Result Standing ℕ) → numbers ≡ count ∷ others → spot.first + spot.second ≤ count →
+    count - (spot.first + spot.second) < 2 →
+    Picks (standings sets winning (branch_ways others spot (count - (spot.first + spot.second)) 0 spot.pair)) place result →
+    Picks (standings sets winning (ways_from numbers spot)) place result
+kind-alone numbers count others spot sets winning place (Ok standing) is room few picks =
+    kind-first numbers count others spot sets winning place standing is room picks
+kind-alone numbers count others spot sets winning place (Err rest) is room few picks =
+    kind-third numbers count others spot sets winning place rest rest (Err rest) is room picks
+    (triplet-off others spot sets winning (count - (spot.first + spot.second)) rest (omega (arith, few)))
+    (pair-few others spot sets winning (count - (spot.first + spot.second)) rest few)

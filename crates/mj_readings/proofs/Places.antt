@@ -1,11 +1,11 @@
 -- The numbers below a bound that pass a test, one after another.
-use Rattle.std.proofs.Common.{ℕ, ◌≡◌, ◌<◌, ◌≤◌, ◌+◌, ◌++◌, ◌∷◌, [], Bool, true, false, cond, List, length, refl, sym, ◌∙◌, ap, arith, zero, suc, add-zero, zero-add, add-one, Option, Some, None, Result, Ok, Err}
+use Rattle.std.proofs.Common.{ℕ, ◌≡◌, ◌<◌, ◌+◌, ◌++◌, ◌∷◌, [], Bool, true, false, cond, List, length, refl, sym, ◌∙◌, ap, arith, zero, suc, add-zero, zero-add, add-one, Some}
 use Rattle.std.specs.List.{filter, range_with_len, slice_get}
 use Rattle.std.proofs.lemmas.List.{length-append}
 use Rattle.std.proofs.lemmas.List.Elements.{filter-append}
 use Rattle.mj_readings.specs.declared.reading.Set.{Set}
 use Rattle.mj_readings.specs.Readings.{names_winning}
-use Rattle.mj_readings.specs.Standings.{Picks, win_places}
+use Rattle.mj_readings.specs.Standings.{win_places}
 
 range_push : (from n : ℕ) → range_with_len from (suc n) ≡ range_with_len from n ++ (from + n) ∷ []
 range_push from zero = ap (λ k. k ∷ []) (sym (add-zero from))

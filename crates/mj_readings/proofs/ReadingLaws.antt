@@ -1,9 +1,9 @@
 -- The list of readings has all readings, no others, and each once.
-use Rattle.std.proofs.Common.{ℕ, ◌≡◌, ◌≢◌, ◌<◌, ◌≤◌, ◌+◌, ◌-◌, ◌++◌, ◌∷◌, [], Bool, true, false, cond, List, length, get_or, map, take, drop, refl, sym, ◌∙◌, ap, subst, arith, eqb, leb, zero, suc, ◌⊎◌, inl, inr, Option, Some, None, Result, Ok, Err}
-use Rattle.std.specs.List.{All, AllPairs, Contains, slice_get}
+use Rattle.std.proofs.Common.{ℕ, ◌≡◌, ◌≢◌, ◌<◌, ◌≤◌, ◌+◌, ◌-◌, ◌++◌, ◌∷◌, [], Bool, true, false, cond, List, length, get_or, map, take, drop, refl, sym, ◌∙◌, ap, subst, arith, eqb, zero, suc, ◌⊎◌, inl, inr, Option, Some, None}
+use Rattle.std.specs.List.{All, Contains, slice_get}
 use Rattle.std.specs.Option.{option_to_list}
-use Rattle.std.proofs.lemmas.Bool.{cases_lt, le-leb, lt-leb, leb-true, eq-eqb, eqb-true}
-use Rattle.std.proofs.lemmas.List.{length-append, length-map, take_at, drop_at, append_cancel_right, take-append-drop, length-take-le, nil_from_length, take_more, take_all}
+use Rattle.std.proofs.lemmas.Bool.{cases_lt, le-leb, lt-leb, eq-eqb, eqb-true}
+use Rattle.std.proofs.lemmas.List.{length-append, length-map, take_at, drop_at, append_cancel_right, take-append-drop, nil_from_length, take_more, take_all}
 use Rattle.std.proofs.lemmas.Option.{slice_get_within, get_or_from_slice_get, none-some}
 use Rattle.std.proofs.lemmas.List.Elements.{All-nil, All-cons, All-append, All-map, All-weaker, Contains-append_left, Contains-append_right}
 use Rattle.mj_tiles.specs.Counts.{IsCounts}
@@ -14,7 +14,7 @@ use Rattle.mj_readings.specs.declared.reading.Reading.TheVariants.{Standard, Pai
 use Rattle.mj_readings.specs.declared.standing.Standing.{Standing}
 use Rattle.mj_readings.specs.Sets.{set_of_meld, in_order}
 use Rattle.mj_readings.specs.SetLists.{no_set}
-use Rattle.mj_readings.specs.Complete.{AreSetsAndPair, is_seven_pairs, AreOrphans}
+use Rattle.mj_readings.specs.Complete.{AreSetsAndPair, is_seven_pairs}
 use Rattle.mj_readings.specs.Readings.{IsStandard, IsReading, AreReadings, names_winning}
 use Rattle.mj_readings.specs.Ways.{ways}
 use Rattle.mj_readings.specs.Standings.{standings}

@@ -1,9 +1,9 @@
 -- The standings are all ways with all places of the winning tile, each once.
-use Rattle.std.proofs.Common.{ℕ, ◌≡◌, ◌<◌, ◌≤◌, ◌++◌, ◌∷◌, [], Bool, true, false, cond, List, length, get_or, map, refl, sym, ◌∙◌, ap, subst, arith, eqb, leb, zero, suc, zero-add, ◌⊎◌, inl, inr, Option, Some, None, ◌||◌, ◌&&◌, lit<}
-use Rattle.std.specs.List.{All, Contains, filter, range_with_len, slice_get, list_all}
+use Rattle.std.proofs.Common.{ℕ, ◌≡◌, ◌<◌, ◌≤◌, [], true, false, List, length, refl, sym, ◌∙◌, ap, subst, arith, eqb, zero-add, ◌⊎◌, inl, inr, Option, Some, None, ◌&&◌}
+use Rattle.std.specs.List.{All, Contains, filter, range_with_len, slice_get}
 use Rattle.std.specs.Option.{option_map_or}
 use Rattle.std.proofs.lemmas.Bool.{or_cases, and_parts, eqb-true, false≢true}
-use Rattle.std.proofs.lemmas.List.Elements.{All-map, All-weaker, All-contains, filter_passes}
+use Rattle.std.proofs.lemmas.List.Elements.{All-map, All-weaker, filter_passes}
 use Rattle.std.proofs.lemmas.Option.{slice_get_within}
 use Rattle.mj_tiles.specs.Counts.{IsCounts}
 use Rattle.mj_readings.specs.declared.reading.Set.{Set}

@@ -1,13 +1,13 @@
 -- How many tiles of a kind stand in sets.
-use Rattle.std.proofs.Common.{ℕ, ◌≡◌, ◌<◌, ◌≤◌, ◌+◌, ◌*◌, ◌++◌, ◌∷◌, [], Bool, true, false, cond, List, length, get_or, refl, sym, ◌∙◌, ap, arith, rules, eqb, leb, map, replicate, zero, suc, Option, Some, None, ◌⊎◌, inl, inr}
+use Rattle.std.proofs.Common.{ℕ, ◌≡◌, ◌<◌, ◌+◌, ◌*◌, ◌++◌, ◌∷◌, [], true, cond, List, refl, ◌∙◌, ap, arith, eqb, leb, replicate, zero, suc}
 use Rattle.std.specs.List.{count_by, flat_map, list_all}
-use Rattle.std.proofs.lemmas.Bool.{and_parts, leb-true, eq-eqb, ne_eqb}
+use Rattle.std.proofs.lemmas.Bool.{and_parts, leb-true}
 use Rattle.std.proofs.lemmas.Bool.Decides.{nat_tests}
 use Rattle.std.proofs.lemmas.Grind.{common_steps}
 use Rattle.mj_readings.specs.declared.reading.Set.{Set}
 use Rattle.mj_readings.specs.declared.reading.SetForm.{SetForm}
 use Rattle.mj_readings.specs.declared.reading.SetForm.TheVariants.{Run, Triplet, Kan}
-use Rattle.mj_readings.specs.Sets.{tiles_of_set, tiles_of_form, is_concealed, is_concealed_form}
+use Rattle.mj_readings.specs.Sets.{tiles_of_set, tiles_of_form}
 use Rattle.mj_readings.specs.Ways.{run_at, triplet_at, sets_at}
 
 -- A kind in a set, as often as it stands there.

@@ -1,18 +1,17 @@
 -- Each sets in order and pair with the counts are one of the ways.
-use Rattle.std.proofs.Common.{ℕ, ◌≡◌, ◌<◌, ◌≤◌, ◌+◌, ◌-◌, ◌*◌, ◌++◌, ◌∷◌, [], Bool, true, false, cond, List, length, get_or, refl, sym, ◌∙◌, ap, subst, arith, lit<, ltb, ◌%◌, eqb, leb, map, replicate, zero, suc, Option, Some, None, ◌⊎◌, inl, inr, ◌&&◌, ◌||◌, add-zero}
-use Rattle.std.specs.List.{list_all, Contains, All}
-use Rattle.std.specs.Option.{is_none}
-use Rattle.std.proofs.lemmas.Bool.{and_from, and_parts, leb-true, le-leb, cases_eq, eq-eqb, ne_eqb, false≢true, ltb-true}
+use Rattle.std.proofs.Common.{ℕ, ◌≡◌, ◌<◌, ◌≤◌, ◌+◌, ◌-◌, ◌*◌, ◌++◌, ◌∷◌, [], Bool, true, false, cond, List, length, refl, sym, ◌∙◌, ap, subst, arith, lit<, ltb, ◌%◌, eqb, leb, replicate, zero, suc, Option, Some, None, ◌⊎◌, inl, inr, ◌&&◌, add-zero}
+use Rattle.std.specs.List.{list_all, Contains}
+use Rattle.std.proofs.lemmas.Bool.{and_parts, leb-true, le-leb, cases_eq, eq-eqb, ne_eqb, false≢true, ltb-true}
 use Rattle.std.proofs.lemmas.List.{length-append, length-replicate}
 use Rattle.std.proofs.lemmas.List.Elements.{Contains-append_left, Contains-append_right}
 use Rattle.mj_readings.specs.declared.reading.Set.{Set}
 use Rattle.std.specs.Prelude.{not}
 use Rattle.mj_readings.specs.declared.reading.SetForm.{SetForm}
 use Rattle.mj_readings.specs.declared.reading.SetForm.TheVariants.{Run, Triplet, Kan}
-use Rattle.mj_readings.specs.Sets.{is_concealed, is_concealed_form, in_order, begins_run}
+use Rattle.mj_readings.specs.Sets.{is_concealed, is_concealed_form, begins_run}
 use Rattle.mj_readings.specs.Ways.{Way, run_at, triplet_at, sets_at, put, begin, at_kind, end_of, ways}
 use Rattle.mj_readings.proofs.Order.{Front, front_of}
-use Rattle.mj_readings.proofs.WayRules.{IsWay, PairFits, pair_tiles, way_here, way_after, begin_has}
+use Rattle.mj_readings.proofs.WayRules.{IsWay, pair_tiles, way_here, way_after, begin_has}
 
 -- A way is its first sets, put before the others.
 way_is : (way : Way) (kind runs triplets : ℕ) (rest : List Set) → way.sets ≡ sets_at kind runs triplets ++ rest →

@@ -1,18 +1,15 @@
 -- What the ways are: each is sets in order and a pair with the counts, and each such sets and pair are one.
-use Rattle.std.proofs.Common.{ℕ, ◌≡◌, ◌<◌, ◌≤◌, ◌+◌, ◌-◌, ◌*◌, ◌++◌, ◌∷◌, [], Bool, true, false, cond, List, length, get_or, refl, sym, ◌∙◌, ap, arith, rules, add-zero, eqb, leb, ltb, map, replicate, zero, suc, Option, Some, None, ◌⊎◌, inl, inr, ◌&&◌, ◌||◌}
+use Rattle.std.proofs.Common.{ℕ, ◌≡◌, ◌<◌, ◌≤◌, ◌+◌, ◌-◌, ◌*◌, ◌++◌, ◌∷◌, [], Bool, true, false, cond, List, length, get_or, refl, sym, ◌∙◌, ap, arith, add-zero, eqb, leb, map, replicate, zero, suc, Option, Some, None, ◌⊎◌, inl, inr, ◌&&◌, ◌||◌}
 use Rattle.std.specs.List.{list_all, Contains, All}
 use Rattle.std.specs.Option.{is_none}
-use Rattle.std.proofs.lemmas.Bool.{and_parts, leb-true, eq-eqb, ne_eqb, cases_eq, cases_lt}
-use Rattle.std.proofs.lemmas.Bool.Decides.{nat_tests}
-use Rattle.std.proofs.lemmas.Grind.{common_steps}
-use Rattle.std.proofs.lemmas.Bool.{true_from_ne_false, ltb-true, le-leb, cases_Bool, or_cases, false≢true, eqb-true, cond-true, cond-false, and_from, or_left, or_right, lt-leb}
+use Rattle.std.proofs.lemmas.Bool.{and_parts, leb-true, eq-eqb, ne_eqb}
+use Rattle.std.proofs.lemmas.Bool.{le-leb, or_cases, eqb-true, and_from, or_left, or_right}
 use Rattle.std.proofs.lemmas.List.{length-append, length-replicate, length-map, get_or-map}
-use Rattle.std.proofs.lemmas.List.Elements.{All-nil, All-cons, All-append, All-map, All-weaker, Contains-append_left, Contains-append_right}
-use Rattle.mj_readings.proofs.Order.{list_all-replicate, list_all-join, list_all-later, in_order-sets_at, Front, front_of}
-use Rattle.mj_readings.specs.declared.reading.Set.{Set}
+use Rattle.std.proofs.lemmas.List.Elements.{All-nil, All-cons, All-append, All-map, All-weaker}
+use Rattle.mj_readings.proofs.Order.{list_all-replicate, list_all-join, list_all-later, in_order-sets_at, Front}
 use Rattle.mj_readings.specs.Sets.{is_concealed, in_order, begins_run}
-use Rattle.mj_readings.specs.Ways.{Way, run_at, triplet_at, sets_at, put, begin, at_kind, end_of, ways}
-use Rattle.mj_readings.proofs.Tiles.{number_at, in_set, run_tiles, triplet_tiles, sets_at_place, number_at-append, number_at-later}
+use Rattle.mj_readings.specs.Ways.{Way, run_at, triplet_at, sets_at, put, begin, at_kind, ways}
+use Rattle.mj_readings.proofs.Tiles.{number_at, run_tiles, triplet_tiles, sets_at_place, number_at-append, number_at-later}
 
 -- The tiles that runs begun two kinds and one kind before have j kinds on.
 abbrev pub carry : ℕ → ℕ → ℕ → ℕ

@@ -7,3 +7,4 @@ pub mod Standings
 pub mod Spots
 pub mod Tests
 pub mod ReadingLists
+pub mod Completing

@@ -1,5 +1,5 @@
 -- The same rules as tests that compute.
-use Rattle.std.specs.Prelude.{ℕ, slice_index, slice_set, ◌+◌, ◌-◌, ◌==◌, Bool, true, false, nat_le, ◌&&◌, ◌||◌, List, Option, is_some, find, map, bytes_eq}
+use Rattle.std.specs.Prelude.{ℕ, slice_index, slice_set, ◌+◌, ◌-◌, ◌==◌, Bool, false, nat_le, ◌&&◌, ◌||◌, List, Option, is_some, find, map, bytes_eq}
 use Rattle.mj_tiles.specs.Counts.{all_kinds}
 use Rattle.mj_readings.specs.Sets.{is_orphan}
 use Rattle.mj_readings.specs.Complete.{orphan_number, is_seven_pairs}

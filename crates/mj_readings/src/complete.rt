@@ -113,8 +113,7 @@ fn may_begin_run(kind: u8) -> bool
 pub(crate) fn are_seven_pairs(numbers: &[u8]) -> bool
     ensures { result ≡ is_seven_pairs numbers.now }
 {
-    let pairs = pairs_among(numbers);
-    only_pairs(numbers) && pairs == 7
+    only_pairs(numbers) && pairs_among(numbers) == 7
 }
 
 fn only_pairs(numbers: &[u8]) -> bool

@@ -2,6 +2,7 @@
 #![tactic(auto)]
 
 mod complete;
+mod completing_kinds;
 mod listing;
 mod reading;
 mod sets;
@@ -10,5 +11,6 @@ mod standing;
 mod tests;
 
 pub use complete::{is_complete, is_complete_with};
+pub use completing_kinds::completing;
 pub use listing::{reading_at, readings};
 pub use reading::{Case, Reading, Riichi, Set, SetForm};

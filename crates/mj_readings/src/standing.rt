@@ -118,6 +118,9 @@ pub(crate) fn standing_at(
         return Err(index);
     }
     let free = *count - (spot.first + spot.second);
+    if free < 2 {
+        return branch_at(others, spot, free, 0, spot.pair, sets, winning, index);
+    }
     let behind_runs = match branch_at(others, spot, free, 0, spot.pair, sets, winning, index) {
         Ok(standing) => return Ok(standing),
         Err(rest) => rest,
@@ -214,6 +217,9 @@ fn branch_at(
         left: spot.left - (runs + triplets),
         pair,
     };
+    if runs + triplets == 0 {
+        return standing_at(others, &next, sets, winning, index);
+    }
     standing_at(
         others,
         &next,

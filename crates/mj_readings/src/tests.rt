@@ -1,4 +1,6 @@
-use crate::{Reading, Set, SetForm, is_complete, is_complete_with, reading_at, readings};
+use crate::{
+    Reading, Set, SetForm, completing, is_complete, is_complete_with, reading_at, readings,
+};
 use mj_tiles::{Counts, Form, Kind, Kinds, Meld, Tile, counts_of};
 use std::alloc::Global;
 use std::test::Fail;
@@ -37,6 +39,31 @@ fn complete_hands_are_told(rt: HostRuntime) -> Result<(), Fail> {
     assert!(rt; waiting.get(other) < 4);
     assert!(rt; is_complete_with(&waiting, same, 4));
     assert!(rt; !is_complete_with(&waiting, other, 4));
+    Ok(())
+}
+
+#[test]
+fn kinds_complete_a_hand(rt: HostRuntime) -> Result<(), Fail> {
+    for (hand, melds, wanted) in [
+        ("1m 2m 3m 4p 5p 6p 7s 8s 9s E E S S", 0, "E S"),
+        ("2m 2m 3m 3m 5p 5p 6p 6p 8s 8s E E C", 0, "C"),
+        ("1m 1m 9m 1p 9p 1s 9s E S W N P F", 0, "C"),
+        ("1p 2p 3p 4p 5p 6p 7p 8p 9p 1s 1s 1s 1s", 0, ""),
+        ("2s 3s 5m 5m 7p 7p 7p", 2, "1s 4s"),
+        ("C", 5, ""),
+    ] {
+        let mut kinds = Kinds::none();
+        for word in wanted.split(' ') {
+            if !word.is_empty() {
+                kinds = kinds.with(kind(word)?);
+            }
+        }
+        assert_eq!(rt;
+            completing(&counts(rt.alloc(), hand)?, melds),
+            kinds,
+            "{hand}"
+        );
+    }
     Ok(())
 }
 

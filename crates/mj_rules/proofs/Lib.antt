@@ -1,1 +1,9 @@
 pub mod Dealing
+pub mod Standing
+pub mod Kept
+pub mod Room
+pub mod Answered
+pub mod Turns
+pub mod Playing
+pub mod Freeing
+pub mod Rows

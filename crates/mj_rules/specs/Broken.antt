@@ -1,5 +1,5 @@
 -- Which rule an answer breaks, out of what its seat may know.
-use Rattle.std.specs.Prelude.{ℕ, ◌+◌, ◌-◌, ◌%◌, ◌==◌, ◌&&◌, ◌||◌, Bool, true, false, not, nat_lt, nat_le, if◌then◌else◌, List, [], ◌∷◌, Option, Some, None, option_and_then, option_map, unwrap_or, flat_map}
+use Rattle.std.specs.Prelude.{ℕ, ◌+◌, ◌-◌, ◌%◌, ◌==◌, ◌&&◌, ◌||◌, Bool, true, false, not, nat_lt, nat_le, if◌then◌else◌, List, [], ◌∷◌, Option, Some, None, option_map, flat_map}
 use Rattle.std.specs.List.{list_any, list_all}
 use Rattle.mj_tiles.specs.Faces.{is_red, number_in, kind_of, tile_order}
 use Rattle.mj_tiles.specs.declared.meld.Meld.{Meld}

@@ -1,13 +1,12 @@
 -- The answer that stands for a seat which gives none.
-use Rattle.std.specs.Prelude.{ℕ, ◌==◌, ◌&&◌, Bool, true, false, not, nat_lt, if◌then◌else◌, List, [], ◌∷◌, length, ◌-◌, Option, Some, None, option_map, unwrap_or, slice_get, filter}
-use Rattle.std.specs.Option.{option_map_or}
+use Rattle.std.specs.Prelude.{ℕ, ◌==◌, ◌&&◌, ◌||◌, Bool, true, false, not, nat_lt, if◌then◌else◌, List, length, ◌-◌, Option, Some, None, slice_get, filter}
 use Rattle.mj_tiles.specs.Faces.{tile_order, kind_of}
 use Rattle.mj_calls.specs.Bans.{is_banned}
 use Rattle.mj_deeds.specs.declared.answer.Pai.TheVariants.{Known}
 use Rattle.mj_deeds.specs.declared.answer.Answer.{Answer}
 use Rattle.mj_deeds.specs.declared.answer.Answer.TheVariants.{Pass, Discard}
 use Rattle.mj_deeds.specs.declared.deed.Deed.{Deed}
-use Rattle.mj_rules.specs.Broken.{View, view_of, held, Turn, Drew, Discarded, Called, Nobodys}
+use Rattle.mj_rules.specs.Broken.{View, view_of, held, Turn, Drew, Called}
 
 -- The faces that a seat holds and that are of no banned kind, in tile order.
 unfoldable pub free_faces : View → List ℕ → List ℕ
@@ -34,3 +33,11 @@ default_by seat view = default_in seat view view.turn
 -- The default answer of a seat in the window on the newest deed.
 abbrev pub default_answer : List Deed → ℕ → Answer
 default_answer deeds seat = default_by seat (view_of deeds seat)
+
+-- Where a seat has to discard right after its own call, some tile that it holds is of no banned kind.
+abbrev pub has_free_in : ℕ → View → Turn → Bool
+has_free_in seat view (Called who banned) = not (who == seat) || nat_lt 0 (length (free_faces view banned))
+has_free_in seat view other = true
+
+abbrev pub has_free : List Deed → ℕ → Bool
+has_free deeds seat = has_free_in seat (view_of deeds seat) (view_of deeds seat).turn

@@ -1,3 +1,5 @@
 pub mod Broken
 pub mod Default
+pub mod Laws
 pub mod Outcome
+pub mod Played

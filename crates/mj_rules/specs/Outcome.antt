@@ -1,5 +1,5 @@
 -- The course of a hand: the one deed that follows a closed window.
-use Rattle.std.specs.Prelude.{ℕ, ◌+◌, ◌-◌, ◌%◌, ◌==◌, Bool, true, false, if◌then◌else◌, List, [], ◌∷◌, Option, Some, None, option_and_then, option_map, length, slice_get, unwrap_or}
+use Rattle.std.specs.Prelude.{ℕ, ◌+◌, ◌-◌, ◌%◌, ◌==◌, true, false, if◌then◌else◌, List, [], Option, Some, None, option_and_then, length, slice_get, unwrap_or}
 use Rattle.std.specs.List.{slice_index_or}
 use Rattle.mj_tiles.specs.Faces.{in_tile_order}
 use Rattle.mj_wall.specs.Places.{dealt_tiles, live_tile, indicator_tile, replacement_tile}

@@ -132,7 +132,7 @@ reached_target room runs at chosen melds paired t first none h =
 
 -- ---- what the walk from the first place on ends with
 
-best_is_nearest : (held : List ℕ) (P : List ℕ → Type 0) (b : Option (ℕ × List ℕ)) → Improves held P None b → MatchOption b ((t : List ℕ) → P t → ⊥) (λ answer. IsNearest held P answer.0 answer.1)
+pub best_is_nearest : (held : List ℕ) (P : List ℕ → Type 0) (b : Option (ℕ × List ℕ)) → Improves held P None b → MatchOption b ((t : List ℕ) → P t → ⊥) (λ answer. IsNearest held P answer.0 answer.1)
 best_is_nearest held P None h = h.best
 best_is_nearest held P (Some answer) h = record {
   is_one = (from_one h.one).0;

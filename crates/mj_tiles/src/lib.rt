@@ -13,4 +13,4 @@ pub use counts::{Counts, counts_of};
 pub use kind::{Kind, after};
 pub use kinds::Kinds;
 pub use meld::{Form, Meld, Melds};
-pub use tile::Tile;
+pub use tile::{Tile, number_among};

@@ -1,4 +1,4 @@
-use crate::{Counts, Form, Kind, Kinds, Meld, Melds, Tile, after, counts_of};
+use crate::{Counts, Form, Kind, Kinds, Meld, Melds, Tile, after, counts_of, number_among};
 use std::test::Fail;
 
 fn tile(text: &[u8]) -> Result<Tile, &'static str> {
@@ -30,6 +30,14 @@ fn texts_name_tiles(rt: HostRuntime) -> Result<(), Fail> {
     assert!(rt; Tile::of(37).is_none());
     assert!(rt; Kind::of(34).is_none());
     assert_eq!(rt; Tile::of(35).ok_or("no tile")?.kind(), kind(b"5p")?);
+    Ok(())
+}
+
+#[test]
+fn kinds_have_their_numbers(rt: HostRuntime) -> Result<(), Fail> {
+    for (text, number) in [("1m", 0), ("9m", 8), ("5pr", 13), ("9s", 26), ("C", 33)] {
+        assert_eq!(rt; kind(text.as_bytes())?.number(), number);
+    }
     Ok(())
 }
 
@@ -99,5 +107,16 @@ fn melds_are_kept_in_order(rt: HostRuntime) -> Result<(), Fail> {
         },
     ];
     assert_eq!(rt; Melds::of(&melds).as_slice(), melds.as_slice());
+    Ok(())
+}
+
+#[test]
+fn a_face_is_counted_and_no_other_of_its_kind(rt: HostRuntime) -> Result<(), Fail> {
+    let five = tile(b"5m")?;
+    let red = tile(b"5mr")?;
+    let tiles = [five, red, five, tile(b"5p")?];
+    assert_eq!(rt; number_among(&tiles, five), 2);
+    assert_eq!(rt; number_among(&tiles, red), 1);
+    assert_eq!(rt; number_among(&tiles, tile(b"E")?), 0);
     Ok(())
 }

@@ -1,6 +1,6 @@
 ghost use Rattle.std.specs.Prelude.{◌≡◌, ℕ, ◌<◌};
 ghost use Rattle.std.specs.Option.{SomeIff};
-ghost use Rattle.mj_tiles.specs.Faces.{kind_of, text_of, face_of};
+ghost use Rattle.mj_tiles.specs.Faces.{kind_of, text_of, face_of, number_in};
 
 use crate::kind::Kind;
 use std::marker::Model;
@@ -112,4 +112,12 @@ impl Tile {
             _ => b"5sr",
         }
     }
+}
+
+/// How often the face of a tile stands among tiles.
+pub fn number_among(tiles: &[Tile], tile: Tile) -> usize
+    ensures { result ≡ number_in tiles.now tile }
+{
+    let face = tile.face();
+    tiles.iter().filter(|other| other.face() == face).count()
 }

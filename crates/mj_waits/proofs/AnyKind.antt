@@ -1,5 +1,5 @@
 -- Whether some kind passes a test.
-use Rattle.std.proofs.Common.{ℕ, ◌≡◌, ◌<◌, ◌≤◌, ◌+◌, ◌∷◌, [], Bool, true, false, List, refl, sym, ◌∙◌, ap, arith, zero, suc, add-zero, zero-add, ◌||◌}
+use Rattle.std.proofs.Common.{ℕ, ◌≡◌, ◌<◌, ◌+◌, Bool, true, false, refl, sym, ◌∙◌, ap, arith, zero, suc, add-zero, zero-add}
 use Rattle.std.specs.List.{list_any, range_with_len}
 use Rattle.std.proofs.lemmas.Bool.{or_left, or_right, or_from}
 use Rattle.mj_tiles.specs.Counts.{all_kinds}

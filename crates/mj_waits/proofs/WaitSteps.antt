@@ -1,11 +1,51 @@
 -- The waits, one kind after another.
-use Rattle.std.proofs.Common.{ℕ, ◌≡◌, ◌<◌, ◌≤◌, ◌+◌, Bool, true, false, List, refl, sym, ◌∙◌, ap, subst, arith, ◌⊎◌, inl, inr}
-use Rattle.std.proofs.lemmas.Bool.{cases_lt, false≢true, both_ways}
+use Rattle.std.proofs.Common.{ℕ, ◌≡◌, ◌<◌, ◌≤◌, ◌+◌, Bool, true, false, List, refl, sym, ◌∙◌, ap, subst, arith, get_or, ltb, ◌&&◌, ◌⊎◌, inl, inr}
+use Rattle.std.proofs.lemmas.Bool.{cases_lt, false≢true, both_ways, and_parts, and_from, ltb-true, lt-ltb}
+use Rattle.std.proofs.lemmas.Bool.Decides.{nat_tests}
 use Rattle.mj_tiles.specs.Kinds.{has_kind, with_kind, no_kinds, kinds_that}
 use Rattle.mj_tiles.proofs.KindSets.{has_kind-kinds_that}
 use Rattle.mj_readings.proofs.KindsBelow.{kinds_below, kinds_below-none, kinds_below-yes, kinds_below-no, kinds_below-all}
+use Rattle.mj_readings.specs.Tests.{complete, one_more}
+use Rattle.mj_readings.specs.Completing.{IsCompleting, is_completing}
 use Rattle.mj_waits.specs.Waits.{IsWait, is_wait, is_ready}
 use Rattle.mj_waits.proofs.AnyKind.{any_kind, no_kind}
+
+-- The kinds with room among those that complete the hand: no room is above four.
+pub wait_value : (counts room : List ℕ) (melds completing kind : ℕ) (result : Bool) → completing ≡ kinds_that (is_completing counts melds) → kind < 34 →
+    get_or room kind 0 ≤ 4 → result ≡ (ltb (get_or counts kind 0) (get_or room kind 0) && has_kind completing kind) → result ≡ is_wait counts room melds kind
+wait_value counts room melds completing kind result are within few is =
+    is
+    ∙ ap (λ b. ltb (get_or counts kind 0) (get_or room kind 0) && b)
+    (ap (λ ks. has_kind ks kind) are ∙ has_kind-kinds_that (is_completing counts melds) kind within)
+    ∙ below_four (get_or counts kind 0) (get_or room kind 0) (complete (one_more counts kind) melds) few
+  where
+    below_four : (held room : ℕ) (b : Bool) → room ≤ 4 → (ltb held room && (ltb held 4 && b)) ≡ (ltb held room && b)
+    below_four held room b few = grind (arith, nat_tests)
+
+pub wait_law : (counts room : List ℕ) (melds completing kind : ℕ) (result : Bool) →
+    ((k : ℕ) → k < 34 → (has_kind completing k ≡ true → IsCompleting counts melds k) × (IsCompleting counts melds k → has_kind completing k ≡ true)) →
+    kind < 34 → get_or room kind 0 ≤ 4 → result ≡ (ltb (get_or counts kind 0) (get_or room kind 0) && has_kind completing kind) →
+    (result ≡ true → IsWait counts room melds kind) × (IsWait counts room melds kind → result ≡ true)
+wait_law counts room melds completing kind result law within few is = (
+  λ test.
+      let parts = and_parts (ltb (get_or counts kind 0) (get_or room kind 0)) (has_kind completing kind) (sym is ∙ test) in
+      (ltb-true (get_or counts kind 0) (get_or room kind 0) parts.0, ((law kind within).0 parts.1).1),
+  λ wait.
+      is ∙ and_from (ltb (get_or counts kind 0) (get_or room kind 0)) (has_kind completing kind) (lt-ltb (get_or counts kind 0) (get_or room kind 0) wait.0)
+      ((law kind within).1 (omega (arith, wait.0, few), wait.1)),
+)
+
+-- A kind of the set of waits.
+pub has_wait : (counts room : List ℕ) (melds waits kind : ℕ) (result : Bool) → waits ≡ kinds_that (is_wait counts room melds) → kind < 34 →
+    result ≡ has_kind waits kind → result ≡ is_wait counts room melds kind
+has_wait counts room melds waits kind result are within is =
+    is ∙ ap (λ ks. has_kind ks kind) are ∙ has_kind-kinds_that (is_wait counts room melds) kind within
+
+pub has_wait_law : (counts room : List ℕ) (melds waits kind : ℕ) (result : Bool) →
+    ((k : ℕ) → k < 34 → (has_kind waits k ≡ true → IsWait counts room melds k) × (IsWait counts room melds k → has_kind waits k ≡ true)) → kind < 34 →
+    result ≡ has_kind waits kind → (result ≡ true → IsWait counts room melds kind) × (IsWait counts room melds kind → result ≡ true)
+has_wait_law counts room melds waits kind result law within is =
+    (λ test. (law kind within).0 (sym is ∙ test), λ wait. is ∙ (law kind within).1 wait)
 
 -- The test says what a wait is.
 abbrev pub Says : List ℕ → List ℕ → ℕ → ℕ → Type 0

@@ -1,8 +1,8 @@
-ghost use Rattle.std.specs.Prelude.{◌≡◌, ℕ, ◌<◌, ◌↔◌, IsTrue};
+ghost use Rattle.std.specs.Prelude.{◌≡◌, ℕ, ◌<◌, ◌≤◌, ◌↔◌, IsTrue, nat_lt, slice_index, ◌&&◌};
 ghost use Rattle.mj_tiles.specs.Kinds.{has_kind, kinds_that};
 ghost use Rattle.mj_waits.specs.Waits.{IsWait, is_wait, is_ready};
 
-use mj_readings::is_complete_with;
+use mj_readings::completing;
 use mj_tiles::{Counts, Kind, Kinds};
 
 /// The waits of a hand of concealed tiles with these counts and so many melds: the kinds of which the hand has fewer
@@ -12,12 +12,13 @@ pub fn waits(counts: &Counts, room: &Counts, melds: u8) -> Kinds
     ensures value { result ≡ kinds_that (is_wait counts.now room.now melds) }
     ensures law { (kind : ℕ) → kind < 34 → (IsTrue (has_kind result kind) ↔ IsWait counts.now room.now melds kind) }
 {
+    let complete = completing(counts, melds);
     let mut kinds = Kinds::none();
     for number in 0..34 {
         let Some(kind) = Kind::of(number) else {
             unreachable!()
         };
-        if waits_on(counts, room, melds, kind) {
+        if waits_on(counts, room, complete, kind) {
             kinds = kinds.with(kind);
         }
     }
@@ -29,24 +30,22 @@ pub fn ready(counts: &Counts, room: &Counts, melds: u8) -> bool
     ensures value { result ≡ is_ready counts.now room.now melds }
     ensures law { IsTrue result ↔ ((kind : ℕ) × ((kind < 34) × IsWait counts.now room.now melds kind)) }
 {
+    let waits = waits(counts, room, melds);
     for number in 0..34 {
         let Some(kind) = Kind::of(number) else {
             unreachable!()
         };
-        if waits_on(counts, room, melds, kind) {
+        if waits.has(kind) {
             return true;
         }
     }
     false
 }
 
-/// Whether the kind is a wait.
-fn waits_on(counts: &Counts, room: &Counts, melds: u8, kind: Kind) -> bool
-    ensures value { result ≡ is_wait counts.now room.now melds kind }
-    ensures law { IsTrue result ↔ IsWait counts.now room.now melds kind }
+/// Whether the kind is one of those that complete the hand, and the hand has fewer tiles of it than its room.
+fn waits_on(counts: &Counts, room: &Counts, complete: Kinds, kind: Kind) -> bool
+    ensures value { result ≡ (nat_lt (slice_index counts.now kind) (slice_index room.now kind) && has_kind complete kind) }
+    ensures within { slice_index room.now kind ≤ 4 }
 {
-    if counts.get(kind) >= room.get(kind) {
-        return false;
-    }
-    is_complete_with(counts, kind, melds)
+    counts.get(kind) < room.get(kind) && complete.has(kind)
 }

@@ -1,7 +1,8 @@
 -- Putting tiles into tile order neither adds nor loses any.
-use Rattle.std.proofs.Common.{◌≡◌, ℕ, ◌+◌, ◌-◌, ◌*◌, ◌<◌, ◌⊎◌, Bool, true, false, List, [], ◌∷◌, length, arith, inl, inr, refl, sym, ap, ◌∙◌, cond, eqb}
+use Rattle.std.proofs.Common.{◌≡◌, ℕ, ◌+◌, ◌-◌, ◌*◌, ◌<◌, ◌≤◌, ◌⊎◌, Bool, true, false, List, [], ◌∷◌, length, arith, inl, inr, refl, sym, ap, ◌∙◌, cond, eqb, ltb}
 use Rattle.std.specs.Prelude.{All, flat_map, replicate, count_by}
-use Rattle.std.proofs.lemmas.Bool.{cases_eq, eq-eqb, ne_eqb, agree_below_at, eqb-true}
+use Rattle.std.specs.List.{list_all}
+use Rattle.std.proofs.lemmas.Bool.{and_parts, cases_eq, cases_lt, eq-eqb, ltb-true, ne_eqb, agree_below_at, eqb-true}
 use Rattle.std.proofs.lemmas.List.{length-append, length-replicate}
 use Rattle.std.proofs.lemmas.List.Sums.{sum_by-cons, sum_by-append}
 use Rattle.std.proofs.lemmas.List.Folds.{sum_by-replicate}
@@ -135,3 +136,50 @@ count_by-by_face p tiles (face ∷ faces) =
 pub count_by-in_tile_order : (p : ℕ → Bool) (tiles : List ℕ) → All (λ t. t < 37) tiles → count_by p (in_tile_order tiles) ≡ count_by p tiles
 unfolding in_tile_order less
 count_by-in_tile_order p tiles h = count_by-by_face p tiles tile_order ∙ chosen-all p tiles h
+
+-- no face stands in tile order more than once
+
+none_above : (faces : List ℕ) (t : ℕ) → list_all (λ face. ltb face 37) faces ≡ true → 37 ≤ t → number_in faces t ≡ 0
+none_above [] t h above = refl
+none_above (face ∷ faces) t h above =
+    let parts = and_parts (ltb face 37) (list_all (λ f. ltb f 37) faces) h in
+    let below : face < 37 = ltb-true face 37 parts.0 in
+    here (eqb face t) _ _ (ne_eqb face t (λ e. omega (arith, below, above, e))) (number-cons face t faces) (none_above faces t parts.1 above)
+  where
+    here : (b : Bool) (n m : ℕ) → b ≡ false → m ≡ cond b 1 0 + n → n ≡ 0 → m ≡ 0
+    here true n m e h k = cc
+    here false n m e h k = omega (arith, h, k)
+
+at_most_once : (t : ℕ) → (t < 37) ⊎ (37 ≤ t) → number_in tile_order t ≤ 1
+unfolding tile_order
+at_most_once t (inl below) = omega (arith, once_in_order t below)
+at_most_once t (inr above) = omega (arith, none_above tile_order t refl above)
+
+chosen-le : (p : ℕ → Bool) (tiles : List ℕ) → chosen p tiles tile_order ≤ count_by p tiles
+chosen-le p [] = omega (arith, chosen-none p tile_order)
+chosen-le p (t ∷ ts) =
+    more (p t) _ _ _ _ _ (chosen-cons p t ts tile_order) (at_most_once t (cases_lt t 37)) (chosen-le p ts) (sum_by-cons (λ x. cond (p x) 1 0) t ts)
+  where
+    more : (b : Bool) (a n c d e : ℕ) → a ≡ cond b n 0 + c → n ≤ 1 → c ≤ d → e ≡ cond b 1 0 + d → a ≤ e
+    more true a n c d e h k l m = omega (arith, h, k, l, m)
+    more false a n c d e h k l m = omega (arith, h, k, l, m)
+
+count_by-left : (p : ℕ → Bool) (tiles others faces : List ℕ) →
+    count_by p (flat_map (λ face. replicate (number_in tiles face - number_in others face) face) faces) ≤ chosen p tiles faces
+count_by-left p tiles others [] = omega arith
+count_by-left p tiles others (face ∷ faces) =
+    both (p face) _ _ _ _ (number_in tiles face) (number_in others face)
+    (sum_by-append (λ x. cond (p x) 1 0) (replicate (number_in tiles face - number_in others face) face) (flat_map (λ f. replicate (number_in tiles f - number_in others f) f) faces))
+    (chosen-replicate p (number_in tiles face - number_in others face) face) (count_by-left p tiles others faces)
+  where
+    both : (b : Bool) (a c d e n m : ℕ) → a ≡ c + d → c ≡ cond b (n - m) 0 → d ≤ e → a ≤ cond b n 0 + e
+    both true a c d e n m h k l = omega (arith, h, k, l)
+    both false a c d e n m h k l = omega (arith, h, k, l)
+
+-- Of tiles less others no more pass a test than of the tiles.
+pub count_by-less : (p : ℕ → Bool) (tiles others : List ℕ) → count_by p (less tiles others) ≤ count_by p tiles
+unfolding less
+count_by-less p tiles others = chain _ _ _ (count_by-left p tiles others tile_order) (chosen-le p tiles)
+  where
+    chain : (a b c : ℕ) → a ≤ b → b ≤ c → a ≤ c
+    chain a b c h k = omega (arith, h, k)

@@ -2,7 +2,7 @@ ghost use Rattle.std.specs.Prelude.{◌≡◌, [], ◌≤◌, ◌*◌, ◌+◌, 
 ghost use Rattle.mj_tiles.specs.Faces.{number_in};
 ghost use Rattle.mj_wall.specs.Places.{dealt_tile, live_tile, replacement_tile, indicator_tile, under_tile, number_in_wall, first_extra, bad_place, is_wall};
 
-use mj_tiles::Tile;
+use mj_tiles::{Tile, number_among};
 use std::marker::Model;
 use thiserror::Error;
 
@@ -112,14 +112,6 @@ fn copies(tile: Tile, red: bool) -> usize
         34 | 35 | 36 => usize::from(red),
         _ => 4,
     }
-}
-
-// How often the face of a tile stands among the tiles.
-fn number_among(tiles: &[Tile], tile: Tile) -> usize
-    ensures { result ≡ number_in tiles.now tile }
-{
-    let face = tile.face();
-    tiles.iter().filter(|other| other.face() == face).count()
 }
 
 // The first place of a tile that is one too many of its face.

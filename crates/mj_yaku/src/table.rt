@@ -135,9 +135,9 @@ fn ordinary_rows(reading: &Reading, case: &Case) -> [bool; 33]
         has_chanta(reading),
         has_honitsu(reading),
         has_junchan(reading),
-        false,
-        false,
-        false,
+        false, // Dora.
+        false, // Uradora.
+        false, // Akadora.
         has_ryanpeikou(reading, case),
         has_chinitsu(reading),
     ]

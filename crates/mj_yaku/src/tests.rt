@@ -1,6 +1,7 @@
-use crate::{YakuList, han_of, is_closed, yaku};
+use crate::{YakuList, YakuSet, han_of, has_yaku, is_closed, yaku};
 use mj_readings::{Case, Reading, Riichi, Set, SetForm};
-use mj_tiles::{Form, Kind, Kinds, Meld, Tile};
+use mj_tiles::{Counts, Form, Kind, Kinds, Meld, Tile, counts_of};
+use std::alloc::Global;
 use std::test::Fail;
 
 // For each row a hand that has it, and one near to it that doesn't. A hand is written as its circumstances and its
@@ -161,7 +162,7 @@ fn meld(form: Form) -> Result<Meld, &'static str> {
     })
 }
 
-fn has(row: u8, hand: &str) -> Result<bool, &'static str> {
+fn yaku_of(hand: &str) -> Result<YakuSet, &'static str> {
     let (marks, text) = hand.split_once(' ').ok_or("no hand")?;
     let reading = reading(text)?;
     let open = marks.contains('o');
@@ -175,7 +176,19 @@ fn has(row: u8, hand: &str) -> Result<bool, &'static str> {
     };
     let mut case = case(marks)?;
     case.closed = is_closed(melds);
-    Ok(yaku(&reading, melds, &case).has(row))
+    Ok(yaku(&reading, melds, &case))
+}
+
+fn has(row: u8, hand: &str) -> Result<bool, &'static str> {
+    Ok(yaku_of(hand)?.has(row))
+}
+
+fn counts(alloc: Global, text: &str) -> Result<Counts, Fail> {
+    let mut tiles = Vec::new(alloc);
+    for word in text.split(' ') {
+        tiles.push(Tile::read(word.as_bytes()).ok_or("no tile")?)?;
+    }
+    Ok(counts_of(&tiles).ok_or("five of a kind")?)
 }
 
 #[test]
@@ -215,5 +228,45 @@ fn a_list_keeps_its_rows(rt: HostRuntime) -> Result<(), Fail> {
     let items = [(3, 1), (28, 2)].to_vec(rt.alloc())?;
     let list = YakuList::from_vec(items);
     assert_eq!(rt; list.as_slice(), [(3, 1), (28, 2)].as_slice());
+    Ok(())
+}
+
+#[test]
+fn sets_of_yaku_have_their_han(rt: HostRuntime) -> Result<(), Fail> {
+    for (hand, closed, han, is_empty, is_yakuman) in [
+        ("d r2m r5m r4p r6s 3s 1 7m", true, 3, false, false),
+        (". r2m r2m r5p r5p 8s 4 8s", true, 4, false, false),
+        (". pairs 2m 3m 4m 5p 6p 7p 8s", true, 3, false, false),
+        ("o r2m r5p r3s R7s 2p 0 2m", false, 0, true, false),
+        ("o r1m r4m t9m R6m 2m 0 2m", false, 5, false, false),
+        (". orphans E", true, 100, false, true),
+    ] {
+        let set = yaku_of(hand)?;
+        assert_eq!(rt; set.han(closed), han, "{hand}");
+        assert_eq!(rt; set.is_empty(), is_empty, "{hand}");
+        assert_eq!(rt; set.is_yakuman(), is_yakuman, "{hand}");
+    }
+    Ok(())
+}
+
+#[test]
+fn a_drawn_closed_hand_has_three_yaku(rt: HostRuntime) -> Result<(), Fail> {
+    let set = yaku_of("d r2m r5m r4p r6s 3s 1 7m")?;
+    for row in 0..45 {
+        assert_eq!(rt; set.has(row), row == 3 || row == 4 || row == 6);
+    }
+    Ok(())
+}
+
+#[test]
+fn some_reading_has_a_yaku(rt: HostRuntime) -> Result<(), Fail> {
+    let closed = counts(rt.alloc(), "2m 3m 4m 5m 6m 7m 4p 5p 6p 3s 3s 6s 7s 8s")?;
+    let mut won = case("d")?;
+    won.closed = is_closed(&[]);
+    assert!(rt; has_yaku(&closed, &[], kind("7m")?, &won));
+    let open = counts(rt.alloc(), "2m 3m 4m 4p 5p 6p 7s 8s 9s 3s 3s")?;
+    let melds = [meld(Form::Pon)?];
+    won.closed = is_closed(&melds);
+    assert!(rt; !has_yaku(&open, &melds, kind("9s")?, &won));
     Ok(())
 }

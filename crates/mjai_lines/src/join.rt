@@ -1,7 +1,8 @@
 ghost use Rattle.std.specs.Prelude.{◌≡◌, IfOk, codes, nat_le, not, ◌&&◌, ◌==◌};
 ghost use Rattle.std.specs.List.{list_all};
 ghost use Rattle.serde_json.specs.View.{view};
-ghost use Rattle.mj_protocol.specs.Reading.{join_of, join_in as join_read, is_name as is_name_text, name_of as name_in_text, key_of as key_in_text, key_by};
+ghost use Rattle.mj_ports.specs.Names.{is_name as is_name_text};
+ghost use Rattle.mj_protocol.specs.Reading.{join_of, join_in as join_read, name_of as name_in_text, key_of as key_in_text, key_by};
 ghost use Rattle.serde_json.specs.Find.{get};
 
 use crate::value::{read_value, text_in};
@@ -47,7 +48,7 @@ fn name_of(text: &[u8]) -> Option<Name>
 }
 
 // Whether a text is a name.
-#[tactic(auto, unfolding(mj_protocol::specs::Reading::is_name))]
+#[tactic(auto, unfolding(mj_ports::specs::Names::is_name))]
 fn is_name(text: &[u8]) -> bool
     ensures { result ≡ is_name_text text.now }
 {

@@ -1,9 +1,11 @@
 //! The jobs: each goes through hands and sums up what a call answers.
 
+use crate::half_played::{half_played, may_discard};
 use crate::hands::{Hands, ROOM, first_kind};
 use mj_readings::{Case, Riichi, readings};
 use mj_score::{Extra, worth};
 use mj_suits::partitions;
+use mj_table::Table;
 use mj_tiles::{Counts, Kind};
 use mj_waits::waits;
 use mj_yaku::is_closed;
@@ -17,15 +19,17 @@ pub enum Job {
     Readings,
     Partitions,
     Worth,
+    Judge,
 }
 
 /// All jobs, in the order in which they are printed.
-pub const JOBS: [Job; 5] = [
+pub const JOBS: [Job; 6] = [
     Job::Waits,
     Job::WaitsOfReady,
     Job::Readings,
     Job::Partitions,
     Job::Worth,
+    Job::Judge,
 ];
 
 impl Job {
@@ -37,11 +41,13 @@ impl Job {
             Job::Readings => "readings of a complete hand",
             Job::Partitions => "partitions of one suit",
             Job::Worth => "worth of a drawn closed hand",
+            Job::Judge => "judge of a discard in the middle of a hand",
         }
     }
 
     /// Goes through so many hands, and answers a checksum.
     pub fn run(self, alloc: Global, hands: &mut Hands, times: u32) -> Result<u64, AllocError> {
+        let table = half_played(alloc)?;
         let mut sum = 0u64;
         for _ in 0..times {
             let part = match self {
@@ -50,6 +56,7 @@ impl Job {
                 Job::Readings => readings_of(alloc, &hands.complete_numbers())?,
                 Job::Partitions => partitions_of(alloc, &hands.complete_numbers())?,
                 Job::Worth => worth_of(alloc, &hands.complete_numbers())?,
+                Job::Judge => judged(&table, &hands.numbers(1)),
             };
             sum = sum.wrapping_mul(31).wrapping_add(part);
         }
@@ -63,6 +70,7 @@ pub fn make_only(job: Job, hands: &mut Hands, times: u32) -> u64 {
     for _ in 0..times {
         let numbers = match job {
             Job::Waits => hands.numbers(13),
+            Job::Judge => hands.numbers(1),
             Job::WaitsOfReady => hands.ready_numbers(),
             Job::Readings | Job::Partitions | Job::Worth => hands.complete_numbers(),
         };
@@ -147,5 +155,16 @@ fn worth_of(alloc: Global, numbers: &[u8; 34]) -> Result<u64, AllocError> {
     match worth(alloc, &counts, &[], win, &case, extra)? {
         Some(score) => Ok(u64::from(score.base)),
         None => Ok(0),
+    }
+}
+
+// Whether a discard of a kind is taken.
+fn judged(table: &Table, numbers: &[u8; 34]) -> u64 {
+    let Some(counts) = Counts::of(*numbers) else {
+        return 0;
+    };
+    match first_kind(&counts) {
+        Some(kind) => may_discard(table, kind),
+        None => 0,
     }
 }

@@ -2,6 +2,7 @@
 //! the word `time` each job is printed with its nanoseconds a call and its calls a second.
 #![tactic(auto)]
 
+mod half_played;
 mod hands;
 mod jobs;
 

@@ -9,5 +9,5 @@ use Rattle.mj_judge.proofs.holding.has_unheld.Given as goal
 abbrev pub invariant-loop-tile : goal.invariant-loop-tile
 invariant-loop-tile l =
     let faces = flat_map face_in l.tiles in
-    list_any (λ face. nat_lt (number_in (gained l.deeds l.seat) face - number_in (lost l.deeds l.seat) face) (number_in faces face)) (flat_map face_in (drop l.tile-index l.tiles))
-    ≡ list_any (λ face. nat_lt (number_in (gained l.deeds l.seat) face - number_in (lost l.deeds l.seat) face) (number_in faces face)) faces
+    list_any (λ face. nat_lt (number_in (gained l.table.deeds l.seat) face - number_in (lost l.table.deeds l.seat) face) (number_in faces face)) (flat_map face_in (drop l.tile-index l.tiles))
+    ≡ list_any (λ face. nat_lt (number_in (gained l.table.deeds l.seat) face - number_in (lost l.table.deeds l.seat) face) (number_in faces face)) faces

@@ -9,5 +9,5 @@ use Rattle.mj_judge.proofs.swap.has_nothing_else.Given as goal
 
 abbrev pub invariant-loop-place : goal.invariant-loop-place
 invariant-loop-place l =
-    list_all (is_used_up (gained l.deeds l.seat) (lost l.deeds l.seat) (flat_map face_in l.used) l.bans) (drop l.place tile_order)
-    ≡ list_all (is_used_up (gained l.deeds l.seat) (lost l.deeds l.seat) (flat_map face_in l.used) l.bans) tile_order
+    list_all (is_used_up (gained l.table.deeds l.seat) (lost l.table.deeds l.seat) (flat_map face_in l.used) l.bans) (drop l.place tile_order)
+    ≡ list_all (is_used_up (gained l.table.deeds l.seat) (lost l.table.deeds l.seat) (flat_map face_in l.used) l.bans) tile_order

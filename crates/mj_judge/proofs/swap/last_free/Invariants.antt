@@ -7,4 +7,4 @@ use Rattle.mj_judge.specs.Free.{is_free}
 use Rattle.mj_judge.proofs.swap.last_free.Given as goal
 
 abbrev pub invariant-loop-place : goal.invariant-loop-place
-invariant-loop-place l = l.last ≡ last_of (filter (is_free (gained l.deeds l.seat) (lost l.deeds l.seat) l.bans) (take l.place tile_order))
+invariant-loop-place l = l.last ≡ last_of (filter (is_free (gained l.table.deeds l.seat) (lost l.table.deeds l.seat) l.bans) (take l.place tile_order))

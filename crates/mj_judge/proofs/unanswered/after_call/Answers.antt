@@ -9,5 +9,5 @@ unfolding view_of
 returns c =
     c.discard_or_pass.ensures
     ∙ ap (discard_or_pass c.args.seat false)
-    (last_is_free (view_of c.args.deeds.now c.args.seat) (banned_in (view_of c.args.deeds.now c.args.seat).turn) c.newest_bans.result c.last_free.result
+    (last_is_free (view_of c.args.table.now.deeds c.args.seat) (banned_in (view_of c.args.table.now.deeds c.args.seat).turn) c.newest_bans.result c.last_free.result
     c.last_free.ensures c.newest_bans.ensures)

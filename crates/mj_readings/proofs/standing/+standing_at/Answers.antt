@@ -1,6 +1,6 @@
 use Rattle.std.proofs.Common.{sym, ◌∙◌, ap, ◌++◌}
 use Rattle.mj_readings.specs.Ways.{sets_at}
-use Rattle.mj_readings.proofs.Picking.{branch-off, branch-on, triplet-off, triplet-on, pair-few, pair-made, pair-on, kind-few, kind-first, kind-second, kind-third, first_and_others}
+use Rattle.mj_readings.proofs.Picking.{branch-off, branch-on, none-at, kind-alone, triplet-off, pair-few, pair-made, kind-few, kind-first, kind-second, kind-third, first_and_others}
 use Rattle.mj_readings.proofs.standing.+standing_at.Goals as goal
 
 pub branch_at-returns-then-not-can_begin : goal.branch_at-returns-then-not-can_begin
@@ -11,8 +11,8 @@ branch_at-returns-then-not-can_begin t c =
 pub branch_at-returns : goal.branch_at-returns
 branch_at-returns t c =
     branch-on c.args.others.now c.args.spot.now c.args.sets.now c.sets_with.result c.args.winning c.args.runs c.args.triplets c.args.index c.args.pair
-    c.can_begin.result c.standing_at.result c.can_begin.ensures c.if-not-can_begin.false
-    (c.sets_with.ensures ∙ ap (λ kind. c.args.sets.now ++ sets_at kind c.args.runs c.args.triplets) c.in-Some.ensures.1) c.standing_at.ensures
+    c.can_begin.result c.standing_at-2.result c.can_begin.ensures c.if-not-can_begin.false
+    (c.sets_with.ensures ∙ ap (λ kind. c.args.sets.now ++ sets_at kind c.args.runs c.args.triplets) c.in-Some.ensures.1) c.standing_at-2.ensures
 
 pub pair_at-returns-then-free-lt2 : goal.pair_at-returns-then-free-lt2
 pair_at-returns-then-free-lt2 t c =
@@ -45,3 +45,14 @@ standing_at-returns t c =
 pub triplet_at-returns-then-free-lt3 : goal.triplet_at-returns-then-free-lt3
 triplet_at-returns-then-free-lt3 t c =
     triplet-off c.args.others.now c.args.spot.now c.args.sets.now c.args.winning c.args.free c.args.index c.if-free-lt3.true
+
+pub branch_at-returns-then-runs-triplets-eq0 : goal.branch_at-returns-then-runs-triplets-eq0
+branch_at-returns-then-runs-triplets-eq0 t c =
+    branch-on c.args.others.now c.args.spot.now c.args.sets.now c.args.sets.now c.args.winning c.args.runs c.args.triplets c.args.index c.args.pair
+    c.can_begin.result c.standing_at.result c.can_begin.ensures c.if-not-can_begin.false
+    (none-at c.args.sets.now c.args.spot.now.kind c.args.runs c.args.triplets c.if-runs-triplets-eq0.true) c.standing_at.ensures
+
+pub standing_at-returns-then-free-lt2 : goal.standing_at-returns-then-free-lt2
+standing_at-returns-then-free-lt2 t c =
+    kind-alone c.args.numbers.now _ _ c.args.spot.now c.args.sets.now c.args.winning c.args.index c.branch_at.result
+    (first_and_others c.args.numbers.now c.in-len1-up.len_at_least) c.if-count-spot.false c.if-free-lt2.true c.branch_at.ensures

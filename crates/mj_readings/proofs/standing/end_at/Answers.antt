@@ -1,4 +1,3 @@
-use Rattle.std.proofs.Common.{arith}
 use Rattle.mj_readings.proofs.Picking.{end-none, end-left, end-ok, end-past}
 use Rattle.mj_readings.proofs.standing.end_at.Goals as goal
 

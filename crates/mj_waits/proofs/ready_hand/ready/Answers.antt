@@ -1,5 +1,5 @@
 use Rattle.std.proofs.Common.{arith}
-use Rattle.mj_waits.proofs.WaitSteps.{ready-more, ready-yes, ready-yes_law, ready-no, ready-no_law}
+use Rattle.mj_waits.proofs.WaitSteps.{has_wait, has_wait_law, ready-more, ready-yes, ready-yes_law, ready-no, ready-no_law}
 use Rattle.mj_waits.proofs.ready_hand.ready.Goals as goal
 
 pub loop-number-init : goal.loop-number-init
@@ -7,15 +7,15 @@ loop-number-init c = λ k inside. absurd (omega (arith, inside))
 
 pub loop-number-preserved : goal.loop-number-preserved
 loop-number-preserved c =
-    ready-more c.args.counts.now c.args.room.now c.args.melds c.loop-number.number c.in-Some.kind c.waits_on.result
-    c.loop-number.invariant c.in-Some.ensures.1 c.waits_on.ensures.value c.waits_on.ensures.law c.if-waits_on.false
+    ready-more c.args.counts.now c.args.room.now c.args.melds c.loop-number.number c.in-Some.kind c.has.result
+    c.loop-number.invariant c.in-Some.ensures.1 (has_wait c.args.counts.now c.args.room.now c.args.melds c.waits-waits.result c.in-Some.kind c.has.result c.waits-waits.ensures.value (omega (arith, c.loop-number-test.true, c.in-Some.ensures.1)) c.has.ensures) (has_wait_law c.args.counts.now c.args.room.now c.args.melds c.waits-waits.result c.in-Some.kind c.has.result c.waits-waits.ensures.law (omega (arith, c.loop-number-test.true, c.in-Some.ensures.1)) c.has.ensures) c.if-has.false
 
-pub returns-then-waits_on : goal.returns-then-waits_on
-returns-then-waits_on c = record {
-  value = ready-yes c.args.counts.now c.args.room.now c.args.melds c.loop-number.number c.in-Some.kind c.waits_on.result
-      c.loop-number-test.true c.in-Some.ensures.1 c.waits_on.ensures.value c.if-waits_on.true;
-  law = ready-yes_law c.args.counts.now c.args.room.now c.args.melds c.loop-number.number c.in-Some.kind c.waits_on.result
-      c.loop-number-test.true c.in-Some.ensures.1 c.waits_on.ensures.law c.if-waits_on.true;
+pub returns-then-has : goal.returns-then-has
+returns-then-has c = record {
+  value = ready-yes c.args.counts.now c.args.room.now c.args.melds c.loop-number.number c.in-Some.kind c.has.result
+      c.loop-number-test.true c.in-Some.ensures.1 (has_wait c.args.counts.now c.args.room.now c.args.melds c.waits-waits.result c.in-Some.kind c.has.result c.waits-waits.ensures.value (omega (arith, c.loop-number-test.true, c.in-Some.ensures.1)) c.has.ensures) c.if-has.true;
+  law = ready-yes_law c.args.counts.now c.args.room.now c.args.melds c.loop-number.number c.in-Some.kind c.has.result
+      c.loop-number-test.true c.in-Some.ensures.1 (has_wait_law c.args.counts.now c.args.room.now c.args.melds c.waits-waits.result c.in-Some.kind c.has.result c.waits-waits.ensures.law (omega (arith, c.loop-number-test.true, c.in-Some.ensures.1)) c.has.ensures) c.if-has.true;
 }
 
 pub returns : goal.returns

@@ -1,0 +1,255 @@
+-- What is true of deeds each of which fits behind those before it.
+use Rattle.std.proofs.Common.{◌≡◌, ℕ, zero, suc, ◌+◌, ◌-◌, ◌<◌, ◌≤◌, ◌⊎◌, inl, inr, List, [], ◌∷◌, ◌++◌, length, cond, leb, true, false, Bool, ◌&&◌, ◌||◌, not, refl, sym, ap, ◌∙◌, subst, arith, append-nil, append_assoc, add-zero, zero-add}
+use Rattle.std.specs.Prelude.{Option, Some, None, flat_map, slice_get, nat_lt, ◌==◌}
+use Rattle.std.specs.List.{list_all, range_with_len}
+use Rattle.std.proofs.lemmas.Bool.{and_parts, and_from, ltb-true, leb-true, cases_lt, ne_eqb}
+use Rattle.std.proofs.lemmas.List.{length-append, length-map}
+use Rattle.std.proofs.lemmas.List.Concat.{flat_map-append}
+use Rattle.std.proofs.lemmas.Grind.{common_steps}
+use Rattle.mj_tiles.specs.Counts.{all_kinds, number_of}
+use Rattle.mj_tiles.specs.declared.meld.Meld.{Meld}
+use Rattle.mj_deeds.specs.declared.deed.Deed.{Deed}
+use Rattle.mj_deeds.specs.declared.deed.Deed.TheVariants.{StartGame, StartHand, Draw, Discard, Chi, Pon, OpenKan, ClosedKan, AddedKan, Dora}
+use Rattle.mj_deeds.specs.Facts.{newest, of_seat, makes_by, seat_melds, is_kan, kans}
+use Rattle.mj_deeds.specs.Fits.{fits, all_fit, is_in_place, is_in_hand, is_after_start, has_seats, is_held, has_triplet, has_tiles, brought_by, has_no_fifth, keeps_kinds, has_room, has_room_for, has_live}
+use Rattle.mj_deeds.specs.Course.{is_start, starts}
+
+-- One deed further.
+pub all_fit-append : (red : Bool) (before ds : List Deed) (d : Deed) → all_fit red before ds ≡ true → fits red (before ++ ds) d ≡ true → all_fit red before (ds ++ d ∷ []) ≡ true
+all_fit-append red before [] d h k = and_from (fits red before d) true (subst (λ (xs : List Deed). fits red xs d ≡ true) (append-nil before) k) refl
+all_fit-append red before (x ∷ ds) d h k =
+    let parts = and_parts (fits red before x) (all_fit red (before ++ x ∷ []) ds) h in
+    and_from (fits red before x) _ parts.0
+    (all_fit-append red (before ++ x ∷ []) ds d parts.1 (subst (λ (xs : List Deed). fits red xs d ≡ true) (sym (append_assoc before (x ∷ []) ds)) k))
+
+-- What each deed that fits keeps is true of all.
+kept : (P : List Deed → Type 0) (red : Bool) (before ds : List Deed) → ((xs : List Deed) (d : Deed) → P xs → fits red xs d ≡ true → P (xs ++ d ∷ [])) →
+    P before → all_fit red before ds ≡ true → P (before ++ ds)
+kept P red before [] step h fit = subst P (sym (append-nil before)) h
+kept P red before (d ∷ ds) step h fit =
+    let parts = and_parts (fits red before d) (all_fit red (before ++ d ∷ []) ds) fit in
+    subst P (append_assoc before (d ∷ []) ds) (kept P red (before ++ d ∷ []) ds step (step before d h parts.0) parts.1)
+
+-- The parts of a deed that fits.
+record Parts (red : Bool) (ds : List Deed) (d : Deed) : Type 0 where
+  place : is_in_place (newest ds) d ≡ true
+  seats : has_seats d ≡ true
+  kinds : keeps_kinds ds d ≡ true
+  room : has_room ds d ≡ true
+  live : has_live ds d ≡ true
+
+parts_of : (red : Bool) (ds : List Deed) (d : Deed) → fits red ds d ≡ true → Parts red ds d
+unfolding fits
+parts_of red ds d h =
+    let a = is_in_place (newest ds) d in
+    let b = has_seats d in
+    let e = is_held ds d in
+    let f = has_triplet ds d in
+    let g = has_tiles red d in
+    let i = keeps_kinds ds d in
+    let j = has_room ds d in
+    let k = has_live ds d in
+    let p7 = and_parts (a && b && e && f && g && i && j) k h in
+    let p6 = and_parts (a && b && e && f && g && i) j p7.0 in
+    let p5 = and_parts (a && b && e && f && g) i p6.0 in
+    let p4 = and_parts (a && b && e && f) g p5.0 in
+    let p3 = and_parts (a && b && e) f p4.0 in
+    let p2 = and_parts (a && b) e p3.0 in
+    let p1 = and_parts a b p2.0 in
+    record { place = p1.0; seats = p1.1; kinds = p5.1; room = p6.1; live = p7.1 }
+
+-- no fifth kan
+
+kans_more : (ds : List Deed) (d : Deed) → kans (ds ++ d ∷ []) ≡ kans ds + cond (is_kan d) 1 0
+kans_more ds d = grind (arith, common_steps)
+
+live_kan : (ds : List Deed) (d : Deed) → has_live ds d ≡ true → is_kan d ≡ true → kans ds < 4
+live_kan ds (OpenKan who target tile a b c) h k = ltb-true (kans ds) 4 (and_parts (nat_lt (kans ds) 4) _ h).0
+live_kan ds (ClosedKan who a b c d) h k = ltb-true (kans ds) 4 (and_parts (nat_lt (kans ds) 4) _ h).0
+live_kan ds (AddedKan who tile a b c) h k = ltb-true (kans ds) 4 (and_parts (nat_lt (kans ds) 4) _ h).0
+live_kan ds (StartGame names) h k = cc
+live_kan ds (StartHand round number honba deposits dealer indicator hands) h k = cc
+live_kan ds (Draw who tile replacement) h k = cc
+live_kan ds (Discard who tile drawn) h k = cc
+live_kan ds (Chi who target tile a b) h k = cc
+live_kan ds (Pon who target tile a b) h k = cc
+live_kan ds (Dora tile) h k = cc
+
+-- Deeds that fit have at most four kans.
+pub four_kans : (red : Bool) (ds : List Deed) → all_fit red [] ds ≡ true → kans ds ≤ 4
+four_kans red ds fit = kept (λ xs. kans xs ≤ 4) red [] ds step (omega arith) fit
+  where
+    one : (n m : ℕ) (b : Bool) → m ≡ n + cond b 1 0 → n ≤ 4 → (b ≡ true → n < 4) → m ≤ 4
+    one n m true e h k = omega (arith, e, k refl)
+    one n m false e h k = omega (arith, e, h)
+
+    step : (xs : List Deed) (d : Deed) → kans xs ≤ 4 → fits red xs d ≡ true → kans (xs ++ d ∷ []) ≤ 4
+    step xs d h f = one (kans xs) (kans (xs ++ d ∷ [])) (is_kan d) (kans_more xs d) h (live_kan xs d (parts_of red xs d f).live)
+
+-- no fifth meld
+
+melds_more : (ds : List Deed) (d : Deed) (seat : ℕ) → length (seat_melds (ds ++ d ∷ []) seat) ≡ length (seat_melds ds seat) + length (makes_by seat d)
+melds_more ds d seat =
+    length-map (flat_map (makes_by seat) (ds ++ d ∷ [])) _
+    ∙ ap length (flat_map-append (makes_by seat) ds (d ∷ []))
+    ∙ length-append (flat_map (makes_by seat) ds) (makes_by seat d ++ [])
+    ∙ ap (λ (ms : List Meld). length (flat_map (makes_by seat) ds) + length ms) (append-nil (makes_by seat d))
+    ∙ ap (λ n. n + length (makes_by seat d)) (sym (length-map (flat_map (makes_by seat) ds) _))
+
+-- A seat above 3 makes no meld.
+none_else : (seat who : ℕ) (ms : List Meld) → nat_lt who 4 ≡ true → 4 ≤ seat → of_seat seat who ms ≡ []
+none_else seat who ms h k =
+    let low : who < 4 = ltb-true who 4 h in
+    ap (λ b. cond b ms []) (ne_eqb who seat (λ e. omega (arith, low, k, e)))
+
+no_meld : (seat : ℕ) (d : Deed) → has_seats d ≡ true → 4 ≤ seat → makes_by seat d ≡ []
+no_meld seat (Chi who target tile a b) h k = none_else seat who _ (and_parts (nat_lt who 4) _ h).0 k
+no_meld seat (Pon who target tile a b) h k = none_else seat who _ (and_parts (nat_lt who 4) _ h).0 k
+no_meld seat (OpenKan who target tile a b c) h k = none_else seat who _ (and_parts (nat_lt who 4) _ h).0 k
+no_meld seat (ClosedKan who a b c d) h k = none_else seat who _ (and_parts (nat_lt who 4) _ h).0 k
+no_meld seat (StartGame names) h k = refl
+no_meld seat (StartHand round number honba deposits dealer indicator hands) h k = refl
+no_meld seat (Draw who tile replacement) h k = refl
+no_meld seat (Discard who tile drawn) h k = refl
+no_meld seat (AddedKan who tile a b c) h k = refl
+no_meld seat (Dora tile) h k = refl
+
+room_at : (ds : List Deed) (d : Deed) (seat : ℕ) → has_room ds d ≡ true → seat < 4 → length (seat_melds ds seat) + length (makes_by seat d) ≤ 4
+room_at ds d seat h low = at seat low
+  where
+    p0 : (has_room_for ds d 0 ≡ true) × (list_all (has_room_for ds d) (1 ∷ 2 ∷ 3 ∷ []) ≡ true)
+    p0 = and_parts (has_room_for ds d 0) _ h
+
+    p1 : (has_room_for ds d 1 ≡ true) × (list_all (has_room_for ds d) (2 ∷ 3 ∷ []) ≡ true)
+    p1 = and_parts (has_room_for ds d 1) _ p0.1
+
+    p2 : (has_room_for ds d 2 ≡ true) × (list_all (has_room_for ds d) (3 ∷ []) ≡ true)
+    p2 = and_parts (has_room_for ds d 2) _ p1.1
+
+    at : (seat : ℕ) → seat < 4 → length (seat_melds ds seat) + length (makes_by seat d) ≤ 4
+    at zero l = leb-true _ 4 p0.0
+    at (suc zero) l = leb-true _ 4 p1.0
+    at (suc (suc zero)) l = leb-true _ 4 p2.0
+    at (suc (suc (suc zero))) l = leb-true _ 4 (and_parts (has_room_for ds d 3) true p2.1).0
+    at (suc (suc (suc (suc n)))) l = absurd (omega (arith, l))
+
+-- A seat of deeds that fit has at most four melds.
+pub four_melds : (red : Bool) (ds : List Deed) (seat : ℕ) → all_fit red [] ds ≡ true → length (seat_melds ds seat) ≤ 4
+four_melds red ds seat fit = kept (λ xs. length (seat_melds xs seat) ≤ 4) red [] ds step (omega arith) fit
+  where
+    sum : (n m k : ℕ) → n ≡ m + k → m + k ≤ 4 → n ≤ 4
+    sum n m k e h = omega (arith, e, h)
+
+    none : (n m k : ℕ) → n ≡ m + k → k ≡ 0 → m ≤ 4 → n ≤ 4
+    none n m k e f h = omega (arith, e, f, h)
+
+    by_seat : (xs : List Deed) (d : Deed) → length (seat_melds xs seat) ≤ 4 → Parts red xs d → (seat < 4) ⊎ (4 ≤ seat) → length (seat_melds (xs ++ d ∷ []) seat) ≤ 4
+    by_seat xs d h p (inl low) = sum _ (length (seat_melds xs seat)) (length (makes_by seat d)) (melds_more xs d seat) (room_at xs d seat p.room low)
+    by_seat xs d h p (inr high) = none _ (length (seat_melds xs seat)) (length (makes_by seat d)) (melds_more xs d seat) (ap length (no_meld seat d p.seats high)) h
+
+    step : (xs : List Deed) (d : Deed) → length (seat_melds xs seat) ≤ 4 → fits red xs d ≡ true → length (seat_melds (xs ++ d ∷ []) seat) ≤ 4
+    step xs d h f = by_seat xs d h (parts_of red xs d f) (cases_lt seat 4)
+
+-- no fifth tile of a kind
+
+all_at : (p : ℕ → Bool) (from n k : ℕ) → k < n → list_all p (range_with_len from n) ≡ true → p (from + k) ≡ true
+all_at p from zero k inside h = absurd (omega (arith, inside))
+all_at p from (suc n) zero inside h = ap p (add-zero from) ∙ (and_parts (p from) (list_all p (range_with_len (from + 1) n)) h).0
+all_at p from (suc n) (suc k) inside h =
+    let same : from + suc k ≡ from + 1 + k = omega arith in
+    ap p same ∙ all_at p (from + 1) n k (omega (arith, inside)) (and_parts (p from) (list_all p (range_with_len (from + 1) n)) h).1
+
+kind_at : (tiles : List ℕ) (kind : ℕ) → kind < 34 → has_no_fifth tiles ≡ true → number_of tiles kind ≤ 4
+unfolding has_no_fifth all_kinds
+kind_at tiles kind small h = leb-true (number_of tiles kind) 4 (ap (λ k. leb (number_of tiles k) 4) (sym (zero-add kind)) ∙ all_at (λ k. leb (number_of tiles k) 4) 0 34 kind small h)
+
+-- Deeds that fit bring in no kind a fifth time.
+pub four_of_kind : (red : Bool) (ds : List Deed) (kind : ℕ) → kind < 34 → all_fit red [] ds ≡ true → number_of (flat_map brought_by ds) kind ≤ 4
+four_of_kind red ds kind small fit =
+    kept (λ xs. number_of (flat_map brought_by xs) kind ≤ 4) red [] ds (λ xs d h f. kind_at (flat_map brought_by (xs ++ d ∷ [])) kind small (parts_of red xs d f).kinds) (omega arith) fit
+
+-- one hand
+
+newest_more : (ds : List Deed) (d : Deed) → newest (ds ++ d ∷ []) ≡ Some d
+newest_more ds d = ap (slice_get (ds ++ d ∷ [])) (last _ _ (length-append ds (d ∷ []))) ∙ there ds d
+  where
+    last : (n m : ℕ) → n ≡ m + 1 → n - 1 ≡ m
+    last n m e = omega (arith, e)
+
+    there : (xs : List Deed) (x : Deed) → slice_get (xs ++ x ∷ []) (length xs) ≡ Some x
+    there [] x = refl
+    there (y ∷ ys) x = there ys x
+
+starts_more : (ds : List Deed) (d : Deed) → length (starts (ds ++ d ∷ [])) ≡ length (starts ds) + cond (is_start d) 1 0
+starts_more [] d = one (is_start d)
+  where
+    one : (b : Bool) → length (cond b (d ∷ []) []) ≡ 0 + cond b 1 0
+    one true = refl
+    one false = refl
+starts_more (x ∷ ds) d = more (is_start x) (starts_more ds d)
+  where
+    more : (b : Bool) → length (starts (ds ++ d ∷ [])) ≡ length (starts ds) + cond (is_start d) 1 0 →
+        length (cond b (x ∷ starts (ds ++ d ∷ [])) (starts (ds ++ d ∷ []))) ≡ length (cond b (x ∷ starts ds) (starts ds)) + cond (is_start d) 1 0
+    more true e = omega (arith, e)
+    more false e = e
+
+abbrev begun : Option Deed → ℕ
+begun before = cond (is_in_hand before) 1 0
+
+not_begun : (before : Option Deed) → is_after_start before ≡ true → begun before ≡ 0
+not_begun None h = cc
+not_begun (Some (StartGame names)) h = refl
+not_begun (Some (StartHand round number honba deposits dealer indicator hands)) h = cc
+not_begun (Some (Draw who tile replacement)) h = cc
+not_begun (Some (Discard who tile drawn)) h = cc
+not_begun (Some (Chi who target tile a b)) h = cc
+not_begun (Some (Pon who target tile a b)) h = cc
+not_begun (Some (OpenKan who target tile a b c)) h = cc
+not_begun (Some (ClosedKan who a b c d)) h = cc
+not_begun (Some (AddedKan who tile a b c)) h = cc
+not_begun (Some (Dora tile)) h = cc
+
+game_begins : (a b : Bool) → not (a || b) ≡ true → ◌≡◌ {A = ℕ} (cond a 1 0) 0
+game_begins true b h = cc
+game_begins false b h = refl
+
+begun_within : (before : Option Deed) → begun before ≤ 1
+begun_within before = within (is_in_hand before)
+  where
+    within : (b : Bool) → cond b 1 0 ≤ 1
+    within true = omega arith
+    within false = omega arith
+
+-- By how much a deed starts hands, and whether one is under way then.
+hand_step : (ds : List Deed) (d : Deed) → is_in_place (newest ds) d ≡ true → length (starts ds) ≤ begun (newest ds) → length (starts ds) + cond (is_start d) 1 0 ≤ begun (Some d)
+hand_step ds (StartHand round number honba deposits dealer indicator hands) h k =
+    omega (arith, k, not_begun (newest ds) (first_part h))
+  where
+    first_part : (is_after_start (newest ds) && round == 27 && number == 1 && honba == 0 && deposits == 0 && dealer == 0) ≡ true → is_after_start (newest ds) ≡ true
+    first_part h =
+        (and_parts (is_after_start (newest ds)) (round == 27)
+        (and_parts (is_after_start (newest ds) && round == 27) (number == 1)
+        (and_parts (is_after_start (newest ds) && round == 27 && number == 1) (honba == 0)
+        (and_parts (is_after_start (newest ds) && round == 27 && number == 1 && honba == 0) (deposits == 0)
+        (and_parts (is_after_start (newest ds) && round == 27 && number == 1 && honba == 0 && deposits == 0) (dealer == 0) h).0).0).0).0).0
+hand_step ds (StartGame names) h k = omega (arith, k, game_begins (is_in_hand (newest ds)) (is_after_start (newest ds)) h)
+hand_step ds (Draw who tile replacement) h k = omega (arith, k, begun_within (newest ds))
+hand_step ds (Discard who tile drawn) h k = omega (arith, k, begun_within (newest ds))
+hand_step ds (Chi who target tile a b) h k = omega (arith, k, begun_within (newest ds))
+hand_step ds (Pon who target tile a b) h k = omega (arith, k, begun_within (newest ds))
+hand_step ds (OpenKan who target tile a b c) h k = omega (arith, k, begun_within (newest ds))
+hand_step ds (ClosedKan who a b c d) h k = omega (arith, k, begun_within (newest ds))
+hand_step ds (AddedKan who tile a b c) h k = omega (arith, k, begun_within (newest ds))
+hand_step ds (Dora tile) h k = omega (arith, k, begun_within (newest ds))
+
+-- Of deeds that fit at most one starts a hand.
+pub one_start : (red : Bool) (ds : List Deed) → all_fit red [] ds ≡ true → length (starts ds) ≤ 1
+one_start red ds fit = whole (kept (λ xs. length (starts xs) ≤ begun (newest xs)) red [] ds step (omega arith) fit)
+  where
+    whole : length (starts ds) ≤ begun (newest ds) → length (starts ds) ≤ 1
+    whole h = omega (arith, h, begun_within (newest ds))
+
+    step : (xs : List Deed) (d : Deed) → length (starts xs) ≤ begun (newest xs) → fits red xs d ≡ true → length (starts (xs ++ d ∷ [])) ≤ begun (newest (xs ++ d ∷ []))
+    step xs d h f =
+        subst (λ (o : Option Deed). length (starts (xs ++ d ∷ [])) ≤ begun o) (sym (newest_more xs d))
+        (subst (λ (n : ℕ). n ≤ begun (Some d)) (sym (starts_more xs d)) (hand_step xs d (parts_of red xs d f).place h))

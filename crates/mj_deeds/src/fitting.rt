@@ -1,0 +1,311 @@
+ghost use Rattle.std.specs.Prelude.{◌≡◌, ◌≤◌, ◌-◌, ◌++◌, not, length};
+ghost use Rattle.std.specs.List.{list_all};
+ghost use Rattle.mj_tiles.specs.Faces.{is_red};
+ghost use Rattle.mj_deeds.specs.Facts.{newest, of_seat, makes_by, seat_melds, gained, lost};
+ghost use Rattle.mj_deeds.specs.Fits.{fits, is_in_place, is_in_hand, is_after_start, is_after_dora, is_after_kan, is_discard_of, has_seats, is_held, is_held_by, are_held, has_triplet, has_tiles, has_room, has_room_for, has_live};
+
+use crate::bringing::keeps_kinds;
+use crate::course::{is_kan, kans, live_left};
+use crate::deed::Deed;
+use crate::facts::held;
+use crate::four::Four;
+use crate::meld::{has_triplet, made};
+use crate::tiles::Tiles;
+use mj_tiles::{Tile, number_among};
+
+/// Whether a deed fits behind the deeds of a game with red fives or without: it stands in its place, seats are 0 to 3,
+/// tiles that are put down are held, a tile is added to an own pon, there is no red five in a game without them, no fifth
+/// tile of a kind, no fifth meld of a seat, no fifth kan, and a live tile is left for a live draw or a kan.
+#[tactic(auto, unfolding(crate::specs::Fits::fits))]
+pub fn fits(red: bool, deeds: &[Deed], deed: &Deed) -> bool
+    ensures { result ≡ fits red deeds.now deed.now }
+{
+    is_in_place(deeds, deed)
+        && has_seats(deed)
+        && is_held(deeds, deed)
+        && adds_to_pon(deeds, deed)
+        && has_tiles(red, deed)
+        && keeps_kinds(deeds, deed)
+        && has_room(deeds, deed)
+        && has_live(deeds, deed)
+}
+
+// Whether a deed stands in its place behind the newest one.
+fn is_in_place(deeds: &[Deed], deed: &Deed) -> bool
+    ensures { result ≡ is_in_place (newest deeds.now) deed.now }
+{
+    match deed {
+        Deed::StartGame { .. } => !(is_in_hand(deeds) || is_after_start(deeds)),
+        Deed::StartHand {
+            round,
+            number,
+            honba,
+            deposits,
+            dealer,
+            ..
+        } => {
+            is_after_start(deeds)
+                && round.number() == 27
+                && *number == 1
+                && *honba == 0
+                && *deposits == 0
+                && *dealer == 0
+        }
+        Deed::Draw { replacement, .. } if *replacement => {
+            is_in_hand(deeds) && is_after_dora(deeds)
+        }
+        Deed::Draw { .. } => is_in_hand(deeds) && !is_after_dora(deeds),
+        Deed::Discard { .. } => is_in_hand(deeds),
+        Deed::Chi { target, tile, .. } => is_discard_of(deeds, *target, *tile),
+        Deed::Pon { target, tile, .. } => is_discard_of(deeds, *target, *tile),
+        Deed::OpenKan { target, tile, .. } => is_discard_of(deeds, *target, *tile),
+        Deed::ClosedKan { .. } => is_in_hand(deeds),
+        Deed::AddedKan { .. } => is_in_hand(deeds),
+        Deed::Dora { .. } => is_after_kan(deeds),
+    }
+}
+
+fn is_in_hand(deeds: &[Deed]) -> bool
+    ensures { result ≡ is_in_hand (newest deeds.now) }
+{
+    match deeds.last() {
+        None => false,
+        Some(Deed::StartGame { .. }) => false,
+        Some(_) => true,
+    }
+}
+
+fn is_after_start(deeds: &[Deed]) -> bool
+    ensures { result ≡ is_after_start (newest deeds.now) }
+{
+    matches!(deeds.last(), Some(Deed::StartGame { .. }))
+}
+
+fn is_after_dora(deeds: &[Deed]) -> bool
+    ensures { result ≡ is_after_dora (newest deeds.now) }
+{
+    matches!(deeds.last(), Some(Deed::Dora { .. }))
+}
+
+fn is_after_kan(deeds: &[Deed]) -> bool
+    ensures { result ≡ is_after_kan (newest deeds.now) }
+{
+    match deeds.last() {
+        Some(deed) => is_kan(deed),
+        None => false,
+    }
+}
+
+// Whether the newest deed is the discard of that tile by the target.
+fn is_discard_of(deeds: &[Deed], target: u8, called: Tile) -> bool
+    ensures { result ≡ is_discard_of (newest deeds.now) target called }
+{
+    match deeds.last() {
+        Some(Deed::Discard { seat, tile, .. }) => {
+            *seat == target && tile.face() == called.face()
+        }
+        _ => false,
+    }
+}
+
+// Whether every seat that stands in a deed is 0 to 3.
+fn has_seats(deed: &Deed) -> bool
+    ensures { result ≡ has_seats deed.now }
+{
+    match deed {
+        Deed::StartGame { .. } => true,
+        Deed::StartHand { dealer, .. } => *dealer < 4,
+        Deed::Draw { seat, .. } => *seat < 4,
+        Deed::Discard { seat, .. } => *seat < 4,
+        Deed::Chi { seat, target, .. } => *seat < 4 && *target < 4,
+        Deed::Pon { seat, target, .. } => *seat < 4 && *target < 4,
+        Deed::OpenKan { seat, target, .. } => *seat < 4 && *target < 4,
+        Deed::ClosedKan { seat, .. } => *seat < 4,
+        Deed::AddedKan { seat, .. } => *seat < 4,
+        Deed::Dora { .. } => true,
+    }
+}
+
+// Whether each seat holds the tiles that it puts down.
+fn is_held(deeds: &[Deed], deed: &Deed) -> bool
+    ensures { result ≡ is_held deeds.now deed.now }
+{
+    is_held_by(deeds, deed, 0)
+        && is_held_by(deeds, deed, 1)
+        && is_held_by(deeds, deed, 2)
+        && is_held_by(deeds, deed, 3)
+}
+
+fn is_held_by(deeds: &[Deed], deed: &Deed, seat: u8) -> bool
+    ensures { result ≡ is_held_by deeds.now deed.now seat }
+{
+    match deed {
+        Deed::Discard {
+            seat: who,
+            tile,
+            ..
+        } => holds_own(deeds, seat, *who, &[*tile]),
+        Deed::Chi {
+            seat: who,
+            a,
+            b,
+            ..
+        } => holds_own(deeds, seat, *who, &[*a, *b]),
+        Deed::Pon {
+            seat: who,
+            a,
+            b,
+            ..
+        } => holds_own(deeds, seat, *who, &[*a, *b]),
+        Deed::OpenKan {
+            seat: who,
+            a,
+            b,
+            c,
+            ..
+        } => holds_own(deeds, seat, *who, &[*a, *b, *c]),
+        Deed::ClosedKan {
+            seat: who,
+            a,
+            b,
+            c,
+            d,
+        } => { holds_own(deeds, seat, *who, &[*a, *b, *c, *d]) }
+        Deed::AddedKan {
+            seat: who,
+            tile,
+            ..
+        } => holds_own(deeds, seat, *who, &[*tile]),
+        _ => true,
+    }
+}
+
+// Whether a seat holds the tiles, at most four, where it is the one who puts them down.
+#[tactic(auto, using(crate::proofs::FitSteps::of_its_own, crate::proofs::FitSteps::of_another))]
+fn holds_own(deeds: &[Deed], seat: u8, who: u8, tiles: &[Tile]) -> bool
+    requires { length tiles.now ≤ 4 }
+    ensures { result ≡ are_held (gained deeds.now seat) (lost deeds.now seat) (of_seat seat who tiles.now) }
+{
+    if who != seat {
+        return true;
+    }
+    are_held(deeds, seat, tiles)
+}
+
+// Whether a seat holds as many tiles of each face as stand among these, at most four.
+fn are_held(deeds: &[Deed], seat: u8, tiles: &[Tile]) -> bool
+    requires { length tiles.now ≤ 4 }
+    ensures { result ≡ are_held (gained deeds.now seat) (lost deeds.now seat) tiles.now }
+{
+    for tile in tiles {
+        if held(deeds, seat, *tile) < number_among(tiles, *tile) {
+            return false;
+        }
+    }
+    true
+}
+
+// Whether a tile that is added goes to an own pon of its kind.
+fn adds_to_pon(deeds: &[Deed], deed: &Deed) -> bool
+    ensures { result ≡ has_triplet deeds.now deed.now }
+{
+    match deed {
+        Deed::AddedKan {
+            seat,
+            tile,
+            a,
+            b,
+            c,
+        } => has_triplet(deeds, *seat, *tile, *a, *b, *c),
+        _ => true,
+    }
+}
+
+// Whether no red five stands in a deed of a game without them.
+fn has_tiles(red: bool, deed: &Deed) -> bool
+    ensures { result ≡ has_tiles red deed.now }
+{
+    if red {
+        return true;
+    }
+    match deed {
+        Deed::StartGame { .. } => true,
+        Deed::StartHand {
+            indicator,
+            hands,
+            ..
+        } => are_plain(&[*indicator]) && are_plain_hands(hands),
+        Deed::Draw { tile, .. } => are_plain(&[*tile]),
+        Deed::Discard { tile, .. } => are_plain(&[*tile]),
+        Deed::Chi { tile, a, b, .. } => are_plain(&[*tile, *a, *b]),
+        Deed::Pon { tile, a, b, .. } => are_plain(&[*tile, *a, *b]),
+        Deed::OpenKan { tile, a, b, c, .. } => are_plain(&[*tile, *a, *b, *c]),
+        Deed::ClosedKan { a, b, c, d, .. } => are_plain(&[*a, *b, *c, *d]),
+        Deed::AddedKan { tile, a, b, c, .. } => are_plain(&[*tile, *a, *b, *c]),
+        Deed::Dora { tile } => are_plain(&[*tile]),
+    }
+}
+
+fn are_plain_hands(hands: &Four<Tiles>) -> bool
+    ensures { result ≡ list_all (λ face. not (is_red face)) (hands.now.first ++ hands.now.second ++ hands.now.third ++ hands.now.fourth) }
+{
+    are_plain(hands.first.as_slice())
+        && are_plain(hands.second.as_slice())
+        && are_plain(hands.third.as_slice())
+        && are_plain(hands.fourth.as_slice())
+}
+
+// Whether there is no red five among the tiles.
+fn are_plain(tiles: &[Tile]) -> bool
+    ensures { result ≡ list_all (λ face. not (is_red face)) tiles.now }
+{
+    tiles.iter().all(|tile| tile.face() < 34)
+}
+
+// Whether no seat has a fifth meld with a deed.
+fn has_room(deeds: &[Deed], deed: &Deed) -> bool
+    ensures { result ≡ has_room deeds.now deed.now }
+{
+    has_room_for(deeds, deed, 0)
+        && has_room_for(deeds, deed, 1)
+        && has_room_for(deeds, deed, 2)
+        && has_room_for(deeds, deed, 3)
+}
+
+fn has_room_for(deeds: &[Deed], deed: &Deed, seat: u8) -> bool
+    ensures { result ≡ has_room_for deeds.now deed.now seat }
+{
+    number_made(deeds, seat) + number_made_by(deed, seat) <= 4
+}
+
+fn number_made_by(deed: &Deed, seat: u8) -> usize
+    ensures value { result ≡ length (makes_by seat deed.now) }
+    ensures within { result ≤ 1 }
+{
+    match made(deed, seat) {
+        Some(_) => 1,
+        None => 0,
+    }
+}
+
+// How many melds a seat made.
+fn number_made(deeds: &[Deed], seat: u8) -> usize
+    ensures value { result ≡ length (seat_melds deeds.now seat) }
+    ensures within { result ≤ length deeds.now }
+{
+    let mut number = 0;
+    for deed in deeds {
+        number += number_made_by(deed, seat);
+    }
+    number
+}
+
+// Whether a live tile is left for a live draw or a kan, and no fifth kan is made.
+fn has_live(deeds: &[Deed], deed: &Deed) -> bool
+    ensures { result ≡ has_live deeds.now deed.now }
+{
+    match deed {
+        Deed::Draw { replacement, .. } => *replacement || live_left(deeds) > 0,
+        _ => !is_kan(deed) || kans(deeds) < 4 && live_left(deeds) > 0,
+    }
+}

@@ -1,0 +1,304 @@
+-- An answer that breaks no rule makes a deed that comes in its turn.
+use Rattle.std.proofs.Common.{◌≡◌, ℕ, zero, suc, ◌-◌, ◌<◌, ◌==◌, inl, inr, ◌&&◌, ◌||◌, not, Bool, true, false, cond, eqb, ltb, leb, List, [], ◌∷◌, map, refl, ap, sym, ◌∙◌, subst, arith}
+use Rattle.std.specs.Prelude.{Option, Some, None, nat_lt, nat_le, option_map}
+use Rattle.std.specs.List.{list_all, list_any}
+use Rattle.std.proofs.lemmas.Bool.{cases_eq, ne_eqb, eq-eqb, eqb-true, eqb-false, and_parts, and_from, or_parts, ltb-false, lt-ltb, leb-false, le-leb, not-false}
+use Rattle.mj_tiles.specs.Faces.{kind_of, number_in, is_red}
+use Rattle.mj_tiles.specs.declared.meld.Meld.{Meld}
+use Rattle.mj_deeds.specs.declared.four.Four.{Four}
+use Rattle.mj_deeds.specs.declared.rule.Rule.{Rule}
+use Rattle.mj_deeds.specs.declared.rule.Rule.TheVariants as rules
+use Rattle.mj_deeds.specs.declared.answer.Pai.TheVariants.{Known, Hidden}
+use Rattle.mj_deeds.specs.declared.answer.Answer.{Answer}
+use Rattle.mj_deeds.specs.declared.answer.Answer.TheVariants as answers
+use Rattle.mj_deeds.specs.declared.deed.Deed.{Deed}
+use Rattle.mj_deeds.specs.declared.deed.Deed.TheVariants.{Discard}
+use Rattle.mj_deeds.specs.Four.{at_seat}
+use Rattle.mj_deeds.specs.Facts.{newest, gained, lost, seat_melds, is_pon, kans, live_tiles}
+use Rattle.mj_deeds.specs.Fits.{is_in_hand, is_discard_of, are_held, is_triplet_of}
+use Rattle.mj_rules.specs.Broken.{Turn, Discarded, turn_by, turn_in, View, view_of, broken_by, first_broken, is_unread, names_another, is_open, marks_wrongly, is_not_left, swaps, is_stuck, is_no_tile, names_no_tile, misses_discard, misses_target, is_too_late, names_unheld, is_own_pon, is_bad_set, is_fifth_kan, is_dry_kan}
+use Rattle.mj_rules.specs.Outcome.{act_of, triplet_bid, run_bid, bid_by, call_of, or_else}
+use Rattle.mj_rules.specs.Played.{AllLawful}
+use Rattle.mj_rules.proofs.Standing.{Acts, stage_after, stage_of}
+use Rattle.mj_rules.proofs.Kept.{IsNext}
+
+-- What holds of a deed, where there is one.
+abbrev pub IfAny : {A : Type 0} → (A → Type 0) → Option A → Type 0
+IfAny P None = Unit {0}
+IfAny P (Some d) = P d
+
+-- What an answer owes.
+pub record Clean (red : Bool) (view : View) (answer : Answer) : Type 0 where
+  pub tiles : names_no_tile red answer ≡ false
+  pub target : misses_target view.turn answer ≡ false
+  pub early : is_too_late view answer ≡ false
+  pub held : names_unheld view answer ≡ false
+  pub good : is_bad_set view answer ≡ false
+  pub free : is_stuck view answer ≡ false
+  pub fifth : is_fifth_kan view answer ≡ false
+  pub dry : is_dry_kan view answer ≡ false
+
+-- No rule of a list is broken.
+abbrev Unbroken : List (Bool × Rule) → Type 0
+Unbroken [] = Unit {0}
+Unbroken (rule ∷ others) = (rule.0 ≡ false) × Unbroken others
+
+none_broken : (list : List (Bool × Rule)) → first_broken list ≡ None → Unbroken list
+none_broken [] h = tt
+none_broken (rule ∷ others) h = by_test rule.0 refl h (λ k. none_broken others k)
+  where
+    by_test : (b : Bool) → rule.0 ≡ b → cond b (Some rule.1) (first_broken others) ≡ None → (first_broken others ≡ None → Unbroken others) → (rule.0 ≡ false) × Unbroken others
+    by_test true e k f = cc
+    by_test false e k f = (e, f k)
+
+-- An answer that breaks no rule owes nothing.
+pub clean : (red : Bool) (seat : ℕ) (view : View) (answer : Answer) → broken_by red seat view answer ≡ None → Clean red view answer
+unfolding broken_by
+clean red seat view answer h =
+    let list : List (Bool × Rule) =
+    ((is_unread answer, rules.Unreadable)
+    ∷ (names_another seat answer, rules.NotYours)
+    ∷ (not (is_open seat view.turn answer), rules.NotNow)
+    ∷ (names_no_tile red answer, rules.NoSuchTile)
+    ∷ (misses_target view.turn answer, rules.WrongTarget)
+    ∷ (is_too_late view answer, rules.LastTile)
+    ∷ (names_unheld view answer, rules.NotHeld)
+    ∷ (marks_wrongly view answer, rules.NotDrawn)
+    ∷ (is_bad_set view answer, rules.BadSet)
+    ∷ (is_not_left seat view.turn answer, rules.NotLeft)
+    ∷ (swaps view.turn answer, rules.SwapCall)
+    ∷ (is_stuck view answer, rules.StuckCall)
+    ∷ (is_fifth_kan view answer, rules.KanFull)
+    ∷ (is_dry_kan view answer, rules.KanDry)
+    ∷ []) in
+    let u = none_broken list h in
+    record {
+      tiles = u.1.1.1.0;
+      target = u.1.1.1.1.0;
+      early = u.1.1.1.1.1.0;
+      held = u.1.1.1.1.1.1.0;
+      good = u.1.1.1.1.1.1.1.1.0;
+      free = u.1.1.1.1.1.1.1.1.1.1.1.0;
+      fifth = u.1.1.1.1.1.1.1.1.1.1.1.1.0;
+      dry = u.1.1.1.1.1.1.1.1.1.1.1.1.1.0;
+    }
+
+-- the named tiles are held
+
+none_short : (h g : ℕ → ℕ) (tiles : List ℕ) → list_any (λ face. nat_lt (h face) (g face)) tiles ≡ false → list_all (λ face. nat_le (g face) (h face)) tiles ≡ true
+none_short h g [] k = refl
+none_short h g (t ∷ ts) k =
+    let parts = or_parts (nat_lt (h t) (g t)) _ k in
+    and_from (nat_le (g t) (h t)) _ (le-leb (g t) (h t) (ltb-false (h t) (g t) parts.0)) (none_short h g ts parts.1)
+
+own_held : (ds : List Deed) (who seat : ℕ) (tiles : List ℕ) → are_held (gained ds who) (lost ds who) tiles ≡ true →
+    are_held (gained ds seat) (lost ds seat) (cond (who == seat) tiles []) ≡ true
+own_held ds who seat tiles h = elim (cases_eq who seat) [
+  | inl e ↦ ap (λ b. are_held (gained ds seat) (lost ds seat) (cond b tiles [])) (eq-eqb who seat e) ∙ subst (λ x. are_held (gained ds x) (lost ds x) tiles ≡ true) e h
+  | inr ne ↦ ap (λ b. are_held (gained ds seat) (lost ds seat) (cond b tiles [])) (ne_eqb who seat ne)
+]
+
+answer_held : (ds : List Deed) (who seat : ℕ) (tiles : List ℕ) →
+    list_any (λ face. nat_lt (number_in (gained ds who) face - number_in (lost ds who) face) (number_in tiles face)) tiles ≡ false →
+    are_held (gained ds seat) (lost ds seat) (cond (who == seat) tiles []) ≡ true
+answer_held ds who seat tiles h =
+    own_held ds who seat tiles (none_short (λ face. number_in (gained ds who) face - number_in (lost ds who) face) (λ face. number_in tiles face) tiles h)
+
+-- the named tiles are of the game
+
+real_tiles : (red : Bool) (faces : List ℕ) → list_any (is_no_tile red) (map Known faces) ≡ false → (red || list_all (λ face. not (is_red face)) faces) ≡ true
+real_tiles true faces h = refl
+real_tiles false [] h = refl
+real_tiles false (t ∷ ts) h =
+    let parts = or_parts (is_red t && true) _ h in
+    and_from (not (is_red t)) _ (plain (is_red t) parts.0) (real_tiles false ts parts.1)
+  where
+    plain : (b : Bool) → (b && true) ≡ false → not b ≡ true
+    plain true h = cc
+    plain false h = refl
+
+-- a kan may be made
+
+kan_may : (k l : ℕ) → leb 4 k ≡ false → eqb l 0 ≡ false → (ltb k 4 && ltb 0 l) ≡ true
+kan_may k l h i = and_from (ltb k 4) (ltb 0 l) (lt-ltb k 4 (leb-false 4 k h)) (lt-ltb 0 l (some l (eqb-false l 0 i)))
+  where
+    some : (l : ℕ) → (l ≡ 0 → ⊥) → 0 < l
+    some l h = omega arith
+
+-- the triplet that a tile is added to
+
+either_way : (a b : ℕ) → eqb a b ≡ eqb b a
+either_way a b = elim (cases_eq a b) [
+  | inl e ↦ eq-eqb a b e ∙ sym (eq-eqb b a (sym e))
+  | inr n ↦ ne_eqb a b n ∙ sym (ne_eqb b a (λ e. n (sym e)))
+]
+
+own_triplet : (t a b c : ℕ) (melds : List Meld) → not (list_any (is_own_pon (Known t) (Known a) (Known b) (Known c)) melds) ≡ false → list_any (is_triplet_of t a b c) melds ≡ true
+own_triplet t a b c melds h =
+    (λ i. list_any (λ (meld : Meld). is_pon meld.form && either_way meld.a a i && either_way meld.b b i && either_way meld.c c i && (kind_of t == kind_of a)) melds)
+    ∙ not-false (list_any (is_own_pon (Known t) (Known a) (Known b) (Known c)) melds) h
+
+seat_there : (who : ℕ) → who < 4 → (ltb who 4 && true) ≡ true
+seat_there who h = and_from (ltb who 4) true (lt-ltb who 4 h) refl
+
+-- What a seat does in its turn.
+pub act_next : (red : Bool) (wall : List ℕ) (ds : List Deed) (n : Deed) (who : ℕ) (answer : Answer) → newest ds ≡ Some n → stage_after n ≡ Acts who → is_in_hand (Some n) ≡ true → who < 4 →
+    Clean red (view_of ds who) answer → IfAny (IsNext red wall ds) (act_of who answer)
+unfolding view_of
+act_next red wall ds n who (answers.Discard actor (Known t) drawn) e acts begun small c = record {
+  place = ap is_in_hand e ∙ begun;
+  seats = seat_there who small;
+  held = λ seat. answer_held ds who seat (t ∷ []) c.held;
+  triplet = refl;
+  tiles = real_tiles red (t ∷ []) c.tiles;
+  live = refl;
+  stage = ap stage_of e ∙ acts;
+  brings = tt;
+}
+act_next red wall ds n who (answers.ClosedKan actor (Known x) (Known y) (Known z) (Known w)) e acts begun small c = record {
+  place = ap is_in_hand e ∙ begun;
+  seats = seat_there who small;
+  held = λ seat. answer_held ds who seat (x ∷ y ∷ z ∷ w ∷ []) c.held;
+  triplet = refl;
+  tiles = real_tiles red (x ∷ y ∷ z ∷ w ∷ []) c.tiles;
+  live = kan_may (kans ds) (live_tiles ds) c.fifth c.dry;
+  stage = ap stage_of e ∙ acts;
+  brings = tt;
+}
+act_next red wall ds n who (answers.AddedKan actor (Known t) (Known x) (Known y) (Known z)) e acts begun small c = record {
+  place = ap is_in_hand e ∙ begun;
+  seats = seat_there who small;
+  held = λ seat. answer_held ds who seat (t ∷ []) c.held;
+  triplet = own_triplet t x y z (seat_melds ds who) c.good;
+  tiles = real_tiles red (t ∷ x ∷ y ∷ z ∷ []) c.tiles;
+  live = kan_may (kans ds) (live_tiles ds) c.fifth c.dry;
+  stage = ap stage_of e ∙ acts;
+  brings = tt;
+}
+act_next red wall ds n who (answers.Discard actor Hidden drawn) e acts begun small c = tt
+act_next red wall ds n who (answers.ClosedKan actor Hidden b c d) e acts begun small k = tt
+act_next red wall ds n who (answers.ClosedKan actor (Known x) Hidden c d) e acts begun small k = tt
+act_next red wall ds n who (answers.ClosedKan actor (Known x) (Known y) Hidden d) e acts begun small k = tt
+act_next red wall ds n who (answers.ClosedKan actor (Known x) (Known y) (Known z) Hidden) e acts begun small k = tt
+act_next red wall ds n who (answers.AddedKan actor Hidden b c d) e acts begun small k = tt
+act_next red wall ds n who (answers.AddedKan actor (Known x) Hidden c d) e acts begun small k = tt
+act_next red wall ds n who (answers.AddedKan actor (Known x) (Known y) Hidden d) e acts begun small k = tt
+act_next red wall ds n who (answers.AddedKan actor (Known x) (Known y) (Known z) Hidden) e acts begun small k = tt
+act_next red wall ds n who (answers.Pass actor) e acts begun small c = tt
+act_next red wall ds n who (answers.Chi actor target tile a b) e acts begun small c = tt
+act_next red wall ds n who (answers.Pon actor target tile a b) e acts begun small c = tt
+act_next red wall ds n who (answers.OpenKan actor target tile a b d) e acts begun small c = tt
+act_next red wall ds n who answers.Unread e acts begun small c = tt
+
+-- the call of a discard
+
+turn_is : (ds : List Deed) (seat who tile : ℕ) (drawn : Bool) → newest ds ≡ Some (Discard who tile drawn) → (view_of ds seat).turn ≡ Discarded who tile
+unfolding view_of
+turn_is ds seat who tile drawn e = ap (λ o. turn_in (option_map turn_by o)) e
+
+hits : (who tile target t : ℕ) → not (target == who && t == tile) ≡ false → (who == target && tile == t) ≡ true
+hits who tile target t h = (λ i. either_way who target i && either_way tile t i) ∙ not-false (target == who && t == tile) h
+
+caller_seats : (seat target who t tile : ℕ) → seat < 4 → who < 4 → (who == target && tile == t) ≡ true → (ltb seat 4 && (ltb target 4 && true)) ≡ true
+caller_seats seat target who t tile h g e =
+    let same = eqb-true who target (and_parts (who == target) (tile == t) e).0 in
+    and_from (ltb seat 4) _ (lt-ltb seat 4 h) (seat_there target (subst (λ x. x < 4) same g))
+
+-- What is called: the pon or the kan of a seat.
+triplet_next : (red : Bool) (wall : List ℕ) (ds : List Deed) (who tile : ℕ) (drawn : Bool) (seat : ℕ) (answer : Answer) → newest ds ≡ Some (Discard who tile drawn) → who < 4 → seat < 4 →
+    Clean red (view_of ds seat) answer → IfAny (IsNext red wall ds) (triplet_bid seat answer)
+unfolding view_of
+triplet_next red wall ds who tile drawn seat (answers.Pon actor target (Known t) (Known x) (Known y)) e small there c =
+    let hit = hits who tile target t (ap (λ (turn : Turn). misses_discard turn target (Known t)) (sym (turn_is ds seat who tile drawn e)) ∙ c.target) in
+    record {
+      place = ap (λ o. is_discard_of o target t) e ∙ hit;
+      seats = caller_seats seat target who t tile there small hit;
+      held = λ other. answer_held ds seat other (x ∷ y ∷ []) c.held;
+      triplet = refl;
+      tiles = real_tiles red (t ∷ x ∷ y ∷ []) c.tiles;
+      live = refl;
+      stage = ap stage_of e;
+      brings = tt;
+    }
+triplet_next red wall ds who tile drawn seat (answers.OpenKan actor target (Known t) (Known x) (Known y) (Known z)) e small there c =
+    let hit = hits who tile target t (ap (λ (turn : Turn). misses_discard turn target (Known t)) (sym (turn_is ds seat who tile drawn e)) ∙ c.target) in
+    record {
+      place = ap (λ o. is_discard_of o target t) e ∙ hit;
+      seats = caller_seats seat target who t tile there small hit;
+      held = λ other. answer_held ds seat other (x ∷ y ∷ z ∷ []) c.held;
+      triplet = refl;
+      tiles = real_tiles red (t ∷ x ∷ y ∷ z ∷ []) c.tiles;
+      live = kan_may (kans ds) (live_tiles ds) c.fifth c.early;
+      stage = ap stage_of e;
+      brings = tt;
+    }
+triplet_next red wall ds who tile drawn seat (answers.Pon actor target Hidden b c) e small there k = tt
+triplet_next red wall ds who tile drawn seat (answers.Pon actor target (Known x) Hidden c) e small there k = tt
+triplet_next red wall ds who tile drawn seat (answers.Pon actor target (Known x) (Known y) Hidden) e small there k = tt
+triplet_next red wall ds who tile drawn seat (answers.OpenKan actor target Hidden b c d) e small there k = tt
+triplet_next red wall ds who tile drawn seat (answers.OpenKan actor target (Known x) Hidden c d) e small there k = tt
+triplet_next red wall ds who tile drawn seat (answers.OpenKan actor target (Known x) (Known y) Hidden d) e small there k = tt
+triplet_next red wall ds who tile drawn seat (answers.OpenKan actor target (Known x) (Known y) (Known z) Hidden) e small there k = tt
+triplet_next red wall ds who tile drawn seat (answers.Discard actor t marked) e small there c = tt
+triplet_next red wall ds who tile drawn seat (answers.ClosedKan actor a b c d) e small there k = tt
+triplet_next red wall ds who tile drawn seat (answers.AddedKan actor a b c d) e small there k = tt
+triplet_next red wall ds who tile drawn seat (answers.Pass actor) e small there c = tt
+triplet_next red wall ds who tile drawn seat (answers.Chi actor target t a b) e small there c = tt
+triplet_next red wall ds who tile drawn seat answers.Unread e small there c = tt
+
+-- And the chi.
+run_next : (red : Bool) (wall : List ℕ) (ds : List Deed) (who tile : ℕ) (drawn : Bool) (seat : ℕ) (answer : Answer) → newest ds ≡ Some (Discard who tile drawn) → who < 4 → seat < 4 →
+    Clean red (view_of ds seat) answer → IfAny (IsNext red wall ds) (run_bid seat answer)
+unfolding view_of
+run_next red wall ds who tile drawn seat (answers.Chi actor target (Known t) (Known x) (Known y)) e small there c =
+    let hit = hits who tile target t (ap (λ (turn : Turn). misses_discard turn target (Known t)) (sym (turn_is ds seat who tile drawn e)) ∙ c.target) in
+    record {
+      place = ap (λ o. is_discard_of o target t) e ∙ hit;
+      seats = caller_seats seat target who t tile there small hit;
+      held = λ other. answer_held ds seat other (x ∷ y ∷ []) c.held;
+      triplet = refl;
+      tiles = real_tiles red (t ∷ x ∷ y ∷ []) c.tiles;
+      live = refl;
+      stage = ap stage_of e;
+      brings = tt;
+    }
+run_next red wall ds who tile drawn seat (answers.Chi actor target Hidden b c) e small there k = tt
+run_next red wall ds who tile drawn seat (answers.Chi actor target (Known x) Hidden c) e small there k = tt
+run_next red wall ds who tile drawn seat (answers.Chi actor target (Known x) (Known y) Hidden) e small there k = tt
+run_next red wall ds who tile drawn seat (answers.Discard actor t marked) e small there c = tt
+run_next red wall ds who tile drawn seat (answers.ClosedKan actor a b c d) e small there k = tt
+run_next red wall ds who tile drawn seat (answers.AddedKan actor a b c d) e small there k = tt
+run_next red wall ds who tile drawn seat (answers.Pass actor) e small there c = tt
+run_next red wall ds who tile drawn seat (answers.Pon actor target t a b) e small there c = tt
+run_next red wall ds who tile drawn seat (answers.OpenKan actor target t a b c) e small there k = tt
+run_next red wall ds who tile drawn seat answers.Unread e small there c = tt
+
+pub either : {A : Type 0} (P : A → Type 0) (b : Bool) (o p : Option A) → IfAny P o → IfAny P p → IfAny P (cond b o p)
+either P true o p f g = f
+either P false o p f g = g
+
+pub or_other : (P : Deed → Type 0) (o p : Option Deed) → IfAny P o → IfAny P p → IfAny P (or_else o p)
+or_other P None p f g = g
+or_other P (Some d) p f g = f
+
+-- Each of four lawful answers owes nothing.
+pub clean_at : (red : Bool) (ds : List Deed) (given : Four Answer) (seat : ℕ) → seat < 4 → AllLawful red ds given → Clean red (view_of ds seat) (at_seat given seat)
+clean_at red ds given zero h c = clean red 0 (view_of ds 0) given.first c.first
+clean_at red ds given (suc zero) h c = clean red 1 (view_of ds 1) given.second c.second
+clean_at red ds given (suc (suc zero)) h c = clean red 2 (view_of ds 2) given.third c.third
+clean_at red ds given (suc (suc (suc zero))) h c = clean red 3 (view_of ds 3) given.fourth c.fourth
+clean_at red ds given (suc (suc (suc (suc n)))) h c = absurd (omega arith)
+
+-- Of the bids of four seats the first.
+pub bid_next : (P : Deed → Type 0) (bid : ℕ → Answer → Option Deed) (given : Four Answer) → ((seat : ℕ) → seat < 4 → IfAny P (bid seat (at_seat given seat))) → IfAny P (bid_by bid given)
+bid_next P bid given h =
+    or_other P _ _ (h 0 (omega arith)) (or_other P _ _ (h 1 (omega arith)) (or_other P _ _ (h 2 (omega arith)) (h 3 (omega arith))))
+
+-- The call of a discard, where there is one.
+pub call_next : (red : Bool) (wall : List ℕ) (ds : List Deed) (who tile : ℕ) (drawn : Bool) (given : Four Answer) → newest ds ≡ Some (Discard who tile drawn) → who < 4 → AllLawful red ds given →
+    IfAny (IsNext red wall ds) (call_of given)
+unfolding call_of
+call_next red wall ds who tile drawn given e small c =
+    or_other (IsNext red wall ds) _ _
+    (bid_next (IsNext red wall ds) triplet_bid given (λ seat h. triplet_next red wall ds who tile drawn seat (at_seat given seat) e small h (clean_at red ds given seat h c)))
+    (bid_next (IsNext red wall ds) run_bid given (λ seat h. run_next red wall ds who tile drawn seat (at_seat given seat) e small h (clean_at red ds given seat h c)))

@@ -1,0 +1,15 @@
+pub mod Hands
+pub mod Join
+pub mod Parting
+pub mod Standard
+pub mod Whole
+pub mod Pairs
+pub mod Written
+pub mod Doubles
+pub mod Sums
+pub mod Order
+pub mod Exists
+pub mod Goal
+pub mod Path
+pub mod Least
+pub mod Closed

@@ -1,0 +1,5 @@
+pub mod Room
+pub mod Shanten
+pub mod Suits
+pub mod Special
+pub mod Exchanges

@@ -1,0 +1,16 @@
+//! Shanten of riichi mahjong: how far a hand is from being ready, the nearest complete hand, and the exchanges that
+//! lead to it.
+#![tactic(auto)]
+
+mod exchanges;
+mod least_exchanges;
+mod nearest_hand;
+mod orphans;
+mod seven_pairs;
+mod suits;
+#[cfg(test)]
+mod tests;
+
+pub use exchanges::exchange_path;
+pub use least_exchanges::shanten_is_the_least_number_of_exchanges;
+pub use nearest_hand::{Nearest, shanten};

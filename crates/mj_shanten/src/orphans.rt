@@ -1,0 +1,63 @@
+//! The nearest thirteen orphans.
+
+ghost use Rattle.std.specs.Prelude.{◌≡◌, ◌+◌, ◌<◌, map};
+ghost use Rattle.mj_tiles.specs.Counts.{all_kinds};
+ghost use Rattle.mj_readings.specs.Sets.{is_orphan};
+ghost use Rattle.mj_readings.specs.Complete.{orphan_number};
+ghost use Rattle.mj_suits.specs.Walk.{Improves};
+ghost use Rattle.mj_shanten.specs.Suits.{Padded, with_two};
+ghost use Rattle.mj_shanten.specs.Special.{IsOrphans, IsOrphansWith};
+
+use crate::suits::keep_nearer;
+
+/// Takes into the best hand the thirteen orphans that are nearest.
+pub(crate) fn take_orphans(held: &[u8; 36], best: &mut Option<(u16, [u8; 36])>)
+    ensures { Improves held.now (Padded IsOrphans) best.old best.new }
+{
+    for double in 0..34 {
+        take_double(held, double, best);
+    }
+}
+
+// Takes into the best hand the thirteen orphans with this kind twice.
+fn take_double(held: &[u8; 36], double: u8, best: &mut Option<(u16, [u8; 36])>)
+    requires { double < 34 }
+    ensures { Improves held.now (IsOrphansWith double) best.old best.new }
+{
+    if !is_terminal_or_honour(double) {
+        return;
+    }
+    keep_nearer(held, &with_double(double), best);
+}
+
+// Each terminal and honour once, and this one twice.
+fn with_double(double: u8) -> [u8; 36]
+    ensures { result ≡ with_two (map (orphan_number double) all_kinds) }
+{
+    let mut target = [0; 36];
+    for kind in 0..34 {
+        target[kind as usize] = number_in_orphans(double, kind);
+    }
+    target
+}
+
+// How often the kind stands in thirteen orphans with the other one twice.
+fn number_in_orphans(double: u8, kind: u8) -> u8
+    ensures { result ≡ orphan_number double kind }
+{
+    if !is_terminal_or_honour(kind) {
+        return 0;
+    }
+    if kind == double {
+        return 2;
+    }
+    1
+}
+
+// Whether the kind is a one or a nine of a suit, a wind or a dragon.
+#[tactic(auto, unfolding(mj_readings::specs::Sets::is_orphan))]
+fn is_terminal_or_honour(kind: u8) -> bool
+    ensures { result ≡ is_orphan kind }
+{
+    kind >= 27 || kind % 9 == 0 || kind % 9 == 8
+}

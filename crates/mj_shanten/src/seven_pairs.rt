@@ -1,0 +1,56 @@
+//! The nearest seven pairs.
+
+ghost use Rattle.std.specs.Prelude.{◌≡◌, ◌+◌, ◌≤◌, nat_le, nat_lt, take, count_by, slice_index};
+ghost use Rattle.mj_suits.specs.Walk.{Improves};
+ghost use Rattle.mj_shanten.specs.Suits.{Padded, with_two};
+ghost use Rattle.mj_shanten.specs.Special.{IsPairs, so_often, better, nearest_pairs};
+
+use crate::suits::keep_nearer;
+
+/// Takes into the best hand the seven pairs that are nearest. A kind that is held twice or more goes before one that is
+/// held once, and that before one that is not held; of kinds held alike the lowest goes first.
+pub(crate) fn take_pairs(held: &[u8; 36], best: &mut Option<(u16, [u8; 36])>)
+    ensures { Improves held.now (Padded IsPairs) best.old best.new }
+{
+    let target = pairs_of(held);
+    keep_nearer(held, &target, best);
+}
+
+// The nearest seven pairs.
+fn pairs_of(held: &[u8; 36]) -> [u8; 36]
+    ensures { result ≡ with_two (nearest_pairs (take 34 held.now) 7) }
+{
+    let mut target = [0; 36];
+    let mut left: usize = 7;
+    let mut twice = kinds_held(held, 2);
+    let mut once = kinds_held(held, 1);
+    for kind in 0..34 {
+        let number = held[kind];
+        twice -= (number >= 2) as usize;
+        once -= (number >= 1) as usize;
+        let taken = is_taken(number, twice, once, left);
+        target[kind] = 2 * (taken as u8);
+        left -= taken as usize;
+    }
+    target
+}
+
+// Whether more pairs are still to come than later kinds go before one that is held so often.
+fn is_taken(number: u8, twice: usize, once: usize, left: usize) -> bool
+    ensures { result ≡ nat_lt (better number twice once) left }
+{
+    if number >= 2 {
+        return left > 0;
+    }
+    if number == 1 {
+        return left > twice;
+    }
+    left > once
+}
+
+// How many kinds are held so often or more.
+fn kinds_held(held: &[u8; 36], times: u8) -> usize
+    ensures { result ≡ so_often times (take 34 held.now) }
+{
+    held[..34].iter().filter(|number| **number >= times).count()
+}

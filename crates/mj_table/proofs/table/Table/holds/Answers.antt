@@ -1,0 +1,11 @@
+use Rattle.std.proofs.Common.{List, sym, subst}
+use Rattle.mj_tiles.specs.Counts.{kind_counts, NoFifth}
+use Rattle.mj_deeds.specs.declared.deed.Deed.{Deed}
+use Rattle.mj_deeds.specs.Facts.{concealed_tiles}
+use Rattle.mj_table.proofs.Readers.{holds_few}
+use Rattle.mj_table.proofs.table.Table.holds.Goals as goal
+
+pub held_counts-requires : goal.held_counts-requires
+held_counts-requires c =
+    subst (λ (ds : List Deed). NoFifth (kind_counts (concealed_tiles ds c.args.seat))) (sym c.as_slice.ensures.value)
+    (holds_few c.self.inside.rules.red c.self.inside.deeds.items c.args.seat c.self.invariant)

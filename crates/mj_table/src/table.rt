@@ -1,0 +1,223 @@
+ghost use Rattle.std.specs.Prelude.{◌≡◌, ◌≤◌, ◌-◌, ◌++◌, [], ◌∷◌, IfOk, OnOk, OnErr, IsTrue, length, min, option_copied, slice_get};
+ghost use Rattle.std.specs.List.{list_any};
+ghost use Rattle.mj_tiles.specs.Faces.{number_in};
+ghost use Rattle.mj_tiles.specs.Counts.{kind_counts};
+ghost use Rattle.mj_deeds.specs.Facts.{newest, concealed_tiles, gained, lost, drawn_tile, seat_melds, kans, kan_seats, indicators, live_draws, live_tiles};
+ghost use Rattle.mj_deeds.specs.Fits.{fits, is_triplet_of};
+ghost use Rattle.mj_deeds.specs.Course.{cause};
+ghost use Rattle.mj_deeds.specs.Passed.{own_kinds, passed_kinds};
+ghost use Rattle.mj_deeds.specs.Points.{points, deposits};
+ghost use Rattle.mj_table.specs.Standings.{standing};
+
+use crate::standing::{Standing, newest_standing};
+use mj_deeds::Deed;
+use mj_tiles::{Counts, Kinds, Melds, Tile};
+use mj_wall::Rules;
+use std::alloc::{AllocError, Global};
+use std::marker::Model;
+
+/// A game as far as it was played: its rules, and its deeds so far, each of which fits behind those before it. It says each
+/// fact of these deeds. No call but `new`, `push` and `copy` takes memory. Seats are 0 to 3.
+#[derive(Drop)]
+pub struct Table {
+    rules: Rules,
+    deeds: Vec<Deed>,
+}
+
+impl Model for Table {
+    ghost use Rattle.std.specs.Prelude.{IsTrue};
+    ghost use Rattle.mj_table.specs.Plays.{Play, is_fit};
+
+    ghost Value = { Play };
+
+    ghost view = { λ t. record { rules = t.rules; deeds = t.deeds.items } };
+
+    ghost invariant = { λ t. IsTrue (is_fit t.rules t.deeds.items) };
+}
+
+impl Table {
+    /// The table of a game without a deed.
+    pub fn new(alloc: Global, rules: Rules) -> Result<Table, AllocError>
+        ensures { IfOk result (λ table. table ≡ record { rules = rules; deeds = [] }) }
+    {
+        Ok(Table {
+            rules,
+            deeds: Vec::new(alloc),
+        })
+    }
+
+    /// Adds a deed, which fits behind the deeds so far; `fits` tells whether it does. Where memory is wanting nothing
+    /// changes.
+    pub fn push(&mut self, deed: &Deed) -> Result<(), AllocError>
+        requires { IsTrue (fits self.old.rules.red self.old.deeds deed.now) }
+        ensures ok { OnOk result (self.new ≡ record { rules = self.old.rules; deeds = self.old.deeds ++ deed.now ∷ [] }) }
+        ensures err { OnErr result (self.new ≡ self.old) }
+    {
+        let copy = deed.copy()?;
+        self.deeds.reserve(1)?;
+        self.deeds.push_reserved(copy);
+        Ok(())
+    }
+
+    /// A table of the same rules and the same deeds.
+    pub fn copy(&self, alloc: Global) -> Result<Table, AllocError>
+        ensures { IfOk result (λ table. table ≡ self.now) }
+    {
+        let mut deeds = Vec::new(alloc);
+        for deed in self.deeds.as_slice() {
+            deeds.push(deed.copy()?)?;
+        }
+        Ok(Table {
+            rules: self.rules,
+            deeds,
+        })
+    }
+
+    /// Whether a deed fits behind the deeds so far: it stands in its place, its seats are 0 to 3, tiles that are put down
+    /// are held, a tile is added to an own pon, there is no red five in a game without them, no fifth tile of a kind, no
+    /// fifth meld of a seat, no fifth kan, and a live tile is left for a live draw or a kan.
+    pub fn fits(&self, deed: &Deed) -> bool
+        ensures { result ≡ fits self.now.rules.red self.now.deeds deed.now }
+    {
+        mj_deeds::fits(self.rules.red, self.deeds.as_slice(), deed)
+    }
+
+    /// The rules of the game.
+    pub fn rules(&self) -> Rules
+        ensures { result ≡ self.now.rules }
+    {
+        self.rules
+    }
+
+    /// The newest deed; none exactly before the first.
+    pub fn newest(&self) -> Option<&Deed>
+        ensures { option_copied result ≡ newest self.now.deeds }
+    {
+        self.deeds.as_slice().last()
+    }
+
+    /// The deed that the newest one comes of: before an indicator the kan. None after every other deed.
+    pub fn cause(&self) -> Option<&Deed>
+        ensures { option_copied result ≡ cause self.now.deeds }
+    {
+        mj_deeds::cause(self.deeds.as_slice())
+    }
+
+    /// The points of the four seats: 30,000 each at the start.
+    #[tactic(auto, using(crate::proofs::Readers::points_stay))]
+    pub fn points(&self) -> [i32; 4]
+        ensures { result ≡ points self.now.deeds }
+    {
+        [30_000; 4]
+    }
+
+    /// How many deposits of 1,000 points lie on the table.
+    #[tactic(auto, using(crate::proofs::Readers::no_deposits))]
+    pub fn deposits(&self) -> u32
+        ensures { result ≡ deposits self.now.deeds }
+    {
+        0
+    }
+
+    /// How many live tiles are left, 70 at most: those are there when the dealer draws first, and each kan takes one away.
+    pub fn live(&self) -> u8
+        ensures value { result ≡ live_tiles self.now.deeds }
+        ensures within { result ≤ 70 }
+    {
+        mj_deeds::live_left(self.deeds.as_slice()) as u8
+    }
+
+    /// How many live tiles were drawn.
+    pub fn live_drawn(&self) -> usize
+        ensures { result ≡ live_draws self.now.deeds }
+    {
+        mj_deeds::live_drawn(self.deeds.as_slice())
+    }
+
+    /// How many kans were made, by all seats: four at most.
+    pub fn kans(&self) -> u8
+        ensures value { result ≡ kans self.now.deeds }
+        ensures within { result ≤ 4 }
+    {
+        mj_deeds::kans(self.deeds.as_slice()) as u8
+    }
+
+    /// The seat of the newest kan; none exactly where there is no kan.
+    pub fn kan_seat(&self) -> Option<u8>
+        ensures { result ≡ slice_get (kan_seats self.now.deeds) (length (kan_seats self.now.deeds) - 1) }
+    {
+        mj_deeds::kan_seat(self.deeds.as_slice())
+    }
+
+    /// The standing of the newest hand; before the first hand that of hand 0: round east, dealer 0, no honba.
+    pub fn standing(&self) -> Standing
+        ensures { result ≡ standing self.now.deeds }
+    {
+        newest_standing(self.deeds.as_slice())
+    }
+
+    /// The indicator at a place of those that are shown, the first one at 0; none exactly where at most so many are shown.
+    pub fn indicator(&self, k: u8) -> Option<Tile>
+        ensures { result ≡ slice_get (indicators self.now.deeds) k }
+    {
+        mj_deeds::indicator(self.deeds.as_slice(), usize::from(k))
+    }
+
+    /// How many indicators are shown.
+    pub fn shown(&self) -> usize
+        ensures { result ≡ length (indicators self.now.deeds) }
+    {
+        mj_deeds::shown(self.deeds.as_slice())
+    }
+
+    /// How often each kind stands among the concealed tiles of a seat.
+    pub fn holds(&self, seat: u8) -> Counts
+        ensures { result ≡ kind_counts (concealed_tiles self.now.deeds seat) }
+    {
+        mj_deeds::held_counts(self.deeds.as_slice(), seat)
+    }
+
+    /// How many concealed tiles of the face of a tile a seat holds, four at most.
+    pub fn held(&self, seat: u8, tile: Tile) -> usize
+        ensures { result ≡ min (number_in (gained self.now.deeds seat) tile - number_in (lost self.now.deeds seat) tile) 4 }
+    {
+        mj_deeds::held(self.deeds.as_slice(), seat, tile)
+    }
+
+    /// The tile that a seat has drawn and holds as drawn; none exactly where the newest deed isn't its draw.
+    pub fn drawn(&self, seat: u8) -> Option<Tile>
+        ensures { result ≡ drawn_tile self.now.deeds seat }
+    {
+        mj_deeds::drawn(self.deeds.as_slice(), seat)
+    }
+
+    /// The melds of a seat, in the order in which they were made; a pon that a tile was added to is an added kan.
+    pub fn melds(&self, seat: u8) -> Melds
+        ensures { result ≡ seat_melds self.now.deeds seat }
+    {
+        mj_deeds::held_melds(self.deeds.as_slice(), seat)
+    }
+
+    /// Whether a seat has a pon that no tile was added to, of the tiles `a`, `b` and `c` in tile order, and of the kind of
+    /// the tile.
+    pub fn has_triplet(&self, seat: u8, tile: Tile, a: Tile, b: Tile, c: Tile) -> bool
+        ensures { result ≡ list_any (is_triplet_of tile a b c) (seat_melds self.now.deeds seat) }
+    {
+        mj_deeds::has_triplet(self.deeds.as_slice(), seat, tile, a, b, c)
+    }
+
+    /// The kinds of the discards of a seat, called ones included.
+    pub fn own(&self, seat: u8) -> Kinds
+        ensures { result ≡ own_kinds self.now.deeds seat }
+    {
+        mj_deeds::own_kinds(self.deeds.as_slice(), seat)
+    }
+
+    /// The kinds that a seat let pass: those of the tiles that others discarded, or added to a triplet, since its own last
+    /// discard, or since the start of the hand where it has none. The tile of the newest deed isn't counted.
+    pub fn passed(&self, seat: u8) -> Kinds
+        ensures { result ≡ passed_kinds self.now.deeds seat }
+    {
+        mj_deeds::passed_kinds(self.deeds.as_slice(), seat)
+    }
+}

@@ -1,0 +1,203 @@
+ghost use Rattle.std.specs.Prelude.{◌≡◌};
+ghost use Rattle.mj_deeds.specs.Four.{at_seat};
+ghost use Rattle.mj_rules.specs.Outcome.{triplet_bid, run_bid, bid_by, call_of, of_three, of_four, or_else};
+ghost use Rattle.mj_deeds.specs.Bids.{call_of_bid};
+ghost use Rattle.mj_deeds.specs.declared.deed.Deed.TheVariants.{Chi, Pon, OpenKan};
+ghost use Rattle.mj_window.specs.declared.decision.Decision.TheVariants.{Act};
+ghost use Rattle.mj_window.specs.Decided.{decided, call_or_pass, deed_of, deed_decided};
+
+use mj_deeds::{Answer, Bid, Deed, Four, Pai};
+
+/// What four answers decide.
+#[derive(Clone, Copy, Debug, PartialEq, Eq)]
+pub enum Decision {
+    /// The discard is called.
+    Call(Bid),
+    /// The seat whose turn it is, 0 to 3, acts by its own answer.
+    Act(u8, Answer),
+    /// The answers decide nothing.
+    Pass,
+}
+
+/// What four answers to the window on a deed decide, in whatever order they came: on a discard the pon or the kan that is
+/// bid, where there is one, and else the chi that is bid; on a draw, a chi or a pon its seat acts; else nothing is decided.
+/// Of several bids of one sort, which no four lawful answers hold, the one of the first seat counts, and one with a hidden
+/// tile is none.
+pub fn decide(last: &Deed, answers: &Four<Answer>) -> Decision
+    ensures exactly { result ≡ decided last.now answers.now }
+    ensures deed { deed_of result ≡ deed_decided last.now answers.now }
+{
+    match last {
+        Deed::Discard { .. } => call(answers),
+        Deed::Draw { seat, .. } => act(*seat, answers),
+        Deed::Chi { seat, .. } => act(*seat, answers),
+        Deed::Pon { seat, .. } => act(*seat, answers),
+        _ => Decision::Pass,
+    }
+}
+
+// The seat acts by its own answer.
+fn act(seat: u8, answers: &Four<Answer>) -> Decision
+    ensures { result ≡ Act seat (at_seat answers.now seat) }
+{
+    Decision::Act(seat, *answers.at(seat.min(3)))
+}
+
+// The call of a discard: a pon or a kan, where one is bid, and else a chi.
+#[tactic(auto, unfolding(mj_rules::specs::Outcome::call_of))]
+fn call(answers: &Four<Answer>) -> Decision
+    ensures exactly { result ≡ call_or_pass (call_of answers.now) }
+    ensures deed { deed_of result ≡ call_of answers.now }
+{
+    taken(better(triplet(answers), run(answers)))
+}
+
+// The bid is taken, if it is one.
+fn taken(bid: Bid) -> Decision
+    ensures exactly { result ≡ call_or_pass (call_of_bid bid) }
+    ensures deed { deed_of result ≡ call_of_bid bid }
+{
+    match bid {
+        Bid::NoBid => Decision::Pass,
+        _ => Decision::Call(bid),
+    }
+}
+
+// The one bid, or else the other.
+fn better(bid: Bid, other: Bid) -> Bid
+    ensures { call_of_bid result ≡ or_else (call_of_bid bid) (call_of_bid other) }
+{
+    match bid {
+        Bid::NoBid => other,
+        _ => bid,
+    }
+}
+
+// Of the four seats the first that bids a pon or a kan.
+fn triplet(answers: &Four<Answer>) -> Bid
+    ensures { call_of_bid result ≡ bid_by triplet_bid answers.now }
+{
+    let first = triplet_bid(0, &answers.first);
+    let second = triplet_bid(1, &answers.second);
+    let third = triplet_bid(2, &answers.third);
+    let fourth = triplet_bid(3, &answers.fourth);
+    better(first, better(second, better(third, fourth)))
+}
+
+// Of the four seats the first that bids a chi.
+fn run(answers: &Four<Answer>) -> Bid
+    ensures { call_of_bid result ≡ bid_by run_bid answers.now }
+{
+    let first = run_bid(0, &answers.first);
+    let second = run_bid(1, &answers.second);
+    let third = run_bid(2, &answers.third);
+    let fourth = run_bid(3, &answers.fourth);
+    better(first, better(second, better(third, fourth)))
+}
+
+// The pon or the kan that a seat bids for a discard.
+fn triplet_bid(seat: u8, answer: &Answer) -> Bid
+    ensures { call_of_bid result ≡ triplet_bid seat answer.now }
+{
+    match answer {
+        Answer::Pon {
+            target,
+            tile,
+            a,
+            b,
+            ..
+        } => pon(seat, *target, tile, a, b),
+        Answer::OpenKan {
+            target,
+            tile,
+            a,
+            b,
+            c,
+            ..
+        } => open_kan(seat, *target, tile, a, b, c),
+        _ => Bid::NoBid,
+    }
+}
+
+// The chi that a seat bids for a discard.
+fn run_bid(seat: u8, answer: &Answer) -> Bid
+    ensures { call_of_bid result ≡ run_bid seat answer.now }
+{
+    match answer {
+        Answer::Chi {
+            target,
+            tile,
+            a,
+            b,
+            ..
+        } => chi(seat, *target, tile, a, b),
+        _ => Bid::NoBid,
+    }
+}
+
+fn chi(seat: u8, target: u8, tile: &Pai, a: &Pai, b: &Pai) -> Bid
+    ensures { call_of_bid result ≡ of_three (λ t x y. Chi seat target t x y) tile.now a.now b.now }
+{
+    let Pai::Known(tile) = tile else {
+        return Bid::NoBid;
+    };
+    let Pai::Known(a) = a else {
+        return Bid::NoBid;
+    };
+    let Pai::Known(b) = b else {
+        return Bid::NoBid;
+    };
+    Bid::Chi {
+        seat,
+        target,
+        tile: *tile,
+        a: *a,
+        b: *b,
+    }
+}
+
+fn pon(seat: u8, target: u8, tile: &Pai, a: &Pai, b: &Pai) -> Bid
+    ensures { call_of_bid result ≡ of_three (λ t x y. Pon seat target t x y) tile.now a.now b.now }
+{
+    let Pai::Known(tile) = tile else {
+        return Bid::NoBid;
+    };
+    let Pai::Known(a) = a else {
+        return Bid::NoBid;
+    };
+    let Pai::Known(b) = b else {
+        return Bid::NoBid;
+    };
+    Bid::Pon {
+        seat,
+        target,
+        tile: *tile,
+        a: *a,
+        b: *b,
+    }
+}
+
+fn open_kan(seat: u8, target: u8, tile: &Pai, a: &Pai, b: &Pai, c: &Pai) -> Bid
+    ensures { call_of_bid result ≡ of_four (λ t x y z. OpenKan seat target t x y z) tile.now a.now b.now c.now }
+{
+    let Pai::Known(tile) = tile else {
+        return Bid::NoBid;
+    };
+    let Pai::Known(a) = a else {
+        return Bid::NoBid;
+    };
+    let Pai::Known(b) = b else {
+        return Bid::NoBid;
+    };
+    let Pai::Known(c) = c else {
+        return Bid::NoBid;
+    };
+    Bid::OpenKan {
+        seat,
+        target,
+        tile: *tile,
+        a: *a,
+        b: *b,
+        c: *c,
+    }
+}

@@ -1,0 +1,10 @@
+//! The window on a deed, with its four slots, and what four answers decide. No call takes memory.
+#![tactic(auto)]
+
+mod decision;
+#[cfg(test)]
+mod tests;
+mod window;
+
+pub use decision::{Decision, decide};
+pub use window::Window;

@@ -1,0 +1,120 @@
+//! A hand that is played half, whose answers are judged.
+
+use mj_deeds::{Answer, Deed, Four, Pai, Tiles};
+use mj_judge::judge;
+use mj_ports::Name;
+use mj_table::Table;
+use mj_tiles::{Kind, Tile};
+use mj_wall::Rules;
+use std::alloc::{AllocError, Global};
+
+/// How many tiles were drawn and discarded.
+const TURNS: u8 = 40;
+
+/// A table in the middle of a hand: forty tiles were drawn and discarded, and seat 0 has drawn one more.
+pub fn half_played(alloc: Global) -> Result<Table, AllocError> {
+    let rules = Rules {
+        limit: 1000,
+        draws: false,
+        red: false,
+    };
+    let mut table = Table::new(alloc, rules)?;
+    add(&mut table, &start_of_game())?;
+    if let Some(round) = Kind::of(27) {
+        add(&mut table, &start_of_hand(alloc, round)?)?;
+    }
+    for turn in 0..TURNS {
+        add(&mut table, &draw(turn))?;
+        add(&mut table, &discard(turn))?;
+    }
+    add(&mut table, &draw(TURNS))?;
+    Ok(table)
+}
+
+/// 1 where seat 0 may discard a tile of a kind that it did not draw, and else 0.
+pub fn may_discard(table: &Table, kind: Kind) -> u64 {
+    let answer = Answer::Discard {
+        actor: 0,
+        tile: Pai::Known(tile(kind.number())),
+        drawn: false,
+    };
+    match judge(table, 0, &answer) {
+        Ok(()) => 1,
+        Err(_) => 0,
+    }
+}
+
+// Adds a deed that fits.
+fn add(table: &mut Table, deed: &Deed) -> Result<(), AllocError> {
+    if table.fits(deed) {
+        table.push(deed)?;
+    }
+    Ok(())
+}
+
+// The tile of a kind.
+fn tile(number: u8) -> Tile {
+    match Tile::of(number % 34) {
+        Some(tile) => tile,
+        None => unreachable!(),
+    }
+}
+
+// The tile at a place of the wall in tile order.
+fn placed(place: u8) -> Tile {
+    tile(place / 4)
+}
+
+fn start_of_game() -> Deed {
+    Deed::StartGame {
+        names: Four {
+            first: Name::of(b"a"),
+            second: Name::of(b"b"),
+            third: Name::of(b"c"),
+            fourth: Name::of(b"d"),
+        },
+    }
+}
+
+fn start_of_hand(alloc: Global, round: Kind) -> Result<Deed, AllocError> {
+    let hands = Four {
+        first: hand(alloc, 0)?,
+        second: hand(alloc, 13)?,
+        third: hand(alloc, 26)?,
+        fourth: hand(alloc, 39)?,
+    };
+    Ok(Deed::StartHand {
+        round,
+        number: 1,
+        honba: 0,
+        deposits: 0,
+        dealer: 0,
+        indicator: placed(131),
+        hands,
+    })
+}
+
+// The thirteen tiles from a place on.
+fn hand(alloc: Global, first: u8) -> Result<Tiles, AllocError> {
+    let mut tiles = Vec::new(alloc);
+    for k in 0..13u8 {
+        tiles.push(placed(first.saturating_add(k)))?;
+    }
+    Ok(Tiles::from_vec(tiles))
+}
+
+fn draw(turn: u8) -> Deed {
+    Deed::Draw {
+        seat: turn % 4,
+        tile: placed(turn.saturating_add(52)),
+        replacement: false,
+    }
+}
+
+fn discard(turn: u8) -> Deed {
+    Deed::Discard {
+        seat: turn % 4,
+        tile: placed(turn.saturating_add(52)),
+        drawn: true,
+    }
+}
