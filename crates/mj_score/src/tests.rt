@@ -115,3 +115,19 @@ fn dora_alone_is_no_yaku(rt: HostRuntime) -> Result<(), Fail> {
     assert!(rt; worth(rt.alloc(), &held, &melds, kind("9s")?, &case, extra)?.is_none());
     Ok(())
 }
+
+#[test]
+fn each_dora_of_whatever_sort_is_one_han(rt: HostRuntime) -> Result<(), Fail> {
+    let held = counts(rt.alloc(), "2m 3m 4m 5m 6m 7m 4p 5p 6p 3s 3s 6s 7s 8s")?;
+    let mut case = case(true)?;
+    case.closed = is_closed(&[]);
+    for (dora, under, red, han) in [(0, 0, 0, 3), (1, 0, 0, 4), (0, 1, 0, 4), (0, 0, 1, 4)] {
+        let extra = Extra { dora, under, red };
+        assert!(rt; extra.dora <= 20);
+        assert!(rt; extra.under <= 20);
+        assert!(rt; extra.red <= 3);
+        let score = worth(rt.alloc(), &held, &[], kind("7m")?, &case, extra)?.ok_or("no yaku")?;
+        assert_eq!(rt; score.han, han);
+    }
+    Ok(())
+}

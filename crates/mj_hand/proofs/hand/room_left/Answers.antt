@@ -1,0 +1,10 @@
+use Rattle.std.proofs.Common.{refl, arith, ◌∙◌}
+use Rattle.mj_tiles.proofs.CountSteps.{counts_none}
+use Rattle.mj_hand.proofs.KindLists.{room_is}
+use Rattle.mj_hand.proofs.hand.room_left.Goals as goal
+
+pub loop-kind-init : goal.loop-kind-init
+loop-kind-init c = record { size = refl; written = λ k few. absurd (omega arith); bound = counts_none.1 }
+
+pub returns : goal.returns
+returns c = c.in-Some.ensures.1 ∙ room_is c.args.melded.now c.loop-kind.room c.loop-kind.kind c.loop-kind.invariant.size (omega arith) c.loop-kind.invariant.written

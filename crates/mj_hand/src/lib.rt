@@ -1,0 +1,10 @@
+//! The command `hand`: words that name a hand, and what is written of it.
+#![tactic(auto)]
+
+mod hand;
+mod lines;
+#[cfg(test)]
+mod tests;
+mod words;
+
+pub use lines::hand_lines;
