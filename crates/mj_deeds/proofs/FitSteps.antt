@@ -7,9 +7,9 @@ use Rattle.std.proofs.lemmas.Bool.Decides.{nat_tests}
 use Rattle.std.proofs.lemmas.List.{drop_more}
 use Rattle.std.proofs.lemmas.List.Sums.{sum_by-append, count_by-le-length}
 use Rattle.mj_tiles.specs.Faces.{kind_of, number_in}
-use Rattle.mj_tiles.specs.Counts.{all_kinds, number_of}
+use Rattle.mj_tiles.specs.Counts.{all_kinds, number_of, has_no_fifth}
 use Rattle.mj_deeds.specs.Facts.{of_seat}
-use Rattle.mj_deeds.specs.Fits.{are_held, has_no_fifth}
+use Rattle.mj_deeds.specs.Fits.{are_held}
 
 -- all kinds pass, or one does not
 

@@ -1,18 +1,19 @@
 -- What is true of deeds each of which fits behind those before it.
-use Rattle.std.proofs.Common.{◌≡◌, ℕ, zero, suc, ◌+◌, ◌-◌, ◌<◌, ◌≤◌, ◌⊎◌, inl, inr, List, [], ◌∷◌, ◌++◌, length, cond, leb, true, false, Bool, ◌&&◌, ◌||◌, not, refl, sym, ap, ◌∙◌, subst, arith, append-nil, append_assoc, add-zero, zero-add}
-use Rattle.std.specs.Prelude.{Option, Some, None, flat_map, slice_get, nat_lt, ◌==◌}
+use Rattle.std.proofs.Common.{◌≡◌, ℕ, zero, suc, ◌+◌, ◌<◌, ◌≤◌, ◌⊎◌, inl, inr, List, [], ◌∷◌, ◌++◌, length, cond, leb, true, false, Bool, ◌&&◌, ◌||◌, not, refl, sym, ap, ◌∙◌, subst, arith, append-nil, append_assoc, add-zero, zero-add}
+use Rattle.std.specs.Prelude.{Option, Some, None, flat_map, nat_lt, ◌==◌}
 use Rattle.std.specs.List.{list_all, range_with_len}
 use Rattle.std.proofs.lemmas.Bool.{and_parts, and_from, ltb-true, leb-true, cases_lt, ne_eqb}
 use Rattle.std.proofs.lemmas.List.{length-append, length-map}
 use Rattle.std.proofs.lemmas.List.Concat.{flat_map-append}
 use Rattle.std.proofs.lemmas.Grind.{common_steps}
-use Rattle.mj_tiles.specs.Counts.{all_kinds, number_of}
+use Rattle.mj_tiles.specs.Counts.{all_kinds, number_of, has_no_fifth}
 use Rattle.mj_tiles.specs.declared.meld.Meld.{Meld}
 use Rattle.mj_deeds.specs.declared.deed.Deed.{Deed}
 use Rattle.mj_deeds.specs.declared.deed.Deed.TheVariants.{StartGame, StartHand, Draw, Discard, Chi, Pon, OpenKan, ClosedKan, AddedKan, Dora}
 use Rattle.mj_deeds.specs.Facts.{newest, of_seat, makes_by, seat_melds, is_kan, kans}
-use Rattle.mj_deeds.specs.Fits.{fits, all_fit, is_in_place, is_in_hand, is_after_start, has_seats, is_held, has_triplet, has_tiles, brought_by, has_no_fifth, keeps_kinds, has_room, has_room_for, has_live}
+use Rattle.mj_deeds.specs.Fits.{fits, all_fit, is_in_place, is_in_hand, is_after_start, has_seats, is_held, has_triplet, has_tiles, brought_by, keeps_kinds, has_room, has_room_for, has_live}
 use Rattle.mj_deeds.specs.Course.{is_start, starts}
+use Rattle.mj_deeds.proofs.Newest.{newest_more}
 
 -- One deed further.
 pub all_fit-append : (red : Bool) (before ds : List Deed) (d : Deed) → all_fit red before ds ≡ true → fits red (before ++ ds) d ≡ true → all_fit red before (ds ++ d ∷ []) ≡ true
@@ -169,16 +170,6 @@ four_of_kind red ds kind small fit =
     kept (λ xs. number_of (flat_map brought_by xs) kind ≤ 4) red [] ds (λ xs d h f. kind_at (flat_map brought_by (xs ++ d ∷ [])) kind small (parts_of red xs d f).kinds) (omega arith) fit
 
 -- one hand
-
-newest_more : (ds : List Deed) (d : Deed) → newest (ds ++ d ∷ []) ≡ Some d
-newest_more ds d = ap (slice_get (ds ++ d ∷ [])) (last _ _ (length-append ds (d ∷ []))) ∙ there ds d
-  where
-    last : (n m : ℕ) → n ≡ m + 1 → n - 1 ≡ m
-    last n m e = omega (arith, e)
-
-    there : (xs : List Deed) (x : Deed) → slice_get (xs ++ x ∷ []) (length xs) ≡ Some x
-    there [] x = refl
-    there (y ∷ ys) x = there ys x
 
 starts_more : (ds : List Deed) (d : Deed) → length (starts (ds ++ d ∷ [])) ≡ length (starts ds) + cond (is_start d) 1 0
 starts_more [] d = one (is_start d)

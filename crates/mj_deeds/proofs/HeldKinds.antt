@@ -5,17 +5,15 @@ use Rattle.std.proofs.lemmas.Bool.{cases_eq, eq-eqb, ne_eqb}
 use Rattle.std.proofs.lemmas.Grind.{same_number_lists}
 use Rattle.std.proofs.lemmas.List.{take_more, flat_map_more, take-append-drop}
 use Rattle.std.proofs.lemmas.List.Concat.{flat_map-append}
-use Rattle.std.proofs.lemmas.List.Sums.{sum_by-append, sum_by-cons}
+use Rattle.std.proofs.lemmas.List.Sums.{sum_by-cons}
 use Rattle.mj_tiles.specs.Faces.{kind_of, tile_order}
 use Rattle.mj_tiles.specs.Counts.{number_of, kind_counts, NoFifth}
-use Rattle.mj_tiles.proofs.CountSteps.{length-kind_counts, get_or-kind_counts}
+use Rattle.mj_tiles.proofs.CountSteps.{length-kind_counts, get_or-kind_counts, number_of-append}
+use Rattle.mj_tiles.proofs.Faces.{all_faces}
 
 -- So many tiles of each of these faces.
 abbrev pub copies_of : (ℕ → ℕ) → List ℕ → List ℕ
 copies_of number faces = flat_map (λ face. replicate (number face) face) faces
-
-number_of-append : (xs ys : List ℕ) (kind : ℕ) → number_of (xs ++ ys) kind ≡ number_of xs kind + number_of ys kind
-number_of-append xs ys kind = sum_by-append (λ tile. cond (eqb (kind_of tile) kind) 1 0) xs ys
 
 number_of-replicate : (n face kind : ℕ) → number_of (replicate n face) kind ≡ cond (eqb (kind_of face) kind) n 0
 number_of-replicate zero face kind = each (eqb (kind_of face) kind)
@@ -103,10 +101,6 @@ counts_at number faces numbers i face kind n h is what small much was =
     ∙ ap kind_counts (sym (copies_more number faces i face h is))
 
 -- the same over the faces in tile order
-
-all_faces : length tile_order ≡ 37
-unfolding tile_order
-all_faces = refl
 
 pub order_room : (number : ℕ → ℕ) (numbers : List ℕ) (i face kind n : ℕ) → i < 37 → face ≡ get_or tile_order i 0 → kind ≡ kind_of face → kind < 34 →
     n ≡ min (number face) 4 → numbers ≡ kind_counts (copies_of number (take i tile_order)) → NoFifth (kind_counts (copies_of number tile_order)) →

@@ -6,6 +6,7 @@ use Rattle.std.proofs.lemmas.List.{length-append, take_more, flat_map_more}
 use Rattle.mj_deeds.specs.declared.deed.Deed.{Deed}
 use Rattle.mj_deeds.specs.Facts.{newest}
 
+-- What was added stands behind those before it.
 at_end : {A : Type 0} (xs : List A) (x : A) → slice_get (xs ++ x ∷ []) (length xs) ≡ Some x
 at_end [] x = refl
 at_end (y ∷ ys) x = at_end ys x
@@ -13,15 +14,19 @@ at_end (y ∷ ys) x = at_end ys x
 one_less : {A : Type 0} (xs : List A) (x : A) → length (xs ++ x ∷ []) - 1 ≡ length xs
 one_less xs x = simp length-append (omega arith)
 
+-- The last of a list is what was added last.
+pub last_added : {A : Type 0} (xs : List A) (x : A) → slice_get (xs ++ x ∷ []) (length (xs ++ x ∷ []) - 1) ≡ Some x
+last_added xs x = rw (one_less xs x) (at_end xs x)
+
 -- The newest deed is the one that was added last.
 pub newest_more : (ds : List Deed) (d : Deed) → newest (ds ++ d ∷ []) ≡ Some d
-newest_more ds d = rw (one_less ds d) (at_end ds d)
+newest_more ds d = last_added ds d
 
 -- What is added last is the last one; where nothing is added the last stays.
 last_more : (xs : List ℕ) (more : Option ℕ) →
     slice_get (xs ++ option_to_list more) (length (xs ++ option_to_list more) - 1) ≡ option_or more (slice_get xs (length xs - 1))
 last_more xs None = simp append-nil refl
-last_more xs (Some x) = rw (one_less xs x) (at_end xs x)
+last_more xs (Some x) = last_added xs x
 
 -- What a list gives one item further.
 pub gathered_more : {A : Type 0} (f : A → List ℕ) (xs : List A) (i : ℕ) (x : A) (piece : List ℕ) → i < length xs → x ≡ get_or xs i x → piece ≡ f x →

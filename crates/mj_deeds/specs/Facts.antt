@@ -100,6 +100,12 @@ is_kan (ClosedKan who a b c d) = true
 is_kan (AddedKan who tile a b c) = true
 is_kan other = false
 
+-- A call: a chi, a pon or a kan.
+abbrev pub is_call : Deed → Bool
+is_call (Chi who target tile a b) = true
+is_call (Pon who target tile a b) = true
+is_call other = is_kan other
+
 -- How many kans were made, by all seats.
 abbrev pub kans : List Deed → ℕ
 kans deeds = count_by is_kan deeds

@@ -2,7 +2,7 @@
 use Rattle.std.specs.Prelude.{ℕ, ◌+◌, ◌-◌, ◌==◌, ◌&&◌, ◌||◌, not, Bool, true, false, nat_lt, nat_le, if◌then◌else◌, List, [], ◌∷◌, ◌++◌, length, Option, Some, None, flat_map}
 use Rattle.std.specs.List.{list_any, list_all}
 use Rattle.mj_tiles.specs.Faces.{kind_of, is_red, number_in}
-use Rattle.mj_tiles.specs.Counts.{all_kinds, number_of}
+use Rattle.mj_tiles.specs.Counts.{has_no_fifth}
 use Rattle.mj_tiles.specs.declared.meld.Meld.{Meld}
 use Rattle.mj_deeds.specs.declared.deed.Deed.{Deed}
 use Rattle.mj_deeds.specs.declared.deed.Deed.TheVariants.{StartGame, StartHand, Draw, Discard, Chi, Pon, OpenKan, ClosedKan, AddedKan, Dora}
@@ -111,9 +111,6 @@ abbrev pub has_tiles : Bool → Deed → Bool
 has_tiles red deed = red || list_all (λ face. not (is_red face)) (faces_in deed)
 
 -- No kind stands more than four times among the tiles that were brought in.
-unfoldable pub has_no_fifth : List ℕ → Bool
-has_no_fifth tiles = list_all (λ kind. nat_le (number_of tiles kind) 4) all_kinds
-
 abbrev pub keeps_kinds : List Deed → Deed → Bool
 keeps_kinds deeds deed = has_no_fifth (flat_map brought_by (deeds ++ deed ∷ []))
 

@@ -1,4 +1,4 @@
-use Rattle.std.specs.Prelude.{ℕ, ◌==◌, if◌then◌else◌}
+use Rattle.std.specs.Prelude.{ℕ, ◌+◌, ◌%◌, ◌==◌, if◌then◌else◌}
 use Rattle.mj_deeds.specs.declared.four.Four.{Four}
 
 -- what stands at a seat
@@ -8,3 +8,7 @@ at_seat four seat = if seat == 0 then four.first else (if seat == 1 then four.se
 -- f of each seat
 abbrev pub for_each_seat : {A : Type 0} → (ℕ → A) → Four A
 for_each_seat f = record { first = f 0; second = f 1; third = f 2; fourth = f 3 }
+
+-- the seat whose turn comes after that of a seat: after seat 3 comes seat 0
+abbrev pub next_seat : ℕ → ℕ
+next_seat seat = (seat + 1) % 4

@@ -1,7 +1,10 @@
 pub mod Bids
 pub mod Course
 pub mod Facts
+pub mod Firsts
 pub mod Fits
 pub mod Four
+pub mod Pais
 pub mod Passed
 pub mod Points
+pub mod Reasons

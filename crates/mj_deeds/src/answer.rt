@@ -1,3 +1,6 @@
+ghost use Rattle.std.specs.Prelude.{◌≡◌, MatchOption};
+ghost use Rattle.mj_deeds.specs.declared.answer.Pai.TheVariants.{Known, Hidden};
+
 use mj_tiles::Tile;
 
 /// A tile as a line names it: one of the game, or `?`.
@@ -5,6 +8,18 @@ use mj_tiles::Tile;
 pub enum Pai {
     Known(Tile),
     Hidden,
+}
+
+impl Pai {
+    /// The tile of the game that is named; None exactly where it is hidden.
+    pub fn known(&self) -> Option<Tile>
+        ensures { MatchOption result (self.now ≡ Hidden) (λ tile. self.now ≡ Known tile) }
+    {
+        match self {
+            Pai::Known(tile) => Some(*tile),
+            Pai::Hidden => None,
+        }
+    }
 }
 
 /// What a line of a player reads as. Seats are 0 to 3; own tiles that are named together stand in tile order, hidden ones

@@ -1,6 +1,6 @@
 ghost use Rattle.std.specs.Prelude.{◌≡◌, ◌≤◌, length, option_copied, option_to_list, slice_get, ◌-◌};
 ghost use Rattle.mj_deeds.specs.Course.{cause};
-ghost use Rattle.mj_deeds.specs.Facts.{live_draws, is_live_draw, is_kan, kans, kan_seats, kan_seats_by, indicators, indicators_by, live_tiles};
+ghost use Rattle.mj_deeds.specs.Facts.{live_draws, is_live_draw, is_call, is_kan, kans, kan_seats, kan_seats_by, indicators, indicators_by, live_tiles};
 
 use crate::deed::Deed;
 use mj_tiles::Tile;
@@ -82,6 +82,25 @@ pub fn live_left(deeds: &[Deed]) -> usize
         .saturating_sub(kans(deeds))
 }
 
+/// Whether a deed is a call: a chi, a pon or a kan.
+pub fn is_call(deed: &Deed) -> bool
+    ensures { result ≡ is_call deed.now }
+{
+    matches!(deed, Deed::Chi { .. } | Deed::Pon { .. }) || is_kan(deed)
+}
+
+/// The seat that makes a kan by a deed; none where the deed is no kan.
+pub fn seat_of_kan(deed: &Deed) -> Option<u8>
+    ensures { option_to_list result ≡ kan_seats_by deed.now }
+{
+    match deed {
+        Deed::OpenKan { seat, .. } => Some(*seat),
+        Deed::ClosedKan { seat, .. } => Some(*seat),
+        Deed::AddedKan { seat, .. } => Some(*seat),
+        _ => None,
+    }
+}
+
 // Whether a deed is a draw from the live wall.
 fn is_live(deed: &Deed) -> bool
     ensures { result ≡ is_live_draw deed.now }
@@ -100,18 +119,6 @@ pub(crate) fn is_kan(deed: &Deed) -> bool
         deed,
         Deed::OpenKan { .. } | Deed::ClosedKan { .. } | Deed::AddedKan { .. }
     )
-}
-
-// The seat of a kan.
-fn seat_of_kan(deed: &Deed) -> Option<u8>
-    ensures { option_to_list result ≡ kan_seats_by deed.now }
-{
-    match deed {
-        Deed::OpenKan { seat, .. } => Some(*seat),
-        Deed::ClosedKan { seat, .. } => Some(*seat),
-        Deed::AddedKan { seat, .. } => Some(*seat),
-        _ => None,
-    }
 }
 
 // The indicator that a deed shows.

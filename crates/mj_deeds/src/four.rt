@@ -1,5 +1,5 @@
 ghost use Rattle.std.specs.Prelude.{◌≡◌, ◌≤◌};
-ghost use Rattle.mj_deeds.specs.Four.{at_seat};
+ghost use Rattle.mj_deeds.specs.Four.{at_seat, next_seat};
 
 /// One thing for each seat, in order of the seats 0 to 3.
 #[derive(Clone, Copy, Debug, Drop)]
@@ -23,4 +23,11 @@ impl<T> Four<T> {
             _ => &self.fourth,
         }
     }
+}
+
+/// The seat, 0 to 3, whose turn comes after that of a seat: after seat 3 comes seat 0.
+pub fn next_seat(seat: u8) -> u8
+    ensures { result ≡ next_seat seat }
+{
+    (seat % 4 + 1) % 4
 }

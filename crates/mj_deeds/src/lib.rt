@@ -12,6 +12,7 @@ mod fitting;
 mod four;
 mod meld;
 mod passed;
+mod reason;
 mod rule;
 #[cfg(test)]
 mod tests;
@@ -21,13 +22,16 @@ mod token;
 pub use answer::{Answer, Pai};
 pub use bid::Bid;
 pub use counting::held_counts;
-pub use course::{cause, indicator, kan_seat, kans, live_drawn, live_left, shown};
+pub use course::{
+    cause, indicator, is_call, kan_seat, kans, live_drawn, live_left, seat_of_kan, shown,
+};
 pub use deed::{Deed, Viewer};
 pub use facts::{concealed, drawn, held, river};
 pub use fitting::fits;
-pub use four::Four;
+pub use four::{Four, next_seat};
 pub use meld::{has_triplet, held_melds, melds};
 pub use passed::{own_kinds, passed_kinds};
+pub use reason::Reason;
 pub use rule::Rule;
 pub use tiles::{Tiles, ordered};
 pub use token::Token;

@@ -1,6 +1,6 @@
 use crate::{
-    Deed, Four, Tiles, cause, concealed, drawn, fits, has_triplet, held, indicator, kan_seat, kans,
-    live_drawn, live_left, melds, ordered, own_kinds, passed_kinds, river, shown,
+    Deed, Four, Pai, Tiles, cause, concealed, drawn, fits, has_triplet, held, indicator, kan_seat,
+    kans, live_drawn, live_left, melds, next_seat, ordered, own_kinds, passed_kinds, river, shown,
 };
 use mj_tiles::{Form, Kind, Tile};
 use std::alloc::Global;
@@ -225,5 +225,22 @@ fn no_fifth_of_a_kind_and_no_fifth_kan_fits(rt: HostRuntime) -> Result<(), Fail>
     // a tile that isn't held, and one that is
     assert!(rt; !fits(false, deeds, &discard(1, 0, false)?));
     assert!(rt; fits(false, deeds, &discard(1, 5, false)?));
+    Ok(())
+}
+
+#[test]
+fn a_hidden_tile_is_not_known(rt: HostRuntime) -> Result<(), Fail> {
+    let red = tile(35)?;
+    assert_eq!(rt; Pai::Known(red).known(), Some(red));
+    assert_eq!(rt; Pai::Hidden.known(), None);
+    Ok(())
+}
+
+#[test]
+fn after_the_last_seat_comes_the_first(rt: HostRuntime) -> Result<(), Fail> {
+    assert_eq!(rt;
+        [next_seat(0), next_seat(1), next_seat(2), next_seat(3)],
+        [1, 2, 3, 0]
+    );
     Ok(())
 }

@@ -1,5 +1,5 @@
 -- What is written of what a game tells a seat, and what was read.
-use Rattle.std.proofs.Common.{◌≡◌, ℕ, List, take, sym, ◌∙◌, subst}
+use Rattle.std.proofs.Common.{◌≡◌, ℕ, ◌<◌, List, length, take, sym, ◌∙◌, subst}
 use Rattle.std.specs.Prelude.{Option}
 use Rattle.std.specs.Io.KnownBytes.{Appends}
 use Rattle.mj_links.specs.Sinks.{WritesPrefix}
@@ -37,5 +37,6 @@ pub wrote-part : (seat : ℕ) (input bytes : List ℕ) (end : End) (old new : Op
 wrote-part seat input bytes end old new tells part = record {
   legal = read_game_is_legal input;
   count = part.count;
+  short = λ other agree. subst (λ (piece : List ℕ). part.count < length piece) (tells.told ∙ agreeing_scripts seat (game_of (input_of input).reading) other agree) part.short;
   written = λ other agree. subst (λ (piece : List ℕ). Appends old new (take part.count piece)) (tells.told ∙ agreeing_scripts seat (game_of (input_of input).reading) other agree) part.written;
 }

@@ -1,9 +1,14 @@
 -- What one run reads, writes and answers.
-use Rattle.std.specs.Prelude.{◌≡◌, ℕ, ◌≤◌, ◌<◌, List, [], ◌∷◌, length, take, codes, bytes_eq, if◌then◌else◌, Option, Some, None}
+use Rattle.std.specs.Prelude.{◌≡◌, ℕ, ◌≤◌, ◌<◌, List, [], ◌∷◌, length, take, map, codes, bytes_eq, if◌then◌else◌, Option, Some, None}
+use Rattle.std.specs.String.{string_bytes}
 use Rattle.std.specs.Io.KnownBytes.{Consumes, Appends, Keeps, IsAtEnd}
 use Rattle.mj_protocol.specs.After.{scripts}
 use Rattle.mj_protocol.specs.Trace.{Game, Agree, IsLegal}
 use Rattle.mj_protocol.specs.Arrivals.{Ending, Whole, BadAt, NotBuiltAt, input_of, game_of}
+use Rattle.mj_hand.specs.Hands.{hand_of}
+use Rattle.mj_hand.specs.Text.{IsHandText}
+use Rattle.mj_front.specs.declared.commands.Command.{Command}
+use Rattle.mj_front.specs.declared.commands.Command.TheVariants as commands
 use Rattle.mj_front.specs.declared.hearing.End.{End}
 use Rattle.mj_front.specs.declared.hearing.End.TheVariants as ends
 use Rattle.mj_front.specs.declared.status.Status.{Status}
@@ -22,6 +27,29 @@ abbrev pub referee_seat : List (List ℕ) → Option ℕ
 referee_seat (command ∷ seat ∷ []) = if bytes_eq command (codes "referee") then seat_named seat else None
 referee_seat words = None
 
+-- What words ask for: the referee of a seat, the lines of the hand that further words name, or nothing that there is.
+pub data Asked : Type 0 where
+  RefereeOf : (seat : ℕ) → Asked
+  HandOf : (words : List (List ℕ)) → Asked
+  Nothing : Asked
+
+-- The referee is asked for where there is a seat whose referee it is.
+abbrev pub referee_asked : Option ℕ → Asked
+referee_asked None = Nothing
+referee_asked (Some seat) = RefereeOf seat
+
+-- The word `hand` asks for the lines of the hand that the words behind it name; other words ask for the referee of the seat
+-- that they name, or for nothing.
+abbrev pub asked_by : List (List ℕ) → Asked
+asked_by [] = Nothing
+asked_by (command ∷ words) = if bytes_eq command (codes "hand") then HandOf words else referee_asked (referee_seat (command ∷ words))
+
+-- What a command that was read asks for.
+abbrev pub meant : Command → Asked
+meant (commands.Referee seat) = RefereeOf seat
+meant (commands.Hand words) = HandOf (map string_bytes words.now)
+meant commands.Unknown = Nothing
+
 -- The most bytes that an input may have.
 abbrev pub longest : ℕ
 longest = 67108864
@@ -38,10 +66,11 @@ pub record IsTold (seat : ℕ) (game : Game) (old new : Option (List ℕ)) : Typ
   pub legal : IsLegal game.setting game.entries
   pub written : (other : Game) → Agree seat game other → Appends old new (scripts seat other.setting other.entries)
 
--- So many bytes of it from the front are written.
+-- So many bytes of it from the front are written, and not all.
 pub record IsToldInPart (seat : ℕ) (game : Game) (old new : Option (List ℕ)) : Type 0 where
   pub legal : IsLegal game.setting game.entries
   pub count : ℕ
+  pub short : (other : Game) → Agree seat game other → count < length (scripts seat other.setting other.entries)
   pub written : (other : Game) → Agree seat game other → Appends old new (take count (scripts seat other.setting other.entries))
 
 -- An input ends so, and what its game tells the seat is written.
@@ -85,10 +114,52 @@ pub record IsUnheard (status : Status) (old_left new_left old_written new_writte
   pub unread : Keeps old_left new_left
   pub unwritten : Keeps old_written new_written
 
+-- Words name a hand, and its three lines are written.
+pub record IsHandWritten (words : List (List ℕ)) (old new : Option (List ℕ)) : Type 0 where
+  pub text : List ℕ
+  pub is : IsHandText words text
+  pub written : Appends old new text
+
+-- Words name a hand, and so many bytes of its three lines from the front are written, and not all.
+pub record IsHandWrittenInPart (words : List (List ℕ)) (old new : Option (List ℕ)) : Type 0 where
+  pub text : List ℕ
+  pub is : IsHandText words text
+  pub count : ℕ
+  pub short : count < length text
+  pub written : Appends old new (take count text)
+
+-- Words name no hand, and nothing is written.
+pub record IsNoHand (words : List (List ℕ)) (old new : Option (List ℕ)) : Type 0 where
+  pub none : hand_of words ≡ None
+  pub unwritten : Keeps old new
+
+-- What is written of the hand that words name, by the status. Want of memory writes nothing.
+abbrev pub WritesHand : Status → List (List ℕ) → Option (List ℕ) → Option (List ℕ) → Type 0
+WritesHand statuses.Done words old new = IsHandWritten words old new
+WritesHand statuses.Words words old new = IsNoHand words old new
+WritesHand statuses.ReadFault words old new = ⊥
+WritesHand statuses.WriteFault words old new = IsHandWrittenInPart words old new
+WritesHand statuses.NoMemory words old new = Keeps old new
+WritesHand (statuses.BadArrival line) words old new = ⊥
+WritesHand statuses.TooLong words old new = ⊥
+WritesHand (statuses.NotBuilt line) words old new = ⊥
+
+-- The hand that words name is written, and whatever the status, nothing is read.
+pub record WritesHandUnread (status : Status) (words : List (List ℕ)) (old_left new_left old_written new_written : Option (List ℕ)) : Type 0 where
+  pub unread : Keeps old_left new_left
+  pub writes : WritesHand status words old_written new_written
+
 -- What a run does, by what its words ask for.
-abbrev pub Runs : Option ℕ → Status → Option (List ℕ) → Option (List ℕ) → Option (List ℕ) → Option (List ℕ) → Type 0
-Runs None status old_left new_left old_written new_written = IsUnheard status old_left new_left old_written new_written
-Runs (Some seat) status old_left new_left old_written new_written = RefereesBy status seat old_left new_left old_written new_written
+abbrev pub Runs : Asked → Status → Option (List ℕ) → Option (List ℕ) → Option (List ℕ) → Option (List ℕ) → Type 0
+Runs Nothing status old_left new_left old_written new_written = IsUnheard status old_left new_left old_written new_written
+Runs (RefereeOf seat) status old_left new_left old_written new_written = RefereesBy status seat old_left new_left old_written new_written
+Runs (HandOf words) status old_left new_left old_written new_written = WritesHandUnread status words old_left new_left old_written new_written
+
+-- Read faults are met by the referee alone, for nothing else reads.
+abbrev pub MeetsReadFaults : Asked → ℕ → ℕ → Type 0
+MeetsReadFaults Nothing old new = old ≡ new
+MeetsReadFaults (RefereeOf seat) old new = old ≤ new
+MeetsReadFaults (HandOf words) old new = old ≡ new
 
 -- The count of read faults never falls, and rises where the status says so.
 abbrev pub CountsReadFaults : Status → ℕ → ℕ → Type 0
@@ -107,7 +178,7 @@ CountsWriteFaults statuses.Done old new = old ≤ new
 CountsWriteFaults statuses.Words old new = old ≡ new
 CountsWriteFaults statuses.ReadFault old new = old ≡ new
 CountsWriteFaults statuses.WriteFault old new = old < new
-CountsWriteFaults statuses.NoMemory old new = old ≤ new
+CountsWriteFaults statuses.NoMemory old new = old ≡ new
 CountsWriteFaults (statuses.BadArrival line) old new = old ≤ new
 CountsWriteFaults statuses.TooLong old new = old ≡ new
 CountsWriteFaults (statuses.NotBuilt line) old new = old ≤ new

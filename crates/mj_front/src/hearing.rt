@@ -6,6 +6,7 @@ ghost use Rattle.mj_bytes.specs.Parts.{whole_lines, unfinished};
 ghost use Rattle.mj_wall.specs.Places.{is_wall};
 ghost use Rattle.mj_protocol.specs.Arrivals.{Leave, Reading, hear_from, hear_on, header_arrives, nothing_read, at_end, input_of, arrives, behind_header, wall_arrives, sit_arrives, say_arrives};
 ghost use Rattle.mj_core.specs.Calls.{is_asked, author_at, standing, pending_at};
+ghost use Rattle.mj_front.specs.Run.{longest};
 ghost use Rattle.mj_front.specs.Hearing.{reading_of, headed, walled, greeting, InPlay, Does, Stops, ending, HearsAll, Tells};
 
 use crate::form::{Form, read_form};
@@ -65,7 +66,7 @@ fn untold(alloc: Global, end: End) -> Told
 /// Hears an input, of at most 67,108,864 bytes, for a seat.
 #[tactic(auto, unfolding(mj_protocol::specs::Arrivals::arrives))]
 pub(crate) fn hear(alloc: Global, seat: u8, input: &[u8]) -> Result<Told, AllocError>
-    requires { length input.now ≤ 67108864 }
+    requires { length input.now ≤ longest }
     ensures { IfOk result (λ told. Tells (input_of input.now) seat told.end told.bytes.items) }
 {
     let Some((line, others)) = split_line(input) else {
@@ -80,7 +81,7 @@ pub(crate) fn hear(alloc: Global, seat: u8, input: &[u8]) -> Result<Told, AllocE
 // Hears what stands behind a header. Red fives are no part of a game yet, and the draw reasons are not built.
 #[tactic(auto, unfolding(mj_protocol::specs::Arrivals::header_arrives))]
 fn hear_header(alloc: Global, seat: u8, rules: Rules, input: &[u8]) -> Result<Told, AllocError>
-    requires fits { length input.now ≤ 67108864 }
+    requires fits { length input.now ≤ longest }
     requires least { 1 ≤ rules.limit }
     requires longest { rules.limit ≤ 3600000 }
     ensures { IfOk result (λ told. Tells (hear_on (header_arrives nothing_read rules) (λ next. hear_from next 2 (whole_lines input.now) (unfinished input.now)) nothing_read 1) seat told.end told.bytes.items) }
@@ -97,7 +98,7 @@ fn hear_header(alloc: Global, seat: u8, rules: Rules, input: &[u8]) -> Result<To
 // Hears all lines behind a header, the first of which is line 2: a wall stands there.
 #[tactic(auto, unfolding(mj_protocol::specs::Arrivals::arrives, mj_wall::specs::Places::is_wall, mj_protocol::specs::Arrivals::wall_arrives, mj_protocol::specs::Arrivals::sit_arrives, mj_protocol::specs::Arrivals::say_arrives))]
 fn hear_headed(alloc: Global, seat: u8, rules: Rules, input: &[u8]) -> Result<Told, AllocError>
-    requires fits { length input.now ≤ 67108864 }
+    requires fits { length input.now ≤ longest }
     requires least { 1 ≤ rules.limit }
     requires longest { rules.limit ≤ 3600000 }
     requires plain { rules.red ≡ false }
@@ -123,7 +124,7 @@ fn hear_walled(
     wall: Wall,
     input: &[u8],
 ) -> Result<Told, AllocError>
-    requires fits { length input.now ≤ 67108864 }
+    requires fits { length input.now ≤ longest }
     requires least { 1 ≤ rules.limit }
     requires longest { rules.limit ≤ 3600000 }
     requires plain { rules.red ≡ false }
@@ -158,7 +159,7 @@ fn hear_lines(
     input: &[u8],
 ) -> Result<End, AllocError>
     requires play { InPlay seat core.old told.old.items }
-    requires fits { length input.now ≤ 67108864 }
+    requires fits { length input.now ≤ longest }
     ensures { IfOk result (λ end. HearsAll (hear_from (reading_of core.old) 3 (whole_lines input.now) (unfinished input.now)) seat end core.new told.new.items) }
 {
     let mut rest = input;

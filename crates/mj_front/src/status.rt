@@ -11,9 +11,9 @@ use std::alloc::{AllocError, Global};
 /// first; `WriteFault`; `BadArrival` or `NotBuilt`; `Done`.
 #[derive(Clone, Copy, Debug, PartialEq, Eq)]
 pub enum Status {
-    /// The input was read to its end and is valid, and what it tells the seat is written.
+    /// The input was read to its end and is valid, and what it tells the seat is written; or the lines of a hand are written.
     Done,
-    /// The words ask for no command, or for one with other arguments than its own.
+    /// The words ask for no command, or for one with other arguments than its own, as `hand` with words that name no hand.
     Words,
     /// A read failed. Nothing is written.
     ReadFault,

@@ -27,9 +27,9 @@ impl Source for SlowSource {
     }
 }
 
-// Takes one byte a write.
+/// Takes one byte a write.
 #[derive(Drop)]
-struct SlowSink(MemSink);
+pub(crate) struct SlowSink(pub(crate) MemSink);
 
 impl Sink for SlowSink {
     ghost written = { λ s. ⟦<MemSink as Sink>⟧.written s.0 };

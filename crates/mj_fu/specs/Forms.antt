@@ -8,11 +8,6 @@ use Rattle.mj_readings.specs.declared.reading.SetForm.TheVariants.{Run, Triplet,
 use Rattle.mj_readings.specs.declared.reading.Case.{Case}
 use Rattle.mj_readings.specs.declared.reading.Reading.{Reading}
 use Rattle.mj_readings.specs.declared.reading.Reading.TheVariants.{Standard, Pairs, Orphans}
-use Rattle.mj_readings.specs.Sets.{is_honour, is_terminal}
-
--- Terminals and honours.
-abbrev pub is_outside : ℕ → Bool
-is_outside kind = is_terminal kind || is_honour kind
 
 -- The dragons are P, F and C.
 abbrev pub is_dragon : ℕ → Bool

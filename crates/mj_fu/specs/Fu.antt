@@ -1,13 +1,14 @@
 -- Fu, the lesser measure of what a hand is worth.
 use Rattle.std.specs.Prelude.{ℕ, ◌+◌, ◌*◌, ◌/◌, ◌%◌, ◌==◌, Bool, true, false, not, ◌&&◌, ◌||◌, if◌then◌else◌, List, [], ◌∷◌, slice_get}
 use Rattle.std.specs.Option.{option_map_or}
+use Rattle.mj_tiles.specs.Terminals.{is_terminal_or_honour}
 use Rattle.mj_readings.specs.declared.reading.Set.{Set}
 use Rattle.mj_readings.specs.declared.reading.SetForm.{SetForm}
 use Rattle.mj_readings.specs.declared.reading.SetForm.TheVariants.{Run, Triplet, Kan}
 use Rattle.mj_readings.specs.declared.reading.Case.{Case}
 use Rattle.mj_readings.specs.declared.reading.Reading.{Reading}
 use Rattle.mj_readings.specs.declared.reading.Reading.TheVariants.{Standard, Pairs, Orphans}
-use Rattle.mj_fu.specs.Forms.{is_outside, is_dragon, is_run, is_concealed_at, is_pinfu}
+use Rattle.mj_fu.specs.Forms.{is_dragon, is_run, is_concealed_at, is_pinfu}
 
 -- A triplet has 2 fu, a kan 8, a run none.
 abbrev pub form_fu : SetForm → ℕ
@@ -17,7 +18,7 @@ form_fu Kan = 8
 
 -- A concealed set counts twice, and one of terminals or honours twice again.
 unfoldable pub set_fu : Bool → Set → ℕ
-set_fu concealed set = form_fu set.form * (if concealed then 2 else 1) * (if is_outside set.low then 2 else 1)
+set_fu concealed set = form_fu set.form * (if concealed then 2 else 1) * (if is_terminal_or_honour set.low then 2 else 1)
 
 -- The fu of the set at this place.
 abbrev pub set_fu_at : ℕ → ℕ → Case → Set → ℕ

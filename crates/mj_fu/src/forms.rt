@@ -2,7 +2,6 @@ ghost use Rattle.std.specs.Prelude.{◌≡◌, ◌<◌, slice_get, false};
 ghost use Rattle.std.specs.List.{list_all};
 ghost use Rattle.std.specs.Option.{option_map_or};
 ghost use Rattle.mj_fu.specs.Forms.{
-  is_outside as outside,
   is_dragon as dragon,
   is_run as run,
   is_concealed_at as concealed_at,
@@ -14,14 +13,6 @@ ghost use Rattle.mj_fu.specs.Forms.{
 
 use mj_readings::{Case, Reading, Set, SetForm};
 use mj_tiles::Kind;
-
-/// Whether the kind is a terminal, a one or a nine, or an honour.
-pub fn is_outside(kind: Kind) -> bool
-    ensures { result ≡ outside kind }
-{
-    let number = kind.number();
-    number >= 27 || number % 9 == 0 || number % 9 == 8
-}
 
 /// Whether the kind is one of the dragons, `P`, `F` and `C`.
 pub fn is_dragon(kind: Kind) -> bool

@@ -7,5 +7,5 @@ mod parts;
 #[cfg(test)]
 mod tests;
 
-pub use forms::{is_concealed_at, is_dragon, is_outside, is_pinfu, is_run};
+pub use forms::{is_concealed_at, is_dragon, is_pinfu, is_run};
 pub use parts::fu;

@@ -15,7 +15,7 @@ ghost use Rattle.mj_fu.specs.Fu.{
   rounded as rounded_fu,
 };
 
-use crate::forms::{is_concealed_at, is_dragon, is_outside, is_pinfu, is_run};
+use crate::forms::{is_concealed_at, is_dragon, is_pinfu, is_run};
 use mj_readings::{Case, Reading, Set, SetForm};
 use mj_tiles::Kind;
 
@@ -76,7 +76,11 @@ fn set_fu(concealed: bool, set: &Set) -> u8
         SetForm::Kan => 8,
     };
     let hidden = if concealed { 2 } else { 1 };
-    let outside = if is_outside(set.low) { 2 } else { 1 };
+    let outside = if set.low.is_terminal_or_honour() {
+        2
+    } else {
+        1
+    };
     form * hidden * outside
 }
 

@@ -1,4 +1,4 @@
-use crate::{fu, is_concealed_at, is_dragon, is_outside, is_pinfu, is_run};
+use crate::{fu, is_concealed_at, is_dragon, is_pinfu, is_run};
 use mj_readings::{Case, Reading, Riichi, Set, SetForm};
 use mj_tiles::{Kind, Kinds, Tile};
 use std::test::Fail;
@@ -217,7 +217,6 @@ fn forms_are_told_apart(rt: HostRuntime) -> Result<(), Fail> {
     assert!(rt; is_concealed_at(0, 1, &by_ron, &triplet));
     assert!(rt; is_run(&set("r7s")?) && !is_run(&triplet));
     assert!(rt; is_dragon(kind("P")?) && !is_dragon(kind("N")?));
-    assert!(rt; is_outside(kind("9p")?) && !is_outside(kind("2p")?));
     assert!(rt;
         is_pinfu(
             &standard(["r2m", "r5p", "r3s", "r6s"], "W", 0, "2m")?,

@@ -1,5 +1,5 @@
 -- The hand that words name is a hand to be measured.
-use Rattle.std.proofs.Common.{◌≡◌, ℕ, ◌+◌, ◌-◌, ◌*◌, ◌<◌, List, [], ◌∷◌, length, get_or, sum, Bool, true, false, cond, eqb, leb, ltb, ◌&&◌, refl, ap, ap₂, sym, ◌∙◌, arith, subst, inl, inr}
+use Rattle.std.proofs.Common.{◌≡◌, ℕ, ◌+◌, ◌-◌, ◌*◌, ◌<◌, List, [], ◌∷◌, ◌++◌, length, get_or, sum, Bool, true, false, cond, eqb, leb, ltb, ◌&&◌, refl, ap, ap₂, sym, ◌∙◌, arith, subst, inl, inr}
 use Rattle.std.specs.Prelude.{Option, Some, None, option_map, option_and_then, flat_map, count_by, bytes_eq, IfSome}
 use Rattle.std.specs.List.{list_all, list_any}
 use Rattle.std.proofs.lemmas.Bool.{or_cases, and_parts, eqb-true, ltb-true, false≢true}
@@ -8,7 +8,7 @@ use Rattle.std.proofs.lemmas.List.Sums.{sum_by-append, sum_by-cons}
 use Rattle.std.proofs.lemmas.List.FromFn.{get_or-map-range_with_len}
 use Rattle.std.proofs.lemmas.Slice.Eq.{bytes_eq-Decides}
 use Rattle.mj_tiles.specs.Faces.{kind_of, face_of}
-use Rattle.mj_tiles.specs.Counts.{all_kinds, number_of, kind_counts}
+use Rattle.mj_tiles.specs.Counts.{all_kinds, number_of, kind_counts, has_no_fifth}
 use Rattle.mj_tiles.proofs.CountSteps.{get_or-kind_counts}
 use Rattle.mj_readings.specs.declared.reading.Set.{Set}
 use Rattle.mj_readings.specs.declared.reading.SetForm.{SetForm}
@@ -20,7 +20,7 @@ use Rattle.mj_shanten.proofs.Parting.{run_low}
 use Rattle.mj_shanten.proofs.Sums.{all_low, sum_tally}
 use Rattle.mj_hand.specs.declared.hand.Hand.{Hand}
 use Rattle.mj_hand.specs.Words.{Word, Tile, Meld, parts, plain, tile_of, tiles_of, are_tiles_of, make_meld_from, make_meld, word_with, word_of, words_of}
-use Rattle.mj_hand.specs.Hands.{is_meld, held, melded, melds, has_no_fifth, room_beside, hand_with, hand_of}
+use Rattle.mj_hand.specs.Hands.{is_meld, held, melded, melds, room_beside, hand_with, hand_of}
 use Rattle.mj_hand.proofs.KindLists.{and_both, same_map}
 use Rattle.mj_hand.proofs.HandSteps.{four_at}
 
@@ -180,7 +180,7 @@ room-at : (others : List ℕ) (kind : ℕ) → kind < 34 → get_or (room_beside
 unfolding room_beside all_kinds
 room-at others kind low = get_or-map-range_with_len (λ k. 4 - number_of others k) 0 34 kind kind 0 low (omega arith)
 
-hand_fine : (ws : List Word) → AllFine ws → length (held ws) + 3 * melds ws ≡ 13 → has_no_fifth (held ws) (melded ws) ≡ true → IsHand (kind_counts (held ws)) (room_beside (melded ws)) (melds ws)
+hand_fine : (ws : List Word) → AllFine ws → length (held ws) + 3 * melds ws ≡ 13 → has_no_fifth (held ws ++ melded ws) ≡ true → IsHand (kind_counts (held ws)) (room_beside (melded ws)) (melds ws)
 hand_fine ws fine thirteen four = (let s = sets_of ws fine in record {
   thirteen = (let a : sum (kind_counts (held ws)) ≡ length (held ws) = ap sum (counts-low (held ws) (held-low ws fine)) ∙ sum_tally (held ws) (held-low ws fine) in omega arith);
   within = λ kind low.
@@ -194,7 +194,7 @@ hand_fine ws fine thirteen four = (let s = sets_of ws fine in record {
   };
 })
 
-hand-by : (ws : List Word) (hand : Hand) (a b : Bool) → AllFine ws → eqb (length (held ws) + 3 * melds ws) 13 ≡ a → has_no_fifth (held ws) (melded ws) ≡ b
+hand-by : (ws : List Word) (hand : Hand) (a b : Bool) → AllFine ws → eqb (length (held ws) + 3 * melds ws) 13 ≡ a → has_no_fifth (held ws ++ melded ws) ≡ b
     → cond (a && b) (Some (record { counts = kind_counts (held ws); room = room_beside (melded ws); melds = melds ws })) None ≡ Some hand → IsHand hand.counts hand.room hand.melds
 hand-by ws hand true true fine thirteen four h =
     let made : Hand = record { counts = kind_counts (held ws); room = room_beside (melded ws); melds = melds ws } in
@@ -214,7 +214,7 @@ hand-of None hand f h = absurd (never h)
   where
     never : ◌≡◌ {A = Option Hand} None (Some hand) → ⊥
     never h = cc
-hand-of (Some ws) hand f h = hand-by ws hand (eqb (length (held ws) + 3 * melds ws) 13) (has_no_fifth (held ws) (melded ws)) (f ws refl) refl refl h
+hand-of (Some ws) hand f h = hand-by ws hand (eqb (length (held ws) + 3 * melds ws) 13) (has_no_fifth (held ws ++ melded ws)) (f ws refl) refl refl h
 
 -- words that name a hand give one
 pub hand_law : (texts : List (List ℕ)) (hand : Hand) → hand_of texts ≡ Some hand → IsHand hand.counts hand.room hand.melds

@@ -5,12 +5,12 @@ use Rattle.std.proofs.lemmas.Bool.{cases_Bool, cases_lt, leb-true}
 use Rattle.std.proofs.lemmas.Grind.{flat_map-append}
 use Rattle.std.proofs.lemmas.List.{get_or_past, at_drop_more}
 use Rattle.std.proofs.lemmas.List.Sums.{sum_by-append}
-use Rattle.mj_tiles.specs.Counts.{number_of, kind_counts, NoFifth}
-use Rattle.mj_tiles.proofs.CountSteps.{length-kind_counts, get_or-kind_counts}
+use Rattle.mj_tiles.specs.Counts.{number_of, kind_counts, has_no_fifth, NoFifth}
+use Rattle.mj_tiles.proofs.CountSteps.{length-kind_counts, get_or-kind_counts, number_of-append}
 use Rattle.mj_hand.specs.declared.hand.Hand.{Hand}
 use Rattle.mj_hand.specs.declared.hand.Gathered.{Gathered}
 use Rattle.mj_hand.specs.Words.{Word, Tile, Meld, word_of, words_of}
-use Rattle.mj_hand.specs.Hands.{held_in, melded_in, is_meld, held, melded, melds, has_four, has_no_fifth, room_beside, hand_among, hand_with, hand_of}
+use Rattle.mj_hand.specs.Hands.{held_in, melded_in, is_meld, held, melded, melds, room_beside, hand_among, hand_with, hand_of}
 use Rattle.mj_hand.specs.Gathering.{Gathers, TakesWord, Takes, one_if, are_within_four, room_left}
 use Rattle.mj_hand.proofs.KindLists.{and_both, each_passes, same_all, same_map}
 
@@ -79,15 +79,18 @@ not_taken (Some word) old new h = cc
 
 -- ---- the hand of all tiles
 
-within_is : (tiles others : List ℕ) → are_within_four (kind_counts tiles) (kind_counts others) ≡ has_no_fifth tiles others
+within_is : (tiles others : List ℕ) → are_within_four (kind_counts tiles) (kind_counts others) ≡ has_no_fifth (tiles ++ others)
 unfolding are_within_four has_no_fifth
 within_is tiles others =
-    same_all (λ k. leb (get_or (kind_counts tiles) k 0 + get_or (kind_counts others) k 0) 4) (has_four tiles others)
-    (λ k low. ap₂ (λ a b. leb (a + b) 4) (get_or-kind_counts tiles k low) (get_or-kind_counts others k low))
+    same_all (λ k. leb (get_or (kind_counts tiles) k 0 + get_or (kind_counts others) k 0) 4) (λ k. leb (number_of (tiles ++ others) k) 4)
+    (λ k low.
+    ap₂ (λ a b. leb (a + b) 4) (get_or-kind_counts tiles k low) (get_or-kind_counts others k low)
+    ∙ ap (λ n. leb n 4) (sym (number_of-append tiles others k)))
 
-pub four_at : (tiles others : List ℕ) (k : ℕ) → k < 34 → has_no_fifth tiles others ≡ true → number_of tiles k + number_of others k ≤ 4
+pub four_at : (tiles others : List ℕ) (k : ℕ) → k < 34 → has_no_fifth (tiles ++ others) ≡ true → number_of tiles k + number_of others k ≤ 4
 unfolding has_no_fifth
-four_at tiles others k low h = leb-true (number_of tiles k + number_of others k) 4 (each_passes (has_four tiles others) k low h)
+four_at tiles others k low h =
+    subst (λ n. n ≤ 4) (number_of-append tiles others k) (leb-true (number_of (tiles ++ others) k) 4 (each_passes (λ k. leb (number_of (tiles ++ others) k) 4) k low h))
 
 no_fifth : (tiles : List ℕ) → ((k : ℕ) → k < 34 → number_of tiles k ≤ 4) → NoFifth (kind_counts tiles)
 no_fifth tiles each kind = elim (cases_lt kind 34) [
@@ -102,24 +105,24 @@ and_none : (x y : Bool) → y ≡ false → (x && y) ≡ false
 and_none true y h = h
 and_none false y h = refl
 
-fifth_none : (tiles others : List ℕ) (number : ℕ) → has_no_fifth tiles others ≡ false → None ≡ hand_among tiles others number
+fifth_none : (tiles others : List ℕ) (number : ℕ) → has_no_fifth (tiles ++ others) ≡ false → None ≡ hand_among tiles others number
 fifth_none tiles others number h =
-    ap (λ b. cond b (Some (made (kind_counts tiles) (room_beside others) number)) None) (sym (and_none (eqb (length tiles + 3 * number) 13) (has_no_fifth tiles others) h))
+    ap (λ b. cond b (Some (made (kind_counts tiles) (room_beside others) number)) None) (sym (and_none (eqb (length tiles + 3 * number) 13) (has_no_fifth (tiles ++ others)) h))
 
 -- too many or too few tiles
 pub not_thirteen : (tiles others : List ℕ) (number : ℕ) → eqb (length tiles + 3 * number) 13 ≡ false → None ≡ hand_among tiles others number
-not_thirteen tiles others number h = ap (λ b. cond (b && has_no_fifth tiles others) (Some (made (kind_counts tiles) (room_beside others) number)) None) (sym h)
+not_thirteen tiles others number h = ap (λ b. cond (b && has_no_fifth (tiles ++ others)) (Some (made (kind_counts tiles) (room_beside others) number)) None) (sym h)
 
 -- a kind stands five times among the concealed tiles
 pub no_counts : (tiles others slice : List ℕ) (number : ℕ) → slice ≡ tiles → (NoFifth (kind_counts slice) → ⊥) → None ≡ hand_among tiles others number
-no_counts tiles others slice number same fifth = elim (cases_Bool (has_no_fifth tiles others)) [
+no_counts tiles others slice number same fifth = elim (cases_Bool (has_no_fifth (tiles ++ others))) [
   | inl h ↦ absurd (fifth (subst (λ xs. NoFifth (kind_counts xs)) (sym same) (no_fifth tiles (λ k low. (let a = four_at tiles others k low h in omega arith)))))
   | inr h ↦ fifth_none tiles others number h
 ]
 
 -- a kind stands five times among the tiles of melds
 pub no_room : (tiles others slice : List ℕ) (number : ℕ) → slice ≡ others → (NoFifth (kind_counts slice) → ⊥) → None ≡ hand_among tiles others number
-no_room tiles others slice number same fifth = elim (cases_Bool (has_no_fifth tiles others)) [
+no_room tiles others slice number same fifth = elim (cases_Bool (has_no_fifth (tiles ++ others))) [
   | inl h ↦ absurd (fifth (subst (λ xs. NoFifth (kind_counts xs)) (sym same) (no_fifth others (λ k low. (let a = four_at tiles others k low h in omega arith)))))
   | inr h ↦ fifth_none tiles others number h
 ]
@@ -138,8 +141,8 @@ beside others = same_map (λ k. 4 - get_or (kind_counts others) k 0) (λ k. 4 - 
 pub whole_hand : (tiles others counts numbers room : List ℕ) (number : ℕ) (result : Bool) → length tiles + 3 * number ≡ 13 → counts ≡ kind_counts tiles → numbers ≡ kind_counts others
     → room ≡ room_left numbers → result ≡ are_within_four counts numbers → result ≡ true → Some (made counts room number) ≡ hand_among tiles others number
 whole_hand tiles others counts numbers room number result thirteen a b r is h =
-    let fits : (eqb (length tiles + 3 * number) 13 && has_no_fifth tiles others) ≡ true =
-    and_both (eqb (length tiles + 3 * number) 13) (has_no_fifth tiles others) (eq-eqb (length tiles + 3 * number) 13 thirteen)
+    let fits : (eqb (length tiles + 3 * number) 13 && has_no_fifth (tiles ++ others)) ≡ true =
+    and_both (eqb (length tiles + 3 * number) 13) (has_no_fifth (tiles ++ others)) (eq-eqb (length tiles + 3 * number) 13 thirteen)
     (sym (within_is tiles others) ∙ ap₂ (λ x y. are_within_four x y) (sym a) (sym b) ∙ sym is ∙ h) in
     ap₂ (λ c r. Some (made c r number)) a (r ∙ ap room_left b ∙ beside others)
     ∙ ap (λ b. cond b (Some (made (kind_counts tiles) (room_beside others) number)) None) (sym fits)

@@ -1,7 +1,6 @@
 -- The hand that words name.
-use Rattle.std.specs.Prelude.{ℕ, ◌+◌, ◌-◌, ◌*◌, ◌==◌, Bool, true, false, nat_le, ◌&&◌, if◌then◌else◌, List, [], ◌∷◌, length, map, flat_map, count_by, Option, Some, None, option_and_then}
-use Rattle.std.specs.List.{list_all}
-use Rattle.mj_tiles.specs.Counts.{all_kinds, number_of, kind_counts}
+use Rattle.std.specs.Prelude.{ℕ, ◌+◌, ◌-◌, ◌*◌, ◌==◌, Bool, true, false, ◌&&◌, if◌then◌else◌, List, [], ◌∷◌, ◌++◌, length, map, flat_map, count_by, Option, Some, None, option_and_then}
+use Rattle.mj_tiles.specs.Counts.{all_kinds, number_of, kind_counts, has_no_fifth}
 use Rattle.mj_hand.specs.declared.hand.Hand.{Hand}
 use Rattle.mj_hand.specs.Words.{Word, Tile, Meld, words_of}
 
@@ -29,24 +28,16 @@ melded words = flat_map melded_in words
 abbrev pub melds : List Word → ℕ
 melds words = count_by is_meld words
 
--- A kind stands at most four times among concealed tiles and those of melds.
-abbrev pub has_four : List ℕ → List ℕ → ℕ → Bool
-has_four tiles others kind = nat_le (number_of tiles kind + number_of others kind) 4
-
--- No kind stands more than four times, the tiles of melds included.
-unfoldable pub has_no_fifth : List ℕ → List ℕ → Bool
-has_no_fifth tiles others = list_all (has_four tiles others) all_kinds
-
 -- The room is four of each kind less the tiles of the melds.
 unfoldable pub room_beside : List ℕ → List ℕ
 room_beside tiles = map (λ kind. 4 - number_of tiles kind) all_kinds
 
 -- The hand of concealed tiles and of tiles in so many melds: the counts of its concealed tiles, the room that its melds
 -- leave, and how many melds it has. There is one where the concealed tiles and three for each meld are thirteen, and no kind
--- stands more than four times.
+-- stands more than four times, the tiles of melds included.
 abbrev pub hand_among : List ℕ → List ℕ → ℕ → Option Hand
 hand_among tiles others number =
-    if length tiles + 3 * number == 13 && has_no_fifth tiles others
+    if length tiles + 3 * number == 13 && has_no_fifth (tiles ++ others)
     then Some (record { counts = kind_counts tiles; room = room_beside others; melds = number })
     else None
 

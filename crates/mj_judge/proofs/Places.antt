@@ -1,15 +1,13 @@
 -- Going through the places of the tile order.
-use Rattle.std.proofs.Common.{◌≡◌, ℕ, ◌+◌, ◌-◌, ◌<◌, ◌≤◌, Bool, true, false, cond, ◌&&◌, List, [], ◌∷◌, ◌++◌, length, take, drop, get_or, Some, refl, sym, ap, ◌∙◌, arith, append-nil}
-use Rattle.std.specs.Prelude.{slice_get, slice_index, filter}
+use Rattle.std.proofs.Common.{◌≡◌, ℕ, ◌+◌, ◌<◌, ◌≤◌, Bool, true, false, cond, ◌&&◌, List, [], ◌∷◌, ◌++◌, length, take, drop, get_or, Some, sym, ap, ◌∙◌, arith, append-nil}
+use Rattle.std.specs.Prelude.{slice_index, filter}
 use Rattle.std.specs.List.{list_all}
-use Rattle.std.proofs.lemmas.List.{take_more, drop_more, drop_all, take_all, length-append}
+use Rattle.std.proofs.lemmas.List.{take_more, drop_more, drop_all, take_all}
 use Rattle.std.proofs.lemmas.List.Elements.{filter-append}
 use Rattle.mj_tiles.specs.Faces.{tile_order}
+use Rattle.mj_tiles.proofs.Faces.{all_faces}
+use Rattle.mj_deeds.proofs.Newest.{last_added}
 use Rattle.mj_rules.specs.Default.{last_of}
-
-all_faces : length tile_order ≡ 37
-unfolding tile_order
-all_faces = refl
 
 all_places : (i : ℕ) → i < 37 → i < length tile_order
 all_places i h = omega (arith, all_faces)
@@ -29,16 +27,6 @@ pub one_fails : (p : ℕ → Bool) (i tile : ℕ) → i < 37 → tile ≡ slice_
 one_fails p i tile h is test = all_step p i tile false h is test
 
 -- The last that passes, one place further.
-at_end : (xs : List ℕ) (x : ℕ) → slice_get (xs ++ x ∷ []) (length xs) ≡ Some x
-at_end [] x = refl
-at_end (y ∷ ys) x = at_end ys x
-
-one_less : (xs : List ℕ) (x : ℕ) → length (xs ++ x ∷ []) - 1 ≡ length xs
-one_less xs x = simp length-append (omega arith)
-
-last_added : (xs : List ℕ) (x : ℕ) → last_of (xs ++ x ∷ []) ≡ Some x
-last_added xs x = rw (one_less xs x) (at_end xs x)
-
 filter_step : (p : ℕ → Bool) (i tile : ℕ) (b : Bool) → i < 37 → tile ≡ slice_index tile_order i → p tile ≡ b →
     filter p (take (i + 1) tile_order) ≡ filter p (take i tile_order) ++ cond b (tile ∷ []) []
 filter_step p i tile b h is test =

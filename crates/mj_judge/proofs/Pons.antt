@@ -1,25 +1,11 @@
--- An own pon of tiles that are named.
-use Rattle.std.proofs.Common.{◌≡◌, ℕ, Bool, true, false, ◌&&◌, ◌||◌, ◌==◌, List, [], ◌∷◌, eqb, inl, inr, refl, sym, ap, ◌∙◌}
+-- An own pon of tiles that are named, where one of them is hidden.
+use Rattle.std.proofs.Common.{◌≡◌, Bool, true, false, ◌&&◌, ◌||◌, List, [], ◌∷◌, refl, ap, ◌∙◌}
 use Rattle.std.specs.List.{list_any}
-use Rattle.std.proofs.lemmas.Bool.{cases_eq, ne_eqb, eq-eqb}
-use Rattle.mj_tiles.specs.Faces.{kind_of}
 use Rattle.mj_tiles.specs.declared.meld.Meld.{Meld}
 use Rattle.mj_deeds.specs.Facts.{is_pon}
-use Rattle.mj_deeds.specs.Fits.{is_triplet_of}
 use Rattle.mj_deeds.specs.declared.answer.Pai.{Pai}
-use Rattle.mj_deeds.specs.declared.answer.Pai.TheVariants.{Known, Hidden}
+use Rattle.mj_deeds.specs.declared.answer.Pai.TheVariants.{Hidden}
 use Rattle.mj_rules.specs.Broken.{is_own_pon, is_tile, is_alike}
-
-either_way : (a b : ℕ) → eqb a b ≡ eqb b a
-either_way a b = elim (cases_eq a b) [
-  | inl e ↦ eq-eqb a b e ∙ sym (eq-eqb b a (sym e))
-  | inr n ↦ ne_eqb a b n ∙ sym (ne_eqb b a (λ e. n (sym e)))
-]
-
--- Of known tiles it is the triplet of those.
-pub shown_pon : (t a b c : ℕ) (melds : List Meld) → list_any (is_own_pon (Known t) (Known a) (Known b) (Known c)) melds ≡ list_any (is_triplet_of t a b c) melds
-shown_pon t a b c melds i =
-    list_any (λ (meld : Meld). is_pon meld.form && either_way a meld.a i && either_way b meld.b i && either_way c meld.c i && (kind_of t == kind_of a)) melds
 
 none_of : (p : Meld → Bool) → ((meld : Meld) → p meld ≡ false) → (melds : List Meld) → list_any p melds ≡ false
 none_of p never [] = refl

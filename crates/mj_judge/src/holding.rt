@@ -2,7 +2,8 @@ ghost use Rattle.std.specs.Prelude.{◌≡◌, ◌≤◌, nat_lt, length, flat_m
 ghost use Rattle.std.specs.List.{list_any};
 ghost use Rattle.mj_tiles.specs.Faces.{number_in};
 ghost use Rattle.mj_deeds.specs.Facts.{drawn_tile};
-ghost use Rattle.mj_rules.specs.Broken.{view_of, held, is_that, is_no_tile, names_no_tile, face_in, names_unheld, is_wrongly_marked, marks_wrongly};
+ghost use Rattle.mj_deeds.specs.Pais.{face_in};
+ghost use Rattle.mj_rules.specs.Broken.{view_of, held, is_that, is_no_tile, names_no_tile, names_unheld, is_wrongly_marked, marks_wrongly};
 
 use crate::questions::is_tile;
 use mj_deeds::{Answer, Pai};

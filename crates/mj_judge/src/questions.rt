@@ -2,7 +2,7 @@ ghost use Rattle.std.specs.Prelude.{◌≡◌, not, option_map};
 ghost use Rattle.mj_deeds.specs.Facts.{newest};
 ghost use Rattle.mj_rules.specs.Broken.{is_unread, actor_of, is_another, names_another, is_own_act, is_discard, is_pass, is_pass_or_call, is_open, is_call, is_kan_answer, is_own_kan, view_of, turn_by, turn_in, misses_discard, misses_target, is_tile, is_too_late, is_before, is_not_left, is_fifth_kan, is_dry_kan};
 
-use mj_deeds::{Answer, Deed, Pai};
+use mj_deeds::{Answer, Deed, Pai, next_seat};
 use mj_table::Table;
 use mj_tiles::Tile;
 
@@ -179,7 +179,7 @@ fn is_before(table: &Table, seat: u8) -> bool
     ensures { result ≡ is_before (turn_in (option_map turn_by (newest table.now.deeds))) seat }
 {
     match table.newest() {
-        Some(Deed::Discard { seat: who, .. }) => (*who % 4 + 1) % 4 == seat,
+        Some(Deed::Discard { seat: who, .. }) => next_seat(*who) == seat,
         _ => false,
     }
 }

@@ -30,47 +30,31 @@ pub(crate) fn is_bad_set(table: &Table, seat: u8, answer: &Answer) -> bool
 fn is_run(tile: &Pai, a: &Pai, b: &Pai) -> bool
     ensures { result ≡ is_run tile.now a.now b.now }
 {
-    let Pai::Known(tile) = tile else {
-        return false;
-    };
-    let Pai::Known(a) = a else {
-        return false;
-    };
-    let Pai::Known(b) = b else {
-        return false;
-    };
-    chi_shape(*tile, *a, *b)
+    match (tile, a, b) {
+        (Pai::Known(tile), Pai::Known(a), Pai::Known(b)) => chi_shape(*tile, *a, *b),
+        _ => false,
+    }
 }
 
 // Two tiles are known and of one kind.
 fn is_alike(a: &Pai, b: &Pai) -> bool
     ensures { result ≡ is_alike a.now b.now }
 {
-    let Pai::Known(a) = a else {
-        return false;
-    };
-    let Pai::Known(b) = b else {
-        return false;
-    };
-    same_kind(*a, *b)
+    match (a, b) {
+        (Pai::Known(a), Pai::Known(b)) => same_kind(*a, *b),
+        _ => false,
+    }
 }
 
 // The seat has a pon of just these tiles, and the tile is of its kind.
-#[tactic(auto, using(crate::proofs::Pons::shown_pon, crate::proofs::Pons::hidden_added, crate::proofs::Pons::hidden_first, crate::proofs::Pons::hidden_second, crate::proofs::Pons::hidden_third))]
+#[tactic(auto, using(mj_rules::proofs::Answered::shown_pon, crate::proofs::Pons::hidden_added, crate::proofs::Pons::hidden_first, crate::proofs::Pons::hidden_second, crate::proofs::Pons::hidden_third))]
 fn has_own_pon(table: &Table, seat: u8, tile: &Pai, a: &Pai, b: &Pai, c: &Pai) -> bool
     ensures { result ≡ list_any (is_own_pon tile.now a.now b.now c.now) (seat_melds table.now.deeds seat) }
 {
-    let Pai::Known(tile) = tile else {
-        return false;
-    };
-    let Pai::Known(a) = a else {
-        return false;
-    };
-    let Pai::Known(b) = b else {
-        return false;
-    };
-    let Pai::Known(c) = c else {
-        return false;
-    };
-    table.has_triplet(seat, *tile, *a, *b, *c)
+    match (tile, a, b, c) {
+        (Pai::Known(tile), Pai::Known(a), Pai::Known(b), Pai::Known(c)) => {
+            table.has_triplet(seat, *tile, *a, *b, *c)
+        }
+        _ => false,
+    }
 }

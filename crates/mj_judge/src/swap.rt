@@ -3,7 +3,8 @@ ghost use Rattle.std.specs.List.{list_all};
 ghost use Rattle.mj_tiles.specs.Faces.{tile_order};
 ghost use Rattle.mj_tiles.specs.Kinds.{set_of};
 ghost use Rattle.mj_deeds.specs.Facts.{newest, gained, lost};
-ghost use Rattle.mj_rules.specs.Broken.{view_of, turn_by, turn_in, banned_in, face_in, swaps, bans_of_chi, bans_of_pon, is_stuck};
+ghost use Rattle.mj_deeds.specs.Pais.{face_in};
+ghost use Rattle.mj_rules.specs.Broken.{view_of, turn_by, turn_in, banned_in, swaps, bans_of_chi, bans_of_pon, is_stuck};
 ghost use Rattle.mj_judge.specs.Free.{is_used_up, is_free};
 ghost use Rattle.mj_rules.specs.Default.{last_of};
 
@@ -58,22 +59,16 @@ pub(crate) fn is_stuck(table: &Table, seat: u8, answer: &Answer) -> bool
 fn banned_by_chi(tile: &Pai, a: &Pai, b: &Pai) -> Kinds
     ensures { result ≡ set_of (bans_of_chi tile.now a.now b.now) }
 {
-    let Pai::Known(tile) = tile else {
-        return Kinds::none();
-    };
-    let Pai::Known(a) = a else {
-        return Kinds::none();
-    };
-    let Pai::Known(b) = b else {
-        return Kinds::none();
-    };
-    banned(&Deed::Chi {
-        seat: 0,
-        target: 0,
-        tile: *tile,
-        a: *a,
-        b: *b,
-    })
+    match (tile, a, b) {
+        (Pai::Known(tile), Pai::Known(a), Pai::Known(b)) => banned(&Deed::Chi {
+            seat: 0,
+            target: 0,
+            tile: *tile,
+            a: *a,
+            b: *b,
+        }),
+        _ => Kinds::none(),
+    }
 }
 
 // What a pon of the tile bans.

@@ -1,6 +1,6 @@
-ghost use Rattle.std.specs.Prelude.{◌≡◌};
+ghost use Rattle.std.specs.Prelude.{◌≡◌, if◌then◌else◌, Some, None};
 ghost use Rattle.std.specs.Result.{result_err};
-ghost use Rattle.mj_rules.specs.Broken.{broken, first_broken};
+ghost use Rattle.mj_rules.specs.Broken.{broken};
 
 use crate::holding::{marks_wrongly, names_no_tile, names_unheld};
 use crate::questions::{
@@ -18,32 +18,25 @@ use mj_table::Table;
 pub fn judge(table: &Table, seat: u8, answer: &Answer) -> Result<(), Rule>
     ensures { result_err result ≡ broken table.now.rules.red table.now.deeds seat answer.now }
 {
-    first_broken(&[
-        (is_unread(answer), Rule::Unreadable),
-        (names_another(seat, answer), Rule::NotYours),
-        (is_closed(table, seat, answer), Rule::NotNow),
-        (names_no_tile(table, answer), Rule::NoSuchTile),
-        (misses_target(table, seat, answer), Rule::WrongTarget),
-        (is_too_late(table, seat, answer), Rule::LastTile),
-        (names_unheld(table, seat, answer), Rule::NotHeld),
-        (marks_wrongly(table, seat, answer), Rule::NotDrawn),
-        (is_bad_set(table, seat, answer), Rule::BadSet),
-        (is_not_left(table, seat, answer), Rule::NotLeft),
-        (swaps(table, seat, answer), Rule::SwapCall),
-        (is_stuck(table, seat, answer), Rule::StuckCall),
-        (is_fifth_kan(table, seat, answer), Rule::KanFull),
-        (is_dry_kan(table, seat, answer), Rule::KanDry),
-    ])
+    refuse_if(is_unread(answer), Rule::Unreadable)?;
+    refuse_if(names_another(seat, answer), Rule::NotYours)?;
+    refuse_if(is_closed(table, seat, answer), Rule::NotNow)?;
+    refuse_if(names_no_tile(table, answer), Rule::NoSuchTile)?;
+    refuse_if(misses_target(table, seat, answer), Rule::WrongTarget)?;
+    refuse_if(is_too_late(table, seat, answer), Rule::LastTile)?;
+    refuse_if(names_unheld(table, seat, answer), Rule::NotHeld)?;
+    refuse_if(marks_wrongly(table, seat, answer), Rule::NotDrawn)?;
+    refuse_if(is_bad_set(table, seat, answer), Rule::BadSet)?;
+    refuse_if(is_not_left(table, seat, answer), Rule::NotLeft)?;
+    refuse_if(swaps(table, seat, answer), Rule::SwapCall)?;
+    refuse_if(is_stuck(table, seat, answer), Rule::StuckCall)?;
+    refuse_if(is_fifth_kan(table, seat, answer), Rule::KanFull)?;
+    refuse_if(is_dry_kan(table, seat, answer), Rule::KanDry)
 }
 
-// The first rule of a list that is broken.
-fn first_broken(rules: &[(bool, Rule)]) -> Result<(), Rule>
-    ensures { result_err result ≡ first_broken rules.now }
+// Refuses an answer by a rule that it breaks.
+fn refuse_if(is_broken: bool, rule: Rule) -> Result<(), Rule>
+    ensures { result_err result ≡ (if is_broken then Some rule else None) }
 {
-    for (is_broken, rule) in rules {
-        if *is_broken {
-            return Err(*rule);
-        }
-    }
-    Ok(())
+    if is_broken { Err(rule) } else { Ok(()) }
 }

@@ -1,14 +1,15 @@
-ghost use Rattle.std.specs.Prelude.{◌≡◌, ◌+◌, ◌-◌, ◌%◌, ◌≤◌, length, IfOk, OnErr, IsTrue};
+ghost use Rattle.std.specs.Prelude.{◌≡◌, ◌≤◌, length, IfOk, OnErr, IsTrue};
 ghost use Rattle.std.specs.List.{list_all};
 ghost use Rattle.mj_tiles.specs.Faces.{in_tile_order};
 ghost use Rattle.mj_wall.specs.Places.{is_wall, dealt_tiles};
+ghost use Rattle.mj_deeds.specs.Four.{next_seat};
 ghost use Rattle.mj_rules.specs.Outcome.{outcome, first_hand, next_draw, next_dora, next_replacement, or_else};
 ghost use Rattle.mj_window.specs.Decided.{deed_decided};
 ghost use Rattle.mj_rules.specs.Played.{IsPlayed, AllLawful};
 ghost use Rattle.mj_machine.specs.Course.{GoesOn};
 
 use crate::bids::decided;
-use mj_deeds::{Answer, Deed, Four, Tiles};
+use mj_deeds::{Answer, Deed, Four, Tiles, next_seat};
 use mj_table::Table;
 use mj_tiles::Kind;
 use mj_wall::Wall;
@@ -82,11 +83,11 @@ fn called_or_drawn(
     seat: u8,
     answers: &Four<Answer>,
 ) -> Option<Deed>
-    ensures { result ≡ or_else (deed_decided last.now answers.now) (next_draw wall.now table.now.deeds ((seat + 1) % 4)) }
+    ensures { result ≡ or_else (deed_decided last.now answers.now) (next_draw wall.now table.now.deeds (next_seat seat)) }
 {
     match decided(last, answers) {
         Some(deed) => Some(deed),
-        None => next_draw(wall, table, (seat % 4 + 1) % 4),
+        None => next_draw(wall, table, next_seat(seat)),
     }
 }
 

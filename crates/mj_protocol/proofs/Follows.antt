@@ -1,5 +1,5 @@
 -- The line of a deed that follows is the line of its token.
-use Rattle.std.proofs.Common.{◌≡◌, ℕ, ◌+◌, ◌%◌, ◌==◌, Bool, true, false, cond, List, length, map, refl, ap, sym, subst, replicate, eqb-true}
+use Rattle.std.proofs.Common.{◌≡◌, ℕ, ◌==◌, Bool, true, false, cond, List, length, map, refl, ap, sym, subst, replicate, eqb-true}
 use Rattle.std.specs.Prelude.{Option, Some, None, option_and_then}
 use Rattle.mj_deeds.specs.declared.four.Four.{Four}
 use Rattle.mj_deeds.specs.declared.answer.Pai.{Pai}
@@ -9,7 +9,7 @@ use Rattle.mj_deeds.specs.declared.answer.Answer.TheVariants as answers
 use Rattle.mj_deeds.specs.declared.deed.Viewer.TheVariants.{Seat}
 use Rattle.mj_deeds.specs.declared.deed.Deed.{Deed}
 use Rattle.mj_deeds.specs.declared.deed.Deed.TheVariants as deeds
-use Rattle.mj_deeds.specs.Four.{at_seat, for_each_seat}
+use Rattle.mj_deeds.specs.Four.{at_seat, for_each_seat, next_seat}
 use Rattle.mj_deeds.specs.Facts.{newest, live_draws, live_tiles}
 use Rattle.mj_wall.specs.declared.setting.Setting.{Setting}
 use Rattle.mj_wall.specs.Places.{indicator_tile, live_tile}
@@ -153,7 +153,7 @@ follower_is_course : (wall : List ℕ) (ds : List Deed) (given : Four Answer) (n
 follower_is_course wall ds given (deeds.StartGame names) e = only_some wall ds (first_hand wall) (start_is_course wall ds)
 follower_is_course wall ds given (deeds.StartHand round number honba deposits dealer indicator hands) e = drawn_is_course wall ds dealer (ap after_dora e)
 follower_is_course wall ds given (deeds.Draw who tile replacement) e = act_is_course wall ds who (at_seat given who)
-follower_is_course wall ds given (deeds.Discard who tile drawn) e = by_else wall ds (call_of given) (next_draw wall ds ((who + 1) % 4)) (call_is_course wall ds given) (drawn_is_course wall ds ((who + 1) % 4) (ap after_dora e))
+follower_is_course wall ds given (deeds.Discard who tile drawn) e = by_else wall ds (call_of given) (next_draw wall ds (next_seat who)) (call_is_course wall ds given) (drawn_is_course wall ds (next_seat who) (ap after_dora e))
 follower_is_course wall ds given (deeds.Chi who target tile a b) e = act_is_course wall ds who (at_seat given who)
 follower_is_course wall ds given (deeds.Pon who target tile a b) e = act_is_course wall ds who (at_seat given who)
 follower_is_course wall ds given (deeds.OpenKan who target tile a b c) e = only_some wall ds (next_dora wall ds) (dora_is_course wall ds)

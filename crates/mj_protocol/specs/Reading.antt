@@ -10,6 +10,7 @@ use Rattle.mj_ports.specs.Names.{is_name}
 use Rattle.mj_ports.specs.declared.sitting.JoinLine.{JoinLine}
 use Rattle.mj_deeds.specs.declared.answer.Pai.{Pai}
 use Rattle.mj_deeds.specs.declared.answer.Pai.TheVariants.{Known, Hidden}
+use Rattle.mj_deeds.specs.Pais.{face_in}
 use Rattle.mj_deeds.specs.declared.answer.Answer.{Answer}
 use Rattle.mj_deeds.specs.declared.answer.Answer.TheVariants.{Unread, Pass, Discard, Chi, Pon, OpenKan, ClosedKan, AddedKan}
 
@@ -66,17 +67,13 @@ abbrev pub pais_of : List (List ℕ) → Option (List Pai)
 pais_of [] = Some []
 pais_of (text ∷ texts) = option_and_then (λ pai. option_map (λ pais. pai ∷ pais) (pais_of texts)) (pai_of text)
 
--- Tiles that are named together, in tile order, hidden ones last.
-abbrev pub known_face : Pai → List ℕ
-known_face Hidden = []
-known_face (Known tile) = tile ∷ []
-
 abbrev pub is_hidden : Pai → Bool
 is_hidden Hidden = true
 is_hidden (Known tile) = false
 
+-- Tiles that are named together, in tile order, hidden ones last.
 unfoldable pub pais_in_order : List Pai → List Pai
-pais_in_order pais = map Known (in_tile_order (flat_map known_face pais)) ++ replicate (count_by is_hidden pais) Hidden
+pais_in_order pais = map Known (in_tile_order (flat_map face_in pais)) ++ replicate (count_by is_hidden pais) Hidden
 
 -- The own tiles that a value names.
 unfoldable pub own_in : Data → Option (List Pai)

@@ -10,7 +10,7 @@ use Rattle.std.proofs.lemmas.List.Sums.{position_or_len_is}
 use Rattle.std.proofs.lemmas.List.FromFn.{length-range_with_len, get_or-range_with_len, get_or-map-range_with_len, fill_by_all}
 use Rattle.std.proofs.lemmas.Option.{slice_get-get_or, slice_get_past, none-some, same_Some}
 use Rattle.mj_tiles.specs.Counts.{all_kinds}
-use Rattle.mj_readings.specs.Sets.{is_orphan}
+use Rattle.mj_tiles.specs.Terminals.{is_terminal_or_honour}
 use Rattle.mj_readings.specs.Complete.{orphan_number, AreOrphans}
 use Rattle.mj_readings.specs.Tests.{has_orphans, orphan_double}
 
@@ -39,13 +39,13 @@ find_none_in_range p n never =
 pub has_orphans-are : (counts : List ℕ) (double : ℕ) → double < 34 → has_orphans counts double ≡ true → AreOrphans counts double
 unfolding has_orphans
 has_orphans-are counts double within has =
-    let parts = and_parts (is_orphan double) (bytes_eq counts (map (orphan_number double) all_kinds)) has in
+    let parts = and_parts (is_terminal_or_honour double) (bytes_eq counts (map (orphan_number double) all_kinds)) has in
     record { kind = within; orphan = parts.0; tiles = (bytes_eq-Decides counts (map (orphan_number double) all_kinds)).0 parts.1 }
 
 pub are-has_orphans : (counts : List ℕ) (double : ℕ) → AreOrphans counts double → has_orphans counts double ≡ true
 unfolding has_orphans
 are-has_orphans counts double are =
-    and_from (is_orphan double) (bytes_eq counts (map (orphan_number double) all_kinds)) are.orphan
+    and_from (is_terminal_or_honour double) (bytes_eq counts (map (orphan_number double) all_kinds)) are.orphan
     ((bytes_eq-Decides counts (map (orphan_number double) all_kinds)).1 are.tiles)
 
 -- The count of a kind in thirteen orphans.
@@ -60,7 +60,7 @@ same_double counts one other a b =
     same_of one other (cases_eq one other)
     (sym (orphan_count counts one one a.kind a) ∙ orphan_count counts other one a.kind b) a.orphan
   where
-    same_of : (one other : ℕ) → (one ≡ other) ⊎ (one ≡ other → ⊥) → orphan_number one one ≡ orphan_number other one → is_orphan one ≡ true → one ≡ other
+    same_of : (one other : ℕ) → (one ≡ other) ⊎ (one ≡ other → ⊥) → orphan_number one one ≡ orphan_number other one → is_terminal_or_honour one ≡ true → one ≡ other
     same_of one other (inl same) e orphan = same
     same_of one other (inr differ) e orphan =
         let two : ◌≡◌ {A = ℕ} (orphan_number one one) 2 = rw orphan (rw (eq-eqb one one refl) refl) in
@@ -81,25 +81,25 @@ orphan_double-none counts never =
 
 -- The counts below a kind are those of thirteen orphans, with this kind twice where there is one.
 abbrev pub number_so_far : Option ℕ → ℕ → ℕ
-number_so_far None kind = cond (is_orphan kind) 1 0
+number_so_far None kind = cond (is_terminal_or_honour kind) 1 0
 number_so_far (Some double) kind = orphan_number double kind
 
 abbrev pub DoubleBelow : Option ℕ → ℕ → Type 0
 DoubleBelow None kind = Unit {0}
-DoubleBelow (Some double) kind = (double < kind) × (is_orphan double ≡ true)
+DoubleBelow (Some double) kind = (double < kind) × (is_terminal_or_honour double ≡ true)
 
 pub record OrphansSoFar (counts : List ℕ) (double : Option ℕ) (kind : ℕ) : Type 0 where
   pub below : DoubleBelow double kind
   pub counted : (k : ℕ) → k < kind → get_or counts k 0 ≡ number_so_far double k
 
 -- The number of the doubled kind, and of another.
-doubled : (kind : ℕ) → is_orphan kind ≡ true → ◌≡◌ {A = ℕ} (orphan_number kind kind) 2
+doubled : (kind : ℕ) → is_terminal_or_honour kind ≡ true → ◌≡◌ {A = ℕ} (orphan_number kind kind) 2
 doubled kind orphan = rw orphan (rw (eq-eqb kind kind refl) refl)
 
-not_doubled : (double kind : ℕ) → (kind ≡ double → ⊥) → orphan_number double kind ≡ cond (is_orphan kind) 1 0
+not_doubled : (double kind : ℕ) → (kind ≡ double → ⊥) → orphan_number double kind ≡ cond (is_terminal_or_honour kind) 1 0
 not_doubled double kind differ = rw (ne_eqb kind double differ) refl
 
-single : (double kind : ℕ) → is_orphan kind ≡ true → (kind ≡ double → ⊥) → ◌≡◌ {A = ℕ} (orphan_number double kind) 1
+single : (double kind : ℕ) → is_terminal_or_honour kind ≡ true → (kind ≡ double → ⊥) → ◌≡◌ {A = ℕ} (orphan_number double kind) 1
 single double kind orphan differ = rw orphan (rw (ne_eqb kind double differ) refl)
 
 below_or_here : (k kind : ℕ) → k < kind + 1 → (k < kind) ⊎ (k ≡ kind)
@@ -129,7 +129,7 @@ orphan_double-are counts double is =
 
 -- The loop over the kinds: one more kind as expected, or the doubled one; any other number ends it.
 pub orphans_plain : (counts : List ℕ) (double : Option ℕ) (kind : ℕ) → OrphansSoFar counts double kind →
-    get_or counts kind 0 ≡ cond (is_orphan kind) 1 0 → OrphansSoFar counts double (kind + 1)
+    get_or counts kind 0 ≡ cond (is_terminal_or_honour kind) 1 0 → OrphansSoFar counts double (kind + 1)
 orphans_plain counts None kind far plain = record {
   below = tt;
   counted = λ k inside. at k (below_or_here k kind inside);
@@ -148,7 +148,7 @@ orphans_plain counts (Some double) kind far plain = record {
     at k (inr here) = rw here (plain ∙ sym (not_doubled double kind (λ e. omega (arith, e, far.below))))
 
 pub orphans_double : (counts : List ℕ) (kind : ℕ) → OrphansSoFar counts None kind →
-    is_orphan kind ≡ true → get_or counts kind 0 ≡ 2 → OrphansSoFar counts (Some kind) (kind + 1)
+    is_terminal_or_honour kind ≡ true → get_or counts kind 0 ≡ 2 → OrphansSoFar counts (Some kind) (kind + 1)
 orphans_double counts kind far orphan two = record {
   below = (omega arith, orphan);
   counted = λ k inside. at k (below_or_here k kind inside);
@@ -164,8 +164,8 @@ unfolding all_kinds
 orphans_end counts None kind size last far =
     sym (orphan_double-none counts (λ double are.
     let two : get_or counts double 0 ≡ orphan_number double double = orphan_count counts double double are.kind are in
-    let one : get_or counts double 0 ≡ cond (is_orphan double) 1 0 = far.counted double (omega (arith, are.kind, last)) in
-    let single : ◌≡◌ {A = ℕ} (cond (is_orphan double) 1 0) 1 = ap (λ b. cond b 1 0) are.orphan in
+    let one : get_or counts double 0 ≡ cond (is_terminal_or_honour double) 1 0 = far.counted double (omega (arith, are.kind, last)) in
+    let single : ◌≡◌ {A = ℕ} (cond (is_terminal_or_honour double) 1 0) 1 = ap (λ b. cond b 1 0) are.orphan in
     omega (arith, two, one, single, doubled double are.orphan)))
 orphans_end counts (Some double) kind size last far =
     sym (orphan_double-is counts double (record {
@@ -175,18 +175,18 @@ orphans_end counts (Some double) kind size last far =
     }))
 
 pub orphans_off : (counts : List ℕ) (double : Option ℕ) (kind : ℕ) → OrphansSoFar counts double kind → kind < 34 →
-    (get_or counts kind 0 ≡ cond (is_orphan kind) 1 0 → ⊥) → (is_orphan kind ≡ false) ⊎ ((get_or counts kind 0 ≡ 2 → ⊥) ⊎ (is_some double ≡ true)) →
+    (get_or counts kind 0 ≡ cond (is_terminal_or_honour kind) 1 0 → ⊥) → (is_terminal_or_honour kind ≡ false) ⊎ ((get_or counts kind 0 ≡ 2 → ⊥) ⊎ (is_some double ≡ true)) →
     orphan_double counts ≡ None
 orphans_off counts double kind far within off either =
     orphan_double-none counts (λ other are. clash counts double kind other far within off either are (cases_eq kind other))
   where
     clash : (counts : List ℕ) (double : Option ℕ) (kind other : ℕ) → OrphansSoFar counts double kind → kind < 34 →
-        (get_or counts kind 0 ≡ cond (is_orphan kind) 1 0 → ⊥) → (is_orphan kind ≡ false) ⊎ ((get_or counts kind 0 ≡ 2 → ⊥) ⊎ (is_some double ≡ true)) →
+        (get_or counts kind 0 ≡ cond (is_terminal_or_honour kind) 1 0 → ⊥) → (is_terminal_or_honour kind ≡ false) ⊎ ((get_or counts kind 0 ≡ 2 → ⊥) ⊎ (is_some double ≡ true)) →
         AreOrphans counts other → (kind ≡ other) ⊎ (kind ≡ other → ⊥) → ⊥
     clash counts double kind other far within off either are (inr differ) =
         off (orphan_count counts other kind within are ∙ not_doubled other kind differ)
     clash counts double kind other far within off (inl none) are (inl same) =
-        false≢true (sym none ∙ ap is_orphan same ∙ are.orphan)
+        false≢true (sym none ∙ ap is_terminal_or_honour same ∙ are.orphan)
     clash counts double kind other far within off (inr (inl few)) are (inl same) =
         few (orphan_count counts other kind within are ∙ ap (orphan_number other) same ∙ doubled other are.orphan)
     clash counts None kind other far within off (inr (inr made)) are (inl same) = false≢true made

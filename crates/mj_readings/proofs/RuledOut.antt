@@ -10,7 +10,8 @@ use Rattle.std.proofs.lemmas.List.{take-set-le, set_past}
 use Rattle.mj_tiles.specs.Counts.{IsCounts}
 use Rattle.mj_tiles.specs.Kinds.{has_kind, kinds_that}
 use Rattle.mj_tiles.proofs.KindSets.{has_kind-kinds_that}
-use Rattle.mj_readings.specs.Sets.{is_orphan, begins_run}
+use Rattle.mj_tiles.specs.Terminals.{is_terminal_or_honour}
+use Rattle.mj_readings.specs.Sets.{begins_run}
 use Rattle.mj_readings.specs.Complete.{is_seven_pairs, orphan_number}
 use Rattle.mj_readings.specs.Ways.{begins, has_way}
 use Rattle.mj_readings.specs.Tests.{complete, one_more, orphan_double}
@@ -92,8 +93,8 @@ no_pairs counts kind many =
     (λ all. omega (arith, many, few_singles counts kind (get_or counts kind 0 + 1) all)))
 
 -- A hand with a tile that is no terminal or honour is never one tile from thirteen orphans.
-middle : (held : ℕ) → 0 < held → held < 8 → is_orphan held ≡ false
-unfolding is_orphan
+middle : (held : ℕ) → 0 < held → held < 8 → is_terminal_or_honour held ≡ false
+unfolding is_terminal_or_honour
 middle held low high = grind (arith, nat_tests)
 
 not_less : (counts : List ℕ) (kind held : ℕ) → 0 < get_or counts held 0 → 0 < get_or (one_more counts kind) held 0

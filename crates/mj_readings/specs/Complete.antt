@@ -2,8 +2,9 @@
 use Rattle.std.specs.Prelude.{ℕ, ◌≡◌, ◌<◌, ◌≤◌, ◌-◌, ◌==◌, ◌⊎◌, Bool, true, ◌&&◌, ◌||◌, if◌then◌else◌, List, [], ◌∷◌, ◌++◌, length, count_by, flat_map, map, IsTrue}
 use Rattle.std.specs.List.{list_all}
 use Rattle.mj_tiles.specs.Counts.{all_kinds}
+use Rattle.mj_tiles.specs.Terminals.{is_terminal_or_honour}
 use Rattle.mj_readings.specs.declared.reading.Set.{Set}
-use Rattle.mj_readings.specs.Sets.{is_orphan, is_concealed, tiles_of_set, tally}
+use Rattle.mj_readings.specs.Sets.{is_concealed, tiles_of_set, tally}
 
 -- So many sets of concealed tiles and a pair that together have exactly these counts.
 pub record AreSetsAndPair (counts : List ℕ) (number : ℕ) (sets : List Set) (pair : ℕ) : Type 0 where
@@ -18,12 +19,12 @@ is_seven_pairs counts = list_all (λ number. number == 0 || number == 2) counts 
 
 -- How often a kind stands in thirteen orphans with this kind twice: each terminal and honour once, and no other kind.
 abbrev pub orphan_number : ℕ → ℕ → ℕ
-orphan_number double kind = if is_orphan kind then (if kind == double then 2 else 1) else 0
+orphan_number double kind = if is_terminal_or_honour kind then (if kind == double then 2 else 1) else 0
 
 -- Thirteen orphans with this kind, a terminal or an honour, twice.
 pub record AreOrphans (counts : List ℕ) (double : ℕ) : Type 0 where
   pub kind : double < 34
-  pub orphan : is_orphan double ≡ true
+  pub orphan : is_terminal_or_honour double ≡ true
   pub tiles : counts ≡ map (orphan_number double) all_kinds
 
 -- A hand of these concealed tiles and so many melds is complete as four sets and a pair, where each meld is a set, or

@@ -1,5 +1,5 @@
 -- The sets of a hand by kind: runs, triplets and kans, their tiles and their order.
-use Rattle.std.specs.Prelude.{ℕ, ◌+◌, ◌*◌, ◌%◌, ◌==◌, Bool, true, false, nat_lt, nat_le, not, ◌&&◌, ◌||◌, List, [], ◌∷◌, count_by, map}
+use Rattle.std.specs.Prelude.{ℕ, ◌+◌, ◌*◌, ◌%◌, ◌==◌, Bool, true, false, nat_lt, nat_le, not, ◌&&◌, List, [], ◌∷◌, count_by, map}
 use Rattle.std.specs.List.{list_all}
 use Rattle.mj_tiles.specs.Faces.{kind_of}
 use Rattle.mj_tiles.specs.Counts.{all_kinds}
@@ -9,17 +9,6 @@ use Rattle.mj_tiles.specs.declared.meld.Form.TheVariants.{Chi, Pon, OpenKan, Clo
 use Rattle.mj_readings.specs.declared.reading.Set.{Set}
 use Rattle.mj_readings.specs.declared.reading.SetForm.{SetForm}
 use Rattle.mj_readings.specs.declared.reading.SetForm.TheVariants.{Run, Triplet, Kan}
-
--- The honours are the winds and the dragons.
-abbrev pub is_honour : ℕ → Bool
-is_honour kind = nat_le 27 kind
-
--- The terminals are the ones and the nines.
-abbrev pub is_terminal : ℕ → Bool
-is_terminal kind = nat_lt kind 27 && (kind % 9 == 0 || kind % 9 == 8)
-
-unfoldable pub is_orphan : ℕ → Bool
-is_orphan kind = is_terminal kind || is_honour kind
 
 -- A run is three neighbouring kinds of one suit, so its lowest tile is a number from one to seven.
 unfoldable pub begins_run : ℕ → Bool

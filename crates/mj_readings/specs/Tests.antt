@@ -1,13 +1,13 @@
 -- The same rules as tests that compute.
 use Rattle.std.specs.Prelude.{ℕ, slice_index, slice_set, ◌+◌, ◌-◌, ◌==◌, Bool, false, nat_le, ◌&&◌, ◌||◌, List, Option, is_some, find, map, bytes_eq}
 use Rattle.mj_tiles.specs.Counts.{all_kinds}
-use Rattle.mj_readings.specs.Sets.{is_orphan}
+use Rattle.mj_tiles.specs.Terminals.{is_terminal_or_honour}
 use Rattle.mj_readings.specs.Complete.{orphan_number, is_seven_pairs}
 use Rattle.mj_readings.specs.Ways.{has_way}
 
 -- Whether the counts are thirteen orphans with this kind twice.
 unfoldable pub has_orphans : List ℕ → ℕ → Bool
-has_orphans counts double = is_orphan double && bytes_eq counts (map (orphan_number double) all_kinds)
+has_orphans counts double = is_terminal_or_honour double && bytes_eq counts (map (orphan_number double) all_kinds)
 
 -- The kind that stands twice in thirteen orphans, where the counts are those.
 unfoldable pub orphan_double : List ℕ → Option ℕ

@@ -1,7 +1,8 @@
 ghost use Rattle.std.specs.Prelude.{slice_index, ◌≡◌, ℕ, ◌+◌, ◌≤◌, ◌<◌, ◌↔◌, Bool, IsTrue, length, count_by, ◌==◌, ◌||◌, ◌&&◌, nat_le};
 ghost use Rattle.std.specs.List.{list_all};
 ghost use Rattle.mj_tiles.specs.Counts.{all_kinds};
-ghost use Rattle.mj_readings.specs.Sets.{begins_run, is_orphan};
+ghost use Rattle.mj_tiles.specs.Terminals.{is_terminal_or_honour};
+ghost use Rattle.mj_readings.specs.Sets.{begins_run};
 ghost use Rattle.mj_readings.specs.Complete.{IsComplete, is_seven_pairs};
 ghost use Rattle.mj_readings.specs.Ways.{begins, has_way};
 ghost use Rattle.mj_readings.specs.Tests.{complete, one_more, orphan_double};
@@ -147,10 +148,13 @@ pub(crate) fn double_of(numbers: &[u8]) -> Option<Kind>
     double
 }
 
-/// Whether the kind is a one or a nine of a suit, a wind or a dragon.
-#[tactic(auto, unfolding(crate::specs::Sets::is_orphan))]
-fn is_terminal_or_honour(kind: u8) -> bool
-    ensures { result ≡ is_orphan kind }
+/// Whether the kind of this number is a terminal or an honour.
+fn is_terminal_or_honour(number: u8) -> bool
+    requires { number < 34 }
+    ensures { result ≡ is_terminal_or_honour number }
 {
-    kind >= 27 || kind % 9 == 0 || kind % 9 == 8
+    match Kind::of(number) {
+        Some(kind) => kind.is_terminal_or_honour(),
+        None => unreachable!(),
+    }
 }

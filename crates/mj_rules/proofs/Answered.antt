@@ -4,10 +4,9 @@ use Rattle.std.specs.Prelude.{Option, Some, None, nat_lt, nat_le, option_map}
 use Rattle.std.specs.List.{list_all, list_any}
 use Rattle.std.proofs.lemmas.Bool.{cases_eq, ne_eqb, eq-eqb, eqb-true, eqb-false, and_parts, and_from, or_parts, ltb-false, lt-ltb, leb-false, le-leb, not-false}
 use Rattle.mj_tiles.specs.Faces.{kind_of, number_in, is_red}
+use Rattle.mj_tiles.proofs.Faces.{either_way}
 use Rattle.mj_tiles.specs.declared.meld.Meld.{Meld}
 use Rattle.mj_deeds.specs.declared.four.Four.{Four}
-use Rattle.mj_deeds.specs.declared.rule.Rule.{Rule}
-use Rattle.mj_deeds.specs.declared.rule.Rule.TheVariants as rules
 use Rattle.mj_deeds.specs.declared.answer.Pai.TheVariants.{Known, Hidden}
 use Rattle.mj_deeds.specs.declared.answer.Answer.{Answer}
 use Rattle.mj_deeds.specs.declared.answer.Answer.TheVariants as answers
@@ -16,9 +15,10 @@ use Rattle.mj_deeds.specs.declared.deed.Deed.TheVariants.{Discard}
 use Rattle.mj_deeds.specs.Four.{at_seat}
 use Rattle.mj_deeds.specs.Facts.{newest, gained, lost, seat_melds, is_pon, kans, live_tiles}
 use Rattle.mj_deeds.specs.Fits.{is_in_hand, is_discard_of, are_held, is_triplet_of}
-use Rattle.mj_rules.specs.Broken.{Turn, Discarded, turn_by, turn_in, View, view_of, broken_by, first_broken, is_unread, names_another, is_open, marks_wrongly, is_not_left, swaps, is_stuck, is_no_tile, names_no_tile, misses_discard, misses_target, is_too_late, names_unheld, is_own_pon, is_bad_set, is_fifth_kan, is_dry_kan}
+use Rattle.mj_rules.specs.Broken.{Turn, Discarded, turn_by, turn_in, View, view_of, questions, broken_by, is_stuck, is_no_tile, names_no_tile, misses_discard, misses_target, is_too_late, names_unheld, is_own_pon, is_bad_set, is_fifth_kan, is_dry_kan}
 use Rattle.mj_rules.specs.Outcome.{act_of, triplet_bid, run_bid, bid_by, call_of, or_else}
 use Rattle.mj_rules.specs.Played.{AllLawful}
+use Rattle.mj_rules.proofs.Questions.{all_no}
 use Rattle.mj_rules.proofs.Standing.{Acts, stage_after, stage_of}
 use Rattle.mj_rules.proofs.Kept.{IsNext}
 
@@ -38,40 +38,11 @@ pub record Clean (red : Bool) (view : View) (answer : Answer) : Type 0 where
   pub fifth : is_fifth_kan view answer ≡ false
   pub dry : is_dry_kan view answer ≡ false
 
--- No rule of a list is broken.
-abbrev Unbroken : List (Bool × Rule) → Type 0
-Unbroken [] = Unit {0}
-Unbroken (rule ∷ others) = (rule.0 ≡ false) × Unbroken others
-
-none_broken : (list : List (Bool × Rule)) → first_broken list ≡ None → Unbroken list
-none_broken [] h = tt
-none_broken (rule ∷ others) h = by_test rule.0 refl h (λ k. none_broken others k)
-  where
-    by_test : (b : Bool) → rule.0 ≡ b → cond b (Some rule.1) (first_broken others) ≡ None → (first_broken others ≡ None → Unbroken others) → (rule.0 ≡ false) × Unbroken others
-    by_test true e k f = cc
-    by_test false e k f = (e, f k)
-
 -- An answer that breaks no rule owes nothing.
 pub clean : (red : Bool) (seat : ℕ) (view : View) (answer : Answer) → broken_by red seat view answer ≡ None → Clean red view answer
 unfolding broken_by
 clean red seat view answer h =
-    let list : List (Bool × Rule) =
-    ((is_unread answer, rules.Unreadable)
-    ∷ (names_another seat answer, rules.NotYours)
-    ∷ (not (is_open seat view.turn answer), rules.NotNow)
-    ∷ (names_no_tile red answer, rules.NoSuchTile)
-    ∷ (misses_target view.turn answer, rules.WrongTarget)
-    ∷ (is_too_late view answer, rules.LastTile)
-    ∷ (names_unheld view answer, rules.NotHeld)
-    ∷ (marks_wrongly view answer, rules.NotDrawn)
-    ∷ (is_bad_set view answer, rules.BadSet)
-    ∷ (is_not_left seat view.turn answer, rules.NotLeft)
-    ∷ (swaps view.turn answer, rules.SwapCall)
-    ∷ (is_stuck view answer, rules.StuckCall)
-    ∷ (is_fifth_kan view answer, rules.KanFull)
-    ∷ (is_dry_kan view answer, rules.KanDry)
-    ∷ []) in
-    let u = none_broken list h in
+    let u = all_no (questions red seat view answer) h in
     record {
       tiles = u.1.1.1.0;
       target = u.1.1.1.1.0;
@@ -127,15 +98,14 @@ kan_may k l h i = and_from (ltb k 4) (ltb 0 l) (lt-ltb k 4 (leb-false 4 k h)) (l
 
 -- the triplet that a tile is added to
 
-either_way : (a b : ℕ) → eqb a b ≡ eqb b a
-either_way a b = elim (cases_eq a b) [
-  | inl e ↦ eq-eqb a b e ∙ sym (eq-eqb b a (sym e))
-  | inr n ↦ ne_eqb a b n ∙ sym (ne_eqb b a (λ e. n (sym e)))
-]
+-- Of known tiles an own pon of them is the triplet of those.
+pub shown_pon : (t a b c : ℕ) (melds : List Meld) → list_any (is_own_pon (Known t) (Known a) (Known b) (Known c)) melds ≡ list_any (is_triplet_of t a b c) melds
+shown_pon t a b c melds i =
+    list_any (λ (meld : Meld). is_pon meld.form && either_way a meld.a i && either_way b meld.b i && either_way c meld.c i && (kind_of t == kind_of a)) melds
 
 own_triplet : (t a b c : ℕ) (melds : List Meld) → not (list_any (is_own_pon (Known t) (Known a) (Known b) (Known c)) melds) ≡ false → list_any (is_triplet_of t a b c) melds ≡ true
 own_triplet t a b c melds h =
-    (λ i. list_any (λ (meld : Meld). is_pon meld.form && either_way meld.a a i && either_way meld.b b i && either_way meld.c c i && (kind_of t == kind_of a)) melds)
+    sym (shown_pon t a b c melds)
     ∙ not-false (list_any (is_own_pon (Known t) (Known a) (Known b) (Known c)) melds) h
 
 seat_there : (who : ℕ) → who < 4 → (ltb who 4 && true) ≡ true

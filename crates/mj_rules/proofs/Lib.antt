@@ -2,6 +2,7 @@ pub mod Dealing
 pub mod Standing
 pub mod Kept
 pub mod Room
+pub mod Questions
 pub mod Answered
 pub mod Turns
 pub mod Playing

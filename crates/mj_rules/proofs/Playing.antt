@@ -2,7 +2,7 @@
 use Rattle.std.proofs.Common.{◌≡◌, ℕ, suc, ◌%◌, ◌<◌, ◌||◌, Bool, true, false, List, [], ◌∷◌, ◌++◌, length, refl, ap, sym, ◌∙◌, subst, arith, append-nil, append_assoc}
 use Rattle.std.specs.Prelude.{Option, Some, IsTrue}
 use Rattle.std.specs.List.{list_all, slice_index_or}
-use Rattle.std.proofs.lemmas.Bool.{and_parts, and_from}
+use Rattle.std.proofs.lemmas.Bool.{and_parts}
 use Rattle.std.proofs.lemmas.List.Elements.{All-nil}
 use Rattle.mj_deeds.specs.declared.four.Four.{Four}
 use Rattle.mj_deeds.specs.declared.answer.Answer.{Answer}
@@ -10,6 +10,7 @@ use Rattle.mj_deeds.specs.declared.deed.Deed.{Deed}
 use Rattle.mj_deeds.specs.declared.deed.Deed.TheVariants.{StartGame, StartHand, Draw, Discard, Chi, Pon, OpenKan, ClosedKan, AddedKan, Dora}
 use Rattle.mj_deeds.specs.Facts.{newest}
 use Rattle.mj_deeds.specs.Fits.{fits, all_fit, has_seats}
+use Rattle.mj_deeds.proofs.Fitted.{all_fit-append}
 use Rattle.mj_deeds.proofs.Newest.{newest_more}
 use Rattle.mj_wall.specs.Places.{is_wall}
 use Rattle.mj_wall.proofs.WallKinds.{up}
@@ -38,13 +39,6 @@ pub record Sound (red : Bool) (wall : List ℕ) (ds : List Deed) : Type 0 where
   pub seated : IfAny (λ d. has_seats d ≡ true) (newest ds)
 
 -- one deed more
-
-all_fit-append : (red : Bool) (before ds : List Deed) (d : Deed) → all_fit red before ds ≡ true → fits red (before ++ ds) d ≡ true → all_fit red before (ds ++ d ∷ []) ≡ true
-all_fit-append red before [] d h k = and_from (fits red before d) true (subst (λ (xs : List Deed). fits red xs d ≡ true) (append-nil before) k) refl
-all_fit-append red before (x ∷ ds) d h k =
-    let parts = and_parts (fits red before x) (all_fit red (before ++ x ∷ []) ds) h in
-    and_from (fits red before x) _ parts.0
-    (all_fit-append red (before ++ x ∷ []) ds d parts.1 (subst (λ (xs : List Deed). fits red xs d ≡ true) (sym (append_assoc before (x ∷ []) ds)) k))
 
 deed_fits : (red : Bool) (wall : List ℕ) (ds : List Deed) (d : Deed) → is_wall red wall ≡ true → Sound red wall ds → IsNext red wall ds d → fits red ds d ≡ true
 deed_fits red wall ds d h s next = next_fits red wall ds d h (subst (Standing wall ds) next.stage s.standing) next

@@ -7,10 +7,10 @@ use Rattle.std.proofs.lemmas.List.{length-map, length-drop, get_or-drop}
 use Rattle.std.proofs.lemmas.List.Sums.{sum_by-cons, sum_by-take-le}
 use Rattle.std.proofs.lemmas.List.Elements.{All-take, All-drop}
 use Rattle.mj_tiles.specs.Faces.{kind_of, number_in}
-use Rattle.mj_tiles.specs.Counts.{all_kinds, number_of}
+use Rattle.mj_tiles.specs.Counts.{all_kinds, number_of, has_no_fifth}
 use Rattle.mj_deeds.specs.declared.deed.Deed.{Deed}
 use Rattle.mj_deeds.specs.Facts.{gained, lost, makes_by, indicators, live_draws}
-use Rattle.mj_deeds.specs.Fits.{fits, is_held_by, is_held, brought_by, has_no_fifth, keeps_kinds, has_room_for, has_room}
+use Rattle.mj_deeds.specs.Fits.{fits, is_held_by, is_held, brought_by, keeps_kinds, has_room_for, has_room}
 use Rattle.mj_wall.specs.Places.{is_wall, dealt_tiles}
 use Rattle.mj_wall.proofs.WallFaces.{wall_has_136, wall_faces}
 use Rattle.mj_wall.proofs.WallKinds.{up, up-take, up-split, wall_has_four, places_are_apart}

@@ -11,7 +11,7 @@ use Rattle.mj_deeds.specs.declared.four.Four.{Four}
 use Rattle.mj_deeds.specs.declared.answer.Answer.{Answer}
 use Rattle.mj_deeds.specs.declared.deed.Deed.{Deed}
 use Rattle.mj_deeds.specs.declared.deed.Deed.TheVariants.{StartGame, StartHand, Draw, Discard, Chi, Pon, OpenKan, ClosedKan, AddedKan, Dora}
-use Rattle.mj_deeds.specs.Four.{at_seat}
+use Rattle.mj_deeds.specs.Four.{at_seat, next_seat}
 use Rattle.mj_deeds.specs.Facts.{newest, kans, kan_seats, indicators, live_draws, live_tiles}
 use Rattle.mj_deeds.specs.Fits.{is_in_hand, is_after_dora, is_after_kan, is_in_place, has_seats, has_tiles}
 use Rattle.mj_wall.specs.Places.{is_wall, dealt_tiles, live_tile, indicator_tile}
@@ -156,8 +156,8 @@ replacement_next red wall ds shown h e seats = record {
 first_seat : (who : ℕ) (rest : Bool) → (ltb who 4 && rest) ≡ true → who < 4
 first_seat who rest h = ltb-true who 4 (and_parts (ltb who 4) rest h).0
 
-next_seat : (who : ℕ) → (who + 1) % 4 < 4
-next_seat who = omega arith
+seat_below : (who : ℕ) → next_seat who < 4
+seat_below who = omega arith
 
 follower_next : (red : Bool) (wall : List ℕ) (ds : List Deed) (given : Four Answer) (n : Deed) → is_wall red wall ≡ true → All (λ s. s < 4) (kan_seats ds) → newest ds ≡ Some n → has_seats n ≡ true → AllLawful red ds given →
     IfAny (IsNext red wall ds) (follows wall ds given n)
@@ -169,7 +169,7 @@ follower_next red wall ds given (Draw who tile replacement) h kan e seats c =
 follower_next red wall ds given (Discard who tile drawn) h kan e seats c =
     or_other (IsNext red wall ds) _ _
     (call_next red wall ds who tile drawn given e (first_seat who _ seats) c)
-    (draw_next red wall ds (Discard who tile drawn) ((who + 1) % 4) h e refl refl (next_seat who))
+    (draw_next red wall ds (Discard who tile drawn) (next_seat who) h e refl refl (seat_below who))
 follower_next red wall ds given (Chi who target tile a b) h kan e seats c =
     act_next red wall ds (Chi who target tile a b) who (at_seat given who) e refl refl (first_seat who _ seats) (clean_at red ds given who (first_seat who _ seats) c)
 follower_next red wall ds given (Pon who target tile a b) h kan e seats c =

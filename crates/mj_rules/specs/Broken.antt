@@ -1,5 +1,5 @@
 -- Which rule an answer breaks, out of what its seat may know.
-use Rattle.std.specs.Prelude.{ℕ, ◌+◌, ◌-◌, ◌%◌, ◌==◌, ◌&&◌, ◌||◌, Bool, true, false, not, nat_lt, nat_le, if◌then◌else◌, List, [], ◌∷◌, Option, Some, None, option_map, flat_map}
+use Rattle.std.specs.Prelude.{ℕ, ◌-◌, ◌==◌, ◌&&◌, ◌||◌, Bool, true, false, not, nat_lt, nat_le, if◌then◌else◌, List, [], ◌∷◌, Option, Some, None, option_map, flat_map}
 use Rattle.std.specs.List.{list_any, list_all}
 use Rattle.mj_tiles.specs.Faces.{is_red, number_in, kind_of, tile_order}
 use Rattle.mj_tiles.specs.declared.meld.Meld.{Meld}
@@ -13,6 +13,8 @@ use Rattle.mj_deeds.specs.declared.rule.Rule.{Rule}
 use Rattle.mj_deeds.specs.declared.rule.Rule.TheVariants as rules
 use Rattle.mj_deeds.specs.declared.deed.Deed.{Deed}
 use Rattle.mj_deeds.specs.declared.deed.Deed.TheVariants as deeds
+use Rattle.mj_deeds.specs.Four.{next_seat}
+use Rattle.mj_deeds.specs.Pais.{face_in}
 use Rattle.mj_deeds.specs.Facts.{newest, gained, lost, drawn_tile, seat_melds, kans, live_tiles, is_pon}
 
 -- What a window is about: whose turn it is and what it may be answered to.
@@ -184,11 +186,6 @@ own_tiles (ClosedKan actor a b c d) = a ∷ b ∷ c ∷ d ∷ []
 own_tiles (AddedKan actor tile a b c) = tile ∷ []
 own_tiles other = []
 
--- The face of a tile that is known.
-abbrev pub face_in : Pai → List ℕ
-face_in Hidden = []
-face_in (Known tile) = tile ∷ []
-
 -- The faces of the own tiles that an answer names.
 abbrev pub own_faces : Answer → List ℕ
 own_faces answer = flat_map face_in (own_tiles answer)
@@ -236,7 +233,7 @@ is_bad_set view other = false
 
 -- A run is called from the seat before alone.
 abbrev pub is_before : Turn → ℕ → Bool
-is_before (Discarded who tile) seat = (who + 1) % 4 == seat
+is_before (Discarded who tile) seat = next_seat who == seat
 is_before other seat = false
 
 abbrev pub is_not_left : ℕ → Turn → Answer → Bool
@@ -302,10 +299,10 @@ abbrev pub first_broken : List (Bool × Rule) → Option Rule
 first_broken [] = None
 first_broken (rule ∷ rules) = if rule.0 then Some rule.1 else first_broken rules
 
--- The first rule that an answer of a seat breaks, by what the seat may know.
-unfoldable pub broken_by : Bool → ℕ → View → Answer → Option Rule
-broken_by red seat view answer = first_broken
-    ((is_unread answer, rules.Unreadable)
+-- What the rules ask of an answer of a seat, in the order of refusal: a rule is broken where its question is answered by yes.
+abbrev pub questions : Bool → ℕ → View → Answer → List (Bool × Rule)
+questions red seat view answer =
+    (is_unread answer, rules.Unreadable)
     ∷ (names_another seat answer, rules.NotYours)
     ∷ (not (is_open seat view.turn answer), rules.NotNow)
     ∷ (names_no_tile red answer, rules.NoSuchTile)
@@ -319,7 +316,11 @@ broken_by red seat view answer = first_broken
     ∷ (is_stuck view answer, rules.StuckCall)
     ∷ (is_fifth_kan view answer, rules.KanFull)
     ∷ (is_dry_kan view answer, rules.KanDry)
-    ∷ [])
+    ∷ []
+
+-- The first rule that an answer of a seat breaks, by what the seat may know.
+unfoldable pub broken_by : Bool → ℕ → View → Answer → Option Rule
+broken_by red seat view answer = first_broken (questions red seat view answer)
 
 -- The first rule that an answer of a seat breaks in the window on the newest deed.
 abbrev pub broken : Bool → List Deed → ℕ → Answer → Option Rule

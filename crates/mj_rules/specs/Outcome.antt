@@ -10,7 +10,7 @@ use Rattle.mj_deeds.specs.declared.answer.Answer.{Answer}
 use Rattle.mj_deeds.specs.declared.answer.Answer.TheVariants as answers
 use Rattle.mj_deeds.specs.declared.deed.Deed.{Deed}
 use Rattle.mj_deeds.specs.declared.deed.Deed.TheVariants.{StartGame, StartHand, Draw, Discard, Chi, Pon, OpenKan, ClosedKan, AddedKan, Dora}
-use Rattle.mj_deeds.specs.Four.{at_seat, for_each_seat}
+use Rattle.mj_deeds.specs.Four.{at_seat, for_each_seat, next_seat}
 use Rattle.mj_deeds.specs.Facts.{newest, live_draws, live_tiles, kans, kan_seats, indicators}
 
 -- The wall of a hand, counted from 0: the walls are taken in turn.
@@ -96,7 +96,7 @@ abbrev pub follows : List ℕ → List Deed → Four Answer → Deed → Option 
 follows wall deeds given (StartGame names) = Some (first_hand wall)
 follows wall deeds given (StartHand round number honba deposits dealer indicator hands) = next_draw wall deeds dealer
 follows wall deeds given (Draw seat tile replacement) = act_of seat (at_seat given seat)
-follows wall deeds given (Discard seat tile drawn) = or_else (call_of given) (next_draw wall deeds ((seat + 1) % 4))
+follows wall deeds given (Discard seat tile drawn) = or_else (call_of given) (next_draw wall deeds (next_seat seat))
 follows wall deeds given (Chi seat target tile a b) = act_of seat (at_seat given seat)
 follows wall deeds given (Pon seat target tile a b) = act_of seat (at_seat given seat)
 follows wall deeds given (OpenKan seat target tile a b c) = Some (next_dora wall deeds)

@@ -3,7 +3,7 @@ use Rattle.std.proofs.Common.{ℕ, ◌≡◌, ◌<◌, ◌≤◌, ◌+◌, Bool,
 use Rattle.std.proofs.lemmas.Bool.{cases_lt, ltb-true, lt-ltb, true≢false}
 use Rattle.std.proofs.lemmas.List.FromFn.{get_or-map-range_with_len, length-map-range_with_len}
 use Rattle.mj_tiles.specs.Counts.{all_kinds}
-use Rattle.mj_readings.specs.Sets.{is_orphan}
+use Rattle.mj_tiles.specs.Terminals.{is_terminal_or_honour}
 use Rattle.mj_readings.specs.Complete.{orphan_number}
 use Rattle.mj_suits.specs.Walk.{Improves}
 use Rattle.mj_suits.proofs.Near.{Improves-both, Improves-same, Improves-not}
@@ -20,7 +20,7 @@ unfolding all_kinds
 orphans_at double kind within = get_or-map-range_with_len (orphan_number double) 0 34 kind kind 0 within (omega arith)
 
 pub orphan_few : (double kind : ℕ) → orphan_number double kind ≤ 4
-orphan_few double kind = few (is_orphan kind) (eqb kind double)
+orphan_few double kind = few (is_terminal_or_honour kind) (eqb kind double)
   where
     few : (a b : Bool) → cond a (cond b 2 1) 0 ≤ 4
     few true true = omega arith
@@ -34,12 +34,12 @@ written_orphans double kind target last h = written_all (orphan_number double) (
 
 -- ---- the search
 
-pub double_kept : (held target : List ℕ) (double : ℕ) (a b : Option (ℕ × List ℕ)) → is_orphan double ≡ true → target ≡ with_two (map (orphan_number double) all_kinds)
+pub double_kept : (held target : List ℕ) (double : ℕ) (a b : Option (ℕ × List ℕ)) → is_terminal_or_honour double ≡ true → target ≡ with_two (map (orphan_number double) all_kinds)
     → Improves held (λ t. t ≡ target) a b → Improves held (IsOrphansWith double) a b
 double_kept held target double a b orphan is found =
     Improves-same held (IsOrphansWith double) (λ t. t ≡ target) a b (λ t e. record { orphan = orphan; numbers_are = e ∙ is }) (λ t h. h.numbers_are ∙ sym is) found
 
-pub double_off : (held : List ℕ) (double : ℕ) (a : Option (ℕ × List ℕ)) → is_orphan double ≡ false → Improves held (IsOrphansWith double) a a
+pub double_off : (held : List ℕ) (double : ℕ) (a : Option (ℕ × List ℕ)) → is_terminal_or_honour double ≡ false → Improves held (IsOrphansWith double) a a
 double_off held double a absent = Improves-not held (IsOrphansWith double) a (λ t h. absurd (true≢false (sym h.orphan ∙ absent)))
 
 pub doubles_start : (held : List ℕ) (kind : ℕ) (a : Option (ℕ × List ℕ)) → kind ≡ 0 → Improves held (IsOrphansBelow kind) a a

@@ -1,10 +1,11 @@
 -- The join of the suits, one suit after another.
-use Rattle.std.proofs.Common.{◌≡◌, ◌≢◌, ◌⊎◌, eqb, Bool, true, false, ℕ, ◌+◌, ◌-◌, ◌/◌, ◌%◌, ◌<◌, ◌≤◌, Option, Some, List, [], ◌∷◌, ◌++◌, length, get_or, take, drop, refl, sym, subst, ap, ◌∙◌, inl, inr, arith, Ordering, Less, Equal, Greater}
+use Rattle.std.proofs.Common.{◌≡◌, ◌≢◌, ◌⊎◌, eqb, Bool, true, false, ℕ, suc, ◌+◌, ◌-◌, ◌*◌, ◌/◌, ◌%◌, ◌<◌, ◌≤◌, Option, None, Some, List, [], ◌∷◌, ◌++◌, length, get_or, take, drop, refl, sym, subst, ap, ◌∙◌, inl, inr, arith, Ordering, Less, Equal, Greater}
 use Rattle.std.specs.List.{flat_map, All}
+use Rattle.std.specs.Prelude.{IsSomeAnd, MatchBool}
 use Rattle.std.specs.Ordering.{nat_cmp, is_gt, ordering_then}
 use Rattle.std.specs.Cmp.Lexicographic.{slice_cmp}
-use Rattle.std.proofs.lemmas.Bool.{cases_lt, cases_eq, eq-eqb}
-use Rattle.std.proofs.lemmas.List.{append-nil, append_assoc, take_all, drop_at, take-append-drop, length-take-le, drop-drop}
+use Rattle.std.proofs.lemmas.Bool.{cases_lt, cases_eq, eq-eqb, MatchBool-at_true}
+use Rattle.std.proofs.lemmas.List.{append-nil, append_assoc, take_all, drop_at, take-append-drop, length-take-le, drop-drop, length-append, take_at}
 use Rattle.std.proofs.lemmas.List.Elements.{All-head, All-tail}
 use Rattle.std.proofs.lemmas.Cmp.{tied_itself, nat_list_cmp_total, nat_cmp_total}
 use Rattle.mj_suits.specs.Targets.{missing, IsTarget, IsNearest}
@@ -13,8 +14,10 @@ use Rattle.mj_suits.proofs.Near.{AsGood-trans, Improves-both, Improves-same, Imp
 use Rattle.mj_suits.proofs.Bounds.{missing-append}
 use Rattle.mj_suits.proofs.Whole.{length-counts_of}
 use Rattle.mj_shanten.specs.declared.suits.Suit.{Suit}
+use Rattle.mj_shanten.specs.declared.suits.Part.{Part}
+use Rattle.mj_shanten.specs.declared.suits.Asked.{Asked}
 use Rattle.mj_shanten.specs.declared.suits.Plan.{Plan}
-use Rattle.mj_shanten.specs.Suits.{IsSuit, Begins, Any, IsJoint, Follows, AreLeft, IsChoice, IsPlanWith, choice, pairs}
+use Rattle.mj_shanten.specs.Suits.{IsSuit, IsLimit, IsPart, IsAsked, Begins, Any, IsJoint, Follows, AreLeft, IsChoice, IsShare, IsPlanWith, choice, pairs, suits_in}
 
 -- the places of the order before this one
 abbrev pub IsBefore : ℕ → ℕ → Bool → Type 0
@@ -134,15 +137,37 @@ part_refused held begun suit R place sets pair a never = Improves-not held (Foll
         let f = h.more.pair_is in
         never (omega arith) (omega arith)
 
--- the suit has no such target
-pub part_missing : (held begun : List ℕ) (suit : Suit) (R : ℕ → Bool → List ℕ → Type 0) (place sets : ℕ) (pair : Bool) (a : Option (ℕ × List ℕ)) → ((t : List ℕ) → IsTarget suit.room suit.runs (place / 2) (eqb (place % 2) 1) t → ⊥) → Improves held (Follows begun (Begins suit (IsChoice place) R sets pair)) a a
-part_missing held begun suit R place sets pair a never = Improves-not held (Follows begun (Begins suit (IsChoice place) R sets pair)) a (λ t h. absurd (refused t h))
+-- no more than four of each number are missing
+few_missing : (t held : List ℕ) → ((n : ℕ) → n < length t → get_or t n 0 ≤ 4) → missing t held ≤ 4 * length t
+few_missing [] held few = omega arith
+few_missing (x ∷ xs) [] few = (let rest : missing xs [] ≤ 4 * length xs = few_missing xs [] (λ n inside. few (suc n) (omega arith)) in let here : x ≤ 4 = few 0 (omega arith) in omega arith)
+few_missing (x ∷ xs) (h ∷ hs) few = (let rest : missing xs hs ≤ 4 * length xs = few_missing xs hs (λ n inside. few (suc n) (omega arith)) in let here : x ≤ 4 = few 0 (omega arith) in omega arith)
+
+good_enough : (a : Option (ℕ × List ℕ)) (least number : ℕ) (t : List ℕ) → IsSomeAnd a (λ x. x.0 < least) → least ≤ number → AsGood a (Some (number, t))
+good_enough None least number t some more = absurd some
+good_enough (Some x) least number t some more = inl (omega arith)
+
+-- each target of the suit misses so many that with those that are missed already there are more than the best hand misses
+pub part_far : (held begun passed later : List ℕ) (suit : Suit) (R : ℕ → Bool → List ℕ → Type 0) (place sets : ℕ) (pair : Bool) (a : Option (ℕ × List ℕ))
+    → held ≡ passed ++ (suit.counts ++ later) → length begun ≡ length passed → length suit.counts ≡ 9
+    → ((here : List ℕ) → IsTarget suit.room suit.runs (place / 2) (eqb (place % 2) 1) here → IsSomeAnd a (λ x. x.0 < missing begun passed + missing here suit.counts))
+    → Improves held (Follows begun (Begins suit (IsChoice place) R sets pair)) a a
+part_far held begun passed later suit R place sets pair a held_is same nine far = Improves-not held (Follows begun (Begins suit (IsChoice place) R sets pair)) a
+    (λ t h. good_enough a _ _ t (far h.more.here (target t h)) (enough t h))
   where
-    refused : (t : List ℕ) → Follows begun (Begins suit (IsChoice place) R sets pair) t → ⊥
-    refused t h =
-        never h.more.here
-        (subst (λ p. IsTarget suit.room suit.runs (place / 2) p h.more.here) (choice_pair h.more.sets_here place h.more.pair_here h.more.which)
-        (subst (λ s. IsTarget suit.room suit.runs s h.more.pair_here h.more.here) (choice_sets h.more.sets_here place h.more.pair_here h.more.which) h.more.target))
+    target : (t : List ℕ) (h : Follows begun (Begins suit (IsChoice place) R sets pair) t) → IsTarget suit.room suit.runs (place / 2) (eqb (place % 2) 1) h.more.here
+    target t h =
+        subst (λ p. IsTarget suit.room suit.runs (place / 2) p h.more.here) (choice_pair h.more.sets_here place h.more.pair_here h.more.which)
+        (subst (λ s. IsTarget suit.room suit.runs s h.more.pair_here h.more.here) (choice_sets h.more.sets_here place h.more.pair_here h.more.which) h.more.target)
+
+    enough : (t : List ℕ) (h : Follows begun (Begins suit (IsChoice place) R sets pair) t) → missing begun passed + missing h.more.here suit.counts ≤ missing t held
+    enough t h =
+        let long : length h.more.here ≡ length suit.counts = ap length h.more.target.made ∙ length-counts_of _ ∙ sym nine in
+        let tiles : t ≡ begun ++ (h.more.here ++ h.more.rest) = h.hand_is ∙ ap (λ r. begun ++ r) h.more.tiles_are in
+        let parts : missing (begun ++ (h.more.here ++ h.more.rest)) (passed ++ (suit.counts ++ later)) ≡ missing begun passed + (missing h.more.here suit.counts + missing h.more.rest later) =
+        missing-append begun (h.more.here ++ h.more.rest) passed (suit.counts ++ later) same ∙ ap (λ k. missing begun passed + k) (missing-append h.more.here h.more.rest suit.counts later long) in
+        let whole : missing t held ≡ missing begun passed + (missing h.more.here suit.counts + missing h.more.rest later) = ap (λ u. missing u held) tiles ∙ ap (λ u. missing (begun ++ (h.more.here ++ h.more.rest)) u) held_is ∙ parts in
+        omega arith
 
 -- the suit's nearest target, with what the other suits have for each plan that goes on with it
 part_taken : (held begun passed later : List ℕ) (suit : Suit) (R : ℕ → Bool → List ℕ → Type 0) (place sets left : ℕ) (pair pair_left : Bool) (number : ℕ) (part : List ℕ) (a b : Option (ℕ × List ℕ))
@@ -216,18 +241,67 @@ place_parts place = elim (cases_eq (place % 2) 1) [
   | inr even ↦ (let f : place % 2 ≡ 0 = omega arith in let e : pairs (eqb (place % 2) 1) ≡ 0 = ap (λ n. pairs (eqb n 1)) f in omega arith)
 ]
 
-pub part_step : (held : List ℕ) (suit : Suit) (others : List Suit) (plan more : Plan) (place number : ℕ) (nine : List ℕ) (a b : Option (ℕ × List ℕ))
-    → AreLeft held (suit ∷ others) plan → length plan.target ≡ 36 → length suit.counts ≡ 9
-    → IsPlanWith plan (place / 2) (eqb (place % 2) 1) nine more
-    → IsNearest suit.counts (IsTarget suit.room suit.runs (place / 2) (eqb (place % 2) 1)) number nine
-    → Improves held (Follows (take more.done more.target) (IsJoint others more.sets more.pair)) a b
-    → Improves held (Follows (take plan.done plan.target) (Begins suit (IsChoice place) (IsJoint others) plan.sets plan.pair)) a b
-part_step held suit others plan more place number nine a b are size nine_size is near found =
-    part_taken held (take plan.done plan.target) (take plan.done held) (flat_map (λ s. s.counts) others) suit (IsJoint others) place plan.sets more.sets plan.pair more.pair number nine a b
-    (sym (take-append-drop plan.done held) ∙ ap (λ r. take plan.done held ++ r) are.left)
-    (length-take-le plan.done plan.target (omega arith) ∙ sym (length-take-le plan.done held (let e = are.held_size in omega arith)))
+held_parts : (held : List ℕ) (asked : Asked) (others : List Asked) (plan : Plan) → AreLeft held (asked ∷ others) plan → held ≡ take plan.done held ++ (asked.suit.counts ++ flat_map (λ (s : Asked). s.suit.counts) others)
+held_parts held asked others plan are = sym (take-append-drop plan.done held) ∙ ap (λ r. take plan.done held ++ r) are.left
+
+same_fronts : (held : List ℕ) (asked : Asked) (others : List Asked) (plan : Plan) → AreLeft held (asked ∷ others) plan → length plan.target ≡ 36 → length (take plan.done plan.target) ≡ length (take plan.done held)
+same_fronts held asked others plan are size = (let d = are.done_is in length-take-le plan.done plan.target (omega arith) ∙ sym (length-take-le plan.done held (let e = are.held_size in omega arith)))
+
+pub nearest_found : (suit : Suit) (limit place : ℕ) (part : Part) → IsPart suit limit place part → part.found ≡ true → IsNearest suit.counts (IsTarget suit.room suit.runs (place / 2) (eqb (place % 2) 1)) part.number part.target
+nearest_found suit limit place part is found = MatchBool-at_true _ _ found is
+
+pub part_step : (held : List ℕ) (asked : Asked) (others : List Asked) (plan more : Plan) (place : ℕ) (part : Part) (a b : Option (ℕ × List ℕ))
+    → AreLeft held (asked ∷ others) plan → length plan.target ≡ 36 → length asked.suit.counts ≡ 9
+    → IsPlanWith plan (place / 2) (eqb (place % 2) 1) part more
+    → IsNearest asked.suit.counts (IsTarget asked.suit.room asked.suit.runs (place / 2) (eqb (place % 2) 1)) part.number part.target
+    → Improves held (Follows (take more.done more.target) (IsJoint (suits_in others) more.sets more.pair)) a b
+    → Improves held (Follows (take plan.done plan.target) (Begins asked.suit (IsChoice place) (IsJoint (suits_in others)) plan.sets plan.pair)) a b
+part_step held asked others plan more place part a b are size nine_size is near found =
+    part_taken held (take plan.done plan.target) (take plan.done held) (flat_map (λ (s : Asked). s.suit.counts) others) asked.suit (IsJoint (suits_in others)) place plan.sets more.sets plan.pair more.pair part.number part.target a b
+    (held_parts held asked others plan are)
+    (same_fronts held asked others plan are size)
     nine_size (place_parts place) is.sets_are is.pair_is near
-    (subst (λ u. Improves held (Follows u (IsJoint others more.sets more.pair)) a b) is.begun found)
+    (subst (λ u. Improves held (Follows u (IsJoint (suits_in others) more.sets more.pair)) a b) is.begun found)
+
+-- the best hand misses fewer than what goes on with this part
+far_here : (suit : Suit) (limit number place : ℕ) (found : Bool) (part : Part) (a : Option (ℕ × List ℕ)) (here : List ℕ) → IsSuit suit → IsLimit a limit
+    → MatchBool found (IsNearest suit.counts (IsTarget suit.room suit.runs (place / 2) (eqb (place % 2) 1)) part.number part.target)
+    ((target : List ℕ) → IsTarget suit.room suit.runs (place / 2) (eqb (place % 2) 1) target → limit < missing target suit.counts)
+    → (found ≡ false) ⊎ IsSomeAnd a (λ x. x.0 < number + part.number)
+    → IsTarget suit.room suit.runs (place / 2) (eqb (place % 2) 1) here → IsSomeAnd a (λ x. x.0 < number + missing here suit.counts)
+far_here suit limit number place false part a here is (inl large) far why target =
+    let beyond : limit < missing here suit.counts = far here target in
+    let nine : length here ≡ 9 = ap length target.made ∙ length-counts_of _ in
+    let few : missing here suit.counts ≤ 4 * length here = few_missing here suit.counts (λ n inside. (let small : n < 9 = omega arith in let w = target.within n small in let f = is.of_four n small in omega arith)) in
+    absurd (omega arith)
+far_here suit limit number place false part None here is (inr some) far why target = absurd some
+far_here suit limit number place false part (Some x) here is (inr some) far why target = (let beyond : limit < missing here suit.counts = far here target in let s : x.0 ≤ limit = some in omega arith)
+far_here suit limit number place true part a here is limited near (inl not_found) target = absurd (cc)
+far_here suit limit number place true part None here is limited near (inr some) target = absurd some
+far_here suit limit number place true part (Some x) here is limited near (inr some) target = (let least = near.least here target in let s : x.0 < number + part.number = some in omega arith)
+
+pub part_too_far : (held : List ℕ) (asked : Asked) (others : List Asked) (plan : Plan) (place : ℕ) (part : Part) (a : Option (ℕ × List ℕ))
+    → AreLeft held (asked ∷ others) plan → length plan.target ≡ 36 → IsSuit asked.suit → IsLimit a plan.limit → IsPart asked.suit plan.limit place part
+    → (part.found ≡ false) ⊎ IsSomeAnd a (λ x. x.0 < plan.number + part.number)
+    → Improves held (Follows (take plan.done plan.target) (Begins asked.suit (IsChoice place) (IsJoint (suits_in others)) plan.sets plan.pair)) a a
+part_too_far held asked others plan place part a are size is limited part_is why =
+    part_far held (take plan.done plan.target) (take plan.done held) (flat_map (λ (s : Asked). s.suit.counts) others) asked.suit (IsJoint (suits_in others)) place plan.sets plan.pair a
+    (held_parts held asked others plan are)
+    (same_fronts held asked others plan are size)
+    is.nine
+    (λ here target. subst (λ k. IsSomeAnd a (λ x. x.0 < k + missing here asked.suit.counts)) are.number_is (far_here asked.suit plan.limit plan.number place part.found part a here is limited part_is why target))
+
+-- a better hand is as well within the limit
+pub limit_kept : (old new : Option (ℕ × List ℕ)) (limit : ℕ) → IsLimit old limit → AsGood new old → IsLimit new limit
+limit_kept old new limit (inl large) good = inl large
+limit_kept None new limit (inr some) good = absurd some
+limit_kept (Some x) None limit (inr some) good = absurd good
+limit_kept (Some x) (Some y) limit (inr some) (inl less) = (let s : x.0 ≤ limit = some in inr (let r : y.0 ≤ limit = omega arith in r))
+limit_kept (Some x) (Some y) limit (inr some) (inr level) = (let s : x.0 ≤ limit = some in let e : y.0 ≡ x.0 = level.0 in inr (let r : y.0 ≤ limit = omega arith in r))
+
+pub share_refused : (held begun : List ℕ) (suit : Suit) (others : List Asked) (plan : Plan) (place : ℕ) (a : Option (ℕ × List ℕ))
+    → (IsShare plan (place / 2) (eqb (place % 2) 1) → ⊥) → Improves held (Follows begun (Begins suit (IsChoice place) (IsJoint (suits_in others)) plan.sets plan.pair)) a a
+share_refused held begun suit others plan place a never = part_refused held begun suit (IsJoint (suits_in others)) place plan.sets plan.pair a (λ few one. never (few, one))
 
 -- ---- one place of the order after another
 
@@ -274,44 +348,104 @@ choices_end held begun suit R sets pair place a b few last found =
 
 -- ---- the same for the functions
 
-pub first_and_others : (d : Suit) (suits : List Suit) → 1 ≤ length suits → suits ≡ get_or suits 0 d ∷ take (length suits - 1) (drop 1 suits)
+take_front : (xs ys zs : List ℕ) (n : ℕ) → length (xs ++ ys) ≡ n → take n (xs ++ (ys ++ zs)) ≡ xs ++ ys
+take_front xs ys zs n long = ap (take n) (sym (append_assoc xs ys zs)) ∙ take_at (xs ++ ys) zs n long
+
+pub first_and_others : (d : Asked) (suits : List Asked) → 1 ≤ length suits → suits ≡ get_or suits 0 d ∷ take (length suits - 1) (drop 1 suits)
 first_and_others d [] some = absurd (omega arith)
 first_and_others d (suit ∷ others) some =
     let fewer : length (suit ∷ others) - 1 ≡ length others = omega arith in
     ap (λ r. suit ∷ r) (sym (ap (λ n. take n others) fewer ∙ take_all (length others) others (omega arith)))
 
-none_left : (suits : List Suit) → length suits < 1 → suits ≡ []
+none_left : (suits : List Asked) → length suits < 1 → suits ≡ []
 none_left [] few = refl
 none_left (suit ∷ others) few = absurd (omega arith)
 
-pub whole_step : (held : List ℕ) (suits : List Suit) (plan : Plan) (a b : Option (ℕ × List ℕ)) → AreLeft held suits plan → length suits < 1 → length plan.target ≡ 36 → plan.sets ≡ 0 → plan.pair ≡ false
-    → Improves held (λ t. t ≡ plan.target) a b → Improves held (Follows (take plan.done plan.target) (IsJoint suits plan.sets plan.pair)) a b
+pub whole_step : (held : List ℕ) (suits : List Asked) (plan : Plan) (a b : Option (ℕ × List ℕ)) → AreLeft held suits plan → length suits < 1 → length plan.target ≡ 36 → plan.sets ≡ 0 → plan.pair ≡ false
+    → Improves held (λ t. t ≡ plan.target) a b → Improves held (Follows (take plan.done plan.target) (IsJoint (suits_in suits) plan.sets plan.pair)) a b
 whole_step held suits plan a b are few size none no_pair found =
-    subst (λ s. Improves held (Follows (take plan.done plan.target) (IsJoint s plan.sets plan.pair)) a b) (sym (none_left suits few))
+    subst (λ s. Improves held (Follows (take plan.done plan.target) (IsJoint (suits_in s) plan.sets plan.pair)) a b) (sym (none_left suits few))
     (whole_plan held plan.target plan.done plan.sets plan.pair a b size (let e = are.done_is in omega arith) none no_pair found)
 
-pub unfinished_step : (held : List ℕ) (suits : List Suit) (plan : Plan) (a : Option (ℕ × List ℕ)) → length suits < 1 → (plan.sets ≡ 0 → plan.pair ≡ false → ⊥)
-    → Improves held (Follows (take plan.done plan.target) (IsJoint suits plan.sets plan.pair)) a a
+pub unfinished_step : (held : List ℕ) (suits : List Asked) (plan : Plan) (a : Option (ℕ × List ℕ)) → length suits < 1 → (plan.sets ≡ 0 → plan.pair ≡ false → ⊥)
+    → Improves held (Follows (take plan.done plan.target) (IsJoint (suits_in suits) plan.sets plan.pair)) a a
 unfinished_step held suits plan a few never =
-    subst (λ s. Improves held (Follows (take plan.done plan.target) (IsJoint s plan.sets plan.pair)) a a) (sym (none_left suits few))
+    subst (λ s. Improves held (Follows (take plan.done plan.target) (IsJoint (suits_in s) plan.sets plan.pair)) a a) (sym (none_left suits few))
     (unfinished_plan held (take plan.done plan.target) plan.sets plan.pair a never)
 
-pub suits_step : (held : List ℕ) (suits : List Suit) (d : Suit) (plan : Plan) (place : ℕ) (a b : Option (ℕ × List ℕ)) → 1 ≤ length suits → plan.sets ≤ 4 → 10 ≤ place
-    → Improves held (Follows (take plan.done plan.target) (Begins (get_or suits 0 d) (IsBefore place) (IsJoint (take (length suits - 1) (drop 1 suits))) plan.sets plan.pair)) a b
-    → Improves held (Follows (take plan.done plan.target) (IsJoint suits plan.sets plan.pair)) a b
+-- at the last suit all that is to come is chosen
+last_suit : (held begun : List ℕ) (suit : Suit) (others : List Asked) (sets : ℕ) (pair : Bool) (place : ℕ) (a b : Option (ℕ × List ℕ)) → length others ≡ 0 → place ≡ choice sets pair
+    → Improves held (Follows begun (Begins suit (IsChoice place) (IsJoint (suits_in others)) sets pair)) a b → Improves held (Follows begun (Begins suit Any (IsJoint (suits_in others)) sets pair)) a b
+last_suit held begun suit (other ∷ others) sets pair place a b none all found = absurd (omega arith)
+last_suit held begun suit [] sets pair place a b none all found =
+    Improves-same held (Follows begun (Begins suit Any (IsJoint []) sets pair)) (Follows begun (Begins suit (IsChoice place) (IsJoint []) sets pair)) a b
+    (λ t. follows_which begun suit (IsChoice place) Any (IsJoint []) sets pair t (λ s p few h. tt))
+    chosen found
+  where
+    chosen : (t : List ℕ) → Follows begun (Begins suit Any (IsJoint []) sets pair) t → Follows begun (Begins suit (IsChoice place) (IsJoint []) sets pair) t
+    chosen t h = record {
+      rest = h.rest;
+      more = record {
+        here = h.more.here;
+        rest = h.more.rest;
+        sets_here = h.more.sets_here;
+        sets_left = h.more.sets_left;
+        pair_here = h.more.pair_here;
+        pair_left = h.more.pair_left;
+        which =
+            let none_left : h.more.sets_left ≡ 0 = h.more.more.0 in
+            let no_pair : pairs h.more.pair_left ≡ 0 = ap pairs h.more.more.1.0 in
+            let e = h.more.sets_are in
+            let f = h.more.pair_is in
+            omega arith;
+        target = h.more.target;
+        more = h.more.more;
+        sets_are = h.more.sets_are;
+        pair_is = h.more.pair_is;
+        tiles_are = h.more.tiles_are;
+      };
+      hand_is = h.hand_is;
+    }
+
+pub last_step : (held : List ℕ) (suits : List Asked) (d : Asked) (plan : Plan) (place : ℕ) (a b : Option (ℕ × List ℕ)) → 1 ≤ length suits → length (take (length suits - 1) (drop 1 suits)) ≡ 0 → place ≡ choice plan.sets plan.pair
+    → Improves held (Follows (take plan.done plan.target) (Begins (get_or suits 0 d).suit (IsChoice place) (IsJoint (suits_in (take (length suits - 1) (drop 1 suits)))) plan.sets plan.pair)) a b
+    → Improves held (Follows (take plan.done plan.target) (IsJoint (suits_in suits) plan.sets plan.pair)) a b
+last_step held suits d plan place a b some none all found =
+    subst (λ s. Improves held (Follows (take plan.done plan.target) (IsJoint (suits_in s) plan.sets plan.pair)) a b) (sym (first_and_others d suits some))
+    (last_suit held (take plan.done plan.target) (get_or suits 0 d).suit (take (length suits - 1) (drop 1 suits)) plan.sets plan.pair place a b none all found)
+
+pub suits_step : (held : List ℕ) (suits : List Asked) (d : Asked) (plan : Plan) (place : ℕ) (a b : Option (ℕ × List ℕ)) → 1 ≤ length suits → plan.sets ≤ 4 → 10 ≤ place
+    → Improves held (Follows (take plan.done plan.target) (Begins (get_or suits 0 d).suit (IsBefore place) (IsJoint (suits_in (take (length suits - 1) (drop 1 suits)))) plan.sets plan.pair)) a b
+    → Improves held (Follows (take plan.done plan.target) (IsJoint (suits_in suits) plan.sets plan.pair)) a b
 suits_step held suits d plan place a b some few last found =
-    subst (λ s. Improves held (Follows (take plan.done plan.target) (IsJoint s plan.sets plan.pair)) a b) (sym (first_and_others d suits some))
-    (choices_end held (take plan.done plan.target) (get_or suits 0 d) (IsJoint (take (length suits - 1) (drop 1 suits))) plan.sets plan.pair place a b few last found)
+    subst (λ s. Improves held (Follows (take plan.done plan.target) (IsJoint (suits_in s) plan.sets plan.pair)) a b) (sym (first_and_others d suits some))
+    (choices_end held (take plan.done plan.target) (get_or suits 0 d).suit (IsJoint (suits_in (take (length suits - 1) (drop 1 suits)))) plan.sets plan.pair place a b few last found)
 
 -- what is left after a suit
-pub others_left : (held : List ℕ) (suit : Suit) (others : List Suit) (plan more : Plan) (sets : ℕ) (pair : Bool) (nine : List ℕ) → length suit.counts ≡ 9 → AreLeft held (suit ∷ others) plan → IsPlanWith plan sets pair nine more → AreLeft held others more
-others_left held suit others plan more sets pair nine size are is = record {
-  suits_are = All-tail IsSuit suit others are.suits_are;
-  left = ap (λ n. drop n held) is.done_is ∙ sym (drop-drop 9 plan.done held) ∙ ap (drop 9) are.left ∙ drop_at suit.counts (flat_map (λ s. s.counts) others) 9 size;
+pub others_left : (held : List ℕ) (asked : Asked) (others : List Asked) (plan more : Plan) (sets : ℕ) (pair : Bool) (place : ℕ) (part : Part) → length plan.target ≡ 36 → IsSuit asked.suit → AreLeft held (asked ∷ others) plan
+    → IsNearest asked.suit.counts (IsTarget asked.suit.room asked.suit.runs (place / 2) (eqb (place % 2) 1)) part.number part.target → IsPlanWith plan sets pair part more → AreLeft held others more
+others_left held asked others plan more sets pair place part target_size suit are near is = record {
+  suits_are = subst (λ l. All (IsAsked l) others) (sym is.same_limit) (All-tail (IsAsked plan.limit) asked others are.suits_are);
+  left = ap (λ n. drop n held) is.done_is ∙ sym (drop-drop 9 plan.done held) ∙ ap (drop 9) are.left ∙ drop_at asked.suit.counts (flat_map (λ (s : Asked). s.suit.counts) others) 9 suit.nine;
+  number_is = is.number_is ∙ both_numbers _ _ _ _ are.number_is near.number_is
+      ∙ sym (missing-append (take plan.done plan.target) part.target (take plan.done held) asked.suit.counts (same_fronts held asked others plan are target_size))
+      ∙ ap (λ u. missing u (take plan.done held ++ asked.suit.counts)) (sym is.begun)
+      ∙ ap (missing (take more.done more.target)) (sym held_front);
+  few_missed = (let e = is.few_missed in let f = is.done_is in let g = are.few_missed in omega arith);
   done_is = (let e = are.done_is in let f = is.done_is in omega arith);
   few = (let e = are.few in let f = is.sets_are in omega arith);
   held_size = are.held_size;
 }
+  where
+    both_numbers : (a b c d : ℕ) → a ≡ b → c ≡ d → a + c ≡ b + d
+    both_numbers a b c d e f = omega arith
 
-pub suit_of : (suit : Suit) (others : List Suit) → All IsSuit (suit ∷ others) → IsSuit suit
-suit_of suit others are = All-head IsSuit suit others are
+    held_front : take more.done held ≡ take plan.done held ++ asked.suit.counts
+    held_front =
+        ap (λ n. take n held) is.done_is
+        ∙ ap (take (plan.done + 9)) (held_parts held asked others plan are)
+        ∙ take_front (take plan.done held) asked.suit.counts (flat_map (λ (s : Asked). s.suit.counts) others) (plan.done + 9)
+        (length-append (take plan.done held) asked.suit.counts ∙ (let g : length (take plan.done held) ≡ plan.done = length-take-le plan.done held (let d = are.done_is in let e = are.held_size in omega arith) in let n = suit.nine in omega arith))
+
+pub asked_of : (limit : ℕ) (asked : Asked) (others : List Asked) → All (IsAsked limit) (asked ∷ others) → IsAsked limit asked
+asked_of limit asked others are = All-head (IsAsked limit) asked others are

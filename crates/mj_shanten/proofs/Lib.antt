@@ -13,3 +13,4 @@ pub mod Goal
 pub mod Path
 pub mod Least
 pub mod Closed
+mod Melded

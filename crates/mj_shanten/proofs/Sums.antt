@@ -9,7 +9,8 @@ use Rattle.mj_tiles.specs.Counts.{all_kinds}
 use Rattle.mj_readings.specs.declared.reading.Set.{Set}
 use Rattle.mj_readings.specs.declared.reading.SetForm.{SetForm}
 use Rattle.mj_readings.specs.declared.reading.SetForm.TheVariants.{Run, Triplet, Kan}
-use Rattle.mj_readings.specs.Sets.{tiles_of_set, tiles_of_form, is_concealed, is_concealed_form, is_orphan, tally}
+use Rattle.mj_tiles.specs.Terminals.{is_terminal_or_honour}
+use Rattle.mj_readings.specs.Sets.{tiles_of_set, tiles_of_form, is_concealed, is_concealed_form, tally}
 use Rattle.mj_readings.specs.Complete.{AreSetsAndPair, IsComplete, orphan_number}
 use Rattle.mj_suits.specs.Targets.{missing}
 use Rattle.mj_shanten.proofs.Parting.{concealed_form, run_low}
@@ -138,12 +139,12 @@ sum_pairs (y ∷ ys) each =
       | inr two ↦ (let d : ◌≡◌ {A = ℕ} (cond (eqb y 2) 1 0) 1 = ap (λ n. cond (eqb n 2) 1 0) two in omega arith)
     ]
 
-sum_orphans : (double : ℕ) → double < 34 → is_orphan double ≡ true → sum (map (orphan_number double) all_kinds) ≡ 14
-unfolding all_kinds is_orphan
-sum_orphans double low orphan = fourteen orphan (agree_below_at (λ d. not (is_orphan d) || eqb (sum (map (orphan_number d) all_kinds)) 14) (λ d. true) 34 double refl low)
+sum_orphans : (double : ℕ) → double < 34 → is_terminal_or_honour double ≡ true → sum (map (orphan_number double) all_kinds) ≡ 14
+unfolding all_kinds is_terminal_or_honour
+sum_orphans double low orphan = fourteen orphan (agree_below_at (λ d. not (is_terminal_or_honour d) || eqb (sum (map (orphan_number d) all_kinds)) 14) (λ d. true) 34 double refl low)
   where
-    fourteen : is_orphan double ≡ true → (not (is_orphan double) || eqb (sum (map (orphan_number double) all_kinds)) 14) ≡ true → sum (map (orphan_number double) all_kinds) ≡ 14
-    fourteen a b = elim (or_cases (not (is_orphan double)) (eqb (sum (map (orphan_number double) all_kinds)) 14) b) [
+    fourteen : is_terminal_or_honour double ≡ true → (not (is_terminal_or_honour double) || eqb (sum (map (orphan_number double) all_kinds)) 14) ≡ true → sum (map (orphan_number double) all_kinds) ≡ 14
+    fourteen a b = elim (or_cases (not (is_terminal_or_honour double)) (eqb (sum (map (orphan_number double) all_kinds)) 14) b) [
       | inl c ↦ absurd (false≢true (sym (ap not a) ∙ c))
       | inr c ↦ eqb-true _ _ c
     ]

@@ -1,7 +1,7 @@
 -- Seven pairs and thirteen orphans with two numbers more, and the choice of the pairs.
 use Rattle.std.specs.Prelude.{ℕ, ◌≡◌, ◌-◌, ◌==◌, ◌⊎◌, true, nat_le, nat_lt, if◌then◌else◌, List, [], ◌∷◌, length, map, count_by, IsTrue}
 use Rattle.mj_tiles.specs.Counts.{all_kinds}
-use Rattle.mj_readings.specs.Sets.{is_orphan}
+use Rattle.mj_tiles.specs.Terminals.{is_terminal_or_honour}
 use Rattle.mj_readings.specs.Complete.{is_seven_pairs, orphan_number, AreOrphans}
 use Rattle.mj_shanten.specs.Suits.{with_two, Padded}
 
@@ -17,7 +17,7 @@ pub record IsOrphans (counts : List ℕ) : Type 0 where
 
 -- thirteen orphans with this kind twice, where it is a terminal or an honour
 pub record IsOrphansWith (double : ℕ) (numbers : List ℕ) : Type 0 where
-  pub orphan : is_orphan double ≡ true
+  pub orphan : is_terminal_or_honour double ≡ true
   pub numbers_are : numbers ≡ with_two (map (orphan_number double) all_kinds)
 
 -- thirteen orphans with a kind below this one twice

@@ -2,7 +2,7 @@
 
 ghost use Rattle.std.specs.Prelude.{◌≡◌, ◌+◌, ◌<◌, map};
 ghost use Rattle.mj_tiles.specs.Counts.{all_kinds};
-ghost use Rattle.mj_readings.specs.Sets.{is_orphan};
+ghost use Rattle.mj_tiles.specs.Terminals.{is_terminal_or_honour};
 ghost use Rattle.mj_readings.specs.Complete.{orphan_number};
 ghost use Rattle.mj_suits.specs.Walk.{Improves};
 ghost use Rattle.mj_shanten.specs.Suits.{Padded, with_two};
@@ -55,9 +55,9 @@ fn number_in_orphans(double: u8, kind: u8) -> u8
 }
 
 // Whether the kind is a one or a nine of a suit, a wind or a dragon.
-#[tactic(auto, unfolding(mj_readings::specs::Sets::is_orphan))]
+#[tactic(auto, unfolding(mj_tiles::specs::Terminals::is_terminal_or_honour))]
 fn is_terminal_or_honour(kind: u8) -> bool
-    ensures { result ≡ is_orphan kind }
+    ensures { result ≡ is_terminal_or_honour kind }
 {
     kind >= 27 || kind % 9 == 0 || kind % 9 == 8
 }

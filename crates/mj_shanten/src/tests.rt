@@ -1,6 +1,7 @@
-ghost use Rattle.std.specs.Prelude.{◌≡◌, sum, IfSome};
+ghost use Rattle.std.specs.Prelude.{◌≡◌, sum, IsTrue, IfSome};
 ghost use Rattle.mj_tiles.specs.Counts.{NoFifth};
 ghost use Rattle.mj_shanten.specs.Exchanges.{IsNearestOf};
+ghost use Rattle.mj_shanten.specs.Room.{IsWithinRoom};
 
 use crate::{Nearest, exchange_path, shanten};
 use mj_tiles::{Counts, Kind, Tile, counts_of};
@@ -98,4 +99,61 @@ fn the_path_exchanges_surplus_for_missing_tiles(rt: HostRuntime) -> Result<(), F
         }
         None => Err("not thirteen")?,
     }
+}
+
+/// Four of each kind less the tiles of the meld 1m 2m 3m.
+const BESIDE_A_RUN: [u8; 34] = [
+    3, 3, 3, 4, 4, 4, 4, 4, 4, 4, 4, 4, 4, 4, 4, 4, 4, 4, 4, 4, 4, 4, 4, 4, 4, 4, 4, 4, 4, 4, 4, 4,
+    4, 4,
+];
+
+// What a hand of ten tiles with the meld 1m 2m 3m is nearest to.
+fn nearest_beside_a_run(counts: &Counts) -> Option<Nearest>
+    ensures { IfSome result (λ nearest. IsNearestOf counts.now nearest.number nearest.target) }
+{
+    let Some(room) = Counts::of(BESIDE_A_RUN) else {
+        return None;
+    };
+    if tiles_among(counts) != 10 || !is_within(counts, &room) {
+        return None;
+    }
+    Some(shanten(counts, &room, 1))
+}
+
+fn is_within(counts: &Counts, room: &Counts) -> bool
+    ensures { IsTrue result → IsWithinRoom counts.now room.now }
+{
+    let (counts, room) = (counts.numbers(), room.numbers());
+    for kind in 0..34 {
+        if counts[kind] > room[kind] {
+            return false;
+        }
+    }
+    true
+}
+
+#[test]
+fn hands_with_a_meld_have_their_shanten(rt: HostRuntime) -> Result<(), Fail> {
+    for (hand, number, target) in [
+        (
+            "4p 5p 6p 7s 8s 9s E E S S",
+            0,
+            "4p 5p 6p 7s 8s 9s E E E S S",
+        ),
+        (
+            "1m 1m 1m 2m 3m 4p 5p 6p 7s 8s",
+            0,
+            "1m 1m 1m 2m 3m 4p 5p 6p 6s 7s 8s",
+        ),
+        (
+            "1m 4m 7m 1p 4p 7p 1s 4s 7s E",
+            6,
+            "1m 1m 1m 2m 3m 4m 5m 6m 7m 1p 1p",
+        ),
+    ] {
+        let nearest = nearest_beside_a_run(&counts(rt.alloc(), hand)?).ok_or("not ten")?;
+        assert_eq!(rt; nearest.number, number);
+        assert_eq!(rt; nearest.target, counts(rt.alloc(), target)?);
+    }
+    Ok(())
 }

@@ -1,9 +1,9 @@
 -- The whole walk: its targets are those that are wanted.
-use Rattle.std.proofs.Common.{◌≡◌, ◌≢◌, ◌⊎◌, Bool, true, false, ℕ, zero, suc, ◌+◌, ◌≤◌, Option, None, Some, List, [], ◌∷◌, ◌++◌, length, get_or, replicate, refl, sym, subst, ap, ◌∙◌, inl, inr, arith, Greater}
+use Rattle.std.proofs.Common.{◌≡◌, ◌≢◌, ◌⊎◌, Bool, true, false, ℕ, zero, suc, ◌+◌, ◌≤◌, Option, None, Some, List, [], ◌∷◌, ◌++◌, length, get_or, replicate, ◌<◌, refl, sym, subst, ap, ◌∙◌, inl, inr, arith, Greater}
 use Rattle.std.specs.Ordering.{nat_cmp, is_gt}
 use Rattle.std.specs.Cmp.Lexicographic.{slice_cmp}
 use Rattle.std.specs.List.{list_all}
-use Rattle.std.specs.Prelude.{is_some, MatchOption}
+use Rattle.std.specs.Prelude.{is_some, MatchOption, IfSome}
 use Rattle.std.proofs.lemmas.Bool.{cases_lt, and_parts, true≢false, ltb-true, lt-ltb}
 use Rattle.mj_suits.specs.Sets.{tiles_of_set, tiles_of_sets, tiles_of_pair, count_of, is_well_formed, is_pair}
 use Rattle.mj_suits.specs.Search.{place, SetsFrom}
@@ -156,13 +156,36 @@ best_is_nearest held P (Some answer) h = record {
     no_greater x y (inl less) same greater = omega arith
     no_greater x y (inr level) same greater = true≢false (sym (ap is_gt greater) ∙ level.1)
 
-pub whole_walk : (held room : List ℕ) (runs : Bool) (at : ℕ) (chosen : List ℕ) (melds : ℕ) (paired : Bool) (b : Option (ℕ × List ℕ)) → at ≡ 0 → ((n : ℕ) → get_or chosen n 0 ≡ 0) → Improves held (Reaches room runs at chosen melds paired) None b
-    → MatchOption b ((t : List ℕ) → IsTarget room runs melds paired t → ⊥) (λ answer. IsNearest held (IsTarget room runs melds paired) answer.0 answer.1)
-whole_walk held room runs at chosen melds paired b first none h =
-    best_is_nearest held (IsTarget room runs melds paired) b
-    (Improves-same held (IsTarget room runs melds paired) (Reaches room runs at chosen melds paired) None b
+pub whole_walk : (held room : List ℕ) (runs : Bool) (at : ℕ) (chosen : List ℕ) (melds : ℕ) (paired : Bool) (a b : Option (ℕ × List ℕ)) → at ≡ 0 → ((n : ℕ) → get_or chosen n 0 ≡ 0) → Improves held (Reaches room runs at chosen melds paired) a b → Improves held (IsTarget room runs melds paired) a b
+whole_walk held room runs at chosen melds paired a b first none h =
+    Improves-same held (IsTarget room runs melds paired) (Reaches room runs at chosen melds paired) a b
     (λ t. reached_target room runs at chosen melds paired t first none)
-    (λ t. target_reached room runs at chosen melds paired t first none) h)
+    (λ t. target_reached room runs at chosen melds paired t first none) h
+
+-- what begins with a bound: what misses more than the bound is left out
+
+pub none_so_near : (held : List ℕ) (P : List ℕ → Type 0) (most : ℕ) (bound : ℕ × List ℕ) (b : Option (ℕ × List ℕ)) → Improves held P (Some bound) b → IfSome b (λ answer. most < answer.0) → (t : List ℕ) → P t → most < missing t held
+none_so_near held P most bound None h far t p = absurd h.kept
+none_so_near held P most bound (Some answer) h far t p = elim (h.best t p) [
+  | inl less ↦ omega arith
+  | inr level ↦ (let e : answer.0 ≡ missing t held = level.0 in omega arith)
+]
+
+pub one_so_near : (held : List ℕ) (P : List ℕ → Type 0) (most : ℕ) (bound : ℕ × List ℕ) (b : Option (ℕ × List ℕ)) → bound.0 ≡ most + 1 → Improves held P (Some bound) b → IfSome b (λ answer. answer.0 ≤ most)
+    → MatchOption b ((t : List ℕ) → P t → most < missing t held) (λ answer. IsNearest held P answer.0 answer.1)
+one_so_near held P most bound None more h near = absurd h.kept
+one_so_near held P most bound (Some answer) more h near = best_is_nearest held P (Some answer) record {
+  one = which h.one;
+  kept = tt;
+  best = h.best;
+}
+  where
+    which : (Some answer ≡ Some bound) ⊎ ((t : List ℕ) × P t × (Some answer ≡ Some (missing t held, t))) → (Some answer ≡ None) ⊎ ((t : List ℕ) × P t × (Some answer ≡ Some (missing t held, t)))
+    which (inl old) =
+        let same : answer ≡ bound = cc in
+        let e : answer.0 ≡ bound.0 = ap (λ x. x.0) same in
+        absurd (omega arith)
+    which (inr new) = inr new
 
 -- the counts of no tiles
 pub none_chosen : (n : ℕ) → get_or (zeros 9) n 0 ≡ 0

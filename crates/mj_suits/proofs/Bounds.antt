@@ -1,5 +1,5 @@
 -- What every target of a plan misses at least, and when the best target is out of its reach.
-use Rattle.std.proofs.Common.{◌≡◌, cond, eqb, Bool, true, false, ℕ, zero, suc, ◌+◌, ◌-◌, ◌*◌, ◌<◌, ◌≤◌, Option, None, Some, List, [], ◌∷◌, ◌++◌, map, length, get_or, take, drop, refl, sym, subst, ap, ap₂, ◌∙◌, inl, inr, arith, Ordering, Less, Equal, Greater}
+use Rattle.std.proofs.Common.{◌≡◌, cond, eqb, Bool, true, false, ℕ, zero, suc, ◌+◌, ◌-◌, ◌*◌, ◌<◌, ◌≤◌, max, Option, None, Some, List, [], ◌∷◌, ◌++◌, map, length, get_or, take, drop, refl, sym, subst, ap, ap₂, ◌∙◌, inl, inr, arith, Ordering, Less, Equal, Greater}
 use Rattle.std.specs.Ordering.{nat_cmp, is_gt, ordering_then}
 use Rattle.std.specs.Cmp.Lexicographic.{slice_cmp}
 use Rattle.std.specs.Prelude.{IsSomeAnd}
@@ -7,8 +7,9 @@ use Rattle.std.proofs.lemmas.Bool.{cases_lt, cases_Bool, and_parts, ltb-true, eq
 use Rattle.mj_suits.specs.Sets.{tiles_of_set, tiles_of_sets, tiles_of_pair, count_of, counts_of, numbers, is_well_formed}
 use Rattle.mj_suits.specs.Search.{place, SetsFrom}
 use Rattle.mj_suits.specs.Targets.{missing}
-use Rattle.mj_suits.specs.Walk.{AsNear, EyesFrom, Improves, Reaches, tiles_to_come, least_to_miss, IsOutOfReach}
+use Rattle.mj_suits.specs.Walk.{AsNear, EyesFrom, Improves, Reaches, SetsMiss, PairsMiss, IsPlan, tiles_to_come, missed_by_each, least_to_miss, IsOutOfReach}
 use Rattle.mj_suits.specs.declared.sets.SuitSet.{SuitSet}
+use Rattle.mj_suits.specs.declared.nearness.Aim.{Aim}
 use Rattle.mj_suits.specs.declared.nearness.Plan.{Plan}
 use Rattle.mj_suits.proofs.Tiles.{count_of-append, count_of-below_sets, count_of-other_pair}
 use Rattle.mj_suits.proofs.Whole.{get_or-counts_of, length-counts_of}
@@ -157,24 +158,81 @@ settled_below room runs at low plan t in_suit reach h n below =
     nothing : (t chosen whole sets pair : ℕ) → t ≡ chosen + whole → whole ≡ sets + pair → sets ≡ 0 → pair ≡ 0 → t ≡ chosen
     nothing t chosen whole sets pair a b c d = omega arith
 
+-- two parts of a target miss no more than the whole
+missing_both : (t first second held : List ℕ) → length t ≡ length first → length t ≡ length second → length t ≡ length held → ((n : ℕ) → n < length t → get_or t n 0 ≡ get_or first n 0 + get_or second n 0) → missing first held + missing second held ≤ missing t held
+missing_both [] [] [] held a b c parts = omega arith
+missing_both [] [] (m ∷ ms) held a b c parts = absurd (omega arith)
+missing_both [] (f ∷ fs) second held a b c parts = absurd (omega arith)
+missing_both (x ∷ xs) [] second held a b c parts = absurd (omega arith)
+missing_both (x ∷ xs) (f ∷ fs) [] held a b c parts = absurd (omega arith)
+missing_both (x ∷ xs) (f ∷ fs) (m ∷ ms) [] a b c parts = absurd (omega arith)
+missing_both (x ∷ xs) (f ∷ fs) (m ∷ ms) (h ∷ hs) a b c parts =
+    let here : x ≡ f + m = parts 0 (omega arith) in
+    let later : missing fs hs + missing ms hs ≤ missing xs hs = missing_both xs fs ms hs (omega arith) (omega arith) (omega arith) (λ n inside. parts (suc n) (omega arith)) in
+    omega arith
+
+missing_of_both : (held xs ys : List ℕ) → length held ≡ 9 → missing (counts_of xs) held + missing (counts_of ys) held ≤ missing (counts_of (xs ++ ys)) held
+missing_of_both held xs ys nine =
+    let sizes : (zs : List ℕ) → length (counts_of (xs ++ ys)) ≡ length (counts_of zs) = λ zs. length-counts_of (xs ++ ys) ∙ sym (length-counts_of zs) in
+    missing_both (counts_of (xs ++ ys)) (counts_of xs) (counts_of ys) held (sizes xs) (sizes ys) (length-counts_of (xs ++ ys) ∙ sym nine)
+    (λ n inside.
+    let high : n < 9 = subst (λ k. n < k) (length-counts_of (xs ++ ys)) inside in
+    get_or-counts_of (xs ++ ys) n high ∙ count_of-append n xs ys ∙ sym (ap₂ (λ a b. a + b) (get_or-counts_of xs n high) (get_or-counts_of ys n high)))
+
+-- so many sets miss so many times what each misses at least
+missed_by_sets : (held : List ℕ) (runs : Bool) (at least : ℕ) (sets : List SuitSet) → length held ≡ 9 → SetsMiss held runs least → SetsFrom runs at sets → length sets * least ≤ missing (counts_of (tiles_of_sets sets)) held
+missed_by_sets held runs at least [] nine misses from = omega arith
+missed_by_sets held runs at least (s ∷ ss) nine misses from =
+    let here : least ≤ missing (counts_of (tiles_of_set s)) held = misses s from.1 in
+    let later : length ss * least ≤ missing (counts_of (tiles_of_sets ss)) held = missed_by_sets held runs (place s) least ss nine misses from.2 in
+    one_more _ _ _ _ _ here later (missing_of_both held (tiles_of_set s) (tiles_of_sets ss) nine)
+  where
+    one_more : (n least here later whole : ℕ) → least ≤ here → n * least ≤ later → here + later ≤ whole → suc n * least ≤ whole
+    one_more n least here later whole a b c = omega arith
+
+missed_by_eyes : (held : List ℕ) (at least : ℕ) (pair : Bool) (last : Option ℕ) → PairsMiss held least → EyesFrom at pair last → cond pair least 0 ≤ missing (counts_of (tiles_of_pair last)) held
+missed_by_eyes held at least false last misses from = omega arith
+missed_by_eyes held at least true None misses from = absurd from
+missed_by_eyes held at least true (Some m) misses from = misses m from.1
+
+-- what is chosen and what each set and the pair to come miss at least
+missing_each : (aim : Aim) (at : ℕ) (plan : Plan) (t : List ℕ) → length aim.counts ≡ 9 → length plan.target ≡ 9 → SetsMiss aim.counts aim.runs aim.set_misses → PairsMiss aim.counts aim.pair_misses
+    → Reaches aim.room aim.runs at plan.target plan.melds plan.pair t → missing plan.target aim.counts + missed_by_each aim plan ≤ missing t aim.counts
+missing_each aim at plan t nine_held nine sets_miss pairs_miss h =
+    let sets : length h.more * aim.set_misses ≤ missing (counts_of (tiles_of_sets h.more)) aim.counts = missed_by_sets aim.counts aim.runs at aim.set_misses h.more nine_held sets_miss h.formed in
+    let eyes : cond plan.pair aim.pair_misses 0 ≤ missing (counts_of (tiles_of_pair h.last)) aim.counts = missed_by_eyes aim.counts at aim.pair_misses plan.pair h.last pairs_miss h.eyes in
+    let both : missing (counts_of (tiles_of_sets h.more)) aim.counts + missing (counts_of (tiles_of_pair h.last)) aim.counts ≤ missing (counts_of tiles) aim.counts = missing_of_both aim.counts (tiles_of_sets h.more) (tiles_of_pair h.last) nine_held in
+    let whole : missing plan.target aim.counts + missing (counts_of tiles) aim.counts ≤ missing t aim.counts =
+    missing_both t plan.target (counts_of tiles) aim.counts (h.nine ∙ sym nine) (h.nine ∙ sym (length-counts_of tiles)) (h.nine ∙ sym nine_held)
+    (λ n inside.
+    let high : n < 9 = subst (λ k. n < k) h.nine inside in
+    h.made n high ∙ ap (λ k. get_or plan.target n 0 + k) (sym (get_or-counts_of tiles n high))) in
+    joined _ _ _ _ _ _ _ (subst (λ k. k * aim.set_misses ≤ missing (counts_of (tiles_of_sets h.more)) aim.counts) h.many sets) eyes both whole
+  where
+    tiles : List ℕ
+    tiles = tiles_of_sets h.more ++ tiles_of_pair h.last
+
+    joined : (each two sets eyes more chosen t : ℕ) → each ≤ sets → two ≤ eyes → sets + eyes ≤ more → chosen + more ≤ t → chosen + (each + two) ≤ t
+    joined each two sets eyes more chosen t a b c d = omega arith
+
 -- no target of the plan misses fewer than the least
-pub least_bound : (held room : List ℕ) (runs : Bool) (at low : ℕ) (plan : Plan) (t : List ℕ) → low ≤ 9 → 3 * low ≤ at → length held ≡ 9 → length plan.target ≡ 9 → Reaches room runs at plan.target plan.melds plan.pair t → least_to_miss held low plan ≤ missing t held
+pub least_bound : (aim : Aim) (at low : ℕ) (plan : Plan) (t : List ℕ) → low ≤ 9 → 3 * low ≤ at → length aim.counts ≡ 9 → length plan.target ≡ 9 → SetsMiss aim.counts aim.runs aim.set_misses → PairsMiss aim.counts aim.pair_misses
+    → Reaches aim.room aim.runs at plan.target plan.melds plan.pair t → least_to_miss aim low plan ≤ missing t aim.counts
 unfolding least_to_miss
-least_bound held room runs at low plan t in_suit reach nine_held nine h =
+least_bound aim at low plan t in_suit reach nine_held nine sets_miss pairs_miss h =
     let more : (n : ℕ) → n < length t → get_or plan.target n 0 ≤ get_or t n 0 =
     λ n inside. (let e : get_or t n 0 ≡ get_or plan.target n 0 + count_of n (tiles_of_sets h.more ++ tiles_of_pair h.last) = h.made n (subst (λ k. n < k) h.nine inside) in at_least _ _ _ e) in
-    let grown : missing plan.target held ≤ missing t held = missing-more_tiles t plan.target held (h.nine ∙ sym nine) (h.nine ∙ sym nine_held) more in
-    let bound : missing plan.target held + missing t plan.target ≤ missing t held + missing (drop low held) (drop low plan.target) =
-    missing-least low t plan.target held (h.nine ∙ sym nine) (h.nine ∙ sym nine_held) more
-    (settled_below room runs at low plan t in_suit reach h) in
-    let come : missing t plan.target ≡ tiles_to_come plan = missing_to_come room runs at plan t nine h in
-    least _ _ _ _ _ bound grown come
+    let bound : missing plan.target aim.counts + missing t plan.target ≤ missing t aim.counts + missing (drop low aim.counts) (drop low plan.target) =
+    missing-least low t plan.target aim.counts (h.nine ∙ sym nine) (h.nine ∙ sym nine_held) more
+    (settled_below aim.room aim.runs at low plan t in_suit reach h) in
+    let come : missing t plan.target ≡ tiles_to_come plan = missing_to_come aim.room aim.runs at plan t nine h in
+    least _ _ _ _ _ _ bound (missing_each aim at plan t nine_held nine sets_miss pairs_miss h) come
   where
     at_least : (t chosen more : ℕ) → t ≡ chosen + more → chosen ≤ t
     at_least t chosen more e = omega arith
 
-    least : (chosen more t unused come : ℕ) → chosen + more ≤ t + unused → chosen ≤ t → more ≡ come → chosen + (come - unused) ≤ t
-    least chosen more t unused come a g b = omega arith
+    least : (chosen more t unused come each : ℕ) → chosen + more ≤ t + unused → chosen + each ≤ t → more ≡ come → chosen + max (come - unused) each ≤ t
+    least chosen more t unused come each a b c = omega arith
 
 -- ---- the order of the counts
 
@@ -200,25 +258,26 @@ same_front (suc low) (x ∷ xs) [] long same = absurd (omega arith)
 same_front (suc low) (x ∷ xs) (y ∷ ys) long same = ap₂ (λ z zs. z ∷ zs) (same 0 (omega arith)) (same_front low xs ys (omega arith) (λ n before. same (suc n) (omega arith)))
 
 -- the best target is as good as each of the plan's
-out_of_reach : (held room : List ℕ) (runs : Bool) (at low : ℕ) (plan : Plan) (answer : ℕ × List ℕ) (t : List ℕ) → low ≤ 9 → 3 * low ≤ at → length held ≡ 9 → length plan.target ≡ 9 → Reaches room runs at plan.target plan.melds plan.pair t → IsOutOfReach held low plan answer → AsNear answer (missing t held, t)
-out_of_reach held room runs at low plan answer t in_suit reach nine_held nine h (inl fewer) =
-    let bound : least_to_miss held low plan ≤ missing t held = least_bound held room runs at low plan t in_suit reach nine_held nine h in
+out_of_reach : (aim : Aim) (at low : ℕ) (plan : Plan) (answer : ℕ × List ℕ) (t : List ℕ) → low ≤ 9 → 3 * low ≤ at → length aim.counts ≡ 9 → length plan.target ≡ 9 → SetsMiss aim.counts aim.runs aim.set_misses → PairsMiss aim.counts aim.pair_misses
+    → Reaches aim.room aim.runs at plan.target plan.melds plan.pair t → IsOutOfReach aim low plan answer → AsNear answer (missing t aim.counts, t)
+out_of_reach aim at low plan answer t in_suit reach nine_held nine sets_miss pairs_miss h (inl fewer) =
+    let bound : least_to_miss aim low plan ≤ missing t aim.counts = least_bound aim at low plan t in_suit reach nine_held nine sets_miss pairs_miss h in
     inl (omega arith)
-out_of_reach held room runs at low plan answer t in_suit reach nine_held nine h (inr level) =
-    let bound : least_to_miss held low plan ≤ missing t held = least_bound held room runs at low plan t in_suit reach nine_held nine h in
-    let same : answer.0 ≡ least_to_miss held low plan = level.0 in
-    elim (cases_lt (least_to_miss held low plan) (missing t held)) [
+out_of_reach aim at low plan answer t in_suit reach nine_held nine sets_miss pairs_miss h (inr level) =
+    let bound : least_to_miss aim low plan ≤ missing t aim.counts = least_bound aim at low plan t in_suit reach nine_held nine sets_miss pairs_miss h in
+    let same : answer.0 ≡ least_to_miss aim low plan = level.0 in
+    elim (cases_lt (least_to_miss aim low plan) (missing t aim.counts)) [
       | inl more ↦ inl (omega arith)
       | inr few ↦ inr (
         omega arith,
         ap is_gt (front_less low t answer.1
-            (ap (λ front. slice_cmp nat_cmp front (take low answer.1)) (same_front low t plan.target (h.nine ∙ sym nine) (settled_below room runs at low plan t in_suit reach h)) ∙ level.1)),
+            (ap (λ front. slice_cmp nat_cmp front (take low answer.1)) (same_front low t plan.target (h.nine ∙ sym nine) (settled_below aim.room aim.runs at low plan t in_suit reach h)) ∙ level.1)),
       )
     ]
 
 -- so the plan makes nothing better
-pub plan_hopeless : (held room : List ℕ) (runs : Bool) (at low : ℕ) (plan : Plan) (a : Option (ℕ × List ℕ)) → low ≤ 9 → 3 * low ≤ at → length held ≡ 9 → length plan.target ≡ 9 → IsSomeAnd a (IsOutOfReach held low plan) → Improves held (Reaches room runs at plan.target plan.melds plan.pair) a a
-plan_hopeless held room runs at low plan None in_suit reach nine_held nine out = absurd out
-plan_hopeless held room runs at low plan (Some answer) in_suit reach nine_held nine out =
-    Improves-not held (Reaches room runs at plan.target plan.melds plan.pair) (Some answer)
-    (λ t h. out_of_reach held room runs at low plan answer t in_suit reach nine_held nine h out)
+pub plan_hopeless : (aim : Aim) (at low : ℕ) (plan : Plan) (a : Option (ℕ × List ℕ)) → low ≤ 9 → 3 * low ≤ at → length aim.counts ≡ 9 → length plan.target ≡ 9 → IsPlan aim low plan → IsSomeAnd a (IsOutOfReach aim low plan) → Improves aim.counts (Reaches aim.room aim.runs at plan.target plan.melds plan.pair) a a
+plan_hopeless aim at low plan None in_suit reach nine_held nine is out = absurd out
+plan_hopeless aim at low plan (Some answer) in_suit reach nine_held nine is out =
+    Improves-not aim.counts (Reaches aim.room aim.runs at plan.target plan.melds plan.pair) (Some answer)
+    (λ t h. out_of_reach aim at low plan answer t in_suit reach nine_held nine is.sets_miss is.pairs_miss h out)

@@ -5,4 +5,5 @@ pub mod Whole
 pub mod Near
 pub mod Reach
 pub mod Bounds
+pub mod Counted
 pub mod Aims

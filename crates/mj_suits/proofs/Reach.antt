@@ -238,6 +238,13 @@ pair_added held room runs low at chosen added melds melds' pair pair' a b c in_s
     (subst (λ p. Improves held (Reaches room runs at added melds' p) a b) none first)))
     (subst (λ p. Improves held (Reaches room runs p chosen melds pair) b c) place second)
 
+-- the same plan by equal parts
+pub walked_past : (held room : List ℕ) (runs : Bool) (at : ℕ) (chosen chosen' : List ℕ) (melds melds' : ℕ) (pair pair' : Bool) (a b : Option (ℕ × List ℕ)) → chosen' ≡ chosen → melds' ≡ melds → pair' ≡ pair → Improves held (Reaches room runs at chosen' melds' pair') a b → Improves held (Reaches room runs at chosen melds pair) a b
+walked_past held room runs at chosen chosen' melds melds' pair pair' a b tiles sets eyes found =
+    subst (λ t. Improves held (Reaches room runs at t melds pair) a b) tiles
+    (subst (λ m. Improves held (Reaches room runs at chosen' m pair) a b) sets
+    (subst (λ p. Improves held (Reaches room runs at chosen' melds' p) a b) eyes found))
+
 -- there is no room for the pair: no target has it here
 pub pair_refused : (held room : List ℕ) (runs : Bool) (low at : ℕ) (chosen : List ℕ) (melds : ℕ) (pair : Bool) (a b : Option (ℕ × List ℕ)) → low < 9 → at ≡ 3 * low + 3 → (pair ≡ true → get_or chosen low 0 + 2 ≤ get_or room low 0 → ⊥)
     → Improves held (Reaches room runs at chosen melds pair) a b → Improves held (Reaches room runs (3 * low + 2) chosen melds pair) a b

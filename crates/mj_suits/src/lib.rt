@@ -8,7 +8,7 @@ mod nearness;
 mod partitioning;
 mod sets;
 
-pub use nearness::nearest;
+pub use nearness::{nearest, nearest_within};
 pub use partitioning::partitions;
 pub use sets::{Split, SuitSet, SuitSets};
 

@@ -2,7 +2,7 @@
 
 ghost use Rattle.std.specs.Prelude.{◌≤◌, slice_index, EachIndex};
 
-use crate::{Split, SuitSet, SuitSets, nearest, partitions};
+use crate::{Split, SuitSet, SuitSets, nearest, nearest_within, partitions};
 use std::alloc::{AllocError, Global};
 use std::process::Abort;
 use std::test::Fail;
@@ -196,6 +196,24 @@ fn nearest_targets_within_a_room(rt: HostRuntime) {
     );
     assert_eq!(rt;
         nearest([1, 1, 1, 0, 0, 0, 0, 0, 0], [1; 9], true, 1, true),
+        None
+    );
+}
+
+#[test]
+fn nearest_targets_within_a_number_of_tiles(rt: HostRuntime) {
+    let held = [4, 0, 0, 0, 0, 0, 0, 0, 0];
+    let nearest = Some((2, [4, 1, 1, 0, 0, 0, 0, 0, 0]));
+    assert_eq!(rt; nearest_within(held, FULL, true, 2, false, 1), None);
+    assert_eq!(rt; nearest_within(held, FULL, true, 2, false, 2), nearest);
+    assert_eq!(rt; nearest_within(held, FULL, true, 2, false, 3), nearest);
+    assert_eq!(rt; nearest_within(held, FULL, true, 2, false, 254), nearest);
+    assert_eq!(rt;
+        nearest_within([0; 9], FULL, true, 0, false, 0),
+        Some((0, [0; 9]))
+    );
+    assert_eq!(rt;
+        nearest_within([1, 1, 1, 0, 0, 0, 0, 0, 0], [2; 9], false, 1, false, 254),
         None
     );
 }

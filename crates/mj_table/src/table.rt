@@ -7,10 +7,14 @@ ghost use Rattle.mj_deeds.specs.Fits.{fits, is_triplet_of};
 ghost use Rattle.mj_deeds.specs.Course.{cause};
 ghost use Rattle.mj_deeds.specs.Passed.{own_kinds, passed_kinds};
 ghost use Rattle.mj_deeds.specs.Points.{points, deposits};
+ghost use Rattle.mj_deeds.specs.Reasons.{reason};
+ghost use Rattle.mj_table.specs.Marks.{marks};
 ghost use Rattle.mj_table.specs.Standings.{standing};
 
+use crate::marks::{Marks, marks_of};
+use crate::reason::reason;
 use crate::standing::{Standing, newest_standing};
-use mj_deeds::Deed;
+use mj_deeds::{Deed, Reason};
 use mj_tiles::{Counts, Kinds, Melds, Tile};
 use mj_wall::Rules;
 use std::alloc::{AllocError, Global};
@@ -219,5 +223,22 @@ impl Table {
         ensures { result ≡ passed_kinds self.now.deeds seat }
     {
         mj_deeds::passed_kinds(self.deeds.as_slice(), seat)
+    }
+
+    /// The first reason for a drawn hand before its live tiles are drawn, in a game whose rules have such draws: the first
+    /// four discards of the hand are one wind and no call stands before, or four kans stand and not all are one seat's.
+    /// None exactly where none holds. That all four seats are in riichi is no reason yet, since there is no riichi.
+    pub fn reason(&self) -> Option<Reason>
+        ensures { result ≡ reason self.now.rules.draws self.now.deeds }
+    {
+        reason(self.rules.draws, self.deeds.as_slice())
+    }
+
+    /// The marks of a seat in its hand, all false before a hand has begun. No deed of riichi is built yet, so only `first`
+    /// can be true.
+    pub fn marks(&self, seat: u8) -> Marks
+        ensures { result ≡ marks self.now.deeds seat }
+    {
+        marks_of(self.deeds.as_slice(), seat)
     }
 }

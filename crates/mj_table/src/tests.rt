@@ -1,4 +1,5 @@
 use crate::Table;
+use crate::marks::marks_of;
 use mj_deeds::{Deed, Four, Tiles};
 use mj_ports::Name;
 use mj_tiles::{Form, Kind, Tile};
@@ -6,15 +7,15 @@ use mj_wall::Rules;
 use std::alloc::Global;
 use std::test::Fail;
 
-fn tile(face: u8) -> Result<Tile, Fail> {
+pub(crate) fn tile(face: u8) -> Result<Tile, Fail> {
     Ok(Tile::of(face).ok_or("no tile")?)
 }
 
-fn kind(number: u8) -> Result<Kind, Fail> {
+pub(crate) fn kind(number: u8) -> Result<Kind, Fail> {
     Ok(Kind::of(number).ok_or("no kind")?)
 }
 
-fn tiles(alloc: Global, faces: &[u8]) -> Result<Tiles, Fail> {
+pub(crate) fn tiles(alloc: Global, faces: &[u8]) -> Result<Tiles, Fail> {
     let mut items = Vec::new(alloc);
     for face in faces {
         items.push(tile(*face)?)?;
@@ -22,7 +23,7 @@ fn tiles(alloc: Global, faces: &[u8]) -> Result<Tiles, Fail> {
     Ok(Tiles::from_vec(items))
 }
 
-fn start_game() -> Deed {
+pub(crate) fn start_game() -> Deed {
     Deed::StartGame {
         names: Four {
             first: Name::of(b"a"),
@@ -50,7 +51,7 @@ fn start_hand(alloc: Global) -> Result<Deed, Fail> {
     })
 }
 
-fn draw(seat: u8, face: u8, replacement: bool) -> Result<Deed, Fail> {
+pub(crate) fn draw(seat: u8, face: u8, replacement: bool) -> Result<Deed, Fail> {
     Ok(Deed::Draw {
         seat,
         tile: tile(face)?,
@@ -58,7 +59,7 @@ fn draw(seat: u8, face: u8, replacement: bool) -> Result<Deed, Fail> {
     })
 }
 
-fn discard(seat: u8, face: u8, drawn: bool) -> Result<Deed, Fail> {
+pub(crate) fn discard(seat: u8, face: u8, drawn: bool) -> Result<Deed, Fail> {
     Ok(Deed::Discard {
         seat,
         tile: tile(face)?,
@@ -66,7 +67,7 @@ fn discard(seat: u8, face: u8, drawn: bool) -> Result<Deed, Fail> {
     })
 }
 
-fn dora(face: u8) -> Result<Deed, Fail> {
+pub(crate) fn dora(face: u8) -> Result<Deed, Fail> {
     Ok(Deed::Dora { tile: tile(face)? })
 }
 
@@ -103,7 +104,7 @@ fn open_kan(seat: u8, target: u8, face: u8) -> Result<Deed, Fail> {
     })
 }
 
-fn closed_kan(seat: u8, face: u8) -> Result<Deed, Fail> {
+pub(crate) fn closed_kan(seat: u8, face: u8) -> Result<Deed, Fail> {
     let tile = tile(face)?;
     Ok(Deed::ClosedKan {
         seat,
@@ -136,7 +137,7 @@ fn empty(alloc: Global) -> Result<Table, Fail> {
 }
 
 // Adds a deed that fits.
-fn add(table: &mut Table, deed: &Deed) -> Result<(), Fail> {
+pub(crate) fn add(table: &mut Table, deed: &Deed) -> Result<(), Fail> {
     if !table.fits(deed) {
         return Err("the deed does not fit".into());
     }
@@ -320,6 +321,74 @@ fn the_tile_in_question_is_not_passed_yet(rt: HostRuntime) -> Result<(), Fail> {
     assert!(rt; table.passed(2).is_empty());
     add(&mut table, &dora(28)?)?;
     assert!(rt; table.passed(2).has(kind(31)?));
+    Ok(())
+}
+
+// Which seats are in their first turn.
+fn firsts(table: &Table) -> [bool; 4] {
+    [
+        table.marks(0).first,
+        table.marks(1).first,
+        table.marks(2).first,
+        table.marks(3).first,
+    ]
+}
+
+#[test]
+fn a_first_turn_lasts_from_the_start_to_the_own_discard(rt: HostRuntime) -> Result<(), Fail> {
+    let alloc = rt.alloc();
+    let mut table = empty(alloc)?;
+    assert_eq!(rt; firsts(&table), [false; 4]);
+    add(&mut table, &start_game())?;
+    assert_eq!(rt; firsts(&table), [false; 4]);
+    add(&mut table, &start_hand(alloc)?)?;
+    assert_eq!(rt; firsts(&table), [true; 4]);
+    add(&mut table, &draw(0, 0, false)?)?;
+    assert_eq!(rt; firsts(&table), [true; 4]);
+    add(&mut table, &discard(0, 9, false)?)?;
+    assert_eq!(rt; firsts(&table), [false, true, true, true]);
+    add(&mut table, &draw(1, 19, false)?)?;
+    add(&mut table, &discard(1, 19, true)?)?;
+    assert_eq!(rt; firsts(&table), [false, false, true, true]);
+    Ok(())
+}
+
+// Whether seat 2 is in its first turn behind a start and one deed more.
+fn is_first_behind(alloc: Global, deed: Deed) -> Result<bool, Fail> {
+    let mut deeds = Vec::new(alloc);
+    deeds.push(start_hand(alloc)?)?;
+    deeds.push(deed)?;
+    Ok(marks_of(deeds.as_slice(), 2).first)
+}
+
+#[test]
+fn a_call_of_any_seat_ends_a_first_turn(rt: HostRuntime) -> Result<(), Fail> {
+    let alloc = rt.alloc();
+    assert!(rt; !is_first_behind(alloc, chi(1, 0, [14, 15, 16])?)?);
+    assert!(rt; !is_first_behind(alloc, pon(3, 0, 10)?)?);
+    assert!(rt; !is_first_behind(alloc, open_kan(1, 3, 18)?)?);
+    assert!(rt; !is_first_behind(alloc, closed_kan(0, 0)?)?);
+    assert!(rt; !is_first_behind(alloc, added_kan(3, 31)?)?);
+    Ok(())
+}
+
+#[test]
+fn of_discards_the_own_ends_a_first_turn(rt: HostRuntime) -> Result<(), Fail> {
+    let alloc = rt.alloc();
+    assert!(rt; !is_first_behind(alloc, discard(2, 20, false)?)?);
+    assert!(rt; is_first_behind(alloc, discard(0, 9, false)?)?);
+    assert!(rt; is_first_behind(alloc, draw(2, 19, false)?)?);
+    assert!(rt; is_first_behind(alloc, dora(26)?)?);
+    Ok(())
+}
+
+#[test]
+fn nobody_is_in_riichi(rt: HostRuntime) -> Result<(), Fail> {
+    let table = whole(rt.alloc())?;
+    for seat in 0..4 {
+        let marks = table.marks(seat);
+        assert!(rt; !marks.reached && !marks.accepted && !marks.double && !marks.ippatsu);
+    }
     Ok(())
 }
 

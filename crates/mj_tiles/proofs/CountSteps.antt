@@ -19,6 +19,10 @@ pub get_or-kind_counts : (tiles : List ℕ) (kind : ℕ) → kind < 34 → get_o
 unfolding kind_counts all_kinds
 get_or-kind_counts tiles kind within = get_or-map-range_with_len (number_of tiles) 0 34 kind kind 0 within (omega arith)
 
+-- A kind stands in two lists as often as in the one and in the other.
+pub number_of-append : (xs ys : List ℕ) (kind : ℕ) → number_of (xs ++ ys) kind ≡ number_of xs kind + number_of ys kind
+number_of-append xs ys kind = sum_by-append (λ tile. cond (eqb (kind_of tile) kind) 1 0) xs ys
+
 -- One tile more is one more of its kind.
 number_of-push : (tiles : List ℕ) (tile kind : ℕ) → number_of (tiles ++ tile ∷ []) kind ≡ number_of tiles kind + cond (eqb (kind_of tile) kind) 1 0
 number_of-push tiles tile kind = grind (arith, common_steps)

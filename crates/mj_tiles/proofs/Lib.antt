@@ -1,3 +1,4 @@
 pub mod Texts
 pub mod CountSteps
+pub mod Faces
 pub mod KindSets

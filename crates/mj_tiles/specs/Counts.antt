@@ -1,6 +1,6 @@
 -- Counts of tiles by kind.
-use Rattle.std.specs.Prelude.{ℕ, ◌≡◌, ◌≤◌, ◌==◌, List, length, slice_index, count_by, map}
-use Rattle.std.specs.List.{range_with_len}
+use Rattle.std.specs.Prelude.{ℕ, ◌≡◌, ◌≤◌, ◌==◌, Bool, nat_le, List, length, slice_index, count_by, map}
+use Rattle.std.specs.List.{list_all, range_with_len}
 use Rattle.mj_tiles.specs.Faces.{kind_of}
 
 -- The 34 kinds.
@@ -14,6 +14,10 @@ number_of tiles kind = count_by (λ tile. kind_of tile == kind) tiles
 -- For each kind how often it stands among tiles.
 unfoldable pub kind_counts : List ℕ → List ℕ
 kind_counts tiles = map (number_of tiles) all_kinds
+
+-- Among tiles no kind stands more than four times.
+unfoldable pub has_no_fifth : List ℕ → Bool
+has_no_fifth tiles = list_all (λ kind. nat_le (number_of tiles kind) 4) all_kinds
 
 -- No kind stands more than four times.
 abbrev pub NoFifth : List ℕ → Type 0

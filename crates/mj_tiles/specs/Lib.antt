@@ -2,3 +2,4 @@ pub mod Faces
 pub mod Counts
 pub mod Kinds
 pub mod Melds
+pub mod Terminals

@@ -1,6 +1,7 @@
 ghost use Rattle.std.specs.Prelude.{◌≡◌, ℕ, ◌<◌};
 ghost use Rattle.std.specs.Option.{SomeIff};
 ghost use Rattle.mj_tiles.specs.Faces.{after_kind};
+ghost use Rattle.mj_tiles.specs.Terminals.{is_terminal_or_honour};
 
 use std::marker::Model;
 
@@ -38,6 +39,14 @@ impl Kind {
         ensures within { result < 34 }
     {
         self.number
+    }
+
+    /// Whether the kind is a terminal, a one or a nine, or an honour, a wind or a dragon.
+    #[tactic(auto, unfolding(crate::specs::Terminals::is_terminal_or_honour))]
+    pub fn is_terminal_or_honour(self) -> bool
+        ensures { result ≡ is_terminal_or_honour self }
+    {
+        self.number >= 27 || self.number % 9 == 0 || self.number % 9 == 8
     }
 }
 

@@ -42,6 +42,17 @@ fn kinds_have_their_numbers(rt: HostRuntime) -> Result<(), Fail> {
 }
 
 #[test]
+fn ones_nines_winds_and_dragons_are_terminals_or_honours(rt: HostRuntime) -> Result<(), Fail> {
+    for text in ["1m", "9m", "1p", "9p", "1s", "9s", "E", "N", "P", "C"] {
+        assert!(rt; kind(text.as_bytes())?.is_terminal_or_honour());
+    }
+    for text in ["2m", "8m", "2p", "5pr", "8p", "2s", "8s"] {
+        assert!(rt; !kind(text.as_bytes())?.is_terminal_or_honour());
+    }
+    Ok(())
+}
+
+#[test]
 fn the_dora_follows_its_indicator(rt: HostRuntime) -> Result<(), Fail> {
     for (indicator, dora) in [
         ("1m", "2m"),

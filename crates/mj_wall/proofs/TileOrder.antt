@@ -2,12 +2,13 @@
 use Rattle.std.proofs.Common.{◌≡◌, ℕ, ◌+◌, ◌-◌, ◌*◌, ◌<◌, ◌≤◌, ◌⊎◌, Bool, true, false, List, [], ◌∷◌, length, arith, inl, inr, refl, sym, ap, ◌∙◌, cond, eqb, ltb}
 use Rattle.std.specs.Prelude.{All, flat_map, replicate, count_by}
 use Rattle.std.specs.List.{list_all}
-use Rattle.std.proofs.lemmas.Bool.{and_parts, cases_eq, cases_lt, eq-eqb, ltb-true, ne_eqb, agree_below_at, eqb-true}
+use Rattle.std.proofs.lemmas.Bool.{and_parts, cases_eq, cases_lt, ltb-true, ne_eqb, agree_below_at, eqb-true}
 use Rattle.std.proofs.lemmas.List.{length-append, length-replicate}
 use Rattle.std.proofs.lemmas.List.Sums.{sum_by-cons, sum_by-append}
 use Rattle.std.proofs.lemmas.List.Folds.{sum_by-replicate}
 use Rattle.std.proofs.lemmas.List.Elements.{All-head, All-tail}
 use Rattle.mj_tiles.specs.Faces.{number_in, less, in_tile_order, tile_order}
+use Rattle.mj_tiles.proofs.Faces.{either_way}
 
 -- How many tiles of these faces stand in a list.
 abbrev pub total : List ℕ → List ℕ → ℕ
@@ -22,12 +23,6 @@ total-none (face ∷ faces) = let rest = total-none faces in omega arith
 number-cons : (t face : ℕ) (ts : List ℕ) → number_in (t ∷ ts) face ≡ cond (eqb t face) 1 0 + number_in ts face
 number-cons t face ts = sum_by-cons (λ x. cond (eqb x face) 1 0) t ts
 
-either_way : (t face : ℕ) → ◌≡◌ {A = ℕ} (cond (eqb t face) 1 0) (cond (eqb face t) 1 0)
-either_way t face = elim (cases_eq t face) [
-  | inl e ↦ rw (eq-eqb t face e) (rw (eq-eqb face t (sym e)) refl)
-  | inr n ↦ rw (ne_eqb t face n) (rw (ne_eqb face t (λ e. n (sym e))) refl)
-]
-
 -- One tile more counts as often as its face is named.
 total-cons : (t : ℕ) (ts faces : List ℕ) → total (t ∷ ts) faces ≡ number_in faces t + total ts faces
 total-cons t ts [] = refl
@@ -35,7 +30,7 @@ total-cons t ts (face ∷ faces) =
     let rest = total-cons t ts faces in
     let here = number-cons t face ts in
     let there = number-cons face t faces in
-    let same = either_way t face in
+    let same : ◌≡◌ {A = ℕ} (cond (eqb t face) 1 0) (cond (eqb face t) 1 0) = ap (λ (b : Bool). cond b 1 0) (either_way t face) in
     omega arith
 
 -- Each face of the game stands once in the tile order.
@@ -89,7 +84,7 @@ chosen-cons p t ts [] = sym (pad (p t))
 chosen-cons p t ts (face ∷ faces) =
     ap (λ n. cond (p face) n 0 + chosen p (t ∷ ts) faces) (number-cons t face ts)
     ∙ ap (λ n. cond (p face) (cond (eqb t face) 1 0 + number_in ts face) 0 + n) (chosen-cons p t ts faces)
-    ∙ swapped (p face) (p t) (cond (eqb t face) 1 0) (cond (eqb face t) 1 0) (number_in ts face) (number_in faces t) (chosen p ts faces) (either_way t face) alike
+    ∙ swapped (p face) (p t) (cond (eqb t face) 1 0) (cond (eqb face t) 1 0) (number_in ts face) (number_in faces t) (chosen p ts faces) (ap (λ (b : Bool). cond b 1 0) (either_way t face)) alike
     ∙ ap (λ n. cond (p t) n 0 + (cond (p face) (number_in ts face) 0 + chosen p ts faces)) (sym (number-cons face t faces))
   where
     alike : (◌≡◌ {A = ℕ} (cond (eqb t face) 1 0) 0) ⊎ (p face ≡ p t)

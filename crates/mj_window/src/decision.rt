@@ -1,12 +1,11 @@
-ghost use Rattle.std.specs.Prelude.{◌≡◌};
+ghost use Rattle.std.specs.Prelude.{◌≡◌, option_and_then};
 ghost use Rattle.mj_deeds.specs.Four.{at_seat};
-ghost use Rattle.mj_rules.specs.Outcome.{triplet_bid, run_bid, bid_by, call_of, of_three, of_four, or_else};
+ghost use Rattle.mj_rules.specs.Outcome.{triplet_bid, run_bid, bid_by, call_of, or_else};
 ghost use Rattle.mj_deeds.specs.Bids.{call_of_bid};
-ghost use Rattle.mj_deeds.specs.declared.deed.Deed.TheVariants.{Chi, Pon, OpenKan};
 ghost use Rattle.mj_window.specs.declared.decision.Decision.TheVariants.{Act};
 ghost use Rattle.mj_window.specs.Decided.{decided, call_or_pass, deed_of, deed_decided};
 
-use mj_deeds::{Answer, Bid, Deed, Four, Pai};
+use mj_deeds::{Answer, Bid, Deed, Four};
 
 /// What four answers decide.
 #[derive(Clone, Copy, Debug, PartialEq, Eq)]
@@ -99,6 +98,13 @@ fn run(answers: &Four<Answer>) -> Bid
 fn triplet_bid(seat: u8, answer: &Answer) -> Bid
     ensures { call_of_bid result ≡ triplet_bid seat answer.now }
 {
+    known_triplet(seat, answer).unwrap_or(Bid::NoBid)
+}
+
+// The same where all its tiles are known, and else none.
+fn known_triplet(seat: u8, answer: &Answer) -> Option<Bid>
+    ensures { option_and_then call_of_bid result ≡ triplet_bid seat answer.now }
+{
     match answer {
         Answer::Pon {
             target,
@@ -106,7 +112,13 @@ fn triplet_bid(seat: u8, answer: &Answer) -> Bid
             a,
             b,
             ..
-        } => pon(seat, *target, tile, a, b),
+        } => Some(Bid::Pon {
+            seat,
+            target: *target,
+            tile: tile.known()?,
+            a: a.known()?,
+            b: b.known()?,
+        }),
         Answer::OpenKan {
             target,
             tile,
@@ -114,14 +126,28 @@ fn triplet_bid(seat: u8, answer: &Answer) -> Bid
             b,
             c,
             ..
-        } => open_kan(seat, *target, tile, a, b, c),
-        _ => Bid::NoBid,
+        } => Some(Bid::OpenKan {
+            seat,
+            target: *target,
+            tile: tile.known()?,
+            a: a.known()?,
+            b: b.known()?,
+            c: c.known()?,
+        }),
+        _ => None,
     }
 }
 
 // The chi that a seat bids for a discard.
 fn run_bid(seat: u8, answer: &Answer) -> Bid
     ensures { call_of_bid result ≡ run_bid seat answer.now }
+{
+    known_run(seat, answer).unwrap_or(Bid::NoBid)
+}
+
+// The same where all its tiles are known, and else none.
+fn known_run(seat: u8, answer: &Answer) -> Option<Bid>
+    ensures { option_and_then call_of_bid result ≡ run_bid seat answer.now }
 {
     match answer {
         Answer::Chi {
@@ -130,74 +156,13 @@ fn run_bid(seat: u8, answer: &Answer) -> Bid
             a,
             b,
             ..
-        } => chi(seat, *target, tile, a, b),
-        _ => Bid::NoBid,
-    }
-}
-
-fn chi(seat: u8, target: u8, tile: &Pai, a: &Pai, b: &Pai) -> Bid
-    ensures { call_of_bid result ≡ of_three (λ t x y. Chi seat target t x y) tile.now a.now b.now }
-{
-    let Pai::Known(tile) = tile else {
-        return Bid::NoBid;
-    };
-    let Pai::Known(a) = a else {
-        return Bid::NoBid;
-    };
-    let Pai::Known(b) = b else {
-        return Bid::NoBid;
-    };
-    Bid::Chi {
-        seat,
-        target,
-        tile: *tile,
-        a: *a,
-        b: *b,
-    }
-}
-
-fn pon(seat: u8, target: u8, tile: &Pai, a: &Pai, b: &Pai) -> Bid
-    ensures { call_of_bid result ≡ of_three (λ t x y. Pon seat target t x y) tile.now a.now b.now }
-{
-    let Pai::Known(tile) = tile else {
-        return Bid::NoBid;
-    };
-    let Pai::Known(a) = a else {
-        return Bid::NoBid;
-    };
-    let Pai::Known(b) = b else {
-        return Bid::NoBid;
-    };
-    Bid::Pon {
-        seat,
-        target,
-        tile: *tile,
-        a: *a,
-        b: *b,
-    }
-}
-
-fn open_kan(seat: u8, target: u8, tile: &Pai, a: &Pai, b: &Pai, c: &Pai) -> Bid
-    ensures { call_of_bid result ≡ of_four (λ t x y z. OpenKan seat target t x y z) tile.now a.now b.now c.now }
-{
-    let Pai::Known(tile) = tile else {
-        return Bid::NoBid;
-    };
-    let Pai::Known(a) = a else {
-        return Bid::NoBid;
-    };
-    let Pai::Known(b) = b else {
-        return Bid::NoBid;
-    };
-    let Pai::Known(c) = c else {
-        return Bid::NoBid;
-    };
-    Bid::OpenKan {
-        seat,
-        target,
-        tile: *tile,
-        a: *a,
-        b: *b,
-        c: *c,
+        } => Some(Bid::Chi {
+            seat,
+            target: *target,
+            tile: tile.known()?,
+            a: a.known()?,
+            b: b.known()?,
+        }),
+        _ => None,
     }
 }

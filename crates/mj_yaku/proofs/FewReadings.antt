@@ -1,19 +1,17 @@
 -- A hand has few readings: of each kind the free tiles begin in three ways at most, and the winning tile has five
 -- places at most.
-use Rattle.std.proofs.Common.{ℕ, ◌≡◌, ◌<◌, ◌≤◌, ◌+◌, ◌-◌, ◌*◌, ◌^◌, ◌&&◌, ◌||◌, Bool, true, false, List, [], ◌∷◌, ◌++◌, Option, Some, None, refl, sym, ◌∙◌, ap, arith, zero, suc, subst, length, cond, map, is_none, eqb, leb}
+use Rattle.std.proofs.Common.{ℕ, ◌≡◌, ◌<◌, ◌≤◌, ◌+◌, ◌-◌, ◌*◌, ◌^◌, ◌&&◌, Bool, true, false, List, [], ◌∷◌, ◌++◌, Option, Some, None, arith, suc, subst, length, cond, map, is_none, eqb, leb}
 use Rattle.std.specs.List.{filter, flat_map, range_with_len}
 use Rattle.std.specs.Option.{option_to_list}
 use Rattle.std.proofs.lemmas.List.{length-append, length-map}
 use Rattle.std.proofs.Math.Nat.{pow-suc}
 use Rattle.mj_tiles.specs.declared.meld.Meld.{Meld}
 use Rattle.mj_readings.specs.declared.reading.Set.{Set}
-use Rattle.mj_readings.specs.declared.reading.Reading.{Reading}
 use Rattle.mj_readings.specs.declared.reading.Reading.TheVariants.{Pairs, Orphans}
 use Rattle.mj_readings.specs.Complete.{is_seven_pairs}
 use Rattle.mj_readings.specs.Readings.{names_winning}
-use Rattle.mj_readings.specs.Sets.{begins_run}
 use Rattle.mj_readings.specs.Tests.{orphan_double}
-use Rattle.mj_readings.specs.Ways.{Way, put, sets_at, begin, at_kind, end_of, ways}
+use Rattle.mj_readings.specs.Ways.{Way, put, sets_at, ways}
 use Rattle.mj_readings.specs.Standings.{win_places, standings_of, standings}
 use Rattle.mj_readings.specs.ReadingLists.{standard_of, standard_readings, pair_kinds, pairs_readings, orphans_readings, reading_list}
 

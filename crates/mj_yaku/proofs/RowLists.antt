@@ -1,5 +1,5 @@
 -- The rows of a list of answers, one row more from its end on.
-use Rattle.std.proofs.Common.{ℕ, ◌≡◌, ◌<◌, ◌+◌, Bool, true, false, List, [], ◌∷◌, refl, sym, ◌∙◌, ap, arith, suc, length, drop, get_or}
+use Rattle.std.proofs.Common.{ℕ, ◌≡◌, ◌<◌, ◌+◌, Bool, true, false, List, ◌∷◌, refl, sym, ◌∙◌, ap, arith, suc, length, drop, get_or}
 use Rattle.std.proofs.Math.Seq.{drop-cons, drop-length}
 use Rattle.mj_yaku.specs.Rows.{no_rows, with_row, rows_from}
 

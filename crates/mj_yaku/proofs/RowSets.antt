@@ -1,6 +1,5 @@
 -- Sets of rows by the rows that they have, and the rows of a list.
-use Rattle.std.proofs.Common.{ℕ, ◌≡◌, ◌<◌, ◌≤◌, ◌^◌, ◌*◌, ◌%◌, Bool, true, false, List, [], ◌∷◌, refl, sym, ap, arith, eqb, leb, zero, suc, get_or, length, lit<}
-use Rattle.std.specs.Int.{bit_at}
+use Rattle.std.proofs.Common.{ℕ, ◌≡◌, ◌<◌, ◌≤◌, ◌^◌, ◌*◌, ◌%◌, Bool, true, false, List, [], ◌∷◌, refl, arith, leb, zero, suc, get_or}
 use Rattle.std.specs.Int.RustNames.{bit_or}
 use Rattle.std.specs.List.{list_all}
 use Rattle.std.proofs.lemmas.Nat.{or_lt}

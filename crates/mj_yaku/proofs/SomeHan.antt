@@ -1,6 +1,6 @@
 -- A reading with a yaku has at least one han.
-use Rattle.std.proofs.Common.{ℕ, ◌≡◌, ◌<◌, ◌≤◌, ◌+◌, ◌-◌, ◌&&◌, ◌||◌, Bool, true, false, not, List, [], ◌∷◌, Option, Some, None, refl, sym, ◌∙◌, ap, arith, zero, suc, eqb, leb, ltb, get_or, length, cond, subst, ◌++◌, drop}
-use Rattle.std.specs.List.{list_any, sum_by, range_with_len, position}
+use Rattle.std.proofs.Common.{ℕ, ◌≡◌, ◌<◌, ◌≤◌, ◌+◌, ◌-◌, ◌&&◌, ◌||◌, Bool, true, false, not, List, [], ◌∷◌, Option, Some, None, refl, ◌∙◌, ap, arith, zero, suc, eqb, leb, ltb, get_or, length, cond, subst, drop}
+use Rattle.std.specs.List.{sum_by, range_with_len, position}
 use Rattle.std.proofs.lemmas.Bool.Decides.{nat_tests}
 use Rattle.std.proofs.lemmas.List.Sums.{get_or-le-sum_by, sum_by-append, sum_by-cons}
 use Rattle.std.proofs.lemmas.List.FromFn.{length-range_with_len, get_or-range_with_len}
@@ -13,13 +13,13 @@ use Rattle.mj_yaku.specs.Wins.{reach, double_reach, is_ippatsu, menzen_tsumo}
 use Rattle.mj_yaku.specs.SetForms.{chiitoitsu}
 use Rattle.mj_yaku.specs.Numbers.{iipeikou, ryanpeikou}
 use Rattle.mj_fu.specs.Forms.{is_pinfu}
-use Rattle.mj_yaku.specs.Han.{han, closed_han, open_han, ordinary_numbers, yakuman_numbers, has_yakuman, han_in, sum_of_han, han_of_rows}
+use Rattle.mj_yaku.specs.Han.{han, closed_han, open_han, ordinary_numbers, has_yakuman, han_in, sum_of_han, han_of_rows}
 use Rattle.mj_yaku.specs.Yaku.{ordinary_rows, yakuman_rows, yaku_of}
 use Rattle.mj_fu.specs.Fu.{is_orphans}
 use Rattle.mj_yaku.specs.Limits.{kokushi}
 use Rattle.std.specs.Option.{option_map_or}
 use Rattle.mj_yaku.proofs.Lists.{any_at, place_within, place_first}
-use Rattle.mj_yaku.proofs.RowMembers.{has_row-none, has_row-with, has_row-from, some_row}
+use Rattle.mj_yaku.proofs.RowMembers.{has_row-with, has_row-from, some_row}
 
 -- Each row that holds has some han.
 all_count : Bool → ℕ → List Bool → Bool

@@ -1,5 +1,5 @@
 -- Readings one by one: whether one of them has a yaku.
-use Rattle.std.proofs.Common.{ℕ, ◌≡◌, ◌<◌, ◌+◌, ◌||◌, Bool, true, false, List, [], ◌∷◌, Option, Some, None, refl, sym, ◌∙◌, ap, drop}
+use Rattle.std.proofs.Common.{ℕ, ◌≡◌, ◌+◌, ◌||◌, Bool, true, false, List, Some, None, sym, ◌∙◌, ap, drop}
 use Rattle.std.specs.Prelude.{slice_get, IsTrue, ◌↔◌, Contains}
 use Rattle.std.specs.List.{list_any}
 use Rattle.mj_tiles.specs.declared.meld.Meld.{Meld}

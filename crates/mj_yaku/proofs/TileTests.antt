@@ -1,13 +1,11 @@
 -- Tests of all tiles of a hand, by kind.
-use Rattle.std.proofs.Common.{ℕ, ◌≡◌, ◌<◌, ◌≤◌, ◌+◌, Bool, true, false, not, cond, ◌&&◌, ◌||◌, List, [], ◌∷◌, ◌++◌, refl, sym, ◌∙◌, ap, arith, zero, suc, eqb, length, get_or, replicate}
+use Rattle.std.proofs.Common.{ℕ, ◌≡◌, ◌<◌, ◌≤◌, ◌+◌, Bool, true, false, not, ◌||◌, List, [], ◌∷◌, refl, ◌∙◌, ap, arith, zero, suc, eqb, length, get_or, replicate}
 use Rattle.std.specs.List.{filter, flat_map, range_with_len, list_all}
-use Rattle.std.proofs.lemmas.Bool.Decides.{nat_tests}
 use Rattle.std.proofs.lemmas.List.Folds.{list_all_at}
 use Rattle.std.proofs.lemmas.List.FromFn.{length-range_with_len, get_or-range_with_len}
 use Rattle.mj_tiles.specs.Counts.{all_kinds}
-use Rattle.mj_readings.specs.Sets.{is_orphan}
+use Rattle.mj_tiles.specs.Terminals.{is_terminal_or_honour}
 use Rattle.mj_readings.specs.Complete.{orphan_number}
-use Rattle.mj_fu.specs.Forms.{is_outside}
 
 -- All kinds pass a test where each number below 34 does.
 pub all_kinds-pass : (test : ℕ → Bool) → ((kind : ℕ) → kind < 34 → test kind ≡ true) → list_all test all_kinds ≡ true
@@ -42,15 +40,14 @@ tests_of_pairs test has (kind ∷ kinds) = step test has kind kinds (has kind) (
 
 -- All tiles of thirteen orphans pass a test where each terminal and honour does.
 pub tests_of_orphans : (test : ℕ → Bool) (double : ℕ) (kinds : List ℕ) →
-    list_all test (flat_map (λ kind. replicate (orphan_number double kind) kind) kinds) ≡ list_all (λ kind. not (is_outside kind) || test kind) kinds
-unfolding is_orphan
+    list_all test (flat_map (λ kind. replicate (orphan_number double kind) kind) kinds) ≡ list_all (λ kind. not (is_terminal_or_honour kind) || test kind) kinds
 tests_of_orphans test double [] = refl
 tests_of_orphans test double (kind ∷ kinds) =
-    step test double kind kinds (is_outside kind) (eqb kind double) (test kind) refl refl refl (tests_of_orphans test double kinds)
+    step test double kind kinds (is_terminal_or_honour kind) (eqb kind double) (test kind) refl refl refl (tests_of_orphans test double kinds)
   where
-    step : (test : ℕ → Bool) (double kind : ℕ) (kinds : List ℕ) (a b c : Bool) → is_outside kind ≡ a → eqb kind double ≡ b → test kind ≡ c →
-        list_all test (flat_map (λ kind. replicate (orphan_number double kind) kind) kinds) ≡ list_all (λ kind. not (is_outside kind) || test kind) kinds →
-        list_all test (flat_map (λ kind. replicate (orphan_number double kind) kind) (kind ∷ kinds)) ≡ list_all (λ kind. not (is_outside kind) || test kind) (kind ∷ kinds)
+    step : (test : ℕ → Bool) (double kind : ℕ) (kinds : List ℕ) (a b c : Bool) → is_terminal_or_honour kind ≡ a → eqb kind double ≡ b → test kind ≡ c →
+        list_all test (flat_map (λ kind. replicate (orphan_number double kind) kind) kinds) ≡ list_all (λ kind. not (is_terminal_or_honour kind) || test kind) kinds →
+        list_all test (flat_map (λ kind. replicate (orphan_number double kind) kind) (kind ∷ kinds)) ≡ list_all (λ kind. not (is_terminal_or_honour kind) || test kind) (kind ∷ kinds)
     step test double kind kinds true true true o p q rest = simp (o, p, q) rest
     step test double kind kinds true true false o p q rest = simp (o, p, q) refl
     step test double kind kinds true false true o p q rest = simp (o, p, q) rest

@@ -1,5 +1,5 @@
 -- All tiles of a hand as it is read, and its sets and pair where it has four sets and a pair.
-use Rattle.std.specs.Prelude.{ℕ, ◌==◌, Bool, true, false, not, ◌&&◌, ◌||◌, List, [], ◌∷◌, ◌++◌, filter, flat_map, replicate, count_by}
+use Rattle.std.specs.Prelude.{ℕ, ◌==◌, Bool, true, false, not, ◌&&◌, List, [], ◌∷◌, ◌++◌, filter, flat_map, replicate}
 use Rattle.std.specs.List.{list_all, list_any}
 use Rattle.mj_tiles.specs.Counts.{all_kinds}
 use Rattle.mj_tiles.specs.Kinds.{has_kind}

@@ -1,5 +1,5 @@
 -- The two yakuman of a form of their own: thirteen orphans and the nine gates.
-use Rattle.std.specs.Prelude.{ℕ, ◌+◌, ◌==◌, Bool, true, false, ◌&&◌, ◌||◌, if◌then◌else◌, nat_le, List, [], ◌∷◌, count_by, length}
+use Rattle.std.specs.Prelude.{ℕ, ◌+◌, ◌==◌, Bool, true, ◌&&◌, ◌||◌, if◌then◌else◌, nat_le, List, count_by, length}
 use Rattle.std.specs.List.{list_all, list_any}
 use Rattle.mj_tiles.specs.declared.meld.Meld.{Meld}
 use Rattle.mj_readings.specs.declared.reading.Case.{Case}

@@ -1,11 +1,12 @@
 -- Yaku of the numbers in the sets: equal runs, sets alike in three suits, straights, and ends in each set.
-use Rattle.std.specs.Prelude.{ℕ, ◌+◌, ◌==◌, Bool, not, ◌&&◌, ◌||◌, nat_le, List, [], ◌∷◌, count_by}
+use Rattle.std.specs.Prelude.{ℕ, ◌+◌, ◌==◌, Bool, not, ◌&&◌, ◌||◌, nat_le, List, count_by}
 use Rattle.std.specs.List.{list_all, list_any}
+use Rattle.mj_tiles.specs.Terminals.{is_terminal, is_terminal_or_honour}
 use Rattle.mj_readings.specs.declared.reading.Set.{Set}
 use Rattle.mj_readings.specs.declared.reading.Case.{Case}
 use Rattle.mj_readings.specs.declared.reading.Reading.{Reading}
-use Rattle.mj_readings.specs.Sets.{is_terminal, tiles_of_set}
-use Rattle.mj_fu.specs.Forms.{is_run, is_outside, is_pinfu}
+use Rattle.mj_readings.specs.Sets.{tiles_of_set}
+use Rattle.mj_fu.specs.Forms.{is_run}
 use Rattle.mj_yaku.specs.Hands.{in_standard, has_triple, has_run, suits, numbers}
 use Rattle.mj_yaku.specs.WholeHand.{no_honour}
 
@@ -63,7 +64,7 @@ in_each_set test reading =
 
 -- chanta: a terminal or honour in each set and the pair, some run, some honour.
 unfoldable pub chanta : Reading → Bool
-chanta reading = in_each_set is_outside reading && not (no_honour reading)
+chanta reading = in_each_set is_terminal_or_honour reading && not (no_honour reading)
 
 -- junchan: a terminal in each set and the pair, some run, no honour.
 unfoldable pub junchan : Reading → Bool

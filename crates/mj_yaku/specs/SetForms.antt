@@ -1,5 +1,5 @@
 -- Yaku of the forms of the sets: triplets, kans, concealed sets, seven pairs, and triplets of winds and dragons.
-use Rattle.std.specs.Prelude.{ℕ, ◌+◌, ◌==◌, Bool, true, false, not, ◌&&◌, ◌||◌, if◌then◌else◌, nat_le, List, [], ◌∷◌, count_by}
+use Rattle.std.specs.Prelude.{ℕ, ◌+◌, ◌==◌, Bool, true, false, not, ◌&&◌, ◌||◌, if◌then◌else◌, List, [], ◌∷◌, count_by}
 use Rattle.std.specs.List.{list_all, list_any}
 use Rattle.mj_readings.specs.declared.reading.Set.{Set}
 use Rattle.mj_readings.specs.declared.reading.SetForm.{SetForm}
@@ -7,7 +7,7 @@ use Rattle.mj_readings.specs.declared.reading.SetForm.TheVariants.{Run, Triplet,
 use Rattle.mj_readings.specs.declared.reading.Case.{Case}
 use Rattle.mj_readings.specs.declared.reading.Reading.{Reading}
 use Rattle.mj_readings.specs.declared.reading.Reading.TheVariants.{Standard, Pairs, Orphans}
-use Rattle.mj_fu.specs.Forms.{is_run, is_concealed_at, is_dragon}
+use Rattle.mj_fu.specs.Forms.{is_run, is_concealed_at}
 use Rattle.mj_yaku.specs.Hands.{in_standard, is_pairs, has_triple}
 
 -- A triplet or kan of this kind has value of its own.

@@ -1,9 +1,8 @@
 -- Yaku of the tiles of the whole hand.
-use Rattle.std.specs.Prelude.{ℕ, ◌/◌, ◌==◌, Bool, nat_lt, not, ◌&&◌, ◌||◌, List}
+use Rattle.std.specs.Prelude.{ℕ, ◌/◌, ◌==◌, Bool, nat_lt, not, ◌&&◌, ◌||◌}
 use Rattle.std.specs.List.{list_all, list_any}
 use Rattle.mj_readings.specs.declared.reading.Reading.{Reading}
-use Rattle.mj_readings.specs.Sets.{is_honour, is_terminal}
-use Rattle.mj_fu.specs.Forms.{is_outside}
+use Rattle.mj_tiles.specs.Terminals.{is_honour, is_terminal, is_terminal_or_honour}
 use Rattle.mj_yaku.specs.Hands.{tiles_of, suits}
 
 -- The kind is of the suit with this lowest kind.
@@ -20,11 +19,11 @@ no_honour reading = all_tiles (λ kind. not (is_honour kind)) reading
 
 -- tanyao: no terminal and no honour.
 unfoldable pub tanyao : Reading → Bool
-tanyao reading = all_tiles (λ kind. not (is_outside kind)) reading
+tanyao reading = all_tiles (λ kind. not (is_terminal_or_honour kind)) reading
 
 -- honroutou: terminals and honours alone.
 unfoldable pub honroutou : Reading → Bool
-honroutou reading = all_tiles is_outside reading
+honroutou reading = all_tiles is_terminal_or_honour reading
 
 -- All tiles of the hand are of one suit.
 abbrev pub is_one_suit : Reading → Bool

@@ -1,5 +1,5 @@
 -- Yaku of the way in which a hand was won.
-use Rattle.std.specs.Prelude.{ℕ, ◌==◌, Bool, true, false, not, ◌&&◌}
+use Rattle.std.specs.Prelude.{◌==◌, Bool, true, false, not, ◌&&◌}
 use Rattle.mj_readings.specs.declared.reading.Case.{Case}
 use Rattle.mj_readings.specs.declared.reading.Riichi.{Riichi}
 use Rattle.mj_readings.specs.declared.reading.Riichi.TheVariants.{No, Single, Double}

@@ -1,9 +1,10 @@
 ghost use Rattle.std.specs.Prelude.{◌≡◌, ◌==◌, ◌&&◌, ◌||◌, ◌<◌, ◌+◌, not, count_by};
 ghost use Rattle.mj_tiles.specs.Counts.{all_kinds};
 ghost use Rattle.mj_tiles.specs.Kinds.{has_kind};
+ghost use Rattle.mj_tiles.specs.Terminals.{is_terminal_or_honour};
 ghost use Rattle.std.specs.List.{list_all, list_any};
 ghost use Rattle.mj_readings.specs.Sets.{tiles_of_set};
-ghost use Rattle.mj_fu.specs.Forms.{is_run as run, is_outside};
+ghost use Rattle.mj_fu.specs.Forms.{is_run as run};
 ghost use Rattle.mj_yaku.specs.Hands.{tiles_of, has_triple as triple_of_sets, has_run as run_of_sets};
 ghost use Rattle.mj_yaku.specs.Classes.{in_class};
 
@@ -33,6 +34,7 @@ pub(crate) enum Class {
 }
 
 /// Whether the kind with this number is of the class.
+#[tactic(auto, unfolding(mj_tiles::specs::Terminals::is_terminal_or_honour))]
 pub(crate) fn is_in(class: Class, number: u8) -> bool
     ensures { result ≡ in_class class number }
 {
@@ -128,7 +130,7 @@ fn all_of_kinds(kinds: Kinds, class: Class) -> bool
 
 // Whether all terminals and honours are of the class.
 fn all_orphans(class: Class) -> bool
-    ensures { result ≡ list_all (λ kind. not (is_outside kind) || in_class class kind) all_kinds }
+    ensures { result ≡ list_all (λ kind. not (is_terminal_or_honour kind) || in_class class kind) all_kinds }
 {
     for number in 0..34 {
         if is_in(Class::Outside, number) && !is_in(class, number) {

@@ -1,9 +1,13 @@
 //! The jobs: each goes through hands and sums up what a call answers.
 
+ghost use Rattle.std.specs.Prelude.{◌≡◌, sum};
+ghost use Rattle.mj_tiles.specs.Counts.{NoFifth};
+
 use crate::half_played::{half_played, may_discard};
 use crate::hands::{Hands, ROOM, first_kind};
 use mj_readings::{Case, Riichi, readings};
 use mj_score::{Extra, worth};
+use mj_shanten::shanten;
 use mj_suits::partitions;
 use mj_table::Table;
 use mj_tiles::{Counts, Kind};
@@ -19,16 +23,18 @@ pub enum Job {
     Readings,
     Partitions,
     Worth,
+    Shanten,
     Judge,
 }
 
 /// All jobs, in the order in which they are printed.
-pub const JOBS: [Job; 6] = [
+pub const JOBS: [Job; 7] = [
     Job::Waits,
     Job::WaitsOfReady,
     Job::Readings,
     Job::Partitions,
     Job::Worth,
+    Job::Shanten,
     Job::Judge,
 ];
 
@@ -41,6 +47,7 @@ impl Job {
             Job::Readings => "readings of a complete hand",
             Job::Partitions => "partitions of one suit",
             Job::Worth => "worth of a drawn closed hand",
+            Job::Shanten => "shanten of 13 tiles",
             Job::Judge => "judge of a discard in the middle of a hand",
         }
     }
@@ -56,6 +63,7 @@ impl Job {
                 Job::Readings => readings_of(alloc, &hands.complete_numbers())?,
                 Job::Partitions => partitions_of(alloc, &hands.complete_numbers())?,
                 Job::Worth => worth_of(alloc, &hands.complete_numbers())?,
+                Job::Shanten => shanten_of(&hands.numbers(13)),
                 Job::Judge => judged(&table, &hands.numbers(1)),
             };
             sum = sum.wrapping_mul(31).wrapping_add(part);
@@ -69,7 +77,7 @@ pub fn make_only(job: Job, hands: &mut Hands, times: u32) -> u64 {
     let mut sum = 0u64;
     for _ in 0..times {
         let numbers = match job {
-            Job::Waits => hands.numbers(13),
+            Job::Waits | Job::Shanten => hands.numbers(13),
             Job::Judge => hands.numbers(1),
             Job::WaitsOfReady => hands.ready_numbers(),
             Job::Readings | Job::Partitions | Job::Worth => hands.complete_numbers(),
@@ -94,6 +102,31 @@ fn waits_of(numbers: &[u8; 34]) -> u64 {
         }
     }
     found
+}
+
+// The shanten of a hand of thirteen tiles without melds, and where its nearest complete hand begins.
+fn shanten_of(numbers: &[u8; 34]) -> u64 {
+    let (Some(counts), Some(room)) = (Counts::of(*numbers), Counts::of(ROOM)) else {
+        return 0;
+    };
+    if tiles_among(&counts) != 13 {
+        return 0;
+    }
+    let nearest = shanten(&counts, &room, 0);
+    let first = first_kind(&nearest.target).map_or(0, |kind| kind.number());
+    35 * u64::from(nearest.number) + u64::from(first)
+}
+
+// How many tiles there are.
+fn tiles_among(counts: &Counts) -> usize
+    ensures total { result ≡ sum counts.now }
+    ensures few { NoFifth counts.now }
+{
+    let mut total = 0;
+    for number in counts.numbers() {
+        total += usize::from(*number);
+    }
+    total
 }
 
 // How many readings a hand has.

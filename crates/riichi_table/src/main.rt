@@ -1,5 +1,6 @@
 //! A referee for four-player riichi mahjong over mjai: `riichi_table referee SEAT` reads the arrivals of a game from
-//! standard input and writes what the game tells the connection of that seat.
+//! standard input and writes what the game tells the connection of that seat; `riichi_table hand WORDS` writes the shanten,
+//! the target and the waits of the hand that the words name.
 #![tactic(auto)]
 
 use mj_front::{Status, exit_code, run, status_text};

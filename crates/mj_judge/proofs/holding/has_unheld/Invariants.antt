@@ -3,7 +3,7 @@ use Rattle.std.specs.Prelude.{flat_map, nat_lt, ◌-◌}
 use Rattle.std.specs.List.{list_any}
 use Rattle.mj_tiles.specs.Faces.{number_in}
 use Rattle.mj_deeds.specs.Facts.{gained, lost}
-use Rattle.mj_rules.specs.Broken.{face_in}
+use Rattle.mj_deeds.specs.Pais.{face_in}
 use Rattle.mj_judge.proofs.holding.has_unheld.Given as goal
 
 abbrev pub invariant-loop-tile : goal.invariant-loop-tile

@@ -1,7 +1,7 @@
 use Rattle.std.proofs.Common.{◌≡◌, false, true, rules, sym, ◌∙◌}
 use Rattle.std.specs.Prelude.{flat_map}
 use Rattle.mj_deeds.specs.Facts.{gained, lost}
-use Rattle.mj_rules.specs.Broken.{face_in}
+use Rattle.mj_deeds.specs.Pais.{face_in}
 use Rattle.mj_judge.specs.Free.{is_used_up}
 use Rattle.mj_judge.proofs.Places.{all_pass, one_fails, none_left}
 use Rattle.mj_judge.proofs.swap.has_nothing_else.Goals as goal

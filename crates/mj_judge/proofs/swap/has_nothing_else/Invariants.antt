@@ -3,7 +3,7 @@ use Rattle.std.specs.Prelude.{flat_map}
 use Rattle.std.specs.List.{list_all}
 use Rattle.mj_tiles.specs.Faces.{tile_order}
 use Rattle.mj_deeds.specs.Facts.{gained, lost}
-use Rattle.mj_rules.specs.Broken.{face_in}
+use Rattle.mj_deeds.specs.Pais.{face_in}
 use Rattle.mj_judge.specs.Free.{is_used_up}
 use Rattle.mj_judge.proofs.swap.has_nothing_else.Given as goal
 

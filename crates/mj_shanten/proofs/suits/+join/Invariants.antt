@@ -1,7 +1,7 @@
 -- The suits still to come count most, then the step.
 use Rattle.std.proofs.Common.{◌*◌, ◌+◌, length, take}
 use Rattle.mj_suits.specs.Walk.{Improves}
-use Rattle.mj_shanten.specs.Suits.{Follows, Begins, IsJoint}
+use Rattle.mj_shanten.specs.Suits.{Follows, Begins, IsJoint, suits_in}
 use Rattle.mj_shanten.proofs.Join.{IsBefore}
 use Rattle.mj_shanten.proofs.suits.+join.Given as goal
 
@@ -14,4 +14,4 @@ decreases-with_part l = 2 * length l.others.now + 1
 -- the places before this one were looked at
 abbrev pub invariant-go_on-loop-choice : goal.invariant-go_on-loop-choice
 invariant-go_on-loop-choice l =
-    Improves l.held (Follows (take l.plan.done l.plan.target) (Begins l.suit (IsBefore l.choice) (IsJoint l.others) l.plan.sets l.plan.pair)) l.initial.best l.best
+    Improves l.held (Follows (take l.plan.done l.plan.target) (Begins l.suit.suit (IsBefore l.choice) (IsJoint (suits_in l.others)) l.plan.sets l.plan.pair)) l.initial.best l.best

@@ -5,6 +5,6 @@ use Rattle.mj_suits.proofs.nearness.missing_tiles.Given as goal
 
 abbrev pub invariant-loop-n : goal.invariant-loop-n
 invariant-loop-n l = record {
-  counted : l.number + missing (drop l.n l.plan.target) (drop l.n l.aim.counts) ≡ missing l.plan.target l.aim.counts;
+  counted : l.number + missing (drop l.n l.wanted) (drop l.n l.held) ≡ missing l.wanted l.held;
   few : l.number ≤ 4 * l.n;
 }

@@ -1,6 +1,5 @@
-use Rattle.std.proofs.Common.{refl}
-use Rattle.mj_suits.proofs.Aims.{whole_walk, none_chosen}
+use Rattle.mj_suits.proofs.Aims.{best_is_nearest}
 use Rattle.mj_suits.proofs.nearness.nearest.Goals as goal
 
 pub returns : goal.returns
-returns c = whole_walk _ _ _ _ _ _ _ _ refl none_chosen c.go_on.ensures
+returns c = best_is_nearest _ _ _ c.improved.ensures

@@ -1,4 +1,4 @@
-use Rattle.std.proofs.Common.{arith, ◌∙◌, sym, ◌≡◌, ◌<◌, ℕ, length, true, false}
+use Rattle.std.proofs.Common.{arith, ◌∙◌, sym, true, false}
 use Rattle.std.specs.List.{list_any}
 use Rattle.std.proofs.lemmas.Option.{slice_get_within}
 use Rattle.mj_readings.specs.ReadingLists.{reading_list}

@@ -1,5 +1,5 @@
 use Rattle.mj_yaku.proofs.SomeHan.{some_han, yakuman_of_orphans}
-use Rattle.std.proofs.Common.{subst, sym, ◌≡◌, ◌≤◌, eqb, false, true, ℕ}
+use Rattle.std.proofs.Common.{subst, sym, ◌≡◌, ◌≤◌, eqb, false, true}
 use Rattle.mj_fu.specs.Fu.{is_orphans}
 use Rattle.mj_yaku.specs.Rows.{no_rows}
 use Rattle.mj_yaku.specs.Han.{han_of_rows, has_yakuman}

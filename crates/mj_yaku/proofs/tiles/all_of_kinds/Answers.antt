@@ -1,6 +1,4 @@
 use Rattle.std.proofs.Common.{◌||◌, not, sym, arith, ◌∙◌}
-use Rattle.std.proofs.lemmas.Bool.Decides.{nat_tests}
-use Rattle.std.proofs.lemmas.Grind.{common_steps}
 use Rattle.mj_tiles.specs.Kinds.{has_kind}
 use Rattle.mj_yaku.specs.Classes.{in_class}
 use Rattle.mj_yaku.proofs.TileTests.{all_kinds-pass, all_kinds-fail, misses}
