@@ -1,6 +1,7 @@
 use crate::{
-    Deed, Four, Pai, Tiles, cause, concealed, drawn, fits, has_triplet, held, indicator, kan_seat,
-    kans, live_drawn, live_left, melds, next_seat, ordered, own_kinds, passed_kinds, river, shown,
+    Deed, Four, Pai, Tiles, cause, concealed, drawn, fits, has_triplet, held, indicator, is_call,
+    kan_seat, kans, live_drawn, live_left, melds, next_seat, ordered, own_kinds, passed_kinds,
+    river, seat_of_kan, shown,
 };
 use mj_tiles::{Form, Kind, Tile};
 use std::alloc::Global;
@@ -242,5 +243,16 @@ fn after_the_last_seat_comes_the_first(rt: HostRuntime) -> Result<(), Fail> {
         [next_seat(0), next_seat(1), next_seat(2), next_seat(3)],
         [1, 2, 3, 0]
     );
+    Ok(())
+}
+
+#[test]
+fn a_kan_is_a_call_of_its_seat(rt: HostRuntime) -> Result<(), Fail> {
+    let kan = closed_kan(2, 9)?;
+    assert!(rt; is_call(&kan));
+    assert!(rt; seat_of_kan(&kan) == Some(2));
+    let discarded = discard(2, 9, true)?;
+    assert!(rt; !is_call(&discarded));
+    assert!(rt; seat_of_kan(&discarded).is_none());
     Ok(())
 }
