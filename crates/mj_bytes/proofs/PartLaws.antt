@@ -1,4 +1,4 @@
--- A text that is parted at its first newline or space.
+-- A text that is parted at the first place of a byte.
 use Rattle.std.proofs.Common.{◌≡◌, ℕ, ◌+◌, ◌<◌, List, [], ◌∷◌, ◌++◌, length, Bool, true, false, refl, ap, ◌∙◌, arith, cond, take, drop, get_or}
 use Rattle.std.proofs.lemmas.List.{take_more}
 use Rattle.std.proofs.Math.Seq.{split_at}
@@ -8,7 +8,7 @@ use Rattle.std.proofs.lemmas.Grind.{common_steps}
 use Rattle.std.specs.Prelude.{Option, Some, None}
 use Rattle.std.specs.Prelude.{bytes_eq, ◌&&◌, if◌then◌else◌}
 use Rattle.std.proofs.lemmas.Bool.Decides.{nat_tests}
-use Rattle.mj_bytes.specs.Parts.{has_byte, whole_lines, unfinished, fields, PartsAtFirst, BeginsWithLine, HasNoLine, BeginsWithField, IsOneField, parted, behind}
+use Rattle.mj_bytes.specs.Parts.{has_byte, onto_first, parts_by, all_but_last, last_of, whole_lines, unfinished, PartsAtFirst, BeginsWithPart, IsOnePart, BeginsWithLine, HasNoLine, parted, behind}
 
 neither : (t v : Bool) → cond t true v ≡ false → (t ≡ false) × (v ≡ false)
 neither true v h = (h, cc)
@@ -33,29 +33,43 @@ has_byte-at c (b ∷ bs) rest = rw (has_byte-at c bs rest) (either (b == c))
     either true = refl
     either false = refl
 
+pub parts_by-at : (c : ℕ) (first rest : List ℕ) → has_byte c first ≡ false → parts_by c (first ++ c ∷ rest) ≡ first ∷ parts_by c rest
+parts_by-at c [] rest h = rw (same c) refl
+parts_by-at c (b ∷ bs) rest h = let k = has_byte-head c b bs h in rw (k.0, parts_by-at c bs rest k.1)
+
+pub parts_by-none : (c : ℕ) (text : List ℕ) → has_byte c text ≡ false → parts_by c text ≡ text ∷ []
+parts_by-none c [] h = refl
+parts_by-none c (b ∷ bs) h = let k = has_byte-head c b bs h in rw (k.0, parts_by-none c bs k.1)
+
+-- each text has a part
+some_part : (c : ℕ) (text : List ℕ) → (first : List ℕ) × ((others : List (List ℕ)) × (parts_by c text ≡ first ∷ others))
+some_part c [] = ([], ([], refl))
+some_part c (b ∷ bs) = either (b == c) (some_part c bs)
+  where
+    either : (t : Bool) → (first : List ℕ) × ((others : List (List ℕ)) × (parts_by c bs ≡ first ∷ others)) → (first : List ℕ) × ((others : List (List ℕ)) × (cond t ([] ∷ parts_by c bs) (onto_first b (parts_by c bs)) ≡ first ∷ others))
+    either true p = ([], (parts_by c bs, refl))
+    either false p = (b ∷ p.0, (p.1.0, ap (onto_first b) p.1.1))
+
+-- a part before those of a text is neither the last nor left out
+last-more : (text : List ℕ) (texts : List (List ℕ)) (first : List ℕ) (others : List (List ℕ)) → texts ≡ first ∷ others → last_of (text ∷ texts) ≡ last_of texts
+last-more text [] first others h = cc h
+last-more text (other ∷ rest) first others h = refl
+
+but_last-more : (text : List ℕ) (texts : List (List ℕ)) (first : List ℕ) (others : List (List ℕ)) → texts ≡ first ∷ others → all_but_last (text ∷ texts) ≡ text ∷ all_but_last texts
+but_last-more text [] first others h = cc h
+but_last-more text (other ∷ rest) first others h = refl
+
 pub whole_lines-at : (line rest : List ℕ) → has_byte 10 line ≡ false → whole_lines (line ++ 10 ∷ rest) ≡ line ∷ whole_lines rest
-whole_lines-at [] rest h = refl
-whole_lines-at (b ∷ bs) rest h = let k = has_byte-head 10 b bs h in rw (k.0, whole_lines-at bs rest k.1)
+whole_lines-at line rest h = let p = some_part 10 rest in ap all_but_last (parts_by-at 10 line rest h) ∙ but_last-more line (parts_by 10 rest) p.0 p.1.0 p.1.1
 
 pub whole_lines-none : (text : List ℕ) → has_byte 10 text ≡ false → whole_lines text ≡ []
-whole_lines-none [] h = refl
-whole_lines-none (b ∷ bs) h = let k = has_byte-head 10 b bs h in rw (k.0, whole_lines-none bs k.1)
+whole_lines-none text h = ap all_but_last (parts_by-none 10 text h)
 
 pub unfinished-at : (line rest : List ℕ) → has_byte 10 line ≡ false → unfinished (line ++ 10 ∷ rest) ≡ unfinished rest
-unfinished-at [] rest h = refl
-unfinished-at (b ∷ bs) rest h = let k = has_byte-head 10 b bs h in rw (has_byte-at 10 (b ∷ bs) rest) (unfinished-at bs rest k.1)
+unfinished-at line rest h = let p = some_part 10 rest in ap last_of (parts_by-at 10 line rest h) ∙ last-more line (parts_by 10 rest) p.0 p.1.0 p.1.1
 
 pub unfinished-none : (text : List ℕ) → has_byte 10 text ≡ false → unfinished text ≡ text
-unfinished-none [] h = refl
-unfinished-none (b ∷ bs) h = rw h
-
-pub fields-at : (first rest : List ℕ) → has_byte 32 first ≡ false → fields (first ++ 32 ∷ rest) ≡ first ∷ fields rest
-fields-at [] rest h = refl
-fields-at (b ∷ bs) rest h = let k = has_byte-head 32 b bs h in rw (k.0, fields-at bs rest k.1)
-
-pub fields-none : (text : List ℕ) → has_byte 32 text ≡ false → fields text ≡ text ∷ []
-fields-none [] h = refl
-fields-none (b ∷ bs) h = let k = has_byte-head 32 b bs h in rw (k.0, fields-none bs k.1)
+unfinished-none text h = ap last_of (parts_by-none 10 text h)
 
 shorter : (c : ℕ) (text first rest : List ℕ) → text ≡ first ++ c ∷ rest → length rest < length text
 shorter c text first rest e = grind (arith, common_steps, ap length e)
@@ -72,16 +86,16 @@ begins_with_line text line rest p = record {
 pub has_no_line : (text : List ℕ) → has_byte 10 text ≡ false → HasNoLine text
 has_no_line text h = record { plain = h; lines = whole_lines-none text h; ending = unfinished-none text h }
 
-pub begins_with_field : (text field rest : List ℕ) → PartsAtFirst 32 text field rest → BeginsWithField text field rest
-begins_with_field text field rest p = record {
+pub begins_with_part : (c : ℕ) (text first rest : List ℕ) → PartsAtFirst c text first rest → BeginsWithPart c text first rest
+begins_with_part c text first rest p = record {
   parts = p.parts;
   plain = p.plain;
-  all = ap fields p.parts ∙ fields-at field rest p.plain;
-  shorter = shorter 32 text field rest p.parts;
+  all = ap (parts_by c) p.parts ∙ parts_by-at c first rest p.plain;
+  shorter = shorter c text first rest p.parts;
 }
 
-pub is_one_field : (text : List ℕ) → has_byte 32 text ≡ false → IsOneField text
-is_one_field text h = record { plain = h; all = fields-none text h }
+pub is_one_part : (c : ℕ) (text : List ℕ) → has_byte c text ≡ false → IsOnePart c text
+is_one_part c text h = record { plain = h; all = parts_by-none c text h }
 
 -- a search for a byte that goes on, and one that ends
 pub has_byte-step : (c : ℕ) (text : List ℕ) (at : ℕ) → at < length text → has_byte c (take at text) ≡ false → (get_or text at 0 == c) ≡ false → has_byte c (take (at + 1) text) ≡ false
@@ -128,6 +142,6 @@ behind-none [] bs h = cc h
 behind-none (p ∷ ps) [] h = refl
 behind-none (p ∷ ps) (b ∷ bs) h = rw (turned p b) (step-none (b == p) (bytes_eq (take (length ps) bs) ps) (behind ps bs) h (behind-none ps bs))
 
-pub ruleset space_splits = (begins_with_field, is_one_field, parted-some, parted-none)
+pub ruleset space_splits = (begins_with_part, is_one_part, parted-some, parted-none)
 
 pub ruleset strips = (behind-some, behind-none)

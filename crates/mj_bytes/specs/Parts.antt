@@ -11,25 +11,52 @@ abbrev pub onto_first : ℕ → List (List ℕ) → List (List ℕ)
 onto_first b [] = []
 onto_first b (text ∷ texts) = (b ∷ text) ∷ texts
 
--- the lines of a text: what stands before each newline, in order
+-- the parts of a text by a byte: what stands before, between and behind the places of the byte, with an empty part where
+-- two of them meet
+abbrev pub parts_by : ℕ → List ℕ → List (List ℕ)
+parts_by c [] = [] ∷ []
+parts_by c (b ∷ bs) = if b == c then [] ∷ parts_by c bs else onto_first b (parts_by c bs)
+
+-- all texts but the last
+abbrev pub all_but_last : List (List ℕ) → List (List ℕ)
+all_but_last [] = []
+all_but_last (text ∷ []) = []
+all_but_last (text ∷ other ∷ others) = text ∷ all_but_last (other ∷ others)
+
+-- the last text
+abbrev pub last_of : List (List ℕ) → List ℕ
+last_of [] = []
+last_of (text ∷ []) = text
+last_of (text ∷ other ∷ others) = last_of (other ∷ others)
+
+-- newlines part a text: the lines are all parts but the last, each with its newline behind it
 abbrev pub whole_lines : List ℕ → List (List ℕ)
-whole_lines [] = []
-whole_lines (b ∷ bs) = if b == 10 then [] ∷ whole_lines bs else onto_first b (whole_lines bs)
+whole_lines text = all_but_last (parts_by 10 text)
 
 -- what follows the last newline of a text, or all of it where there is none
 abbrev pub unfinished : List ℕ → List ℕ
-unfinished [] = []
-unfinished (b ∷ bs) = if has_byte 10 (b ∷ bs) then unfinished bs else b ∷ bs
+unfinished text = last_of (parts_by 10 text)
 
--- the fields of a text: what stands between its spaces, with an empty field where two spaces meet
+-- the fields of a text are parted by spaces
 abbrev pub fields : List ℕ → List (List ℕ)
-fields [] = [] ∷ []
-fields (b ∷ bs) = if b == 32 then [] ∷ fields bs else onto_first b (fields bs)
+fields text = parts_by 32 text
 
 -- the text's first such byte stands between the first part and the rest
 pub record PartsAtFirst (c : ℕ) (text first rest : List ℕ) : Type 0 where
   pub parts : text ≡ first ++ c ∷ rest
   pub plain : has_byte c first ≡ false
+
+-- the text begins with a part, and the rest follows the byte behind it
+pub record BeginsWithPart (c : ℕ) (text first rest : List ℕ) : Type 0 where
+  pub parts : text ≡ first ++ c ∷ rest
+  pub plain : has_byte c first ≡ false
+  pub all : parts_by c text ≡ first ∷ parts_by c rest
+  pub shorter : length rest < length text
+
+-- the text is its one part
+pub record IsOnePart (c : ℕ) (text : List ℕ) : Type 0 where
+  pub plain : has_byte c text ≡ false
+  pub all : parts_by c text ≡ text ∷ []
 
 -- the text begins with a whole line, and the rest follows its newline
 pub record BeginsWithLine (text line rest : List ℕ) : Type 0 where
@@ -46,16 +73,12 @@ pub record HasNoLine (text : List ℕ) : Type 0 where
   pub ending : unfinished text ≡ text
 
 -- the text begins with a field, and the rest follows its space
-pub record BeginsWithField (text field rest : List ℕ) : Type 0 where
-  pub parts : text ≡ field ++ 32 ∷ rest
-  pub plain : has_byte 32 field ≡ false
-  pub all : fields text ≡ field ∷ fields rest
-  pub shorter : length rest < length text
+abbrev pub BeginsWithField : List ℕ → List ℕ → List ℕ → Type 0
+BeginsWithField text field rest = BeginsWithPart 32 text field rest
 
 -- the text is its one field
-pub record IsOneField (text : List ℕ) : Type 0 where
-  pub plain : has_byte 32 text ≡ false
-  pub all : fields text ≡ text ∷ []
+abbrev pub IsOneField : List ℕ → Type 0
+IsOneField text = IsOnePart 32 text
 
 -- a byte before the first of two parts
 abbrev pub onto_front : ℕ → List ℕ × List ℕ → List ℕ × List ℕ

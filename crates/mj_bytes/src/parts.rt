@@ -1,8 +1,17 @@
-//! Lines, which each end with a newline, and fields, which single spaces part.
+//! Parts of a text by a byte: lines, which each end with a newline, and fields, which single spaces part.
 
 ghost use Rattle.std.specs.Prelude.{◌≡◌, false, MatchOption, option_map};
 ghost use Rattle.std.specs.Option.{option_copied};
-ghost use Rattle.mj_bytes.specs.Parts.{has_byte, PartsAtFirst, BeginsWithLine, HasNoLine, BeginsWithField, IsOneField, parted, behind};
+ghost use Rattle.mj_bytes.specs.Parts.{has_byte, PartsAtFirst, BeginsWithPart, IsOnePart, BeginsWithLine, HasNoLine, BeginsWithField, IsOneField, parted, behind};
+
+/// The first part of a text by a byte, without the byte, and all that follows the byte; none where the text doesn't have the
+/// byte, and so is one part.
+#[tactic(auto, using(crate::proofs::PartLaws::begins_with_part, crate::proofs::PartLaws::is_one_part))]
+pub fn split_at_first(text: &[u8], byte: u8) -> Option<(&[u8], &[u8])>
+    ensures { MatchOption result (IsOnePart byte text.now) (λ x. BeginsWithPart byte text.now x.0.now x.1.now) }
+{
+    cut_at_first(text, byte)
+}
 
 /// The first line of a text, without its newline, and all that follows the newline; none where the
 /// text has no newline, and so no whole line.
@@ -10,7 +19,7 @@ ghost use Rattle.mj_bytes.specs.Parts.{has_byte, PartsAtFirst, BeginsWithLine, H
 pub fn split_line(text: &[u8]) -> Option<(&[u8], &[u8])>
     ensures { MatchOption result (HasNoLine text.now) (λ x. BeginsWithLine text.now x.0.now x.1.now) }
 {
-    split_at_first(text, b'\n')
+    cut_at_first(text, b'\n')
 }
 
 /// The first field of a text, without the space behind it, and all that follows the space; none where
@@ -20,7 +29,7 @@ pub fn split_space(text: &[u8]) -> Option<(&[u8], &[u8])>
     ensures cases { MatchOption result (IsOneField text.now) (λ x. BeginsWithField text.now x.0.now x.1.now) }
     ensures parts { option_map (λ x. (x.0.now, x.1.now)) result ≡ parted text.now }
 {
-    let Some((field, rest)) = split_at_first(text, b' ') else {
+    let Some((field, rest)) = cut_at_first(text, b' ') else {
         return None;
     };
     Some((field, rest))
@@ -38,7 +47,7 @@ pub fn strip<'a>(text: &'a [u8], beginning: &[u8]) -> Option<&'a [u8]>
 }
 
 #[tactic(auto, using(crate::proofs::PartLaws::search_steps))]
-fn split_at_first(text: &[u8], byte: u8) -> Option<(&[u8], &[u8])>
+fn cut_at_first(text: &[u8], byte: u8) -> Option<(&[u8], &[u8])>
     ensures { MatchOption result (has_byte byte text.now ≡ false) (λ x. PartsAtFirst byte text.now x.0.now x.1.now) }
 {
     for (at, found) in text.iter().enumerate() {

@@ -33,7 +33,7 @@ fn kinds(one: Tile, other: Tile) -> Kinds {
 }
 
 #[test]
-fn a_chi_bans_its_tile_and_the_other_end(rt: HostRuntime) -> Result<(), Fail> {
+fn a_chi_bans_its_tile_and_the_other_end_in_either_order(rt: HostRuntime) -> Result<(), Fail> {
     for (face, a, b, other) in [
         (2, 3, 4, 5),
         (2, 3, 34, 5),
@@ -43,6 +43,10 @@ fn a_chi_bans_its_tile_and_the_other_end(rt: HostRuntime) -> Result<(), Fail> {
         (8, 6, 7, 5),
         (9, 10, 11, 12),
         (35, 11, 12, 10),
+        (2, 4, 3, 5),
+        (35, 12, 11, 10),
+        (2, 3, 1, 2),
+        (6, 8, 7, 6),
     ] {
         let found = banned(&chi(tile(face)?, tile(a)?, tile(b)?));
         assert!(rt; found == kinds(tile(face)?, tile(other)?));

@@ -214,7 +214,7 @@ pub hear-entered : (setting : Setting) (entries all : List (Entry Answer)) (stat
     → Hears setting state next seat answer (meaning verdict) → all ≡ entries ++ Said author seat answer ∷ [] → IsHeard (heard_by verdict) (game setting entries) (game setting all) author seat (Some answer)
 hear-entered setting entries all state next author seat answer verdict k t e = by verdict (
   sym (is_answer_built-same setting state.now (after setting entries) author seat answer k.same) ∙ t.built author,
-  sym (state_verdict-same setting.rules.red state.now (after setting entries) seat answer k.same) ∙ t.judged,
+  sym (state_verdict-same setting.rules state.now (after setting entries) seat answer k.same) ∙ t.judged,
   record { setting = refl; entries = e },
 )
   where

@@ -25,7 +25,7 @@ pub record Spoken (setting : Setting) (old : After) (seat : ℕ) (answer : Answe
   pub begun : (length old.deeds == 0) ≡ false
   pub due : is_due old seat ≡ true
   pub held : slice_get old.chairs seat ≡ Some chair
-  pub judged : verdict ≡ verdict_on setting.rules.red old.deeds seat answer chair.progress
+  pub judged : verdict ≡ verdict_on setting.rules old.deeds seat answer chair.progress
   pub may : is_verdict_built chair.progress.refused verdict ≡ true
   pub filling : slots ≡ filled verdict old.slots seat answer
   pub on : untold_chair next ≡ untold_chair (record chair { progress = goes_on (lines_for seat old.deeds) verdict chair.progress })

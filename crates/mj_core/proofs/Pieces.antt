@@ -9,7 +9,8 @@ use Rattle.mj_deeds.specs.declared.four.Four.{Four}
 use Rattle.mj_deeds.specs.declared.deed.Deed.{Deed}
 use Rattle.mj_deeds.specs.declared.deed.Deed.TheVariants.{StartGame}
 use Rattle.mj_deeds.specs.declared.answer.Answer.{Answer}
-use Rattle.mj_deeds.specs.Fits.{fits}
+use Rattle.mj_deeds.specs.Fits.{fits, fits_in, fits_behind}
+use Rattle.mj_deeds.specs.Hand.{hand}
 use Rattle.mj_wall.specs.declared.setting.Rules.{Rules}
 use Rattle.mj_wall.specs.declared.setting.Setting.{Setting}
 use Rattle.mj_rules.specs.Outcome.{outcome}
@@ -49,7 +50,7 @@ seated-starts rules after_rules deeds chairs all slots author join names e s thr
 
 -- The start of a game is its first deed.
 start_first : (red : Bool) (names : Four (List ℕ)) → fits red [] (StartGame names) ≡ true
-unfolding fits has_no_fifth all_kinds
+unfolding fits_behind fits_in hand has_no_fifth all_kinds
 start_first true names = refl
 start_first false names = refl
 
@@ -66,13 +67,13 @@ read-chair now seat place chair due at read =
     slice_get-get_or now.chairs seat chair (due-within now seat due) ∙ ap Some (ap (λ (i : ℕ). get_or now.chairs i chair) (sym at) ∙ sym read)
 
 -- The verdict, by the deeds of the table and its rules.
-pub judged-at : (setting : Setting) (rules : Rules) (deeds told : List Deed) (seat : ℕ) (answer : Answer) (chair : Chair) (verdict : Verdict) → rules ≡ setting.rules → told ≡ deeds → verdict ≡ verdict_on rules.red told seat answer chair.progress
-    → verdict ≡ verdict_on setting.rules.red deeds seat answer chair.progress
-judged-at setting rules deeds told seat answer chair verdict r d judged = judged ∙ (λ i. verdict_on (r i).red (d i) seat answer chair.progress)
+pub judged-at : (setting : Setting) (rules : Rules) (deeds told : List Deed) (seat : ℕ) (answer : Answer) (chair : Chair) (verdict : Verdict) → rules ≡ setting.rules → told ≡ deeds → verdict ≡ verdict_on rules told seat answer chair.progress
+    → verdict ≡ verdict_on setting.rules deeds seat answer chair.progress
+judged-at setting rules deeds told seat answer chair verdict r d judged = judged ∙ (λ i. verdict_on (r i) (d i) seat answer chair.progress)
 
 -- What is known when the held seat that was read has answered.
 pub spoken : (setting : Setting) (rules : Rules) (deeds told : List Deed) (chairs : List Chair) (before : Four (Option Answer)) (seat place : ℕ) (answer : Answer) (chair next : Chair) (verdict : Verdict) (slots : Four (Option Answer))
-    → CanHear setting (under rules (pieces deeds chairs before)) seat answer → told ≡ deeds → place ≡ seat → chair ≡ get_or chairs place chair → verdict ≡ verdict_on rules.red told seat answer chair.progress
+    → CanHear setting (under rules (pieces deeds chairs before)) seat answer → told ≡ deeds → place ≡ seat → chair ≡ get_or chairs place chair → verdict ≡ verdict_on rules told seat answer chair.progress
     → is_verdict_built chair.progress.refused verdict ≡ true → ((lines : List (List ℕ)) → next ≡ untold_chair (record chair { progress = goes_on lines verdict chair.progress }))
     → slots ≡ filled verdict before seat answer → Spoken setting (pieces deeds chairs before) seat answer chair next verdict slots
 spoken setting rules deeds told chairs before seat place answer chair next verdict slots k same at read judged may on filling = record {
@@ -103,38 +104,38 @@ all_given true given found h = (refl, cc)
 all_given false given found h = cc
 
 -- The deed that follows, over the deeds of the table and the walls that it was given.
-follows : (walls others : List (List ℕ)) (deeds told : List Deed) (given found : Four Answer) (deed : Option Deed) → others ≡ walls → told ≡ deeds → found ≡ given → deed ≡ outcome others told found → outcome walls deeds given ≡ deed
-follows walls others deeds told given found deed w e g o = sym (o ∙ (λ i. outcome (w i) (e i) (g i)))
+follows : (rules kept : Rules) (walls others : List (List ℕ)) (deeds told : List Deed) (given found : Four Answer) (deed : Option Deed) → kept ≡ rules → others ≡ walls → told ≡ deeds → found ≡ given → deed ≡ outcome kept others told found → outcome rules walls deeds given ≡ deed
+follows rules kept walls others deeds told given found deed r w e g o = sym (o ∙ (λ i. outcome (r i) (w i) (e i) (g i)))
 
 pub spoken-closed : (after_rules : Rules) (place : ℕ) (deed : Deed) (setting : Setting) (rules : Rules) (deeds told : List Deed) (walls : List (List ℕ)) (chairs : List Chair) (before : Four (Option Answer)) (seat : ℕ) (answer : Answer) (chair next : Chair) (verdict : Verdict) (slots : Four (Option Answer)) (found : Four Answer)
-    → after_rules ≡ rules → walls ≡ setting.walls → told ≡ deeds → place ≡ seat → Spoken setting (pieces deeds chairs before) seat answer chair next verdict slots
-    → Some found ≡ (if is_ready slots then Some (answers_in slots) else None) → Some deed ≡ outcome walls told found
+    → after_rules ≡ rules → rules ≡ setting.rules → walls ≡ setting.walls → told ≡ deeds → place ≡ seat → Spoken setting (pieces deeds chairs before) seat answer chair next verdict slots
+    → Some found ≡ (if is_ready slots then Some (answers_in slots) else None) → Some deed ≡ outcome rules walls told found
     → Hears setting (under rules (pieces deeds chairs before)) (under after_rules (pieces (deeds ++ deed ∷ []) (slice_set chairs place next) empty_slots)) seat answer verdict
-spoken-closed after_rules place deed setting rules deeds told walls chairs before seat answer chair next verdict slots found e w d at s r o =
+spoken-closed after_rules place deed setting rules deeds told walls chairs before seat answer chair next verdict slots found e same w d at s r o =
     let g = all_given (is_ready slots) (answers_in slots) found r in
-    rw at (hears-closed setting rules after_rules (pieces deeds chairs before) seat answer chair next verdict slots deed e s g.0 (follows setting.walls walls deeds told (answers_in slots) found (Some deed) w d g.1 o))
+    rw at (hears-closed setting rules after_rules (pieces deeds chairs before) seat answer chair next verdict slots deed e s g.0 (follows setting.rules rules setting.walls walls deeds told (answers_in slots) found (Some deed) same w d g.1 o))
 
 pub spoken-unbuilt : (author : ℕ) (setting : Setting) (rules : Rules) (deeds told : List Deed) (walls : List (List ℕ)) (chairs : List Chair) (before : Four (Option Answer)) (seat : ℕ) (answer : Answer) (chair next : Chair) (verdict : Verdict) (slots : Four (Option Answer)) (found : Four Answer)
-    → walls ≡ setting.walls → told ≡ deeds → Spoken setting (pieces deeds chairs before) seat answer chair next verdict slots
-    → Some found ≡ (if is_ready slots then Some (answers_in slots) else None) → None ≡ outcome walls told found → is_answer_built setting (pieces deeds chairs before) author seat answer ≡ false
-spoken-unbuilt author setting rules deeds told walls chairs before seat answer chair next verdict slots found w d s r o =
+    → rules ≡ setting.rules → walls ≡ setting.walls → told ≡ deeds → Spoken setting (pieces deeds chairs before) seat answer chair next verdict slots
+    → Some found ≡ (if is_ready slots then Some (answers_in slots) else None) → None ≡ outcome rules walls told found → is_answer_built setting (pieces deeds chairs before) author seat answer ≡ false
+spoken-unbuilt author setting rules deeds told walls chairs before seat answer chair next verdict slots found same w d s r o =
     let g = all_given (is_ready slots) (answers_in slots) found r in
-    unbuilt-deed setting (pieces deeds chairs before) author seat answer chair next verdict slots s g.0 (follows setting.walls walls deeds told (answers_in slots) found None w d g.1 o)
+    unbuilt-deed setting (pieces deeds chairs before) author seat answer chair next verdict slots s g.0 (follows setting.rules rules setting.walls walls deeds told (answers_in slots) found None same w d g.1 o)
 
 -- The deeds of the table are played, and the four answers lawful.
 pub given-played : (setting : Setting) (rules : Rules) (deeds told : List Deed) (walls : List (List ℕ)) (chairs : List Chair) (before : Four (Option Answer)) (seat : ℕ) (answer : Answer) (chair next : Chair) (verdict : Verdict) (slots : Four (Option Answer)) (found : Four Answer)
     → CanHear setting (under rules (pieces deeds chairs before)) seat answer → walls ≡ setting.walls → told ≡ deeds → Spoken setting (pieces deeds chairs before) seat answer chair next verdict slots
-    → IsPlayed rules.red walls told
+    → IsPlayed rules walls told
 given-played setting rules deeds told walls chairs before seat answer chair next verdict slots found k w d s =
-    let played : IsPlayed setting.rules.red setting.walls deeds = spoken-played setting (pieces deeds chairs before) 0 seat answer chair next verdict slots s (k.going 0) in
+    let played : IsPlayed setting.rules setting.walls deeds = spoken-played setting (pieces deeds chairs before) 0 seat answer chair next verdict slots s (k.going 0) in
     rw (k.rules, w, d) played
 
 pub given-lawful : (setting : Setting) (rules : Rules) (deeds told : List Deed) (walls : List (List ℕ)) (chairs : List Chair) (before : Four (Option Answer)) (seat : ℕ) (answer : Answer) (chair next : Chair) (verdict : Verdict) (slots : Four (Option Answer)) (found : Four Answer)
     → CanHear setting (under rules (pieces deeds chairs before)) seat answer → told ≡ deeds → Spoken setting (pieces deeds chairs before) seat answer chair next verdict slots
-    → Some found ≡ (if is_ready slots then Some (answers_in slots) else None) → AllLawful rules.red told found
+    → Some found ≡ (if is_ready slots then Some (answers_in slots) else None) → AllLawful rules told found
 given-lawful setting rules deeds told walls chairs before seat answer chair next verdict slots found k d s r =
     let g = all_given (is_ready slots) (answers_in slots) found r in
-    let lawful : AllLawful setting.rules.red deeds (answers_in slots) = spoken-lawful setting (pieces deeds chairs before) 0 seat answer chair next verdict slots s (k.going 0) g.0 in
+    let lawful : AllLawful setting.rules deeds (answers_in slots) = spoken-lawful setting (pieces deeds chairs before) 0 seat answer chair next verdict slots s (k.going 0) g.0 in
     rw (k.rules, d, g.1) lawful
 
 -- The place that was read lies within the chairs.

@@ -9,6 +9,7 @@ use Rattle.mj_ports.specs.declared.entry.Entry.TheVariants.{Sat, Back, Said, Gon
 use Rattle.mj_deeds.specs.declared.four.Four.{Four}
 use Rattle.mj_deeds.specs.declared.deed.Deed.{Deed}
 use Rattle.mj_deeds.specs.declared.answer.Answer.{Answer}
+use Rattle.mj_wall.specs.declared.setting.Rules.{Rules}
 use Rattle.mj_wall.specs.declared.setting.Setting.{Setting}
 use Rattle.mj_protocol.specs.After.{After, Chair, Verdict, Taken, Late, Refused, verdict_on, seated, goes_on, filled, is_ready, lines_for, heard, own_part, name_at, names_of, next_deed, with_deed, step}
 use Rattle.mj_protocol.specs.Laws.{CanGoOn}
@@ -48,10 +49,10 @@ goes_on-untold lines Taken chair = refl
 goes_on-untold lines Late chair = refl
 goes_on-untold lines (Refused rule) chair = refl
 
-heard-untold : (red : Bool) (now : After) (seat : ℕ) (answer : Answer) (chair : Chair) → untold (heard red (untold now) seat answer (untold_chair chair)) ≡ untold (heard red now seat answer chair)
+heard-untold : (rules : Rules) (now : After) (seat : ℕ) (answer : Answer) (chair : Chair) → untold (heard rules (untold now) seat answer (untold_chair chair)) ≡ untold (heard rules now seat answer chair)
 unfolding heard
-heard-untold red now seat answer chair =
-    let v : Verdict = verdict_on red now.deeds seat answer chair.progress in
+heard-untold rules now seat answer chair =
+    let v : Verdict = verdict_on rules now.deeds seat answer chair.progress in
     let lines : List (List ℕ) = lines_for seat now.deeds in
     let e : map untold_chair (slice_set (map untold_chair now.chairs) seat (record (untold_chair chair) { progress = goes_on lines v (untold_chair chair).progress }))
     ≡ map untold_chair (slice_set now.chairs seat (record chair { progress = goes_on lines v chair.progress })) =
@@ -61,9 +62,9 @@ heard-untold red now seat answer chair =
     ∙ sym (map-set untold_chair now.chairs seat (record chair { progress = goes_on lines v chair.progress })) in
     ap (λ (cs : List Chair). let now : After = record { deeds = now.deeds; chairs = cs; slots = filled v now.slots seat answer } in now) e
 
-heard-option : (red : Bool) (now : After) (seat : ℕ) (answer : Answer) (o : Option Chair) → untold (option_map_or (heard red (untold now) seat answer) (option_map untold_chair o) (untold now)) ≡ untold (option_map_or (heard red now seat answer) o now)
-heard-option red now seat answer None = ap (λ (cs : List Chair). let n : After = record { deeds = now.deeds; chairs = cs; slots = now.slots } in n) (untold-twice now.chairs)
-heard-option red now seat answer (Some chair) = heard-untold red now seat answer chair
+heard-option : (rules : Rules) (now : After) (seat : ℕ) (answer : Answer) (o : Option Chair) → untold (option_map_or (heard rules (untold now) seat answer) (option_map untold_chair o) (untold now)) ≡ untold (option_map_or (heard rules now seat answer) o now)
+heard-option rules now seat answer None = ap (λ (cs : List Chair). let n : After = record { deeds = now.deeds; chairs = cs; slots = now.slots } in n) (untold-twice now.chairs)
+heard-option rules now seat answer (Some chair) = heard-untold rules now seat answer chair
 
 untold-untold : (now : After) → untold (untold now) ≡ untold now
 untold-untold now = ap (λ (cs : List Chair). let n : After = record { deeds = now.deeds; chairs = cs; slots = now.slots } in n) (untold-twice now.chairs)
@@ -79,7 +80,7 @@ unfolding own_part
 own_part-untold setting now (Sat author name key) =
     ap (λ (cs : List Chair). let n : After = record { deeds = now.deeds; chairs = cs; slots = now.slots } in n)
     (append-untold now.chairs (record { author = author; name = name; key = key; progress = seated }))
-own_part-untold setting now (Said author seat answer) = rw (slice_get-map untold_chair now.chairs seat) (heard-option setting.rules.red now seat answer (slice_get now.chairs seat))
+own_part-untold setting now (Said author seat answer) = rw (slice_get-map untold_chair now.chairs seat) (heard-option setting.rules now seat answer (slice_get now.chairs seat))
 own_part-untold setting now (Back author seat) = untold-untold now
 own_part-untold setting now (Gone author seat) = untold-untold now
 own_part-untold setting now (Expired author window t1 t2) = untold-untold now
@@ -119,10 +120,10 @@ pub seat_or-same : {A : Type 0} (f : Chair → A) → ((chair : Chair) → f (un
 seat_or-same f h d chairs others seat e =
     or-map f (slice_get chairs seat) d ∙ ap (λ (o : Option _). option_map_or (λ b. b) o d) (seat-same f h chairs others seat e) ∙ sym (or-map f (slice_get others seat) d)
 
-pub state_verdict-same : (red : Bool) (now other : After) (seat : ℕ) (answer : Answer) → untold now ≡ untold other → state_verdict red now seat answer ≡ state_verdict red other seat answer
-state_verdict-same red now other seat answer e =
-    ap (λ (deeds : List Deed). option_map (λ (chair : Chair). verdict_on red deeds seat answer chair.progress) (slice_get now.chairs seat)) (ap (λ (n : After). n.deeds) e)
-    ∙ seat-same (λ (chair : Chair). verdict_on red other.deeds seat answer chair.progress) (λ chair. refl) now.chairs other.chairs seat (ap (λ (n : After). n.chairs) e)
+pub state_verdict-same : (rules : Rules) (now other : After) (seat : ℕ) (answer : Answer) → untold now ≡ untold other → state_verdict rules now seat answer ≡ state_verdict rules other seat answer
+state_verdict-same rules now other seat answer e =
+    ap (λ (deeds : List Deed). option_map (λ (chair : Chair). verdict_on rules deeds seat answer chair.progress) (slice_get now.chairs seat)) (ap (λ (n : After). n.deeds) e)
+    ∙ seat-same (λ (chair : Chair). verdict_on rules other.deeds seat answer chair.progress) (λ chair. refl) now.chairs other.chairs seat (ap (λ (n : After). n.chairs) e)
 
 is_deed_built-same : (setting : Setting) (now other : After) → untold now ≡ untold other → is_deed_built setting now ≡ is_deed_built setting other
 unfolding is_deed_built
@@ -130,17 +131,17 @@ is_deed_built-same setting now other e =
     rw (next_deed-same setting now other e)
     (ap (λ (slots : Four (Option Answer)). if is_ready slots then is_some (next_deed setting other) else true) (ap (λ (n : After). n.slots) e))
 
-is_heard_built-same : (red : Bool) (now other : After) (seat : ℕ) (answer : Answer) → untold now ≡ untold other →
-    option_map_or (is_heard_built red now seat answer) (slice_get now.chairs seat) false ≡ option_map_or (is_heard_built red other seat answer) (slice_get other.chairs seat) false
+is_heard_built-same : (rules : Rules) (now other : After) (seat : ℕ) (answer : Answer) → untold now ≡ untold other →
+    option_map_or (is_heard_built rules now seat answer) (slice_get now.chairs seat) false ≡ option_map_or (is_heard_built rules other seat answer) (slice_get other.chairs seat) false
 unfolding is_heard_built
-is_heard_built-same red now other seat answer e =
-    ap (λ (deeds : List Deed). option_map_or (λ (chair : Chair). is_verdict_built chair.progress.refused (verdict_on red deeds seat answer chair.progress)) (slice_get now.chairs seat) false) (ap (λ (n : After). n.deeds) e)
-    ∙ seat_or-same (λ (chair : Chair). is_verdict_built chair.progress.refused (verdict_on red other.deeds seat answer chair.progress)) (λ chair. refl) false now.chairs other.chairs seat (ap (λ (n : After). n.chairs) e)
+is_heard_built-same rules now other seat answer e =
+    ap (λ (deeds : List Deed). option_map_or (λ (chair : Chair). is_verdict_built chair.progress.refused (verdict_on rules deeds seat answer chair.progress)) (slice_get now.chairs seat) false) (ap (λ (n : After). n.deeds) e)
+    ∙ seat_or-same (λ (chair : Chair). is_verdict_built chair.progress.refused (verdict_on rules other.deeds seat answer chair.progress)) (λ chair. refl) false now.chairs other.chairs seat (ap (λ (n : After). n.chairs) e)
 
 pub is_answer_built-same : (setting : Setting) (now other : After) (author seat : ℕ) (answer : Answer) → untold now ≡ untold other → is_answer_built setting now author seat answer ≡ is_answer_built setting other author seat answer
 unfolding is_answer_built
 is_answer_built-same setting now other author seat answer e =
-    rw (is_heard_built-same setting.rules.red now other seat answer e, is_deed_built-same setting _ _ (own_part-same setting now other (Said author seat answer) e))
+    rw (is_heard_built-same setting.rules now other seat answer e, is_deed_built-same setting _ _ (own_part-same setting now other (Said author seat answer) e))
 
 can_go_on-untold : (setting : Setting) (now : After) → CanGoOn setting now → CanGoOn setting (untold now)
 can_go_on-untold setting now c = record { played = c.played; taken = c.taken; ready = c.ready }

@@ -50,7 +50,7 @@ unfolding next_deed
 next-starts setting now d c = rw (d, c)
 
 -- Afterwards the window on the newest deed decides.
-next-plays : (setting : Setting) (now : After) → (length now.deeds == 0) ≡ false → next_deed setting now ≡ (if is_ready now.slots then outcome setting.walls now.deeds (answers_in now.slots) else None)
+next-plays : (setting : Setting) (now : After) → (length now.deeds == 0) ≡ false → next_deed setting now ≡ (if is_ready now.slots then outcome setting.rules setting.walls now.deeds (answers_in now.slots) else None)
 unfolding next_deed
 next-plays setting now d = rw d
 
@@ -101,18 +101,18 @@ takes-starts rules after_rules old author join chair names r d e c n = record {
 }
 
 -- What a held seat says.
-said-own : (setting : Setting) (old : After) (author seat : ℕ) (answer : Answer) (chair : Chair) → slice_get old.chairs seat ≡ Some chair → own_part setting old (Said author seat answer) ≡ heard setting.rules.red old seat answer chair
+said-own : (setting : Setting) (old : After) (author seat : ℕ) (answer : Answer) (chair : Chair) → slice_get old.chairs seat ≡ Some chair → own_part setting old (Said author seat answer) ≡ heard setting.rules old seat answer chair
 unfolding own_part
-said-own setting old author seat answer chair h = ap (λ (o : Option Chair). option_map_or (heard setting.rules.red old seat answer) o old) h
+said-own setting old author seat answer chair h = ap (λ (o : Option Chair). option_map_or (heard setting.rules old seat answer) o old) h
 
 abbrev gone_on : Setting → After → ℕ → Answer → Chair → Chair
 gone_on setting old seat answer chair =
-    record chair { progress = goes_on (lines_for seat old.deeds) (verdict_on setting.rules.red old.deeds seat answer chair.progress) chair.progress }
+    record chair { progress = goes_on (lines_for seat old.deeds) (verdict_on setting.rules old.deeds seat answer chair.progress) chair.progress }
 
-heard-is : (setting : Setting) (old : After) (seat : ℕ) (answer : Answer) (chair : Chair) → heard setting.rules.red old seat answer chair ≡ record {
+heard-is : (setting : Setting) (old : After) (seat : ℕ) (answer : Answer) (chair : Chair) → heard setting.rules old seat answer chair ≡ record {
   deeds = old.deeds;
   chairs = slice_set old.chairs seat (gone_on setting old seat answer chair);
-  slots = filled (verdict_on setting.rules.red old.deeds seat answer chair.progress) old.slots seat answer;
+  slots = filled (verdict_on setting.rules old.deeds seat answer chair.progress) old.slots seat answer;
 }
 unfolding heard
 heard-is setting old seat answer chair = refl
@@ -136,7 +136,7 @@ spoken-same setting old seat answer chair next verdict slots s =
     (s.on ∙ ap (λ (v : Verdict). untold_chair (record chair { progress = goes_on (lines_for seat old.deeds) v chair.progress })) s.judged)
 
 spoken-step : (setting : Setting) (old : After) (author seat : ℕ) (answer : Answer) (chair next : Chair) (verdict : Verdict) (slots : Four (Option Answer)) (deed : Option Deed) → Spoken setting old seat answer chair next verdict slots
-    → (if is_ready slots then outcome setting.walls old.deeds (answers_in slots) else None) ≡ deed
+    → (if is_ready slots then outcome setting.rules setting.walls old.deeds (answers_in slots) else None) ≡ deed
     → untold (with_deed (pieces old.deeds (slice_set old.chairs seat next) slots) deed) ≡ untold (step setting old (Said author seat answer))
 spoken-step setting old author seat answer chair next verdict slots deed s n =
     let changed : After = pieces old.deeds (slice_set old.chairs seat (gone_on setting old seat answer chair)) slots in
@@ -144,32 +144,32 @@ spoken-step setting old author seat answer chair next verdict slots deed s n =
     ∙ sym (ap untold (step-of setting old changed (Said author seat answer) deed (spoken-own setting old author seat answer chair next verdict slots s) (next-plays setting changed s.begun ∙ n)))
 
 -- The verdict is one that the seat may get.
-heard-built : (red : Bool) (now : After) (seat : ℕ) (answer : Answer) (chair : Chair) (verdict : Verdict) (b : Bool) → slice_get now.chairs seat ≡ Some chair → verdict ≡ verdict_on red now.deeds seat answer chair.progress → is_verdict_built chair.progress.refused verdict ≡ b
-    → option_map_or (is_heard_built red now seat answer) (slice_get now.chairs seat) false ≡ b
+heard-built : (rules : Rules) (now : After) (seat : ℕ) (answer : Answer) (chair : Chair) (verdict : Verdict) (b : Bool) → slice_get now.chairs seat ≡ Some chair → verdict ≡ verdict_on rules now.deeds seat answer chair.progress → is_verdict_built chair.progress.refused verdict ≡ b
+    → option_map_or (is_heard_built rules now seat answer) (slice_get now.chairs seat) false ≡ b
 unfolding is_heard_built
-heard-built red now seat answer chair verdict b held judged may =
-    ap (λ (o : Option Chair). option_map_or (is_heard_built red now seat answer) o false) held
+heard-built rules now seat answer chair verdict b held judged may =
+    ap (λ (o : Option Chair). option_map_or (is_heard_built rules now seat answer) o false) held
     ∙ ap (is_verdict_built chair.progress.refused) (sym judged) ∙ may
 
-deed-built : (setting : Setting) (now : After) → (length now.deeds == 0) ≡ false → is_deed_built setting now ≡ (if is_ready now.slots then is_some (if is_ready now.slots then outcome setting.walls now.deeds (answers_in now.slots) else None) else true)
+deed-built : (setting : Setting) (now : After) → (length now.deeds == 0) ≡ false → is_deed_built setting now ≡ (if is_ready now.slots then is_some (if is_ready now.slots then outcome setting.rules setting.walls now.deeds (answers_in now.slots) else None) else true)
 unfolding is_deed_built
 deed-built setting now d = rw (next-plays setting now d)
 
 spoken-built : (setting : Setting) (old : After) (author seat : ℕ) (answer : Answer) (chair next : Chair) (verdict : Verdict) (slots : Four (Option Answer)) (b : Bool) → Spoken setting old seat answer chair next verdict slots
-    → (if is_ready slots then is_some (if is_ready slots then outcome setting.walls old.deeds (answers_in slots) else None) else true) ≡ b
+    → (if is_ready slots then is_some (if is_ready slots then outcome setting.rules setting.walls old.deeds (answers_in slots) else None) else true) ≡ b
     → is_answer_built setting old author seat answer ≡ b
 unfolding is_answer_built
 spoken-built setting old author seat answer chair next verdict slots b s d =
-    ap (λ (h : Bool). h && is_deed_built setting (own_part setting old (Said author seat answer))) (heard-built setting.rules.red old seat answer chair verdict true s.held s.judged s.may)
+    ap (λ (h : Bool). h && is_deed_built setting (own_part setting old (Said author seat answer))) (heard-built setting.rules old seat answer chair verdict true s.held s.judged s.may)
     ∙ ap (is_deed_built setting) (spoken-own setting old author seat answer chair next verdict slots s)
     ∙ deed-built setting _ s.begun ∙ d
 
 same_many : (chairs : List Chair) (seat : ℕ) (chair : Chair) → length (slice_set chairs seat chair) ≡ length chairs
 same_many chairs seat chair = length-set chairs seat chair
 
-spoken-judged : (setting : Setting) (old : After) (seat : ℕ) (answer : Answer) (chair next : Chair) (verdict : Verdict) (slots : Four (Option Answer)) → Spoken setting old seat answer chair next verdict slots → state_verdict setting.rules.red old seat answer ≡ Some verdict
+spoken-judged : (setting : Setting) (old : After) (seat : ℕ) (answer : Answer) (chair next : Chair) (verdict : Verdict) (slots : Four (Option Answer)) → Spoken setting old seat answer chair next verdict slots → state_verdict setting.rules old seat answer ≡ Some verdict
 spoken-judged setting old seat answer chair next verdict slots s =
-    ap (λ (o : Option Chair). option_map (λ (c : Chair). verdict_on setting.rules.red old.deeds seat answer c.progress) o) s.held ∙ ap Some (sym s.judged)
+    ap (λ (o : Option Chair). option_map (λ (c : Chair). verdict_on setting.rules old.deeds seat answer c.progress) o) s.held ∙ ap Some (sym s.judged)
 
 -- The window stays open.
 pub hears-open : (setting : Setting) (rules : Rules) (old : After) (seat : ℕ) (answer : Answer) (chair next : Chair) (verdict : Verdict) (slots : Four (Option Answer)) → Spoken setting old seat answer chair next verdict slots
@@ -185,7 +185,7 @@ hears-open setting rules old seat answer chair next verdict slots s four empty r
 
 -- The window closes, and the next deed comes.
 pub hears-closed : (setting : Setting) (rules after_rules : Rules) (old : After) (seat : ℕ) (answer : Answer) (chair next : Chair) (verdict : Verdict) (slots : Four (Option Answer)) (deed : Deed) → after_rules ≡ rules
-    → Spoken setting old seat answer chair next verdict slots → is_ready slots ≡ true → outcome setting.walls old.deeds (answers_in slots) ≡ Some deed
+    → Spoken setting old seat answer chair next verdict slots → is_ready slots ≡ true → outcome setting.rules setting.walls old.deeds (answers_in slots) ≡ Some deed
     → Hears setting (under rules old) (under after_rules (pieces (old.deeds ++ deed ∷ []) (slice_set old.chairs seat next) empty_slots)) seat answer verdict
 hears-closed setting rules after_rules old seat answer chair next verdict slots deed e s r o = record {
   rules = e;
@@ -203,20 +203,20 @@ spoken-goes setting old author seat answer chair next verdict slots s going =
     subst (CanGoOn setting) (spoken-own setting old author seat answer chair next verdict slots s) going
 
 pub spoken-played : (setting : Setting) (old : After) (author seat : ℕ) (answer : Answer) (chair next : Chair) (verdict : Verdict) (slots : Four (Option Answer)) → Spoken setting old seat answer chair next verdict slots
-    → CanGoOn setting (own_part setting old (Said author seat answer)) → IsPlayed setting.rules.red setting.walls old.deeds
+    → CanGoOn setting (own_part setting old (Said author seat answer)) → IsPlayed setting.rules setting.walls old.deeds
 spoken-played setting old author seat answer chair next verdict slots s going = (spoken-goes setting old author seat answer chair next verdict slots s going).played
 
 pub spoken-lawful : (setting : Setting) (old : After) (author seat : ℕ) (answer : Answer) (chair next : Chair) (verdict : Verdict) (slots : Four (Option Answer)) → Spoken setting old seat answer chair next verdict slots
-    → CanGoOn setting (own_part setting old (Said author seat answer)) → is_ready slots ≡ true → AllLawful setting.rules.red old.deeds (answers_in slots)
+    → CanGoOn setting (own_part setting old (Said author seat answer)) → is_ready slots ≡ true → AllLawful setting.rules old.deeds (answers_in slots)
 spoken-lawful setting old author seat answer chair next verdict slots s going ready = (spoken-goes setting old author seat answer chair next verdict slots s going).ready ready
 
 -- The window closes, and what comes next isn't built.
 pub unbuilt-deed : (setting : Setting) (old : After) (author seat : ℕ) (answer : Answer) (chair next : Chair) (verdict : Verdict) (slots : Four (Option Answer)) → Spoken setting old seat answer chair next verdict slots
-    → is_ready slots ≡ true → outcome setting.walls old.deeds (answers_in slots) ≡ None → is_answer_built setting old author seat answer ≡ false
+    → is_ready slots ≡ true → outcome setting.rules setting.walls old.deeds (answers_in slots) ≡ None → is_answer_built setting old author seat answer ≡ false
 unbuilt-deed setting old author seat answer chair next verdict slots s r o = spoken-built setting old author seat answer chair next verdict slots false s (rw (r, o))
 
 -- The seat may not get this verdict.
-pub unbuilt-verdict : (setting : Setting) (old : After) (author seat : ℕ) (answer : Answer) (chair : Chair) (verdict : Verdict) → slice_get old.chairs seat ≡ Some chair → verdict ≡ verdict_on setting.rules.red old.deeds seat answer chair.progress → is_verdict_built chair.progress.refused verdict ≡ false
+pub unbuilt-verdict : (setting : Setting) (old : After) (author seat : ℕ) (answer : Answer) (chair : Chair) (verdict : Verdict) → slice_get old.chairs seat ≡ Some chair → verdict ≡ verdict_on setting.rules old.deeds seat answer chair.progress → is_verdict_built chair.progress.refused verdict ≡ false
     → is_answer_built setting old author seat answer ≡ false
 unfolding is_answer_built
-unbuilt-verdict setting old author seat answer chair verdict held judged may = rw (heard-built setting.rules.red old seat answer chair verdict false held judged may)
+unbuilt-verdict setting old author seat answer chair verdict held judged may = rw (heard-built setting.rules old seat answer chair verdict false held judged may)

@@ -51,7 +51,7 @@ IsSitAnswer sits.NoMemory old new author join = new ≡ old
 -- The verdict on what a held seat says.
 abbrev pub verdict_at : Game → ℕ → Answer → Option Verdict
 verdict_at game seat answer =
-    option_map (λ (chair : Chair). verdict_on game.setting.rules.red (standing game).deeds seat answer chair.progress)
+    option_map (λ (chair : Chair). verdict_on game.setting.rules (standing game).deeds seat answer chair.progress)
     (slice_get (standing game).chairs seat)
 
 -- What a line answers, where it names no answer that is not built.

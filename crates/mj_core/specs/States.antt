@@ -42,8 +42,8 @@ pub record TakesNext (old new : Position) (author : ℕ) (join : JoinLine) : Typ
   pub empty : IsOpen new.now
 
 -- The verdict on an answer of a held seat.
-abbrev pub state_verdict : Bool → After → ℕ → Answer → Option Verdict
-state_verdict red now seat answer = option_map (λ (chair : Chair). verdict_on red now.deeds seat answer chair.progress) (slice_get now.chairs seat)
+abbrev pub state_verdict : Rules → After → ℕ → Answer → Option Verdict
+state_verdict rules now seat answer = option_map (λ (chair : Chair). verdict_on rules now.deeds seat answer chair.progress) (slice_get now.chairs seat)
 
 -- What is true where a held seat answers its due deed: the game has its walls, and once the answer is in, the deeds are
 -- played and the answers in the slots lawful; who entered it makes no difference.
@@ -60,7 +60,7 @@ pub record CanHear (setting : Setting) (old : Position) (seat : ℕ) (answer : A
 -- An answer has a verdict, and what follows is built; who entered it makes no difference.
 pub record Hears (setting : Setting) (old new : Position) (seat : ℕ) (answer : Answer) (verdict : Verdict) : Type 0 where
   pub rules : new.rules ≡ old.rules
-  pub judged : state_verdict setting.rules.red old.now seat answer ≡ Some verdict
+  pub judged : state_verdict setting.rules old.now seat answer ≡ Some verdict
   pub built : (author : ℕ) → is_answer_built setting old.now author seat answer ≡ true
   pub stepped : (author : ℕ) → untold new.now ≡ untold (step setting old.now (Said author seat answer))
   pub as_many : length new.now.chairs ≡ length old.now.chairs

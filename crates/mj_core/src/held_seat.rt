@@ -87,7 +87,7 @@ impl HeldSeat {
         requires due { self.now.progress.due < deeds }
         requires many { deeds ≡ length table.now.deeds }
         ensures room { self.now.progress.due < usize.MAX }
-        ensures judged { meaning result ≡ verdict_on table.now.rules.red table.now.deeds seat answer.now self.now.progress }
+        ensures judged { meaning result ≡ verdict_on table.now.rules table.now.deeds seat answer.now self.now.progress }
     {
         if self.due + 1 < deeds {
             return Verdict::Late;

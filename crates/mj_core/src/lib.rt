@@ -6,8 +6,6 @@ mod entered;
 mod game;
 mod held_seat;
 mod state;
-#[cfg(test)]
-mod tests;
 mod verdict;
 mod window;
 

@@ -11,9 +11,10 @@ use Rattle.mj_tiles.specs.declared.meld.Meld.{Meld}
 use Rattle.mj_deeds.specs.declared.deed.Deed.{Deed}
 use Rattle.mj_deeds.specs.declared.deed.Deed.TheVariants.{StartGame, StartHand, Draw, Discard, Chi, Pon, OpenKan, ClosedKan, AddedKan, Dora}
 use Rattle.mj_deeds.specs.Facts.{newest, of_seat, makes_by, seat_melds, is_kan, kans}
-use Rattle.mj_deeds.specs.Fits.{fits, all_fit, is_in_place, is_in_hand, is_after_start, has_seats, is_held, has_triplet, has_tiles, brought_by, keeps_kinds, has_room, has_room_for, has_live}
-use Rattle.mj_deeds.specs.Course.{is_start, starts}
+use Rattle.mj_deeds.specs.Fits.{fits, fits_in, fits_behind, all_fit, is_in_place, is_in_hand, is_after_start, is_after_dora, is_after_kan, is_discard_of, has_seats, is_held, has_triplet, has_tiles, brought_by, keeps_kinds, has_room, has_room_for, has_live}
+use Rattle.mj_deeds.specs.Hand.{is_hand_start, hand, before_in, starts}
 use Rattle.mj_deeds.proofs.Newest.{newest_more}
+use Rattle.mj_deeds.proofs.Hands.{behind, hand_more, hand_with, hand_before, starts_more}
 
 -- One deed further.
 pub all_fit-append : (red : Bool) (before ds : List Deed) (d : Deed) → all_fit red before ds ≡ true → fits red (before ++ ds) d ≡ true → all_fit red before (ds ++ d ∷ []) ≡ true
@@ -31,18 +32,16 @@ kept P red before (d ∷ ds) step h fit =
     let parts = and_parts (fits red before d) (all_fit red (before ++ d ∷ []) ds) fit in
     subst P (append_assoc before (d ∷ []) ds) (kept P red (before ++ d ∷ []) ds step (step before d h parts.0) parts.1)
 
--- The parts of a deed that fits.
+-- The parts of a deed that fits in its hand.
 record Parts (red : Bool) (ds : List Deed) (d : Deed) : Type 0 where
-  place : is_in_place (newest ds) d ≡ true
   seats : has_seats d ≡ true
   kinds : keeps_kinds ds d ≡ true
   room : has_room ds d ≡ true
   live : has_live ds d ≡ true
 
-parts_of : (red : Bool) (ds : List Deed) (d : Deed) → fits red ds d ≡ true → Parts red ds d
-unfolding fits
-parts_of red ds d h =
-    let a = is_in_place (newest ds) d in
+parts_in : (red : Bool) (ds : List Deed) (d : Deed) → fits_in red ds d ≡ true → Parts red ds d
+unfolding fits_in
+parts_in red ds d h =
     let b = has_seats d in
     let e = is_held ds d in
     let f = has_triplet ds d in
@@ -50,14 +49,33 @@ parts_of red ds d h =
     let i = keeps_kinds ds d in
     let j = has_room ds d in
     let k = has_live ds d in
-    let p7 = and_parts (a && b && e && f && g && i && j) k h in
-    let p6 = and_parts (a && b && e && f && g && i) j p7.0 in
-    let p5 = and_parts (a && b && e && f && g) i p6.0 in
-    let p4 = and_parts (a && b && e && f) g p5.0 in
-    let p3 = and_parts (a && b && e) f p4.0 in
-    let p2 = and_parts (a && b) e p3.0 in
-    let p1 = and_parts a b p2.0 in
-    record { place = p1.0; seats = p1.1; kinds = p5.1; room = p6.1; live = p7.1 }
+    let p6 = and_parts (b && e && f && g && i && j) k h in
+    let p5 = and_parts (b && e && f && g && i) j p6.0 in
+    let p4 = and_parts (b && e && f && g) i p5.0 in
+    let p3 = and_parts (b && e && f) g p4.0 in
+    let p2 = and_parts (b && e) f p3.0 in
+    let p1 = and_parts b e p2.0 in
+    record { seats = p1.0; kinds = p4.1; room = p5.1; live = p6.1 }
+
+-- Of a deed that fits: its place, and its parts in its hand.
+record Placed (red : Bool) (ds : List Deed) (d : Deed) : Type 0 where
+  place : is_in_place (newest ds) d ≡ true
+  inside : Parts red (before_in (hand ds) d) d
+
+parts_of : (red : Bool) (ds : List Deed) (d : Deed) → fits red ds d ≡ true → Placed red ds d
+unfolding fits_behind
+parts_of red ds d h =
+    let p = and_parts (is_in_place (newest ds) d) (fits_in red (before_in (hand ds) d) d) h in
+    record { place = p.0; inside = parts_in red (before_in (hand ds) d) d p.1 }
+
+-- What each deed that fits in its hand keeps is true of the newest hand.
+kept_in_hand : (P : List Deed → Type 0) (red : Bool) (ds : List Deed) → ((h : List Deed) (d : Deed) → P h → Parts red h d → P (h ++ d ∷ [])) →
+    P [] → all_fit red [] ds ≡ true → P (hand ds)
+unfolding hand
+kept_in_hand P red ds step none fit = kept (λ xs. P (hand xs)) red [] ds more none fit
+  where
+    more : (xs : List Deed) (d : Deed) → P (hand xs) → fits red xs d ≡ true → P (hand (xs ++ d ∷ []))
+    more xs d h f = hand_with P xs d (λ _ _. none) (step (before_in (hand xs) d) d (hand_before P (hand xs) d none h) (parts_of red xs d f).inside)
 
 -- no fifth kan
 
@@ -77,15 +95,15 @@ live_kan ds (Pon who target tile a b) h k = cc
 live_kan ds (Dora tile) h k = cc
 
 -- Deeds that fit have at most four kans.
-pub four_kans : (red : Bool) (ds : List Deed) → all_fit red [] ds ≡ true → kans ds ≤ 4
-four_kans red ds fit = kept (λ xs. kans xs ≤ 4) red [] ds step (omega arith) fit
+pub four_kans : (red : Bool) (ds : List Deed) → all_fit red [] ds ≡ true → kans (hand ds) ≤ 4
+four_kans red ds fit = kept_in_hand (λ xs. kans xs ≤ 4) red ds step (omega arith) fit
   where
     one : (n m : ℕ) (b : Bool) → m ≡ n + cond b 1 0 → n ≤ 4 → (b ≡ true → n < 4) → m ≤ 4
     one n m true e h k = omega (arith, e, k refl)
     one n m false e h k = omega (arith, e, h)
 
-    step : (xs : List Deed) (d : Deed) → kans xs ≤ 4 → fits red xs d ≡ true → kans (xs ++ d ∷ []) ≤ 4
-    step xs d h f = one (kans xs) (kans (xs ++ d ∷ [])) (is_kan d) (kans_more xs d) h (live_kan xs d (parts_of red xs d f).live)
+    step : (xs : List Deed) (d : Deed) → kans xs ≤ 4 → Parts red xs d → kans (xs ++ d ∷ []) ≤ 4
+    step xs d h p = one (kans xs) (kans (xs ++ d ∷ [])) (is_kan d) (kans_more xs d) h (live_kan xs d p.live)
 
 -- no fifth meld
 
@@ -135,8 +153,8 @@ room_at ds d seat h low = at seat low
     at (suc (suc (suc (suc n)))) l = absurd (omega (arith, l))
 
 -- A seat of deeds that fit has at most four melds.
-pub four_melds : (red : Bool) (ds : List Deed) (seat : ℕ) → all_fit red [] ds ≡ true → length (seat_melds ds seat) ≤ 4
-four_melds red ds seat fit = kept (λ xs. length (seat_melds xs seat) ≤ 4) red [] ds step (omega arith) fit
+pub four_melds : (red : Bool) (ds : List Deed) (seat : ℕ) → all_fit red [] ds ≡ true → length (seat_melds (hand ds) seat) ≤ 4
+four_melds red ds seat fit = kept_in_hand (λ xs. length (seat_melds xs seat) ≤ 4) red ds step (omega arith) fit
   where
     sum : (n m k : ℕ) → n ≡ m + k → m + k ≤ 4 → n ≤ 4
     sum n m k e h = omega (arith, e, h)
@@ -148,8 +166,8 @@ four_melds red ds seat fit = kept (λ xs. length (seat_melds xs seat) ≤ 4) red
     by_seat xs d h p (inl low) = sum _ (length (seat_melds xs seat)) (length (makes_by seat d)) (melds_more xs d seat) (room_at xs d seat p.room low)
     by_seat xs d h p (inr high) = none _ (length (seat_melds xs seat)) (length (makes_by seat d)) (melds_more xs d seat) (ap length (no_meld seat d p.seats high)) h
 
-    step : (xs : List Deed) (d : Deed) → length (seat_melds xs seat) ≤ 4 → fits red xs d ≡ true → length (seat_melds (xs ++ d ∷ []) seat) ≤ 4
-    step xs d h f = by_seat xs d h (parts_of red xs d f) (cases_lt seat 4)
+    step : (xs : List Deed) (d : Deed) → length (seat_melds xs seat) ≤ 4 → Parts red xs d → length (seat_melds (xs ++ d ∷ []) seat) ≤ 4
+    step xs d h p = by_seat xs d h p (cases_lt seat 4)
 
 -- no fifth tile of a kind
 
@@ -165,26 +183,13 @@ unfolding has_no_fifth all_kinds
 kind_at tiles kind small h = leb-true (number_of tiles kind) 4 (ap (λ k. leb (number_of tiles k) 4) (sym (zero-add kind)) ∙ all_at (λ k. leb (number_of tiles k) 4) 0 34 kind small h)
 
 -- Deeds that fit bring in no kind a fifth time.
-pub four_of_kind : (red : Bool) (ds : List Deed) (kind : ℕ) → kind < 34 → all_fit red [] ds ≡ true → number_of (flat_map brought_by ds) kind ≤ 4
+pub four_of_kind : (red : Bool) (ds : List Deed) (kind : ℕ) → kind < 34 → all_fit red [] ds ≡ true → number_of (flat_map brought_by (hand ds)) kind ≤ 4
 four_of_kind red ds kind small fit =
-    kept (λ xs. number_of (flat_map brought_by xs) kind ≤ 4) red [] ds (λ xs d h f. kind_at (flat_map brought_by (xs ++ d ∷ [])) kind small (parts_of red xs d f).kinds) (omega arith) fit
+    kept_in_hand (λ xs. number_of (flat_map brought_by xs) kind ≤ 4) red ds (λ xs d h p. kind_at (flat_map brought_by (xs ++ d ∷ [])) kind small p.kinds) (omega arith) fit
 
 -- one hand
 
-starts_more : (ds : List Deed) (d : Deed) → length (starts (ds ++ d ∷ [])) ≡ length (starts ds) + cond (is_start d) 1 0
-starts_more [] d = one (is_start d)
-  where
-    one : (b : Bool) → length (cond b (d ∷ []) []) ≡ 0 + cond b 1 0
-    one true = refl
-    one false = refl
-starts_more (x ∷ ds) d = more (is_start x) (starts_more ds d)
-  where
-    more : (b : Bool) → length (starts (ds ++ d ∷ [])) ≡ length (starts ds) + cond (is_start d) 1 0 →
-        length (cond b (x ∷ starts (ds ++ d ∷ [])) (starts (ds ++ d ∷ []))) ≡ length (cond b (x ∷ starts ds) (starts ds)) + cond (is_start d) 1 0
-    more true e = omega (arith, e)
-    more false e = e
-
-abbrev begun : Option Deed → ℕ
+abbrev pub begun : Option Deed → ℕ
 begun before = cond (is_in_hand before) 1 0
 
 not_begun : (before : Option Deed) → is_after_start before ≡ true → begun before ≡ 0
@@ -212,7 +217,7 @@ begun_within before = within (is_in_hand before)
     within false = omega arith
 
 -- By how much a deed starts hands, and whether one is under way then.
-hand_step : (ds : List Deed) (d : Deed) → is_in_place (newest ds) d ≡ true → length (starts ds) ≤ begun (newest ds) → length (starts ds) + cond (is_start d) 1 0 ≤ begun (Some d)
+hand_step : (ds : List Deed) (d : Deed) → is_in_place (newest ds) d ≡ true → length (starts ds) ≤ begun (newest ds) → length (starts ds) + cond (is_hand_start d) 1 0 ≤ begun (Some d)
 hand_step ds (StartHand round number honba deposits dealer indicator hands) h k =
     omega (arith, k, not_begun (newest ds) (first_part h))
   where
@@ -233,14 +238,88 @@ hand_step ds (ClosedKan who a b c d) h k = omega (arith, k, begun_within (newest
 hand_step ds (AddedKan who tile a b c) h k = omega (arith, k, begun_within (newest ds))
 hand_step ds (Dora tile) h k = omega (arith, k, begun_within (newest ds))
 
--- Of deeds that fit at most one starts a hand.
-pub one_start : (red : Bool) (ds : List Deed) → all_fit red [] ds ≡ true → length (starts ds) ≤ 1
-one_start red ds fit = whole (kept (λ xs. length (starts xs) ≤ begun (newest xs)) red [] ds step (omega arith) fit)
+-- Of deeds that fit at most one starts a hand, and none before the hand is under way.
+pub few_starts : (red : Bool) (ds : List Deed) → all_fit red [] ds ≡ true → length (starts ds) ≤ begun (newest ds)
+few_starts red ds fit = kept (λ xs. length (starts xs) ≤ begun (newest xs)) red [] ds step (omega arith) fit
   where
-    whole : length (starts ds) ≤ begun (newest ds) → length (starts ds) ≤ 1
-    whole h = omega (arith, h, begun_within (newest ds))
-
     step : (xs : List Deed) (d : Deed) → length (starts xs) ≤ begun (newest xs) → fits red xs d ≡ true → length (starts (xs ++ d ∷ [])) ≤ begun (newest (xs ++ d ∷ []))
     step xs d h f =
         subst (λ (o : Option Deed). length (starts (xs ++ d ∷ [])) ≤ begun o) (sym (newest_more xs d))
         (subst (λ (n : ℕ). n ≤ begun (Some d)) (sym (starts_more xs d)) (hand_step xs d (parts_of red xs d f).place h))
+
+pub one_start : (red : Bool) (ds : List Deed) → all_fit red [] ds ≡ true → length (starts ds) ≤ 1
+one_start red ds fit = whole (few_starts red ds fit)
+  where
+    whole : length (starts ds) ≤ begun (newest ds) → length (starts ds) ≤ 1
+    whole h = omega (arith, h, begun_within (newest ds))
+
+-- A start of a hand that fits is the first one.
+pub first_start : (red : Bool) (ds : List Deed) (d : Deed) → all_fit red [] ds ≡ true → fits red ds d ≡ true → is_hand_start d ≡ true → length (starts ds) ≡ 0
+first_start red ds d fit one start =
+    none (is_hand_start d) start (hand_step ds d (parts_of red ds d one).place (few_starts red ds fit)) (begun_within (Some d))
+  where
+    none : (b : Bool) → b ≡ true → length (starts ds) + cond b 1 0 ≤ begun (Some d) → begun (Some d) ≤ 1 → length (starts ds) ≡ 0
+    none true e h k = omega (arith, h, k)
+    none false e h k = cc
+
+-- a hand is under way
+
+kan_in_hand : (before : Option Deed) → is_after_kan before ≡ true → is_in_hand before ≡ true
+kan_in_hand None h = cc
+kan_in_hand (Some (StartGame names)) h = cc
+kan_in_hand (Some (StartHand round number honba deposits dealer indicator hands)) h = refl
+kan_in_hand (Some (Draw who tile replacement)) h = refl
+kan_in_hand (Some (Discard who tile drawn)) h = refl
+kan_in_hand (Some (Chi who target tile a b)) h = refl
+kan_in_hand (Some (Pon who target tile a b)) h = refl
+kan_in_hand (Some (OpenKan who target tile a b c)) h = refl
+kan_in_hand (Some (ClosedKan who a b c d)) h = refl
+kan_in_hand (Some (AddedKan who tile a b c)) h = refl
+kan_in_hand (Some (Dora tile)) h = refl
+
+discard_in_hand : (before : Option Deed) (target called : ℕ) → is_discard_of before target called ≡ true → is_in_hand before ≡ true
+discard_in_hand None target called h = cc
+discard_in_hand (Some (StartGame names)) target called h = cc
+discard_in_hand (Some (StartHand round number honba deposits dealer indicator hands)) target called h = refl
+discard_in_hand (Some (Draw who tile replacement)) target called h = refl
+discard_in_hand (Some (Discard who tile drawn)) target called h = refl
+discard_in_hand (Some (Chi who other tile a b)) target called h = refl
+discard_in_hand (Some (Pon who other tile a b)) target called h = refl
+discard_in_hand (Some (OpenKan who other tile a b c)) target called h = refl
+discard_in_hand (Some (ClosedKan who a b c d)) target called h = refl
+discard_in_hand (Some (AddedKan who tile a b c)) target called h = refl
+discard_in_hand (Some (Dora tile)) target called h = refl
+
+-- Every deed in its place that starts neither a game nor a hand stands behind one of a hand.
+pub in_hand_before : (before : Option Deed) (d : Deed) → is_in_place before d ≡ true → is_hand_start d ≡ false → is_in_hand (Some d) ≡ true → is_in_hand before ≡ true
+in_hand_before before (StartGame names) h k l = cc
+in_hand_before before (StartHand round number honba deposits dealer indicator hands) h k l = cc
+in_hand_before before (Draw who tile true) h k l = (and_parts (is_in_hand before) (is_after_dora before) h).0
+in_hand_before before (Draw who tile false) h k l = (and_parts (is_in_hand before) (not (is_after_dora before)) h).0
+in_hand_before before (Discard who tile drawn) h k l = h
+in_hand_before before (Chi who target tile a b) h k l = discard_in_hand before target tile h
+in_hand_before before (Pon who target tile a b) h k l = discard_in_hand before target tile h
+in_hand_before before (OpenKan who target tile a b c) h k l = discard_in_hand before target tile h
+in_hand_before before (ClosedKan who a b c d) h k l = h
+in_hand_before before (AddedKan who tile a b c) h k l = h
+in_hand_before before (Dora tile) h k l = kan_in_hand before h
+
+-- Behind a deed of a hand there are deeds of a hand.
+pub hand_begun : (red : Bool) (ds : List Deed) → all_fit red [] ds ≡ true → is_in_hand (newest ds) ≡ true → hand ds ≡ [] → ⊥
+hand_begun red ds fit = kept (λ xs. is_in_hand (newest xs) ≡ true → hand xs ≡ [] → ⊥) red [] ds step (λ h k. no h) fit
+  where
+    no : false ≡ true → ⊥
+    no h = cc
+
+    some : {A : Type 0} (x : A) (xs : List A) → x ∷ xs ≡ [] → ⊥
+    some x xs h = cc
+
+    empty : (b : Bool) (d : Deed) (xs : List Deed) → cond b (d ∷ []) (behind xs d) ≡ [] → (b ≡ false) × (xs ≡ [])
+    empty true d xs h = absurd (some d [] h)
+    empty false d [] h = (refl, refl)
+    empty false d (x ∷ xs) h = absurd (some x (xs ++ d ∷ []) h)
+
+    step : (xs : List Deed) (d : Deed) → (is_in_hand (newest xs) ≡ true → hand xs ≡ [] → ⊥) → fits red xs d ≡ true → is_in_hand (newest (xs ++ d ∷ [])) ≡ true → hand (xs ++ d ∷ []) ≡ [] → ⊥
+    step xs d old f k e =
+        let parts = empty (is_hand_start d) d (hand xs) (sym (hand_more xs d) ∙ e) in
+        old (in_hand_before (newest xs) d (parts_of red xs d f).place parts.0 (ap is_in_hand (sym (newest_more xs d)) ∙ k)) parts.1

@@ -4,8 +4,10 @@ use Rattle.std.specs.List.{list_any, list_all}
 use Rattle.mj_tiles.specs.Faces.{kind_of, is_red, number_in}
 use Rattle.mj_tiles.specs.Counts.{has_no_fifth}
 use Rattle.mj_tiles.specs.declared.meld.Meld.{Meld}
+use Rattle.mj_rounds.specs.Rounds.{first_standing}
 use Rattle.mj_deeds.specs.declared.deed.Deed.{Deed}
 use Rattle.mj_deeds.specs.declared.deed.Deed.TheVariants.{StartGame, StartHand, Draw, Discard, Chi, Pon, OpenKan, ClosedKan, AddedKan, Dora}
+use Rattle.mj_deeds.specs.Hand.{hand, before_in}
 use Rattle.mj_deeds.specs.Facts.{newest, gained, lost, losses_by, seat_melds, makes_by, is_pon, is_kan, kans, live_tiles}
 
 -- The newest deed shows an indicator.
@@ -42,7 +44,7 @@ is_discard_of other target called = false
 abbrev pub is_in_place : Option Deed → Deed → Bool
 is_in_place before (StartGame names) = not (is_in_hand before || is_after_start before)
 is_in_place before (StartHand round number honba deposits dealer indicator hands) =
-    is_after_start before && round == 27 && number == 1 && honba == 0 && deposits == 0 && dealer == 0
+    is_after_start before && round == first_standing.round && number == first_standing.dealer + 1 && honba == first_standing.honba && deposits == 0 && dealer == first_standing.dealer
 is_in_place before (Draw who tile replacement) = is_in_hand before && (if replacement then is_after_dora before else not (is_after_dora before))
 is_in_place before (Discard who tile drawn) = is_in_hand before
 is_in_place before (Chi who target tile a b) = is_discard_of before target tile
@@ -126,11 +128,18 @@ abbrev pub has_live : List Deed → Deed → Bool
 has_live deeds (Draw who tile replacement) = replacement || nat_lt 0 (live_tiles deeds)
 has_live deeds deed = not (is_kan deed) || (nat_lt (kans deeds) 4 && nat_lt 0 (live_tiles deeds))
 
--- A deed fits behind deeds, in a game with red fives or without.
-unfoldable pub fits : Bool → List Deed → Deed → Bool
-fits red deeds deed =
-    is_in_place (newest deeds) deed && has_seats deed && is_held deeds deed && has_triplet deeds deed && has_tiles red deed
-    && keeps_kinds deeds deed && has_room deeds deed && has_live deeds deed
+-- A deed fits behind the deeds before it in its own hand.
+unfoldable pub fits_in : Bool → List Deed → Deed → Bool
+fits_in red hand deed =
+    has_seats deed && is_held hand deed && has_triplet hand deed && has_tiles red deed && keeps_kinds hand deed && has_room hand deed && has_live hand deed
+
+-- A deed fits behind the newest deed and the deeds of its hand: it stands in its place, and fits in its hand.
+unfoldable pub fits_behind : Bool → Option Deed → List Deed → Deed → Bool
+fits_behind red newest hand deed = is_in_place newest deed && fits_in red (before_in hand deed) deed
+
+-- A deed fits behind the deeds of a game, with red fives or without.
+abbrev pub fits : Bool → List Deed → Deed → Bool
+fits red deeds deed = fits_behind red (newest deeds) (hand deeds) deed
 
 -- Each deed fits behind those before it.
 abbrev pub all_fit : Bool → List Deed → List Deed → Bool

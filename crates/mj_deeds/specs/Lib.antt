@@ -4,7 +4,9 @@ pub mod Facts
 pub mod Firsts
 pub mod Fits
 pub mod Four
+pub mod Hand
 pub mod Pais
 pub mod Passed
 pub mod Points
 pub mod Reasons
+pub mod Standings

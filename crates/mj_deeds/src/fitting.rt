@@ -1,41 +1,50 @@
-ghost use Rattle.std.specs.Prelude.{◌≡◌, ◌≤◌, ◌-◌, ◌++◌, not, length};
+ghost use Rattle.std.specs.Prelude.{◌≡◌, ◌≤◌, ◌-◌, ◌++◌, not, length, option_copied};
 ghost use Rattle.std.specs.List.{list_all};
 ghost use Rattle.mj_tiles.specs.Faces.{is_red};
-ghost use Rattle.mj_deeds.specs.Facts.{newest, of_seat, makes_by, seat_melds, gained, lost};
-ghost use Rattle.mj_deeds.specs.Fits.{fits, is_in_place, is_in_hand, is_after_start, is_after_dora, is_after_kan, is_discard_of, has_seats, is_held, is_held_by, are_held, has_triplet, has_tiles, has_room, has_room_for, has_live};
+ghost use Rattle.mj_deeds.specs.Facts.{of_seat, makes_by, seat_melds, gained, lost};
+ghost use Rattle.mj_deeds.specs.Fits.{fits_behind, fits_in, is_in_place, is_in_hand, is_after_start, is_after_dora, is_after_kan, is_discard_of, has_seats, is_held, is_held_by, are_held, has_triplet, has_tiles, has_room, has_room_for, has_live};
 
 use crate::bringing::keeps_kinds;
 use crate::course::{is_kan, kans, live_left};
 use crate::deed::Deed;
 use crate::facts::held;
 use crate::four::Four;
+use crate::hand::before_in;
 use crate::meld::{has_triplet, made};
 use crate::tiles::Tiles;
 use mj_tiles::{Tile, number_among};
 
-/// Whether a deed fits behind the deeds of a game with red fives or without: it stands in its place, seats are 0 to 3,
-/// tiles that are put down are held, a tile is added to an own pon, there is no red five in a game without them, no fifth
-/// tile of a kind, no fifth meld of a seat, no fifth kan, and a live tile is left for a live draw or a kan.
-#[tactic(auto, unfolding(crate::specs::Fits::fits))]
-pub fn fits(red: bool, deeds: &[Deed], deed: &Deed) -> bool
-    ensures { result ≡ fits red deeds.now deed.now }
+/// Whether a deed fits behind the deeds of a game with red fives or without, of which the newest is given and the deeds of
+/// the newest hand, which are none before the first: it stands in its place, seats are 0 to 3, tiles that are put down are
+/// held, a tile is added to an own pon, there is no red five in a game without them, no fifth tile of a kind, no fifth meld
+/// of a seat, no fifth kan, and a live tile is left for a live draw or a kan.
+#[tactic(auto, unfolding(crate::specs::Fits::fits_behind))]
+pub fn fits(red: bool, newest: Option<&Deed>, hand: &[Deed], deed: &Deed) -> bool
+    ensures { result ≡ fits_behind red (option_copied newest.entry) hand.now deed.now }
 {
-    is_in_place(deeds, deed)
-        && has_seats(deed)
-        && is_held(deeds, deed)
-        && adds_to_pon(deeds, deed)
+    is_in_place(newest, deed) && fits_in(red, before_in(hand, deed), deed)
+}
+
+// Whether a deed fits behind the deeds before it in its own hand.
+#[tactic(auto, unfolding(crate::specs::Fits::fits_in))]
+fn fits_in(red: bool, hand: &[Deed], deed: &Deed) -> bool
+    ensures { result ≡ fits_in red hand.now deed.now }
+{
+    has_seats(deed)
+        && is_held(hand, deed)
+        && adds_to_pon(hand, deed)
         && has_tiles(red, deed)
-        && keeps_kinds(deeds, deed)
-        && has_room(deeds, deed)
-        && has_live(deeds, deed)
+        && keeps_kinds(hand, deed)
+        && has_room(hand, deed)
+        && has_live(hand, deed)
 }
 
 // Whether a deed stands in its place behind the newest one.
-fn is_in_place(deeds: &[Deed], deed: &Deed) -> bool
-    ensures { result ≡ is_in_place (newest deeds.now) deed.now }
+fn is_in_place(newest: Option<&Deed>, deed: &Deed) -> bool
+    ensures { result ≡ is_in_place (option_copied newest.entry) deed.now }
 {
     match deed {
-        Deed::StartGame { .. } => !(is_in_hand(deeds) || is_after_start(deeds)),
+        Deed::StartGame { .. } => !(is_in_hand(newest) || is_after_start(newest)),
         Deed::StartHand {
             round,
             number,
@@ -44,7 +53,7 @@ fn is_in_place(deeds: &[Deed], deed: &Deed) -> bool
             dealer,
             ..
         } => {
-            is_after_start(deeds)
+            is_after_start(newest)
                 && round.number() == 27
                 && *number == 1
                 && *honba == 0
@@ -52,55 +61,55 @@ fn is_in_place(deeds: &[Deed], deed: &Deed) -> bool
                 && *dealer == 0
         }
         Deed::Draw { replacement, .. } if *replacement => {
-            is_in_hand(deeds) && is_after_dora(deeds)
+            is_in_hand(newest) && is_after_dora(newest)
         }
-        Deed::Draw { .. } => is_in_hand(deeds) && !is_after_dora(deeds),
-        Deed::Discard { .. } => is_in_hand(deeds),
-        Deed::Chi { target, tile, .. } => is_discard_of(deeds, *target, *tile),
-        Deed::Pon { target, tile, .. } => is_discard_of(deeds, *target, *tile),
-        Deed::OpenKan { target, tile, .. } => is_discard_of(deeds, *target, *tile),
-        Deed::ClosedKan { .. } => is_in_hand(deeds),
-        Deed::AddedKan { .. } => is_in_hand(deeds),
-        Deed::Dora { .. } => is_after_kan(deeds),
+        Deed::Draw { .. } => is_in_hand(newest) && !is_after_dora(newest),
+        Deed::Discard { .. } => is_in_hand(newest),
+        Deed::Chi { target, tile, .. } => is_discard_of(newest, *target, *tile),
+        Deed::Pon { target, tile, .. } => is_discard_of(newest, *target, *tile),
+        Deed::OpenKan { target, tile, .. } => is_discard_of(newest, *target, *tile),
+        Deed::ClosedKan { .. } => is_in_hand(newest),
+        Deed::AddedKan { .. } => is_in_hand(newest),
+        Deed::Dora { .. } => is_after_kan(newest),
     }
 }
 
-fn is_in_hand(deeds: &[Deed]) -> bool
-    ensures { result ≡ is_in_hand (newest deeds.now) }
+fn is_in_hand(newest: Option<&Deed>) -> bool
+    ensures { result ≡ is_in_hand (option_copied newest.entry) }
 {
-    match deeds.last() {
+    match newest {
         None => false,
         Some(Deed::StartGame { .. }) => false,
         Some(_) => true,
     }
 }
 
-fn is_after_start(deeds: &[Deed]) -> bool
-    ensures { result ≡ is_after_start (newest deeds.now) }
+fn is_after_start(newest: Option<&Deed>) -> bool
+    ensures { result ≡ is_after_start (option_copied newest.entry) }
 {
-    matches!(deeds.last(), Some(Deed::StartGame { .. }))
+    matches!(newest, Some(Deed::StartGame { .. }))
 }
 
-fn is_after_dora(deeds: &[Deed]) -> bool
-    ensures { result ≡ is_after_dora (newest deeds.now) }
+fn is_after_dora(newest: Option<&Deed>) -> bool
+    ensures { result ≡ is_after_dora (option_copied newest.entry) }
 {
-    matches!(deeds.last(), Some(Deed::Dora { .. }))
+    matches!(newest, Some(Deed::Dora { .. }))
 }
 
-fn is_after_kan(deeds: &[Deed]) -> bool
-    ensures { result ≡ is_after_kan (newest deeds.now) }
+fn is_after_kan(newest: Option<&Deed>) -> bool
+    ensures { result ≡ is_after_kan (option_copied newest.entry) }
 {
-    match deeds.last() {
+    match newest {
         Some(deed) => is_kan(deed),
         None => false,
     }
 }
 
 // Whether the newest deed is the discard of that tile by the target.
-fn is_discard_of(deeds: &[Deed], target: u8, called: Tile) -> bool
-    ensures { result ≡ is_discard_of (newest deeds.now) target called }
+fn is_discard_of(newest: Option<&Deed>, target: u8, called: Tile) -> bool
+    ensures { result ≡ is_discard_of (option_copied newest.entry) target called }
 {
-    match deeds.last() {
+    match newest {
         Some(Deed::Discard { seat, tile, .. }) => {
             *seat == target && tile.face() == called.face()
         }

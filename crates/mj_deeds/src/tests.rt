@@ -215,17 +215,17 @@ fn no_fifth_of_a_kind_and_no_fifth_kan_fits(rt: HostRuntime) -> Result<(), Fail>
     let deeds = four_kans(alloc)?;
     let deeds = deeds.as_slice();
     // a fifth kan, of the seat with four melds and of one without
-    assert!(rt; !fits(false, deeds, &closed_kan(0, 4)?));
-    assert!(rt; !fits(false, deeds, &closed_kan(1, 5)?));
+    assert!(rt; !fits(false, deeds.last(), deeds, &closed_kan(0, 4)?));
+    assert!(rt; !fits(false, deeds.last(), deeds, &closed_kan(1, 5)?));
     // a fifth tile of a kind, as a red five too
-    assert!(rt; !fits(false, deeds, &draw(1, 0)?));
-    assert!(rt; !fits(true, deeds, &draw(1, 34)?));
+    assert!(rt; !fits(false, deeds.last(), deeds, &draw(1, 0)?));
+    assert!(rt; !fits(true, deeds.last(), deeds, &draw(1, 34)?));
     // a red five, in a game with them and without
-    assert!(rt; fits(true, deeds, &draw(1, 35)?));
-    assert!(rt; !fits(false, deeds, &draw(1, 35)?));
+    assert!(rt; fits(true, deeds.last(), deeds, &draw(1, 35)?));
+    assert!(rt; !fits(false, deeds.last(), deeds, &draw(1, 35)?));
     // a tile that isn't held, and one that is
-    assert!(rt; !fits(false, deeds, &discard(1, 0, false)?));
-    assert!(rt; fits(false, deeds, &discard(1, 5, false)?));
+    assert!(rt; !fits(false, deeds.last(), deeds, &discard(1, 0, false)?));
+    assert!(rt; fits(false, deeds.last(), deeds, &discard(1, 5, false)?));
     Ok(())
 }
 

@@ -10,7 +10,7 @@ use Rattle.mj_ports.specs.declared.sitting.JoinLine.{JoinLine}
 use Rattle.mj_ports.specs.declared.sitting.SitRefused.{SitRefused}
 use Rattle.mj_deeds.specs.declared.answer.Answer.{Answer}
 use Rattle.mj_deeds.specs.declared.rule.Rule.{Rule}
-use Rattle.mj_wall.specs.Places.{is_wall, bad_place}
+use Rattle.mj_wall.specs.Places.{is_wall}
 use Rattle.mj_protocol.specs.Lines.{error_text}
 use Rattle.mj_protocol.specs.Reading.{answer_of, join_of, names_later_type}
 use Rattle.mj_protocol.specs.After.{Chair, Verdict, Taken, Late, Refused, script_in}
@@ -242,10 +242,9 @@ walls-second game tiles wall begun h whole =
     let none : (length game.entries == 0) ≡ true = begun ∙ grind (arith, nat_tests) in
     wall-by (reading_of game) tiles true true whole none wall
 
-pub walls-no_wall : (game : Game) (tiles : List ℕ) (place : ℕ) → (length game.setting.walls == 0) ≡ false → bad_place false tiles ≡ Some place → wall_arrives (reading_of game) tiles ≡ Bad
-unfolding is_wall
-walls-no_wall game tiles place wall h =
-    wall-by (reading_of game) tiles false (length game.entries == 0) (rw h) refl wall
+pub walls-no_wall : (game : Game) (tiles : List ℕ) → (length game.setting.walls == 0) ≡ false → is_wall false tiles ≡ false → wall_arrives (reading_of game) tiles ≡ Bad
+walls-no_wall game tiles wall none =
+    wall-by (reading_of game) tiles false (length game.entries == 0) none refl wall
 
 pub ruleset saying = (says-unasked, says-beyond, says-absent)
 

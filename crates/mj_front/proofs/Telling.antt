@@ -75,13 +75,13 @@ has_chair (Some chair) author h = (chair, refl, cc h)
 
 -- the verdict on an answer, from the verdict that was told
 pub verdict-at : (game : Game) (seat : ℕ) (answer : Answer) (chair : Chair) (verdict : Verdict) → slice_get (standing game).chairs seat ≡ Some chair → verdict_at game seat answer ≡ Some verdict →
-    verdict_on game.setting.rules.red (standing game).deeds seat answer chair.progress ≡ verdict
+    verdict_on game.setting.rules (standing game).deeds seat answer chair.progress ≡ verdict
 verdict-at game seat answer chair verdict e h = let k = rw e at h in cc k
 
 -- what an answer changes of the chairs
 chairs-said : (setting : Setting) (now : After) (author seat : ℕ) (answer : Answer) (chair : Chair) → slice_get now.chairs seat ≡ Some chair →
     (own_part setting now (Said author seat answer)).chairs
-    ≡ slice_set now.chairs seat (record chair { progress = goes_on (lines_for seat now.deeds) (verdict_on setting.rules.red now.deeds seat answer chair.progress) chair.progress })
+    ≡ slice_set now.chairs seat (record chair { progress = goes_on (lines_for seat now.deeds) (verdict_on setting.rules now.deeds seat answer chair.progress) chair.progress })
 unfolding own_part heard
 chairs-said setting now author seat answer chair e = rw e
 

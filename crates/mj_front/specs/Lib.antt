@@ -1,4 +1,7 @@
 pub mod Forms
-pub mod Statuses
-pub mod Run
 pub mod Hearing
+pub mod Referee
+pub mod Hand
+pub mod Statuses
+pub mod Faults
+pub mod Run

@@ -1,8 +1,31 @@
--- What a status is answered with: the exit code of the program, and the text on standard error.
+-- The status that the end of each command gives, and what a status is answered with: the exit code of the program, and the
+-- text on standard error.
 use Rattle.std.specs.Prelude.{ℕ, List, [], ◌++◌, codes}
 use Rattle.mj_bytes.specs.Numbers.{number_text}
+use Rattle.mj_front.specs.declared.hand.HandEnd.{HandEnd}
+use Rattle.mj_front.specs.declared.hand.HandEnd.TheVariants as hands
+use Rattle.mj_front.specs.declared.hearing.End.TheVariants as ends
+use Rattle.mj_front.specs.declared.referee.RefereeEnd.{RefereeEnd}
+use Rattle.mj_front.specs.declared.referee.RefereeEnd.TheVariants as referees
 use Rattle.mj_front.specs.declared.status.Status.{Status}
 use Rattle.mj_front.specs.declared.status.Status.TheVariants as statuses
+
+-- The status that the end of the referee gives.
+abbrev pub referee_status : RefereeEnd → Status
+referee_status (referees.Told ends.Whole) = statuses.Done
+referee_status (referees.Told (ends.Bad line)) = statuses.BadArrival line
+referee_status (referees.Told (ends.NotBuilt line)) = statuses.NotBuilt line
+referee_status referees.WriteFault = statuses.WriteFault
+referee_status referees.ReadFault = statuses.ReadFault
+referee_status referees.TooLong = statuses.TooLong
+referee_status referees.NoMemory = statuses.NoMemory
+
+-- The status that the end of the command `hand` gives.
+abbrev pub hand_status : HandEnd → Status
+hand_status hands.Written = statuses.Done
+hand_status hands.NoHand = statuses.Words
+hand_status hands.WriteFault = statuses.WriteFault
+hand_status hands.NoMemory = statuses.NoMemory
 
 -- The exit code; 0 for success alone.
 abbrev pub code_of : Status → ℕ

@@ -2,11 +2,12 @@
 
 ghost use Rattle.std.specs.Prelude.{◌≡◌, map};
 ghost use Rattle.std.specs.String.{string_bytes};
-ghost use Rattle.mj_front.specs.Run.{referee_seat, seat_named, asked_by, meant, Runs, MeetsReadFaults, CountsReadFaults, CountsWriteFaults};
+ghost use Rattle.mj_front.specs.Run.{referee_seat, seat_named, asked_by, meant, Runs, MeetsReadFaults};
+ghost use Rattle.mj_front.specs.Faults.{CountsReadFaults, CountsWriteFaults};
 
 use crate::hand::write_hand;
 use crate::referee::referee_of;
-use crate::status::Status;
+use crate::status::{Status, status_of_hand, status_of_referee};
 use mj_links::{Sink, Source};
 use std::alloc::Global;
 
@@ -41,8 +42,8 @@ pub fn run<S: Source, K: Sink>(
     ensures writes { CountsWriteFaults result (K.write_faults sink.old) (K.write_faults sink.new) }
 {
     match command_asked(words) {
-        Command::Referee(seat) => referee_of(alloc, seat, source, sink),
-        Command::Hand(others) => write_hand(alloc, others, sink),
+        Command::Referee(seat) => status_of_referee(referee_of(alloc, seat, source, sink)),
+        Command::Hand(others) => status_of_hand(write_hand(alloc, others, sink)),
         Command::Unknown => Status::Words,
     }
 }

@@ -2,24 +2,38 @@
 
 ghost use Rattle.std.specs.Prelude.{map};
 ghost use Rattle.std.specs.String.{string_bytes};
-ghost use Rattle.mj_front.specs.Run.{WritesHand, CountsWriteFaults};
+ghost use Rattle.mj_front.specs.Hand.{WritesHand};
+ghost use Rattle.mj_front.specs.Statuses.{hand_status};
+ghost use Rattle.mj_front.specs.Faults.{CountsWriteFaults};
 
-use crate::status::Status;
 use mj_hand::hand_lines;
 use mj_links::{Sink, WriteAll, write_all};
 use std::alloc::Global;
 
+/// How the command `hand` ends.
+#[derive(Clone, Copy)]
+pub(crate) enum HandEnd {
+    /// The lines of the hand are written.
+    Written,
+    /// The words name no hand. Nothing is written.
+    NoHand,
+    /// A write failed. A part of the lines is written.
+    WriteFault,
+    /// Memory was wanting. Nothing is written.
+    NoMemory,
+}
+
 /// Writes the lines of the hand that the words name.
-pub(crate) fn write_hand<K: Sink>(alloc: Global, words: &[String], sink: &mut K) -> Status
+pub(crate) fn write_hand<K: Sink>(alloc: Global, words: &[String], sink: &mut K) -> HandEnd
     ensures tells { WritesHand result (map string_bytes words.now) (K.written sink.old) (K.written sink.new) }
-    ensures writes { CountsWriteFaults result (K.write_faults sink.old) (K.write_faults sink.new) }
+    ensures writes { CountsWriteFaults (hand_status result) (K.write_faults sink.old) (K.write_faults sink.new) }
 {
     match hand_lines(alloc, words) {
         Ok(Some(text)) => match write_all(sink, text.as_slice()) {
-            WriteAll::Whole => Status::Done,
-            WriteAll::Failed => Status::WriteFault,
+            WriteAll::Whole => HandEnd::Written,
+            WriteAll::Failed => HandEnd::WriteFault,
         },
-        Ok(None) => Status::Words,
-        Err(_) => Status::NoMemory,
+        Ok(None) => HandEnd::NoHand,
+        Err(_) => HandEnd::NoMemory,
     }
 }

@@ -6,7 +6,7 @@ ghost use Rattle.mj_bytes.specs.Parts.{whole_lines, unfinished};
 ghost use Rattle.mj_wall.specs.Places.{is_wall};
 ghost use Rattle.mj_protocol.specs.Arrivals.{Leave, Reading, hear_from, hear_on, header_arrives, nothing_read, at_end, input_of, arrives, behind_header, wall_arrives, sit_arrives, say_arrives};
 ghost use Rattle.mj_core.specs.Calls.{is_asked, author_at, standing, pending_at};
-ghost use Rattle.mj_front.specs.Run.{longest};
+ghost use Rattle.mj_front.specs.Referee.{longest};
 ghost use Rattle.mj_front.specs.Hearing.{reading_of, headed, walled, greeting, InPlay, Does, Stops, ending, HearsAll, Tells};
 
 use crate::form::{Form, read_form};
@@ -96,7 +96,7 @@ fn hear_header(alloc: Global, seat: u8, rules: Rules, input: &[u8]) -> Result<To
 }
 
 // Hears all lines behind a header, the first of which is line 2: a wall stands there.
-#[tactic(auto, unfolding(mj_protocol::specs::Arrivals::arrives, mj_wall::specs::Places::is_wall, mj_protocol::specs::Arrivals::wall_arrives, mj_protocol::specs::Arrivals::sit_arrives, mj_protocol::specs::Arrivals::say_arrives))]
+#[tactic(auto, unfolding(mj_protocol::specs::Arrivals::arrives, mj_protocol::specs::Arrivals::wall_arrives, mj_protocol::specs::Arrivals::sit_arrives, mj_protocol::specs::Arrivals::say_arrives))]
 fn hear_headed(alloc: Global, seat: u8, rules: Rules, input: &[u8]) -> Result<Told, AllocError>
     requires fits { length input.now ≤ longest }
     requires least { 1 ≤ rules.limit }

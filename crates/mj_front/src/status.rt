@@ -2,8 +2,11 @@
 
 ghost use Rattle.std.specs.Prelude.{◌≡◌, IfOk, OnOk, OnErr, codes};
 ghost use Rattle.mj_bytes.specs.Adds.{Adds};
-ghost use Rattle.mj_front.specs.Statuses.{code_of, status_words, at_line, usage};
+ghost use Rattle.mj_front.specs.Statuses.{referee_status, hand_status, code_of, status_words, at_line, usage};
 
+use crate::hand::HandEnd;
+use crate::hearing::End;
+use crate::referee::RefereeEnd;
 use mj_bytes::{push_all, push_number};
 use std::alloc::{AllocError, Global};
 
@@ -27,6 +30,33 @@ pub enum Status {
     TooLong,
     /// The line, counted from 1, is the first that asks for what isn't built. What the lines before it tell is written.
     NotBuilt(u32),
+}
+
+/// The status that the end of the referee gives.
+pub(crate) fn status_of_referee(end: RefereeEnd) -> Status
+    ensures { result ≡ referee_status end }
+{
+    match end {
+        RefereeEnd::Told(End::Whole) => Status::Done,
+        RefereeEnd::Told(End::Bad(line)) => Status::BadArrival(line),
+        RefereeEnd::Told(End::NotBuilt(line)) => Status::NotBuilt(line),
+        RefereeEnd::WriteFault => Status::WriteFault,
+        RefereeEnd::ReadFault => Status::ReadFault,
+        RefereeEnd::TooLong => Status::TooLong,
+        RefereeEnd::NoMemory => Status::NoMemory,
+    }
+}
+
+/// The status that the end of the command `hand` gives.
+pub(crate) fn status_of_hand(end: HandEnd) -> Status
+    ensures { result ≡ hand_status end }
+{
+    match end {
+        HandEnd::Written => Status::Done,
+        HandEnd::NoHand => Status::Words,
+        HandEnd::WriteFault => Status::WriteFault,
+        HandEnd::NoMemory => Status::NoMemory,
+    }
 }
 
 /// The exit code of a program that ends so.

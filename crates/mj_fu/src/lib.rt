@@ -4,8 +4,6 @@
 
 mod forms;
 mod parts;
-#[cfg(test)]
-mod tests;
 
 pub use forms::{is_concealed_at, is_dragon, is_pinfu, is_run};
 pub use parts::fu;

@@ -21,7 +21,8 @@ use Rattle.mj_shanten.proofs.Sums.{all_low, sum_tally}
 use Rattle.mj_hand.specs.declared.hand.Hand.{Hand}
 use Rattle.mj_hand.specs.Words.{Word, Tile, Meld, parts, plain, tile_of, tiles_of, are_tiles_of, make_meld_from, make_meld, word_with, word_of, words_of}
 use Rattle.mj_hand.specs.Hands.{is_meld, held, melded, melds, room_beside, hand_with, hand_of}
-use Rattle.mj_hand.proofs.KindLists.{and_both, same_map}
+use Rattle.std.proofs.lemmas.Bool.{and_from}
+use Rattle.mj_hand.proofs.KindLists.{same_map}
 use Rattle.mj_hand.proofs.HandSteps.{four_at}
 
 -- ---- the tiles of a word are plain
@@ -38,7 +39,7 @@ tiles-join : (o : Option ℕ) (p : Option (List ℕ)) (ts : List ℕ) → ((t : 
     → option_and_then (λ tile. option_map (λ tiles. tile ∷ tiles) p) o ≡ Some ts → all_low ts ≡ true
 tiles-join None p ts f g h = cc
 tiles-join (Some t) None ts f g h = cc
-tiles-join (Some t) (Some us) ts f g h = (let e : ts ≡ t ∷ us = cc in ap all_low e ∙ and_both (ltb t 34) (all_low us) (f t refl) (g us refl))
+tiles-join (Some t) (Some us) ts f g h = (let e : ts ≡ t ∷ us = cc in ap all_low e ∙ and_from (ltb t 34) (all_low us) (f t refl) (g us refl))
 
 tiles-low : (texts : List (List ℕ)) (ts : List ℕ) → tiles_of texts ≡ Some ts → all_low ts ≡ true
 tiles-low [] ts h = (let e : ts ≡ [] = cc in ap all_low e)
@@ -91,7 +92,7 @@ words-fine (text ∷ texts) ws h =
 
 held-low : (ws : List Word) → AllFine ws → all_low (held ws) ≡ true
 held-low [] fine = refl
-held-low (Tile t ∷ ws) fine = and_both (ltb t 34) (all_low (held ws)) fine.0 (held-low ws fine.1)
+held-low (Tile t ∷ ws) fine = and_from (ltb t 34) (all_low (held ws)) fine.0 (held-low ws fine.1)
 held-low (Meld ts ∷ ws) fine = held-low ws fine.1
 
 -- ---- plain tiles are their kinds
@@ -167,7 +168,7 @@ sets_of (Tile t ∷ ws) fine = (let rest = sets_of ws fine.1 in record {
 sets_of (Meld ts ∷ ws) fine = (let one = set_of ts fine.0 in let rest = sets_of ws fine.1 in record {
   sets = one.set ∷ rest.sets;
   so_many = (let a : melds (Meld ts ∷ ws) ≡ 1 + melds ws = sum_by-cons (λ w. cond (is_meld w) 1 0) (Meld ts) ws in let b = rest.so_many in omega arith);
-  formed = and_both (room.is_meld one.set) (list_all room.is_meld rest.sets) one.formed rest.formed;
+  formed = and_from (room.is_meld one.set) (list_all room.is_meld rest.sets) one.formed rest.formed;
   same = λ kind inside.
       sum_by-append (λ tile. cond (eqb (kind_of tile) kind) 1 0) ts (melded ws)
       ∙ ap₂ (λ a b. a + b) (one.same kind inside) (rest.same kind inside)

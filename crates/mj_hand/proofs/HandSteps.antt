@@ -11,8 +11,10 @@ use Rattle.mj_hand.specs.declared.hand.Hand.{Hand}
 use Rattle.mj_hand.specs.declared.hand.Gathered.{Gathered}
 use Rattle.mj_hand.specs.Words.{Word, Tile, Meld, word_of, words_of}
 use Rattle.mj_hand.specs.Hands.{held_in, melded_in, is_meld, held, melded, melds, room_beside, hand_among, hand_with, hand_of}
-use Rattle.mj_hand.specs.Gathering.{Gathers, TakesWord, Takes, one_if, are_within_four, room_left}
-use Rattle.mj_hand.proofs.KindLists.{and_both, each_passes, same_all, same_map}
+use Rattle.mj_hand.specs.Inner.Gathering.{Gathers, TakesWord, Takes, one_if, are_within_four, room_left}
+use Rattle.std.proofs.lemmas.Bool.{and_from}
+use Rattle.mj_tiles.proofs.EachKind.{each_kind}
+use Rattle.mj_hand.proofs.KindLists.{same_all, same_map}
 
 -- words, and those that come after them where there are some
 abbrev pub words_onto : List Word → Option (List Word) → Option (List Word)
@@ -90,7 +92,7 @@ within_is tiles others =
 pub four_at : (tiles others : List ℕ) (k : ℕ) → k < 34 → has_no_fifth (tiles ++ others) ≡ true → number_of tiles k + number_of others k ≤ 4
 unfolding has_no_fifth
 four_at tiles others k low h =
-    subst (λ n. n ≤ 4) (number_of-append tiles others k) (leb-true (number_of (tiles ++ others) k) 4 (each_passes (λ k. leb (number_of (tiles ++ others) k) 4) k low h))
+    subst (λ n. n ≤ 4) (number_of-append tiles others k) (leb-true (number_of (tiles ++ others) k) 4 (each_kind (λ k. leb (number_of (tiles ++ others) k) 4) k low h))
 
 no_fifth : (tiles : List ℕ) → ((k : ℕ) → k < 34 → number_of tiles k ≤ 4) → NoFifth (kind_counts tiles)
 no_fifth tiles each kind = elim (cases_lt kind 34) [
@@ -142,7 +144,7 @@ pub whole_hand : (tiles others counts numbers room : List ℕ) (number : ℕ) (r
     → room ≡ room_left numbers → result ≡ are_within_four counts numbers → result ≡ true → Some (made counts room number) ≡ hand_among tiles others number
 whole_hand tiles others counts numbers room number result thirteen a b r is h =
     let fits : (eqb (length tiles + 3 * number) 13 && has_no_fifth (tiles ++ others)) ≡ true =
-    and_both (eqb (length tiles + 3 * number) 13) (has_no_fifth (tiles ++ others)) (eq-eqb (length tiles + 3 * number) 13 thirteen)
+    and_from (eqb (length tiles + 3 * number) 13) (has_no_fifth (tiles ++ others)) (eq-eqb (length tiles + 3 * number) 13 thirteen)
     (sym (within_is tiles others) ∙ ap₂ (λ x y. are_within_four x y) (sym a) (sym b) ∙ sym is ∙ h) in
     ap₂ (λ c r. Some (made c r number)) a (r ∙ ap room_left b ∙ beside others)
     ∙ ap (λ b. cond b (Some (made (kind_counts tiles) (room_beside others) number)) None) (sym fits)

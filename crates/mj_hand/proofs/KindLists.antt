@@ -7,42 +7,15 @@ use Rattle.std.proofs.lemmas.List.Folds.{list_all_at}
 use Rattle.std.proofs.lemmas.List.FromFn.{length-range_with_len, get_or-range_with_len, length-map-range_with_len, get_or-map-range_with_len}
 use Rattle.std.proofs.lemmas.Grind.{same_number_lists}
 use Rattle.mj_tiles.specs.Counts.{all_kinds}
-use Rattle.mj_hand.specs.Gathering.{are_within_four, room_left}
-
-pub and_both : (x y : Bool) → x ≡ true → y ≡ true → (x && y) ≡ true
-and_both true y p q = q
-and_both false y p q = p
-
-all_in : (p : ℕ → Bool) (from n : ℕ) → ((k : ℕ) → k < from + n → p k ≡ true) → list_all p (range_with_len from n) ≡ true
-all_in p from zero each = refl
-all_in p from (suc n) each =
-    and_both (p from) (list_all p (range_with_len (from + 1) n)) (each from (omega arith))
-    (all_in p (from + 1) n (λ k inside. each k (omega arith)))
-
--- each kind passes
-pub all_pass : (p : ℕ → Bool) → ((k : ℕ) → k < 34 → p k ≡ true) → list_all p all_kinds ≡ true
-unfolding all_kinds
-all_pass p each = all_in p 0 34 (λ k inside. each k (omega arith))
-
--- a kind fails
-pub one_fails : (p : ℕ → Bool) (k : ℕ) → k < 34 → p k ≡ false → list_all p all_kinds ≡ false
-unfolding all_kinds
-one_fails p k low fails =
-    let at : get_or (range_with_len 0 34) k 0 ≡ k = (let a = get_or-range_with_len 0 34 k 0 low in omega arith) in
-    list_all_at p (range_with_len 0 34) k 0 (let s = length-range_with_len 0 34 in omega arith) (ap p at ∙ fails)
-
-pub each_passes : (p : ℕ → Bool) (k : ℕ) → k < 34 → list_all p all_kinds ≡ true → p k ≡ true
-each_passes p k low all = elim (cases_Bool (p k)) [
-  | inl passes ↦ passes
-  | inr fails ↦ absurd (false≢true (sym (one_fails p k low fails) ∙ all))
-]
+use Rattle.mj_tiles.proofs.EachKind.{all_kinds-pass, all_kinds-fail, each_kind}
+use Rattle.mj_hand.specs.Inner.Gathering.{are_within_four, room_left}
 
 -- ---- no kind stands more than four times
 
 pub too_many : (counts others : List ℕ) (kind number a b : ℕ) → number < 34 → kind ≡ number → a ≡ get_or counts kind 0 → b ≡ get_or others kind 0 → 4 < a + b → false ≡ are_within_four counts others
 unfolding are_within_four
 too_many counts others kind number a b low is first second many =
-    sym (one_fails (λ k. leb (get_or counts k 0 + get_or others k 0) 4) kind (omega arith) (over (get_or counts kind 0 + get_or others kind 0) (omega arith)))
+    sym (all_kinds-fail (λ k. leb (get_or counts k 0 + get_or others k 0) 4) kind (omega arith) (over (get_or counts kind 0 + get_or others kind 0) (omega arith)))
   where
     over : (n : ℕ) → 4 < n → leb n 4 ≡ false
     over n h = grind (arith, nat_tests)
@@ -50,7 +23,7 @@ too_many counts others kind number a b low is first second many =
 pub few_enough : (counts others : List ℕ) (number : ℕ) → 34 ≤ number → ((k : ℕ) → k < number → get_or counts k 0 + get_or others k 0 ≤ 4) → true ≡ are_within_four counts others
 unfolding are_within_four
 few_enough counts others number last each =
-    sym (all_pass (λ k. leb (get_or counts k 0 + get_or others k 0) 4) (λ k low. le-leb (get_or counts k 0 + get_or others k 0) 4 (each k (omega arith))))
+    sym (all_kinds-pass (λ k. leb (get_or counts k 0 + get_or others k 0) 4) (λ k low. le-leb (get_or counts k 0 + get_or others k 0) 4 (each k (omega arith))))
 
 -- ---- the room
 

@@ -3,12 +3,9 @@ use Rattle.std.proofs.Common.{ℕ, ◌≡◌, ◌<◌, ◌≤◌, ◌+◌, ◌-�
 use Rattle.std.specs.List.{flat_map, filter, range_with_len}
 use Rattle.std.proofs.lemmas.List.{append_assoc, append-nil}
 use Rattle.mj_tiles.specs.Counts.{all_kinds}
-use Rattle.mj_tiles.specs.Kinds.{has_kind, kinds_that}
-use Rattle.mj_tiles.proofs.KindSets.{has_kind-kinds_that}
 use Rattle.mj_bytes.specs.Adds.{Adds}
-use Rattle.mj_waits.specs.Waits.{is_wait}
 use Rattle.mj_shanten.specs.Shanten.{sorted_kinds}
-use Rattle.mj_hand.specs.Text.{number_line, target_line, waits_line, hand_text, waits_of}
+use Rattle.mj_hand.specs.Text.{number_line, target_line, waits_line, hand_text}
 
 -- the kinds from one on, each as often as it stands
 abbrev pub sorted_from : List ℕ → ℕ → ℕ → List ℕ
@@ -56,23 +53,10 @@ passing_end test items whole number last before =
     let e : 34 - number ≡ 0 = omega arith in
     sym (append-nil items) ∙ ap (λ n. items ++ filter test (range_with_len number n)) (sym e) ∙ before
 
-same_filter : (p q : ℕ → Bool) (from n : ℕ) → ((k : ℕ) → k < from + n → p k ≡ q k) → filter p (range_with_len from n) ≡ filter q (range_with_len from n)
-same_filter p q from zero each = refl
-same_filter p q from (suc n) each =
-    ap₂ (λ b xs. cond b (from ∷ xs) xs) (each from (omega arith))
-    (same_filter p q (from + 1) n (λ k inside. each k (omega arith)))
-
--- the kinds of the set of waits
-pub waits_listed : (set : ℕ) (counts room : List ℕ) (melds : ℕ) → set ≡ kinds_that (is_wait counts room melds) → filter (has_kind set) all_kinds ≡ waits_of counts room melds
-unfolding waits_of all_kinds
-waits_listed set counts room melds is =
-    same_filter (has_kind set) (is_wait counts room melds) 0 34
-    (λ k inside. ap (λ s. has_kind s k) is ∙ has_kind-kinds_that (is_wait counts room melds) k (omega arith))
-
 -- the three lines, one behind the other
-pub lines_written : (a b c d target set counts room : List ℕ) (number melds : ℕ) → a ≡ [] → Adds a b (number_line number) → Adds b c (target_line target)
-    → Adds c d (waits_line set) → set ≡ waits_of counts room melds → d ≡ hand_text number target (waits_of counts room melds)
-lines_written a b c d target set counts room number melds none first second third is =
-    third.is ∙ ap₂ (λ xs ws. xs ++ waits_line ws) second.is is
-    ∙ ap (λ xs. (xs ++ target_line target) ++ waits_line (waits_of counts room melds)) (first.is ∙ ap (λ xs. xs ++ number_line number) none)
-    ∙ append_assoc (number_line number) (target_line target) (waits_line (waits_of counts room melds))
+pub lines_written : (a b c d target waits : List ℕ) (number : ℕ) → a ≡ [] → Adds a b (number_line number) → Adds b c (target_line target)
+    → Adds c d (waits_line waits) → d ≡ hand_text number target waits
+lines_written a b c d target waits number none first second third =
+    third.is ∙ ap (λ xs. xs ++ waits_line waits) second.is
+    ∙ ap (λ xs. (xs ++ target_line target) ++ waits_line waits) (first.is ∙ ap (λ xs. xs ++ number_line number) none)
+    ∙ append_assoc (number_line number) (target_line target) (waits_line waits)

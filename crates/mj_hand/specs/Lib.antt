@@ -1,4 +1,4 @@
 pub mod Words
 pub mod Hands
 pub mod Text
-pub mod Gathering
+pub mod Inner

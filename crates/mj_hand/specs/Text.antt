@@ -1,9 +1,10 @@
 -- What is written of a hand.
-use Rattle.std.specs.Prelude.{ℕ, ◌≡◌, List, [], ◌∷◌, ◌++◌, flat_map, filter, codes, Some}
+use Rattle.std.specs.Prelude.{ℕ, ◌≡◌, ◌<◌, ◌↔◌, IsTrue, List, [], ◌∷◌, ◌++◌, flat_map, filter, codes, Some}
 use Rattle.mj_tiles.specs.Counts.{all_kinds}
 use Rattle.mj_tiles.specs.Faces.{text_of}
 use Rattle.mj_bytes.specs.Numbers.{number_text}
-use Rattle.mj_waits.specs.Waits.{is_wait}
+use Rattle.mj_tiles.specs.Kinds.{has_kind}
+use Rattle.mj_waits.specs.Waits.{IsWait}
 use Rattle.mj_shanten.specs.Shanten.{sorted_kinds, IsShanten}
 use Rattle.mj_hand.specs.declared.hand.Hand.{Hand}
 use Rattle.mj_hand.specs.Hands.{hand_of}
@@ -33,16 +34,14 @@ waits_line kinds = codes "waits" ++ (waits_text kinds ++ codes "\n")
 abbrev pub hand_text : ℕ → List ℕ → List ℕ → List ℕ
 hand_text number target waits = number_line number ++ (target_line target ++ waits_line waits)
 
--- The waits of a hand in tile order.
-unfoldable pub waits_of : List ℕ → List ℕ → ℕ → List ℕ
-waits_of counts room melds = filter (is_wait counts room melds) all_kinds
-
--- A text is that of a hand: its shanten, its target and its waits.
+-- A text is that of a hand: its shanten, its target and all its waits, in tile order.
 pub record IsTextOf (hand : Hand) (text : List ℕ) : Type 0 where
   pub number : ℕ
   pub target : List ℕ
+  pub waits : ℕ
   pub is : IsShanten hand.counts hand.room hand.melds number target
-  pub text_is : text ≡ hand_text number target (waits_of hand.counts hand.room hand.melds)
+  pub waits_are : (kind : ℕ) → kind < 34 → (IsTrue (has_kind waits kind) ↔ IsWait hand.counts hand.room hand.melds kind)
+  pub text_is : text ≡ hand_text number target (filter (has_kind waits) all_kinds)
 
 -- Words name a hand, and the text is that of this hand.
 pub record IsHandText (words : List (List ℕ)) (text : List ℕ) : Type 0 where

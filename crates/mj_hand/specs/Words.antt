@@ -3,7 +3,7 @@ use Rattle.std.specs.Prelude.{ℕ, ◌==◌, Bool, ◌&&◌, ◌||◌, if◌then
 use Rattle.std.specs.List.{list_any}
 use Rattle.mj_tiles.specs.Faces.{is_red, face_of}
 use Rattle.mj_tiles.specs.Counts.{all_kinds, kind_counts}
-use Rattle.mj_bytes.specs.Parts.{onto_first}
+use Rattle.mj_bytes.specs.Parts.{parts_by}
 use Rattle.mj_readings.specs.declared.reading.SetForm.{SetForm}
 use Rattle.mj_readings.specs.declared.reading.SetForm.TheVariants.{Run, Triplet, Kan}
 use Rattle.mj_readings.specs.Sets.{tiles_of_form}
@@ -11,8 +11,7 @@ use Rattle.mj_shanten.specs.Room.{is_meld_form}
 
 -- The parts of a word are what stands between its plus signs, with an empty part where two of them meet.
 abbrev pub parts : List ℕ → List (List ℕ)
-parts [] = [] ∷ []
-parts (b ∷ bs) = if b == 43 then [] ∷ parts bs else onto_first b (parts bs)
+parts word = parts_by 43 word
 
 -- The game is played without red fives, so a red five is no tile of it.
 abbrev pub plain : ℕ → Option ℕ

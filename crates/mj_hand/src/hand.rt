@@ -6,7 +6,7 @@ ghost use Rattle.mj_tiles.specs.Counts.{kind_counts};
 ghost use Rattle.mj_shanten.specs.Room.{IsHand};
 ghost use Rattle.mj_hand.specs.Words.{word_of, word_with, words_of};
 ghost use Rattle.mj_hand.specs.Hands.{hand_among, hand_of};
-ghost use Rattle.mj_hand.specs.Gathering.{Gathers, Takes, are_within_four, room_left};
+ghost use Rattle.mj_hand.specs.Inner.Gathering.{Gathers, Takes, are_within_four, room_left};
 
 use crate::words::{is_meld, read_tiles};
 use mj_tiles::{Counts, Kind, Tile, counts_of};
@@ -116,9 +116,7 @@ fn are_within_four(counts: &Counts, melded: &Counts) -> bool
     ensures { result ≡ are_within_four counts.now melded.now }
 {
     for number in 0..34 {
-        let Some(kind) = Kind::of(number) else {
-            unreachable!()
-        };
+        let kind = Kind::at(number);
         if counts.get(kind) + melded.get(kind) > 4 {
             return false;
         }

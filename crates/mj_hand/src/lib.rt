@@ -3,8 +3,6 @@
 
 mod hand;
 mod lines;
-#[cfg(test)]
-mod tests;
 mod words;
 
 pub use lines::hand_lines;

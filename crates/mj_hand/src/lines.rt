@@ -1,6 +1,6 @@
 //! What is written of a hand.
 
-ghost use Rattle.std.specs.Prelude.{◌≡◌, None, IfOk, MatchOption, OnOk, map, filter, replicate, ◌++◌, ◌∷◌, [], if◌then◌else◌};
+ghost use Rattle.std.specs.Prelude.{◌≡◌, None, IfOk, MatchOption, OnOk, map, filter, ◌++◌, ◌∷◌, [], if◌then◌else◌};
 ghost use Rattle.std.specs.String.{string_bytes};
 ghost use Rattle.mj_tiles.specs.Counts.{all_kinds};
 ghost use Rattle.mj_tiles.specs.Kinds.{has_kind};
@@ -9,12 +9,12 @@ ghost use Rattle.mj_bytes.specs.Adds.{Adds};
 ghost use Rattle.mj_shanten.specs.Room.{IsHand};
 ghost use Rattle.mj_shanten.specs.Shanten.{sorted_kinds};
 ghost use Rattle.mj_hand.specs.Hands.{hand_of};
-ghost use Rattle.mj_hand.specs.Text.{IsTextOf, IsHandText, kinds_text, number_line, target_line, waits_text, waits_line, waits_of};
+ghost use Rattle.mj_hand.specs.Text.{IsTextOf, IsHandText, kinds_text, number_line, target_line, waits_text, waits_line};
 
 use crate::hand::{Hand, read_hand};
 use mj_bytes::{push_all, push_number};
 use mj_shanten::shanten;
-use mj_tiles::{Counts, Kind, Kinds, Tile};
+use mj_tiles::{Counts, Kind, Kinds, Tile, push_times};
 use mj_waits::waits;
 use std::alloc::{AllocError, Global};
 
@@ -101,11 +101,8 @@ fn push_kinds(text: &mut Vec<u8>, kinds: &[Kind]) -> Result<(), AllocError>
 fn push_kind(text: &mut Vec<u8>, kind: Kind) -> Result<(), AllocError>
     ensures { OnOk result (Adds text.old.items text.new.items (32 ∷ text_of kind)) }
 {
-    let Some(tile) = Tile::of(kind.number()) else {
-        unreachable!()
-    };
     push_all(text, b" ")?;
-    push_all(text, tile.text())?;
+    push_all(text, Tile::at(kind.number()).text())?;
     Ok(())
 }
 
@@ -115,22 +112,10 @@ fn kinds_of(alloc: Global, counts: &Counts) -> Result<Vec<Kind>, AllocError>
 {
     let mut kinds = Vec::new(alloc);
     for number in 0..34 {
-        let Some(kind) = Kind::of(number) else {
-            unreachable!()
-        };
+        let kind = Kind::at(number);
         push_times(&mut kinds, kind, counts.get(kind))?;
     }
     Ok(kinds)
-}
-
-// Adds the kind to the list so often.
-fn push_times(kinds: &mut Vec<Kind>, kind: Kind, times: u8) -> Result<(), AllocError>
-    ensures { IfOk result (λ unit. kinds.new.items ≡ kinds.old.items ++ replicate times kind) }
-{
-    for _time in 0..times {
-        kinds.push(kind)?;
-    }
-    Ok(())
 }
 
 // The kinds of a set in tile order.
@@ -139,9 +124,7 @@ fn kinds_in(alloc: Global, set: Kinds) -> Result<Vec<Kind>, AllocError>
 {
     let mut kinds = Vec::new(alloc);
     for number in 0..34 {
-        let Some(kind) = Kind::of(number) else {
-            unreachable!()
-        };
+        let kind = Kind::at(number);
         push_if(&mut kinds, kind, set.has(kind))?;
     }
     Ok(kinds)

@@ -1,12 +1,12 @@
 //! Words as tiles and melds.
 
-ghost use Rattle.std.specs.Prelude.{◌≡◌, ◌<◌, ◌≤◌, IfOk, MatchOption, length, false, option_map, bytes_eq};
-ghost use Rattle.mj_bytes.specs.Parts.{has_byte, PartsAtFirst};
+ghost use Rattle.std.specs.Prelude.{◌≡◌, ◌<◌, ◌≤◌, IfOk, length, option_map, bytes_eq};
 ghost use Rattle.mj_tiles.specs.Counts.{kind_counts};
 ghost use Rattle.mj_readings.specs.Sets.{begins_run, tiles_of_form};
 ghost use Rattle.mj_readings.specs.declared.reading.SetForm.TheVariants.{Run, Triplet, Kan};
 ghost use Rattle.mj_hand.specs.Words.{parts, tile_of, tiles_of, are_tiles_of, make_meld_from, make_meld};
 
+use mj_bytes::split_at_first;
 use mj_tiles::{Tile, counts_of};
 use std::alloc::{AllocError, Global};
 
@@ -17,7 +17,7 @@ pub(crate) fn read_tiles(alloc: Global, word: &[u8]) -> Result<Option<Vec<Tile>>
 {
     let mut tiles = Vec::new(alloc);
     let mut rest = word;
-    while let Some((part, others)) = split_plus(rest) {
+    while let Some((part, others)) = split_at_first(rest, b'+') {
         let Some(tile) = read_plain(part) else {
             return Ok(None);
         };
@@ -29,19 +29,6 @@ pub(crate) fn read_tiles(alloc: Global, word: &[u8]) -> Result<Option<Vec<Tile>>
     };
     tiles.push(tile)?;
     Ok(Some(tiles))
-}
-
-// What stands round the first plus sign.
-#[tactic(auto, using(mj_bytes::proofs::PartLaws::search_steps))]
-fn split_plus(text: &[u8]) -> Option<(&[u8], &[u8])>
-    ensures { MatchOption result (has_byte 43 text.now ≡ false) (λ x. PartsAtFirst 43 text.now x.0.now x.1.now) }
-{
-    for (at, found) in text.iter().enumerate() {
-        if *found == b'+' {
-            return Some((&text[..at], &text[at + 1..]));
-        }
-    }
-    None
 }
 
 // The tile that a text names; a red five is none.
@@ -75,7 +62,7 @@ fn is_meld_from(tiles: &[Tile], low: u8) -> bool
     if is_run(tiles, low) {
         return true;
     }
-    let tile = tile_at(low);
+    let tile = Tile::at(low);
     have_same_kinds(&[tile, tile, tile], tiles) || have_same_kinds(&[tile, tile, tile, tile], tiles)
 }
 
@@ -90,19 +77,8 @@ fn is_run(tiles: &[Tile], low: u8) -> bool
     if low % 9 >= 7 {
         return false;
     }
-    let run = [tile_at(low), tile_at(low + 1), tile_at(low + 2)];
+    let run = [Tile::at(low), Tile::at(low + 1), Tile::at(low + 2)];
     have_same_kinds(&run, tiles)
-}
-
-// The plain tile of a kind.
-fn tile_at(kind: u8) -> Tile
-    requires { kind < 34 }
-    ensures { result ≡ kind }
-{
-    match Tile::of(kind) {
-        Some(tile) => tile,
-        None => unreachable!(),
-    }
 }
 
 // Whether the tiles of a set and other tiles have each kind equally often.

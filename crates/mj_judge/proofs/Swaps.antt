@@ -1,6 +1,6 @@
 -- Sets and lists of banned kinds.
-use Rattle.std.proofs.Common.{◌≡◌, ℕ, Bool, Option, ◌&&◌, ◌||◌, not, List, [], ◌∷◌, eqb, refl, ap, ◌∙◌}
-use Rattle.std.specs.Prelude.{nat_lt, nat_le, filter}
+use Rattle.std.proofs.Common.{◌≡◌, ℕ, Bool, ◌||◌, List, [], ◌∷◌, eqb, refl, ap, ◌∙◌}
+use Rattle.std.specs.Prelude.{nat_le}
 use Rattle.std.specs.List.{list_all}
 use Rattle.mj_tiles.specs.Faces.{number_in, kind_of, tile_order}
 use Rattle.mj_tiles.specs.Kinds.{has_kind, set_of}
@@ -9,8 +9,7 @@ use Rattle.mj_calls.specs.Bans.{banned_kinds, is_banned}
 use Rattle.mj_deeds.specs.declared.deed.Deed.{Deed}
 use Rattle.mj_deeds.specs.declared.deed.Deed.TheVariants.{StartGame, StartHand, Draw, Discard, Chi, Pon, OpenKan, ClosedKan, AddedKan, Dora}
 use Rattle.mj_rules.specs.Broken.{View, held, turn_by, banned_in, has_nothing_else}
-use Rattle.mj_rules.specs.Default.{free_faces, last_of}
-use Rattle.mj_judge.specs.Free.{is_used_up, is_free}
+use Rattle.mj_judge.specs.Free.{is_used_up}
 
 pub swap_of : (kinds : List ℕ) (kind : ℕ) → has_kind (set_of kinds) kind ≡ is_banned kinds kind
 swap_of [] kind = has_kind-none kind
@@ -24,15 +23,6 @@ pub stuck_is : (view : View) (used kinds : List ℕ) (bans : ℕ) (result : Bool
     bans ≡ set_of kinds → result ≡ has_nothing_else view used kinds
 stuck_is view used kinds bans result h k =
     h ∙ ap (λ b. list_all (is_used_up view.gained view.lost used b) tile_order) k ∙ nothing_else view used kinds
-
-free_faces_are : (view : View) (kinds : List ℕ) → filter (is_free view.gained view.lost (set_of kinds)) tile_order ≡ free_faces view kinds
-unfolding free_faces
-free_faces_are view kinds i = filter (λ (face : ℕ). nat_lt 0 (held view face) && not (swap_of kinds (kind_of face) i)) tile_order
-
-pub last_is_free : (view : View) (kinds : List ℕ) (bans : ℕ) (last : Option ℕ) → last ≡ last_of (filter (is_free view.gained view.lost bans) tile_order) →
-    bans ≡ set_of kinds → last ≡ last_of (free_faces view kinds)
-last_is_free view kinds bans last h k =
-    h ∙ ap (λ b. last_of (filter (is_free view.gained view.lost b) tile_order)) k ∙ ap last_of (free_faces_are view kinds)
 
 pub bans_of_turn : (deed : Deed) → banned_in (turn_by deed) ≡ banned_kinds deed
 bans_of_turn (StartGame names) = refl

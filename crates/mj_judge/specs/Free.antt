@@ -1,12 +1,8 @@
 -- What swap calling leaves of the tiles of a seat, by the set of banned kinds.
-use Rattle.std.specs.Prelude.{ℕ, ◌-◌, ◌&&◌, ◌||◌, Bool, not, nat_lt, nat_le, List}
+use Rattle.std.specs.Prelude.{ℕ, ◌-◌, ◌||◌, Bool, nat_le, List}
 use Rattle.mj_tiles.specs.Faces.{number_in, kind_of}
 use Rattle.mj_tiles.specs.Kinds.{has_kind}
 
 -- The seat holds no more tiles of a face than are used, or they are of a banned kind.
 abbrev pub is_used_up : List ℕ → List ℕ → List ℕ → ℕ → ℕ → Bool
 is_used_up gained lost used bans face = nat_le (number_in gained face - number_in lost face) (number_in used face) || has_kind bans (kind_of face)
-
--- The seat holds a tile of a face, and it is of no banned kind.
-abbrev pub is_free : List ℕ → List ℕ → ℕ → ℕ → Bool
-is_free gained lost bans face = nat_lt 0 (number_in gained face - number_in lost face) && not (has_kind bans (kind_of face))

@@ -121,7 +121,7 @@ fn is_wrongly_marked(table: &Table, seat: u8, tile: &Pai, marked: bool) -> bool
 }
 
 // The tile has the face of the tile that the seat has drawn.
-fn is_drawn(table: &Table, seat: u8, tile: Tile) -> bool
+pub(crate) fn is_drawn(table: &Table, seat: u8, tile: Tile) -> bool
     ensures { result ≡ is_that (drawn_tile table.now.deeds seat) tile }
 {
     match table.drawn(seat) {

@@ -1,12 +1,12 @@
-ghost use Rattle.std.specs.Prelude.{◌≡◌, ◌≤◌, length, flat_map, filter, option_map};
+ghost use Rattle.std.specs.Prelude.{◌≡◌, ◌≤◌, length, flat_map, option_map};
 ghost use Rattle.std.specs.List.{list_all};
 ghost use Rattle.mj_tiles.specs.Faces.{tile_order};
 ghost use Rattle.mj_tiles.specs.Kinds.{set_of};
 ghost use Rattle.mj_deeds.specs.Facts.{newest, gained, lost};
 ghost use Rattle.mj_deeds.specs.Pais.{face_in};
 ghost use Rattle.mj_rules.specs.Broken.{view_of, turn_by, turn_in, banned_in, swaps, bans_of_chi, bans_of_pon, is_stuck};
-ghost use Rattle.mj_judge.specs.Free.{is_used_up, is_free};
-ghost use Rattle.mj_rules.specs.Default.{last_of};
+ghost use Rattle.mj_deeds.specs.Hand.{hand};
+ghost use Rattle.mj_judge.specs.Free.{is_used_up};
 
 use crate::holding::number_among;
 use mj_calls::banned;
@@ -30,7 +30,7 @@ pub(crate) fn swaps(table: &Table, seat: u8, answer: &Answer) -> bool
 
 // The kinds that are banned right after the newest deed.
 #[tactic(auto, using(crate::proofs::Swaps::bans_of_turn))]
-pub(crate) fn newest_bans(table: &Table) -> Kinds
+fn newest_bans(table: &Table) -> Kinds
     ensures { result ≡ set_of (banned_in (turn_in (option_map turn_by (newest table.now.deeds)))) }
 {
     match table.newest() {
@@ -84,7 +84,7 @@ fn banned_by_pon(tile: &Pai) -> Kinds
 // Every tile that is held besides these is of a banned kind.
 fn has_nothing_else(table: &Table, seat: u8, used: &[Pai], bans: Kinds) -> bool
     requires { length used.now ≤ 2 }
-    ensures { result ≡ list_all (is_used_up (gained table.now.deeds seat) (lost table.now.deeds seat) (flat_map face_in used.now) bans) tile_order }
+    ensures { result ≡ list_all (is_used_up (gained (hand table.now.deeds) seat) (lost (hand table.now.deeds) seat) (flat_map face_in used.now) bans) tile_order }
 {
     for place in 0..37 {
         let tile = ordered(place);
@@ -98,28 +98,7 @@ fn has_nothing_else(table: &Table, seat: u8, used: &[Pai], bans: Kinds) -> bool
 // The seat holds no more tiles of the face than are used, or they are of a banned kind.
 fn is_used_up(table: &Table, seat: u8, used: &[Pai], bans: Kinds, tile: Tile) -> bool
     requires { length used.now ≤ 2 }
-    ensures { result ≡ is_used_up (gained table.now.deeds seat) (lost table.now.deeds seat) (flat_map face_in used.now) bans tile }
+    ensures { result ≡ is_used_up (gained (hand table.now.deeds) seat) (lost (hand table.now.deeds) seat) (flat_map face_in used.now) bans tile }
 {
     table.held(seat, tile) <= number_among(used, tile) || bans.has(tile.kind())
-}
-
-// The last tile in tile order that the seat holds and that is of no banned kind.
-pub(crate) fn last_free(table: &Table, seat: u8, bans: Kinds) -> Option<Tile>
-    ensures { result ≡ last_of (filter (is_free (gained table.now.deeds seat) (lost table.now.deeds seat) bans) tile_order) }
-{
-    let mut last = None;
-    for place in 0..37 {
-        let tile = ordered(place);
-        if is_free(table, seat, bans, tile) {
-            last = Some(tile);
-        }
-    }
-    last
-}
-
-// The seat holds the tile, and it is of no banned kind.
-fn is_free(table: &Table, seat: u8, bans: Kinds, tile: Tile) -> bool
-    ensures { result ≡ is_free (gained table.now.deeds seat) (lost table.now.deeds seat) bans tile }
-{
-    table.held(seat, tile) > 0 && !bans.has(tile.kind())
 }

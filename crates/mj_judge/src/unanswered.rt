@@ -1,22 +1,23 @@
-ghost use Rattle.std.specs.Prelude.{◌≡◌, false};
-ghost use Rattle.mj_rules.specs.Broken.{view_of, banned_in};
-ghost use Rattle.mj_rules.specs.Default.{default_answer, discard_or_pass, free_faces, last_of};
+ghost use Rattle.std.specs.Prelude.{◌≡◌, is_none};
+ghost use Rattle.mj_rules.specs.Broken.{view_of, broken_by};
+ghost use Rattle.mj_rules.specs.Default.{default_answer, discard_of, discard_or_pass, lawful_faces, last_of};
 
-use crate::swap::{last_free, newest_bans};
-use mj_deeds::{Answer, Deed, Pai};
+use crate::holding::is_drawn;
+use crate::verdict::judge;
+use mj_deeds::{Answer, Deed, Pai, ordered};
 use mj_table::Table;
 use mj_tiles::Tile;
 
 /// The answer that stands for a seat, 0 to 3, which gives none in the window on the newest deed: at its own draw the
-/// drawn tile as drawn; right after its own chi or pon the last tile in tile order that swap calling lets it discard;
-/// else a pass.
+/// drawn tile; right after its own chi or pon the last tile in tile order whose discard breaks no rule; a discard is marked
+/// exactly where the tile has the face of the drawn one. Else it is a pass.
 #[tactic(auto, unfolding(mj_rules::specs::Default::default_by, mj_rules::specs::Broken::view_of))]
 pub fn default(table: &Table, seat: u8) -> Answer
-    ensures { result ≡ default_answer table.now.deeds seat }
+    ensures { result ≡ default_answer table.now.rules table.now.deeds seat }
 {
     match table.newest() {
         Some(Deed::Draw { seat: who, .. }) if *who == seat => {
-            discard_or_pass(seat, true, table.drawn(seat))
+            discard_or_pass(table, seat, table.drawn(seat))
         }
         Some(Deed::Chi { seat: who, .. }) if *who == seat => after_call(table, seat),
         Some(Deed::Pon { seat: who, .. }) if *who == seat => after_call(table, seat),
@@ -24,24 +25,53 @@ pub fn default(table: &Table, seat: u8) -> Answer
     }
 }
 
-// Right after a call of the seat: the last free tile.
-#[tactic(auto, unfolding(mj_rules::specs::Broken::view_of))]
+// Right after a call of the seat: the discard of the last tile that breaks no rule.
 fn after_call(table: &Table, seat: u8) -> Answer
-    ensures { let view = view_of table.now.deeds seat in result ≡ discard_or_pass seat false (last_of (free_faces view (banned_in view.turn))) }
+    ensures { let view = view_of table.now.deeds seat in result ≡ discard_or_pass seat view (last_of (lawful_faces table.now.rules seat view)) }
 {
-    discard_or_pass(seat, false, last_free(table, seat, newest_bans(table)))
+    discard_or_pass(table, seat, last_lawful(table, seat))
 }
 
-// A discard of a tile, or a pass where there is none.
-fn discard_or_pass(seat: u8, drawn: bool, tile: Option<Tile>) -> Answer
-    ensures { result ≡ discard_or_pass seat drawn tile }
+// The last tile in tile order whose discard breaks no rule.
+#[tactic(auto, unfolding(mj_rules::specs::Default::lawful_faces))]
+fn last_lawful(table: &Table, seat: u8) -> Option<Tile>
+    ensures { result ≡ last_of (lawful_faces table.now.rules seat (view_of table.now.deeds seat)) }
+{
+    let mut last = None;
+    for place in 0..37 {
+        let tile = ordered(place);
+        if is_lawful_discard(table, seat, tile) {
+            last = Some(tile);
+        }
+    }
+    last
+}
+
+// The discard of the tile breaks no rule.
+fn is_lawful_discard(table: &Table, seat: u8, tile: Tile) -> bool
+    ensures { let view = view_of table.now.deeds seat in result ≡ is_none (broken_by table.now.rules seat view (discard_of seat view tile)) }
+{
+    judge(table, seat, &discard(table, seat, tile)).is_ok()
+}
+
+// The discard of a tile, marked as drawn exactly where the drawn tile has its face.
+#[tactic(auto, unfolding(mj_rules::specs::Broken::view_of))]
+fn discard(table: &Table, seat: u8, tile: Tile) -> Answer
+    ensures { result ≡ discard_of seat (view_of table.now.deeds seat) tile }
+{
+    Answer::Discard {
+        actor: seat,
+        tile: Pai::Known(tile),
+        drawn: is_drawn(table, seat, tile),
+    }
+}
+
+// The discard of a tile, or a pass where there is none.
+fn discard_or_pass(table: &Table, seat: u8, tile: Option<Tile>) -> Answer
+    ensures { result ≡ discard_or_pass seat (view_of table.now.deeds seat) tile }
 {
     match tile {
-        Some(tile) => Answer::Discard {
-            actor: seat,
-            tile: Pai::Known(tile),
-            drawn,
-        },
+        Some(tile) => discard(table, seat, tile),
         None => Answer::Pass { actor: None },
     }
 }

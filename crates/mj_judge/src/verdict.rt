@@ -16,7 +16,7 @@ use mj_table::Table;
 /// order of refusal that it breaks.
 #[tactic(auto, unfolding(mj_rules::specs::Broken::broken_by))]
 pub fn judge(table: &Table, seat: u8, answer: &Answer) -> Result<(), Rule>
-    ensures { result_err result ≡ broken table.now.rules.red table.now.deeds seat answer.now }
+    ensures { result_err result ≡ broken table.now.rules table.now.deeds seat answer.now }
 {
     refuse_if(is_unread(answer), Rule::Unreadable)?;
     refuse_if(names_another(seat, answer), Rule::NotYours)?;

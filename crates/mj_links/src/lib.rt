@@ -9,8 +9,6 @@ mod plan;
 mod sink;
 mod source;
 mod streams;
-#[cfg(test)]
-mod tests;
 mod whole;
 
 pub use faults::FaultCount;

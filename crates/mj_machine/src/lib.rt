@@ -1,7 +1,7 @@
 //! The course of a hand: which deed follows a closed window.
 #![tactic(auto)]
 
-mod bids;
+mod acts;
 mod course;
 
 pub use course::next;

@@ -22,9 +22,6 @@ ghost use Rattle.mj_pay.specs.Payments.{
   total_change,
 };
 
-#[cfg(test)]
-mod tests;
-
 /// The base points of a hand of `han` han and `fu` fu, from which all payments are made.
 ///
 /// Fu count only below 5 han, where the base is at most 2,000. A yakuman has 13 han or more, and 8,000.

@@ -16,11 +16,12 @@ use Rattle.mj_deeds.specs.declared.answer.Answer.{Answer}
 use Rattle.mj_deeds.specs.declared.answer.Answer.TheVariants.{Unread}
 use Rattle.mj_deeds.specs.declared.deed.Deed.{Deed}
 use Rattle.mj_deeds.specs.declared.deed.Deed.TheVariants.{StartGame}
+use Rattle.mj_wall.specs.declared.setting.Rules.{Rules}
 use Rattle.mj_wall.specs.declared.setting.Setting.{Setting}
 use Rattle.mj_rules.specs.Broken.{broken}
 use Rattle.mj_rules.specs.Outcome.{outcome}
 use Rattle.mj_rules.specs.Played.{AllLawful, are_listed_names, are_names, IsPlayedBehind, IsPlayed}
-use Rattle.mj_rules.proofs.Playing.{first_is_wall, played_deeds_fit, played_more, given_behind, behind_fits}
+use Rattle.mj_rules.proofs.Playing.{each_is_wall, played_deeds_fit, played_more, given_behind, behind_fits}
 use Rattle.mj_window.proofs.Closing.{all_answered}
 use Rattle.mj_window.specs.Slots.{put_at}
 use Rattle.mj_protocol.specs.After.{After, Chair, Verdict, Taken, Late, Refused, verdict_by, verdict_on, filled, heard, own_part, names_of, answers_in, is_ready, next_deed, with_deed, step, after_from, after, before_all, IsLawfulIn, AreLawfulIn}
@@ -33,8 +34,8 @@ names_in chairs = map (λ (chair : Chair). chair.name) chairs
 
 -- What is true of a game as far as its entries have come.
 record IsSound (setting : Setting) (now : After) : Type 0 where
-  played : IsPlayed setting.rules.red setting.walls now.deeds
-  slots : AreLawfulIn setting.rules.red now.deeds now.slots
+  played : IsPlayed setting.rules setting.walls now.deeds
+  slots : AreLawfulIn setting.rules now.deeds now.slots
   few : length now.chairs ≤ 4
   named : are_listed_names (names_in now.chairs) ≡ true
 
@@ -82,46 +83,46 @@ taken_clean true o h = cc
 taken_clean false None h = refl
 taken_clean false (Some rule) h = cc
 
-put_kept : (red : Bool) (ds : List Deed) (slots : Four (Option Answer)) (seat : ℕ) (answer : Answer) → seat < 4 → broken red ds seat answer ≡ None → AreLawfulIn red ds slots → AreLawfulIn red ds (put_at slots seat answer)
-put_kept red ds slots zero answer small h s = record { first = h; second = s.second; third = s.third; fourth = s.fourth }
-put_kept red ds slots (suc zero) answer small h s = record { first = s.first; second = h; third = s.third; fourth = s.fourth }
-put_kept red ds slots (suc (suc zero)) answer small h s = record { first = s.first; second = s.second; third = h; fourth = s.fourth }
-put_kept red ds slots (suc (suc (suc zero))) answer small h s = record { first = s.first; second = s.second; third = s.third; fourth = h }
-put_kept red ds slots (suc (suc (suc (suc n)))) answer small h s = absurd (omega arith)
+put_kept : (rules : Rules) (ds : List Deed) (slots : Four (Option Answer)) (seat : ℕ) (answer : Answer) → seat < 4 → broken rules ds seat answer ≡ None → AreLawfulIn rules ds slots → AreLawfulIn rules ds (put_at slots seat answer)
+put_kept rules ds slots zero answer small h s = record { first = h; second = s.second; third = s.third; fourth = s.fourth }
+put_kept rules ds slots (suc zero) answer small h s = record { first = s.first; second = h; third = s.third; fourth = s.fourth }
+put_kept rules ds slots (suc (suc zero)) answer small h s = record { first = s.first; second = s.second; third = h; fourth = s.fourth }
+put_kept rules ds slots (suc (suc (suc zero))) answer small h s = record { first = s.first; second = s.second; third = s.third; fourth = h }
+put_kept rules ds slots (suc (suc (suc (suc n)))) answer small h s = absurd (omega arith)
 
-filled_kept : (red : Bool) (ds : List Deed) (slots : Four (Option Answer)) (seat : ℕ) (answer : Answer) (v : Verdict) → seat < 4 → (v ≡ Taken → broken red ds seat answer ≡ None) → AreLawfulIn red ds slots → AreLawfulIn red ds (filled v slots seat answer)
-filled_kept red ds slots seat answer Taken small h s = put_kept red ds slots seat answer small (h refl) s
-filled_kept red ds slots seat answer Late small h s = s
-filled_kept red ds slots seat answer (Refused rule) small h s = s
+filled_kept : (rules : Rules) (ds : List Deed) (slots : Four (Option Answer)) (seat : ℕ) (answer : Answer) (v : Verdict) → seat < 4 → (v ≡ Taken → broken rules ds seat answer ≡ None) → AreLawfulIn rules ds slots → AreLawfulIn rules ds (filled v slots seat answer)
+filled_kept rules ds slots seat answer Taken small h s = put_kept rules ds slots seat answer small (h refl) s
+filled_kept rules ds slots seat answer Late small h s = s
+filled_kept rules ds slots seat answer (Refused rule) small h s = s
 
-said_slots : (red : Bool) (now : After) (seat : ℕ) (answer : Answer) (held : Option Chair) → slice_get now.chairs seat ≡ held → length now.chairs ≤ 4 → AreLawfulIn red now.deeds now.slots →
-    AreLawfulIn red (option_map_or (heard red now seat answer) held now).deeds (option_map_or (heard red now seat answer) held now).slots
+said_slots : (rules : Rules) (now : After) (seat : ℕ) (answer : Answer) (held : Option Chair) → slice_get now.chairs seat ≡ held → length now.chairs ≤ 4 → AreLawfulIn rules now.deeds now.slots →
+    AreLawfulIn rules (option_map_or (heard rules now seat answer) held now).deeds (option_map_or (heard rules now seat answer) held now).slots
 unfolding heard
-said_slots red now seat answer None e few s = s
-said_slots red now seat answer (Some chair) e few s =
-    filled_kept red now.deeds now.slots seat answer (verdict_on red now.deeds seat answer chair.progress) (below _ _ (slice_get_within now.chairs seat chair e) few)
-    (λ h. taken_clean (nat_lt (chair.progress.due + 1) (length now.deeds)) (broken red now.deeds seat answer) h) s
+said_slots rules now seat answer None e few s = s
+said_slots rules now seat answer (Some chair) e few s =
+    filled_kept rules now.deeds now.slots seat answer (verdict_on rules now.deeds seat answer chair.progress) (below _ _ (slice_get_within now.chairs seat chair e) few)
+    (λ h. taken_clean (nat_lt (chair.progress.due + 1) (length now.deeds)) (broken rules now.deeds seat answer) h) s
   where
     below : (seat n : ℕ) → seat < n → n ≤ 4 → seat < 4
     below seat n h k = omega arith
 
-own_slots : (setting : Setting) (now : After) (entry : Entry Answer) → IsSound setting now → AreLawfulIn setting.rules.red (own_part setting now entry).deeds (own_part setting now entry).slots
+own_slots : (setting : Setting) (now : After) (entry : Entry Answer) → IsSound setting now → AreLawfulIn setting.rules (own_part setting now entry).deeds (own_part setting now entry).slots
 unfolding own_part
 own_slots setting now (Sat author name key) s = s.slots
-own_slots setting now (Said author seat answer) s = said_slots setting.rules.red now seat answer (slice_get now.chairs seat) refl s.few s.slots
+own_slots setting now (Said author seat answer) s = said_slots setting.rules now seat answer (slice_get now.chairs seat) refl s.few s.slots
 own_slots setting now (Back author seat) s = s.slots
 own_slots setting now (Gone author seat) s = s.slots
 own_slots setting now (Expired author window t1 t2) s = s.slots
 
-said_deeds : (red : Bool) (now : After) (seat : ℕ) (answer : Answer) (held : Option Chair) → (option_map_or (heard red now seat answer) held now).deeds ≡ now.deeds
+said_deeds : (rules : Rules) (now : After) (seat : ℕ) (answer : Answer) (held : Option Chair) → (option_map_or (heard rules now seat answer) held now).deeds ≡ now.deeds
 unfolding heard
-said_deeds red now seat answer None = refl
-said_deeds red now seat answer (Some chair) = refl
+said_deeds rules now seat answer None = refl
+said_deeds rules now seat answer (Some chair) = refl
 
 own_deeds : (setting : Setting) (now : After) (entry : Entry Answer) → (own_part setting now entry).deeds ≡ now.deeds
 unfolding own_part
 own_deeds setting now (Sat author name key) = refl
-own_deeds setting now (Said author seat answer) = said_deeds setting.rules.red now seat answer (slice_get now.chairs seat)
+own_deeds setting now (Said author seat answer) = said_deeds setting.rules now seat answer (slice_get now.chairs seat)
 own_deeds setting now (Back author seat) = refl
 own_deeds setting now (Gone author seat) = refl
 own_deeds setting now (Expired author window t1 t2) = refl
@@ -137,10 +138,10 @@ record AreSeats (chairs : List Chair) : Type 0 where
   few : length chairs ≤ 4
   named : are_listed_names (names_in chairs) ≡ true
 
-said_seats : (red : Bool) (now : After) (seat : ℕ) (answer : Answer) (held : Option Chair) → slice_get now.chairs seat ≡ held → AreSeats now.chairs → AreSeats (option_map_or (heard red now seat answer) held now).chairs
+said_seats : (rules : Rules) (now : After) (seat : ℕ) (answer : Answer) (held : Option Chair) → slice_get now.chairs seat ≡ held → AreSeats now.chairs → AreSeats (option_map_or (heard rules now seat answer) held now).chairs
 unfolding heard
-said_seats red now seat answer None e s = s
-said_seats red now seat answer (Some chair) e s = record {
+said_seats rules now seat answer None e s = s
+said_seats rules now seat answer (Some chair) e s = record {
   few = subst (λ (n : ℕ). n ≤ 4) (sym (length-set now.chairs seat _)) s.few;
   named = ap are_listed_names (names_said now.chairs seat chair _ e refl) ∙ s.named;
 }
@@ -158,7 +159,7 @@ sat_seats chairs chair p s =
 own_seats : (setting : Setting) (now : After) (entry : Entry Answer) → is_permitted setting now entry ≡ true → AreSeats now.chairs → AreSeats (own_part setting now entry).chairs
 unfolding own_part
 own_seats setting now (Sat author name key) p s = sat_seats now.chairs _ p s
-own_seats setting now (Said author seat answer) p s = said_seats setting.rules.red now seat answer (slice_get now.chairs seat) refl s
+own_seats setting now (Said author seat answer) p s = said_seats setting.rules now seat answer (slice_get now.chairs seat) refl s
 own_seats setting now (Back author seat) p s = s
 own_seats setting now (Gone author seat) p s = s
 own_seats setting now (Expired author window t1 t2) p s = s
@@ -167,7 +168,7 @@ own_sound : (setting : Setting) (now : After) (entry : Entry Answer) → is_perm
 own_sound setting now entry p s =
     let seats = own_seats setting now entry p (record { few = s.few; named = s.named }) in
     record {
-      played = subst (IsPlayed setting.rules.red setting.walls) (sym (own_deeds setting now entry)) s.played;
+      played = subst (IsPlayed setting.rules setting.walls) (sym (own_deeds setting now entry)) s.played;
       slots = own_slots setting now entry s;
       few = seats.few;
       named = seats.named;
@@ -175,20 +176,20 @@ own_sound setting now entry p s =
 
 -- the deed that it adds
 
-slot_clean : (red : Bool) (ds : List Deed) (seat : ℕ) (slot : Option Answer) → is_some slot ≡ true → IsLawfulIn red ds seat slot → broken red ds seat (unwrap_or slot Unread) ≡ None
-slot_clean red ds seat None h s = cc
-slot_clean red ds seat (Some answer) h s = s
+slot_clean : (rules : Rules) (ds : List Deed) (seat : ℕ) (slot : Option Answer) → is_some slot ≡ true → IsLawfulIn rules ds seat slot → broken rules ds seat (unwrap_or slot Unread) ≡ None
+slot_clean rules ds seat None h s = cc
+slot_clean rules ds seat (Some answer) h s = s
 
-ready_clean : (red : Bool) (ds : List Deed) (slots : Four (Option Answer)) → is_ready slots ≡ true → AreLawfulIn red ds slots → AllLawful red ds (answers_in slots)
-ready_clean red ds slots h s =
+ready_clean : (rules : Rules) (ds : List Deed) (slots : Four (Option Answer)) → is_ready slots ≡ true → AreLawfulIn rules ds slots → AllLawful rules ds (answers_in slots)
+ready_clean rules ds slots h s =
     let a = and_parts (is_some slots.first && is_some slots.second && is_some slots.third) (is_some slots.fourth) (all_answered slots h) in
     let b = and_parts (is_some slots.first && is_some slots.second) (is_some slots.third) a.0 in
     let c = and_parts (is_some slots.first) (is_some slots.second) b.0 in
     record {
-      first = slot_clean red ds 0 slots.first c.0 s.first;
-      second = slot_clean red ds 1 slots.second c.1 s.second;
-      third = slot_clean red ds 2 slots.third b.1 s.third;
-      fourth = slot_clean red ds 3 slots.fourth a.1 s.fourth;
+      first = slot_clean rules ds 0 slots.first c.0 s.first;
+      second = slot_clean rules ds 1 slots.second c.1 s.second;
+      third = slot_clean rules ds 2 slots.third b.1 s.third;
+      fourth = slot_clean rules ds 3 slots.fourth a.1 s.fourth;
     }
 
 four_names : (chairs : List Chair) → (length chairs == 4) ≡ true → are_listed_names (names_in chairs) ≡ true → are_names (names_of chairs) ≡ true
@@ -202,43 +203,43 @@ four_names (a ∷ b ∷ c ∷ d ∷ f ∷ chairs) e h = absurd (more (length cha
     more : (n : ℕ) → ((suc (suc (suc (suc (suc n))))) == 4) ≡ true → ⊥
     more n h = grind (arith, h)
 
-start_behind : (red : Bool) (walls : List (List ℕ)) (ds : List Deed) (names : Four (List ℕ)) → (length ds == 0) ≡ true → are_names names ≡ true → IsPlayedBehind red walls ds (StartGame names)
-start_behind red walls [] names e h = h
-start_behind red walls (d ∷ ds) names e h = absurd (longer (length ds) e)
+start_behind : (rules : Rules) (walls : List (List ℕ)) (ds : List Deed) (names : Four (List ℕ)) → (length ds == 0) ≡ true → are_names names ≡ true → IsPlayedBehind rules walls ds (StartGame names)
+start_behind rules walls [] names e h = h
+start_behind rules walls (d ∷ ds) names e h = absurd (longer (length ds) e)
   where
     longer : (n : ℕ) → ((suc n) == 0) ≡ true → ⊥
     longer n h = grind (arith, h)
 
-next_behind : (setting : Setting) (now : After) (d : Deed) → IsSound setting now → next_deed setting now ≡ Some d → IsPlayedBehind setting.rules.red setting.walls now.deeds d
+next_behind : (setting : Setting) (now : After) (d : Deed) → IsSound setting now → next_deed setting now ≡ Some d → IsPlayedBehind setting.rules setting.walls now.deeds d
 unfolding next_deed
 next_behind setting now d s e = by_length (length now.deeds == 0) refl e
   where
     none_is : (d : Deed) → None ≡ Some d → ⊥
     none_is d e = cc
 
-    started : (b : Bool) → (length now.deeds == 0) ≡ true → (length now.chairs == 4) ≡ b → cond b (Some (StartGame (names_of now.chairs))) None ≡ Some d → IsPlayedBehind setting.rules.red setting.walls now.deeds d
+    started : (b : Bool) → (length now.deeds == 0) ≡ true → (length now.chairs == 4) ≡ b → cond b (Some (StartGame (names_of now.chairs))) None ≡ Some d → IsPlayedBehind setting.rules setting.walls now.deeds d
     started true first four e =
-        subst (IsPlayedBehind setting.rules.red setting.walls now.deeds) (some_is _ d e)
-        (start_behind setting.rules.red setting.walls now.deeds (names_of now.chairs) first (four_names now.chairs four s.named))
+        subst (IsPlayedBehind setting.rules setting.walls now.deeds) (some_is _ d e)
+        (start_behind setting.rules setting.walls now.deeds (names_of now.chairs) first (four_names now.chairs four s.named))
       where
         some_is : (a b : Deed) → Some a ≡ Some b → a ≡ b
         some_is a b e = cc
     started false first four e = absurd (none_is d e)
 
-    by_ready : (b : Bool) → is_ready now.slots ≡ b → cond b (outcome setting.walls now.deeds (answers_in now.slots)) None ≡ Some d → IsPlayedBehind setting.rules.red setting.walls now.deeds d
-    by_ready true ready e = given_behind setting.rules.red setting.walls now.deeds (answers_in now.slots) d (ready_clean setting.rules.red now.deeds now.slots ready s.slots) e
+    by_ready : (b : Bool) → is_ready now.slots ≡ b → cond b (outcome setting.rules setting.walls now.deeds (answers_in now.slots)) None ≡ Some d → IsPlayedBehind setting.rules setting.walls now.deeds d
+    by_ready true ready e = given_behind setting.rules setting.walls now.deeds (answers_in now.slots) d (ready_clean setting.rules now.deeds now.slots ready s.slots) e
     by_ready false ready e = absurd (none_is d e)
 
     by_length : (b : Bool) → (length now.deeds == 0) ≡ b →
-        cond b (cond (length now.chairs == 4) (Some (StartGame (names_of now.chairs))) None) (cond (is_ready now.slots) (outcome setting.walls now.deeds (answers_in now.slots)) None) ≡ Some d →
-        IsPlayedBehind setting.rules.red setting.walls now.deeds d
+        cond b (cond (length now.chairs == 4) (Some (StartGame (names_of now.chairs))) None) (cond (is_ready now.slots) (outcome setting.rules setting.walls now.deeds (answers_in now.slots)) None) ≡ Some d →
+        IsPlayedBehind setting.rules setting.walls now.deeds d
     by_length true first e = started (length now.chairs == 4) first refl e
     by_length false later e = by_ready (is_ready now.slots) refl e
 
 with_deed_sound : (setting : Setting) (now : After) (added : Option Deed) → next_deed setting now ≡ added → IsSound setting now → IsSound setting (with_deed now added)
 with_deed_sound setting now None e s = s
 with_deed_sound setting now (Some d) e s = record {
-  played = played_more setting.rules.red setting.walls now.deeds d s.played (next_behind setting now d s e);
+  played = played_more setting.rules setting.walls now.deeds d s.played (next_behind setting now d s e);
   slots = record { first = tt; second = tt; third = tt; fourth = tt };
   few = s.few;
   named = s.named;
@@ -275,21 +276,21 @@ own_part_can_go_on setting entries entry legal =
     let own : After = own_part setting now entry in
     let s = legal_sound setting entries legal in
     record {
-      played = subst (IsPlayed setting.rules.red setting.walls) (sym (own_deeds setting now entry)) s.played;
+      played = subst (IsPlayed setting.rules setting.walls) (sym (own_deeds setting now entry)) s.played;
       taken = own_slots setting now entry s;
-      ready = λ h. ready_clean setting.rules.red own.deeds own.slots h (own_slots setting now entry s);
+      ready = λ h. ready_clean setting.rules own.deeds own.slots h (own_slots setting now entry s);
     }
 
 added_behind : (setting : Setting) (entries : List (Entry Answer)) (entry : Entry Answer) (d : Deed) → IsLegal setting entries → is_permitted setting (after setting entries) entry ≡ true →
-    next_deed setting (own_part setting (after setting entries) entry) ≡ Some d → IsPlayedBehind setting.rules.red setting.walls (after setting entries).deeds d
+    next_deed setting (own_part setting (after setting entries) entry) ≡ Some d → IsPlayedBehind setting.rules setting.walls (after setting entries).deeds d
 added_behind setting entries entry d legal p e =
     let now : After = after setting entries in
-    subst (λ (ds : List Deed). IsPlayedBehind setting.rules.red setting.walls ds d) (own_deeds setting now entry)
+    subst (λ (ds : List Deed). IsPlayedBehind setting.rules setting.walls ds d) (own_deeds setting now entry)
     (next_behind setting (own_part setting now entry) d (own_sound setting now entry p (legal_sound setting entries legal)) e)
 
 pub next_deed_is_played : NextDeedIsPlayed
 next_deed_is_played setting entries entry d legal p e =
-    played_more setting.rules.red setting.walls (after setting entries).deeds d (legal_sound setting entries legal).played (added_behind setting entries entry d legal p e)
+    played_more setting.rules setting.walls (after setting entries).deeds d (legal_sound setting entries legal).played (added_behind setting entries entry d legal p e)
 
 -- what fits
 
@@ -300,8 +301,8 @@ some_walls (wall ∷ walls) h = omega arith
 pub legal_deeds_fit : LegalDeedsFit
 legal_deeds_fit setting [] legal = refl
 legal_deeds_fit setting (entry ∷ entries) legal =
-    played_deeds_fit setting.rules.red setting.walls (after setting (entry ∷ entries)).deeds
-    (first_is_wall setting.rules.red setting.walls (some_walls setting.walls legal.ground) legal.whole)
+    played_deeds_fit setting.rules setting.walls (after setting (entry ∷ entries)).deeds
+    (each_is_wall setting.rules.red setting.walls (some_walls setting.walls legal.ground) legal.whole)
     (legal_games_are_played setting (entry ∷ entries) legal)
 
 -- The first entry adds no deed.
@@ -319,7 +320,7 @@ no_deed o d e f = cc
 pub next_deed_fits : NextDeedFits
 next_deed_fits setting [] entry d legal p e = absurd (no_deed _ d (none_at_first setting entry) e)
 next_deed_fits setting (first ∷ entries) entry d legal p e =
-    behind_fits setting.rules.red setting.walls (after setting (first ∷ entries)).deeds d
-    (first_is_wall setting.rules.red setting.walls (some_walls setting.walls legal.ground) legal.whole)
+    behind_fits setting.rules setting.walls (after setting (first ∷ entries)).deeds d
+    (each_is_wall setting.rules.red setting.walls (some_walls setting.walls legal.ground) legal.whole)
     (legal_games_are_played setting (first ∷ entries) legal)
     (added_behind setting (first ∷ entries) entry d legal p e)

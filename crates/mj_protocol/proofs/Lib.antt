@@ -5,3 +5,4 @@ pub mod Solo
 pub mod Follows
 pub mod OneWorld
 pub mod Fitting
+pub mod Witness

@@ -1,6 +1,6 @@
 -- A machine that has nothing of a game but what one seat learns, and tells that seat its bytes.
 use Rattle.std.proofs.Common.{◌≡◌, ℕ, ◌+◌, ◌-◌, ◌==◌, Bool, true, false, cond, List, [], ◌∷◌, ◌++◌, length, map, refl, ap, sym, ◌∙◌}
-use Rattle.std.specs.Prelude.{Option, Some, None, option_map, option_and_then, option_to_list, slice_get, count_by, fold, flat_map, replicate, if◌then◌else◌, codes}
+use Rattle.std.specs.Prelude.{Option, Some, None, option_map, option_and_then, option_to_list, slice_get, count_by, fold, flat_map, filter, replicate, if◌then◌else◌, codes, ℤ}
 use Rattle.std.specs.Option.{option_map_or}
 use Rattle.std.proofs.lemmas.Option.{slice_get-map}
 use Rattle.std.proofs.lemmas.List.{length-map}
@@ -12,6 +12,13 @@ use Rattle.mj_deeds.specs.declared.token.Token.TheVariants as tokens
 use Rattle.mj_tiles.specs.declared.meld.Meld.{Meld}
 use Rattle.mj_tiles.specs.declared.meld.Form.TheVariants as forms
 use Rattle.mj_calls.specs.Bans.{banned_kinds}
+use Rattle.mj_rounds.specs.declared.rounds.Standing.{Standing}
+use Rattle.mj_rounds.specs.Rounds.{first_standing}
+use Rattle.mj_wall.specs.declared.setting.Rules.{Rules}
+use Rattle.mj_deeds.specs.Hand.{is_hand_start, from_last, hand}
+use Rattle.mj_deeds.specs.Points.{points, deposits}
+use Rattle.mj_deeds.specs.Standings.{standing}
+use Rattle.mj_deeds.proofs.Hands.{from_last-map}
 use Rattle.mj_deeds.specs.Facts.{of_seat, newest, gained, lost, gains_by, losses_by, drawn_by, drawn_tile, meld_of_three, meld_of_four, makes_by, adds_by, with_added, is_kan, kans, live_draws}
 use Rattle.mj_rules.specs.Broken.{Turn, Drew, Discarded, Called, Nobodys, turn_by, turn_in, View, view_of, broken_by}
 use Rattle.mj_protocol.specs.Lines.{start_game_line, start_hand_line, draw_line, discard_line, call_line, closed_kan_line, added_kan_line, dora_line, quoted_tile, hidden}
@@ -64,16 +71,24 @@ is_kan_in other = false
 abbrev pub newest_in : List Token → Option Token
 newest_in ts = slice_get ts (length ts - 1)
 
+-- The tokens of the newest hand.
+abbrev pub is_start_in : Token → Bool
+is_start_in (tokens.StartHand indicator hand) = true
+is_start_in other = false
+
+unfoldable pub hand_in : List Token → List Token
+hand_in ts = from_last is_start_in ts
+
 -- of the live draws the number is handed in
 unfoldable pub view_in : List Token → ℕ → ℕ → View
 view_in ts draws seat = record {
   turn = turn_in (option_map turn_seen (newest_in ts));
   drawn = option_and_then drawn_in (newest_in ts);
-  gained = flat_map gains_in ts;
-  lost = flat_map (losses_in seat) ts;
-  melds = map (λ meld. with_added meld (flat_map (adds_in seat) ts)) (flat_map (makes_in seat) ts);
-  kans = count_by is_kan_in ts;
-  live = 70 - draws - count_by is_kan_in ts;
+  gained = flat_map gains_in (hand_in ts);
+  lost = flat_map (losses_in seat) (hand_in ts);
+  melds = map (λ meld. with_added meld (flat_map (adds_in seat) (hand_in ts))) (flat_map (makes_in seat) (hand_in ts));
+  kans = count_by is_kan_in (hand_in ts);
+  live = 70 - draws - count_by is_kan_in (hand_in ts);
 }
 
 same_turn : (seat : ℕ) (d : Deed) → turn_by d ≡ turn_seen (token seat d)
@@ -144,20 +159,30 @@ turn_follows t same (Some d) = same d
 pub newest_follows : (t : Deed → Token) (ds : List Deed) → newest_in (map t ds) ≡ option_map t (newest ds)
 newest_follows t ds = ap (λ n. slice_get (map t ds) (n - 1)) (length-map ds t) ∙ slice_get-map t ds (length ds - 1)
 
+pub same_start : (seat : ℕ) (d : Deed) → is_hand_start d ≡ is_start_in (token seat d)
+same_start seat (deeds.StartHand round number honba deposits dealer indicator hands) = refl
+same_start seat other = refl
+
+-- the tokens of the newest hand are those of its deeds
+pub hand_follows : (seat : ℕ) (ds : List Deed) → map (token seat) (hand ds) ≡ hand_in (map (token seat) ds)
+unfolding hand hand_in
+hand_follows seat ds = from_last-map is_hand_start is_start_in (token seat) (same_start seat) ds
+
 -- what a seat may know follows from its tokens
-pub view_follows : (seat : ℕ) (ds : List Deed) → view_of ds seat ≡ view_in (map (token seat) ds) (live_draws ds) seat
+pub view_follows : (seat : ℕ) (ds : List Deed) → view_of ds seat ≡ view_in (map (token seat) ds) (live_draws (hand ds)) seat
 unfolding view_of view_in
 view_follows seat ds =
     let ts : List Token = map (token seat) ds in
+    let hs : List Deed = hand ds in
     let turn : turn_in (option_map turn_by (newest ds)) ≡ turn_in (option_map turn_seen (newest_in ts)) =
     turn_follows (token seat) (same_turn seat) (newest ds) ∙ ap (λ (o : Option Token). turn_in (option_map turn_seen o)) (sym (newest_follows (token seat) ds)) in
     let drawn : drawn_tile ds seat ≡ option_and_then drawn_in (newest_in ts) =
     option_follows (drawn_by seat) drawn_in (token seat) (same_drawn seat) (newest ds) ∙ ap (option_and_then drawn_in) (sym (newest_follows (token seat) ds)) in
-    let got : gained ds seat ≡ flat_map gains_in ts = fold_follows (gains_by seat) gains_in (token seat) (same_gains seat) ds in
-    let gone : lost ds seat ≡ flat_map (losses_in seat) ts = fold_follows (losses_by seat) (losses_in seat) (token seat) (same_losses seat) ds in
-    let made : flat_map (makes_by seat) ds ≡ flat_map (makes_in seat) ts = fold_follows (makes_by seat) (makes_in seat) (token seat) (same_makes seat) ds in
-    let added : flat_map (adds_by seat) ds ≡ flat_map (adds_in seat) ts = fold_follows (adds_by seat) (adds_in seat) (token seat) (same_adds seat) ds in
-    let stood : kans ds ≡ count_by is_kan_in ts = count_follows is_kan is_kan_in (token seat) (same_kan seat) ds in
+    let got : gained hs seat ≡ flat_map gains_in (hand_in ts) = fold_follows (gains_by seat) gains_in (token seat) (same_gains seat) hs ∙ ap (flat_map gains_in) (hand_follows seat ds) in
+    let gone : lost hs seat ≡ flat_map (losses_in seat) (hand_in ts) = fold_follows (losses_by seat) (losses_in seat) (token seat) (same_losses seat) hs ∙ ap (flat_map (losses_in seat)) (hand_follows seat ds) in
+    let made : flat_map (makes_by seat) hs ≡ flat_map (makes_in seat) (hand_in ts) = fold_follows (makes_by seat) (makes_in seat) (token seat) (same_makes seat) hs ∙ ap (flat_map (makes_in seat)) (hand_follows seat ds) in
+    let added : flat_map (adds_by seat) hs ≡ flat_map (adds_in seat) (hand_in ts) = fold_follows (adds_by seat) (adds_in seat) (token seat) (same_adds seat) hs ∙ ap (flat_map (adds_in seat)) (hand_follows seat ds) in
+    let stood : kans hs ≡ count_by is_kan_in (hand_in ts) = count_follows is_kan is_kan_in (token seat) (same_kan seat) hs ∙ ap (count_by is_kan_in) (hand_follows seat ds) in
     λ i. record {
       turn = turn i;
       drawn = drawn i;
@@ -165,7 +190,7 @@ view_follows seat ds =
       lost = gone i;
       melds = map (λ meld. with_added meld (added i)) (made i);
       kans = stood i;
-      live = 70 - live_draws ds - stood i;
+      live = 70 - live_draws hs - stood i;
     }
 
 -- the tiles of a hand that is one's own, or thirteen hidden ones
@@ -177,26 +202,17 @@ abbrev pub tile_known : Option ℕ → List ℕ
 tile_known None = hidden
 tile_known (Some tile) = quoted_tile tile
 
--- the line of a token
-abbrev pub line_in : ℕ → Token → List ℕ
-line_in seat (tokens.StartGame names) = start_game_line seat names
-line_in seat (tokens.StartHand indicator hand) = start_hand_line 27 1 0 0 0 indicator
-    (record { first = hand_known (0 == seat) hand; second = hand_known (1 == seat) hand; third = hand_known (2 == seat) hand; fourth = hand_known (3 == seat) hand })
-line_in seat (tokens.Draw who tile) = draw_line who (tile_known tile)
-line_in seat (tokens.Discard who tile drawn) = discard_line who tile drawn
-line_in seat (tokens.Chi who target tile a b) = call_line (codes "chi") who target tile (a ∷ b ∷ [])
-line_in seat (tokens.Pon who target tile a b) = call_line (codes "pon") who target tile (a ∷ b ∷ [])
-line_in seat (tokens.OpenKan who target tile a b c) = call_line (codes "daiminkan") who target tile (a ∷ b ∷ c ∷ [])
-line_in seat (tokens.ClosedKan who a b c d) = closed_kan_line who (a ∷ b ∷ c ∷ d ∷ [])
-line_in seat (tokens.AddedKan who tile a b c) = added_kan_line who tile (a ∷ b ∷ c ∷ [])
-line_in seat (tokens.Dora tile) = dora_line tile
-
--- how far the seat has come, the tokens that it saw, their lines, and how many live draws are among them
-pub record Solo : Type 0 where
-  pub progress : Option Progress
-  pub tokens : List Token
-  pub lines : List (List ℕ)
+-- The numbers of a game that its lines and verdicts ask: how many live tiles were drawn in the hand, the standing, and the
+-- points and deposits.
+pub record Numbers : Type 0 where
   pub draws : ℕ
+  pub standing : Standing
+  pub points : List ℤ
+  pub deposits : ℕ
+
+-- Those of deeds.
+abbrev pub numbers_of : List Deed → Numbers
+numbers_of ds = record { draws = live_draws (hand ds); standing = standing ds; points = points ds; deposits = deposits ds }
 
 -- right after a new indicator a draw is a replacement, and else a live one
 abbrev pub is_dora : Option Token → Bool
@@ -204,29 +220,79 @@ is_dora None = false
 is_dora (Some (tokens.Dora tile)) = true
 is_dora (Some other) = false
 
-abbrev pub live_draws_more : Option Token → Token → ℕ → ℕ
-live_draws_more before (tokens.Draw who tile) draws = if is_dora before then draws else draws + 1
-live_draws_more before other draws = draws
+-- With one token more: of the tokens of the hand before, the newest token, and the number before.
+abbrev pub draws_with : List Token → Option Token → Token → ℕ → ℕ
+draws_with h before (tokens.StartHand indicator hand) draws = 0
+draws_with [] before t draws = 0
+draws_with (x ∷ h) before (tokens.Draw who tile) draws = if is_dora before then draws else draws + 1
+draws_with (x ∷ h) before t draws = draws
+
+-- A start of a hand right after the start of the game has the standing of the first hand; its number is that of the starts
+-- before it.
+abbrev pub standing_with : List Token → Token → Standing → Standing
+standing_with ts (tokens.StartHand indicator hand) now =
+    record { round = first_standing.round; dealer = first_standing.dealer; honba = first_standing.honba; hand = length (filter is_start_in ts) }
+standing_with ts other now = now
+
+abbrev pub numbers_with : List Token → Token → Numbers → Numbers
+numbers_with ts t n = record { draws = draws_with (hand_in ts) (newest_in ts) t n.draws; standing = standing_with ts t n.standing; points = n.points; deposits = n.deposits }
+
+-- the line of a token, by the numbers with it
+abbrev pub line_in : ℕ → Numbers → Token → List ℕ
+line_in seat n (tokens.StartGame names) = start_game_line seat names
+line_in seat n (tokens.StartHand indicator hand) = start_hand_line n.standing.round (n.standing.dealer + 1) n.standing.honba n.deposits n.standing.dealer indicator
+    (record { first = hand_known (0 == seat) hand; second = hand_known (1 == seat) hand; third = hand_known (2 == seat) hand; fourth = hand_known (3 == seat) hand })
+line_in seat n (tokens.Draw who tile) = draw_line who (tile_known tile)
+line_in seat n (tokens.Discard who tile drawn) = discard_line who tile drawn
+line_in seat n (tokens.Chi who target tile a b) = call_line (codes "chi") who target tile (a ∷ b ∷ [])
+line_in seat n (tokens.Pon who target tile a b) = call_line (codes "pon") who target tile (a ∷ b ∷ [])
+line_in seat n (tokens.OpenKan who target tile a b c) = call_line (codes "daiminkan") who target tile (a ∷ b ∷ c ∷ [])
+line_in seat n (tokens.ClosedKan who a b c d) = closed_kan_line who (a ∷ b ∷ c ∷ d ∷ [])
+line_in seat n (tokens.AddedKan who tile a b c) = added_kan_line who tile (a ∷ b ∷ c ∷ [])
+line_in seat n (tokens.Dora tile) = dora_line tile
+
+-- how far the seat has come, the tokens that it saw, their lines, and the numbers that follow from them
+pub record Solo : Type 0 where
+  pub progress : Option Progress
+  pub tokens : List Token
+  pub lines : List (List ℕ)
+  pub numbers : Numbers
+
+abbrev pub no_numbers : Numbers
+no_numbers = record { draws = 0; standing = first_standing; points = points []; deposits = 0 }
 
 abbrev pub at_first : Solo
-at_first = record { progress = None; tokens = []; lines = []; draws = 0 }
+at_first = record { progress = None; tokens = []; lines = []; numbers = no_numbers }
 
-unfoldable pub answered : Bool → ℕ → Solo → Answer → Progress → Solo
-answered red seat s answer p = record {
-  progress = Some (goes_on s.lines (verdict p.due (length s.tokens) (broken_by red seat (view_in s.tokens s.draws seat) answer)) p);
+-- The rules without the limit of a window, of which no verdict tells.
+abbrev pub untimed : Rules → Rules
+untimed rules = record { limit = 0; draws = rules.draws; red = rules.red }
+
+pub untimed_verdict : (rules : Rules) (seat : ℕ) (view : View) (answer : Answer) → broken_by rules seat view answer ≡ broken_by (untimed rules) seat view answer
+unfolding broken_by
+untimed_verdict rules seat view answer = refl
+
+unfoldable pub answered : Rules → ℕ → Solo → Answer → Progress → Solo
+answered rules seat s answer p = record {
+  progress = Some (goes_on s.lines (verdict p.due (length s.tokens) (broken_by rules seat (view_in s.tokens s.numbers.draws seat) answer)) p);
   tokens = s.tokens;
   lines = s.lines;
-  draws = s.draws;
+  numbers = s.numbers;
 }
 
-abbrev pub learns : Bool → ℕ → Solo → Item → Solo
-learns red seat s (OwnSat name key) = record { progress = Some seated; tokens = s.tokens; lines = s.lines; draws = s.draws }
-learns red seat s (OwnSaid answer) = option_map_or (answered red seat s answer) s.progress s
-learns red seat s (Saw t) = record { progress = s.progress; tokens = s.tokens ++ t ∷ []; lines = s.lines ++ line_in seat t ∷ []; draws = live_draws_more (newest_in s.tokens) t s.draws }
+abbrev pub saw : ℕ → Solo → Token → Solo
+saw seat s t =
+    let numbers = numbers_with s.tokens t s.numbers in
+    record { progress = s.progress; tokens = s.tokens ++ t ∷ []; lines = s.lines ++ line_in seat numbers t ∷ []; numbers = numbers }
 
-abbrev pub learns_all : Bool → ℕ → Solo → List Item → Solo
-learns_all red seat s [] = s
-learns_all red seat s (item ∷ items) = learns_all red seat (learns red seat s item) items
+abbrev pub learns : Rules → ℕ → Solo → Item → Solo
+learns rules seat s (OwnSat name key) = record { progress = Some seated; tokens = s.tokens; lines = s.lines; numbers = s.numbers }
+learns rules seat s (OwnSaid answer) = option_map_or (answered rules seat s answer) s.progress s
+learns rules seat s (Saw t) = saw seat s t
+
+abbrev pub learns_all : Rules → ℕ → Solo → List Item → Solo
+learns_all rules seat s [] = s
+learns_all rules seat s (item ∷ items) = learns_all rules seat (learns rules seat s item) items
 
 abbrev pub told_by : Solo → Progress → List ℕ
 told_by s p = p.told ++ pending s.lines p
@@ -235,6 +301,6 @@ told_by s p = p.told ++ pending s.lines p
 abbrev pub solo_script : Solo → List ℕ
 solo_script s = option_map_or (told_by s) s.progress []
 
-pub learns_all-append : (red : Bool) (seat : ℕ) (s : Solo) (xs ys : List Item) → learns_all red seat s (xs ++ ys) ≡ learns_all red seat (learns_all red seat s xs) ys
-learns_all-append red seat s [] ys = refl
-learns_all-append red seat s (x ∷ xs) ys = learns_all-append red seat (learns red seat s x) xs ys
+pub learns_all-append : (rules : Rules) (seat : ℕ) (s : Solo) (xs ys : List Item) → learns_all rules seat s (xs ++ ys) ≡ learns_all rules seat (learns_all rules seat s xs) ys
+learns_all-append rules seat s [] ys = refl
+learns_all-append rules seat s (x ∷ xs) ys = learns_all-append rules seat (learns rules seat s x) xs ys

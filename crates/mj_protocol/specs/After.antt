@@ -10,6 +10,7 @@ use Rattle.mj_deeds.specs.declared.answer.Answer.TheVariants.{Unread}
 use Rattle.mj_deeds.specs.declared.deed.Viewer.TheVariants.{Seat}
 use Rattle.mj_deeds.specs.declared.deed.Deed.{Deed}
 use Rattle.mj_deeds.specs.declared.deed.Deed.TheVariants.{StartGame}
+use Rattle.mj_wall.specs.declared.setting.Rules.{Rules}
 use Rattle.mj_wall.specs.declared.setting.Setting.{Setting}
 use Rattle.mj_rules.specs.Broken.{broken}
 use Rattle.mj_rules.specs.Outcome.{outcome}
@@ -81,13 +82,13 @@ filled Late slots seat answer = slots
 filled (Refused rule) slots seat answer = slots
 
 -- The verdict on what a held seat says.
-abbrev pub verdict_on : Bool → List Deed → ℕ → Answer → Progress → Verdict
-verdict_on red deeds seat answer p = verdict p.due (length deeds) (broken red deeds seat answer)
+abbrev pub verdict_on : Rules → List Deed → ℕ → Answer → Progress → Verdict
+verdict_on rules deeds seat answer p = verdict p.due (length deeds) (broken rules deeds seat answer)
 
 -- What the answer of a held seat changes.
-unfoldable pub heard : Bool → After → ℕ → Answer → Chair → After
-heard red now seat answer chair =
-    let v = verdict_on red now.deeds seat answer chair.progress in
+unfoldable pub heard : Rules → After → ℕ → Answer → Chair → After
+heard rules now seat answer chair =
+    let v = verdict_on rules now.deeds seat answer chair.progress in
     record {
       deeds = now.deeds;
       chairs = slice_set now.chairs seat (record chair { progress = goes_on (lines_for seat now.deeds) v chair.progress });
@@ -97,7 +98,7 @@ heard red now seat answer chair =
 -- What an entry changes of its own seat.
 unfoldable pub own_part : Setting → After → Entry Answer → After
 own_part setting now (Sat author name key) = record now { chairs = now.chairs ++ (record { author = author; name = name; key = key; progress = seated }) ∷ [] }
-own_part setting now (Said author seat answer) = option_map_or (heard setting.rules.red now seat answer) (slice_get now.chairs seat) now
+own_part setting now (Said author seat answer) = option_map_or (heard setting.rules now seat answer) (slice_get now.chairs seat) now
 own_part setting now (Back author seat) = now
 own_part setting now (Gone author seat) = now
 own_part setting now (Expired author window t1 t2) = now
@@ -132,7 +133,7 @@ unfoldable pub next_deed : Setting → After → Option Deed
 next_deed setting now =
     if length now.deeds == 0
     then (if length now.chairs == 4 then Some (StartGame (names_of now.chairs)) else None)
-    else (if is_ready now.slots then outcome setting.walls now.deeds (answers_in now.slots) else None)
+    else (if is_ready now.slots then outcome setting.rules setting.walls now.deeds (answers_in now.slots) else None)
 
 -- With that deed, if there is one, and its window with empty slots.
 abbrev pub with_deed : After → Option Deed → After
@@ -166,13 +167,13 @@ abbrev pub scripts : ℕ → Setting → List (Entry Answer) → List ℕ
 scripts seat setting entries = script_in seat (after setting entries)
 
 -- The answer in a slot breaks no rule for its seat in the window on the newest deed.
-abbrev pub IsLawfulIn : Bool → List Deed → ℕ → Option Answer → Type 0
-IsLawfulIn red deeds seat None = Unit {0}
-IsLawfulIn red deeds seat (Some answer) = broken red deeds seat answer ≡ None
+abbrev pub IsLawfulIn : Rules → List Deed → ℕ → Option Answer → Type 0
+IsLawfulIn rules deeds seat None = Unit {0}
+IsLawfulIn rules deeds seat (Some answer) = broken rules deeds seat answer ≡ None
 
 -- So does none of the answers in the four slots.
-pub record AreLawfulIn (red : Bool) (deeds : List Deed) (slots : Four (Option Answer)) : Type 0 where
-  pub first : IsLawfulIn red deeds 0 slots.first
-  pub second : IsLawfulIn red deeds 1 slots.second
-  pub third : IsLawfulIn red deeds 2 slots.third
-  pub fourth : IsLawfulIn red deeds 3 slots.fourth
+pub record AreLawfulIn (rules : Rules) (deeds : List Deed) (slots : Four (Option Answer)) : Type 0 where
+  pub first : IsLawfulIn rules deeds 0 slots.first
+  pub second : IsLawfulIn rules deeds 1 slots.second
+  pub third : IsLawfulIn rules deeds 2 slots.third
+  pub fourth : IsLawfulIn rules deeds 3 slots.fourth

@@ -20,18 +20,18 @@ ReadGamesAreLegal = (input : List ℕ) → IsLegal (setting_of (input_of input).
 
 -- The deeds of a legal game are played.
 abbrev pub LegalGamesArePlayed : Type 0
-LegalGamesArePlayed = (setting : Setting) (entries : List (Entry Answer)) → IsLegal setting entries → IsPlayed setting.rules.red setting.walls (after setting entries).deeds
+LegalGamesArePlayed = (setting : Setting) (entries : List (Entry Answer)) → IsLegal setting entries → IsPlayed setting.rules setting.walls (after setting entries).deeds
 
 -- Each answer in a slot of a legal game breaks no rule for its seat.
 abbrev pub TakenAnswersAreLawful : Type 0
-TakenAnswersAreLawful = (setting : Setting) (entries : List (Entry Answer)) → IsLegal setting entries → AreLawfulIn setting.rules.red (after setting entries).deeds (after setting entries).slots
+TakenAnswersAreLawful = (setting : Setting) (entries : List (Entry Answer)) → IsLegal setting entries → AreLawfulIn setting.rules (after setting entries).deeds (after setting entries).slots
 
 -- What is true where a deed may be added: the deeds are played and the answers in the slots lawful, and where each slot has
 -- one, all four are.
 pub record CanGoOn (setting : Setting) (now : After) : Type 0 where
-  pub played : IsPlayed setting.rules.red setting.walls now.deeds
-  pub taken : AreLawfulIn setting.rules.red now.deeds now.slots
-  pub ready : is_ready now.slots ≡ true → AllLawful setting.rules.red now.deeds (answers_in now.slots)
+  pub played : IsPlayed setting.rules setting.walls now.deeds
+  pub taken : AreLawfulIn setting.rules now.deeds now.slots
+  pub ready : is_ready now.slots ≡ true → AllLawful setting.rules now.deeds (answers_in now.slots)
 
 -- So it is in a legal game once an entry has changed what is its own seat's, whether or not that entry is permitted.
 abbrev pub OwnPartCanGoOn : Type 0
@@ -40,7 +40,7 @@ OwnPartCanGoOn = (setting : Setting) (entries : List (Entry Answer)) (entry : En
 -- The deeds of a legal game are played with the deed that a permitted entry adds.
 abbrev pub NextDeedIsPlayed : Type 0
 NextDeedIsPlayed = (setting : Setting) (entries : List (Entry Answer)) (entry : Entry Answer) (d : Deed) → IsLegal setting entries → is_permitted setting (after setting entries) entry ≡ true →
-    next_deed setting (own_part setting (after setting entries) entry) ≡ Some d → IsPlayed setting.rules.red setting.walls ((after setting entries).deeds ++ d ∷ [])
+    next_deed setting (own_part setting (after setting entries) entry) ≡ Some d → IsPlayed setting.rules setting.walls ((after setting entries).deeds ++ d ∷ [])
 
 -- Every deed of a legal game fits behind those before it.
 abbrev pub LegalDeedsFit : Type 0

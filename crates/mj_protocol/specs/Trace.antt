@@ -11,6 +11,7 @@ use Rattle.mj_deeds.specs.declared.deed.Deed.TheVariants as deeds
 use Rattle.mj_deeds.specs.declared.token.Token.{Token}
 use Rattle.mj_deeds.specs.declared.token.Token.TheVariants as tokens
 use Rattle.mj_deeds.specs.Four.{at_seat}
+use Rattle.mj_wall.specs.declared.setting.Rules.{Rules}
 use Rattle.mj_wall.specs.declared.setting.Setting.{Setting}
 use Rattle.mj_wall.specs.Places.{is_wall}
 use Rattle.mj_protocol.specs.After.{After, Chair, Verdict, Taken, Late, Refused, before_all, own_part, next_deed, step, verdict_on, is_ready}
@@ -36,8 +37,8 @@ is_verdict_built refused Taken = true
 is_verdict_built refused Late = true
 is_verdict_built refused (Refused rule) = nat_lt refused 15
 
-unfoldable pub is_heard_built : Bool → After → ℕ → Answer → Chair → Bool
-is_heard_built red now seat answer chair = is_verdict_built chair.progress.refused (verdict_on red now.deeds seat answer chair.progress)
+unfoldable pub is_heard_built : Rules → After → ℕ → Answer → Chair → Bool
+is_heard_built rules now seat answer chair = is_verdict_built chair.progress.refused (verdict_on rules now.deeds seat answer chair.progress)
 
 -- The deed after a closed window is built.
 unfoldable pub is_deed_built : Setting → After → Bool
@@ -46,7 +47,7 @@ is_deed_built setting now = if is_ready now.slots then is_some (next_deed settin
 -- What an answer leads to is built.
 unfoldable pub is_answer_built : Setting → After → ℕ → ℕ → Answer → Bool
 is_answer_built setting now author seat answer =
-    option_map_or (is_heard_built setting.rules.red now seat answer) (slice_get now.chairs seat) false
+    option_map_or (is_heard_built setting.rules now seat answer) (slice_get now.chairs seat) false
     && is_deed_built setting (own_part setting now (Said author seat answer))
 
 -- An entry is permitted where it stands: a seat is taken under a good name that no seat has, while fewer than four are

@@ -3,11 +3,19 @@
 #![tactic(auto)]
 
 ghost use Rattle.mj_protocol.specs.Laws.{AgreeingGamesTellTheSame, ReadGamesAreLegal, LegalGamesArePlayed, TakenAnswersAreLawful, OwnPartCanGoOn, NextDeedIsPlayed, LegalDeedsFit, NextDeedFits};
+ghost use Rattle.mj_protocol.specs.Witness.{AgreeApart};
 
 /// The law of one world: what a game tells a seat depends on nothing but what the seat learns of it, so two games that
 /// agree for a seat tell it the same bytes.
 pub fn agreeing_games_tell_the_same()
     ensures { AgreeingGamesTellTheSame }
+{}
+
+/// The law has games to speak of: two games agree for seat 0 that differ in the walls and so in what the other seats are dealt
+/// and draw, in the limit of a window, in the authors, in the order in which the other seats answer, and in that an answer of
+/// another seat is refused in one of them.
+pub fn some_games_agree_apart()
+    ensures { AgreeApart 0 }
 {}
 
 /// Whatever an input holds, the game that is read off it is legal.

@@ -10,7 +10,7 @@ use Rattle.mj_tiles.specs.Counts.{all_kinds, IsCounts}
 use Rattle.mj_readings.specs.declared.reading.Set.{Set}
 use Rattle.mj_readings.specs.Sets.{tally, tiles_of_set, is_concealed, begins_run, in_order}
 use Rattle.mj_readings.specs.Complete.{AreSetsAndPair, AreOrphans, IsComplete, is_seven_pairs}
-use Rattle.mj_readings.specs.Ways.{Way, sets_at, put, begin, begins, at_kind, ways, has_way}
+use Rattle.mj_readings.specs.Inner.Ways.{Way, sets_at, put, begin, begins, at_kind, ways, has_way}
 use Rattle.mj_readings.specs.Tests.{complete, orphan_double}
 use Rattle.mj_readings.proofs.Tiles.{number_at, count-flat_map}
 use Rattle.mj_readings.proofs.WayRules.{IsWay, pair_tiles, carry, ways_sound}

@@ -12,6 +12,7 @@ pub mod Sorting
 pub mod Picking
 pub mod Places
 pub mod Laws
-pub mod StandingLaws
+pub mod WinningWayLaws
+pub mod FewReadings
 pub mod ReadingLaws
 pub mod RuledOut

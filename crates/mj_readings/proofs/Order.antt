@@ -7,7 +7,7 @@ use Rattle.mj_readings.specs.declared.reading.Set.{Set}
 use Rattle.mj_readings.specs.declared.reading.SetForm.{SetForm}
 use Rattle.mj_readings.specs.declared.reading.SetForm.TheVariants.{Run, Triplet, Kan}
 use Rattle.mj_readings.specs.Sets.{is_concealed, in_order, begins_run, place_of, place_of_form}
-use Rattle.mj_readings.specs.Ways.{run_at, triplet_at, sets_at}
+use Rattle.mj_readings.specs.Inner.Ways.{run_at, triplet_at, sets_at}
 
 -- What holds of each of equal sets.
 pub list_all-replicate : (p : Set → Bool) (n : ℕ) (set : Set) → (n ≡ 0) ⊎ (p set ≡ true) → list_all p (replicate n set) ≡ true

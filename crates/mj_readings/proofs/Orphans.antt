@@ -9,6 +9,7 @@ use Rattle.std.proofs.lemmas.List.Folds.{find_at}
 use Rattle.std.proofs.lemmas.List.Sums.{position_or_len_is}
 use Rattle.std.proofs.lemmas.List.FromFn.{length-range_with_len, get_or-range_with_len, get_or-map-range_with_len, fill_by_all}
 use Rattle.std.proofs.lemmas.Option.{slice_get-get_or, slice_get_past, none-some, same_Some}
+use Rattle.mj_lists.proofs.Ranges.{below_or_here}
 use Rattle.mj_tiles.specs.Counts.{all_kinds}
 use Rattle.mj_tiles.specs.Terminals.{is_terminal_or_honour}
 use Rattle.mj_readings.specs.Complete.{orphan_number, AreOrphans}
@@ -101,13 +102,6 @@ not_doubled double kind differ = rw (ne_eqb kind double differ) refl
 
 single : (double kind : ℕ) → is_terminal_or_honour kind ≡ true → (kind ≡ double → ⊥) → ◌≡◌ {A = ℕ} (orphan_number double kind) 1
 single double kind orphan differ = rw orphan (rw (ne_eqb kind double differ) refl)
-
-below_or_here : (k kind : ℕ) → k < kind + 1 → (k < kind) ⊎ (k ≡ kind)
-below_or_here k kind inside = split (cases_lt k kind)
-  where
-    split : (k < kind) ⊎ (kind ≤ k) → (k < kind) ⊎ (k ≡ kind)
-    split (inl below) = inl below
-    split (inr above) = inr (omega arith)
 
 -- What is found passes.
 found_in_range : (p : ℕ → Bool) (from n found : ℕ) → find p (range_with_len from n) ≡ Some found → (p found ≡ true) × (found < from + n)

@@ -19,8 +19,3 @@ pub pairs_without : (numbers counts : List ℕ) (n kinds next : ℕ) → numbers
 pairs_without numbers counts n kinds next same other below more =
     more ∙ below
     ∙ kinds_below-no (λ kind. eqb (get_or counts kind 0) 2) n (ne_eqb (get_or counts n 0) 2 (λ e. other (ap (λ ns. get_or ns n 0) same ∙ e)))
-
--- A value is there where its condition holds.
-pub not_none : (o : Option ℕ) (P : Type 0) (v : ℕ) → o ≡ None → SomeIff o P v → P → ⊥
-not_none None P v is never holds = never holds
-not_none (Some x) P v is unused holds = none-some x (sym is)

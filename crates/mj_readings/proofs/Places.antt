@@ -5,7 +5,7 @@ use Rattle.std.proofs.lemmas.List.{length-append}
 use Rattle.std.proofs.lemmas.List.Elements.{filter-append}
 use Rattle.mj_readings.specs.declared.reading.Set.{Set}
 use Rattle.mj_readings.specs.Readings.{names_winning}
-use Rattle.mj_readings.specs.Standings.{win_places}
+use Rattle.mj_readings.specs.Inner.WinningWays.{win_places}
 
 range_push : (from n : ℕ) → range_with_len from (suc n) ≡ range_with_len from n ++ (from + n) ∷ []
 range_push from zero = ap (λ k. k ∷ []) (sym (add-zero from))

@@ -13,9 +13,10 @@ use Rattle.mj_tiles.proofs.KindSets.{has_kind-kinds_that}
 use Rattle.mj_tiles.specs.Terminals.{is_terminal_or_honour}
 use Rattle.mj_readings.specs.Sets.{begins_run}
 use Rattle.mj_readings.specs.Complete.{is_seven_pairs, orphan_number}
-use Rattle.mj_readings.specs.Ways.{begins, has_way}
+use Rattle.mj_readings.specs.Inner.Ways.{begins, has_way}
 use Rattle.mj_readings.specs.Tests.{complete, one_more, orphan_double}
-use Rattle.mj_readings.specs.Completing.{IsCompleting, is_completing, may_go_on, NoStandardFrom, NoSpecial}
+use Rattle.mj_readings.specs.Completing.{IsCompleting, is_completing}
+use Rattle.mj_readings.specs.Inner.RuledOut.{may_go_on, NoStandardFrom, NoSpecial}
 use Rattle.mj_readings.proofs.Orphans.{orphan_count, orphan_double-are}
 use Rattle.mj_readings.proofs.Laws.{complete-are, are-complete, counts-one_more}
 

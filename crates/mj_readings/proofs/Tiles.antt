@@ -8,7 +8,7 @@ use Rattle.mj_readings.specs.declared.reading.Set.{Set}
 use Rattle.mj_readings.specs.declared.reading.SetForm.{SetForm}
 use Rattle.mj_readings.specs.declared.reading.SetForm.TheVariants.{Run, Triplet, Kan}
 use Rattle.mj_readings.specs.Sets.{tiles_of_set, tiles_of_form}
-use Rattle.mj_readings.specs.Ways.{run_at, triplet_at, sets_at}
+use Rattle.mj_readings.specs.Inner.Ways.{run_at, triplet_at, sets_at}
 
 -- A kind in a set, as often as it stands there.
 abbrev pub in_set : ℕ → Set → ℕ

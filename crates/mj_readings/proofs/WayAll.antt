@@ -9,7 +9,7 @@ use Rattle.std.specs.Prelude.{not}
 use Rattle.mj_readings.specs.declared.reading.SetForm.{SetForm}
 use Rattle.mj_readings.specs.declared.reading.SetForm.TheVariants.{Run, Triplet, Kan}
 use Rattle.mj_readings.specs.Sets.{is_concealed, is_concealed_form, begins_run}
-use Rattle.mj_readings.specs.Ways.{Way, run_at, triplet_at, sets_at, put, begin, at_kind, end_of, ways}
+use Rattle.mj_readings.specs.Inner.Ways.{Way, run_at, triplet_at, sets_at, put, begin, at_kind, end_of, ways}
 use Rattle.mj_readings.proofs.Order.{Front, front_of}
 use Rattle.mj_readings.proofs.WayRules.{IsWay, pair_tiles, way_here, way_after, begin_has}
 

@@ -7,7 +7,7 @@ use Rattle.std.proofs.lemmas.List.{append_cancel_left}
 use Rattle.std.proofs.lemmas.List.Elements.{All-nil, All-append, All-weaker}
 use Rattle.mj_readings.specs.declared.reading.Set.{Set}
 use Rattle.mj_readings.specs.Sets.{place_of, begins_run}
-use Rattle.mj_readings.specs.Ways.{Way, run_at, triplet_at, sets_at, put, begin, at_kind, end_of, ways}
+use Rattle.mj_readings.specs.Inner.Ways.{Way, run_at, triplet_at, sets_at, put, begin, at_kind, end_of, ways}
 use Rattle.mj_readings.proofs.Order.{place_from_low}
 use Rattle.mj_readings.proofs.WayRules.{IsWay, begin_all, ways_sound}
 use Rattle.mj_readings.proofs.Distinct.{Distinct, Distinct-append, Distinct-map, apart_by}

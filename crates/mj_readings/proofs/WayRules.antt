@@ -8,7 +8,7 @@ use Rattle.std.proofs.lemmas.List.{length-append, length-replicate, length-map, 
 use Rattle.std.proofs.lemmas.List.Elements.{All-nil, All-cons, All-append, All-map, All-weaker}
 use Rattle.mj_readings.proofs.Order.{list_all-replicate, list_all-join, list_all-later, in_order-sets_at, Front}
 use Rattle.mj_readings.specs.Sets.{is_concealed, in_order, begins_run}
-use Rattle.mj_readings.specs.Ways.{Way, run_at, triplet_at, sets_at, put, begin, at_kind, ways}
+use Rattle.mj_readings.specs.Inner.Ways.{Way, run_at, triplet_at, sets_at, put, begin, at_kind, ways}
 use Rattle.mj_readings.proofs.Tiles.{number_at, run_tiles, triplet_tiles, sets_at_place, number_at-append, number_at-later}
 
 -- The tiles that runs begun two kinds and one kind before have j kinds on.

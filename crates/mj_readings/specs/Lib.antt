@@ -1,10 +1,8 @@
 pub mod Sets
-pub mod SetLists
 pub mod Complete
 pub mod Readings
-pub mod Ways
-pub mod Standings
-pub mod Spots
 pub mod Tests
-pub mod ReadingLists
+pub mod AllReadings
 pub mod Completing
+pub mod Ways
+pub mod Inner

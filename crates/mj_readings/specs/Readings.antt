@@ -15,14 +15,14 @@ abbrev pub set_has : ℕ → Set → Bool
 set_has kind set = list_any (λ tile. tile == kind) (tiles_of_set set)
 
 -- No set before this place equals the one that stands there.
-abbrev pub is_first : List Set → ℕ → Set → Bool
-is_first sets place set = list_all (λ other. not (place_of other == place_of set)) (take place sets)
+abbrev pub has_no_equal_before : List Set → ℕ → Set → Bool
+has_no_equal_before sets place set = list_all (λ other. not (place_of other == place_of set)) (take place sets)
 
 -- The winning tile is in the pair, 4, or in the set of concealed tiles at this place, of equal ones in the first.
 unfoldable pub names_winning : List Set → ℕ → ℕ → ℕ → Bool
 names_winning sets pair winning win =
     (win == 4 && pair == winning)
-    || option_map_or (λ set. set_has winning set && is_first sets win set) (slice_get sets win) false
+    || option_map_or (λ set. set_has winning set && has_no_equal_before sets win set) (slice_get sets win) false
 
 -- Four sets, those of the concealed tiles in order and then the melds, and a pair, with the place of the winning tile.
 pub record IsStandard (counts : List ℕ) (melds : List Meld) (winning : ℕ) (sets : List Set) (pair win kind : ℕ) : Type 0 where

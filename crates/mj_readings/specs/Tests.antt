@@ -3,7 +3,7 @@ use Rattle.std.specs.Prelude.{ℕ, slice_index, slice_set, ◌+◌, ◌-◌, ◌
 use Rattle.mj_tiles.specs.Counts.{all_kinds}
 use Rattle.mj_tiles.specs.Terminals.{is_terminal_or_honour}
 use Rattle.mj_readings.specs.Complete.{orphan_number, is_seven_pairs}
-use Rattle.mj_readings.specs.Ways.{has_way}
+use Rattle.mj_readings.specs.Inner.Ways.{has_way}
 
 -- Whether the counts are thirteen orphans with this kind twice.
 unfoldable pub has_orphans : List ℕ → ℕ → Bool

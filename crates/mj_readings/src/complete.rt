@@ -1,10 +1,9 @@
 ghost use Rattle.std.specs.Prelude.{slice_index, ◌≡◌, ℕ, ◌+◌, ◌≤◌, ◌<◌, ◌↔◌, Bool, IsTrue, length, count_by, ◌==◌, ◌||◌, ◌&&◌, nat_le};
 ghost use Rattle.std.specs.List.{list_all};
 ghost use Rattle.mj_tiles.specs.Counts.{all_kinds};
-ghost use Rattle.mj_tiles.specs.Terminals.{is_terminal_or_honour};
 ghost use Rattle.mj_readings.specs.Sets.{begins_run};
 ghost use Rattle.mj_readings.specs.Complete.{IsComplete, is_seven_pairs};
-ghost use Rattle.mj_readings.specs.Ways.{begins, has_way};
+ghost use Rattle.mj_readings.specs.Inner.Ways.{begins, has_way};
 ghost use Rattle.mj_readings.specs.Tests.{complete, one_more, orphan_double};
 
 use mj_tiles::{Counts, Kind};
@@ -43,7 +42,7 @@ fn completes_hand(numbers: &[u8], melds: u8) -> bool
 /// Whether the kinds from this one on can be made into so many sets, and a pair where there is none yet, with so many
 /// runs under way that began two kinds and one kind before.
 #[cycle(completes)]
-#[tactic(auto, unfolding(crate::specs::Ways::has_way))]
+#[tactic(auto, unfolding(crate::specs::Inner::Ways::has_way))]
 fn completes(numbers: &[u8], kind: u8, first: u8, second: u8, left: u8, paired: bool) -> bool
     requires kinds { kind + length numbers.now ≤ 34 }
     requires first_few { first ≤ 4 }
@@ -135,26 +134,16 @@ pub(crate) fn double_of(numbers: &[u8]) -> Option<Kind>
     ensures { result ≡ orphan_double numbers.now }
 {
     let mut double = None;
-    for (kind, number) in numbers.iter().enumerate() {
-        let orphan = is_terminal_or_honour(kind as u8);
+    for (place, number) in numbers.iter().enumerate() {
+        let kind = Kind::at(place as u8);
+        let orphan = kind.is_terminal_or_honour();
         if *number == orphan as u8 {
             continue;
         }
         if !orphan || *number != 2 || double.is_some() {
             return None;
         }
-        double = Kind::of(kind as u8);
+        double = Some(kind);
     }
     double
-}
-
-/// Whether the kind of this number is a terminal or an honour.
-fn is_terminal_or_honour(number: u8) -> bool
-    requires { number < 34 }
-    ensures { result ≡ is_terminal_or_honour number }
-{
-    match Kind::of(number) {
-        Some(kind) => kind.is_terminal_or_honour(),
-        None => unreachable!(),
-    }
 }

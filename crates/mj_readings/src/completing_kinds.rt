@@ -1,7 +1,8 @@
 ghost use Rattle.std.specs.Prelude.{slice_index, ◌≡◌, ℕ, ◌+◌, ◌≤◌, ◌<◌, ◌↔◌, Bool, false, true, IsTrue, length, count_by, ◌==◌};
 ghost use Rattle.mj_tiles.specs.Kinds.{has_kind, kinds_that};
-ghost use Rattle.mj_readings.specs.Ways.{begins};
-ghost use Rattle.mj_readings.specs.Completing.{IsCompleting, is_completing, may_go_on, NoStandardFrom, NoSpecial};
+ghost use Rattle.mj_readings.specs.Inner.Ways.{begins};
+ghost use Rattle.mj_readings.specs.Completing.{IsCompleting, is_completing};
+ghost use Rattle.mj_readings.specs.Inner.RuledOut.{may_go_on, NoStandardFrom, NoSpecial};
 
 use crate::complete::{can_begin, is_complete_with};
 use mj_tiles::{Counts, Kind, Kinds};
@@ -16,9 +17,7 @@ pub fn completing(counts: &Counts, melds: u8) -> Kinds
     let special = may_be_special(counts.numbers(), melds);
     let mut kinds = Kinds::none();
     for number in 0..34 {
-        let Some(kind) = Kind::of(number) else {
-            unreachable!()
-        };
+        let kind = Kind::at(number);
         if completes_with(counts, melds, kind, end, special) {
             kinds = kinds.with(kind);
         }
@@ -63,7 +62,7 @@ fn standard_end(numbers: &[u8], melds: u8) -> u8
 /// Whether the first kinds from this one on can be made into some of so many sets, the first tiles of others, and
 /// maybe the pair, with so many runs under way that began two kinds and one kind before.
 #[cycle(goes_far)]
-#[tactic(auto, unfolding(crate::specs::Completing::may_go_on))]
+#[tactic(auto, unfolding(crate::specs::Inner::RuledOut::may_go_on))]
 fn goes_far(numbers: &[u8], kind: u8, first: u8, second: u8, left: u8, paired: bool) -> bool
     requires kinds { kind + length numbers.now ≤ 34 }
     requires first_few { first ≤ 4 }

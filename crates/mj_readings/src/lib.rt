@@ -6,9 +6,7 @@ mod completing_kinds;
 mod listing;
 mod reading;
 mod sets;
-mod standing;
-#[cfg(test)]
-mod tests;
+mod winning_way;
 
 pub use complete::{is_complete, is_complete_with};
 pub use completing_kinds::completing;

@@ -1,14 +1,15 @@
-ghost use Rattle.std.specs.Prelude.{◌≡◌, ℕ, ◌≤◌, ◌<◌, ◌+◌, ◌++◌, ◌==◌, length, map, slice_get, slice_index, IfOk};
+ghost use Rattle.std.specs.Prelude.{◌≡◌, ℕ, ◌≤◌, ◌<◌, ◌^◌, ◌+◌, ◌++◌, ◌==◌, length, map, slice_get, slice_index, IfOk};
 ghost use Rattle.mj_tiles.specs.Counts.{IsCounts};
 ghost use Rattle.mj_readings.specs.Sets.{set_of_meld};
 ghost use Rattle.mj_readings.specs.Readings.{AreReadings};
-ghost use Rattle.mj_readings.specs.ReadingLists.{standard_of, standard_readings, pair_kinds, pairs_readings, orphans_readings, reading_list};
-ghost use Rattle.mj_readings.specs.Standings.{Picks};
+ghost use Rattle.mj_readings.specs.Inner.ReadingLists.{standard_of, standard_readings, pair_kinds, pairs_readings, orphans_readings};
+ghost use Rattle.mj_readings.specs.AllReadings.{readings_of};
+ghost use Rattle.mj_readings.specs.Inner.WinningWays.{Picks};
 
 use crate::complete::{are_seven_pairs, double_of};
 use crate::reading::{Reading, Set, SetForm};
 use crate::sets::Sets;
-use crate::standing::{Spot, Standing, standing_at};
+use crate::winning_way::{Spot, WinningWay, winning_way_at};
 use mj_tiles::{Counts, Form, Kind, Kinds, Meld};
 use std::alloc::{AllocError, Global};
 
@@ -21,7 +22,7 @@ pub fn readings(
     win: Kind,
 ) -> Result<Vec<Reading>, AllocError>
     ensures all { IfOk result (λ v. AreReadings counts.now melds.now win v.items) }
-    ensures listed { IfOk result (λ v. v.items ≡ reading_list counts.now melds.now win) }
+    ensures listed { IfOk result (λ v. v.items ≡ readings_of counts.now melds.now win) }
 {
     let mut found = Vec::new(alloc);
     while let Some(reading) = reading_at(counts, melds, win, found.len()) {
@@ -30,10 +31,12 @@ pub fn readings(
     Ok(found)
 }
 
-/// The reading at this place of the list that `readings` gives, from 0; none past its end. It takes no memory.
+/// The reading at this place of the list that `readings` gives, from 0; none past its end. The list is shorter than 2^64. It takes
+/// no memory.
 pub fn reading_at(counts: &Counts, melds: &[Meld], win: Kind, index: usize) -> Option<Reading>
-    ensures at { result ≡ slice_get (reading_list counts.now melds.now win) index }
-    ensures law { AreReadings counts.now melds.now win (reading_list counts.now melds.now win) }
+    ensures at { result ≡ slice_get (readings_of counts.now melds.now win) index }
+    ensures law { AreReadings counts.now melds.now win (readings_of counts.now melds.now win) }
+    ensures few { length (readings_of counts.now melds.now win) < 2 ^ 64 }
 {
     match standard_at(counts, melds, win, index) {
         Ok(reading) => Some(reading),
@@ -58,18 +61,18 @@ fn standard_at(counts: &Counts, melds: &[Meld], win: Kind, index: usize) -> Resu
         left: 4 - melds.len() as u8,
         pair: None,
     };
-    match standing_at(numbers, &spot, &Sets::none(), win, index) {
-        Ok(standing) => Ok(as_reading(&standing, melds, win)),
+    match winning_way_at(numbers, &spot, &Sets::none(), win, index) {
+        Ok(winning_way) => Ok(as_reading(&winning_way, melds, win)),
         Err(rest) => Err(rest),
     }
 }
 
 /// The reading that these sets, the melds behind them, and the pair are.
-fn as_reading(standing: &Standing, melds: &[Meld], winning: Kind) -> Reading
-    requires { length standing.now.sets + length melds.now ≤ 4 }
-    ensures { result ≡ standard_of melds.now winning standing.now }
+fn as_reading(winning_way: &WinningWay, melds: &[Meld], winning: Kind) -> Reading
+    requires { length winning_way.now.sets + length melds.now ≤ 4 }
+    ensures { result ≡ standard_of melds.now winning winning_way.now }
 {
-    let mut sets = standing.sets;
+    let mut sets = winning_way.sets;
     for meld in melds {
         sets = sets.with(&set_of(meld));
     }
@@ -78,8 +81,8 @@ fn as_reading(standing: &Standing, melds: &[Meld], winning: Kind) -> Reading
         b: sets.get(1),
         c: sets.get(2),
         d: sets.get(3),
-        pair: standing.pair,
-        win: standing.win,
+        pair: winning_way.pair,
+        win: winning_way.win,
         winning,
     }
 }
@@ -110,7 +113,7 @@ fn special_at(counts: &Counts, index: usize) -> Option<Reading>
     }
 }
 
-#[tactic(auto, unfolding(crate::specs::ReadingLists::pairs_readings))]
+#[tactic(auto, unfolding(crate::specs::Inner::ReadingLists::pairs_readings))]
 fn pairs_at(counts: &Counts, index: usize) -> Result<Reading, usize>
     ensures { Picks (pairs_readings counts.now) index result }
 {
@@ -132,15 +135,13 @@ fn kinds_of_pairs(counts: &Counts) -> Kinds
     let mut kinds = Kinds::none();
     for (number, count) in counts.numbers().iter().enumerate() {
         if *count == 2 {
-            if let Some(kind) = Kind::of(number as u8) {
-                kinds = kinds.with(kind);
-            }
+            kinds = kinds.with(Kind::at(number as u8));
         }
     }
     kinds
 }
 
-#[tactic(auto, unfolding(crate::specs::ReadingLists::orphans_readings))]
+#[tactic(auto, unfolding(crate::specs::Inner::ReadingLists::orphans_readings))]
 fn orphans_at(counts: &Counts, index: usize) -> Option<Reading>
     ensures { result ≡ slice_get (orphans_readings counts.now) index }
 {

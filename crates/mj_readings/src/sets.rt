@@ -1,7 +1,7 @@
 ghost use Rattle.std.specs.Prelude.{◌≡◌, ℕ, ◌≤◌, ◌<◌, ◌+◌, ◌++◌, ◌∷◌, [], length, replicate};
 ghost use Rattle.std.specs.List.{slice_index_or};
-ghost use Rattle.mj_readings.specs.SetLists.{no_set};
-ghost use Rattle.mj_readings.specs.Ways.{run_at, triplet_at, sets_at};
+ghost use Rattle.mj_readings.specs.Inner.SetLists.{no_set};
+ghost use Rattle.mj_readings.specs.Inner.Ways.{run_at, triplet_at, sets_at};
 
 use crate::reading::{Set, SetForm};
 use mj_tiles::Kind;
@@ -18,7 +18,7 @@ impl Model for Sets {
     ghost use Rattle.std.specs.Prelude.{List, take, length};
     ghost use Rattle.std.proofs.Common.{arith, length-take-le};
     ghost use Rattle.mj_readings.specs.declared.reading.Set.{Set};
-    ghost use Rattle.mj_readings.specs.SetLists.{HasRoom, filled};
+    ghost use Rattle.mj_readings.specs.Inner.SetLists.{HasRoom, filled};
 
     ghost Value = { List Set };
 
@@ -96,12 +96,9 @@ fn at(sets: &[Set], last: &Set, place: usize) -> Set
 fn blank() -> Set
     ensures { result ≡ no_set }
 {
-    match Kind::of(0) {
-        Some(low) => Set {
-            form: SetForm::Run,
-            low,
-            shown: false,
-        },
-        None => unreachable!(),
+    Set {
+        form: SetForm::Run,
+        low: Kind::at(0),
+        shown: false,
     }
 }

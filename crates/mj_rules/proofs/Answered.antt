@@ -16,7 +16,13 @@ use Rattle.mj_deeds.specs.Four.{at_seat}
 use Rattle.mj_deeds.specs.Facts.{newest, gained, lost, seat_melds, is_pon, kans, live_tiles}
 use Rattle.mj_deeds.specs.Fits.{is_in_hand, is_discard_of, are_held, is_triplet_of}
 use Rattle.mj_rules.specs.Broken.{Turn, Discarded, turn_by, turn_in, View, view_of, questions, broken_by, is_stuck, is_no_tile, names_no_tile, misses_discard, misses_target, is_too_late, names_unheld, is_own_pon, is_bad_set, is_fifth_kan, is_dry_kan}
-use Rattle.mj_rules.specs.Outcome.{act_of, triplet_bid, run_bid, bid_by, call_of, or_else}
+use Rattle.mj_deeds.specs.declared.bid.Bid.{Bid}
+use Rattle.mj_deeds.specs.declared.bid.Bid.TheVariants as bids
+use Rattle.mj_deeds.specs.Bids.{call_of_bid}
+use Rattle.mj_deeds.specs.Hand.{hand}
+use Rattle.mj_window.specs.Decided.{triplet_bid, run_bid, or_bid, bid_by, best_bid}
+use Rattle.mj_wall.specs.declared.setting.Rules.{Rules}
+use Rattle.mj_rules.specs.Outcome.{act_of}
 use Rattle.mj_rules.specs.Played.{AllLawful}
 use Rattle.mj_rules.proofs.Questions.{all_no}
 use Rattle.mj_rules.proofs.Standing.{Acts, stage_after, stage_of}
@@ -28,8 +34,8 @@ IfAny P None = Unit {0}
 IfAny P (Some d) = P d
 
 -- What an answer owes.
-pub record Clean (red : Bool) (view : View) (answer : Answer) : Type 0 where
-  pub tiles : names_no_tile red answer ≡ false
+pub record Clean (rules : Rules) (view : View) (answer : Answer) : Type 0 where
+  pub tiles : names_no_tile rules.red answer ≡ false
   pub target : misses_target view.turn answer ≡ false
   pub early : is_too_late view answer ≡ false
   pub held : names_unheld view answer ≡ false
@@ -39,10 +45,10 @@ pub record Clean (red : Bool) (view : View) (answer : Answer) : Type 0 where
   pub dry : is_dry_kan view answer ≡ false
 
 -- An answer that breaks no rule owes nothing.
-pub clean : (red : Bool) (seat : ℕ) (view : View) (answer : Answer) → broken_by red seat view answer ≡ None → Clean red view answer
+pub clean : (rules : Rules) (seat : ℕ) (view : View) (answer : Answer) → broken_by rules seat view answer ≡ None → Clean rules view answer
 unfolding broken_by
-clean red seat view answer h =
-    let u = all_no (questions red seat view answer) h in
+clean rules seat view answer h =
+    let u = all_no (questions rules seat view answer) h in
     record {
       tiles = u.1.1.1.0;
       target = u.1.1.1.1.0;
@@ -112,53 +118,53 @@ seat_there : (who : ℕ) → who < 4 → (ltb who 4 && true) ≡ true
 seat_there who h = and_from (ltb who 4) true (lt-ltb who 4 h) refl
 
 -- What a seat does in its turn.
-pub act_next : (red : Bool) (wall : List ℕ) (ds : List Deed) (n : Deed) (who : ℕ) (answer : Answer) → newest ds ≡ Some n → stage_after n ≡ Acts who → is_in_hand (Some n) ≡ true → who < 4 →
-    Clean red (view_of ds who) answer → IfAny (IsNext red wall ds) (act_of who answer)
+pub act_next : (rules : Rules) (walls : List (List ℕ)) (ds : List Deed) (n : Deed) (who : ℕ) (answer : Answer) → newest ds ≡ Some n → stage_after n ≡ Acts who → is_in_hand (Some n) ≡ true → who < 4 →
+    Clean rules (view_of ds who) answer → IfAny (IsNext rules.red walls ds) (act_of who answer)
 unfolding view_of
-act_next red wall ds n who (answers.Discard actor (Known t) drawn) e acts begun small c = record {
+act_next rules walls ds n who (answers.Discard actor (Known t) drawn) e acts begun small c = record {
   place = ap is_in_hand e ∙ begun;
   seats = seat_there who small;
-  held = λ seat. answer_held ds who seat (t ∷ []) c.held;
+  held = λ seat. answer_held (hand ds) who seat (t ∷ []) c.held;
   triplet = refl;
-  tiles = real_tiles red (t ∷ []) c.tiles;
+  tiles = real_tiles rules.red (t ∷ []) c.tiles;
   live = refl;
   stage = ap stage_of e ∙ acts;
   brings = tt;
 }
-act_next red wall ds n who (answers.ClosedKan actor (Known x) (Known y) (Known z) (Known w)) e acts begun small c = record {
+act_next rules walls ds n who (answers.ClosedKan actor (Known x) (Known y) (Known z) (Known w)) e acts begun small c = record {
   place = ap is_in_hand e ∙ begun;
   seats = seat_there who small;
-  held = λ seat. answer_held ds who seat (x ∷ y ∷ z ∷ w ∷ []) c.held;
+  held = λ seat. answer_held (hand ds) who seat (x ∷ y ∷ z ∷ w ∷ []) c.held;
   triplet = refl;
-  tiles = real_tiles red (x ∷ y ∷ z ∷ w ∷ []) c.tiles;
-  live = kan_may (kans ds) (live_tiles ds) c.fifth c.dry;
+  tiles = real_tiles rules.red (x ∷ y ∷ z ∷ w ∷ []) c.tiles;
+  live = kan_may (kans (hand ds)) (live_tiles (hand ds)) c.fifth c.dry;
   stage = ap stage_of e ∙ acts;
   brings = tt;
 }
-act_next red wall ds n who (answers.AddedKan actor (Known t) (Known x) (Known y) (Known z)) e acts begun small c = record {
+act_next rules walls ds n who (answers.AddedKan actor (Known t) (Known x) (Known y) (Known z)) e acts begun small c = record {
   place = ap is_in_hand e ∙ begun;
   seats = seat_there who small;
-  held = λ seat. answer_held ds who seat (t ∷ []) c.held;
-  triplet = own_triplet t x y z (seat_melds ds who) c.good;
-  tiles = real_tiles red (t ∷ x ∷ y ∷ z ∷ []) c.tiles;
-  live = kan_may (kans ds) (live_tiles ds) c.fifth c.dry;
+  held = λ seat. answer_held (hand ds) who seat (t ∷ []) c.held;
+  triplet = own_triplet t x y z (seat_melds (hand ds) who) c.good;
+  tiles = real_tiles rules.red (t ∷ x ∷ y ∷ z ∷ []) c.tiles;
+  live = kan_may (kans (hand ds)) (live_tiles (hand ds)) c.fifth c.dry;
   stage = ap stage_of e ∙ acts;
   brings = tt;
 }
-act_next red wall ds n who (answers.Discard actor Hidden drawn) e acts begun small c = tt
-act_next red wall ds n who (answers.ClosedKan actor Hidden b c d) e acts begun small k = tt
-act_next red wall ds n who (answers.ClosedKan actor (Known x) Hidden c d) e acts begun small k = tt
-act_next red wall ds n who (answers.ClosedKan actor (Known x) (Known y) Hidden d) e acts begun small k = tt
-act_next red wall ds n who (answers.ClosedKan actor (Known x) (Known y) (Known z) Hidden) e acts begun small k = tt
-act_next red wall ds n who (answers.AddedKan actor Hidden b c d) e acts begun small k = tt
-act_next red wall ds n who (answers.AddedKan actor (Known x) Hidden c d) e acts begun small k = tt
-act_next red wall ds n who (answers.AddedKan actor (Known x) (Known y) Hidden d) e acts begun small k = tt
-act_next red wall ds n who (answers.AddedKan actor (Known x) (Known y) (Known z) Hidden) e acts begun small k = tt
-act_next red wall ds n who (answers.Pass actor) e acts begun small c = tt
-act_next red wall ds n who (answers.Chi actor target tile a b) e acts begun small c = tt
-act_next red wall ds n who (answers.Pon actor target tile a b) e acts begun small c = tt
-act_next red wall ds n who (answers.OpenKan actor target tile a b d) e acts begun small c = tt
-act_next red wall ds n who answers.Unread e acts begun small c = tt
+act_next rules walls ds n who (answers.Discard actor Hidden drawn) e acts begun small c = tt
+act_next rules walls ds n who (answers.ClosedKan actor Hidden b c d) e acts begun small k = tt
+act_next rules walls ds n who (answers.ClosedKan actor (Known x) Hidden c d) e acts begun small k = tt
+act_next rules walls ds n who (answers.ClosedKan actor (Known x) (Known y) Hidden d) e acts begun small k = tt
+act_next rules walls ds n who (answers.ClosedKan actor (Known x) (Known y) (Known z) Hidden) e acts begun small k = tt
+act_next rules walls ds n who (answers.AddedKan actor Hidden b c d) e acts begun small k = tt
+act_next rules walls ds n who (answers.AddedKan actor (Known x) Hidden c d) e acts begun small k = tt
+act_next rules walls ds n who (answers.AddedKan actor (Known x) (Known y) Hidden d) e acts begun small k = tt
+act_next rules walls ds n who (answers.AddedKan actor (Known x) (Known y) (Known z) Hidden) e acts begun small k = tt
+act_next rules walls ds n who (answers.Pass actor) e acts begun small c = tt
+act_next rules walls ds n who (answers.Chi actor target tile a b) e acts begun small c = tt
+act_next rules walls ds n who (answers.Pon actor target tile a b) e acts begun small c = tt
+act_next rules walls ds n who (answers.OpenKan actor target tile a b d) e acts begun small c = tt
+act_next rules walls ds n who answers.Unread e acts begun small c = tt
 
 -- the call of a discard
 
@@ -175,100 +181,103 @@ caller_seats seat target who t tile h g e =
     and_from (ltb seat 4) _ (lt-ltb seat 4 h) (seat_there target (subst (λ x. x < 4) same g))
 
 -- What is called: the pon or the kan of a seat.
-triplet_next : (red : Bool) (wall : List ℕ) (ds : List Deed) (who tile : ℕ) (drawn : Bool) (seat : ℕ) (answer : Answer) → newest ds ≡ Some (Discard who tile drawn) → who < 4 → seat < 4 →
-    Clean red (view_of ds seat) answer → IfAny (IsNext red wall ds) (triplet_bid seat answer)
+triplet_next : (rules : Rules) (walls : List (List ℕ)) (ds : List Deed) (who tile : ℕ) (drawn : Bool) (seat : ℕ) (answer : Answer) → newest ds ≡ Some (Discard who tile drawn) → who < 4 → seat < 4 →
+    Clean rules (view_of ds seat) answer → IfAny (IsNext rules.red walls ds) (call_of_bid (triplet_bid seat answer))
 unfolding view_of
-triplet_next red wall ds who tile drawn seat (answers.Pon actor target (Known t) (Known x) (Known y)) e small there c =
+triplet_next rules walls ds who tile drawn seat (answers.Pon actor target (Known t) (Known x) (Known y)) e small there c =
     let hit = hits who tile target t (ap (λ (turn : Turn). misses_discard turn target (Known t)) (sym (turn_is ds seat who tile drawn e)) ∙ c.target) in
     record {
       place = ap (λ o. is_discard_of o target t) e ∙ hit;
       seats = caller_seats seat target who t tile there small hit;
-      held = λ other. answer_held ds seat other (x ∷ y ∷ []) c.held;
+      held = λ other. answer_held (hand ds) seat other (x ∷ y ∷ []) c.held;
       triplet = refl;
-      tiles = real_tiles red (t ∷ x ∷ y ∷ []) c.tiles;
+      tiles = real_tiles rules.red (t ∷ x ∷ y ∷ []) c.tiles;
       live = refl;
       stage = ap stage_of e;
       brings = tt;
     }
-triplet_next red wall ds who tile drawn seat (answers.OpenKan actor target (Known t) (Known x) (Known y) (Known z)) e small there c =
+triplet_next rules walls ds who tile drawn seat (answers.OpenKan actor target (Known t) (Known x) (Known y) (Known z)) e small there c =
     let hit = hits who tile target t (ap (λ (turn : Turn). misses_discard turn target (Known t)) (sym (turn_is ds seat who tile drawn e)) ∙ c.target) in
     record {
       place = ap (λ o. is_discard_of o target t) e ∙ hit;
       seats = caller_seats seat target who t tile there small hit;
-      held = λ other. answer_held ds seat other (x ∷ y ∷ z ∷ []) c.held;
+      held = λ other. answer_held (hand ds) seat other (x ∷ y ∷ z ∷ []) c.held;
       triplet = refl;
-      tiles = real_tiles red (t ∷ x ∷ y ∷ z ∷ []) c.tiles;
-      live = kan_may (kans ds) (live_tiles ds) c.fifth c.early;
+      tiles = real_tiles rules.red (t ∷ x ∷ y ∷ z ∷ []) c.tiles;
+      live = kan_may (kans (hand ds)) (live_tiles (hand ds)) c.fifth c.early;
       stage = ap stage_of e;
       brings = tt;
     }
-triplet_next red wall ds who tile drawn seat (answers.Pon actor target Hidden b c) e small there k = tt
-triplet_next red wall ds who tile drawn seat (answers.Pon actor target (Known x) Hidden c) e small there k = tt
-triplet_next red wall ds who tile drawn seat (answers.Pon actor target (Known x) (Known y) Hidden) e small there k = tt
-triplet_next red wall ds who tile drawn seat (answers.OpenKan actor target Hidden b c d) e small there k = tt
-triplet_next red wall ds who tile drawn seat (answers.OpenKan actor target (Known x) Hidden c d) e small there k = tt
-triplet_next red wall ds who tile drawn seat (answers.OpenKan actor target (Known x) (Known y) Hidden d) e small there k = tt
-triplet_next red wall ds who tile drawn seat (answers.OpenKan actor target (Known x) (Known y) (Known z) Hidden) e small there k = tt
-triplet_next red wall ds who tile drawn seat (answers.Discard actor t marked) e small there c = tt
-triplet_next red wall ds who tile drawn seat (answers.ClosedKan actor a b c d) e small there k = tt
-triplet_next red wall ds who tile drawn seat (answers.AddedKan actor a b c d) e small there k = tt
-triplet_next red wall ds who tile drawn seat (answers.Pass actor) e small there c = tt
-triplet_next red wall ds who tile drawn seat (answers.Chi actor target t a b) e small there c = tt
-triplet_next red wall ds who tile drawn seat answers.Unread e small there c = tt
+triplet_next rules walls ds who tile drawn seat (answers.Pon actor target Hidden b c) e small there k = tt
+triplet_next rules walls ds who tile drawn seat (answers.Pon actor target (Known x) Hidden c) e small there k = tt
+triplet_next rules walls ds who tile drawn seat (answers.Pon actor target (Known x) (Known y) Hidden) e small there k = tt
+triplet_next rules walls ds who tile drawn seat (answers.OpenKan actor target Hidden b c d) e small there k = tt
+triplet_next rules walls ds who tile drawn seat (answers.OpenKan actor target (Known x) Hidden c d) e small there k = tt
+triplet_next rules walls ds who tile drawn seat (answers.OpenKan actor target (Known x) (Known y) Hidden d) e small there k = tt
+triplet_next rules walls ds who tile drawn seat (answers.OpenKan actor target (Known x) (Known y) (Known z) Hidden) e small there k = tt
+triplet_next rules walls ds who tile drawn seat (answers.Discard actor t marked) e small there c = tt
+triplet_next rules walls ds who tile drawn seat (answers.ClosedKan actor a b c d) e small there k = tt
+triplet_next rules walls ds who tile drawn seat (answers.AddedKan actor a b c d) e small there k = tt
+triplet_next rules walls ds who tile drawn seat (answers.Pass actor) e small there c = tt
+triplet_next rules walls ds who tile drawn seat (answers.Chi actor target t a b) e small there c = tt
+triplet_next rules walls ds who tile drawn seat answers.Unread e small there c = tt
 
 -- And the chi.
-run_next : (red : Bool) (wall : List ℕ) (ds : List Deed) (who tile : ℕ) (drawn : Bool) (seat : ℕ) (answer : Answer) → newest ds ≡ Some (Discard who tile drawn) → who < 4 → seat < 4 →
-    Clean red (view_of ds seat) answer → IfAny (IsNext red wall ds) (run_bid seat answer)
+run_next : (rules : Rules) (walls : List (List ℕ)) (ds : List Deed) (who tile : ℕ) (drawn : Bool) (seat : ℕ) (answer : Answer) → newest ds ≡ Some (Discard who tile drawn) → who < 4 → seat < 4 →
+    Clean rules (view_of ds seat) answer → IfAny (IsNext rules.red walls ds) (call_of_bid (run_bid seat answer))
 unfolding view_of
-run_next red wall ds who tile drawn seat (answers.Chi actor target (Known t) (Known x) (Known y)) e small there c =
+run_next rules walls ds who tile drawn seat (answers.Chi actor target (Known t) (Known x) (Known y)) e small there c =
     let hit = hits who tile target t (ap (λ (turn : Turn). misses_discard turn target (Known t)) (sym (turn_is ds seat who tile drawn e)) ∙ c.target) in
     record {
       place = ap (λ o. is_discard_of o target t) e ∙ hit;
       seats = caller_seats seat target who t tile there small hit;
-      held = λ other. answer_held ds seat other (x ∷ y ∷ []) c.held;
+      held = λ other. answer_held (hand ds) seat other (x ∷ y ∷ []) c.held;
       triplet = refl;
-      tiles = real_tiles red (t ∷ x ∷ y ∷ []) c.tiles;
+      tiles = real_tiles rules.red (t ∷ x ∷ y ∷ []) c.tiles;
       live = refl;
       stage = ap stage_of e;
       brings = tt;
     }
-run_next red wall ds who tile drawn seat (answers.Chi actor target Hidden b c) e small there k = tt
-run_next red wall ds who tile drawn seat (answers.Chi actor target (Known x) Hidden c) e small there k = tt
-run_next red wall ds who tile drawn seat (answers.Chi actor target (Known x) (Known y) Hidden) e small there k = tt
-run_next red wall ds who tile drawn seat (answers.Discard actor t marked) e small there c = tt
-run_next red wall ds who tile drawn seat (answers.ClosedKan actor a b c d) e small there k = tt
-run_next red wall ds who tile drawn seat (answers.AddedKan actor a b c d) e small there k = tt
-run_next red wall ds who tile drawn seat (answers.Pass actor) e small there c = tt
-run_next red wall ds who tile drawn seat (answers.Pon actor target t a b) e small there c = tt
-run_next red wall ds who tile drawn seat (answers.OpenKan actor target t a b c) e small there k = tt
-run_next red wall ds who tile drawn seat answers.Unread e small there c = tt
+run_next rules walls ds who tile drawn seat (answers.Chi actor target Hidden b c) e small there k = tt
+run_next rules walls ds who tile drawn seat (answers.Chi actor target (Known x) Hidden c) e small there k = tt
+run_next rules walls ds who tile drawn seat (answers.Chi actor target (Known x) (Known y) Hidden) e small there k = tt
+run_next rules walls ds who tile drawn seat (answers.Discard actor t marked) e small there c = tt
+run_next rules walls ds who tile drawn seat (answers.ClosedKan actor a b c d) e small there k = tt
+run_next rules walls ds who tile drawn seat (answers.AddedKan actor a b c d) e small there k = tt
+run_next rules walls ds who tile drawn seat (answers.Pass actor) e small there c = tt
+run_next rules walls ds who tile drawn seat (answers.Pon actor target t a b) e small there c = tt
+run_next rules walls ds who tile drawn seat (answers.OpenKan actor target t a b c) e small there k = tt
+run_next rules walls ds who tile drawn seat answers.Unread e small there c = tt
 
 pub either : {A : Type 0} (P : A → Type 0) (b : Bool) (o p : Option A) → IfAny P o → IfAny P p → IfAny P (cond b o p)
 either P true o p f g = f
 either P false o p f g = g
 
-pub or_other : (P : Deed → Type 0) (o p : Option Deed) → IfAny P o → IfAny P p → IfAny P (or_else o p)
-or_other P None p f g = g
-or_other P (Some d) p f g = f
+-- The one bid, or else the other.
+pub or_other : (P : Deed → Type 0) (a b : Bid) → IfAny P (call_of_bid a) → IfAny P (call_of_bid b) → IfAny P (call_of_bid (or_bid a b))
+or_other P bids.NoBid b f g = g
+or_other P (bids.Chi seat target tile x y) b f g = f
+or_other P (bids.Pon seat target tile x y) b f g = f
+or_other P (bids.OpenKan seat target tile x y z) b f g = f
 
 -- Each of four lawful answers owes nothing.
-pub clean_at : (red : Bool) (ds : List Deed) (given : Four Answer) (seat : ℕ) → seat < 4 → AllLawful red ds given → Clean red (view_of ds seat) (at_seat given seat)
-clean_at red ds given zero h c = clean red 0 (view_of ds 0) given.first c.first
-clean_at red ds given (suc zero) h c = clean red 1 (view_of ds 1) given.second c.second
-clean_at red ds given (suc (suc zero)) h c = clean red 2 (view_of ds 2) given.third c.third
-clean_at red ds given (suc (suc (suc zero))) h c = clean red 3 (view_of ds 3) given.fourth c.fourth
-clean_at red ds given (suc (suc (suc (suc n)))) h c = absurd (omega arith)
+pub clean_at : (rules : Rules) (ds : List Deed) (given : Four Answer) (seat : ℕ) → seat < 4 → AllLawful rules ds given → Clean rules (view_of ds seat) (at_seat given seat)
+clean_at rules ds given zero h c = clean rules 0 (view_of ds 0) given.first c.first
+clean_at rules ds given (suc zero) h c = clean rules 1 (view_of ds 1) given.second c.second
+clean_at rules ds given (suc (suc zero)) h c = clean rules 2 (view_of ds 2) given.third c.third
+clean_at rules ds given (suc (suc (suc zero))) h c = clean rules 3 (view_of ds 3) given.fourth c.fourth
+clean_at rules ds given (suc (suc (suc (suc n)))) h c = absurd (omega arith)
 
 -- Of the bids of four seats the first.
-pub bid_next : (P : Deed → Type 0) (bid : ℕ → Answer → Option Deed) (given : Four Answer) → ((seat : ℕ) → seat < 4 → IfAny P (bid seat (at_seat given seat))) → IfAny P (bid_by bid given)
+pub bid_next : (P : Deed → Type 0) (bid : ℕ → Answer → Bid) (given : Four Answer) → ((seat : ℕ) → seat < 4 → IfAny P (call_of_bid (bid seat (at_seat given seat)))) → IfAny P (call_of_bid (bid_by bid given))
 bid_next P bid given h =
     or_other P _ _ (h 0 (omega arith)) (or_other P _ _ (h 1 (omega arith)) (or_other P _ _ (h 2 (omega arith)) (h 3 (omega arith))))
 
 -- The call of a discard, where there is one.
-pub call_next : (red : Bool) (wall : List ℕ) (ds : List Deed) (who tile : ℕ) (drawn : Bool) (given : Four Answer) → newest ds ≡ Some (Discard who tile drawn) → who < 4 → AllLawful red ds given →
-    IfAny (IsNext red wall ds) (call_of given)
-unfolding call_of
-call_next red wall ds who tile drawn given e small c =
-    or_other (IsNext red wall ds) _ _
-    (bid_next (IsNext red wall ds) triplet_bid given (λ seat h. triplet_next red wall ds who tile drawn seat (at_seat given seat) e small h (clean_at red ds given seat h c)))
-    (bid_next (IsNext red wall ds) run_bid given (λ seat h. run_next red wall ds who tile drawn seat (at_seat given seat) e small h (clean_at red ds given seat h c)))
+pub call_next : (rules : Rules) (walls : List (List ℕ)) (ds : List Deed) (who tile : ℕ) (drawn : Bool) (given : Four Answer) → newest ds ≡ Some (Discard who tile drawn) → who < 4 → AllLawful rules ds given →
+    IfAny (IsNext rules.red walls ds) (call_of_bid (best_bid given))
+unfolding best_bid
+call_next rules walls ds who tile drawn given e small c =
+    or_other (IsNext rules.red walls ds) _ _
+    (bid_next (IsNext rules.red walls ds) triplet_bid given (λ seat h. triplet_next rules walls ds who tile drawn seat (at_seat given seat) e small h (clean_at rules ds given seat h c)))
+    (bid_next (IsNext rules.red walls ds) run_bid given (λ seat h. run_next rules walls ds who tile drawn seat (at_seat given seat) e small h (clean_at rules ds given seat h c)))

@@ -12,16 +12,33 @@ use Rattle.mj_deeds.specs.declared.answer.Answer.TheVariants as answers
 use Rattle.mj_deeds.specs.declared.deed.Deed.{Deed}
 use Rattle.mj_deeds.specs.declared.deed.Deed.TheVariants.{StartGame, StartHand, Draw, Discard, Chi, Pon, OpenKan, ClosedKan, AddedKan, Dora}
 use Rattle.mj_deeds.specs.Four.{at_seat}
-use Rattle.mj_deeds.specs.Facts.{newest, gains_by, losses_by, live_tiles, live_draws}
+use Rattle.mj_deeds.specs.Facts.{newest, gained, lost, gains_by, losses_by, live_tiles, live_draws}
 use Rattle.mj_deeds.proofs.Newest.{newest_more}
 use Rattle.mj_deeds.proofs.Totals.{number_more}
 use Rattle.mj_wall.specs.Places.{live_tile}
-use Rattle.mj_rules.specs.Broken.{View, view_of, held, Called, turn_by, turn_in, has_nothing_else}
-use Rattle.mj_rules.specs.Default.{free_faces, has_free_in, has_free}
-use Rattle.mj_rules.specs.Outcome.{act_of, triplet_bid, run_bid, call_of, first_hand, next_draw, next_dora, next_replacement, follows, outcome, wall_of}
-use Rattle.mj_rules.specs.Played.{AllLawful, is_start, IsPlayedBehind, AllPlayed}
-use Rattle.mj_rules.specs.Laws.{SomeTileIsFree}
+use Rattle.mj_rules.specs.Broken.{View, view_of, held, Turn, Called, turn_by, turn_in, has_nothing_else}
+use Rattle.mj_deeds.specs.declared.bid.Bid.{Bid}
+use Rattle.mj_deeds.specs.Bids.{call_of_bid}
+use Rattle.mj_deeds.specs.Hand.{is_hand_start, hand}
+use Rattle.mj_deeds.proofs.Hands.{hand_with}
+use Rattle.mj_window.specs.Decided.{decided, triplet_bid, run_bid, best_bid}
+use Rattle.mj_wall.specs.declared.setting.Rules.{Rules}
+use Rattle.mj_rules.specs.Outcome.{act_of, hand_start, next_draw, next_dora, next_replacement, wall_now, follows, outcome}
+use Rattle.mj_rules.specs.Played.{AllLawful, is_game_start, IsPlayedBehind, AllPlayed, IsPlayed}
 use Rattle.mj_rules.proofs.Answered.{IfAny, Clean, clean_at, either, or_other, bid_next}
+use Rattle.mj_rules.proofs.Turns.{called_or_on}
+
+-- The faces that a seat holds and that are of no banned kind, in tile order.
+unfoldable pub free_faces : View → List ℕ → List ℕ
+free_faces view banned = filter (λ face. nat_lt 0 (held view face) && not (is_banned banned (kind_of face))) tile_order
+
+-- Where a seat has to discard right after its own call, some tile that it holds is of no banned kind.
+abbrev pub has_free_in : ℕ → View → Turn → Bool
+has_free_in seat view (Called who banned) = not (who == seat) || nat_lt 0 (length (free_faces view banned))
+has_free_in seat view other = true
+
+abbrev pub has_free : List Deed → ℕ → Bool
+has_free deeds seat = has_free_in seat (view_of deeds seat) (view_of deeds seat).turn
 
 -- A deed is no call, or one that leaves its seat a tile which it doesn't use and may discard.
 abbrev Leaves : List Deed → Deed → Type 0
@@ -31,35 +48,35 @@ Leaves ds other = Unit {0}
 
 -- what lawful answers give
 
-triplet_leaves : (red : Bool) (ds : List Deed) (seat : ℕ) (answer : Answer) → Clean red (view_of ds seat) answer → IfAny (Leaves ds) (triplet_bid seat answer)
-triplet_leaves red ds seat (answers.Pon actor target (Known t) (Known x) (Known y)) c = c.free
-triplet_leaves red ds seat (answers.OpenKan actor target (Known t) (Known x) (Known y) (Known z)) c = tt
-triplet_leaves red ds seat (answers.Pon actor target Hidden x y) c = tt
-triplet_leaves red ds seat (answers.Pon actor target (Known t) Hidden y) c = tt
-triplet_leaves red ds seat (answers.Pon actor target (Known t) (Known x) Hidden) c = tt
-triplet_leaves red ds seat (answers.OpenKan actor target Hidden x y z) c = tt
-triplet_leaves red ds seat (answers.OpenKan actor target (Known t) Hidden y z) c = tt
-triplet_leaves red ds seat (answers.OpenKan actor target (Known t) (Known x) Hidden z) c = tt
-triplet_leaves red ds seat (answers.OpenKan actor target (Known t) (Known x) (Known y) Hidden) c = tt
-triplet_leaves red ds seat (answers.Discard actor t drawn) c = tt
-triplet_leaves red ds seat (answers.ClosedKan actor x y z w) c = tt
-triplet_leaves red ds seat (answers.AddedKan actor t x y z) c = tt
-triplet_leaves red ds seat (answers.Pass actor) c = tt
-triplet_leaves red ds seat (answers.Chi actor target t x y) c = tt
-triplet_leaves red ds seat answers.Unread c = tt
+triplet_leaves : (rules : Rules) (ds : List Deed) (seat : ℕ) (answer : Answer) → Clean rules (view_of ds seat) answer → IfAny (Leaves ds) (call_of_bid (triplet_bid seat answer))
+triplet_leaves rules ds seat (answers.Pon actor target (Known t) (Known x) (Known y)) c = c.free
+triplet_leaves rules ds seat (answers.OpenKan actor target (Known t) (Known x) (Known y) (Known z)) c = tt
+triplet_leaves rules ds seat (answers.Pon actor target Hidden x y) c = tt
+triplet_leaves rules ds seat (answers.Pon actor target (Known t) Hidden y) c = tt
+triplet_leaves rules ds seat (answers.Pon actor target (Known t) (Known x) Hidden) c = tt
+triplet_leaves rules ds seat (answers.OpenKan actor target Hidden x y z) c = tt
+triplet_leaves rules ds seat (answers.OpenKan actor target (Known t) Hidden y z) c = tt
+triplet_leaves rules ds seat (answers.OpenKan actor target (Known t) (Known x) Hidden z) c = tt
+triplet_leaves rules ds seat (answers.OpenKan actor target (Known t) (Known x) (Known y) Hidden) c = tt
+triplet_leaves rules ds seat (answers.Discard actor t drawn) c = tt
+triplet_leaves rules ds seat (answers.ClosedKan actor x y z w) c = tt
+triplet_leaves rules ds seat (answers.AddedKan actor t x y z) c = tt
+triplet_leaves rules ds seat (answers.Pass actor) c = tt
+triplet_leaves rules ds seat (answers.Chi actor target t x y) c = tt
+triplet_leaves rules ds seat answers.Unread c = tt
 
-run_leaves : (red : Bool) (ds : List Deed) (seat : ℕ) (answer : Answer) → Clean red (view_of ds seat) answer → IfAny (Leaves ds) (run_bid seat answer)
-run_leaves red ds seat (answers.Chi actor target (Known t) (Known x) (Known y)) c = c.free
-run_leaves red ds seat (answers.Chi actor target Hidden x y) c = tt
-run_leaves red ds seat (answers.Chi actor target (Known t) Hidden y) c = tt
-run_leaves red ds seat (answers.Chi actor target (Known t) (Known x) Hidden) c = tt
-run_leaves red ds seat (answers.Discard actor t drawn) c = tt
-run_leaves red ds seat (answers.ClosedKan actor x y z w) c = tt
-run_leaves red ds seat (answers.AddedKan actor t x y z) c = tt
-run_leaves red ds seat (answers.Pass actor) c = tt
-run_leaves red ds seat (answers.Pon actor target t x y) c = tt
-run_leaves red ds seat (answers.OpenKan actor target t x y z) c = tt
-run_leaves red ds seat answers.Unread c = tt
+run_leaves : (rules : Rules) (ds : List Deed) (seat : ℕ) (answer : Answer) → Clean rules (view_of ds seat) answer → IfAny (Leaves ds) (call_of_bid (run_bid seat answer))
+run_leaves rules ds seat (answers.Chi actor target (Known t) (Known x) (Known y)) c = c.free
+run_leaves rules ds seat (answers.Chi actor target Hidden x y) c = tt
+run_leaves rules ds seat (answers.Chi actor target (Known t) Hidden y) c = tt
+run_leaves rules ds seat (answers.Chi actor target (Known t) (Known x) Hidden) c = tt
+run_leaves rules ds seat (answers.Discard actor t drawn) c = tt
+run_leaves rules ds seat (answers.ClosedKan actor x y z w) c = tt
+run_leaves rules ds seat (answers.AddedKan actor t x y z) c = tt
+run_leaves rules ds seat (answers.Pass actor) c = tt
+run_leaves rules ds seat (answers.Pon actor target t x y) c = tt
+run_leaves rules ds seat (answers.OpenKan actor target t x y z) c = tt
+run_leaves rules ds seat answers.Unread c = tt
 
 act_leaves : (ds : List Deed) (who : ℕ) (answer : Answer) → IfAny (Leaves ds) (act_of who answer)
 act_leaves ds who (answers.Discard actor (Known t) drawn) = tt
@@ -80,39 +97,40 @@ act_leaves ds who (answers.Pon actor target t x y) = tt
 act_leaves ds who (answers.OpenKan actor target t x y z) = tt
 act_leaves ds who answers.Unread = tt
 
-draw_leaves : (wall : List ℕ) (ds : List Deed) (seat : ℕ) → IfAny (Leaves ds) (next_draw wall ds seat)
+draw_leaves : (ds : List Deed) (wall : List ℕ) (hs : List Deed) (seat : ℕ) → IfAny (Leaves ds) (next_draw wall hs seat)
 unfolding next_draw
-draw_leaves wall ds seat = either (Leaves ds) (live_tiles ds == 0) None (Some (Draw seat (live_tile wall (live_draws ds)) false)) tt tt
+draw_leaves ds wall hs seat = either (Leaves ds) (live_tiles hs == 0) None (Some (Draw seat (live_tile wall (live_draws hs)) false)) tt tt
 
-call_leaves : (red : Bool) (ds : List Deed) (given : Four Answer) → AllLawful red ds given → IfAny (Leaves ds) (call_of given)
-unfolding call_of
-call_leaves red ds given c =
+call_leaves : (rules : Rules) (ds : List Deed) (given : Four Answer) → AllLawful rules ds given → IfAny (Leaves ds) (call_of_bid (best_bid given))
+unfolding best_bid
+call_leaves rules ds given c =
     or_other (Leaves ds) _ _
-    (bid_next (Leaves ds) triplet_bid given (λ seat h. triplet_leaves red ds seat (at_seat given seat) (clean_at red ds given seat h c)))
-    (bid_next (Leaves ds) run_bid given (λ seat h. run_leaves red ds seat (at_seat given seat) (clean_at red ds given seat h c)))
+    (bid_next (Leaves ds) triplet_bid given (λ seat h. triplet_leaves rules ds seat (at_seat given seat) (clean_at rules ds given seat h c)))
+    (bid_next (Leaves ds) run_bid given (λ seat h. run_leaves rules ds seat (at_seat given seat) (clean_at rules ds given seat h c)))
 
-follower_leaves : (red : Bool) (wall : List ℕ) (ds : List Deed) (given : Four Answer) (n : Deed) → AllLawful red ds given → IfAny (Leaves ds) (follows wall ds given n)
-unfolding first_hand next_dora next_replacement
-follower_leaves red wall ds given (StartGame names) c = tt
-follower_leaves red wall ds given (StartHand round number honba deposits dealer indicator hands) c = draw_leaves wall ds dealer
-follower_leaves red wall ds given (Draw who tile replacement) c = act_leaves ds who (at_seat given who)
-follower_leaves red wall ds given (Discard who tile drawn) c = or_other (Leaves ds) _ _ (call_leaves red ds given c) (draw_leaves wall ds _)
-follower_leaves red wall ds given (Chi who target tile a b) c = act_leaves ds who (at_seat given who)
-follower_leaves red wall ds given (Pon who target tile a b) c = act_leaves ds who (at_seat given who)
-follower_leaves red wall ds given (OpenKan who target tile a b d) c = tt
-follower_leaves red wall ds given (ClosedKan who a b d x) c = tt
-follower_leaves red wall ds given (AddedKan who tile a b d) c = tt
-follower_leaves red wall ds given (Dora tile) c = tt
+follower_leaves : (rules : Rules) (walls : List (List ℕ)) (ds : List Deed) (given : Four Answer) (n : Deed) → AllLawful rules ds given → IfAny (Leaves ds) (follows rules walls ds n (decided n given))
+unfolding hand_start next_dora next_replacement
+follower_leaves rules walls ds given (StartGame names) c = tt
+follower_leaves rules walls ds given (StartHand round number honba deposits dealer indicator hands) c = draw_leaves ds (wall_now walls ds) (hand ds) dealer
+follower_leaves rules walls ds given (Draw who tile replacement) c = act_leaves ds who (at_seat given who)
+follower_leaves rules walls ds given (Discard who tile drawn) c =
+    called_or_on (Leaves ds) rules walls ds (Discard who tile drawn) (best_bid given) (call_leaves rules ds given c) (draw_leaves ds (wall_now walls ds) (hand ds) _)
+follower_leaves rules walls ds given (Chi who target tile a b) c = act_leaves ds who (at_seat given who)
+follower_leaves rules walls ds given (Pon who target tile a b) c = act_leaves ds who (at_seat given who)
+follower_leaves rules walls ds given (OpenKan who target tile a b d) c = tt
+follower_leaves rules walls ds given (ClosedKan who a b d x) c = tt
+follower_leaves rules walls ds given (AddedKan who tile a b d) c = tt
+follower_leaves rules walls ds given (Dora tile) c = tt
 
-outcome_leaves : (red : Bool) (walls : List (List ℕ)) (ds : List Deed) (given : Four Answer) (d : Deed) → AllLawful red ds given → outcome walls ds given ≡ Some d → Leaves ds d
+outcome_leaves : (rules : Rules) (walls : List (List ℕ)) (ds : List Deed) (given : Four Answer) (d : Deed) → AllLawful rules ds given → outcome rules walls ds given ≡ Some d → Leaves ds d
 unfolding outcome
-outcome_leaves red walls ds given d c e = subst (IfAny (Leaves ds)) e (by_newest (newest ds))
+outcome_leaves rules walls ds given d c e = subst (IfAny (Leaves ds)) e (by_newest (newest ds))
   where
-    by_newest : (o : Option Deed) → IfAny (Leaves ds) (option_and_then (follows (wall_of walls 0) ds given) o)
+    by_newest : (o : Option Deed) → IfAny (Leaves ds) (option_and_then (λ last. follows rules walls ds last (decided last given)) o)
     by_newest None = tt
-    by_newest (Some n) = follower_leaves red (wall_of walls 0) ds given n c
+    by_newest (Some n) = follower_leaves rules walls ds given n c
 
-start_leaves : (d : Deed) → IsTrue (is_start d) → Leaves [] d
+start_leaves : (d : Deed) → IsTrue (is_game_start d) → Leaves [] d
 start_leaves (StartGame names) h = tt
 start_leaves (StartHand round number honba deposits dealer indicator hands) h = cc
 start_leaves (Draw who tile replacement) h = cc
@@ -124,9 +142,9 @@ start_leaves (ClosedKan who a b c d) h = cc
 start_leaves (AddedKan who tile a b c) h = cc
 start_leaves (Dora tile) h = cc
 
-behind_leaves : (red : Bool) (walls : List (List ℕ)) (ds : List Deed) (d : Deed) → IsPlayedBehind red walls ds d → Leaves ds d
-behind_leaves red walls [] d played = start_leaves d played
-behind_leaves red walls (first ∷ others) d played = outcome_leaves red walls (first ∷ others) played.given d played.lawful played.gives
+behind_leaves : (rules : Rules) (walls : List (List ℕ)) (ds : List Deed) (d : Deed) → IsPlayedBehind rules walls ds d → Leaves ds d
+behind_leaves rules walls [] d played = start_leaves d played
+behind_leaves rules walls (first ∷ others) d played = outcome_leaves rules walls (first ∷ others) played.given d played.lawful played.gives
 
 -- the tile that is left
 
@@ -158,17 +176,25 @@ some_free old new used banned less h =
         and_from (nat_lt 0 (held new face)) _ (lt-ltb 0 (held new face) (more _ _ _ (less face) (leb-false (held old face) (number_in used face) parts.0))) (ap not parts.1)
 
 -- What a seat holds once it put some tiles down.
-held_less : (ds : List Deed) (d : Deed) (seat face : ℕ) (used : List ℕ) → gains_by seat d ≡ [] → losses_by seat d ≡ used → held (view_of (ds ++ d ∷ []) seat) face ≡ held (view_of ds seat) face - number_in used face
+held_less : (ds : List Deed) (d : Deed) (seat face : ℕ) (used : List ℕ) → is_hand_start d ≡ false → gains_by seat d ≡ [] → losses_by seat d ≡ used →
+    held (view_of (ds ++ d ∷ []) seat) face ≡ held (view_of ds seat) face - number_in used face
 unfolding view_of
-held_less ds d seat face used g l =
-    less _ _ _ _ _ _ _ (number_more (gains_by seat) ds d face) (number_more (losses_by seat) ds d face) (ap (λ (xs : List ℕ). number_in xs face) g) (ap (λ (xs : List ℕ). number_in xs face) l)
+held_less ds d seat face used start g l =
+    hand_with (λ xs. number_in (gained xs seat) face - number_in (lost xs seat) face ≡ number_in (gained (hand ds) seat) face - number_in (lost (hand ds) seat) face - number_in used face) ds d
+    (λ _ empty. nothing _ _ _ (ap (λ (xs : List Deed). number_in (gained xs seat) face) empty))
+    (subst (λ (xs : List Deed). number_in (gained (xs ++ d ∷ []) seat) face - number_in (lost (xs ++ d ∷ []) seat) face
+    ≡ number_in (gained (hand ds) seat) face - number_in (lost (hand ds) seat) face - number_in used face) (sym (ap (λ b. cond b [] (hand ds)) start))
+    (less _ _ _ _ _ _ _ (number_more (gains_by seat) (hand ds) d face) (number_more (losses_by seat) (hand ds) d face) (ap (λ (xs : List ℕ). number_in xs face) g) (ap (λ (xs : List ℕ). number_in xs face) l)))
   where
+    nothing : (g l u : ℕ) → g ≡ 0 → 0 ≡ g - l - u
+    nothing g l u e = omega arith
+
     less : (g' g x l' l y u : ℕ) → g' ≡ g + x → l' ≡ l + y → x ≡ 0 → y ≡ u → g' - l' ≡ g - l - u
     less g' g x l' l y u e f h k = omega arith
 
-call_free : (ds : List Deed) (d : Deed) (who seat : ℕ) (used banned : List ℕ) → gains_by who d ≡ [] → losses_by who d ≡ cond (eqb who who) used [] → has_nothing_else (view_of ds who) used banned ≡ false →
+call_free : (ds : List Deed) (d : Deed) (who seat : ℕ) (used banned : List ℕ) → is_hand_start d ≡ false → gains_by who d ≡ [] → losses_by who d ≡ cond (eqb who who) used [] → has_nothing_else (view_of ds who) used banned ≡ false →
     has_free_in seat (view_of (ds ++ d ∷ []) seat) (Called who banned) ≡ true
-call_free ds d who seat used banned g l h = elim (cases_eq who seat) [
+call_free ds d who seat used banned start g l h = elim (cases_eq who seat) [
   | inl e ↦ subst (λ s. has_free_in s (view_of (ds ++ d ∷ []) s) (Called who banned) ≡ true) e own
   | inr ne ↦ ap (λ b. not b || nat_lt 0 (length (free_faces (view_of (ds ++ d ∷ []) seat) banned))) (ne_eqb who seat ne)
 ]
@@ -177,11 +203,11 @@ call_free ds d who seat used banned g l h = elim (cases_eq who seat) [
     own =
         ap (λ b. not b || nat_lt 0 (length (free_faces (view_of (ds ++ d ∷ []) who) banned))) (eq-eqb who who refl)
         ∙ some_free (view_of ds who) (view_of (ds ++ d ∷ []) who) used banned
-        (λ face. held_less ds d who face used g (l ∙ ap (λ b. cond b used []) (eq-eqb who who refl))) h
+        (λ face. held_less ds d who face used start g (l ∙ ap (λ b. cond b used []) (eq-eqb who who refl))) h
 
 free_in : (ds : List Deed) (d : Deed) (seat : ℕ) → Leaves ds d → has_free_in seat (view_of (ds ++ d ∷ []) seat) (turn_by d) ≡ true
-free_in ds (Chi who target tile a b) seat h = call_free ds (Chi who target tile a b) who seat (a ∷ b ∷ []) (banned_kinds (Chi who target tile a b)) refl refl h
-free_in ds (Pon who target tile a b) seat h = call_free ds (Pon who target tile a b) who seat (a ∷ b ∷ []) (banned_kinds (Pon who target tile a b)) refl refl h
+free_in ds (Chi who target tile a b) seat h = call_free ds (Chi who target tile a b) who seat (a ∷ b ∷ []) (banned_kinds (Chi who target tile a b)) refl refl refl h
+free_in ds (Pon who target tile a b) seat h = call_free ds (Pon who target tile a b) who seat (a ∷ b ∷ []) (banned_kinds (Pon who target tile a b)) refl refl refl h
 free_in ds (StartGame names) seat h = refl
 free_in ds (StartHand round number honba deposits dealer indicator hands) seat h = refl
 free_in ds (Draw who tile replacement) seat h = refl
@@ -202,11 +228,11 @@ free_of_none : (seat : ℕ) → has_free [] seat ≡ true
 unfolding view_of
 free_of_none seat = refl
 
-all_free : (red : Bool) (walls : List (List ℕ)) (before ds : List Deed) (seat : ℕ) → has_free before seat ≡ true → AllPlayed red walls before ds → has_free (before ++ ds) seat ≡ true
-all_free red walls before [] seat h played = subst (λ (xs : List Deed). has_free xs seat ≡ true) (sym (append-nil before)) h
-all_free red walls before (d ∷ ds) seat h played =
+all_free : (rules : Rules) (walls : List (List ℕ)) (before ds : List Deed) (seat : ℕ) → has_free before seat ≡ true → AllPlayed rules walls before ds → has_free (before ++ ds) seat ≡ true
+all_free rules walls before [] seat h played = subst (λ (xs : List Deed). has_free xs seat ≡ true) (sym (append-nil before)) h
+all_free rules walls before (d ∷ ds) seat h played =
     subst (λ (xs : List Deed). has_free xs seat ≡ true) (append_assoc before (d ∷ []) ds)
-    (all_free red walls (before ++ d ∷ []) ds seat (free_more before d seat (behind_leaves red walls before d played.0)) played.1)
+    (all_free rules walls (before ++ d ∷ []) ds seat (free_more before d seat (behind_leaves rules walls before d played.0)) played.1)
 
-pub some_tile_is_free : SomeTileIsFree
-some_tile_is_free red walls ds seat played = all_free red walls [] ds seat (free_of_none seat) played
+pub some_tile_is_free : (rules : Rules) (walls : List (List ℕ)) (ds : List Deed) (seat : ℕ) → IsPlayed rules walls ds → has_free ds seat ≡ true
+some_tile_is_free rules walls ds seat played = all_free rules walls [] ds seat (free_of_none seat) played

@@ -16,8 +16,14 @@ use Rattle.mj_deeds.specs.Fits.{is_in_place, are_held, has_seats, has_triplet, h
 use Rattle.mj_deeds.proofs.Totals.{sum_more, held_room}
 use Rattle.mj_wall.specs.Places.{replacement_tile}
 use Rattle.mj_wall.proofs.WallKinds.{up}
-use Rattle.mj_rules.specs.Outcome.{hand_dealt}
+use Rattle.mj_deeds.specs.Hand.{is_hand_start, hand, before_in, starts, hand_number}
+use Rattle.mj_rules.specs.Outcome.{wall_of, hand_dealt}
 use Rattle.mj_rules.proofs.Standing.{stage_before, stage_after, stage_of, is_begun, owes_tile, is_replacement, at_place, brought_from, Standing, Brings, DealsWell, length-more, shown_step, taken_step, fresh_step, live_step, hands_step, brings_more}
+
+-- the seat of a deed
+
+first_passes : (who : ℕ) (rest : Bool) → (ltb who 4 && rest) ≡ true → who < 4
+first_passes who rest h = ltb-true who 4 (and_parts (ltb who 4) rest h).0
 
 -- the tiles of a kind that are brought in
 
@@ -40,10 +46,10 @@ start_sum w i a b c d =
     parts : (i a b c d x y z v : ℕ) → x ≡ i + y → y ≡ z + d → z ≡ v + c → v ≡ a + b → x ≡ i + (a + b + c + d)
     parts i a b c d x y z v e f g h = omega arith
 
-dealt_sum : (wall : List ℕ) (hands : Four (List ℕ)) (kind : ℕ) → DealsWell wall → hands ≡ for_each_seat (hand_dealt wall 0) →
+dealt_sum : (wall : List ℕ) (dealer : ℕ) (hands : Four (List ℕ)) (kind : ℕ) → dealer < 4 → DealsWell wall → hands ≡ for_each_seat (hand_dealt wall dealer) →
     number_of hands.first kind + number_of hands.second kind + number_of hands.third kind + number_of hands.fourth kind ≡ up (at_place wall kind) 52
-dealt_sum wall hands kind deals e =
-    ap (λ (four : Four (List ℕ)). number_of four.first kind + number_of four.second kind + number_of four.third kind + number_of four.fourth kind) e ∙ deals.kinds kind
+dealt_sum wall dealer hands kind small deals e =
+    ap (λ (four : Four (List ℕ)). number_of four.first kind + number_of four.second kind + number_of four.third kind + number_of four.fourth kind) e ∙ deals.kinds dealer kind small
 
 quiet : (f : ℕ → ℕ) (begun : Bool) (n p q r p' q' r' : ℕ) → p' ≡ p + 0 → q' ≡ q + 0 → r' ≡ r + 0 → n ≡ brought_from f begun p q r → n + 0 ≡ brought_from f begun p' q' r'
 quiet f begun n p q r p' q' r' e g h k =
@@ -52,33 +58,33 @@ quiet f begun n p q r p' q' r' e g h k =
 less_one : (r k : ℕ) → r + 1 ≡ k → k - 1 ≡ r
 less_one r k e = omega arith
 
-kinds_step : (wall : List ℕ) (ds : List Deed) (d : Deed) (kind n p' q' r' : ℕ) → DealsWell wall → Brings wall ds d →
+kinds_step : (wall : List ℕ) (ds : List Deed) (d : Deed) (kind n p' q' r' : ℕ) → has_seats d ≡ true → DealsWell wall → Brings wall ds d →
     p' ≡ live_draws ds + cond (is_live_draw d) 1 0 → q' ≡ length (indicators ds) + length (indicators_by d) → r' ≡ count_by is_replacement ds + cond (is_replacement d) 1 0 →
     cond (is_begun (stage_before d)) 0 (length (indicators ds)) ≡ 0 → count_by is_replacement ds + owes_tile (stage_before d) ≡ kans ds →
     n ≡ brought_from (at_place wall kind) (is_begun (stage_before d)) (live_draws ds) (length (indicators ds)) (count_by is_replacement ds) →
     n + number_of (brought_by d) kind ≡ brought_from (at_place wall kind) (is_begun (stage_after d)) p' q' r'
-kinds_step wall ds (StartGame names) kind n p' q' r' deals brings e g h fresh taken k = quiet (at_place wall kind) false n _ _ _ p' q' r' e g h k
-kinds_step wall ds (StartHand round number honba deposits dealer indicator hands) kind n p' q' r' deals brings e g h fresh taken k =
+kinds_step wall ds (StartGame names) kind n p' q' r' seats deals brings e g h fresh taken k = quiet (at_place wall kind) false n _ _ _ p' q' r' e g h k
+kinds_step wall ds (StartHand round number honba deposits dealer indicator hands) kind n p' q' r' seats deals brings e g h fresh taken k =
     start_kinds (at_place wall kind) n _ (cond (eqb (kind_of indicator) kind) 1 0) _ _ _ p' q' r' _ e g h fresh
     (ap (λ t. cond (eqb (kind_of t) kind) 1 0) brings.0)
     (start_sum (λ x. cond (eqb (kind_of x) kind) 1 0) indicator hands.first hands.second hands.third hands.fourth)
-    (dealt_sum wall hands kind deals brings.1) k
-kinds_step wall ds (Draw who tile true) kind n p' q' r' deals brings e g h fresh taken k =
+    (dealt_sum wall dealer hands kind (first_passes dealer true seats) deals brings.1) k
+kinds_step wall ds (Draw who tile true) kind n p' q' r' seats deals brings e g h fresh taken k =
     brings_more (at_place wall kind) true false false true n _ _ (cond (eqb (kind_of tile) kind) 1 0) _ _ _ p' q' r' _ e g h refl refl
     (ap (λ t. cond (eqb (kind_of t) kind) 1 0) (brings ∙ ap (replacement_tile wall) (less_one _ _ taken))) refl k
-kinds_step wall ds (Draw who tile false) kind n p' q' r' deals brings e g h fresh taken k =
+kinds_step wall ds (Draw who tile false) kind n p' q' r' seats deals brings e g h fresh taken k =
     brings_more (at_place wall kind) true true false false n (cond (eqb (kind_of tile) kind) 1 0) _ _ _ _ _ p' q' r' _ e g h
     (ap (λ t. cond (eqb (kind_of t) kind) 1 0) brings) refl refl (only _) k
   where
     only : (x : ℕ) → 0 + x ≡ x + 0 + 0
     only x = omega arith
-kinds_step wall ds (Discard who tile drawn) kind n p' q' r' deals brings e g h fresh taken k = quiet (at_place wall kind) true n _ _ _ p' q' r' e g h k
-kinds_step wall ds (Chi who target tile a b) kind n p' q' r' deals brings e g h fresh taken k = quiet (at_place wall kind) true n _ _ _ p' q' r' e g h k
-kinds_step wall ds (Pon who target tile a b) kind n p' q' r' deals brings e g h fresh taken k = quiet (at_place wall kind) true n _ _ _ p' q' r' e g h k
-kinds_step wall ds (OpenKan who target tile a b c) kind n p' q' r' deals brings e g h fresh taken k = quiet (at_place wall kind) true n _ _ _ p' q' r' e g h k
-kinds_step wall ds (ClosedKan who a b c d) kind n p' q' r' deals brings e g h fresh taken k = quiet (at_place wall kind) true n _ _ _ p' q' r' e g h k
-kinds_step wall ds (AddedKan who tile a b c) kind n p' q' r' deals brings e g h fresh taken k = quiet (at_place wall kind) true n _ _ _ p' q' r' e g h k
-kinds_step wall ds (Dora tile) kind n p' q' r' deals brings e g h fresh taken k =
+kinds_step wall ds (Discard who tile drawn) kind n p' q' r' seats deals brings e g h fresh taken k = quiet (at_place wall kind) true n _ _ _ p' q' r' e g h k
+kinds_step wall ds (Chi who target tile a b) kind n p' q' r' seats deals brings e g h fresh taken k = quiet (at_place wall kind) true n _ _ _ p' q' r' e g h k
+kinds_step wall ds (Pon who target tile a b) kind n p' q' r' seats deals brings e g h fresh taken k = quiet (at_place wall kind) true n _ _ _ p' q' r' e g h k
+kinds_step wall ds (OpenKan who target tile a b c) kind n p' q' r' seats deals brings e g h fresh taken k = quiet (at_place wall kind) true n _ _ _ p' q' r' e g h k
+kinds_step wall ds (ClosedKan who a b c d) kind n p' q' r' seats deals brings e g h fresh taken k = quiet (at_place wall kind) true n _ _ _ p' q' r' e g h k
+kinds_step wall ds (AddedKan who tile a b c) kind n p' q' r' seats deals brings e g h fresh taken k = quiet (at_place wall kind) true n _ _ _ p' q' r' e g h k
+kinds_step wall ds (Dora tile) kind n p' q' r' seats deals brings e g h fresh taken k =
     brings_more (at_place wall kind) true false true false n _ (cond (eqb (kind_of tile) kind) 1 0) _ _ _ _ p' q' r' _ e g h
     refl (ap (λ t. cond (eqb (kind_of t) kind) 1 0) brings) refl (only _) k
   where
@@ -100,9 +106,6 @@ held_step ds d seat face h within =
 
 -- the seats of the kans
 
-first_passes : (who : ℕ) (rest : Bool) → (ltb who 4 && rest) ≡ true → who < 4
-first_passes who rest h = ltb-true who 4 (and_parts (ltb who 4) rest h).0
-
 seats_step : (ds : List Deed) (d : Deed) → has_seats d ≡ true → All (λ s. s < 4) (kan_seats_by d)
 seats_step ds (OpenKan who target tile a b c) h = All-cons (λ s. s < 4) who [] (first_passes who _ h) (All-nil (λ s. s < 4))
 seats_step ds (ClosedKan who a b c d) h = All-cons (λ s. s < 4) who [] (first_passes who _ h) (All-nil (λ s. s < 4))
@@ -114,27 +117,41 @@ seats_more ds d old new =
     subst (All (λ s. s < 4)) (sym (flat_map-append kan_seats_by ds (d ∷ [])))
     (All-append (λ s. s < 4) (kan_seats ds) (kan_seats_by d ++ []) old (All-append (λ s. s < 4) (kan_seats_by d) [] new (All-nil (λ s. s < 4))))
 
+-- The wall of the hand that a deed belongs to.
+abbrev pub wall_for : List (List ℕ) → List Deed → Deed → List ℕ
+wall_for walls ds d = wall_of walls (cond (is_hand_start d) (length (starts ds)) (hand_number ds))
+
 -- What a deed owes to those before it, other than that there is room.
-pub record IsNext (red : Bool) (wall : List ℕ) (ds : List Deed) (d : Deed) : Type 0 where
+pub record IsNext (red : Bool) (walls : List (List ℕ)) (ds : List Deed) (d : Deed) : Type 0 where
   pub place : is_in_place (newest ds) d ≡ true
   pub seats : has_seats d ≡ true
-  pub held : (seat : ℕ) → are_held (gained ds seat) (lost ds seat) (losses_by seat d) ≡ true
-  pub triplet : has_triplet ds d ≡ true
+  pub held : (seat : ℕ) → are_held (gained (before_in (hand ds) d) seat) (lost (before_in (hand ds) d) seat) (losses_by seat d) ≡ true
+  pub triplet : has_triplet (before_in (hand ds) d) d ≡ true
   pub tiles : has_tiles red d ≡ true
-  pub live : has_live ds d ≡ true
+  pub live : has_live (before_in (hand ds) d) d ≡ true
   pub stage : stage_of (newest ds) ≡ stage_before d
+  pub brings : Brings (wall_for walls ds d) (before_in (hand ds) d) d
+
+-- What a deed owes to those before it in its own hand.
+pub record IsNextIn (wall : List ℕ) (ds : List Deed) (d : Deed) : Type 0 where
+  pub seats : has_seats d ≡ true
+  pub held : (seat : ℕ) → are_held (gained ds seat) (lost ds seat) (losses_by seat d) ≡ true
+  pub live : has_live ds d ≡ true
   pub brings : Brings wall ds d
 
+pub inside : (red : Bool) (walls : List (List ℕ)) (ds : List Deed) (d : Deed) → IsNext red walls ds d → IsNextIn (wall_for walls ds d) (before_in (hand ds) d) d
+inside red walls ds d next = record { seats = next.seats; held = next.held; live = next.live; brings = next.brings }
+
 -- One deed more keeps what is true.
-pub keeps : (red : Bool) (wall : List ℕ) (ds : List Deed) (d : Deed) → DealsWell wall → Standing wall ds (stage_before d) → IsNext red wall ds d → Standing wall (ds ++ d ∷ []) (stage_after d)
-keeps red wall ds d deals s next =
+pub keeps : (wall : List ℕ) (ds : List Deed) (d : Deed) → DealsWell wall → Standing wall ds (stage_before d) → IsNextIn wall ds d → Standing wall (ds ++ d ∷ []) (stage_after d)
+keeps wall ds d deals s next =
     let draws : live_draws (ds ++ d ∷ []) ≡ live_draws ds + cond (is_live_draw d) 1 0 = sum_by_push (λ x. cond (is_live_draw x) 1 0) ds d in
     let made : kans (ds ++ d ∷ []) ≡ kans ds + cond (is_kan d) 1 0 = sum_by_push (λ x. cond (is_kan x) 1 0) ds d in
     let taken : count_by is_replacement (ds ++ d ∷ []) ≡ count_by is_replacement ds + cond (is_replacement d) 1 0 = sum_by_push (λ x. cond (is_replacement x) 1 0) ds d in
     let shown : length (indicators (ds ++ d ∷ [])) ≡ length (indicators ds) + length (indicators_by d) = length-more indicators_by ds d in
     let live = live_step d ds next.live s.live s.four in
     record {
-      kinds = λ kind. sum_more (λ x. cond (eqb (kind_of x) kind) 1 0) brought_by ds d ∙ kinds_step wall ds d kind _ _ _ _ deals next.brings draws shown taken s.fresh s.taken (s.kinds kind);
+      kinds = λ kind. sum_more (λ x. cond (eqb (kind_of x) kind) 1 0) brought_by ds d ∙ kinds_step wall ds d kind _ _ _ _ next.seats deals next.brings draws shown taken s.fresh s.taken (s.kinds kind);
       hands = λ seat. hands_of _ _ _ _ _ _ _ _ _ _ _ (length-more (gains_by seat) ds d) (length-more (makes_by seat) ds d) (length-more (losses_by seat) ds d) (hands_step wall ds d seat _ _ _ deals next.brings (s.hands seat));
       shown = shown_of _ _ _ _ _ _ shown made (shown_step d _ _ s.shown);
       taken = taken_of _ _ _ _ _ taken made (taken_step d _ _ s.taken);

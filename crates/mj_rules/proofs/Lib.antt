@@ -8,3 +8,7 @@ pub mod Turns
 pub mod Playing
 pub mod Freeing
 pub mod Rows
+pub mod Lawful
+pub mod Given
+pub mod Defaults
+pub mod Going

@@ -1,5 +1,5 @@
 -- Played deeds fit, each behind those before it.
-use Rattle.std.proofs.Common.{◌≡◌, ℕ, suc, ◌%◌, ◌<◌, ◌||◌, Bool, true, false, List, [], ◌∷◌, ◌++◌, length, refl, ap, sym, ◌∙◌, subst, arith, append-nil, append_assoc}
+use Rattle.std.proofs.Common.{◌≡◌, ℕ, zero, suc, ◌+◌, ◌-◌, ◌%◌, ◌<◌, ◌≤◌, ◌||◌, Bool, true, false, cond, List, [], ◌∷◌, ◌++◌, length, refl, ap, sym, ◌∙◌, subst, arith, append-nil, append_assoc}
 use Rattle.std.specs.Prelude.{Option, Some, IsTrue}
 use Rattle.std.specs.List.{list_all, slice_index_or}
 use Rattle.std.proofs.lemmas.Bool.{and_parts}
@@ -10,145 +10,222 @@ use Rattle.mj_deeds.specs.declared.deed.Deed.{Deed}
 use Rattle.mj_deeds.specs.declared.deed.Deed.TheVariants.{StartGame, StartHand, Draw, Discard, Chi, Pon, OpenKan, ClosedKan, AddedKan, Dora}
 use Rattle.mj_deeds.specs.Facts.{newest}
 use Rattle.mj_deeds.specs.Fits.{fits, all_fit, has_seats}
-use Rattle.mj_deeds.proofs.Fitted.{all_fit-append}
+use Rattle.mj_deeds.proofs.Fitted.{all_fit-append, few_starts}
+use Rattle.mj_deeds.proofs.Hands.{hand_with, starts_more}
 use Rattle.mj_deeds.proofs.Newest.{newest_more}
 use Rattle.mj_wall.specs.Places.{is_wall}
 use Rattle.mj_wall.proofs.WallKinds.{up}
-use Rattle.mj_rules.specs.Outcome.{wall_of, outcome}
-use Rattle.mj_rules.specs.Played.{AllLawful, is_start, IsPlayedBehind, AllPlayed, IsPlayed}
-use Rattle.mj_rules.specs.Laws.{FirstIsWall, PlayedWithOneMore, PlayedWithoutTheLast, PlayedDeedsFit, NextOfPlayedFits}
-use Rattle.mj_rules.proofs.Standing.{stage_of, Standing}
-use Rattle.mj_rules.proofs.Kept.{IsNext, keeps}
+use Rattle.mj_deeds.specs.Hand.{is_hand_start, hand, before_in, starts}
+use Rattle.mj_wall.specs.declared.setting.Rules.{Rules}
+use Rattle.mj_rules.specs.Outcome.{wall_of, wall_now, outcome}
+use Rattle.mj_rules.specs.Played.{AllLawful, is_game_start, IsPlayedBehind, AllPlayed, IsPlayed}
+use Rattle.mj_rules.specs.Laws.{EachIsWall, PlayedWithOneMore, PlayedWithoutTheLast, PlayedDeedsFit, NextOfPlayedFits}
+use Rattle.mj_rules.proofs.Standing.{Stage, NoGame, NoHand, Waits, Acts, MadeKan, ShowedDora, stage_before, stage_after, stage_of, is_begun, Standing}
+use Rattle.mj_rules.proofs.Kept.{wall_for, IsNext, inside, keeps}
 use Rattle.mj_rules.proofs.Room.{deals_well, next_fits}
 use Rattle.mj_rules.proofs.Answered.{IfAny}
 use Rattle.mj_rules.proofs.Turns.{outcome_next}
 
-first_of : (n : ℕ) → 0 % suc n ≡ 0
-first_of n = omega arith
+-- The wall at a place of walls that are all whole.
+wall_at : (red : Bool) (walls : List (List ℕ)) (n : ℕ) → n < length walls → list_all (is_wall red) walls ≡ true → is_wall red (slice_index_or walls n []) ≡ true
+wall_at red [] n h whole = absurd (omega arith)
+wall_at red (wall ∷ walls) zero h whole = (and_parts (is_wall red wall) (list_all (is_wall red) walls) whole).0
+wall_at red (wall ∷ walls) (suc n) h whole = wall_at red walls n (omega arith) (and_parts (is_wall red wall) (list_all (is_wall red) walls) whole).1
 
--- The first of walls.
-pub first_is_wall : FirstIsWall
-first_is_wall red [] some whole = absurd (omega arith)
-first_is_wall red (wall ∷ walls) some whole =
-    ap (λ n. is_wall red (slice_index_or (wall ∷ walls) n [])) (first_of (length walls)) ∙ (and_parts (is_wall red wall) (list_all (is_wall red) walls) whole).0
+-- The wall of each hand is whole.
+pub each_is_wall : EachIsWall
+each_is_wall red walls some whole hand = wall_at red walls (hand % length walls) (within hand (length walls) some) whole
+  where
+    within : (a n : ℕ) → 1 ≤ n → a % n < n
+    within a zero h = absurd (omega arith)
+    within a (suc n) h = omega arith
 
 -- What is true of deeds that come each in its turn.
-pub record Sound (red : Bool) (wall : List ℕ) (ds : List Deed) : Type 0 where
-  pub standing : Standing wall ds (stage_of (newest ds))
+pub record Sound (red : Bool) (walls : List (List ℕ)) (ds : List Deed) : Type 0 where
+  pub standing : Standing (wall_now walls ds) (hand ds) (stage_of (newest ds))
   pub fit : all_fit red [] ds ≡ true
   pub seated : IfAny (λ d. has_seats d ≡ true) (newest ds)
 
 -- one deed more
 
-deed_fits : (red : Bool) (wall : List ℕ) (ds : List Deed) (d : Deed) → is_wall red wall ≡ true → Sound red wall ds → IsNext red wall ds d → fits red ds d ≡ true
-deed_fits red wall ds d h s next = next_fits red wall ds d h (subst (Standing wall ds) next.stage s.standing) next
+-- Before a hand was dealt there is nothing.
+no_game_stands : (wall : List ℕ) → Standing wall [] NoGame
+unfolding up
+no_game_stands wall = record {
+  kinds = λ kind. refl;
+  hands = λ seat. refl;
+  shown = refl;
+  taken = refl;
+  fresh = refl;
+  live = omega arith;
+  four = omega arith;
+  held = λ seat face. omega arith;
+  seats = All-nil (λ s. s < 4);
+}
 
-sound_more : (red : Bool) (wall : List ℕ) (ds : List Deed) (d : Deed) → is_wall red wall ≡ true → Sound red wall ds → IsNext red wall ds d → Sound red wall (ds ++ d ∷ [])
-sound_more red wall ds d h s next = record {
-  standing = subst (λ (o : Option Deed). Standing wall (ds ++ d ∷ []) (stage_of o)) (sym (newest_more ds d))
-      (keeps red wall ds d (deals_well red wall h) (subst (Standing wall ds) next.stage s.standing) next);
-  fit = all_fit-append red [] ds d s.fit (deed_fits red wall ds d h s next);
+no_hand_stands : (wall : List ℕ) → Standing wall [] NoHand
+unfolding up
+no_hand_stands wall = record {
+  kinds = λ kind. refl;
+  hands = λ seat. refl;
+  shown = refl;
+  taken = refl;
+  fresh = refl;
+  live = omega arith;
+  four = omega arith;
+  held = λ seat face. omega arith;
+  seats = All-nil (λ s. s < 4);
+}
+
+-- Where nothing was dealt no hand is under way.
+not_dealt : (wall : List ℕ) (stage : Stage) → Standing wall [] stage → is_begun stage ≡ false
+not_dealt wall NoGame s = refl
+not_dealt wall NoHand s = refl
+not_dealt wall Waits s = absurd (omega (arith, s.shown))
+not_dealt wall (Acts who) s = absurd (omega (arith, s.shown))
+not_dealt wall MadeKan s = absurd (omega (arith, s.taken))
+not_dealt wall ShowedDora s = absurd (omega (arith, s.taken))
+
+-- The wall of a hand is the one that its deeds belong to.
+wall_is : (walls : List (List ℕ)) (ds : List Deed) (d : Deed) → wall_for walls ds d ≡ wall_now walls (ds ++ d ∷ [])
+wall_is walls ds d = ap (wall_of walls) (number (is_hand_start d) (length (starts ds)) (length (starts (ds ++ d ∷ []))) (starts_more ds d))
+  where
+    number : (b : Bool) (n m : ℕ) → m ≡ n + cond b 1 0 → cond b n (n - 1) ≡ m - 1
+    number true n m e = omega arith
+    number false n m e = omega arith
+
+-- What stands before a deed in its own hand.
+before_stands : (red : Bool) (walls : List (List ℕ)) (ds : List Deed) (d : Deed) → Sound red walls ds → stage_of (newest ds) ≡ stage_before d → Standing (wall_for walls ds d) (before_in (hand ds) d) (stage_before d)
+before_stands red walls ds (StartHand round number honba deposits dealer indicator hands) s e = no_hand_stands (wall_of walls (length (starts ds)))
+before_stands red walls ds (StartGame names) s e = subst (Standing (wall_now walls ds) (hand ds)) e s.standing
+before_stands red walls ds (Draw who tile replacement) s e = subst (Standing (wall_now walls ds) (hand ds)) e s.standing
+before_stands red walls ds (Discard who tile drawn) s e = subst (Standing (wall_now walls ds) (hand ds)) e s.standing
+before_stands red walls ds (Chi who target tile a b) s e = subst (Standing (wall_now walls ds) (hand ds)) e s.standing
+before_stands red walls ds (Pon who target tile a b) s e = subst (Standing (wall_now walls ds) (hand ds)) e s.standing
+before_stands red walls ds (OpenKan who target tile a b c) s e = subst (Standing (wall_now walls ds) (hand ds)) e s.standing
+before_stands red walls ds (ClosedKan who a b c x) s e = subst (Standing (wall_now walls ds) (hand ds)) e s.standing
+before_stands red walls ds (AddedKan who tile a b c) s e = subst (Standing (wall_now walls ds) (hand ds)) e s.standing
+before_stands red walls ds (Dora tile) s e = subst (Standing (wall_now walls ds) (hand ds)) e s.standing
+
+-- A deed behind nothing of a hand that doesn't start one starts the game.
+no_hand_yet : (wall : List ℕ) (d : Deed) → is_hand_start d ≡ false → is_begun (stage_before d) ≡ false → Standing wall [] (stage_after d)
+no_hand_yet wall (StartGame names) h k = no_hand_stands wall
+no_hand_yet wall (StartHand round number honba deposits dealer indicator hands) h k = cc
+no_hand_yet wall (Draw who tile true) h k = cc
+no_hand_yet wall (Draw who tile false) h k = cc
+no_hand_yet wall (Discard who tile drawn) h k = cc
+no_hand_yet wall (Chi who target tile a b) h k = cc
+no_hand_yet wall (Pon who target tile a b) h k = cc
+no_hand_yet wall (OpenKan who target tile a b c) h k = cc
+no_hand_yet wall (ClosedKan who a b c x) h k = cc
+no_hand_yet wall (AddedKan who tile a b c) h k = cc
+no_hand_yet wall (Dora tile) h k = cc
+
+deed_fits : (red : Bool) (walls : List (List ℕ)) (ds : List Deed) (d : Deed) → ((number : ℕ) → is_wall red (wall_of walls number) ≡ true) → Sound red walls ds → IsNext red walls ds d → fits red ds d ≡ true
+deed_fits red walls ds d h s next = next_fits red walls ds d (h _) (before_stands red walls ds d s next.stage) next
+
+after_stands : (red : Bool) (walls : List (List ℕ)) (ds : List Deed) (d : Deed) → ((number : ℕ) → is_wall red (wall_of walls number) ≡ true) → Sound red walls ds → IsNext red walls ds d →
+    Standing (wall_for walls ds d) (hand (ds ++ d ∷ [])) (stage_after d)
+after_stands red walls ds d h s next =
+    hand_with (λ xs. Standing (wall_for walls ds d) xs (stage_after d)) ds d
+    (λ not_start empty. no_hand_yet (wall_for walls ds d) d not_start (not_dealt (wall_now walls ds) (stage_before d)
+    (subst (λ (xs : List Deed). Standing (wall_now walls ds) xs (stage_before d)) empty (subst (Standing (wall_now walls ds) (hand ds)) next.stage s.standing))))
+    (keeps (wall_for walls ds d) (before_in (hand ds) d) d (deals_well red (wall_for walls ds d) (h _)) (before_stands red walls ds d s next.stage) (inside red walls ds d next))
+
+sound_more : (red : Bool) (walls : List (List ℕ)) (ds : List Deed) (d : Deed) → ((number : ℕ) → is_wall red (wall_of walls number) ≡ true) → Sound red walls ds → IsNext red walls ds d → Sound red walls (ds ++ d ∷ [])
+sound_more red walls ds d h s next = record {
+  standing = subst (λ (o : Option Deed). Standing (wall_now walls (ds ++ d ∷ [])) (hand (ds ++ d ∷ [])) (stage_of o)) (sym (newest_more ds d))
+      (subst (λ (wall : List ℕ). Standing wall (hand (ds ++ d ∷ [])) (stage_after d)) (wall_is walls ds d) (after_stands red walls ds d h s next));
+  fit = all_fit-append red [] ds d s.fit (deed_fits red walls ds d h s next);
   seated = subst (IfAny (λ d. has_seats d ≡ true)) (sym (newest_more ds d)) next.seats;
 }
 
 -- a deed that is played
 
-start_next : (red : Bool) (wall : List ℕ) (d : Deed) → IsTrue (is_start d) → IsNext red wall [] d
-start_next red wall (StartGame names) h = record { place = refl; seats = refl; held = λ seat. refl; triplet = refl; tiles = either_way red; live = refl; stage = refl; brings = tt }
+start_next : (red : Bool) (walls : List (List ℕ)) (d : Deed) → IsTrue (is_game_start d) → IsNext red walls [] d
+unfolding hand
+start_next red walls (StartGame names) h = record { place = refl; seats = refl; held = λ seat. refl; triplet = refl; tiles = either_way red; live = refl; stage = refl; brings = tt }
   where
     either_way : (b : Bool) → (b || true) ≡ true
     either_way true = refl
     either_way false = refl
-start_next red wall (StartHand round number honba deposits dealer indicator hands) h = cc
-start_next red wall (Draw who tile replacement) h = cc
-start_next red wall (Discard who tile drawn) h = cc
-start_next red wall (Chi who target tile a b) h = cc
-start_next red wall (Pon who target tile a b) h = cc
-start_next red wall (OpenKan who target tile a b c) h = cc
-start_next red wall (ClosedKan who a b c d) h = cc
-start_next red wall (AddedKan who tile a b c) h = cc
-start_next red wall (Dora tile) h = cc
+start_next red walls (StartHand round number honba deposits dealer indicator hands) h = cc
+start_next red walls (Draw who tile replacement) h = cc
+start_next red walls (Discard who tile drawn) h = cc
+start_next red walls (Chi who target tile a b) h = cc
+start_next red walls (Pon who target tile a b) h = cc
+start_next red walls (OpenKan who target tile a b c) h = cc
+start_next red walls (ClosedKan who a b c d) h = cc
+start_next red walls (AddedKan who tile a b c) h = cc
+start_next red walls (Dora tile) h = cc
 
 if_some : {A : Type 0} (P : A → Type 0) (o : Option A) (d : A) → IfAny P o → o ≡ Some d → P d
 if_some P o d h e = subst (IfAny P) e h
 
-given_next : (red : Bool) (walls : List (List ℕ)) (ds : List Deed) (given : Four Answer) (d : Deed) → is_wall red (wall_of walls 0) ≡ true → Sound red (wall_of walls 0) ds →
-    AllLawful red ds given → outcome walls ds given ≡ Some d → IsNext red (wall_of walls 0) ds d
-given_next red walls ds given d h s lawful e =
-    if_some (IsNext red (wall_of walls 0) ds) (outcome walls ds given) d (outcome_next red walls ds given h s.standing.seats s.seated lawful) e
+given_next : (rules : Rules) (walls : List (List ℕ)) (ds : List Deed) (given : Four Answer) (d : Deed) → ((number : ℕ) → is_wall rules.red (wall_of walls number) ≡ true) → Sound rules.red walls ds →
+    AllLawful rules ds given → outcome rules walls ds given ≡ Some d → IsNext rules.red walls ds d
+given_next rules walls ds given d h s lawful e =
+    if_some (IsNext rules.red walls ds) (outcome rules walls ds given) d
+    (outcome_next rules walls ds given h (few_starts rules.red ds s.fit) s.standing.seats s.seated lawful) e
 
-behind_next : (red : Bool) (walls : List (List ℕ)) (ds : List Deed) (d : Deed) → is_wall red (wall_of walls 0) ≡ true → Sound red (wall_of walls 0) ds → IsPlayedBehind red walls ds d →
-    IsNext red (wall_of walls 0) ds d
-behind_next red walls [] d h s played = start_next red (wall_of walls 0) d played
-behind_next red walls (first ∷ others) d h s played = given_next red walls (first ∷ others) played.given d h s played.lawful played.gives
+behind_next : (rules : Rules) (walls : List (List ℕ)) (ds : List Deed) (d : Deed) → ((number : ℕ) → is_wall rules.red (wall_of walls number) ≡ true) → Sound rules.red walls ds → IsPlayedBehind rules walls ds d →
+    IsNext rules.red walls ds d
+behind_next rules walls [] d h s played = start_next rules.red walls d played
+behind_next rules walls (first ∷ others) d h s played = given_next rules walls (first ∷ others) played.given d h s played.lawful played.gives
 
 -- all of them
 
-nothing_sound : (red : Bool) (wall : List ℕ) → Sound red wall []
-unfolding up
-nothing_sound red wall = record {
-  standing = record {
-    kinds = λ kind. refl;
-    hands = λ seat. refl;
-    shown = refl;
-    taken = refl;
-    fresh = refl;
-    live = omega arith;
-    four = omega arith;
-    held = λ seat face. omega arith;
-    seats = All-nil (λ s. s < 4);
-  };
-  fit = refl;
-  seated = tt;
-}
+nothing_sound : (red : Bool) (walls : List (List ℕ)) → Sound red walls []
+unfolding hand
+nothing_sound red walls = record { standing = no_game_stands (wall_of walls 0); fit = refl; seated = tt }
 
-all_sound : (red : Bool) (walls : List (List ℕ)) (before ds : List Deed) → is_wall red (wall_of walls 0) ≡ true → Sound red (wall_of walls 0) before → AllPlayed red walls before ds →
-    Sound red (wall_of walls 0) (before ++ ds)
-all_sound red walls before [] h s played = subst (Sound red (wall_of walls 0)) (sym (append-nil before)) s
-all_sound red walls before (d ∷ ds) h s played =
-    subst (Sound red (wall_of walls 0)) (append_assoc before (d ∷ []) ds)
-    (all_sound red walls (before ++ d ∷ []) ds h (sound_more red (wall_of walls 0) before d h s (behind_next red walls before d h s played.0)) played.1)
+all_sound : (rules : Rules) (walls : List (List ℕ)) (before ds : List Deed) → ((number : ℕ) → is_wall rules.red (wall_of walls number) ≡ true) → Sound rules.red walls before → AllPlayed rules walls before ds →
+    Sound rules.red walls (before ++ ds)
+all_sound rules walls before [] h s played = subst (Sound rules.red walls) (sym (append-nil before)) s
+all_sound rules walls before (d ∷ ds) h s played =
+    subst (Sound rules.red walls) (append_assoc before (d ∷ []) ds)
+    (all_sound rules walls (before ++ d ∷ []) ds h (sound_more rules.red walls before d h s (behind_next rules walls before d h s played.0)) played.1)
 
-pub played_sound : (red : Bool) (walls : List (List ℕ)) (ds : List Deed) → is_wall red (wall_of walls 0) ≡ true → IsPlayed red walls ds → Sound red (wall_of walls 0) ds
-played_sound red walls ds h played = all_sound red walls [] ds h (nothing_sound red (wall_of walls 0)) played
+pub played_sound : (rules : Rules) (walls : List (List ℕ)) (ds : List Deed) → ((number : ℕ) → is_wall rules.red (wall_of walls number) ≡ true) → IsPlayed rules walls ds → Sound rules.red walls ds
+played_sound rules walls ds h played = all_sound rules walls [] ds h (nothing_sound rules.red walls) played
 
 pub played_deeds_fit : PlayedDeedsFit
-played_deeds_fit red walls ds h played = (played_sound red walls ds h played).fit
+played_deeds_fit rules walls ds h played = (played_sound rules walls ds h played).fit
 
 -- Deeds that are played, and one more.
-all_played-append : (red : Bool) (walls : List (List ℕ)) (before ds : List Deed) (d : Deed) → AllPlayed red walls before ds → IsPlayedBehind red walls (before ++ ds) d →
-    AllPlayed red walls before (ds ++ d ∷ [])
-all_played-append red walls before [] d h k = (subst (λ (xs : List Deed). IsPlayedBehind red walls xs d) (append-nil before) k, tt)
-all_played-append red walls before (x ∷ ds) d h k =
-    (h.0, all_played-append red walls (before ++ x ∷ []) ds d h.1 (subst (λ (xs : List Deed). IsPlayedBehind red walls xs d) (sym (append_assoc before (x ∷ []) ds)) k))
+all_played-append : (rules : Rules) (walls : List (List ℕ)) (before ds : List Deed) (d : Deed) → AllPlayed rules walls before ds → IsPlayedBehind rules walls (before ++ ds) d →
+    AllPlayed rules walls before (ds ++ d ∷ [])
+all_played-append rules walls before [] d h k = (subst (λ (xs : List Deed). IsPlayedBehind rules walls xs d) (append-nil before) k, tt)
+all_played-append rules walls before (x ∷ ds) d h k =
+    (h.0, all_played-append rules walls (before ++ x ∷ []) ds d h.1 (subst (λ (xs : List Deed). IsPlayedBehind rules walls xs d) (sym (append_assoc before (x ∷ []) ds)) k))
 
 pub played_more : PlayedWithOneMore
-played_more red walls ds d h k = all_played-append red walls [] ds d h k
+played_more rules walls ds d h k = all_played-append rules walls [] ds d h k
 
-all_played-less : (red : Bool) (walls : List (List ℕ)) (before ds : List Deed) (d : Deed) → AllPlayed red walls before (ds ++ d ∷ []) → AllPlayed red walls before ds × IsPlayedBehind red walls (before ++ ds) d
-all_played-less red walls before [] d h = (tt, subst (λ (xs : List Deed). IsPlayedBehind red walls xs d) (sym (append-nil before)) h.0)
-all_played-less red walls before (x ∷ ds) d h =
-    let less = all_played-less red walls (before ++ x ∷ []) ds d h.1 in
-    ((h.0, less.0), subst (λ (xs : List Deed). IsPlayedBehind red walls xs d) (append_assoc before (x ∷ []) ds) less.1)
+all_played-less : (rules : Rules) (walls : List (List ℕ)) (before ds : List Deed) (d : Deed) → AllPlayed rules walls before (ds ++ d ∷ []) → AllPlayed rules walls before ds × IsPlayedBehind rules walls (before ++ ds) d
+all_played-less rules walls before [] d h = (tt, subst (λ (xs : List Deed). IsPlayedBehind rules walls xs d) (sym (append-nil before)) h.0)
+all_played-less rules walls before (x ∷ ds) d h =
+    let less = all_played-less rules walls (before ++ x ∷ []) ds d h.1 in
+    ((h.0, less.0), subst (λ (xs : List Deed). IsPlayedBehind rules walls xs d) (append_assoc before (x ∷ []) ds) less.1)
 
 pub played_less : PlayedWithoutTheLast
-played_less red walls ds d h = all_played-less red walls [] ds d h
+played_less rules walls ds d h = all_played-less rules walls [] ds d h
 
-no_first : (walls : List (List ℕ)) (given : Four Answer) (d : Deed) → outcome walls [] given ≡ Some d → ⊥
+no_first : (rules : Rules) (walls : List (List ℕ)) (given : Four Answer) (d : Deed) → outcome rules walls [] given ≡ Some d → ⊥
 unfolding outcome
-no_first walls given d e = cc
+no_first rules walls given d e = cc
 
-pub given_behind : (red : Bool) (walls : List (List ℕ)) (ds : List Deed) (given : Four Answer) (d : Deed) → AllLawful red ds given → outcome walls ds given ≡ Some d → IsPlayedBehind red walls ds d
-given_behind red walls [] given d lawful e = absurd (no_first walls given d e)
-given_behind red walls (first ∷ others) given d lawful e = record { given = given; lawful = lawful; gives = e }
+pub given_behind : (rules : Rules) (walls : List (List ℕ)) (ds : List Deed) (given : Four Answer) (d : Deed) → AllLawful rules ds given → outcome rules walls ds given ≡ Some d → IsPlayedBehind rules walls ds d
+given_behind rules walls [] given d lawful e = absurd (no_first rules walls given d e)
+given_behind rules walls (first ∷ others) given d lawful e = record { given = given; lawful = lawful; gives = e }
 
 pub next_of_played_fits : NextOfPlayedFits
-next_of_played_fits red walls ds given d h played lawful e =
-    let s = played_sound red walls ds h played in
-    (deed_fits red (wall_of walls 0) ds d h s (given_next red walls ds given d h s lawful e), played_more red walls ds d played (given_behind red walls ds given d lawful e))
+next_of_played_fits rules walls ds given d h played lawful e =
+    let s = played_sound rules walls ds h played in
+    (deed_fits rules.red walls ds d h s (given_next rules walls ds given d h s lawful e), played_more rules walls ds d played (given_behind rules walls ds given d lawful e))
 
 -- So does any deed that is played behind them.
-pub behind_fits : (red : Bool) (walls : List (List ℕ)) (ds : List Deed) (d : Deed) → is_wall red (wall_of walls 0) ≡ true → IsPlayed red walls ds → IsPlayedBehind red walls ds d → fits red ds d ≡ true
-behind_fits red walls ds d h played behind =
-    let s = played_sound red walls ds h played in
-    deed_fits red (wall_of walls 0) ds d h s (behind_next red walls ds d h s behind)
+pub behind_fits : (rules : Rules) (walls : List (List ℕ)) (ds : List Deed) (d : Deed) → ((number : ℕ) → is_wall rules.red (wall_of walls number) ≡ true) → IsPlayed rules walls ds → IsPlayedBehind rules walls ds d → fits rules.red ds d ≡ true
+behind_fits rules walls ds d h played behind =
+    let s = played_sound rules walls ds h played in
+    deed_fits rules.red walls ds d h s (behind_next rules walls ds d h s behind)

@@ -10,15 +10,16 @@ use Rattle.mj_tiles.specs.Faces.{kind_of, number_in}
 use Rattle.mj_tiles.specs.Counts.{all_kinds, number_of, has_no_fifth}
 use Rattle.mj_deeds.specs.declared.deed.Deed.{Deed}
 use Rattle.mj_deeds.specs.Facts.{gained, lost, makes_by, indicators, live_draws}
-use Rattle.mj_deeds.specs.Fits.{fits, is_held_by, is_held, brought_by, keeps_kinds, has_room_for, has_room}
+use Rattle.mj_deeds.specs.Fits.{fits, fits_in, fits_behind, is_held_by, is_held, brought_by, keeps_kinds, has_room_for, has_room}
 use Rattle.mj_wall.specs.Places.{is_wall, dealt_tiles}
 use Rattle.mj_wall.proofs.WallFaces.{wall_has_136, wall_faces}
 use Rattle.mj_wall.proofs.WallKinds.{up, up-take, up-split, wall_has_four, places_are_apart}
+use Rattle.mj_deeds.specs.Hand.{hand, before_in}
 use Rattle.mj_rules.specs.Outcome.{hand_dealt}
 use Rattle.mj_rules.proofs.Dealing.{hand_has_thirteen}
 use Rattle.mj_wall.proofs.TileOrder.{count_by-in_tile_order}
 use Rattle.mj_rules.proofs.Standing.{Stage, Acts, stage_before, stage_after, is_begun, holds_more, is_replacement, at_place, Standing, DealsWell, length-more}
-use Rattle.mj_rules.proofs.Kept.{IsNext, keeps}
+use Rattle.mj_rules.proofs.Kept.{wall_for, IsNext, inside, keeps}
 
 -- what is dealt
 
@@ -44,18 +45,37 @@ four_hands w wall h =
     parts : (a b c d x y z v p q r : ℕ) {t : ℕ} → a ≡ x → b ≡ y → c ≡ z → d ≡ v → p ≡ 0 + x → q ≡ p + y → r ≡ q + z → t ≡ r + v → a + b + c + d ≡ t
     parts a b c d x y z v p q r e f g h i j k l = omega arith
 
-hand_kind : (wall : List ℕ) (k kind : ℕ) → All (λ t. t < 37) wall → number_of (hand_dealt wall 0 k) kind ≡ number_of (dealt_tiles wall ((k + 4 - 0) % 4)) kind
-hand_kind wall k kind faces =
-    let n = (k + 4 - 0) % 4 in
+hand_kind : (wall : List ℕ) (dealer k kind : ℕ) → All (λ t. t < 37) wall → number_of (hand_dealt wall dealer k) kind ≡ number_of (dealt_tiles wall ((k + 4 - dealer) % 4)) kind
+hand_kind wall dealer k kind faces =
+    let n = (k + 4 - dealer) % 4 in
     count_by-in_tile_order (λ t. kind_of t == kind) (dealt_tiles wall n) (All-take (λ t. t < 37) 13 (drop (13 * n) wall) (All-drop (λ t. t < 37) (13 * n) wall faces))
+
+-- The four hands in whatever order, the dealer's first.
+turned : (dealer : ℕ) (f : ℕ → ℕ) → dealer < 4 →
+    f ((0 + 4 - dealer) % 4) + f ((1 + 4 - dealer) % 4) + f ((2 + 4 - dealer) % 4) + f ((3 + 4 - dealer) % 4) ≡ f 0 + f 1 + f 2 + f 3
+turned zero f h = refl
+turned (suc zero) f h = swap (f 0) (f 1) (f 2) (f 3)
+  where
+    swap : (a b c d : ℕ) → d + a + b + c ≡ a + b + c + d
+    swap a b c d = omega arith
+turned (suc (suc zero)) f h = swap (f 0) (f 1) (f 2) (f 3)
+  where
+    swap : (a b c d : ℕ) → c + d + a + b ≡ a + b + c + d
+    swap a b c d = omega arith
+turned (suc (suc (suc zero))) f h = swap (f 0) (f 1) (f 2) (f 3)
+  where
+    swap : (a b c d : ℕ) → b + c + d + a ≡ a + b + c + d
+    swap a b c d = omega arith
+turned (suc (suc (suc (suc n)))) f h = absurd (omega arith)
 
 pub deals_well : (red : Bool) (wall : List ℕ) → is_wall red wall ≡ true → DealsWell wall
 deals_well red wall h =
     let faces = wall_faces red wall h in
     record {
-      thirteen = λ seat. hand_has_thirteen red wall 0 seat h;
-      kinds = λ kind.
-          (λ i. hand_kind wall 0 kind faces i + hand_kind wall 1 kind faces i + hand_kind wall 2 kind faces i + hand_kind wall 3 kind faces i)
+      thirteen = λ dealer seat. hand_has_thirteen red wall dealer seat h;
+      kinds = λ dealer kind small.
+          (λ i. hand_kind wall dealer 0 kind faces i + hand_kind wall dealer 1 kind faces i + hand_kind wall dealer 2 kind faces i + hand_kind wall dealer 3 kind faces i)
+          ∙ turned dealer (λ k. number_of (dealt_tiles wall k) kind) small
           ∙ four_hands (λ t. cond (eqb (kind_of t) kind) 1 0) wall (wall_has_136 red wall h);
     }
 
@@ -167,14 +187,20 @@ room_for_each wall ds d stage seat s =
     few a m x m' g l h false e f i j k = omega arith
 
 -- A deed that comes in its turn fits.
-pub next_fits : (red : Bool) (wall : List ℕ) (ds : List Deed) (d : Deed) → is_wall red wall ≡ true → Standing wall ds (stage_before d) → IsNext red wall ds d → fits red ds d ≡ true
-unfolding fits
-next_fits red wall ds d h s next =
-    let after = keeps red wall ds d (deals_well red wall h) s next in
-    let held : is_held ds d ≡ true = four_pass (is_held_by ds d) next.held in
-    let kinds : keeps_kinds ds d ≡ true = no_fifth red wall (ds ++ d ∷ []) (stage_after d) h after in
-    let room : has_room ds d ≡ true = four_pass (has_room_for ds d) (λ seat. room_for_each wall ds d (stage_after d) seat after) in
-    all_eight _ _ _ _ _ _ _ _ next.place next.seats held next.triplet next.tiles kinds room next.live
+pub next_fits : (red : Bool) (walls : List (List ℕ)) (ds : List Deed) (d : Deed) → is_wall red (wall_for walls ds d) ≡ true → Standing (wall_for walls ds d) (before_in (hand ds) d) (stage_before d) →
+    IsNext red walls ds d → fits red ds d ≡ true
+unfolding fits_behind fits_in
+next_fits red walls ds d h s next =
+    let wall : List ℕ = wall_for walls ds d in
+    let hs : List Deed = before_in (hand ds) d in
+    let after = keeps wall hs d (deals_well red wall h) s (inside red walls ds d next) in
+    let held : is_held hs d ≡ true = four_pass (is_held_by hs d) next.held in
+    let kinds : keeps_kinds hs d ≡ true = no_fifth red wall (hs ++ d ∷ []) (stage_after d) h after in
+    let room : has_room hs d ≡ true = four_pass (has_room_for hs d) (λ seat. room_for_each wall hs d (stage_after d) seat after) in
+    both _ _ next.place (all_seven _ _ _ _ _ _ _ next.seats held next.triplet next.tiles kinds room next.live)
   where
-    all_eight : (a b c d e f g h : Bool) → a ≡ true → b ≡ true → c ≡ true → d ≡ true → e ≡ true → f ≡ true → g ≡ true → h ≡ true → (a && b && c && d && e && f && g && h) ≡ true
-    all_eight a b c d e f g h i j k l m n o p = λ x. i x && j x && k x && l x && m x && n x && o x && p x
+    both : (a b : Bool) → a ≡ true → b ≡ true → (a && b) ≡ true
+    both a b i j = λ x. i x && j x
+
+    all_seven : (b c d e f g h : Bool) → b ≡ true → c ≡ true → d ≡ true → e ≡ true → f ≡ true → g ≡ true → h ≡ true → (b && c && d && e && f && g && h) ≡ true
+    all_seven b c d e f g h j k l m n o p = λ x. j x && k x && l x && m x && n x && o x && p x

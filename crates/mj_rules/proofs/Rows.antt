@@ -4,6 +4,7 @@ use Rattle.std.specs.Prelude.{codes, replicate}
 use Rattle.mj_ports.specs.Names.{is_name}
 use Rattle.mj_deeds.specs.declared.four.Four.{Four}
 use Rattle.mj_deeds.specs.declared.deed.Deed.TheVariants.{StartGame, Draw}
+use Rattle.mj_wall.specs.declared.setting.Rules.{Rules}
 use Rattle.mj_rules.specs.Played.{are_names, IsPlayed}
 
 abbrev four : List ℕ → List ℕ → List ℕ → List ℕ → Four (List ℕ)
@@ -35,15 +36,15 @@ unfolding is_name
 quoted_name = refl
 
 -- No deeds are played; so is a start of a game; a game does not begin with a draw.
-no_deeds : (red : Bool) (walls : List (List ℕ)) → IsPlayed red walls []
-no_deeds red walls = tt
+no_deeds : (rules : Rules) (walls : List (List ℕ)) → IsPlayed rules walls []
+no_deeds rules walls = tt
 
-start_alone : (red : Bool) (walls : List (List ℕ)) → IsPlayed red walls (StartGame (four (codes "a") (codes "b") (codes "c") (codes "d")) ∷ [])
+start_alone : (rules : Rules) (walls : List (List ℕ)) → IsPlayed rules walls (StartGame (four (codes "a") (codes "b") (codes "c") (codes "d")) ∷ [])
 unfolding is_name
-start_alone red walls = (refl, tt)
+start_alone rules walls = (refl, tt)
 
-draw_first : (red : Bool) (walls : List (List ℕ)) → IsPlayed red walls (Draw 0 0 false ∷ []) → ⊥
-draw_first red walls played = no played.0
+draw_first : (rules : Rules) (walls : List (List ℕ)) → IsPlayed rules walls (Draw 0 0 false ∷ []) → ⊥
+draw_first rules walls played = no played.0
   where
     no : false ≡ true → ⊥
     no e = cc

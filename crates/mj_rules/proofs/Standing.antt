@@ -106,7 +106,7 @@ pub record Standing (wall : List ℕ) (ds : List Deed) (stage : Stage) : Type 0 
 
 -- The tiles that a deed brings in are those of their places.
 abbrev pub Brings : List ℕ → List Deed → Deed → Type 0
-Brings wall ds (StartHand round number honba deposits dealer indicator hands) = (indicator ≡ indicator_tile wall 0) × (hands ≡ for_each_seat (hand_dealt wall 0))
+Brings wall ds (StartHand round number honba deposits dealer indicator hands) = (indicator ≡ indicator_tile wall 0) × (hands ≡ for_each_seat (hand_dealt wall dealer))
 Brings wall ds (Draw who tile true) = tile ≡ replacement_tile wall (kans ds - 1)
 Brings wall ds (Draw who tile false) = tile ≡ live_tile wall (live_draws ds)
 Brings wall ds (Dora tile) = tile ≡ indicator_tile wall (length (indicators ds))
@@ -114,8 +114,10 @@ Brings wall ds other = Unit {0}
 
 -- What is dealt of a wall: thirteen tiles to each seat, and all of them are the first 52 tiles.
 pub record DealsWell (wall : List ℕ) : Type 0 where
-  pub thirteen : (seat : ℕ) → length (hand_dealt wall 0 seat) ≡ 13
-  pub kinds : (kind : ℕ) → number_of (hand_dealt wall 0 0) kind + number_of (hand_dealt wall 0 1) kind + number_of (hand_dealt wall 0 2) kind + number_of (hand_dealt wall 0 3) kind ≡ up (at_place wall kind) 52
+  pub thirteen : (dealer seat : ℕ) → length (hand_dealt wall dealer seat) ≡ 13
+  pub kinds : (dealer kind : ℕ) → dealer < 4 →
+      number_of (hand_dealt wall dealer 0) kind + number_of (hand_dealt wall dealer 1) kind + number_of (hand_dealt wall dealer 2) kind + number_of (hand_dealt wall dealer 3) kind
+      ≡ up (at_place wall kind) 52
 
 -- A list that is put together by deeds, with one deed more.
 pub length-more : {A : Type 0} (f : Deed → List A) (ds : List Deed) (d : Deed) → length (flat_map f (ds ++ d ∷ [])) ≡ length (flat_map f ds) + length (f d)
@@ -229,7 +231,7 @@ hands_step wall ds (StartGame names) seat g m l deals brings h = omega arith
 hands_step wall ds (StartHand round number honba deposits dealer indicator hands) seat g m l deals brings h =
     deal_hand (length (at_seat hands seat)) g m l
     (ap (λ (four : Four (List ℕ)). length (at_seat four seat)) brings.1
-    ∙ length-at_seat (for_each_seat (hand_dealt wall 0)) 13 seat (deals.thirteen 0) (deals.thirteen 1) (deals.thirteen 2) (deals.thirteen 3)) h
+    ∙ length-at_seat (for_each_seat (hand_dealt wall dealer)) 13 seat (deals.thirteen dealer 0) (deals.thirteen dealer 1) (deals.thirteen dealer 2) (deals.thirteen dealer 3)) h
 hands_step wall ds (Draw who tile true) seat g m l deals brings h = draw_hand (who == seat) tile g m l h
 hands_step wall ds (Draw who tile false) seat g m l deals brings h = draw_hand (who == seat) tile g m l h
 hands_step wall ds (Discard who tile drawn) seat g m l deals brings h = discard_hand (who == seat) tile g m l h

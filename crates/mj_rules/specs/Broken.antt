@@ -10,11 +10,13 @@ use Rattle.mj_deeds.specs.declared.answer.Pai.TheVariants.{Known, Hidden}
 use Rattle.mj_deeds.specs.declared.answer.Answer.{Answer}
 use Rattle.mj_deeds.specs.declared.answer.Answer.TheVariants.{Unread, Pass, Discard, Chi, Pon, OpenKan, ClosedKan, AddedKan}
 use Rattle.mj_deeds.specs.declared.rule.Rule.{Rule}
-use Rattle.mj_deeds.specs.declared.rule.Rule.TheVariants as rules
+use Rattle.mj_deeds.specs.declared.rule.Rule.TheVariants as refusal
 use Rattle.mj_deeds.specs.declared.deed.Deed.{Deed}
 use Rattle.mj_deeds.specs.declared.deed.Deed.TheVariants as deeds
+use Rattle.mj_wall.specs.declared.setting.Rules.{Rules}
 use Rattle.mj_deeds.specs.Four.{next_seat}
 use Rattle.mj_deeds.specs.Pais.{face_in}
+use Rattle.mj_deeds.specs.Hand.{hand}
 use Rattle.mj_deeds.specs.Facts.{newest, gained, lost, drawn_tile, seat_melds, kans, live_tiles, is_pon}
 
 -- What a window is about: whose turn it is and what it may be answered to.
@@ -55,16 +57,16 @@ pub record View : Type 0 where
   pub kans : ℕ
   pub live : ℕ
 
--- What a seat may know, read off the deeds.
+-- What a seat may know, read off the newest deed and the deeds of its hand.
 unfoldable pub view_of : List Deed → ℕ → View
 view_of deeds seat = record {
   turn = turn_in (option_map turn_by (newest deeds));
   drawn = drawn_tile deeds seat;
-  gained = gained deeds seat;
-  lost = lost deeds seat;
-  melds = seat_melds deeds seat;
-  kans = kans deeds;
-  live = live_tiles deeds;
+  gained = gained (hand deeds) seat;
+  lost = lost (hand deeds) seat;
+  melds = seat_melds (hand deeds) seat;
+  kans = kans (hand deeds);
+  live = live_tiles (hand deeds);
 }
 
 -- An option that has this number.
@@ -300,28 +302,28 @@ first_broken [] = None
 first_broken (rule ∷ rules) = if rule.0 then Some rule.1 else first_broken rules
 
 -- What the rules ask of an answer of a seat, in the order of refusal: a rule is broken where its question is answered by yes.
-abbrev pub questions : Bool → ℕ → View → Answer → List (Bool × Rule)
-questions red seat view answer =
-    (is_unread answer, rules.Unreadable)
-    ∷ (names_another seat answer, rules.NotYours)
-    ∷ (not (is_open seat view.turn answer), rules.NotNow)
-    ∷ (names_no_tile red answer, rules.NoSuchTile)
-    ∷ (misses_target view.turn answer, rules.WrongTarget)
-    ∷ (is_too_late view answer, rules.LastTile)
-    ∷ (names_unheld view answer, rules.NotHeld)
-    ∷ (marks_wrongly view answer, rules.NotDrawn)
-    ∷ (is_bad_set view answer, rules.BadSet)
-    ∷ (is_not_left seat view.turn answer, rules.NotLeft)
-    ∷ (swaps view.turn answer, rules.SwapCall)
-    ∷ (is_stuck view answer, rules.StuckCall)
-    ∷ (is_fifth_kan view answer, rules.KanFull)
-    ∷ (is_dry_kan view answer, rules.KanDry)
+abbrev pub questions : Rules → ℕ → View → Answer → List (Bool × Rule)
+questions rules seat view answer =
+    (is_unread answer, refusal.Unreadable)
+    ∷ (names_another seat answer, refusal.NotYours)
+    ∷ (not (is_open seat view.turn answer), refusal.NotNow)
+    ∷ (names_no_tile rules.red answer, refusal.NoSuchTile)
+    ∷ (misses_target view.turn answer, refusal.WrongTarget)
+    ∷ (is_too_late view answer, refusal.LastTile)
+    ∷ (names_unheld view answer, refusal.NotHeld)
+    ∷ (marks_wrongly view answer, refusal.NotDrawn)
+    ∷ (is_bad_set view answer, refusal.BadSet)
+    ∷ (is_not_left seat view.turn answer, refusal.NotLeft)
+    ∷ (swaps view.turn answer, refusal.SwapCall)
+    ∷ (is_stuck view answer, refusal.StuckCall)
+    ∷ (is_fifth_kan view answer, refusal.KanFull)
+    ∷ (is_dry_kan view answer, refusal.KanDry)
     ∷ []
 
 -- The first rule that an answer of a seat breaks, by what the seat may know.
-unfoldable pub broken_by : Bool → ℕ → View → Answer → Option Rule
-broken_by red seat view answer = first_broken (questions red seat view answer)
+unfoldable pub broken_by : Rules → ℕ → View → Answer → Option Rule
+broken_by rules seat view answer = first_broken (questions rules seat view answer)
 
 -- The first rule that an answer of a seat breaks in the window on the newest deed.
-abbrev pub broken : Bool → List Deed → ℕ → Answer → Option Rule
-broken red deeds seat answer = broken_by red seat (view_of deeds seat) answer
+abbrev pub broken : Rules → List Deed → ℕ → Answer → Option Rule
+broken rules deeds seat answer = broken_by rules seat (view_of deeds seat) answer

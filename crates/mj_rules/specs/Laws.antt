@@ -1,38 +1,59 @@
 -- The laws over played deeds.
-use Rattle.std.specs.Prelude.{◌≡◌, ℕ, Bool, true, List, [], ◌∷◌, ◌++◌, length, ◌≤◌, Some}
+use Rattle.std.specs.Prelude.{◌≡◌, ℕ, Bool, true, List, [], ◌∷◌, ◌++◌, length, ◌≤◌, ◌<◌, Some, None, is_none}
 use Rattle.std.specs.List.{list_all}
 use Rattle.mj_deeds.specs.declared.four.Four.{Four}
 use Rattle.mj_deeds.specs.declared.answer.Answer.{Answer}
 use Rattle.mj_deeds.specs.declared.deed.Deed.{Deed}
 use Rattle.mj_deeds.specs.Fits.{fits, all_fit}
+use Rattle.mj_wall.specs.declared.setting.Rules.{Rules}
 use Rattle.mj_wall.specs.Places.{is_wall}
-use Rattle.mj_rules.specs.Default.{has_free}
-use Rattle.mj_rules.specs.Outcome.{wall_of, outcome}
+use Rattle.mj_rules.specs.Broken.{broken}
+use Rattle.mj_rules.specs.Default.{default_answer, can_discard}
+use Rattle.mj_rules.specs.Outcome.{wall_of, outcome, is_unbuilt}
 use Rattle.mj_rules.specs.Played.{AllLawful, IsPlayedBehind, IsPlayed}
 
--- Of walls the first is one that is played with.
-abbrev pub FirstIsWall : Type 0
-FirstIsWall = (red : Bool) (walls : List (List ℕ)) → 1 ≤ length walls → list_all (is_wall red) walls ≡ true → is_wall red (wall_of walls 0) ≡ true
+-- Where there is a wall and all are whole, the wall of each hand is whole.
+abbrev pub EachIsWall : Type 0
+EachIsWall = (red : Bool) (walls : List (List ℕ)) → 1 ≤ length walls → list_all (is_wall red) walls ≡ true → (hand : ℕ) → is_wall red (wall_of walls hand) ≡ true
 
 -- Deeds are played with one more exactly where they are played and the one is played behind them.
 abbrev pub PlayedWithOneMore : Type 0
-PlayedWithOneMore = (red : Bool) (walls : List (List ℕ)) (deeds : List Deed) (deed : Deed) → IsPlayed red walls deeds → IsPlayedBehind red walls deeds deed → IsPlayed red walls (deeds ++ deed ∷ [])
+PlayedWithOneMore = (rules : Rules) (walls : List (List ℕ)) (deeds : List Deed) (deed : Deed) → IsPlayed rules walls deeds → IsPlayedBehind rules walls deeds deed → IsPlayed rules walls (deeds ++ deed ∷ [])
 
 abbrev pub PlayedWithoutTheLast : Type 0
-PlayedWithoutTheLast = (red : Bool) (walls : List (List ℕ)) (deeds : List Deed) (deed : Deed) → IsPlayed red walls (deeds ++ deed ∷ []) → IsPlayed red walls deeds × IsPlayedBehind red walls deeds deed
+PlayedWithoutTheLast = (rules : Rules) (walls : List (List ℕ)) (deeds : List Deed) (deed : Deed) → IsPlayed rules walls (deeds ++ deed ∷ []) → IsPlayed rules walls deeds × IsPlayedBehind rules walls deeds deed
 
 -- Every played deed fits behind those before it, where the wall of the hand is a wall.
 abbrev pub PlayedDeedsFit : Type 0
 PlayedDeedsFit =
-    (red : Bool) (walls : List (List ℕ)) (deeds : List Deed) → is_wall red (wall_of walls 0) ≡ true → IsPlayed red walls deeds →
-    all_fit red [] deeds ≡ true
+    (rules : Rules) (walls : List (List ℕ)) (deeds : List Deed) → ((number : ℕ) → is_wall rules.red (wall_of walls number) ≡ true) → IsPlayed rules walls deeds →
+    all_fit rules.red [] deeds ≡ true
 
 -- What four lawful answers give behind played deeds fits there, and the deeds are played with it too.
 abbrev pub NextOfPlayedFits : Type 0
 NextOfPlayedFits =
-    (red : Bool) (walls : List (List ℕ)) (deeds : List Deed) (given : Four Answer) (deed : Deed) → is_wall red (wall_of walls 0) ≡ true → IsPlayed red walls deeds →
-    AllLawful red deeds given → outcome walls deeds given ≡ Some deed → (fits red deeds deed ≡ true) × IsPlayed red walls (deeds ++ deed ∷ [])
+    (rules : Rules) (walls : List (List ℕ)) (deeds : List Deed) (given : Four Answer) (deed : Deed) → ((number : ℕ) → is_wall rules.red (wall_of walls number) ≡ true) → IsPlayed rules walls deeds →
+    AllLawful rules deeds given → outcome rules walls deeds given ≡ Some deed → (fits rules.red deeds deed ≡ true) × IsPlayed rules walls (deeds ++ deed ∷ [])
 
--- In played deeds a seat that has to discard right after its own call has a tile that it may discard.
-abbrev pub SomeTileIsFree : Type 0
-SomeTileIsFree = (red : Bool) (walls : List (List ℕ)) (deeds : List Deed) (seat : ℕ) → IsPlayed red walls deeds → has_free deeds seat ≡ true
+-- In played deeds some discard of a seat that has to discard right after its own call breaks no rule.
+abbrev pub SomeDiscardIsLawful : Type 0
+SomeDiscardIsLawful = (rules : Rules) (walls : List (List ℕ)) (deeds : List Deed) (seat : ℕ) → seat < 4 → ((number : ℕ) → is_wall rules.red (wall_of walls number) ≡ true) → IsPlayed rules walls deeds → can_discard rules deeds seat ≡ true
+
+-- The default answer of a seat breaks no rule in deeds each of which fits behind those before it, as long as some discard
+-- right after its own call breaks none.
+abbrev pub FittingDefaultIsLawful : Type 0
+FittingDefaultIsLawful =
+    (rules : Rules) (deeds : List Deed) (seat : ℕ) → seat < 4 → all_fit rules.red [] deeds ≡ true → can_discard rules deeds seat ≡ true →
+    broken rules deeds seat (default_answer rules deeds seat) ≡ None
+
+-- In played deeds it always is lawful.
+abbrev pub PlayedDefaultIsLawful : Type 0
+PlayedDefaultIsLawful =
+    (rules : Rules) (walls : List (List ℕ)) (deeds : List Deed) (seat : ℕ) → seat < 4 → ((number : ℕ) → is_wall rules.red (wall_of walls number) ≡ true) → IsPlayed rules walls deeds →
+    broken rules deeds seat (default_answer rules deeds seat) ≡ None
+
+-- Behind played deeds four lawful answers give a deed, unless the course goes on with one that is not built.
+abbrev pub NextIsMissingWhereUnbuilt : Type 0
+NextIsMissingWhereUnbuilt =
+    (rules : Rules) (walls : List (List ℕ)) (deeds : List Deed) (given : Four Answer) → ((number : ℕ) → is_wall rules.red (wall_of walls number) ≡ true) → IsPlayed rules walls deeds →
+    AllLawful rules deeds given → is_none (outcome rules walls deeds given) ≡ is_unbuilt deeds given

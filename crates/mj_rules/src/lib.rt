@@ -2,11 +2,11 @@
 //! played. Nothing here runs: the functions are the places where the laws are stated.
 #![tactic(auto)]
 
-ghost use Rattle.mj_rules.specs.Laws.{FirstIsWall, PlayedWithOneMore, PlayedWithoutTheLast, PlayedDeedsFit, NextOfPlayedFits, SomeTileIsFree};
+ghost use Rattle.mj_rules.specs.Laws.{EachIsWall, PlayedWithOneMore, PlayedWithoutTheLast, PlayedDeedsFit, NextOfPlayedFits, NextIsMissingWhereUnbuilt, SomeDiscardIsLawful, FittingDefaultIsLawful, PlayedDefaultIsLawful};
 
-/// Where there is a wall and all walls are whole, the one that the first hand is played with is.
-pub fn first_is_wall()
-    ensures { FirstIsWall }
+/// Where there is a wall and all walls are whole, the one that each hand is played with is.
+pub fn each_is_wall()
+    ensures { EachIsWall }
 {}
 
 /// Deeds are played with one more exactly where they are played and the one is played behind them: a start of a game behind
@@ -27,8 +27,21 @@ pub fn next_of_played_fits()
     ensures { NextOfPlayedFits }
 {}
 
-/// In played deeds a seat that has to discard right after its own chi or pon has a tile that it may discard: no call is
+/// Behind played deeds four lawful answers give a deed: none is given exactly where the course goes on with a deed that is
+/// not built, behind a discard that nobody calls with no live tile left, and where there is no deed yet.
+pub fn next_is_missing_where_unbuilt()
+    ensures { NextIsMissingWhereUnbuilt }
+{}
+
+/// In played deeds a seat that has to discard right after its own chi or pon has a discard that breaks no rule: no call is
 /// lawful that leaves it none.
-pub fn some_tile_is_free()
-    ensures { SomeTileIsFree }
+pub fn some_discard_is_lawful()
+    ensures { SomeDiscardIsLawful }
+{}
+
+/// The default answer of a seat, 0 to 3, breaks no rule in played deeds; nor does it where each deed fits behind those before
+/// it, as long as some discard right after its own call breaks none.
+pub fn default_is_lawful()
+    ensures fitting { FittingDefaultIsLawful }
+    ensures played { PlayedDefaultIsLawful }
 {}

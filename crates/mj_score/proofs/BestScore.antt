@@ -13,7 +13,8 @@ use Rattle.mj_yaku.specs.SomeYaku.{gives_yaku}
 use Rattle.mj_score.specs.declared.score.Extra.{Extra}
 use Rattle.mj_score.specs.declared.score.Score.{Score}
 use Rattle.mj_score.specs.Scores.{score_of, is_better}
-use Rattle.mj_score.specs.Worth.{better_of, with_reading, best_among, worth_of, IsGreatest, IsWorth}
+use Rattle.mj_score.specs.Worth.{IsGreatest, IsWorth}
+use Rattle.mj_score.specs.Inner.BestAmong.{better_of, best_among}
 use Rattle.mj_score.proofs.ScoreOrder.{better_asym, better_not, better_through, better_self}
 
 -- The better one of a best score and a new one, by a test and a score of readings.

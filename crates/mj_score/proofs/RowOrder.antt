@@ -4,7 +4,7 @@ use Rattle.std.specs.List.{filter, list_any, range_with_len}
 use Rattle.std.proofs.lemmas.Bool.Decides.{nat_tests}
 use Rattle.mj_yaku.specs.Rows.{has_row}
 use Rattle.mj_score.specs.Scores.{comes_before}
-use Rattle.mj_score.specs.Walks.{first_difference}
+use Rattle.mj_score.specs.Inner.RowWalk.{first_difference}
 
 -- No test is both.
 pub clash : (b : Bool) → b ≡ true → b ≡ false → ⊥

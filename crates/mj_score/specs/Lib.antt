@@ -1,3 +1,3 @@
 pub mod Scores
 pub mod Worth
-pub mod Walks
+pub mod Inner

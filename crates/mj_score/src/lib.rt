@@ -3,8 +3,6 @@
 
 mod order;
 mod score;
-#[cfg(test)]
-mod tests;
 mod winning;
 
 pub use score::{Extra, Score};

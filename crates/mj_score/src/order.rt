@@ -2,7 +2,7 @@ ghost use Rattle.std.specs.Prelude.{◌≡◌, not};
 ghost use Rattle.std.specs.List.{list_any};
 ghost use Rattle.mj_yaku.specs.Rows.{has_row};
 ghost use Rattle.mj_score.specs.Scores.{is_better as better, greater_or, rows_of, comes_before as before};
-ghost use Rattle.mj_score.specs.Walks.{first_difference};
+ghost use Rattle.mj_score.specs.Inner.RowWalk.{first_difference};
 
 use crate::score::Score;
 use mj_yaku::YakuSet;
@@ -46,7 +46,7 @@ fn comes_before(one: YakuSet, other: YakuSet) -> bool
 
 // Whether one set, at the first of the rows that only one of the two has, has it while the other has a later one, or
 // lacks it and has no later one.
-#[tactic(auto, unfolding(crate::specs::Walks::first_difference))]
+#[tactic(auto, unfolding(crate::specs::Inner::RowWalk::first_difference))]
 fn differs_first(one: YakuSet, other: YakuSet, rows: &[u8]) -> bool
     ensures { result ≡ first_difference one other rows.now }
 {

@@ -3,7 +3,8 @@ ghost use Rattle.mj_fu.specs.Fu.{is_orphans};
 ghost use Rattle.mj_yaku.specs.Hands.{are_concealed};
 ghost use Rattle.mj_yaku.specs.SomeYaku.{gives_yaku};
 ghost use Rattle.mj_score.specs.Scores.{score_of};
-ghost use Rattle.mj_score.specs.Worth.{IsWorth, better_of, with_reading, best_among, worth_of};
+ghost use Rattle.mj_score.specs.Worth.{IsWorth, worth_of};
+ghost use Rattle.mj_score.specs.Inner.BestAmong.{better_of, with_reading, best_among};
 
 use crate::order::is_better;
 use crate::score::{Extra, Score, score_reading};
@@ -18,6 +19,7 @@ use std::alloc::{AllocError, Global};
 ///
 /// Conditions: `closed` of the case is true exactly where all melds are concealed kans, and there are at most 20 dora of
 /// either kind and 3 red fives.
+#[tactic(auto, unfolding(crate::specs::Worth::worth_of))]
 pub fn worth(
     alloc: Global,
     counts: &Counts,
@@ -38,7 +40,7 @@ pub fn worth(
 }
 
 // The best score of the readings that have a yaku.
-#[tactic(auto, unfolding(crate::specs::Worth::best_among))]
+#[tactic(auto, unfolding(crate::specs::Inner::BestAmong::best_among))]
 fn best_of(readings: &[Reading], melds: &[Meld], case: &Case, extra: Extra) -> Option<Score>
     requires closed { case.now.closed ≡ are_concealed melds.now }
     requires orphans { All (λ reading. is_orphans reading ≡ true → case.now.closed ≡ true) readings.now }

@@ -5,7 +5,7 @@ use Rattle.std.proofs.lemmas.List.FromFn.{get_or-map-range_with_len, length-map-
 use Rattle.mj_tiles.specs.Counts.{all_kinds}
 use Rattle.mj_tiles.specs.Terminals.{is_terminal_or_honour}
 use Rattle.mj_readings.specs.Complete.{orphan_number}
-use Rattle.mj_suits.specs.Walk.{Improves}
+use Rattle.mj_suits.specs.Improves.{Improves}
 use Rattle.mj_suits.proofs.Near.{Improves-both, Improves-same, Improves-not}
 use Rattle.mj_shanten.specs.Suits.{with_two, Padded}
 use Rattle.mj_shanten.specs.Special.{IsOrphans, IsOrphansWith, IsOrphansBelow}

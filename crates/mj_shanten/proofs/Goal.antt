@@ -13,10 +13,10 @@ use Rattle.mj_readings.specs.Complete.{IsComplete, AreSetsAndPair, orphan_number
 use Rattle.mj_readings.proofs.Laws.{length-tally, get_or-tally}
 use Rattle.mj_readings.proofs.Tiles.{number_at, count-flat_map}
 use Rattle.mj_suits.specs.Targets.{missing, IsNearest}
-use Rattle.mj_suits.specs.Walk.{Improves}
+use Rattle.mj_suits.specs.Improves.{Improves}
 use Rattle.mj_suits.proofs.Near.{Improves-both, Improves-not}
-use Rattle.mj_suits.proofs.Aims.{best_is_nearest}
-use Rattle.mj_suits.proofs.Bounds.{missing-append}
+use Rattle.mj_suits.proofs.Near.{best_is_nearest}
+use Rattle.mj_suits.proofs.Near.{missing-append}
 use Rattle.mj_shanten.specs.Room.{IsRoom, IsHand, IsWithinRoom}
 use Rattle.mj_shanten.specs.Shanten.{IsGoal, IsShanten}
 use Rattle.mj_shanten.specs.Suits.{Padded, with_two, IsJoint, suits_of}

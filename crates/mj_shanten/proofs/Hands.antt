@@ -4,9 +4,9 @@ use Rattle.std.specs.Ordering.{nat_cmp, is_gt}
 use Rattle.std.specs.Cmp.Lexicographic.{slice_cmp}
 use Rattle.std.proofs.lemmas.List.{take-append-drop, length-take-le}
 use Rattle.mj_suits.specs.Targets.{missing}
-use Rattle.mj_suits.specs.Walk.{AsNear, Improves}
+use Rattle.mj_suits.specs.Improves.{AsNear, Improves}
 use Rattle.mj_suits.proofs.Near as near
-use Rattle.mj_suits.proofs.Bounds.{missing-append}
+use Rattle.mj_suits.proofs.Near.{missing-append}
 use Rattle.mj_shanten.specs.Suits.{with_two}
 
 -- what is greater is not less the other way round

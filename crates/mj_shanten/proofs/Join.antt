@@ -9,9 +9,9 @@ use Rattle.std.proofs.lemmas.List.{append-nil, append_assoc, take_all, drop_at, 
 use Rattle.std.proofs.lemmas.List.Elements.{All-head, All-tail}
 use Rattle.std.proofs.lemmas.Cmp.{tied_itself, nat_list_cmp_total, nat_cmp_total}
 use Rattle.mj_suits.specs.Targets.{missing, IsTarget, IsNearest}
-use Rattle.mj_suits.specs.Walk.{AsNear, AsGood, Improves}
+use Rattle.mj_suits.specs.Improves.{AsNear, AsGood, Improves}
 use Rattle.mj_suits.proofs.Near.{AsGood-trans, Improves-both, Improves-same, Improves-not}
-use Rattle.mj_suits.proofs.Bounds.{missing-append}
+use Rattle.mj_suits.proofs.Near.{missing-append}
 use Rattle.mj_suits.proofs.Whole.{length-counts_of}
 use Rattle.mj_shanten.specs.declared.suits.Suit.{Suit}
 use Rattle.mj_shanten.specs.declared.suits.Part.{Part}

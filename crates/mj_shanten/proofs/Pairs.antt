@@ -9,7 +9,7 @@ use Rattle.std.proofs.lemmas.List.Sums.{sum_by-cons}
 use mir.Val.{bool_byte}
 use Rattle.std.proofs.lemmas.List.{length-take-le, length-drop, drop_more, drop_all, get_or-take, get_or-drop, take_more_set, append_assoc, append-nil, get_or-set_other, take-append-drop, ext_get_or}
 use Rattle.mj_suits.specs.Targets.{missing}
-use Rattle.mj_suits.specs.Walk.{AsNear}
+use Rattle.mj_suits.specs.Improves.{AsNear}
 use Rattle.mj_readings.specs.Complete.{is_seven_pairs}
 use Rattle.mj_shanten.specs.Suits.{with_two, Padded}
 use Rattle.mj_shanten.specs.Special.{IsPairs, so_often, better, nearest_pairs}

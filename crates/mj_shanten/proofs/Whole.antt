@@ -5,7 +5,7 @@ use Rattle.std.specs.List.{flat_map}
 use Rattle.std.proofs.lemmas.List.{append-nil, take_all, take-append-drop, length-take-le, length-drop, drop-drop, get_or-take, get_or-drop}
 use Rattle.std.proofs.lemmas.List.Elements.{All-cons, All-nil}
 use Rattle.mj_suits.specs.Targets.{missing}
-use Rattle.mj_suits.specs.Walk.{Improves}
+use Rattle.mj_suits.specs.Improves.{Improves}
 use Rattle.mj_suits.proofs.Near.{Improves-same}
 use Rattle.mj_shanten.specs.declared.suits.Suit.{Suit}
 use Rattle.mj_shanten.specs.declared.suits.Asked.{Asked}

@@ -8,8 +8,6 @@ mod nearest_hand;
 mod orphans;
 mod seven_pairs;
 mod suits;
-#[cfg(test)]
-mod tests;
 
 pub use exchanges::exchange_path;
 pub use least_exchanges::shanten_is_the_least_number_of_exchanges;

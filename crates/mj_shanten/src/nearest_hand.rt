@@ -1,6 +1,6 @@
 ghost use Rattle.std.specs.Prelude.{◌≡◌, ◌+◌, ◌<◌, length, take};
 ghost use Rattle.mj_tiles.specs.Counts.{IsCounts};
-ghost use Rattle.mj_suits.specs.Walk.{Improves};
+ghost use Rattle.mj_suits.specs.Improves.{Improves};
 ghost use Rattle.mj_shanten.specs.Room.{IsHand};
 ghost use Rattle.mj_shanten.specs.Shanten.{IsShanten};
 ghost use Rattle.mj_shanten.specs.Suits.{with_two};

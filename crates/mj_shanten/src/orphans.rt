@@ -4,7 +4,7 @@ ghost use Rattle.std.specs.Prelude.{◌≡◌, ◌+◌, ◌<◌, map};
 ghost use Rattle.mj_tiles.specs.Counts.{all_kinds};
 ghost use Rattle.mj_tiles.specs.Terminals.{is_terminal_or_honour};
 ghost use Rattle.mj_readings.specs.Complete.{orphan_number};
-ghost use Rattle.mj_suits.specs.Walk.{Improves};
+ghost use Rattle.mj_suits.specs.Improves.{Improves};
 ghost use Rattle.mj_shanten.specs.Suits.{Padded, with_two};
 ghost use Rattle.mj_shanten.specs.Special.{IsOrphans, IsOrphansWith};
 

@@ -3,10 +3,10 @@
 
 ghost use Rattle.std.specs.Prelude.{◌≡◌, ◌≤◌, ◌<◌, ◌+◌, ◌++◌, ◌∷◌, ◌⊎◌, true, false, Some, MatchBool, IsSomeAnd, slice_index, EachIndex, take, drop};
 ghost use Rattle.mj_suits.specs.Targets.{missing};
-ghost use Rattle.mj_suits.specs.Walk.{AsGood, Improves};
+ghost use Rattle.mj_suits.specs.Improves.{AsGood, Improves};
 ghost use Rattle.mj_shanten.specs.Suits.{IsSuit, IsLimit, IsPart, ArePartsOf, IsAsked, Begins, IsJoint, Follows, AreLeft, IsShare, IsPlanWith, choice, IsChoice, pairs, suit_from, suits_of, suits_in};
 
-use mj_suits::nearest_within;
+use mj_suits::nearest;
 use std::cmp::Ordering;
 
 // One suit: the tiles held, the room, and whether it has runs.
@@ -128,7 +128,7 @@ fn part_at(suit: &Suit, place: u8, limit: u8) -> Part
     };
     let sets = place / 2;
     let pair = place % 2 == 1;
-    match nearest_within(suit.counts, suit.room, suit.runs, sets, pair, limit) {
+    match nearest(suit.counts, suit.room, suit.runs, sets, pair) {
         Some(answer) => {
             let target = answer.1;
             Part {

@@ -3,7 +3,12 @@ pub mod Tiles
 pub mod Steps
 pub mod Whole
 pub mod Near
-pub mod Reach
-pub mod Bounds
-pub mod Counted
-pub mod Aims
+pub mod Lanes
+pub mod Taken
+pub mod Rows
+pub mod Ends
+pub mod Best
+pub mod Made
+pub mod Nine
+pub mod Choices
+pub mod Tables

@@ -1,10 +1,12 @@
 -- What is as near, what is as good, and what a search makes of the best target so far.
-use Rattle.std.proofs.Common.{◌≡◌, ◌⊎◌, false, ℕ, Option, None, Some, List, refl, sym, subst, ap, ◌∙◌, inl, inr, arith, Greater}
+use Rattle.std.proofs.Common.{◌≡◌, ◌≢◌, ◌⊎◌, true, false, ℕ, ◌+◌, ◌-◌, ◌≤◌, ◌<◌, Option, None, Some, List, [], ◌∷◌, ◌++◌, length, refl, sym, subst, ap, ◌∙◌, inl, inr, arith, Greater}
+use Rattle.std.specs.Prelude.{MatchOption}
+use Rattle.std.proofs.lemmas.Bool.{true≢false}
 use Rattle.std.specs.Ordering.{nat_cmp, is_gt, ordering_reverse}
 use Rattle.std.specs.Cmp.Lexicographic.{slice_cmp}
 use Rattle.std.proofs.lemmas.Cmp.{upto, tied_itself, nat_list_cmp_total}
-use Rattle.mj_suits.specs.Targets.{missing}
-use Rattle.mj_suits.specs.Walk.{AsNear, AsGood, Improves}
+use Rattle.mj_suits.specs.Targets.{missing, IsNearest}
+use Rattle.mj_suits.specs.Improves.{AsNear, AsGood, Improves}
 
 -- what is greater is not less the other way round
 pub not_less_back : (xs ys : List ℕ) → slice_cmp nat_cmp xs ys ≡ Greater → is_gt (slice_cmp nat_cmp ys xs) ≡ false
@@ -75,3 +77,39 @@ kept_new held target a number is good = record {
   best = λ t same. subst (λ u. AsGood (Some (number, target)) (Some (missing u held, u))) (sym same)
       (subst (λ n. AsGood (Some (number, target)) (Some (n, target))) is (AsGood-refl (Some (number, target))));
 }
+
+-- ---- the best target
+
+-- what is missing of two parts is missing of the whole
+pub missing-append : (first second held held' : List ℕ) → length first ≡ length held → missing (first ++ second) (held ++ held') ≡ missing first held + missing second held'
+missing-append [] second [] held' long = omega arith
+missing-append [] second (h ∷ hs) held' long = absurd (omega arith)
+missing-append (x ∷ xs) second [] held' long = absurd (omega arith)
+missing-append (x ∷ xs) second (h ∷ hs) held' long =
+    let rest : missing (xs ++ second) (hs ++ held') ≡ missing xs hs + missing second held' = missing-append xs second hs held' (omega arith) in
+    omega arith
+
+-- the best target of a search from none on is the nearest
+pub best_is_nearest : (held : List ℕ) (P : List ℕ → Type 0) (b : Option (ℕ × List ℕ)) → Improves held P None b → MatchOption b ((t : List ℕ) → P t → ⊥) (λ answer. IsNearest held P answer.0 answer.1)
+best_is_nearest held P None h = h.best
+best_is_nearest held P (Some answer) h = record {
+  is_one = (from_one h.one).0;
+  number_is = (from_one h.one).1;
+  least = λ other p. no_more answer (missing other held, other) (h.best other p);
+  greatest = λ other p level. no_greater answer (missing other held, other) (h.best other p) level;
+}
+  where
+    from_one : (Some answer ≡ None) ⊎ ((t : List ℕ) × P t × (Some answer ≡ Some (missing t held, t))) → P answer.1 × (answer.0 ≡ missing answer.1 held)
+    from_one (inl same) = cc
+    from_one (inr new) =
+        let same : answer ≡ (missing new.0 held, new.0) = cc in
+        let target : new.0 ≡ answer.1 = ap (λ x. x.1) (sym same) in
+        (subst P target new.1, ap (λ x. x.0) same ∙ ap (λ u. missing u held) target)
+
+    no_more : (x y : ℕ × List ℕ) → AsGood (Some x) (Some y) → x.0 ≤ y.0
+    no_more x y (inl less) = omega arith
+    no_more x y (inr level) = (let e : x.0 ≡ y.0 = level.0 in omega arith)
+
+    no_greater : (x y : ℕ × List ℕ) → AsGood (Some x) (Some y) → y.0 ≡ x.0 → slice_cmp nat_cmp y.1 x.1 ≢ Greater
+    no_greater x y (inl less) same greater = omega arith
+    no_greater x y (inr level) same greater = true≢false (sym (ap is_gt greater) ∙ level.1)

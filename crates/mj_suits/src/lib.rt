@@ -4,13 +4,16 @@
 //! suit is 0 and the highest is 8. Honours are a suit without runs.
 #![tactic(auto)]
 
-mod nearness;
+mod choosing;
 mod partitioning;
+mod row;
 mod sets;
+mod table;
+mod walk;
 
-pub use nearness::{nearest, nearest_within};
+pub use choosing::{Choice, choose};
 pub use partitioning::partitions;
+pub use row::Row;
 pub use sets::{Split, SuitSet, SuitSets};
-
-#[cfg(test)]
-mod tests;
+pub use table::{SuitTable, nearest};
+pub use walk::with_suit;

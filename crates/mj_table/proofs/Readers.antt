@@ -1,7 +1,8 @@
 -- What a table of deeds that fit holds, and what none of the deeds so far changes.
-use Rattle.std.proofs.Common.{◌≡◌, ℕ, ◌+◌, ◌<◌, ◌≤◌, ◌⊎◌, inl, inr, List, [], ◌∷◌, ◌++◌, cond, eqb, get_or, true, false, Bool, refl, sym, ap, ◌∙◌, subst, arith}
-use Rattle.std.specs.Prelude.{flat_map, ℤ, pos}
-use Rattle.std.proofs.lemmas.Bool.{cases_lt}
+use Rattle.std.proofs.Common.{◌≡◌, ℕ, suc, ◌+◌, ◌-◌, ◌<◌, ◌≤◌, ◌==◌, ◌⊎◌, inl, inr, List, [], ◌∷◌, ◌++◌, length, drop, cond, eqb, get_or, true, false, Bool, refl, sym, ap, ◌∙◌, subst, arith}
+use Rattle.std.specs.Prelude.{flat_map, Option, Some, None}
+use Rattle.std.specs.Option.{option_or}
+use Rattle.std.proofs.lemmas.Bool.{cases_lt, ne_eqb}
 use Rattle.std.proofs.lemmas.List.{get_or_past}
 use Rattle.std.proofs.lemmas.List.Concat.{flat_map-cons}
 use Rattle.std.proofs.lemmas.List.Sums.{sum_by-append, sum_by-cons}
@@ -13,11 +14,18 @@ use Rattle.mj_deeds.specs.declared.deed.Deed.{Deed}
 use Rattle.mj_deeds.specs.declared.deed.Deed.TheVariants.{StartGame, StartHand, Draw, Discard, Chi, Pon, OpenKan, ClosedKan, AddedKan, Dora}
 use Rattle.mj_deeds.specs.Facts.{gains_by, gained, lost, concealed_tiles}
 use Rattle.mj_deeds.specs.Fits.{fits, all_fit, brought_by}
-use Rattle.mj_deeds.specs.Points.{points, points_of, deposits, is_deposit}
+use Rattle.mj_deeds.specs.Hand.{is_hand_start, hand}
+use Rattle.mj_deeds.specs.Facts.{newest}
+use Rattle.mj_deeds.specs.Standings.{standing, standing_by}
+use Rattle.mj_rounds.specs.Rounds.{first_standing}
+use Rattle.mj_rounds.specs.declared.rounds.Standing.{Standing}
+use Rattle.mj_deeds.proofs.Hands.{behind, hand_more, standing_stays, standing_starts}
+use Rattle.mj_deeds.proofs.Newest.{newest_more}
+use Rattle.mj_deeds.proofs.InHand.{newest_in_hand}
 use Rattle.mj_wall.specs.declared.setting.Rules.{Rules}
-use Rattle.mj_table.specs.Plays.{Play}
+use Rattle.mj_table.specs.Plays.{Play, Stands, opening, hand_with, opening_with}
 use Rattle.mj_deeds.proofs.FitSteps.{number_of_four}
-use Rattle.mj_deeds.proofs.Fitted.{all_fit-append, four_of_kind}
+use Rattle.mj_deeds.proofs.Fitted.{all_fit-append, four_of_kind, first_start}
 
 -- the tiles that are held
 
@@ -66,7 +74,7 @@ gained_within (d ∷ ds) seat kind =
     sum n m a b c e h k l o = omega (arith, h, k, l, o)
 
 -- A seat of deeds that fit holds no kind more than four times.
-pub holds_few : (red : Bool) (ds : List Deed) (seat : ℕ) → all_fit red [] ds ≡ true → NoFifth (kind_counts (concealed_tiles ds seat))
+pub holds_few : (red : Bool) (ds : List Deed) (seat : ℕ) → all_fit red [] ds ≡ true → NoFifth (kind_counts (concealed_tiles (hand ds) seat))
 holds_few red ds seat fit kind = by_kind (cases_lt kind 34)
   where
     chain : (a b c d : ℕ) → a ≡ b → b ≤ c → c ≤ d → d ≤ 4 → a ≤ 4
@@ -75,37 +83,83 @@ holds_few red ds seat fit kind = by_kind (cases_lt kind 34)
     past : (a : ℕ) → a ≡ 0 → a ≤ 4
     past a e = omega (arith, e)
 
-    by_kind : (kind < 34) ⊎ (34 ≤ kind) → get_or (kind_counts (concealed_tiles ds seat)) kind 0 ≤ 4
+    by_kind : (kind < 34) ⊎ (34 ≤ kind) → get_or (kind_counts (concealed_tiles (hand ds) seat)) kind 0 ≤ 4
     by_kind (inl small) =
-        chain _ _ _ _ (get_or-kind_counts (concealed_tiles ds seat) kind small) (count_by-less (λ t. eqb (kind_of t) kind) (gained ds seat) (lost ds seat))
-        (gained_within ds seat kind) (four_of_kind red ds kind small fit)
+        chain _ _ _ _ (get_or-kind_counts (concealed_tiles (hand ds) seat) kind small) (count_by-less (λ t. eqb (kind_of t) kind) (gained (hand ds) seat) (lost (hand ds) seat))
+        (gained_within (hand ds) seat kind) (four_of_kind red ds kind small fit)
     by_kind (inr large) =
-        past _ (get_or_past (kind_counts (concealed_tiles ds seat)) kind 0 (subst (λ (n : ℕ). n ≤ kind) (sym (length-kind_counts (concealed_tiles ds seat))) large))
+        past _ (get_or_past (kind_counts (concealed_tiles (hand ds) seat)) kind 0 (subst (λ (n : ℕ). n ≤ kind) (sym (length-kind_counts (concealed_tiles (hand ds) seat))) large))
 
--- points and deposits
+-- the newest deed
 
-points_same : (ds : List Deed) (seat : ℕ) → pos 30000 ≡ points_of ds seat
-points_same [] seat = refl
-points_same (d ∷ ds) seat = points_same ds seat
+not_empty : (n : ℕ) → (suc n == 0) ≡ false
+not_empty n = ne_eqb (suc n) 0 (λ e. omega (arith, e))
 
-pub points_stay : (ds : List Deed) → pos 30000 ∷ pos 30000 ∷ pos 30000 ∷ pos 30000 ∷ [] ≡ points ds
-points_stay ds =
-    four _ _ _ _ (points_same ds 0) (points_same ds 1) (points_same ds 2) (points_same ds 3)
+-- The newest deed of the newest hand, or the one before any hand, is the newest of all.
+pub newest_is : (ds kept : List Deed) (first : Option Deed) → kept ≡ hand ds → first ≡ opening ds → option_or (newest kept) first ≡ newest ds
+newest_is ds kept first e before = ap (λ (h : List Deed). option_or (newest h) first) e ∙ ap (option_or (newest (hand ds))) before ∙ by_hand (hand ds) refl
   where
-    four : (a b c d : ℤ) → pos 30000 ≡ a → pos 30000 ≡ b → pos 30000 ≡ c → pos 30000 ≡ d → pos 30000 ∷ pos 30000 ∷ pos 30000 ∷ pos 30000 ∷ [] ≡ a ∷ b ∷ c ∷ d ∷ []
-    four a b c d h k l m = cc
+    some : (x : Deed) (xs : List Deed) → option_or (newest (x ∷ xs)) None ≡ newest (x ∷ xs)
+    some x xs = or_none (newest (x ∷ xs))
+      where
+        or_none : (o : Option Deed) → option_or o None ≡ o
+        or_none None = refl
+        or_none (Some d) = refl
 
-pub no_deposits : (ds : List Deed) → 0 ≡ deposits ds
-no_deposits [] = refl
-no_deposits (d ∷ ds) = step _ _ (sum_by-cons (λ x. cond (is_deposit x) 1 0) d ds) (no_deposits ds)
-  where
-    step : (n m : ℕ) → m ≡ 0 + n → 0 ≡ n → 0 ≡ m
-    step n m e h = omega (arith, e, h)
+    by_hand : (h : List Deed) → hand ds ≡ h → option_or (newest h) (cond (length h == 0) (newest ds) None) ≡ newest ds
+    by_hand [] e = refl
+    by_hand (x ∷ xs) e = ap (λ b. option_or (newest (x ∷ xs)) (cond b (newest ds) None)) (not_empty (length xs)) ∙ some x xs ∙ newest_in_hand ds x xs e
+
+-- Where there is a newest deed in the hand, it is the newest of what the table stands for.
+pub newest_some : (rules : Rules) (ds kept told : List Deed) (first : Option Deed) (now : Standing) (played : Play) (d : Deed) → Stands rules ds kept first now →
+    record { rules = rules; deeds = ds } ≡ played → told ≡ kept → Some d ≡ newest told → Some d ≡ newest played.deeds
+newest_some rules ds kept told first now played d s is same e =
+    ap (λ (o : Option Deed). option_or o first) (e ∙ ap newest same) ∙ newest_is ds kept first s.hand s.opening ∙ ap (λ (p : Play). newest p.deeds) is
 
 -- one deed more
 
-pub pushed_fit : (red : Bool) (ds new : List Deed) (d : Deed) → all_fit red [] ds ≡ true → fits red ds d ≡ true → new ≡ ds ++ d ∷ [] → all_fit red [] new ≡ true
-pushed_fit red ds new d fit one is = subst (λ (xs : List Deed). all_fit red [] xs ≡ true) (sym is) (all_fit-append red [] ds d fit one)
+hand_is_with : (ds kept : List Deed) (d : Deed) → kept ≡ hand ds → hand_with kept d ≡ hand (ds ++ d ∷ [])
+hand_is_with ds kept d e = ap (λ (h : List Deed). hand_with h d) e ∙ by_hand (is_hand_start d) (hand ds) ∙ sym (hand_more ds d)
+  where
+    by_hand : (b : Bool) (h : List Deed) → cond b (d ∷ []) (cond (length h == 0) [] (h ++ d ∷ [])) ≡ cond b (d ∷ []) (behind h d)
+    by_hand true h = refl
+    by_hand false [] = refl
+    by_hand false (x ∷ xs) = ap (λ b. cond b [] (x ∷ (xs ++ d ∷ []))) (not_empty (length xs))
+
+opening_is_with : (ds kept : List Deed) (d : Deed) → kept ≡ hand ds → opening_with kept d ≡ opening (ds ++ d ∷ [])
+opening_is_with ds kept d e =
+    ap (λ (h : List Deed). cond (length h == 0) (Some d) None) (hand_is_with ds kept d e)
+    ∙ ap (λ (o : Option Deed). cond (length (hand (ds ++ d ∷ [])) == 0) o None) (sym (newest_more ds d))
+
+standing_is_with : (red : Bool) (ds : List Deed) (d : Deed) → all_fit red [] ds ≡ true → fits red ds d ≡ true → cond (is_hand_start d) (standing_by 0 (Some d)) (standing ds) ≡ standing (ds ++ d ∷ [])
+standing_is_with red ds d fit one = by_start (is_hand_start d) refl
+  where
+    by_start : (b : Bool) → is_hand_start d ≡ b → cond b (standing_by 0 (Some d)) (standing ds) ≡ standing (ds ++ d ∷ [])
+    by_start true e = sym (standing_starts ds d e ∙ ap (λ (n : ℕ). standing_by n (Some d)) (first_start red ds d fit one e))
+    by_start false e = sym (standing_stays ds d e)
+
+pub stands_at_first : (rules : Rules) (ds kept : List Deed) → ds ≡ [] → kept ≡ [] → Stands rules ds kept None first_standing
+unfolding hand
+stands_at_first rules ds kept e h =
+    subst (λ (xs : List Deed). Stands rules xs kept None first_standing) (sym e)
+    (subst (λ (xs : List Deed). Stands rules [] xs None first_standing) (sym h) (record { fit = refl; hand = refl; opening = refl; standing = refl }))
+
+pub stands_more : (rules : Rules) (ds kept : List Deed) (first : Option Deed) (now : Standing) (d : Deed) → Stands rules ds kept first now → fits rules.red ds d ≡ true →
+    Stands rules (ds ++ d ∷ []) (hand_with kept d) (opening_with kept d) (cond (is_hand_start d) (standing_by 0 (Some d)) now)
+stands_more rules ds kept first now d s one = record {
+  fit = all_fit-append rules.red [] ds d s.fit one;
+  hand = hand_is_with ds kept d s.hand;
+  opening = opening_is_with ds kept d s.hand;
+  standing = ap (λ (n : Standing). cond (is_hand_start d) (standing_by 0 (Some d)) n) s.standing ∙ standing_is_with rules.red ds d s.fit one;
+}
+
+-- What stands for deeds stands for the same ones in other words.
+pub stands_for : (rules : Rules) (ds xs kept hs : List Deed) (first o : Option Deed) (now n : Standing) → Stands rules ds kept first now → xs ≡ ds → hs ≡ kept → o ≡ first → n ≡ now →
+    Stands rules xs hs o n
+stands_for rules ds xs kept hs first o now n s e h k l = subst (λ (t : Standing). Stands rules xs hs o t) (sym l)
+    (subst (λ (p : Option Deed). Stands rules xs hs p now) (sym k)
+    (subst (λ (ys : List Deed). Stands rules xs ys first now) (sym h)
+    (subst (λ (ys : List Deed). Stands rules ys kept first now) (sym e) s)))
 
 -- What a table stands for, by its parts.
 pub fit_within : (rules : Rules) (ds : List Deed) (played : Play) (d : Deed) → record { rules = rules; deeds = ds } ≡ played → fits played.rules.red played.deeds d ≡ true →

@@ -11,5 +11,5 @@ mod table;
 mod tests;
 
 pub use marks::Marks;
-pub use standing::Standing;
+pub use mj_rounds::Standing;
 pub use table::Table;

@@ -1,10 +1,10 @@
 ghost use Rattle.std.specs.Prelude.{◌≡◌};
 ghost use Rattle.std.specs.List.{list_any};
-ghost use Rattle.mj_deeds.specs.Course.{is_start};
+ghost use Rattle.mj_deeds.specs.Hand.{is_hand_start};
 ghost use Rattle.mj_deeds.specs.Firsts.{is_first, ends_first};
 ghost use Rattle.mj_table.specs.Marks.{marks};
 
-use mj_deeds::{Deed, is_call};
+use mj_deeds::{Deed, is_call, is_hand_start};
 
 /// What stands of a seat's riichi and of its first turn in a hand. No deed of riichi is built yet, so all marks but `first`
 /// are false.
@@ -44,9 +44,9 @@ fn is_first(deeds: &[Deed], seat: u8) -> bool
 
 // Whether a hand has begun.
 fn has_begun(deeds: &[Deed]) -> bool
-    ensures { result ≡ list_any is_start deeds.now }
+    ensures { result ≡ list_any is_hand_start deeds.now }
 {
-    deeds.iter().any(|deed| is_start(deed))
+    deeds.iter().any(|deed| is_hand_start(deed))
 }
 
 // Whether the first turn of a seat has ended.
@@ -54,13 +54,6 @@ fn has_ended_first(deeds: &[Deed], seat: u8) -> bool
     ensures { result ≡ list_any (ends_first seat) deeds.now }
 {
     deeds.iter().any(|deed| ends_first(deed, seat))
-}
-
-// Whether a deed starts a hand.
-fn is_start(deed: &Deed) -> bool
-    ensures { result ≡ is_start deed.now }
-{
-    matches!(deed, Deed::StartHand { .. })
 }
 
 // Whether a deed ends the first turn of a seat.

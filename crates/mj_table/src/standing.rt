@@ -1,55 +1,26 @@
-ghost use Rattle.std.specs.Prelude.{◌≡◌, ◌≤◌, length};
-ghost use Rattle.mj_deeds.specs.Course.{starts};
-ghost use Rattle.mj_table.specs.Standings.{standing, first_standing};
+ghost use Rattle.std.specs.Prelude.{◌≡◌, if◌then◌else◌, Some};
+ghost use Rattle.mj_deeds.specs.Hand.{is_hand_start};
+ghost use Rattle.mj_deeds.specs.Standings.{standing_by};
 
 use mj_deeds::Deed;
-use mj_tiles::Kind;
+use mj_rounds::Standing;
 
-/// How a game stands in one of its hands: the wind of the round, the dealer's seat, 0 to 3, the honba on the table, and the
-/// number of the hand, counted from 0 over the game.
-#[derive(Clone, Copy, Debug, PartialEq, Eq)]
-pub struct Standing {
-    pub round: Kind,
-    pub dealer: u8,
-    pub honba: u32,
-    pub hand: u32,
-}
-
-// The standing of the newest hand of a game of one hand, and before its start that of the first hand.
-pub(crate) fn newest_standing(deeds: &[Deed]) -> Standing
-    requires { length (starts deeds.now) ≤ 1 }
-    ensures { result ≡ standing deeds.now }
+// The standing of the newest hand of a game of one hand, with a deed more: a start of a hand says it.
+pub(crate) fn standing_with(before: Standing, deed: &Deed) -> Standing
+    ensures { result ≡ (if is_hand_start deed.now then standing_by 0 (Some deed.now) else before) }
 {
-    for deed in deeds {
-        if let Deed::StartHand {
+    match deed {
+        Deed::StartHand {
             round,
             dealer,
             honba,
             ..
-        } = deed
-        {
-            return Standing {
-                round: *round,
-                dealer: *dealer,
-                honba: *honba,
-                hand: 0,
-            };
-        }
-    }
-    first()
-}
-
-// The standing of the first hand.
-fn first() -> Standing
-    ensures { result ≡ first_standing }
-{
-    match Kind::of(27) {
-        Some(round) => Standing {
-            round,
-            dealer: 0,
-            honba: 0,
+        } => Standing {
+            round: *round,
+            dealer: *dealer,
+            honba: *honba,
             hand: 0,
         },
-        None => unreachable!(),
+        _ => before,
     }
 }

@@ -6,6 +6,7 @@ use Rattle.std.proofs.lemmas.List.Sums.{sum_by-append}
 use Rattle.std.proofs.lemmas.List.FromFn.{length-map-range_with_len, get_or-map-range_with_len}
 use Rattle.std.proofs.lemmas.Bool.Decides.{Decides-eqb, not_from_Decides}
 use Rattle.std.proofs.lemmas.Grind.{common_steps, same_number_lists}
+use Rattle.mj_lists.proofs.Fronts.{zero_at}
 use Rattle.mj_tiles.specs.Faces.{kind_of}
 use Rattle.mj_tiles.specs.Counts.{all_kinds, number_of, kind_counts, NoFifth, IsCounts}
 
@@ -52,14 +53,9 @@ pub number_of-take : (tiles : List ℕ) (n kind : ℕ) → number_of (take n til
 number_of-take tiles n kind = grind (arith, common_steps, sum_by-append (λ other. cond (eqb (kind_of other) kind) 1 0) (take n tiles) (drop n tiles), take-append-drop n tiles)
 
 -- No tiles, and no counts.
-zeros : (n k : ℕ) → ◌≡◌ {A = ℕ} (get_or (replicate n 0) k 0) 0
-zeros zero k = refl
-zeros (suc n) zero = refl
-zeros (suc n) (suc k) = zeros n k
-
 pub counts_none : (replicate 34 0 ≡ kind_counts []) × NoFifth (replicate 34 0)
 unfolding kind_counts all_kinds
-counts_none = (refl, λ kind. rw zeros (omega arith))
+counts_none = (refl, λ kind. rw zero_at (omega arith))
 
 -- The next tile is the fifth of its kind.
 pub counts_over : (numbers tiles : List ℕ) (i tile place : ℕ) → i < length tiles → numbers ≡ kind_counts (take i tiles) →

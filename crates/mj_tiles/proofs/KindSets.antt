@@ -11,19 +11,13 @@ use Rattle.std.proofs.lemmas.Bool.Decides.{nat_tests}
 use Rattle.std.proofs.lemmas.List.Elements.{All-tail, All-head, All-filter}
 use Rattle.std.proofs.lemmas.List.FromFn.{length-range_with_len, get_or-range_with_len}
 use Rattle.mj_tiles.specs.Counts.{all_kinds}
+use Rattle.mj_tiles.proofs.Bits.{has_bit-with}
 use Rattle.mj_tiles.specs.Kinds.{has_kind, no_kinds, with_kind, set_of, kinds_that}
 
 -- A set of kinds and one more is one.
 pub with_kind-within : (set kind : ℕ) → set < 2 ^ 34 → kind < 34 → with_kind set kind < 2 ^ 34
 unfolding with_kind
 with_kind-within set kind small within = or_lt 34 set (2 ^ kind) small (pow-lt within)
-
--- The same of what the code computes.
-pub with_mask-within : (set kind : ℕ) → set < 2 ^ 34 → kind < 34 → bit_or set (1 * 2 ^ kind % 2 ^ 64) < 2 ^ 34
-with_mask-within set kind small within =
-    let power : 2 ^ kind < 2 ^ 34 = pow-lt within in
-    let same : 1 * 2 ^ kind % 2 ^ 64 ≡ 2 ^ kind = omega arith in
-    or_lt 34 set (1 * 2 ^ kind % 2 ^ 64) small (rw same power)
 
 -- The set without kinds has none.
 pub has_kind-none : (kind : ℕ) → has_kind no_kinds kind ≡ false
@@ -33,16 +27,7 @@ has_kind-none kind = rw bit_at-zero refl
 -- A set and one kind more has that kind and those that it had.
 pub has_kind-with : (set kind other : ℕ) → has_kind (with_kind set kind) other ≡ (eqb kind other || has_kind set other)
 unfolding has_kind with_kind
-has_kind-with set kind other = rw bit_at_or (with_bit set kind other (cases_eq kind other))
-  where
-    bit_here : (kind other : ℕ) → kind ≡ other → bit_at (2 ^ kind) other ≡ 1
-    bit_here kind other same = rw (← same) (bit_at-pow_same kind)
-
-    with_bit : (set kind other : ℕ) → (kind ≡ other) ⊎ (kind ≡ other → ⊥) →
-        eqb (max (bit_at set other) (bit_at (2 ^ kind) other)) 1 ≡ (eqb kind other || eqb (bit_at set other) 1)
-    with_bit set kind other (inl same) = grind (arith, nat_tests, bit_here kind other same, bit_at-lt set other)
-    with_bit set kind other (inr differ) =
-        grind (arith, nat_tests, bit_at-pow_other kind other (λ e. differ (sym e)), bit_at-lt set other)
+has_kind-with set kind other = has_bit-with set kind other
 
 -- Two sets of kinds that have the same kinds are equal.
 pub same_kinds : (a b : ℕ) → a < 2 ^ 34 → b < 2 ^ 34 → ((kind : ℕ) → kind < 34 → has_kind a kind ≡ has_kind b kind) → a ≡ b

@@ -9,6 +9,7 @@ use Rattle.std.proofs.lemmas.List.Quantifiers.{position-Some}
 use Rattle.std.proofs.lemmas.Option.{unwrap_or-slice_get}
 use Rattle.std.proofs.lemmas.List.Folds.{list_all_at}
 use Rattle.std.proofs.lemmas.List.FromFn.{get_or-range_with_len, length-range_with_len}
+use Rattle.mj_lists.proofs.Ranges.{passes}
 use Rattle.mj_tiles.specs.Faces.{texts, text_of, face_of}
 
 -- The place that is read is this one.
@@ -20,19 +21,6 @@ is_at_says : (o : Option ℕ) (face : ℕ) → is_at o face ≡ true → o ≡ S
 unfolding is_at
 is_at_says None face h = absurd (false≢true h)
 is_at_says (Some other) face h = ap Some ((Decides-eqb other face).0 h)
-
--- A test that passes at every number below n passes at each.
-passes : (p : ℕ → Bool) (n k : ℕ) → list_all p (range_with_len 0 n) ≡ true → k < n → p k ≡ true
-passes p n k all within = passes_at p n k all within (p k) refl
-  where
-    passes_at : (p : ℕ → Bool) (n k : ℕ) → list_all p (range_with_len 0 n) ≡ true → k < n → (b : Bool) → p k ≡ b → p k ≡ true
-    passes_at p n k all within true is = is
-    passes_at p n k all within false is =
-        let inside : k < length (range_with_len 0 n) = rw length-range_with_len within in
-        let read : get_or (range_with_len 0 n) k 0 ≡ k = get_or-range_with_len 0 n k 0 within ∙ zero-add k in
-        let fails : p (get_or (range_with_len 0 n) k 0) ≡ false = ap p read ∙ is in
-        let none : list_all p (range_with_len 0 n) ≡ false = list_all_at p (range_with_len 0 n) k 0 inside fails in
-        absurd (false≢true (sym none ∙ all))
 
 -- Each face is what its text names.
 pub face_of-text_of : (face : ℕ) → face < 37 → face_of (text_of face) ≡ Some face

@@ -1,8 +1,9 @@
-ghost use Rattle.std.specs.Prelude.{◌≡◌, ℕ, ◌<◌};
+ghost use Rattle.std.specs.Prelude.{◌≡◌, ℕ, ◌<◌, ◌++◌, replicate, OnOk};
 ghost use Rattle.std.specs.Option.{SomeIff};
 ghost use Rattle.mj_tiles.specs.Faces.{after_kind};
 ghost use Rattle.mj_tiles.specs.Terminals.{is_terminal_or_honour};
 
+use std::alloc::AllocError;
 use std::marker::Model;
 
 /// One of the 34 kinds of tile: 0 to 8 are `1m` to `9m`, 9 to 17 `1p` to `9p`, 18 to 26 `1s` to `9s`, then the winds
@@ -31,6 +32,14 @@ impl Kind {
             return Some(Kind { number });
         }
         None
+    }
+
+    /// The kind of that number. Condition: it is below 34.
+    pub fn at(number: u8) -> Kind
+        requires { number < 34 }
+        ensures { result ≡ number }
+    {
+        Kind { number }
     }
 
     /// The number of the kind, 0 to 33.
@@ -62,4 +71,14 @@ pub fn after(kind: Kind) -> Kind
         other => other + 1,
     };
     Kind { number }
+}
+
+/// Adds a kind so often behind a list of kinds. `Err` is want of memory.
+pub fn push_times(kinds: &mut Vec<Kind>, kind: Kind, times: u8) -> Result<(), AllocError>
+    ensures { OnOk result (kinds.new.items ≡ kinds.old.items ++ replicate times kind) }
+{
+    for _time in 0..times {
+        kinds.push(kind)?;
+    }
+    Ok(())
 }

@@ -1,16 +1,14 @@
-//! The tiles of riichi mahjong: faces, kinds, texts, melds, counts and sets of kinds. No call takes memory.
+//! The tiles of riichi mahjong: faces, kinds, texts, melds, counts and sets of kinds. No call but `push_times` takes memory.
 #![tactic(auto)]
 
 mod counts;
 mod kind;
 mod kinds;
 mod meld;
-#[cfg(test)]
-mod tests;
 mod tile;
 
 pub use counts::{Counts, counts_of};
-pub use kind::{Kind, after};
+pub use kind::{Kind, after, push_times};
 pub use kinds::Kinds;
 pub use meld::{Form, Meld, Melds};
 pub use tile::{Tile, number_among};

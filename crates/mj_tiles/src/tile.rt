@@ -32,6 +32,14 @@ impl Tile {
         None
     }
 
+    /// The tile of that face. Condition: it is below 37.
+    pub fn at(face: u8) -> Tile
+        requires { face < 37 }
+        ensures { result ≡ face }
+    {
+        Tile { face }
+    }
+
     /// The face of the tile, 0 to 36.
     pub fn face(self) -> u8
         ensures value { result ≡ self }

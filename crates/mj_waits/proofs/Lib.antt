@@ -1,2 +1,1 @@
-pub mod AnyKind
 pub mod WaitSteps

@@ -2,13 +2,14 @@
 use Rattle.std.proofs.Common.{ℕ, ◌≡◌, ◌<◌, ◌≤◌, ◌+◌, Bool, true, false, List, refl, sym, ◌∙◌, ap, subst, arith, get_or, ltb, ◌&&◌, ◌⊎◌, inl, inr}
 use Rattle.std.proofs.lemmas.Bool.{cases_lt, false≢true, both_ways, and_parts, and_from, ltb-true, lt-ltb}
 use Rattle.std.proofs.lemmas.Bool.Decides.{nat_tests}
+use Rattle.mj_lists.proofs.Ranges.{below_or_here}
 use Rattle.mj_tiles.specs.Kinds.{has_kind, with_kind, no_kinds, kinds_that}
 use Rattle.mj_tiles.proofs.KindSets.{has_kind-kinds_that}
 use Rattle.mj_readings.proofs.KindsBelow.{kinds_below, kinds_below-none, kinds_below-yes, kinds_below-no, kinds_below-all}
 use Rattle.mj_readings.specs.Tests.{complete, one_more}
 use Rattle.mj_readings.specs.Completing.{IsCompleting, is_completing}
 use Rattle.mj_waits.specs.Waits.{IsWait, is_wait, is_ready}
-use Rattle.mj_waits.proofs.AnyKind.{any_kind, no_kind}
+use Rattle.mj_tiles.proofs.EachKind.{any_kind, no_kind}
 
 -- The kinds with room among those that complete the hand: no room is above four.
 pub wait_value : (counts room : List ℕ) (melds completing kind : ℕ) (result : Bool) → completing ≡ kinds_that (is_completing counts melds) → kind < 34 →
@@ -55,13 +56,6 @@ Says counts room melds kind =
 pub record WaitsSoFar (counts room : List ℕ) (melds kinds n : ℕ) : Type 0 where
   pub set : kinds ≡ kinds_below (is_wait counts room melds) n
   pub says : (k : ℕ) → k < n → Says counts room melds k
-
-below_or_here : (k n : ℕ) → k < n + 1 → (k < n) ⊎ (k ≡ n)
-below_or_here k n inside = split (cases_lt k n)
-  where
-    split : (k < n) ⊎ (n ≤ k) → (k < n) ⊎ (k ≡ n)
-    split (inl below) = inl below
-    split (inr above) = inr (omega arith)
 
 pub says_of : (counts room : List ℕ) (melds kind : ℕ) (result : Bool) → result ≡ is_wait counts room melds kind →
     (result ≡ true → IsWait counts room melds kind) × (IsWait counts room melds kind → result ≡ true) → Says counts room melds kind

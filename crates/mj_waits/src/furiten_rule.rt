@@ -19,9 +19,7 @@ pub fn furiten(facts: &Facts) -> bool
     ensures { result ≡ is_furiten facts.now }
 {
     for number in 0..34 {
-        let Some(kind) = Kind::of(number) else {
-            unreachable!()
-        };
+        let kind = Kind::at(number);
         if is_missed_kind(facts, kind) {
             return true;
         }

@@ -3,8 +3,6 @@
 
 mod furiten_rule;
 mod ready_hand;
-#[cfg(test)]
-mod tests;
 
 pub use furiten_rule::{Facts, furiten};
 pub use ready_hand::{ready, waits};

@@ -15,9 +15,7 @@ pub fn waits(counts: &Counts, room: &Counts, melds: u8) -> Kinds
     let complete = completing(counts, melds);
     let mut kinds = Kinds::none();
     for number in 0..34 {
-        let Some(kind) = Kind::of(number) else {
-            unreachable!()
-        };
+        let kind = Kind::at(number);
         if waits_on(counts, room, complete, kind) {
             kinds = kinds.with(kind);
         }
@@ -32,9 +30,7 @@ pub fn ready(counts: &Counts, room: &Counts, melds: u8) -> bool
 {
     let waits = waits(counts, room, melds);
     for number in 0..34 {
-        let Some(kind) = Kind::of(number) else {
-            unreachable!()
-        };
+        let kind = Kind::at(number);
         if waits.has(kind) {
             return true;
         }

@@ -1,14 +1,30 @@
 -- Tiles of which none is one too many: one tile more, and how many there can be.
-use Rattle.std.proofs.Common.{◌≡◌, ℕ, ◌+◌, ◌<◌, ◌≤◌, ◌^◌, Bool, true, false, Some, List, [], ◌∷◌, ◌++◌, length, take, drop, get_or, arith, inl, inr, refl, sym, ap, ◌∙◌, cond, leb, eqb}
+use Rattle.std.proofs.Common.{◌≡◌, ℕ, ◌+◌, ◌<◌, ◌≤◌, ◌^◌, Bool, true, false, Option, Some, None, List, [], ◌∷◌, ◌++◌, length, take, drop, get_or, arith, inl, inr, refl, sym, ap, ◌∙◌, cond, leb, eqb}
 use Rattle.std.specs.Prelude.{All}
-use Rattle.std.proofs.lemmas.Bool.{cases_eq, eq-eqb, ne_eqb, leb-false, lt-leb, le-leb}
+use Rattle.std.proofs.lemmas.Bool.{cases_eq, cases_lt, le-ltb, eq-eqb, ne_eqb, leb-false, lt-leb, le-leb}
 use Rattle.std.proofs.lemmas.List.{take_more, drop_more, length-take-le}
 use Rattle.std.proofs.lemmas.List.Sums.{sum_by_push}
 use Rattle.std.proofs.lemmas.List.Elements.{All-nil, All-push}
 use Rattle.mj_tiles.specs.Faces.{number_in, tile_order}
 use Rattle.mj_wall.specs.Places.{number_in_wall, first_extra}
 use Rattle.mj_wall.proofs.TileOrder.{total, total-all}
-use Rattle.mj_wall.proofs.WallFaces.{face_below}
+
+-- No face from 37 on stands in a wall.
+pub none_above : (red : Bool) (face : ℕ) → 37 ≤ face → number_in_wall red face ≡ 0
+none_above true face h = rw (le-ltb face 34 (omega arith)) (rw (le-ltb face 37 h) refl)
+none_above false face h = rw (le-ltb face 34 (omega arith)) refl
+
+-- Where no place is found, the tile is not one too many, and none behind it is.
+pub not_found : (extra : Bool) (place : ℕ) (rest : Option ℕ) → cond extra (Some place) rest ≡ None → (extra ≡ false) × (rest ≡ None)
+not_found true place rest h = cc
+not_found false place rest h = (refl, h)
+
+-- A tile that is not one too many is a face of the game.
+pub face_below : (red : Bool) (before : List ℕ) (t : ℕ) → leb (number_in_wall red t) (number_in before t) ≡ false → t < 37
+face_below red before t h = elim (cases_lt t 37) [
+  | inl below ↦ below
+  | inr above ↦ absurd (omega (arith, leb-false (number_in_wall red t) (number_in before t) h, none_above red t above))
+]
 
 -- Tiles of which none is one too many of its face.
 pub record AreWithin (red : Bool) (tiles : List ℕ) : Type 0 where
@@ -18,7 +34,7 @@ pub record AreWithin (red : Bool) (tiles : List ℕ) : Type 0 where
 pub within-none : (red : Bool) → AreWithin red []
 within-none red = record { known = All-nil (λ t. t < 37); few = λ face. omega arith }
 
-number_push : (tiles : List ℕ) (t face : ℕ) → number_in (tiles ++ t ∷ []) face ≡ number_in tiles face + cond (eqb t face) 1 0
+pub number_push : (tiles : List ℕ) (t face : ℕ) → number_in (tiles ++ t ∷ []) face ≡ number_in tiles face + cond (eqb t face) 1 0
 number_push tiles t face = sum_by_push (λ x. cond (eqb x face) 1 0) tiles t
 
 few-push : (red : Bool) (tiles : List ℕ) (t face : ℕ) → number_in tiles t < number_in_wall red t → number_in tiles face ≤ number_in_wall red face →
@@ -51,16 +67,16 @@ within-push red tiles t within passed = record {
 }
 
 -- How many tiles of these faces a wall has.
-abbrev allowed : Bool → List ℕ → ℕ
+abbrev pub allowed : Bool → List ℕ → ℕ
 allowed red [] = 0
 allowed red (face ∷ faces) = number_in_wall red face + allowed red faces
 
-allowed-all : (red : Bool) → allowed red tile_order ≡ 136
+pub allowed-all : (red : Bool) → allowed red tile_order ≡ 136
 unfolding tile_order
 allowed-all true = refl
 allowed-all false = refl
 
-total-le : (red : Bool) (tiles faces : List ℕ) → ((face : ℕ) → number_in tiles face ≤ number_in_wall red face) → total tiles faces ≤ allowed red faces
+pub total-le : (red : Bool) (tiles faces : List ℕ) → ((face : ℕ) → number_in tiles face ≤ number_in_wall red face) → total tiles faces ≤ allowed red faces
 total-le red tiles [] few = omega arith
 total-le red tiles (face ∷ faces) few =
     let rest = total-le red tiles faces few in

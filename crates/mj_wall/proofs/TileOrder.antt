@@ -1,12 +1,12 @@
 -- Putting tiles into tile order neither adds nor loses any.
-use Rattle.std.proofs.Common.{◌≡◌, ℕ, ◌+◌, ◌-◌, ◌*◌, ◌<◌, ◌≤◌, ◌⊎◌, Bool, true, false, List, [], ◌∷◌, length, arith, inl, inr, refl, sym, ap, ◌∙◌, cond, eqb, ltb}
+use Rattle.std.proofs.Common.{◌≡◌, ℕ, ◌+◌, ◌-◌, ◌*◌, ◌<◌, ◌≤◌, ◌⊎◌, Bool, true, false, List, [], ◌∷◌, length, arith, inl, inr, refl, sym, ap, ◌∙◌, subst, cond, eqb, ltb}
 use Rattle.std.specs.Prelude.{All, flat_map, replicate, count_by}
 use Rattle.std.specs.List.{list_all}
 use Rattle.std.proofs.lemmas.Bool.{and_parts, cases_eq, cases_lt, ltb-true, ne_eqb, agree_below_at, eqb-true}
 use Rattle.std.proofs.lemmas.List.{length-append, length-replicate}
 use Rattle.std.proofs.lemmas.List.Sums.{sum_by-cons, sum_by-append}
 use Rattle.std.proofs.lemmas.List.Folds.{sum_by-replicate}
-use Rattle.std.proofs.lemmas.List.Elements.{All-head, All-tail}
+use Rattle.std.proofs.lemmas.List.Elements.{All-head, All-tail, All-nil, All-cons}
 use Rattle.mj_tiles.specs.Faces.{number_in, less, in_tile_order, tile_order}
 use Rattle.mj_tiles.proofs.Faces.{either_way}
 
@@ -20,7 +20,7 @@ total-none [] = refl
 total-none (face ∷ faces) = let rest = total-none faces in omega arith
 
 -- One tile counts where it is of the face.
-number-cons : (t face : ℕ) (ts : List ℕ) → number_in (t ∷ ts) face ≡ cond (eqb t face) 1 0 + number_in ts face
+pub number-cons : (t face : ℕ) (ts : List ℕ) → number_in (t ∷ ts) face ≡ cond (eqb t face) 1 0 + number_in ts face
 number-cons t face ts = sum_by-cons (λ x. cond (eqb x face) 1 0) t ts
 
 -- One tile more counts as often as its face is named.
@@ -178,3 +178,40 @@ count_by-less p tiles others = chain _ _ _ (count_by-left p tiles others tile_or
   where
     chain : (a b c : ℕ) → a ≤ b → b ≤ c → a ≤ c
     chain a b c h k = omega (arith, h, k)
+
+-- A test that each face of a list passes is passed by a face that stands in it.
+pub passes_each : (p : ℕ → Bool) (faces : List ℕ) (face : ℕ) → list_all p faces ≡ true → 0 < number_in faces face → p face ≡ true
+passes_each p [] face h some = absurd (omega arith)
+passes_each p (f ∷ fs) face h some =
+    let parts = and_parts (p f) (list_all p fs) h in
+    elim (cases_eq f face) [
+      | inl e ↦ subst (λ x. p x ≡ true) e parts.0
+      | inr n ↦ passes_each p fs face parts.1 (behind (eqb f face) _ _ (ne_eqb f face n) (number-cons f face fs) some)
+    ]
+  where
+    behind : (b : Bool) (n m : ℕ) → b ≡ false → m ≡ cond b 1 0 + n → 0 < m → 0 < n
+    behind true n m e h k = cc
+    behind false n m e h k = omega (arith, h, k)
+
+-- What each face of the game passes.
+pub passes_face : (p : ℕ → Bool) (face : ℕ) → list_all p tile_order ≡ true → face < 37 → p face ≡ true
+passes_face p face h below = passes_each p tile_order face h (omega (arith, once_in_order face below))
+
+-- The faces of the game count no tile twice.
+total-le-length : (tiles : List ℕ) → total tiles tile_order ≤ length tiles
+total-le-length [] = omega (arith, total-none tile_order)
+total-le-length (t ∷ ts) = omega (arith, total-cons t ts tile_order, at_most_once t (cases_lt t 37), total-le-length ts)
+
+-- Where they count all tiles, each tile is a face of the game.
+pub known-total : (tiles : List ℕ) → total tiles tile_order ≡ length tiles → All (λ t. t < 37) tiles
+unfolding tile_order
+known-total [] h = All-nil (λ t. t < 37)
+known-total (t ∷ ts) h =
+    let parts = total-cons t ts tile_order in
+    let once = at_most_once t (cases_lt t 37) in
+    let most = total-le-length ts in
+    All-cons (λ x. x < 37) t ts (below t (cases_lt t 37) (omega arith)) (known-total ts (omega arith))
+  where
+    below : (t : ℕ) → (t < 37) ⊎ (37 ≤ t) → 1 ≤ number_in tile_order t → t < 37
+    below t (inl small) h = small
+    below t (inr above) h = absurd (omega (arith, h, none_above tile_order t refl above))

@@ -1,13 +1,13 @@
 -- No kind stands more than four times in a wall, and so no more than four times among tiles of different places of it.
-use Rattle.std.proofs.Common.{◌≡◌, ℕ, zero, suc, ◌+◌, ◌-◌, ◌*◌, ◌<◌, ◌≤◌, ◌==◌, Bool, true, false, None, List, [], ◌∷◌, ◌++◌, length, get_or, take, arith, inl, inr, refl, sym, ap, ◌∙◌, subst, cond, eqb, leb, add-one}
+use Rattle.std.proofs.Common.{◌≡◌, ℕ, zero, suc, ◌+◌, ◌-◌, ◌*◌, ◌<◌, ◌≤◌, ◌==◌, Bool, true, false, List, [], ◌∷◌, length, get_or, take, arith, inl, inr, refl, sym, ap, ◌∙◌, subst, cond, eqb, leb, add-one}
 use Rattle.std.specs.Prelude.{All, sum_by, if◌then◌else◌}
-use Rattle.std.proofs.lemmas.Bool.{cases_eq, ne_eqb, eqb-true, leb-true, leb-false, agree_below, agree_below_at}
-use Rattle.std.proofs.lemmas.List.Sums.{sum_by-cons, sum_by_push, sum_by_more}
+use Rattle.std.proofs.lemmas.Bool.{cases_eq, eqb-true, leb-true, agree_below, agree_below_at}
+use Rattle.std.proofs.lemmas.List.Sums.{sum_by-cons, sum_by_more}
 use Rattle.std.proofs.lemmas.List.Elements.{All-head, All-tail}
 use Rattle.mj_tiles.specs.Faces.{kind_of, number_in}
 use Rattle.mj_tiles.specs.Counts.{number_of}
-use Rattle.mj_wall.specs.Places.{number_in_wall, first_extra, bad_place, is_wall}
-use Rattle.mj_wall.proofs.WallFaces.{not_found, no_bad_place, wall_faces}
+use Rattle.mj_wall.specs.Places.{number_in_wall, is_wall}
+use Rattle.mj_wall.proofs.WallFaces.{wall_faces, wall_has_each}
 
 -- The red five of a kind; of a kind without one the number of no face.
 abbrev red_face : ℕ → ℕ
@@ -35,38 +35,6 @@ number_of-splits kind (t ∷ ts) h faces =
     added : (a b c x y z p q r : ℕ) → a ≡ x + p → b ≡ y + q → c ≡ z + r → x ≡ y + z → p ≡ q + r → a ≡ b + c
     added a b c x y z p q r e f g h k = omega arith
 
--- Where no tile is one too many, no face stands more often than it does in a wall.
-faces_within : (red : Bool) (before tiles : List ℕ) (face : ℕ) → first_extra red before tiles ≡ None → number_in before face ≤ number_in_wall red face →
-    number_in before face + number_in tiles face ≤ number_in_wall red face
-faces_within red before [] face h within = omega arith
-faces_within red before (t ∷ ts) face h within =
-    let parts = not_found (leb (number_in_wall red t) (number_in before t)) (length before) (first_extra red (before ++ t ∷ []) ts) h in
-    let room = leb-false (number_in_wall red t) (number_in before t) parts.0 in
-    let more = sum_by_push (λ x. cond (eqb x face) 1 0) before t in
-    let whole = sum_by-cons (λ x. cond (eqb x face) 1 0) t ts in
-    let still : number_in (before ++ t ∷ []) face ≤ number_in_wall red face = elim (cases_eq t face) [
-      | inl e ↦ here t face (number_in before t) (number_in before face) _ (number_in_wall red t) (number_in_wall red face) (ap (number_in before) e) (ap (number_in_wall red) e) room more
-      | inr ne ↦ there _ _ _ _ more (ap (λ b. cond b 1 0) (ne_eqb t face ne)) within
-    ] in
-    let rest = faces_within red (before ++ t ∷ []) ts face parts.1 still in
-    joined _ _ _ _ _ _ more whole rest
-  where
-    at_most_one : (b : Bool) → cond b 1 0 ≤ 1
-    at_most_one true = omega arith
-    at_most_one false = omega arith
-
-    within_one : (a b c x u w : ℕ) → a ≡ b → u ≡ w → a < u → c ≡ b + x → x ≤ 1 → c ≤ w
-    within_one a b c x u w e f g h k = omega arith
-
-    here : (t face a b c u w : ℕ) → a ≡ b → u ≡ w → a < u → c ≡ b + cond (eqb t face) 1 0 → c ≤ w
-    here t face a b c u w e f g h = within_one a b c (cond (eqb t face) 1 0) u w e f g h (at_most_one (eqb t face))
-
-    there : (a b x w : ℕ) → a ≡ b + x → x ≡ 0 → b ≤ w → a ≤ w
-    there a b x w e f g = omega arith
-
-    joined : (a b x p q w : ℕ) → a ≡ b + x → p ≡ x + q → a + q ≤ w → b + p ≤ w
-    joined a b x p q w e f g = omega arith
-
 -- Of no kind has a wall more than four places.
 room_for : Bool → ℕ → Bool
 room_for red kind = leb (number_in_wall red kind + number_in_wall red (red_face kind)) 4
@@ -78,16 +46,15 @@ room_for_each false kind h = agree_below_at (room_for false) (λ k. true) 34 kin
 
 -- No kind stands more than four times in a wall.
 pub wall_has_four : (red : Bool) (wall : List ℕ) (kind : ℕ) → is_wall red wall ≡ true → kind < 34 → number_of wall kind ≤ 4
-unfolding is_wall bad_place room_for
+unfolding room_for
 wall_has_four red wall kind h small =
-    let none = (no_bad_place (first_extra red [] wall) (length wall) h).0 in
     four _ _ _ _ _
     (number_of-splits kind wall small (wall_faces red wall h))
-    (faces_within red [] wall kind none (omega arith))
-    (faces_within red [] wall (red_face kind) none (omega arith))
+    (wall_has_each red wall kind h)
+    (wall_has_each red wall (red_face kind) h)
     (leb-true _ 4 (room_for_each red kind small))
   where
-    four : (a b c u w : ℕ) → a ≡ b + c → 0 + b ≤ u → 0 + c ≤ w → u + w ≤ 4 → a ≤ 4
+    four : (a b c u w : ℕ) → a ≡ b + c → b ≡ u → c ≡ w → u + w ≤ 4 → a ≤ 4
     four a b c u w e f g h = omega arith
 
 -- The sum of what a function gives at the first numbers.

@@ -1,6 +1,7 @@
 -- Where the tiles of a wall are taken from; a wall is a list of 136 faces.
-use Rattle.std.specs.Prelude.{ℕ, ◌+◌, ◌-◌, ◌*◌, ◌==◌, ◌&&◌, ◌||◌, Bool, nat_lt, nat_le, min, if◌then◌else◌, List, [], ◌∷◌, ◌++◌, length, Option, Some, None, is_none, slice_index, take, drop}
-use Rattle.mj_tiles.specs.Faces.{number_in}
+use Rattle.std.specs.Prelude.{ℕ, ◌+◌, ◌-◌, ◌*◌, ◌==◌, ◌&&◌, ◌||◌, Bool, nat_lt, nat_le, min, if◌then◌else◌, List, [], ◌∷◌, ◌++◌, length, Option, Some, None, slice_index, take, drop}
+use Rattle.std.specs.List.{list_all}
+use Rattle.mj_tiles.specs.Faces.{number_in, tile_order}
 
 -- Tile i of the k-th seat that is dealt to, the dealer being the first.
 abbrev pub dealt_tile : List ℕ → ℕ → ℕ → ℕ
@@ -53,6 +54,6 @@ bad_place_by None number = wrong_length number
 unfoldable pub bad_place : Bool → List ℕ → Option ℕ
 bad_place red tiles = bad_place_by (first_extra red [] tiles) (length tiles)
 
--- The tiles are a wall: 136 of them, and none too many of its face.
+-- The tiles are a wall: 136 of them, and each face of the game as often as a wall has it.
 unfoldable pub is_wall : Bool → List ℕ → Bool
-is_wall red tiles = is_none (bad_place red tiles)
+is_wall red tiles = length tiles == 136 && list_all (λ face. number_in tiles face == number_in_wall red face) tile_order

@@ -1,4 +1,4 @@
-ghost use Rattle.std.specs.Prelude.{◌≡◌, [], ◌≤◌, ◌*◌, ◌+◌, true, length, Some, None, IfOk, IfErr, OnOk, SomeIff, slice_index, option_map, take, drop};
+ghost use Rattle.std.specs.Prelude.{◌≡◌, [], ◌≤◌, ◌*◌, ◌+◌, true, false, length, Some, None, IfOk, IfErr, OnOk, OnErr, SomeIff, slice_index, option_map, take, drop};
 ghost use Rattle.mj_tiles.specs.Faces.{number_in};
 ghost use Rattle.mj_wall.specs.Places.{dealt_tile, live_tile, replacement_tile, indicator_tile, under_tile, number_in_wall, first_extra, bad_place, is_wall};
 
@@ -30,11 +30,12 @@ pub struct BadWall {
 
 impl Wall {
     /// The wall of these tiles: 136 of them, each plain face four times; with red fives each of these once, in the
-    /// place of a plain five.
-    #[tactic(auto, unfolding(crate::specs::Places::bad_place, crate::specs::Places::is_wall))]
+    /// place of a plain five. Any other tiles are no wall, and the answer names the place.
+    #[tactic(auto, using(crate::proofs::WallFaces::wall_tests), unfolding(crate::specs::Places::bad_place))]
     pub fn read(tiles: &[Tile], red: bool) -> Result<Wall, BadWall>
         ensures value { IfOk result (λ w. w ≡ tiles.now) }
         ensures whole { OnOk result (is_wall red tiles.now ≡ true) }
+        ensures no_wall { OnErr result (is_wall red tiles.now ≡ false) }
         ensures bad { IfErr result (λ e. bad_place red tiles.now ≡ Some e.place) }
     {
         if let Some(place) = extra_tile(tiles, red) {

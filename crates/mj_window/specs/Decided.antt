@@ -1,42 +1,63 @@
--- What the four answers to a window come to.
-use Rattle.std.specs.Prelude.{Option, Some, None}
+-- What the four answers to a window decide: a bid that is taken, or the act of the seat whose turn it is.
+use Rattle.std.specs.Prelude.{ℕ}
 use Rattle.mj_deeds.specs.declared.four.Four.{Four}
+use Rattle.mj_deeds.specs.declared.answer.Pai.{Pai}
+use Rattle.mj_deeds.specs.declared.answer.Pai.TheVariants.{Known, Hidden}
 use Rattle.mj_deeds.specs.declared.answer.Answer.{Answer}
+use Rattle.mj_deeds.specs.declared.answer.Answer.TheVariants as answers
+use Rattle.mj_deeds.specs.declared.bid.Bid.{Bid}
 use Rattle.mj_deeds.specs.declared.bid.Bid.TheVariants as bids
 use Rattle.mj_deeds.specs.declared.deed.Deed.{Deed}
-use Rattle.mj_deeds.specs.declared.deed.Deed.TheVariants.{Draw, Discard, Chi, Pon, OpenKan}
+use Rattle.mj_deeds.specs.declared.deed.Deed.TheVariants.{Draw, Discard, Chi, Pon}
 use Rattle.mj_deeds.specs.Four.{at_seat}
-use Rattle.mj_deeds.specs.Bids.{call_of_bid}
-use Rattle.mj_rules.specs.Outcome.{call_of, act_of}
 use Rattle.mj_window.specs.declared.decision.Decision.{Decision}
 use Rattle.mj_window.specs.declared.decision.Decision.TheVariants.{Call, Act, Pass}
 
--- The call that takes a discard, if there is one.
-abbrev pub call_or_pass : Option Deed → Decision
-call_or_pass (Some (Chi seat target tile a b)) = Call (bids.Chi seat target tile a b)
-call_or_pass (Some (Pon seat target tile a b)) = Call (bids.Pon seat target tile a b)
-call_or_pass (Some (OpenKan seat target tile a b c)) = Call (bids.OpenKan seat target tile a b c)
-call_or_pass other = Pass
+-- A bid of named tiles; none where one of them is hidden.
+abbrev pub bid_of_three : (ℕ → ℕ → ℕ → Bid) → Pai → Pai → Pai → Bid
+bid_of_three bid (Known t) (Known a) (Known b) = bid t a b
+bid_of_three bid (Known t) (Known a) Hidden = bids.NoBid
+bid_of_three bid (Known t) Hidden b = bids.NoBid
+bid_of_three bid Hidden a b = bids.NoBid
 
--- By the newest deed: a discard is called by a pon or a kan, else by a chi; who drew or called acts by its own answer; and
--- else nothing is decided by the answers.
+abbrev pub bid_of_four : (ℕ → ℕ → ℕ → ℕ → Bid) → Pai → Pai → Pai → Pai → Bid
+bid_of_four bid (Known t) a b c = bid_of_three (bid t) a b c
+bid_of_four bid Hidden a b c = bids.NoBid
+
+-- The pon or the kan that a seat bids for a discard.
+abbrev pub triplet_bid : ℕ → Answer → Bid
+triplet_bid seat (answers.Pon actor target tile a b) = bid_of_three (λ t x y. bids.Pon seat target t x y) tile a b
+triplet_bid seat (answers.OpenKan actor target tile a b c) = bid_of_four (λ t x y z. bids.OpenKan seat target t x y z) tile a b c
+triplet_bid seat other = bids.NoBid
+
+-- The chi that it bids.
+abbrev pub run_bid : ℕ → Answer → Bid
+run_bid seat (answers.Chi actor target tile a b) = bid_of_three (λ t x y. bids.Chi seat target t x y) tile a b
+run_bid seat other = bids.NoBid
+
+-- The one bid, or else the other.
+abbrev pub or_bid : Bid → Bid → Bid
+or_bid bids.NoBid other = other
+or_bid bid other = bid
+
+-- Of the four seats the first that bids so.
+abbrev pub bid_by : (ℕ → Answer → Bid) → Four Answer → Bid
+bid_by bid given = or_bid (bid 0 given.first) (or_bid (bid 1 given.second) (or_bid (bid 2 given.third) (bid 3 given.fourth)))
+
+-- The bid for a discard that is taken: a pon or a kan, where one is bid, and else a chi.
+unfoldable pub best_bid : Four Answer → Bid
+best_bid given = or_bid (bid_by triplet_bid given) (bid_by run_bid given)
+
+-- The discard is called where a bid is taken.
+abbrev pub call_or_pass : Bid → Decision
+call_or_pass bids.NoBid = Pass
+call_or_pass bid = Call bid
+
+-- By the newest deed: a discard is called by the best bid; who drew or called acts by its own answer; and else nothing is
+-- decided by the answers.
 abbrev pub decided : Deed → Four Answer → Decision
-decided (Discard seat tile drawn) given = call_or_pass (call_of given)
+decided (Discard seat tile drawn) given = call_or_pass (best_bid given)
 decided (Draw seat tile replacement) given = Act seat (at_seat given seat)
 decided (Chi seat target tile a b) given = Act seat (at_seat given seat)
 decided (Pon seat target tile a b) given = Act seat (at_seat given seat)
 decided other given = Pass
-
--- The deed that a decision comes to; none where nothing is decided.
-abbrev pub deed_of : Decision → Option Deed
-deed_of (Call bid) = call_of_bid bid
-deed_of (Act seat answer) = act_of seat answer
-deed_of Pass = None
-
--- The deed that the answers to the window on a deed come to.
-abbrev pub deed_decided : Deed → Four Answer → Option Deed
-deed_decided (Discard seat tile drawn) given = call_of given
-deed_decided (Draw seat tile replacement) given = act_of seat (at_seat given seat)
-deed_decided (Chi seat target tile a b) given = act_of seat (at_seat given seat)
-deed_decided (Pon seat target tile a b) given = act_of seat (at_seat given seat)
-deed_decided other given = None

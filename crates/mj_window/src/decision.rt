@@ -1,9 +1,8 @@
-ghost use Rattle.std.specs.Prelude.{◌≡◌, option_and_then};
+ghost use Rattle.std.specs.Prelude.{◌≡◌, unwrap_or};
 ghost use Rattle.mj_deeds.specs.Four.{at_seat};
-ghost use Rattle.mj_rules.specs.Outcome.{triplet_bid, run_bid, bid_by, call_of, or_else};
-ghost use Rattle.mj_deeds.specs.Bids.{call_of_bid};
+ghost use Rattle.mj_deeds.specs.declared.bid.Bid.TheVariants.{NoBid};
 ghost use Rattle.mj_window.specs.declared.decision.Decision.TheVariants.{Act};
-ghost use Rattle.mj_window.specs.Decided.{decided, call_or_pass, deed_of, deed_decided};
+ghost use Rattle.mj_window.specs.Decided.{decided, triplet_bid, run_bid, or_bid, bid_by, best_bid, call_or_pass};
 
 use mj_deeds::{Answer, Bid, Deed, Four};
 
@@ -23,8 +22,7 @@ pub enum Decision {
 /// Of several bids of one sort, which no four lawful answers hold, the one of the first seat counts, and one with a hidden
 /// tile is none.
 pub fn decide(last: &Deed, answers: &Four<Answer>) -> Decision
-    ensures exactly { result ≡ decided last.now answers.now }
-    ensures deed { deed_of result ≡ deed_decided last.now answers.now }
+    ensures { result ≡ decided last.now answers.now }
 {
     match last {
         Deed::Discard { .. } => call(answers),
@@ -43,18 +41,16 @@ fn act(seat: u8, answers: &Four<Answer>) -> Decision
 }
 
 // The call of a discard: a pon or a kan, where one is bid, and else a chi.
-#[tactic(auto, unfolding(mj_rules::specs::Outcome::call_of))]
+#[tactic(auto, unfolding(crate::specs::Decided::best_bid))]
 fn call(answers: &Four<Answer>) -> Decision
-    ensures exactly { result ≡ call_or_pass (call_of answers.now) }
-    ensures deed { deed_of result ≡ call_of answers.now }
+    ensures { result ≡ call_or_pass (best_bid answers.now) }
 {
     taken(better(triplet(answers), run(answers)))
 }
 
 // The bid is taken, if it is one.
 fn taken(bid: Bid) -> Decision
-    ensures exactly { result ≡ call_or_pass (call_of_bid bid) }
-    ensures deed { deed_of result ≡ call_of_bid bid }
+    ensures { result ≡ call_or_pass bid }
 {
     match bid {
         Bid::NoBid => Decision::Pass,
@@ -64,7 +60,7 @@ fn taken(bid: Bid) -> Decision
 
 // The one bid, or else the other.
 fn better(bid: Bid, other: Bid) -> Bid
-    ensures { call_of_bid result ≡ or_else (call_of_bid bid) (call_of_bid other) }
+    ensures { result ≡ or_bid bid other }
 {
     match bid {
         Bid::NoBid => other,
@@ -74,7 +70,7 @@ fn better(bid: Bid, other: Bid) -> Bid
 
 // Of the four seats the first that bids a pon or a kan.
 fn triplet(answers: &Four<Answer>) -> Bid
-    ensures { call_of_bid result ≡ bid_by triplet_bid answers.now }
+    ensures { result ≡ bid_by triplet_bid answers.now }
 {
     let first = triplet_bid(0, &answers.first);
     let second = triplet_bid(1, &answers.second);
@@ -85,7 +81,7 @@ fn triplet(answers: &Four<Answer>) -> Bid
 
 // Of the four seats the first that bids a chi.
 fn run(answers: &Four<Answer>) -> Bid
-    ensures { call_of_bid result ≡ bid_by run_bid answers.now }
+    ensures { result ≡ bid_by run_bid answers.now }
 {
     let first = run_bid(0, &answers.first);
     let second = run_bid(1, &answers.second);
@@ -96,14 +92,14 @@ fn run(answers: &Four<Answer>) -> Bid
 
 // The pon or the kan that a seat bids for a discard.
 fn triplet_bid(seat: u8, answer: &Answer) -> Bid
-    ensures { call_of_bid result ≡ triplet_bid seat answer.now }
+    ensures { result ≡ triplet_bid seat answer.now }
 {
     known_triplet(seat, answer).unwrap_or(Bid::NoBid)
 }
 
 // The same where all its tiles are known, and else none.
 fn known_triplet(seat: u8, answer: &Answer) -> Option<Bid>
-    ensures { option_and_then call_of_bid result ≡ triplet_bid seat answer.now }
+    ensures { unwrap_or result NoBid ≡ triplet_bid seat answer.now }
 {
     match answer {
         Answer::Pon {
@@ -140,14 +136,14 @@ fn known_triplet(seat: u8, answer: &Answer) -> Option<Bid>
 
 // The chi that a seat bids for a discard.
 fn run_bid(seat: u8, answer: &Answer) -> Bid
-    ensures { call_of_bid result ≡ run_bid seat answer.now }
+    ensures { result ≡ run_bid seat answer.now }
 {
     known_run(seat, answer).unwrap_or(Bid::NoBid)
 }
 
 // The same where all its tiles are known, and else none.
 fn known_run(seat: u8, answer: &Answer) -> Option<Bid>
-    ensures { option_and_then call_of_bid result ≡ run_bid seat answer.now }
+    ensures { unwrap_or result NoBid ≡ run_bid seat answer.now }
 {
     match answer {
         Answer::Chi {

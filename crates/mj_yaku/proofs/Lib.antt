@@ -5,4 +5,3 @@ mod RowMembers
 mod Lists
 mod SomeHan
 mod SomeReading
-mod FewReadings

@@ -4,6 +4,7 @@ use Rattle.std.specs.Int.{bit_at}
 use Rattle.std.proofs.lemmas.Nat.Bits.{bit_at-zero, bit_at_or, bit_at-pow_same, bit_at-pow_other, bit_at-lt}
 use Rattle.std.proofs.lemmas.Bool.{cases_eq}
 use Rattle.std.proofs.lemmas.Bool.Decides.{nat_tests}
+use Rattle.mj_tiles.proofs.Bits.{has_bit-with}
 use Rattle.mj_yaku.specs.Rows.{has_row, no_rows, with_row, rows_from}
 
 -- The set without rows has none.
@@ -14,16 +15,7 @@ has_row-none row = rw bit_at-zero refl
 -- A set and one row more has that row and those that it had.
 pub has_row-with : (set row other : ℕ) → has_row (with_row set row) other ≡ (eqb row other || has_row set other)
 unfolding has_row with_row
-has_row-with set row other = rw bit_at_or (with_bit set row other (cases_eq row other))
-  where
-    bit_here : (row other : ℕ) → row ≡ other → bit_at (2 ^ row) other ≡ 1
-    bit_here row other same = rw (← same) (bit_at-pow_same row)
-
-    with_bit : (set row other : ℕ) → (row ≡ other) ⊎ (row ≡ other → ⊥) →
-        eqb (max (bit_at set other) (bit_at (2 ^ row) other)) 1 ≡ (eqb row other || eqb (bit_at set other) 1)
-    with_bit set row other (inl same) = grind (arith, nat_tests, bit_here row other same, bit_at-lt set other)
-    with_bit set row other (inr differ) =
-        grind (arith, nat_tests, bit_at-pow_other row other (λ e. differ (sym e)), bit_at-lt set other)
+has_row-with set row other = has_bit-with set row other
 
 -- The rows from a number on have no row below it.
 has_row-below : (rows : List Bool) (from row : ℕ) → row < from → has_row (rows_from from rows) row ≡ false

@@ -7,14 +7,7 @@ use Rattle.std.proofs.Math.Pow.{pow-lt}
 use Rattle.std.proofs.lemmas.Nat.Bits.{bit_at_above}
 use Rattle.std.proofs.lemmas.Bool.Decides.{nat_tests}
 use Rattle.mj_yaku.specs.Rows.{has_row}
-use Rattle.mj_yaku.specs.Han.{han, closed_han, open_han}
-
--- A set of rows and one more is one.
-pub with_mask-within : (set row : ℕ) → set < 2 ^ 45 → row < 45 → bit_or set (1 * 2 ^ row % 2 ^ 64) < 2 ^ 45
-with_mask-within set row small within =
-    let power : 2 ^ row < 2 ^ 45 = pow-lt within in
-    let same : 1 * 2 ^ row % 2 ^ 64 ≡ 2 ^ row = omega arith in
-    or_lt 45 set (1 * 2 ^ row % 2 ^ 64) small (rw same power)
+use Rattle.mj_yaku.specs.Han.{han, table, closed_han, open_han}
 
 -- A number above 44 is no row of a set.
 pub has_row-above : (set row : ℕ) → set < 2 ^ 45 → 45 ≤ row → has_row set row ≡ false
@@ -29,6 +22,6 @@ up_to_100 (number ∷ numbers) (suc place) all = up_to_100 numbers place (grind 
 
 -- No row has more than 100 han.
 pub most_han : (row : ℕ) (closed : Bool) → han row closed ≤ 100
-unfolding han closed_han open_han
+unfolding han closed_han open_han table
 most_han row true = up_to_100 closed_han row refl
 most_han row false = up_to_100 open_han row refl

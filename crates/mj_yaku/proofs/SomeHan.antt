@@ -13,7 +13,7 @@ use Rattle.mj_yaku.specs.Wins.{reach, double_reach, is_ippatsu, menzen_tsumo}
 use Rattle.mj_yaku.specs.SetForms.{chiitoitsu}
 use Rattle.mj_yaku.specs.Numbers.{iipeikou, ryanpeikou}
 use Rattle.mj_fu.specs.Forms.{is_pinfu}
-use Rattle.mj_yaku.specs.Han.{han, closed_han, open_han, ordinary_numbers, has_yakuman, han_in, sum_of_han, han_of_rows}
+use Rattle.mj_yaku.specs.Han.{han, table, closed_han, open_han, ordinary_numbers, has_yakuman, han_in, sum_of_han, han_of_rows}
 use Rattle.mj_yaku.specs.Yaku.{ordinary_rows, yakuman_rows, yaku_of}
 use Rattle.mj_fu.specs.Fu.{is_orphans}
 use Rattle.mj_yaku.specs.Limits.{kokushi}
@@ -28,7 +28,7 @@ all_count closed row (holds ∷ rows) = (leb 1 (han row closed) || not holds) &&
 
 -- In a closed hand every row has some han.
 count_closed : (reading : Reading) (case : Case) → all_count true 0 (ordinary_rows reading case) ≡ true
-unfolding ordinary_rows han closed_han all_count
+unfolding ordinary_rows han closed_han all_count table
 count_closed reading case = refl
 
 reach_open : (case : Case) → case.closed ≡ false → reach case ≡ false
@@ -65,9 +65,9 @@ ryanpeikou_open : (reading : Reading) (case : Case) → case.closed ≡ false �
 unfolding ryanpeikou
 ryanpeikou_open reading case shown = rw shown refl
 
--- In an shown hand each row that can hold has some han.
+-- In an open hand each row that can hold has some han.
 count_open : (reading : Reading) (case : Case) → case.closed ≡ false → all_count false 0 (ordinary_rows reading case) ≡ true
-unfolding ordinary_rows han open_han all_count
+unfolding ordinary_rows han open_han all_count table
 count_open reading case shown =
     simp (
       reach_open case shown,
@@ -124,7 +124,7 @@ sum_32 f = omega (arith, sum_by-append f (range_with_len 0 28) (31 ∷ 32 ∷ []
 
 -- The rows of the dora have no han of their own.
 dora_han : (closed : Bool) → (han 28 closed ≡ 0) × (han 29 closed ≡ 0) × (han 30 closed ≡ 0)
-unfolding han closed_han open_han
+unfolding han closed_han open_han table
 dora_han true = (refl, refl, refl)
 dora_han false = (refl, refl, refl)
 
@@ -257,7 +257,7 @@ sum_of_all set closed [] = omega arith
 sum_of_all set closed (row ∷ rows) = sum_more set closed row rows (has_row set row) refl (sum_of_all set closed rows)
 
 all_han : (closed : Bool) → sum_by (λ row. han row closed) ordinary_numbers ≤ 52
-unfolding han closed_han open_han
+unfolding han closed_han open_han table
 all_han true = omega arith
 all_han false = omega arith
 

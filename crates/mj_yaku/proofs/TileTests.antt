@@ -7,24 +7,6 @@ use Rattle.mj_tiles.specs.Counts.{all_kinds}
 use Rattle.mj_tiles.specs.Terminals.{is_terminal_or_honour}
 use Rattle.mj_readings.specs.Complete.{orphan_number}
 
--- All kinds pass a test where each number below 34 does.
-pub all_kinds-pass : (test : ℕ → Bool) → ((kind : ℕ) → kind < 34 → test kind ≡ true) → list_all test all_kinds ≡ true
-unfolding all_kinds
-all_kinds-pass test each = all_pass test 0 34 (λ kind from within. each kind (omega arith))
-  where
-    all_pass : (test : ℕ → Bool) (from n : ℕ) → ((kind : ℕ) → from ≤ kind → kind < from + n → test kind ≡ true) → list_all test (range_with_len from n) ≡ true
-    all_pass test from zero each = refl
-    all_pass test from (suc n) each =
-        rw (each from (omega arith) (omega arith)) (all_pass test (from + 1) n (λ kind above below. each kind (omega arith) (omega arith)))
-
--- Not all kinds pass a test that one of them fails.
-pub all_kinds-fail : (test : ℕ → Bool) (kind : ℕ) → kind < 34 → test kind ≡ false → list_all test all_kinds ≡ false
-unfolding all_kinds
-all_kinds-fail test kind within fails =
-    let inside : kind < length (range_with_len 0 34) = omega (arith, length-range_with_len 0 34) in
-    let read : get_or (range_with_len 0 34) kind 0 ≡ kind = omega (arith, get_or-range_with_len 0 34 kind 0 within) in
-    list_all_at test (range_with_len 0 34) kind 0 inside (ap test read ∙ fails)
-
 -- All tiles of pairs pass a test where each kind of the pairs does.
 pub tests_of_pairs : (test has : ℕ → Bool) (kinds : List ℕ) →
     list_all test (flat_map (λ kind. kind ∷ kind ∷ []) (filter has kinds)) ≡ list_all (λ kind. not (has kind) || test kind) kinds

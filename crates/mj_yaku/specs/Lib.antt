@@ -1,7 +1,6 @@
 pub mod Rows
 pub mod Hands
 pub mod WholeHand
-pub mod Classes
 pub mod Wins
 pub mod SetForms
 pub mod Numbers
@@ -9,3 +8,4 @@ pub mod Limits
 pub mod Han
 pub mod Yaku
 pub mod SomeYaku
+pub mod Inner

@@ -25,7 +25,7 @@ pub fn han_of(row: u8, closed: bool) -> u8
 }
 
 /// The han in the row's place of the two tables, and none past their end.
-#[tactic(auto, unfolding(crate::specs::Han::han, crate::specs::Han::closed_han, crate::specs::Han::open_han))]
+#[tactic(auto, unfolding(crate::specs::Han::han, crate::specs::Han::closed_han, crate::specs::Han::open_han, crate::specs::Han::table))]
 pub(crate) fn han_in_table(row: u8, closed: bool) -> u8
     ensures { result ≡ han row closed }
 {

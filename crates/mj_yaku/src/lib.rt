@@ -7,8 +7,6 @@ mod numbers;
 mod set_forms;
 mod some_yaku;
 mod table;
-#[cfg(test)]
-mod tests;
 mod tiles;
 mod whole_hand;
 mod wins;

@@ -2,7 +2,7 @@ ghost use Rattle.std.specs.Prelude.{◌≡◌, ◌==◌, ◌&&◌, ◌||◌, ◌
 ghost use Rattle.std.specs.List.{list_all, list_any};
 ghost use Rattle.mj_fu.specs.Forms.{is_run as run};
 ghost use Rattle.mj_yaku.specs.Hands.{has_triple as triple_of_sets, has_run as run_of_sets, suits, numbers};
-ghost use Rattle.mj_yaku.specs.Classes.{in_class};
+ghost use Rattle.mj_yaku.specs.Inner.Classes.{in_class};
 ghost use Rattle.mj_yaku.specs.Numbers.{
   number_of_runs,
   has_equal_runs as equal_runs,

@@ -1,6 +1,6 @@
 ghost use Rattle.std.specs.Prelude.{◌≡◌, ◌↔◌, IsTrue};
 ghost use Rattle.std.specs.List.{list_any};
-ghost use Rattle.mj_readings.specs.ReadingLists.{reading_list};
+ghost use Rattle.mj_readings.specs.AllReadings.{readings_of};
 ghost use Rattle.mj_yaku.specs.Hands.{are_concealed};
 ghost use Rattle.mj_yaku.specs.SomeYaku.{gives_yaku, HasYaku};
 
@@ -12,10 +12,9 @@ use mj_tiles::{Counts, Kind, Meld};
 /// kind of the winning tile. Condition: `closed` of the case is true exactly where all melds are concealed kans.
 pub fn has_yaku(counts: &Counts, melds: &[Meld], win: Kind, case: &Case) -> bool
     requires { case.now.closed ≡ are_concealed melds.now }
-    ensures value { result ≡ list_any (gives_yaku melds.now case.now) (reading_list counts.now melds.now win) }
+    ensures value { result ≡ list_any (gives_yaku melds.now case.now) (readings_of counts.now melds.now win) }
     ensures law { IsTrue result ↔ HasYaku counts.now melds.now win case.now }
 {
-    let _numbers = counts.numbers();
     let mut index = 0;
     while let Some(reading) = reading_at(counts, melds, win, index) {
         if is_worth_something(&reading, melds, case) {

@@ -6,7 +6,7 @@ ghost use Rattle.std.specs.List.{list_all, list_any};
 ghost use Rattle.mj_readings.specs.Sets.{tiles_of_set};
 ghost use Rattle.mj_fu.specs.Forms.{is_run as run};
 ghost use Rattle.mj_yaku.specs.Hands.{tiles_of, has_triple as triple_of_sets, has_run as run_of_sets};
-ghost use Rattle.mj_yaku.specs.Classes.{in_class};
+ghost use Rattle.mj_yaku.specs.Inner.Classes.{in_class};
 
 use mj_fu::is_run;
 use mj_readings::{Reading, Set, SetForm};

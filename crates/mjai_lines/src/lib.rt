@@ -3,15 +3,11 @@
 #![tactic(auto)]
 
 mod answer;
-#[cfg(test)]
-mod call_tests;
 mod deed;
 mod error;
 mod join;
 mod own;
 mod pieces;
-#[cfg(test)]
-mod tests;
 mod value;
 
 pub use answer::{names_later_type, read_answer};

@@ -12,6 +12,13 @@ pub struct Hands {
     words: Pcg32,
 }
 
+/// A hand with an open triplet of a dragon: the kind of the dragon, and how often each kind stands among the concealed tiles.
+#[derive(Clone, Copy)]
+pub struct OpenHand {
+    pub dragon: u8,
+    pub numbers: [u8; 34],
+}
+
 /// Four tiles of each kind.
 pub const ROOM: [u8; 34] = [4; 34];
 
@@ -47,21 +54,40 @@ impl Hands {
 
     /// How often each kind stands in a hand that lacks one tile to be complete.
     pub fn ready_numbers(&mut self) -> [u8; 34] {
-        let mut numbers = self.complete_numbers();
-        for number in numbers.iter_mut() {
-            if *number > 0 {
-                *number -= 1;
-                break;
-            }
+        without_first(&self.complete_numbers())
+    }
+
+    /// How often each kind stands among thirteen tiles of a shuffled wall, and each sixteenth time in a ready hand.
+    pub fn mixed_numbers(&mut self) -> [u8; 34] {
+        if self.below(16) == 0 {
+            return self.ready_numbers();
         }
-        numbers
+        self.numbers(13)
     }
 
     /// How often each kind stands in a complete hand of four sets and a pair.
     pub fn complete_numbers(&mut self) -> [u8; 34] {
+        self.sets_and_pair(4, &[0; 34])
+    }
+
+    /// A complete hand with an open triplet of a dragon.
+    pub fn open_hand(&mut self) -> OpenHand {
+        let dragon = 31 + self.below(3) as u8;
+        let mut melded = [0u8; 34];
+        for _ in 0..3 {
+            add(&mut melded, dragon);
+        }
+        OpenHand {
+            dragon,
+            numbers: self.sets_and_pair(3, &melded),
+        }
+    }
+
+    // How often each kind stands in so many sets and a pair beside melded tiles.
+    fn sets_and_pair(&mut self, sets: u8, melded: &[u8; 34]) -> [u8; 34] {
         for _ in 0..100 {
             let mut numbers = [0u8; 34];
-            for _ in 0..4 {
+            for _ in 0..sets {
                 let low = self.below(34) as u8;
                 let run = low < 27 && low % 9 < 7 && self.below(2) == 0;
                 let steps = if run { [0, 1, 2] } else { [0, 0, 0] };
@@ -72,12 +98,34 @@ impl Hands {
             let pair = self.below(34) as u8;
             add(&mut numbers, pair);
             add(&mut numbers, pair);
-            if numbers.iter().all(|number| *number <= 4) {
+            if fit_beside(&numbers, melded) {
                 return numbers;
             }
         }
         [0; 34]
     }
+}
+
+/// The numbers with one tile less of the first kind that stands among them.
+pub fn without_first(numbers: &[u8; 34]) -> [u8; 34] {
+    let mut fewer = *numbers;
+    for number in fewer.iter_mut() {
+        if *number > 0 {
+            *number -= 1;
+            break;
+        }
+    }
+    fewer
+}
+
+// Whether no kind stands more than four times among the tiles and the melded ones.
+fn fit_beside(numbers: &[u8; 34], melded: &[u8; 34]) -> bool {
+    for (number, taken) in numbers.iter().zip(melded) {
+        if number.saturating_add(*taken) > 4 {
+            return false;
+        }
+    }
+    true
 }
 
 // One tile more of a kind.

@@ -4,13 +4,13 @@ ghost use Rattle.std.specs.Prelude.{◌≡◌, sum};
 ghost use Rattle.mj_tiles.specs.Counts.{NoFifth};
 
 use crate::half_played::{half_played, may_discard};
-use crate::hands::{Hands, ROOM, first_kind};
+use crate::hands::{Hands, OpenHand, ROOM, first_kind, without_first};
 use mj_readings::{Case, Riichi, readings};
 use mj_score::{Extra, worth};
 use mj_shanten::shanten;
 use mj_suits::partitions;
 use mj_table::Table;
-use mj_tiles::{Counts, Kind};
+use mj_tiles::{Counts, Form, Kind, Meld, Tile};
 use mj_waits::waits;
 use mj_yaku::is_closed;
 use std::alloc::{AllocError, Global};
@@ -25,10 +25,13 @@ pub enum Job {
     Worth,
     Shanten,
     Judge,
+    WaitsOfOpen,
+    ReadingsOfOpen,
+    WorthOfOpen,
 }
 
 /// All jobs, in the order in which they are printed.
-pub const JOBS: [Job; 7] = [
+pub const JOBS: [Job; 10] = [
     Job::Waits,
     Job::WaitsOfReady,
     Job::Readings,
@@ -36,19 +39,25 @@ pub const JOBS: [Job; 7] = [
     Job::Worth,
     Job::Shanten,
     Job::Judge,
+    Job::WaitsOfOpen,
+    Job::ReadingsOfOpen,
+    Job::WorthOfOpen,
 ];
 
 impl Job {
     /// What the job is called.
     pub fn name(self) -> &'static str {
         match self {
-            Job::Waits => "waits of 13 tiles",
+            Job::Waits => "waits of 13 tiles, each sixteenth hand ready",
             Job::WaitsOfReady => "waits of a ready hand",
             Job::Readings => "readings of a complete hand",
             Job::Partitions => "partitions of one suit",
             Job::Worth => "worth of a drawn closed hand",
             Job::Shanten => "shanten of 13 tiles",
             Job::Judge => "judge of a discard in the middle of a hand",
+            Job::WaitsOfOpen => "waits of a ready open hand",
+            Job::ReadingsOfOpen => "readings of a complete open hand",
+            Job::WorthOfOpen => "worth of an open hand",
         }
     }
 
@@ -58,13 +67,16 @@ impl Job {
         let mut sum = 0u64;
         for _ in 0..times {
             let part = match self {
-                Job::Waits => waits_of(&hands.numbers(13)),
-                Job::WaitsOfReady => waits_of(&hands.ready_numbers()),
+                Job::Waits => waits_of(&hands.mixed_numbers(), &ROOM, 0),
+                Job::WaitsOfReady => waits_of(&hands.ready_numbers(), &ROOM, 0),
                 Job::Readings => readings_of(alloc, &hands.complete_numbers())?,
                 Job::Partitions => partitions_of(alloc, &hands.complete_numbers())?,
                 Job::Worth => worth_of(alloc, &hands.complete_numbers())?,
                 Job::Shanten => shanten_of(&hands.numbers(13)),
                 Job::Judge => judged(&table, &hands.numbers(1)),
+                Job::WaitsOfOpen => waits_of_open(&hands.open_hand()),
+                Job::ReadingsOfOpen => readings_of_open(alloc, &hands.open_hand())?,
+                Job::WorthOfOpen => worth_of_open(alloc, &hands.open_hand())?,
             };
             sum = sum.wrapping_mul(31).wrapping_add(part);
         }
@@ -77,22 +89,25 @@ pub fn make_only(job: Job, hands: &mut Hands, times: u32) -> u64 {
     let mut sum = 0u64;
     for _ in 0..times {
         let numbers = match job {
-            Job::Waits | Job::Shanten => hands.numbers(13),
+            Job::Waits => hands.mixed_numbers(),
+            Job::Shanten => hands.numbers(13),
             Job::Judge => hands.numbers(1),
             Job::WaitsOfReady => hands.ready_numbers(),
             Job::Readings | Job::Partitions | Job::Worth => hands.complete_numbers(),
+            Job::WaitsOfOpen => without_first(&hands.open_hand().numbers),
+            Job::ReadingsOfOpen | Job::WorthOfOpen => hands.open_hand().numbers,
         };
         sum = sum.wrapping_add(u64::from(numbers[0]));
     }
     sum
 }
 
-// How many kinds the tiles wait on.
-fn waits_of(numbers: &[u8; 34]) -> u64 {
-    let (Some(counts), Some(room)) = (Counts::of(*numbers), Counts::of(ROOM)) else {
+// How many kinds the tiles wait on, beside so many melds.
+fn waits_of(numbers: &[u8; 34], room: &[u8; 34], melds: u8) -> u64 {
+    let (Some(counts), Some(room)) = (Counts::of(*numbers), Counts::of(*room)) else {
         return 0;
     };
-    let kinds = waits(&counts, &room, 0);
+    let kinds = waits(&counts, &room, melds);
     let mut found = 0u64;
     for number in 0..34u8 {
         if let Some(kind) = Kind::of(number) {
@@ -129,16 +144,57 @@ fn tiles_among(counts: &Counts) -> usize
     total
 }
 
-// How many readings a hand has.
+// How many readings a hand without melds has.
 fn readings_of(alloc: Global, numbers: &[u8; 34]) -> Result<u64, AllocError> {
+    readings_beside(alloc, numbers, &[])
+}
+
+// How many readings a hand with melds has.
+fn readings_beside(alloc: Global, numbers: &[u8; 34], melds: &[Meld]) -> Result<u64, AllocError> {
     let Some(counts) = Counts::of(*numbers) else {
         return Ok(0);
     };
     let Some(win) = first_kind(&counts) else {
         return Ok(0);
     };
-    let found = readings(alloc, &counts, &[], win)?;
+    let found = readings(alloc, &counts, melds, win)?;
     Ok(found.len() as u64)
+}
+
+// The open triplet of a kind.
+fn triplet(kind: u8) -> Option<Meld> {
+    let tile = Tile::of(kind)?;
+    Some(Meld {
+        form: Form::Pon,
+        a: tile,
+        b: tile,
+        c: tile,
+        d: None,
+    })
+}
+
+// How many kinds an open hand waits on that lacks its first tile.
+fn waits_of_open(hand: &OpenHand) -> u64 {
+    let mut room = ROOM;
+    if let Some(number) = room.get_mut(usize::from(hand.dragon)) {
+        *number = 1;
+    }
+    waits_of(&without_first(&hand.numbers), &room, 1)
+}
+
+fn readings_of_open(alloc: Global, hand: &OpenHand) -> Result<u64, AllocError> {
+    match triplet(hand.dragon) {
+        Some(meld) => readings_beside(alloc, &hand.numbers, &[meld]),
+        None => Ok(0),
+    }
+}
+
+// The base points of an open hand in round east, won by the seat of wind south off a discard.
+fn worth_of_open(alloc: Global, hand: &OpenHand) -> Result<u64, AllocError> {
+    match triplet(hand.dragon) {
+        Some(meld) => worth_beside(alloc, &hand.numbers, &[meld], false),
+        None => Ok(0),
+    }
 }
 
 // The numbers of the first suit.
@@ -158,6 +214,16 @@ fn partitions_of(alloc: Global, numbers: &[u8; 34]) -> Result<u64, AllocError> {
 
 // The base points of a closed hand in round east, drawn by the seat of wind south.
 fn worth_of(alloc: Global, numbers: &[u8; 34]) -> Result<u64, AllocError> {
+    worth_beside(alloc, numbers, &[], true)
+}
+
+// The base points of a hand with melds in round east, won by the seat of wind south.
+fn worth_beside(
+    alloc: Global,
+    numbers: &[u8; 34],
+    melds: &[Meld],
+    by_draw: bool,
+) -> Result<u64, AllocError> {
     let (Some(counts), Some(seat_wind), Some(round_wind)) = (
         Counts::of(*numbers),
         Kind::of(28),
@@ -171,8 +237,8 @@ fn worth_of(alloc: Global, numbers: &[u8; 34]) -> Result<u64, AllocError> {
     let case = Case {
         seat_wind,
         round_wind,
-        by_draw: true,
-        closed: is_closed(&[]),
+        by_draw,
+        closed: is_closed(melds),
         riichi: Riichi::No,
         ippatsu: false,
         last: false,
@@ -185,7 +251,7 @@ fn worth_of(alloc: Global, numbers: &[u8; 34]) -> Result<u64, AllocError> {
         under: 0,
         red: 0,
     };
-    match worth(alloc, &counts, &[], win, &case, extra)? {
+    match worth(alloc, &counts, melds, win, &case, extra)? {
         Some(score) => Ok(u64::from(score.base)),
         None => Ok(0),
     }

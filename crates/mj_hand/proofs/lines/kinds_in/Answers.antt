@@ -8,5 +8,5 @@ loop-number-init c = passing_start (has_kind c.args.set) c.new-kinds.result.item
 
 pub loop-number-preserved : goal.loop-number-preserved
 loop-number-preserved c =
-    passing_step (has_kind c.args.set) c.loop-number.kinds.items _ _ c.loop-number.number c.in-Some.kind c.has.result (omega arith) c.loop-number.invariant
-    c.in_ok-push_if.ensures c.in-Some.ensures.1 c.has.ensures
+    passing_step (has_kind c.args.set) c.loop-number.kinds.items _ _ c.loop-number.number c.at-kind.result c.has.result (omega arith) c.loop-number.invariant
+    c.in_ok-push_if.ensures c.at-kind.ensures c.has.ensures

@@ -7,5 +7,5 @@ loop-number-init c = sorted_start c.args.counts.now c.new-kinds.result.items c.n
 
 pub loop-number-preserved : goal.loop-number-preserved
 loop-number-preserved c =
-    sorted_step c.args.counts.now c.loop-number.kinds.items _ _ c.loop-number.number c.in-Some.kind c.get.result (omega arith) c.loop-number.invariant
-    c.in_ok-push_times.ensures c.in-Some.ensures.1 c.get.ensures.value
+    sorted_step c.args.counts.now c.loop-number.kinds.items _ _ c.loop-number.number c.at-kind.result c.get.result (omega arith) c.loop-number.invariant
+    c.in_ok-push_times.ensures c.at-kind.ensures c.get.ensures.value

@@ -1,5 +1,5 @@
 use Rattle.std.proofs.Common.{sym, ◌∙◌, arith}
-use Rattle.mj_waits.proofs.AnyKind.{any_kind, no_kind}
+use Rattle.mj_tiles.proofs.EachKind.{any_kind, no_kind}
 use Rattle.mj_hand.specs.Words.{make_meld_from, make_meld}
 use Rattle.mj_hand.proofs.words.is_meld.Goals as goal
 

@@ -9,5 +9,5 @@ returns-then-low-ge7 c = no_run_late _ _ c.if-low-ge7.true
 
 pub returns : goal.returns
 returns c =
-    run_is c.args.low c.args.tiles.now c.tile_at.result c.tile_at-2.result c.tile_at-3.result c.have_same_kinds.result
-    c.if-low-ge27.false c.if-low-ge7.false c.tile_at.ensures c.tile_at-2.ensures c.tile_at-3.ensures c.have_same_kinds.ensures
+    run_is c.args.low c.args.tiles.now c.at.result c.at-2.result c.at-3.result c.have_same_kinds.result
+    c.if-low-ge27.false c.if-low-ge7.false c.at.ensures c.at-2.ensures c.at-3.ensures c.have_same_kinds.ensures

@@ -1,4 +1,5 @@
 use Rattle.std.proofs.Common.{Bool, true, false, cond, ◌≡◌, refl, sym, ◌∙◌, ap, arith, inl, inr}
+use Rattle.mj_tiles.specs.Terminals.{is_terminal_or_honour}
 use Rattle.mj_readings.proofs.Orphans.{orphans_off, orphans_end}
 use mir.Val.{bool_byte}
 use Rattle.mj_readings.proofs.complete.double_of.Goals as goal
@@ -10,8 +11,8 @@ byte_is false = refl
 
 pub returns-then-not-orphan : goal.returns-then-not-orphan
 returns-then-not-orphan c =
-    let orphan = c.is_terminal_or_honour-orphan.ensures in
-    sym (orphans_off _ _ _ c.loop-kind.invariant (omega (arith, c.loop-kind-test.true, c.requires))
+    let orphan = c.is_terminal_or_honour-orphan.ensures ∙ ap is_terminal_or_honour c.at-kind.ensures in
+    sym (orphans_off _ _ _ c.loop-place.invariant (omega (arith, c.loop-place-test.true, c.requires))
     (λ e. c.if-number-orphan.false (e ∙ ap (λ (b : Bool). cond b 1 0) (sym orphan) ∙ sym (byte_is c.is_terminal_or_honour-orphan.result)))
     (elim c.then-not-orphan.branch [
       | then-not-orphan-via-then-not-orphan w ↦ inl (sym orphan ∙ w.if-not-orphan.true)
@@ -20,4 +21,4 @@ returns-then-not-orphan c =
     ]))
 
 pub returns : goal.returns
-returns c = orphans_end _ _ _ c.requires (omega (arith, c.loop-kind-test.false, c.loop-kind.auto.kind-end, c.requires)) c.loop-kind.invariant
+returns c = orphans_end _ _ _ c.requires (omega (arith, c.loop-place-test.false, c.loop-place.auto.place-end, c.requires)) c.loop-place.invariant

@@ -15,11 +15,11 @@ loop-number-preserved c =
     let test = is_completing c.args.counts.now c.args.melds in
     elim c.if-completes_with.branch [
       | then-completes_with w ↦
-          gathered-yes test c.loop-number.kinds c.if-completes_with.kinds c.loop-number.number c.in-Some.kind c.completes_with.result
-          c.loop-number.invariant c.loop-number-test.true c.in-Some.ensures.1 c.completes_with.ensures w.if-completes_with.true (w.kinds-is ∙ w.with-kinds.ensures)
+          gathered-yes test c.loop-number.kinds c.if-completes_with.kinds c.loop-number.number c.at-kind.result c.completes_with.result
+          c.loop-number.invariant c.loop-number-test.true c.at-kind.ensures c.completes_with.ensures w.if-completes_with.true (w.kinds-is ∙ w.with-kinds.ensures)
       | else-completes_with w ↦
-          gathered-no test c.loop-number.kinds c.if-completes_with.kinds c.loop-number.number c.in-Some.kind c.completes_with.result
-          c.loop-number.invariant c.in-Some.ensures.1 c.completes_with.ensures w.if-completes_with.false w.kinds-is
+          gathered-no test c.loop-number.kinds c.if-completes_with.kinds c.loop-number.number c.at-kind.result c.completes_with.result
+          c.loop-number.invariant c.at-kind.ensures c.completes_with.ensures w.if-completes_with.false w.kinds-is
     ]
 
 pub returns : goal.returns

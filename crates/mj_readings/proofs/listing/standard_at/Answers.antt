@@ -6,12 +6,12 @@ returns-then-melds-gt4-clause-listed c = standard-none c.args.counts.now c.args.
 
 pub as_reading-requires : goal.as_reading-requires
 as_reading-requires c =
-    standard-few c.args.counts.now c.numbers-numbers.result.now c.args.melds.now c.none.result c.args.win c.args.index c.in-Ok.standing
+    standard-few c.args.counts.now c.numbers-numbers.result.now c.args.melds.now c.none.result c.args.win c.args.index c.in-Ok.winning_way
     c.numbers-numbers.ensures.value c.numbers-numbers.ensures.size c.none.ensures c.if-melds-gt4.false c.in-Ok.ensures
 
 pub returns-in-Ok-clause-listed : goal.returns-in-Ok-clause-listed
 returns-in-Ok-clause-listed c =
-    standard-ok c.args.counts.now c.numbers-numbers.result.now c.args.melds.now c.none.result c.args.win c.args.index c.in-Ok.standing c.as_reading.result
+    standard-ok c.args.counts.now c.numbers-numbers.result.now c.args.melds.now c.none.result c.args.win c.args.index c.in-Ok.winning_way c.as_reading.result
     c.numbers-numbers.ensures.value c.none.ensures c.if-melds-gt4.false c.in-Ok.ensures c.as_reading.ensures
 
 pub returns-in-Err-clause-listed : goal.returns-in-Err-clause-listed

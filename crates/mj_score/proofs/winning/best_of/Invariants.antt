@@ -1,5 +1,5 @@
 use Rattle.std.proofs.Common.{◌≡◌, take}
-use Rattle.mj_score.specs.Worth.{best_among}
+use Rattle.mj_score.specs.Inner.BestAmong.{best_among}
 use Rattle.mj_score.proofs.winning.best_of.Given as goal
 
 -- the best of the readings taken so far

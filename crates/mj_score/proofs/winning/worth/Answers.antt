@@ -1,5 +1,5 @@
 use Rattle.std.proofs.Common.{ap, ◌∙◌}
-use Rattle.mj_score.specs.Worth.{best_among}
+use Rattle.mj_score.specs.Inner.BestAmong.{best_among}
 use Rattle.mj_score.proofs.BestScore.{worth_law}
 use Rattle.mj_score.proofs.winning.worth.Goals as goal
 

@@ -1,5 +1,5 @@
 -- The kinds looked at so far.
-use Rattle.mj_suits.specs.Walk.{Improves}
+use Rattle.mj_suits.specs.Improves.{Improves}
 use Rattle.mj_shanten.specs.Special.{IsOrphansBelow}
 use Rattle.mj_shanten.proofs.orphans.take_orphans.Given as goal
 

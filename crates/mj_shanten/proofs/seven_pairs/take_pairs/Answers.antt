@@ -1,6 +1,6 @@
 use Rattle.std.proofs.Common.{◌≡◌, arith, take, length, subst}
 use Rattle.std.proofs.lemmas.List.{length-take-le}
-use Rattle.mj_suits.specs.Walk.{Improves}
+use Rattle.mj_suits.specs.Improves.{Improves}
 use Rattle.mj_shanten.proofs.Hands.{one_for_all}
 use Rattle.mj_shanten.proofs.Pairs.{seven_are, nearest_seven}
 use Rattle.mj_shanten.proofs.seven_pairs.take_pairs.Goals as goal

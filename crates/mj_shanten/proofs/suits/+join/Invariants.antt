@@ -1,6 +1,6 @@
 -- The suits still to come count most, then the step.
 use Rattle.std.proofs.Common.{◌*◌, ◌+◌, length, take}
-use Rattle.mj_suits.specs.Walk.{Improves}
+use Rattle.mj_suits.specs.Improves.{Improves}
 use Rattle.mj_shanten.specs.Suits.{Follows, Begins, IsJoint, suits_in}
 use Rattle.mj_shanten.proofs.Join.{IsBefore}
 use Rattle.mj_shanten.proofs.suits.+join.Given as goal

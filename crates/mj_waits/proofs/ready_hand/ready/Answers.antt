@@ -7,15 +7,15 @@ loop-number-init c = λ k inside. absurd (omega (arith, inside))
 
 pub loop-number-preserved : goal.loop-number-preserved
 loop-number-preserved c =
-    ready-more c.args.counts.now c.args.room.now c.args.melds c.loop-number.number c.in-Some.kind c.has.result
-    c.loop-number.invariant c.in-Some.ensures.1 (has_wait c.args.counts.now c.args.room.now c.args.melds c.waits-waits.result c.in-Some.kind c.has.result c.waits-waits.ensures.value (omega (arith, c.loop-number-test.true, c.in-Some.ensures.1)) c.has.ensures) (has_wait_law c.args.counts.now c.args.room.now c.args.melds c.waits-waits.result c.in-Some.kind c.has.result c.waits-waits.ensures.law (omega (arith, c.loop-number-test.true, c.in-Some.ensures.1)) c.has.ensures) c.if-has.false
+    ready-more c.args.counts.now c.args.room.now c.args.melds c.loop-number.number c.at-kind.result c.has.result
+    c.loop-number.invariant c.at-kind.ensures (has_wait c.args.counts.now c.args.room.now c.args.melds c.waits-waits.result c.at-kind.result c.has.result c.waits-waits.ensures.value (omega (arith, c.loop-number-test.true, c.at-kind.ensures)) c.has.ensures) (has_wait_law c.args.counts.now c.args.room.now c.args.melds c.waits-waits.result c.at-kind.result c.has.result c.waits-waits.ensures.law (omega (arith, c.loop-number-test.true, c.at-kind.ensures)) c.has.ensures) c.if-has.false
 
 pub returns-then-has : goal.returns-then-has
 returns-then-has c = record {
-  value = ready-yes c.args.counts.now c.args.room.now c.args.melds c.loop-number.number c.in-Some.kind c.has.result
-      c.loop-number-test.true c.in-Some.ensures.1 (has_wait c.args.counts.now c.args.room.now c.args.melds c.waits-waits.result c.in-Some.kind c.has.result c.waits-waits.ensures.value (omega (arith, c.loop-number-test.true, c.in-Some.ensures.1)) c.has.ensures) c.if-has.true;
-  law = ready-yes_law c.args.counts.now c.args.room.now c.args.melds c.loop-number.number c.in-Some.kind c.has.result
-      c.loop-number-test.true c.in-Some.ensures.1 (has_wait_law c.args.counts.now c.args.room.now c.args.melds c.waits-waits.result c.in-Some.kind c.has.result c.waits-waits.ensures.law (omega (arith, c.loop-number-test.true, c.in-Some.ensures.1)) c.has.ensures) c.if-has.true;
+  value = ready-yes c.args.counts.now c.args.room.now c.args.melds c.loop-number.number c.at-kind.result c.has.result
+      c.loop-number-test.true c.at-kind.ensures (has_wait c.args.counts.now c.args.room.now c.args.melds c.waits-waits.result c.at-kind.result c.has.result c.waits-waits.ensures.value (omega (arith, c.loop-number-test.true, c.at-kind.ensures)) c.has.ensures) c.if-has.true;
+  law = ready-yes_law c.args.counts.now c.args.room.now c.args.melds c.loop-number.number c.at-kind.result c.has.result
+      c.loop-number-test.true c.at-kind.ensures (has_wait_law c.args.counts.now c.args.room.now c.args.melds c.waits-waits.result c.at-kind.result c.has.result c.waits-waits.ensures.law (omega (arith, c.loop-number-test.true, c.at-kind.ensures)) c.has.ensures) c.if-has.true;
 }
 
 pub returns : goal.returns

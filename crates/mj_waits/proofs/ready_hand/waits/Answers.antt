@@ -9,17 +9,17 @@ loop-number-init c = waits-start c.args.counts.now c.args.room.now c.args.melds 
 pub loop-number-preserved : goal.loop-number-preserved
 loop-number-preserved c =
     let complete = c.completing-complete in
-    let value = wait_value c.args.counts.now c.args.room.now c.args.melds complete.result c.in-Some.kind c.waits_on.result complete.ensures.value
-    (omega (arith, c.loop-number-test.true, c.in-Some.ensures.1)) c.waits_on.ensures.within c.waits_on.ensures.value in
-    let law = wait_law c.args.counts.now c.args.room.now c.args.melds complete.result c.in-Some.kind c.waits_on.result complete.ensures.law
-    (omega (arith, c.loop-number-test.true, c.in-Some.ensures.1)) c.waits_on.ensures.within c.waits_on.ensures.value in
+    let value = wait_value c.args.counts.now c.args.room.now c.args.melds complete.result c.at-kind.result c.waits_on.result complete.ensures.value
+    (omega (arith, c.loop-number-test.true, c.at-kind.ensures)) c.waits_on.ensures.within c.waits_on.ensures.value in
+    let law = wait_law c.args.counts.now c.args.room.now c.args.melds complete.result c.at-kind.result c.waits_on.result complete.ensures.law
+    (omega (arith, c.loop-number-test.true, c.at-kind.ensures)) c.waits_on.ensures.within c.waits_on.ensures.value in
     elim c.if-waits_on.branch [
       | then-waits_on w ↦
-          waits-yes c.args.counts.now c.args.room.now c.args.melds c.loop-number.kinds c.if-waits_on.kinds c.loop-number.number c.in-Some.kind c.waits_on.result
-          c.loop-number.invariant c.loop-number-test.true c.in-Some.ensures.1 value law w.if-waits_on.true (w.kinds-is ∙ w.with-kinds.ensures)
+          waits-yes c.args.counts.now c.args.room.now c.args.melds c.loop-number.kinds c.if-waits_on.kinds c.loop-number.number c.at-kind.result c.waits_on.result
+          c.loop-number.invariant c.loop-number-test.true c.at-kind.ensures value law w.if-waits_on.true (w.kinds-is ∙ w.with-kinds.ensures)
       | else-waits_on w ↦
-          waits-no c.args.counts.now c.args.room.now c.args.melds c.loop-number.kinds c.if-waits_on.kinds c.loop-number.number c.in-Some.kind c.waits_on.result
-          c.loop-number.invariant c.in-Some.ensures.1 value law w.if-waits_on.false w.kinds-is
+          waits-no c.args.counts.now c.args.room.now c.args.melds c.loop-number.kinds c.if-waits_on.kinds c.loop-number.number c.at-kind.result c.waits_on.result
+          c.loop-number.invariant c.at-kind.ensures value law w.if-waits_on.false w.kinds-is
     ]
 
 pub returns : goal.returns

@@ -1,6 +1,6 @@
 use Rattle.std.proofs.Common.{ℕ, ◌≡◌, ◌<◌, true, not, ◌||◌}
 use Rattle.mj_tiles.specs.Kinds.{has_kind}
-use Rattle.mj_yaku.specs.Classes.{in_class}
+use Rattle.mj_yaku.specs.Inner.Classes.{in_class}
 use Rattle.mj_yaku.proofs.tiles.all_of_kinds.Given as goal
 
 abbrev pub invariant-loop-number : goal.invariant-loop-number

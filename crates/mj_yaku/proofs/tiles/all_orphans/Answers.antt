@@ -1,7 +1,8 @@
 use Rattle.std.proofs.Common.{◌||◌, not, sym, arith, ◌∙◌}
 use Rattle.mj_tiles.specs.Terminals.{is_terminal_or_honour}
-use Rattle.mj_yaku.specs.Classes.{in_class}
-use Rattle.mj_yaku.proofs.TileTests.{all_kinds-pass, all_kinds-fail, misses}
+use Rattle.mj_yaku.specs.Inner.Classes.{in_class}
+use Rattle.mj_tiles.proofs.EachKind.{all_kinds-pass, all_kinds-fail}
+use Rattle.mj_yaku.proofs.TileTests.{misses}
 use Rattle.mj_yaku.proofs.tiles.all_orphans.Goals as goal
 
 pub returns-then-not-is_in : goal.returns-then-not-is_in

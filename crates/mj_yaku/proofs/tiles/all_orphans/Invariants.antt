@@ -1,6 +1,6 @@
 use Rattle.std.proofs.Common.{ℕ, ◌≡◌, ◌<◌, true, not, ◌||◌}
 use Rattle.mj_tiles.specs.Terminals.{is_terminal_or_honour}
-use Rattle.mj_yaku.specs.Classes.{in_class}
+use Rattle.mj_yaku.specs.Inner.Classes.{in_class}
 use Rattle.mj_yaku.proofs.tiles.all_orphans.Given as goal
 
 abbrev pub invariant-loop-number : goal.invariant-loop-number

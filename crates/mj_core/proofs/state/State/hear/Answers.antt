@@ -41,7 +41,7 @@ pub returns-in-Ok-Some-clause-ok : goal.returns-in-Ok-Some-clause-ok
 returns-in-Ok-Some-clause-ok c =
     rw (c.push_reserved.ensures.items, c.reserve.ensures.items, c.new-self-inside.ensures, ← c.self.view_is)
     (spoken-closed c.next.new.table.rules c.from-place.result c.in-Ok-Some.deed c.args.setting.now c.self.inside.table.rules c.self.inside.deeds.items c.self.inside.table.deeds c.as_slice.result.now c.self.inside.chairs.items c.self.inside.window c.args.seat c.args.answer.now c.index.result.now c.go_on.new.self (meaning c.verdict-verdict.result) c.filled-window.result c.in-Some.answers
-    c.in-Ok-Some.ensures.pushed.rules c.as_slice.ensures c.self.invariant c.from-place.ensures
+    c.in-Ok-Some.ensures.pushed.rules (rw (← c.self.view_is) at c.requires.rules) c.as_slice.ensures c.self.invariant c.from-place.ensures
     (spoken c.args.setting.now c.self.inside.table.rules c.self.inside.deeds.items c.self.inside.table.deeds c.self.inside.chairs.items c.self.inside.window c.args.seat c.from-place.result c.args.answer.now c.index.result.now c.go_on.new.self (meaning c.verdict-verdict.result) c.filled-window.result
     (rw (← c.self.view_is) at c.requires) c.self.invariant c.from-place.ensures c.index.ensures c.verdict-verdict.ensures.judged (sym c.if-not-may_get.ensures) c.go_on.ensures c.filled-window.ensures)
     c.in-Some.ensures (rw c.in-Ok-Some.field-0-is at c.in-Ok-Some.ensures.follows))
@@ -50,7 +50,7 @@ pub returns-in-Ok-None-clause-ok : goal.returns-in-Ok-None-clause-ok
 returns-in-Ok-None-clause-ok c =
     rw (c.in-Ok-None.ensures.pushed.rules, c.reserve.ensures.items, ← c.self.view_is) (
       λ author. spoken-unbuilt author c.args.setting.now c.self.inside.table.rules c.self.inside.deeds.items c.self.inside.table.deeds c.as_slice.result.now c.self.inside.chairs.items c.self.inside.window c.args.seat c.args.answer.now c.index.result.now c.go_on.new.self (meaning c.verdict-verdict.result) c.filled-window.result c.in-Some.answers
-          c.as_slice.ensures c.self.invariant
+          (rw (← c.self.view_is) at c.requires.rules) c.as_slice.ensures c.self.invariant
           (spoken c.args.setting.now c.self.inside.table.rules c.self.inside.deeds.items c.self.inside.table.deeds c.self.inside.chairs.items c.self.inside.window c.args.seat c.from-place.result c.args.answer.now c.index.result.now c.go_on.new.self (meaning c.verdict-verdict.result) c.filled-window.result
           (rw (← c.self.view_is) at c.requires) c.self.invariant c.from-place.ensures c.index.ensures c.verdict-verdict.ensures.judged (sym c.if-not-may_get.ensures) c.go_on.ensures c.filled-window.ensures)
           c.in-Some.ensures (rw c.in-Ok-None.field-0-is at c.in-Ok-None.ensures.follows),

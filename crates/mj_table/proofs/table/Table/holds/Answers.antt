@@ -7,5 +7,5 @@ use Rattle.mj_table.proofs.table.Table.holds.Goals as goal
 
 pub held_counts-requires : goal.held_counts-requires
 held_counts-requires c =
-    subst (λ (ds : List Deed). NoFifth (kind_counts (concealed_tiles ds c.args.seat))) (sym c.as_slice.ensures.value)
-    (holds_few c.self.inside.rules.red c.self.inside.deeds.items c.args.seat c.self.invariant)
+    subst (λ (ds : List Deed). NoFifth (kind_counts (concealed_tiles ds c.args.seat))) (sym c.hand.ensures.value)
+    (holds_few c.args.self.now.rules.red c.args.self.now.deeds c.args.seat c.hand.ensures.fit)

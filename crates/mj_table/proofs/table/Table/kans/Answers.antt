@@ -6,10 +6,10 @@ use Rattle.mj_table.proofs.table.Table.kans.Goals as goal
 
 pub overflow_cast-result : goal.overflow_cast-result
 overflow_cast-result c =
-    let few : kans c.as_slice.result.now ≤ 4 = subst (λ (ds : List Deed). kans ds ≤ 4) (sym c.as_slice.ensures.value) (four_kans c.self.inside.rules.red c.self.inside.deeds.items c.self.invariant) in
+    let few : kans c.hand.result.now ≤ 4 = subst (λ (ds : List Deed). kans ds ≤ 4) (sym c.hand.ensures.value) (four_kans c.args.self.now.rules.red c.args.self.now.deeds c.hand.ensures.fit) in
     omega (arith, few, c.kans.ensures.value)
 
 pub returns-clause-within : goal.returns-clause-within
 returns-clause-within c =
-    let few : kans c.as_slice.result.now ≤ 4 = subst (λ (ds : List Deed). kans ds ≤ 4) (sym c.as_slice.ensures.value) (four_kans c.self.inside.rules.red c.self.inside.deeds.items c.self.invariant) in
+    let few : kans c.hand.result.now ≤ 4 = subst (λ (ds : List Deed). kans ds ≤ 4) (sym c.hand.ensures.value) (four_kans c.args.self.now.rules.red c.args.self.now.deeds c.hand.ensures.fit) in
     omega (arith, few, c.kans.ensures.value)

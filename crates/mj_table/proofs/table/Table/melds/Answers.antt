@@ -6,5 +6,5 @@ use Rattle.mj_table.proofs.table.Table.melds.Goals as goal
 
 pub held_melds-requires : goal.held_melds-requires
 held_melds-requires c =
-    subst (λ (ds : List Deed). length (seat_melds ds c.args.seat) ≤ 4) (sym c.as_slice.ensures.value)
-    (four_melds c.self.inside.rules.red c.self.inside.deeds.items c.args.seat c.self.invariant)
+    subst (λ (ds : List Deed). length (seat_melds ds c.args.seat) ≤ 4) (sym c.hand.ensures.value)
+    (four_melds c.args.self.now.rules.red c.args.self.now.deeds c.args.seat c.hand.ensures.fit)

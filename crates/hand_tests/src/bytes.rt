@@ -1,0 +1,85 @@
+use crate::words::fields;
+use mj_bytes::{
+    push_all, push_number, push_signed, read_number, split_at_first, split_line, split_space, strip,
+};
+use std::alloc::{AllocError, Global};
+
+fn written(alloc: Global) -> Result<Vec<u8>, AllocError> {
+    let mut text = Vec::new(alloc);
+    push_all(&mut text, b"points ")?;
+    push_number(&mut text, 18_446_744_073_709_551_615)?;
+    push_signed(&mut text, -8000)?;
+    push_signed(&mut text, 0)?;
+    Ok(text)
+}
+
+#[test]
+fn pieces_and_numbers_stand_behind_the_text(rt: HostRuntime) -> Result<(), AllocError> {
+    let text = written(rt.alloc())?;
+    assert!(rt; text.as_slice() == b"points 18446744073709551615-80000".as_slice());
+    Ok(())
+}
+
+const NUMBERS: &str = "\
+0|0
+25000|25000
+18446744073709551615|18446744073709551615
+18446744073709551616|-
+007|-
++7|-
+|-
+1 7|-";
+
+/// Whether the number of a text is the one behind the bar.
+fn is_number(line: &str) -> bool {
+    let [text, wanted, ..] = fields(line);
+    match read_number(text.as_bytes()) {
+        Some(number) => wanted.parse() == Ok(number),
+        None => wanted == "-",
+    }
+}
+
+#[test]
+fn numbers_are_digits_without_sign_or_leading_zero(rt: HostRuntime) {
+    for line in NUMBERS.lines() {
+        assert!(rt; is_number(line), "{line}");
+    }
+}
+
+/// Whether a split gave these two parts.
+fn is_cut(cut: Option<(&[u8], &[u8])>, first: &str, rest: &str) -> bool {
+    match cut {
+        Some((front, behind)) => front == first.as_bytes() && behind == rest.as_bytes(),
+        None => false,
+    }
+}
+
+#[test]
+fn a_text_is_split_at_its_first_newline_or_space_or_other_byte(rt: HostRuntime) {
+    let text = b"say 0+1 \n\nrest";
+    assert!(rt; is_cut(split_line(text), "say 0+1 ", "\nrest"));
+    assert!(rt; is_cut(split_line(b"\nrest"), "", "rest"));
+    assert!(rt; is_cut(split_space(text), "say", "0+1 \n\nrest"));
+    assert!(rt; is_cut(split_at_first(text, b'+'), "say 0", "1 \n\nrest"));
+}
+
+#[test]
+fn a_text_without_the_byte_is_not_split(rt: HostRuntime) {
+    let text = b"rest";
+    assert!(rt; split_line(text).is_none() && split_space(text).is_none());
+    assert!(rt; split_at_first(text, b'+').is_none());
+}
+
+/// Whether the beginning was stripped to this rest.
+fn is_rest(rest: Option<&[u8]>, wanted: &[u8]) -> bool {
+    match rest {
+        Some(rest) => rest == wanted,
+        None => false,
+    }
+}
+
+#[test]
+fn a_beginning_is_stripped_where_it_stands(rt: HostRuntime) {
+    assert!(rt; is_rest(strip(b"limit=10", b"limit="), b"10"));
+    assert!(rt; strip(b"limit", b"limit=").is_none() && strip(b"draws=10", b"limit=").is_none());
+}

@@ -1,0 +1,57 @@
+use crate::words::{case, fields, number, reading};
+use mj_fu::{fu, is_concealed_at, is_dragon, is_pinfu, is_run};
+use mj_readings::{Set, SetForm};
+use mj_tiles::Kind;
+
+/// Circumstances, a reading, its fu, and whether it is a pinfu. The third and the fourth have the pair of one wind of the two, and
+/// that of both.
+const FU: &str = "\
+d|r2m r5p r3s r6s S 0 3m|30|no
+de|r2m r5p r3s r6s E 0 3m|30|no
+d|r2m t5p r3s r6s S 0 3m|30|no
+de|r2m t5p r3s r6s E 0 3m|40|no
+d|r2m r5p r3s r6s W 0 2m|20|pinfu
+|r2m r5p r3s r6s W 0 2m|30|pinfu
+o|r2m r5p r3s R6s W 0 2m|30|no
+|r2m t5p r3s r6s W 1 5p|40|no
+o|t1m t9p tE Q5s W 2 E|50|no
+|qE qP q1m q9s C 4 C|170|no
+|r2m t5p r6s tW N 1 5p|40|no
+do|r2m r5p r3s Q5s N 0 2m|30|no
+|r2m r5p r3s q5s N 0 2m|50|no
+do|r2m r5p r3s Q9s N 0 2m|40|no
+d|r2m r5p r3s qW N 0 2m|60|no
+d|pairs 12m 35p 79s E|25|no
+d|orphans E|0|no";
+
+fn has_fu(line: &str) -> Option<bool> {
+    let [marks, text, wanted, pinfu, ..] = fields(line);
+    let (reading, case, wanted) = (reading(text)?, case(marks), number(wanted)?);
+    Some(fu(&reading, &case) == wanted && is_pinfu(&reading, &case) == (pinfu == "pinfu"))
+}
+
+#[test]
+fn the_parts_of_a_hand_are_added_and_rounded_up(rt: HostRuntime) {
+    for line in FU.lines() {
+        assert!(rt; has_fu(line) == Some(true), "{line}");
+    }
+}
+
+fn set(form: SetForm) -> Set {
+    Set {
+        form,
+        low: Kind::at(13),
+        shown: false,
+    }
+}
+
+#[test]
+fn forms_are_told_apart(rt: HostRuntime) {
+    let (run, triplet) = (set(SetForm::Run), set(SetForm::Triplet));
+    let by_ron = case("");
+    assert!(rt;
+        !is_concealed_at(1, 1, &by_ron, &triplet) && is_concealed_at(0, 1, &by_ron, &triplet)
+    );
+    assert!(rt; is_run(&run) && !is_run(&triplet));
+    assert!(rt; is_dragon(Kind::at(31)) && !is_dragon(Kind::at(30)));
+}

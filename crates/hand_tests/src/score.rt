@@ -1,0 +1,109 @@
+use crate::words::{bit, case, counts, fields, kind, meld, number, numbers};
+use mj_score::{Extra, Score, worth};
+use mj_tiles::Form;
+use mj_yaku::is_closed;
+use std::alloc::{AllocError, Global};
+
+/// The worth of a hand without melds, or beside a pon of `1m`, with so many dora of the shown and hidden indicators and red fives.
+fn score(
+    alloc: Global,
+    marks: &str,
+    hand: &str,
+    win: &str,
+    dora: [u8; 3],
+) -> Result<Option<Score>, AllocError> {
+    let (Some(held), Some(win), Some(pon)) = (counts(hand), kind(win), meld(Form::Pon, "1m")) else {
+        return Ok(None);
+    };
+    let [dora, under, red] = dora;
+    if dora > 20 || under > 20 || red > 3 {
+        return Ok(None);
+    }
+    let extra = Extra { dora, under, red };
+    let mut case = case(marks);
+    if marks.contains('o') {
+        let melds = [pon];
+        case.closed = is_closed(&melds);
+        return worth(alloc, &held, &melds, win, &case, extra);
+    }
+    case.closed = is_closed(&[]);
+    worth(alloc, &held, &[], win, &case, extra)
+}
+
+/// Whether the set of a score has just the rows of these numbers.
+fn has_just(score: &Score, rows: u64) -> bool {
+    for row in 0..46 {
+        if score.yaku.has(row) != (rows & bit(row) != 0) {
+            return false;
+        }
+    }
+    true
+}
+
+/// Circumstances, tiles, the winning one, dora, and the han, the fu, the base points in tens and all rows. Both readings of the last
+/// hand have 3,000 base points: two pairs of equal runs have 7 han, seven pairs 6.
+const WORTH: &str = "\
+d|234567m 456p 33678s|7m|0|3|20|64|3 4 6
+|223344m 556677p 88s|8s|0|4|40|200|6 31
+|222333444m 567p 88s|7p|2|5|50|200|6 18
+|119m 19p 19s ESWNPFC|C|2|100|0|800|33
+|223344556677m EE|E|1|7|40|300|26 31";
+
+fn is_worth(score: &Score, line: &str) -> Option<bool> {
+    let [_, _, _, _, han, fu, base, rows] = fields(line);
+    let (han, fu, rows) = (number(han)?, number(fu)?, numbers(rows)?);
+    let tens: u32 = base.parse().ok()?;
+    Some(
+        score.han == han
+            && score.fu == fu
+            && score.base / 10 == tens
+            && score.base % 10 == 0
+            && has_just(score, rows),
+    )
+}
+
+fn has_worth(alloc: Global, line: &str) -> Result<bool, AllocError> {
+    let [marks, hand, win, dora, ..] = fields(line);
+    let Some(dora) = number(dora) else {
+        return Ok(false);
+    };
+    match score(alloc, marks, hand, win, [dora, 0, 0])? {
+        Some(score) => Ok(is_worth(&score, line) == Some(true)),
+        None => Ok(false),
+    }
+}
+
+#[test]
+fn hands_are_worth_their_best_reading(rt: HostRuntime) -> Result<(), AllocError> {
+    for line in WORTH.lines() {
+        assert!(rt; has_worth(rt.alloc(), line)?, "{line}");
+    }
+    Ok(())
+}
+
+#[test]
+fn dora_alone_is_no_yaku(rt: HostRuntime) -> Result<(), AllocError> {
+    assert!(rt; score(rt.alloc(), "do", "234m 456p 78933s", "9s", [3, 0, 1])?.is_none());
+    Ok(())
+}
+
+/// The han of a drawn closed hand with these dora, and none where it is worth nothing.
+fn han(alloc: Global, dora: [u8; 3]) -> Result<u8, AllocError> {
+    match score(alloc, "d", "234567m 456p 33678s", "7m", dora)? {
+        Some(score) => Ok(score.han),
+        None => Ok(0),
+    }
+}
+
+#[test]
+fn each_dora_of_whatever_sort_is_one_han(rt: HostRuntime) -> Result<(), AllocError> {
+    for (dora, wanted) in [
+        ([0, 0, 0], 3),
+        ([1, 0, 0], 4),
+        ([0, 1, 0], 4),
+        ([0, 0, 1], 4),
+    ] {
+        assert!(rt; han(rt.alloc(), dora)? == wanted);
+    }
+    Ok(())
+}

@@ -1,0 +1,26 @@
+-- How the counts of faults of the source and of the sink change by a run, by its status.
+use Rattle.std.specs.Prelude.{◌≡◌, ℕ, ◌≤◌, ◌<◌}
+use Rattle.mj_front.specs.declared.status.Status.{Status}
+use Rattle.mj_front.specs.declared.status.Status.TheVariants as statuses
+
+-- The count of read faults never falls, and rises where the status says so.
+abbrev pub CountsReadFaults : Status → ℕ → ℕ → Type 0
+CountsReadFaults statuses.Done old new = old ≤ new
+CountsReadFaults statuses.Words old new = old ≡ new
+CountsReadFaults statuses.ReadFault old new = old < new
+CountsReadFaults statuses.WriteFault old new = old ≤ new
+CountsReadFaults statuses.NoMemory old new = old ≤ new
+CountsReadFaults (statuses.BadArrival line) old new = old ≤ new
+CountsReadFaults statuses.TooLong old new = old ≤ new
+CountsReadFaults (statuses.NotBuilt line) old new = old ≤ new
+
+-- The count of write faults never falls, and rises where the status says so.
+abbrev pub CountsWriteFaults : Status → ℕ → ℕ → Type 0
+CountsWriteFaults statuses.Done old new = old ≤ new
+CountsWriteFaults statuses.Words old new = old ≡ new
+CountsWriteFaults statuses.ReadFault old new = old ≡ new
+CountsWriteFaults statuses.WriteFault old new = old < new
+CountsWriteFaults statuses.NoMemory old new = old ≡ new
+CountsWriteFaults (statuses.BadArrival line) old new = old ≤ new
+CountsWriteFaults statuses.TooLong old new = old ≡ new
+CountsWriteFaults (statuses.NotBuilt line) old new = old ≤ new

@@ -1,0 +1,72 @@
+-- What the command `referee` tells a seat, reads and writes.
+use Rattle.std.specs.Prelude.{◌≡◌, ℕ, ◌≤◌, ◌<◌, List, length, Option}
+use Rattle.std.specs.Io.KnownBytes.{Consumes, Appends, Keeps, IsAtEnd}
+use Rattle.mj_links.specs.Sinks.{WritesPrefix}
+use Rattle.mj_rules.specs.Played.{IsPlayed}
+use Rattle.mj_protocol.specs.After.{after, scripts}
+use Rattle.mj_protocol.specs.Trace.{Game, Agree, IsLegal}
+use Rattle.mj_protocol.specs.Arrivals.{Ending, input_of, game_of}
+use Rattle.mj_front.specs.declared.referee.RefereeEnd.{RefereeEnd}
+use Rattle.mj_front.specs.declared.referee.RefereeEnd.TheVariants as ends
+use Rattle.mj_front.specs.Hearing.{ending}
+
+-- The headline: what the referee of a seat writes of a game, whole or in part, as `IsWritten` says.
+pub record IsTold (IsWritten : List ℕ → Type 0) (seat : ℕ) (game : Game) : Type 0 where
+  -- the bytes are the script of the seat's connection in the game itself
+  pub bytes : IsWritten (scripts seat game.setting game.entries)
+  -- every game that agrees with it for the seat has the same script, whatever the other seats hold and do and in whatever
+  -- order the lines came, so the bytes are that game's too
+  pub same : (other : Game) → Agree seat game other → scripts seat other.setting other.entries ≡ scripts seat game.setting game.entries
+  -- the game goes by the rules: it is legal, and its deeds are played, each given by four lawful answers
+  pub legal : IsLegal game.setting game.entries
+  pub played : IsPlayed game.setting.rules game.setting.walls (after game.setting game.entries).deeds
+
+-- The most bytes that an input may have.
+abbrev pub longest : ℕ
+longest = 67108864
+
+-- An input was read: it is all that was left of the source, and not too long.
+pub record IsRead (old_left new_left : Option (List ℕ)) (input : List ℕ) : Type 0 where
+  pub taken : Consumes old_left new_left input
+  pub all : IsAtEnd new_left
+  pub fits : length input ≤ longest
+
+-- An input ends so, and what its game tells the seat is written whole.
+pub record TellsAll (ends_so : Ending) (seat : ℕ) (input : List ℕ) (old new : Option (List ℕ)) : Type 0 where
+  pub ends : (input_of input).ending ≡ ends_so
+  pub told : IsTold (Appends old new) seat (game_of (input_of input).reading)
+
+-- An input that ends so was read, and what its game tells the seat is written whole.
+pub record RefereesAll (ends_so : Ending) (seat : ℕ) (old_left new_left old_written new_written : Option (List ℕ)) : Type 0 where
+  pub input : List ℕ
+  pub read : IsRead old_left new_left input
+  pub told : TellsAll ends_so seat input old_written new_written
+
+-- An input was read, and of what its game tells the seat a part from the front is written, and not all.
+pub record RefereesPart (seat : ℕ) (old_left new_left old_written new_written : Option (List ℕ)) : Type 0 where
+  pub input : List ℕ
+  pub read : IsRead old_left new_left input
+  pub told : IsTold (WritesPrefix old_written new_written) seat (game_of (input_of input).reading)
+
+-- More was read than an input may have, and nothing is written.
+pub record IsTooLong (old_left new_left old_written new_written : Option (List ℕ)) : Type 0 where
+  pub bytes : List ℕ
+  pub taken : Consumes old_left new_left bytes
+  pub more : longest < length bytes
+  pub unwritten : Keeps old_written new_written
+
+-- What the referee of a seat does, by its end. A fault of the source and want of memory write nothing.
+abbrev pub Referees : RefereeEnd → ℕ → Option (List ℕ) → Option (List ℕ) → Option (List ℕ) → Option (List ℕ) → Type 0
+Referees (ends.Told end) seat old_left new_left old_written new_written = RefereesAll (ending end) seat old_left new_left old_written new_written
+Referees ends.WriteFault seat old_left new_left old_written new_written = RefereesPart seat old_left new_left old_written new_written
+Referees ends.ReadFault seat old_left new_left old_written new_written = Keeps old_written new_written
+Referees ends.TooLong seat old_left new_left old_written new_written = IsTooLong old_left new_left old_written new_written
+Referees ends.NoMemory seat old_left new_left old_written new_written = Keeps old_written new_written
+
+-- What it does once an input was read, by its end.
+abbrev pub RefereesInput : RefereeEnd → ℕ → List ℕ → Option (List ℕ) → Option (List ℕ) → Type 0
+RefereesInput (ends.Told end) seat input old new = TellsAll (ending end) seat input old new
+RefereesInput ends.WriteFault seat input old new = IsTold (WritesPrefix old new) seat (game_of (input_of input).reading)
+RefereesInput ends.ReadFault seat input old new = ⊥
+RefereesInput ends.TooLong seat input old new = ⊥
+RefereesInput ends.NoMemory seat input old new = Keeps old new

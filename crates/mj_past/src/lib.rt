@@ -1,0 +1,8 @@
+//! Lists that are kept for proofs alone. They take no memory, and do nothing when the program runs.
+#![tactic(auto)]
+
+mod past;
+#[cfg(test)]
+mod tests;
+
+pub use past::Past;

@@ -1,0 +1,8 @@
+//! The rounds of a game: how it stands in each of its hands, and which hand follows. No call takes memory.
+#![tactic(auto)]
+
+mod rounds;
+#[cfg(test)]
+mod tests;
+
+pub use rounds::{HandEnd, Standing, first, next_hand};

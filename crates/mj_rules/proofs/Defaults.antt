@@ -1,0 +1,261 @@
+-- The default answer breaks no rule.
+use Rattle.std.proofs.Common.{◌≡◌, ℕ, zero, suc, ◌+◌, ◌-◌, ◌<◌, ◌==◌, ◌&&◌, ◌||◌, not, Bool, true, false, cond, eqb, List, [], ◌∷◌, length, get_or, inl, inr, Option, Some, None, refl, sym, ap, ◌∙◌, subst, arith}
+use Rattle.std.specs.Prelude.{nat_lt, is_none, slice_get, option_map, option_and_then, filter}
+use Rattle.std.specs.List.{list_all}
+use Rattle.std.proofs.lemmas.Bool.{cases_eq, ne_eqb, eq-eqb, and_parts, ltb-true, lt-ltb, not-true}
+use Rattle.std.proofs.lemmas.Option.{slice_get-get_or}
+use Rattle.std.proofs.lemmas.List.Sums.{sum_by-cons}
+use Rattle.mj_tiles.specs.Faces.{kind_of, number_in, is_red, tile_order}
+use Rattle.mj_calls.specs.Bans.{is_banned, banned_kinds}
+use Rattle.mj_deeds.specs.declared.answer.Pai.TheVariants.{Known}
+use Rattle.mj_deeds.specs.declared.answer.Answer.TheVariants.{Pass, Discard}
+use Rattle.mj_deeds.specs.declared.rule.Rule.{Rule}
+use Rattle.mj_deeds.specs.declared.deed.Deed.{Deed}
+use Rattle.mj_deeds.specs.declared.deed.Deed.TheVariants as deeds
+use Rattle.mj_deeds.specs.Facts.{newest, gained, lost, drawn_tile, drawn_by}
+use Rattle.mj_deeds.specs.Hand.{hand}
+use Rattle.mj_deeds.specs.Fits.{all_fit}
+use Rattle.mj_wall.specs.declared.setting.Rules.{Rules}
+use Rattle.mj_wall.specs.Places.{is_wall}
+use Rattle.mj_rules.specs.Broken.{View, view_of, Turn, Drew, Discarded, Called, Nobodys, turn_by, turn_in, held, is_open, is_no_tile, is_wrongly_marked, is_banned_tile, banned_in, is_that, broken_by}
+use Rattle.mj_rules.specs.Default.{discard_of, lawful_faces, default_in, default_by, discard_or_pass, last_of, can_discard_in, can_discard}
+use Rattle.mj_rules.specs.Outcome.{wall_of}
+use Rattle.mj_rules.specs.Played.{IsPlayed}
+use Rattle.mj_rules.specs.Laws.{SomeDiscardIsLawful, FittingDefaultIsLawful, PlayedDefaultIsLawful}
+use Rattle.mj_rules.proofs.Freeing.{free_faces, has_free_in, has_free, some_tile_is_free}
+use Rattle.mj_rules.proofs.Playing.{played_deeds_fit}
+use Rattle.mj_rules.proofs.Lawful.{pass_lawful, discard_lawful}
+use Rattle.mj_rules.proofs.Given.{Owns, owns}
+
+-- A tile that is picked out of a list by a test passes it.
+picked : (p : ℕ → Bool) (xs : List ℕ) (i tile : ℕ) → slice_get (filter p xs) i ≡ Some tile → p tile ≡ true
+picked p [] i tile h = cc
+picked p (x ∷ xs) i tile h = by_test (p x) refl (λ k. picked p xs k tile) i h
+  where
+    some_is : (a b : ℕ) → Some a ≡ Some b → a ≡ b
+    some_is a b e = cc
+
+    by_test : (b : Bool) → p x ≡ b → ((k : ℕ) → slice_get (filter p xs) k ≡ Some tile → p tile ≡ true) → (i : ℕ) → slice_get (cond b (x ∷ filter p xs) (filter p xs)) i ≡ Some tile → p tile ≡ true
+    by_test true e others zero k = ap p (sym (some_is x tile k)) ∙ e
+    by_test true e others (suc i) k = others i k
+    by_test false e others i k = others i k
+
+last_is : (xs : List ℕ) → 0 < length xs → last_of xs ≡ Some (get_or xs (length xs - 1) 0)
+last_is xs h = slice_get-get_or xs (length xs - 1) 0 (omega arith)
+
+-- What a discard at one's own turn is out of.
+record Good (red : Bool) (view : View) (tile : ℕ) (drawn : Bool) : Type 0 where
+  real : is_no_tile red (Known tile) ≡ false
+  some : 0 < held view tile
+  marked : is_wrongly_marked view (Known tile) drawn ≡ false
+  free : is_banned_tile (banned_in view.turn) (Known tile) ≡ false
+
+-- A tile that stands among plain ones is plain.
+plain : (xs : List ℕ) (tile : ℕ) → list_all (λ face. not (is_red face)) xs ≡ true → 0 < number_in xs tile → is_red tile ≡ false
+plain [] tile h k = absurd (none k)
+  where
+    none : 0 < 0 → ⊥
+    none k = omega arith
+plain (x ∷ xs) tile h k =
+    let parts = and_parts (not (is_red x)) (list_all (λ face. not (is_red face)) xs) h in
+    elim (cases_eq x tile) [
+      | inl e ↦ subst (λ t. is_red t ≡ false) e (not-true (is_red x) parts.0)
+      | inr ne ↦ plain xs tile parts.1 (rest ne k)
+    ]
+  where
+    rest : (x ≡ tile → ⊥) → 0 < number_in (x ∷ xs) tile → 0 < number_in xs tile
+    rest ne k =
+        let other : cond (eqb x tile) 1 0 ≡ 0 = ap {B = ℕ} (λ b. cond b 1 0) (ne_eqb x tile ne) in
+        let more : number_in (x ∷ xs) tile ≡ cond (eqb x tile) 1 0 + number_in xs tile = sum_by-cons (λ y. cond (eqb y tile) 1 0) x xs in
+        omega (arith, other, more, k)
+
+-- A tile that is given is none that the game doesn't have.
+given_real : (red : Bool) (tiles : List ℕ) (tile : ℕ) → (red || list_all (λ face. not (is_red face)) tiles) ≡ true → 0 < number_in tiles tile → is_no_tile red (Known tile) ≡ false
+given_real true tiles tile h k = not_both (is_red tile)
+  where
+    not_both : (b : Bool) → (b && false) ≡ false
+    not_both true = refl
+    not_both false = refl
+given_real false tiles tile h k = ap (λ b. b && true) (plain tiles tile h k)
+
+-- by the turn
+
+passes : (rules : Rules) (seat : ℕ) (view : View) (turn : Turn) → view.turn ≡ turn → is_open seat turn (Pass None) ≡ true → broken_by rules seat view (Pass None) ≡ None
+passes rules seat view turn e opens = pass_lawful rules seat view (ap (λ t. is_open seat t (Pass None)) e ∙ opens)
+
+-- A good discard, marked as it is.
+discards_well : (rules : Rules) (seat tile : ℕ) (view : View) (opens : is_open seat view.turn (Discard seat (Known tile) (is_that view.drawn tile)) ≡ true) → Good rules.red view tile (is_that view.drawn tile) →
+    broken_by rules seat view (discard_of seat view tile) ≡ None
+discards_well rules seat tile view opens good = discard_lawful rules seat tile (is_that view.drawn tile) view opens good.real good.some good.marked good.free
+
+draws : (rules : Rules) (seat who tile : ℕ) (view : View) → view.turn ≡ Drew who → view.drawn ≡ cond (eqb who seat) (Some tile) None → (who ≡ seat → Good rules.red view tile (is_that view.drawn tile)) →
+    broken_by rules seat view (default_in rules seat view (Drew who)) ≡ None
+draws rules seat who tile view turn drawn good =
+    elim (cases_eq who seat) [
+      | inl e ↦
+          ap (λ b. broken_by rules seat view (cond b (discard_or_pass seat view view.drawn) (Pass None))) (eq-eqb who seat e)
+          ∙ ap (λ o. broken_by rules seat view (discard_or_pass seat view o)) (drawn ∙ ap (λ b. cond b (Some tile) None) (eq-eqb who seat e))
+          ∙ discards_well rules seat tile view
+          (ap (λ t. is_open seat t (Discard seat (Known tile) (is_that view.drawn tile))) turn ∙ ap (λ b. cond b true false) (eq-eqb who seat e)) (good e)
+      | inr ne ↦
+          ap (λ b. broken_by rules seat view (cond b (discard_or_pass seat view view.drawn) (Pass None))) (ne_eqb who seat ne)
+          ∙ passes rules seat view (Drew who) turn (ap (λ b. cond b false true) (ne_eqb who seat ne))
+    ]
+
+-- The last discard that breaks no rule breaks none.
+last_is_lawful : (rules : Rules) (seat : ℕ) (view : View) → nat_lt 0 (length (lawful_faces rules seat view)) ≡ true → broken_by rules seat view (discard_or_pass seat view (last_of (lawful_faces rules seat view))) ≡ None
+unfolding lawful_faces
+last_is_lawful rules seat view some =
+    let faces : List ℕ = lawful_faces rules seat view in
+    let tile : ℕ = get_or faces (length faces - 1) 0 in
+    let last : last_of faces ≡ Some tile = last_is faces (ltb-true 0 (length faces) some) in
+    ap (λ o. broken_by rules seat view (discard_or_pass seat view o)) last
+    ∙ none_is _ (picked (λ face. is_none (broken_by rules seat view (discard_of seat view face))) tile_order (length faces - 1) tile last)
+  where
+    none_is : (o : Option Rule) → is_none o ≡ true → o ≡ None
+    none_is None h = refl
+    none_is (Some rule) h = cc
+
+calls : (rules : Rules) (seat who : ℕ) (banned : List ℕ) (view : View) → view.turn ≡ Called who banned → can_discard_in rules seat view (Called who banned) ≡ true →
+    broken_by rules seat view (default_in rules seat view (Called who banned)) ≡ None
+calls rules seat who banned view turn some =
+    elim (cases_eq who seat) [
+      | inl e ↦
+          ap (λ b. broken_by rules seat view (cond b (discard_or_pass seat view (last_of (lawful_faces rules seat view))) (Pass None))) (eq-eqb who seat e)
+          ∙ last_is_lawful rules seat view (ap (λ b. not b || nat_lt 0 (length (lawful_faces rules seat view))) (sym (eq-eqb who seat e)) ∙ some)
+      | inr ne ↦
+          ap (λ b. broken_by rules seat view (cond b (discard_or_pass seat view (last_of (lawful_faces rules seat view))) (Pass None))) (ne_eqb who seat ne)
+          ∙ passes rules seat view (Called who banned) turn (ap (λ b. cond b false true) (ne_eqb who seat ne))
+    ]
+
+discards : (rules : Rules) (seat who tile : ℕ) (view : View) → view.turn ≡ Discarded who tile → broken_by rules seat view (Pass None) ≡ None
+discards rules seat who tile view turn = passes rules seat view (Discarded who tile) turn (same (eqb who seat))
+  where
+    same : (b : Bool) → cond b true true ≡ true
+    same true = refl
+    same false = refl
+
+-- the tiles
+
+-- A discard of the drawn tile is marked so.
+marked_drawn : (view : View) (tile : ℕ) → view.drawn ≡ Some tile → is_wrongly_marked view (Known tile) (is_that view.drawn tile) ≡ false
+marked_drawn view tile drawn =
+    let that : is_that view.drawn tile ≡ true = ap (λ o. is_that o tile) drawn ∙ eq-eqb tile tile refl in
+    ap (is_wrongly_marked view (Known tile)) that ∙ ap not that
+
+-- And where no tile was drawn none is.
+marked_held : (view : View) (tile : ℕ) → view.drawn ≡ None → is_wrongly_marked view (Known tile) (is_that view.drawn tile) ≡ false
+marked_held view tile drawn =
+    let that : is_that view.drawn tile ≡ false = ap (λ o. is_that o tile) drawn in
+    ap (is_wrongly_marked view (Known tile)) that ∙ ap (λ b. b && (held view tile == 1)) that
+
+good_draw : (red : Bool) (ds : List Deed) (seat tile : ℕ) → Owns red ds seat → drawn_tile ds seat ≡ Some tile → banned_in (view_of ds seat).turn ≡ [] →
+    Good red (view_of ds seat) tile (is_that (view_of ds seat).drawn tile)
+unfolding view_of
+good_draw red ds seat tile owns drawn none =
+    let fewer : number_in (lost (hand ds) seat) tile < number_in (gained (hand ds) seat) tile = owns.drawn tile drawn in
+    record {
+      real = given_real red (gained (hand ds) seat) tile owns.real (omega arith);
+      some = omega arith;
+      marked = marked_drawn (view_of ds seat) tile drawn;
+      free = ap (λ kinds. is_banned_tile kinds (Known tile)) none;
+    }
+
+-- A tile that is held and of no banned kind may be discarded right after a call.
+good_free : (red : Bool) (ds : List Deed) (seat tile : ℕ) (banned : List ℕ) → Owns red ds seat → drawn_tile ds seat ≡ None → banned_in (view_of ds seat).turn ≡ banned →
+    (nat_lt 0 (held (view_of ds seat) tile) && not (is_banned banned (kind_of tile))) ≡ true → Good red (view_of ds seat) tile (is_that (view_of ds seat).drawn tile)
+unfolding view_of
+good_free red ds seat tile banned owns drawn is passed =
+    let view : View = view_of ds seat in
+    let parts = and_parts (nat_lt 0 (held view tile)) (not (is_banned banned (kind_of tile))) passed in
+    let some : 0 < number_in (gained (hand ds) seat) tile - number_in (lost (hand ds) seat) tile = ltb-true 0 (held view tile) parts.0 in
+    record {
+      real = given_real red (gained (hand ds) seat) tile owns.real (omega (arith, some));
+      some = some;
+      marked = marked_held view tile drawn;
+      free = ap (λ kinds. is_banned_tile kinds (Known tile)) is ∙ not-true (is_banned banned (kind_of tile)) parts.1;
+    }
+
+-- Where what passes one test passes another, the other is passed by some where the one is.
+some_more : (p q : ℕ → Bool) (xs : List ℕ) → ((x : ℕ) → p x ≡ true → q x ≡ true) → nat_lt 0 (length (filter p xs)) ≡ true → nat_lt 0 (length (filter q xs)) ≡ true
+some_more p q [] h k = k
+some_more p q (x ∷ xs) h k = by_tests (p x) (q x) refl refl k (some_more p q xs h)
+  where
+    no : true ≡ false → ⊥
+    no e = cc
+
+    by_tests : (b c : Bool) → p x ≡ b → q x ≡ c → nat_lt 0 (length (cond b (x ∷ filter p xs) (filter p xs))) ≡ true → (nat_lt 0 (length (filter p xs)) ≡ true → nat_lt 0 (length (filter q xs)) ≡ true) →
+        nat_lt 0 (length (cond c (x ∷ filter q xs) (filter q xs))) ≡ true
+    by_tests b true e f k others = lt-ltb 0 (length (x ∷ filter q xs)) (omega arith)
+    by_tests true false e f k others = absurd (no (sym (h x e) ∙ f))
+    by_tests false false e f k others = others k
+
+-- A seat with a free tile has a discard that breaks no rule.
+free_is_lawful : (rules : Rules) (ds : List Deed) (seat who : ℕ) (banned : List ℕ) → Owns rules.red ds seat → drawn_tile ds seat ≡ None → (view_of ds seat).turn ≡ Called who banned →
+    has_free_in seat (view_of ds seat) (Called who banned) ≡ true → can_discard_in rules seat (view_of ds seat) (Called who banned) ≡ true
+unfolding free_faces lawful_faces
+free_is_lawful rules ds seat who banned owns drawn turn free = elim (cases_eq who seat) [
+  | inl e ↦
+      ap (λ b. not b || nat_lt 0 (length (lawful_faces rules seat (view_of ds seat)))) (eq-eqb who seat e)
+      ∙ some_more (λ face. nat_lt 0 (held (view_of ds seat) face) && not (is_banned banned (kind_of face)))
+      (λ face. is_none (broken_by rules seat (view_of ds seat) (discard_of seat (view_of ds seat) face))) tile_order
+      (λ face passed. ap is_none (discards_well rules seat face (view_of ds seat)
+      (ap (λ t. is_open seat t (Discard seat (Known face) (is_that (view_of ds seat).drawn face))) turn ∙ ap (λ b. cond b true false) (eq-eqb who seat e))
+      (good_free rules.red ds seat face banned owns drawn (ap banned_in turn) passed)))
+      (ap (λ b. not b || nat_lt 0 (length (free_faces (view_of ds seat) banned))) (sym (eq-eqb who seat e)) ∙ free)
+  | inr ne ↦ ap (λ b. not b || nat_lt 0 (length (lawful_faces rules seat (view_of ds seat)))) (ne_eqb who seat ne)
+]
+
+-- The law.
+by_newest : (rules : Rules) (ds : List Deed) (seat : ℕ) (last : Option Deed) → newest ds ≡ last → Owns rules.red ds seat →
+    can_discard_in rules seat (view_of ds seat) (turn_in (option_map turn_by last)) ≡ true → broken_by rules seat (view_of ds seat) (default_in rules seat (view_of ds seat) (turn_in (option_map turn_by last))) ≡ None
+unfolding view_of
+by_newest rules ds seat None e owns some = passes rules seat (view_of ds seat) Nobodys (ap (λ o. turn_in (option_map turn_by o)) e) refl
+by_newest rules ds seat (Some (deeds.Draw who tile replacement)) e owns some =
+    draws rules seat who tile (view_of ds seat) (ap (λ o. turn_in (option_map turn_by o)) e) (ap (option_and_then (drawn_by seat)) e)
+    (λ same. good_draw rules.red ds seat tile owns (ap (option_and_then (drawn_by seat)) e ∙ ap (λ b. cond b (Some tile) None) (eq-eqb who seat same))
+    (ap (λ o. banned_in (turn_in (option_map turn_by o))) e))
+by_newest rules ds seat (Some (deeds.Discard who tile drawn)) e owns some =
+    discards rules seat who tile (view_of ds seat) (ap (λ o. turn_in (option_map turn_by o)) e)
+by_newest rules ds seat (Some (deeds.Chi who target tile a b)) e owns some =
+    calls rules seat who (banned_kinds (deeds.Chi who target tile a b)) (view_of ds seat) (ap (λ o. turn_in (option_map turn_by o)) e) some
+by_newest rules ds seat (Some (deeds.Pon who target tile a b)) e owns some =
+    calls rules seat who (banned_kinds (deeds.Pon who target tile a b)) (view_of ds seat) (ap (λ o. turn_in (option_map turn_by o)) e) some
+by_newest rules ds seat (Some (deeds.StartGame names)) e owns some = passes rules seat (view_of ds seat) Nobodys (ap (λ o. turn_in (option_map turn_by o)) e) refl
+by_newest rules ds seat (Some (deeds.StartHand round number honba deposits dealer indicator hands)) e owns some =
+    passes rules seat (view_of ds seat) Nobodys (ap (λ o. turn_in (option_map turn_by o)) e) refl
+by_newest rules ds seat (Some (deeds.OpenKan who target tile a b c)) e owns some = passes rules seat (view_of ds seat) Nobodys (ap (λ o. turn_in (option_map turn_by o)) e) refl
+by_newest rules ds seat (Some (deeds.ClosedKan who a b c d)) e owns some = passes rules seat (view_of ds seat) Nobodys (ap (λ o. turn_in (option_map turn_by o)) e) refl
+by_newest rules ds seat (Some (deeds.AddedKan who tile a b c)) e owns some = passes rules seat (view_of ds seat) Nobodys (ap (λ o. turn_in (option_map turn_by o)) e) refl
+by_newest rules ds seat (Some (deeds.Dora tile)) e owns some = passes rules seat (view_of ds seat) Nobodys (ap (λ o. turn_in (option_map turn_by o)) e) refl
+
+pub fitting_default_is_lawful : FittingDefaultIsLawful
+unfolding default_by view_of
+fitting_default_is_lawful rules ds seat small fit some = by_newest rules ds seat (newest ds) refl (owns rules.red ds seat small fit) some
+
+-- Of played deeds.
+can_by_newest : (rules : Rules) (ds : List Deed) (seat : ℕ) (last : Option Deed) → newest ds ≡ last → Owns rules.red ds seat → has_free_in seat (view_of ds seat) (turn_in (option_map turn_by last)) ≡ true →
+    can_discard_in rules seat (view_of ds seat) (turn_in (option_map turn_by last)) ≡ true
+unfolding view_of
+can_by_newest rules ds seat None e owns free = refl
+can_by_newest rules ds seat (Some (deeds.Chi who target tile a b)) e owns free =
+    free_is_lawful rules ds seat who (banned_kinds (deeds.Chi who target tile a b)) owns (ap (option_and_then (drawn_by seat)) e) (ap (λ o. turn_in (option_map turn_by o)) e) free
+can_by_newest rules ds seat (Some (deeds.Pon who target tile a b)) e owns free =
+    free_is_lawful rules ds seat who (banned_kinds (deeds.Pon who target tile a b)) owns (ap (option_and_then (drawn_by seat)) e) (ap (λ o. turn_in (option_map turn_by o)) e) free
+can_by_newest rules ds seat (Some (deeds.StartGame names)) e owns free = refl
+can_by_newest rules ds seat (Some (deeds.StartHand round number honba deposits dealer indicator hands)) e owns free = refl
+can_by_newest rules ds seat (Some (deeds.Draw who tile replacement)) e owns free = refl
+can_by_newest rules ds seat (Some (deeds.Discard who tile drawn)) e owns free = refl
+can_by_newest rules ds seat (Some (deeds.OpenKan who target tile a b c)) e owns free = refl
+can_by_newest rules ds seat (Some (deeds.ClosedKan who a b c d)) e owns free = refl
+can_by_newest rules ds seat (Some (deeds.AddedKan who tile a b c)) e owns free = refl
+can_by_newest rules ds seat (Some (deeds.Dora tile)) e owns free = refl
+
+pub some_discard_is_lawful : SomeDiscardIsLawful
+unfolding view_of
+some_discard_is_lawful rules walls ds seat small whole played =
+    can_by_newest rules ds seat (newest ds) refl (owns rules.red ds seat small (played_deeds_fit rules walls ds whole played)) (some_tile_is_free rules walls ds seat played)
+
+pub played_default_is_lawful : PlayedDefaultIsLawful
+played_default_is_lawful rules walls ds seat small whole played =
+    fitting_default_is_lawful rules ds seat small (played_deeds_fit rules walls ds whole played) (some_discard_is_lawful rules walls ds seat small whole played)

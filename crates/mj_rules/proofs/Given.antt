@@ -1,0 +1,211 @@
+-- What a seat is given in a hand whose deeds fit: it puts down no more than that, no red five where there are none, and it
+-- holds the tile that it drew last.
+use Rattle.std.proofs.Common.{◌≡◌, ℕ, zero, suc, ◌+◌, ◌<◌, ◌≤◌, inl, inr, ◌&&◌, ◌||◌, not, Bool, true, false, cond, eqb, List, [], ◌∷◌, ◌++◌, Option, Some, None, refl, sym, ap, ◌∙◌, subst, arith, append-nil, append_assoc}
+use Rattle.std.specs.Prelude.{option_and_then}
+use Rattle.std.specs.List.{list_all}
+use Rattle.std.proofs.lemmas.Bool.{cases_eq, ne_eqb, eq-eqb, and_parts, and_from}
+use Rattle.std.proofs.lemmas.List.Concat.{flat_map-append}
+use Rattle.std.proofs.lemmas.List.Folds.{list_all-append}
+use Rattle.mj_tiles.specs.Faces.{number_in, is_red}
+use Rattle.mj_deeds.specs.declared.deed.Deed.{Deed}
+use Rattle.mj_deeds.specs.declared.deed.Deed.TheVariants.{StartGame, StartHand, Draw, Discard, Chi, Pon, OpenKan, ClosedKan, AddedKan, Dora}
+use Rattle.mj_deeds.specs.Facts.{newest, gained, gains_by, lost, losses_by, drawn_tile, drawn_by}
+use Rattle.mj_deeds.proofs.Totals.{number_more, held_room}
+use Rattle.mj_deeds.proofs.Newest.{newest_more}
+use Rattle.mj_deeds.proofs.Hands.{hand_with, hand_before, hand_is}
+use Rattle.mj_deeds.proofs.Fitted.{all_fit-append, hand_begun}
+use Rattle.mj_deeds.specs.Hand.{hand, before_in}
+use Rattle.mj_deeds.specs.Fits.{fits, fits_in, fits_behind, all_fit, is_in_place, is_in_hand, is_after_dora, is_held, is_held_by, are_held, has_tiles, faces_in}
+
+-- What is true of a seat behind some deeds.
+pub record Owns (red : Bool) (ds : List Deed) (seat : ℕ) : Type 0 where
+  pub within : (face : ℕ) → number_in (lost (hand ds) seat) face ≤ number_in (gained (hand ds) seat) face
+  pub real : (red || list_all (λ face. not (is_red face)) (gained (hand ds) seat)) ≡ true
+  pub drawn : (tile : ℕ) → drawn_tile ds seat ≡ Some tile → number_in (lost (hand ds) seat) tile < number_in (gained (hand ds) seat) tile
+
+-- A deed that fits stands in its place, out of tiles that its seat holds, and of tiles of the game.
+record Parts (red : Bool) (ds : List Deed) (d : Deed) : Type 0 where
+  place : is_in_place (newest ds) d ≡ true
+  held : is_held (before_in (hand ds) d) d ≡ true
+  tiles : has_tiles red d ≡ true
+
+parts_of : (red : Bool) (ds : List Deed) (d : Deed) → fits red ds d ≡ true → Parts red ds d
+unfolding fits_behind fits_in
+parts_of red ds d h =
+    let p = and_parts _ _ h in
+    let a = and_parts _ _ p.1 in
+    let b = and_parts _ _ a.0 in
+    let c = and_parts _ _ b.0 in
+    let e = and_parts _ _ c.0 in
+    let f = and_parts _ _ e.0 in
+    let g = and_parts _ _ f.0 in
+    record { place = p.0; held = g.1; tiles = e.1 }
+
+-- Of the four seats.
+of_four : (p : ℕ → Bool) (seat : ℕ) → seat < 4 → list_all p (0 ∷ 1 ∷ 2 ∷ 3 ∷ []) ≡ true → p seat ≡ true
+of_four p zero h all = (and_parts (p 0) _ all).0
+of_four p (suc zero) h all = (and_parts (p 1) _ (and_parts (p 0) _ all).1).0
+of_four p (suc (suc zero)) h all = (and_parts (p 2) _ (and_parts (p 1) _ (and_parts (p 0) _ all).1).1).0
+of_four p (suc (suc (suc zero))) h all = (and_parts (p 3) _ (and_parts (p 2) _ (and_parts (p 1) _ (and_parts (p 0) _ all).1).1).1).0
+of_four p (suc (suc (suc (suc n)))) h all = absurd (too_many n h)
+  where
+    too_many : (n : ℕ) → suc (suc (suc (suc n))) < 4 → ⊥
+    too_many n h = omega arith
+
+-- red fives
+
+of_hand : (p : ℕ → Bool) (a b c d : List ℕ) (seat : ℕ) → list_all p (a ++ b ++ c ++ d) ≡ true →
+    list_all p (cond (eqb seat 0) a (cond (eqb seat 1) b (cond (eqb seat 2) c d))) ≡ true
+of_hand p a b c d seat h =
+    let x = and_parts (list_all p (a ++ b ++ c)) (list_all p d) (sym (list_all-append p (a ++ b ++ c) d) ∙ h) in
+    let y = and_parts (list_all p (a ++ b)) (list_all p c) (sym (list_all-append p (a ++ b) c) ∙ x.0) in
+    let z = and_parts (list_all p a) (list_all p b) (sym (list_all-append p a b) ∙ y.0) in
+    pick (eqb seat 0) a _ z.0 (pick (eqb seat 1) b _ z.1 (pick (eqb seat 2) c d y.1 x.1))
+  where
+    pick : (b : Bool) (xs ys : List ℕ) → list_all p xs ≡ true → list_all p ys ≡ true → list_all p (cond b xs ys) ≡ true
+    pick true xs ys h k = h
+    pick false xs ys h k = k
+
+at_one : (p : ℕ → Bool) (b : Bool) (tile : ℕ) → (p tile && true) ≡ true → list_all p (cond b (tile ∷ []) []) ≡ true
+at_one p true tile h = h
+at_one p false tile h = refl
+
+gains_real : (p : ℕ → Bool) (seat : ℕ) (d : Deed) → list_all p (faces_in d) ≡ true → list_all p (gains_by seat d) ≡ true
+gains_real p seat (StartGame names) h = refl
+gains_real p seat (StartHand round number honba deposits dealer indicator hands) h =
+    of_hand p hands.first hands.second hands.third hands.fourth seat
+    (tail indicator (hands.first ++ hands.second ++ hands.third ++ hands.fourth) h)
+  where
+    tail : (x : ℕ) (xs : List ℕ) → list_all p (x ∷ xs) ≡ true → list_all p xs ≡ true
+    tail x xs k = (and_parts (p x) (list_all p xs) k).1
+gains_real p seat (Draw who tile replacement) h = at_one p (eqb who seat) tile h
+gains_real p seat (Discard who tile drawn) h = refl
+gains_real p seat (Chi who target tile a b) h = refl
+gains_real p seat (Pon who target tile a b) h = refl
+gains_real p seat (OpenKan who target tile a b c) h = refl
+gains_real p seat (ClosedKan who a b c d) h = refl
+gains_real p seat (AddedKan who tile a b c) h = refl
+gains_real p seat (Dora tile) h = refl
+
+real_step : (red : Bool) (ds : List Deed) (d : Deed) (seat : ℕ) → has_tiles red d ≡ true → (red || list_all (λ face. not (is_red face)) (gained ds seat)) ≡ true →
+    (red || list_all (λ face. not (is_red face)) (gained (ds ++ d ∷ []) seat)) ≡ true
+real_step true ds d seat h k = refl
+real_step false ds d seat h k =
+    let p : ℕ → Bool = λ face. not (is_red face) in
+    ap (list_all p) (flat_map-append (gains_by seat) ds (d ∷ []))
+    ∙ list_all-append p (gained ds seat) (gains_by seat d ++ [])
+    ∙ and_from (list_all p (gained ds seat)) _ k (ap (list_all p) (append-nil (gains_by seat d)) ∙ gains_real p seat d h)
+
+-- the drawn tile
+
+drawn_step : (seat tile : ℕ) (d : Deed) (l g : ℕ) → drawn_by seat d ≡ Some tile → l ≤ g → l + number_in (losses_by seat d) tile < g + number_in (gains_by seat d) tile
+drawn_step seat tile (Draw who t replacement) l g h k =
+    elim (cases_eq who seat) [
+      | inl e ↦ mine e
+      | inr ne ↦ absurd (not_mine ne)
+    ]
+  where
+    mine : who ≡ seat → l + number_in (losses_by seat (Draw who t replacement)) tile < g + number_in (gains_by seat (Draw who t replacement)) tile
+    mine e =
+        let is : t ≡ tile = some_is t tile (ap (λ b. cond b (Some t) None) (sym (eq-eqb who seat e)) ∙ h) in
+        let one : number_in (cond (eqb who seat) (t ∷ []) []) tile ≡ 1 = ap (λ b. number_in (cond b (t ∷ []) []) tile) (eq-eqb who seat e) ∙ one_of t tile is in
+        omega (arith, one)
+      where
+        some_is : (a b : ℕ) → Some a ≡ Some b → a ≡ b
+        some_is a b e = cc
+
+        one_of : (a b : ℕ) → a ≡ b → number_in (a ∷ []) b ≡ 1
+        one_of a b e = rw (eq-eqb a b e) refl
+
+    not_mine : (who ≡ seat → ⊥) → ⊥
+    not_mine ne = none_is t (ap (λ b. cond b (Some t) None) (sym (ne_eqb who seat ne)) ∙ h)
+      where
+        none_is : (a : ℕ) → None ≡ Some tile → ⊥
+        none_is a e = cc
+drawn_step seat tile (StartGame names) l g h k = cc
+drawn_step seat tile (StartHand round number honba deposits dealer indicator hands) l g h k = cc
+drawn_step seat tile (Discard who t drawn) l g h k = cc
+drawn_step seat tile (Chi who target t a b) l g h k = cc
+drawn_step seat tile (Pon who target t a b) l g h k = cc
+drawn_step seat tile (OpenKan who target t a b c) l g h k = cc
+drawn_step seat tile (ClosedKan who a b c d) l g h k = cc
+drawn_step seat tile (AddedKan who t a b c) l g h k = cc
+drawn_step seat tile (Dora t) l g h k = cc
+
+-- A seat that draws does so in a hand that is under way.
+drawn_in_hand : (seat tile : ℕ) (before : Option Deed) (d : Deed) → drawn_by seat d ≡ Some tile → is_in_place before d ≡ true → is_in_hand before ≡ true
+drawn_in_hand seat tile before (Draw who t true) h k = (and_parts (is_in_hand before) (is_after_dora before) k).0
+drawn_in_hand seat tile before (Draw who t false) h k = (and_parts (is_in_hand before) (not (is_after_dora before)) k).0
+drawn_in_hand seat tile before (StartGame names) h k = cc
+drawn_in_hand seat tile before (StartHand round number honba deposits dealer indicator hands) h k = cc
+drawn_in_hand seat tile before (Discard who t drawn) h k = cc
+drawn_in_hand seat tile before (Chi who target t a b) h k = cc
+drawn_in_hand seat tile before (Pon who target t a b) h k = cc
+drawn_in_hand seat tile before (OpenKan who target t a b c) h k = cc
+drawn_in_hand seat tile before (ClosedKan who a b c d) h k = cc
+drawn_in_hand seat tile before (AddedKan who t a b c) h k = cc
+drawn_in_hand seat tile before (Dora t) h k = cc
+
+-- One deed further in its hand.
+within_more : (h : List Deed) (d : Deed) (seat : ℕ) → are_held (gained h seat) (lost h seat) (losses_by seat d) ≡ true → ((face : ℕ) → number_in (lost h seat) face ≤ number_in (gained h seat) face) →
+    (face : ℕ) → number_in (lost (h ++ d ∷ []) seat) face ≤ number_in (gained (h ++ d ∷ []) seat) face
+within_more h d seat held within face =
+    more _ _ _ _ _ _ (number_more (losses_by seat) h d face) (number_more (gains_by seat) h d face) (held_room (gained h seat) (lost h seat) (losses_by seat d) face held (within face))
+  where
+    more : (l' l x g' g y : ℕ) → l' ≡ l + x → g' ≡ g + y → l + x ≤ g → l' ≤ g'
+    more l' l x g' g y e f h = omega arith
+
+drawn_more : (h : List Deed) (d : Deed) (seat tile : ℕ) → drawn_by seat d ≡ Some tile → number_in (lost h seat) tile ≤ number_in (gained h seat) tile →
+    number_in (lost (h ++ d ∷ []) seat) tile < number_in (gained (h ++ d ∷ []) seat) tile
+drawn_more h d seat tile drawn within =
+    further _ _ _ _ _ _ (number_more (losses_by seat) h d tile) (number_more (gains_by seat) h d tile) (drawn_step seat tile d _ _ drawn within)
+  where
+    further : (l' l x g' g y : ℕ) → l' ≡ l + x → g' ≡ g + y → l + x < g + y → l' < g'
+    further l' l x g' g y e f h = omega arith
+
+none_held : (seat face : ℕ) → number_in (lost [] seat) face ≤ number_in (gained [] seat) face
+none_held seat face = omega arith
+
+none_red : (red : Bool) (seat : ℕ) → (red || list_all (λ face. not (is_red face)) (gained [] seat)) ≡ true
+none_red true seat = refl
+none_red false seat = refl
+
+-- One deed further.
+owns_more : (red : Bool) (ds : List Deed) (d : Deed) (seat : ℕ) → seat < 4 → all_fit red [] ds ≡ true → fits red ds d ≡ true → Owns red ds seat → Owns red (ds ++ d ∷ []) seat
+owns_more red ds d seat small old fit owns =
+    let parts = parts_of red ds d fit in
+    let h : List Deed = before_in (hand ds) d in
+    let held : are_held (gained h seat) (lost h seat) (losses_by seat d) ≡ true = of_four (is_held_by h d) seat small parts.held in
+    let within : (face : ℕ) → number_in (lost h seat) face ≤ number_in (gained h seat) face =
+    hand_before (λ xs. (face : ℕ) → number_in (lost xs seat) face ≤ number_in (gained xs seat) face) (hand ds) d (none_held seat) owns.within in
+    let real : (red || list_all (λ face. not (is_red face)) (gained h seat)) ≡ true =
+    hand_before (λ xs. (red || list_all (λ face. not (is_red face)) (gained xs seat)) ≡ true) (hand ds) d (none_red red seat) owns.real in
+    record {
+      within = hand_with (λ xs. (face : ℕ) → number_in (lost xs seat) face ≤ number_in (gained xs seat) face) ds d (λ _ _. none_held seat) (within_more h d seat held within);
+      real = hand_with (λ xs. (red || list_all (λ face. not (is_red face)) (gained xs seat)) ≡ true) ds d (λ _ _. none_red red seat) (real_step red h d seat parts.tiles real);
+      drawn = λ tile k. drawn_now tile (ap (option_and_then (drawn_by seat)) (sym (newest_more ds d)) ∙ k) parts.place (within tile);
+    }
+  where
+    drawn_now : (tile : ℕ) → drawn_by seat d ≡ Some tile → is_in_place (newest ds) d ≡ true → number_in (lost (before_in (hand ds) d) seat) tile ≤ number_in (gained (before_in (hand ds) d) seat) tile →
+        number_in (lost (hand (ds ++ d ∷ [])) seat) tile < number_in (gained (hand (ds ++ d ∷ [])) seat) tile
+    drawn_now tile drew place within =
+        subst (λ (xs : List Deed). number_in (lost xs seat) tile < number_in (gained xs seat) tile)
+        (sym (hand_is ds d (λ _ empty. hand_begun red ds old (drawn_in_hand seat tile (newest ds) d drew place) empty)))
+        (drawn_more (before_in (hand ds) d) d seat tile drew within)
+
+owns_all : (red : Bool) (before ds : List Deed) (seat : ℕ) → seat < 4 → all_fit red [] before ≡ true → all_fit red before ds ≡ true → Owns red before seat → Owns red (before ++ ds) seat
+owns_all red before [] seat small old h owns = subst (λ (xs : List Deed). Owns red xs seat) (sym (append-nil before)) owns
+owns_all red before (d ∷ ds) seat small old h owns =
+    let parts = and_parts (fits red before d) (all_fit red (before ++ d ∷ []) ds) h in
+    subst (λ (xs : List Deed). Owns red xs seat) (append_assoc before (d ∷ []) ds)
+    (owns_all red (before ++ d ∷ []) ds seat small (all_fit-append red [] before d old parts.0) parts.1 (owns_more red before d seat small old parts.0 owns))
+
+owns_nothing : (red : Bool) (seat : ℕ) → Owns red [] seat
+unfolding hand
+owns_nothing red seat = record { within = none_held seat; real = none_red red seat; drawn = λ tile h. no_draw tile h }
+  where
+    no_draw : (tile : ℕ) → None ≡ Some tile → 0 < 0
+    no_draw tile h = cc
+
+pub owns : (red : Bool) (ds : List Deed) (seat : ℕ) → seat < 4 → all_fit red [] ds ≡ true → Owns red ds seat
+owns red ds seat small h = owns_all red [] ds seat small refl h (owns_nothing red seat)

@@ -1,0 +1,542 @@
+-- The choice from number to number.
+use Rattle.std.proofs.Common.{◌≡◌, ◌≢◌, ◌⊎◌, ◌&&◌, eqb, cond, ℕ, zero, suc, ◌+◌, ◌-◌, ◌*◌, ◌/◌, ◌%◌, ◌<◌, ◌≤◌, Bool, true, false, Option, None, Some, List, [], ◌∷◌, ◌++◌, take, set, length, get_or, refl, sym, subst, ap, ap₂, ◌∙◌, inl, inr, arith, append_assoc, append-nil, Ordering, Less, Equal, Greater}
+use Rattle.std.specs.Prelude.{MatchOption}
+use Rattle.std.specs.Ordering.{nat_cmp, is_gt, ordering_then, ordering_reverse}
+use Rattle.std.specs.Cmp.Lexicographic.{slice_cmp}
+use Rattle.std.proofs.lemmas.Bool.{cases_lt, cases_eq, cases_Bool, cases_order, lt-ltb, and_parts, eqb-true}
+use Rattle.std.proofs.lemmas.Cmp.{upto, tied_itself, nat_cmp_total, nat_list_cmp_total}
+use Rattle.std.proofs.Math.Seq.{take-suc-set}
+use Rattle.mj_suits.specs.Rows.{lane, Holds, stepped, walked, IsFew}
+use Rattle.mj_suits.specs.Walked.{row_at, AreRows}
+use Rattle.mj_suits.specs.Targets.{missing}
+use Rattle.mj_suits.specs.Ends.{Goes, Ends}
+use Rattle.mj_suits.specs.Choosing.{rooms, helds, IsState, AreLevels, AreNumbers, Goes_on, By, ByBegin, ByTiles, tiles_of, tiles_at, IsBegin, MayBegin, sets_alone, with_pair, IsPlan, IsGreatest, GreaterOf}
+use Rattle.mj_suits.specs.declared.choosing.Aim.{Aim}
+use Rattle.mj_suits.specs.declared.choosing.Level.{Level}
+use Rattle.mj_suits.specs.declared.choosing.Plan.{Plan}
+use Rattle.mj_suits.specs.declared.choosing.Begin.{Begin}
+use Rattle.mj_suits.specs.declared.choosing.Choice.{Choice}
+use Rattle.mj_suits.specs.declared.walk.Rows.{Rows}
+use Rattle.mj_suits.specs.declared.row.Row.{Row}
+use Rattle.mj_suits.proofs.Rows.{walked_at, walked_past}
+use Rattle.mj_suits.proofs.Ends.{fewer_runs}
+use Rattle.mj_suits.proofs.Best.{OfFour, Reached, step_bound, walked_bound, walked_few, walked_reached}
+use Rattle.mj_suits.proofs.Near.{not_less_back}
+use Rattle.mj_suits.specs.Left.{pairs, LeavesBy, Leaves, LeavesMost, IsChosen}
+use Rattle.mj_suits.proofs.Made.{target_ends}
+use Rattle.mj_suits.proofs.Nine.{nine_of, nine_are, leaves_by, leaves_most_of}
+
+-- ---- the lexicographic order
+
+-- after equal fronts the rest decides
+pub cmp_after : (xs ys zs : List ℕ) → slice_cmp nat_cmp (xs ++ ys) (xs ++ zs) ≡ slice_cmp nat_cmp ys zs
+cmp_after [] ys zs = refl
+cmp_after (x ∷ xs) ys zs = ap (λ o. ordering_then o (slice_cmp nat_cmp (xs ++ ys) (xs ++ zs))) (tied_itself nat_cmp_total x) ∙ cmp_after xs ys zs
+
+cmp_head : (x : ℕ) (ys zs : List ℕ) → slice_cmp nat_cmp (x ∷ ys) (x ∷ zs) ≡ slice_cmp nat_cmp ys zs
+cmp_head x ys zs = cmp_after (x ∷ []) ys zs
+
+-- a lesser head is less
+cmp_lesser : (x y : ℕ) (xs ys : List ℕ) → x < y → slice_cmp nat_cmp (x ∷ xs) (y ∷ ys) ≡ Less
+cmp_lesser x y xs ys less = ap (λ o. ordering_then o (slice_cmp nat_cmp xs ys)) (ap (λ t. cond t Less (cond (eqb x y) Equal Greater)) (lt-ltb x y less))
+
+not_gt : (o : Ordering) → o ≢ Greater → is_gt o ≡ false
+not_gt Less other = refl
+not_gt Equal other = refl
+not_gt Greater other = absurd (other refl)
+
+gt_not : (o : Ordering) → is_gt o ≡ false → o ≢ Greater
+gt_not Less other e = absurd (cc)
+gt_not Equal other e = absurd (cc)
+gt_not Greater other e = absurd (cc)
+
+pub not_greater-trans : (xs ys zs : List ℕ) → slice_cmp nat_cmp xs ys ≢ Greater → slice_cmp nat_cmp ys zs ≢ Greater → slice_cmp nat_cmp xs zs ≢ Greater
+not_greater-trans xs ys zs a b = gt_not (slice_cmp nat_cmp xs zs) (upto nat_list_cmp_total xs ys zs (not_gt (slice_cmp nat_cmp xs ys) a) (not_gt (slice_cmp nat_cmp ys zs) b))
+
+pub not_greater-back : (xs ys : List ℕ) → slice_cmp nat_cmp xs ys ≡ Greater → slice_cmp nat_cmp ys xs ≢ Greater
+not_greater-back xs ys greater = gt_not (slice_cmp nat_cmp ys xs) (not_less_back xs ys greater)
+
+pub not_greater-less : (xs ys : List ℕ) → slice_cmp nat_cmp xs ys ≡ Less → slice_cmp nat_cmp xs ys ≢ Greater
+not_greater-less xs ys less e = absurd (cc)
+
+pub not_greater-equal : (xs ys : List ℕ) → slice_cmp nat_cmp xs ys ≡ Equal → slice_cmp nat_cmp ys xs ≢ Greater
+not_greater-equal xs ys equal e = (let back : slice_cmp nat_cmp ys xs ≡ Equal = nat_list_cmp_total.antisymm ys xs ∙ ap ordering_reverse equal in absurd (cc))
+
+not_greater-same : (xs : List ℕ) → slice_cmp nat_cmp xs xs ≢ Greater
+not_greater-same xs e = (let same : slice_cmp nat_cmp xs xs ≡ Equal = tied_itself nat_list_cmp_total xs in absurd (cc))
+
+-- ---- past the highest number
+
+pub nothing_more : (aim : Aim) (plan : Plan) (choice : Choice) → length plan.target ≡ 9 → IsPlan aim [] plan → choice.target ≡ plan.target → choice.sets ≡ plan.sets → choice.pairs ≡ plan.pairs → IsGreatest (By aim [] plan) plan choice
+nothing_more aim plan choice nine is target sets pairs =
+    let at_end : plan.number ≡ 9 = (let e = is.number_is in omega arith) in
+    let whole : take plan.number plan.target ≡ plan.target = ap (λ n. take n plan.target) (at_end ∙ sym nine) ∙ take-all plan.target in
+    elim (cases_Bool ((eqb plan.before 0) && (eqb plan.earlier 0))) [
+      | inl none ↦
+          let parts : (eqb plan.before 0 ≡ true) × (eqb plan.earlier 0 ≡ true) = and_parts (eqb plan.before 0) (eqb plan.earlier 0) none in
+          let left : lane aim.after.lanes plan.sets plan.pairs ≡ plan.left = sym (walked_past aim.runs (lane aim.after.lanes) [] plan.before plan.earlier plan.sets plan.pairs ∙ ap (λ t. cond t (lane aim.after.lanes plan.sets plan.pairs) 0) none) ∙ is.left_is in
+          record {
+            rest = [];
+            target_is = target ∙ sym whole ∙ sym (append-nil (take plan.number plan.target));
+            is = record {
+              sets_here = 0;
+              pairs_here = 0;
+              ends = (eqb-true plan.before 0 parts.0, (eqb-true plan.earlier 0 parts.1, (refl, (refl, refl))));
+              sets_are = sym sets ∙ omega arith;
+              pairs_are = sym pairs ∙ omega arith;
+              left_is = ap₂ (lane aim.after.lanes) sets pairs ∙ left ∙ omega arith;
+            };
+            greatest = λ other s p by. subst (λ t. slice_cmp nat_cmp t [] ≢ Greater) (sym by.ends.1.1.1.1) (not_greater-same []);
+          }
+      | inr under_way ↦ absurd (let zero_left : walked aim.runs (lane aim.after.lanes) [] [] plan.before plan.earlier plan.sets plan.pairs ≡ 0 = walked_past aim.runs (lane aim.after.lanes) [] plan.before plan.earlier plan.sets plan.pairs ∙ ap (λ t. cond t (lane aim.after.lanes plan.sets plan.pairs) 0) under_way in let l = is.left_is in let s = is.some in omega arith)
+    ]
+  where
+    take-all : (xs : List ℕ) → take (length xs) xs ≡ xs
+    take-all [] = refl
+    take-all (x ∷ xs) = ap (λ ys. x ∷ ys) (take-all xs)
+
+-- ---- what begins at a number
+
+of_four : (aim : Aim) (levels : List Level) → AreLevels aim levels → OfFour (rooms levels)
+of_four aim [] are = tt
+of_four aim (level ∷ levels) are = (are.0, of_four aim levels are.1.1)
+
+same_length : (levels : List Level) → length (rooms levels) ≡ length (helds levels)
+same_length [] = refl
+same_length (level ∷ levels) = ap suc (same_length levels)
+
+state_next : (runs : Bool) (before earlier begin : ℕ) → IsState runs before earlier → begin < 3 → (runs ≡ false → begin ≡ 0) → IsState runs begin before
+state_next true before earlier begin state few only = (few, state.0)
+state_next false before earlier begin state few only = (only refl, state.0)
+
+-- the plan where these begin is a plan for the numbers after
+pub next_is : (aim : Aim) (level : Level) (others : List Level) (plan next : Plan) (begin : Begin) (row : List ℕ) → IsPlan aim (level ∷ others) plan → IsBegin begin → MayBegin aim level plan begin → row ≡ row_at level.rows begin.runs plan.before
+    → next.number ≡ plan.number + 1 → next.before ≡ begin.runs → next.earlier ≡ plan.before → next.sets ≡ plan.sets - (begin.runs + begin.triplets) → next.pairs ≡ plan.pairs - begin.pairs → next.left ≡ lane row next.sets next.pairs → next.left ≡ plan.left + (tiles_at plan begin - level.held) → IsPlan aim others next
+next_is aim level others plan next begin row is begins may row_is number before earlier sets pairs left enough =
+    let runs_few : begin.runs < 3 = (let r = begins.runs_few in omega arith) in
+    let state : IsState aim.runs begin.runs plan.before = state_next aim.runs plan.before plan.earlier begin.runs is.state runs_few may.only in
+    let sets_few : next.sets < 8 = (let s = is.sets_few in omega arith) in
+    let pairs_few : next.pairs < 2 = (let s = is.pairs_few in omega arith) in
+    let held : lane row next.sets next.pairs ≡ walked aim.runs (lane aim.after.lanes) (rooms others) (helds others) begin.runs plan.before next.sets next.pairs =
+    subst (λ r. lane r next.sets next.pairs ≡ walked aim.runs (lane aim.after.lanes) (rooms others) (helds others) begin.runs plan.before next.sets next.pairs) (sym row_is) ((is.levels_are.1.0 begin.runs plan.before state).at next.sets next.pairs sets_few pairs_few) in
+    let few : walked aim.runs (lane aim.after.lanes) (rooms others) (helds others) begin.runs plan.before next.sets next.pairs ≤ 15 = walked_few aim.runs (lane aim.after.lanes) is.few (rooms others) (helds others) begin.runs plan.before next.sets next.pairs sets_few pairs_few in
+    record {
+      levels_are = is.levels_are.1.1;
+      few = is.few;
+      state = subst (λ b. IsState aim.runs b next.earlier) (sym before) (subst (λ e. IsState aim.runs begin.runs e) (sym earlier) state);
+      number_is = (let n = is.number_is in omega arith);
+      sets_few = sets_few;
+      pairs_few = pairs_few;
+      left_is = ap₂ (λ b e. walked aim.runs (lane aim.after.lanes) (rooms others) (helds others) b e next.sets next.pairs) before earlier ∙ sym held ∙ sym left;
+      some = (let s = is.some in omega arith);
+      left_few = omega arith;
+      before_few = omega arith;
+      earlier_few = (let b = is.before_few in omega arith);
+    }
+
+-- where the rows leave another number, none of these leaves as many
+pub none_begins : (aim : Aim) (level : Level) (others : List Level) (plan : Plan) (begin : Begin) (row : List ℕ) (left : ℕ) → IsPlan aim (level ∷ others) plan → IsBegin begin → MayBegin aim level plan begin → row ≡ row_at level.rows begin.runs plan.before
+    → left ≡ lane row (plan.sets - (begin.runs + begin.triplets)) (plan.pairs - begin.pairs) → left ≢ plan.left + (tiles_at plan begin - level.held)
+    → (tiles : List ℕ) (sets pairs : ℕ) → ByBegin aim level others plan begin tiles sets pairs → ⊥
+none_begins aim level others plan begin row left is begins may row_is left_is differ tiles sets pairs by =
+    let more = by.more in
+    let runs_few : begin.runs < 3 = (let r = begins.runs_few in omega arith) in
+    let state : IsState aim.runs begin.runs plan.before = state_next aim.runs plan.before plan.earlier begin.runs is.state runs_few may.only in
+    let s : ℕ = plan.sets - (begin.runs + begin.triplets) in
+    let p : ℕ = plan.pairs - begin.pairs in
+    let held : lane row s p ≡ walked aim.runs (lane aim.after.lanes) (rooms others) (helds others) begin.runs plan.before s p =
+    subst (λ r. lane r s p ≡ walked aim.runs (lane aim.after.lanes) (rooms others) (helds others) begin.runs plan.before s p) (sym row_is) ((is.levels_are.1.0 begin.runs plan.before state).at s p (let f = is.sets_few in omega arith) (let f = is.pairs_few in omega arith)) in
+    let bound : lane aim.after.lanes sets pairs ≤ walked aim.runs (lane aim.after.lanes) (rooms others) (helds others) begin.runs plan.before (more.sets_here + sets) (more.pairs_here + pairs) + missing by.rest (helds others) =
+    walked_bound aim.runs (lane aim.after.lanes) (rooms others) (helds others) begin.runs plan.before more.sets_here more.pairs_here by.rest (same_length others) (of_four aim others is.levels_are.1.1) more.ends sets pairs (let e = more.pairs_are in let f = is.pairs_few in omega arith) in
+    let same : walked aim.runs (lane aim.after.lanes) (rooms others) (helds others) begin.runs plan.before (more.sets_here + sets) (more.pairs_here + pairs) ≡ walked aim.runs (lane aim.after.lanes) (rooms others) (helds others) begin.runs plan.before s p =
+    ap₂ (walked aim.runs (lane aim.after.lanes) (rooms others) (helds others) begin.runs plan.before) (sym more.sets_are) (sym more.pairs_are) in
+    let step : walked aim.runs (lane aim.after.lanes) (rooms others) (helds others) begin.runs plan.before s p ≤ stepped aim.runs level.held level.room (walked aim.runs (lane aim.after.lanes) (rooms others) (helds others)) plan.before plan.earlier plan.sets plan.pairs + (tiles_at plan begin - level.held) =
+    step_bound aim.runs (walked aim.runs (lane aim.after.lanes) (rooms others) (helds others)) level.held level.room plan.before plan.earlier plan.sets plan.pairs begin.runs begin.triplets begin.pairs is.levels_are.0 begins.runs_few begins.one may.within may.only may.sets may.pairs in
+    let whole : stepped aim.runs level.held level.room (walked aim.runs (lane aim.after.lanes) (rooms others) (helds others)) plan.before plan.earlier plan.sets plan.pairs ≡ plan.left =
+    sym (walked_at aim.runs (lane aim.after.lanes) level.room level.held (rooms others) (helds others) plan.before plan.earlier plan.sets plan.pairs) ∙ is.left_is in
+    differ (equal _ _ _ _ _ _ _ _ left_is held bound same step whole more.left_is)
+  where
+    equal : (left row here here' spare missed whole cost : ℕ) → left ≡ row → row ≡ here' → spare ≤ here + missed → here ≡ here' → here' ≤ whole + cost → whole ≡ plan.left → spare ≡ (plan.left + cost) + missed → left ≡ plan.left + cost
+    equal left row here here' spare missed whole cost a b c d e f g = omega arith
+
+-- the choice for the numbers after, with the tiles that begin here
+pub begins_greatest : (aim : Aim) (level : Level) (others : List Level) (plan next : Plan) (begin : Begin) (choice : Choice) → length plan.target ≡ 9 → IsPlan aim (level ∷ others) plan → MayBegin aim level plan begin
+    → next.target ≡ set plan.target plan.number (tiles_at plan begin) → next.number ≡ plan.number + 1 → next.before ≡ begin.runs → next.earlier ≡ plan.before → next.sets ≡ plan.sets - (begin.runs + begin.triplets) → next.pairs ≡ plan.pairs - begin.pairs → next.left ≡ plan.left + (tiles_at plan begin - level.held)
+    → IsGreatest (By aim others next) next choice → IsGreatest (ByBegin aim level others plan begin) plan choice
+begins_greatest aim level others plan next begin choice nine is may target number before earlier sets pairs left greatest = record {
+  rest = tiles_at plan begin ∷ greatest.rest;
+  target_is = greatest.target_is ∙ ap (λ front. front ++ greatest.rest) front_is ∙ append_assoc (take plan.number plan.target) (tiles_at plan begin ∷ []) greatest.rest;
+  is = record {
+    rest = greatest.rest;
+    tiles_are = refl;
+    may = may;
+    more = to greatest.rest choice.sets choice.pairs greatest.is;
+  };
+  greatest = λ other s p by. subst (λ t. slice_cmp nat_cmp t (tiles_at plan begin ∷ greatest.rest) ≢ Greater) (sym by.tiles_are)
+      (subst (λ o. o ≢ Greater) (sym (cmp_head (tiles_at plan begin) by.rest greatest.rest)) (greatest.greatest by.rest s p (from by.rest s p by.more)));
+}
+  where
+    Here : ℕ → ℕ → ℕ → ℕ → ℕ → List ℕ → ℕ → ℕ → Type 0
+    Here b e s p l = Goes_on aim others b e s p l
+
+    front_is : take next.number next.target ≡ take plan.number plan.target ++ tiles_at plan begin ∷ []
+    front_is = (let after : next.number ≡ suc plan.number = number ∙ omega arith in ap₂ take after target) ∙ take-suc-set plan.target plan.number (tiles_at plan begin) (let n = is.number_is in omega arith)
+
+    to : (t : List ℕ) (s p : ℕ) → By aim others next t s p → Goes_on aim others begin.runs plan.before (plan.sets - (begin.runs + begin.triplets)) (plan.pairs - begin.pairs) (plan.left + (tiles_at plan begin - level.held)) t s p
+    to t s p by = record {
+      sets_here = by.sets_here;
+      pairs_here = by.pairs_here;
+      ends = subst (λ b. Ends aim.runs (rooms others) b plan.before by.sets_here by.pairs_here t) before (subst (λ e. Ends aim.runs (rooms others) next.before e by.sets_here by.pairs_here t) earlier by.ends);
+      sets_are = sym sets ∙ by.sets_are;
+      pairs_are = sym pairs ∙ by.pairs_are;
+      left_is = by.left_is ∙ ap (λ l. l + missing t (helds others)) left;
+    }
+
+    from : (t : List ℕ) (s p : ℕ) → Goes_on aim others begin.runs plan.before (plan.sets - (begin.runs + begin.triplets)) (plan.pairs - begin.pairs) (plan.left + (tiles_at plan begin - level.held)) t s p → By aim others next t s p
+    from t s p by = record {
+      sets_here = by.sets_here;
+      pairs_here = by.pairs_here;
+      ends = subst (λ b. Ends aim.runs (rooms others) b next.earlier by.sets_here by.pairs_here t) (sym before) (subst (λ e. Ends aim.runs (rooms others) begin.runs e by.sets_here by.pairs_here t) (sym earlier) by.ends);
+      sets_are = sets ∙ by.sets_are;
+      pairs_are = pairs ∙ by.pairs_are;
+      left_is = by.left_is ∙ ap (λ l. l + missing t (helds others)) (sym left);
+    }
+
+-- ---- the choices for so many tiles
+
+-- of two choices with equal fronts the lexicographically greater one
+pub kept_first : (first second : Option Choice) (one other : Choice) → first ≡ Some one → second ≡ Some other → slice_cmp nat_cmp other.target one.target ≢ Greater → GreaterOf first second (Some one)
+kept_first first second one other a b order = subst (λ f. GreaterOf f second (Some one)) (sym a) (subst (λ s. GreaterOf (Some one) s (Some one)) (sym b) (let g : GreaterOf (Some one) (Some other) (Some one) = inl (refl, order) in g))
+
+merged : (P Q R : List ℕ → ℕ → ℕ → Type 0) (plan : Plan) (one other : Choice) → ((t : List ℕ) (s p : ℕ) → P t s p → R t s p) → ((t : List ℕ) (s p : ℕ) → R t s p → P t s p ⊎ Q t s p)
+    → IsGreatest P plan one → IsGreatest Q plan other → slice_cmp nat_cmp other.target one.target ≢ Greater → IsGreatest R plan one
+merged P Q R plan one other to cases first second order =
+    let rests : slice_cmp nat_cmp second.rest first.rest ≢ Greater =
+    subst (λ o. o ≢ Greater) (ap₂ (slice_cmp nat_cmp) second.target_is first.target_is ∙ cmp_after (take plan.number plan.target) second.rest first.rest) order in
+    record {
+      rest = first.rest;
+      target_is = first.target_is;
+      is = to first.rest one.sets one.pairs first.is;
+      greatest = λ t s p r. elim (cases t s p r) [
+        | inl left ↦ first.greatest t s p left
+        | inr right ↦ not_greater-trans t second.rest first.rest (second.greatest t s p right) rests
+      ];
+    }
+
+-- the same property
+same_greatest : (P R : List ℕ → ℕ → ℕ → Type 0) (plan : Plan) (choice : Choice) → ((t : List ℕ) (s p : ℕ) → P t s p → R t s p) → ((t : List ℕ) (s p : ℕ) → R t s p → P t s p) → IsGreatest P plan choice → IsGreatest R plan choice
+same_greatest P R plan choice to from is = record {
+  rest = is.rest;
+  target_is = is.target_is;
+  is = to is.rest choice.sets choice.pairs is.is;
+  greatest = λ t s p r. is.greatest t s p (from t s p r);
+}
+
+-- the greater of the choices by two properties
+pub greater_choice : (P Q R : List ℕ → ℕ → ℕ → Type 0) (plan : Plan) (first second result : Option Choice) → ((t : List ℕ) (s p : ℕ) → P t s p → R t s p) → ((t : List ℕ) (s p : ℕ) → Q t s p → R t s p) → ((t : List ℕ) (s p : ℕ) → R t s p → P t s p ⊎ Q t s p)
+    → MatchOption first ((t : List ℕ) (s p : ℕ) → P t s p → ⊥) (IsGreatest P plan) → MatchOption second ((t : List ℕ) (s p : ℕ) → Q t s p → ⊥) (IsGreatest Q plan) → GreaterOf first second result → MatchOption result ((t : List ℕ) (s p : ℕ) → R t s p → ⊥) (IsGreatest R plan)
+greater_choice P Q R plan None None result left right cases a b greater = subst (λ o. MatchOption o ((t : List ℕ) (s p : ℕ) → R t s p → ⊥) (IsGreatest R plan)) (sym greater)
+    (λ t s p r. elim (cases t s p r) [ inl x ↦ a t s p x | inr y ↦ b t s p y ])
+greater_choice P Q R plan None (Some other) result left right cases a b greater = subst (λ o. MatchOption o ((t : List ℕ) (s p : ℕ) → R t s p → ⊥) (IsGreatest R plan)) (sym greater)
+    (same_greatest Q R plan other right (λ t s p r. elim (cases t s p r) [ inl x ↦ absurd (a t s p x) | inr y ↦ y ]) b)
+greater_choice P Q R plan (Some one) None result left right cases a b greater = subst (λ o. MatchOption o ((t : List ℕ) (s p : ℕ) → R t s p → ⊥) (IsGreatest R plan)) (sym greater)
+    (same_greatest P R plan one left (λ t s p r. elim (cases t s p r) [ inl x ↦ x | inr y ↦ absurd (b t s p y) ]) a)
+greater_choice P Q R plan (Some one) (Some other) result left right cases a b (inl kept) = subst (λ o. MatchOption o ((t : List ℕ) (s p : ℕ) → R t s p → ⊥) (IsGreatest R plan)) (sym kept.0)
+    (merged P Q R plan one other left cases a b kept.1)
+greater_choice P Q R plan (Some one) (Some other) result left right cases a b (inr kept) = subst (λ o. MatchOption o ((t : List ℕ) (s p : ℕ) → R t s p → ⊥) (IsGreatest R plan)) (sym kept.0)
+    (merged Q P R plan other one right (λ t s p r. elim (cases t s p r) [ inl x ↦ inr x | inr y ↦ inl y ]) b a kept.1)
+
+-- with fewer than two tiles there is no pair
+pub choice_alone : (aim : Aim) (level : Level) (others : List Level) (plan : Plan) (tiles : ℕ) (first : Option Choice) (begin : Begin) → tiles < 2 → begin ≡ sets_alone tiles
+    → MatchOption first ((t : List ℕ) (s p : ℕ) → ByBegin aim level others plan begin t s p → ⊥) (IsGreatest (ByBegin aim level others plan begin) plan)
+    → MatchOption first ((t : List ℕ) (s p : ℕ) → ByTiles aim level others plan tiles t s p → ⊥) (IsGreatest (ByTiles aim level others plan tiles) plan)
+choice_alone aim level others plan tiles None begin few is h = λ t s p by. elim by [
+  | inl alone ↦ h t s p (subst (λ b. ByBegin aim level others plan b t s p) (sym is) alone)
+  | inr pair ↦ (let two : 2 ≤ tiles = pair.0 in omega arith)
+]
+choice_alone aim level others plan tiles (Some one) begin few is h = same_greatest (ByBegin aim level others plan begin) (ByTiles aim level others plan tiles) plan one
+    (λ t s p by. inl (subst (λ b. ByBegin aim level others plan b t s p) is by))
+    (λ t s p by. elim by [
+      | inl alone ↦ subst (λ b. ByBegin aim level others plan b t s p) (sym is) alone
+      | inr pair ↦ absurd (let two : 2 ≤ tiles = pair.0 in omega arith)
+    ]) h
+
+pub choice_both : (aim : Aim) (level : Level) (others : List Level) (plan : Plan) (tiles : ℕ) (first second result : Option Choice) → 2 ≤ tiles
+    → MatchOption first ((t : List ℕ) (s p : ℕ) → ByBegin aim level others plan (sets_alone tiles) t s p → ⊥) (IsGreatest (ByBegin aim level others plan (sets_alone tiles)) plan)
+    → MatchOption second ((t : List ℕ) (s p : ℕ) → ByBegin aim level others plan (with_pair tiles) t s p → ⊥) (IsGreatest (ByBegin aim level others plan (with_pair tiles)) plan)
+    → GreaterOf first second result → MatchOption result ((t : List ℕ) (s p : ℕ) → ByTiles aim level others plan tiles t s p → ⊥) (IsGreatest (ByTiles aim level others plan tiles) plan)
+choice_both aim level others plan tiles first second result two =
+    greater_choice (ByBegin aim level others plan (sets_alone tiles)) (ByBegin aim level others plan (with_pair tiles)) (ByTiles aim level others plan tiles) plan first second result
+    (λ t s p by. inl by) (λ t s p by. inr (two, by)) (λ t s p by. elim by [ inl x ↦ inl x | inr y ↦ inr y.1 ])
+
+-- ---- all choices at a number
+
+-- so many tiles begin, and the choice is one for so many
+record ForSome (aim : Aim) (level : Level) (others : List Level) (plan : Plan) (tiles : List ℕ) (sets pairs : ℕ) : Type 0 where
+  pub many : ℕ
+  pub few : many ≤ 4
+  pub by : ByTiles aim level others plan many tiles sets pairs
+
+-- what goes on from the number, by what begins there
+by_goes : (aim : Aim) (level : Level) (others : List Level) (plan : Plan) (tiles : List ℕ) (sets pairs : ℕ) → IsPlan aim (level ∷ others) plan → (sets_here pairs_here : ℕ) → plan.sets ≡ sets_here + sets → plan.pairs ≡ pairs_here + pairs → lane aim.after.lanes sets pairs ≡ plan.left + missing tiles (level.held ∷ helds others)
+    → (goes : Goes aim.runs (Ends aim.runs (rooms others)) level.room plan.before plan.earlier sets_here pairs_here tiles) → goes.begin ≤ 2 → ForSome aim level others plan tiles sets pairs
+by_goes aim level others plan tiles sets pairs is sets_here pairs_here sets_are pairs_are left_is goes runs_few =
+    let within : plan.before + plan.earlier + (goes.begin + 3 * goes.triplets + 2 * goes.pairs_here) ≤ level.room = goes.within in
+    let of_four : level.room ≤ 4 = is.levels_are.0 in
+    let sets_goes : sets_here ≡ goes.begin + goes.triplets + goes.sets_later = goes.sets_are in
+    let pairs_goes : pairs_here ≡ goes.pairs_here + goes.pairs_later = goes.pairs_are in
+    let one : plan.pairs < 2 = is.pairs_few in
+    elim (cases_eq goes.pairs_here 0) [
+      | inl none ↦ record {
+        many = goes.begin + 3 * goes.triplets;
+        few = omega arith;
+        by = inl (subst (λ b. ByBegin aim level others plan b tiles sets pairs) (same_begin goes.begin goes.triplets goes.pairs_here ((goes.begin + 3 * goes.triplets) % 3) ((goes.begin + 3 * goes.triplets) / 3) 0 (omega arith) (omega arith) none) here);
+      }
+      | inr some ↦ record {
+        many = goes.begin + 2;
+        few = omega arith;
+        by = inr (omega arith, subst (λ b. ByBegin aim level others plan b tiles sets pairs) (same_begin goes.begin goes.triplets goes.pairs_here (goes.begin + 2 - 2) 0 1 (omega arith) (omega arith) (omega arith)) here);
+      }
+    ]
+  where
+    same_begin : (r t e r' t' e' : ℕ) → r ≡ r' → t ≡ t' → e ≡ e' → (let b : Begin = record { runs = r; triplets = t; pairs = e } in b) ≡ (let b : Begin = record { runs = r'; triplets = t'; pairs = e' } in b)
+    same_begin r t e r' t' e' a b c = ap₂ (λ (x : ℕ) (y : ℕ × ℕ). let b : Begin = record { runs = x; triplets = y.0; pairs = y.1 } in b) a (ap₂ (λ y z. let p : ℕ × ℕ = (y, z) in p) b c)
+
+    here : ByBegin aim level others plan (record { runs = goes.begin; triplets = goes.triplets; pairs = goes.pairs_here }) tiles sets pairs
+    here =
+        let sets_goes : sets_here ≡ goes.begin + goes.triplets + goes.sets_later = goes.sets_are in
+        let pairs_goes : pairs_here ≡ goes.pairs_here + goes.pairs_later = goes.pairs_are in
+        let missed : missing tiles (level.held ∷ helds others) ≡ (plan.before + plan.earlier + (goes.begin + 3 * goes.triplets + 2 * goes.pairs_here) - level.held) + missing goes.rest (helds others) = ap (λ t. missing t (level.held ∷ helds others)) goes.tiles_are in
+        record {
+          rest = goes.rest;
+          tiles_are = goes.tiles_are;
+          may = record { only = goes.only; sets = omega arith; pairs = omega arith; within = goes.within };
+          more = record {
+            sets_here = goes.sets_later;
+            pairs_here = goes.pairs_later;
+            ends = goes.more;
+            sets_are = omega arith;
+            pairs_are = omega arith;
+            left_is = omega arith;
+          };
+        }
+
+by_some : (aim : Aim) (level : Level) (others : List Level) (plan : Plan) → IsPlan aim (level ∷ others) plan → (tiles : List ℕ) (sets pairs : ℕ) → By aim (level ∷ others) plan tiles sets pairs → ForSome aim level others plan tiles sets pairs
+by_some aim level others plan is tiles sets pairs by = elim (cases_lt by.ends.begin 3) [
+  | inl few ↦ by_goes aim level others plan tiles sets pairs is by.sets_here by.pairs_here by.sets_are by.pairs_are by.left_is by.ends (omega arith)
+  | inr many ↦
+      let swapped = fewer_runs aim.runs (rooms others) level.room plan.before plan.earlier by.sets_here by.pairs_here tiles by.ends many in
+      let three : swapped.0.begin + 3 ≡ by.ends.begin = swapped.1 in
+      by_goes aim level others plan tiles sets pairs is by.sets_here by.pairs_here by.sets_are by.pairs_are by.left_is swapped.0 (let w = by.ends.within in let f = is.levels_are.0 in omega arith)
+]
+
+-- what begins at a number goes on from it
+begin_by : (aim : Aim) (level : Level) (others : List Level) (plan : Plan) (begin : Begin) (tiles : List ℕ) (sets pairs : ℕ) → ByBegin aim level others plan begin tiles sets pairs → By aim (level ∷ others) plan tiles sets pairs
+begin_by aim level others plan begin tiles sets pairs by =
+    let s = by.may.sets in
+    let p = by.may.pairs in
+    let sets_are = by.more.sets_are in
+    let pairs_are = by.more.pairs_are in
+    let left = by.more.left_is in
+    let missed : missing tiles (level.held ∷ helds others) ≡ (tiles_at plan begin - level.held) + missing by.rest (helds others) = ap (λ t. missing t (level.held ∷ helds others)) by.tiles_are in
+    record {
+      sets_here = begin.runs + begin.triplets + by.more.sets_here;
+      pairs_here = begin.pairs + by.more.pairs_here;
+      ends = record {
+        begin = begin.runs;
+        triplets = begin.triplets;
+        pairs_here = begin.pairs;
+        sets_later = by.more.sets_here;
+        pairs_later = by.more.pairs_here;
+        rest = by.rest;
+        more = by.more.ends;
+        only = by.may.only;
+        sets_are = refl;
+        pairs_are = refl;
+        tiles_are = by.tiles_are;
+        within = by.may.within;
+      };
+      sets_are = omega arith;
+      pairs_are = omega arith;
+      left_is = omega arith;
+    }
+
+tiles_by : (aim : Aim) (level : Level) (others : List Level) (plan : Plan) (many : ℕ) (tiles : List ℕ) (sets pairs : ℕ) → ByTiles aim level others plan many tiles sets pairs → By aim (level ∷ others) plan tiles sets pairs
+tiles_by aim level others plan many tiles sets pairs (inl alone) = begin_by aim level others plan (sets_alone many) tiles sets pairs alone
+tiles_by aim level others plan many tiles sets pairs (inr pair) = begin_by aim level others plan (with_pair many) tiles sets pairs pair.1
+
+-- so many tiles stand at the number
+record Head (tiles : List ℕ) (first : ℕ) : Type 0 where
+  pub rest : List ℕ
+  pub is : tiles ≡ first ∷ rest
+
+head_of : (aim : Aim) (level : Level) (others : List Level) (plan : Plan) (many : ℕ) (tiles : List ℕ) (sets pairs : ℕ) → ByTiles aim level others plan many tiles sets pairs → Head tiles (plan.before + plan.earlier + many)
+head_of aim level others plan many tiles sets pairs (inl alone) = record { rest = alone.rest; is = alone.tiles_are ∙ ap (λ n. n ∷ alone.rest) (let e : plan.before + plan.earlier + (many % 3 + 3 * (many / 3) + 2 * 0) ≡ plan.before + plan.earlier + many = omega arith in e) }
+head_of aim level others plan many tiles sets pairs (inr pair) = record { rest = pair.1.rest; is = pair.1.tiles_are ∙ ap (λ n. n ∷ pair.1.rest) (let two : 2 ≤ many = pair.0 in let e : plan.before + plan.earlier + (many - 2 + 3 * 0 + 2 * 1) ≡ plan.before + plan.earlier + many = omega arith in e) }
+
+-- the greatest for so many tiles, where none goes on from the number with more
+pub most_tiles : (aim : Aim) (level : Level) (others : List Level) (plan : Plan) (many : ℕ) (choice : Choice) → IsPlan aim (level ∷ others) plan
+    → ((more : ℕ) → many + 1 ≤ more → more ≤ 4 → (t : List ℕ) (s p : ℕ) → ByTiles aim level others plan more t s p → ⊥)
+    → IsGreatest (ByTiles aim level others plan many) plan choice → IsGreatest (By aim (level ∷ others) plan) plan choice
+most_tiles aim level others plan many choice is none greatest = record {
+  rest = greatest.rest;
+  target_is = greatest.target_is;
+  is = tiles_by aim level others plan many greatest.rest choice.sets choice.pairs greatest.is;
+  greatest = λ other s p by.
+      let some = by_some aim level others plan is other s p by in
+      elim (cases_order some.many many) [
+        | inl same ↦ greatest.greatest other s p (subst (λ n. ByTiles aim level others plan n other s p) same some.by)
+        | inr apart ↦ elim apart [
+          | inl fewer ↦
+              let mine = head_of aim level others plan many greatest.rest choice.sets choice.pairs greatest.is in
+              let its = head_of aim level others plan some.many other s p some.by in
+              not_greater-less other greatest.rest (ap₂ (slice_cmp nat_cmp) its.is mine.is ∙ cmp_lesser (plan.before + plan.earlier + some.many) (plan.before + plan.earlier + many) its.rest mine.rest (omega arith))
+          | inr more ↦ absurd (none some.many (omega arith) some.few other s p some.by)
+        ]
+      ];
+}
+
+-- some tiles go on from the number
+pub some_tiles : (aim : Aim) (level : Level) (others : List Level) (plan : Plan) → IsPlan aim (level ∷ others) plan → ((more : ℕ) → 0 ≤ more → more ≤ 4 → (t : List ℕ) (s p : ℕ) → ByTiles aim level others plan more t s p → ⊥) → ⊥
+some_tiles aim level others plan is none = elim (walked_reached aim.runs (lane aim.after.lanes) is.few (rooms (level ∷ others)) (helds (level ∷ others)) plan.before plan.earlier plan.sets plan.pairs is.sets_few is.pairs_few (same_length (level ∷ others)) (of_four aim (level ∷ others) is.levels_are)) [
+  | inl zero_left ↦ (let l = is.left_is in let s = is.some in omega arith)
+  | inr reached ↦
+      let some = by_some aim level others plan is reached.tiles reached.sets_left reached.pairs_left record {
+        sets_here = reached.sets;
+        pairs_here = reached.pairs;
+        ends = reached.ends;
+        sets_are = reached.sets_are;
+        pairs_are = reached.pairs_are;
+        left_is = reached.left_is ∙ ap (λ l. l + missing reached.tiles (helds (level ∷ others))) is.left_is;
+      } in
+      none some.many (omega arith) some.few reached.tiles reached.sets_left reached.pairs_left some.by
+]
+
+-- no number is left
+pub past_end : (aim : Aim) (levels : List Level) (plan : Plan) (choice : Choice) → length levels < 1 → length plan.target ≡ 9 → IsPlan aim levels plan → choice.target ≡ plan.target → choice.sets ≡ plan.sets → choice.pairs ≡ plan.pairs → IsGreatest (By aim levels plan) plan choice
+past_end aim [] plan choice none nine is target sets pairs = nothing_more aim plan choice nine is target sets pairs
+past_end aim (level ∷ levels) plan choice none nine is target sets pairs = absurd (omega arith)
+
+-- ---- a whole suit
+
+state_of_runs : (rows : Rows) (after : ℕ → ℕ → ℕ) (room held : List ℕ) → AreRows after room held rows → (before earlier : ℕ) → IsState true before earlier → Holds (row_at rows before earlier) (walked true after room held before earlier)
+state_of_runs rows after room held are before earlier state = are.at before earlier state.0 state.1
+
+-- a number of a suit with runs before others
+pub number_of_runs : (aim : Aim) (level : Level) (others : List Level) (held most : ℕ) (rows : Rows) (room counts : List ℕ) → level ≡ record { held = held; room = most; rows = rows } → aim.runs ≡ true → most ≤ 4 → AreRows (lane aim.after.lanes) room counts rows
+    → AreNumbers aim others room counts → AreNumbers aim (level ∷ others) (most ∷ room) (held ∷ counts)
+number_of_runs aim level others held most rows room counts is runs four are numbers = subst (λ l. AreNumbers aim (l ∷ others) (most ∷ room) (held ∷ counts)) (sym is) record {
+  are = (four, (λ before earlier state. state_is before earlier state, numbers.are));
+  rooms_are = ap (λ r. most ∷ r) numbers.rooms_are;
+  helds_are = ap (λ h. held ∷ h) numbers.helds_are;
+}
+  where
+    state_is : (before earlier : ℕ) → IsState aim.runs before earlier → Holds (row_at rows before earlier) (walked aim.runs (lane aim.after.lanes) (rooms others) (helds others) before earlier)
+    state_is before earlier state =
+        subst (λ r. Holds (row_at rows before earlier) (walked r (lane aim.after.lanes) (rooms others) (helds others) before earlier)) (sym runs)
+        (subst (λ r. Holds (row_at rows before earlier) (walked true (lane aim.after.lanes) r (helds others) before earlier)) (sym numbers.rooms_are)
+        (subst (λ h. Holds (row_at rows before earlier) (walked true (lane aim.after.lanes) room h before earlier)) (sym numbers.helds_are)
+        (state_of_runs rows (lane aim.after.lanes) room counts are before earlier (subst (λ r. IsState r before earlier) runs state))))
+
+-- a kind of honours before others
+pub number_of_honours : (aim : Aim) (level : Level) (others : List Level) (held most : ℕ) (rows : Rows) (room counts : List ℕ) → level ≡ record { held = held; room = most; rows = rows } → aim.runs ≡ false → most ≤ 4 → Holds (row_at rows 0 0) (walked false (lane aim.after.lanes) room counts 0 0)
+    → AreNumbers aim others room counts → AreNumbers aim (level ∷ others) (most ∷ room) (held ∷ counts)
+number_of_honours aim level others held most rows room counts is runs four holds numbers = subst (λ l. AreNumbers aim (l ∷ others) (most ∷ room) (held ∷ counts)) (sym is) record {
+  are = (four, (λ before earlier state. state_is before earlier state, numbers.are));
+  rooms_are = ap (λ r. most ∷ r) numbers.rooms_are;
+  helds_are = ap (λ h. held ∷ h) numbers.helds_are;
+}
+  where
+    state_is : (before earlier : ℕ) → IsState aim.runs before earlier → Holds (row_at rows before earlier) (walked aim.runs (lane aim.after.lanes) (rooms others) (helds others) before earlier)
+    state_is before earlier state =
+        let none : IsState false before earlier = subst (λ r. IsState r before earlier) runs state in
+        subst (λ r. Holds (row_at rows before earlier) (walked r (lane aim.after.lanes) (rooms others) (helds others) before earlier)) (sym runs)
+        (subst (λ b. Holds (row_at rows b earlier) (walked false (lane aim.after.lanes) (rooms others) (helds others) b earlier)) (sym none.0)
+        (subst (λ e. Holds (row_at rows 0 e) (walked false (lane aim.after.lanes) (rooms others) (helds others) 0 e)) (sym none.1)
+        (subst (λ r. Holds (row_at rows 0 0) (walked false (lane aim.after.lanes) r (helds others) 0 0)) (sym numbers.rooms_are)
+        (subst (λ h. Holds (row_at rows 0 0) (walked false (lane aim.after.lanes) room h 0 0)) (sym numbers.helds_are) holds))))
+
+-- the row where no run is under way
+pub alone_holds : (rows : Rows) (row : Row) (numbers : ℕ → ℕ → ℕ) → rows.none.none ≡ row → Holds row.lanes numbers → Holds (row_at rows 0 0) numbers
+alone_holds rows row numbers alone holds = subst (λ r. Holds r.lanes numbers) (sym alone) holds
+
+pub no_numbers : (aim : Aim) → AreNumbers aim [] [] []
+no_numbers aim = record { are = tt; rooms_are = refl; helds_are = refl }
+
+pub nine_numbers : (aim : Aim) (levels : List Level) (room counts : List ℕ) → length room ≡ 9 → length counts ≡ 9 → AreNumbers aim levels (nine_of room) (nine_of counts) → AreNumbers aim levels room counts
+nine_numbers aim levels room counts nine nine_counts numbers = record {
+  are = numbers.are;
+  rooms_are = numbers.rooms_are ∙ nine_are room nine;
+  helds_are = numbers.helds_are ∙ nine_are counts nine_counts;
+}
+
+-- the most that a suit's targets leave is what the walk leaves
+most_is_walked : (counts room : List ℕ) (runs : Bool) (after row : List ℕ) (s p : ℕ) → length room ≡ 9 → length counts ≡ 9 → ((n : ℕ) → n < length room → get_or room n 0 ≤ 4) → IsFew after → LeavesMost counts room runs after row → s < 8 → p < 2 → walked runs (lane after) room counts 0 0 s p ≡ lane row s p
+most_is_walked counts room runs after row s p nine nine_counts each few most few_sets few_pairs =
+    let same = leaves_most_of counts room runs after nine nine_counts each few s p few_sets few_pairs in
+    let upper : walked runs (lane after) room counts 0 0 s p ≤ lane row s p = elim same.1 [ inl none ↦ omega arith | inr leaves ↦ most.most s p (walked runs (lane after) room counts 0 0 s p) few_sets few_pairs leaves ] in
+    let lower : lane row s p ≤ walked runs (lane after) room counts 0 0 s p = elim (most.some s p few_sets few_pairs) [ inl none ↦ omega arith | inr leaves ↦ same.0 (lane row s p) leaves ] in
+    omega arith
+
+-- the plan before the lowest number
+pub first_plan : (counts room : List ℕ) (aim : Aim) (row : List ℕ) (levels : List Level) (plan : Plan) → length room ≡ 9 → length counts ≡ 9 → ((n : ℕ) → n < length room → get_or room n 0 ≤ 4) → IsFew aim.after.lanes → LeavesMost counts room aim.runs aim.after.lanes row → AreNumbers aim levels room counts
+    → plan.number ≡ 0 → plan.before ≡ 0 → plan.earlier ≡ 0 → plan.sets < 8 → plan.pairs < 2 → plan.left ≡ lane row plan.sets plan.pairs → plan.left ≢ 0 → IsPlan aim levels plan
+first_plan counts room aim row levels plan nine nine_counts each few most numbers number before earlier few_sets few_pairs left some =
+    let is : walked aim.runs (lane aim.after.lanes) room counts 0 0 plan.sets plan.pairs ≡ lane row plan.sets plan.pairs = most_is_walked counts room aim.runs aim.after.lanes row plan.sets plan.pairs nine nine_counts each few most few_sets few_pairs in
+    let bound : lane row plan.sets plan.pairs ≤ 15 = most.few plan.sets plan.pairs few_sets few_pairs in
+    record {
+      levels_are = numbers.are;
+      few = few;
+      state = subst (λ b. IsState aim.runs b plan.earlier) (sym before) (subst (λ e. IsState aim.runs 0 e) (sym earlier) (first_state aim.runs));
+      number_is = ap₂ (λ n l. n + l) number (sym (same_rooms levels) ∙ ap length numbers.rooms_are ∙ nine);
+      sets_few = few_sets;
+      pairs_few = few_pairs;
+      left_is = ap₂ (λ r h. walked aim.runs (lane aim.after.lanes) r h plan.before plan.earlier plan.sets plan.pairs) numbers.rooms_are numbers.helds_are
+          ∙ ap₂ (λ b e. walked aim.runs (lane aim.after.lanes) room counts b e plan.sets plan.pairs) before earlier ∙ is ∙ sym left;
+      some = omega arith;
+      left_few = omega arith;
+      before_few = omega arith;
+      earlier_few = omega arith;
+    }
+  where
+    first_state : (runs : Bool) → IsState runs 0 0
+    first_state true = (omega arith, omega arith)
+    first_state false = (refl, refl)
+
+    same_rooms : (levels : List Level) → length (rooms levels) ≡ length levels
+    same_rooms [] = refl
+    same_rooms (l ∷ ls) = ap suc (same_rooms ls)
+
+leaves_of : (counts room : List ℕ) (aim : Aim) (levels : List Level) (plan : Plan) (target : List ℕ) (s p : ℕ) (row : List ℕ) → length room ≡ 9 → AreNumbers aim levels room counts → plan.before ≡ 0 → plan.earlier ≡ 0 → plan.pairs < 2 → plan.left ≡ lane row plan.sets plan.pairs
+    → By aim levels plan target s p → LeavesBy counts room aim.runs aim.after.lanes plan.sets plan.pairs (lane row plan.sets plan.pairs) target s p
+leaves_of counts room aim levels plan target s p row nine numbers before earlier few left by =
+    leaves_by counts room aim.runs aim.after.lanes plan.sets plan.pairs (lane row plan.sets plan.pairs) target s p by.sets_here by.pairs_here nine few
+    (subst (λ r. Ends aim.runs r 0 0 by.sets_here by.pairs_here target) numbers.rooms_are
+    (subst (λ b. Ends aim.runs (rooms levels) b 0 by.sets_here by.pairs_here target) before
+    (subst (λ e. Ends aim.runs (rooms levels) plan.before e by.sets_here by.pairs_here target) earlier by.ends)))
+    by.sets_are by.pairs_are (by.left_is ∙ ap₂ (λ l h. l + missing target h) left numbers.helds_are)
+
+goes_of : (counts room : List ℕ) (aim : Aim) (levels : List Level) (plan : Plan) (target : List ℕ) (s p : ℕ) (row : List ℕ) → length room ≡ 9 → AreNumbers aim levels room counts → plan.before ≡ 0 → plan.earlier ≡ 0 → plan.left ≡ lane row plan.sets plan.pairs
+    → LeavesBy counts room aim.runs aim.after.lanes plan.sets plan.pairs (lane row plan.sets plan.pairs) target s p → By aim levels plan target s p
+goes_of counts room aim levels plan target s p row nine numbers before earlier left by = record {
+  sets_here = by.melds;
+  pairs_here = pairs by.paired;
+  ends = subst (λ b. Ends aim.runs (rooms levels) b plan.earlier by.melds (pairs by.paired) target) (sym before)
+      (subst (λ e. Ends aim.runs (rooms levels) 0 e by.melds (pairs by.paired) target) (sym earlier)
+      (subst (λ r. Ends aim.runs r 0 0 by.melds (pairs by.paired) target) (sym numbers.rooms_are) (target_ends room aim.runs by.melds by.paired target nine by.is_target)));
+  sets_are = by.sets_are;
+  pairs_are = by.pairs_are;
+  left_is = by.left_is ∙ sym (ap₂ (λ l h. l + missing target h) left numbers.helds_are);
+}
+
+-- the greatest choice from the lowest number on is the suit's
+pub suit_chosen : (counts room : List ℕ) (aim : Aim) (row : List ℕ) (levels : List Level) (plan : Plan) (choice : Choice) → length room ≡ 9 → LeavesMost counts room aim.runs aim.after.lanes row → AreNumbers aim levels room counts
+    → plan.number ≡ 0 → plan.before ≡ 0 → plan.earlier ≡ 0 → plan.sets < 8 → plan.pairs < 2 → plan.left ≡ lane row plan.sets plan.pairs → IsGreatest (By aim levels plan) plan choice
+    → IsChosen counts room aim.runs aim.after.lanes plan.sets plan.pairs (lane row plan.sets plan.pairs) choice.target choice.sets choice.pairs
+suit_chosen counts room aim row levels plan choice nine most numbers number before earlier few_sets few_pairs left greatest =
+    let whole : choice.target ≡ greatest.rest = greatest.target_is ∙ ap (λ n. take n plan.target ++ greatest.rest) number in
+    record {
+      is = leaves_of counts room aim levels plan choice.target choice.sets choice.pairs row nine numbers before earlier few_pairs left (subst (λ t. By aim levels plan t choice.sets choice.pairs) (sym whole) greatest.is);
+      most = λ more leaves. most.most plan.sets plan.pairs more few_sets few_pairs leaves;
+      greatest = λ other s p by. subst (λ t. slice_cmp nat_cmp other t ≢ Greater) (sym whole) (greatest.greatest other s p (goes_of counts room aim levels plan other s p row nine numbers before earlier left by));
+    }

@@ -1,0 +1,44 @@
+-- What is chosen at a number, by the parts of the choice.
+use Rattle.std.proofs.Common.{rules, refl, sym, subst, ap, ◌∙◌, ◌∷◌, ◌+◌, ◌-◌, ◌<◌, arith, inl, inr, length, set}
+use Rattle.std.proofs.lemmas.Bool.{cases_eq}
+use Rattle.mj_suits.specs.Choosing.{By, ByTiles, IsPlan, IsGreatest}
+use Rattle.mj_suits.proofs.Choices.{past_end, next_is, none_begins, begins_greatest, choice_alone, choice_both, most_tiles, some_tiles}
+use Rattle.mj_suits.proofs.choosing.+choosing.Goals as goal
+
+pub choose_begin-returns-then-left-plan : goal.choose_begin-returns-then-left-plan
+choose_begin-returns-then-left-plan t c = none_begins _ _ _ _ _ _ _ c.requires.plan c.requires.few c.if-not-may_begin.ensures c.at.ensures c.at-left.ensures (λ e. c.if-left-plan.true (omega arith))
+
+pub choose_begin-choose_from-requires : goal.choose_begin-choose_from-requires
+choose_begin-choose_from-requires t c = (
+  search rules,
+  next_is _ _ _ _ _ c.args.begin _ c.requires.plan c.requires.few c.if-not-may_begin.ensures c.at.ensures refl refl refl refl refl c.at-left.ensures (omega arith),
+)
+
+pub choose_begin-returns : goal.choose_begin-returns
+choose_begin-returns t c = begins_greatest _ _ _ _ _ _ _ (omega arith) c.requires.plan c.if-not-may_begin.ensures
+    (ap (λ n. set c.args.plan.now.target c.args.plan.now.number (c.args.plan.now.before + c.args.plan.now.earlier + n)) c.tiles_of.ensures) refl refl refl refl refl (omega arith) c.choose_from.ensures
+
+pub choose_from-returns-in_default : goal.choose_from-returns-in_default
+choose_from-returns-in_default t c = past_end _ _ _ _ (omega arith) (omega arith) c.requires refl refl refl
+
+pub choose_at-returns-in-Some : goal.choose_at-returns-in-Some
+choose_at-returns-in-Some t c = most_tiles _ _ _ _ (c.loop-tiles.tiles - 1) _ c.requires
+    (λ more above. c.loop-tiles.invariant.1 more (let s = c.loop-tiles-test.true in omega arith)) c.in-Some.ensures
+
+pub choose_at-loop-tiles-preserved : goal.choose_at-loop-tiles-preserved
+choose_at-loop-tiles-preserved t c = (
+  omega arith,
+  λ many above few rest sets pairs by. elim (cases_eq many (c.loop-tiles.tiles - 1)) [
+    | inl same ↦ c.in_default.ensures rest sets pairs (subst (λ n. ByTiles c.args.aim.now c.args.level.now c.args.others.now c.args.plan.now n rest sets pairs) same by)
+    | inr other ↦ c.loop-tiles.invariant.1 many (omega arith) few rest sets pairs by
+  ],
+)
+
+pub choose_at-unreachable-requires : goal.choose_at-unreachable-requires
+choose_at-unreachable-requires t c = some_tiles _ _ _ _ c.requires (λ more above. c.loop-tiles.invariant.1 more (omega arith))
+
+pub choose_tiles-returns-then-tiles-lt2 : goal.choose_tiles-returns-then-tiles-lt2
+choose_tiles-returns-then-tiles-lt2 t c = choice_alone _ _ _ _ _ _ _ c.if-tiles-lt2.true refl c.choose_begin-first.ensures
+
+pub choose_tiles-returns : goal.choose_tiles-returns
+choose_tiles-returns t c = choice_both _ _ _ _ _ _ _ _ c.if-tiles-lt2.false c.choose_begin-first.ensures c.choose_begin-second.ensures c.greater_of.ensures

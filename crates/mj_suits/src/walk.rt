@@ -1,0 +1,282 @@
+//! The walk of a suit from its highest number down: for each number of sets and pairs at once how many of fifteen tiles
+//! are left when the missing ones are paid for.
+
+ghost use Rattle.std.specs.Prelude.{◌≡◌, ◌-◌, ◌*◌, ◌<◌, ◌≤◌, ◌∷◌, [], ℕ, List, true, false, max, drop, slice_index, EachIndex};
+ghost use Rattle.mj_suits.specs.Rows.{Holds, lane, most_left, walked, IsFew};
+ghost use Rattle.mj_suits.specs.Left.{LeavesMost};
+ghost use Rattle.mj_suits.specs.Walked.{AreCosts, AreBegun, begun_lanes, cost_lanes, row_at, AreRows};
+
+use crate::row::Row;
+
+// What one to four tiles of a number cost.
+#[derive(Clone, Copy)]
+struct Costs {
+    one: Row,
+    two: Row,
+    three: Row,
+    four: Row,
+}
+
+// The costs of a number of which so many are held, where there is room for so many.
+#[inline(always)]
+fn costs_of(held: u8, room: u8) -> Costs
+    requires { room ≤ 4 }
+    ensures { AreCosts held room result }
+{
+    let held = Row::all(held);
+    let room = Row::all(16 * room);
+    Costs {
+        one: cost_of(1, held, room),
+        two: cost_of(2, held, room),
+        three: cost_of(3, held, room),
+        four: cost_of(4, held, room),
+    }
+}
+
+// What so many tiles cost.
+#[inline(always)]
+fn cost_of(tiles: u8, held: Row, room: Row) -> Row
+    requires { tiles ≤ 4 }
+    ensures { Holds result.lanes (λ s p. max (tiles - lane held.lanes s p) (16 * tiles - lane room.lanes s p)) }
+{
+    let missing = Row::all(tiles).less(held);
+    let over = Row::all(16 * tiles).less(room);
+    missing.greater(over)
+}
+
+// What is left where none to four tiles begin at a number.
+#[derive(Clone, Copy)]
+struct Begun {
+    none: Row,
+    one: Row,
+    two: Row,
+    three: Row,
+    four: Row,
+}
+
+// The same by what is left after the number, where no run, one and two runs begin at it.
+#[inline(always)]
+fn begin(none: Row, one: Row, two: Row) -> Begun
+    ensures { AreBegun none.lanes one.lanes two.lanes result }
+{
+    let run = one.more_set();
+    let runs = two.more_set().more_set();
+    Begun {
+        none,
+        one: run,
+        two: runs.greater(none.more_pair()),
+        three: none.more_set().greater(run.more_pair()),
+        four: run.more_set().greater(runs.more_pair()),
+    }
+}
+
+impl Begun {
+    // What is left where no tile of earlier runs stands at the number.
+    #[inline(always)]
+    fn alone(&self, costs: &Costs) -> Row
+        ensures { Holds result.lanes (λ s p. most_left (begun_lanes self.now s p) (cost_lanes costs.now s p)) }
+    {
+        let four = self.four.less(costs.four);
+        let three = self.three.less(costs.three).greater(four);
+        let two = self.two.less(costs.two).greater(three);
+        let one = self.one.less(costs.one).greater(two);
+        self.none.greater(one)
+    }
+
+    // The same where one tile of them does.
+    #[inline(always)]
+    fn beside_one(&self, costs: &Costs) -> Row
+        ensures { Holds result.lanes (λ s p. most_left (begun_lanes self.now s p) (drop 1 (cost_lanes costs.now s p))) }
+    {
+        let three = self.three.less(costs.four);
+        let two = self.two.less(costs.three).greater(three);
+        let one = self.one.less(costs.two).greater(two);
+        self.none.less(costs.one).greater(one)
+    }
+
+    // The same where two tiles of them do.
+    #[inline(always)]
+    fn beside_two(&self, costs: &Costs) -> Row
+        ensures { Holds result.lanes (λ s p. most_left (begun_lanes self.now s p) (drop 2 (cost_lanes costs.now s p))) }
+    {
+        let two = self.two.less(costs.four);
+        let one = self.one.less(costs.three).greater(two);
+        self.none.less(costs.two).greater(one)
+    }
+
+    // The same where three tiles of them do.
+    #[inline(always)]
+    fn beside_three(&self, costs: &Costs) -> Row
+        ensures { Holds result.lanes (λ s p. most_left (begun_lanes self.now s p) (drop 3 (cost_lanes costs.now s p))) }
+    {
+        let one = self.one.less(costs.four);
+        self.none.less(costs.three).greater(one)
+    }
+
+    // The same where four tiles of them do.
+    #[inline(always)]
+    fn beside_four(&self, costs: &Costs) -> Row
+        ensures { Holds result.lanes (λ s p. most_left (begun_lanes self.now s p) (drop 4 (cost_lanes costs.now s p))) }
+    {
+        self.none.less(costs.four)
+    }
+}
+
+// A row for each number of runs that began one number before: none, one and two.
+#[derive(Clone, Copy)]
+pub(crate) struct ByRuns {
+    none: Row,
+    one: Row,
+    two: Row,
+}
+
+// The same for each number of runs that began two numbers before.
+#[derive(Clone, Copy)]
+pub(crate) struct Rows {
+    none: ByRuns,
+    one: ByRuns,
+    two: ByRuns,
+}
+
+impl Rows {
+    // The row where so many runs began one number and two numbers before.
+    #[inline(always)]
+    pub(crate) fn at(&self, before: u8, earlier: u8) -> Row
+        ensures { result.lanes ≡ row_at self.now before earlier }
+    {
+        let rows = match earlier {
+            0 => &self.none,
+            1 => &self.one,
+            _ => &self.two,
+        };
+        match before {
+            0 => rows.none,
+            1 => rows.one,
+            _ => rows.two,
+        }
+    }
+}
+
+// The rows past the highest number: no run may be under way.
+#[inline(always)]
+pub(crate) fn rows_past(after: Row) -> Rows
+    ensures { AreRows (lane after.lanes) [] [] result }
+{
+    rows_of(after)
+}
+
+// This row where no run is under way, and none where one is.
+#[inline(always)]
+pub(crate) fn rows_of(row: Row) -> Rows
+    ensures alone { result.none.none ≡ row }
+    ensures none { (before earlier : ℕ) → (before ≡ 0 → earlier ≡ 0 → ⊥) → Holds (row_at result before earlier) (λ s p. 0) }
+{
+    let none = Row::all(0);
+    let under_way = ByRuns {
+        none,
+        one: none,
+        two: none,
+    };
+    Rows {
+        none: ByRuns {
+            none: row,
+            one: none,
+            two: none,
+        },
+        one: under_way,
+        two: under_way,
+    }
+}
+
+// The rows from a number on, of which so many are held and for so many of which there is room, by those after it.
+#[inline(always)]
+pub(crate) fn rows_before(next: &Rows, held: u8, room: u8) -> Rows
+    requires { room ≤ 4 }
+    ensures { (after : ℕ → ℕ → ℕ) (rooms counts : List ℕ)
+        → AreRows after rooms counts next.now → AreRows after (room ∷ rooms) (held ∷ counts) result }
+{
+    let costs = costs_of(held, room);
+    let none = begin(next.none.none, next.none.one, next.none.two);
+    let one = begin(next.one.none, next.one.one, next.one.two);
+    let two = begin(next.two.none, next.two.one, next.two.two);
+    Rows {
+        none: ByRuns {
+            none: none.alone(&costs),
+            one: one.beside_one(&costs),
+            two: two.beside_two(&costs),
+        },
+        one: ByRuns {
+            none: none.beside_one(&costs),
+            one: one.beside_two(&costs),
+            two: two.beside_three(&costs),
+        },
+        two: ByRuns {
+            none: none.beside_two(&costs),
+            one: one.beside_three(&costs),
+            two: two.beside_four(&costs),
+        },
+    }
+}
+
+// The same for honours, which have no runs: the row from a number on, by the row after it.
+#[inline(always)]
+pub(crate) fn honours_before(next: Row, held: u8, room: u8) -> Row
+    requires { room ≤ 4 }
+    ensures { (after : ℕ → ℕ → ℕ) (rooms counts : List ℕ)
+        → Holds next.lanes (walked false after rooms counts 0 0)
+        → Holds result.lanes (walked false after (room ∷ rooms) (held ∷ counts) 0 0) }
+{
+    let costs = costs_of(held, room);
+    let triplet = next.more_set().less(costs.three);
+    let pair = next.more_pair().less(costs.two);
+    next.greater(pair.greater(triplet))
+}
+
+// The row of a suit with runs.
+fn with_runs(after: Row, counts: &[u8; 9], room: &[u8; 9]) -> Row
+    requires { EachIndex room.now (λ n. slice_index room.now n ≤ 4) }
+    ensures { Holds result.lanes (walked true (lane after.lanes) room.now counts.now 0 0) }
+{
+    let past = rows_past(after);
+    let ninth = rows_before(&past, counts[8], room[8]);
+    let eighth = rows_before(&ninth, counts[7], room[7]);
+    let seventh = rows_before(&eighth, counts[6], room[6]);
+    let sixth = rows_before(&seventh, counts[5], room[5]);
+    let fifth = rows_before(&sixth, counts[4], room[4]);
+    let fourth = rows_before(&fifth, counts[3], room[3]);
+    let third = rows_before(&fourth, counts[2], room[2]);
+    let second = rows_before(&third, counts[1], room[1]);
+    let first = rows_before(&second, counts[0], room[0]);
+    first.none.none
+}
+
+// The row of honours.
+fn with_honours(after: Row, counts: &[u8; 9], room: &[u8; 9]) -> Row
+    requires { EachIndex room.now (λ n. slice_index room.now n ≤ 4) }
+    ensures { Holds result.lanes (walked false (lane after.lanes) room.now counts.now 0 0) }
+{
+    let ninth = honours_before(after, counts[8], room[8]);
+    let eighth = honours_before(ninth, counts[7], room[7]);
+    let seventh = honours_before(eighth, counts[6], room[6]);
+    let sixth = honours_before(seventh, counts[5], room[5]);
+    let fifth = honours_before(sixth, counts[4], room[4]);
+    let fourth = honours_before(fifth, counts[3], room[3]);
+    let third = honours_before(fourth, counts[2], room[2]);
+    let second = honours_before(third, counts[1], room[1]);
+    honours_before(second, counts[0], room[0])
+}
+
+/// What is left of fifteen tiles for each number of sets and pairs where this suit's are among them: the most that some
+/// target of the suit leaves of what is left after it. `room` says how many of each number there may be, at most 4.
+#[tactic(auto, using(crate::proofs::Nine::leaves_most))]
+pub fn with_suit(after: Row, counts: &[u8; 9], room: &[u8; 9], runs: bool) -> Row
+    requires room { EachIndex room.now (λ n. slice_index room.now n ≤ 4) }
+    requires few { IsFew after.lanes }
+    ensures { LeavesMost counts.now room.now runs after.lanes result.lanes }
+{
+    if runs {
+        with_runs(after, counts, room)
+    } else {
+        with_honours(after, counts, room)
+    }
+}

@@ -1,0 +1,194 @@
+use mj_core::{Core, Heard, SitAnswer};
+use mj_deeds::Rule;
+use mj_ports::SitRefused;
+use mj_tiles::Tile;
+use mj_wall::{Rules, Wall};
+use std::alloc::Global;
+use std::test::Fail;
+
+const PASS: &str = "{\"type\":\"none\"}";
+
+// What is done with a game, and what comes of it.
+#[derive(Clone, Copy)]
+enum Step {
+    // One that wants a seat says a line.
+    Sits(&'static str, SitAnswer),
+    // A seat says a line.
+    Says(u8, &'static str, Heard),
+    // All seats pass.
+    AllPass,
+    // This is pending for a seat.
+    IsTold(u8, &'static str),
+    // So many seats are held, and the seats of these marks may say a line.
+    Asks(u8, [bool; 4]),
+}
+
+// A game on the wall in tile order, before its first entry.
+fn before_all(alloc: Global) -> Result<Core, Fail> {
+    let mut tiles = [Tile::of(0).ok_or("no tile")?; 136];
+    for place in 0..136u8 {
+        tiles[usize::from(place)] = Tile::of(place / 4).ok_or("no tile")?;
+    }
+    let Ok(wall) = Wall::read(&tiles, false) else {
+        return Err("no wall".into());
+    };
+    let rules = Rules {
+        limit: 1000,
+        draws: false,
+        red: false,
+    };
+    Ok(Core::new(alloc, vec![in alloc; wall]?, rules)?)
+}
+
+// What a seat is answered that may say a line.
+fn said(core: &mut Core, alloc: Global, seat: u8, line: &str) -> Result<Heard, Fail> {
+    if core.author(seat) == Some(1) && core.may_say(seat) {
+        return Ok(core.said(alloc, 1, seat, line.as_bytes()));
+    }
+    Err("the seat is not asked".into())
+}
+
+fn all_pass(core: &mut Core, alloc: Global) -> Result<bool, Fail> {
+    let mut taken = true;
+    for seat in 0..4 {
+        taken = taken && said(core, alloc, seat, PASS)? == Heard::Taken;
+    }
+    Ok(taken)
+}
+
+fn is_told(core: &Core, alloc: Global, seat: u8, line: &str) -> Result<bool, Fail> {
+    let mut told = Vec::new(alloc);
+    core.pending(alloc, seat, &mut told)?;
+    Ok(told.as_slice() == line.as_bytes())
+}
+
+fn asks(core: &Core, held: u8, asked: [bool; 4]) -> bool {
+    let mut right = core.seats() == held;
+    for (seat, may_say) in asked.iter().enumerate() {
+        let seat = seat as u8;
+        right = right && core.may_say(seat) == *may_say && core.present(seat) == (seat < held);
+        right = right && core.author(seat).is_some() == (seat < held);
+    }
+    right
+}
+
+fn holds(core: &mut Core, alloc: Global, step: Step) -> Result<bool, Fail> {
+    match step {
+        Step::Sits(line, answer) => Ok(core.sit(alloc, 1, line.as_bytes()) == answer),
+        Step::Says(seat, line, heard) => Ok(said(core, alloc, seat, line)? == heard),
+        Step::AllPass => all_pass(core, alloc),
+        Step::IsTold(seat, line) => is_told(core, alloc, seat, line),
+        Step::Asks(held, asked) => Ok(asks(core, held, asked)),
+    }
+}
+
+// Whether all steps come as they say.
+fn all_hold(alloc: Global, steps: &[Step]) -> Result<bool, Fail> {
+    let mut core = before_all(alloc)?;
+    for step in steps {
+        if !holds(&mut core, alloc, *step)? {
+            return Ok(false);
+        }
+    }
+    Ok(true)
+}
+
+const A: &str = "{\"type\":\"join\",\"name\":\"a\",\"key\":\"k\"}";
+
+const B: &str = "{\"type\":\"join\",\"name\":\"b\"}";
+
+const C: &str = "{\"type\":\"join\",\"name\":\"c\"}";
+
+const D: &str = "{\"type\":\"join\",\"name\":\"d\"}";
+
+const FOUR_SEATS: [Step; 13] = [
+    Step::Asks(0, [false, false, false, false]),
+    Step::Sits(PASS, SitAnswer::Refused(SitRefused::BadName)),
+    Step::Sits(A, SitAnswer::Sat(0)),
+    Step::Sits(A, SitAnswer::Refused(SitRefused::NameTaken)),
+    Step::Sits(B, SitAnswer::Sat(1)),
+    Step::Sits(C, SitAnswer::Sat(2)),
+    Step::Asks(3, [false, false, false, false]),
+    Step::IsTold(0, ""),
+    Step::Sits(D, SitAnswer::Sat(3)),
+    Step::Sits(D, SitAnswer::Refused(SitRefused::NameTaken)),
+    Step::Sits(
+        "{\"type\":\"join\",\"name\":\"e\"}",
+        SitAnswer::Refused(SitRefused::Full),
+    ),
+    Step::Asks(4, [true, true, true, true]),
+    Step::IsTold(
+        3,
+        "{\"type\":\"start_game\",\"id\":3,\"names\":[\"a\",\"b\",\"c\",\"d\"]}\n",
+    ),
+];
+
+const FIRST_DISCARD: [Step; 24] = [
+    Step::Sits(A, SitAnswer::Sat(0)),
+    Step::Sits(B, SitAnswer::Sat(1)),
+    Step::Sits(C, SitAnswer::Sat(2)),
+    Step::Sits(D, SitAnswer::Sat(3)),
+    Step::Says(2, PASS, Heard::Taken),
+    Step::IsTold(2, ""),
+    Step::Asks(4, [true, true, false, true]),
+    Step::Says(0, PASS, Heard::Taken),
+    Step::Says(1, PASS, Heard::Taken),
+    Step::Says(3, PASS, Heard::Taken),
+    Step::AllPass,
+    Step::IsTold(0, "{\"type\":\"tsumo\",\"actor\":0,\"pai\":\"5p\"}\n"),
+    Step::IsTold(1, "{\"type\":\"tsumo\",\"actor\":0,\"pai\":\"?\"}\n"),
+    Step::Says(3, PASS, Heard::Taken),
+    Step::Says(
+        0,
+        "{\"type\":\"dahai\",\"actor\":0,\"pai\":\"9s\",\"tsumogiri\":false}",
+        Heard::Refused(Rule::NotHeld),
+    ),
+    Step::IsTold(0, ""),
+    Step::Asks(4, [true, true, true, false]),
+    Step::Says(
+        0,
+        "{\"type\":\"dahai\",\"actor\":0,\"pai\":\"1m\",\"tsumogiri\":false}",
+        Heard::Taken,
+    ),
+    Step::Says(1, PASS, Heard::Taken),
+    Step::Says(2, PASS, Heard::Taken),
+    Step::IsTold(
+        3,
+        "{\"type\":\"dahai\",\"actor\":0,\"pai\":\"1m\",\"tsumogiri\":false}\n",
+    ),
+    Step::Asks(4, [true, true, true, true]),
+    Step::AllPass,
+    Step::IsTold(1, "{\"type\":\"tsumo\",\"actor\":1,\"pai\":\"5p\"}\n"),
+];
+
+// The start of a game, and then the same line of seat 0 so many times.
+fn refused(alloc: Global, times: u8) -> Result<bool, Fail> {
+    let mut core = before_all(alloc)?;
+    for line in [A, B, C, D] {
+        core.sit(alloc, 1, line.as_bytes());
+    }
+    let reach = "{\"type\":\"reach\",\"actor\":0}";
+    let mut hold = said(&mut core, alloc, 0, reach)? == Heard::NotBuilt;
+    for _ in 0..times {
+        hold = hold && said(&mut core, alloc, 0, "x")? == Heard::Refused(Rule::Unreadable);
+    }
+    Ok(hold && said(&mut core, alloc, 0, "x")? == Heard::NotBuilt)
+}
+
+#[test]
+fn four_seats_are_given_and_no_name_twice(rt: HostRuntime) -> Result<(), Fail> {
+    assert!(rt; all_hold(rt.alloc(), &FOUR_SEATS)?);
+    Ok(())
+}
+
+#[test]
+fn a_deed_comes_once_all_four_have_answered_it_lawfully(rt: HostRuntime) -> Result<(), Fail> {
+    assert!(rt; all_hold(rt.alloc(), &FIRST_DISCARD)?);
+    Ok(())
+}
+
+#[test]
+fn fifteen_answers_to_one_deed_are_refused(rt: HostRuntime) -> Result<(), Fail> {
+    assert!(rt; refused(rt.alloc(), 15)?);
+    Ok(())
+}

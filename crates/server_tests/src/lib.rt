@@ -1,0 +1,16 @@
+//! Tests of the server layer by its public calls: links, lines, the core of a game, and the commands. A game that can be told as
+//! arrivals is a case of `riichi_cases`.
+#![tactic(auto)]
+
+#[cfg(test)]
+mod core_tests;
+#[cfg(test)]
+mod deed_tests;
+#[cfg(test)]
+mod front_tests;
+#[cfg(test)]
+mod links_tests;
+#[cfg(test)]
+mod reading_tests;
+#[cfg(test)]
+mod slow;

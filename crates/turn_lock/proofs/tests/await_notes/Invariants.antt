@@ -1,0 +1,7 @@
+use Rattle.std.proofs.Common.{◌≡◌}
+use Rattle.turn_lock.specs.Turns.{IsIdle}
+use Rattle.turn_lock.proofs.tests.await_notes.Given as goal
+
+abbrev pub invariant-loop : goal.invariant-loop
+invariant-loop g l =
+    (goal.iterator-loop g).can_next l.iterator' × (goal.iterator-loop g).is_finite l.iterator' × IsIdle g.T.Kept.setting l.turn l.pass × (l.pass.number ≡ l.fn.pass.number)

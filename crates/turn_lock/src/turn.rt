@@ -1,0 +1,122 @@
+ghost use Rattle.std.specs.Prelude.{◌≡◌, ◌+◌, ◌%◌, ◌^◌, ◌<◌, ◌≤◌, [], ◌∷◌};
+ghost use mathlib.Core.List.{IsPrefix};
+ghost use Rattle.turn_lock.specs.Notes.{notes_of, Follows};
+ghost use Rattle.turn_lock.specs.Plays.{Granted};
+ghost use Rattle.turn_lock.specs.Views.{view};
+ghost use Rattle.turn_lock.specs.Turns.{IsIdle, IsBusy, taken, given};
+ghost use Rattle.turn_lock.specs.declared.view.Stage.TheVariants.{Waits};
+
+use crate::held::Held;
+use crate::kept::Kept;
+use crate::pass::Pass;
+use crate::plays::{Draw, Look, Serve};
+use crate::view::{Fair, Start, View};
+use atomic_table::{Seat, Shared, Table};
+use std::alloc::Global;
+use std::marker::Model;
+use std::sync::Wait;
+
+// The word with the number that is served.
+const SERVING: usize = 0;
+
+// The word with the next ticket.
+const NEXT: usize = 1;
+
+// The slot of the value.
+pub(crate) const VALUE: usize = 0;
+
+/// A value that threads take in turn. Contracts see which turn it is, the value that it was made with, and the number of
+/// its passes.
+#[derive(Drop)]
+pub struct Turn<T: Kept> {
+    pub(crate) table: Table<Option<T>, View<T::Setting, T::Note>, Start<T>, Fair, Global>,
+}
+
+impl<T: Kept> Model for Turn<T> {
+    ghost use Rattle.std.specs.Prelude.{◌≡◌, ◌<◌};
+    ghost use Rattle.turn_lock.specs.Passes.{TurnState};
+
+    ghost Value = { TurnState T };
+
+    ghost view = { λ t. record { id = t.table.shared.table_id; opening = t.table.shared.key.value.value; passes = t.table.shared.key.passes } };
+
+    ghost invariant = { λ t. (t.table.shared.table_id.words ≡ 2) × (t.table.shared.table_id.slots ≡ 1) × (0 < t.table.shared.key.passes) };
+}
+
+// The shared part of a turn's table.
+pub(crate) type Board<T> = Shared<
+    Option<T>,
+    View<<T as Kept>::Setting, <T as Kept>::Note>,
+    Start<T>,
+    Fair,
+>;
+
+// The seat of a pass.
+pub(crate) type Place<T> = Seat<Option<T>, View<<T as Kept>::Setting, <T as Kept>::Note>>;
+
+impl<T: Kept> Turn<T> {
+    /// Takes the value. It waits until all who drew their tickets before have given it back.
+    pub fn take<R: Wait>(&self, rt: &R, pass: &mut Pass<T>) -> Held<T>
+        requires { IsIdle T.setting self.now pass.old }
+        ensures pass { pass.new ≡ taken pass.old (T.notes result) }
+        ensures setting { T.setting result ≡ T.setting self.now.opening }
+        ensures begins { IsPrefix pass.old.seen (T.notes result) }
+        ensures mine { notes_of T.author pass.old.number (T.notes result) ≡ notes_of T.author pass.old.number pass.old.seen }
+    {
+        let board = &self.table.shared;
+        pass.ticket = board.fetch_add::<Draw>(&mut pass.seat, NEXT, 1);
+        wait_for_turn(rt, board, &mut pass.seat, pass.ticket);
+        let Some(value) = board.exchange(&mut pass.seat, VALUE, None) else {
+            unreachable!()
+        };
+        Held { value }
+    }
+
+    /// Gives the value back and wakes those who wait. What the value's notes have gained is published by this.
+    pub fn give(&self, pass: &mut Pass<T>, held: Held<T>)
+        requires busy { IsBusy T.setting self.now pass.old }
+        requires setting { T.setting held ≡ T.setting self.now.opening }
+        requires notes { Follows T.author pass.old.number pass.old.seen (T.notes held) }
+        ensures { pass.new ≡ given pass.old (T.notes held) }
+    {
+        let Held { value } = held;
+        let board = &self.table.shared;
+        let None = board.exchange(&mut pass.seat, VALUE, Some(value)) else {
+            unreachable!()
+        };
+        board.store::<Serve>(&mut pass.seat, SERVING, pass.ticket.wrapping_add(1));
+        board.wake_all(SERVING);
+    }
+
+    /// Waits until another pass may have given the value back since this one's last `give`, or since the beginning. It
+    /// may return sooner, and may wait forever.
+    pub fn await_change<R: Wait>(&self, rt: &R, pass: &Pass<T>)
+        requires { IsIdle T.setting self.now pass.now }
+    {
+        self.table
+            .shared
+            .park(rt, SERVING, low_bits(pass.ticket.wrapping_add(1)));
+    }
+}
+
+// Waits until the ticket is served, and has the value then.
+fn wait_for_turn<T: Kept, R: Wait>(rt: &R, board: &Board<T>, seat: &mut Place<T>, ticket: u64)
+    requires board { (seat.old.table_id ≡ board.now.table_id) × (board.now.table_id.words ≡ 2) }
+    requires waits { (t : _) × (o : _) × (seat.old.me ≡ (view (Waits t) (o ∷ []), [])) × (ticket ≡ t % 2 ^ 64) }
+    ensures board { seat.new.table_id ≡ seat.old.table_id }
+    ensures granted { (t : _) × (o : _) × (seat.old.me ≡ (view (Waits t) (o ∷ []), [])) × (ticket ≡ t % 2 ^ 64) × Granted T.setting T.notes T.author t o seat.new.me }
+{
+    for _ in rt.forever() {
+        let serving = board.load::<Look>(seat, SERVING);
+        if serving == ticket {
+            return;
+        }
+        board.park(rt, SERVING, low_bits(serving));
+    }
+    unreachable!()
+}
+
+// The low 32 bits, by which threads park.
+fn low_bits(word: u64) -> u32 {
+    (word & 0xffff_ffff) as u32
+}
