@@ -3,8 +3,6 @@
 
 mod bans;
 mod shapes;
-#[cfg(test)]
-mod tests;
 
 pub use bans::banned;
 pub use shapes::{chi_shape, same_kind};

@@ -14,19 +14,21 @@ use Rattle.mj_ports.specs.declared.sitting.SitRefused.TheVariants.{Full, NameTak
 use Rattle.mj_deeds.specs.declared.deed.Deed.{Deed}
 use Rattle.mj_deeds.specs.declared.deed.Viewer.TheVariants.{Seat}
 use Rattle.mj_deeds.specs.declared.answer.Answer.{Answer}
+use Rattle.mj_deeds.specs.Answers.{is_in_form}
 use Rattle.mj_wall.specs.declared.setting.Setting.{Setting}
 use Rattle.mj_wall.specs.Places.{is_wall}
 use Rattle.mj_protocol.specs.Lines.{line}
 use Rattle.mj_protocol.specs.After.{After, Chair, Verdict, before_all, after, pending, lines_for}
 use Rattle.mj_protocol.specs.Trace.{Game, has_name, can_sit, may_say, can_say, is_answer_built, is_permitted, all_permitted, has_wall, has_ground, IsLegal}
 use Rattle.mj_protocol.proofs.Entries.{after-append, all_permitted-append}
-use Rattle.mj_protocol.specs.Reading.{join_of}
+use Rattle.mj_protocol.specs.Reading.{join_of, answer_of, names_later_type}
 use Rattle.mj_protocol.proofs.Fitting.{own_part_can_go_on}
+use Rattle.mj_protocol.proofs.Forms.{answers_that_are_read_are_in_form}
 use Rattle.mj_protocol.proofs.Legality.{IsNamed, join_of-named}
 use Rattle.mj_core.specs.Untold.{untold_chair, untold}
 use Rattle.mj_core.specs.States.{Position, TakesNext, is_due, CanHear, Hears}
 use Rattle.mj_core.specs.Kept.{IsKept}
-use Rattle.mj_core.specs.Calls.{standing, refused_by, IsSitAnswer, Answers, IsHeard, author_at, is_asked, pending_at, meaning, heard_by}
+use Rattle.mj_core.specs.Calls.{standing, plain_answer, refused_by, IsSitAnswer, Answers, IsHeard, author_at, is_asked, pending_at, meaning, heard_by}
 use Rattle.mj_core.specs.declared.verdict.Verdict.{Verdict as Judged}
 use Rattle.mj_core.specs.declared.verdict.Verdict.TheVariants as judged
 use Rattle.mj_core.specs.declared.answers.SitAnswer.TheVariants as sits
@@ -181,9 +183,21 @@ said-due now author (Some chair) h = rw (same_true chair.author) (second (chair.
 pub hear-due : (setting : Setting) (entries : List (Entry Answer)) (state : Position) (author seat : ℕ) → IsKept setting entries state → can_say (standing (game setting entries)) author seat ≡ true → is_due state.now seat ≡ true
 hear-due setting entries state author seat k may = due-kept setting entries state seat k ∙ said-due (after setting entries) author (slice_get (after setting entries).chairs seat) may
 
+-- What is heard is in form.
+pub heard-form : (text : List ℕ) (answer : Answer) → Some answer ≡ plain_answer text → is_in_form answer ≡ true
+heard-form text answer e = by_type (names_later_type text) e
+  where
+    read : Some answer ≡ Some (answer_of text) → answer_of text ≡ answer
+    read h = cc
+
+    by_type : (later : Bool) → Some answer ≡ (if later then None else Some (answer_of text)) → is_in_form answer ≡ true
+    by_type true h = cc
+    by_type false h = subst (λ (said : Answer). is_in_form said ≡ true) (read h) (answers_that_are_read_are_in_form text)
+
 -- What is true where it is heard.
-pub hear-can : (setting : Setting) (entries : List (Entry Answer)) (state : Position) (author seat : ℕ) (answer : Answer) → IsKept setting entries state → can_say (standing (game setting entries)) author seat ≡ true → CanHear setting state seat answer
-hear-can setting entries state author seat answer k may = record {
+pub hear-can : (setting : Setting) (entries : List (Entry Answer)) (state : Position) (author seat : ℕ) (answer : Answer) → IsKept setting entries state → can_say (standing (game setting entries)) author seat ≡ true → is_in_form answer ≡ true
+    → CanHear setting state seat answer
+hear-can setting entries state author seat answer k may form = record {
   rules = k.rules;
   due = hear-due setting entries state author seat k may;
   four = k.four;
@@ -191,17 +205,17 @@ hear-can setting entries state author seat answer k may = record {
   some = k.some;
   few = k.legal.few;
   whole = k.legal.whole;
-  going = λ by. can_go_on-same setting state.now (after setting entries) (Said by seat answer) k.same (own_part_can_go_on setting entries (Said by seat answer) k.legal);
+  going = λ by. can_go_on-same setting state.now (after setting entries) (Said by seat answer) k.same (own_part_can_go_on setting entries (Said by seat answer) k.legal form);
 }
 
-pub hear-kept : (setting : Setting) (entries all : List (Entry Answer)) (state next : Position) (author seat : ℕ) (answer : Answer) (verdict : Verdict) → IsKept setting entries state → can_say (standing (game setting entries)) author seat ≡ true
+pub hear-kept : (setting : Setting) (entries all : List (Entry Answer)) (state next : Position) (author seat : ℕ) (answer : Answer) (verdict : Verdict) → IsKept setting entries state → can_say (standing (game setting entries)) author seat ≡ true → is_in_form answer ≡ true
     → Hears setting state next seat answer verdict → all ≡ entries ++ Said author seat answer ∷ [] → IsKept setting all next
-hear-kept setting entries all state next author seat answer verdict k may t e =
+hear-kept setting entries all state next author seat answer verdict k may form t e =
     let P : List (Entry Answer) → Type 0 = λ es. IsKept setting es next in
     let m : length next.now.chairs ≡ length state.now.chairs = t.as_many in
     let built : is_answer_built setting (after setting entries) author seat answer ≡ true = sym (is_answer_built-same setting state.now (after setting entries) author seat answer k.same) ∙ t.built author in
     subst P (sym e) (record {
-      legal = legal-more setting entries (Said author seat answer) k.some (and_from (can_say (after setting entries) author seat) _ may built) k.legal;
+      legal = legal-more setting entries (Said author seat answer) k.some (and_from (is_in_form answer && can_say (after setting entries) author seat) _ (and_from (is_in_form answer) _ form may) built) k.legal;
       some = k.some;
       rules = t.rules ∙ k.rules;
       same = t.stepped author ∙ step-same setting state.now (after setting entries) (Said author seat answer) k.same ∙ ap untold (sym (after-append setting entries (Said author seat answer)));

@@ -3,6 +3,7 @@ ghost use Rattle.std.specs.List.{list_all};
 ghost use Rattle.mj_bytes.specs.Adds.{Adds};
 ghost use Rattle.mj_ports.specs.Names.{is_name};
 ghost use Rattle.mj_wall.specs.Places.{is_wall};
+ghost use Rattle.mj_deeds.specs.Answers.{is_in_form};
 ghost use Rattle.mj_protocol.specs.Reading.{join_of};
 ghost use Rattle.mj_protocol.specs.Trace.{can_say};
 ghost use Rattle.mj_core.specs.Calls.{IsSitAnswer, IsHeard, plain_answer, heard_by, standing, is_held, author_at, is_asked, pending_at};
@@ -14,7 +15,7 @@ use crate::verdict::Verdict;
 use mj_deeds::{Answer, Viewer};
 use mj_ports::{JoinLine, SitRefused};
 use mj_wall::{Rules, Setting, Wall, Walls};
-use mjai_lines::{names_later_type, read_answer, read_join, write};
+use mjai_lines::{read_built, read_join, write};
 use std::alloc::{AllocError, Global};
 use std::marker::Model;
 
@@ -65,14 +66,14 @@ impl Core {
         ensures { IsSitAnswer result self.old self.new author (join_of line.now) }
     {
         match read_join(alloc, line) {
-            Ok(Some(join)) => self.seat(author, &join),
+            Ok(Some(join)) => self.seat(alloc, author, &join),
             Ok(None) => SitAnswer::Refused(SitRefused::BadName),
             Err(_) => SitAnswer::NoMemory,
         }
     }
 
     // A seat for a join, whose name is of the right form.
-    fn seat(&mut self, author: u8, join: &JoinLine) -> SitAnswer
+    fn seat(&mut self, alloc: Global, author: u8, join: &JoinLine) -> SitAnswer
         requires { is_name join.now.name ≡ true }
         ensures { IsSitAnswer result self.old self.new author (Some join.now) }
     {
@@ -86,9 +87,12 @@ impl Core {
         if self.entries.reserve(1).is_err() {
             return SitAnswer::NoMemory;
         }
+        let Ok(entered) = Entered::sat(alloc, author, join) else {
+            return SitAnswer::NoMemory;
+        };
         match self.state.take_seat(author, join) {
             Ok(()) => {
-                self.entries.push_reserved(Entered::sat(author, join));
+                self.entries.push_reserved(entered);
                 SitAnswer::Sat(seat)
             }
             Err(_) => SitAnswer::NoMemory,
@@ -101,16 +105,17 @@ impl Core {
         requires { can_say (standing self.old) author seat ≡ true }
         ensures { IsHeard result self.old self.new author seat (plain_answer line.now) }
     {
-        match plain_answer(alloc, line) {
+        match read_built(alloc, line) {
             Ok(Some(answer)) => self.hear(alloc, author, seat, &answer),
             Ok(None) => Heard::NotBuilt,
             Err(_) => Heard::NoMemory,
         }
     }
 
-    // An answer of a seat.
+    // An answer of a seat, which is in form.
     fn hear(&mut self, alloc: Global, author: u8, seat: u8, answer: &Answer) -> Heard
-        requires { can_say (standing self.old) author seat ≡ true }
+        requires may { can_say (standing self.old) author seat ≡ true }
+        requires form { is_in_form answer.now ≡ true }
         ensures { IsHeard result self.old self.new author seat (Some answer.now) }
     {
         if self.entries.reserve(1).is_err() {
@@ -176,17 +181,6 @@ impl Core {
             None => Ok(()),
         }
     }
-}
-
-// What a line answers; None where it names an answer that is not built.
-fn plain_answer(alloc: Global, line: &[u8]) -> Result<Option<Answer>, AllocError>
-    ensures { IfOk result (λ answer. answer ≡ plain_answer line.now) }
-{
-    if names_later_type(alloc, line)? {
-        return Ok(None);
-    }
-    let answer = read_answer(alloc, line)?;
-    Ok(Some(answer))
 }
 
 // What a seat is answered by its verdict.

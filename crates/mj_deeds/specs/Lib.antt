@@ -1,3 +1,4 @@
+pub mod Answers
 pub mod Bids
 pub mod Course
 pub mod Facts

@@ -15,8 +15,6 @@ mod meld;
 mod passed;
 mod reason;
 mod rule;
-#[cfg(test)]
-mod tests;
 mod tiles;
 mod token;
 

@@ -20,7 +20,7 @@ use Rattle.mj_shanten.proofs.Parting.{run_low}
 use Rattle.mj_shanten.proofs.Sums.{all_low, sum_tally}
 use Rattle.mj_hand.specs.declared.hand.Hand.{Hand}
 use Rattle.mj_hand.specs.Words.{Word, Tile, Meld, parts, plain, tile_of, tiles_of, are_tiles_of, make_meld_from, make_meld, word_with, word_of, words_of}
-use Rattle.mj_hand.specs.Hands.{is_meld, held, melded, melds, room_beside, hand_with, hand_of}
+use Rattle.mj_hand.specs.Hands.{is_meld, held_tiles, melded_tiles, meld_count, room_beside, hand_with, hand_of}
 use Rattle.std.proofs.lemmas.Bool.{and_from}
 use Rattle.mj_hand.proofs.KindLists.{same_map}
 use Rattle.mj_hand.proofs.HandSteps.{four_at}
@@ -90,9 +90,9 @@ words-fine [] ws h = (let e : [] ≡ ws = cc in subst AllFine e tt)
 words-fine (text ∷ texts) ws h =
     words-join (word_of text) (words_of texts) ws (λ w. word-fine (tiles_of (parts text)) w (tiles-low (parts text))) (words-fine texts) h
 
-held-low : (ws : List Word) → AllFine ws → all_low (held ws) ≡ true
+held-low : (ws : List Word) → AllFine ws → all_low (held_tiles ws) ≡ true
 held-low [] fine = refl
-held-low (Tile t ∷ ws) fine = and_from (ltb t 34) (all_low (held ws)) fine.0 (held-low ws fine.1)
+held-low (Tile t ∷ ws) fine = and_from (ltb t 34) (all_low (held_tiles ws)) fine.0 (held-low ws fine.1)
 held-low (Meld ts ∷ ws) fine = held-low ws fine.1
 
 -- ---- plain tiles are their kinds
@@ -153,24 +153,24 @@ set_of tiles h =
 
 record SetsOf (words : List Word) : Type 0 where
   sets : List Set
-  so_many : length sets ≡ melds words
+  so_many : length sets ≡ meld_count words
   formed : list_all room.is_meld sets ≡ true
-  same : (kind : ℕ) → kind < 34 → number_of (melded words) kind ≡ count_by (λ tile. eqb tile kind) (flat_map tiles_of_set sets)
+  same : (kind : ℕ) → kind < 34 → number_of (melded_tiles words) kind ≡ count_by (λ tile. eqb tile kind) (flat_map tiles_of_set sets)
 
 sets_of : (ws : List Word) → AllFine ws → SetsOf ws
 sets_of [] fine = record { sets = []; so_many = refl; formed = refl; same = λ kind inside. refl }
 sets_of (Tile t ∷ ws) fine = (let rest = sets_of ws fine.1 in record {
   sets = rest.sets;
-  so_many = rest.so_many ∙ sym (sum_by-cons (λ w. cond (is_meld w) 1 0) (Tile t) ws ∙ (let e : 0 + melds ws ≡ melds ws = omega arith in e));
+  so_many = rest.so_many ∙ sym (sum_by-cons (λ w. cond (is_meld w) 1 0) (Tile t) ws ∙ (let e : 0 + meld_count ws ≡ meld_count ws = omega arith in e));
   formed = rest.formed;
   same = rest.same;
 })
 sets_of (Meld ts ∷ ws) fine = (let one = set_of ts fine.0 in let rest = sets_of ws fine.1 in record {
   sets = one.set ∷ rest.sets;
-  so_many = (let a : melds (Meld ts ∷ ws) ≡ 1 + melds ws = sum_by-cons (λ w. cond (is_meld w) 1 0) (Meld ts) ws in let b = rest.so_many in omega arith);
+  so_many = (let a : meld_count (Meld ts ∷ ws) ≡ 1 + meld_count ws = sum_by-cons (λ w. cond (is_meld w) 1 0) (Meld ts) ws in let b = rest.so_many in omega arith);
   formed = and_from (room.is_meld one.set) (list_all room.is_meld rest.sets) one.formed rest.formed;
   same = λ kind inside.
-      sum_by-append (λ tile. cond (eqb (kind_of tile) kind) 1 0) ts (melded ws)
+      sum_by-append (λ tile. cond (eqb (kind_of tile) kind) 1 0) ts (melded_tiles ws)
       ∙ ap₂ (λ a b. a + b) (one.same kind inside) (rest.same kind inside)
       ∙ sym (sum_by-append (λ tile. cond (eqb tile kind) 1 0) (tiles_of_set one.set) (flat_map tiles_of_set rest.sets));
 })
@@ -181,26 +181,26 @@ room-at : (others : List ℕ) (kind : ℕ) → kind < 34 → get_or (room_beside
 unfolding room_beside all_kinds
 room-at others kind low = get_or-map-range_with_len (λ k. 4 - number_of others k) 0 34 kind kind 0 low (omega arith)
 
-hand_fine : (ws : List Word) → AllFine ws → length (held ws) + 3 * melds ws ≡ 13 → has_no_fifth (held ws ++ melded ws) ≡ true → IsHand (kind_counts (held ws)) (room_beside (melded ws)) (melds ws)
+hand_fine : (ws : List Word) → AllFine ws → length (held_tiles ws) + 3 * meld_count ws ≡ 13 → has_no_fifth (held_tiles ws ++ melded_tiles ws) ≡ true → IsHand (kind_counts (held_tiles ws)) (room_beside (melded_tiles ws)) (meld_count ws)
 hand_fine ws fine thirteen four = (let s = sets_of ws fine in record {
-  thirteen = (let a : sum (kind_counts (held ws)) ≡ length (held ws) = ap sum (counts-low (held ws) (held-low ws fine)) ∙ sum_tally (held ws) (held-low ws fine) in omega arith);
+  thirteen = (let a : sum (kind_counts (held_tiles ws)) ≡ length (held_tiles ws) = ap sum (counts-low (held_tiles ws) (held-low ws fine)) ∙ sum_tally (held_tiles ws) (held-low ws fine) in omega arith);
   within = λ kind low.
-      (let a = get_or-kind_counts (held ws) kind low in let b = room-at (melded ws) kind low in let c = four_at (held ws) (melded ws) kind low four in omega arith);
+      (let a = get_or-kind_counts (held_tiles ws) kind low in let b = room-at (melded_tiles ws) kind low in let c = four_at (held_tiles ws) (melded_tiles ws) kind low four in omega arith);
   room_is = record {
     sets = s.sets;
     so_many = s.so_many;
     formed = s.formed;
     left = λ kind low.
-        (let a = room-at (melded ws) kind low in let b = four_at (held ws) (melded ws) kind low four in let c = s.same kind low in omega arith);
+        (let a = room-at (melded_tiles ws) kind low in let b = four_at (held_tiles ws) (melded_tiles ws) kind low four in let c = s.same kind low in omega arith);
   };
 })
 
-hand-by : (ws : List Word) (hand : Hand) (a b : Bool) → AllFine ws → eqb (length (held ws) + 3 * melds ws) 13 ≡ a → has_no_fifth (held ws ++ melded ws) ≡ b
-    → cond (a && b) (Some (record { counts = kind_counts (held ws); room = room_beside (melded ws); melds = melds ws })) None ≡ Some hand → IsHand hand.counts hand.room hand.melds
+hand-by : (ws : List Word) (hand : Hand) (a b : Bool) → AllFine ws → eqb (length (held_tiles ws) + 3 * meld_count ws) 13 ≡ a → has_no_fifth (held_tiles ws ++ melded_tiles ws) ≡ b
+    → cond (a && b) (Some (record { counts = kind_counts (held_tiles ws); room = room_beside (melded_tiles ws); melds = meld_count ws })) None ≡ Some hand → IsHand hand.counts hand.room hand.melds
 hand-by ws hand true true fine thirteen four h =
-    let made : Hand = record { counts = kind_counts (held ws); room = room_beside (melded ws); melds = melds ws } in
+    let made : Hand = record { counts = kind_counts (held_tiles ws); room = room_beside (melded_tiles ws); melds = meld_count ws } in
     let same : made ≡ hand = cc in
-    subst (λ (x : Hand). IsHand x.counts x.room x.melds) same (hand_fine ws fine (eqb-true (length (held ws) + 3 * melds ws) 13 thirteen) four)
+    subst (λ (x : Hand). IsHand x.counts x.room x.melds) same (hand_fine ws fine (eqb-true (length (held_tiles ws) + 3 * meld_count ws) 13 thirteen) four)
 hand-by ws hand true false fine thirteen four h = absurd (never h)
   where
     never : ◌≡◌ {A = Option Hand} None (Some hand) → ⊥
@@ -215,7 +215,7 @@ hand-of None hand f h = absurd (never h)
   where
     never : ◌≡◌ {A = Option Hand} None (Some hand) → ⊥
     never h = cc
-hand-of (Some ws) hand f h = hand-by ws hand (eqb (length (held ws) + 3 * melds ws) 13) (has_no_fifth (held ws ++ melded ws)) (f ws refl) refl refl h
+hand-of (Some ws) hand f h = hand-by ws hand (eqb (length (held_tiles ws) + 3 * meld_count ws) 13) (has_no_fifth (held_tiles ws ++ melded_tiles ws)) (f ws refl) refl refl h
 
 -- words that name a hand give one
 pub hand_law : (texts : List (List ℕ)) (hand : Hand) → hand_of texts ≡ Some hand → IsHand hand.counts hand.room hand.melds

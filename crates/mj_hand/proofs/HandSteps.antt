@@ -10,7 +10,7 @@ use Rattle.mj_tiles.proofs.CountSteps.{length-kind_counts, get_or-kind_counts, n
 use Rattle.mj_hand.specs.declared.hand.Hand.{Hand}
 use Rattle.mj_hand.specs.declared.hand.Gathered.{Gathered}
 use Rattle.mj_hand.specs.Words.{Word, Tile, Meld, word_of, words_of}
-use Rattle.mj_hand.specs.Hands.{held_in, melded_in, is_meld, held, melded, melds, room_beside, hand_among, hand_with, hand_of}
+use Rattle.mj_hand.specs.Hands.{held_in, melded_in, is_meld, held_tiles, melded_tiles, meld_count, room_beside, hand_among, hand_with, hand_of}
 use Rattle.mj_hand.specs.Inner.Gathering.{Gathers, TakesWord, Takes, one_if, are_within_four, room_left}
 use Rattle.std.proofs.lemmas.Bool.{and_from}
 use Rattle.mj_tiles.proofs.EachKind.{each_kind}
@@ -25,9 +25,9 @@ words_onto words (Some more) = Some (words ++ more)
 pub record GathersBefore (texts left : List (List ℕ)) (tiles others : List ℕ) (number : ℕ) : Type 0 where
   pub words : List Word
   pub read : words_of texts ≡ words_onto words (words_of left)
-  pub held_are : tiles ≡ held words
-  pub melded_are : others ≡ melded words
-  pub melds_are : number ≡ melds words
+  pub held_are : tiles ≡ held_tiles words
+  pub melded_are : others ≡ melded_tiles words
+  pub melds_are : number ≡ meld_count words
 
 pub gathers_start : (texts : List (List ℕ)) (tiles others : List ℕ) (number : ℕ) → tiles ≡ [] → others ≡ [] → number ≡ 0 → GathersBefore texts texts tiles others number
 gathers_start texts tiles others number a b c = record { words = []; read = nothing (words_of texts); held_are = a; melded_are = b; melds_are = c }
@@ -40,7 +40,7 @@ one_word : (words : List Word) (word : Word) (o : Option (List Word)) → words_
 one_word words word None = refl
 one_word words word (Some more) = ap (λ ws. Some ws) (sym (append_assoc words (word ∷ []) more))
 
-melds-push : (words : List Word) (word : Word) → melds (words ++ word ∷ []) ≡ melds words + one_if (is_meld word)
+melds-push : (words : List Word) (word : Word) → meld_count (words ++ word ∷ []) ≡ meld_count words + one_if (is_meld word)
 melds-push words (Tile tile) = sum_by-append (λ w. cond (is_meld w) 1 0) words (Tile tile ∷ [])
 melds-push words (Meld tiles) = sum_by-append (λ w. cond (is_meld w) 1 0) words (Meld tiles ∷ [])
 
@@ -152,7 +152,7 @@ whole_hand tiles others counts numbers room number result thirteen a b r is h =
 -- what was made of all tiles is the hand of the texts
 pub value_of : (texts : List (List ℕ)) (tiles others : List ℕ) (number : ℕ) (result : Option Hand) → Gathers texts tiles others number → result ≡ hand_among tiles others number → result ≡ hand_of texts
 value_of texts tiles others number result g is =
-    is ∙ ap₂ (λ a b. hand_among a b number) g.held_are g.melded_are ∙ ap (λ n. hand_among (held g.words) (melded g.words) n) g.melds_are
+    is ∙ ap₂ (λ a b. hand_among a b number) g.held_are g.melded_are ∙ ap (λ n. hand_among (held_tiles g.words) (melded_tiles g.words) n) g.melds_are
     ∙ ap (option_and_then hand_with) (sym g.read)
 
 pub value_by : (texts : List (List ℕ)) (o : Option Gathered) (g : Gathered) (result : Option Hand) → MatchOption o (words_of texts ≡ None) (λ g. Gathers texts g.held.items g.melded.items g.melds)

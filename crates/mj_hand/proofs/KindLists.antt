@@ -1,13 +1,12 @@
 -- What holds of each of the 34 kinds.
-use Rattle.std.proofs.Common.{◌≡◌, ℕ, ◌+◌, ◌-◌, ◌<◌, ◌≤◌, List, ◌∷◌, length, get_or, map, Bool, true, false, leb, ◌&&◌, refl, ap, ap₂, sym, ◌∙◌, arith, zero, suc, inl, inr}
+use Rattle.std.proofs.Common.{◌≡◌, ℕ, ◌+◌, ◌-◌, ◌<◌, ◌≤◌, List, ◌∷◌, length, get_or, map, Bool, true, false, leb, ◌&&◌, refl, ap₂, sym, ◌∙◌, arith, zero, suc}
 use Rattle.std.specs.List.{list_all, range_with_len}
-use Rattle.std.proofs.lemmas.Bool.{cases_Bool, false≢true, le-leb}
+use Rattle.std.proofs.lemmas.Bool.{le-leb}
 use Rattle.std.proofs.lemmas.Bool.Decides.{nat_tests}
-use Rattle.std.proofs.lemmas.List.Folds.{list_all_at}
-use Rattle.std.proofs.lemmas.List.FromFn.{length-range_with_len, get_or-range_with_len, length-map-range_with_len, get_or-map-range_with_len}
+use Rattle.std.proofs.lemmas.List.FromFn.{length-map-range_with_len, get_or-map-range_with_len}
 use Rattle.std.proofs.lemmas.Grind.{same_number_lists}
 use Rattle.mj_tiles.specs.Counts.{all_kinds}
-use Rattle.mj_tiles.proofs.EachKind.{all_kinds-pass, all_kinds-fail, each_kind}
+use Rattle.mj_tiles.proofs.EachKind.{all_kinds-pass, all_kinds-fail}
 use Rattle.mj_hand.specs.Inner.Gathering.{are_within_four, room_left}
 
 -- ---- no kind stands more than four times

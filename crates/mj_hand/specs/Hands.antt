@@ -19,14 +19,14 @@ is_meld (Tile tile) = false
 is_meld (Meld tiles) = true
 
 -- The concealed tiles, those of the melds, and how many melds there are.
-abbrev pub held : List Word → List ℕ
-held words = flat_map held_in words
+abbrev pub held_tiles : List Word → List ℕ
+held_tiles words = flat_map held_in words
 
-abbrev pub melded : List Word → List ℕ
-melded words = flat_map melded_in words
+abbrev pub melded_tiles : List Word → List ℕ
+melded_tiles words = flat_map melded_in words
 
-abbrev pub melds : List Word → ℕ
-melds words = count_by is_meld words
+abbrev pub meld_count : List Word → ℕ
+meld_count words = count_by is_meld words
 
 -- The room is four of each kind less the tiles of the melds.
 unfoldable pub room_beside : List ℕ → List ℕ
@@ -43,7 +43,7 @@ hand_among tiles others number =
 
 -- The hand of words.
 abbrev pub hand_with : List Word → Option Hand
-hand_with words = hand_among (held words) (melded words) (melds words)
+hand_with words = hand_among (held_tiles words) (melded_tiles words) (meld_count words)
 
 -- The hand that texts name, where they name one.
 abbrev pub hand_of : List (List ℕ) → Option Hand

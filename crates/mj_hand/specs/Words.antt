@@ -1,5 +1,5 @@
 -- What a word of a hand stands for: a tile or a meld.
-use Rattle.std.specs.Prelude.{ℕ, ◌==◌, Bool, ◌&&◌, ◌||◌, if◌then◌else◌, List, [], ◌∷◌, bytes_eq, Option, Some, None, option_and_then, option_map}
+use Rattle.std.specs.Prelude.{ℕ, Bool, ◌&&◌, ◌||◌, if◌then◌else◌, List, [], ◌∷◌, bytes_eq, Option, Some, None, option_and_then, option_map}
 use Rattle.std.specs.List.{list_any}
 use Rattle.mj_tiles.specs.Faces.{is_red, face_of}
 use Rattle.mj_tiles.specs.Counts.{all_kinds, kind_counts}

@@ -6,8 +6,6 @@ mod holding;
 mod questions;
 mod sets;
 mod swap;
-#[cfg(test)]
-mod tests;
 mod unanswered;
 mod verdict;
 

@@ -1,3 +1,4 @@
 pub mod Ranges
 pub mod Fronts
 pub mod Onto
+pub mod Order

@@ -1,13 +1,17 @@
-//! What a game shows to those outside: names and keys, the entries of its history, and how a seat is taken.
+//! What a game shows to those outside: names and keys, the entries of its history, how a seat is taken, and the calls of
+//! a game that workers play by entries.
 #![tactic(auto)]
 
+mod answers;
 mod entry;
+mod seated;
+#[cfg(test)]
+mod seated_tests;
 mod short_list;
 mod sitting;
 
+pub use answers::{Control, Expiry, Heard, Left, SitAnswer};
 pub use entry::Entry;
+pub use seated::Seated;
 pub use short_list::{Key, Name};
 pub use sitting::{JoinLine, SitRefused};
-
-#[cfg(test)]
-mod tests;

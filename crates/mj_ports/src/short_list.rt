@@ -6,7 +6,7 @@ use std::marker::Model;
 #[derive(Clone, Copy, Debug, PartialEq, Eq)]
 struct ShortList {
     places: [u8; 64],
-    len: usize,
+    len: u8,
 }
 
 impl Model for ShortList {
@@ -34,7 +34,7 @@ impl ShortList {
         put(&mut places, bytes);
         ShortList {
             places,
-            len: bytes.len(),
+            len: bytes.len() as u8,
         }
     }
 
@@ -42,7 +42,7 @@ impl ShortList {
         ensures items { result.now ≡ self.now }
         ensures fits { length self.now ≤ 64 }
     {
-        &self.places[..self.len]
+        &self.places[..usize::from(self.len)]
     }
 }
 

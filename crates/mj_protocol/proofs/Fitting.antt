@@ -14,18 +14,19 @@ use Rattle.mj_deeds.specs.declared.four.Four.{Four}
 use Rattle.mj_deeds.specs.declared.rule.Rule.{Rule}
 use Rattle.mj_deeds.specs.declared.answer.Answer.{Answer}
 use Rattle.mj_deeds.specs.declared.answer.Answer.TheVariants.{Unread}
+use Rattle.mj_deeds.specs.Answers.{is_in_form}
 use Rattle.mj_deeds.specs.declared.deed.Deed.{Deed}
 use Rattle.mj_deeds.specs.declared.deed.Deed.TheVariants.{StartGame}
 use Rattle.mj_wall.specs.declared.setting.Rules.{Rules}
 use Rattle.mj_wall.specs.declared.setting.Setting.{Setting}
 use Rattle.mj_rules.specs.Broken.{broken}
 use Rattle.mj_rules.specs.Outcome.{outcome}
-use Rattle.mj_rules.specs.Played.{AllLawful, are_listed_names, are_names, IsPlayedBehind, IsPlayed}
+use Rattle.mj_rules.specs.Played.{IsLawful, AllLawful, are_listed_names, are_names, IsPlayedBehind, IsPlayed}
 use Rattle.mj_rules.proofs.Playing.{each_is_wall, played_deeds_fit, played_more, given_behind, behind_fits}
 use Rattle.mj_window.proofs.Closing.{all_answered}
 use Rattle.mj_window.specs.Slots.{put_at}
 use Rattle.mj_protocol.specs.After.{After, Chair, Verdict, Taken, Late, Refused, verdict_by, verdict_on, filled, heard, own_part, names_of, answers_in, is_ready, next_deed, with_deed, step, after_from, after, before_all, IsLawfulIn, AreLawfulIn}
-use Rattle.mj_protocol.specs.Trace.{has_name, can_sit, is_permitted, all_permitted, has_wall, IsLegal}
+use Rattle.mj_protocol.specs.Trace.{has_name, can_sit, can_say, is_answer_built, is_permitted, says_in_form, all_permitted, has_wall, IsLegal}
 use Rattle.mj_protocol.specs.Laws.{LegalGamesArePlayed, TakenAnswersAreLawful, OwnPartCanGoOn, NextDeedIsPlayed, LegalDeedsFit, NextDeedFits}
 
 -- The names of the seats.
@@ -83,36 +84,36 @@ taken_clean true o h = cc
 taken_clean false None h = refl
 taken_clean false (Some rule) h = cc
 
-put_kept : (rules : Rules) (ds : List Deed) (slots : Four (Option Answer)) (seat : ℕ) (answer : Answer) → seat < 4 → broken rules ds seat answer ≡ None → AreLawfulIn rules ds slots → AreLawfulIn rules ds (put_at slots seat answer)
+put_kept : (rules : Rules) (ds : List Deed) (slots : Four (Option Answer)) (seat : ℕ) (answer : Answer) → seat < 4 → IsLawful rules ds seat answer → AreLawfulIn rules ds slots → AreLawfulIn rules ds (put_at slots seat answer)
 put_kept rules ds slots zero answer small h s = record { first = h; second = s.second; third = s.third; fourth = s.fourth }
 put_kept rules ds slots (suc zero) answer small h s = record { first = s.first; second = h; third = s.third; fourth = s.fourth }
 put_kept rules ds slots (suc (suc zero)) answer small h s = record { first = s.first; second = s.second; third = h; fourth = s.fourth }
 put_kept rules ds slots (suc (suc (suc zero))) answer small h s = record { first = s.first; second = s.second; third = s.third; fourth = h }
 put_kept rules ds slots (suc (suc (suc (suc n)))) answer small h s = absurd (omega arith)
 
-filled_kept : (rules : Rules) (ds : List Deed) (slots : Four (Option Answer)) (seat : ℕ) (answer : Answer) (v : Verdict) → seat < 4 → (v ≡ Taken → broken rules ds seat answer ≡ None) → AreLawfulIn rules ds slots → AreLawfulIn rules ds (filled v slots seat answer)
+filled_kept : (rules : Rules) (ds : List Deed) (slots : Four (Option Answer)) (seat : ℕ) (answer : Answer) (v : Verdict) → seat < 4 → (v ≡ Taken → IsLawful rules ds seat answer) → AreLawfulIn rules ds slots → AreLawfulIn rules ds (filled v slots seat answer)
 filled_kept rules ds slots seat answer Taken small h s = put_kept rules ds slots seat answer small (h refl) s
 filled_kept rules ds slots seat answer Late small h s = s
 filled_kept rules ds slots seat answer (Refused rule) small h s = s
 
-said_slots : (rules : Rules) (now : After) (seat : ℕ) (answer : Answer) (held : Option Chair) → slice_get now.chairs seat ≡ held → length now.chairs ≤ 4 → AreLawfulIn rules now.deeds now.slots →
+said_slots : (rules : Rules) (now : After) (seat : ℕ) (answer : Answer) (held : Option Chair) → is_in_form answer ≡ true → slice_get now.chairs seat ≡ held → length now.chairs ≤ 4 → AreLawfulIn rules now.deeds now.slots →
     AreLawfulIn rules (option_map_or (heard rules now seat answer) held now).deeds (option_map_or (heard rules now seat answer) held now).slots
 unfolding heard
-said_slots rules now seat answer None e few s = s
-said_slots rules now seat answer (Some chair) e few s =
+said_slots rules now seat answer None form e few s = s
+said_slots rules now seat answer (Some chair) form e few s =
     filled_kept rules now.deeds now.slots seat answer (verdict_on rules now.deeds seat answer chair.progress) (below _ _ (slice_get_within now.chairs seat chair e) few)
-    (λ h. taken_clean (nat_lt (chair.progress.due + 1) (length now.deeds)) (broken rules now.deeds seat answer) h) s
+    (λ h. record { form = form; clean = taken_clean (nat_lt (chair.progress.due + 1) (length now.deeds)) (broken rules now.deeds seat answer) h }) s
   where
     below : (seat n : ℕ) → seat < n → n ≤ 4 → seat < 4
     below seat n h k = omega arith
 
-own_slots : (setting : Setting) (now : After) (entry : Entry Answer) → IsSound setting now → AreLawfulIn setting.rules (own_part setting now entry).deeds (own_part setting now entry).slots
+own_slots : (setting : Setting) (now : After) (entry : Entry Answer) → says_in_form entry ≡ true → IsSound setting now → AreLawfulIn setting.rules (own_part setting now entry).deeds (own_part setting now entry).slots
 unfolding own_part
-own_slots setting now (Sat author name key) s = s.slots
-own_slots setting now (Said author seat answer) s = said_slots setting.rules now seat answer (slice_get now.chairs seat) refl s.few s.slots
-own_slots setting now (Back author seat) s = s.slots
-own_slots setting now (Gone author seat) s = s.slots
-own_slots setting now (Expired author window t1 t2) s = s.slots
+own_slots setting now (Sat author name key) f s = s.slots
+own_slots setting now (Said author seat answer) f s = said_slots setting.rules now seat answer (slice_get now.chairs seat) f refl s.few s.slots
+own_slots setting now (Back author seat) f s = s.slots
+own_slots setting now (Gone author seat) f s = s.slots
+own_slots setting now (Expired author window t1 t2) f s = s.slots
 
 said_deeds : (rules : Rules) (now : After) (seat : ℕ) (answer : Answer) (held : Option Chair) → (option_map_or (heard rules now seat answer) held now).deeds ≡ now.deeds
 unfolding heard
@@ -164,32 +165,41 @@ own_seats setting now (Back author seat) p s = s
 own_seats setting now (Gone author seat) p s = s
 own_seats setting now (Expired author window t1 t2) p s = s
 
+-- What a permitted entry says is in form.
+permitted_form : (setting : Setting) (now : After) (entry : Entry Answer) → is_permitted setting now entry ≡ true → says_in_form entry ≡ true
+permitted_form setting now (Said author seat answer) p =
+    (and_parts (is_in_form answer) (can_say now author seat) (and_parts (is_in_form answer && can_say now author seat) (is_answer_built setting now author seat answer) p).0).0
+permitted_form setting now (Sat author name key) p = refl
+permitted_form setting now (Back author seat) p = refl
+permitted_form setting now (Gone author seat) p = refl
+permitted_form setting now (Expired author window t1 t2) p = refl
+
 own_sound : (setting : Setting) (now : After) (entry : Entry Answer) → is_permitted setting now entry ≡ true → IsSound setting now → IsSound setting (own_part setting now entry)
 own_sound setting now entry p s =
     let seats = own_seats setting now entry p (record { few = s.few; named = s.named }) in
     record {
       played = subst (IsPlayed setting.rules setting.walls) (sym (own_deeds setting now entry)) s.played;
-      slots = own_slots setting now entry s;
+      slots = own_slots setting now entry (permitted_form setting now entry p) s;
       few = seats.few;
       named = seats.named;
     }
 
 -- the deed that it adds
 
-slot_clean : (rules : Rules) (ds : List Deed) (seat : ℕ) (slot : Option Answer) → is_some slot ≡ true → IsLawfulIn rules ds seat slot → broken rules ds seat (unwrap_or slot Unread) ≡ None
-slot_clean rules ds seat None h s = cc
-slot_clean rules ds seat (Some answer) h s = s
+slot_lawful : (rules : Rules) (ds : List Deed) (seat : ℕ) (slot : Option Answer) → is_some slot ≡ true → IsLawfulIn rules ds seat slot → IsLawful rules ds seat (unwrap_or slot Unread)
+slot_lawful rules ds seat None h s = cc
+slot_lawful rules ds seat (Some answer) h s = s
 
-ready_clean : (rules : Rules) (ds : List Deed) (slots : Four (Option Answer)) → is_ready slots ≡ true → AreLawfulIn rules ds slots → AllLawful rules ds (answers_in slots)
-ready_clean rules ds slots h s =
+ready_lawful : (rules : Rules) (ds : List Deed) (slots : Four (Option Answer)) → is_ready slots ≡ true → AreLawfulIn rules ds slots → AllLawful rules ds (answers_in slots)
+ready_lawful rules ds slots h s =
     let a = and_parts (is_some slots.first && is_some slots.second && is_some slots.third) (is_some slots.fourth) (all_answered slots h) in
     let b = and_parts (is_some slots.first && is_some slots.second) (is_some slots.third) a.0 in
     let c = and_parts (is_some slots.first) (is_some slots.second) b.0 in
     record {
-      first = slot_clean rules ds 0 slots.first c.0 s.first;
-      second = slot_clean rules ds 1 slots.second c.1 s.second;
-      third = slot_clean rules ds 2 slots.third b.1 s.third;
-      fourth = slot_clean rules ds 3 slots.fourth a.1 s.fourth;
+      first = slot_lawful rules ds 0 slots.first c.0 s.first;
+      second = slot_lawful rules ds 1 slots.second c.1 s.second;
+      third = slot_lawful rules ds 2 slots.third b.1 s.third;
+      fourth = slot_lawful rules ds 3 slots.fourth a.1 s.fourth;
     }
 
 four_names : (chairs : List Chair) → (length chairs == 4) ≡ true → are_listed_names (names_in chairs) ≡ true → are_names (names_of chairs) ≡ true
@@ -227,7 +237,7 @@ next_behind setting now d s e = by_length (length now.deeds == 0) refl e
     started false first four e = absurd (none_is d e)
 
     by_ready : (b : Bool) → is_ready now.slots ≡ b → cond b (outcome setting.rules setting.walls now.deeds (answers_in now.slots)) None ≡ Some d → IsPlayedBehind setting.rules setting.walls now.deeds d
-    by_ready true ready e = given_behind setting.rules setting.walls now.deeds (answers_in now.slots) d (ready_clean setting.rules now.deeds now.slots ready s.slots) e
+    by_ready true ready e = given_behind setting.rules setting.walls now.deeds (answers_in now.slots) d (ready_lawful setting.rules now.deeds now.slots ready s.slots) e
     by_ready false ready e = absurd (none_is d e)
 
     by_length : (b : Bool) → (length now.deeds == 0) ≡ b →
@@ -271,14 +281,14 @@ taken_answers_are_lawful setting entries legal = (legal_sound setting entries le
 -- where a deed may be added
 
 pub own_part_can_go_on : OwnPartCanGoOn
-own_part_can_go_on setting entries entry legal =
+own_part_can_go_on setting entries entry legal form =
     let now : After = after setting entries in
     let own : After = own_part setting now entry in
     let s = legal_sound setting entries legal in
     record {
       played = subst (IsPlayed setting.rules setting.walls) (sym (own_deeds setting now entry)) s.played;
-      taken = own_slots setting now entry s;
-      ready = λ h. ready_clean setting.rules own.deeds own.slots h (own_slots setting now entry s);
+      taken = own_slots setting now entry form s;
+      ready = λ h. ready_lawful setting.rules own.deeds own.slots h (own_slots setting now entry form s);
     }
 
 added_behind : (setting : Setting) (entries : List (Entry Answer)) (entry : Entry Answer) (d : Deed) → IsLegal setting entries → is_permitted setting (after setting entries) entry ≡ true →

@@ -10,6 +10,7 @@ use Rattle.mj_ports.specs.declared.entry.Entry.{Entry}
 use Rattle.mj_ports.specs.declared.entry.Entry.TheVariants.{Sat, Said}
 use Rattle.mj_ports.specs.declared.sitting.JoinLine.{JoinLine}
 use Rattle.mj_deeds.specs.declared.answer.Answer.{Answer}
+use Rattle.mj_deeds.specs.Answers.{is_in_form}
 use Rattle.mj_wall.specs.declared.setting.Rules.{Rules}
 use Rattle.mj_wall.specs.declared.setting.Setting.{Setting}
 use Rattle.mj_wall.specs.Places.{is_wall}
@@ -18,6 +19,7 @@ use Rattle.mj_protocol.specs.After.{Chair, before_all, after}
 use Rattle.mj_protocol.specs.Trace.{can_sit, may_say, can_say, is_answer_built, is_permitted, all_permitted, has_wall, has_ground, IsLegal}
 use Rattle.mj_protocol.specs.Arrivals.{Form, Header, WallOf, Sit, Say, Leave, Expire, NoForm, form_of, Reading, setting_of, now_of, Arrival, Leads, NotBuilt, Bad, header_arrives, wall_arrives, with_entry, join_arrives, sit_arrives, answer_arrives, say_arrives, behind_header, first_line, arrives, Input, at_end, hear_on, hear_from, nothing_read, input_of}
 use Rattle.mj_protocol.proofs.Entries.{all_permitted-append}
+use Rattle.mj_protocol.proofs.Forms.{answers_that_are_read_are_in_form}
 
 -- What holds of a reading at each line: its game is legal, there are no red fives, and before a header there is nothing.
 record IsSound (reading : Reading) : Type 0 where
@@ -170,7 +172,9 @@ answer-sound reading seat text chair sound headed held may =
     (λ _. by_test (is_answer_built (setting_of reading) (now_of reading) chair.author seat (answer_of text)) _ NotBuilt
     (λ built. entry-sound reading (Said chair.author seat (answer_of text)) sound headed
     (held-wall (setting_of reading) reading.entries seat chair sound.legal.ground held)
-    (and (can_say (now_of reading) chair.author seat) _ (ap (λ (o : Option Chair). option_map_or (may_say (now_of reading) chair.author) o false) held ∙ may) built))
+    (and (is_in_form (answer_of text) && can_say (now_of reading) chair.author seat) _
+    (and (is_in_form (answer_of text)) _ (answers_that_are_read_are_in_form text) (ap (λ (o : Option Chair). option_map_or (may_say (now_of reading) chair.author) o false) held ∙ may))
+    built))
     (λ _. tt))
 
 say-sound : (reading : Reading) (seat : ℕ) (text : List ℕ) → IsSound reading → is_some reading.rules ≡ true → LeadsSoundly (say_arrives reading seat text)

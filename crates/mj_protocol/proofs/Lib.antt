@@ -1,4 +1,5 @@
 pub mod Entries
+pub mod Forms
 pub mod Legality
 pub mod Places
 pub mod Solo

@@ -3,6 +3,7 @@
 use Rattle.std.proofs.Common.{◌≡◌, ◌≢◌, ◌≤◌, ℕ, ◌==◌, ◌&&◌, Bool, true, false, List, [], ◌∷◌, ◌++◌, length, refl, ap, sym, ◌∙◌, subst, arith}
 use Rattle.std.specs.Prelude.{codes, None, flat_map, replicate, IsTrue}
 use Rattle.std.specs.List.{list_all, slice_index_or}
+use Rattle.std.specs.Str.{chars, is_utf8}
 use Rattle.mj_ports.specs.declared.entry.Entry.{Entry}
 use Rattle.mj_ports.specs.declared.entry.Entry.TheVariants.{Sat, Said}
 use Rattle.mj_ports.specs.Names.{is_name}
@@ -82,11 +83,11 @@ other_game = record {
 }
 
 one_permitted : all_permitted one_game.setting before_all one_game.entries ≡ true
-unfolding own_part heard step next_deed can_sit may_say is_heard_built is_deed_built is_answer_built broken_by outcome hand_start view_of hand is_name in_tile_order less tile_order next_draw best_bid
+unfolding own_part heard step next_deed can_sit may_say is_heard_built is_deed_built is_answer_built broken_by outcome hand_start view_of hand is_name in_tile_order less tile_order next_draw best_bid chars is_utf8 lib.Utf8.encode
 one_permitted = refl
 
 other_permitted : all_permitted other_game.setting before_all other_game.entries ≡ true
-unfolding own_part heard step next_deed can_sit may_say is_heard_built is_deed_built is_answer_built broken_by outcome hand_start view_of hand is_name in_tile_order less tile_order next_draw best_bid
+unfolding own_part heard step next_deed can_sit may_say is_heard_built is_deed_built is_answer_built broken_by outcome hand_start view_of hand is_name in_tile_order less tile_order next_draw best_bid chars is_utf8 lib.Utf8.encode
 other_permitted = refl
 
 same_trace : trace 0 one_game.setting one_game.entries ≡ trace 0 other_game.setting other_game.entries

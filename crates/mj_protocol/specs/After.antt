@@ -14,6 +14,7 @@ use Rattle.mj_wall.specs.declared.setting.Rules.{Rules}
 use Rattle.mj_wall.specs.declared.setting.Setting.{Setting}
 use Rattle.mj_rules.specs.Broken.{broken}
 use Rattle.mj_rules.specs.Outcome.{outcome}
+use Rattle.mj_rules.specs.Played.{IsLawful}
 use Rattle.mj_window.specs.Slots.{empty_slots, put_at, closes}
 use Rattle.mj_protocol.specs.Lines.{line, error_text, hello_line}
 
@@ -166,12 +167,12 @@ script_in seat now = option_map_or (script_at seat now) (slice_get now.chairs se
 abbrev pub scripts : ℕ → Setting → List (Entry Answer) → List ℕ
 scripts seat setting entries = script_in seat (after setting entries)
 
--- The answer in a slot breaks no rule for its seat in the window on the newest deed.
+-- The answer in a slot is lawful for its seat in the window on the newest deed.
 abbrev pub IsLawfulIn : Rules → List Deed → ℕ → Option Answer → Type 0
 IsLawfulIn rules deeds seat None = Unit {0}
-IsLawfulIn rules deeds seat (Some answer) = broken rules deeds seat answer ≡ None
+IsLawfulIn rules deeds seat (Some answer) = IsLawful rules deeds seat answer
 
--- So does none of the answers in the four slots.
+-- So is each of the answers in the four slots.
 pub record AreLawfulIn (rules : Rules) (deeds : List Deed) (slots : Four (Option Answer)) : Type 0 where
   pub first : IsLawfulIn rules deeds 0 slots.first
   pub second : IsLawfulIn rules deeds 1 slots.second

@@ -3,11 +3,13 @@ use Rattle.std.specs.Prelude.{◌≡◌, ℕ, List, [], ◌∷◌, ◌++◌, tru
 use Rattle.mj_ports.specs.declared.entry.Entry.{Entry}
 use Rattle.mj_deeds.specs.declared.answer.Answer.{Answer}
 use Rattle.mj_deeds.specs.declared.deed.Deed.{Deed}
+use Rattle.mj_deeds.specs.Answers.{is_in_form}
 use Rattle.mj_deeds.specs.Fits.{fits, all_fit}
 use Rattle.mj_wall.specs.declared.setting.Setting.{Setting}
 use Rattle.mj_rules.specs.Played.{AllLawful, IsPlayed}
 use Rattle.mj_protocol.specs.After.{After, after, own_part, next_deed, is_ready, answers_in, AreLawfulIn, scripts}
-use Rattle.mj_protocol.specs.Trace.{Game, Agree, IsLegal, is_permitted}
+use Rattle.mj_protocol.specs.Trace.{Game, Agree, IsLegal, is_permitted, says_in_form}
+use Rattle.mj_protocol.specs.Reading.{answer_of}
 use Rattle.mj_protocol.specs.Arrivals.{setting_of, input_of}
 
 -- Any two games that agree for a seat give it the same bytes.
@@ -22,7 +24,11 @@ ReadGamesAreLegal = (input : List ℕ) → IsLegal (setting_of (input_of input).
 abbrev pub LegalGamesArePlayed : Type 0
 LegalGamesArePlayed = (setting : Setting) (entries : List (Entry Answer)) → IsLegal setting entries → IsPlayed setting.rules setting.walls (after setting entries).deeds
 
--- Each answer in a slot of a legal game breaks no rule for its seat.
+-- Whatever a line says, it reads as an answer in form.
+abbrev pub AnswersThatAreReadAreInForm : Type 0
+AnswersThatAreReadAreInForm = (line : List ℕ) → is_in_form (answer_of line) ≡ true
+
+-- Each answer in a slot of a legal game is lawful for its seat.
 abbrev pub TakenAnswersAreLawful : Type 0
 TakenAnswersAreLawful = (setting : Setting) (entries : List (Entry Answer)) → IsLegal setting entries → AreLawfulIn setting.rules (after setting entries).deeds (after setting entries).slots
 
@@ -33,9 +39,12 @@ pub record CanGoOn (setting : Setting) (now : After) : Type 0 where
   pub taken : AreLawfulIn setting.rules now.deeds now.slots
   pub ready : is_ready now.slots ≡ true → AllLawful setting.rules now.deeds (answers_in now.slots)
 
--- So it is in a legal game once an entry has changed what is its own seat's, whether or not that entry is permitted.
+-- So it is in a legal game once an entry whose answer is in form has changed what is its own seat's, whether or not that
+-- entry is permitted.
 abbrev pub OwnPartCanGoOn : Type 0
-OwnPartCanGoOn = (setting : Setting) (entries : List (Entry Answer)) (entry : Entry Answer) → IsLegal setting entries → CanGoOn setting (own_part setting (after setting entries) entry)
+OwnPartCanGoOn =
+    (setting : Setting) (entries : List (Entry Answer)) (entry : Entry Answer) → IsLegal setting entries → says_in_form entry ≡ true →
+    CanGoOn setting (own_part setting (after setting entries) entry)
 
 -- The deeds of a legal game are played with the deed that a permitted entry adds.
 abbrev pub NextDeedIsPlayed : Type 0

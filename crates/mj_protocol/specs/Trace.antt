@@ -6,6 +6,7 @@ use Rattle.mj_ports.specs.Names.{is_name}
 use Rattle.mj_ports.specs.declared.entry.Entry.{Entry}
 use Rattle.mj_ports.specs.declared.entry.Entry.TheVariants.{Sat, Back, Said, Gone, Expired}
 use Rattle.mj_deeds.specs.declared.answer.Answer.{Answer}
+use Rattle.mj_deeds.specs.Answers.{is_in_form}
 use Rattle.mj_deeds.specs.declared.deed.Deed.{Deed}
 use Rattle.mj_deeds.specs.declared.deed.Deed.TheVariants as deeds
 use Rattle.mj_deeds.specs.declared.token.Token.{Token}
@@ -50,11 +51,16 @@ is_answer_built setting now author seat answer =
     option_map_or (is_heard_built setting.rules now seat answer) (slice_get now.chairs seat) false
     && is_deed_built setting (own_part setting now (Said author seat answer))
 
+-- What an entry says is in form.
+abbrev pub says_in_form : Entry Answer → Bool
+says_in_form (Said author seat answer) = is_in_form answer
+says_in_form other = true
+
 -- An entry is permitted where it stands: a seat is taken under a good name that no seat has, while fewer than four are
--- held; a line is said by the author by whom the seat is present, once the due deed exists.
+-- held; an answer in form is said by the author by whom the seat is present, once the due deed exists.
 abbrev pub is_permitted : Setting → After → Entry Answer → Bool
 is_permitted setting now (Sat author name key) = is_name name && can_sit now.chairs name
-is_permitted setting now (Said author seat answer) = can_say now author seat && is_answer_built setting now author seat answer
+is_permitted setting now (Said author seat answer) = is_in_form answer && can_say now author seat && is_answer_built setting now author seat answer
 is_permitted setting now (Back author seat) = false
 is_permitted setting now (Gone author seat) = false
 is_permitted setting now (Expired author window t1 t2) = false

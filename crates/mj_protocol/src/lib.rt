@@ -2,7 +2,7 @@
 //! agreement, and the laws over them. Nothing here runs: the functions are the places where the laws are stated.
 #![tactic(auto)]
 
-ghost use Rattle.mj_protocol.specs.Laws.{AgreeingGamesTellTheSame, ReadGamesAreLegal, LegalGamesArePlayed, TakenAnswersAreLawful, OwnPartCanGoOn, NextDeedIsPlayed, LegalDeedsFit, NextDeedFits};
+ghost use Rattle.mj_protocol.specs.Laws.{AgreeingGamesTellTheSame, ReadGamesAreLegal, LegalGamesArePlayed, TakenAnswersAreLawful, AnswersThatAreReadAreInForm, OwnPartCanGoOn, NextDeedIsPlayed, LegalDeedsFit, NextDeedFits};
 ghost use Rattle.mj_protocol.specs.Witness.{AgreeApart};
 
 /// The law of one world: what a game tells a seat depends on nothing but what the seat learns of it, so two games that
@@ -29,13 +29,20 @@ pub fn legal_games_are_played()
     ensures { LegalGamesArePlayed }
 {}
 
-/// Each answer that a legal game has taken in the window on its newest deed breaks no rule for its seat.
+/// Whatever a line says, it reads as an answer in form: the own tiles that it names together stand in tile order, hidden ones
+/// last.
+pub fn answers_that_are_read_are_in_form()
+    ensures { AnswersThatAreReadAreInForm }
+{}
+
+/// Each answer that a legal game has taken in the window on its newest deed is lawful for its seat: it is in form and breaks
+/// no rule.
 pub fn taken_answers_are_lawful()
     ensures { TakenAnswersAreLawful }
 {}
 
-/// Once an entry has changed what is its own seat's, and before a deed is added, the deeds are played and the answers in the
-/// slots lawful; where each slot has one, all four are.
+/// Once an entry whose answer is in form has changed what is its own seat's, and before a deed is added, the deeds are played
+/// and the answers in the slots lawful; where each slot has one, all four are.
 pub fn own_part_can_go_on()
     ensures { OwnPartCanGoOn }
 {}

@@ -1,7 +1,5 @@
 -- The kinds of which there are two tiles, one kind after another.
-use Rattle.std.proofs.Common.{ℕ, ◌≡◌, ◌<◌, ◌+◌, List, get_or, eqb, sym, ◌∙◌, ap, Option, Some, None}
-use Rattle.std.specs.Option.{SomeIff}
-use Rattle.std.proofs.lemmas.Option.{none-some}
+use Rattle.std.proofs.Common.{ℕ, ◌≡◌, ◌<◌, ◌+◌, List, get_or, eqb, sym, ◌∙◌, ap}
 use Rattle.std.proofs.lemmas.Bool.{eq-eqb, ne_eqb}
 use Rattle.mj_tiles.specs.Kinds.{with_kind}
 use Rattle.mj_readings.proofs.KindsBelow.{kinds_below, kinds_below-yes, kinds_below-no}

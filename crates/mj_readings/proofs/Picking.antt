@@ -1,8 +1,8 @@
 -- Picking an item of a list made of parts.
-use Rattle.std.proofs.Common.{ℕ, ◌≡◌, ◌<◌, ◌≤◌, ◌+◌, ◌-◌, ◌++◌, ◌∷◌, [], Bool, true, false, cond, List, length, map, take, drop, get_or, refl, sym, ◌∙◌, ap, subst, arith, zero, suc, zero-add, Option, Some, None, Result, Ok, Err, eqb, leb, ◌&&◌, ◌||◌, append_assoc}
+use Rattle.std.proofs.Common.{ℕ, ◌≡◌, ◌<◌, ◌≤◌, ◌+◌, ◌-◌, ◌++◌, ◌∷◌, [], Bool, true, false, cond, List, length, map, refl, sym, ◌∙◌, ap, subst, arith, zero, suc, zero-add, Option, Some, None, Result, Ok, Err, eqb, leb, ◌&&◌, ◌||◌, append_assoc}
 use Rattle.std.specs.List.{slice_get, flat_map}
 use Rattle.std.specs.Option.{is_none, is_some}
-use Rattle.std.proofs.lemmas.List.{length-append, length-map, append-nil, take_all}
+use Rattle.std.proofs.lemmas.List.{length-append, length-map, append-nil}
 use Rattle.std.proofs.lemmas.List.Concat.{flat_map-append}
 use Rattle.std.proofs.lemmas.Bool.{ne_eqb, lt-leb, le-leb, and_right, and_from, false≢true}
 use Rattle.mj_readings.specs.declared.reading.Set.{Set}

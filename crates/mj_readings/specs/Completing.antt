@@ -1,8 +1,7 @@
 -- The kinds that complete a hand.
-use Rattle.std.specs.Prelude.{ℕ, ◌≡◌, ◌+◌, ◌-◌, ◌<◌, ◌≤◌, ◌==◌, Bool, true, false, nat_lt, nat_le, not, ◌&&◌, ◌||◌, List, [], ◌∷◌, slice_index, is_some}
-use Rattle.mj_readings.specs.Complete.{IsComplete, is_seven_pairs}
-use Rattle.mj_readings.specs.Inner.Ways.{begins, has_way}
-use Rattle.mj_readings.specs.Tests.{complete, one_more, orphan_double}
+use Rattle.std.specs.Prelude.{ℕ, ◌<◌, Bool, nat_lt, ◌&&◌, List, slice_index}
+use Rattle.mj_readings.specs.Complete.{IsComplete}
+use Rattle.mj_readings.specs.Tests.{complete, one_more}
 
 -- A kind of which fewer than four tiles are held, and one tile more of which completes the hand.
 abbrev pub IsCompleting : List ℕ → ℕ → ℕ → Type 0

@@ -2,7 +2,5 @@
 #![tactic(auto)]
 
 mod rounds;
-#[cfg(test)]
-mod tests;
 
 pub use rounds::{HandEnd, Standing, first, next_hand};

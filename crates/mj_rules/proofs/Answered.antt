@@ -262,10 +262,10 @@ or_other P (bids.OpenKan seat target tile x y z) b f g = f
 
 -- Each of four lawful answers owes nothing.
 pub clean_at : (rules : Rules) (ds : List Deed) (given : Four Answer) (seat : ℕ) → seat < 4 → AllLawful rules ds given → Clean rules (view_of ds seat) (at_seat given seat)
-clean_at rules ds given zero h c = clean rules 0 (view_of ds 0) given.first c.first
-clean_at rules ds given (suc zero) h c = clean rules 1 (view_of ds 1) given.second c.second
-clean_at rules ds given (suc (suc zero)) h c = clean rules 2 (view_of ds 2) given.third c.third
-clean_at rules ds given (suc (suc (suc zero))) h c = clean rules 3 (view_of ds 3) given.fourth c.fourth
+clean_at rules ds given zero h c = clean rules 0 (view_of ds 0) given.first c.first.clean
+clean_at rules ds given (suc zero) h c = clean rules 1 (view_of ds 1) given.second c.second.clean
+clean_at rules ds given (suc (suc zero)) h c = clean rules 2 (view_of ds 2) given.third c.third.clean
+clean_at rules ds given (suc (suc (suc zero))) h c = clean rules 3 (view_of ds 3) given.fourth c.fourth.clean
 clean_at rules ds given (suc (suc (suc (suc n)))) h c = absurd (omega arith)
 
 -- Of the bids of four seats the first.

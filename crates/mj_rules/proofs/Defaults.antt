@@ -1,4 +1,4 @@
--- The default answer breaks no rule.
+-- The default answer is lawful.
 use Rattle.std.proofs.Common.{◌≡◌, ℕ, zero, suc, ◌+◌, ◌-◌, ◌<◌, ◌==◌, ◌&&◌, ◌||◌, not, Bool, true, false, cond, eqb, List, [], ◌∷◌, length, get_or, inl, inr, Option, Some, None, refl, sym, ap, ◌∙◌, subst, arith}
 use Rattle.std.specs.Prelude.{nat_lt, is_none, slice_get, option_map, option_and_then, filter}
 use Rattle.std.specs.List.{list_all}
@@ -9,6 +9,7 @@ use Rattle.mj_tiles.specs.Faces.{kind_of, number_in, is_red, tile_order}
 use Rattle.mj_calls.specs.Bans.{is_banned, banned_kinds}
 use Rattle.mj_deeds.specs.declared.answer.Pai.TheVariants.{Known}
 use Rattle.mj_deeds.specs.declared.answer.Answer.TheVariants.{Pass, Discard}
+use Rattle.mj_deeds.specs.Answers.{is_in_form}
 use Rattle.mj_deeds.specs.declared.rule.Rule.{Rule}
 use Rattle.mj_deeds.specs.declared.deed.Deed.{Deed}
 use Rattle.mj_deeds.specs.declared.deed.Deed.TheVariants as deeds
@@ -229,9 +230,27 @@ by_newest rules ds seat (Some (deeds.ClosedKan who a b c d)) e owns some = passe
 by_newest rules ds seat (Some (deeds.AddedKan who tile a b c)) e owns some = passes rules seat (view_of ds seat) Nobodys (ap (λ o. turn_in (option_map turn_by o)) e) refl
 by_newest rules ds seat (Some (deeds.Dora tile)) e owns some = passes rules seat (view_of ds seat) Nobodys (ap (λ o. turn_in (option_map turn_by o)) e) refl
 
+-- A default answer is a discard or a pass, and so in form.
+discard_or_pass_form : (seat : ℕ) (view : View) (face : Option ℕ) → is_in_form (discard_or_pass seat view face) ≡ true
+discard_or_pass_form seat view None = refl
+discard_or_pass_form seat view (Some face) = refl
+
+own_form : (own : Bool) (seat : ℕ) (view : View) (face : Option ℕ) → is_in_form (cond own (discard_or_pass seat view face) (Pass None)) ≡ true
+own_form true seat view face = discard_or_pass_form seat view face
+own_form false seat view face = refl
+
+default_form : (rules : Rules) (seat : ℕ) (view : View) (turn : Turn) → is_in_form (default_in rules seat view turn) ≡ true
+default_form rules seat view (Drew who) = own_form (who == seat) seat view view.drawn
+default_form rules seat view (Discarded who tile) = refl
+default_form rules seat view (Called who banned) = own_form (who == seat) seat view (last_of (lawful_faces rules seat view))
+default_form rules seat view Nobodys = refl
+
 pub fitting_default_is_lawful : FittingDefaultIsLawful
 unfolding default_by view_of
-fitting_default_is_lawful rules ds seat small fit some = by_newest rules ds seat (newest ds) refl (owns rules.red ds seat small fit) some
+fitting_default_is_lawful rules ds seat small fit some = record {
+  form = default_form rules seat (view_of ds seat) (view_of ds seat).turn;
+  clean = by_newest rules ds seat (newest ds) refl (owns rules.red ds seat small fit) some;
+}
 
 -- Of played deeds.
 can_by_newest : (rules : Rules) (ds : List Deed) (seat : ℕ) (last : Option Deed) → newest ds ≡ last → Owns rules.red ds seat → has_free_in seat (view_of ds seat) (turn_in (option_map turn_by last)) ≡ true →

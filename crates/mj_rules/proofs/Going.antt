@@ -81,10 +81,10 @@ discard_is_act answers.Unread h = cc
 -- What the seat whose turn it is answered lawfully is an act.
 open_at : (rules : Rules) (ds : List Deed) (given : Four Answer) (who : ℕ) → who < 4 → AllLawful rules ds given →
     (is_open who (view_of ds who).turn (at_seat given who) ≡ true) × (names_no_tile rules.red (at_seat given who) ≡ false)
-open_at rules ds given zero h c = open_clean rules 0 (view_of ds 0) given.first c.first
-open_at rules ds given (suc zero) h c = open_clean rules 1 (view_of ds 1) given.second c.second
-open_at rules ds given (suc (suc zero)) h c = open_clean rules 2 (view_of ds 2) given.third c.third
-open_at rules ds given (suc (suc (suc zero))) h c = open_clean rules 3 (view_of ds 3) given.fourth c.fourth
+open_at rules ds given zero h c = open_clean rules 0 (view_of ds 0) given.first c.first.clean
+open_at rules ds given (suc zero) h c = open_clean rules 1 (view_of ds 1) given.second c.second.clean
+open_at rules ds given (suc (suc zero)) h c = open_clean rules 2 (view_of ds 2) given.third c.third.clean
+open_at rules ds given (suc (suc (suc zero))) h c = open_clean rules 3 (view_of ds 3) given.fourth c.fourth.clean
 open_at rules ds given (suc (suc (suc (suc n)))) h c = absurd (omega arith)
 
 turn_is : (ds : List Deed) (seat : ℕ) (n : Deed) → newest ds ≡ Some n → (view_of ds seat).turn ≡ turn_by n

@@ -7,10 +7,9 @@ use Rattle.mj_deeds.specs.declared.deed.Deed.{Deed}
 use Rattle.mj_deeds.specs.Fits.{fits, all_fit}
 use Rattle.mj_wall.specs.declared.setting.Rules.{Rules}
 use Rattle.mj_wall.specs.Places.{is_wall}
-use Rattle.mj_rules.specs.Broken.{broken}
 use Rattle.mj_rules.specs.Default.{default_answer, can_discard}
 use Rattle.mj_rules.specs.Outcome.{wall_of, outcome, is_unbuilt}
-use Rattle.mj_rules.specs.Played.{AllLawful, IsPlayedBehind, IsPlayed}
+use Rattle.mj_rules.specs.Played.{IsLawful, AllLawful, IsPlayedBehind, IsPlayed}
 
 -- Where there is a wall and all are whole, the wall of each hand is whole.
 abbrev pub EachIsWall : Type 0
@@ -39,18 +38,18 @@ NextOfPlayedFits =
 abbrev pub SomeDiscardIsLawful : Type 0
 SomeDiscardIsLawful = (rules : Rules) (walls : List (List ℕ)) (deeds : List Deed) (seat : ℕ) → seat < 4 → ((number : ℕ) → is_wall rules.red (wall_of walls number) ≡ true) → IsPlayed rules walls deeds → can_discard rules deeds seat ≡ true
 
--- The default answer of a seat breaks no rule in deeds each of which fits behind those before it, as long as some discard
+-- The default answer of a seat is lawful in deeds each of which fits behind those before it, as long as some discard
 -- right after its own call breaks none.
 abbrev pub FittingDefaultIsLawful : Type 0
 FittingDefaultIsLawful =
     (rules : Rules) (deeds : List Deed) (seat : ℕ) → seat < 4 → all_fit rules.red [] deeds ≡ true → can_discard rules deeds seat ≡ true →
-    broken rules deeds seat (default_answer rules deeds seat) ≡ None
+    IsLawful rules deeds seat (default_answer rules deeds seat)
 
--- In played deeds it always is lawful.
+-- In played deeds it always is.
 abbrev pub PlayedDefaultIsLawful : Type 0
 PlayedDefaultIsLawful =
     (rules : Rules) (walls : List (List ℕ)) (deeds : List Deed) (seat : ℕ) → seat < 4 → ((number : ℕ) → is_wall rules.red (wall_of walls number) ≡ true) → IsPlayed rules walls deeds →
-    broken rules deeds seat (default_answer rules deeds seat) ≡ None
+    IsLawful rules deeds seat (default_answer rules deeds seat)
 
 -- Behind played deeds four lawful answers give a deed, unless the course goes on with one that is not built.
 abbrev pub NextIsMissingWhereUnbuilt : Type 0

@@ -1,21 +1,27 @@
 -- Which deeds are played: those of a game in which every seat gives lawful answers.
-use Rattle.std.specs.Prelude.{ℕ, ◌≡◌, ◌&&◌, Bool, false, IsTrue, List, [], ◌∷◌, ◌++◌, Some, None}
+use Rattle.std.specs.Prelude.{ℕ, ◌≡◌, ◌&&◌, Bool, true, false, IsTrue, List, [], ◌∷◌, ◌++◌, Some, None}
 use Rattle.std.specs.List.{list_all}
 use Rattle.mj_ports.specs.Names.{is_name, are_different}
 use Rattle.mj_deeds.specs.declared.four.Four.{Four}
 use Rattle.mj_deeds.specs.declared.answer.Answer.{Answer}
+use Rattle.mj_deeds.specs.Answers.{is_in_form}
 use Rattle.mj_deeds.specs.declared.deed.Deed.{Deed}
 use Rattle.mj_deeds.specs.declared.deed.Deed.TheVariants.{StartGame}
 use Rattle.mj_wall.specs.declared.setting.Rules.{Rules}
 use Rattle.mj_rules.specs.Broken.{broken}
 use Rattle.mj_rules.specs.Outcome.{outcome}
 
--- None of four answers breaks a rule for its seat in the window on the newest deed.
+-- An answer of a seat is lawful in the window on the newest deed: it is in form and breaks no rule.
+pub record IsLawful (rules : Rules) (deeds : List Deed) (seat : ℕ) (answer : Answer) : Type 0 where
+  pub form : is_in_form answer ≡ true
+  pub clean : broken rules deeds seat answer ≡ None
+
+-- Each of four answers is lawful for its seat.
 pub record AllLawful (rules : Rules) (deeds : List Deed) (given : Four Answer) : Type 0 where
-  pub first : broken rules deeds 0 given.first ≡ None
-  pub second : broken rules deeds 1 given.second ≡ None
-  pub third : broken rules deeds 2 given.third ≡ None
-  pub fourth : broken rules deeds 3 given.fourth ≡ None
+  pub first : IsLawful rules deeds 0 given.first
+  pub second : IsLawful rules deeds 1 given.second
+  pub third : IsLawful rules deeds 2 given.third
+  pub fourth : IsLawful rules deeds 3 given.fourth
 
 -- Some four lawful answers give the deed.
 pub record IsGiven (rules : Rules) (walls : List (List ℕ)) (deeds : List Deed) (deed : Deed) : Type 0 where

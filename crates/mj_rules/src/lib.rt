@@ -39,8 +39,8 @@ pub fn some_discard_is_lawful()
     ensures { SomeDiscardIsLawful }
 {}
 
-/// The default answer of a seat, 0 to 3, breaks no rule in played deeds; nor does it where each deed fits behind those before
-/// it, as long as some discard right after its own call breaks none.
+/// The default answer of a seat, 0 to 3, is lawful in played deeds: it is in form and breaks no rule. So it is where each
+/// deed fits behind those before it, as long as some discard right after its own call breaks none.
 pub fn default_is_lawful()
     ensures fitting { FittingDefaultIsLawful }
     ensures played { PlayedDefaultIsLawful }

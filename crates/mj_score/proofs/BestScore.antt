@@ -1,7 +1,6 @@
 -- The best score of a list of readings.
-use Rattle.std.proofs.Common.{ℕ, ◌≡◌, ◌<◌, ◌≤◌, ◌⊎◌, inl, inr, Bool, true, false, List, [], ◌∷◌, Option, Some, None, refl, sym, ◌∙◌, ap, arith, zero, suc, length, cond, get_or, subst}
+use Rattle.std.proofs.Common.{ℕ, ◌≡◌, ◌<◌, ◌⊎◌, inl, inr, Bool, true, false, List, [], ◌∷◌, Option, Some, None, refl, sym, ◌∙◌, ap, arith, zero, suc, length, cond, get_or, subst}
 use Rattle.std.specs.Prelude.{fold, Contains, All, IsTrue}
-use Rattle.std.specs.List.{list_all}
 use Rattle.mj_tiles.specs.declared.meld.Meld.{Meld}
 use Rattle.mj_readings.specs.declared.reading.Case.{Case}
 use Rattle.mj_readings.specs.declared.reading.Reading.{Reading}
@@ -13,9 +12,9 @@ use Rattle.mj_yaku.specs.SomeYaku.{gives_yaku}
 use Rattle.mj_score.specs.declared.score.Extra.{Extra}
 use Rattle.mj_score.specs.declared.score.Score.{Score}
 use Rattle.mj_score.specs.Scores.{score_of, is_better}
-use Rattle.mj_score.specs.Worth.{IsGreatest, IsWorth}
+use Rattle.mj_score.specs.Worth.{IsWorth}
 use Rattle.mj_score.specs.Inner.BestAmong.{better_of, best_among}
-use Rattle.mj_score.proofs.ScoreOrder.{better_asym, better_not, better_through, better_self}
+use Rattle.mj_score.proofs.ScoreOrder.{better_not, better_through, better_self}
 
 -- The better one of a best score and a new one, by a test and a score of readings.
 abbrev step : (Reading → Bool) → (Reading → Score) → Option Score → Reading → Option Score

@@ -1,9 +1,9 @@
 -- Scores are ordered: of two, neither is better than the other both ways, and what isn't better than one that isn't
 -- better than a third isn't better than the third.
-use Rattle.std.proofs.Common.{ℕ, ◌≡◌, ◌&&◌, ◌||◌, Bool, true, false, refl, sym, ◌∙◌, arith, eqb, ltb}
+use Rattle.std.proofs.Common.{ℕ, ◌≡◌, Bool, true, false, refl, sym, ◌∙◌, arith}
 use Rattle.std.proofs.lemmas.Bool.Decides.{nat_tests}
 use Rattle.mj_score.specs.declared.score.Score.{Score}
-use Rattle.mj_score.specs.Scores.{greater_or, rows_of, comes_before, is_better}
+use Rattle.mj_score.specs.Scores.{greater_or, rows_of, is_better}
 use Rattle.mj_score.proofs.RowOrder.{before_asym, before_not, clash}
 
 greater_asym : (one other : ℕ) (a b : Bool) → (a ≡ true → b ≡ false) → greater_or one other a ≡ true → greater_or other one b ≡ false

@@ -21,7 +21,7 @@ use Rattle.mj_shanten.specs.Room.{IsRoom, IsHand, IsWithinRoom}
 use Rattle.mj_shanten.specs.Shanten.{IsGoal, IsShanten}
 use Rattle.mj_shanten.specs.Suits.{Padded, with_two, IsJoint, suits_of}
 use Rattle.mj_shanten.specs.Special.{IsPairs, IsOrphans, IsSpecial}
-use Rattle.mj_shanten.proofs.Join.{cmp_before}
+use Rattle.mj_shanten.proofs.Joint.{cmp_before}
 use Rattle.mj_shanten.proofs.Parting.{number_past}
 use Rattle.mj_shanten.proofs.Standard.{joint_of, hand_of, IsMade}
 use Rattle.mj_shanten.proofs.Pairs.{zero_at, seven_parts, pairs_few}
@@ -51,7 +51,7 @@ wide_past c k size past = get_or-append_right c (0 ∷ 0 ∷ []) 34 k 0 size pas
 wide_size : (c : List ℕ) → length c ≡ 34 → length (with_two c) ≡ 36
 wide_size c size = length-append c (0 ∷ 0 ∷ []) ∙ ap (λ n. n + 2) size
 
-wide_missing : (c h : List ℕ) → length c ≡ 34 → length h ≡ 34 → missing (with_two c) (with_two h) ≡ missing c h
+pub wide_missing : (c h : List ℕ) → length c ≡ 34 → length h ≡ 34 → missing (with_two c) (with_two h) ≡ missing c h
 wide_missing c h a b = missing-append c (0 ∷ 0 ∷ []) h (0 ∷ 0 ∷ []) (a ∙ sym b) ∙ (let e : missing c h + 0 ≡ missing c h = omega arith in e)
 
 -- ---- the room
@@ -65,20 +65,6 @@ no_melds_room room melds h none k low =
     let f : count_by (λ tile. eqb tile k) (flat_map tiles_of_set h.sets) ≡ 0 = ap (λ s. count_by (λ tile. eqb tile k) (flat_map tiles_of_set s)) e in
     let l = h.left k low in
     omega arith
-
-pub suits_within : (counts room : List ℕ) (melds : ℕ) → IsHand counts room melds → length counts ≡ 34 → length room ≡ 34 → EachIndex (with_two counts) (λ n. get_or (with_two counts) n 0 ≤ get_or (with_two room) n 0)
-suits_within counts room melds h a b n inside = elim (cases_lt n 34) [
-  | inl low ↦ (let c = wide_low counts n a low in let d = wide_low room n b low in let w = h.within n low in omega arith)
-  | inr past ↦ (let c = wide_past counts n a past in omega arith)
-]
-
-pub suits_four : (counts room : List ℕ) (melds : ℕ) → IsHand counts room melds → length room ≡ 34 → EachIndex (with_two room) (λ n. get_or (with_two room) n 0 ≤ 4)
-suits_four counts room melds h b n inside = elim (cases_lt n 34) [
-  | inl low ↦ (let d = wide_low room n b low in let w = room_four room melds h.room_is n low in omega arith)
-  | inr past ↦ (let d = wide_past room n b past in omega arith)
-]
-
--- ---- complete hands, and what was searched
 
 pub counts_from : (room c : List ℕ) (melds : ℕ) → IsRoom room melds → length c ≡ 34 → IsWithinRoom c room → IsCounts c
 counts_from room c melds h size within = record { size = size; within = λ k. four k (cases_lt k 34) }
@@ -101,7 +87,7 @@ sets_at counts number sets pair h k low =
     twice false = refl
 
 -- a goal was searched
-goal_searched : (counts room c : List ℕ) (melds : ℕ) → IsRoom room melds → length room ≡ 34 → IsGoal room melds c → IsSpecial melds (with_two c) ⊎ IsJoint (suits_of (with_two counts) (with_two room)) (4 - melds) true (with_two c)
+pub goal_searched : (counts room c : List ℕ) (melds : ℕ) → IsRoom room melds → length room ≡ 34 → IsGoal room melds c → IsSpecial melds (with_two c) ⊎ IsJoint (suits_of (with_two counts) (with_two room)) (4 - melds) true (with_two c)
 goal_searched counts room c melds h size goal = which goal.complete
   where
     which : IsComplete c melds → IsSpecial melds (with_two c) ⊎ IsJoint (suits_of (with_two counts) (with_two room)) (4 - melds) true (with_two c)
@@ -120,7 +106,7 @@ goal_searched counts room c melds h size goal = which goal.complete
     which (inr (inr o)) = inl record { no_melds = o.0; either = inr record { counts = c; is = record { double = o.1.0; are = o.1.1 }; numbers_are = refl } }
 
 -- what was searched is a goal
-special_goal : (room t : List ℕ) (melds : ℕ) → IsRoom room melds → IsSpecial melds t → Padded (IsGoal room melds) t
+pub special_goal : (room t : List ℕ) (melds : ℕ) → IsRoom room melds → IsSpecial melds t → Padded (IsGoal room melds) t
 special_goal room t melds h s = which s.either
   where
     which : Padded IsPairs t ⊎ Padded IsOrphans t → Padded (IsGoal room melds) t
@@ -152,7 +138,7 @@ special_goal room t melds h s = which s.either
           | inr past ↦ (let a : get_or o.counts k 0 ≡ 0 = get_or_past o.counts k 0 (let s = size_of q in omega arith) in omega arith)
         ]
 
-joint_goal : (counts room t : List ℕ) (melds : ℕ) → melds ≤ 4 → IsRoom room melds → length room ≡ 34 → IsJoint (suits_of (with_two counts) (with_two room)) (4 - melds) true t → Padded (IsGoal room melds) t
+pub joint_goal : (counts room t : List ℕ) (melds : ℕ) → melds ≤ 4 → IsRoom room melds → length room ≡ 34 → IsJoint (suits_of (with_two counts) (with_two room)) (4 - melds) true t → Padded (IsGoal room melds) t
 joint_goal counts room t melds few h size j =
     let m : IsMade (with_two room) (4 - melds) t = hand_of (with_two counts) (with_two room) (4 - melds) t (wide_past room 34 size (omega arith)) (wide_past room 35 size (omega arith)) j in
     let c_size : length m.counts ≡ 34 = ap length (sym m.are.tiles) ∙ length-tally (flat_map tiles_of_set m.sets ++ m.pair ∷ m.pair ∷ []) in
@@ -168,13 +154,16 @@ joint_goal counts room t melds few h size j =
     }
 
 pub whole_search : (counts room : List ℕ) (melds : ℕ) (a b c : Option (ℕ × List ℕ)) → melds ≤ 4 → IsRoom room melds → length room ≡ 34
-    → Improves (with_two counts) (IsSpecial melds) a b → Improves (with_two counts) (IsJoint (suits_of (with_two counts) (with_two room)) (4 - melds) true) b c
+    → Improves (with_two counts) (IsJoint (suits_of (with_two counts) (with_two room)) (4 - melds) true) a b → Improves (with_two counts) (IsSpecial melds) b c
     → Improves (with_two counts) (Padded (IsGoal room melds)) a c
 whole_search counts room melds a b c few h size first second =
-    Improves-both (with_two counts) (Padded (IsGoal room melds)) (IsSpecial melds) (IsJoint (suits_of (with_two counts) (with_two room)) (4 - melds) true) a b c
-    (λ t s. special_goal room t melds h s)
+    Improves-both (with_two counts) (Padded (IsGoal room melds)) (IsJoint (suits_of (with_two counts) (with_two room)) (4 - melds) true) (IsSpecial melds) a b c
     (λ t j. joint_goal counts room t melds few h size j)
-    (λ t g. subst (λ u. IsSpecial melds u ⊎ IsJoint (suits_of (with_two counts) (with_two room)) (4 - melds) true u) (sym g.numbers_are) (goal_searched counts room g.counts melds h size g.is))
+    (λ t s. special_goal room t melds h s)
+    (λ t g. elim (goal_searched counts room g.counts melds h size g.is) [
+      | inl special ↦ inr (subst (IsSpecial melds) (sym g.numbers_are) special)
+      | inr joint ↦ inl (subst (IsJoint (suits_of (with_two counts) (with_two room)) (4 - melds) true) (sym g.numbers_are) joint)
+    ])
     first second
 
 -- ---- the answer
@@ -244,21 +233,18 @@ nearest_says counts room melds number target h size n = subst (λ t. Says counts
 
 -- ---- for the call
 
-search_of : (counts room held wide : List ℕ) (melds : ℕ) (b c : Option (ℕ × List ℕ)) → IsHand counts room melds → length room ≡ 34 → held ≡ with_two counts → wide ≡ with_two room
-    → Improves held (IsSpecial melds) None b → Improves held (IsJoint (suits_of held wide) (4 - melds) true) b c → Improves (with_two counts) (Padded (IsGoal room melds)) None c
-search_of counts room held wide melds b c h room_size held_is wide_is first second =
-    whole_search counts room melds None b c (let t = h.thirteen in omega arith) h.room_is room_size
-    (subst (λ x. Improves x (IsSpecial melds) None b) held_is first)
-    (subst (λ x. Improves (with_two counts) (IsJoint (suits_of (with_two counts) x) (4 - melds) true) b c) wide_is
-    (subst (λ x. Improves x (IsJoint (suits_of x wide) (4 - melds) true) b c) held_is second))
+search_of : (counts room held : List ℕ) (melds : ℕ) (b c : Option (ℕ × List ℕ)) → IsHand counts room melds → length room ≡ 34 → held ≡ with_two counts
+    → Improves (with_two counts) (IsJoint (suits_of (with_two counts) (with_two room)) (4 - melds) true) None b → Improves held (IsSpecial melds) b c → Improves (with_two counts) (Padded (IsGoal room melds)) None c
+search_of counts room held melds b c h room_size held_is first second =
+    whole_search counts room melds None b c (let t = h.thirteen in omega arith) h.room_is room_size first (subst (λ x. Improves x (IsSpecial melds) b c) held_is second)
 
-pub answer_says : (counts room held wide : List ℕ) (melds : ℕ) (answer : ℕ × List ℕ) (b c : Option (ℕ × List ℕ)) → IsHand counts room melds → length counts ≡ 34 → length room ≡ 34 → held ≡ with_two counts → wide ≡ with_two room
-    → Improves held (IsSpecial melds) None b → Improves held (IsJoint (suits_of held wide) (4 - melds) true) b c → c ≡ Some answer → Says counts room melds answer.0 answer.1
-answer_says counts room held wide melds answer b c h size room_size held_is wide_is first second is =
+pub answer_says : (counts room held : List ℕ) (melds : ℕ) (answer : ℕ × List ℕ) (b c : Option (ℕ × List ℕ)) → IsHand counts room melds → length counts ≡ 34 → length room ≡ 34 → held ≡ with_two counts
+    → Improves (with_two counts) (IsJoint (suits_of (with_two counts) (with_two room)) (4 - melds) true) None b → Improves held (IsSpecial melds) b c → c ≡ Some answer → Says counts room melds answer.0 answer.1
+answer_says counts room held melds answer b c h size room_size held_is first second is =
     nearest_says counts room melds answer.0 answer.1 h size
-    (best_nearest counts room melds answer.0 answer.1 c (search_of counts room held wide melds b c h room_size held_is wide_is first second) is)
+    (best_nearest counts room melds answer.0 answer.1 c (search_of counts room held melds b c h room_size held_is first second) is)
 
-pub never_none : (counts room held wide : List ℕ) (melds : ℕ) (b c : Option (ℕ × List ℕ)) → IsHand counts room melds → length room ≡ 34 → held ≡ with_two counts → wide ≡ with_two room
-    → Improves held (IsSpecial melds) None b → Improves held (IsJoint (suits_of held wide) (4 - melds) true) b c → c ≡ None → ⊥
-never_none counts room held wide melds b c h room_size held_is wide_is first second none =
-    some_best counts room melds c (let t = h.thirteen in omega arith) h.room_is (search_of counts room held wide melds b c h room_size held_is wide_is first second) none
+pub never_none : (counts room held : List ℕ) (melds : ℕ) (b c : Option (ℕ × List ℕ)) → IsHand counts room melds → length room ≡ 34 → held ≡ with_two counts
+    → Improves (with_two counts) (IsJoint (suits_of (with_two counts) (with_two room)) (4 - melds) true) None b → Improves held (IsSpecial melds) b c → c ≡ None → ⊥
+never_none counts room held melds b c h room_size held_is first second none =
+    some_best counts room melds c (let t = h.thirteen in omega arith) h.room_is (search_of counts room held melds b c h room_size held_is first second) none

@@ -1,9 +1,10 @@
 -- The best hand so far, handed on for the functions of this crate.
-use Rattle.std.proofs.Common.{◌≡◌, ◌⊎◌, ℕ, List, false, Greater, Option, Some, refl, sym, subst, ap, ◌∙◌, inl, inr, length, take, drop, [], ◌∷◌, arith}
+use Rattle.std.proofs.Common.{◌≡◌, ◌≢◌, ◌⊎◌, ◌<◌, ◌≤◌, ℕ, List, false, Ordering, Less, Equal, Greater, Option, Some, refl, sym, subst, ap, ◌∙◌, inl, inr, length, take, drop, [], ◌∷◌, arith}
 use Rattle.std.specs.Ordering.{nat_cmp, is_gt}
 use Rattle.std.specs.Cmp.Lexicographic.{slice_cmp}
 use Rattle.std.proofs.lemmas.List.{take-append-drop, length-take-le}
-use Rattle.mj_suits.specs.Targets.{missing}
+use Rattle.std.proofs.lemmas.Bool.{cases_lt}
+use Rattle.mj_suits.specs.Targets.{missing, IsNearest}
 use Rattle.mj_suits.specs.Improves.{AsNear, Improves}
 use Rattle.mj_suits.proofs.Near as near
 use Rattle.mj_suits.proofs.Near.{missing-append}
@@ -25,6 +26,18 @@ one_for_all held P u a b p nearest found = record {
     which : (b ≡ a) ⊎ ((t : List ℕ) × (t ≡ u) × (b ≡ Some (missing t held, t))) → (b ≡ a) ⊎ ((t : List ℕ) × P t × (b ≡ Some (missing t held, t)))
     which (inl old) = inl old
     which (inr new) = inr (new.0, subst P (sym new.1) p, new.2)
+
+-- the nearest of all with the property stands for them
+pub nearest_for_all : (held : List ℕ) (P : List ℕ → Type 0) (target : List ℕ) (a b : Option (ℕ × List ℕ)) → IsNearest held P (missing target held) target → Improves held (λ t. t ≡ target) a b → Improves held P a b
+nearest_for_all held P target a b nearest = one_for_all held P target a b nearest.is_one (λ t p. elim (cases_lt (missing target held) (missing t held)) [
+  | inl less ↦ inl less
+  | inr level ↦ (let l = nearest.least t p in let same : missing target held ≡ missing t held = omega arith in inr (same, not_gt (slice_cmp nat_cmp t target) (nearest.greatest t p (sym same))))
+])
+  where
+    not_gt : (o : Ordering) → o ≢ Greater → is_gt o ≡ false
+    not_gt Less other = refl
+    not_gt Equal other = refl
+    not_gt Greater other = absurd (other refl)
 
 -- the two numbers that no kind has miss nothing
 pub missing_two : (c held : List ℕ) → length c ≡ 34 → length held ≡ 36 → missing (with_two c) held ≡ missing c (take 34 held)

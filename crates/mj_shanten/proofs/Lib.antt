@@ -1,5 +1,5 @@
 pub mod Hands
-pub mod Join
+pub mod Joint
 pub mod Parting
 pub mod Standard
 pub mod Whole
@@ -14,3 +14,4 @@ pub mod Path
 pub mod Least
 pub mod Closed
 mod Melded
+pub mod Special

@@ -14,10 +14,10 @@ use Rattle.mj_readings.specs.Complete.{is_seven_pairs}
 use Rattle.mj_shanten.specs.Suits.{with_two, Padded}
 use Rattle.mj_shanten.specs.Special.{IsPairs, so_often, better, nearest_pairs}
 use Rattle.mj_shanten.proofs.Hands.{missing_two}
-use Rattle.mj_shanten.proofs.Join.{cmp_before}
+use Rattle.mj_shanten.proofs.Joint.{cmp_before}
 
 -- pairs of so many kinds miss at least so many tiles
-abbrev least : List ℕ → ℕ → ℕ
+abbrev pub least : List ℕ → ℕ → ℕ
 least xs j = (j - so_often 2 xs) + (j - so_often 1 xs)
 
 -- a number is that of no tile or of a pair
@@ -71,7 +71,7 @@ step_two x j a o b p order e f = grind (arith, nat_tests)
 pub two_or_none : (y : ℕ) → pair_or_none y ≡ true → (y ≡ 0) ⊎ (y ≡ 2)
 two_or_none y h = elim (or_cases (eqb y 0) (eqb y 2) h) [ inl e ↦ inl (eqb-true y 0 e) | inr e ↦ inr (eqb-true y 2 e) ]
 
-miss_least : (ys xs : List ℕ) → length ys ≡ length xs → list_all pair_or_none ys ≡ true → least xs (pairs_in ys) ≤ missing ys xs
+pub miss_least : (ys xs : List ℕ) → length ys ≡ length xs → list_all pair_or_none ys ≡ true → least xs (pairs_in ys) ≤ missing ys xs
 miss_least [] [] same each = omega arith
 miss_least [] (x ∷ xs) same each = absurd (omega arith)
 miss_least (y ∷ ys) [] same each = absurd (omega arith)

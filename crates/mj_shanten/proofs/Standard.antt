@@ -16,7 +16,8 @@ use Rattle.mj_suits.specs.Targets.{IsTarget}
 use Rattle.mj_suits.proofs.Tiles.{count_of-append}
 use Rattle.mj_suits.proofs.Whole.{counts_are, get_or-counts_of, length-counts_of}
 use Rattle.mj_shanten.specs.declared.suits.Suit.{Suit}
-use Rattle.mj_shanten.specs.Suits.{Begins, Any, IsJoint, pairs, suit_from, suits_of, with_two}
+use Rattle.mj_suits.specs.Left.{pairs}
+use Rattle.mj_shanten.specs.Suits.{Begins, IsJoint, suit_from, suits_of, with_two}
 use Rattle.mj_shanten.proofs.Parting.{sets_in, number_from, number_in, formed_in, number_step, number_all, number_none, lift_all, all_concealed, all_here, all_apart, length_all, all_may, may_stand}
 
 at_place : (xs : List ℕ) (from n : ℕ) → n < 9 → get_or (take 9 (drop from xs)) n 0 ≡ get_or xs (from + n) 0
@@ -64,7 +65,7 @@ pairs_step i q = grind (arith, nat_tests)
 joint_step : (held room c : List ℕ) (sets : List Set) (pair i : ℕ) (others : List Suit) → i ≤ 3 → length c ≡ 36 → list_all is_concealed sets ≡ true
     → ((k : ℕ) → k < 36 → get_or c k 0 ≡ number_at k sets + cond (eqb pair k) 2 0) → ((k : ℕ) → k < 36 → get_or c k 0 ≤ get_or room k 0)
     → IsJoint others (number_from (i + 1) sets) (leb (i + 1) (pair / 9)) (drop (9 * i + 9) c)
-    → Begins (suit_from held room (9 * i) (ltb i 3)) Any (IsJoint others) (number_from i sets) (leb i (pair / 9)) (drop (9 * i) c)
+    → Begins (suit_from held room (9 * i) (ltb i 3)) (IsJoint others) (number_from i sets) (leb i (pair / 9)) (drop (9 * i) c)
 joint_step held room c sets pair i others far size formed counted within rest = record {
   here = take 9 (drop (9 * i) c);
   rest = drop (9 * i + 9) c;
@@ -72,7 +73,6 @@ joint_step held room c sets pair i others far size formed counted within rest = 
   sets_left = number_from (i + 1) sets;
   pair_here = eqb (pair / 9) i;
   pair_left = leb (i + 1) (pair / 9);
-  which = tt;
   target = record {
     sets = sets_in i sets;
     pair = pair_in i pair;
@@ -306,7 +306,7 @@ made_more held room i s n p q r here rest far z y h m one = record {
 
 made_step : (held room : List ℕ) (i n : ℕ) (p : Bool) (t : List ℕ) (others : List Suit) → i ≤ 3 → get_or room 34 0 ≡ 0 → get_or room 35 0 ≡ 0
     → ((n : ℕ) (p : Bool) (t : List ℕ) → IsJoint others n p t → Made room (i + 1) n p t)
-    → Begins (suit_from held room (9 * i) (ltb i 3)) Any (IsJoint others) n p t → Made room i n p t
+    → Begins (suit_from held room (9 * i) (ltb i 3)) (IsJoint others) n p t → Made room i n p t
 made_step held room i n p t others far z y rest h =
     subst (λ u. Made room i n p u) (sym h.tiles_are)
     (subst (λ k. Made room i k p (h.here ++ h.rest)) (sym h.sets_are)

@@ -1,8 +1,9 @@
 -- Seven pairs and thirteen orphans with two numbers more, and the choice of the pairs.
-use Rattle.std.specs.Prelude.{ℕ, ◌≡◌, ◌-◌, ◌==◌, ◌⊎◌, true, nat_le, nat_lt, if◌then◌else◌, List, [], ◌∷◌, length, map, count_by, IsTrue}
+use Rattle.std.specs.Prelude.{ℕ, ◌≡◌, ◌-◌, ◌≤◌, ◌==◌, ◌⊎◌, true, nat_le, nat_lt, if◌then◌else◌, List, [], ◌∷◌, length, map, count_by, IsTrue}
 use Rattle.mj_tiles.specs.Counts.{all_kinds}
 use Rattle.mj_tiles.specs.Terminals.{is_terminal_or_honour}
 use Rattle.mj_readings.specs.Complete.{is_seven_pairs, orphan_number, AreOrphans}
+use Rattle.mj_suits.specs.Targets.{missing}
 use Rattle.mj_shanten.specs.Suits.{with_two, Padded}
 
 -- seven pairs of the 34 kinds
@@ -46,3 +47,9 @@ nearest_pairs (number ∷ numbers) left =
     if nat_lt (better number (so_often 2 numbers) (so_often 1 numbers)) left
     then 2 ∷ nearest_pairs numbers (left - 1)
     else 0 ∷ nearest_pairs numbers left
+
+-- the fewest that the sets miss, so many, or a hand with the property
+pub record IsLeastWith (held : List ℕ) (P : List ℕ → Type 0) (sets number : ℕ) : Type 0 where
+  pub at_most : number ≤ sets
+  pub least : (target : List ℕ) → P target → number ≤ missing target held
+  pub some : (number ≡ sets) ⊎ ((target : List ℕ) × (P target × (number ≡ missing target held)))

@@ -12,3 +12,4 @@ mod suits;
 pub use exchanges::exchange_path;
 pub use least_exchanges::shanten_is_the_least_number_of_exchanges;
 pub use nearest_hand::{Nearest, shanten};
+pub use suits::Suits;

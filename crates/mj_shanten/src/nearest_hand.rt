@@ -1,15 +1,22 @@
-ghost use Rattle.std.specs.Prelude.{◌≡◌, ◌+◌, ◌<◌, length, take};
+ghost use Rattle.std.specs.Prelude.{◌≡◌, ◌<◌, ◌≤◌, ℕ, List, IsTrue, IsSomeAnd, take};
+ghost use Rattle.mj_suits.specs.Targets.{missing};
+ghost use Rattle.mj_suits.specs.Tables.{IsLeast};
 ghost use Rattle.mj_tiles.specs.Counts.{IsCounts};
 ghost use Rattle.mj_suits.specs.Improves.{Improves};
-ghost use Rattle.mj_shanten.specs.Room.{IsHand};
-ghost use Rattle.mj_shanten.specs.Shanten.{IsShanten};
-ghost use Rattle.mj_shanten.specs.Suits.{with_two};
-ghost use Rattle.mj_shanten.specs.Special.{IsSpecial};
+ghost use Rattle.mj_shanten.specs.Room.{IsHand, IsRoom};
+ghost use Rattle.mj_shanten.specs.Shanten.{IsGoal, IsShanten};
+ghost use Rattle.mj_shanten.specs.Special.{IsSpecial, IsLeastWith};
 
 use crate::orphans::take_orphans;
-use crate::seven_pairs::take_pairs;
-use crate::suits::take_sets;
+use crate::seven_pairs::{kinds_held, take_pairs};
+use crate::suits::{Suits, missing_of_sets, missing_tiles, take_sets};
 use mj_tiles::Counts;
+
+// Each terminal and honour once.
+const EACH_ORPHAN: [u8; 36] = [
+    1, 0, 0, 0, 0, 0, 0, 0, 1, 1, 0, 0, 0, 0, 0, 0, 0, 1, 1, 0, 0, 0, 0, 0, 0, 0, 1, 1, 1, 1, 1, 1,
+    1, 1, 0, 0,
+];
 
 /// How near a hand is to being complete.
 #[derive(Clone, Copy, Debug, PartialEq, Eq)]
@@ -31,17 +38,69 @@ pub fn shanten(counts: &Counts, room: &Counts, melds: u8) -> Nearest
     requires { IsHand counts.now room.now melds }
     ensures { IsShanten counts.now room.now melds result.number result.target }
 {
-    let held = with_room_for_two(counts);
-    let wide = with_room_for_two(room);
+    Suits::new(counts, room).shanten(melds)
+}
+
+impl Suits {
+    /// The same of a hand whose suits are walked: its concealed tiles and three for each of so many melds are 13, and its
+    /// room is what the melds leave.
+    pub fn shanten(&self, melds: u8) -> Nearest
+        requires { IsHand self.now.counts self.now.room melds }
+        ensures { IsShanten self.now.counts self.now.room melds result.number result.target }
+    {
+        let mut best = None;
+        take_sets(self, 4 - melds, &mut best);
+        take_special(self.held(), melds, &mut best);
+        match best {
+            Some(answer) => Nearest {
+                number: (answer.0 - 1) as u8,
+                target: counts_among(&answer.1),
+            },
+            None => unreachable!(),
+        }
+    }
+}
+
+impl Suits {
+    /// The number that `shanten` answers, without its target.
+    pub fn number(&self, melds: u8) -> u8
+        requires { IsHand self.now.counts self.now.room melds }
+        ensures { (number : ℕ) (target : List ℕ)
+            → IsShanten self.now.counts self.now.room melds number target → result ≡ number }
+    {
+        least_missing(self, melds).saturating_sub(1)
+    }
+}
+
+// How many tiles the nearest complete hand misses.
+fn least_missing(suits: &Suits, melds: u8) -> u8
+    requires few { melds ≤ 4 }
+    requires room { IsRoom suits.now.room melds }
+    ensures { IsLeast suits.now.counts (IsGoal suits.now.room melds) result }
+{
+    let held = suits.held();
+    let sets = missing_of_sets(suits, 4 - melds);
+    if melds > 0 {
+        return sets;
+    }
+    with_special(held, sets)
+}
+
+// The same of these hands of sets and a pair, of which the nearest misses so many tiles, or of seven pairs or thirteen
+// orphans.
+fn with_special(held: &[u8; 36], sets: u8) -> u8
+    requires { sets ≤ 15 }
+    ensures { IsLeastWith held.now (IsSpecial 0) sets result }
+{
+    if u16::from(sets) <= least_of_special(held) {
+        return sets;
+    }
     let mut best = None;
-    take_special(&held, melds, &mut best);
-    take_sets(&held, &wide, 4 - melds, &mut best);
+    take_pairs(held, &mut best);
+    take_orphans(held, &mut best);
     match best {
-        Some(answer) => Nearest {
-            number: (answer.0 - 1) as u8,
-            target: counts_among(&answer.1),
-        },
-        None => unreachable!(),
+        Some(answer) => u16::from(sets).min(answer.0) as u8,
+        None => sets,
     }
 }
 
@@ -52,21 +111,31 @@ fn take_special(held: &[u8; 36], melds: u8, best: &mut Option<(u16, [u8; 36])>)
     if melds > 0 {
         return;
     }
+    if is_nearer(best, least_of_special(held)) {
+        return;
+    }
     take_pairs(held, best);
     take_orphans(held, best);
 }
 
-// The numbers by kind, and two more that no kind has, so that four suits have nine numbers each.
-fn with_room_for_two(counts: &Counts) -> [u8; 36]
-    ensures value { result ≡ with_two counts.now }
-    ensures size { length counts.now ≡ 34 }
+// Whether the best hand misses fewer tiles than so many.
+fn is_nearer(best: &Option<(u16, [u8; 36])>, number: u16) -> bool
+    ensures { IsTrue result → IsSomeAnd best.now (λ answer. answer.0 < number) }
 {
-    let numbers = counts.numbers();
-    let mut wide = [0; 36];
-    for kind in 0..34 {
-        wide[kind] = numbers[kind];
+    match best {
+        Some(answer) => answer.0 < number,
+        None => false,
     }
-    wide
+}
+
+// What seven pairs and thirteen orphans miss at least: a tile for each pair beyond the kinds that are held twice, and one
+// for each terminal and honour that is not held.
+fn least_of_special(held: &[u8; 36]) -> u16
+    ensures few { result ≤ 7 }
+    ensures least { (melds : ℕ) (target : List ℕ) → IsSpecial melds target → result ≤ missing target held.now }
+{
+    let pairs = 7usize.saturating_sub(kinds_held(held, 2)) as u16;
+    pairs.min(missing_tiles(held, &EACH_ORPHAN))
 }
 
 // The counts without the two numbers that no kind has.

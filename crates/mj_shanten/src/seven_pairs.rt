@@ -49,7 +49,7 @@ fn is_taken(number: u8, twice: usize, once: usize, left: usize) -> bool
 }
 
 // How many kinds are held so often or more.
-fn kinds_held(held: &[u8; 36], times: u8) -> usize
+pub(crate) fn kinds_held(held: &[u8; 36], times: u8) -> usize
     ensures { result ≡ so_often times (take 34 held.now) }
 {
     held[..34].iter().filter(|number| **number >= times).count()

@@ -1,13 +1,21 @@
-//! The nearest hand of sets and a pair: what each suit answers for so many sets and a pair or none, joined over the
-//! suits.
+//! The nearest hand of sets and a pair: one suit is walked after the other, from the honours to the characters, and each
+//! row says what is left of the tiles of all suits from its own on.
 
-ghost use Rattle.std.specs.Prelude.{◌≡◌, ◌≤◌, ◌<◌, ◌+◌, ◌++◌, ◌∷◌, ◌⊎◌, true, false, Some, MatchBool, IsSomeAnd, slice_index, EachIndex, take, drop};
-ghost use Rattle.mj_suits.specs.Targets.{missing};
+ghost use Rattle.std.specs.Prelude.{◌≡◌, ◌≤◌, ◌<◌, ◌+◌, ◌++◌, ℕ, List, true, false, Some, MatchOption, MatchBool, length, slice_index, EachIndex, take, drop};
+ghost use Rattle.mj_suits.specs.Rows.{lane, IsFew};
+ghost use Rattle.mj_suits.specs.Left.{LeavesMost, IsChosen};
+ghost use Rattle.mj_suits.specs.Targets.{missing, IsNearest};
 ghost use Rattle.mj_suits.specs.Improves.{AsGood, Improves};
-ghost use Rattle.mj_shanten.specs.Suits.{IsSuit, IsLimit, IsPart, ArePartsOf, IsAsked, Begins, IsJoint, Follows, AreLeft, IsShare, IsPlanWith, choice, IsChoice, pairs, suit_from, suits_of, suits_in};
+ghost use Rattle.mj_tiles.specs.Counts.{NoFifth};
+ghost use Rattle.mj_shanten.specs.Exchanges.{one_less};
+ghost use Rattle.mj_shanten.specs.Room.{IsWithinRoom};
+ghost use Rattle.mj_shanten.specs.Suits.{IsSuit, IsJoint, suit_from, suits_of, with_two};
+ghost use Rattle.mj_shanten.specs.Walked.{Tiles, IsLeastOr};
 
-use mj_suits::nearest;
+use mj_suits::{Choice, Row, choose, with_suit};
+use mj_tiles::{Counts, Kind};
 use std::cmp::Ordering;
+use std::marker::Model;
 
 // One suit: the tiles held, the room, and whether it has runs.
 #[derive(Drop)]
@@ -17,127 +25,175 @@ pub(crate) struct Suit {
     runs: bool,
 }
 
-// What a suit answers for so many sets, and a pair or none.
-#[derive(Clone, Copy)]
-pub(crate) struct Part {
-    found: bool,
-    number: u8,
-    target: [u8; 9],
-}
-
-// A suit with its parts: two for each number of sets, without and with the pair.
+/// The tiles of a hand, the room for them, and what each suit and those after it leave for each number of sets.
 #[derive(Drop)]
-pub(crate) struct Asked {
-    suit: Suit,
-    parts: [Part; 10],
+pub struct Suits {
+    held: [u8; 36],
+    room: [u8; 36],
+    start: Row,
+    honours: Row,
+    bamboo: Row,
+    circles: Row,
+    characters: Row,
 }
 
-// The tiles chosen so far, of how many numbers they are, how many of them are not held, how many sets are still to come,
-// and whether the pair is. A hand that misses more than the limit is not looked for.
-#[derive(Clone, Copy)]
-pub(crate) struct Plan {
-    target: [u8; 36],
-    done: usize,
-    number: u16,
-    sets: u8,
-    pair: bool,
-    limit: u8,
+impl Model for Suits {
+    ghost use Rattle.std.specs.Prelude.{take};
+    ghost use Rattle.mj_shanten.specs.Walked.{Tiles, AreWalked};
+
+    ghost Value = { Tiles };
+
+    ghost view = { λ suits. record { counts = take 34 suits.held; room = take 34 suits.room } };
+
+    ghost invariant = { λ suits. AreWalked suits.held suits.room suits.start.lanes suits.honours.lanes suits.bamboo.lanes suits.circles.lanes suits.characters.lanes };
+}
+
+impl Suits {
+    /// The suits of a hand with these counts and this room. Each count is at most its room.
+    pub fn new(counts: &Counts, room: &Counts) -> Suits
+        requires { IsWithinRoom counts.now room.now }
+        ensures { result ≡ record { counts = counts.now; room = room.now } }
+    {
+        walked(with_room_for_two(counts), with_room_for_two(room))
+    }
+
+    /// The suits of the hand with one tile less of the kind, and the same room. The kind is held.
+    pub fn without(&self, kind: Kind) -> Suits
+        requires { 0 < slice_index self.now.counts kind }
+        ensures { result ≡ record { counts = one_less self.now.counts kind; room = self.now.room } }
+    {
+        let mut held = self.held;
+        held[kind.number() as usize] -= 1;
+        let room = self.room;
+        walked(held, room)
+    }
+
+    // The counts, and two numbers more, which no kind has.
+    pub(crate) fn held(&self) -> &[u8; 36]
+        ensures held { result.now ≡ with_two self.now.counts }
+        ensures size { length self.now.counts ≡ 34 }
+        ensures room_size { length self.now.room ≡ 34 }
+    {
+        &self.held
+    }
+}
+
+// The suits of a hand with two numbers more, which no kind has.
+fn walked(held: [u8; 36], room: [u8; 36]) -> Suits
+    requires within { EachIndex held (λ n. slice_index held n ≤ slice_index room n) }
+    requires of_four { EachIndex room (λ n. slice_index room n ≤ 4) }
+    requires held { held ≡ with_two (take 34 held) }
+    requires room { room ≡ with_two (take 34 room) }
+    ensures { result ≡ record { counts = take 34 held; room = take 34 room } }
+{
+    let start = Row::start();
+    let honours = row_of(start, &suit_at(&held, &room, 27, false));
+    let bamboo = row_of(honours, &suit_at(&held, &room, 18, true));
+    let circles = row_of(bamboo, &suit_at(&held, &room, 9, true));
+    let characters = row_of(circles, &suit_at(&held, &room, 0, true));
+    Suits {
+        held,
+        room,
+        start,
+        honours,
+        bamboo,
+        circles,
+        characters,
+    }
+}
+
+// The row of a suit before those of which `after` says what is left.
+fn row_of(after: Row, suit: &Suit) -> Row
+    requires suit { IsSuit suit.now }
+    requires few { IsFew after.lanes }
+    ensures { LeavesMost suit.now.counts suit.now.room suit.now.runs after.lanes result.lanes }
+{
+    with_suit(after, &suit.counts, &suit.room, suit.runs)
 }
 
 /// Takes into the best hand those of so many sets and a pair within the room.
-pub(crate) fn take_sets(
-    held: &[u8; 36],
-    room: &[u8; 36],
-    sets: u8,
-    best: &mut Option<(u16, [u8; 36])>,
-)
-    requires within { EachIndex held.now (λ n. slice_index held.now n ≤ slice_index room.now n) }
-    requires of_four { EachIndex room.now (λ n. slice_index room.now n ≤ 4) }
-    requires few { sets ≤ 4 }
-    ensures { Improves held.now (IsJoint (suits_of held.now room.now) sets true) best.old best.new }
+pub(crate) fn take_sets(suits: &Suits, sets: u8, best: &mut Option<(u16, [u8; 36])>)
+    requires { sets ≤ 4 }
+    ensures { Improves (with_two suits.now.counts)
+        (IsJoint (suits_of (with_two suits.now.counts) (with_two suits.now.room)) sets true) best.old best.new }
 {
-    let limit = limit_of(best);
-    let suits = [
-        ask(suit_at(held, room, 0, true), limit),
-        ask(suit_at(held, room, 9, true), limit),
-        ask(suit_at(held, room, 18, true), limit),
-        ask(suit_at(held, room, 27, false), limit),
-    ];
-    let plan = Plan {
-        target: [0; 36],
-        done: 0,
-        number: 0,
+    if let Some(target) = nearest_sets(suits, sets) {
+        keep_nearer(&suits.held, &target, best);
+    }
+}
+
+/// How many tiles the nearest hand of so many sets and a pair misses; fifteen where none fits.
+pub(crate) fn missing_of_sets(suits: &Suits, sets: u8) -> u8
+    requires { sets ≤ 4 }
+    ensures few { result ≤ 15 }
+    ensures least { IsLeastOr (with_two suits.now.counts)
+        (IsJoint (suits_of (with_two suits.now.counts) (with_two suits.now.room)) sets true) result }
+{
+    15 - suits.characters.at(sets, 1)
+}
+
+// The nearest hand of so many sets and a pair within the room; none where none fits.
+fn nearest_sets(suits: &Suits, sets: u8) -> Option<[u8; 36]>
+    requires { sets ≤ 4 }
+    ensures { MatchOption result
+        ((target : List ℕ)
+        → IsJoint (suits_of (with_two suits.now.counts) (with_two suits.now.room)) sets true target → ⊥)
+        (λ target. IsNearest (with_two suits.now.counts)
+        (IsJoint (suits_of (with_two suits.now.counts) (with_two suits.now.room)) sets true)
+        (missing target (with_two suits.now.counts)) target) }
+{
+    if suits.characters.at(sets, 1) == 0 {
+        return None;
+    }
+    let (held, room) = (&suits.held, &suits.room);
+    let first = part(
+        suits.circles,
+        suits.characters,
+        &suit_at(held, room, 0, true),
         sets,
-        pair: true,
-        limit,
-    };
-    go_on(held, &suits, &plan, best);
+        1,
+    );
+    let second = part(
+        suits.bamboo,
+        suits.circles,
+        &suit_at(held, room, 9, true),
+        first.sets,
+        first.pairs,
+    );
+    let third = part(
+        suits.honours,
+        suits.bamboo,
+        &suit_at(held, room, 18, true),
+        second.sets,
+        second.pairs,
+    );
+    let fourth = part(
+        suits.start,
+        suits.honours,
+        &suit_at(held, room, 27, false),
+        third.sets,
+        third.pairs,
+    );
+    let target = with_nine(&[0; 36], 0, &first.target);
+    let target = with_nine(&target, 9, &second.target);
+    let target = with_nine(&target, 18, &third.target);
+    Some(with_nine(&target, 27, &fourth.target))
 }
 
-// How many tiles the best hand misses.
-fn limit_of(best: &Option<(u16, [u8; 36])>) -> u8
-    ensures limit { IsLimit best.now result }
-    ensures few { result < 255 }
-{
-    match best {
-        Some(answer) => { if answer.0 < 100 { answer.0 as u8 } else { 100 } }
-        None => 100,
-    }
-}
-
-// The suit with its parts.
-fn ask(suit: Suit, limit: u8) -> Asked
-    requires suit { IsSuit suit }
-    requires few { limit < 255 }
-    ensures of { result.suit ≡ suit }
-    ensures is { IsAsked limit result }
-{
-    let parts = parts_of(&suit, limit);
-    Asked { suit, parts }
-}
-
-// The parts of a suit.
-fn parts_of(suit: &Suit, limit: u8) -> [Part; 10]
+// The suit's target that leaves the most for the suits after it.
+fn part(after: Row, row: Row, suit: &Suit, sets: u8, pairs: u8) -> Choice
     requires suit { IsSuit suit.now }
-    requires few { limit < 255 }
-    ensures { ArePartsOf suit.now limit result }
+    requires few { IsFew after.lanes }
+    requires row { LeavesMost suit.now.counts suit.now.room suit.now.runs after.lanes row.lanes }
+    requires sets { sets < 8 }
+    requires pairs { pairs < 2 }
+    requires some { 0 < lane row.lanes sets pairs }
+    ensures { IsChosen suit.now.counts suit.now.room suit.now.runs after.lanes sets pairs
+        (lane row.lanes sets pairs) result.target result.sets result.pairs }
 {
-    let none = Part {
-        found: false,
-        number: 0,
-        target: [0; 9],
-    };
-    let mut parts = [none; 10];
-    for place in 0..10u8 {
-        parts[place as usize] = part_at(suit, place, limit);
-    }
-    parts
-}
-
-// What the suit answers for the sets and the pair at this place of the order: none where no target misses so few.
-fn part_at(suit: &Suit, place: u8, limit: u8) -> Part
-    requires suit { IsSuit suit.now }
-    requires place { place < 10 }
-    requires few { limit < 255 }
-    ensures { IsPart suit.now limit place result }
-{
-    let none = Part {
-        found: false,
-        number: 0,
-        target: [0; 9],
-    };
-    let sets = place / 2;
-    let pair = place % 2 == 1;
-    match nearest(suit.counts, suit.room, suit.runs, sets, pair) {
-        Some(answer) => {
-            let target = answer.1;
-            Part {
-                found: true,
-                number: answer.0,
-                target,
-            }
-        }
-        None => none,
+    match choose(after, row, &suit.counts, &suit.room, suit.runs, sets, pairs) {
+        Some(choice) => choice,
+        None => unreachable!(),
     }
 }
 
@@ -165,112 +221,18 @@ fn nine_from(numbers: &[u8; 36], from: usize) -> [u8; 9]
     nine
 }
 
-// Takes into the best hand those that add to the plan what these suits have.
-#[cycle(join)]
-fn go_on(held: &[u8; 36], suits: &[Asked], plan: &Plan, best: &mut Option<(u16, [u8; 36])>)
-    requires left { AreLeft held.now suits.now plan.now }
-    requires limit { IsLimit best.old plan.now.limit }
-    ensures { Improves held.now
-        (Follows (take plan.now.done plan.now.target) (IsJoint (suits_in suits.now) plan.now.sets plan.now.pair))
-        best.old best.new }
+// The numbers by kind, and two more that no kind has, so that four suits have nine numbers each.
+fn with_room_for_two(counts: &Counts) -> [u8; 36]
+    ensures value { result ≡ with_two counts.now }
+    ensures size { length counts.now ≡ 34 }
+    ensures few { NoFifth counts.now }
 {
-    let [suit, others @ ..] = suits else {
-        if plan.sets == 0 && !plan.pair {
-            keep_nearer(held, &plan.target, best);
-        }
-        return;
-    };
-    if others.is_empty() {
-        return with_part(held, suit, others, choice_left(plan), plan, best);
+    let numbers = counts.numbers();
+    let mut wide = [0; 36];
+    for kind in 0..34 {
+        wide[kind] = numbers[kind];
     }
-    for choice in 0..10 {
-        with_part(held, suit, others, choice, plan, best);
-    }
-}
-
-// The place in the order of all sets that are still to come, and of the pair where it is.
-fn choice_left(plan: &Plan) -> u8
-    requires { plan.now.sets ≤ 4 }
-    ensures { result ≡ choice plan.now.sets plan.now.pair }
-{
-    2 * plan.sets + if plan.pair { 1 } else { 0 }
-}
-
-// Takes into the best hand those that add to the plan so many sets, and a pair or none, of the suit, and then what the other suits have.
-#[cycle(join)]
-fn with_part(
-    held: &[u8; 36],
-    asked: &Asked,
-    others: &[Asked],
-    choice: u8,
-    plan: &Plan,
-    best: &mut Option<(u16, [u8; 36])>,
-)
-    requires place { choice < 10 }
-    requires left { AreLeft held.now (asked.now ∷ others.now) plan.now }
-    requires limit { IsLimit best.old plan.now.limit }
-    ensures { Improves held.now
-        (Follows (take plan.now.done plan.now.target)
-        (Begins asked.now.suit (IsChoice choice) (IsJoint (suits_in others.now)) plan.now.sets plan.now.pair))
-        best.old best.new }
-{
-    let sets = choice / 2;
-    let pair = choice % 2 == 1;
-    if !is_share(plan, sets, pair) {
-        return;
-    }
-    let part = &asked.parts[choice as usize];
-    if is_too_far(part, plan.number, best) {
-        return;
-    }
-    let more = plan_with(plan, sets, pair, part);
-    go_on(held, others, &more, best)
-}
-
-// Whether all targets of this part miss more than the best hand, with those that are missed already.
-fn is_too_far(part: &Part, number: u16, best: &Option<(u16, [u8; 36])>) -> bool
-    requires { number ≤ 6885 }
-    ensures { MatchBool result
-        ((part.now.found ≡ false) ⊎ IsSomeAnd best.now (λ answer. answer.0 < number + part.now.number))
-        (part.now.found ≡ true) }
-{
-    if !part.found {
-        return true;
-    }
-    match best {
-        Some(answer) => answer.0 < number + u16::from(part.number),
-        None => false,
-    }
-}
-
-// Whether so many sets, and the pair where it is asked for, are still to come.
-fn is_share(plan: &Plan, sets: u8, pair: bool) -> bool
-    ensures { MatchBool result (IsShare plan.now sets pair) (IsShare plan.now sets pair → ⊥) }
-{
-    if sets > plan.sets {
-        return false;
-    }
-    !pair || plan.pair
-}
-
-// The plan with a suit's tiles more, which have so many sets and the pair or none.
-fn plan_with(plan: &Plan, sets: u8, pair: bool, part: &Part) -> Plan
-    requires done { plan.now.done ≤ 27 }
-    requires few { sets ≤ plan.now.sets }
-    requires pair { pairs pair ≤ pairs plan.now.pair }
-    requires few_missed { plan.now.number ≤ 6885 }
-    ensures { IsPlanWith plan.now sets pair part.now result }
-{
-    let missed = part.number;
-    let number = plan.number + u16::from(missed);
-    Plan {
-        target: with_nine(&plan.target, plan.done, &part.target),
-        done: plan.done + 9,
-        number,
-        sets: plan.sets - sets,
-        pair: plan.pair != pair,
-        limit: plan.limit,
-    }
+    wide
 }
 
 // The target with a suit's numbers from a place on.
@@ -318,7 +280,7 @@ fn is_as_good(best: &Option<(u16, [u8; 36])>, number: u16, target: &[u8; 36]) ->
 }
 
 // How many of the target's tiles are not held.
-fn missing_tiles(held: &[u8; 36], target: &[u8; 36]) -> u16
+pub(crate) fn missing_tiles(held: &[u8; 36], target: &[u8; 36]) -> u16
     ensures { result ≡ missing target.now held.now }
 {
     let mut number = 0;

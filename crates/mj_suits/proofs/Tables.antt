@@ -159,3 +159,23 @@ pub same_suit : (suit : Suit) (counts room : List ℕ) (runs : Bool) (melds : �
     → MatchOption best ((target : List ℕ) → IsTarget suit.room suit.runs melds paired target → ⊥) (λ answer. IsNearest suit.counts (IsTarget suit.room suit.runs melds paired) answer.0 answer.1)
     → MatchOption best ((target : List ℕ) → IsTarget room runs melds paired target → ⊥) (λ answer. IsNearest counts (IsTarget room runs melds paired) answer.0 answer.1)
 same_suit suit counts room runs melds paired best same is = subst (λ s. MatchOption best ((target : List ℕ) → IsTarget s.room s.runs melds paired target → ⊥) (λ answer. IsNearest s.counts (IsTarget s.room s.runs melds paired) answer.0 answer.1)) same is
+
+-- ---- how many tiles a target has
+
+ends_tiles : (runs : Bool) (room : List ℕ) (before earlier s p : ℕ) (tiles : List ℕ) → Ends runs room before earlier s p tiles → missing tiles [] ≡ 3 * s + 2 * p + 2 * before + earlier
+ends_tiles runs [] before earlier s p tiles ends = (let e : missing tiles [] ≡ 0 = ap (λ t. missing t []) ends.1.1.1.1 in let a = ends.0 in let b = ends.1.0 in let c = ends.1.1.0 in let d = ends.1.1.1.0 in omega arith)
+ends_tiles runs (most ∷ room) before earlier s p tiles goes =
+    let rest = ends_tiles runs room goes.begin before goes.sets_later goes.pairs_later goes.rest goes.more in
+    let e : missing tiles [] ≡ (before + earlier + (goes.begin + 3 * goes.triplets + 2 * goes.pairs_here)) + missing goes.rest [] = ap (λ t. missing t []) goes.tiles_are in
+    let sets = goes.sets_are in
+    let pairs_are = goes.pairs_are in
+    omega arith
+
+-- the tiles of a target say how many sets and pairs it has
+pub same_tiles : (room : List ℕ) (runs : Bool) (melds others : ℕ) (paired other : Bool) (target : List ℕ) → length room ≡ 9 → IsTarget room runs melds paired target → IsTarget room runs others other target → (melds ≡ others) × (pairs paired ≡ pairs other)
+same_tiles room runs melds others paired other target nine first second =
+    let a = ends_tiles runs room 0 0 melds (pairs paired) target (target_ends room runs melds paired target nine first) in
+    let b = ends_tiles runs room 0 0 others (pairs other) target (target_ends room runs others other target nine second) in
+    let c = pairs_few paired in
+    let d = pairs_few other in
+    (omega arith, omega arith)

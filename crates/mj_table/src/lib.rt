@@ -3,12 +3,8 @@
 
 mod marks;
 mod reason;
-#[cfg(test)]
-mod reason_tests;
 mod standing;
 mod table;
-#[cfg(test)]
-mod tests;
 
 pub use marks::Marks;
 pub use mj_rounds::Standing;

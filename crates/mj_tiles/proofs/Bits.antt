@@ -1,5 +1,5 @@
 -- Sets of small numbers as bits: a number is one of the set where its bit is one.
-use Rattle.std.proofs.Common.{ℕ, ◌≡◌, ◌<◌, ◌≤◌, ◌^◌, ◌*◌, ◌%◌, ◌||◌, ◌⊎◌, inl, inr, sym, ◌∙◌, arith, eqb, max}
+use Rattle.std.proofs.Common.{ℕ, ◌≡◌, ◌<◌, ◌≤◌, ◌^◌, ◌*◌, ◌%◌, ◌||◌, ◌⊎◌, inl, inr, sym, arith, eqb, max}
 use Rattle.std.specs.Int.{bit_at}
 use Rattle.std.specs.Int.RustNames.{bit_or}
 use Rattle.std.proofs.lemmas.Nat.{or_lt}

@@ -1,5 +1,5 @@
 -- Counts by kind, one tile after another.
-use Rattle.std.proofs.Common.{ℕ, ◌≡◌, ◌<◌, ◌≤◌, ◌+◌, ◌++◌, ◌∷◌, [], Bool, true, false, cond, List, length, get_or, set, take, drop, refl, sym, ◌∙◌, arith, eqb, length-set, get_or-set_same, get_or-set_other, ap, replicate, zero, suc, ◌⊎◌, inl, inr}
+use Rattle.std.proofs.Common.{ℕ, ◌≡◌, ◌<◌, ◌≤◌, ◌+◌, ◌++◌, ◌∷◌, [], Bool, true, false, cond, List, length, get_or, set, take, drop, refl, sym, ◌∙◌, arith, eqb, length-set, get_or-set_same, get_or-set_other, ap, replicate, ◌⊎◌, inl, inr}
 use Rattle.std.proofs.lemmas.Bool.{cases_eq, cases_lt, eq-eqb}
 use Rattle.std.proofs.lemmas.List.{take-append-drop, take_more, set_past}
 use Rattle.std.proofs.lemmas.List.Sums.{sum_by-append}
@@ -25,7 +25,7 @@ pub number_of-append : (xs ys : List ℕ) (kind : ℕ) → number_of (xs ++ ys) 
 number_of-append xs ys kind = sum_by-append (λ tile. cond (eqb (kind_of tile) kind) 1 0) xs ys
 
 -- One tile more is one more of its kind.
-number_of-push : (tiles : List ℕ) (tile kind : ℕ) → number_of (tiles ++ tile ∷ []) kind ≡ number_of tiles kind + cond (eqb (kind_of tile) kind) 1 0
+pub number_of-push : (tiles : List ℕ) (tile kind : ℕ) → number_of (tiles ++ tile ∷ []) kind ≡ number_of tiles kind + cond (eqb (kind_of tile) kind) 1 0
 number_of-push tiles tile kind = grind (arith, common_steps)
 
 -- The counts after one tile more.

@@ -1,14 +1,11 @@
 -- The texts of the faces name each face once: reading undoes writing, and writing undoes reading.
-use Rattle.std.proofs.Common.{ℕ, ◌≡◌, ◌<◌, Bool, true, false, List, [], Option, Some, None, length, get_or, refl, sym, ◌∙◌, ap, eqb, zero-add}
+use Rattle.std.proofs.Common.{ℕ, ◌≡◌, ◌<◌, Bool, true, false, List, [], Option, Some, None, get_or, refl, sym, ◌∙◌, ap, eqb}
 use Rattle.std.proofs.lemmas.Bool.{false≢true}
-use Rattle.std.specs.List.{list_all, range_with_len}
 use Rattle.std.proofs.lemmas.Bool.Decides.{Decides-eqb}
 use Rattle.std.specs.Str.{bytes_eq}
 use Rattle.std.proofs.lemmas.Slice.Eq.{bytes_eq-Decides}
 use Rattle.std.proofs.lemmas.List.Quantifiers.{position-Some}
 use Rattle.std.proofs.lemmas.Option.{unwrap_or-slice_get}
-use Rattle.std.proofs.lemmas.List.Folds.{list_all_at}
-use Rattle.std.proofs.lemmas.List.FromFn.{get_or-range_with_len, length-range_with_len}
 use Rattle.mj_lists.proofs.Ranges.{passes}
 use Rattle.mj_tiles.specs.Faces.{texts, text_of, face_of}
 

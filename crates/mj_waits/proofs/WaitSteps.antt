@@ -1,6 +1,6 @@
 -- The waits, one kind after another.
 use Rattle.std.proofs.Common.{ℕ, ◌≡◌, ◌<◌, ◌≤◌, ◌+◌, Bool, true, false, List, refl, sym, ◌∙◌, ap, subst, arith, get_or, ltb, ◌&&◌, ◌⊎◌, inl, inr}
-use Rattle.std.proofs.lemmas.Bool.{cases_lt, false≢true, both_ways, and_parts, and_from, ltb-true, lt-ltb}
+use Rattle.std.proofs.lemmas.Bool.{false≢true, both_ways, and_parts, and_from, ltb-true, lt-ltb}
 use Rattle.std.proofs.lemmas.Bool.Decides.{nat_tests}
 use Rattle.mj_lists.proofs.Ranges.{below_or_here}
 use Rattle.mj_tiles.specs.Kinds.{has_kind, with_kind, no_kinds, kinds_that}

@@ -2,8 +2,6 @@
 #![tactic(auto)]
 
 mod setting;
-#[cfg(test)]
-mod tests;
 mod wall;
 
 pub use setting::{Rules, Setting, Walls};

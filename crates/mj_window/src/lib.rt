@@ -2,8 +2,6 @@
 #![tactic(auto)]
 
 mod decision;
-#[cfg(test)]
-mod tests;
 mod window;
 
 pub use decision::{Decision, decide};

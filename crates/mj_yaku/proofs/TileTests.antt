@@ -1,9 +1,6 @@
 -- Tests of all tiles of a hand, by kind.
-use Rattle.std.proofs.Common.{ℕ, ◌≡◌, ◌<◌, ◌≤◌, ◌+◌, Bool, true, false, not, ◌||◌, List, [], ◌∷◌, refl, ◌∙◌, ap, arith, zero, suc, eqb, length, get_or, replicate}
-use Rattle.std.specs.List.{filter, flat_map, range_with_len, list_all}
-use Rattle.std.proofs.lemmas.List.Folds.{list_all_at}
-use Rattle.std.proofs.lemmas.List.FromFn.{length-range_with_len, get_or-range_with_len}
-use Rattle.mj_tiles.specs.Counts.{all_kinds}
+use Rattle.std.proofs.Common.{ℕ, ◌≡◌, Bool, true, false, not, ◌||◌, List, [], ◌∷◌, refl, eqb, replicate}
+use Rattle.std.specs.List.{filter, flat_map, list_all}
 use Rattle.mj_tiles.specs.Terminals.{is_terminal_or_honour}
 use Rattle.mj_readings.specs.Complete.{orphan_number}
 

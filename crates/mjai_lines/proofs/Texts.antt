@@ -1,8 +1,9 @@
 -- Texts that are read.
 use Rattle.std.proofs.Common.{◌≡◌, ◌≤◌, ◌<◌, ℕ, Bool, true, false, List, length, Decides, refl, sym, arith}
-use Rattle.std.specs.Prelude.{None, IsUtf8, bytes_eq}
+use Rattle.std.specs.Prelude.{None, IsUtf8, bytes_eq, nat_lt, nat_le, not, ◌==◌, ◌&&◌}
+use Rattle.std.specs.List.{list_all}
 use Rattle.std.specs.Str.Lossy.{utf8_valid_len}
-use Rattle.std.proofs.lemmas.Str.{utf8_valid_len-IsUtf8}
+use Rattle.std.proofs.lemmas.Str.{utf8_valid_len-IsUtf8, is_utf8-from_IsUtf8}
 use Rattle.std.proofs.lemmas.Slice.Eq.{bytes_eq-Decides}
 use Rattle.serde_json.specs.Read.{read}
 use Rattle.mj_ports.specs.Names.{is_name}
@@ -17,6 +18,16 @@ value_of_text bytes h = grind (arith, utf8_valid_len-IsUtf8 bytes h)
 pub value_of_no_text : (bytes : List ℕ) → utf8_valid_len bytes < length bytes → value_of bytes ≡ None
 unfolding value_of
 value_of_no_text bytes h = grind arith
+
+-- a text is a name by its length and its bytes
+pub name_of_text : (text : List ℕ) → IsUtf8 text →
+    is_name text ≡ (nat_lt 0 (length text) && nat_le (length text) 64 && list_all (λ byte. nat_le 32 byte && not (byte == 34) && not (byte == 92)) text)
+unfolding is_name
+name_of_text text h = rw (is_utf8-from_IsUtf8 text h) (and_true _)
+  where
+    and_true : (b : Bool) → (b && true) ≡ b
+    and_true true = refl
+    and_true false = refl
 
 -- a name has at most 64 bytes
 pub name_fits : (text : List ℕ) → is_name text ≡ true → length text ≤ 64

@@ -1,7 +1,7 @@
-ghost use Rattle.std.specs.Prelude.{◌≡◌, IfOk, codes, bytes_eq};
+ghost use Rattle.std.specs.Prelude.{◌≡◌, IfOk, Some, None, false, if◌then◌else◌, codes, bytes_eq, option_map, unwrap_or};
 ghost use Rattle.std.specs.List.{list_any};
 ghost use Rattle.serde_json.specs.View.{view};
-ghost use Rattle.mj_protocol.specs.Reading.{answer_of, answer_in as answer_read, answer_by as answer_of_type, pass_in as pass_read, discard_in as discard_read, call_in as call_read, closed_kan_in as closed_kan_read, added_kan_in as added_kan_read, chi_by, pon_by, open_kan_by, with_three, with_four, pai_in as pai_read, pai_of as pai_of_text, names_later_type as later_type_named, later_types};
+ghost use Rattle.mj_protocol.specs.Reading.{answer_of, answer_in as answer_read, answer_by as answer_of_type, pass_in as pass_read, discard_in as discard_read, call_in as call_read, closed_kan_in as closed_kan_read, added_kan_in as added_kan_read, chi_by, pon_by, open_kan_by, with_three, with_four, pai_in as pai_read, pai_of as pai_of_text, names_later_type as later_type_named, later_types, text_in as text_read};
 ghost use Rattle.mj_deeds.specs.declared.answer.Answer.TheVariants.{ClosedKan, AddedKan};
 ghost use Rattle.mjai_lines.specs.Calls.{called};
 
@@ -251,16 +251,30 @@ pub(crate) fn pai_of(text: &str) -> Option<Pai>
     Some(Pai::Known(Tile::read(text.as_bytes())?))
 }
 
-/// Whether the line is an object whose type is one of the answers that are not built: riichi, a win, and a draw
-/// declared with nine kinds. The only error is want of memory.
-#[tactic(auto, unfolding(mj_protocol::specs::Reading::names_later_type))]
-pub fn names_later_type(alloc: Global, line: &[u8]) -> Result<bool, AllocError>
-    ensures { IfOk result (λ b. b ≡ later_type_named line.now) }
+/// What a line reads as, as `read_answer` says; none exactly where the line is an object whose type is one of the answers
+/// that are not built: riichi, a win, and a draw declared with nine kinds. The line is parsed once. The only error is want
+/// of memory.
+#[tactic(auto, unfolding(mj_protocol::specs::Reading::names_later_type, mj_protocol::specs::Reading::answer_of))]
+pub fn read_built(alloc: Global, line: &[u8]) -> Result<Option<Answer>, AllocError>
+    ensures { IfOk result (λ a. a ≡ (if later_type_named line.now then None else Some (answer_of line.now))) }
 {
-    match read_value(alloc, line)? {
-        Some(value) => Ok(text_in("type", &value).is_some_and(is_later_type)),
-        None => Ok(false),
+    let Some(value) = read_value(alloc, line)? else {
+        return Ok(Some(Answer::Unread));
+    };
+    if names_later_type(&value) {
+        return Ok(None);
     }
+    match answer_in(alloc, &value)? {
+        Some(answer) => Ok(Some(answer)),
+        None => Ok(Some(Answer::Unread)),
+    }
+}
+
+// Whether a value is an object with such a type.
+fn names_later_type(value: &Value) -> bool
+    ensures { result ≡ unwrap_or (option_map (λ type. list_any (λ other. bytes_eq other type) later_types) (text_read (codes "type") (view value.now))) false }
+{
+    text_in("type", value).is_some_and(is_later_type)
 }
 
 // Whether the text is such a type.

@@ -10,9 +10,9 @@ use mj_ports::{JoinLine, Key, Name};
 use serde_json::Value;
 use std::alloc::{AllocError, Global};
 
-/// What a line asks that wants a seat; none where it is no join with a name and a key of the right form. A name has 1
-/// to 64 bytes, none of them a quotation mark, a backslash or a control character below 32; a key, where there is one,
-/// has at most 64 bytes. Other fields are ignored. The only error is want of memory.
+/// What a line asks that wants a seat; none where it is no join with a name and a key of the right form. A name is a
+/// text in UTF-8 of 1 to 64 bytes, none of them a quotation mark, a backslash or a control character below 32; a key,
+/// where there is one, has at most 64 bytes. Other fields are ignored. The only error is want of memory.
 #[tactic(auto, unfolding(mj_protocol::specs::Reading::join_of))]
 pub fn read_join(alloc: Global, line: &[u8]) -> Result<Option<JoinLine>, AllocError>
     ensures { IfOk result (λ j. j ≡ join_of line.now) }
@@ -31,27 +31,28 @@ fn join_in(value: &Value) -> Option<JoinLine>
     if text_in("type", value)? != "join" {
         return None;
     }
-    let name = name_of(text_in("name", value)?.as_bytes())?;
+    let name = name_of(text_in("name", value)?)?;
     let key = key_in(value)?;
     Some(JoinLine { name, key })
 }
 
 // The name that a text is.
 #[tactic(auto, using(crate::proofs::Texts::name_fits))]
-fn name_of(text: &[u8]) -> Option<Name>
+fn name_of(text: &str) -> Option<Name>
     ensures { result ≡ name_in_text text.now }
 {
     if is_name(text) {
-        return Some(Name::of(text));
+        return Some(Name::of(text.as_bytes()));
     }
     None
 }
 
-// Whether a text is a name.
-#[tactic(auto, unfolding(mj_ports::specs::Names::is_name))]
-fn is_name(text: &[u8]) -> bool
+// Whether a text, which is UTF-8, is a name.
+#[tactic(auto, using(crate::proofs::Texts::name_of_text))]
+fn is_name(text: &str) -> bool
     ensures { result ≡ is_name_text text.now }
 {
+    let text = text.as_bytes();
     if text.is_empty() || text.len() > 64 {
         return false;
     }

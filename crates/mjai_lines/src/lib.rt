@@ -10,7 +10,7 @@ mod own;
 mod pieces;
 mod value;
 
-pub use answer::{names_later_type, read_answer};
+pub use answer::{read_answer, read_built};
 pub use deed::write;
 pub use error::error_line;
 pub use join::read_join;

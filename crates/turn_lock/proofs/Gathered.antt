@@ -1,14 +1,12 @@
 -- The numbers of new passes, and of passes that are gathered.
-use Rattle.std.proofs.Common.{◌≡◌, ℕ, zero, suc, ◌+◌, ◌-◌, ◌<◌, ◌≤◌, false, List, [], ◌∷◌, ◌++◌, length, map, All, Contains, Option, Some, IfSome, refl, ap, sym, ◌∙◌, subst, arith, append_assoc, length-append}
-use Rattle.std.proofs.lemmas.List.Elements.{All-nil, All-cons, All-pop}
+use Rattle.std.proofs.Common.{◌≡◌, ℕ, zero, suc, ◌+◌, ◌-◌, ◌<◌, false, List, [], ◌∷◌, ◌++◌, length, All, Option, Some, IfSome, refl, ap, sym, ◌∙◌, subst, arith, append_assoc, length-append}
+use Rattle.std.proofs.lemmas.List.Elements.{All-pop}
 use Rattle.std.specs.Option.{option_to_list}
 use Rattle.atomic_table.specs.Seated.{TableId}
 use Rattle.turn_lock.specs.declared.view.Own.{Own}
-use Rattle.turn_lock.specs.Notes.{notes_of}
 use Rattle.turn_lock.specs.Passes.{PassState}
 use Rattle.turn_lock.specs.Turns.{new_pass, new_passes, IsPassOf}
-use Rattle.turn_lock.specs.Views.{own_of, fresh, times_of, gathered}
-use Rattle.turn_lock.specs.Rule.{Knows}
+use Rattle.turn_lock.specs.Views.{own_of, fresh, gathered}
 
 module _ {S : Type 0} (N : Type 0) where
   pub fresh_next : (fixed : S) (from count : ℕ) → 0 < count → fresh {N = N} fixed from count ≡ own_of from fixed [] ∷ fresh fixed (from + 1) (count - 1)

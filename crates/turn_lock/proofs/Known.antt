@@ -1,12 +1,12 @@
 -- What is known under the numbers, as notes are published and numbers change hands.
-use Rattle.std.proofs.Common.{◌≡◌, ℕ, zero, suc, ◌+◌, ◌<◌, ◌≤◌, ◌≢◌, ◌⊎◌, inl, inr, ⊎_elim, Bool, true, false, List, [], ◌∷◌, ◌++◌, length, ◌==◌, nat_lt, All, refl, ap, sym, ◌∙◌, subst, arith, append-nil}
+use Rattle.std.proofs.Common.{◌≡◌, ℕ, zero, suc, ◌+◌, ◌<◌, ◌≤◌, ◌≢◌, inl, inr, Bool, true, false, List, [], ◌∷◌, ◌++◌, length, ◌==◌, nat_lt, All, refl, ap, sym, ◌∙◌, subst, arith, append-nil}
 use Rattle.std.proofs.lemmas.List.Elements.{filter-append, All-push}
 use Rattle.std.proofs.lemmas.Bool.Decides.{nat_tests}
 use mathlib.Core.Logic.{dite}
 use native.Mathlib.Decide.{ℕ_discrete, dec_lt}
 use Rattle.turn_lock.specs.declared.view.Own.{Own}
 use Rattle.turn_lock.specs.Notes.{notes_of, Follows}
-use Rattle.turn_lock.specs.Views.{own_of, fresh, others, first_own, one_if, times_of}
+use Rattle.turn_lock.specs.Views.{fresh, others, first_own, one_if, times_of}
 use Rattle.turn_lock.specs.Rule.{Knows}
 use Rattle.turn_lock.proofs.Sums.{prefix_more}
 

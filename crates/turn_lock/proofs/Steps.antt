@@ -1,24 +1,23 @@
 -- Each step on the table keeps its rule.
-use Rattle.std.proofs.Common.{◌≡◌, ℕ, zero, suc, ◌+◌, ◌%◌, ◌^◌, ◌<◌, ◌≤◌, ◌≢◌, ◌⊎◌, inl, inr, ⊎_elim, Bool, true, false, List, [], ◌∷◌, ◌++◌, length, get_or, set, slice_index, slice_set, nat_lt, ◌==◌, MatchBool, All, Option, Some, None, refl, ap, sym, ◌∙◌, subst, subst₂, arith, length-append}
+use Rattle.std.proofs.Common.{◌≡◌, ℕ, ◌+◌, ◌%◌, ◌^◌, ◌<◌, ◌≤◌, ◌≢◌, Bool, true, false, List, [], ◌∷◌, ◌++◌, length, set, slice_index, slice_set, nat_lt, ◌==◌, MatchBool, All, Option, Some, refl, ap, sym, ◌∙◌, subst, subst₂, arith, length-append}
 use Rattle.std.proofs.lemmas.List.Elements.{All-nil}
 use Rattle.std.proofs.lemmas.Bool.Decides.{nat_tests}
 use Rattle.std.proofs.Math.Nat.{mod-add-mod}
-use mathlib.Core.Option.{some, none, some-injective, some-ne-none}
+use mathlib.Core.Option.{some, some-injective, some-ne-none}
 use mathlib.Core.Logic.{dite}
 use mathlib.Core.Bool.{true≢false}
 use mathlib.Core.List.{IsPrefix}
 use native.Mathlib.Decide.{ℕ_discrete}
 use lib.ListN.{get_elem?}
 use Rattle.atomic_table.specs.Table.{State, Me, Act, keeps, takes, gives, Valid, stepped, carried_after, Allows, Splits, Joins, opening as opened, Final, Seen}
-use Rattle.atomic_table.proofs.Lists.{at_set, at_snoc, set_here, set_else, set_again, at_longer, one_turn}
-use Rattle.turn_lock.specs.declared.view.Stage.{Stage}
+use Rattle.atomic_table.proofs.Lists.{set_here, set_else, set_again, one_turn}
 use Rattle.turn_lock.specs.declared.view.Stage.TheVariants.{Idle, Waits, Serves}
 use Rattle.turn_lock.specs.declared.view.Own.{Own}
 use Rattle.turn_lock.specs.declared.view.View.{View}
 use Rattle.turn_lock.specs.Notes.{notes_of, Follows}
 use Rattle.turn_lock.specs.Views.{view, own_of, fresh, others, first_own, one_if, times_of, out, HasTicket, is_serving}
-use Rattle.turn_lock.specs.Rule.{total, Apart, IsFree, FirstSaw, At, Knows, Holds}
-use Rattle.turn_lock.specs.Plays.{Drew, IsHanded, Granted, Looked, Served}
+use Rattle.turn_lock.specs.Rule.{total, IsFree, At, Knows, Holds}
+use Rattle.turn_lock.specs.Plays.{Drew, Granted, Looked, Served}
 use Rattle.turn_lock.proofs.Sums.{total_set, total_snoc, total_le, one_below, two_below, total_alone, each_set, each_snoc, one_there, prefix_self}
 use Rattle.turn_lock.proofs.Views.{apart_set, apart_snoc, frees, frees_snoc, at_later, not_next, at_served, not_serving, none_serves, out_own}
 use Rattle.turn_lock.proofs.Known.{own_times, below_one, below_count, below_follows, knows_follows, knows_append, knows_others, knows_first, knows_fresh, times_append, times_cut, length_cut, no_times, length_fresh, times_fresh}

@@ -11,7 +11,6 @@ use Rattle.turn_lock.specs.Notes.{Follows}
 use Rattle.turn_lock.specs.Views.{view, own_of, fresh, others, first_own, seen_in, setting_in, is_serving, StandsAt, HasOne, IsPass}
 use Rattle.turn_lock.specs.Rule.{Holds}
 use Rattle.turn_lock.specs.Plays.{Drew, Granted, Looked, Served}
-use Rattle.turn_lock.specs.Passes.{PassState}
 use Rattle.turn_lock.specs.Turns.{new_pass}
 use Rattle.turn_lock.proofs.Gathered.{fresh_next}
 use Rattle.turn_lock.proofs.Steps.{draws, looks, serves, splits, joins}
@@ -111,6 +110,9 @@ module _ {T S N : Type 0} where
       → w ≡ (view Idle (own_of from fixed [] ∷ []), [])
   dealt_right me w fixed from left is some_left right_is =
       subst (λ (own : List (Own S N)). w ≡ (view Idle (first_own own), [])) (fresh_next N fixed from left some_left) (subst (λ (m : Me (Option T) (View S N)). w ≡ (view Idle (first_own m.0.own), [])) is right_is)
+
+  pub dealt_is_pass : (me : Me (Option T) (View S N)) (fixed : S) (number ticket : ℕ) → me ≡ (view Idle (own_of number fixed [] ∷ []), []) → IsPass number ticket me
+  dealt_is_pass me fixed number ticket is = subst (λ (m : Me (Option T) (View S N)). IsPass number ticket m) (sym is) (record { own = refl; stands = refl })
 
   pub dealt_state : (id turn : TableId) (fixed : S) (number : ℕ) (me : Me (Option T) (View S N)) → id ≡ turn → me ≡ (view Idle (own_of number fixed [] ∷ []), [])
       → record { turn = id; setting = setting_in me.0.own; number = number; seen = seen_in me.0.own; busy = is_serving me.0.stage } ≡ new_pass turn fixed number

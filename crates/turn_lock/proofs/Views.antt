@@ -1,5 +1,5 @@
 -- Views of which one changes, and tickets.
-use Rattle.std.proofs.Common.{◌≡◌, ℕ, ◌+◌, ◌<◌, ◌≤◌, ◌≢◌, ◌⊎◌, inl, inr, ⊎_elim, false, List, [], ◌∷◌, ◌++◌, length, set, refl, ap, sym, ◌∙◌, subst, arith}
+use Rattle.std.proofs.Common.{◌≡◌, ℕ, ◌+◌, ◌≤◌, ◌≢◌, ⊎_elim, false, List, [], ◌∷◌, ◌++◌, length, set, refl, sym, ◌∙◌, subst, arith}
 use mathlib.Core.Option.{some, some-injective}
 use mathlib.Core.Logic.{dite}
 use native.Mathlib.Decide.{ℕ_discrete}
@@ -10,7 +10,7 @@ use Rattle.turn_lock.specs.declared.view.Stage.TheVariants.{Idle, Waits, Serves}
 use Rattle.turn_lock.specs.declared.view.Own.{Own}
 use Rattle.turn_lock.specs.declared.view.View.{View}
 use Rattle.turn_lock.specs.Views.{view, out, HasTicket, is_serving}
-use Rattle.turn_lock.specs.Rule.{Apart, IsFree, At, FirstSaw}
+use Rattle.turn_lock.specs.Rule.{Apart, IsFree, At}
 
 module _ {S N : Type 0} where
   -- a ticket that no other view has

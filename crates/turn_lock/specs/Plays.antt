@@ -13,6 +13,10 @@ use Rattle.turn_lock.specs.Views.{view, own_of}
 abbrev pub Drew : {T S N : Type 0} → Me (Option T) (View S N) → ℕ → Me (Option T) (View S N) → Type 0
 Drew m n w = (t : ℕ) × (w ≡ (view (Waits t) m.0.own, [])) × (n ≡ t % 2 ^ 64)
 
+-- The seat waits, under one number, for the ticket with this remainder.
+abbrev pub Awaits : {T S N : Type 0} → ℕ → ℕ → Own S N → Me (Option T) (View S N) → Type 0
+Awaits ticket t o m = (m ≡ (view (Waits t) (o ∷ []), [])) × (ticket ≡ t % 2 ^ 64)
+
 module _ {T S N : Type 0} (setting : T → S) (notes : T → List N) (author : N → ℕ) where
   -- A value that is handed out has the setting, its notes begin with what was seen, and those of the number were all seen.
   pub record IsHanded (number : ℕ) (fixed : S) (seen : List N) (x : T) : Type 0 where

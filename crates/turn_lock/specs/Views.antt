@@ -1,11 +1,13 @@
 -- What the seats of the table know: no value of these types is ever made.
-use Rattle.std.specs.Prelude.{◌≡◌, ℕ, zero, suc, ◌+◌, ◌%◌, ◌^◌, Bool, true, false, List, [], ◌∷◌, ◌++◌, ◌==◌, Option, Some, None}
+use Rattle.std.specs.Prelude.{◌≡◌, ℕ, zero, suc, ◌+◌, ◌%◌, ◌^◌, ◌<◌, Bool, true, false, List, [], ◌∷◌, ◌++◌, ◌==◌, Option, Some, None}
 use Rattle.atomic_table.specs.Table.{Me}
+use Rattle.atomic_table.specs.Seated.{TableId}
 use Rattle.turn_lock.specs.declared.view.Stage.{Stage}
 use Rattle.turn_lock.specs.declared.view.Stage.TheVariants.{Idle, Waits, Serves}
 use Rattle.turn_lock.specs.declared.view.Own.{Own}
+use Rattle.turn_lock.specs.declared.view.Start.{Start}
 use Rattle.turn_lock.specs.declared.view.View.{View}
-use Rattle.turn_lock.specs.Passes.{PassState}
+use Rattle.turn_lock.specs.Passes.{TurnState, PassState}
 
 abbrev pub view : {S N : Type 0} → Stage → List (Own S N) → View S N
 view stage own = record { stage = stage; own = own }
@@ -76,6 +78,11 @@ HasOne number [] = ⊥
 HasOne number (o ∷ []) = o.number ≡ number
 HasOne number (o ∷ p ∷ os) = ⊥
 
+-- What a pass is by its number and its seat.
+abbrev pub pass_state : {S N : Type 0} → TableId → ℕ → View S N → PassState S N
+pass_state turn number v =
+    record { turn = turn; setting = setting_in v.own; number = number; seen = seen_in v.own; busy = is_serving v.stage }
+
 -- The seat of a pass has just the pass's number, and stands as said above.
 pub record IsPass {T S N : Type 0} (number ticket : ℕ) (me : Me (Option T) (View S N)) : Type 0 where
   pub own : HasOne number me.0.own
@@ -85,3 +92,15 @@ pub record IsPass {T S N : Type 0} (number ticket : ℕ) (me : Me (Option T) (Vi
 abbrev pub gathered : {S N : Type 0} → S → List (PassState S N) → List (Own S N)
 gathered setting [] = []
 gathered setting (p ∷ ps) = gathered setting ps ++ own_of p.number setting p.seen ∷ []
+
+-- The seat of a pass that is not busy.
+abbrev pub at_rest : {T S N : Type 0} → S → PassState S N → Me (Option T) (View S N)
+at_rest setting p = (view Idle (own_of p.number setting p.seen ∷ []), [])
+
+-- What a turn is by its table and what it was made with.
+abbrev pub turn_state : {T : Type 0} → TableId → Start T → TurnState T
+turn_state id start = record { id = id; opening = start.value.value; passes = start.passes }
+
+-- The table of a turn has two words and a slot, and there are passes.
+abbrev pub IsTurn : {T : Type 0} → TableId → Start T → Type 0
+IsTurn id start = (id.words ≡ 2) × (id.slots ≡ 1) × (0 < start.passes)

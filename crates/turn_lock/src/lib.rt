@@ -4,9 +4,10 @@
 //! value in its turn, adds at most one note of its number, and gives the value back. So there is one history of notes,
 //! of which each pass has seen a beginning.
 //!
-//! Tickets are numbers without end in the proof, of which the two words of the table hold the remainders modulo 2^64. The
-//! load of the number served that finds the own ticket takes the value as well, so the value is away for the whole turn,
-//! and a value that is at home always stands for just the notes that were published.
+//! How the proof goes: tickets are numbers without end, of which the two words of the table hold the remainders modulo
+//! 2^64. The load of the number served that finds the own ticket takes the value as well, so the value is away for the
+//! whole turn, and a value that is at home stands for just the notes that were published. What a pass has seen of its own
+//! number is read off all that it has seen, and kept nowhere.
 #![tactic(auto)]
 
 mod close;

@@ -47,7 +47,7 @@ impl<T: Kept> Turn<T> {
     }
 }
 
-// A pass for each number, of the seat that has all numbers.
+// A pass for each number of the seat that has them all.
 fn deal_out<T: Kept>(
     board: &Board<T>,
     mut dealer: Place<T>,
@@ -55,7 +55,8 @@ fn deal_out<T: Kept>(
     mut passes: Vec<Pass<T>>,
 ) -> Vec<Pass<T>>
     requires board { (board.now.table_id.words ≡ 2) × (board.now.key ≡ start.now) }
-    requires dealer { (dealer.table_id ≡ board.now.table_id) × (dealer.me ≡ (view Idle (fresh (T.setting start.now.value.value) 0 start.now.passes), [])) }
+    requires dealer { dealer.table_id ≡ board.now.table_id }
+    requires all { dealer.me ≡ (view Idle (fresh (T.setting start.now.value.value) 0 start.now.passes), []) }
     requires room { (passes.items ≡ []) × (start.now.passes ≤ vec_capacity passes) }
     ensures { result.items ≡ new_passes board.now.table_id (T.setting start.now.value.value) start.now.passes }
 {

@@ -1,6 +1,5 @@
-ghost use Rattle.std.specs.Prelude.{◌≡◌, false, [], ◌∷◌, Some};
-ghost use Rattle.turn_lock.specs.Views.{view, own_of};
-ghost use Rattle.turn_lock.specs.declared.view.Stage.TheVariants.{Idle};
+ghost use Rattle.std.specs.Prelude.{◌≡◌, false, Some};
+ghost use Rattle.turn_lock.specs.Views.{at_rest};
 
 use crate::kept::Kept;
 use crate::view::View;
@@ -21,11 +20,11 @@ pub type Pass<T> = PassOf<T, <T as Kept>::Setting, <T as Kept>::Note>;
 
 impl<T, S, N> Model for PassOf<T, S, N> {
     ghost use Rattle.turn_lock.specs.Passes.{PassState};
-    ghost use Rattle.turn_lock.specs.Views.{IsPass, seen_in, setting_in, is_serving};
+    ghost use Rattle.turn_lock.specs.Views.{IsPass, pass_state};
 
     ghost Value = { PassState S N };
 
-    ghost view = { λ p. record { turn = p.seat.table_id; setting = setting_in p.seat.me.0.own; number = p.number; seen = seen_in p.seat.me.0.own; busy = is_serving p.seat.me.0.stage } };
+    ghost view = { λ p. pass_state p.seat.table_id p.number p.seat.me.0 };
 
     ghost invariant = { λ p. IsPass p.number p.ticket p.seat.me };
 }
@@ -43,7 +42,7 @@ impl<T, S, N> PassOf<T, S, N> {
 pub(crate) fn seat_of<T, S, N>(pass: PassOf<T, S, N>) -> Seat<Option<T>, View<S, N>>
     requires { pass.busy ≡ false }
     ensures turn { result.table_id ≡ pass.turn }
-    ensures me { (setting : S) → pass.setting ≡ Some setting → result.me ≡ (view Idle (own_of pass.number setting pass.seen ∷ []), []) }
+    ensures me { (setting : S) → pass.setting ≡ Some setting → result.me ≡ at_rest setting pass }
 {
     let PassOf {
         number: _,

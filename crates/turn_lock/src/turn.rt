@@ -1,10 +1,7 @@
-ghost use Rattle.std.specs.Prelude.{◌≡◌, ◌+◌, ◌%◌, ◌^◌, ◌<◌, ◌≤◌, [], ◌∷◌};
-ghost use mathlib.Core.List.{IsPrefix};
-ghost use Rattle.turn_lock.specs.Notes.{notes_of, Follows};
-ghost use Rattle.turn_lock.specs.Plays.{Granted};
-ghost use Rattle.turn_lock.specs.Views.{view};
-ghost use Rattle.turn_lock.specs.Turns.{IsIdle, IsBusy, taken, given};
-ghost use Rattle.turn_lock.specs.declared.view.Stage.TheVariants.{Waits};
+ghost use Rattle.std.specs.Prelude.{◌≡◌};
+ghost use Rattle.turn_lock.specs.Notes.{Follows};
+ghost use Rattle.turn_lock.specs.Plays.{Awaits, Granted};
+ghost use Rattle.turn_lock.specs.Turns.{IsIdle, IsBusy, IsSeenIn, taken, given};
 
 use crate::held::Held;
 use crate::kept::Kept;
@@ -33,14 +30,14 @@ pub struct Turn<T: Kept> {
 }
 
 impl<T: Kept> Model for Turn<T> {
-    ghost use Rattle.std.specs.Prelude.{◌≡◌, ◌<◌};
     ghost use Rattle.turn_lock.specs.Passes.{TurnState};
+    ghost use Rattle.turn_lock.specs.Views.{turn_state, IsTurn};
 
     ghost Value = { TurnState T };
 
-    ghost view = { λ t. record { id = t.table.shared.table_id; opening = t.table.shared.key.value.value; passes = t.table.shared.key.passes } };
+    ghost view = { λ t. turn_state t.table.shared.table_id t.table.shared.key };
 
-    ghost invariant = { λ t. (t.table.shared.table_id.words ≡ 2) × (t.table.shared.table_id.slots ≡ 1) × (0 < t.table.shared.key.passes) };
+    ghost invariant = { λ t. IsTurn t.table.shared.table_id t.table.shared.key };
 }
 
 // The shared part of a turn's table.
@@ -55,13 +52,13 @@ pub(crate) type Board<T> = Shared<
 pub(crate) type Place<T> = Seat<Option<T>, View<<T as Kept>::Setting, <T as Kept>::Note>>;
 
 impl<T: Kept> Turn<T> {
-    /// Takes the value. It waits until all who drew their tickets before have given it back.
+    /// Takes the value, which then begins with the notes that the pass has seen, and has no further note of the pass's
+    /// number. It waits until all who drew their tickets before have given the value back.
     pub fn take<R: Wait>(&self, rt: &R, pass: &mut Pass<T>) -> Held<T>
         requires { IsIdle T.setting self.now pass.old }
         ensures pass { pass.new ≡ taken pass.old (T.notes result) }
         ensures setting { T.setting result ≡ T.setting self.now.opening }
-        ensures begins { IsPrefix pass.old.seen (T.notes result) }
-        ensures mine { notes_of T.author pass.old.number (T.notes result) ≡ notes_of T.author pass.old.number pass.old.seen }
+        ensures seen { IsSeenIn T.author (T.notes result) pass.old }
     {
         let board = &self.table.shared;
         pass.ticket = board.fetch_add::<Draw>(&mut pass.seat, NEXT, 1);
@@ -72,7 +69,8 @@ impl<T: Kept> Turn<T> {
         Held { value }
     }
 
-    /// Gives the value back and wakes those who wait. What the value's notes have gained is published by this.
+    /// Gives the value back, with its setting and with the notes that it had, or with these and one more of the pass's
+    /// number, which is published by this. Those who wait are woken.
     pub fn give(&self, pass: &mut Pass<T>, held: Held<T>)
         requires busy { IsBusy T.setting self.now pass.old }
         requires setting { T.setting held ≡ T.setting self.now.opening }
@@ -88,8 +86,8 @@ impl<T: Kept> Turn<T> {
         board.wake_all(SERVING);
     }
 
-    /// Waits until another pass may have given the value back since this one's last `give`, or since the beginning. It
-    /// may return sooner, and may wait forever.
+    /// Waits until another pass has given the value back since this one's last `give`, or since the beginning. It may
+    /// return sooner, and nothing says that it returns at all.
     pub fn await_change<R: Wait>(&self, rt: &R, pass: &Pass<T>)
         requires { IsIdle T.setting self.now pass.now }
     {
@@ -102,9 +100,9 @@ impl<T: Kept> Turn<T> {
 // Waits until the ticket is served, and has the value then.
 fn wait_for_turn<T: Kept, R: Wait>(rt: &R, board: &Board<T>, seat: &mut Place<T>, ticket: u64)
     requires board { (seat.old.table_id ≡ board.now.table_id) × (board.now.table_id.words ≡ 2) }
-    requires waits { (t : _) × (o : _) × (seat.old.me ≡ (view (Waits t) (o ∷ []), [])) × (ticket ≡ t % 2 ^ 64) }
+    requires waits { (t : _) × (o : _) × Awaits ticket t o seat.old.me }
     ensures board { seat.new.table_id ≡ seat.old.table_id }
-    ensures granted { (t : _) × (o : _) × (seat.old.me ≡ (view (Waits t) (o ∷ []), [])) × (ticket ≡ t % 2 ^ 64) × Granted T.setting T.notes T.author t o seat.new.me }
+    ensures granted { (t : _) × (o : _) × Awaits ticket t o seat.old.me × Granted T.setting T.notes T.author t o seat.new.me }
 {
     for _ in rt.forever() {
         let serving = board.load::<Look>(seat, SERVING);

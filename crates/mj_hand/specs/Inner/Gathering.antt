@@ -4,15 +4,15 @@ use Rattle.std.specs.List.{list_all}
 use Rattle.mj_tiles.specs.Counts.{all_kinds}
 use Rattle.mj_hand.specs.declared.hand.Gathered.{Gathered}
 use Rattle.mj_hand.specs.Words.{Word, words_of}
-use Rattle.mj_hand.specs.Hands.{held_in, melded_in, is_meld, held, melded, melds}
+use Rattle.mj_hand.specs.Hands.{held_in, melded_in, is_meld, held_tiles, melded_tiles, meld_count}
 
 -- Texts were read: these are the concealed tiles of their words, the tiles of their melds, and the number of these.
 pub record Gathers (texts : List (List ℕ)) (tiles others : List ℕ) (number : ℕ) : Type 0 where
   pub words : List Word
   pub read : words_of texts ≡ Some words
-  pub held_are : tiles ≡ held words
-  pub melded_are : others ≡ melded words
-  pub melds_are : number ≡ melds words
+  pub held_are : tiles ≡ held_tiles words
+  pub melded_are : others ≡ melded_tiles words
+  pub melds_are : number ≡ meld_count words
 
 -- One meld where the word is one, and else none.
 abbrev pub one_if : Bool → ℕ

@@ -1,5 +1,5 @@
 -- The best score of a list of readings.
-use Rattle.std.specs.Prelude.{Bool, if◌then◌else◌, List, Option, None, Some, fold}
+use Rattle.std.specs.Prelude.{if◌then◌else◌, List, Option, None, Some, fold}
 use Rattle.mj_tiles.specs.declared.meld.Meld.{Meld}
 use Rattle.mj_readings.specs.declared.reading.Case.{Case}
 use Rattle.mj_readings.specs.declared.reading.Reading.{Reading}

@@ -1,23 +1,12 @@
-use Rattle.std.proofs.Common.{refl, ◌∙◌, arith}
-use Rattle.mj_shanten.proofs.Whole.{part_suit, four_suits, whole_join}
+use Rattle.std.proofs.Common.{◌≡◌, subst}
+use Rattle.mj_suits.specs.Improves.{Improves}
+use Rattle.mj_suits.proofs.Near.{Improves-not}
+use Rattle.mj_shanten.proofs.Hands.{nearest_for_all}
+use Rattle.mj_shanten.proofs.Whole.{held_of}
 use Rattle.mj_shanten.proofs.suits.take_sets.Goals as goal
 
-pub ask-requires-clause-suit : goal.ask-requires-clause-suit
-ask-requires-clause-suit c = part_suit _ _ 0 _ _ c.told-held (omega arith) c.requires.within c.requires.of_four c.told-room c.suit_at.ensures
+pub returns-in-Some : goal.returns-in-Some
+returns-in-Some c = nearest_for_all _ _ _ _ _ c.in-Some.ensures (subst (λ h. Improves h (λ t. t ≡ c.in-Some.target) c.args.best.now c.keep_nearer.new.best) (held_of _ _ _ c.suits.view_is c.suits.invariant.held_is) c.keep_nearer.ensures)
 
-pub ask-requires-2-clause-suit : goal.ask-requires-2-clause-suit
-ask-requires-2-clause-suit c = part_suit _ _ 9 _ _ c.told-held (omega arith) c.requires.within c.requires.of_four c.told-room c.suit_at-2.ensures
-
-pub ask-requires-3-clause-suit : goal.ask-requires-3-clause-suit
-ask-requires-3-clause-suit c = part_suit _ _ 18 _ _ c.told-held (omega arith) c.requires.within c.requires.of_four c.told-room c.suit_at-3.ensures
-
-pub ask-requires-4-clause-suit : goal.ask-requires-4-clause-suit
-ask-requires-4-clause-suit c = part_suit _ _ 27 _ _ c.told-held (omega arith) c.requires.within c.requires.of_four c.told-room c.suit_at-4.ensures
-
-pub go_on-requires-clause-left : goal.go_on-requires-clause-left
-go_on-requires-clause-left c = four_suits _ _ c.ask.result c.ask-2.result c.ask-3.result c.ask-4.result _ c.told-held c.requires.few c.ask.ensures.is c.ask-2.ensures.is c.ask-3.ensures.is c.ask-4.ensures.is
-    (c.ask.ensures.of ∙ c.suit_at.ensures) (c.ask-2.ensures.of ∙ c.suit_at-2.ensures) (c.ask-3.ensures.of ∙ c.suit_at-3.ensures) (c.ask-4.ensures.of ∙ c.suit_at-4.ensures) refl refl
-
-pub returns : goal.returns
-returns c = whole_join _ _ _ c.ask.result c.ask-2.result c.ask-3.result c.ask-4.result _ _
-    (c.ask.ensures.of ∙ c.suit_at.ensures) (c.ask-2.ensures.of ∙ c.suit_at-2.ensures) (c.ask-3.ensures.of ∙ c.suit_at-3.ensures) (c.ask-4.ensures.of ∙ c.suit_at-4.ensures) c.go_on.ensures
+pub returns-in_default : goal.returns-in_default
+returns-in_default c = Improves-not _ _ _ (λ t joint. absurd (c.in_default.ensures t joint))

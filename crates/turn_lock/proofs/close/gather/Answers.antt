@@ -1,4 +1,4 @@
-use Rattle.std.proofs.Common.{◌∷◌, [], ◌++◌, ap, sym, ◌∙◌, rules}
+use Rattle.std.proofs.Common.{◌++◌, ap, ◌∙◌, rules}
 use Rattle.turn_lock.specs.Views.{own_of, gathered}
 use Rattle.turn_lock.proofs.Gathered.{popped, gathered_more}
 use Rattle.turn_lock.proofs.Uses.{joins_at, view_at, idle_at, gathered_me}

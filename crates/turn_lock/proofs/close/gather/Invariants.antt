@@ -1,4 +1,4 @@
-use Rattle.std.proofs.Common.{◌≡◌, false, List, [], ◌++◌, All, vec_len}
+use Rattle.std.proofs.Common.{◌≡◌, false, [], ◌++◌, All, vec_len}
 use Rattle.turn_lock.specs.Turns.{IsPassOf}
 use Rattle.turn_lock.specs.Views.{view, gathered}
 use Rattle.turn_lock.specs.declared.view.Stage.TheVariants.{Idle}

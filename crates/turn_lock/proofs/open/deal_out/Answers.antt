@@ -1,9 +1,8 @@
-use Rattle.std.proofs.Common.{◌≡◌, ◌+◌, ◌-◌, ◌<◌, List, [], ◌∷◌, ◌++◌, ap, sym, ◌∙◌, subst, arith, rules}
-use Rattle.turn_lock.specs.Turns.{new_pass}
+use Rattle.std.proofs.Common.{◌≡◌, ◌+◌, ◌-◌, ◌<◌, [], ap, ◌∙◌, arith, rules}
 use Rattle.turn_lock.specs.Views.{view, fresh}
 use Rattle.turn_lock.specs.declared.view.Stage.TheVariants.{Idle}
 use Rattle.turn_lock.proofs.Gathered.{pushed_pass}
-use Rattle.turn_lock.proofs.Uses.{splits_at, view_at, dealt_left, dealt_right, dealt_state}
+use Rattle.turn_lock.proofs.Uses.{splits_at, view_at, dealt_left, dealt_right, dealt_is_pass, dealt_state}
 use Rattle.turn_lock.proofs.open.deal_out.Goals as goal
 
 pub split_seat-seat-requires : goal.split_seat-seat-requires
@@ -30,3 +29,13 @@ loop-number-preserved g c =
       len = search rules;
       room = search rules;
     }
+
+pub invariant_of-push_reserved : goal.invariant_of-push_reserved
+invariant_of-push_reserved g c =
+    let fixed = g.T.Kept.setting c.args.start.now.value.value in
+    let n = c.loop-number.number in
+    let seat = c.split_seat-seat.result in
+    let left = c.args.start.now.passes - n in
+    let some_left : 0 < left = omega (arith, c.loop-number-test.true) in
+    let own = dealt_right c.loop-number.dealer.me seat.me fixed n left c.loop-number.invariant.me some_left c.split_seat-seat.ensures.4 in
+    dealt_is_pass seat.me fixed n _ own

@@ -6,10 +6,10 @@ pub load-serving-requires : goal.load-serving-requires
 load-serving-requires g c =
     let k = g.T.Kept in
     let w = c.requires.waits in
-    (search rules, search rules, looks_at k.setting k.notes k.author _ _ _ _ w.0 w.1 _ (c.loop.invariant.3 ∙ w.2))
+    (search rules, search rules, looks_at k.setting k.notes k.author _ _ _ _ w.0 w.1 _ (c.loop.invariant.3 ∙ w.2.0))
 
 pub returns-then-serving-ticket-clause-granted : goal.returns-then-serving-ticket-clause-granted
 returns-then-serving-ticket-clause-granted g c =
     let k = g.T.Kept in
     let w = c.requires.waits in
-    (w.0, w.1, w.2, w.3, granted_at k.setting k.notes k.author w.0 _ w.1 _ _ (c.loop.invariant.3 ∙ w.2) (c.if-serving-ticket.true ∙ w.3) c.load-serving.ensures.2)
+    (w.0, w.1, w.2, granted_at k.setting k.notes k.author w.0 _ w.1 _ _ (c.loop.invariant.3 ∙ w.2.0) (c.if-serving-ticket.true ∙ w.2.1) c.load-serving.ensures.2)

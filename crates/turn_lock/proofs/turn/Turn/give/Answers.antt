@@ -1,4 +1,4 @@
-use Rattle.std.proofs.Common.{◌≡◌, ◌+◌, ◌%◌, ◌^◌, true, [], ◌∷◌, length, Some, None, ap, sym, subst₂, ◌∙◌, arith, rules}
+use Rattle.std.proofs.Common.{◌≡◌, ◌+◌, ◌%◌, ◌^◌, true, Some, None, ap, sym, subst₂, ◌∙◌, rules}
 use Rattle.std.proofs.Math.Nat.{mod-add-mod}
 use Rattle.turn_lock.specs.Notes.{Follows}
 use Rattle.turn_lock.specs.Views.{is_serving, own_of, seen_in, setting_in}

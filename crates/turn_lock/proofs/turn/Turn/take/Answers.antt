@@ -1,4 +1,4 @@
-use Rattle.std.proofs.Common.{◌≡◌, ◌<◌, false, [], ◌∷◌, length, Some, ap, sym, ◌∙◌, arith, rules}
+use Rattle.std.proofs.Common.{◌≡◌, false, [], ◌∷◌, Some, ap, sym, ◌∙◌, arith, rules}
 use Rattle.turn_lock.specs.Views.{is_serving, own_of, seen_in, setting_in}
 use Rattle.turn_lock.proofs.Uses.{draws_at, drew_at, holding_at, idle_me}
 use Rattle.turn_lock.proofs.turn.Turn.take.Goals as goal
@@ -23,9 +23,9 @@ wait_for_turn-requires-clause-waits g c = λ _ _.
     let known : setting_in p.seat.me.0.own ≡ Some fixed = ap (λ q. q.setting) c.pass.view_is ∙ (c.requires.setting_is ∙ ap (λ t. Some (k.setting t.opening)) (sym c.self.view_is)) in
     let me = idle_me p.number p.ticket fixed p.seat.me c.pass.invariant known idle in
     let drew = drew_at p.seat.me _ _ (o ∷ []) me c.fetch_add-pass-inside.ensures.2 in
-    (drew.0, o, drew.1, drew.2)
+    (drew.0, o, (drew.1, drew.2))
 
 pub exchange-requires : goal.exchange-requires
 exchange-requires g c =
     let w = c.wait_for_turn.ensures.granted in
-    (search rules, (Some w.4.0, holding_at c.wait_for_turn.new.seat.me (Some w.4.0) (ap (λ m. m.1) w.4.1)))
+    (search rules, (Some w.3.0, holding_at c.wait_for_turn.new.seat.me (Some w.3.0) (ap (λ m. m.1) w.3.1)))

@@ -1,0 +1,71 @@
+use crate::deed_words::deed;
+use crate::words::{fields, kinds, tile, words, yes};
+use mj_calls::{banned, chi_shape, same_kind};
+use std::alloc::Global;
+
+/// A deed, and the kinds that may not be discarded right after it.
+const BANS: &str = "\
+chi 1 0 3m 4m 5m|36m
+chi 1 0 3m 4m 5mr|36m
+chi 1 0 3m 1m 2m|3m
+chi 1 0 3m 2m 4m|3m
+chi 1 0 7m 8m 9m|7m
+chi 1 0 9m 7m 8m|69m
+chi 1 0 1p 2p 3p|14p
+chi 1 0 5pr 3p 4p|25p
+chi 1 0 3m 5m 4m|36m
+chi 1 0 5pr 4p 3p|25p
+chi 1 0 3m 4m 2m|3m
+chi 1 0 7m 9m 8m|7m
+pon 2 0 P P P|P
+pon 2 0 5sr 5s 5s|5s
+open 2 0 5m 5m 5m 5m|
+draw 0 4m|";
+
+fn bans(alloc: Global, line: &str) -> Option<bool> {
+    let [call, wanted, ..] = fields(line);
+    let call = deed(alloc, call)?;
+    Some(banned(&call) == kinds(wanted))
+}
+
+#[test]
+fn a_call_bans_its_tile_and_what_makes_its_run_anew(rt: HostRuntime) {
+    for line in BANS.lines() {
+        assert!(rt; bans(rt.alloc(), line) == Some(true), "{line}");
+    }
+}
+
+/// Three tiles, and whether they make a run.
+const RUNS: &str = "\
+1m 2m 3m yes
+3m 1m 2m yes
+8m 7m 9m yes
+4m 5mr 6m yes
+9s 7s 8s yes
+8m 9m 1p no
+9m 1p 2p no
+8s 9s E no
+E S W no
+5m 5mr 6m no
+1m 2m 4m no
+5p 5mr 4p no";
+
+fn makes_run(line: &str) -> Option<bool> {
+    let [a, b, c, wanted, ..] = words(line);
+    Some(chi_shape(tile(a)?, tile(b)?, tile(c)?) == yes(wanted)?)
+}
+
+fn is_alike(line: &str) -> Option<bool> {
+    let [a, b, wanted, ..] = words(line);
+    Some(same_kind(tile(a)?, tile(b)?) == yes(wanted)?)
+}
+
+#[test]
+fn a_run_lies_within_one_suit(rt: HostRuntime) {
+    for line in RUNS.lines() {
+        assert!(rt; makes_run(line) == Some(true), "{line}");
+    }
+    for line in ["5m 5mr yes", "5p 5mr no", "E E yes", "1m 1p no"] {
+        assert!(rt; is_alike(line) == Some(true), "{line}");
+    }
+}

@@ -1,0 +1,26 @@
+//! Tests of the public calls of the play layer, from names and rounds to the verdict on an answer: a file for each crate, a table
+//! of cases and a loop in each test. There is no code here but that of the tests.
+#![tactic(auto)]
+
+#[cfg(test)]
+mod calls;
+#[cfg(test)]
+mod deed_words;
+#[cfg(test)]
+mod deeds;
+#[cfg(test)]
+mod judge;
+#[cfg(test)]
+mod play;
+#[cfg(test)]
+mod ports;
+#[cfg(test)]
+mod rounds;
+#[cfg(test)]
+mod table;
+#[cfg(test)]
+mod wall;
+#[cfg(test)]
+mod window;
+#[cfg(test)]
+mod words;

@@ -1,0 +1,69 @@
+ghost use Rattle.std.specs.Prelude.{IfSome};
+ghost use Rattle.mj_rounds.specs.Rounds.{MayStand};
+
+use crate::words::{fields, kind, number, words};
+use mj_rounds::HandEnd::{Aborted, Drawn, Won};
+use mj_rounds::{HandEnd, Standing, first, next_hand};
+
+/// The round, the dealer, the honba and the hand; how it ended; and the same of the next hand, or `over`.
+const HANDS: &str = "\
+E 3 2 9|another won|S 0 0 10
+S 3 2 9|not ready|over
+S 3 2 9|ready|S 3 3 10
+S 3 2 9|aborted|S 3 3 10
+S 3 2 9|another won|over
+E 3 2 9|not ready|S 0 3 10
+E 1 2 9|dealer won|E 1 3 10
+E 1 2 9|another won|E 2 0 10
+S 0 0 198|not ready|S 1 1 199
+E 0 0 199|dealer won|over
+E 0 0 199|aborted|over";
+
+/// A standing, as `E 3 2 9`.
+pub(crate) fn standing(text: &str) -> Option<Standing>
+    ensures { IfSome result (λ now. MayStand now) }
+{
+    let [round, dealer, honba, hand, ..] = words(text);
+    let (round, dealer) = (kind(round)?, number(dealer)?);
+    let (honba, hand) = (number(honba)?, number(hand)?);
+    if round.number() != 27 && round.number() != 28 || dealer > 3 || honba > 199 || hand > 199 {
+        return None;
+    }
+    Some(Standing {
+        round,
+        dealer,
+        honba: u32::from(honba),
+        hand: u32::from(hand),
+    })
+}
+
+fn end(text: &str) -> Option<HandEnd> {
+    match text {
+        "dealer won" => Some(Won { dealer_among: true }),
+        "another won" => Some(Won {
+            dealer_among: false,
+        }),
+        "ready" => Some(Drawn { dealer_ready: true }),
+        "not ready" => Some(Drawn {
+            dealer_ready: false,
+        }),
+        "aborted" => Some(Aborted),
+        _ => None,
+    }
+}
+
+fn follows(line: &str) -> Option<bool> {
+    let [now, ended, next, ..] = fields(line);
+    match next_hand(&standing(now)?, end(ended)?) {
+        Some(following) => Some(following == standing(next)?),
+        None => Some(next == "over"),
+    }
+}
+
+#[test]
+fn hands_follow_by_who_won_and_who_was_ready(rt: HostRuntime) {
+    for line in HANDS.lines() {
+        assert!(rt; follows(line) == Some(true), "{line}");
+    }
+    assert!(rt; Some(first()) == standing("E 0 0 0"));
+}

@@ -1,0 +1,298 @@
+use crate::deed_words::deed;
+use crate::play::{add, reason, rules, wrong_line};
+use crate::words::{fields, tile};
+use mj_deeds::{Deed, next_seat};
+use mj_table::Table;
+use std::alloc::Global;
+
+/// Before a game, and what fits where it begins. A first turn lasts from the start of the hand to the own discard.
+const BEGINNING: &str = "\
+newest? none
+cause? none
+indicator 0? none
+kan_seat? none
+live? 70
+standing? E 0 0 0
+own 0?
+passed 0?
+first 0? no
+fits draw 0 1m? no
+fits game? yes
+game
+first 0? no
+fits game? no
+hand|C|111m 123456p ESWN|23567m 789p 111s PF|228899m 11p 34566s|2233p 1s 7788s 9s W PP
+newest? hand
+standing? E 0 0 0
+first 0? yes
+first 3? yes
+fits hand|C|1m|1m|1m|1m? no
+fits game? no
+draw 0 1m
+cause? none
+drawn 0? 1m
+first 0? yes
+fits dora 2s? no
+fits chi 1 0 4m 2m 3m? no
+fits discard 0 2m? no
+fits discard 4 1p? no
+fits added 0 1m 1m 1m 1m? no
+fits discard 0 1p? yes
+discard 0 1p
+first 0? no
+first 1? yes
+first 2? yes
+draw 1 2s
+cut 1 2s
+first 1? no
+first 2? yes
+riichi 2? no";
+
+/// Three kans: of four 1m by the dealer, of a discarded 1s, and of a P added to a pon.
+const KANS: &str = "\
+game
+hand|C|111m 123456p ESWN|23567m 789p 111s PF|228899m 11p 34566s|2233p 1s 7788s 9s W PP
+draw 0 1m
+closed 0 1m 1m 1m 1m
+first 2? no
+dora 9s
+replace 0 4m
+cut 0 4m
+chi 1 0 4m 2m 3m
+fits discard 2 6m? no
+discard 1 P
+fits draw 2 5mr? no
+fits draw 2 1m? no
+fits chi 2 1 P 5m 6m? no
+pon 3 1 P P P
+triplet 3 P P P P? yes
+discard 3 1s
+open 1 3 1s 1s 1s 1s
+dora E
+replace 1 F
+discard 1 5m
+draw 2 2s
+cut 2 2s
+draw 3 P
+drawn 3? P
+drawn 2? none
+added 3 P P P P
+cause? none
+passed 2?
+dora S
+newest? dora
+cause? added
+drawn 3? none
+passed 2? P
+replace 3 4p
+live? 64
+live_drawn? 3
+kans? 3
+kan_seat? 3
+shown? 4
+deposits? 0
+indicator 0? C
+indicator 1? 9s
+indicator 2? E
+indicator 3? S
+indicator 4? none
+standing? E 0 0 0
+melds 0? 1
+meld 0 0? closed 1m 1m 1m 1m
+melds 1? 2
+meld 1 0? chi 2m 3m 4m
+meld 1 1? open 1s 1s 1s 1s
+melds 2? 0
+melds 3? 1
+meld 3 0? added P P P P
+triplet 3 P P P P? no
+holds 0? 123456p ESWN
+holds 1? 67m 789p FF
+held 1 F? 2
+held 1 1s? 0
+held 3 P? 0
+held 3 4p? 1
+own 0? 4m
+own 1? 5m P
+own 2? 2s
+own 3? 1s
+passed 0? 5m 12s P
+passed 1? 2s P
+passed 2? P
+passed 3? 5m 2s
+riichi 3? no";
+
+/// Any call ends the first turn of each seat: a chi, a pon, a kan; a draw and an indicator don't.
+const CHI: &str = "\
+game
+hand|C|3m|45m|33m|1p
+discard 0 3m
+first 2? yes
+draw 2 5p
+first 2? yes
+discard 2 5p
+first 2? no
+discard 2 3m
+fits chi 1 2 3m 4m 5m? yes
+first 3? yes
+chi 1 2 3m 4m 5m
+first 3? no";
+
+const PON: &str = "\
+game
+hand|C|3m|45m|33m|1p
+discard 0 3m
+first 3? yes
+pon 2 0 3m 3m 3m
+first 3? no";
+
+const OPEN: &str = "\
+game
+hand|C|3m|45m|333m|1p
+discard 0 3m
+first 3? yes
+open 2 0 3m 3m 3m 3m
+first 3? no
+dora 1p
+first 3? no";
+
+/// Four first discards of one wind end the hand, unless a call stands before them.
+const WINDS: &str = "\
+game draws
+hand|C|1111m 56789m 1p ESW|23456789p 12s ESW|3456789s 234m ESW|456789m 1234p ESW
+reason? none
+draw 0 F
+discard 0 S
+draw 1 F
+discard 1 S
+draw 2 F
+discard 2 S
+reason? none
+draw 3 F
+discard 3 S
+reason? suufonrenta";
+
+const CALL_BEFORE: &str = "\
+game draws
+hand|C|1111m E|E|E|E
+closed 0 1m 1m 1m 1m
+discard 0 E
+discard 1 E
+discard 2 E
+discard 3 E
+reason? none";
+
+/// Four kans end the hand where they are of several seats.
+const SEVERAL: &str = "\
+game draws
+hand|C|111122223333m 4m|55556666m|1p|1p
+closed 0 1m 1m 1m 1m
+closed 0 2m 2m 2m 2m
+closed 1 5m 5m 5m 5m
+reason? none
+closed 1 6m 6m 6m 6m
+reason? suukaikan";
+
+const OF_ONE: &str = "\
+game draws
+hand|C|1111222233334444m|5m|1p|1p
+closed 0 1m 1m 1m 1m
+closed 0 2m 2m 2m 2m
+closed 0 3m 3m 3m 3m
+closed 0 4m 4m 4m 4m
+kans? 4
+reason? none";
+
+#[test]
+fn a_table_tells_what_its_deeds_come_to(rt: HostRuntime) {
+    for game in [
+        BEGINNING,
+        KANS,
+        CHI,
+        PON,
+        OPEN,
+        WINDS,
+        CALL_BEFORE,
+        SEVERAL,
+        OF_ONE,
+    ] {
+        assert_eq!(rt; wrong_line(rt.alloc(), game), "");
+    }
+}
+
+/// The rules, the first discards of the four seats, and the reason that ends the hand behind them.
+const FIRST_DISCARDS: &str = "\
+game draws|S S S S|suufonrenta
+game|S S S S|none
+game draws|S S S E|none
+game draws|S W S S|none
+game draws|F F F F|none";
+
+fn ends_so(alloc: Global, line: &str) -> Option<bool> {
+    let [game, tiles, told, ..] = fields(line);
+    let mut table = Table::new(alloc, rules(game)).ok()?;
+    let discarded = deal(alloc, &mut table) == Some(true)
+        && discard(&mut table, tiles) == Some(true);
+    Some(discarded && reason(&table) == told)
+}
+
+/// Deals each seat three winds and a dragon.
+fn deal(alloc: Global, table: &mut Table) -> Option<bool> {
+    for line in ["game", "hand|C|ESWF|ESWF|ESWF|ESWF"] {
+        if add(table, deed(alloc, line)?) != Some(true) {
+            return None;
+        }
+    }
+    Some(true)
+}
+
+/// Each seat discards one of these tiles in turn.
+fn discard(table: &mut Table, tiles: &str) -> Option<bool> {
+    let mut seat = 0;
+    for text in tiles.split_whitespace() {
+        let tile = tile(text)?;
+        if add(
+            table,
+            Deed::Discard {
+                seat,
+                tile,
+                drawn: false,
+            },
+        ) != Some(true)
+        {
+            return None;
+        }
+        seat = next_seat(seat);
+    }
+    Some(true)
+}
+
+#[test]
+fn four_first_discards_of_one_wind_end_the_hand(rt: HostRuntime) {
+    for line in FIRST_DISCARDS.lines() {
+        assert!(rt; ends_so(rt.alloc(), line) == Some(true), "{line}");
+    }
+}
+
+/// The points and rules of an empty table, and how many kans it and its copy have once one was made on the copy.
+fn copied(alloc: Global) -> Option<(bool, u8, u8)> {
+    let table = Table::new(alloc, rules("game red")).ok()?;
+    let first = deed(alloc, "game")?;
+    let mut copy = table.copy(alloc).ok()?;
+    let added = add(&mut copy, first)?;
+    let same = copy.rules() == table.rules() && table.rules().red && added;
+    Some((
+        same && table.points() == [30_000; 4],
+        number(&table),
+        number(&copy),
+    ))
+}
+
+fn number(table: &Table) -> u8 {
+    if table.newest().is_some() { 1 } else { 0 }
+}
+
+#[test]
+fn a_copy_goes_its_own_way(rt: HostRuntime) {
+    assert!(rt; copied(rt.alloc()) == Some((true, 0, 1)));
+}
