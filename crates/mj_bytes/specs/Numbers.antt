@@ -32,6 +32,6 @@ abbrev pub bounded_value : List ℕ → Option ℕ
 bounded_value text = if all_digits text then (if nat_lt (digits_value text) (2 ^ 64) then Some (digits_value text) else None) else None
 
 -- the number that a text writes: digits, at least one, without a leading zero, that say less than 2 ^ 64
-abbrev pub number_of : List ℕ → Option ℕ
-number_of [] = None
-number_of (b ∷ bs) = if has_leading_zero (b ∷ bs) then None else bounded_value (b ∷ bs)
+abbrev pub decimal_of : List ℕ → Option ℕ
+decimal_of [] = None
+decimal_of (b ∷ bs) = if has_leading_zero (b ∷ bs) then None else bounded_value (b ∷ bs)

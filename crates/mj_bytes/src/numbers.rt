@@ -2,13 +2,13 @@
 
 ghost use Rattle.std.specs.Prelude.{◌≡◌, ◌+◌, ◌*◌, ◌^◌, ◌<◌};
 ghost use Rattle.std.specs.Option.{SomeIff};
-ghost use Rattle.mj_bytes.specs.Numbers.{number_of, bounded_value};
+ghost use Rattle.mj_bytes.specs.Numbers.{decimal_of, bounded_value};
 
 /// The number that a text writes in decimal digits, from 0 to 2^64 - 1. There is none where the text
 /// is empty, has another byte than a digit (a sign, say), begins with `0` and goes on, or says
 /// 2^64 or more.
 pub fn read_number(text: &[u8]) -> Option<u64>
-    ensures { result ≡ number_of text.now }
+    ensures { result ≡ decimal_of text.now }
 {
     match text {
         [] => None,

@@ -3,7 +3,7 @@ use Rattle.std.proofs.Common.{◌≡◌, ℕ, ◌<◌, ◌≤◌, ◌==◌, ◌&
 use Rattle.std.specs.Prelude.{slice_get, option_map, nat_lt, not, if◌then◌else◌}
 use Rattle.std.specs.Option.{option_map_or}
 use Rattle.std.specs.List.{list_any, list_all}
-use Rattle.std.proofs.lemmas.Bool.{and_from}
+use Rattle.std.proofs.lemmas.Bool.{and_from, eq-eqb}
 use Rattle.std.proofs.lemmas.List.{length-map}
 use Rattle.std.proofs.lemmas.Option.{slice_get-map, slice_get-get_or, slice_get_past}
 use Rattle.mj_ports.specs.Names.{is_name}
@@ -21,14 +21,15 @@ use Rattle.mj_protocol.specs.Lines.{line}
 use Rattle.mj_protocol.specs.After.{After, Chair, Verdict, before_all, after, pending, lines_for}
 use Rattle.mj_protocol.specs.Trace.{Game, has_name, can_sit, may_say, can_say, is_answer_built, is_permitted, all_permitted, has_wall, has_ground, IsLegal}
 use Rattle.mj_protocol.proofs.Entries.{after-append, all_permitted-append}
-use Rattle.mj_protocol.specs.Reading.{join_of, answer_of, names_later_type}
+use Rattle.mj_protocol.specs.AnswerForms.{join_of, answer_of, names_later_type}
 use Rattle.mj_protocol.proofs.Fitting.{own_part_can_go_on}
 use Rattle.mj_protocol.proofs.Forms.{answers_that_are_read_are_in_form}
 use Rattle.mj_protocol.proofs.Legality.{IsNamed, join_of-named}
-use Rattle.mj_core.specs.Untold.{untold_chair, untold}
-use Rattle.mj_core.specs.States.{Position, TakesNext, is_due, CanHear, Hears}
-use Rattle.mj_core.specs.Kept.{IsKept}
-use Rattle.mj_core.specs.Calls.{standing, plain_answer, refused_by, IsSitAnswer, Answers, IsHeard, author_at, is_asked, pending_at, meaning, heard_by}
+use Rattle.mj_core.specs.Inner.Untold.{untold_chair, untold}
+use Rattle.mj_core.specs.Inner.States.{Position, TakesNext, is_due, CanHear, Hears}
+use Rattle.mj_core.specs.Inner.Kept.{IsKept}
+use Rattle.mj_core.specs.Calls.{after_of, plain_answer, refused_by, IsSitAnswer, Answers, IsHeard, author_at, may_say_at, pending_at}
+use Rattle.mj_core.specs.Inner.Verdicts.{verdict_given, heard_by}
 use Rattle.mj_core.specs.declared.verdict.Verdict.{Verdict as Judged}
 use Rattle.mj_core.specs.declared.verdict.Verdict.TheVariants as judged
 use Rattle.mj_core.specs.declared.answers.SitAnswer.TheVariants as sits
@@ -52,21 +53,18 @@ same_many chairs others e = sym (long chairs) ∙ ap length e ∙ long others
     long cs = rw length-map
 
 -- What is read of a core.
-pub held-kept : (setting : Setting) (entries : List (Entry Answer)) (state : Position) → IsKept setting entries state → length state.now.chairs ≡ length (standing (game setting entries)).chairs
+pub held-kept : (setting : Setting) (entries : List (Entry Answer)) (state : Position) → IsKept setting entries state → length state.now.chairs ≡ length (after_of (game setting entries)).chairs
 held-kept setting entries state k = same_many state.now.chairs (after setting entries).chairs (same_chairs state.now (after setting entries) k.same)
 
 pub author-kept : (setting : Setting) (entries : List (Entry Answer)) (state : Position) (seat : ℕ) → IsKept setting entries state → option_map (λ (chair : Chair). chair.author) (slice_get state.now.chairs seat) ≡ author_at (game setting entries) seat
 author-kept setting entries state seat k = seat-same (λ (chair : Chair). chair.author) (λ chair. refl) state.now.chairs (after setting entries).chairs seat (same_chairs state.now (after setting entries) k.same)
 
-same_true : (n : ℕ) → (n == n) ≡ true
-same_true n = grind arith
-
 asked-may : (now : After) (o : Option Chair) → option_map_or (λ (chair : Chair). nat_lt chair.progress.due (length now.deeds)) o false ≡ option_map_or (λ (chair : Chair). may_say now chair.author chair) o false
 unfolding may_say
 asked-may now None = refl
-asked-may now (Some chair) = rw (same_true chair.author)
+asked-may now (Some chair) = rw (eq-eqb chair.author chair.author refl)
 
-pub due-kept : (setting : Setting) (entries : List (Entry Answer)) (state : Position) (seat : ℕ) → IsKept setting entries state → is_due state.now seat ≡ is_asked (game setting entries) seat
+pub due-kept : (setting : Setting) (entries : List (Entry Answer)) (state : Position) (seat : ℕ) → IsKept setting entries state → is_due state.now seat ≡ may_say_at (game setting entries) seat
 due-kept setting entries state seat k =
     ap (λ (deeds : List Deed). option_map_or (λ (chair : Chair). nat_lt chair.progress.due (length deeds)) (slice_get state.now.chairs seat) false) (same_deeds state.now (after setting entries) k.same)
     ∙ seat_or-same (λ (chair : Chair). nat_lt chair.progress.due (length (after setting entries).deeds)) (λ chair. refl) false state.now.chairs (after setting entries).chairs seat (same_chairs state.now (after setting entries) k.same)
@@ -86,7 +84,7 @@ name-untold name (chair ∷ chairs) = rw (name-untold name chairs)
 name-same : (name : List ℕ) (chairs others : List Chair) → map untold_chair chairs ≡ map untold_chair others → list_any (has_name name) chairs ≡ list_any (has_name name) others
 name-same name chairs others e = sym (name-untold name chairs) ∙ ap (list_any (has_name name)) e ∙ name-untold name others
 
-pub name-kept : (setting : Setting) (entries : List (Entry Answer)) (state : Position) (name : List ℕ) → IsKept setting entries state → list_any (has_name name) state.now.chairs ≡ list_any (has_name name) (standing (game setting entries)).chairs
+pub name-kept : (setting : Setting) (entries : List (Entry Answer)) (state : Position) (name : List ℕ) → IsKept setting entries state → list_any (has_name name) state.now.chairs ≡ list_any (has_name name) (after_of (game setting entries)).chairs
 name-kept setting entries state name k = name-same name state.now.chairs (after setting entries).chairs (same_chairs state.now (after setting entries) k.same)
 
 -- A name can't be taken twice, and no fifth seat is taken.
@@ -174,13 +172,13 @@ sit-taken setting entries all state author seat join k unnamed s h e =
 said-due : (now : After) (author : ℕ) (o : Option Chair) → option_map_or (may_say now author) o false ≡ true → option_map_or (λ (chair : Chair). may_say now chair.author chair) o false ≡ true
 unfolding may_say
 said-due now author None h = cc
-said-due now author (Some chair) h = rw (same_true chair.author) (second (chair.author == author) (nat_lt chair.progress.due (length now.deeds)) h)
+said-due now author (Some chair) h = rw (eq-eqb chair.author chair.author refl) (second (chair.author == author) (nat_lt chair.progress.due (length now.deeds)) h)
   where
     second : (a b : Bool) → (a && b) ≡ true → b ≡ true
     second true b h = h
     second false b h = cc
 
-pub hear-due : (setting : Setting) (entries : List (Entry Answer)) (state : Position) (author seat : ℕ) → IsKept setting entries state → can_say (standing (game setting entries)) author seat ≡ true → is_due state.now seat ≡ true
+pub hear-due : (setting : Setting) (entries : List (Entry Answer)) (state : Position) (author seat : ℕ) → IsKept setting entries state → can_say (after_of (game setting entries)) author seat ≡ true → is_due state.now seat ≡ true
 hear-due setting entries state author seat k may = due-kept setting entries state seat k ∙ said-due (after setting entries) author (slice_get (after setting entries).chairs seat) may
 
 -- What is heard is in form.
@@ -195,7 +193,7 @@ heard-form text answer e = by_type (names_later_type text) e
     by_type false h = subst (λ (said : Answer). is_in_form said ≡ true) (read h) (answers_that_are_read_are_in_form text)
 
 -- What is true where it is heard.
-pub hear-can : (setting : Setting) (entries : List (Entry Answer)) (state : Position) (author seat : ℕ) (answer : Answer) → IsKept setting entries state → can_say (standing (game setting entries)) author seat ≡ true → is_in_form answer ≡ true
+pub hear-can : (setting : Setting) (entries : List (Entry Answer)) (state : Position) (author seat : ℕ) (answer : Answer) → IsKept setting entries state → can_say (after_of (game setting entries)) author seat ≡ true → is_in_form answer ≡ true
     → CanHear setting state seat answer
 hear-can setting entries state author seat answer k may form = record {
   rules = k.rules;
@@ -208,7 +206,7 @@ hear-can setting entries state author seat answer k may form = record {
   going = λ by. can_go_on-same setting state.now (after setting entries) (Said by seat answer) k.same (own_part_can_go_on setting entries (Said by seat answer) k.legal form);
 }
 
-pub hear-kept : (setting : Setting) (entries all : List (Entry Answer)) (state next : Position) (author seat : ℕ) (answer : Answer) (verdict : Verdict) → IsKept setting entries state → can_say (standing (game setting entries)) author seat ≡ true → is_in_form answer ≡ true
+pub hear-kept : (setting : Setting) (entries all : List (Entry Answer)) (state next : Position) (author seat : ℕ) (answer : Answer) (verdict : Verdict) → IsKept setting entries state → can_say (after_of (game setting entries)) author seat ≡ true → is_in_form answer ≡ true
     → Hears setting state next seat answer verdict → all ≡ entries ++ Said author seat answer ∷ [] → IsKept setting all next
 hear-kept setting entries all state next author seat answer verdict k may form t e =
     let P : List (Entry Answer) → Type 0 = λ es. IsKept setting es next in
@@ -225,14 +223,14 @@ hear-kept setting entries all state next author seat answer verdict k may form t
     })
 
 pub hear-entered : (setting : Setting) (entries all : List (Entry Answer)) (state next : Position) (author seat : ℕ) (answer : Answer) (verdict : Judged) → IsKept setting entries state
-    → Hears setting state next seat answer (meaning verdict) → all ≡ entries ++ Said author seat answer ∷ [] → IsHeard (heard_by verdict) (game setting entries) (game setting all) author seat (Some answer)
+    → Hears setting state next seat answer (verdict_given verdict) → all ≡ entries ++ Said author seat answer ∷ [] → IsHeard (heard_by verdict) (game setting entries) (game setting all) author seat (Some answer)
 hear-entered setting entries all state next author seat answer verdict k t e = by verdict (
   sym (is_answer_built-same setting state.now (after setting entries) author seat answer k.same) ∙ t.built author,
   sym (state_verdict-same setting.rules state.now (after setting entries) seat answer k.same) ∙ t.judged,
   record { setting = refl; entries = e },
 )
   where
-    by : (v : Judged) → Answers (Some answer) (game setting entries) (game setting all) author seat (meaning v) → IsHeard (heard_by v) (game setting entries) (game setting all) author seat (Some answer)
+    by : (v : Judged) → Answers (Some answer) (game setting entries) (game setting all) author seat (verdict_given v) → IsHeard (heard_by v) (game setting entries) (game setting all) author seat (Some answer)
     by judged.Taken h = h
     by judged.Late h = h
     by (judged.Refused rule) h = h
@@ -263,8 +261,8 @@ asked-say now author (Some chair) h a =
     let same : chair.author ≡ author = cc in
     ap (λ (n : ℕ). may_say now n chair) (sym same) ∙ h
 
-pub asked-can : (game : Game) (author seat : ℕ) → is_asked game seat ≡ true → author_at game seat ≡ Some author → can_say (standing game) author seat ≡ true
-asked-can game author seat h a = asked-say (standing game) author (slice_get (standing game).chairs seat) h a
+pub asked-can : (game : Game) (author seat : ℕ) → may_say_at game seat ≡ true → author_at game seat ≡ Some author → can_say (after_of game) author seat ≡ true
+asked-can game author seat h a = asked-say (after_of game) author (slice_get (after_of game).chairs seat) h a
 
 -- What is still to be told to a held seat.
 pending-seat : (deeds : List Deed) (chairs : List Chair) (seat : ℕ) (chair : Chair) (told : List ℕ) → slice_get chairs seat ≡ Some chair → pending (lines_for seat deeds) chair.progress ≡ told

@@ -3,6 +3,7 @@ use Rattle.std.proofs.Common.{◌≡◌, ◌≢◌, ℕ, zero, suc, ◌+◌, ◌
 use Rattle.std.specs.Prelude.{slice_get, slice_set, nat_lt, if◌then◌else◌}
 use Rattle.std.specs.Option.{option_map_or}
 use Rattle.std.proofs.lemmas.Option.{slice_get_within}
+use Rattle.std.proofs.lemmas.Bool.{true≢false}
 use Rattle.std.proofs.lemmas.Bool.Decides.{eqb_tells}
 use Rattle.mj_deeds.specs.declared.four.Four.{Four}
 use Rattle.mj_deeds.specs.declared.rule.Rule.{Rule}
@@ -11,24 +12,24 @@ use Rattle.mj_deeds.specs.declared.answer.Answer.{Answer}
 use Rattle.mj_deeds.specs.Four.{at_seat}
 use Rattle.mj_wall.specs.declared.setting.Setting.{Setting}
 use Rattle.mj_window.specs.Slots.{empty_slots, put_at}
-use Rattle.mj_protocol.specs.After.{After, Chair, Verdict, Taken, Late, Refused, verdict, verdict_by, verdict_on, goes_on, filled, lines_for}
+use Rattle.mj_protocol.specs.After.{After, Chair, Verdict, Taken, Late, Refused, verdict, verdict_by, verdict_on, progress_after, slots_after, lines_for}
 use Rattle.mj_protocol.specs.Trace.{is_verdict_built}
 use Rattle.mj_protocol.proofs.Places.{slice_get-set_at, slice_get-set_other}
-use Rattle.mj_core.specs.Untold.{untold_chair}
-use Rattle.mj_core.specs.States.{is_due, IsOpen}
+use Rattle.mj_core.specs.Inner.Untold.{untold_chair}
+use Rattle.mj_core.specs.Inner.States.{is_due, IsOpen}
 
 abbrev pub pieces : List Deed → List Chair → Four (Option Answer) → After
 pieces deeds chairs slots = record { deeds = deeds; chairs = chairs; slots = slots }
 
 -- What is known when a held seat has answered: its verdict, the slots with its answer, and how far it has come.
-pub record Spoken (setting : Setting) (old : After) (seat : ℕ) (answer : Answer) (chair next : Chair) (verdict : Verdict) (slots : Four (Option Answer)) : Type 0 where
+pub record IsSaid (setting : Setting) (old : After) (seat : ℕ) (answer : Answer) (chair next : Chair) (verdict : Verdict) (slots : Four (Option Answer)) : Type 0 where
   pub begun : (length old.deeds == 0) ≡ false
   pub due : is_due old seat ≡ true
   pub held : slice_get old.chairs seat ≡ Some chair
   pub judged : verdict ≡ verdict_on setting.rules old.deeds seat answer chair.progress
   pub may : is_verdict_built chair.progress.refused verdict ≡ true
-  pub filling : slots ≡ filled verdict old.slots seat answer
-  pub on : untold_chair next ≡ untold_chair (record chair { progress = goes_on (lines_for seat old.deeds) verdict chair.progress })
+  pub filling : slots ≡ slots_after verdict old.slots seat answer
+  pub on : untold_chair next ≡ untold_chair (record chair { progress = progress_after (lines_for seat old.deeds) verdict chair.progress })
 
 -- A held seat whose due deed exists sits at a game that has begun.
 begun-at : (now : After) (o : Option Chair) → option_map_or (λ (chair : Chair). nat_lt chair.progress.due (length now.deeds)) o false ≡ true → (length now.deeds == 0) ≡ false
@@ -53,11 +54,8 @@ due-within now seat h =
     slice_get_within now.chairs seat k.0 k.1
 
 -- Before the game has begun no deed is due, and a window without answers is empty.
-both_ways : (b : Bool) → b ≡ true → b ≡ false → ⊥
-both_ways b h k = cc
-
 pub unbegun-open : (now : After) → (length now.deeds == 0) ≡ true → IsOpen now
-unbegun-open now d seat h = absurd (both_ways (length now.deeds == 0) d (begun-due now seat h))
+unbegun-open now d seat h = absurd (true≢false (sym d ∙ begun-due now seat h))
 
 pub empty-open : (deeds : List Deed) (chairs : List Chair) → IsOpen (pieces deeds chairs empty_slots)
 empty-open deeds chairs seat h = none (seat == 0) (seat == 1) (seat == 2)
@@ -92,10 +90,10 @@ put-other slots (suc (suc (suc zero))) (suc (suc (suc zero))) answer s o ne = ab
 put-other slots (suc (suc (suc zero))) (suc (suc (suc (suc other)))) answer s o ne = absurd (omega arith)
 put-other slots (suc (suc (suc (suc seat)))) other answer s o ne = absurd (omega arith)
 
-filled-other : (v : Verdict) (slots : Four (Option Answer)) (seat other : ℕ) (answer : Answer) → seat < 4 → other < 4 → seat ≢ other → at_seat (filled v slots seat answer) other ≡ at_seat slots other
-filled-other Taken slots seat other answer s o ne = put-other slots seat other answer s o ne
-filled-other Late slots seat other answer s o ne = refl
-filled-other (Refused rule) slots seat other answer s o ne = refl
+slots_after-other : (v : Verdict) (slots : Four (Option Answer)) (seat other : ℕ) (answer : Answer) → seat < 4 → other < 4 → seat ≢ other → at_seat (slots_after v slots seat answer) other ≡ at_seat slots other
+slots_after-other Taken slots seat other answer s o ne = put-other slots seat other answer s o ne
+slots_after-other Late slots seat other answer s o ne = refl
+slots_after-other (Refused rule) slots seat other answer s o ne = refl
 
 -- A seat whose answer to the newest deed is taken has no due deed any more.
 taken-newest : (due many : ℕ) (rule : Option Rule) → Taken ≡ verdict due many rule → nat_lt (due + 1) many ≡ false
@@ -108,20 +106,20 @@ taken-newest due many rule h = test (nat_lt (due + 1) many) h
     test true e = absurd (by_rule rule (sym e))
     test false e = refl
 
-filled-own : (v : Verdict) (slots : Four (Option Answer)) (lines : List (List ℕ)) (seat many : ℕ) (answer : Answer) (rule : Option Rule) (chair : Chair) → v ≡ verdict chair.progress.due many rule
-    → nat_lt (goes_on lines v chair.progress).due many ≡ true → at_seat slots seat ≡ None → at_seat (filled v slots seat answer) seat ≡ None
-filled-own Taken slots lines seat many answer rule chair j h e = absurd (both_ways _ h (taken-newest chair.progress.due many rule j))
-filled-own Late slots lines seat many answer rule chair j h e = e
-filled-own (Refused r) slots lines seat many answer rule chair j h e = e
+slots_after-own : (v : Verdict) (slots : Four (Option Answer)) (lines : List (List ℕ)) (seat many : ℕ) (answer : Answer) (rule : Option Rule) (chair : Chair) → v ≡ verdict chair.progress.due many rule
+    → nat_lt (progress_after lines v chair.progress).due many ≡ true → at_seat slots seat ≡ None → at_seat (slots_after v slots seat answer) seat ≡ None
+slots_after-own Taken slots lines seat many answer rule chair j h e = absurd (true≢false (sym h ∙ taken-newest chair.progress.due many rule j))
+slots_after-own Late slots lines seat many answer rule chair j h e = e
+slots_after-own (Refused r) slots lines seat many answer rule chair j h e = e
 
 -- So it stays once a held seat has answered its due deed.
-pub answered-open : (setting : Setting) (old : After) (seat : ℕ) (answer : Answer) (chair next : Chair) (verdict : Verdict) (slots : Four (Option Answer)) → Spoken setting old seat answer chair next verdict slots
+pub answered-open : (setting : Setting) (old : After) (seat : ℕ) (answer : Answer) (chair next : Chair) (verdict : Verdict) (slots : Four (Option Answer)) → IsSaid setting old seat answer chair next verdict slots
     → length old.chairs ≤ 4 → IsOpen old → IsOpen (pieces old.deeds (slice_set old.chairs seat next) slots)
 answered-open setting old seat answer chair next verdict slots s four empty other h =
     ap (λ (f : Four (Option Answer)). at_seat f other) s.filling ∙ elim (eqb_tells seat other) [
-      | inl p ↦ subst (λ (n : ℕ). at_seat (filled verdict old.slots seat answer) n ≡ None) p.1
-          (filled-own verdict old.slots (lines_for seat old.deeds) seat (length old.deeds) answer _ chair s.judged (own (subst is_asked (sym p.1) h)) (empty seat s.due))
-      | inr p ↦ filled-other verdict old.slots seat other answer (below seat (due-within old seat s.due)) (below other (due-within old other (others p.1))) p.1 ∙ empty other (others p.1)
+      | inl p ↦ subst (λ (n : ℕ). at_seat (slots_after verdict old.slots seat answer) n ≡ None) p.1
+          (slots_after-own verdict old.slots (lines_for seat old.deeds) seat (length old.deeds) answer _ chair s.judged (own (subst is_asked (sym p.1) h)) (empty seat s.due))
+      | inr p ↦ slots_after-other verdict old.slots seat other answer (below seat (due-within old seat s.due)) (below other (due-within old other (others p.1))) p.1 ∙ empty other (others p.1)
     ]
   where
     is_asked : ℕ → Type 0
@@ -133,7 +131,7 @@ answered-open setting old seat answer chair next verdict slots s four empty othe
     others : seat ≢ other → is_due old other ≡ true
     others ne = sym (ap (λ (o : Option Chair). option_map_or (λ (c : Chair). nat_lt c.progress.due (length old.deeds)) o false) (slice_get-set_other old.chairs seat other next ne)) ∙ h
 
-    own : is_asked seat → nat_lt (goes_on (lines_for seat old.deeds) verdict chair.progress).due (length old.deeds) ≡ true
+    own : is_asked seat → nat_lt (progress_after (lines_for seat old.deeds) verdict chair.progress).due (length old.deeds) ≡ true
     own k =
         ap (λ (c : Chair). nat_lt c.progress.due (length old.deeds)) (sym s.on)
         ∙ sym (ap (λ (o : Option Chair). option_map_or (λ (c : Chair). nat_lt c.progress.due (length old.deeds)) o false) (slice_get-set_at old.chairs seat next chair s.held)) ∙ k

@@ -16,23 +16,23 @@ use Rattle.mj_wall.specs.declared.setting.Setting.{Setting}
 use Rattle.mj_rules.specs.Outcome.{outcome}
 use Rattle.mj_rules.specs.Played.{IsPlayed, AllLawful}
 use Rattle.mj_window.specs.Slots.{empty_slots}
-use Rattle.mj_protocol.specs.After.{After, Chair, Verdict, verdict_on, goes_on, filled, is_ready, answers_in, names_of, lines_for}
+use Rattle.mj_protocol.specs.After.{After, Chair, Verdict, verdict_on, progress_after, slots_after, is_window_closed, answers_in, names_of, lines_for}
 use Rattle.mj_protocol.specs.Trace.{is_verdict_built, is_answer_built}
-use Rattle.mj_core.specs.Untold.{untold_chair}
-use Rattle.mj_core.specs.States.{TakesNext, is_due, CanHear, Hears}
-use Rattle.mj_core.proofs.Open.{pieces, Spoken, begun-due, due-within}
-use Rattle.mj_core.proofs.Steps.{under, new_chair, takes-waits, takes-starts, hears-open, hears-closed, unbuilt-deed, spoken-played, spoken-lawful}
+use Rattle.mj_core.specs.Inner.Untold.{untold_chair}
+use Rattle.mj_core.specs.Inner.States.{TakesNext, is_due, CanHear, Hears}
+use Rattle.mj_core.proofs.Open.{pieces, IsSaid, begun-due, due-within}
+use Rattle.mj_core.proofs.Steps.{under, new_chair, takes-waits, takes-starts, hears-open, hears-closed, unbuilt-deed, is_said-played, is_said-lawful}
 
 -- The pieces of a state that has taken the next seat are these.
-pub record Seated (deeds : List Deed) (chairs all : List Chair) (author : ℕ) (join : JoinLine) : Type 0 where
+pub record TakesChair (deeds : List Deed) (chairs all : List Chair) (author : ℕ) (join : JoinLine) : Type 0 where
   pub chair : Chair
   pub before : (length deeds == 0) ≡ true
   pub new : chair ≡ untold_chair (new_chair author join)
   pub all_is : all ≡ chairs ++ chair ∷ []
 
-pub seated-waits : (rules : Rules) (deeds : List Deed) (chairs all : List Chair) (slots : Four (Option Answer)) (author : ℕ) (join : JoinLine) → Seated deeds chairs all author join
+pub seat-waits : (rules : Rules) (deeds : List Deed) (chairs all : List Chair) (slots : Four (Option Answer)) (author : ℕ) (join : JoinLine) → TakesChair deeds chairs all author join
     → (length chairs ≡ 3 → ⊥) → TakesNext (under rules (pieces deeds chairs slots)) (under rules (pieces deeds all slots)) author join
-seated-waits rules deeds chairs all slots author join s h =
+seat-waits rules deeds chairs all slots author join s h =
     let P : List Chair → Type 0 = λ cs. TakesNext (under rules (pieces deeds chairs slots)) (under rules (pieces deeds cs slots)) author join in
     subst P (sym s.all_is) (takes-waits rules (pieces deeds chairs slots) author join s.chair s.before (ap untold_chair s.new)
     (not_four (length (chairs ++ s.chair ∷ [])) (length chairs) (length-append chairs (s.chair ∷ [])) h))
@@ -40,10 +40,10 @@ seated-waits rules deeds chairs all slots author join s h =
     not_four : (n m : ℕ) → n ≡ m + 1 → (m ≡ 3 → ⊥) → (n == 4) ≡ false
     not_four n m e h = grind (arith, e, h)
 
-pub seated-starts : (rules after_rules : Rules) (deeds : List Deed) (chairs all : List Chair) (slots : Four (Option Answer)) (author : ℕ) (join : JoinLine) (names : Four (List ℕ)) → after_rules ≡ rules → (s : Seated deeds chairs all author join)
+pub seat-starts : (rules after_rules : Rules) (deeds : List Deed) (chairs all : List Chair) (slots : Four (Option Answer)) (author : ℕ) (join : JoinLine) (names : Four (List ℕ)) → after_rules ≡ rules → (s : TakesChair deeds chairs all author join)
     → length chairs ≡ 3 → names ≡ names_of (chairs ++ s.chair ∷ [])
     → TakesNext (under rules (pieces deeds chairs slots)) (under after_rules (pieces (deeds ++ StartGame names ∷ []) all empty_slots)) author join
-seated-starts rules after_rules deeds chairs all slots author join names e s three n =
+seat-starts rules after_rules deeds chairs all slots author join names e s three n =
     let P : List Chair → Type 0 = λ cs. TakesNext (under rules (pieces deeds chairs slots)) (under after_rules (pieces (deeds ++ StartGame names ∷ []) cs empty_slots)) author join in
     subst P (sym s.all_is) (takes-starts rules after_rules (pieces deeds chairs slots) author join s.chair names e s.before (ap untold_chair s.new)
     (length-append chairs (s.chair ∷ []) ∙ ap (λ (m : ℕ). m + 1) three) n)
@@ -72,11 +72,11 @@ pub judged-at : (setting : Setting) (rules : Rules) (deeds told : List Deed) (se
 judged-at setting rules deeds told seat answer chair verdict r d judged = judged ∙ (λ i. verdict_on (r i) (d i) seat answer chair.progress)
 
 -- What is known when the held seat that was read has answered.
-pub spoken : (setting : Setting) (rules : Rules) (deeds told : List Deed) (chairs : List Chair) (before : Four (Option Answer)) (seat place : ℕ) (answer : Answer) (chair next : Chair) (verdict : Verdict) (slots : Four (Option Answer))
+pub is_said : (setting : Setting) (rules : Rules) (deeds told : List Deed) (chairs : List Chair) (before : Four (Option Answer)) (seat place : ℕ) (answer : Answer) (chair next : Chair) (verdict : Verdict) (slots : Four (Option Answer))
     → CanHear setting (under rules (pieces deeds chairs before)) seat answer → told ≡ deeds → place ≡ seat → chair ≡ get_or chairs place chair → verdict ≡ verdict_on rules told seat answer chair.progress
-    → is_verdict_built chair.progress.refused verdict ≡ true → ((lines : List (List ℕ)) → next ≡ untold_chair (record chair { progress = goes_on lines verdict chair.progress }))
-    → slots ≡ filled verdict before seat answer → Spoken setting (pieces deeds chairs before) seat answer chair next verdict slots
-spoken setting rules deeds told chairs before seat place answer chair next verdict slots k same at read judged may on filling = record {
+    → is_verdict_built chair.progress.refused verdict ≡ true → ((lines : List (List ℕ)) → next ≡ untold_chair (record chair { progress = progress_after lines verdict chair.progress }))
+    → slots ≡ slots_after verdict before seat answer → IsSaid setting (pieces deeds chairs before) seat answer chair next verdict slots
+is_said setting rules deeds told chairs before seat place answer chair next verdict slots k same at read judged may on filling = record {
   begun = begun-due (pieces deeds chairs before) seat k.due;
   due = k.due;
   held = read-chair (pieces deeds chairs before) seat place chair k.due at read;
@@ -87,12 +87,12 @@ spoken setting rules deeds told chairs before seat place answer chair next verdi
 }
 
 -- The chair that was read is put back as it has come on.
-pub spoken-open : (setting : Setting) (rules : Rules) (deeds : List Deed) (chairs : List Chair) (before : Four (Option Answer)) (seat place : ℕ) (answer : Answer) (chair next : Chair) (verdict : Verdict) (slots : Four (Option Answer))
-    → CanHear setting (under rules (pieces deeds chairs before)) seat answer → place ≡ seat → Spoken setting (pieces deeds chairs before) seat answer chair next verdict slots
-    → None ≡ (if is_ready slots then Some (answers_in slots) else None)
+pub is_said-open : (setting : Setting) (rules : Rules) (deeds : List Deed) (chairs : List Chair) (before : Four (Option Answer)) (seat place : ℕ) (answer : Answer) (chair next : Chair) (verdict : Verdict) (slots : Four (Option Answer))
+    → CanHear setting (under rules (pieces deeds chairs before)) seat answer → place ≡ seat → IsSaid setting (pieces deeds chairs before) seat answer chair next verdict slots
+    → None ≡ (if is_window_closed slots then Some (answers_in slots) else None)
     → Hears setting (under rules (pieces deeds chairs before)) (under rules (pieces deeds (slice_set chairs place next) slots)) seat answer verdict
-spoken-open setting rules deeds chairs before seat place answer chair next verdict slots k at s r =
-    rw at (hears-open setting rules (pieces deeds chairs before) seat answer chair next verdict slots s k.four k.empty (not_ready (is_ready slots) (answers_in slots) r))
+is_said-open setting rules deeds chairs before seat place answer chair next verdict slots k at s r =
+    rw at (hears-open setting rules (pieces deeds chairs before) seat answer chair next verdict slots s k.four k.empty (not_ready (is_window_closed slots) (answers_in slots) r))
   where
     not_ready : (b : Bool) (given : Four Answer) → None ≡ (if b then Some given else None) → b ≡ false
     not_ready true given h = cc
@@ -107,35 +107,35 @@ all_given false given found h = cc
 follows : (rules kept : Rules) (walls others : List (List ℕ)) (deeds told : List Deed) (given found : Four Answer) (deed : Option Deed) → kept ≡ rules → others ≡ walls → told ≡ deeds → found ≡ given → deed ≡ outcome kept others told found → outcome rules walls deeds given ≡ deed
 follows rules kept walls others deeds told given found deed r w e g o = sym (o ∙ (λ i. outcome (r i) (w i) (e i) (g i)))
 
-pub spoken-closed : (after_rules : Rules) (place : ℕ) (deed : Deed) (setting : Setting) (rules : Rules) (deeds told : List Deed) (walls : List (List ℕ)) (chairs : List Chair) (before : Four (Option Answer)) (seat : ℕ) (answer : Answer) (chair next : Chair) (verdict : Verdict) (slots : Four (Option Answer)) (found : Four Answer)
-    → after_rules ≡ rules → rules ≡ setting.rules → walls ≡ setting.walls → told ≡ deeds → place ≡ seat → Spoken setting (pieces deeds chairs before) seat answer chair next verdict slots
-    → Some found ≡ (if is_ready slots then Some (answers_in slots) else None) → Some deed ≡ outcome rules walls told found
+pub is_said-closed : (after_rules : Rules) (place : ℕ) (deed : Deed) (setting : Setting) (rules : Rules) (deeds told : List Deed) (walls : List (List ℕ)) (chairs : List Chair) (before : Four (Option Answer)) (seat : ℕ) (answer : Answer) (chair next : Chair) (verdict : Verdict) (slots : Four (Option Answer)) (found : Four Answer)
+    → after_rules ≡ rules → rules ≡ setting.rules → walls ≡ setting.walls → told ≡ deeds → place ≡ seat → IsSaid setting (pieces deeds chairs before) seat answer chair next verdict slots
+    → Some found ≡ (if is_window_closed slots then Some (answers_in slots) else None) → Some deed ≡ outcome rules walls told found
     → Hears setting (under rules (pieces deeds chairs before)) (under after_rules (pieces (deeds ++ deed ∷ []) (slice_set chairs place next) empty_slots)) seat answer verdict
-spoken-closed after_rules place deed setting rules deeds told walls chairs before seat answer chair next verdict slots found e same w d at s r o =
-    let g = all_given (is_ready slots) (answers_in slots) found r in
+is_said-closed after_rules place deed setting rules deeds told walls chairs before seat answer chair next verdict slots found e same w d at s r o =
+    let g = all_given (is_window_closed slots) (answers_in slots) found r in
     rw at (hears-closed setting rules after_rules (pieces deeds chairs before) seat answer chair next verdict slots deed e s g.0 (follows setting.rules rules setting.walls walls deeds told (answers_in slots) found (Some deed) same w d g.1 o))
 
-pub spoken-unbuilt : (author : ℕ) (setting : Setting) (rules : Rules) (deeds told : List Deed) (walls : List (List ℕ)) (chairs : List Chair) (before : Four (Option Answer)) (seat : ℕ) (answer : Answer) (chair next : Chair) (verdict : Verdict) (slots : Four (Option Answer)) (found : Four Answer)
-    → rules ≡ setting.rules → walls ≡ setting.walls → told ≡ deeds → Spoken setting (pieces deeds chairs before) seat answer chair next verdict slots
-    → Some found ≡ (if is_ready slots then Some (answers_in slots) else None) → None ≡ outcome rules walls told found → is_answer_built setting (pieces deeds chairs before) author seat answer ≡ false
-spoken-unbuilt author setting rules deeds told walls chairs before seat answer chair next verdict slots found same w d s r o =
-    let g = all_given (is_ready slots) (answers_in slots) found r in
+pub is_said-unbuilt : (author : ℕ) (setting : Setting) (rules : Rules) (deeds told : List Deed) (walls : List (List ℕ)) (chairs : List Chair) (before : Four (Option Answer)) (seat : ℕ) (answer : Answer) (chair next : Chair) (verdict : Verdict) (slots : Four (Option Answer)) (found : Four Answer)
+    → rules ≡ setting.rules → walls ≡ setting.walls → told ≡ deeds → IsSaid setting (pieces deeds chairs before) seat answer chair next verdict slots
+    → Some found ≡ (if is_window_closed slots then Some (answers_in slots) else None) → None ≡ outcome rules walls told found → is_answer_built setting (pieces deeds chairs before) author seat answer ≡ false
+is_said-unbuilt author setting rules deeds told walls chairs before seat answer chair next verdict slots found same w d s r o =
+    let g = all_given (is_window_closed slots) (answers_in slots) found r in
     unbuilt-deed setting (pieces deeds chairs before) author seat answer chair next verdict slots s g.0 (follows setting.rules rules setting.walls walls deeds told (answers_in slots) found None same w d g.1 o)
 
 -- The deeds of the table are played, and the four answers lawful.
 pub given-played : (setting : Setting) (rules : Rules) (deeds told : List Deed) (walls : List (List ℕ)) (chairs : List Chair) (before : Four (Option Answer)) (seat : ℕ) (answer : Answer) (chair next : Chair) (verdict : Verdict) (slots : Four (Option Answer)) (found : Four Answer)
-    → CanHear setting (under rules (pieces deeds chairs before)) seat answer → walls ≡ setting.walls → told ≡ deeds → Spoken setting (pieces deeds chairs before) seat answer chair next verdict slots
+    → CanHear setting (under rules (pieces deeds chairs before)) seat answer → walls ≡ setting.walls → told ≡ deeds → IsSaid setting (pieces deeds chairs before) seat answer chair next verdict slots
     → IsPlayed rules walls told
 given-played setting rules deeds told walls chairs before seat answer chair next verdict slots found k w d s =
-    let played : IsPlayed setting.rules setting.walls deeds = spoken-played setting (pieces deeds chairs before) 0 seat answer chair next verdict slots s (k.going 0) in
+    let played : IsPlayed setting.rules setting.walls deeds = is_said-played setting (pieces deeds chairs before) 0 seat answer chair next verdict slots s (k.going 0) in
     rw (k.rules, w, d) played
 
 pub given-lawful : (setting : Setting) (rules : Rules) (deeds told : List Deed) (walls : List (List ℕ)) (chairs : List Chair) (before : Four (Option Answer)) (seat : ℕ) (answer : Answer) (chair next : Chair) (verdict : Verdict) (slots : Four (Option Answer)) (found : Four Answer)
-    → CanHear setting (under rules (pieces deeds chairs before)) seat answer → told ≡ deeds → Spoken setting (pieces deeds chairs before) seat answer chair next verdict slots
-    → Some found ≡ (if is_ready slots then Some (answers_in slots) else None) → AllLawful rules told found
+    → CanHear setting (under rules (pieces deeds chairs before)) seat answer → told ≡ deeds → IsSaid setting (pieces deeds chairs before) seat answer chair next verdict slots
+    → Some found ≡ (if is_window_closed slots then Some (answers_in slots) else None) → AllLawful rules told found
 given-lawful setting rules deeds told walls chairs before seat answer chair next verdict slots found k d s r =
-    let g = all_given (is_ready slots) (answers_in slots) found r in
-    let lawful : AllLawful setting.rules deeds (answers_in slots) = spoken-lawful setting (pieces deeds chairs before) 0 seat answer chair next verdict slots s (k.going 0) g.0 in
+    let g = all_given (is_window_closed slots) (answers_in slots) found r in
+    let lawful : AllLawful setting.rules deeds (answers_in slots) = is_said-lawful setting (pieces deeds chairs before) 0 seat answer chair next verdict slots s (k.going 0) g.0 in
     rw (k.rules, d, g.1) lawful
 
 -- The place that was read lies within the chairs.

@@ -1,5 +1,5 @@
 -- What the connections were told changes nothing else.
-use Rattle.std.proofs.Common.{◌≡◌, ℕ, zero, suc, List, [], ◌∷◌, ◌++◌, map, Bool, true, false, Option, Some, None, refl, ap, ◌∙◌, sym, subst}
+use Rattle.std.proofs.Common.{◌≡◌, ℕ, zero, suc, List, [], ◌∷◌, ◌++◌, map, true, false, Option, Some, None, refl, ap, ◌∙◌, sym, subst}
 use Rattle.std.specs.Prelude.{slice_get, slice_set, option_map, is_some, if◌then◌else◌}
 use Rattle.std.specs.Option.{option_map_or}
 use Rattle.std.proofs.lemmas.List.{map-set, map-append, length-map}
@@ -11,11 +11,11 @@ use Rattle.mj_deeds.specs.declared.deed.Deed.{Deed}
 use Rattle.mj_deeds.specs.declared.answer.Answer.{Answer}
 use Rattle.mj_wall.specs.declared.setting.Rules.{Rules}
 use Rattle.mj_wall.specs.declared.setting.Setting.{Setting}
-use Rattle.mj_protocol.specs.After.{After, Chair, Verdict, Taken, Late, Refused, verdict_on, seated, goes_on, filled, is_ready, lines_for, heard, own_part, name_at, names_of, next_deed, with_deed, step}
+use Rattle.mj_protocol.specs.After.{After, Chair, Verdict, Taken, Late, Refused, verdict_on, first_progress, progress_after, slots_after, is_window_closed, lines_for, after_said, own_part, name_at, names_of, next_deed, with_deed, step}
 use Rattle.mj_protocol.specs.Laws.{CanGoOn}
 use Rattle.mj_protocol.specs.Trace.{is_verdict_built, is_heard_built, is_deed_built, is_answer_built}
-use Rattle.mj_core.specs.Untold.{untold_chair, untold}
-use Rattle.mj_core.specs.States.{state_verdict}
+use Rattle.mj_core.specs.Inner.Untold.{untold_chair, untold}
+use Rattle.mj_core.specs.Inner.States.{state_verdict}
 
 untold-twice : (chairs : List Chair) → map untold_chair (map untold_chair chairs) ≡ map untold_chair chairs
 untold-twice [] = refl
@@ -44,27 +44,27 @@ with_deed-untold now None = refl
 with_deed-untold now (Some deed) = refl
 
 -- A seat that goes on, told or untold.
-goes_on-untold : (lines : List (List ℕ)) (verdict : Verdict) (chair : Chair) → untold_chair (record (untold_chair chair) { progress = goes_on lines verdict (untold_chair chair).progress }) ≡ untold_chair (record chair { progress = goes_on lines verdict chair.progress })
-goes_on-untold lines Taken chair = refl
-goes_on-untold lines Late chair = refl
-goes_on-untold lines (Refused rule) chair = refl
+progress_after-untold : (lines : List (List ℕ)) (verdict : Verdict) (chair : Chair) → untold_chair (record (untold_chair chair) { progress = progress_after lines verdict (untold_chair chair).progress }) ≡ untold_chair (record chair { progress = progress_after lines verdict chair.progress })
+progress_after-untold lines Taken chair = refl
+progress_after-untold lines Late chair = refl
+progress_after-untold lines (Refused rule) chair = refl
 
-heard-untold : (rules : Rules) (now : After) (seat : ℕ) (answer : Answer) (chair : Chair) → untold (heard rules (untold now) seat answer (untold_chair chair)) ≡ untold (heard rules now seat answer chair)
-unfolding heard
-heard-untold rules now seat answer chair =
+after_said-untold : (rules : Rules) (now : After) (seat : ℕ) (answer : Answer) (chair : Chair) → untold (after_said rules (untold now) seat answer (untold_chair chair)) ≡ untold (after_said rules now seat answer chair)
+unfolding after_said
+after_said-untold rules now seat answer chair =
     let v : Verdict = verdict_on rules now.deeds seat answer chair.progress in
     let lines : List (List ℕ) = lines_for seat now.deeds in
-    let e : map untold_chair (slice_set (map untold_chair now.chairs) seat (record (untold_chair chair) { progress = goes_on lines v (untold_chair chair).progress }))
-    ≡ map untold_chair (slice_set now.chairs seat (record chair { progress = goes_on lines v chair.progress })) =
+    let e : map untold_chair (slice_set (map untold_chair now.chairs) seat (record (untold_chair chair) { progress = progress_after lines v (untold_chair chair).progress }))
+    ≡ map untold_chair (slice_set now.chairs seat (record chair { progress = progress_after lines v chair.progress })) =
     map-set untold_chair (map untold_chair now.chairs) seat _
-    ∙ ap (λ (cs : List Chair). slice_set cs seat (untold_chair (record (untold_chair chair) { progress = goes_on lines v (untold_chair chair).progress }))) (untold-twice now.chairs)
-    ∙ ap (λ (c : Chair). slice_set (map untold_chair now.chairs) seat c) (goes_on-untold lines v chair)
-    ∙ sym (map-set untold_chair now.chairs seat (record chair { progress = goes_on lines v chair.progress })) in
-    ap (λ (cs : List Chair). let now : After = record { deeds = now.deeds; chairs = cs; slots = filled v now.slots seat answer } in now) e
+    ∙ ap (λ (cs : List Chair). slice_set cs seat (untold_chair (record (untold_chair chair) { progress = progress_after lines v (untold_chair chair).progress }))) (untold-twice now.chairs)
+    ∙ ap (λ (c : Chair). slice_set (map untold_chair now.chairs) seat c) (progress_after-untold lines v chair)
+    ∙ sym (map-set untold_chair now.chairs seat (record chair { progress = progress_after lines v chair.progress })) in
+    ap (λ (cs : List Chair). let now : After = record { deeds = now.deeds; chairs = cs; slots = slots_after v now.slots seat answer } in now) e
 
-heard-option : (rules : Rules) (now : After) (seat : ℕ) (answer : Answer) (o : Option Chair) → untold (option_map_or (heard rules (untold now) seat answer) (option_map untold_chair o) (untold now)) ≡ untold (option_map_or (heard rules now seat answer) o now)
-heard-option rules now seat answer None = ap (λ (cs : List Chair). let n : After = record { deeds = now.deeds; chairs = cs; slots = now.slots } in n) (untold-twice now.chairs)
-heard-option rules now seat answer (Some chair) = heard-untold rules now seat answer chair
+after_said-option : (rules : Rules) (now : After) (seat : ℕ) (answer : Answer) (o : Option Chair) → untold (option_map_or (after_said rules (untold now) seat answer) (option_map untold_chair o) (untold now)) ≡ untold (option_map_or (after_said rules now seat answer) o now)
+after_said-option rules now seat answer None = ap (λ (cs : List Chair). let n : After = record { deeds = now.deeds; chairs = cs; slots = now.slots } in n) (untold-twice now.chairs)
+after_said-option rules now seat answer (Some chair) = after_said-untold rules now seat answer chair
 
 untold-untold : (now : After) → untold (untold now) ≡ untold now
 untold-untold now = ap (λ (cs : List Chair). let n : After = record { deeds = now.deeds; chairs = cs; slots = now.slots } in n) (untold-twice now.chairs)
@@ -79,8 +79,8 @@ own_part-untold : (setting : Setting) (now : After) (entry : Entry Answer) → u
 unfolding own_part
 own_part-untold setting now (Sat author name key) =
     ap (λ (cs : List Chair). let n : After = record { deeds = now.deeds; chairs = cs; slots = now.slots } in n)
-    (append-untold now.chairs (record { author = author; name = name; key = key; progress = seated }))
-own_part-untold setting now (Said author seat answer) = rw (slice_get-map untold_chair now.chairs seat) (heard-option setting.rules now seat answer (slice_get now.chairs seat))
+    (append-untold now.chairs (record { author = author; name = name; key = key; progress = first_progress }))
+own_part-untold setting now (Said author seat answer) = rw (slice_get-map untold_chair now.chairs seat) (after_said-option setting.rules now seat answer (slice_get now.chairs seat))
 own_part-untold setting now (Back author seat) = untold-untold now
 own_part-untold setting now (Gone author seat) = untold-untold now
 own_part-untold setting now (Expired author window t1 t2) = untold-untold now
@@ -129,7 +129,7 @@ is_deed_built-same : (setting : Setting) (now other : After) → untold now ≡ 
 unfolding is_deed_built
 is_deed_built-same setting now other e =
     rw (next_deed-same setting now other e)
-    (ap (λ (slots : Four (Option Answer)). if is_ready slots then is_some (next_deed setting other) else true) (ap (λ (n : After). n.slots) e))
+    (ap (λ (slots : Four (Option Answer)). if is_window_closed slots then is_some (next_deed setting other) else true) (ap (λ (n : After). n.slots) e))
 
 is_heard_built-same : (rules : Rules) (now other : After) (seat : ℕ) (answer : Answer) → untold now ≡ untold other →
     option_map_or (is_heard_built rules now seat answer) (slice_get now.chairs seat) false ≡ option_map_or (is_heard_built rules other seat answer) (slice_get other.chairs seat) false

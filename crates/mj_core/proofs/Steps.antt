@@ -15,13 +15,13 @@ use Rattle.mj_wall.specs.declared.setting.Setting.{Setting}
 use Rattle.mj_rules.specs.Played.{IsPlayed, AllLawful}
 use Rattle.mj_rules.specs.Outcome.{outcome}
 use Rattle.mj_window.specs.Slots.{empty_slots}
-use Rattle.mj_protocol.specs.After.{After, Chair, Verdict, verdict_on, goes_on, seated, filled, is_ready, answers_in, lines_for, heard, own_part, names_of, next_deed, with_deed, step}
+use Rattle.mj_protocol.specs.After.{After, Chair, Verdict, verdict_on, progress_after, first_progress, slots_after, is_window_closed, answers_in, lines_for, after_said, own_part, names_of, next_deed, with_deed, step}
 use Rattle.mj_protocol.specs.Laws.{CanGoOn}
 use Rattle.mj_protocol.specs.Trace.{is_verdict_built, is_heard_built, is_deed_built, is_answer_built}
-use Rattle.mj_core.specs.Untold.{untold_chair, untold}
-use Rattle.mj_core.specs.States.{Position, IsOpen, TakesNext, state_verdict, Hears}
+use Rattle.mj_core.specs.Inner.Untold.{untold_chair, untold}
+use Rattle.mj_core.specs.Inner.States.{Position, IsOpen, TakesNext, state_verdict, Hears}
 use Rattle.mj_core.proofs.Same.{names_of-same, with_deed-same}
-use Rattle.mj_core.proofs.Open.{pieces, Spoken, unbegun-open, empty-open, answered-open}
+use Rattle.mj_core.proofs.Open.{pieces, IsSaid, unbegun-open, empty-open, answered-open}
 
 -- A step is what an entry changes of its own seat, and then the next deed.
 step-of : (setting : Setting) (now changed : After) (entry : Entry Answer) (deed : Option Deed) → own_part setting now entry ≡ changed → next_deed setting changed ≡ deed → step setting now entry ≡ with_deed changed deed
@@ -34,7 +34,7 @@ under rules now = record { rules = rules; now = now }
 
 -- The seat that a join takes.
 abbrev pub new_chair : ℕ → JoinLine → Chair
-new_chair author join = record { author = author; name = join.name; key = join.key; progress = seated }
+new_chair author join = record { author = author; name = join.name; key = join.key; progress = first_progress }
 
 sat-own : (setting : Setting) (old : After) (author : ℕ) (join : JoinLine) → own_part setting old (Sat author join.name join.key) ≡ record old { chairs = old.chairs ++ new_chair author join ∷ [] }
 unfolding own_part
@@ -50,7 +50,7 @@ unfolding next_deed
 next-starts setting now d c = rw (d, c)
 
 -- Afterwards the window on the newest deed decides.
-next-plays : (setting : Setting) (now : After) → (length now.deeds == 0) ≡ false → next_deed setting now ≡ (if is_ready now.slots then outcome setting.rules setting.walls now.deeds (answers_in now.slots) else None)
+next-plays : (setting : Setting) (now : After) → (length now.deeds == 0) ≡ false → next_deed setting now ≡ (if is_window_closed now.slots then outcome setting.rules setting.walls now.deeds (answers_in now.slots) else None)
 unfolding next_deed
 next-plays setting now d = rw d
 
@@ -101,122 +101,122 @@ takes-starts rules after_rules old author join chair names r d e c n = record {
 }
 
 -- What a held seat says.
-said-own : (setting : Setting) (old : After) (author seat : ℕ) (answer : Answer) (chair : Chair) → slice_get old.chairs seat ≡ Some chair → own_part setting old (Said author seat answer) ≡ heard setting.rules old seat answer chair
+said-own : (setting : Setting) (old : After) (author seat : ℕ) (answer : Answer) (chair : Chair) → slice_get old.chairs seat ≡ Some chair → own_part setting old (Said author seat answer) ≡ after_said setting.rules old seat answer chair
 unfolding own_part
-said-own setting old author seat answer chair h = ap (λ (o : Option Chair). option_map_or (heard setting.rules old seat answer) o old) h
+said-own setting old author seat answer chair h = ap (λ (o : Option Chair). option_map_or (after_said setting.rules old seat answer) o old) h
 
 abbrev gone_on : Setting → After → ℕ → Answer → Chair → Chair
 gone_on setting old seat answer chair =
-    record chair { progress = goes_on (lines_for seat old.deeds) (verdict_on setting.rules old.deeds seat answer chair.progress) chair.progress }
+    record chair { progress = progress_after (lines_for seat old.deeds) (verdict_on setting.rules old.deeds seat answer chair.progress) chair.progress }
 
-heard-is : (setting : Setting) (old : After) (seat : ℕ) (answer : Answer) (chair : Chair) → heard setting.rules old seat answer chair ≡ record {
+after_said-is : (setting : Setting) (old : After) (seat : ℕ) (answer : Answer) (chair : Chair) → after_said setting.rules old seat answer chair ≡ record {
   deeds = old.deeds;
   chairs = slice_set old.chairs seat (gone_on setting old seat answer chair);
-  slots = filled (verdict_on setting.rules old.deeds seat answer chair.progress) old.slots seat answer;
+  slots = slots_after (verdict_on setting.rules old.deeds seat answer chair.progress) old.slots seat answer;
 }
-unfolding heard
-heard-is setting old seat answer chair = refl
+unfolding after_said
+after_said-is setting old seat answer chair = refl
 
 untold-set : (chairs : List Chair) (seat : ℕ) (chair other : Chair) → untold_chair chair ≡ untold_chair other → map untold_chair (slice_set chairs seat chair) ≡ map untold_chair (slice_set chairs seat other)
 untold-set chairs seat chair other e =
     map-set untold_chair chairs seat chair ∙ ap (λ (c : Chair). slice_set (map untold_chair chairs) seat c) e ∙ sym (map-set untold_chair chairs seat other)
 
 -- What the answer changes of its own seat.
-spoken-own : (setting : Setting) (old : After) (author seat : ℕ) (answer : Answer) (chair next : Chair) (verdict : Verdict) (slots : Four (Option Answer)) → Spoken setting old seat answer chair next verdict slots
+is_said-own : (setting : Setting) (old : After) (author seat : ℕ) (answer : Answer) (chair next : Chair) (verdict : Verdict) (slots : Four (Option Answer)) → IsSaid setting old seat answer chair next verdict slots
     → own_part setting old (Said author seat answer) ≡ pieces old.deeds (slice_set old.chairs seat (gone_on setting old seat answer chair)) slots
-spoken-own setting old author seat answer chair next verdict slots s =
-    said-own setting old author seat answer chair s.held ∙ heard-is setting old seat answer chair
+is_said-own setting old author seat answer chair next verdict slots s =
+    said-own setting old author seat answer chair s.held ∙ after_said-is setting old seat answer chair
     ∙ ap (pieces old.deeds (slice_set old.chairs seat (gone_on setting old seat answer chair)))
-    (ap (λ (v : Verdict). filled v old.slots seat answer) (sym s.judged) ∙ sym s.filling)
+    (ap (λ (v : Verdict). slots_after v old.slots seat answer) (sym s.judged) ∙ sym s.filling)
 
-spoken-same : (setting : Setting) (old : After) (seat : ℕ) (answer : Answer) (chair next : Chair) (verdict : Verdict) (slots : Four (Option Answer)) → Spoken setting old seat answer chair next verdict slots
+is_said-same : (setting : Setting) (old : After) (seat : ℕ) (answer : Answer) (chair next : Chair) (verdict : Verdict) (slots : Four (Option Answer)) → IsSaid setting old seat answer chair next verdict slots
     → map untold_chair (slice_set old.chairs seat next) ≡ map untold_chair (slice_set old.chairs seat (gone_on setting old seat answer chair))
-spoken-same setting old seat answer chair next verdict slots s =
+is_said-same setting old seat answer chair next verdict slots s =
     untold-set old.chairs seat next _
-    (s.on ∙ ap (λ (v : Verdict). untold_chair (record chair { progress = goes_on (lines_for seat old.deeds) v chair.progress })) s.judged)
+    (s.on ∙ ap (λ (v : Verdict). untold_chair (record chair { progress = progress_after (lines_for seat old.deeds) v chair.progress })) s.judged)
 
-spoken-step : (setting : Setting) (old : After) (author seat : ℕ) (answer : Answer) (chair next : Chair) (verdict : Verdict) (slots : Four (Option Answer)) (deed : Option Deed) → Spoken setting old seat answer chair next verdict slots
-    → (if is_ready slots then outcome setting.rules setting.walls old.deeds (answers_in slots) else None) ≡ deed
+is_said-step : (setting : Setting) (old : After) (author seat : ℕ) (answer : Answer) (chair next : Chair) (verdict : Verdict) (slots : Four (Option Answer)) (deed : Option Deed) → IsSaid setting old seat answer chair next verdict slots
+    → (if is_window_closed slots then outcome setting.rules setting.walls old.deeds (answers_in slots) else None) ≡ deed
     → untold (with_deed (pieces old.deeds (slice_set old.chairs seat next) slots) deed) ≡ untold (step setting old (Said author seat answer))
-spoken-step setting old author seat answer chair next verdict slots deed s n =
+is_said-step setting old author seat answer chair next verdict slots deed s n =
     let changed : After = pieces old.deeds (slice_set old.chairs seat (gone_on setting old seat answer chair)) slots in
-    with_deed-same _ changed deed (ap (λ (cs : List Chair). pieces old.deeds cs slots) (spoken-same setting old seat answer chair next verdict slots s))
-    ∙ sym (ap untold (step-of setting old changed (Said author seat answer) deed (spoken-own setting old author seat answer chair next verdict slots s) (next-plays setting changed s.begun ∙ n)))
+    with_deed-same _ changed deed (ap (λ (cs : List Chair). pieces old.deeds cs slots) (is_said-same setting old seat answer chair next verdict slots s))
+    ∙ sym (ap untold (step-of setting old changed (Said author seat answer) deed (is_said-own setting old author seat answer chair next verdict slots s) (next-plays setting changed s.begun ∙ n)))
 
 -- The verdict is one that the seat may get.
-heard-built : (rules : Rules) (now : After) (seat : ℕ) (answer : Answer) (chair : Chair) (verdict : Verdict) (b : Bool) → slice_get now.chairs seat ≡ Some chair → verdict ≡ verdict_on rules now.deeds seat answer chair.progress → is_verdict_built chair.progress.refused verdict ≡ b
+after_said-built : (rules : Rules) (now : After) (seat : ℕ) (answer : Answer) (chair : Chair) (verdict : Verdict) (b : Bool) → slice_get now.chairs seat ≡ Some chair → verdict ≡ verdict_on rules now.deeds seat answer chair.progress → is_verdict_built chair.progress.refused verdict ≡ b
     → option_map_or (is_heard_built rules now seat answer) (slice_get now.chairs seat) false ≡ b
 unfolding is_heard_built
-heard-built rules now seat answer chair verdict b held judged may =
+after_said-built rules now seat answer chair verdict b held judged may =
     ap (λ (o : Option Chair). option_map_or (is_heard_built rules now seat answer) o false) held
     ∙ ap (is_verdict_built chair.progress.refused) (sym judged) ∙ may
 
-deed-built : (setting : Setting) (now : After) → (length now.deeds == 0) ≡ false → is_deed_built setting now ≡ (if is_ready now.slots then is_some (if is_ready now.slots then outcome setting.rules setting.walls now.deeds (answers_in now.slots) else None) else true)
+deed-built : (setting : Setting) (now : After) → (length now.deeds == 0) ≡ false → is_deed_built setting now ≡ (if is_window_closed now.slots then is_some (if is_window_closed now.slots then outcome setting.rules setting.walls now.deeds (answers_in now.slots) else None) else true)
 unfolding is_deed_built
 deed-built setting now d = rw (next-plays setting now d)
 
-spoken-built : (setting : Setting) (old : After) (author seat : ℕ) (answer : Answer) (chair next : Chair) (verdict : Verdict) (slots : Four (Option Answer)) (b : Bool) → Spoken setting old seat answer chair next verdict slots
-    → (if is_ready slots then is_some (if is_ready slots then outcome setting.rules setting.walls old.deeds (answers_in slots) else None) else true) ≡ b
+is_said-built : (setting : Setting) (old : After) (author seat : ℕ) (answer : Answer) (chair next : Chair) (verdict : Verdict) (slots : Four (Option Answer)) (b : Bool) → IsSaid setting old seat answer chair next verdict slots
+    → (if is_window_closed slots then is_some (if is_window_closed slots then outcome setting.rules setting.walls old.deeds (answers_in slots) else None) else true) ≡ b
     → is_answer_built setting old author seat answer ≡ b
 unfolding is_answer_built
-spoken-built setting old author seat answer chair next verdict slots b s d =
-    ap (λ (h : Bool). h && is_deed_built setting (own_part setting old (Said author seat answer))) (heard-built setting.rules old seat answer chair verdict true s.held s.judged s.may)
-    ∙ ap (is_deed_built setting) (spoken-own setting old author seat answer chair next verdict slots s)
+is_said-built setting old author seat answer chair next verdict slots b s d =
+    ap (λ (h : Bool). h && is_deed_built setting (own_part setting old (Said author seat answer))) (after_said-built setting.rules old seat answer chair verdict true s.held s.judged s.may)
+    ∙ ap (is_deed_built setting) (is_said-own setting old author seat answer chair next verdict slots s)
     ∙ deed-built setting _ s.begun ∙ d
 
 same_many : (chairs : List Chair) (seat : ℕ) (chair : Chair) → length (slice_set chairs seat chair) ≡ length chairs
 same_many chairs seat chair = length-set chairs seat chair
 
-spoken-judged : (setting : Setting) (old : After) (seat : ℕ) (answer : Answer) (chair next : Chair) (verdict : Verdict) (slots : Four (Option Answer)) → Spoken setting old seat answer chair next verdict slots → state_verdict setting.rules old seat answer ≡ Some verdict
-spoken-judged setting old seat answer chair next verdict slots s =
+is_said-judged : (setting : Setting) (old : After) (seat : ℕ) (answer : Answer) (chair next : Chair) (verdict : Verdict) (slots : Four (Option Answer)) → IsSaid setting old seat answer chair next verdict slots → state_verdict setting.rules old seat answer ≡ Some verdict
+is_said-judged setting old seat answer chair next verdict slots s =
     ap (λ (o : Option Chair). option_map (λ (c : Chair). verdict_on setting.rules old.deeds seat answer c.progress) o) s.held ∙ ap Some (sym s.judged)
 
 -- The window stays open.
-pub hears-open : (setting : Setting) (rules : Rules) (old : After) (seat : ℕ) (answer : Answer) (chair next : Chair) (verdict : Verdict) (slots : Four (Option Answer)) → Spoken setting old seat answer chair next verdict slots
-    → length old.chairs ≤ 4 → IsOpen old → is_ready slots ≡ false → Hears setting (under rules old) (under rules (pieces old.deeds (slice_set old.chairs seat next) slots)) seat answer verdict
+pub hears-open : (setting : Setting) (rules : Rules) (old : After) (seat : ℕ) (answer : Answer) (chair next : Chair) (verdict : Verdict) (slots : Four (Option Answer)) → IsSaid setting old seat answer chair next verdict slots
+    → length old.chairs ≤ 4 → IsOpen old → is_window_closed slots ≡ false → Hears setting (under rules old) (under rules (pieces old.deeds (slice_set old.chairs seat next) slots)) seat answer verdict
 hears-open setting rules old seat answer chair next verdict slots s four empty r = record {
   rules = refl;
-  judged = spoken-judged setting old seat answer chair next verdict slots s;
-  built = λ author. spoken-built setting old author seat answer chair next verdict slots true s (rw r);
-  stepped = λ author. spoken-step setting old author seat answer chair next verdict slots None s (rw r);
+  judged = is_said-judged setting old seat answer chair next verdict slots s;
+  built = λ author. is_said-built setting old author seat answer chair next verdict slots true s (rw r);
+  stepped = λ author. is_said-step setting old author seat answer chair next verdict slots None s (rw r);
   as_many = same_many old.chairs seat next;
   empty = answered-open setting old seat answer chair next verdict slots s four empty;
 }
 
 -- The window closes, and the next deed comes.
 pub hears-closed : (setting : Setting) (rules after_rules : Rules) (old : After) (seat : ℕ) (answer : Answer) (chair next : Chair) (verdict : Verdict) (slots : Four (Option Answer)) (deed : Deed) → after_rules ≡ rules
-    → Spoken setting old seat answer chair next verdict slots → is_ready slots ≡ true → outcome setting.rules setting.walls old.deeds (answers_in slots) ≡ Some deed
+    → IsSaid setting old seat answer chair next verdict slots → is_window_closed slots ≡ true → outcome setting.rules setting.walls old.deeds (answers_in slots) ≡ Some deed
     → Hears setting (under rules old) (under after_rules (pieces (old.deeds ++ deed ∷ []) (slice_set old.chairs seat next) empty_slots)) seat answer verdict
 hears-closed setting rules after_rules old seat answer chair next verdict slots deed e s r o = record {
   rules = e;
-  judged = spoken-judged setting old seat answer chair next verdict slots s;
-  built = λ author. spoken-built setting old author seat answer chair next verdict slots true s (rw (r, o));
-  stepped = λ author. spoken-step setting old author seat answer chair next verdict slots (Some deed) s (rw (r, o));
+  judged = is_said-judged setting old seat answer chair next verdict slots s;
+  built = λ author. is_said-built setting old author seat answer chair next verdict slots true s (rw (r, o));
+  stepped = λ author. is_said-step setting old author seat answer chair next verdict slots (Some deed) s (rw (r, o));
   as_many = same_many old.chairs seat next;
   empty = empty-open (old.deeds ++ deed ∷ []) (slice_set old.chairs seat next);
 }
 
 -- The deeds and the answers in the slots are fit for the next deed.
-pub spoken-goes : (setting : Setting) (old : After) (author seat : ℕ) (answer : Answer) (chair next : Chair) (verdict : Verdict) (slots : Four (Option Answer)) → Spoken setting old seat answer chair next verdict slots
+pub is_said-goes : (setting : Setting) (old : After) (author seat : ℕ) (answer : Answer) (chair next : Chair) (verdict : Verdict) (slots : Four (Option Answer)) → IsSaid setting old seat answer chair next verdict slots
     → CanGoOn setting (own_part setting old (Said author seat answer)) → CanGoOn setting (pieces old.deeds (slice_set old.chairs seat (gone_on setting old seat answer chair)) slots)
-spoken-goes setting old author seat answer chair next verdict slots s going =
-    subst (CanGoOn setting) (spoken-own setting old author seat answer chair next verdict slots s) going
+is_said-goes setting old author seat answer chair next verdict slots s going =
+    subst (CanGoOn setting) (is_said-own setting old author seat answer chair next verdict slots s) going
 
-pub spoken-played : (setting : Setting) (old : After) (author seat : ℕ) (answer : Answer) (chair next : Chair) (verdict : Verdict) (slots : Four (Option Answer)) → Spoken setting old seat answer chair next verdict slots
+pub is_said-played : (setting : Setting) (old : After) (author seat : ℕ) (answer : Answer) (chair next : Chair) (verdict : Verdict) (slots : Four (Option Answer)) → IsSaid setting old seat answer chair next verdict slots
     → CanGoOn setting (own_part setting old (Said author seat answer)) → IsPlayed setting.rules setting.walls old.deeds
-spoken-played setting old author seat answer chair next verdict slots s going = (spoken-goes setting old author seat answer chair next verdict slots s going).played
+is_said-played setting old author seat answer chair next verdict slots s going = (is_said-goes setting old author seat answer chair next verdict slots s going).played
 
-pub spoken-lawful : (setting : Setting) (old : After) (author seat : ℕ) (answer : Answer) (chair next : Chair) (verdict : Verdict) (slots : Four (Option Answer)) → Spoken setting old seat answer chair next verdict slots
-    → CanGoOn setting (own_part setting old (Said author seat answer)) → is_ready slots ≡ true → AllLawful setting.rules old.deeds (answers_in slots)
-spoken-lawful setting old author seat answer chair next verdict slots s going ready = (spoken-goes setting old author seat answer chair next verdict slots s going).ready ready
+pub is_said-lawful : (setting : Setting) (old : After) (author seat : ℕ) (answer : Answer) (chair next : Chair) (verdict : Verdict) (slots : Four (Option Answer)) → IsSaid setting old seat answer chair next verdict slots
+    → CanGoOn setting (own_part setting old (Said author seat answer)) → is_window_closed slots ≡ true → AllLawful setting.rules old.deeds (answers_in slots)
+is_said-lawful setting old author seat answer chair next verdict slots s going ready = (is_said-goes setting old author seat answer chair next verdict slots s going).ready ready
 
 -- The window closes, and what comes next isn't built.
-pub unbuilt-deed : (setting : Setting) (old : After) (author seat : ℕ) (answer : Answer) (chair next : Chair) (verdict : Verdict) (slots : Four (Option Answer)) → Spoken setting old seat answer chair next verdict slots
-    → is_ready slots ≡ true → outcome setting.rules setting.walls old.deeds (answers_in slots) ≡ None → is_answer_built setting old author seat answer ≡ false
-unbuilt-deed setting old author seat answer chair next verdict slots s r o = spoken-built setting old author seat answer chair next verdict slots false s (rw (r, o))
+pub unbuilt-deed : (setting : Setting) (old : After) (author seat : ℕ) (answer : Answer) (chair next : Chair) (verdict : Verdict) (slots : Four (Option Answer)) → IsSaid setting old seat answer chair next verdict slots
+    → is_window_closed slots ≡ true → outcome setting.rules setting.walls old.deeds (answers_in slots) ≡ None → is_answer_built setting old author seat answer ≡ false
+unbuilt-deed setting old author seat answer chair next verdict slots s r o = is_said-built setting old author seat answer chair next verdict slots false s (rw (r, o))
 
 -- The seat may not get this verdict.
 pub unbuilt-verdict : (setting : Setting) (old : After) (author seat : ℕ) (answer : Answer) (chair : Chair) (verdict : Verdict) → slice_get old.chairs seat ≡ Some chair → verdict ≡ verdict_on setting.rules old.deeds seat answer chair.progress → is_verdict_built chair.progress.refused verdict ≡ false
     → is_answer_built setting old author seat answer ≡ false
 unfolding is_answer_built
-unbuilt-verdict setting old author seat answer chair verdict held judged may = rw (heard-built setting.rules old seat answer chair verdict false held judged may)
+unbuilt-verdict setting old author seat answer chair verdict held judged may = rw (after_said-built setting.rules old seat answer chair verdict false held judged may)

@@ -1,5 +1,2 @@
-pub mod Untold
 pub mod Calls
-pub mod States
-pub mod Kept
-pub mod Entries
+pub mod Inner

@@ -29,7 +29,7 @@ pub struct Entered {
 impl Model for Entered {
     ghost use Rattle.mj_ports.specs.declared.entry.Entry.{Entry};
     ghost use Rattle.mj_deeds.specs.declared.answer.Answer.{Answer};
-    ghost use Rattle.mj_core.specs.Entries.{entry_of};
+    ghost use Rattle.mj_core.specs.Inner.Entries.{entry_of};
 
     ghost Value = { Entry Answer };
 

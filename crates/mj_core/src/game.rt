@@ -4,9 +4,10 @@ ghost use Rattle.mj_bytes.specs.Adds.{Adds};
 ghost use Rattle.mj_ports.specs.Names.{is_name};
 ghost use Rattle.mj_wall.specs.Places.{is_wall};
 ghost use Rattle.mj_deeds.specs.Answers.{is_in_form};
-ghost use Rattle.mj_protocol.specs.Reading.{join_of};
+ghost use Rattle.mj_protocol.specs.AnswerForms.{join_of};
 ghost use Rattle.mj_protocol.specs.Trace.{can_say};
-ghost use Rattle.mj_core.specs.Calls.{IsSitAnswer, IsHeard, plain_answer, heard_by, standing, is_held, author_at, is_asked, pending_at};
+ghost use Rattle.mj_core.specs.Calls.{IsSitAnswer, IsHeard, plain_answer, after_of, is_held, author_at, may_say_at, pending_at};
+ghost use Rattle.mj_core.specs.Inner.Verdicts.{heard_by};
 
 use crate::answers::{Heard, SitAnswer};
 use crate::entered::Entered;
@@ -29,7 +30,7 @@ pub struct Core {
 
 impl Model for Core {
     ghost use Rattle.mj_protocol.specs.Trace.{Game};
-    ghost use Rattle.mj_core.specs.Kept.{IsKept};
+    ghost use Rattle.mj_core.specs.Inner.Kept.{IsKept};
 
     ghost Value = { Game };
 
@@ -102,7 +103,7 @@ impl Core {
     /// A line of a seat, 0 to 3, which is present by this author and whose due deed exists. The answer that the line reads
     /// as is entered and judged, unless what it leads to is not built.
     pub fn said(&mut self, alloc: Global, author: u8, seat: u8, line: &[u8]) -> Heard
-        requires { can_say (standing self.old) author seat ≡ true }
+        requires { can_say (after_of self.old) author seat ≡ true }
         ensures { IsHeard result self.old self.new author seat (plain_answer line.now) }
     {
         match read_built(alloc, line) {
@@ -114,7 +115,7 @@ impl Core {
 
     // An answer of a seat, which is in form.
     fn hear(&mut self, alloc: Global, author: u8, seat: u8, answer: &Answer) -> Heard
-        requires may { can_say (standing self.old) author seat ≡ true }
+        requires may { can_say (after_of self.old) author seat ≡ true }
         requires form { is_in_form answer.now ≡ true }
         ensures { IsHeard result self.old self.new author seat (Some answer.now) }
     {
@@ -151,15 +152,15 @@ impl Core {
 
     /// Whether a seat is held and the deed that its next line answers exists.
     pub fn may_say(&self, seat: u8) -> bool
-        ensures asked { result ≡ is_asked self.now seat }
-        ensures by_author { result ≡ true → (author : ℕ) → author_at self.now seat ≡ Some author → can_say (standing self.now) author seat ≡ true }
+        ensures asked { result ≡ may_say_at self.now seat }
+        ensures by_author { result ≡ true → (author : ℕ) → author_at self.now seat ≡ Some author → can_say (after_of self.now) author seat ≡ true }
     {
         self.state.is_due(seat)
     }
 
     /// The number of held seats, 0 to 4.
     pub fn seats(&self) -> u8
-        ensures { result ≡ length (standing self.now).chairs }
+        ensures { result ≡ length (after_of self.now).chairs }
     {
         self.state.held()
     }

@@ -2,9 +2,9 @@
 #![tactic(auto)]
 
 mod answers;
+mod chair;
 mod entered;
 mod game;
-mod held_seat;
 mod state;
 mod verdict;
 mod window;

@@ -2,11 +2,11 @@ ghost use Rattle.std.specs.Prelude.{◌≡◌, ◌≤◌, ◌<◌, ◌==◌, ◌
 ghost use Rattle.std.specs.List.{list_any};
 ghost use Rattle.mj_protocol.specs.After.{before_all, names_of, name_at};
 ghost use Rattle.mj_protocol.specs.Trace.{has_name};
-ghost use Rattle.mj_core.specs.States.{TakesNext, is_due, CanHear, IsStateHeard};
+ghost use Rattle.mj_core.specs.Inner.States.{TakesNext, is_due, CanHear, IsStateHeard};
 
-use crate::held_seat::HeldSeat;
+use crate::chair::Chair;
 use crate::verdict::Verdict;
-use crate::window::{answers_in, filled};
+use crate::window::{answers_in, slots_after};
 use mj_deeds::{Answer, Deed, Four};
 use mj_machine::next;
 use mj_ports::{JoinLine, Name};
@@ -22,13 +22,13 @@ use std::marker::Model;
 pub struct State {
     table: Table,
     deeds: Vec<Deed>,
-    chairs: Vec<HeldSeat>,
+    chairs: Vec<Chair>,
     window: Window,
 }
 
 impl Model for State {
     ghost use Rattle.std.specs.Prelude.{◌≡◌};
-    ghost use Rattle.mj_core.specs.States.{Position};
+    ghost use Rattle.mj_core.specs.Inner.States.{Position};
 
     ghost Value = { Position };
 
@@ -58,7 +58,7 @@ impl State {
     }
 
     // A seat, where it is held.
-    pub fn seat(&self, seat: u8) -> Option<&HeldSeat>
+    pub fn seat(&self, seat: u8) -> Option<&Chair>
         ensures { option_copied result ≡ slice_get self.now.now.chairs seat }
     {
         self.chairs.get(usize::from(seat))
@@ -97,7 +97,7 @@ impl State {
     {
         self.deeds.reserve(1)?;
         self.chairs.reserve(1)?;
-        let seat = HeldSeat::taken(author, join);
+        let seat = Chair::new(author, join);
         if self.chairs.len() == 3 {
             let names = names(self.chairs.as_slice(), &seat);
             let deed = Deed::StartGame { names };
@@ -131,7 +131,7 @@ impl State {
             return Ok(None);
         }
         chair.go_on(&verdict);
-        let window = filled(&self.window, &verdict, seat, answer);
+        let window = slots_after(&self.window, &verdict, seat, answer);
         let Some(answers) = answers_in(&window) else {
             self.chairs[place] = chair;
             self.window = window;
@@ -151,7 +151,7 @@ impl State {
 }
 
 // The name of a seat.
-fn name_of(chairs: &[HeldSeat], seat: usize) -> Name
+fn name_of(chairs: &[Chair], seat: usize) -> Name
     requires { seat < length chairs.now }
     ensures { result ≡ name_at chairs.now seat }
 {
@@ -159,7 +159,7 @@ fn name_of(chairs: &[HeldSeat], seat: usize) -> Name
 }
 
 // The names of the four seats, with the one that is taken last.
-fn names(chairs: &[HeldSeat], fourth: &HeldSeat) -> Four<Name>
+fn names(chairs: &[Chair], fourth: &Chair) -> Four<Name>
     requires { length chairs.now ≡ 3 }
     ensures { result ≡ names_of (chairs.now ++ fourth.now ∷ []) }
 {

@@ -1,17 +1,18 @@
 -- What is true of deeds each of which fits behind those before it.
-use Rattle.std.proofs.Common.{◌≡◌, ℕ, zero, suc, ◌+◌, ◌<◌, ◌≤◌, ◌⊎◌, inl, inr, List, [], ◌∷◌, ◌++◌, length, cond, leb, true, false, Bool, ◌&&◌, ◌||◌, not, refl, sym, ap, ◌∙◌, subst, arith, append-nil, append_assoc, add-zero, zero-add}
+use Rattle.std.proofs.Common.{◌≡◌, ℕ, zero, suc, ◌+◌, ◌<◌, ◌≤◌, ◌⊎◌, inl, inr, List, [], ◌∷◌, ◌++◌, length, cond, leb, true, false, Bool, ◌&&◌, ◌||◌, not, refl, sym, ap, ◌∙◌, subst, arith, append-nil, append_assoc}
 use Rattle.std.specs.Prelude.{Option, Some, None, flat_map, nat_lt, ◌==◌}
-use Rattle.std.specs.List.{list_all, range_with_len}
+use Rattle.std.specs.List.{list_all}
 use Rattle.std.proofs.lemmas.Bool.{and_parts, and_from, ltb-true, leb-true, cases_lt, ne_eqb}
 use Rattle.std.proofs.lemmas.List.{length-append, length-map}
 use Rattle.std.proofs.lemmas.List.Concat.{flat_map-append}
 use Rattle.std.proofs.lemmas.Grind.{common_steps}
-use Rattle.mj_tiles.specs.Counts.{all_kinds, number_of, has_no_fifth}
+use Rattle.mj_tiles.specs.Counts.{number_of, has_no_fifth}
+use Rattle.mj_tiles.proofs.EachKind.{each_kind}
 use Rattle.mj_tiles.specs.declared.meld.Meld.{Meld}
 use Rattle.mj_deeds.specs.declared.deed.Deed.{Deed}
 use Rattle.mj_deeds.specs.declared.deed.Deed.TheVariants.{StartGame, StartHand, Draw, Discard, Chi, Pon, OpenKan, ClosedKan, AddedKan, Dora}
 use Rattle.mj_deeds.specs.Facts.{newest, of_seat, makes_by, seat_melds, is_kan, kans}
-use Rattle.mj_deeds.specs.Fits.{fits, fits_in, fits_behind, all_fit, is_in_place, is_in_hand, is_after_start, is_after_dora, is_after_kan, is_discard_of, has_seats, is_held, has_triplet, has_tiles, brought_by, keeps_kinds, has_room, has_room_for, has_live}
+use Rattle.mj_deeds.specs.Fits.{fits, fits_in, fits_behind, all_fit, is_in_place, is_in_hand, is_after_start, is_after_dora, is_after_kan, is_discard_of, has_seats, has_held, has_triplet, has_tiles, brought_by, keeps_kinds, has_room, has_room_for, has_live}
 use Rattle.mj_deeds.specs.Hand.{is_hand_start, hand, before_in, starts}
 use Rattle.mj_deeds.proofs.Newest.{newest_more}
 use Rattle.mj_deeds.proofs.Hands.{behind, hand_more, hand_with, hand_before, starts_more}
@@ -33,39 +34,35 @@ kept P red before (d ∷ ds) step h fit =
     subst P (append_assoc before (d ∷ []) ds) (kept P red (before ++ d ∷ []) ds step (step before d h parts.0) parts.1)
 
 -- The parts of a deed that fits in its hand.
-record Parts (red : Bool) (ds : List Deed) (d : Deed) : Type 0 where
-  seats : has_seats d ≡ true
-  kinds : keeps_kinds ds d ≡ true
-  room : has_room ds d ≡ true
-  live : has_live ds d ≡ true
+pub record Parts (red : Bool) (ds : List Deed) (d : Deed) : Type 0 where
+  pub seats : has_seats d ≡ true
+  pub held : has_held ds d ≡ true
+  pub triplet : has_triplet ds d ≡ true
+  pub tiles : has_tiles red d ≡ true
+  pub kinds : keeps_kinds ds d ≡ true
+  pub room : has_room ds d ≡ true
+  pub live : has_live ds d ≡ true
 
 parts_in : (red : Bool) (ds : List Deed) (d : Deed) → fits_in red ds d ≡ true → Parts red ds d
 unfolding fits_in
 parts_in red ds d h =
-    let b = has_seats d in
-    let e = is_held ds d in
-    let f = has_triplet ds d in
-    let g = has_tiles red d in
-    let i = keeps_kinds ds d in
-    let j = has_room ds d in
-    let k = has_live ds d in
-    let p6 = and_parts (b && e && f && g && i && j) k h in
-    let p5 = and_parts (b && e && f && g && i) j p6.0 in
-    let p4 = and_parts (b && e && f && g) i p5.0 in
-    let p3 = and_parts (b && e && f) g p4.0 in
-    let p2 = and_parts (b && e) f p3.0 in
-    let p1 = and_parts b e p2.0 in
-    record { seats = p1.0; kinds = p4.1; room = p5.1; live = p6.1 }
+    let p6 = and_parts _ _ h in
+    let p5 = and_parts _ _ p6.0 in
+    let p4 = and_parts _ _ p5.0 in
+    let p3 = and_parts _ _ p4.0 in
+    let p2 = and_parts _ _ p3.0 in
+    let p1 = and_parts _ _ p2.0 in
+    record { seats = p1.0; held = p1.1; triplet = p2.1; tiles = p3.1; kinds = p4.1; room = p5.1; live = p6.1 }
 
 -- Of a deed that fits: its place, and its parts in its hand.
-record Placed (red : Bool) (ds : List Deed) (d : Deed) : Type 0 where
-  place : is_in_place (newest ds) d ≡ true
-  inside : Parts red (before_in (hand ds) d) d
+pub record Placed (red : Bool) (ds : List Deed) (d : Deed) : Type 0 where
+  pub place : is_in_place (newest ds) d ≡ true
+  pub inside : Parts red (before_in (hand ds) d) d
 
-parts_of : (red : Bool) (ds : List Deed) (d : Deed) → fits red ds d ≡ true → Placed red ds d
+pub parts_of : (red : Bool) (ds : List Deed) (d : Deed) → fits red ds d ≡ true → Placed red ds d
 unfolding fits_behind
 parts_of red ds d h =
-    let p = and_parts (is_in_place (newest ds) d) (fits_in red (before_in (hand ds) d) d) h in
+    let p = and_parts _ _ h in
     record { place = p.0; inside = parts_in red (before_in (hand ds) d) d p.1 }
 
 -- What each deed that fits in its hand keeps is true of the newest hand.
@@ -86,13 +83,7 @@ live_kan : (ds : List Deed) (d : Deed) → has_live ds d ≡ true → is_kan d �
 live_kan ds (OpenKan who target tile a b c) h k = ltb-true (kans ds) 4 (and_parts (nat_lt (kans ds) 4) _ h).0
 live_kan ds (ClosedKan who a b c d) h k = ltb-true (kans ds) 4 (and_parts (nat_lt (kans ds) 4) _ h).0
 live_kan ds (AddedKan who tile a b c) h k = ltb-true (kans ds) 4 (and_parts (nat_lt (kans ds) 4) _ h).0
-live_kan ds (StartGame names) h k = cc
-live_kan ds (StartHand round number honba deposits dealer indicator hands) h k = cc
-live_kan ds (Draw who tile replacement) h k = cc
-live_kan ds (Discard who tile drawn) h k = cc
-live_kan ds (Chi who target tile a b) h k = cc
-live_kan ds (Pon who target tile a b) h k = cc
-live_kan ds (Dora tile) h k = cc
+live_kan ds other h k = cc
 
 -- Deeds that fit have at most four kans.
 pub four_kans : (red : Bool) (ds : List Deed) → all_fit red [] ds ≡ true → kans (hand ds) ≤ 4
@@ -126,31 +117,21 @@ no_meld seat (Chi who target tile a b) h k = none_else seat who _ (and_parts (na
 no_meld seat (Pon who target tile a b) h k = none_else seat who _ (and_parts (nat_lt who 4) _ h).0 k
 no_meld seat (OpenKan who target tile a b c) h k = none_else seat who _ (and_parts (nat_lt who 4) _ h).0 k
 no_meld seat (ClosedKan who a b c d) h k = none_else seat who _ (and_parts (nat_lt who 4) _ h).0 k
-no_meld seat (StartGame names) h k = refl
-no_meld seat (StartHand round number honba deposits dealer indicator hands) h k = refl
-no_meld seat (Draw who tile replacement) h k = refl
-no_meld seat (Discard who tile drawn) h k = refl
-no_meld seat (AddedKan who tile a b c) h k = refl
-no_meld seat (Dora tile) h k = refl
+no_meld seat other h k = refl
+
+-- Of the four seats.
+pub of_four : (p : ℕ → Bool) (seat : ℕ) → seat < 4 → list_all p (0 ∷ 1 ∷ 2 ∷ 3 ∷ []) ≡ true → p seat ≡ true
+of_four p zero h all = (and_parts (p 0) _ all).0
+of_four p (suc zero) h all = (and_parts (p 1) _ (and_parts (p 0) _ all).1).0
+of_four p (suc (suc zero)) h all = (and_parts (p 2) _ (and_parts (p 1) _ (and_parts (p 0) _ all).1).1).0
+of_four p (suc (suc (suc zero))) h all = (and_parts (p 3) _ (and_parts (p 2) _ (and_parts (p 1) _ (and_parts (p 0) _ all).1).1).1).0
+of_four p (suc (suc (suc (suc n)))) h all = absurd (too_many n h)
+  where
+    too_many : (n : ℕ) → suc (suc (suc (suc n))) < 4 → ⊥
+    too_many n h = omega arith
 
 room_at : (ds : List Deed) (d : Deed) (seat : ℕ) → has_room ds d ≡ true → seat < 4 → length (seat_melds ds seat) + length (makes_by seat d) ≤ 4
-room_at ds d seat h low = at seat low
-  where
-    p0 : (has_room_for ds d 0 ≡ true) × (list_all (has_room_for ds d) (1 ∷ 2 ∷ 3 ∷ []) ≡ true)
-    p0 = and_parts (has_room_for ds d 0) _ h
-
-    p1 : (has_room_for ds d 1 ≡ true) × (list_all (has_room_for ds d) (2 ∷ 3 ∷ []) ≡ true)
-    p1 = and_parts (has_room_for ds d 1) _ p0.1
-
-    p2 : (has_room_for ds d 2 ≡ true) × (list_all (has_room_for ds d) (3 ∷ []) ≡ true)
-    p2 = and_parts (has_room_for ds d 2) _ p1.1
-
-    at : (seat : ℕ) → seat < 4 → length (seat_melds ds seat) + length (makes_by seat d) ≤ 4
-    at zero l = leb-true _ 4 p0.0
-    at (suc zero) l = leb-true _ 4 p1.0
-    at (suc (suc zero)) l = leb-true _ 4 p2.0
-    at (suc (suc (suc zero))) l = leb-true _ 4 (and_parts (has_room_for ds d 3) true p2.1).0
-    at (suc (suc (suc (suc n)))) l = absurd (omega (arith, l))
+room_at ds d seat h low = leb-true _ 4 (of_four (has_room_for ds d) seat low h)
 
 -- A seat of deeds that fit has at most four melds.
 pub four_melds : (red : Bool) (ds : List Deed) (seat : ℕ) → all_fit red [] ds ≡ true → length (seat_melds (hand ds) seat) ≤ 4
@@ -171,16 +152,9 @@ four_melds red ds seat fit = kept_in_hand (λ xs. length (seat_melds xs seat) �
 
 -- no fifth tile of a kind
 
-all_at : (p : ℕ → Bool) (from n k : ℕ) → k < n → list_all p (range_with_len from n) ≡ true → p (from + k) ≡ true
-all_at p from zero k inside h = absurd (omega (arith, inside))
-all_at p from (suc n) zero inside h = ap p (add-zero from) ∙ (and_parts (p from) (list_all p (range_with_len (from + 1) n)) h).0
-all_at p from (suc n) (suc k) inside h =
-    let same : from + suc k ≡ from + 1 + k = omega arith in
-    ap p same ∙ all_at p (from + 1) n k (omega (arith, inside)) (and_parts (p from) (list_all p (range_with_len (from + 1) n)) h).1
-
 kind_at : (tiles : List ℕ) (kind : ℕ) → kind < 34 → has_no_fifth tiles ≡ true → number_of tiles kind ≤ 4
-unfolding has_no_fifth all_kinds
-kind_at tiles kind small h = leb-true (number_of tiles kind) 4 (ap (λ k. leb (number_of tiles k) 4) (sym (zero-add kind)) ∙ all_at (λ k. leb (number_of tiles k) 4) 0 34 kind small h)
+unfolding has_no_fifth
+kind_at tiles kind small h = leb-true (number_of tiles kind) 4 (each_kind (λ k. leb (number_of tiles k) 4) kind small h)
 
 -- Deeds that fit bring in no kind a fifth time.
 pub four_of_kind : (red : Bool) (ds : List Deed) (kind : ℕ) → kind < 34 → all_fit red [] ds ≡ true → number_of (flat_map brought_by (hand ds)) kind ≤ 4
@@ -195,15 +169,7 @@ begun before = cond (is_in_hand before) 1 0
 not_begun : (before : Option Deed) → is_after_start before ≡ true → begun before ≡ 0
 not_begun None h = cc
 not_begun (Some (StartGame names)) h = refl
-not_begun (Some (StartHand round number honba deposits dealer indicator hands)) h = cc
-not_begun (Some (Draw who tile replacement)) h = cc
-not_begun (Some (Discard who tile drawn)) h = cc
-not_begun (Some (Chi who target tile a b)) h = cc
-not_begun (Some (Pon who target tile a b)) h = cc
-not_begun (Some (OpenKan who target tile a b c)) h = cc
-not_begun (Some (ClosedKan who a b c d)) h = cc
-not_begun (Some (AddedKan who tile a b c)) h = cc
-not_begun (Some (Dora tile)) h = cc
+not_begun (Some other) h = cc
 
 game_begins : (a b : Bool) → not (a || b) ≡ true → ◌≡◌ {A = ℕ} (cond a 1 0) 0
 game_begins true b h = cc
@@ -229,14 +195,7 @@ hand_step ds (StartHand round number honba deposits dealer indicator hands) h k 
         (and_parts (is_after_start (newest ds) && round == 27 && number == 1 && honba == 0) (deposits == 0)
         (and_parts (is_after_start (newest ds) && round == 27 && number == 1 && honba == 0 && deposits == 0) (dealer == 0) h).0).0).0).0).0
 hand_step ds (StartGame names) h k = omega (arith, k, game_begins (is_in_hand (newest ds)) (is_after_start (newest ds)) h)
-hand_step ds (Draw who tile replacement) h k = omega (arith, k, begun_within (newest ds))
-hand_step ds (Discard who tile drawn) h k = omega (arith, k, begun_within (newest ds))
-hand_step ds (Chi who target tile a b) h k = omega (arith, k, begun_within (newest ds))
-hand_step ds (Pon who target tile a b) h k = omega (arith, k, begun_within (newest ds))
-hand_step ds (OpenKan who target tile a b c) h k = omega (arith, k, begun_within (newest ds))
-hand_step ds (ClosedKan who a b c d) h k = omega (arith, k, begun_within (newest ds))
-hand_step ds (AddedKan who tile a b c) h k = omega (arith, k, begun_within (newest ds))
-hand_step ds (Dora tile) h k = omega (arith, k, begun_within (newest ds))
+hand_step ds other h k = omega (arith, k, begun_within (newest ds))
 
 -- Of deeds that fit at most one starts a hand, and none before the hand is under way.
 pub few_starts : (red : Bool) (ds : List Deed) → all_fit red [] ds ≡ true → length (starts ds) ≤ begun (newest ds)
@@ -267,28 +226,12 @@ first_start red ds d fit one start =
 kan_in_hand : (before : Option Deed) → is_after_kan before ≡ true → is_in_hand before ≡ true
 kan_in_hand None h = cc
 kan_in_hand (Some (StartGame names)) h = cc
-kan_in_hand (Some (StartHand round number honba deposits dealer indicator hands)) h = refl
-kan_in_hand (Some (Draw who tile replacement)) h = refl
-kan_in_hand (Some (Discard who tile drawn)) h = refl
-kan_in_hand (Some (Chi who target tile a b)) h = refl
-kan_in_hand (Some (Pon who target tile a b)) h = refl
-kan_in_hand (Some (OpenKan who target tile a b c)) h = refl
-kan_in_hand (Some (ClosedKan who a b c d)) h = refl
-kan_in_hand (Some (AddedKan who tile a b c)) h = refl
-kan_in_hand (Some (Dora tile)) h = refl
+kan_in_hand (Some other) h = refl
 
 discard_in_hand : (before : Option Deed) (target called : ℕ) → is_discard_of before target called ≡ true → is_in_hand before ≡ true
 discard_in_hand None target called h = cc
 discard_in_hand (Some (StartGame names)) target called h = cc
-discard_in_hand (Some (StartHand round number honba deposits dealer indicator hands)) target called h = refl
-discard_in_hand (Some (Draw who tile replacement)) target called h = refl
-discard_in_hand (Some (Discard who tile drawn)) target called h = refl
-discard_in_hand (Some (Chi who other tile a b)) target called h = refl
-discard_in_hand (Some (Pon who other tile a b)) target called h = refl
-discard_in_hand (Some (OpenKan who other tile a b c)) target called h = refl
-discard_in_hand (Some (ClosedKan who a b c d)) target called h = refl
-discard_in_hand (Some (AddedKan who tile a b c)) target called h = refl
-discard_in_hand (Some (Dora tile)) target called h = refl
+discard_in_hand (Some other) target called h = refl
 
 -- Every deed in its place that starts neither a game nor a hand stands behind one of a hand.
 pub in_hand_before : (before : Option Deed) (d : Deed) → is_in_place before d ≡ true → is_hand_start d ≡ false → is_in_hand (Some d) ≡ true → is_in_hand before ≡ true

@@ -8,7 +8,7 @@ use Rattle.std.proofs.lemmas.List.Elements.{filter-append}
 use Rattle.std.proofs.lemmas.List.Folds.{list_any-append}
 use Rattle.mj_deeds.specs.declared.deed.Deed.{Deed}
 use Rattle.mj_deeds.specs.Hand.{is_hand_start, from_last, hand, before_in, starts, hand_number}
-use Rattle.mj_deeds.specs.declared.deed.Deed.TheVariants.{StartGame, StartHand, Draw, Discard, Chi, Pon, OpenKan, ClosedKan, AddedKan, Dora}
+use Rattle.mj_deeds.specs.declared.deed.Deed.TheVariants.{StartHand}
 use Rattle.mj_deeds.specs.Facts.{newest}
 use Rattle.mj_deeds.specs.Standings.{standing, standing_by}
 use Rattle.mj_deeds.proofs.Newest.{newest_more}
@@ -96,15 +96,7 @@ starts_more (x ∷ ds) d = more (is_hand_start x) (starts_more ds d)
 
 start_says : (number : ℕ) (d : Deed) → is_hand_start d ≡ true → (standing_by number (Some d)).hand ≡ number
 start_says number (StartHand round dealer_number honba deposits dealer indicator hands) h = refl
-start_says number (StartGame names) h = cc
-start_says number (Draw who tile replacement) h = cc
-start_says number (Discard who tile drawn) h = cc
-start_says number (Chi who target tile a b) h = cc
-start_says number (Pon who target tile a b) h = cc
-start_says number (OpenKan who target tile a b c) h = cc
-start_says number (ClosedKan who a b c d) h = cc
-start_says number (AddedKan who tile a b c) h = cc
-start_says number (Dora tile) h = cc
+start_says number other h = cc
 
 kept_passes : (ds : List Deed) (i : ℕ) (d : Deed) → slice_get (starts ds) i ≡ Some d → is_hand_start d ≡ true
 kept_passes [] i d h = cc

@@ -1,9 +1,6 @@
 pub mod FitSteps
 pub mod Fitted
 pub mod Hands
-pub mod HeldKinds
-pub mod InHand
-pub mod KindsAmong
 pub mod Newest
 pub mod PointLaws
 pub mod TileOrder

@@ -1,15 +1,10 @@
 -- The last of a list that grows at its end.
-use Rattle.std.proofs.Common.{◌≡◌, ℕ, ◌+◌, ◌-◌, ◌<◌, List, [], ◌∷◌, ◌++◌, length, take, get_or, Option, Some, None, refl, sym, ap, ◌∙◌, arith, append-nil}
-use Rattle.std.specs.Prelude.{slice_get, option_to_list, flat_map}
-use Rattle.std.specs.Option.{option_or}
-use Rattle.std.proofs.lemmas.List.{length-append, take_more, flat_map_more}
+use Rattle.std.proofs.Common.{◌≡◌, ◌-◌, List, [], ◌∷◌, ◌++◌, length, Some, arith}
+use Rattle.std.specs.Prelude.{slice_get}
+use Rattle.std.proofs.lemmas.List.{length-append}
+use Rattle.mj_lists.proofs.Fronts.{at_end}
 use Rattle.mj_deeds.specs.declared.deed.Deed.{Deed}
 use Rattle.mj_deeds.specs.Facts.{newest}
-
--- What was added stands behind those before it.
-at_end : {A : Type 0} (xs : List A) (x : A) → slice_get (xs ++ x ∷ []) (length xs) ≡ Some x
-at_end [] x = refl
-at_end (y ∷ ys) x = at_end ys x
 
 one_less : {A : Type 0} (xs : List A) (x : A) → length (xs ++ x ∷ []) - 1 ≡ length xs
 one_less xs x = simp length-append (omega arith)
@@ -21,26 +16,3 @@ last_added xs x = rw (one_less xs x) (at_end xs x)
 -- The newest deed is the one that was added last.
 pub newest_more : (ds : List Deed) (d : Deed) → newest (ds ++ d ∷ []) ≡ Some d
 newest_more ds d = last_added ds d
-
--- What is added last is the last one; where nothing is added the last stays.
-last_more : (xs : List ℕ) (more : Option ℕ) →
-    slice_get (xs ++ option_to_list more) (length (xs ++ option_to_list more) - 1) ≡ option_or more (slice_get xs (length xs - 1))
-last_more xs None = simp append-nil refl
-last_more xs (Some x) = last_added xs x
-
--- What a list gives one item further.
-pub gathered_more : {A : Type 0} (f : A → List ℕ) (xs : List A) (i : ℕ) (x : A) (piece : List ℕ) → i < length xs → x ≡ get_or xs i x → piece ≡ f x →
-    flat_map f (take (i + 1) xs) ≡ flat_map f (take i xs) ++ piece
-gathered_more f xs i x piece h is what =
-    ap (flat_map f) (take_more xs i x h)
-    ∙ sym (flat_map_more f [] (take i xs) (get_or xs i x))
-    ∙ ap (λ y. flat_map f (take i xs) ++ f y) (sym is)
-    ∙ ap (λ (ys : List ℕ). flat_map f (take i xs) ++ ys) (sym what)
-
--- The last of what a list gives, one item further.
-pub last_gathered : {A : Type 0} (f : A → List ℕ) (xs : List A) (i : ℕ) (x : A) (more before after : Option ℕ) → i < length xs → x ≡ get_or xs i x →
-    option_to_list more ≡ f x → before ≡ slice_get (flat_map f (take i xs)) (length (flat_map f (take i xs)) - 1) → after ≡ option_or more before →
-    after ≡ slice_get (flat_map f (take (i + 1) xs)) (length (flat_map f (take (i + 1) xs)) - 1)
-last_gathered f xs i x more before after h is what was now =
-    now ∙ ap (option_or more) was ∙ sym (last_more (flat_map f (take i xs)) more)
-    ∙ ap (λ (ys : List ℕ). slice_get ys (length ys - 1)) (sym (gathered_more f xs i x (option_to_list more) h is what))

@@ -33,16 +33,16 @@ losses_by seat (AddedKan who tile a b c) = of_seat seat who (tile ∷ [])
 losses_by seat other = []
 
 -- All tiles that a seat was given.
-abbrev pub gained : List Deed → ℕ → List ℕ
-gained deeds seat = flat_map (gains_by seat) deeds
+abbrev pub tiles_gained : List Deed → ℕ → List ℕ
+tiles_gained deeds seat = flat_map (gains_by seat) deeds
 
 -- All tiles that a seat put down.
-abbrev pub lost : List Deed → ℕ → List ℕ
-lost deeds seat = flat_map (losses_by seat) deeds
+abbrev pub tiles_lost : List Deed → ℕ → List ℕ
+tiles_lost deeds seat = flat_map (losses_by seat) deeds
 
 -- The concealed tiles of a seat, in tile order: those given to it, less those that it put down.
 abbrev pub concealed_tiles : List Deed → ℕ → List ℕ
-concealed_tiles deeds seat = less (gained deeds seat) (lost deeds seat)
+concealed_tiles deeds seat = less (tiles_gained deeds seat) (tiles_lost deeds seat)
 
 -- What a deed adds to the river of a seat: its discard.
 abbrev pub discards_by : ℕ → Deed → List ℕ

@@ -8,7 +8,7 @@ use Rattle.mj_rounds.specs.Rounds.{first_standing}
 use Rattle.mj_deeds.specs.declared.deed.Deed.{Deed}
 use Rattle.mj_deeds.specs.declared.deed.Deed.TheVariants.{StartGame, StartHand, Draw, Discard, Chi, Pon, OpenKan, ClosedKan, AddedKan, Dora}
 use Rattle.mj_deeds.specs.Hand.{hand, before_in}
-use Rattle.mj_deeds.specs.Facts.{newest, gained, lost, losses_by, seat_melds, makes_by, is_pon, is_kan, kans, live_tiles}
+use Rattle.mj_deeds.specs.Facts.{newest, tiles_gained, tiles_lost, losses_by, seat_melds, makes_by, is_pon, is_kan, kans, live_tiles}
 
 -- The newest deed shows an indicator.
 abbrev pub is_after_dora : Option Deed → Bool
@@ -74,11 +74,11 @@ has_seats deed = list_all (λ seat. nat_lt seat 4) (seats_in deed)
 abbrev pub are_held : List ℕ → List ℕ → List ℕ → Bool
 are_held got gone tiles = list_all (λ face. nat_le (number_in tiles face) (number_in got face - number_in gone face)) tiles
 
-abbrev pub is_held_by : List Deed → Deed → ℕ → Bool
-is_held_by deeds deed seat = are_held (gained deeds seat) (lost deeds seat) (losses_by seat deed)
+abbrev pub has_held_by : List Deed → Deed → ℕ → Bool
+has_held_by deeds deed seat = are_held (tiles_gained deeds seat) (tiles_lost deeds seat) (losses_by seat deed)
 
-abbrev pub is_held : List Deed → Deed → Bool
-is_held deeds deed = list_all (is_held_by deeds deed) (0 ∷ 1 ∷ 2 ∷ 3 ∷ [])
+abbrev pub has_held : List Deed → Deed → Bool
+has_held deeds deed = list_all (has_held_by deeds deed) (0 ∷ 1 ∷ 2 ∷ 3 ∷ [])
 
 -- An own triplet of these tiles, of the kind of the added one.
 abbrev pub is_triplet_of : ℕ → ℕ → ℕ → ℕ → Meld → Bool
@@ -131,7 +131,7 @@ has_live deeds deed = not (is_kan deed) || (nat_lt (kans deeds) 4 && nat_lt 0 (l
 -- A deed fits behind the deeds before it in its own hand.
 unfoldable pub fits_in : Bool → List Deed → Deed → Bool
 fits_in red hand deed =
-    has_seats deed && is_held hand deed && has_triplet hand deed && has_tiles red deed && keeps_kinds hand deed && has_room hand deed && has_live hand deed
+    has_seats deed && has_held hand deed && has_triplet hand deed && has_tiles red deed && keeps_kinds hand deed && has_room hand deed && has_live hand deed
 
 -- A deed fits behind the newest deed and the deeds of its hand: it stands in its place, and fits in its hand.
 unfoldable pub fits_behind : Bool → Option Deed → List Deed → Deed → Bool

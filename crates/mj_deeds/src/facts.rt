@@ -1,6 +1,6 @@
 ghost use Rattle.std.specs.Prelude.{◌≡◌, ◌-◌, ◌*◌, ◌^◌, ◌++◌, ◌≤◌, IfOk, OnOk, min, length, option_to_list};
 ghost use Rattle.mj_tiles.specs.Faces.{number_in};
-ghost use Rattle.mj_deeds.specs.Facts.{concealed_tiles, river_tiles, gained, lost, gains_by, losses_by, discards_by, drawn_tile, drawn_by};
+ghost use Rattle.mj_deeds.specs.Facts.{concealed_tiles, river_tiles, tiles_gained, tiles_lost, gains_by, losses_by, discards_by};
 ghost use Rattle.mj_deeds.specs.Four.{at_seat};
 
 use crate::deed::Deed;
@@ -33,32 +33,16 @@ pub fn river(alloc: Global, deeds: &[Deed], seat: u8) -> Result<Tiles, AllocErro
 }
 
 /// How many concealed tiles of the face of a tile a seat holds in one hand, four at most.
-pub fn held(deeds: &[Deed], seat: u8, tile: Tile) -> usize
-    ensures { result ≡ min (number_in (gained deeds.now seat) tile - number_in (lost deeds.now seat) tile) 4 }
+pub fn held_count(deeds: &[Deed], seat: u8, tile: Tile) -> usize
+    ensures { result ≡ min (number_in (tiles_gained deeds.now seat) tile - number_in (tiles_lost deeds.now seat) tile) 4 }
 {
     let given = number_gained(deeds, seat, tile);
     let put_down = number_lost(deeds, seat, tile);
     given.saturating_sub(put_down).min(4)
 }
 
-/// The tile that a seat has drawn and holds as drawn: that of the newest deed, where it is the seat's draw.
-pub fn drawn(deeds: &[Deed], seat: u8) -> Option<Tile>
-    ensures { result ≡ drawn_tile deeds.now seat }
-{
-    match deeds.last() {
-        Some(
-            Deed::Draw {
-                seat: who,
-                tile,
-                ..
-            },
-        ) if *who == seat => Some(*tile),
-        _ => None,
-    }
-}
-
-// The tile that a seat discards by a deed.
-pub(crate) fn discarded_by(deed: &Deed, seat: u8) -> Option<Tile>
+/// The tile that a seat discards by a deed; none where the deed is no discard of the seat.
+pub fn discarded_by(deed: &Deed, seat: u8) -> Option<Tile>
     ensures { option_to_list result ≡ discards_by seat deed.now }
 {
     match deed {
@@ -98,7 +82,7 @@ fn gain(tiles: &mut Vec<Tile>, deed: &Deed, seat: u8) -> Result<(), AllocError>
 
 // All tiles that a seat was given.
 fn all_gained(alloc: Global, deeds: &[Deed], seat: u8) -> Result<Vec<Tile>, AllocError>
-    ensures { IfOk result (λ v. v.items ≡ gained deeds.now seat) }
+    ensures { IfOk result (λ v. v.items ≡ tiles_gained deeds.now seat) }
 {
     let mut tiles = Vec::new(alloc);
     for deed in deeds {
@@ -154,7 +138,7 @@ fn lose(tiles: &mut Vec<Tile>, deed: &Deed, seat: u8) -> Result<(), AllocError>
 
 // All tiles that a seat put down.
 fn all_lost(alloc: Global, deeds: &[Deed], seat: u8) -> Result<Vec<Tile>, AllocError>
-    ensures { IfOk result (λ v. v.items ≡ lost deeds.now seat) }
+    ensures { IfOk result (λ v. v.items ≡ tiles_lost deeds.now seat) }
 {
     let mut tiles = Vec::new(alloc);
     for deed in deeds {
@@ -180,7 +164,7 @@ fn gains(deed: &Deed, seat: u8, tile: Tile) -> usize
 
 // How many tiles of a face a seat was given; a number too large for a usize counts as the largest.
 fn number_gained(deeds: &[Deed], seat: u8, tile: Tile) -> usize
-    ensures { result ≡ min (number_in (gained deeds.now seat) tile) (2 ^ 64 - 1) }
+    ensures { result ≡ min (number_in (tiles_gained deeds.now seat) tile) (2 ^ 64 - 1) }
 {
     let mut number: usize = 0;
     for deed in deeds {
@@ -237,7 +221,7 @@ fn losses(deed: &Deed, seat: u8, tile: Tile) -> usize
 
 // How many tiles of a face a seat put down: at most four by each deed.
 fn number_lost(deeds: &[Deed], seat: u8, tile: Tile) -> usize
-    ensures value { result ≡ number_in (lost deeds.now seat) tile }
+    ensures value { result ≡ number_in (tiles_lost deeds.now seat) tile }
     ensures within { result ≤ 4 * length deeds.now }
 {
     let mut number = 0;

@@ -1,13 +1,13 @@
 ghost use Rattle.std.specs.Prelude.{◌≡◌, ◌≤◌, ◌-◌, ◌++◌, not, length, option_copied};
 ghost use Rattle.std.specs.List.{list_all};
 ghost use Rattle.mj_tiles.specs.Faces.{is_red};
-ghost use Rattle.mj_deeds.specs.Facts.{of_seat, makes_by, seat_melds, gained, lost};
-ghost use Rattle.mj_deeds.specs.Fits.{fits_behind, fits_in, is_in_place, is_in_hand, is_after_start, is_after_dora, is_after_kan, is_discard_of, has_seats, is_held, is_held_by, are_held, has_triplet, has_tiles, has_room, has_room_for, has_live};
+ghost use Rattle.mj_deeds.specs.Facts.{of_seat, makes_by, seat_melds, tiles_gained, tiles_lost};
+ghost use Rattle.mj_deeds.specs.Fits.{fits_behind, fits_in, is_in_place, is_in_hand, is_after_start, is_after_dora, is_after_kan, is_discard_of, has_seats, has_held, has_held_by, are_held, has_triplet, has_tiles, has_room, has_room_for, has_live};
 
 use crate::bringing::keeps_kinds;
 use crate::course::{is_kan, kans, live_left};
 use crate::deed::Deed;
-use crate::facts::held;
+use crate::facts::held_count;
 use crate::four::Four;
 use crate::hand::before_in;
 use crate::meld::{has_triplet, made};
@@ -31,7 +31,7 @@ fn fits_in(red: bool, hand: &[Deed], deed: &Deed) -> bool
     ensures { result ≡ fits_in red hand.now deed.now }
 {
     has_seats(deed)
-        && is_held(hand, deed)
+        && has_held(hand, deed)
         && adds_to_pon(hand, deed)
         && has_tiles(red, deed)
         && keeps_kinds(hand, deed)
@@ -136,17 +136,17 @@ fn has_seats(deed: &Deed) -> bool
 }
 
 // Whether each seat holds the tiles that it puts down.
-fn is_held(deeds: &[Deed], deed: &Deed) -> bool
-    ensures { result ≡ is_held deeds.now deed.now }
+fn has_held(deeds: &[Deed], deed: &Deed) -> bool
+    ensures { result ≡ has_held deeds.now deed.now }
 {
-    is_held_by(deeds, deed, 0)
-        && is_held_by(deeds, deed, 1)
-        && is_held_by(deeds, deed, 2)
-        && is_held_by(deeds, deed, 3)
+    has_held_by(deeds, deed, 0)
+        && has_held_by(deeds, deed, 1)
+        && has_held_by(deeds, deed, 2)
+        && has_held_by(deeds, deed, 3)
 }
 
-fn is_held_by(deeds: &[Deed], deed: &Deed, seat: u8) -> bool
-    ensures { result ≡ is_held_by deeds.now deed.now seat }
+fn has_held_by(deeds: &[Deed], deed: &Deed, seat: u8) -> bool
+    ensures { result ≡ has_held_by deeds.now deed.now seat }
 {
     match deed {
         Deed::Discard {
@@ -193,7 +193,7 @@ fn is_held_by(deeds: &[Deed], deed: &Deed, seat: u8) -> bool
 #[tactic(auto, using(crate::proofs::FitSteps::of_its_own, crate::proofs::FitSteps::of_another))]
 fn holds_own(deeds: &[Deed], seat: u8, who: u8, tiles: &[Tile]) -> bool
     requires { length tiles.now ≤ 4 }
-    ensures { result ≡ are_held (gained deeds.now seat) (lost deeds.now seat) (of_seat seat who tiles.now) }
+    ensures { result ≡ are_held (tiles_gained deeds.now seat) (tiles_lost deeds.now seat) (of_seat seat who tiles.now) }
 {
     if who != seat {
         return true;
@@ -204,10 +204,10 @@ fn holds_own(deeds: &[Deed], seat: u8, who: u8, tiles: &[Tile]) -> bool
 // Whether a seat holds as many tiles of each face as stand among these, at most four.
 fn are_held(deeds: &[Deed], seat: u8, tiles: &[Tile]) -> bool
     requires { length tiles.now ≤ 4 }
-    ensures { result ≡ are_held (gained deeds.now seat) (lost deeds.now seat) tiles.now }
+    ensures { result ≡ are_held (tiles_gained deeds.now seat) (tiles_lost deeds.now seat) tiles.now }
 {
     for tile in tiles {
-        if held(deeds, seat, *tile) < number_among(tiles, *tile) {
+        if held_count(deeds, seat, *tile) < number_among(tiles, *tile) {
             return false;
         }
     }

@@ -4,7 +4,6 @@
 mod answer;
 mod bid;
 mod bringing;
-mod counting;
 mod course;
 mod deed;
 mod facts;
@@ -12,7 +11,6 @@ mod fitting;
 mod four;
 mod hand;
 mod meld;
-mod passed;
 mod reason;
 mod rule;
 mod tiles;
@@ -20,17 +18,13 @@ mod token;
 
 pub use answer::{Answer, Pai};
 pub use bid::Bid;
-pub use counting::held_counts;
-pub use course::{
-    cause, indicator, is_call, kan_seat, kans, live_drawn, live_left, seat_of_kan, shown,
-};
+pub use course::{is_call, kans, live_drawn, live_left, seat_of_kan};
 pub use deed::{Deed, Viewer};
-pub use facts::{concealed, drawn, held, river};
+pub use facts::{concealed, discarded_by, held_count, river};
 pub use fitting::fits;
 pub use four::{Four, next_seat};
 pub use hand::{before_in, is_hand_start};
-pub use meld::{has_triplet, held_melds, melds};
-pub use passed::{own_kinds, passed_kinds};
+pub use meld::{has_triplet, meld_at, melds};
 pub use reason::Reason;
 pub use rule::Rule;
 pub use tiles::{Tiles, ordered};

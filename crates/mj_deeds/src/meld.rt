@@ -1,11 +1,11 @@
-ghost use Rattle.std.specs.Prelude.{◌≡◌, ◌≤◌, IfOk, length, option_to_list, flat_map, slice_get};
+ghost use Rattle.std.specs.Prelude.{◌≡◌, IfOk, option_to_list, flat_map, slice_get};
 ghost use Rattle.std.specs.List.{list_any};
 ghost use Rattle.mj_deeds.specs.Facts.{seat_melds, makes_by, adds_by, with_added, is_pon, meld_of_three, meld_of_four};
 ghost use Rattle.mj_deeds.specs.Fits.{is_triplet_of};
 
 use crate::deed::Deed;
 use crate::tiles::at_place;
-use mj_tiles::{Form, Meld, Melds, Tile};
+use mj_tiles::{Form, Meld, Tile};
 use std::alloc::{AllocError, Global};
 
 /// The melds of a seat in one hand, in the order in which they were made; a pon that a tile was added to is an added kan.
@@ -21,24 +21,20 @@ pub fn melds(alloc: Global, deeds: &[Deed], seat: u8) -> Result<Vec<Meld>, Alloc
     Ok(melds)
 }
 
-/// The melds of a seat in one hand, as `melds` gives them, of a seat that has at most four.
-pub fn held_melds(deeds: &[Deed], seat: u8) -> Melds
-    requires { length (seat_melds deeds.now seat) ≤ 4 }
-    ensures { result ≡ seat_melds deeds.now seat }
+/// The meld of a seat in one hand at a place of its melds, the first one at 0; none where it has no more.
+pub fn meld_at(deeds: &[Deed], seat: u8, place: usize) -> Option<Meld>
+    ensures { result ≡ slice_get (seat_melds deeds.now seat) place }
 {
-    let Some(first) = meld_at(deeds, seat, 0) else {
-        return Melds::of(&[]);
-    };
-    let Some(second) = meld_at(deeds, seat, 1) else {
-        return Melds::of(&[first]);
-    };
-    let Some(third) = meld_at(deeds, seat, 2) else {
-        return Melds::of(&[first, second]);
-    };
-    match meld_at(deeds, seat, 3) {
-        Some(fourth) => Melds::of(&[first, second, third, fourth]),
-        None => Melds::of(&[first, second, third]),
+    let mut left = place;
+    for deed in deeds {
+        if let Some(meld) = made(deed, seat) {
+            if left == 0 {
+                return Some(with_added(deeds, seat, meld));
+            }
+            left -= 1;
+        }
     }
+    None
 }
 
 /// Whether a seat has a pon in one hand that no tile was added to, of the tiles `a`, `b` and `c` in tile order, and of
@@ -54,22 +50,6 @@ pub fn has_triplet(deeds: &[Deed], seat: u8, tile: Tile, a: Tile, b: Tile, c: Ti
         }
     }
     false
-}
-
-// The meld of a seat at a place of its melds, the first one at 0.
-fn meld_at(deeds: &[Deed], seat: u8, place: usize) -> Option<Meld>
-    ensures { result ≡ slice_get (seat_melds deeds.now seat) place }
-{
-    let mut left = place;
-    for deed in deeds {
-        if let Some(meld) = made(deed, seat) {
-            if left == 0 {
-                return Some(with_added(deeds, seat, meld));
-            }
-            left -= 1;
-        }
-    }
-    None
 }
 
 // The meld is a pon of these tiles, of the kind of the tile.

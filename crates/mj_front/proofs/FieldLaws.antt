@@ -3,10 +3,10 @@ use Rattle.std.proofs.Common.{◌≡◌, ℕ, ◌^◌, ◌<◌, List, [], ◌∷
 use Rattle.std.specs.Prelude.{Option, Some, None, option_map, option_and_then, ◌==◌, nat_lt}
 use Rattle.std.proofs.Common.{arith}
 use Rattle.std.proofs.lemmas.Bool.Decides.{nat_tests}
-use Rattle.mj_bytes.specs.Numbers.{number_of}
+use Rattle.mj_bytes.specs.Numbers.{decimal_of}
 use Rattle.mj_bytes.specs.Parts.{fields, onto_first}
-use Rattle.mj_protocol.specs.Arrivals.{NoForm, Expire, rules_of, expire_form, numbers_of}
-use Rattle.mj_front.specs.Forms.{three_of}
+use Rattle.mj_protocol.specs.Arrivals.{NoForm, Expire, rules_of, expire_form, numbers_in}
+use Rattle.mj_front.specs.Inner.Forms.{three_of}
 
 -- a text has at least one field
 has_first : (text : List ℕ) → fields text ≡ [] → ⊥
@@ -45,21 +45,21 @@ rules_of_others (a ∷ b ∷ []) h = refl
 rules_of_others (a ∷ b ∷ c ∷ []) h = cc h
 rules_of_others (a ∷ b ∷ c ∷ d ∷ ds) h = refl
 
-pub expire_form_of_others : (texts : List (List ℕ)) → three_of texts ≡ None → expire_form (numbers_of texts) ≡ NoForm
+pub expire_form_of_others : (texts : List (List ℕ)) → three_of texts ≡ None → expire_form (numbers_in texts) ≡ NoForm
 expire_form_of_others [] h = refl
-expire_form_of_others (a ∷ []) h = one (number_of a)
+expire_form_of_others (a ∷ []) h = one (decimal_of a)
   where
     one : (o : Option ℕ) → expire_form (option_and_then (λ n. option_map (λ ns. n ∷ ns) (Some [])) o) ≡ NoForm
     one None = refl
     one (Some n) = refl
-expire_form_of_others (a ∷ b ∷ []) h = two (number_of a) (number_of b)
+expire_form_of_others (a ∷ b ∷ []) h = two (decimal_of a) (decimal_of b)
   where
     two : (o p : Option ℕ) → expire_form (option_and_then (λ n. option_map (λ ns. n ∷ ns) (option_and_then (λ n. option_map (λ ns. n ∷ ns) (Some [])) p)) o) ≡ NoForm
     two None p = refl
     two (Some n) None = refl
     two (Some n) (Some m) = refl
 expire_form_of_others (a ∷ b ∷ c ∷ []) h = cc h
-expire_form_of_others (a ∷ b ∷ c ∷ d ∷ ds) h = four (number_of a) (number_of b) (number_of c) (number_of d) (numbers_of ds)
+expire_form_of_others (a ∷ b ∷ c ∷ d ∷ ds) h = four (decimal_of a) (decimal_of b) (decimal_of c) (decimal_of d) (numbers_in ds)
   where
     four : (o p q r : Option ℕ) (s : Option (List ℕ)) → expire_form (option_and_then (λ n. option_map (λ ns. n ∷ ns) (option_and_then (λ n. option_map (λ ns. n ∷ ns) (option_and_then (λ n. option_map (λ ns. n ∷ ns) (option_and_then (λ n. option_map (λ ns. n ∷ ns) s) r)) q)) p)) o) ≡ NoForm
     four None p q r s = refl
@@ -80,7 +80,7 @@ three_texts (x ∷ y ∷ []) a b c h = cc h
 three_texts (x ∷ y ∷ z ∷ []) a b c h = sym (ap texts_in h)
 three_texts (x ∷ y ∷ z ∷ v ∷ vs) a b c h = cc h
 
-pub expire_form_of_three : (texts : List (List ℕ)) (a b c : List ℕ) (window t1 t2 : ℕ) → Some (a, b, c) ≡ three_of texts → Some window ≡ number_of a → Some t1 ≡ number_of b → Some t2 ≡ number_of c → window < 2 ^ 32 → Expire window t1 t2 ≡ expire_form (numbers_of texts)
+pub expire_form_of_three : (texts : List (List ℕ)) (a b c : List ℕ) (window t1 t2 : ℕ) → Some (a, b, c) ≡ three_of texts → Some window ≡ decimal_of a → Some t1 ≡ decimal_of b → Some t2 ≡ decimal_of c → window < 2 ^ 32 → Expire window t1 t2 ≡ expire_form (numbers_in texts)
 expire_form_of_three texts a b c window t1 t2 h f g k below =
     let small : nat_lt window (2 ^ 32) ≡ true = grind (arith, nat_tests) in
     rw (three_texts texts a b c h, ← f, ← g, ← k, small)

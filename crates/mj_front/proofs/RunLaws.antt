@@ -8,8 +8,8 @@ use Rattle.mj_protocol.proofs.OneWorld.{agreeing_scripts}
 use Rattle.mj_protocol.proofs.Legality.{read_game_is_legal}
 use Rattle.mj_protocol.proofs.Fitting.{legal_games_are_played}
 use Rattle.mj_front.specs.declared.hearing.End.{End}
-use Rattle.mj_front.specs.Hearing.{ending, Tells}
-use Rattle.mj_front.specs.Referee.{IsTold, TellsAll}
+use Rattle.mj_front.specs.Inner.Hearing.{Tells}
+use Rattle.mj_front.specs.Referee.{IsTold, TellsAll, ending}
 
 -- the bytes that the seat is told are written, whole or in part
 pub told : (IsWritten : List ℕ → Type 0) (seat : ℕ) (input bytes : List ℕ) (end : End) → Tells (input_of input) seat end bytes → IsWritten bytes → IsTold IsWritten seat (game_of (input_of input).reading)

@@ -5,10 +5,11 @@ use Rattle.mj_links.specs.Sinks.{WritesPrefix}
 use Rattle.mj_rules.specs.Played.{IsPlayed}
 use Rattle.mj_protocol.specs.After.{after, scripts}
 use Rattle.mj_protocol.specs.Trace.{Game, Agree, IsLegal}
-use Rattle.mj_protocol.specs.Arrivals.{Ending, input_of, game_of}
+use Rattle.mj_protocol.specs.Arrivals.{Ending, Whole, BadAt, NotBuiltAt, input_of, game_of}
+use Rattle.mj_front.specs.declared.hearing.End.{End}
+use Rattle.mj_front.specs.declared.hearing.End.TheVariants as inputs
 use Rattle.mj_front.specs.declared.referee.RefereeEnd.{RefereeEnd}
 use Rattle.mj_front.specs.declared.referee.RefereeEnd.TheVariants as ends
-use Rattle.mj_front.specs.Hearing.{ending}
 
 -- The headline: what the referee of a seat writes of a game, whole or in part, as `IsWritten` says.
 pub record IsTold (IsWritten : List ℕ → Type 0) (seat : ℕ) (game : Game) : Type 0 where
@@ -55,6 +56,12 @@ pub record IsTooLong (old_left new_left old_written new_written : Option (List �
   pub more : longest < length bytes
   pub unwritten : Keeps old_written new_written
 
+-- How an input ends.
+abbrev pub ending : End → Ending
+ending inputs.Whole = Whole
+ending (inputs.Bad line) = BadAt line
+ending (inputs.NotBuilt line) = NotBuiltAt line
+
 -- What the referee of a seat does, by its end. A fault of the source and want of memory write nothing.
 abbrev pub Referees : RefereeEnd → ℕ → Option (List ℕ) → Option (List ℕ) → Option (List ℕ) → Option (List ℕ) → Type 0
 Referees (ends.Told end) seat old_left new_left old_written new_written = RefereesAll (ending end) seat old_left new_left old_written new_written
@@ -62,11 +69,3 @@ Referees ends.WriteFault seat old_left new_left old_written new_written = Refere
 Referees ends.ReadFault seat old_left new_left old_written new_written = Keeps old_written new_written
 Referees ends.TooLong seat old_left new_left old_written new_written = IsTooLong old_left new_left old_written new_written
 Referees ends.NoMemory seat old_left new_left old_written new_written = Keeps old_written new_written
-
--- What it does once an input was read, by its end.
-abbrev pub RefereesInput : RefereeEnd → ℕ → List ℕ → Option (List ℕ) → Option (List ℕ) → Type 0
-RefereesInput (ends.Told end) seat input old new = TellsAll (ending end) seat input old new
-RefereesInput ends.WriteFault seat input old new = IsTold (WritesPrefix old new) seat (game_of (input_of input).reading)
-RefereesInput ends.ReadFault seat input old new = ⊥
-RefereesInput ends.TooLong seat input old new = ⊥
-RefereesInput ends.NoMemory seat input old new = Keeps old new

@@ -1,9 +1,6 @@
 -- What words ask for, and what a run does by it.
-use Rattle.std.specs.Prelude.{◌≡◌, ℕ, ◌≤◌, List, [], ◌∷◌, map, codes, bytes_eq, if◌then◌else◌, Option, Some, None}
-use Rattle.std.specs.String.{string_bytes}
+use Rattle.std.specs.Prelude.{◌≡◌, ℕ, ◌≤◌, List, [], ◌∷◌, codes, bytes_eq, if◌then◌else◌, Option, Some, None}
 use Rattle.std.specs.Io.KnownBytes.{Keeps}
-use Rattle.mj_front.specs.declared.commands.Command.{Command}
-use Rattle.mj_front.specs.declared.commands.Command.TheVariants as commands
 use Rattle.mj_front.specs.declared.hand.HandEnd.{HandEnd}
 use Rattle.mj_front.specs.declared.referee.RefereeEnd.{RefereeEnd}
 use Rattle.mj_front.specs.declared.status.Status.{Status}
@@ -41,12 +38,6 @@ referee_asked (Some seat) = RefereeOf seat
 abbrev pub asked_by : List (List ℕ) → Asked
 asked_by [] = Nothing
 asked_by (command ∷ words) = if bytes_eq command (codes "hand") then HandOf words else referee_asked (referee_seat (command ∷ words))
-
--- What a command that was read asks for.
-abbrev pub meant : Command → Asked
-meant (commands.Referee seat) = RefereeOf seat
-meant (commands.Hand words) = HandOf (map string_bytes words.now)
-meant commands.Unknown = Nothing
 
 -- Words that ask for nothing change nothing.
 pub record IsUnheard (status : Status) (old_left new_left old_written new_written : Option (List ℕ)) : Type 0 where

@@ -2,7 +2,8 @@
 
 ghost use Rattle.std.specs.Prelude.{◌≡◌, map};
 ghost use Rattle.std.specs.String.{string_bytes};
-ghost use Rattle.mj_front.specs.Run.{referee_seat, seat_named, asked_by, meant, Runs, MeetsReadFaults};
+ghost use Rattle.mj_front.specs.Run.{referee_seat, seat_named, asked_by, Runs, MeetsReadFaults};
+ghost use Rattle.mj_front.specs.Inner.Commands.{asked_by_command};
 ghost use Rattle.mj_front.specs.Faults.{CountsReadFaults, CountsWriteFaults};
 
 use crate::hand::write_hand;
@@ -50,7 +51,7 @@ pub fn run<S: Source, K: Sink>(
 
 // The command that the words ask for.
 fn command_asked(words: &[String]) -> Command<'_>
-    ensures { meant result ≡ asked_by (map string_bytes words.now) }
+    ensures { asked_by_command result ≡ asked_by (map string_bytes words.now) }
 {
     let [command, others @ ..] = words else {
         return Command::Unknown;

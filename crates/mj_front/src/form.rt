@@ -2,11 +2,11 @@
 
 ghost use Rattle.std.specs.Prelude.{◌≡◌, ◌<◌, ◌≤◌, ◌^◌, IfOk, IfSome, codes, option_and_then, option_map};
 ghost use Rattle.std.specs.Option.{SomeIff, option_map_or};
-ghost use Rattle.mj_bytes.specs.Numbers.{number_of};
+ghost use Rattle.mj_bytes.specs.Numbers.{decimal_of};
 ghost use Rattle.mj_bytes.specs.Parts.{fields, parted, behind};
-ghost use Rattle.mj_protocol.specs.Arrivals.{Header, WallOf, Leave, NoForm, form_of, rules_of, tiles_of, limit_of, switch_of, numbers_of};
+ghost use Rattle.mj_protocol.specs.Arrivals.{Header, WallOf, Leave, NoForm, form_of, rules_of, tiles_in, limit_of, switch_of, numbers_in};
 ghost use Rattle.mj_protocol.specs.Arrivals.{form_by as form_meant, sit_form as sit_meant, say_form as say_meant, expire_form as expire_meant};
-ghost use Rattle.mj_front.specs.Forms.{meaning, expiry_meant, three_of, IsLimited, HasLimit};
+ghost use Rattle.mj_front.specs.Inner.Forms.{meaning, expiry_meant, three_of, IsLimited, HasLimit};
 
 use mj_bytes::{read_number, split_space, strip};
 use mj_tiles::Tile;
@@ -18,7 +18,7 @@ const LINE_LIMIT: usize = 4095;
 
 /// The form of a line, and what stands in it.
 #[derive(Drop)]
-pub(crate) enum Form<'a> {
+pub(crate) enum ArrivalForm<'a> {
     /// `game` and the rules of the game.
     Header(Rules),
     /// `wall` and tiles, which need not make a wall.
@@ -37,19 +37,19 @@ pub(crate) enum Form<'a> {
 
 /// The form of a line, which stands here without its newline.
 #[tactic(auto, unfolding(mj_protocol::specs::Arrivals::form_of))]
-pub(crate) fn read_form(alloc: Global, line: &[u8]) -> Result<Form<'_>, AllocError>
+pub(crate) fn read_form(alloc: Global, line: &[u8]) -> Result<ArrivalForm<'_>, AllocError>
     ensures form { IfOk result (λ form. meaning form ≡ form_of line.now) }
     ensures limit { IfOk result (λ form. HasLimit form) }
 {
     match split_space(line) {
         Some((word, text)) => form_by(alloc, word, text),
-        None => Ok(Form::NoForm),
+        None => Ok(ArrivalForm::NoForm),
     }
 }
 
 // The form of a line by its first word and what follows it.
 #[tactic(auto, unfolding(mj_protocol::specs::Arrivals::form_by))]
-fn form_by<'a>(alloc: Global, word: &[u8], text: &'a [u8]) -> Result<Form<'a>, AllocError>
+fn form_by<'a>(alloc: Global, word: &[u8], text: &'a [u8]) -> Result<ArrivalForm<'a>, AllocError>
     ensures form { IfOk result (λ form. meaning form ≡ form_meant word.now text.now) }
     ensures limit { IfOk result (λ form. HasLimit form) }
 {
@@ -71,16 +71,16 @@ fn form_by<'a>(alloc: Global, word: &[u8], text: &'a [u8]) -> Result<Form<'a>, A
     if word == b"expire".as_slice() {
         return Ok(expire_form(text));
     }
-    Ok(Form::NoForm)
+    Ok(ArrivalForm::NoForm)
 }
 
-fn header_form(text: &[u8]) -> Form<'_>
+fn header_form(text: &[u8]) -> ArrivalForm<'_>
     ensures form { meaning result ≡ option_map_or Header (rules_of (fields text.now)) NoForm }
     ensures limit { HasLimit result }
 {
     match read_rules(text) {
-        Some(rules) => Form::Header(rules),
-        None => Form::NoForm,
+        Some(rules) => ArrivalForm::Header(rules),
+        None => ArrivalForm::NoForm,
     }
 }
 
@@ -100,7 +100,7 @@ fn read_rules(text: &[u8]) -> Option<Rules>
 
 // A limit of 1 to 3600000 milliseconds.
 fn read_limit(field: &[u8]) -> Option<u64>
-    ensures value { result ≡ option_and_then limit_of (option_and_then number_of (behind (codes "limit=") field.now)) }
+    ensures value { result ≡ option_and_then limit_of (option_and_then decimal_of (behind (codes "limit=") field.now)) }
     ensures bound { IfSome result (λ limit. (1 ≤ limit) × (limit ≤ 3600000)) }
 {
     let limit = read_number(strip(field, b"limit=")?)?;
@@ -121,20 +121,20 @@ fn read_switch(field: &[u8], name: &[u8]) -> Option<bool>
     }
 }
 
-fn wall_form<'a>(alloc: Global, text: &[u8]) -> Result<Form<'a>, AllocError>
-    ensures form { IfOk result (λ form. meaning form ≡ option_map_or WallOf (tiles_of (fields text.now)) NoForm) }
+fn wall_form<'a>(alloc: Global, text: &[u8]) -> Result<ArrivalForm<'a>, AllocError>
+    ensures form { IfOk result (λ form. meaning form ≡ option_map_or WallOf (tiles_in (fields text.now)) NoForm) }
     ensures limit { IfOk result (λ form. HasLimit form) }
 {
     match read_tiles(alloc, text)? {
-        Some(tiles) => Ok(Form::Wall(tiles)),
-        None => Ok(Form::NoForm),
+        Some(tiles) => Ok(ArrivalForm::Wall(tiles)),
+        None => Ok(ArrivalForm::NoForm),
     }
 }
 
 // The tiles that the fields of a text name, where each names one.
 #[tactic(auto, using(crate::proofs::TileLaws::reading))]
 fn read_tiles(alloc: Global, text: &[u8]) -> Result<Option<Vec<Tile>>, AllocError>
-    ensures { IfOk result (λ tiles. option_map (λ t. t.items) tiles ≡ tiles_of (fields text.now)) }
+    ensures { IfOk result (λ tiles. option_map (λ t. t.items) tiles ≡ tiles_in (fields text.now)) }
 {
     let mut tiles = Vec::new(alloc);
     let mut rest = text;
@@ -152,56 +152,56 @@ fn read_tiles(alloc: Global, text: &[u8]) -> Result<Option<Vec<Tile>>, AllocErro
     Ok(Some(tiles))
 }
 
-fn sit_form(line: &[u8]) -> Form<'_>
+fn sit_form(line: &[u8]) -> ArrivalForm<'_>
     ensures form { meaning result ≡ sit_meant line.now }
     ensures limit { HasLimit result }
 {
     if line.len() > LINE_LIMIT {
-        return Form::NoForm;
+        return ArrivalForm::NoForm;
     }
-    Form::Sit(line)
+    ArrivalForm::Sit(line)
 }
 
-fn say_form(text: &[u8]) -> Form<'_>
+fn say_form(text: &[u8]) -> ArrivalForm<'_>
     ensures form { meaning result ≡ say_meant (parted text.now) }
     ensures limit { HasLimit result }
 {
     let Some((seat, line)) = split_space(text) else {
-        return Form::NoForm;
+        return ArrivalForm::NoForm;
     };
     let Some(seat) = read_number(seat) else {
-        return Form::NoForm;
+        return ArrivalForm::NoForm;
     };
     if line.len() > LINE_LIMIT {
-        return Form::NoForm;
+        return ArrivalForm::NoForm;
     }
-    Form::Say { seat, line }
+    ArrivalForm::Say { seat, line }
 }
 
-fn leave_form<'a>(text: &[u8]) -> Form<'a>
-    ensures form { meaning result ≡ option_map_or Leave (number_of text.now) NoForm }
+fn leave_form<'a>(text: &[u8]) -> ArrivalForm<'a>
+    ensures form { meaning result ≡ option_map_or Leave (decimal_of text.now) NoForm }
     ensures limit { HasLimit result }
 {
     match read_number(text) {
-        Some(seat) => Form::Leave(seat),
-        None => Form::NoForm,
+        Some(seat) => ArrivalForm::Leave(seat),
+        None => ArrivalForm::NoForm,
     }
 }
 
-fn expire_form<'a>(text: &[u8]) -> Form<'a>
-    ensures form { meaning result ≡ expire_meant (numbers_of (fields text.now)) }
+fn expire_form<'a>(text: &[u8]) -> ArrivalForm<'a>
+    ensures form { meaning result ≡ expire_meant (numbers_in (fields text.now)) }
     ensures limit { HasLimit result }
 {
     match read_expiry(text) {
-        Some((window, t1, t2)) => Form::Expire { window, t1, t2 },
-        None => Form::NoForm,
+        Some((window, t1, t2)) => ArrivalForm::Expire { window, t1, t2 },
+        None => ArrivalForm::NoForm,
     }
 }
 
 // The window, below 2^32, and the two readings that three fields say.
 #[tactic(auto, using(crate::proofs::FieldLaws::expiries))]
 fn read_expiry(text: &[u8]) -> Option<(u32, u64, u64)>
-    ensures { expiry_meant result ≡ expire_meant (numbers_of (fields text.now)) }
+    ensures { expiry_meant result ≡ expire_meant (numbers_in (fields text.now)) }
 {
     let (window, t1, t2) = three_fields(text)?;
     let window = read_number(window)?;

@@ -4,12 +4,12 @@ ghost use Rattle.std.specs.Prelude.{◌≡◌, ◌≤◌, ◌==◌, ℕ, true, f
 ghost use Rattle.mj_bytes.specs.Adds.{Adds};
 ghost use Rattle.mj_bytes.specs.Parts.{whole_lines, unfinished};
 ghost use Rattle.mj_wall.specs.Places.{is_wall};
-ghost use Rattle.mj_protocol.specs.Arrivals.{Leave, Reading, hear_from, hear_on, header_arrives, nothing_read, at_end, input_of, arrives, behind_header, wall_arrives, sit_arrives, say_arrives};
-ghost use Rattle.mj_core.specs.Calls.{is_asked, author_at, standing, pending_at};
-ghost use Rattle.mj_front.specs.Referee.{longest};
-ghost use Rattle.mj_front.specs.Hearing.{reading_of, headed, walled, greeting, InPlay, Does, Stops, ending, HearsAll, Tells};
+ghost use Rattle.mj_protocol.specs.Arrivals.{Leave, Intake, hear_from, hear_on, header_arrives, nothing_read, at_end, input_of, arrives, behind_header, wall_arrives, sit_arrives, say_arrives};
+ghost use Rattle.mj_core.specs.Calls.{may_say_at, author_at, after_of, pending_at};
+ghost use Rattle.mj_front.specs.Referee.{longest, ending};
+ghost use Rattle.mj_front.specs.Inner.Hearing.{intake_of, intake_with_header, intake_with_wall, greeting, InPlay, Does, Stops, HearsAll, Tells};
 
-use crate::form::{Form, read_form};
+use crate::form::{ArrivalForm, read_form};
 use mj_bytes::{push_all, split_line};
 use mj_core::{Core, Heard, SitAnswer};
 use mj_tiles::Tile;
@@ -53,7 +53,7 @@ pub(crate) struct Told {
 }
 
 // What tells the seat nothing.
-fn untold(alloc: Global, end: End) -> Told
+fn nothing_told(alloc: Global, end: End) -> Told
     ensures end { result.end ≡ end }
     ensures bytes { result.bytes.items ≡ [] }
 {
@@ -70,11 +70,11 @@ pub(crate) fn hear(alloc: Global, seat: u8, input: &[u8]) -> Result<Told, AllocE
     ensures { IfOk result (λ told. Tells (input_of input.now) seat told.end told.bytes.items) }
 {
     let Some((line, others)) = split_line(input) else {
-        return Ok(untold(alloc, end_at(input, 1)));
+        return Ok(nothing_told(alloc, end_at(input, 1)));
     };
     match read_form(alloc, line)? {
-        Form::Header(rules) => hear_header(alloc, seat, rules, others),
-        _ => Ok(untold(alloc, End::Bad(1))),
+        ArrivalForm::Header(rules) => hear_header(alloc, seat, rules, others),
+        _ => Ok(nothing_told(alloc, End::Bad(1))),
     }
 }
 
@@ -87,10 +87,10 @@ fn hear_header(alloc: Global, seat: u8, rules: Rules, input: &[u8]) -> Result<To
     ensures { IfOk result (λ told. Tells (hear_on (header_arrives nothing_read rules) (λ next. hear_from next 2 (whole_lines input.now) (unfinished input.now)) nothing_read 1) seat told.end told.bytes.items) }
 {
     if rules.red {
-        return Ok(untold(alloc, End::Bad(1)));
+        return Ok(nothing_told(alloc, End::Bad(1)));
     }
     if rules.draws {
-        return Ok(untold(alloc, End::NotBuilt(1)));
+        return Ok(nothing_told(alloc, End::NotBuilt(1)));
     }
     hear_headed(alloc, seat, rules, input)
 }
@@ -102,17 +102,17 @@ fn hear_headed(alloc: Global, seat: u8, rules: Rules, input: &[u8]) -> Result<To
     requires least { 1 ≤ rules.limit }
     requires longest { rules.limit ≤ 3600000 }
     requires plain { rules.red ≡ false }
-    ensures { IfOk result (λ told. Tells (hear_from (headed rules) 2 (whole_lines input.now) (unfinished input.now)) seat told.end told.bytes.items) }
+    ensures { IfOk result (λ told. Tells (hear_from (intake_with_header rules) 2 (whole_lines input.now) (unfinished input.now)) seat told.end told.bytes.items) }
 {
     let Some((line, others)) = split_line(input) else {
-        return Ok(untold(alloc, end_at(input, 2)));
+        return Ok(nothing_told(alloc, end_at(input, 2)));
     };
     match read_form(alloc, line)? {
-        Form::Wall(tiles) => match Wall::read(tiles.as_slice(), false) {
+        ArrivalForm::Wall(tiles) => match Wall::read(tiles.as_slice(), false) {
             Ok(wall) => hear_walled(alloc, seat, rules, wall, others),
-            Err(_) => Ok(untold(alloc, End::Bad(2))),
+            Err(_) => Ok(nothing_told(alloc, End::Bad(2))),
         },
-        _ => Ok(untold(alloc, End::Bad(2))),
+        _ => Ok(nothing_told(alloc, End::Bad(2))),
     }
 }
 
@@ -129,7 +129,7 @@ fn hear_walled(
     requires longest { rules.limit ≤ 3600000 }
     requires plain { rules.red ≡ false }
     requires whole { is_wall false wall ≡ true }
-    ensures { IfOk result (λ told. Tells (hear_from (walled rules wall) 3 (whole_lines input.now) (unfinished input.now)) seat told.end told.bytes.items) }
+    ensures { IfOk result (λ told. Tells (hear_from (intake_with_wall rules wall) 3 (whole_lines input.now) (unfinished input.now)) seat told.end told.bytes.items) }
 {
     let mut walls = Vec::new(alloc);
     walls.push(wall)?;
@@ -142,7 +142,7 @@ fn hear_walled(
 
 // How an input ends behind its last whole line: nothing may stand there.
 fn end_at(rest: &[u8], number: u32) -> End
-    ensures { (reading : Reading) → at_end reading number rest.now ≡ record { reading = reading; ending = ending result } }
+    ensures { (reading : Intake) → at_end reading number rest.now ≡ record { reading = reading; ending = ending result } }
 {
     match rest {
         [] => End::Whole,
@@ -160,7 +160,7 @@ fn hear_lines(
 ) -> Result<End, AllocError>
     requires play { InPlay seat core.old told.old.items }
     requires fits { length input.now ≤ longest }
-    ensures { IfOk result (λ end. HearsAll (hear_from (reading_of core.old) 3 (whole_lines input.now) (unfinished input.now)) seat end core.new told.new.items) }
+    ensures { IfOk result (λ end. HearsAll (hear_from (intake_of core.old) 3 (whole_lines input.now) (unfinished input.now)) seat end core.new told.new.items) }
 {
     let mut rest = input;
     let mut number = 3;
@@ -186,16 +186,16 @@ fn hear_line(
     line: &[u8],
 ) -> Result<Step, AllocError>
     requires { InPlay seat core.old told.old.items }
-    ensures { IfOk result (λ step. Does step seat core.old core.new told.old.items told.new.items (arrives (reading_of core.old) line.now)) }
+    ensures { IfOk result (λ step. Does step seat core.old core.new told.old.items told.new.items (arrives (intake_of core.old) line.now)) }
 {
     match read_form(alloc, line)? {
-        Form::Header(_) => Ok(Step::Bad),
-        Form::Wall(tiles) => Ok(second_wall(core, tiles.as_slice())),
-        Form::Sit(line) => sit(alloc, seat, core, told, line),
-        Form::Say { seat: who, line } => say(alloc, seat, core, told, who, line),
-        Form::Leave(who) => Ok(leave(core, who)),
-        Form::Expire { .. } => Ok(Step::NotBuilt),
-        Form::NoForm => Ok(Step::Bad),
+        ArrivalForm::Header(_) => Ok(Step::Bad),
+        ArrivalForm::Wall(tiles) => Ok(second_wall(core, tiles.as_slice())),
+        ArrivalForm::Sit(line) => sit(alloc, seat, core, told, line),
+        ArrivalForm::Say { seat: who, line } => say(alloc, seat, core, told, who, line),
+        ArrivalForm::Leave(who) => Ok(leave(core, who)),
+        ArrivalForm::Expire { .. } => Ok(Step::NotBuilt),
+        ArrivalForm::NoForm => Ok(Step::Bad),
     }
 }
 
@@ -203,8 +203,8 @@ fn hear_line(
 #[tactic(auto, using(crate::proofs::LineLaws::walls))]
 fn second_wall(core: &Core, tiles: &[Tile]) -> Step
     requires wall { (length core.now.setting.walls == 0) ≡ false }
-    requires begun { (length core.now.entries == 0) ≡ (length (standing core.now).chairs == 0) }
-    ensures { Stops result (wall_arrives (reading_of core.now) tiles.now) }
+    requires begun { (length core.now.entries == 0) ≡ (length (after_of core.now).chairs == 0) }
+    ensures { Stops result (wall_arrives (intake_of core.now) tiles.now) }
 {
     if core.seats() > 0 {
         return Step::Bad;
@@ -217,7 +217,7 @@ fn second_wall(core: &Core, tiles: &[Tile]) -> Step
 
 // A seat is gone.
 fn leave(core: &Core, who: u64) -> Step
-    ensures { Stops result (behind_header (reading_of core.now) (Leave who)) }
+    ensures { Stops result (behind_header (intake_of core.now) (Leave who)) }
 {
     if who < u64::from(core.seats()) {
         return Step::NotBuilt;
@@ -234,7 +234,7 @@ fn sit(
     line: &[u8],
 ) -> Result<Step, AllocError>
     requires { InPlay seat core.old told.old.items }
-    ensures { IfOk result (λ step. Does step seat core.old core.new told.old.items told.new.items (sit_arrives (reading_of core.old) line.now)) }
+    ensures { IfOk result (λ step. Does step seat core.old core.new told.old.items told.new.items (sit_arrives (intake_of core.old) line.now)) }
 {
     match core.sit(alloc, JOINER, line) {
         SitAnswer::Sat(taken) => {
@@ -268,7 +268,7 @@ fn say(
     line: &[u8],
 ) -> Result<Step, AllocError>
     requires { InPlay seat core.old told.old.items }
-    ensures { IfOk result (λ step. Does step seat core.old core.new told.old.items told.new.items (say_arrives (reading_of core.old) who line.now)) }
+    ensures { IfOk result (λ step. Does step seat core.old core.new told.old.items told.new.items (say_arrives (intake_of core.old) who line.now)) }
 {
     if who >= u64::from(core.seats()) {
         return Ok(Step::Bad);
@@ -297,8 +297,8 @@ fn own_line(
 ) -> Result<Step, AllocError>
     requires play { InPlay seat core.old told.old.items }
     requires present { author_at core.old seat ≡ Some author }
-    requires asked { is_asked core.old seat ≡ true }
-    ensures { IfOk result (λ step. Does step seat core.old core.new told.old.items told.new.items (say_arrives (reading_of core.old) seat line.now)) }
+    requires asked { may_say_at core.old seat ≡ true }
+    ensures { IfOk result (λ step. Does step seat core.old core.new told.old.items told.new.items (say_arrives (intake_of core.old) seat line.now)) }
 {
     let mut due = Vec::new(alloc);
     core.pending(alloc, seat, &mut due)?;
@@ -333,9 +333,9 @@ fn others_line(
 ) -> Result<Step, AllocError>
     requires play { InPlay seat core.old told.old.items }
     requires present { author_at core.old who ≡ Some author }
-    requires asked { is_asked core.old who ≡ true }
+    requires asked { may_say_at core.old who ≡ true }
     requires another { (who == seat) ≡ false }
-    ensures { IfOk result (λ step. Does step seat core.old core.new told.old.items told.new.items (say_arrives (reading_of core.old) who line.now)) }
+    ensures { IfOk result (λ step. Does step seat core.old core.new told.old.items told.new.items (say_arrives (intake_of core.old) who line.now)) }
 {
     match core.said(alloc, author, who, line) {
         Heard::Taken => Ok(Step::Leads),

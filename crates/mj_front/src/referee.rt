@@ -1,7 +1,8 @@
 //! The command `referee`: the input read whole, and what its game tells a seat written.
 
 ghost use Rattle.std.specs.Prelude.{◌≤◌, length};
-ghost use Rattle.mj_front.specs.Referee.{longest, Referees, RefereesInput};
+ghost use Rattle.mj_front.specs.Referee.{longest, Referees};
+ghost use Rattle.mj_front.specs.Inner.Refereeing.{RefereesInput};
 ghost use Rattle.mj_front.specs.Statuses.{referee_status};
 ghost use Rattle.mj_front.specs.Faults.{CountsReadFaults, CountsWriteFaults};
 

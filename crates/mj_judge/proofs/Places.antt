@@ -7,7 +7,7 @@ use Rattle.std.proofs.lemmas.List.Elements.{filter-append}
 use Rattle.mj_tiles.specs.Faces.{tile_order}
 use Rattle.mj_tiles.proofs.Faces.{all_faces}
 use Rattle.mj_deeds.proofs.Newest.{last_added}
-use Rattle.mj_rules.specs.Default.{last_of}
+use Rattle.mj_rules.specs.Default.{last_face}
 
 all_places : (i : ℕ) → i < 37 → i < length tile_order
 all_places i h = omega (arith, all_faces)
@@ -36,12 +36,12 @@ filter_step p i tile b h is test =
     ∙ ap (λ (c : Bool). filter p (take i tile_order) ++ cond c (tile ∷ []) []) test
 
 pub last_passes : (p : ℕ → Bool) (i tile : ℕ) → i < 37 → tile ≡ slice_index tile_order i → p tile ≡ true →
-    Some tile ≡ last_of (filter p (take (i + 1) tile_order))
-last_passes p i tile h is test = sym (ap last_of (filter_step p i tile true h is test) ∙ last_added (filter p (take i tile_order)) tile)
+    Some tile ≡ last_face (filter p (take (i + 1) tile_order))
+last_passes p i tile h is test = sym (ap last_face (filter_step p i tile true h is test) ∙ last_added (filter p (take i tile_order)) tile)
 
 pub last_stays : (p : ℕ → Bool) (i tile : ℕ) → i < 37 → tile ≡ slice_index tile_order i → p tile ≡ false →
-    last_of (filter p (take i tile_order)) ≡ last_of (filter p (take (i + 1) tile_order))
-last_stays p i tile h is test = sym (ap last_of (filter_step p i tile false h is test ∙ append-nil (filter p (take i tile_order))))
+    last_face (filter p (take i tile_order)) ≡ last_face (filter p (take (i + 1) tile_order))
+last_stays p i tile h is test = sym (ap last_face (filter_step p i tile false h is test ∙ append-nil (filter p (take i tile_order))))
 
 -- Behind the last place.
 past : (i : ℕ) → 37 ≤ i → length tile_order ≤ i
@@ -50,5 +50,5 @@ past i h = omega (arith, all_faces)
 pub none_left : (p : ℕ → Bool) (i : ℕ) → 37 ≤ i → list_all p (drop i tile_order) ≡ true
 none_left p i h = ap (list_all p) (drop_all i tile_order (past i h))
 
-pub all_seen : (p : ℕ → Bool) (i : ℕ) → 37 ≤ i → last_of (filter p (take i tile_order)) ≡ last_of (filter p tile_order)
-all_seen p i h = ap (λ (xs : List ℕ). last_of (filter p xs)) (take_all i tile_order (past i h))
+pub all_seen : (p : ℕ → Bool) (i : ℕ) → 37 ≤ i → last_face (filter p (take i tile_order)) ≡ last_face (filter p tile_order)
+all_seen p i h = ap (λ (xs : List ℕ). last_face (filter p xs)) (take_all i tile_order (past i h))

@@ -8,21 +8,21 @@ use Rattle.mj_tiles.proofs.KindSets.{has_kind-none, has_kind-with}
 use Rattle.mj_calls.specs.Bans.{banned_kinds, is_banned}
 use Rattle.mj_deeds.specs.declared.deed.Deed.{Deed}
 use Rattle.mj_deeds.specs.declared.deed.Deed.TheVariants.{StartGame, StartHand, Draw, Discard, Chi, Pon, OpenKan, ClosedKan, AddedKan, Dora}
-use Rattle.mj_rules.specs.Broken.{View, held, turn_by, banned_in, has_nothing_else}
-use Rattle.mj_judge.specs.Free.{is_used_up}
+use Rattle.mj_rules.specs.Broken.{SeatView, held_count, turn_by, banned_in, has_nothing_else}
+use Rattle.mj_judge.specs.Inner.Free.{is_used_up}
 
 pub swap_of : (kinds : List ℕ) (kind : ℕ) → has_kind (set_of kinds) kind ≡ is_banned kinds kind
 swap_of [] kind = has_kind-none kind
 swap_of (other ∷ others) kind = has_kind-with (set_of others) other kind ∙ ap (λ b. eqb other kind || b) (swap_of others kind)
 
-nothing_else : (view : View) (used kinds : List ℕ) → list_all (is_used_up view.gained view.lost used (set_of kinds)) tile_order ≡ has_nothing_else view used kinds
+nothing_else : (view : SeatView) (used kinds : List ℕ) → list_all (is_used_up view.tiles_gained view.tiles_lost used (set_of kinds)) tile_order ≡ has_nothing_else view used kinds
 unfolding has_nothing_else
-nothing_else view used kinds i = list_all (λ (face : ℕ). nat_le (held view face) (number_in used face) || swap_of kinds (kind_of face) i) tile_order
+nothing_else view used kinds i = list_all (λ (face : ℕ). nat_le (held_count view face) (number_in used face) || swap_of kinds (kind_of face) i) tile_order
 
-pub stuck_is : (view : View) (used kinds : List ℕ) (bans : ℕ) (result : Bool) → result ≡ list_all (is_used_up view.gained view.lost used bans) tile_order →
+pub stuck_is : (view : SeatView) (used kinds : List ℕ) (bans : ℕ) (result : Bool) → result ≡ list_all (is_used_up view.tiles_gained view.tiles_lost used bans) tile_order →
     bans ≡ set_of kinds → result ≡ has_nothing_else view used kinds
 stuck_is view used kinds bans result h k =
-    h ∙ ap (λ b. list_all (is_used_up view.gained view.lost used b) tile_order) k ∙ nothing_else view used kinds
+    h ∙ ap (λ b. list_all (is_used_up view.tiles_gained view.tiles_lost used b) tile_order) k ∙ nothing_else view used kinds
 
 pub bans_of_turn : (deed : Deed) → banned_in (turn_by deed) ≡ banned_kinds deed
 bans_of_turn (StartGame names) = refl

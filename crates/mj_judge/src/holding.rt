@@ -3,7 +3,7 @@ ghost use Rattle.std.specs.List.{list_any};
 ghost use Rattle.mj_tiles.specs.Faces.{number_in};
 ghost use Rattle.mj_deeds.specs.Facts.{drawn_tile};
 ghost use Rattle.mj_deeds.specs.Pais.{face_in};
-ghost use Rattle.mj_rules.specs.Broken.{view_of, held, is_that, is_no_tile, names_no_tile, names_unheld, is_wrongly_marked, marks_wrongly};
+ghost use Rattle.mj_rules.specs.Broken.{view_of, held_count, is_that, is_no_tile, is_no_such_tile, is_not_held, is_wrongly_marked, is_not_drawn};
 
 use crate::questions::is_tile;
 use mj_deeds::{Answer, Pai};
@@ -11,15 +11,15 @@ use mj_table::Table;
 use mj_tiles::Tile;
 
 // A named tile is one that the game doesn't have: a hidden one, or a red five where there are none.
-pub(crate) fn names_no_tile(table: &Table, answer: &Answer) -> bool
-    ensures { result ≡ names_no_tile table.now.rules.red answer.now }
+pub(crate) fn is_no_such_tile(table: &Table, answer: &Answer) -> bool
+    ensures { result ≡ is_no_such_tile table.now.rules.red answer.now }
 {
     names_tile_outside(table.rules().red, answer)
 }
 
 // The named own tiles aren't all among the concealed ones: of some face more are named than are held.
-pub(crate) fn names_unheld(table: &Table, seat: u8, answer: &Answer) -> bool
-    ensures { result ≡ names_unheld (view_of table.now.deeds seat) answer.now }
+pub(crate) fn is_not_held(table: &Table, seat: u8, answer: &Answer) -> bool
+    ensures { result ≡ is_not_held (view_of table.now.deeds seat) answer.now }
 {
     match answer {
         Answer::Discard { tile, .. } => has_unheld(table, seat, &[*tile]),
@@ -34,8 +34,8 @@ pub(crate) fn names_unheld(table: &Table, seat: u8, answer: &Answer) -> bool
 
 // The discard is marked as the drawn tile and isn't that one; or it isn't marked so, and the drawn tile is the only
 // one held of its face.
-pub(crate) fn marks_wrongly(table: &Table, seat: u8, answer: &Answer) -> bool
-    ensures { result ≡ marks_wrongly (view_of table.now.deeds seat) answer.now }
+pub(crate) fn is_not_drawn(table: &Table, seat: u8, answer: &Answer) -> bool
+    ensures { result ≡ is_not_drawn (view_of table.now.deeds seat) answer.now }
 {
     match answer {
         Answer::Discard { tile, drawn, .. } => is_wrongly_marked(table, seat, tile, *drawn),
@@ -45,7 +45,7 @@ pub(crate) fn marks_wrongly(table: &Table, seat: u8, answer: &Answer) -> bool
 
 // The same in a game with red fives or without.
 fn names_tile_outside(red: bool, answer: &Answer) -> bool
-    ensures { result ≡ names_no_tile red answer.now }
+    ensures { result ≡ is_no_such_tile red answer.now }
 {
     match answer {
         Answer::Discard { tile, .. } => has_no_tile(red, &[*tile]),
@@ -83,11 +83,11 @@ fn is_no_tile(red: bool, tile: &Pai) -> bool
 #[tactic(auto, unfolding(mj_rules::specs::Broken::view_of))]
 fn has_unheld(table: &Table, seat: u8, tiles: &[Pai]) -> bool
     requires { length tiles.now ≤ 4 }
-    ensures { let faces = flat_map face_in tiles.now in result ≡ list_any (λ face. nat_lt (held (view_of table.now.deeds seat) face) (number_in faces face)) faces }
+    ensures { let faces = flat_map face_in tiles.now in result ≡ list_any (λ face. nat_lt (held_count (view_of table.now.deeds seat) face) (number_in faces face)) faces }
 {
     for tile in tiles {
         if let Pai::Known(tile) = tile {
-            if table.held(seat, *tile) < number_among(tiles, *tile) {
+            if table.held_count(seat, *tile) < number_among(tiles, *tile) {
                 return true;
             }
         }
@@ -115,7 +115,7 @@ fn is_wrongly_marked(table: &Table, seat: u8, tile: &Pai, marked: bool) -> bool
 {
     match tile {
         Pai::Known(tile) if marked => !is_drawn(table, seat, *tile),
-        Pai::Known(tile) => is_drawn(table, seat, *tile) && table.held(seat, *tile) == 1,
+        Pai::Known(tile) => is_drawn(table, seat, *tile) && table.held_count(seat, *tile) == 1,
         Pai::Hidden => false,
     }
 }

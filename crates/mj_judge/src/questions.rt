@@ -1,21 +1,21 @@
 ghost use Rattle.std.specs.Prelude.{◌≡◌, not, option_map};
 ghost use Rattle.mj_deeds.specs.Facts.{newest};
-ghost use Rattle.mj_rules.specs.Broken.{is_unread, actor_of, is_another, names_another, is_own_act, is_discard, is_pass, is_pass_or_call, is_open, is_call, is_kan_answer, is_own_kan, view_of, turn_by, turn_in, misses_discard, misses_target, is_tile, is_too_late, is_before, is_not_left, is_fifth_kan, is_dry_kan};
+ghost use Rattle.mj_rules.specs.Broken.{is_unreadable, actor_of, is_another, is_not_yours, is_own_act, is_discard, is_pass, is_pass_or_call, is_open, is_not_now, is_call_answer, is_kan_answer, is_own_kan, view_of, turn_by, turn_in, misses_discard, is_wrong_target, is_tile, is_last_tile, is_before, is_not_left, is_kan_full, is_kan_dry};
 
 use mj_deeds::{Answer, Deed, Pai, next_seat};
 use mj_table::Table;
 use mj_tiles::Tile;
 
 // The line is no answer.
-pub(crate) fn is_unread(answer: &Answer) -> bool
-    ensures { result ≡ is_unread answer.now }
+pub(crate) fn is_unreadable(answer: &Answer) -> bool
+    ensures { result ≡ is_unreadable answer.now }
 {
     matches!(answer, Answer::Unread)
 }
 
 // The answer names an actor, and another than the seat.
-pub(crate) fn names_another(seat: u8, answer: &Answer) -> bool
-    ensures { result ≡ names_another seat answer.now }
+pub(crate) fn is_not_yours(seat: u8, answer: &Answer) -> bool
+    ensures { result ≡ is_not_yours seat answer.now }
 {
     match actor_of(answer) {
         Some(actor) => actor != seat,
@@ -25,8 +25,8 @@ pub(crate) fn names_another(seat: u8, answer: &Answer) -> bool
 
 // Such an answer is not open to the seat in this window.
 #[tactic(auto, unfolding(mj_rules::specs::Broken::view_of))]
-pub(crate) fn is_closed(table: &Table, seat: u8, answer: &Answer) -> bool
-    ensures { result ≡ not (is_open seat (view_of table.now.deeds seat).turn answer.now) }
+pub(crate) fn is_not_now(table: &Table, seat: u8, answer: &Answer) -> bool
+    ensures { result ≡ is_not_now seat (view_of table.now.deeds seat).turn answer.now }
 {
     match table.newest() {
         Some(Deed::Draw { seat: who, .. }) if *who == seat => !is_own_act(answer),
@@ -39,8 +39,8 @@ pub(crate) fn is_closed(table: &Table, seat: u8, answer: &Answer) -> bool
 
 // A call names another than the discarder, or another tile than the one that was discarded.
 #[tactic(auto, unfolding(mj_rules::specs::Broken::view_of))]
-pub(crate) fn misses_target(table: &Table, seat: u8, answer: &Answer) -> bool
-    ensures { result ≡ misses_target (view_of table.now.deeds seat).turn answer.now }
+pub(crate) fn is_wrong_target(table: &Table, seat: u8, answer: &Answer) -> bool
+    ensures { result ≡ is_wrong_target (view_of table.now.deeds seat).turn answer.now }
 {
     match answer {
         Answer::Chi { target, tile, .. } => misses_discard(table, *target, tile),
@@ -52,10 +52,10 @@ pub(crate) fn misses_target(table: &Table, seat: u8, answer: &Answer) -> bool
 
 // A discard is called with no live tile left.
 #[tactic(auto, unfolding(mj_rules::specs::Broken::view_of))]
-pub(crate) fn is_too_late(table: &Table, seat: u8, answer: &Answer) -> bool
-    ensures { result ≡ is_too_late (view_of table.now.deeds seat) answer.now }
+pub(crate) fn is_last_tile(table: &Table, seat: u8, answer: &Answer) -> bool
+    ensures { result ≡ is_last_tile (view_of table.now.deeds seat) answer.now }
 {
-    is_call(answer) && table.live() == 0
+    is_call_answer(answer) && table.live() == 0
 }
 
 // A run is called from another seat than the one before.
@@ -71,16 +71,16 @@ pub(crate) fn is_not_left(table: &Table, seat: u8, answer: &Answer) -> bool
 
 // A kan where four stand already.
 #[tactic(auto, unfolding(mj_rules::specs::Broken::view_of))]
-pub(crate) fn is_fifth_kan(table: &Table, seat: u8, answer: &Answer) -> bool
-    ensures { result ≡ is_fifth_kan (view_of table.now.deeds seat) answer.now }
+pub(crate) fn is_kan_full(table: &Table, seat: u8, answer: &Answer) -> bool
+    ensures { result ≡ is_kan_full (view_of table.now.deeds seat) answer.now }
 {
-    is_kan(answer) && table.kans() >= 4
+    is_kan_answer(answer) && table.kans() >= 4
 }
 
 // A kan at one's own draw with no live tile left.
 #[tactic(auto, unfolding(mj_rules::specs::Broken::view_of))]
-pub(crate) fn is_dry_kan(table: &Table, seat: u8, answer: &Answer) -> bool
-    ensures { result ≡ is_dry_kan (view_of table.now.deeds seat) answer.now }
+pub(crate) fn is_kan_dry(table: &Table, seat: u8, answer: &Answer) -> bool
+    ensures { result ≡ is_kan_dry (view_of table.now.deeds seat) answer.now }
 {
     is_own_kan(answer) && table.live() == 0
 }
@@ -130,8 +130,8 @@ fn is_pass(answer: &Answer) -> bool
     matches!(answer, Answer::Pass { .. })
 }
 
-fn is_call(answer: &Answer) -> bool
-    ensures { result ≡ is_call answer.now }
+fn is_call_answer(answer: &Answer) -> bool
+    ensures { result ≡ is_call_answer answer.now }
 {
     matches!(
         answer,
@@ -142,7 +142,7 @@ fn is_call(answer: &Answer) -> bool
 fn is_pass_or_call(answer: &Answer) -> bool
     ensures { result ≡ is_pass_or_call answer.now }
 {
-    is_pass(answer) || is_call(answer)
+    is_pass(answer) || is_call_answer(answer)
 }
 
 // A kan of concealed tiles, or by a tile added to a pon.
@@ -152,7 +152,7 @@ fn is_own_kan(answer: &Answer) -> bool
     matches!(answer, Answer::ClosedKan { .. } | Answer::AddedKan { .. })
 }
 
-fn is_kan(answer: &Answer) -> bool
+fn is_kan_answer(answer: &Answer) -> bool
     ensures { result ≡ is_kan_answer answer.now }
 {
     is_own_kan(answer) || matches!(answer, Answer::OpenKan { .. })

@@ -2,7 +2,7 @@ ghost use Rattle.std.specs.Prelude.{◌≡◌};
 ghost use Rattle.std.specs.List.{list_any};
 ghost use Rattle.mj_deeds.specs.Facts.{seat_melds};
 ghost use Rattle.mj_deeds.specs.Hand.{hand};
-ghost use Rattle.mj_rules.specs.Broken.{view_of, is_alike, is_run, is_own_pon, is_bad_set};
+ghost use Rattle.mj_rules.specs.Broken.{view_of, is_alike, is_known_run, is_own_pon, is_bad_set};
 
 use mj_calls::{chi_shape, same_kind};
 use mj_deeds::{Answer, Pai};
@@ -14,7 +14,7 @@ pub(crate) fn is_bad_set(table: &Table, seat: u8, answer: &Answer) -> bool
     ensures { result ≡ is_bad_set (view_of table.now.deeds seat) answer.now }
 {
     match answer {
-        Answer::Chi { tile, a, b, .. } => !is_run(tile, a, b),
+        Answer::Chi { tile, a, b, .. } => !is_known_run(tile, a, b),
         Answer::Pon { tile, a, b, .. } => !(is_alike(tile, a) && is_alike(tile, b)),
         Answer::OpenKan { tile, a, b, c, .. } => {
             !(is_alike(tile, a) && is_alike(tile, b) && is_alike(tile, c))
@@ -28,8 +28,8 @@ pub(crate) fn is_bad_set(table: &Table, seat: u8, answer: &Answer) -> bool
 }
 
 // Three tiles are known and make a run.
-fn is_run(tile: &Pai, a: &Pai, b: &Pai) -> bool
-    ensures { result ≡ is_run tile.now a.now b.now }
+fn is_known_run(tile: &Pai, a: &Pai, b: &Pai) -> bool
+    ensures { result ≡ is_known_run tile.now a.now b.now }
 {
     match (tile, a, b) {
         (Pai::Known(tile), Pai::Known(a), Pai::Known(b)) => chi_shape(*tile, *a, *b),

@@ -2,11 +2,11 @@ ghost use Rattle.std.specs.Prelude.{◌≡◌, ◌≤◌, length, flat_map, opti
 ghost use Rattle.std.specs.List.{list_all};
 ghost use Rattle.mj_tiles.specs.Faces.{tile_order};
 ghost use Rattle.mj_tiles.specs.Kinds.{set_of};
-ghost use Rattle.mj_deeds.specs.Facts.{newest, gained, lost};
+ghost use Rattle.mj_deeds.specs.Facts.{newest, tiles_gained, tiles_lost};
 ghost use Rattle.mj_deeds.specs.Pais.{face_in};
-ghost use Rattle.mj_rules.specs.Broken.{view_of, turn_by, turn_in, banned_in, swaps, bans_of_chi, bans_of_pon, is_stuck};
+ghost use Rattle.mj_rules.specs.Broken.{view_of, turn_by, turn_in, banned_in, is_swap_call, bans_of_chi, bans_of_pon, is_stuck_call};
 ghost use Rattle.mj_deeds.specs.Hand.{hand};
-ghost use Rattle.mj_judge.specs.Free.{is_used_up};
+ghost use Rattle.mj_judge.specs.Inner.Free.{is_used_up};
 
 use crate::holding::number_among;
 use mj_calls::banned;
@@ -16,8 +16,8 @@ use mj_tiles::{Kinds, Tile};
 
 // The discard is of a kind that is banned right after the call that is the newest deed.
 #[tactic(auto, using(crate::proofs::Swaps::swap_of), unfolding(mj_rules::specs::Broken::view_of))]
-pub(crate) fn swaps(table: &Table, seat: u8, answer: &Answer) -> bool
-    ensures { result ≡ swaps (view_of table.now.deeds seat).turn answer.now }
+pub(crate) fn is_swap_call(table: &Table, seat: u8, answer: &Answer) -> bool
+    ensures { result ≡ is_swap_call (view_of table.now.deeds seat).turn answer.now }
 {
     let Answer::Discard { tile, .. } = answer else {
         return false;
@@ -41,8 +41,8 @@ fn newest_bans(table: &Table) -> Kinds
 
 // Every discard after the call would be of a banned kind.
 #[tactic(auto, unfolding(mj_rules::specs::Broken::view_of))]
-pub(crate) fn is_stuck(table: &Table, seat: u8, answer: &Answer) -> bool
-    ensures { result ≡ is_stuck (view_of table.now.deeds seat) answer.now }
+pub(crate) fn is_stuck_call(table: &Table, seat: u8, answer: &Answer) -> bool
+    ensures { result ≡ is_stuck_call (view_of table.now.deeds seat) answer.now }
 {
     match answer {
         Answer::Chi { tile, a, b, .. } => {
@@ -84,7 +84,7 @@ fn banned_by_pon(tile: &Pai) -> Kinds
 // Every tile that is held besides these is of a banned kind.
 fn has_nothing_else(table: &Table, seat: u8, used: &[Pai], bans: Kinds) -> bool
     requires { length used.now ≤ 2 }
-    ensures { result ≡ list_all (is_used_up (gained (hand table.now.deeds) seat) (lost (hand table.now.deeds) seat) (flat_map face_in used.now) bans) tile_order }
+    ensures { result ≡ list_all (is_used_up (tiles_gained (hand table.now.deeds) seat) (tiles_lost (hand table.now.deeds) seat) (flat_map face_in used.now) bans) tile_order }
 {
     for place in 0..37 {
         let tile = ordered(place);
@@ -98,7 +98,7 @@ fn has_nothing_else(table: &Table, seat: u8, used: &[Pai], bans: Kinds) -> bool
 // The seat holds no more tiles of the face than are used, or they are of a banned kind.
 fn is_used_up(table: &Table, seat: u8, used: &[Pai], bans: Kinds, tile: Tile) -> bool
     requires { length used.now ≤ 2 }
-    ensures { result ≡ is_used_up (gained (hand table.now.deeds) seat) (lost (hand table.now.deeds) seat) (flat_map face_in used.now) bans tile }
+    ensures { result ≡ is_used_up (tiles_gained (hand table.now.deeds) seat) (tiles_lost (hand table.now.deeds) seat) (flat_map face_in used.now) bans tile }
 {
-    table.held(seat, tile) <= number_among(used, tile) || bans.has(tile.kind())
+    table.held_count(seat, tile) <= number_among(used, tile) || bans.has(tile.kind())
 }

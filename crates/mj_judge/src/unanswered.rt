@@ -1,6 +1,6 @@
 ghost use Rattle.std.specs.Prelude.{◌≡◌, is_none};
 ghost use Rattle.mj_rules.specs.Broken.{view_of, broken_by};
-ghost use Rattle.mj_rules.specs.Default.{default_answer, discard_of, discard_or_pass, lawful_faces, last_of};
+ghost use Rattle.mj_rules.specs.Default.{default_answer, discard_of, discard_or_pass, lawful_faces, last_face};
 
 use crate::holding::is_drawn;
 use crate::verdict::judge;
@@ -27,7 +27,7 @@ pub fn default(table: &Table, seat: u8) -> Answer
 
 // Right after a call of the seat: the discard of the last tile that breaks no rule.
 fn after_call(table: &Table, seat: u8) -> Answer
-    ensures { let view = view_of table.now.deeds seat in result ≡ discard_or_pass seat view (last_of (lawful_faces table.now.rules seat view)) }
+    ensures { let view = view_of table.now.deeds seat in result ≡ discard_or_pass seat view (last_face (lawful_faces table.now.rules seat view)) }
 {
     discard_or_pass(table, seat, last_lawful(table, seat))
 }
@@ -35,7 +35,7 @@ fn after_call(table: &Table, seat: u8) -> Answer
 // The last tile in tile order whose discard breaks no rule.
 #[tactic(auto, unfolding(mj_rules::specs::Default::lawful_faces))]
 fn last_lawful(table: &Table, seat: u8) -> Option<Tile>
-    ensures { result ≡ last_of (lawful_faces table.now.rules seat (view_of table.now.deeds seat)) }
+    ensures { result ≡ last_face (lawful_faces table.now.rules seat (view_of table.now.deeds seat)) }
 {
     let mut last = None;
     for place in 0..37 {

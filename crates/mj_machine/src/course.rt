@@ -2,9 +2,9 @@ ghost use Rattle.std.specs.Prelude.{◌≡◌, ◌≤◌, length, IfOk, OnErr, I
 ghost use Rattle.std.specs.List.{list_all};
 ghost use Rattle.mj_wall.specs.Places.{is_wall};
 ghost use Rattle.mj_deeds.specs.Hand.{hand};
-ghost use Rattle.mj_rules.specs.Outcome.{outcome, is_unbuilt, goes_on, wall_now, hand_start, hand_dealt, next_draw, next_dora, next_replacement};
+ghost use Rattle.mj_rules.specs.Outcome.{outcome, is_unbuilt, after_pass, wall_now, hand_start, hand_dealt, next_draw, next_dora, next_replacement};
 ghost use Rattle.mj_rules.specs.Played.{IsPlayed, AllLawful};
-ghost use Rattle.mj_machine.specs.Course.{GoesOn};
+ghost use Rattle.mj_machine.specs.Course.{AddsFollower};
 
 use crate::acts::act;
 use mj_deeds::{Answer, Deed, Four, Tiles, next_seat};
@@ -34,7 +34,7 @@ pub fn next(
     requires lawful { AllLawful table.old.rules table.old.deeds answers.now }
     ensures follows { IfOk result (λ d. d ≡ outcome table.old.rules walls.now table.old.deeds answers.now) }
     ensures missing { IfOk result (λ d. is_none d ≡ is_unbuilt table.old.deeds answers.now) }
-    ensures pushed { IfOk result (λ d. GoesOn table.old table.new d) }
+    ensures pushed { IfOk result (λ d. AddsFollower table.old table.new d) }
     ensures played { IfOk result (λ d. IsPlayed table.old.rules walls.now table.new.deeds) }
     ensures err { OnErr result (table.new ≡ table.old) }
 {
@@ -62,19 +62,19 @@ fn follower(
     match decide(last, answers) {
         Decision::Call(bid) => Ok(bid.deed()),
         Decision::Act(seat, answer) => Ok(act(seat, &answer)),
-        Decision::Pass => goes_on(alloc, table, walls, last),
+        Decision::Pass => after_pass(alloc, table, walls, last),
     }
 }
 
 // What follows a deed where the answers to its window decide nothing.
-fn goes_on(
+fn after_pass(
     alloc: Global,
     table: &Table,
     walls: &[Wall],
     last: &Deed,
 ) -> Result<Option<Deed>, AllocError>
     requires some { 1 ≤ length walls.now }
-    ensures { IfOk result (λ d. d ≡ goes_on walls.now (wall_now walls.now table.now.deeds) (hand table.now.deeds) last.now) }
+    ensures { IfOk result (λ d. d ≡ after_pass walls.now (wall_now walls.now table.now.deeds) (hand table.now.deeds) last.now) }
 {
     let wall = wall_now(table, walls);
     match last {

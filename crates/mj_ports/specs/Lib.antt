@@ -1,5 +1,4 @@
 pub mod Names
-pub mod ShortList
 pub mod Entries
 pub mod SeatCalls
 pub mod Seats

@@ -1,12 +1,12 @@
 -- The toy game meets the laws of seated games.
-use Rattle.std.proofs.Common.{◌≡◌, ◌≢◌, ◌⊎◌, ⊎_elim, ℕ, zero, suc, ◌+◌, ◌<◌, ◌≤◌, ◌==◌, Bool, true, false, List, [], ◌∷◌, ◌++◌, length, if◌then◌else◌, Option, Some, None, refl, true≢false, ap, sym, ◌∙◌, subst, arith, append-nil, unwrap_or, is_some}
+use Rattle.std.proofs.Common.{◌≡◌, ◌≢◌, ⊎_elim, ℕ, zero, suc, ◌<◌, ◌≤◌, ◌==◌, Bool, true, false, List, [], ◌∷◌, ◌++◌, length, if◌then◌else◌, Option, Some, None, refl, true≢false, ap, sym, ◌∙◌, subst, arith, append-nil, unwrap_or, is_some}
 use Rattle.std.specs.Option.{option_map_or}
 use Rattle.mj_ports.specs.declared.entry.Entry.{Entry}
 use Rattle.mj_ports.specs.declared.entry.Entry.TheVariants.{Sat, Back, Said, Gone, Expired}
 use Rattle.mj_ports.specs.declared.answers.Heard.{Heard}
 use Rattle.mj_ports.specs.declared.answers.Heard.TheVariants.{Taken, Late, Refused, Closing, NoMemory}
-use Rattle.mj_ports.specs.Entries.{author_of, seat_in, next_seat, IsAside}
-use Rattle.mj_ports.specs.Seats.{After, pending, script, Stays, StaysEnded, Unmoved, Begins, Answers, Adds, GoesOn, IsAskedAgain, Leaves, hello, replay}
+use Rattle.mj_ports.specs.Entries.{next_seat, IsAside}
+use Rattle.mj_ports.specs.Seats.{After, pending, script, Stays, StaysEnded, Unmoved, Begins, Answers, Adds, Leaves, hello, replay}
 use Rattle.mj_ports.specs.Toy.{Toy, first, zero_if, shown, toy_says, told_all, toy_hears, answered, toy_step, played, IsPermitted, IsLegalFrom}
 
 abbrev pub after_toy : List (Entry ℕ) → After

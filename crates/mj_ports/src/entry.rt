@@ -1,4 +1,4 @@
-use crate::short_list::{Key, Name};
+use crate::short_text::{Key, Name};
 
 /// One event of a game. The author is the number of the worker that entered it; a seat is 0 to 3.
 #[derive(Clone, Copy, Debug, Drop)]

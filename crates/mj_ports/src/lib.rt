@@ -7,11 +7,11 @@ mod entry;
 mod seated;
 #[cfg(test)]
 mod seated_tests;
-mod short_list;
+mod short_text;
 mod sitting;
 
 pub use answers::{Control, Expiry, Heard, Left, SitAnswer};
 pub use entry::Entry;
 pub use seated::Seated;
-pub use short_list::{Key, Name};
+pub use short_text::{Key, Name, OfKey, OfName, ShortText};
 pub use sitting::{JoinLine, SitRefused};

@@ -1,6 +1,6 @@
 ghost use Rattle.std.specs.Prelude.{◌≡◌};
 
-use crate::short_list::{Key, Name};
+use crate::short_text::{Key, Name};
 
 /// What a line asks that wants a seat: under which name, and with which key the seat can be taken back.
 #[derive(Clone, Copy, Debug, Drop)]

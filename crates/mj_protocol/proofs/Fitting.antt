@@ -19,13 +19,14 @@ use Rattle.mj_deeds.specs.declared.deed.Deed.{Deed}
 use Rattle.mj_deeds.specs.declared.deed.Deed.TheVariants.{StartGame}
 use Rattle.mj_wall.specs.declared.setting.Rules.{Rules}
 use Rattle.mj_wall.specs.declared.setting.Setting.{Setting}
-use Rattle.mj_rules.specs.Broken.{broken}
+use Rattle.mj_rules.specs.Broken.{broken_rule}
 use Rattle.mj_rules.specs.Outcome.{outcome}
 use Rattle.mj_rules.specs.Played.{IsLawful, AllLawful, are_listed_names, are_names, IsPlayedBehind, IsPlayed}
 use Rattle.mj_rules.proofs.Playing.{each_is_wall, played_deeds_fit, played_more, given_behind, behind_fits}
 use Rattle.mj_window.proofs.Closing.{all_answered}
 use Rattle.mj_window.specs.Slots.{put_at}
-use Rattle.mj_protocol.specs.After.{After, Chair, Verdict, Taken, Late, Refused, verdict_by, verdict_on, filled, heard, own_part, names_of, answers_in, is_ready, next_deed, with_deed, step, after_from, after, before_all, IsLawfulIn, AreLawfulIn}
+use Rattle.mj_protocol.proofs.Places.{no_length}
+use Rattle.mj_protocol.specs.After.{After, Chair, Verdict, Taken, Late, Refused, verdict_by, verdict_on, slots_after, after_said, own_part, names_of, answers_in, is_window_closed, next_deed, with_deed, step, after_from, after, before_all, IsLawfulIn, AreLawfulIn}
 use Rattle.mj_protocol.specs.Trace.{has_name, can_sit, can_say, is_answer_built, is_permitted, says_in_form, all_permitted, has_wall, IsLegal}
 use Rattle.mj_protocol.specs.Laws.{LegalGamesArePlayed, TakenAnswersAreLawful, OwnPartCanGoOn, NextDeedIsPlayed, LegalDeedsFit, NextDeedFits}
 
@@ -91,18 +92,18 @@ put_kept rules ds slots (suc (suc zero)) answer small h s = record { first = s.f
 put_kept rules ds slots (suc (suc (suc zero))) answer small h s = record { first = s.first; second = s.second; third = s.third; fourth = h }
 put_kept rules ds slots (suc (suc (suc (suc n)))) answer small h s = absurd (omega arith)
 
-filled_kept : (rules : Rules) (ds : List Deed) (slots : Four (Option Answer)) (seat : ℕ) (answer : Answer) (v : Verdict) → seat < 4 → (v ≡ Taken → IsLawful rules ds seat answer) → AreLawfulIn rules ds slots → AreLawfulIn rules ds (filled v slots seat answer)
+filled_kept : (rules : Rules) (ds : List Deed) (slots : Four (Option Answer)) (seat : ℕ) (answer : Answer) (v : Verdict) → seat < 4 → (v ≡ Taken → IsLawful rules ds seat answer) → AreLawfulIn rules ds slots → AreLawfulIn rules ds (slots_after v slots seat answer)
 filled_kept rules ds slots seat answer Taken small h s = put_kept rules ds slots seat answer small (h refl) s
 filled_kept rules ds slots seat answer Late small h s = s
 filled_kept rules ds slots seat answer (Refused rule) small h s = s
 
 said_slots : (rules : Rules) (now : After) (seat : ℕ) (answer : Answer) (held : Option Chair) → is_in_form answer ≡ true → slice_get now.chairs seat ≡ held → length now.chairs ≤ 4 → AreLawfulIn rules now.deeds now.slots →
-    AreLawfulIn rules (option_map_or (heard rules now seat answer) held now).deeds (option_map_or (heard rules now seat answer) held now).slots
-unfolding heard
+    AreLawfulIn rules (option_map_or (after_said rules now seat answer) held now).deeds (option_map_or (after_said rules now seat answer) held now).slots
+unfolding after_said
 said_slots rules now seat answer None form e few s = s
 said_slots rules now seat answer (Some chair) form e few s =
     filled_kept rules now.deeds now.slots seat answer (verdict_on rules now.deeds seat answer chair.progress) (below _ _ (slice_get_within now.chairs seat chair e) few)
-    (λ h. record { form = form; clean = taken_clean (nat_lt (chair.progress.due + 1) (length now.deeds)) (broken rules now.deeds seat answer) h }) s
+    (λ h. record { form = form; clean = taken_clean (nat_lt (chair.progress.due + 1) (length now.deeds)) (broken_rule rules now.deeds seat answer) h }) s
   where
     below : (seat n : ℕ) → seat < n → n ≤ 4 → seat < 4
     below seat n h k = omega arith
@@ -115,8 +116,8 @@ own_slots setting now (Back author seat) f s = s.slots
 own_slots setting now (Gone author seat) f s = s.slots
 own_slots setting now (Expired author window t1 t2) f s = s.slots
 
-said_deeds : (rules : Rules) (now : After) (seat : ℕ) (answer : Answer) (held : Option Chair) → (option_map_or (heard rules now seat answer) held now).deeds ≡ now.deeds
-unfolding heard
+said_deeds : (rules : Rules) (now : After) (seat : ℕ) (answer : Answer) (held : Option Chair) → (option_map_or (after_said rules now seat answer) held now).deeds ≡ now.deeds
+unfolding after_said
 said_deeds rules now seat answer None = refl
 said_deeds rules now seat answer (Some chair) = refl
 
@@ -139,8 +140,8 @@ record AreSeats (chairs : List Chair) : Type 0 where
   few : length chairs ≤ 4
   named : are_listed_names (names_in chairs) ≡ true
 
-said_seats : (rules : Rules) (now : After) (seat : ℕ) (answer : Answer) (held : Option Chair) → slice_get now.chairs seat ≡ held → AreSeats now.chairs → AreSeats (option_map_or (heard rules now seat answer) held now).chairs
-unfolding heard
+said_seats : (rules : Rules) (now : After) (seat : ℕ) (answer : Answer) (held : Option Chair) → slice_get now.chairs seat ≡ held → AreSeats now.chairs → AreSeats (option_map_or (after_said rules now seat answer) held now).chairs
+unfolding after_said
 said_seats rules now seat answer None e s = s
 said_seats rules now seat answer (Some chair) e s = record {
   few = subst (λ (n : ℕ). n ≤ 4) (sym (length-set now.chairs seat _)) s.few;
@@ -190,7 +191,7 @@ slot_lawful : (rules : Rules) (ds : List Deed) (seat : ℕ) (slot : Option Answe
 slot_lawful rules ds seat None h s = cc
 slot_lawful rules ds seat (Some answer) h s = s
 
-ready_lawful : (rules : Rules) (ds : List Deed) (slots : Four (Option Answer)) → is_ready slots ≡ true → AreLawfulIn rules ds slots → AllLawful rules ds (answers_in slots)
+ready_lawful : (rules : Rules) (ds : List Deed) (slots : Four (Option Answer)) → is_window_closed slots ≡ true → AreLawfulIn rules ds slots → AllLawful rules ds (answers_in slots)
 ready_lawful rules ds slots h s =
     let a = and_parts (is_some slots.first && is_some slots.second && is_some slots.third) (is_some slots.fourth) (all_answered slots h) in
     let b = and_parts (is_some slots.first && is_some slots.second) (is_some slots.third) a.0 in
@@ -215,10 +216,7 @@ four_names (a ∷ b ∷ c ∷ d ∷ f ∷ chairs) e h = absurd (more (length cha
 
 start_behind : (rules : Rules) (walls : List (List ℕ)) (ds : List Deed) (names : Four (List ℕ)) → (length ds == 0) ≡ true → are_names names ≡ true → IsPlayedBehind rules walls ds (StartGame names)
 start_behind rules walls [] names e h = h
-start_behind rules walls (d ∷ ds) names e h = absurd (longer (length ds) e)
-  where
-    longer : (n : ℕ) → ((suc n) == 0) ≡ true → ⊥
-    longer n h = grind (arith, h)
+start_behind rules walls (d ∷ ds) names e h = absurd (no_length d ds e)
 
 next_behind : (setting : Setting) (now : After) (d : Deed) → IsSound setting now → next_deed setting now ≡ Some d → IsPlayedBehind setting.rules setting.walls now.deeds d
 unfolding next_deed
@@ -236,15 +234,15 @@ next_behind setting now d s e = by_length (length now.deeds == 0) refl e
         some_is a b e = cc
     started false first four e = absurd (none_is d e)
 
-    by_ready : (b : Bool) → is_ready now.slots ≡ b → cond b (outcome setting.rules setting.walls now.deeds (answers_in now.slots)) None ≡ Some d → IsPlayedBehind setting.rules setting.walls now.deeds d
+    by_ready : (b : Bool) → is_window_closed now.slots ≡ b → cond b (outcome setting.rules setting.walls now.deeds (answers_in now.slots)) None ≡ Some d → IsPlayedBehind setting.rules setting.walls now.deeds d
     by_ready true ready e = given_behind setting.rules setting.walls now.deeds (answers_in now.slots) d (ready_lawful setting.rules now.deeds now.slots ready s.slots) e
     by_ready false ready e = absurd (none_is d e)
 
     by_length : (b : Bool) → (length now.deeds == 0) ≡ b →
-        cond b (cond (length now.chairs == 4) (Some (StartGame (names_of now.chairs))) None) (cond (is_ready now.slots) (outcome setting.rules setting.walls now.deeds (answers_in now.slots)) None) ≡ Some d →
+        cond b (cond (length now.chairs == 4) (Some (StartGame (names_of now.chairs))) None) (cond (is_window_closed now.slots) (outcome setting.rules setting.walls now.deeds (answers_in now.slots)) None) ≡ Some d →
         IsPlayedBehind setting.rules setting.walls now.deeds d
     by_length true first e = started (length now.chairs == 4) first refl e
-    by_length false later e = by_ready (is_ready now.slots) refl e
+    by_length false later e = by_ready (is_window_closed now.slots) refl e
 
 with_deed_sound : (setting : Setting) (now : After) (added : Option Deed) → next_deed setting now ≡ added → IsSound setting now → IsSound setting (with_deed now added)
 with_deed_sound setting now None e s = s

@@ -13,7 +13,6 @@ use Rattle.mj_deeds.specs.Four.{at_seat, for_each_seat, next_seat}
 use Rattle.mj_deeds.specs.Facts.{newest, live_draws, live_tiles}
 use Rattle.mj_wall.specs.declared.setting.Setting.{Setting}
 use Rattle.mj_wall.specs.Places.{indicator_tile, live_tile}
-use Rattle.mj_rounds.specs.declared.rounds.Standing.{Standing}
 use Rattle.mj_rounds.specs.Rounds.{first_standing}
 use Rattle.mj_wall.specs.declared.setting.Rules.{Rules}
 use Rattle.mj_deeds.specs.declared.bid.Bid.{Bid}
@@ -21,10 +20,10 @@ use Rattle.mj_deeds.specs.declared.bid.Bid.TheVariants as bids
 use Rattle.mj_deeds.specs.Bids.{call_of_bid}
 use Rattle.mj_deeds.specs.Hand.{hand}
 use Rattle.mj_deeds.proofs.PointLaws.{no_deposits}
-use Rattle.mj_window.specs.Decided.{decided, best_bid, call_or_pass}
-use Rattle.mj_rules.specs.Outcome.{outcome, follows, goes_on, wall_now, hand_start, next_draw, next_dora, next_replacement, act_of, of_one, of_two, of_three, of_four, wall_of, hand_dealt}
-use Rattle.mj_protocol.specs.Lines.{line, hands_seen, shown_tiles, tile_seen, quoted_tile, hidden, start_hand_line, draw_line}
-use Rattle.mj_protocol.specs.After.{After, next_deed, names_of, answers_in, is_ready}
+use Rattle.mj_window.specs.Decided.{decision_by, best_bid, call_or_pass}
+use Rattle.mj_rules.specs.Outcome.{outcome, follows, after_pass, wall_now, hand_start, next_draw, next_dora, next_replacement, act_of, of_one, of_two, of_three, of_four, wall_of, hand_dealt}
+use Rattle.mj_protocol.specs.Lines.{line, hands_seen, shown_tiles, tile_seen, quoted_tile, hidden_tile, start_hand_line, draw_line}
+use Rattle.mj_protocol.specs.After.{After, next_deed, names_of, answers_in, is_window_closed}
 use Rattle.mj_protocol.specs.Trace.{token, own_tile}
 use Rattle.mj_protocol.proofs.Solo.{Numbers, numbers_of, numbers_with, line_in, hand_known, tile_known}
 
@@ -48,7 +47,7 @@ DealsThirteen walls = (number dealer seat : ℕ) → length (hand_dealt (wall_of
 
 seen_or_known : (b : Bool) (own other : List ℕ) → (b ≡ true → own ≡ other) → length other ≡ 13 → shown_tiles b other ≡ hand_known b own
 seen_or_known true own other same long = ap (map quoted_tile) (sym (same refl))
-seen_or_known false own other same long = ap (λ n. replicate n hidden) long
+seen_or_known false own other same long = ap (λ n. replicate n hidden_tile) long
 
 hand_of : (seat k : ℕ) (hands : Four (List ℕ)) → (k == seat) ≡ true → at_seat hands seat ≡ at_seat hands k
 hand_of seat k hands h = ap (at_seat hands) (sym (eqb-true k seat h))
@@ -143,7 +142,7 @@ any_bid_is_course walls ds (bids.Chi seat target tile x y) = only_some walls ds 
 any_bid_is_course walls ds (bids.Pon seat target tile x y) = only_some walls ds (deeds.Pon seat target tile x y) tt
 any_bid_is_course walls ds (bids.OpenKan seat target tile x y z) = only_some walls ds (deeds.OpenKan seat target tile x y z) tt
 
-called_or_drawn : (rules : Rules) (walls : List (List ℕ)) (ds : List Deed) (n : Deed) (bid : Bid) → Only walls ds (goes_on walls (wall_now walls ds) (hand ds) n) → Only walls ds (follows rules walls ds n (call_or_pass bid))
+called_or_drawn : (rules : Rules) (walls : List (List ℕ)) (ds : List Deed) (n : Deed) (bid : Bid) → Only walls ds (after_pass walls (wall_now walls ds) (hand ds) n) → Only walls ds (follows rules walls ds n (call_or_pass bid))
 called_or_drawn rules walls ds n bids.NoBid g = g
 called_or_drawn rules walls ds n (bids.Chi seat target tile x y) g = any_bid_is_course walls ds (bids.Chi seat target tile x y)
 called_or_drawn rules walls ds n (bids.Pon seat target tile x y) g = any_bid_is_course walls ds (bids.Pon seat target tile x y)
@@ -161,7 +160,7 @@ replacement_is_course : (walls : List (List ℕ)) (ds : List Deed) (wall : List 
 unfolding next_replacement
 replacement_is_course walls ds wall hs h = sym h
 
-follower_is_course : (rules : Rules) (walls : List (List ℕ)) (ds : List Deed) (given : Four Answer) (n : Deed) → newest ds ≡ Some n → Only walls ds (follows rules walls ds n (decided n given))
+follower_is_course : (rules : Rules) (walls : List (List ℕ)) (ds : List Deed) (given : Four Answer) (n : Deed) → newest ds ≡ Some n → Only walls ds (follows rules walls ds n (decision_by n given))
 follower_is_course rules walls ds given (deeds.StartGame names) e = only_some walls ds (hand_start (wall_of walls 0) first_standing 0) (start_is_course walls ds)
 follower_is_course rules walls ds given (deeds.StartHand round number honba deposits dealer indicator hands) e = drawn_is_course walls ds (wall_now walls ds) (hand ds) dealer (ap after_dora e)
 follower_is_course rules walls ds given (deeds.Draw who tile replacement) e = act_is_course walls ds who (at_seat given who)
@@ -175,7 +174,7 @@ follower_is_course rules walls ds given (deeds.AddedKan who tile a b c) e = only
 follower_is_course rules walls ds given (deeds.Dora tile) e =
     only_some walls ds (next_replacement (wall_now walls ds) (hand ds)) (replacement_is_course walls ds (wall_now walls ds) (hand ds) (ap after_dora e))
 
-outcome_by : (rules : Rules) (walls : List (List ℕ)) (ds : List Deed) (given : Four Answer) (o : Option Deed) → newest ds ≡ o → Only walls ds (option_and_then (λ last. follows rules walls ds last (decided last given)) o)
+outcome_by : (rules : Rules) (walls : List (List ℕ)) (ds : List Deed) (given : Four Answer) (o : Option Deed) → newest ds ≡ o → Only walls ds (option_and_then (λ last. follows rules walls ds last (decision_by last given)) o)
 outcome_by rules walls ds given None e = only_none walls ds
 outcome_by rules walls ds given (Some n) e = follower_is_course rules walls ds given n e
 
@@ -190,6 +189,6 @@ next_is_course setting now =
     let walls : List (List ℕ) = setting.walls in
     by_choice walls now.deeds (length now.deeds == 0)
     (cond (length now.chairs == 4) (Some (deeds.StartGame (names_of now.chairs))) None)
-    (cond (is_ready now.slots) (outcome setting.rules setting.walls now.deeds (answers_in now.slots)) None)
+    (cond (is_window_closed now.slots) (outcome setting.rules setting.walls now.deeds (answers_in now.slots)) None)
     (by_choice walls now.deeds (length now.chairs == 4) (Some (deeds.StartGame (names_of now.chairs))) None (only_some walls now.deeds (deeds.StartGame (names_of now.chairs)) tt) (only_none walls now.deeds))
-    (by_choice walls now.deeds (is_ready now.slots) (outcome setting.rules setting.walls now.deeds (answers_in now.slots)) None (outcome_is_course setting.rules setting.walls now.deeds (answers_in now.slots)) (only_none walls now.deeds))
+    (by_choice walls now.deeds (is_window_closed now.slots) (outcome setting.rules setting.walls now.deeds (answers_in now.slots)) None (outcome_is_course setting.rules setting.walls now.deeds (answers_in now.slots)) (only_none walls now.deeds))

@@ -1,5 +1,5 @@
 -- What a line reads as is in form: the own tiles that it names together stand in tile order.
-use Rattle.std.proofs.Common.{◌≡◌, ℕ, zero, suc, ◌≤◌, ◌-◌, ◌&&◌, Bool, true, false, cond, leb, List, [], ◌∷◌, ◌++◌, map, refl, ap, sym, ◌∙◌, append_assoc, arith}
+use Rattle.std.proofs.Common.{◌≡◌, ℕ, zero, suc, ◌≤◌, ◌-◌, ◌&&◌, Bool, true, false, cond, leb, List, [], ◌∷◌, ◌++◌, map, refl, ◌∙◌, arith}
 use Rattle.std.specs.Prelude.{Option, Some, None, option_and_then, option_map, unwrap_or, flat_map, replicate, count_by, codes, bytes_eq}
 use Rattle.std.proofs.lemmas.Bool.{and_parts, and_from, leb-true, le-leb}
 use Rattle.serde_json.specs.Data.{Data}
@@ -10,7 +10,7 @@ use Rattle.mj_deeds.specs.declared.answer.Answer.{Answer}
 use Rattle.mj_deeds.specs.declared.answer.Answer.TheVariants.{Unread, Pass, Discard, Chi, Pon, OpenKan, ClosedKan, AddedKan}
 use Rattle.mj_deeds.specs.Pais.{face_in}
 use Rattle.mj_deeds.specs.Answers.{place_of, are_in_order, is_in_form}
-use Rattle.mj_protocol.specs.Reading.{value_of, text_in, seat_in, seat_as, pai_in, pass_by, pass_in, discard_in, is_hidden, pais_in_order, own_in, with_two, with_three, with_four, call_in, chi_by, pon_by, open_kan_by, closed_kan_in, added_kan_in, answer_by, answer_in, answer_of}
+use Rattle.mj_protocol.specs.AnswerForms.{value_of, text_in, seat_in, seat_as, pai_in, pass_by, pass_in, discard_in, is_hidden, pais_in_order, own_in, with_two_tiles, with_three_tiles, with_four_tiles, call_in, chi_by, pon_by, open_kan_by, closed_kan_in, added_kan_in, answer_by, answer_in, answer_of}
 use Rattle.mj_protocol.specs.Laws.{AnswersThatAreReadAreInForm}
 
 -- tiles in order
@@ -103,13 +103,13 @@ own_formed make value h = by_option _
     by_option None = tt
     by_option (Some pais) = h (pais_in_order pais) (ordered pais)
 
-two_formed : (make : Pai → Pai → Answer) → ((a b : Pai) → is_in_form (make a b) ≡ are_in_order (a ∷ b ∷ [])) → (pais : List Pai) → are_in_order pais ≡ true → IsFormed (with_two make pais)
+two_formed : (make : Pai → Pai → Answer) → ((a b : Pai) → is_in_form (make a b) ≡ are_in_order (a ∷ b ∷ [])) → (pais : List Pai) → are_in_order pais ≡ true → IsFormed (with_two_tiles make pais)
 two_formed make same [] h = tt
 two_formed make same (a ∷ []) h = tt
 two_formed make same (a ∷ b ∷ []) h = same a b ∙ h
 two_formed make same (a ∷ b ∷ c ∷ pais) h = tt
 
-three_formed : (make : Pai → Pai → Pai → Answer) → ((a b c : Pai) → is_in_form (make a b c) ≡ are_in_order (a ∷ b ∷ c ∷ [])) → (pais : List Pai) → are_in_order pais ≡ true → IsFormed (with_three make pais)
+three_formed : (make : Pai → Pai → Pai → Answer) → ((a b c : Pai) → is_in_form (make a b c) ≡ are_in_order (a ∷ b ∷ c ∷ [])) → (pais : List Pai) → are_in_order pais ≡ true → IsFormed (with_three_tiles make pais)
 three_formed make same [] h = tt
 three_formed make same (a ∷ []) h = tt
 three_formed make same (a ∷ b ∷ []) h = tt
@@ -117,7 +117,7 @@ three_formed make same (a ∷ b ∷ c ∷ []) h = same a b c ∙ h
 three_formed make same (a ∷ b ∷ c ∷ d ∷ pais) h = tt
 
 four_formed : (make : Pai → Pai → Pai → Pai → Answer) → ((a b c d : Pai) → is_in_form (make a b c d) ≡ are_in_order (a ∷ b ∷ c ∷ d ∷ [])) → (pais : List Pai) → are_in_order pais ≡ true →
-    IsFormed (with_four make pais)
+    IsFormed (with_four_tiles make pais)
 four_formed make same [] h = tt
 four_formed make same (a ∷ []) h = tt
 four_formed make same (a ∷ b ∷ []) h = tt
@@ -138,14 +138,14 @@ closed_formed : (value : Data) → IsFormed (closed_kan_in value)
 unfolding closed_kan_in
 closed_formed value =
     then_formed _ (seat_in (codes "actor") value) (λ actor.
-    own_formed (with_four (λ a b c d. ClosedKan actor a b c d)) value (four_formed (λ a b c d. ClosedKan actor a b c d) (λ a b c d. refl)))
+    own_formed (with_four_tiles (λ a b c d. ClosedKan actor a b c d)) value (four_formed (λ a b c d. ClosedKan actor a b c d) (λ a b c d. refl)))
 
 added_formed : (value : Data) → IsFormed (added_kan_in value)
 unfolding added_kan_in
 added_formed value =
     then_formed _ (seat_in (codes "actor") value) (λ actor.
     then_formed _ (pai_in (codes "pai") value) (λ tile.
-    own_formed (with_three (λ a b c. AddedKan actor tile a b c)) value (three_formed (λ a b c. AddedKan actor tile a b c) (λ a b c. refl))))
+    own_formed (with_three_tiles (λ a b c. AddedKan actor tile a b c)) value (three_formed (λ a b c. AddedKan actor tile a b c) (λ a b c. refl))))
 
 pass_formed : (value : Data) → IsFormed (pass_in value)
 unfolding pass_in

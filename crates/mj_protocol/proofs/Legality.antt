@@ -2,7 +2,7 @@
 use Rattle.std.specs.Prelude.{◌≡◌, ℕ, ◌+◌, ◌≤◌, ◌==◌, ◌&&◌, Bool, true, false, if◌then◌else◌, List, [], ◌∷◌, ◌++◌, length, codes, bytes_eq, Option, Some, None, is_some, option_and_then, option_map, slice_get}
 use Rattle.std.specs.Option.{option_map_or}
 use Rattle.std.specs.List.{list_all}
-use Rattle.std.proofs.Common.{suc, refl, ap, ◌∙◌, sym, subst, arith}
+use Rattle.std.proofs.Common.{refl, ap, ◌∙◌, sym, subst, arith}
 use Rattle.serde_json.specs.Data.{Data}
 use Rattle.mj_bytes.specs.Parts.{whole_lines, unfinished}
 use Rattle.mj_ports.specs.Names.{is_name}
@@ -14,15 +14,16 @@ use Rattle.mj_deeds.specs.Answers.{is_in_form}
 use Rattle.mj_wall.specs.declared.setting.Rules.{Rules}
 use Rattle.mj_wall.specs.declared.setting.Setting.{Setting}
 use Rattle.mj_wall.specs.Places.{is_wall}
-use Rattle.mj_protocol.specs.Reading.{answer_of, join_of, join_in, name_of, text_in, names_later_type, value_of}
+use Rattle.mj_protocol.specs.AnswerForms.{answer_of, join_of, join_in, name_of, text_in, names_later_type, value_of}
 use Rattle.mj_protocol.specs.After.{Chair, before_all, after}
 use Rattle.mj_protocol.specs.Trace.{can_sit, may_say, can_say, is_answer_built, is_permitted, all_permitted, has_wall, has_ground, IsLegal}
-use Rattle.mj_protocol.specs.Arrivals.{Form, Header, WallOf, Sit, Say, Leave, Expire, NoForm, form_of, Reading, setting_of, now_of, Arrival, Leads, NotBuilt, Bad, header_arrives, wall_arrives, with_entry, join_arrives, sit_arrives, answer_arrives, say_arrives, behind_header, first_line, arrives, Input, at_end, hear_on, hear_from, nothing_read, input_of}
+use Rattle.mj_protocol.specs.Arrivals.{ArrivalForm, Header, WallOf, Sit, Say, Leave, Expire, NoForm, form_of, Intake, setting_of, now_of, Arrival, Leads, NotBuilt, Bad, header_arrives, wall_arrives, with_entry, join_arrives, sit_arrives, answer_arrives, say_arrives, behind_header, first_line, arrives, Input, at_end, hear_on, hear_from, nothing_read, input_of}
+use Rattle.mj_protocol.proofs.Places.{no_length}
 use Rattle.mj_protocol.proofs.Entries.{all_permitted-append}
 use Rattle.mj_protocol.proofs.Forms.{answers_that_are_read_are_in_form}
 
 -- What holds of a reading at each line: its game is legal, there are no red fives, and before a header there is nothing.
-record IsSound (reading : Reading) : Type 0 where
+record IsSound (reading : Intake) : Type 0 where
   legal : IsLegal (setting_of reading) reading.entries
   plain : (setting_of reading).rules.red ≡ false
   bare : is_some reading.rules ≡ false → reading ≡ nothing_read
@@ -51,10 +52,7 @@ and false b h k = h
 
 legal_at_start : (setting : Setting) (entries : List (Entry Answer)) → (length entries == 0) ≡ true → length setting.walls ≤ 200 → list_all (is_wall setting.rules.red) setting.walls ≡ true → IsLegal setting entries
 legal_at_start setting [] e few whole = record { few = few; whole = whole; ground = refl; permitted = refl }
-legal_at_start setting (entry ∷ entries) e few whole = absurd (longer (length entries) e)
-  where
-    longer : (n : ℕ) → ((suc n) == 0) ≡ true → ⊥
-    longer n h = grind (arith, h)
+legal_at_start setting (entry ∷ entries) e few whole = absurd (no_length entry entries e)
 
 header-sound : (rules : Rules) → LeadsSoundly (header_arrives nothing_read rules)
 unfolding header_arrives
@@ -65,7 +63,7 @@ header-sound rules =
       bare = λ h. cc;
     }))
 
-wall-sound : (reading : Reading) (tiles : List ℕ) → IsSound reading → is_some reading.rules ≡ true → LeadsSoundly (wall_arrives reading tiles)
+wall-sound : (reading : Intake) (tiles : List ℕ) → IsSound reading → is_some reading.rules ≡ true → LeadsSoundly (wall_arrives reading tiles)
 unfolding wall_arrives
 wall-sound reading tiles sound headed =
     by_test (is_wall false tiles && length reading.entries == 0) _ Bad
@@ -81,7 +79,7 @@ ground-more : (walls : List (List ℕ)) (entries : List (Entry Answer)) (entry :
 ground-more walls [] entry h = h
 ground-more walls (e ∷ entries) entry h = h
 
-entry-sound : (reading : Reading) (entry : Entry Answer) → IsSound reading → is_some reading.rules ≡ true → has_wall reading.walls ≡ true → is_permitted (setting_of reading) (now_of reading) entry ≡ true → IsSound (with_entry reading entry)
+entry-sound : (reading : Intake) (entry : Entry Answer) → IsSound reading → is_some reading.rules ≡ true → has_wall reading.walls ≡ true → is_permitted (setting_of reading) (now_of reading) entry ≡ true → IsSound (with_entry reading entry)
 entry-sound reading entry sound headed wall permitted = record {
   legal = record {
     few = sound.legal.few;
@@ -142,7 +140,7 @@ pub join_of-named : (text : List ℕ) → IsNamed (join_of text)
 unfolding join_of
 join_of-named text = then_named join_in (value_of text) join_in-named
 
-join-sound : (reading : Reading) (join : Option JoinLine) → IsNamed join → IsSound reading → is_some reading.rules ≡ true → has_wall reading.walls ≡ true → LeadsSoundly (join_arrives reading join)
+join-sound : (reading : Intake) (join : Option JoinLine) → IsNamed join → IsSound reading → is_some reading.rules ≡ true → has_wall reading.walls ≡ true → LeadsSoundly (join_arrives reading join)
 unfolding join_arrives
 join-sound reading None named sound headed wall = tt
 join-sound reading (Some join) named sound headed wall =
@@ -154,7 +152,7 @@ some_wall : (walls : List (List ℕ)) → (length walls == 0) ≡ false → has_
 some_wall [] h = cc
 some_wall (wall ∷ walls) h = refl
 
-sit-sound : (reading : Reading) (text : List ℕ) → IsSound reading → is_some reading.rules ≡ true → LeadsSoundly (sit_arrives reading text)
+sit-sound : (reading : Intake) (text : List ℕ) → IsSound reading → is_some reading.rules ≡ true → LeadsSoundly (sit_arrives reading text)
 unfolding sit_arrives
 sit-sound reading text sound headed =
     by_test (length reading.walls == 0) Bad _ (λ _. tt)
@@ -165,7 +163,7 @@ held-wall : (setting : Setting) (entries : List (Entry Answer)) (seat : ℕ) (ch
 held-wall setting [] seat chair ground h = cc
 held-wall setting (entry ∷ entries) seat chair ground h = ground
 
-answer-sound : (reading : Reading) (seat : ℕ) (text : List ℕ) (chair : Chair) → IsSound reading → is_some reading.rules ≡ true → slice_get (now_of reading).chairs seat ≡ Some chair → may_say (now_of reading) chair.author chair ≡ true → LeadsSoundly (answer_arrives reading seat text chair.author)
+answer-sound : (reading : Intake) (seat : ℕ) (text : List ℕ) (chair : Chair) → IsSound reading → is_some reading.rules ≡ true → slice_get (now_of reading).chairs seat ≡ Some chair → may_say (now_of reading) chair.author chair ≡ true → LeadsSoundly (answer_arrives reading seat text chair.author)
 unfolding answer_arrives
 answer-sound reading seat text chair sound headed held may =
     by_test (names_later_type text) NotBuilt _ (λ _. tt)
@@ -177,7 +175,7 @@ answer-sound reading seat text chair sound headed held may =
     built))
     (λ _. tt))
 
-say-sound : (reading : Reading) (seat : ℕ) (text : List ℕ) → IsSound reading → is_some reading.rules ≡ true → LeadsSoundly (say_arrives reading seat text)
+say-sound : (reading : Intake) (seat : ℕ) (text : List ℕ) → IsSound reading → is_some reading.rules ≡ true → LeadsSoundly (say_arrives reading seat text)
 unfolding say_arrives
 say-sound reading seat text sound headed =
     by_option (slice_get (now_of reading).chairs seat) _ Bad
@@ -186,7 +184,7 @@ say-sound reading seat text sound headed =
     (λ _. tt))
     tt
 
-behind-sound : (reading : Reading) (form : Form) → IsSound reading → is_some reading.rules ≡ true → LeadsSoundly (behind_header reading form)
+behind-sound : (reading : Intake) (form : ArrivalForm) → IsSound reading → is_some reading.rules ≡ true → LeadsSoundly (behind_header reading form)
 behind-sound reading (Header rules) sound headed = tt
 behind-sound reading (WallOf tiles) sound headed = wall-sound reading tiles sound headed
 behind-sound reading (Sit text) sound headed = sit-sound reading text sound headed
@@ -195,7 +193,7 @@ behind-sound reading (Leave seat) sound headed = by_test (is_some (slice_get (no
 behind-sound reading (Expire window t1 t2) sound headed = by_test (length reading.walls == 0) Bad NotBuilt (λ _. tt) (λ _. tt)
 behind-sound reading NoForm sound headed = tt
 
-first-sound : (form : Form) → LeadsSoundly (first_line nothing_read form)
+first-sound : (form : ArrivalForm) → LeadsSoundly (first_line nothing_read form)
 first-sound (Header rules) = header-sound rules
 first-sound (WallOf tiles) = tt
 first-sound (Sit text) = tt
@@ -204,23 +202,23 @@ first-sound (Leave seat) = tt
 first-sound (Expire window t1 t2) = tt
 first-sound NoForm = tt
 
-line-sound : (reading : Reading) (text : List ℕ) → IsSound reading → LeadsSoundly (arrives reading text)
+line-sound : (reading : Intake) (text : List ℕ) → IsSound reading → LeadsSoundly (arrives reading text)
 unfolding arrives
 line-sound reading text sound =
     by_test (is_some reading.rules) (behind_header reading (form_of text)) (first_line reading (form_of text))
     (λ headed. behind-sound reading (form_of text) sound headed)
-    (λ bare. let P : Reading → Type 0 = λ r. LeadsSoundly (first_line r (form_of text)) in subst P (sym (sound.bare bare)) (first-sound (form_of text)))
+    (λ bare. let P : Intake → Type 0 = λ r. LeadsSoundly (first_line r (form_of text)) in subst P (sym (sound.bare bare)) (first-sound (form_of text)))
 
-end-sound : (reading : Reading) (number : ℕ) (rest : List ℕ) → IsSound reading → IsSound (at_end reading number rest).reading
+end-sound : (reading : Intake) (number : ℕ) (rest : List ℕ) → IsSound reading → IsSound (at_end reading number rest).reading
 end-sound reading number [] sound = sound
 end-sound reading number (byte ∷ bytes) sound = sound
 
-hear_on-sound : (arrival : Arrival) (onwards : Reading → Input) (reading : Reading) (number : ℕ) → LeadsSoundly arrival → ((next : Reading) → IsSound next → IsSound (onwards next).reading) → IsSound reading → IsSound (hear_on arrival onwards reading number).reading
+hear_on-sound : (arrival : Arrival) (onwards : Intake → Input) (reading : Intake) (number : ℕ) → LeadsSoundly arrival → ((next : Intake) → IsSound next → IsSound (onwards next).reading) → IsSound reading → IsSound (hear_on arrival onwards reading number).reading
 hear_on-sound (Leads next) onwards reading number leads go sound = go next leads
 hear_on-sound NotBuilt onwards reading number leads go sound = sound
 hear_on-sound Bad onwards reading number leads go sound = sound
 
-hear_from-sound : (reading : Reading) (number : ℕ) (texts : List (List ℕ)) (rest : List ℕ) → IsSound reading → IsSound (hear_from reading number texts rest).reading
+hear_from-sound : (reading : Intake) (number : ℕ) (texts : List (List ℕ)) (rest : List ℕ) → IsSound reading → IsSound (hear_from reading number texts rest).reading
 hear_from-sound reading number [] rest sound = end-sound reading number rest sound
 hear_from-sound reading number (text ∷ texts) rest sound =
     hear_on-sound (arrives reading text) (λ next. hear_from next (number + 1) texts rest) reading number

@@ -1,11 +1,10 @@
 -- The law of one world: what a game tells a seat is what a machine tells that has nothing but what the seat learns. So two
 -- games that agree for a seat tell it the same.
-use Rattle.std.proofs.Common.{◌≡◌, ◌≢◌, ℕ, suc, ◌+◌, ◌-◌, ◌≤◌, inl, inr, ◌&&◌, Bool, true, false, not, cond, List, [], ◌∷◌, ◌++◌, length, map, refl, ap, sym, ◌∙◌, subst, arith, append-nil}
+use Rattle.std.proofs.Common.{◌≡◌, ◌≢◌, ℕ, suc, ◌+◌, ◌≤◌, inl, inr, Bool, true, false, not, cond, List, [], ◌∷◌, ◌++◌, length, map, refl, ap, sym, ◌∙◌, subst, arith}
 use Rattle.std.specs.Prelude.{Option, Some, None, option_map, IsTrue, slice_get, filter}
 use Rattle.std.specs.Option.{option_map_or}
 use Rattle.std.specs.List.{list_all}
-use Rattle.std.proofs.lemmas.List.{length-map, length-append, map-append}
-use Rattle.std.proofs.lemmas.List.Elements.{filter-append}
+use Rattle.std.proofs.lemmas.List.{length-map, map-append}
 use Rattle.std.proofs.lemmas.Grind.{fold-append}
 use Rattle.std.proofs.lemmas.Bool.Decides.{eqb_tells}
 use Rattle.mj_ports.specs.declared.entry.Entry.{Entry}
@@ -22,20 +21,20 @@ use Rattle.mj_deeds.specs.Hand.{is_hand_start, hand, starts}
 use Rattle.mj_deeds.specs.Points.{points, deposits}
 use Rattle.mj_deeds.specs.Standings.{standing, standing_by}
 use Rattle.mj_deeds.proofs.Hands.{behind, hand_more, standing_stays, standing_starts}
-use Rattle.mj_deeds.proofs.Newest.{newest_more}
 use Rattle.mj_deeds.proofs.PointLaws.{points_stay, no_deposits}
 use Rattle.mj_wall.specs.declared.setting.Rules.{Rules}
 use Rattle.mj_wall.specs.declared.setting.Setting.{Setting}
 use Rattle.mj_wall.specs.Places.{is_wall}
-use Rattle.mj_rules.specs.Broken.{View, broken_by, view_of}
+use Rattle.mj_rules.specs.Broken.{SeatView, broken_by, view_of}
 use Rattle.mj_rules.specs.Outcome.{wall_of, hand_start}
 use Rattle.mj_rules.proofs.Playing.{each_is_wall}
 use Rattle.mj_rules.proofs.Dealing.{hand_has_thirteen}
 use Rattle.mj_protocol.specs.Lines.{line}
-use Rattle.mj_protocol.specs.After.{After, Chair, Progress, verdict, verdict_on, goes_on, pending, lines_for, heard, own_part, next_deed, with_deed, step, after_from, after, before_all, script_at, scripts}
+use Rattle.mj_protocol.specs.After.{After, Chair, Progress, verdict, verdict_on, progress_after, pending, lines_for, after_said, own_part, next_deed, with_deed, step, after_from, after, before_all, script_at, scripts}
 use Rattle.mj_protocol.specs.Trace.{Item, token, own_items, seen_items, trace_from, trace, IsLegal, Game, Agree, has_wall}
-use Rattle.mj_protocol.proofs.Places.{slice_get-append_at, slice_get-append_other, slice_get-set_at, slice_get-set_other}
-use Rattle.mj_protocol.proofs.Solo.{Solo, Numbers, numbers_of, numbers_with, is_start_in, hand_in, hand_follows, same_start, is_dora, draws_with, standing_with, untimed, untimed_verdict, newest_in, newest_follows, line_in, at_first, view_in, view_follows, answered, learns_all, learns_all-append, solo_script, told_by}
+use Rattle.mj_lists.proofs.Fronts.{at_end}
+use Rattle.mj_protocol.proofs.Places.{slice_get-append_other, slice_get-set_at, slice_get-set_other}
+use Rattle.mj_protocol.proofs.Solo.{Solo, numbers_of, numbers_with, is_start_in, hand_in, hand_follows, same_start, is_dora, draws_with, standing_with, untimed, untimed_verdict, newest_in, newest_follows, line_in, at_first, view_in, view_follows, after_answer, learns_all, learns_all-append, solo_script, told_by}
 use Rattle.mj_protocol.proofs.Follows.{after_dora, IsCourse, DealsThirteen, line_follows, next_is_course}
 
 -- how far a seat has come, where it is held
@@ -51,25 +50,25 @@ pub record Matches (seat : ℕ) (now : After) (s : Solo) : Type 0 where
 
 -- the verdict on an answer follows from the tokens, and so does how far it brings the seat
 goes_on_follows : (rules : Rules) (seat : ℕ) (now : After) (s : Solo) (answer : Answer) (p : Progress) → Matches seat now s →
-    goes_on (lines_for seat now.deeds) (verdict_on rules now.deeds seat answer p) p
-    ≡ goes_on s.lines (verdict p.due (length s.tokens) (broken_by (untimed rules) seat (view_in s.tokens s.numbers.draws seat) answer)) p
+    progress_after (lines_for seat now.deeds) (verdict_on rules now.deeds seat answer p) p
+    ≡ progress_after s.lines (verdict p.due (length s.tokens) (broken_by (untimed rules) seat (view_in s.tokens s.numbers.draws seat) answer)) p
 goes_on_follows rules seat now s answer p m =
     let long : length now.deeds ≡ length s.tokens = sym (length-map now.deeds (token seat)) ∙ ap length m.tokens in
     let seen : view_of now.deeds seat ≡ view_in s.tokens s.numbers.draws seat = view_follows seat now.deeds ∙ (λ i. view_in (m.tokens i) (m.numbers i).draws seat) in
     let told : broken_by rules seat (view_of now.deeds seat) answer ≡ broken_by (untimed rules) seat (view_in s.tokens s.numbers.draws seat) answer =
-    ap (λ (view : View). broken_by rules seat view answer) seen ∙ untimed_verdict rules seat (view_in s.tokens s.numbers.draws seat) answer in
-    λ i. goes_on (m.lines i) (verdict p.due (long i) (told i)) p
+    ap (λ (view : SeatView). broken_by rules seat view answer) seen ∙ untimed_verdict rules seat (view_in s.tokens s.numbers.draws seat) answer in
+    λ i. progress_after (m.lines i) (verdict p.due (long i) (told i)) p
 
 -- what an own answer changes
 said_follows : (rules : Rules) (seat : ℕ) (now : After) (s : Solo) (answer : Answer) (held : Option Chair) → slice_get now.chairs seat ≡ held → Matches seat now s →
-    Matches seat (option_map_or (heard rules now seat answer) held now) (option_map_or (answered (untimed rules) seat s answer) s.progress s)
-unfolding heard answered
+    Matches seat (option_map_or (after_said rules now seat answer) held now) (option_map_or (after_answer (untimed rules) seat s answer) s.progress s)
+unfolding after_said after_answer
 said_follows rules seat now s answer None at m =
     let none : s.progress ≡ None = sym m.progress ∙ ap (option_map (λ (c : Chair). c.progress)) at in
-    subst (λ (o : Option Progress). Matches seat now (option_map_or (answered (untimed rules) seat s answer) o s)) (sym none) m
+    subst (λ (o : Option Progress). Matches seat now (option_map_or (after_answer (untimed rules) seat s answer) o s)) (sym none) m
 said_follows rules seat now s answer (Some chair) at m =
     let some : s.progress ≡ Some chair.progress = sym m.progress ∙ ap (option_map (λ (c : Chair). c.progress)) at in
-    subst (λ (o : Option Progress). Matches seat (heard rules now seat answer chair) (option_map_or (answered (untimed rules) seat s answer) o s)) (sym some) (record {
+    subst (λ (o : Option Progress). Matches seat (after_said rules now seat answer chair) (option_map_or (after_answer (untimed rules) seat s answer) o s)) (sym some) (record {
       progress = ap (option_map (λ (c : Chair). c.progress)) (slice_get-set_at now.chairs seat _ chair at) ∙ ap Some (goes_on_follows rules seat now s answer chair.progress m);
       tokens = m.tokens;
       lines = m.lines;
@@ -78,8 +77,8 @@ said_follows rules seat now s answer (Some chair) at m =
 
 -- what another's answer changes is nothing of the seat's
 others_said : (rules : Rules) (seat who : ℕ) (now : After) (s : Solo) (answer : Answer) (held : Option Chair) → who ≢ seat → Matches seat now s →
-    Matches seat (option_map_or (heard rules now who answer) held now) s
-unfolding heard
+    Matches seat (option_map_or (after_said rules now who answer) held now) s
+unfolding after_said
 others_said rules seat who now s answer None ne m = m
 others_said rules seat who now s answer (Some chair) ne m = record {
   progress = ap (option_map (λ (c : Chair). c.progress)) (slice_get-set_other now.chairs who seat _ ne) ∙ m.progress;
@@ -94,7 +93,7 @@ sat_follows : (seat author : ℕ) (name : List ℕ) (key : Option (List ℕ)) (s
 unfolding own_part
 sat_follows seat author name key setting now s m = elim (eqb_tells (length now.chairs) seat) [
   | inl p ↦ rw p.0 (record {
-    progress = ap (option_map (λ (c : Chair). c.progress)) (ap (slice_get (now.chairs ++ _ ∷ [])) (sym p.1) ∙ slice_get-append_at now.chairs _);
+    progress = ap (option_map (λ (c : Chair). c.progress)) (ap (slice_get (now.chairs ++ _ ∷ [])) (sym p.1) ∙ at_end now.chairs _);
     tokens = m.tokens;
     lines = m.lines;
     numbers = m.numbers;

@@ -1,13 +1,8 @@
 -- What stands at a place of a list that grows or that is written to.
-use Rattle.std.proofs.Common.{◌≡◌, ◌≢◌, ℕ, zero, suc, List, [], ◌∷◌, ◌++◌, length, refl, ap}
+use Rattle.std.proofs.Common.{◌≡◌, ◌≢◌, ℕ, zero, suc, ◌==◌, true, List, [], ◌∷◌, ◌++◌, length, refl, ap, arith}
 use Rattle.std.specs.Prelude.{Some, slice_get, slice_set}
 
--- the place behind a list has what is put there
-pub slice_get-append_at : {A : Type 0} (xs : List A) (x : A) → slice_get (xs ++ x ∷ []) (length xs) ≡ Some x
-slice_get-append_at [] x = refl
-slice_get-append_at (y ∷ ys) x = slice_get-append_at ys x
-
--- every other place has what it had
+-- every place but the one behind a list has what it had when something is put there
 pub slice_get-append_other : {A : Type 0} (xs : List A) (x : A) (i : ℕ) → i ≢ length xs → slice_get (xs ++ x ∷ []) i ≡ slice_get xs i
 slice_get-append_other [] x zero h = absurd (h refl)
 slice_get-append_other [] x (suc i) h = refl
@@ -27,3 +22,10 @@ slice_get-set_other (z ∷ zs) zero zero x h = absurd (h refl)
 slice_get-set_other (z ∷ zs) zero (suc j) x h = refl
 slice_get-set_other (z ∷ zs) (suc i) zero x h = refl
 slice_get-set_other (z ∷ zs) (suc i) (suc j) x h = slice_get-set_other zs i j x (λ e. h (ap (λ (n : ℕ). suc n) e))
+
+-- a list with an item is not empty
+pub no_length : {A : Type 0} (x : A) (xs : List A) → (length (x ∷ xs) == 0) ≡ true → ⊥
+no_length x xs h = longer (length xs) h
+  where
+    longer : (n : ℕ) → ((suc n) == 0) ≡ true → ⊥
+    longer n h = grind (arith, h)

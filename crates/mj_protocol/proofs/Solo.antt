@@ -19,14 +19,14 @@ use Rattle.mj_deeds.specs.Hand.{is_hand_start, from_last, hand}
 use Rattle.mj_deeds.specs.Points.{points, deposits}
 use Rattle.mj_deeds.specs.Standings.{standing}
 use Rattle.mj_deeds.proofs.Hands.{from_last-map}
-use Rattle.mj_deeds.specs.Facts.{of_seat, newest, gained, lost, gains_by, losses_by, drawn_by, drawn_tile, meld_of_three, meld_of_four, makes_by, adds_by, with_added, is_kan, kans, live_draws}
-use Rattle.mj_rules.specs.Broken.{Turn, Drew, Discarded, Called, Nobodys, turn_by, turn_in, View, view_of, broken_by}
-use Rattle.mj_protocol.specs.Lines.{start_game_line, start_hand_line, draw_line, discard_line, call_line, closed_kan_line, added_kan_line, dora_line, quoted_tile, hidden}
-use Rattle.mj_protocol.specs.After.{Progress, verdict, goes_on, pending, seated}
+use Rattle.mj_deeds.specs.Facts.{of_seat, newest, tiles_gained, tiles_lost, gains_by, losses_by, drawn_by, drawn_tile, meld_of_three, meld_of_four, makes_by, adds_by, with_added, is_kan, kans, live_draws}
+use Rattle.mj_rules.specs.Broken.{WindowTurn, Drew, Discarded, Called, Nobodys, turn_by, turn_in, SeatView, view_of, broken_by}
+use Rattle.mj_protocol.specs.Lines.{start_game_line, start_hand_line, draw_line, discard_line, call_line, closed_kan_line, added_kan_line, dora_line, quoted_tile, hidden_tile}
+use Rattle.mj_protocol.specs.After.{Progress, verdict, progress_after, pending, first_progress}
 use Rattle.mj_protocol.specs.Trace.{Item, OwnSat, OwnSaid, Saw, token, own_tile}
 
 -- the facts of deeds that a seat's view has, read off tokens
-abbrev pub turn_seen : Token → Turn
+abbrev pub turn_seen : Token → WindowTurn
 turn_seen (tokens.Draw who tile) = Drew who
 turn_seen (tokens.Discard who tile drawn) = Discarded who tile
 turn_seen (tokens.Chi who target tile a b) = Called who (banned_kinds (deeds.Chi who target tile a b))
@@ -80,12 +80,12 @@ unfoldable pub hand_in : List Token → List Token
 hand_in ts = from_last is_start_in ts
 
 -- of the live draws the number is handed in
-unfoldable pub view_in : List Token → ℕ → ℕ → View
+unfoldable pub view_in : List Token → ℕ → ℕ → SeatView
 view_in ts draws seat = record {
   turn = turn_in (option_map turn_seen (newest_in ts));
   drawn = option_and_then drawn_in (newest_in ts);
-  gained = flat_map gains_in (hand_in ts);
-  lost = flat_map (losses_in seat) (hand_in ts);
+  tiles_gained = flat_map gains_in (hand_in ts);
+  tiles_lost = flat_map (losses_in seat) (hand_in ts);
   melds = map (λ meld. with_added meld (flat_map (adds_in seat) (hand_in ts))) (flat_map (makes_in seat) (hand_in ts));
   kans = count_by is_kan_in (hand_in ts);
   live = 70 - draws - count_by is_kan_in (hand_in ts);
@@ -178,16 +178,16 @@ view_follows seat ds =
     turn_follows (token seat) (same_turn seat) (newest ds) ∙ ap (λ (o : Option Token). turn_in (option_map turn_seen o)) (sym (newest_follows (token seat) ds)) in
     let drawn : drawn_tile ds seat ≡ option_and_then drawn_in (newest_in ts) =
     option_follows (drawn_by seat) drawn_in (token seat) (same_drawn seat) (newest ds) ∙ ap (option_and_then drawn_in) (sym (newest_follows (token seat) ds)) in
-    let got : gained hs seat ≡ flat_map gains_in (hand_in ts) = fold_follows (gains_by seat) gains_in (token seat) (same_gains seat) hs ∙ ap (flat_map gains_in) (hand_follows seat ds) in
-    let gone : lost hs seat ≡ flat_map (losses_in seat) (hand_in ts) = fold_follows (losses_by seat) (losses_in seat) (token seat) (same_losses seat) hs ∙ ap (flat_map (losses_in seat)) (hand_follows seat ds) in
+    let got : tiles_gained hs seat ≡ flat_map gains_in (hand_in ts) = fold_follows (gains_by seat) gains_in (token seat) (same_gains seat) hs ∙ ap (flat_map gains_in) (hand_follows seat ds) in
+    let gone : tiles_lost hs seat ≡ flat_map (losses_in seat) (hand_in ts) = fold_follows (losses_by seat) (losses_in seat) (token seat) (same_losses seat) hs ∙ ap (flat_map (losses_in seat)) (hand_follows seat ds) in
     let made : flat_map (makes_by seat) hs ≡ flat_map (makes_in seat) (hand_in ts) = fold_follows (makes_by seat) (makes_in seat) (token seat) (same_makes seat) hs ∙ ap (flat_map (makes_in seat)) (hand_follows seat ds) in
     let added : flat_map (adds_by seat) hs ≡ flat_map (adds_in seat) (hand_in ts) = fold_follows (adds_by seat) (adds_in seat) (token seat) (same_adds seat) hs ∙ ap (flat_map (adds_in seat)) (hand_follows seat ds) in
     let stood : kans hs ≡ count_by is_kan_in (hand_in ts) = count_follows is_kan is_kan_in (token seat) (same_kan seat) hs ∙ ap (count_by is_kan_in) (hand_follows seat ds) in
     λ i. record {
       turn = turn i;
       drawn = drawn i;
-      gained = got i;
-      lost = gone i;
+      tiles_gained = got i;
+      tiles_lost = gone i;
       melds = map (λ meld. with_added meld (added i)) (made i);
       kans = stood i;
       live = 70 - live_draws hs - stood i;
@@ -196,10 +196,10 @@ view_follows seat ds =
 -- the tiles of a hand that is one's own, or thirteen hidden ones
 abbrev pub hand_known : Bool → List ℕ → List (List ℕ)
 hand_known true hand = map quoted_tile hand
-hand_known false hand = replicate 13 hidden
+hand_known false hand = replicate 13 hidden_tile
 
 abbrev pub tile_known : Option ℕ → List ℕ
-tile_known None = hidden
+tile_known None = hidden_tile
 tile_known (Some tile) = quoted_tile tile
 
 -- The numbers of a game that its lines and verdicts ask: how many live tiles were drawn in the hand, the standing, and the
@@ -268,13 +268,13 @@ at_first = record { progress = None; tokens = []; lines = []; numbers = no_numbe
 abbrev pub untimed : Rules → Rules
 untimed rules = record { limit = 0; draws = rules.draws; red = rules.red }
 
-pub untimed_verdict : (rules : Rules) (seat : ℕ) (view : View) (answer : Answer) → broken_by rules seat view answer ≡ broken_by (untimed rules) seat view answer
+pub untimed_verdict : (rules : Rules) (seat : ℕ) (view : SeatView) (answer : Answer) → broken_by rules seat view answer ≡ broken_by (untimed rules) seat view answer
 unfolding broken_by
 untimed_verdict rules seat view answer = refl
 
-unfoldable pub answered : Rules → ℕ → Solo → Answer → Progress → Solo
-answered rules seat s answer p = record {
-  progress = Some (goes_on s.lines (verdict p.due (length s.tokens) (broken_by rules seat (view_in s.tokens s.numbers.draws seat) answer)) p);
+unfoldable pub after_answer : Rules → ℕ → Solo → Answer → Progress → Solo
+after_answer rules seat s answer p = record {
+  progress = Some (progress_after s.lines (verdict p.due (length s.tokens) (broken_by rules seat (view_in s.tokens s.numbers.draws seat) answer)) p);
   tokens = s.tokens;
   lines = s.lines;
   numbers = s.numbers;
@@ -286,8 +286,8 @@ saw seat s t =
     record { progress = s.progress; tokens = s.tokens ++ t ∷ []; lines = s.lines ++ line_in seat numbers t ∷ []; numbers = numbers }
 
 abbrev pub learns : Rules → ℕ → Solo → Item → Solo
-learns rules seat s (OwnSat name key) = record { progress = Some seated; tokens = s.tokens; lines = s.lines; numbers = s.numbers }
-learns rules seat s (OwnSaid answer) = option_map_or (answered rules seat s answer) s.progress s
+learns rules seat s (OwnSat name key) = record { progress = Some first_progress; tokens = s.tokens; lines = s.lines; numbers = s.numbers }
+learns rules seat s (OwnSaid answer) = option_map_or (after_answer rules seat s answer) s.progress s
 learns rules seat s (Saw t) = saw seat s t
 
 abbrev pub learns_all : Rules → ℕ → Solo → List Item → Solo

@@ -1,5 +1,5 @@
 -- What a list of entries comes to: deeds, seats, slots, and what each seat is told.
-use Rattle.std.specs.Prelude.{◌≡◌, ℕ, ◌+◌, ◌==◌, Bool, true, nat_lt, if◌then◌else◌, List, [], ◌∷◌, ◌++◌, length, map, Option, Some, None, unwrap_or, slice_get, slice_set}
+use Rattle.std.specs.Prelude.{ℕ, ◌+◌, ◌==◌, Bool, true, nat_lt, if◌then◌else◌, List, [], ◌∷◌, ◌++◌, length, map, Option, Some, None, unwrap_or, slice_get, slice_set}
 use Rattle.std.specs.Option.{option_map_or}
 use Rattle.mj_ports.specs.declared.entry.Entry.{Entry}
 use Rattle.mj_ports.specs.declared.entry.Entry.TheVariants.{Sat, Back, Said, Gone, Expired}
@@ -12,7 +12,7 @@ use Rattle.mj_deeds.specs.declared.deed.Deed.{Deed}
 use Rattle.mj_deeds.specs.declared.deed.Deed.TheVariants.{StartGame}
 use Rattle.mj_wall.specs.declared.setting.Rules.{Rules}
 use Rattle.mj_wall.specs.declared.setting.Setting.{Setting}
-use Rattle.mj_rules.specs.Broken.{broken}
+use Rattle.mj_rules.specs.Broken.{broken_rule}
 use Rattle.mj_rules.specs.Outcome.{outcome}
 use Rattle.mj_rules.specs.Played.{IsLawful}
 use Rattle.mj_window.specs.Slots.{empty_slots, put_at, closes}
@@ -43,8 +43,8 @@ abbrev pub before_all : After
 before_all = record { deeds = []; chairs = []; slots = empty_slots }
 
 -- A seat's progress when it has just been taken: it is greeted.
-abbrev pub seated : Progress
-seated = record { due = 0; refused = 0; told = hello_line }
+abbrev pub first_progress : Progress
+first_progress = record { due = 0; refused = 0; told = hello_line }
 
 -- The verdict on an answer: late where the deed that it answers isn't the newest, else refused by the first rule that it
 -- breaks, else taken.
@@ -71,35 +71,35 @@ lines_for seat deeds = map (line (Seat seat)) deeds
 
 -- How far a seat has come once its answer has this verdict: an answer that is taken or late answers the due deed, and one
 -- that is refused is told its rule.
-abbrev pub goes_on : List (List ℕ) → Verdict → Progress → Progress
-goes_on lines Taken p = record { due = p.due + 1; refused = 0; told = p.told ++ pending lines p }
-goes_on lines Late p = record { due = p.due + 1; refused = 0; told = p.told ++ pending lines p }
-goes_on lines (Refused rule) p = record { due = p.due; refused = p.refused + 1; told = p.told ++ pending lines p ++ error_text rule }
+abbrev pub progress_after : List (List ℕ) → Verdict → Progress → Progress
+progress_after lines Taken p = record { due = p.due + 1; refused = 0; told = p.told ++ pending lines p }
+progress_after lines Late p = record { due = p.due + 1; refused = 0; told = p.told ++ pending lines p }
+progress_after lines (Refused rule) p = record { due = p.due; refused = p.refused + 1; told = p.told ++ pending lines p ++ error_text rule }
 
 -- Only an answer that is taken fills the slot of its seat.
-abbrev pub filled : Verdict → Four (Option Answer) → ℕ → Answer → Four (Option Answer)
-filled Taken slots seat answer = put_at slots seat answer
-filled Late slots seat answer = slots
-filled (Refused rule) slots seat answer = slots
+abbrev pub slots_after : Verdict → Four (Option Answer) → ℕ → Answer → Four (Option Answer)
+slots_after Taken slots seat answer = put_at slots seat answer
+slots_after Late slots seat answer = slots
+slots_after (Refused rule) slots seat answer = slots
 
 -- The verdict on what a held seat says.
 abbrev pub verdict_on : Rules → List Deed → ℕ → Answer → Progress → Verdict
-verdict_on rules deeds seat answer p = verdict p.due (length deeds) (broken rules deeds seat answer)
+verdict_on rules deeds seat answer p = verdict p.due (length deeds) (broken_rule rules deeds seat answer)
 
 -- What the answer of a held seat changes.
-unfoldable pub heard : Rules → After → ℕ → Answer → Chair → After
-heard rules now seat answer chair =
+unfoldable pub after_said : Rules → After → ℕ → Answer → Chair → After
+after_said rules now seat answer chair =
     let v = verdict_on rules now.deeds seat answer chair.progress in
     record {
       deeds = now.deeds;
-      chairs = slice_set now.chairs seat (record chair { progress = goes_on (lines_for seat now.deeds) v chair.progress });
-      slots = filled v now.slots seat answer;
+      chairs = slice_set now.chairs seat (record chair { progress = progress_after (lines_for seat now.deeds) v chair.progress });
+      slots = slots_after v now.slots seat answer;
     }
 
 -- What an entry changes of its own seat.
 unfoldable pub own_part : Setting → After → Entry Answer → After
-own_part setting now (Sat author name key) = record now { chairs = now.chairs ++ (record { author = author; name = name; key = key; progress = seated }) ∷ [] }
-own_part setting now (Said author seat answer) = option_map_or (heard setting.rules now seat answer) (slice_get now.chairs seat) now
+own_part setting now (Sat author name key) = record now { chairs = now.chairs ++ (record { author = author; name = name; key = key; progress = first_progress }) ∷ [] }
+own_part setting now (Said author seat answer) = option_map_or (after_said setting.rules now seat answer) (slice_get now.chairs seat) now
 own_part setting now (Back author seat) = now
 own_part setting now (Gone author seat) = now
 own_part setting now (Expired author window t1 t2) = now
@@ -125,8 +125,8 @@ abbrev pub all_present : List Bool
 all_present = true ∷ true ∷ true ∷ true ∷ []
 
 -- The window closes once each seat has answered.
-abbrev pub is_ready : Four (Option Answer) → Bool
-is_ready slots = closes slots all_present
+abbrev pub is_window_closed : Four (Option Answer) → Bool
+is_window_closed slots = closes slots all_present
 
 -- The deed that comes next, if it comes now: the game starts once four seats are held, and each closed window has its one
 -- next deed.
@@ -134,7 +134,7 @@ unfoldable pub next_deed : Setting → After → Option Deed
 next_deed setting now =
     if length now.deeds == 0
     then (if length now.chairs == 4 then Some (StartGame (names_of now.chairs)) else None)
-    else (if is_ready now.slots then outcome setting.rules setting.walls now.deeds (answers_in now.slots) else None)
+    else (if is_window_closed now.slots then outcome setting.rules setting.walls now.deeds (answers_in now.slots) else None)
 
 -- With that deed, if there is one, and its window with empty slots.
 abbrev pub with_deed : After → Option Deed → After

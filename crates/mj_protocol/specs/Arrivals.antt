@@ -1,7 +1,7 @@
 -- What an input says, line by line: a header, a wall, and then what arrives.
 use Rattle.std.specs.Prelude.{ℕ, ◌+◌, ◌^◌, ◌==◌, ◌&&◌, Bool, true, false, nat_lt, nat_le, if◌then◌else◌, List, [], ◌∷◌, ◌++◌, length, codes, bytes_eq, Option, Some, None, is_some, unwrap_or, option_and_then, option_map, slice_get}
 use Rattle.std.specs.Option.{option_map_or}
-use Rattle.mj_bytes.specs.Numbers.{number_of}
+use Rattle.mj_bytes.specs.Numbers.{decimal_of}
 use Rattle.mj_bytes.specs.Parts.{whole_lines, unfinished, fields, parted, behind}
 use Rattle.mj_tiles.specs.Faces.{face_of}
 use Rattle.mj_ports.specs.declared.entry.Entry.{Entry}
@@ -11,19 +11,19 @@ use Rattle.mj_deeds.specs.declared.answer.Answer.{Answer}
 use Rattle.mj_wall.specs.declared.setting.Rules.{Rules}
 use Rattle.mj_wall.specs.declared.setting.Setting.{Setting}
 use Rattle.mj_wall.specs.Places.{is_wall}
-use Rattle.mj_protocol.specs.Reading.{answer_of, join_of, names_later_type}
+use Rattle.mj_protocol.specs.AnswerForms.{answer_of, join_of, names_later_type}
 use Rattle.mj_protocol.specs.After.{After, Chair, after}
 use Rattle.mj_protocol.specs.Trace.{Game, can_sit, may_say, is_answer_built}
 
 -- The forms of a line that arrives.
-pub data Form : Type 0 where
-  Header : Rules → Form
-  WallOf : List ℕ → Form
-  Sit : (text : List ℕ) → Form
-  Say : (seat : ℕ) (text : List ℕ) → Form
-  Leave : (seat : ℕ) → Form
-  Expire : (window t1 t2 : ℕ) → Form
-  NoForm : Form
+pub data ArrivalForm : Type 0 where
+  Header : Rules → ArrivalForm
+  WallOf : List ℕ → ArrivalForm
+  Sit : (text : List ℕ) → ArrivalForm
+  Say : (seat : ℕ) (text : List ℕ) → ArrivalForm
+  Leave : (seat : ℕ) → ArrivalForm
+  Expire : (window t1 t2 : ℕ) → ArrivalForm
+  NoForm : ArrivalForm
 
 -- The limit of a window in milliseconds.
 abbrev pub limit_of : ℕ → Option ℕ
@@ -41,50 +41,50 @@ rules_of (limit ∷ draws ∷ red ∷ []) =
     option_map (λ r. record { limit = ms; draws = d; red = r })
     (option_and_then switch_of (behind (codes "red=") red)))
     (option_and_then switch_of (behind (codes "draws=") draws)))
-    (option_and_then limit_of (option_and_then number_of (behind (codes "limit=") limit)))
+    (option_and_then limit_of (option_and_then decimal_of (behind (codes "limit=") limit)))
 rules_of fields = None
 
 -- The tiles of texts, where each names one.
-abbrev pub tiles_of : List (List ℕ) → Option (List ℕ)
-tiles_of [] = Some []
-tiles_of (text ∷ texts) = option_and_then (λ tile. option_map (λ tiles. tile ∷ tiles) (tiles_of texts)) (face_of text)
+abbrev pub tiles_in : List (List ℕ) → Option (List ℕ)
+tiles_in [] = Some []
+tiles_in (text ∷ texts) = option_and_then (λ tile. option_map (λ tiles. tile ∷ tiles) (tiles_in texts)) (face_of text)
 
 -- The line of a player has at most 4,095 bytes.
 abbrev pub is_short : List ℕ → Bool
 is_short text = nat_le (length text) 4095
 
-abbrev pub sit_form : List ℕ → Form
+abbrev pub sit_form : List ℕ → ArrivalForm
 sit_form text = if is_short text then Sit text else NoForm
 
-abbrev pub say_form : Option (List ℕ × List ℕ) → Form
+abbrev pub say_form : Option (List ℕ × List ℕ) → ArrivalForm
 say_form None = NoForm
-say_form (Some parts) = option_map_or (λ seat. if is_short parts.1 then Say seat parts.1 else NoForm) (number_of parts.0) NoForm
+say_form (Some parts) = option_map_or (λ seat. if is_short parts.1 then Say seat parts.1 else NoForm) (decimal_of parts.0) NoForm
 
 -- The numbers of fields, where each is one.
-abbrev pub numbers_of : List (List ℕ) → Option (List ℕ)
-numbers_of [] = Some []
-numbers_of (text ∷ texts) = option_and_then (λ number. option_map (λ numbers. number ∷ numbers) (numbers_of texts)) (number_of text)
+abbrev pub numbers_in : List (List ℕ) → Option (List ℕ)
+numbers_in [] = Some []
+numbers_in (text ∷ texts) = option_and_then (λ number. option_map (λ numbers. number ∷ numbers) (numbers_in texts)) (decimal_of text)
 
 -- A window is below 2^32.
-abbrev pub expire_form : Option (List ℕ) → Form
+abbrev pub expire_form : Option (List ℕ) → ArrivalForm
 expire_form (Some (window ∷ t1 ∷ t2 ∷ [])) = if nat_lt window (2 ^ 32) then Expire window t1 t2 else NoForm
 expire_form numbers = NoForm
 
 -- The form of a line, by its first word and what follows it.
-unfoldable pub form_by : List ℕ → List ℕ → Form
+unfoldable pub form_by : List ℕ → List ℕ → ArrivalForm
 form_by word text =
     if bytes_eq word (codes "game") then option_map_or Header (rules_of (fields text)) NoForm else
-    (if bytes_eq word (codes "wall") then option_map_or WallOf (tiles_of (fields text)) NoForm else
+    (if bytes_eq word (codes "wall") then option_map_or WallOf (tiles_in (fields text)) NoForm else
     (if bytes_eq word (codes "sit") then sit_form text else
     (if bytes_eq word (codes "say") then say_form (parted text) else
-    (if bytes_eq word (codes "gone") then option_map_or Leave (number_of text) NoForm else
-    (if bytes_eq word (codes "expire") then expire_form (numbers_of (fields text)) else NoForm)))))
+    (if bytes_eq word (codes "gone") then option_map_or Leave (decimal_of text) NoForm else
+    (if bytes_eq word (codes "expire") then expire_form (numbers_in (fields text)) else NoForm)))))
 
-unfoldable pub form_of : List ℕ → Form
+unfoldable pub form_of : List ℕ → ArrivalForm
 form_of text = option_map_or (λ parts. form_by parts.0 parts.1) (parted text) NoForm
 
 -- What was read so far.
-pub record Reading : Type 0 where
+pub record Intake : Type 0 where
   pub rules : Option Rules
   pub walls : List (List ℕ)
   pub entries : List (Entry Answer)
@@ -93,51 +93,51 @@ pub record Reading : Type 0 where
 abbrev pub no_rules : Rules
 no_rules = record { limit = 1; draws = false; red = false }
 
-abbrev pub setting_of : Reading → Setting
+abbrev pub setting_of : Intake → Setting
 setting_of reading = record { walls = reading.walls; rules = unwrap_or reading.rules no_rules }
 
 -- What the entries read so far come to.
-abbrev pub now_of : Reading → After
+abbrev pub now_of : Intake → After
 now_of reading = after (setting_of reading) reading.entries
 
 -- The game that was read.
-abbrev pub game_of : Reading → Game
+abbrev pub game_of : Intake → Game
 game_of reading = record { setting = setting_of reading; entries = reading.entries }
 
 -- What a line does: it is an arrival in its place and leads on, or one that isn't built, or none.
 pub data Arrival : Type 0 where
-  Leads : Reading → Arrival
+  Leads : Intake → Arrival
   NotBuilt : Arrival
   Bad : Arrival
 
 -- A header stands first. Red fives are no part of a game yet, and the draw reasons are not built.
-unfoldable pub header_arrives : Reading → Rules → Arrival
+unfoldable pub header_arrives : Intake → Rules → Arrival
 header_arrives reading rules = if rules.red then Bad else (if rules.draws then NotBuilt else Leads (record reading { rules = Some rules }))
 
 -- A wall stands behind the header and before all else. A second one is not built.
-unfoldable pub wall_arrives : Reading → List ℕ → Arrival
+unfoldable pub wall_arrives : Intake → List ℕ → Arrival
 wall_arrives reading tiles =
     if is_wall false tiles && length reading.entries == 0
     then (if length reading.walls == 0 then Leads (record reading { walls = tiles ∷ [] }) else NotBuilt)
     else Bad
 
 -- With one entry more.
-abbrev pub with_entry : Reading → Entry Answer → Reading
+abbrev pub with_entry : Intake → Entry Answer → Intake
 with_entry reading entry = record reading { entries = reading.entries ++ entry ∷ [] }
 
 -- Whoever joins gets the next seat; the author is 1. That a join is refused is not built.
-unfoldable pub join_arrives : Reading → Option JoinLine → Arrival
+unfoldable pub join_arrives : Intake → Option JoinLine → Arrival
 join_arrives reading None = NotBuilt
 join_arrives reading (Some join) =
     if can_sit (now_of reading).chairs join.name
     then Leads (with_entry reading (Sat 1 join.name join.key))
     else NotBuilt
 
-unfoldable pub sit_arrives : Reading → List ℕ → Arrival
+unfoldable pub sit_arrives : Intake → List ℕ → Arrival
 sit_arrives reading text = if length reading.walls == 0 then Bad else join_arrives reading (join_of text)
 
 -- An answer of a held seat, entered by the author by whom it is present.
-unfoldable pub answer_arrives : Reading → ℕ → List ℕ → ℕ → Arrival
+unfoldable pub answer_arrives : Intake → ℕ → List ℕ → ℕ → Arrival
 answer_arrives reading seat text author =
     if names_later_type text then NotBuilt else
     (if is_answer_built (setting_of reading) (now_of reading) author seat (answer_of text)
@@ -145,13 +145,13 @@ answer_arrives reading seat text author =
     else NotBuilt)
 
 -- A seat says a line once its due deed exists.
-unfoldable pub say_arrives : Reading → ℕ → List ℕ → Arrival
+unfoldable pub say_arrives : Intake → ℕ → List ℕ → Arrival
 say_arrives reading seat text =
     option_map_or (λ (chair : Chair). if may_say (now_of reading) chair.author chair then answer_arrives reading seat text chair.author else Bad)
     (slice_get (now_of reading).chairs seat) Bad
 
 -- A line of the arrivals behind the header.
-abbrev pub behind_header : Reading → Form → Arrival
+abbrev pub behind_header : Intake → ArrivalForm → Arrival
 behind_header reading (Header rules) = Bad
 behind_header reading (WallOf tiles) = wall_arrives reading tiles
 behind_header reading (Sit text) = sit_arrives reading text
@@ -161,7 +161,7 @@ behind_header reading (Expire window t1 t2) = if length reading.walls == 0 then 
 behind_header reading NoForm = Bad
 
 -- The first line.
-abbrev pub first_line : Reading → Form → Arrival
+abbrev pub first_line : Intake → ArrivalForm → Arrival
 first_line reading (Header rules) = header_arrives reading rules
 first_line reading (WallOf tiles) = Bad
 first_line reading (Sit text) = Bad
@@ -171,7 +171,7 @@ first_line reading (Expire window t1 t2) = Bad
 first_line reading NoForm = Bad
 
 -- What a line does where it stands.
-unfoldable pub arrives : Reading → List ℕ → Arrival
+unfoldable pub arrives : Intake → List ℕ → Arrival
 arrives reading text = if is_some reading.rules then behind_header reading (form_of text) else first_line reading (form_of text)
 
 -- How an input ends: with all its lines, or at the first line, counted from 1, that is no arrival in its place or that is
@@ -183,26 +183,26 @@ pub data Ending : Type 0 where
 
 -- What an input gives, and how it ends.
 pub record Input : Type 0 where
-  pub reading : Reading
+  pub reading : Intake
   pub ending : Ending
 
 -- Behind the last whole line nothing may stand.
-abbrev pub at_end : Reading → ℕ → List ℕ → Input
+abbrev pub at_end : Intake → ℕ → List ℕ → Input
 at_end reading number [] = record { reading = reading; ending = Whole }
 at_end reading number (byte ∷ bytes) = record { reading = reading; ending = BadAt number }
 
 -- Where a line leads, and what is heard from there on.
-abbrev pub hear_on : Arrival → (Reading → Input) → Reading → ℕ → Input
+abbrev pub hear_on : Arrival → (Intake → Input) → Intake → ℕ → Input
 hear_on (Leads next) onwards reading number = onwards next
 hear_on NotBuilt onwards reading number = record { reading = reading; ending = NotBuiltAt number }
 hear_on Bad onwards reading number = record { reading = reading; ending = BadAt number }
 
 -- The lines from some point on: the number of the next, and what stands behind the last newline.
-abbrev pub hear_from : Reading → ℕ → List (List ℕ) → List ℕ → Input
+abbrev pub hear_from : Intake → ℕ → List (List ℕ) → List ℕ → Input
 hear_from reading number [] rest = at_end reading number rest
 hear_from reading number (text ∷ texts) rest = hear_on (arrives reading text) (λ next. hear_from next (number + 1) texts rest) reading number
 
-abbrev pub nothing_read : Reading
+abbrev pub nothing_read : Intake
 nothing_read = record { rules = None; walls = []; entries = [] }
 
 -- The game that an input gives, and how the input ends.

@@ -7,9 +7,9 @@ use Rattle.mj_deeds.specs.Answers.{is_in_form}
 use Rattle.mj_deeds.specs.Fits.{fits, all_fit}
 use Rattle.mj_wall.specs.declared.setting.Setting.{Setting}
 use Rattle.mj_rules.specs.Played.{AllLawful, IsPlayed}
-use Rattle.mj_protocol.specs.After.{After, after, own_part, next_deed, is_ready, answers_in, AreLawfulIn, scripts}
+use Rattle.mj_protocol.specs.After.{After, after, own_part, next_deed, is_window_closed, answers_in, AreLawfulIn, scripts}
 use Rattle.mj_protocol.specs.Trace.{Game, Agree, IsLegal, is_permitted, says_in_form}
-use Rattle.mj_protocol.specs.Reading.{answer_of}
+use Rattle.mj_protocol.specs.AnswerForms.{answer_of}
 use Rattle.mj_protocol.specs.Arrivals.{setting_of, input_of}
 
 -- Any two games that agree for a seat give it the same bytes.
@@ -37,7 +37,7 @@ TakenAnswersAreLawful = (setting : Setting) (entries : List (Entry Answer)) → 
 pub record CanGoOn (setting : Setting) (now : After) : Type 0 where
   pub played : IsPlayed setting.rules setting.walls now.deeds
   pub taken : AreLawfulIn setting.rules now.deeds now.slots
-  pub ready : is_ready now.slots ≡ true → AllLawful setting.rules now.deeds (answers_in now.slots)
+  pub ready : is_window_closed now.slots ≡ true → AllLawful setting.rules now.deeds (answers_in now.slots)
 
 -- So it is in a legal game once an entry whose answer is in form has changed what is its own seat's, whether or not that
 -- entry is permitted.

@@ -1,5 +1,5 @@
 pub mod Lines
-pub mod Reading
+pub mod AnswerForms
 pub mod After
 pub mod Trace
 pub mod Witness

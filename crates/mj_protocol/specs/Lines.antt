@@ -32,13 +32,13 @@ unfoldable pub quoted_tile : ℕ → List ℕ
 quoted_tile tile = quoted (text_of tile)
 
 -- A hidden tile.
-unfoldable pub hidden : List ℕ
-hidden = quoted (codes "?")
+unfoldable pub hidden_tile : List ℕ
+hidden_tile = quoted (codes "?")
 
 -- The tiles of a hand that is seen, or as many hidden ones.
 abbrev pub shown_tiles : Bool → List ℕ → List (List ℕ)
 shown_tiles true tiles = map quoted_tile tiles
-shown_tiles false tiles = replicate (length tiles) hidden
+shown_tiles false tiles = replicate (length tiles) hidden_tile
 
 -- Whether a viewer sees what a seat holds: the record sees all, a seat its own.
 abbrev pub sees : Viewer → ℕ → Bool
@@ -108,7 +108,7 @@ hands_seen viewer hands = record {
 -- The drawn tile as it is seen.
 abbrev pub tile_seen : Bool → ℕ → List ℕ
 tile_seen true tile = quoted_tile tile
-tile_seen false tile = hidden
+tile_seen false tile = hidden_tile
 
 -- The line of a deed for a viewer.
 abbrev pub line : Viewer → Deed → List ℕ

@@ -15,7 +15,7 @@ use Rattle.mj_deeds.specs.Four.{at_seat}
 use Rattle.mj_wall.specs.declared.setting.Rules.{Rules}
 use Rattle.mj_wall.specs.declared.setting.Setting.{Setting}
 use Rattle.mj_wall.specs.Places.{is_wall}
-use Rattle.mj_protocol.specs.After.{After, Chair, Verdict, Taken, Late, Refused, before_all, own_part, next_deed, step, verdict_on, is_ready}
+use Rattle.mj_protocol.specs.After.{After, Chair, Verdict, Taken, Late, Refused, before_all, own_part, next_deed, step, verdict_on, is_window_closed}
 
 -- A seat has this name.
 abbrev pub has_name : List ℕ → Chair → Bool
@@ -43,7 +43,7 @@ is_heard_built rules now seat answer chair = is_verdict_built chair.progress.ref
 
 -- The deed after a closed window is built.
 unfoldable pub is_deed_built : Setting → After → Bool
-is_deed_built setting now = if is_ready now.slots then is_some (next_deed setting now) else true
+is_deed_built setting now = if is_window_closed now.slots then is_some (next_deed setting now) else true
 
 -- What an answer leads to is built.
 unfoldable pub is_answer_built : Setting → After → ℕ → ℕ → Answer → Bool

@@ -15,4 +15,4 @@ pub mod Laws
 pub mod WinningWayLaws
 pub mod FewReadings
 pub mod ReadingLaws
-pub mod RuledOut
+pub mod OneMore

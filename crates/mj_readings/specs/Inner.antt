@@ -5,4 +5,4 @@ pub mod Spots
 pub mod SetLists
 pub mod WinningWays
 pub mod ReadingLists
-pub mod RuledOut
+pub mod OneMore

@@ -4,5 +4,4 @@ pub mod Readings
 pub mod Tests
 pub mod AllReadings
 pub mod Completing
-pub mod Ways
 pub mod Inner

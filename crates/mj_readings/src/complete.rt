@@ -1,4 +1,4 @@
-ghost use Rattle.std.specs.Prelude.{slice_index, ◌≡◌, ℕ, ◌+◌, ◌≤◌, ◌<◌, ◌↔◌, Bool, IsTrue, length, count_by, ◌==◌, ◌||◌, ◌&&◌, nat_le};
+ghost use Rattle.std.specs.Prelude.{slice_index, ◌≡◌, ◌∷◌, ℕ, ◌+◌, ◌≤◌, ◌<◌, ◌↔◌, Bool, IsTrue, length, count_by, ◌==◌, ◌||◌, ◌&&◌, nat_le};
 ghost use Rattle.std.specs.List.{list_all};
 ghost use Rattle.mj_tiles.specs.Counts.{all_kinds};
 ghost use Rattle.mj_readings.specs.Sets.{begins_run};
@@ -35,61 +35,92 @@ fn completes_hand(numbers: &[u8], melds: u8) -> bool
     requires { length numbers.now ≡ 34 }
     ensures { result ≡ complete numbers.now melds }
 {
-    melds <= 4 && completes(numbers, 0, 0, 0, 4 - melds, false)
+    melds <= 4
+        && completes(
+            numbers,
+            0,
+            0,
+            0,
+            Left {
+                sets: 4 - melds,
+                paired: false,
+            },
+        )
         || melds == 0 && (are_seven_pairs(numbers) || double_of(numbers).is_some())
 }
 
-/// Whether the kinds from this one on can be made into so many sets, and a pair where there is none yet, with so many
-/// runs under way that began two kinds and one kind before.
+/// What is left to make: so many sets, and the pair where it isn't made.
+#[derive(Clone, Copy, Debug)]
+pub(crate) struct Left {
+    pub(crate) sets: u8,
+    pub(crate) paired: bool,
+}
+
+/// Whether the kinds from this one on can be made into what is left to make, with so many runs under way that began two
+/// kinds and one kind before.
 #[cycle(completes)]
 #[tactic(auto, unfolding(crate::specs::Inner::Ways::has_way))]
-fn completes(numbers: &[u8], kind: u8, first: u8, second: u8, left: u8, paired: bool) -> bool
+fn completes(numbers: &[u8], kind: u8, first: u8, second: u8, left: Left) -> bool
     requires kinds { kind + length numbers.now ≤ 34 }
     requires first_few { first ≤ 4 }
     requires second_few { second ≤ 4 }
-    requires few { left ≤ 4 }
-    ensures { result ≡ has_way numbers.now kind first second left paired }
+    requires few { left.sets ≤ 4 }
+    ensures { result ≡ has_way numbers.now kind first second left.sets left.paired }
 {
     let [count, others @ ..] = numbers else {
-        return left == 0 && paired;
+        return left.sets == 0 && left.paired;
     };
-    if *count < first + second {
+    completes_at(*count, others, kind, first, second, left)
+}
+
+/// The same of so many tiles of a kind and the tiles of those after it.
+#[cycle(completes)]
+#[tactic(auto, unfolding(crate::specs::Inner::Ways::has_way))]
+pub(crate) fn completes_at(
+    count: u8,
+    others: &[u8],
+    kind: u8,
+    first: u8,
+    second: u8,
+    left: Left,
+) -> bool
+    requires kinds { kind + length others.now < 34 }
+    requires first_few { first ≤ 4 }
+    requires second_few { second ≤ 4 }
+    requires few { left.sets ≤ 4 }
+    ensures { result ≡ has_way (count ∷ others.now) kind first second left.sets left.paired }
+{
+    if count < first + second {
         return false;
     }
-    let free = *count - (first + second);
-    goes_on(others, kind, second, free, 0, left, paired)
-        || free >= 3 && goes_on(others, kind, second, free - 3, 1, left, paired)
-        || free >= 2 && !paired && goes_on(others, kind, second, free - 2, 0, left, true)
+    let free = count - (first + second);
+    let with_pair = Left {
+        sets: left.sets,
+        paired: true,
+    };
+    goes_on(others, kind, second, free, 0, left)
+        || free >= 3 && goes_on(others, kind, second, free - 3, 1, left)
+        || free >= 2 && !left.paired && goes_on(others, kind, second, free - 2, 0, with_pair)
 }
 
 /// The same after a kind at which so many runs and triplets begin.
 #[cycle(completes)]
-fn goes_on(
-    others: &[u8],
-    kind: u8,
-    second: u8,
-    runs: u8,
-    triplets: u8,
-    left: u8,
-    paired: bool,
-) -> bool
+fn goes_on(others: &[u8], kind: u8, second: u8, runs: u8, triplets: u8, left: Left) -> bool
     requires kinds { kind + length others.now < 34 }
     requires second_few { second ≤ 4 }
     requires triplet { triplets ≤ 1 }
-    requires few { left ≤ 4 }
-    ensures { result ≡ begins (λ runs left paired. has_way others.now (kind + 1) second runs left paired) kind runs triplets left paired }
+    requires few { left.sets ≤ 4 }
+    ensures { result ≡ begins (λ runs sets paired. has_way others.now (kind + 1) second runs sets paired)
+        kind runs triplets left.sets left.paired }
 {
-    if !can_begin(kind, runs, triplets, left) {
+    if !can_begin(kind, runs, triplets, left.sets) {
         return false;
     }
-    completes(
-        others,
-        kind + 1,
-        second,
-        runs,
-        left - (runs + triplets),
-        paired,
-    )
+    let next = Left {
+        sets: left.sets - (runs + triplets),
+        paired: left.paired,
+    };
+    completes(others, kind + 1, second, runs, next)
 }
 
 /// Whether so many runs and triplets may begin at the kind, where so many sets are left to make.

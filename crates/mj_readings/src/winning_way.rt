@@ -3,7 +3,7 @@ ghost use Rattle.mj_readings.specs.declared.winning_way.WinningWay.{WinningWay};
 ghost use Rattle.mj_readings.specs.Sets.{place_of};
 ghost use Rattle.mj_readings.specs.Readings.{names_winning, set_has, has_no_equal_before};
 ghost use Rattle.mj_readings.specs.Inner.Ways.{sets_at, end_of};
-ghost use Rattle.mj_readings.specs.Inner.Spots.{ways_from, branch_ways, triplet_ways, pair_ways};
+ghost use Rattle.mj_readings.specs.Inner.Spots.{ways_from, branch_ways, pair_ways};
 ghost use Rattle.mj_readings.specs.Inner.WinningWays.{Picks, win_places, winning_ways};
 
 use crate::complete::can_begin;
@@ -125,32 +125,23 @@ pub(crate) fn winning_way_at(
         Ok(winning_way) => return Ok(winning_way),
         Err(rest) => rest,
     };
-    let behind_triplet = match triplet_at(others, spot, free, sets, winning, behind_runs) {
+    if free < 3 {
+        return pair_at(others, spot, free, sets, winning, behind_runs);
+    }
+    let behind_triplet = match branch_at(
+        others,
+        spot,
+        free - 3,
+        1,
+        spot.pair,
+        sets,
+        winning,
+        behind_runs,
+    ) {
         Ok(winning_way) => return Ok(winning_way),
         Err(rest) => rest,
     };
     pair_at(others, spot, free, sets, winning, behind_triplet)
-}
-
-/// The winning_ways with a triplet of the spot's kind and runs that begin there.
-#[cycle(winning_way_at)]
-fn triplet_at(
-    others: &[u8],
-    spot: &Spot,
-    free: u8,
-    sets: &Sets,
-    winning: Kind,
-    index: usize,
-) -> Result<WinningWay, usize>
-    requires kinds { spot.now.kind + length others.now + 1 ≡ 34 }
-    requires under_way { spot.now.second ≤ 4 }
-    requires room { length sets.now + spot.now.left ≤ 4 }
-    ensures { Picks (winning_ways sets.now winning (triplet_ways others.now spot.now free)) index result }
-{
-    if free < 3 {
-        return Err(index);
-    }
-    branch_at(others, spot, free - 3, 1, spot.pair, sets, winning, index)
 }
 
 /// The winning_ways with the pair of the spot's kind and runs that begin there.

@@ -11,11 +11,11 @@ use Rattle.mj_deeds.specs.declared.answer.Pai.TheVariants.{Known, Hidden}
 use Rattle.mj_deeds.specs.declared.answer.Answer.{Answer}
 use Rattle.mj_deeds.specs.declared.answer.Answer.TheVariants as answers
 use Rattle.mj_deeds.specs.declared.deed.Deed.{Deed}
-use Rattle.mj_deeds.specs.declared.deed.Deed.TheVariants.{Discard}
+use Rattle.mj_deeds.specs.declared.deed.Deed.TheVariants.{Discard, Chi, Pon}
 use Rattle.mj_deeds.specs.Four.{at_seat}
-use Rattle.mj_deeds.specs.Facts.{newest, gained, lost, seat_melds, is_pon, kans, live_tiles}
+use Rattle.mj_deeds.specs.Facts.{newest, tiles_gained, tiles_lost, seat_melds, is_pon, kans, live_tiles}
 use Rattle.mj_deeds.specs.Fits.{is_in_hand, is_discard_of, are_held, is_triplet_of}
-use Rattle.mj_rules.specs.Broken.{Turn, Discarded, turn_by, turn_in, View, view_of, questions, broken_by, is_stuck, is_no_tile, names_no_tile, misses_discard, misses_target, is_too_late, names_unheld, is_own_pon, is_bad_set, is_fifth_kan, is_dry_kan}
+use Rattle.mj_rules.specs.Broken.{WindowTurn, Discarded, turn_by, turn_in, SeatView, view_of, held_count, questions, broken_by, is_stuck_call, is_no_tile, is_no_such_tile, misses_discard, is_wrong_target, is_last_tile, is_not_held, is_own_pon, is_bad_set, is_kan_full, is_kan_dry}
 use Rattle.mj_deeds.specs.declared.bid.Bid.{Bid}
 use Rattle.mj_deeds.specs.declared.bid.Bid.TheVariants as bids
 use Rattle.mj_deeds.specs.Bids.{call_of_bid}
@@ -34,18 +34,18 @@ IfAny P None = Unit {0}
 IfAny P (Some d) = P d
 
 -- What an answer owes.
-pub record Clean (rules : Rules) (view : View) (answer : Answer) : Type 0 where
-  pub tiles : names_no_tile rules.red answer ≡ false
-  pub target : misses_target view.turn answer ≡ false
-  pub early : is_too_late view answer ≡ false
-  pub held : names_unheld view answer ≡ false
+pub record Clean (rules : Rules) (view : SeatView) (answer : Answer) : Type 0 where
+  pub tiles : is_no_such_tile rules.red answer ≡ false
+  pub target : is_wrong_target view.turn answer ≡ false
+  pub early : is_last_tile view answer ≡ false
+  pub held : is_not_held view answer ≡ false
   pub good : is_bad_set view answer ≡ false
-  pub free : is_stuck view answer ≡ false
-  pub fifth : is_fifth_kan view answer ≡ false
-  pub dry : is_dry_kan view answer ≡ false
+  pub free : is_stuck_call view answer ≡ false
+  pub fifth : is_kan_full view answer ≡ false
+  pub dry : is_kan_dry view answer ≡ false
 
 -- An answer that breaks no rule owes nothing.
-pub clean : (rules : Rules) (seat : ℕ) (view : View) (answer : Answer) → broken_by rules seat view answer ≡ None → Clean rules view answer
+pub clean : (rules : Rules) (seat : ℕ) (view : SeatView) (answer : Answer) → broken_by rules seat view answer ≡ None → Clean rules view answer
 unfolding broken_by
 clean rules seat view answer h =
     let u = all_no (questions rules seat view answer) h in
@@ -68,18 +68,18 @@ none_short h g (t ∷ ts) k =
     let parts = or_parts (nat_lt (h t) (g t)) _ k in
     and_from (nat_le (g t) (h t)) _ (le-leb (g t) (h t) (ltb-false (h t) (g t) parts.0)) (none_short h g ts parts.1)
 
-own_held : (ds : List Deed) (who seat : ℕ) (tiles : List ℕ) → are_held (gained ds who) (lost ds who) tiles ≡ true →
-    are_held (gained ds seat) (lost ds seat) (cond (who == seat) tiles []) ≡ true
+own_held : (ds : List Deed) (who seat : ℕ) (tiles : List ℕ) → are_held (tiles_gained ds who) (tiles_lost ds who) tiles ≡ true →
+    are_held (tiles_gained ds seat) (tiles_lost ds seat) (cond (who == seat) tiles []) ≡ true
 own_held ds who seat tiles h = elim (cases_eq who seat) [
-  | inl e ↦ ap (λ b. are_held (gained ds seat) (lost ds seat) (cond b tiles [])) (eq-eqb who seat e) ∙ subst (λ x. are_held (gained ds x) (lost ds x) tiles ≡ true) e h
-  | inr ne ↦ ap (λ b. are_held (gained ds seat) (lost ds seat) (cond b tiles [])) (ne_eqb who seat ne)
+  | inl e ↦ ap (λ b. are_held (tiles_gained ds seat) (tiles_lost ds seat) (cond b tiles [])) (eq-eqb who seat e) ∙ subst (λ x. are_held (tiles_gained ds x) (tiles_lost ds x) tiles ≡ true) e h
+  | inr ne ↦ ap (λ b. are_held (tiles_gained ds seat) (tiles_lost ds seat) (cond b tiles [])) (ne_eqb who seat ne)
 ]
 
 answer_held : (ds : List Deed) (who seat : ℕ) (tiles : List ℕ) →
-    list_any (λ face. nat_lt (number_in (gained ds who) face - number_in (lost ds who) face) (number_in tiles face)) tiles ≡ false →
-    are_held (gained ds seat) (lost ds seat) (cond (who == seat) tiles []) ≡ true
+    list_any (λ face. nat_lt (number_in (tiles_gained ds who) face - number_in (tiles_lost ds who) face) (number_in tiles face)) tiles ≡ false →
+    are_held (tiles_gained ds seat) (tiles_lost ds seat) (cond (who == seat) tiles []) ≡ true
 answer_held ds who seat tiles h =
-    own_held ds who seat tiles (none_short (λ face. number_in (gained ds who) face - number_in (lost ds who) face) (λ face. number_in tiles face) tiles h)
+    own_held ds who seat tiles (none_short (λ face. number_in (tiles_gained ds who) face - number_in (tiles_lost ds who) face) (λ face. number_in tiles face) tiles h)
 
 -- the named tiles are of the game
 
@@ -180,24 +180,46 @@ caller_seats seat target who t tile h g e =
     let same = eqb-true who target (and_parts (who == target) (tile == t) e).0 in
     and_from (ltb seat 4) _ (lt-ltb seat 4 h) (seat_there target (subst (λ x. x < 4) same g))
 
+-- A pon of a discard.
+pon_next : (rules : Rules) (walls : List (List ℕ)) (ds : List Deed) (who tile : ℕ) (drawn : Bool) (seat target t x y : ℕ) → newest ds ≡ Some (Discard who tile drawn) → who < 4 → seat < 4 →
+    misses_discard (view_of ds seat).turn target (Known t) ≡ false →
+    list_any (λ face. nat_lt (held_count (view_of ds seat) face) (number_in (x ∷ y ∷ []) face)) (x ∷ y ∷ []) ≡ false →
+    list_any (is_no_tile rules.red) (map Known (t ∷ x ∷ y ∷ [])) ≡ false → IsNext rules.red walls ds (Pon seat target t x y)
+unfolding view_of
+pon_next rules walls ds who tile drawn seat target t x y e small there takes held real =
+    let hit = hits who tile target t (ap (λ (turn : WindowTurn). misses_discard turn target (Known t)) (sym (turn_is ds seat who tile drawn e)) ∙ takes) in
+    record {
+      place = ap (λ o. is_discard_of o target t) e ∙ hit;
+      seats = caller_seats seat target who t tile there small hit;
+      held = λ other. answer_held (hand ds) seat other (x ∷ y ∷ []) held;
+      triplet = refl;
+      tiles = real_tiles rules.red (t ∷ x ∷ y ∷ []) real;
+      live = refl;
+      stage = ap stage_of e;
+      brings = tt;
+    }
+
+-- A chi of a discard owes what a pon of the same tiles owes.
+chi_next : (red : Bool) (walls : List (List ℕ)) (ds : List Deed) (seat target t x y : ℕ) → IsNext red walls ds (Pon seat target t x y) → IsNext red walls ds (Chi seat target t x y)
+chi_next red walls ds seat target t x y n = record {
+  place = n.place;
+  seats = n.seats;
+  held = n.held;
+  triplet = n.triplet;
+  tiles = n.tiles;
+  live = n.live;
+  stage = n.stage;
+  brings = n.brings;
+}
+
 -- What is called: the pon or the kan of a seat.
 triplet_next : (rules : Rules) (walls : List (List ℕ)) (ds : List Deed) (who tile : ℕ) (drawn : Bool) (seat : ℕ) (answer : Answer) → newest ds ≡ Some (Discard who tile drawn) → who < 4 → seat < 4 →
     Clean rules (view_of ds seat) answer → IfAny (IsNext rules.red walls ds) (call_of_bid (triplet_bid seat answer))
 unfolding view_of
 triplet_next rules walls ds who tile drawn seat (answers.Pon actor target (Known t) (Known x) (Known y)) e small there c =
-    let hit = hits who tile target t (ap (λ (turn : Turn). misses_discard turn target (Known t)) (sym (turn_is ds seat who tile drawn e)) ∙ c.target) in
-    record {
-      place = ap (λ o. is_discard_of o target t) e ∙ hit;
-      seats = caller_seats seat target who t tile there small hit;
-      held = λ other. answer_held (hand ds) seat other (x ∷ y ∷ []) c.held;
-      triplet = refl;
-      tiles = real_tiles rules.red (t ∷ x ∷ y ∷ []) c.tiles;
-      live = refl;
-      stage = ap stage_of e;
-      brings = tt;
-    }
+    pon_next rules walls ds who tile drawn seat target t x y e small there c.target c.held c.tiles
 triplet_next rules walls ds who tile drawn seat (answers.OpenKan actor target (Known t) (Known x) (Known y) (Known z)) e small there c =
-    let hit = hits who tile target t (ap (λ (turn : Turn). misses_discard turn target (Known t)) (sym (turn_is ds seat who tile drawn e)) ∙ c.target) in
+    let hit = hits who tile target t (ap (λ (turn : WindowTurn). misses_discard turn target (Known t)) (sym (turn_is ds seat who tile drawn e)) ∙ c.target) in
     record {
       place = ap (λ o. is_discard_of o target t) e ∙ hit;
       seats = caller_seats seat target who t tile there small hit;
@@ -227,17 +249,7 @@ run_next : (rules : Rules) (walls : List (List ℕ)) (ds : List Deed) (who tile 
     Clean rules (view_of ds seat) answer → IfAny (IsNext rules.red walls ds) (call_of_bid (run_bid seat answer))
 unfolding view_of
 run_next rules walls ds who tile drawn seat (answers.Chi actor target (Known t) (Known x) (Known y)) e small there c =
-    let hit = hits who tile target t (ap (λ (turn : Turn). misses_discard turn target (Known t)) (sym (turn_is ds seat who tile drawn e)) ∙ c.target) in
-    record {
-      place = ap (λ o. is_discard_of o target t) e ∙ hit;
-      seats = caller_seats seat target who t tile there small hit;
-      held = λ other. answer_held (hand ds) seat other (x ∷ y ∷ []) c.held;
-      triplet = refl;
-      tiles = real_tiles rules.red (t ∷ x ∷ y ∷ []) c.tiles;
-      live = refl;
-      stage = ap stage_of e;
-      brings = tt;
-    }
+    chi_next rules.red walls ds seat target t x y (pon_next rules walls ds who tile drawn seat target t x y e small there c.target c.held c.tiles)
 run_next rules walls ds who tile drawn seat (answers.Chi actor target Hidden b c) e small there k = tt
 run_next rules walls ds who tile drawn seat (answers.Chi actor target (Known x) Hidden c) e small there k = tt
 run_next rules walls ds who tile drawn seat (answers.Chi actor target (Known x) (Known y) Hidden) e small there k = tt

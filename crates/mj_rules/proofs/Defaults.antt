@@ -2,7 +2,7 @@
 use Rattle.std.proofs.Common.{◌≡◌, ℕ, zero, suc, ◌+◌, ◌-◌, ◌<◌, ◌==◌, ◌&&◌, ◌||◌, not, Bool, true, false, cond, eqb, List, [], ◌∷◌, length, get_or, inl, inr, Option, Some, None, refl, sym, ap, ◌∙◌, subst, arith}
 use Rattle.std.specs.Prelude.{nat_lt, is_none, slice_get, option_map, option_and_then, filter}
 use Rattle.std.specs.List.{list_all}
-use Rattle.std.proofs.lemmas.Bool.{cases_eq, ne_eqb, eq-eqb, and_parts, ltb-true, lt-ltb, not-true}
+use Rattle.std.proofs.lemmas.Bool.{cases_eq, ne_eqb, eq-eqb, and_parts, ltb-true, lt-ltb, not-true, true≢false}
 use Rattle.std.proofs.lemmas.Option.{slice_get-get_or}
 use Rattle.std.proofs.lemmas.List.Sums.{sum_by-cons}
 use Rattle.mj_tiles.specs.Faces.{kind_of, number_in, is_red, tile_order}
@@ -13,17 +13,13 @@ use Rattle.mj_deeds.specs.Answers.{is_in_form}
 use Rattle.mj_deeds.specs.declared.rule.Rule.{Rule}
 use Rattle.mj_deeds.specs.declared.deed.Deed.{Deed}
 use Rattle.mj_deeds.specs.declared.deed.Deed.TheVariants as deeds
-use Rattle.mj_deeds.specs.Facts.{newest, gained, lost, drawn_tile, drawn_by}
+use Rattle.mj_deeds.specs.Facts.{newest, tiles_gained, tiles_lost, drawn_tile, drawn_by}
 use Rattle.mj_deeds.specs.Hand.{hand}
-use Rattle.mj_deeds.specs.Fits.{all_fit}
 use Rattle.mj_wall.specs.declared.setting.Rules.{Rules}
-use Rattle.mj_wall.specs.Places.{is_wall}
-use Rattle.mj_rules.specs.Broken.{View, view_of, Turn, Drew, Discarded, Called, Nobodys, turn_by, turn_in, held, is_open, is_no_tile, is_wrongly_marked, is_banned_tile, banned_in, is_that, broken_by}
-use Rattle.mj_rules.specs.Default.{discard_of, lawful_faces, default_in, default_by, discard_or_pass, last_of, can_discard_in, can_discard}
-use Rattle.mj_rules.specs.Outcome.{wall_of}
-use Rattle.mj_rules.specs.Played.{IsPlayed}
+use Rattle.mj_rules.specs.Broken.{SeatView, view_of, WindowTurn, Drew, Discarded, Called, Nobodys, turn_by, turn_in, held_count, is_open, is_no_tile, is_wrongly_marked, is_banned_tile, banned_in, is_that, broken_by}
+use Rattle.mj_rules.specs.Default.{discard_of, lawful_faces, default_in, default_by, discard_or_pass, last_face, can_discard_in}
 use Rattle.mj_rules.specs.Laws.{SomeDiscardIsLawful, FittingDefaultIsLawful, PlayedDefaultIsLawful}
-use Rattle.mj_rules.proofs.Freeing.{free_faces, has_free_in, has_free, some_tile_is_free}
+use Rattle.mj_rules.proofs.Freeing.{free_faces, has_free_in, some_tile_is_free}
 use Rattle.mj_rules.proofs.Playing.{played_deeds_fit}
 use Rattle.mj_rules.proofs.Lawful.{pass_lawful, discard_lawful}
 use Rattle.mj_rules.proofs.Given.{Owns, owns}
@@ -41,13 +37,13 @@ picked p (x ∷ xs) i tile h = by_test (p x) refl (λ k. picked p xs k tile) i h
     by_test true e others (suc i) k = others i k
     by_test false e others i k = others i k
 
-last_is : (xs : List ℕ) → 0 < length xs → last_of xs ≡ Some (get_or xs (length xs - 1) 0)
+last_is : (xs : List ℕ) → 0 < length xs → last_face xs ≡ Some (get_or xs (length xs - 1) 0)
 last_is xs h = slice_get-get_or xs (length xs - 1) 0 (omega arith)
 
 -- What a discard at one's own turn is out of.
-record Good (red : Bool) (view : View) (tile : ℕ) (drawn : Bool) : Type 0 where
+record Good (red : Bool) (view : SeatView) (tile : ℕ) (drawn : Bool) : Type 0 where
   real : is_no_tile red (Known tile) ≡ false
-  some : 0 < held view tile
+  some : 0 < held_count view tile
   marked : is_wrongly_marked view (Known tile) drawn ≡ false
   free : is_banned_tile (banned_in view.turn) (Known tile) ≡ false
 
@@ -81,15 +77,15 @@ given_real false tiles tile h k = ap (λ b. b && true) (plain tiles tile h k)
 
 -- by the turn
 
-passes : (rules : Rules) (seat : ℕ) (view : View) (turn : Turn) → view.turn ≡ turn → is_open seat turn (Pass None) ≡ true → broken_by rules seat view (Pass None) ≡ None
+passes : (rules : Rules) (seat : ℕ) (view : SeatView) (turn : WindowTurn) → view.turn ≡ turn → is_open seat turn (Pass None) ≡ true → broken_by rules seat view (Pass None) ≡ None
 passes rules seat view turn e opens = pass_lawful rules seat view (ap (λ t. is_open seat t (Pass None)) e ∙ opens)
 
 -- A good discard, marked as it is.
-discards_well : (rules : Rules) (seat tile : ℕ) (view : View) (opens : is_open seat view.turn (Discard seat (Known tile) (is_that view.drawn tile)) ≡ true) → Good rules.red view tile (is_that view.drawn tile) →
+discards_well : (rules : Rules) (seat tile : ℕ) (view : SeatView) (opens : is_open seat view.turn (Discard seat (Known tile) (is_that view.drawn tile)) ≡ true) → Good rules.red view tile (is_that view.drawn tile) →
     broken_by rules seat view (discard_of seat view tile) ≡ None
 discards_well rules seat tile view opens good = discard_lawful rules seat tile (is_that view.drawn tile) view opens good.real good.some good.marked good.free
 
-draws : (rules : Rules) (seat who tile : ℕ) (view : View) → view.turn ≡ Drew who → view.drawn ≡ cond (eqb who seat) (Some tile) None → (who ≡ seat → Good rules.red view tile (is_that view.drawn tile)) →
+draws : (rules : Rules) (seat who tile : ℕ) (view : SeatView) → view.turn ≡ Drew who → view.drawn ≡ cond (eqb who seat) (Some tile) None → (who ≡ seat → Good rules.red view tile (is_that view.drawn tile)) →
     broken_by rules seat view (default_in rules seat view (Drew who)) ≡ None
 draws rules seat who tile view turn drawn good =
     elim (cases_eq who seat) [
@@ -104,12 +100,12 @@ draws rules seat who tile view turn drawn good =
     ]
 
 -- The last discard that breaks no rule breaks none.
-last_is_lawful : (rules : Rules) (seat : ℕ) (view : View) → nat_lt 0 (length (lawful_faces rules seat view)) ≡ true → broken_by rules seat view (discard_or_pass seat view (last_of (lawful_faces rules seat view))) ≡ None
+last_is_lawful : (rules : Rules) (seat : ℕ) (view : SeatView) → nat_lt 0 (length (lawful_faces rules seat view)) ≡ true → broken_by rules seat view (discard_or_pass seat view (last_face (lawful_faces rules seat view))) ≡ None
 unfolding lawful_faces
 last_is_lawful rules seat view some =
     let faces : List ℕ = lawful_faces rules seat view in
     let tile : ℕ = get_or faces (length faces - 1) 0 in
-    let last : last_of faces ≡ Some tile = last_is faces (ltb-true 0 (length faces) some) in
+    let last : last_face faces ≡ Some tile = last_is faces (ltb-true 0 (length faces) some) in
     ap (λ o. broken_by rules seat view (discard_or_pass seat view o)) last
     ∙ none_is _ (picked (λ face. is_none (broken_by rules seat view (discard_of seat view face))) tile_order (length faces - 1) tile last)
   where
@@ -117,19 +113,19 @@ last_is_lawful rules seat view some =
     none_is None h = refl
     none_is (Some rule) h = cc
 
-calls : (rules : Rules) (seat who : ℕ) (banned : List ℕ) (view : View) → view.turn ≡ Called who banned → can_discard_in rules seat view (Called who banned) ≡ true →
+calls : (rules : Rules) (seat who : ℕ) (banned : List ℕ) (view : SeatView) → view.turn ≡ Called who banned → can_discard_in rules seat view (Called who banned) ≡ true →
     broken_by rules seat view (default_in rules seat view (Called who banned)) ≡ None
 calls rules seat who banned view turn some =
     elim (cases_eq who seat) [
       | inl e ↦
-          ap (λ b. broken_by rules seat view (cond b (discard_or_pass seat view (last_of (lawful_faces rules seat view))) (Pass None))) (eq-eqb who seat e)
+          ap (λ b. broken_by rules seat view (cond b (discard_or_pass seat view (last_face (lawful_faces rules seat view))) (Pass None))) (eq-eqb who seat e)
           ∙ last_is_lawful rules seat view (ap (λ b. not b || nat_lt 0 (length (lawful_faces rules seat view))) (sym (eq-eqb who seat e)) ∙ some)
       | inr ne ↦
-          ap (λ b. broken_by rules seat view (cond b (discard_or_pass seat view (last_of (lawful_faces rules seat view))) (Pass None))) (ne_eqb who seat ne)
+          ap (λ b. broken_by rules seat view (cond b (discard_or_pass seat view (last_face (lawful_faces rules seat view))) (Pass None))) (ne_eqb who seat ne)
           ∙ passes rules seat view (Called who banned) turn (ap (λ b. cond b false true) (ne_eqb who seat ne))
     ]
 
-discards : (rules : Rules) (seat who tile : ℕ) (view : View) → view.turn ≡ Discarded who tile → broken_by rules seat view (Pass None) ≡ None
+discards : (rules : Rules) (seat who tile : ℕ) (view : SeatView) → view.turn ≡ Discarded who tile → broken_by rules seat view (Pass None) ≡ None
 discards rules seat who tile view turn = passes rules seat view (Discarded who tile) turn (same (eqb who seat))
   where
     same : (b : Bool) → cond b true true ≡ true
@@ -139,24 +135,24 @@ discards rules seat who tile view turn = passes rules seat view (Discarded who t
 -- the tiles
 
 -- A discard of the drawn tile is marked so.
-marked_drawn : (view : View) (tile : ℕ) → view.drawn ≡ Some tile → is_wrongly_marked view (Known tile) (is_that view.drawn tile) ≡ false
+marked_drawn : (view : SeatView) (tile : ℕ) → view.drawn ≡ Some tile → is_wrongly_marked view (Known tile) (is_that view.drawn tile) ≡ false
 marked_drawn view tile drawn =
     let that : is_that view.drawn tile ≡ true = ap (λ o. is_that o tile) drawn ∙ eq-eqb tile tile refl in
     ap (is_wrongly_marked view (Known tile)) that ∙ ap not that
 
 -- And where no tile was drawn none is.
-marked_held : (view : View) (tile : ℕ) → view.drawn ≡ None → is_wrongly_marked view (Known tile) (is_that view.drawn tile) ≡ false
+marked_held : (view : SeatView) (tile : ℕ) → view.drawn ≡ None → is_wrongly_marked view (Known tile) (is_that view.drawn tile) ≡ false
 marked_held view tile drawn =
     let that : is_that view.drawn tile ≡ false = ap (λ o. is_that o tile) drawn in
-    ap (is_wrongly_marked view (Known tile)) that ∙ ap (λ b. b && (held view tile == 1)) that
+    ap (is_wrongly_marked view (Known tile)) that ∙ ap (λ b. b && (held_count view tile == 1)) that
 
 good_draw : (red : Bool) (ds : List Deed) (seat tile : ℕ) → Owns red ds seat → drawn_tile ds seat ≡ Some tile → banned_in (view_of ds seat).turn ≡ [] →
     Good red (view_of ds seat) tile (is_that (view_of ds seat).drawn tile)
 unfolding view_of
 good_draw red ds seat tile owns drawn none =
-    let fewer : number_in (lost (hand ds) seat) tile < number_in (gained (hand ds) seat) tile = owns.drawn tile drawn in
+    let fewer : number_in (tiles_lost (hand ds) seat) tile < number_in (tiles_gained (hand ds) seat) tile = owns.drawn tile drawn in
     record {
-      real = given_real red (gained (hand ds) seat) tile owns.real (omega arith);
+      real = given_real red (tiles_gained (hand ds) seat) tile owns.real (omega arith);
       some = omega arith;
       marked = marked_drawn (view_of ds seat) tile drawn;
       free = ap (λ kinds. is_banned_tile kinds (Known tile)) none;
@@ -164,14 +160,14 @@ good_draw red ds seat tile owns drawn none =
 
 -- A tile that is held and of no banned kind may be discarded right after a call.
 good_free : (red : Bool) (ds : List Deed) (seat tile : ℕ) (banned : List ℕ) → Owns red ds seat → drawn_tile ds seat ≡ None → banned_in (view_of ds seat).turn ≡ banned →
-    (nat_lt 0 (held (view_of ds seat) tile) && not (is_banned banned (kind_of tile))) ≡ true → Good red (view_of ds seat) tile (is_that (view_of ds seat).drawn tile)
+    (nat_lt 0 (held_count (view_of ds seat) tile) && not (is_banned banned (kind_of tile))) ≡ true → Good red (view_of ds seat) tile (is_that (view_of ds seat).drawn tile)
 unfolding view_of
 good_free red ds seat tile banned owns drawn is passed =
-    let view : View = view_of ds seat in
-    let parts = and_parts (nat_lt 0 (held view tile)) (not (is_banned banned (kind_of tile))) passed in
-    let some : 0 < number_in (gained (hand ds) seat) tile - number_in (lost (hand ds) seat) tile = ltb-true 0 (held view tile) parts.0 in
+    let view : SeatView = view_of ds seat in
+    let parts = and_parts (nat_lt 0 (held_count view tile)) (not (is_banned banned (kind_of tile))) passed in
+    let some : 0 < number_in (tiles_gained (hand ds) seat) tile - number_in (tiles_lost (hand ds) seat) tile = ltb-true 0 (held_count view tile) parts.0 in
     record {
-      real = given_real red (gained (hand ds) seat) tile owns.real (omega (arith, some));
+      real = given_real red (tiles_gained (hand ds) seat) tile owns.real (omega (arith, some));
       some = some;
       marked = marked_held view tile drawn;
       free = ap (λ kinds. is_banned_tile kinds (Known tile)) is ∙ not-true (is_banned banned (kind_of tile)) parts.1;
@@ -182,13 +178,10 @@ some_more : (p q : ℕ → Bool) (xs : List ℕ) → ((x : ℕ) → p x ≡ true
 some_more p q [] h k = k
 some_more p q (x ∷ xs) h k = by_tests (p x) (q x) refl refl k (some_more p q xs h)
   where
-    no : true ≡ false → ⊥
-    no e = cc
-
     by_tests : (b c : Bool) → p x ≡ b → q x ≡ c → nat_lt 0 (length (cond b (x ∷ filter p xs) (filter p xs))) ≡ true → (nat_lt 0 (length (filter p xs)) ≡ true → nat_lt 0 (length (filter q xs)) ≡ true) →
         nat_lt 0 (length (cond c (x ∷ filter q xs) (filter q xs))) ≡ true
     by_tests b true e f k others = lt-ltb 0 (length (x ∷ filter q xs)) (omega arith)
-    by_tests true false e f k others = absurd (no (sym (h x e) ∙ f))
+    by_tests true false e f k others = absurd (true≢false (sym (h x e) ∙ f))
     by_tests false false e f k others = others k
 
 -- A seat with a free tile has a discard that breaks no rule.
@@ -198,7 +191,7 @@ unfolding free_faces lawful_faces
 free_is_lawful rules ds seat who banned owns drawn turn free = elim (cases_eq who seat) [
   | inl e ↦
       ap (λ b. not b || nat_lt 0 (length (lawful_faces rules seat (view_of ds seat)))) (eq-eqb who seat e)
-      ∙ some_more (λ face. nat_lt 0 (held (view_of ds seat) face) && not (is_banned banned (kind_of face)))
+      ∙ some_more (λ face. nat_lt 0 (held_count (view_of ds seat) face) && not (is_banned banned (kind_of face)))
       (λ face. is_none (broken_by rules seat (view_of ds seat) (discard_of seat (view_of ds seat) face))) tile_order
       (λ face passed. ap is_none (discards_well rules seat face (view_of ds seat)
       (ap (λ t. is_open seat t (Discard seat (Known face) (is_that (view_of ds seat).drawn face))) turn ∙ ap (λ b. cond b true false) (eq-eqb who seat e))
@@ -231,18 +224,18 @@ by_newest rules ds seat (Some (deeds.AddedKan who tile a b c)) e owns some = pas
 by_newest rules ds seat (Some (deeds.Dora tile)) e owns some = passes rules seat (view_of ds seat) Nobodys (ap (λ o. turn_in (option_map turn_by o)) e) refl
 
 -- A default answer is a discard or a pass, and so in form.
-discard_or_pass_form : (seat : ℕ) (view : View) (face : Option ℕ) → is_in_form (discard_or_pass seat view face) ≡ true
+discard_or_pass_form : (seat : ℕ) (view : SeatView) (face : Option ℕ) → is_in_form (discard_or_pass seat view face) ≡ true
 discard_or_pass_form seat view None = refl
 discard_or_pass_form seat view (Some face) = refl
 
-own_form : (own : Bool) (seat : ℕ) (view : View) (face : Option ℕ) → is_in_form (cond own (discard_or_pass seat view face) (Pass None)) ≡ true
+own_form : (own : Bool) (seat : ℕ) (view : SeatView) (face : Option ℕ) → is_in_form (cond own (discard_or_pass seat view face) (Pass None)) ≡ true
 own_form true seat view face = discard_or_pass_form seat view face
 own_form false seat view face = refl
 
-default_form : (rules : Rules) (seat : ℕ) (view : View) (turn : Turn) → is_in_form (default_in rules seat view turn) ≡ true
+default_form : (rules : Rules) (seat : ℕ) (view : SeatView) (turn : WindowTurn) → is_in_form (default_in rules seat view turn) ≡ true
 default_form rules seat view (Drew who) = own_form (who == seat) seat view view.drawn
 default_form rules seat view (Discarded who tile) = refl
-default_form rules seat view (Called who banned) = own_form (who == seat) seat view (last_of (lawful_faces rules seat view))
+default_form rules seat view (Called who banned) = own_form (who == seat) seat view (last_face (lawful_faces rules seat view))
 default_form rules seat view Nobodys = refl
 
 pub fitting_default_is_lawful : FittingDefaultIsLawful

@@ -12,16 +12,15 @@ use Rattle.mj_deeds.specs.declared.answer.Answer.TheVariants as answers
 use Rattle.mj_deeds.specs.declared.deed.Deed.{Deed}
 use Rattle.mj_deeds.specs.declared.deed.Deed.TheVariants.{StartGame, StartHand, Draw, Discard, Chi, Pon, OpenKan, ClosedKan, AddedKan, Dora}
 use Rattle.mj_deeds.specs.Four.{at_seat}
-use Rattle.mj_deeds.specs.Facts.{newest, gained, lost, gains_by, losses_by, live_tiles, live_draws}
+use Rattle.mj_deeds.specs.Facts.{newest, tiles_gained, tiles_lost, gains_by, losses_by, live_tiles, live_draws}
 use Rattle.mj_deeds.proofs.Newest.{newest_more}
 use Rattle.mj_deeds.proofs.Totals.{number_more}
 use Rattle.mj_wall.specs.Places.{live_tile}
-use Rattle.mj_rules.specs.Broken.{View, view_of, held, Turn, Called, turn_by, turn_in, has_nothing_else}
-use Rattle.mj_deeds.specs.declared.bid.Bid.{Bid}
+use Rattle.mj_rules.specs.Broken.{SeatView, view_of, held_count, WindowTurn, Called, turn_by, turn_in, has_nothing_else}
 use Rattle.mj_deeds.specs.Bids.{call_of_bid}
 use Rattle.mj_deeds.specs.Hand.{is_hand_start, hand}
 use Rattle.mj_deeds.proofs.Hands.{hand_with}
-use Rattle.mj_window.specs.Decided.{decided, triplet_bid, run_bid, best_bid}
+use Rattle.mj_window.specs.Decided.{decision_by, triplet_bid, run_bid, best_bid}
 use Rattle.mj_wall.specs.declared.setting.Rules.{Rules}
 use Rattle.mj_rules.specs.Outcome.{act_of, hand_start, next_draw, next_dora, next_replacement, wall_now, follows, outcome}
 use Rattle.mj_rules.specs.Played.{AllLawful, is_game_start, IsPlayedBehind, AllPlayed, IsPlayed}
@@ -29,11 +28,11 @@ use Rattle.mj_rules.proofs.Answered.{IfAny, Clean, clean_at, either, or_other, b
 use Rattle.mj_rules.proofs.Turns.{called_or_on}
 
 -- The faces that a seat holds and that are of no banned kind, in tile order.
-unfoldable pub free_faces : View → List ℕ → List ℕ
-free_faces view banned = filter (λ face. nat_lt 0 (held view face) && not (is_banned banned (kind_of face))) tile_order
+unfoldable pub free_faces : SeatView → List ℕ → List ℕ
+free_faces view banned = filter (λ face. nat_lt 0 (held_count view face) && not (is_banned banned (kind_of face))) tile_order
 
 -- Where a seat has to discard right after its own call, some tile that it holds is of no banned kind.
-abbrev pub has_free_in : ℕ → View → Turn → Bool
+abbrev pub has_free_in : ℕ → SeatView → WindowTurn → Bool
 has_free_in seat view (Called who banned) = not (who == seat) || nat_lt 0 (length (free_faces view banned))
 has_free_in seat view other = true
 
@@ -108,7 +107,7 @@ call_leaves rules ds given c =
     (bid_next (Leaves ds) triplet_bid given (λ seat h. triplet_leaves rules ds seat (at_seat given seat) (clean_at rules ds given seat h c)))
     (bid_next (Leaves ds) run_bid given (λ seat h. run_leaves rules ds seat (at_seat given seat) (clean_at rules ds given seat h c)))
 
-follower_leaves : (rules : Rules) (walls : List (List ℕ)) (ds : List Deed) (given : Four Answer) (n : Deed) → AllLawful rules ds given → IfAny (Leaves ds) (follows rules walls ds n (decided n given))
+follower_leaves : (rules : Rules) (walls : List (List ℕ)) (ds : List Deed) (given : Four Answer) (n : Deed) → AllLawful rules ds given → IfAny (Leaves ds) (follows rules walls ds n (decision_by n given))
 unfolding hand_start next_dora next_replacement
 follower_leaves rules walls ds given (StartGame names) c = tt
 follower_leaves rules walls ds given (StartHand round number honba deposits dealer indicator hands) c = draw_leaves ds (wall_now walls ds) (hand ds) dealer
@@ -126,7 +125,7 @@ outcome_leaves : (rules : Rules) (walls : List (List ℕ)) (ds : List Deed) (giv
 unfolding outcome
 outcome_leaves rules walls ds given d c e = subst (IfAny (Leaves ds)) e (by_newest (newest ds))
   where
-    by_newest : (o : Option Deed) → IfAny (Leaves ds) (option_and_then (λ last. follows rules walls ds last (decided last given)) o)
+    by_newest : (o : Option Deed) → IfAny (Leaves ds) (option_and_then (λ last. follows rules walls ds last (decision_by last given)) o)
     by_newest None = tt
     by_newest (Some n) = follower_leaves rules walls ds given n c
 
@@ -161,29 +160,29 @@ some_passes p q (x ∷ xs) h k = by_tests (p x) (q x) refl refl k (some_passes p
         no : false ≡ true → ⊥
         no e = cc
 
-some_free : (old new : View) (used banned : List ℕ) → ((face : ℕ) → held new face ≡ held old face - number_in used face) → has_nothing_else old used banned ≡ false →
+some_free : (old new : SeatView) (used banned : List ℕ) → ((face : ℕ) → held_count new face ≡ held_count old face - number_in used face) → has_nothing_else old used banned ≡ false →
     nat_lt 0 (length (free_faces new banned)) ≡ true
 unfolding has_nothing_else free_faces
 some_free old new used banned less h =
-    some_passes (λ face. nat_le (held old face) (number_in used face) || is_banned banned (kind_of face)) (λ face. nat_lt 0 (held new face) && not (is_banned banned (kind_of face))) tile_order
-    (λ face k. each face (or_parts (nat_le (held old face) (number_in used face)) (is_banned banned (kind_of face)) k)) h
+    some_passes (λ face. nat_le (held_count old face) (number_in used face) || is_banned banned (kind_of face)) (λ face. nat_lt 0 (held_count new face) && not (is_banned banned (kind_of face))) tile_order
+    (λ face k. each face (or_parts (nat_le (held_count old face) (number_in used face)) (is_banned banned (kind_of face)) k)) h
   where
     more : (n o u : ℕ) → n ≡ o - u → u < o → 0 < n
     more n o u e k = omega arith
 
-    each : (face : ℕ) → (nat_le (held old face) (number_in used face) ≡ false) × (is_banned banned (kind_of face) ≡ false) → (nat_lt 0 (held new face) && not (is_banned banned (kind_of face))) ≡ true
+    each : (face : ℕ) → (nat_le (held_count old face) (number_in used face) ≡ false) × (is_banned banned (kind_of face) ≡ false) → (nat_lt 0 (held_count new face) && not (is_banned banned (kind_of face))) ≡ true
     each face parts =
-        and_from (nat_lt 0 (held new face)) _ (lt-ltb 0 (held new face) (more _ _ _ (less face) (leb-false (held old face) (number_in used face) parts.0))) (ap not parts.1)
+        and_from (nat_lt 0 (held_count new face)) _ (lt-ltb 0 (held_count new face) (more _ _ _ (less face) (leb-false (held_count old face) (number_in used face) parts.0))) (ap not parts.1)
 
 -- What a seat holds once it put some tiles down.
 held_less : (ds : List Deed) (d : Deed) (seat face : ℕ) (used : List ℕ) → is_hand_start d ≡ false → gains_by seat d ≡ [] → losses_by seat d ≡ used →
-    held (view_of (ds ++ d ∷ []) seat) face ≡ held (view_of ds seat) face - number_in used face
+    held_count (view_of (ds ++ d ∷ []) seat) face ≡ held_count (view_of ds seat) face - number_in used face
 unfolding view_of
 held_less ds d seat face used start g l =
-    hand_with (λ xs. number_in (gained xs seat) face - number_in (lost xs seat) face ≡ number_in (gained (hand ds) seat) face - number_in (lost (hand ds) seat) face - number_in used face) ds d
-    (λ _ empty. nothing _ _ _ (ap (λ (xs : List Deed). number_in (gained xs seat) face) empty))
-    (subst (λ (xs : List Deed). number_in (gained (xs ++ d ∷ []) seat) face - number_in (lost (xs ++ d ∷ []) seat) face
-    ≡ number_in (gained (hand ds) seat) face - number_in (lost (hand ds) seat) face - number_in used face) (sym (ap (λ b. cond b [] (hand ds)) start))
+    hand_with (λ xs. number_in (tiles_gained xs seat) face - number_in (tiles_lost xs seat) face ≡ number_in (tiles_gained (hand ds) seat) face - number_in (tiles_lost (hand ds) seat) face - number_in used face) ds d
+    (λ _ empty. nothing _ _ _ (ap (λ (xs : List Deed). number_in (tiles_gained xs seat) face) empty))
+    (subst (λ (xs : List Deed). number_in (tiles_gained (xs ++ d ∷ []) seat) face - number_in (tiles_lost (xs ++ d ∷ []) seat) face
+    ≡ number_in (tiles_gained (hand ds) seat) face - number_in (tiles_lost (hand ds) seat) face - number_in used face) (sym (ap (λ b. cond b [] (hand ds)) start))
     (less _ _ _ _ _ _ _ (number_more (gains_by seat) (hand ds) d face) (number_more (losses_by seat) (hand ds) d face) (ap (λ (xs : List ℕ). number_in xs face) g) (ap (λ (xs : List ℕ). number_in xs face) l)))
   where
     nothing : (g l u : ℕ) → g ≡ 0 → 0 ≡ g - l - u

@@ -1,6 +1,6 @@
 -- What a seat is given in a hand whose deeds fit: it puts down no more than that, no red five where there are none, and it
 -- holds the tile that it drew last.
-use Rattle.std.proofs.Common.{◌≡◌, ℕ, zero, suc, ◌+◌, ◌<◌, ◌≤◌, inl, inr, ◌&&◌, ◌||◌, not, Bool, true, false, cond, eqb, List, [], ◌∷◌, ◌++◌, Option, Some, None, refl, sym, ap, ◌∙◌, subst, arith, append-nil, append_assoc}
+use Rattle.std.proofs.Common.{◌≡◌, ℕ, ◌+◌, ◌<◌, ◌≤◌, inl, inr, ◌&&◌, ◌||◌, not, Bool, true, false, cond, eqb, List, [], ◌∷◌, ◌++◌, Option, Some, None, refl, sym, ap, ◌∙◌, subst, arith, append-nil, append_assoc}
 use Rattle.std.specs.Prelude.{option_and_then}
 use Rattle.std.specs.List.{list_all}
 use Rattle.std.proofs.lemmas.Bool.{cases_eq, ne_eqb, eq-eqb, and_parts, and_from}
@@ -9,48 +9,20 @@ use Rattle.std.proofs.lemmas.List.Folds.{list_all-append}
 use Rattle.mj_tiles.specs.Faces.{number_in, is_red}
 use Rattle.mj_deeds.specs.declared.deed.Deed.{Deed}
 use Rattle.mj_deeds.specs.declared.deed.Deed.TheVariants.{StartGame, StartHand, Draw, Discard, Chi, Pon, OpenKan, ClosedKan, AddedKan, Dora}
-use Rattle.mj_deeds.specs.Facts.{newest, gained, gains_by, lost, losses_by, drawn_tile, drawn_by}
-use Rattle.mj_deeds.proofs.Totals.{number_more, held_room}
+use Rattle.mj_deeds.specs.Facts.{newest, tiles_gained, gains_by, tiles_lost, losses_by, drawn_tile, drawn_by}
+use Rattle.mj_deeds.proofs.Totals.{number_more}
 use Rattle.mj_deeds.proofs.Newest.{newest_more}
 use Rattle.mj_deeds.proofs.Hands.{hand_with, hand_before, hand_is}
-use Rattle.mj_deeds.proofs.Fitted.{all_fit-append, hand_begun}
+use Rattle.mj_deeds.proofs.Fitted.{all_fit-append, hand_begun, parts_of, of_four}
 use Rattle.mj_deeds.specs.Hand.{hand, before_in}
-use Rattle.mj_deeds.specs.Fits.{fits, fits_in, fits_behind, all_fit, is_in_place, is_in_hand, is_after_dora, is_held, is_held_by, are_held, has_tiles, faces_in}
+use Rattle.mj_deeds.specs.Fits.{fits, all_fit, is_in_place, is_in_hand, is_after_dora, has_held_by, are_held, has_tiles, faces_in}
+use Rattle.mj_rules.proofs.Kept.{held_step}
 
 -- What is true of a seat behind some deeds.
 pub record Owns (red : Bool) (ds : List Deed) (seat : ℕ) : Type 0 where
-  pub within : (face : ℕ) → number_in (lost (hand ds) seat) face ≤ number_in (gained (hand ds) seat) face
-  pub real : (red || list_all (λ face. not (is_red face)) (gained (hand ds) seat)) ≡ true
-  pub drawn : (tile : ℕ) → drawn_tile ds seat ≡ Some tile → number_in (lost (hand ds) seat) tile < number_in (gained (hand ds) seat) tile
-
--- A deed that fits stands in its place, out of tiles that its seat holds, and of tiles of the game.
-record Parts (red : Bool) (ds : List Deed) (d : Deed) : Type 0 where
-  place : is_in_place (newest ds) d ≡ true
-  held : is_held (before_in (hand ds) d) d ≡ true
-  tiles : has_tiles red d ≡ true
-
-parts_of : (red : Bool) (ds : List Deed) (d : Deed) → fits red ds d ≡ true → Parts red ds d
-unfolding fits_behind fits_in
-parts_of red ds d h =
-    let p = and_parts _ _ h in
-    let a = and_parts _ _ p.1 in
-    let b = and_parts _ _ a.0 in
-    let c = and_parts _ _ b.0 in
-    let e = and_parts _ _ c.0 in
-    let f = and_parts _ _ e.0 in
-    let g = and_parts _ _ f.0 in
-    record { place = p.0; held = g.1; tiles = e.1 }
-
--- Of the four seats.
-of_four : (p : ℕ → Bool) (seat : ℕ) → seat < 4 → list_all p (0 ∷ 1 ∷ 2 ∷ 3 ∷ []) ≡ true → p seat ≡ true
-of_four p zero h all = (and_parts (p 0) _ all).0
-of_four p (suc zero) h all = (and_parts (p 1) _ (and_parts (p 0) _ all).1).0
-of_four p (suc (suc zero)) h all = (and_parts (p 2) _ (and_parts (p 1) _ (and_parts (p 0) _ all).1).1).0
-of_four p (suc (suc (suc zero))) h all = (and_parts (p 3) _ (and_parts (p 2) _ (and_parts (p 1) _ (and_parts (p 0) _ all).1).1).1).0
-of_four p (suc (suc (suc (suc n)))) h all = absurd (too_many n h)
-  where
-    too_many : (n : ℕ) → suc (suc (suc (suc n))) < 4 → ⊥
-    too_many n h = omega arith
+  pub within : (face : ℕ) → number_in (tiles_lost (hand ds) seat) face ≤ number_in (tiles_gained (hand ds) seat) face
+  pub real : (red || list_all (λ face. not (is_red face)) (tiles_gained (hand ds) seat)) ≡ true
+  pub drawn : (tile : ℕ) → drawn_tile ds seat ≡ Some tile → number_in (tiles_lost (hand ds) seat) tile < number_in (tiles_gained (hand ds) seat) tile
 
 -- red fives
 
@@ -87,14 +59,14 @@ gains_real p seat (ClosedKan who a b c d) h = refl
 gains_real p seat (AddedKan who tile a b c) h = refl
 gains_real p seat (Dora tile) h = refl
 
-real_step : (red : Bool) (ds : List Deed) (d : Deed) (seat : ℕ) → has_tiles red d ≡ true → (red || list_all (λ face. not (is_red face)) (gained ds seat)) ≡ true →
-    (red || list_all (λ face. not (is_red face)) (gained (ds ++ d ∷ []) seat)) ≡ true
+real_step : (red : Bool) (ds : List Deed) (d : Deed) (seat : ℕ) → has_tiles red d ≡ true → (red || list_all (λ face. not (is_red face)) (tiles_gained ds seat)) ≡ true →
+    (red || list_all (λ face. not (is_red face)) (tiles_gained (ds ++ d ∷ []) seat)) ≡ true
 real_step true ds d seat h k = refl
 real_step false ds d seat h k =
     let p : ℕ → Bool = λ face. not (is_red face) in
     ap (list_all p) (flat_map-append (gains_by seat) ds (d ∷ []))
-    ∙ list_all-append p (gained ds seat) (gains_by seat d ++ [])
-    ∙ and_from (list_all p (gained ds seat)) _ k (ap (list_all p) (append-nil (gains_by seat d)) ∙ gains_real p seat d h)
+    ∙ list_all-append p (tiles_gained ds seat) (gains_by seat d ++ [])
+    ∙ and_from (list_all p (tiles_gained ds seat)) _ k (ap (list_all p) (append-nil (gains_by seat d)) ∙ gains_real p seat d h)
 
 -- the drawn tile
 
@@ -147,26 +119,18 @@ drawn_in_hand seat tile before (AddedKan who t a b c) h k = cc
 drawn_in_hand seat tile before (Dora t) h k = cc
 
 -- One deed further in its hand.
-within_more : (h : List Deed) (d : Deed) (seat : ℕ) → are_held (gained h seat) (lost h seat) (losses_by seat d) ≡ true → ((face : ℕ) → number_in (lost h seat) face ≤ number_in (gained h seat) face) →
-    (face : ℕ) → number_in (lost (h ++ d ∷ []) seat) face ≤ number_in (gained (h ++ d ∷ []) seat) face
-within_more h d seat held within face =
-    more _ _ _ _ _ _ (number_more (losses_by seat) h d face) (number_more (gains_by seat) h d face) (held_room (gained h seat) (lost h seat) (losses_by seat d) face held (within face))
-  where
-    more : (l' l x g' g y : ℕ) → l' ≡ l + x → g' ≡ g + y → l + x ≤ g → l' ≤ g'
-    more l' l x g' g y e f h = omega arith
-
-drawn_more : (h : List Deed) (d : Deed) (seat tile : ℕ) → drawn_by seat d ≡ Some tile → number_in (lost h seat) tile ≤ number_in (gained h seat) tile →
-    number_in (lost (h ++ d ∷ []) seat) tile < number_in (gained (h ++ d ∷ []) seat) tile
+drawn_more : (h : List Deed) (d : Deed) (seat tile : ℕ) → drawn_by seat d ≡ Some tile → number_in (tiles_lost h seat) tile ≤ number_in (tiles_gained h seat) tile →
+    number_in (tiles_lost (h ++ d ∷ []) seat) tile < number_in (tiles_gained (h ++ d ∷ []) seat) tile
 drawn_more h d seat tile drawn within =
     further _ _ _ _ _ _ (number_more (losses_by seat) h d tile) (number_more (gains_by seat) h d tile) (drawn_step seat tile d _ _ drawn within)
   where
     further : (l' l x g' g y : ℕ) → l' ≡ l + x → g' ≡ g + y → l + x < g + y → l' < g'
     further l' l x g' g y e f h = omega arith
 
-none_held : (seat face : ℕ) → number_in (lost [] seat) face ≤ number_in (gained [] seat) face
+none_held : (seat face : ℕ) → number_in (tiles_lost [] seat) face ≤ number_in (tiles_gained [] seat) face
 none_held seat face = omega arith
 
-none_red : (red : Bool) (seat : ℕ) → (red || list_all (λ face. not (is_red face)) (gained [] seat)) ≡ true
+none_red : (red : Bool) (seat : ℕ) → (red || list_all (λ face. not (is_red face)) (tiles_gained [] seat)) ≡ true
 none_red true seat = refl
 none_red false seat = refl
 
@@ -175,21 +139,21 @@ owns_more : (red : Bool) (ds : List Deed) (d : Deed) (seat : ℕ) → seat < 4 �
 owns_more red ds d seat small old fit owns =
     let parts = parts_of red ds d fit in
     let h : List Deed = before_in (hand ds) d in
-    let held : are_held (gained h seat) (lost h seat) (losses_by seat d) ≡ true = of_four (is_held_by h d) seat small parts.held in
-    let within : (face : ℕ) → number_in (lost h seat) face ≤ number_in (gained h seat) face =
-    hand_before (λ xs. (face : ℕ) → number_in (lost xs seat) face ≤ number_in (gained xs seat) face) (hand ds) d (none_held seat) owns.within in
-    let real : (red || list_all (λ face. not (is_red face)) (gained h seat)) ≡ true =
-    hand_before (λ xs. (red || list_all (λ face. not (is_red face)) (gained xs seat)) ≡ true) (hand ds) d (none_red red seat) owns.real in
+    let held : are_held (tiles_gained h seat) (tiles_lost h seat) (losses_by seat d) ≡ true = of_four (has_held_by h d) seat small parts.inside.held in
+    let within : (face : ℕ) → number_in (tiles_lost h seat) face ≤ number_in (tiles_gained h seat) face =
+    hand_before (λ xs. (face : ℕ) → number_in (tiles_lost xs seat) face ≤ number_in (tiles_gained xs seat) face) (hand ds) d (none_held seat) owns.within in
+    let real : (red || list_all (λ face. not (is_red face)) (tiles_gained h seat)) ≡ true =
+    hand_before (λ xs. (red || list_all (λ face. not (is_red face)) (tiles_gained xs seat)) ≡ true) (hand ds) d (none_red red seat) owns.real in
     record {
-      within = hand_with (λ xs. (face : ℕ) → number_in (lost xs seat) face ≤ number_in (gained xs seat) face) ds d (λ _ _. none_held seat) (within_more h d seat held within);
-      real = hand_with (λ xs. (red || list_all (λ face. not (is_red face)) (gained xs seat)) ≡ true) ds d (λ _ _. none_red red seat) (real_step red h d seat parts.tiles real);
+      within = hand_with (λ xs. (face : ℕ) → number_in (tiles_lost xs seat) face ≤ number_in (tiles_gained xs seat) face) ds d (λ _ _. none_held seat) (λ face. held_step h d seat face held (within face));
+      real = hand_with (λ xs. (red || list_all (λ face. not (is_red face)) (tiles_gained xs seat)) ≡ true) ds d (λ _ _. none_red red seat) (real_step red h d seat parts.inside.tiles real);
       drawn = λ tile k. drawn_now tile (ap (option_and_then (drawn_by seat)) (sym (newest_more ds d)) ∙ k) parts.place (within tile);
     }
   where
-    drawn_now : (tile : ℕ) → drawn_by seat d ≡ Some tile → is_in_place (newest ds) d ≡ true → number_in (lost (before_in (hand ds) d) seat) tile ≤ number_in (gained (before_in (hand ds) d) seat) tile →
-        number_in (lost (hand (ds ++ d ∷ [])) seat) tile < number_in (gained (hand (ds ++ d ∷ [])) seat) tile
+    drawn_now : (tile : ℕ) → drawn_by seat d ≡ Some tile → is_in_place (newest ds) d ≡ true → number_in (tiles_lost (before_in (hand ds) d) seat) tile ≤ number_in (tiles_gained (before_in (hand ds) d) seat) tile →
+        number_in (tiles_lost (hand (ds ++ d ∷ [])) seat) tile < number_in (tiles_gained (hand (ds ++ d ∷ [])) seat) tile
     drawn_now tile drew place within =
-        subst (λ (xs : List Deed). number_in (lost xs seat) tile < number_in (gained xs seat) tile)
+        subst (λ (xs : List Deed). number_in (tiles_lost xs seat) tile < number_in (tiles_gained xs seat) tile)
         (sym (hand_is ds d (λ _ empty. hand_begun red ds old (drawn_in_hand seat tile (newest ds) d drew place) empty)))
         (drawn_more (before_in (hand ds) d) d seat tile drew within)
 

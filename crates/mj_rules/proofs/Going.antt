@@ -1,8 +1,8 @@
 -- Four lawful answers give a deed, unless the course goes on with one that is not built.
-use Rattle.std.proofs.Common.{◌≡◌, ℕ, zero, suc, ◌+◌, ◌-◌, ◌<◌, ◌≤◌, ◌==◌, ◌&&◌, ◌||◌, not, ltb, Bool, true, false, cond, List, [], ◌∷◌, ◌++◌, length, take, get_or, refl, ap, sym, ◌∙◌, subst, arith}
-use Rattle.std.specs.Prelude.{Option, Some, None, is_none, slice_get, option_and_then, option_map}
+use Rattle.std.proofs.Common.{◌≡◌, ℕ, zero, suc, ◌+◌, ◌-◌, ◌<◌, ◌≤◌, ◌==◌, ◌||◌, Bool, true, false, cond, List, [], ◌∷◌, ◌++◌, length, take, get_or, refl, ap, sym, ◌∙◌, arith}
+use Rattle.std.specs.Prelude.{Option, Some, None, is_none, option_and_then, option_map}
 use Rattle.std.specs.Option.{option_map_or}
-use Rattle.std.proofs.lemmas.Bool.{and_parts, eq-eqb, ltb-true, not-false}
+use Rattle.std.proofs.lemmas.Bool.{eq-eqb, not-false}
 use Rattle.std.proofs.lemmas.List.{take_more, take_all}
 use Rattle.std.proofs.lemmas.Option.{slice_get-get_or, slice_get_within}
 use Rattle.mj_deeds.specs.declared.four.Four.{Four}
@@ -18,19 +18,20 @@ use Rattle.mj_deeds.specs.Hand.{is_hand_start, hand}
 use Rattle.mj_deeds.specs.Fits.{has_seats}
 use Rattle.mj_deeds.specs.Facts.{newest, live_tiles, live_draws}
 use Rattle.mj_deeds.proofs.Hands.{behind, hand_more}
-use Rattle.mj_window.specs.Decided.{decided, best_bid, call_or_pass}
+use Rattle.mj_window.specs.Decided.{decision_by, best_bid, call_or_pass}
 use Rattle.mj_wall.specs.declared.setting.Rules.{Rules}
 use Rattle.mj_wall.specs.Places.{live_tile}
-use Rattle.mj_rules.specs.Broken.{View, view_of, Drew, Called, turn_by, turn_in, is_own_act, is_discard, is_pass, is_open, is_no_tile, names_no_tile, questions, broken_by}
-use Rattle.mj_rules.specs.Outcome.{act_of, next_draw, wall_now, goes_on, follows, outcome, leads_past, is_unbuilt, hand_start, next_dora, next_replacement}
+use Rattle.mj_rules.specs.Broken.{SeatView, view_of, Drew, Called, turn_by, turn_in, is_own_act, is_discard, is_pass, is_open, is_no_tile, is_no_such_tile, questions, broken_by}
+use Rattle.mj_rules.specs.Outcome.{act_of, next_draw, wall_now, follows, outcome, leads_past, hand_start, next_dora, next_replacement}
 use Rattle.mj_rules.specs.Played.{AllLawful}
 use Rattle.mj_rules.specs.Laws.{NextIsMissingWhereUnbuilt}
+use Rattle.mj_rules.proofs.Kept.{first_seat}
 use Rattle.mj_rules.proofs.Questions.{all_no}
 use Rattle.mj_rules.proofs.Answered.{IfAny}
-use Rattle.mj_rules.proofs.Playing.{Sound, played_sound}
+use Rattle.mj_rules.proofs.Playing.{played_sound}
 
 -- An answer that breaks no rule is open to its seat and names tiles of the game.
-open_clean : (rules : Rules) (seat : ℕ) (view : View) (answer : Answer) → broken_by rules seat view answer ≡ None → (is_open seat view.turn answer ≡ true) × (names_no_tile rules.red answer ≡ false)
+open_clean : (rules : Rules) (seat : ℕ) (view : SeatView) (answer : Answer) → broken_by rules seat view answer ≡ None → (is_open seat view.turn answer ≡ true) × (is_no_such_tile rules.red answer ≡ false)
 unfolding broken_by
 open_clean rules seat view answer h =
     let u = all_no (questions rules seat view answer) h in
@@ -49,7 +50,7 @@ hides3 : (a b c : Bool) → (a || (b || (c || true))) ≡ false → ⊥
 hides3 true b c h = cc
 hides3 false b c h = hides2 b c h
 
-own_act : (red : Bool) (who : ℕ) (answer : Answer) → is_own_act answer ≡ true → names_no_tile red answer ≡ false → is_none (act_of who answer) ≡ false
+own_act : (red : Bool) (who : ℕ) (answer : Answer) → is_own_act answer ≡ true → is_no_such_tile red answer ≡ false → is_none (act_of who answer) ≡ false
 own_act red who (answers.Discard actor (Known t) drawn) h k = refl
 own_act red who (answers.ClosedKan actor (Known x) (Known y) (Known z) (Known w)) h k = refl
 own_act red who (answers.AddedKan actor (Known t) (Known x) (Known y) (Known z)) h k = refl
@@ -80,7 +81,7 @@ discard_is_act answers.Unread h = cc
 
 -- What the seat whose turn it is answered lawfully is an act.
 open_at : (rules : Rules) (ds : List Deed) (given : Four Answer) (who : ℕ) → who < 4 → AllLawful rules ds given →
-    (is_open who (view_of ds who).turn (at_seat given who) ≡ true) × (names_no_tile rules.red (at_seat given who) ≡ false)
+    (is_open who (view_of ds who).turn (at_seat given who) ≡ true) × (is_no_such_tile rules.red (at_seat given who) ≡ false)
 open_at rules ds given zero h c = open_clean rules 0 (view_of ds 0) given.first c.first.clean
 open_at rules ds given (suc zero) h c = open_clean rules 1 (view_of ds 1) given.second c.second.clean
 open_at rules ds given (suc (suc zero)) h c = open_clean rules 2 (view_of ds 2) given.third c.third.clean
@@ -139,11 +140,8 @@ bid_or_draw rules walls ds who tile drawn (bids.Chi seat target t x y) = refl
 bid_or_draw rules walls ds who tile drawn (bids.Pon seat target t x y) = refl
 bid_or_draw rules walls ds who tile drawn (bids.OpenKan seat target t x y z) = refl
 
-first_seat : (who : ℕ) (rest : Bool) → (ltb who 4 && rest) ≡ true → who < 4
-first_seat who rest h = ltb-true who 4 (and_parts (ltb who 4) rest h).0
-
 missing : (rules : Rules) (walls : List (List ℕ)) (ds : List Deed) (given : Four Answer) (n : Deed) → newest ds ≡ Some n → has_seats n ≡ true → AllLawful rules ds given →
-    is_none (follows rules walls ds n (decided n given)) ≡ leads_past ds n (decided n given)
+    is_none (follows rules walls ds n (decision_by n given)) ≡ leads_past ds n (decision_by n given)
 unfolding hand_start next_dora next_replacement
 missing rules walls ds given (StartGame names) e seats c = refl
 missing rules walls ds given (StartHand round number honba deposits dealer indicator hands) e seats c =
@@ -162,6 +160,6 @@ unfolding outcome
 next_is_missing_where_unbuilt rules walls ds given whole played c = by_newest (newest ds) refl (played_sound rules walls ds whole played).seated
   where
     by_newest : (o : Option Deed) → newest ds ≡ o → IfAny (λ d. has_seats d ≡ true) o →
-        is_none (option_and_then (λ last. follows rules walls ds last (decided last given)) o) ≡ option_map_or (λ last. leads_past ds last (decided last given)) o true
+        is_none (option_and_then (λ last. follows rules walls ds last (decision_by last given)) o) ≡ option_map_or (λ last. leads_past ds last (decision_by last given)) o true
     by_newest None e seats = refl
     by_newest (Some n) e seats = missing rules walls ds given n e seats c

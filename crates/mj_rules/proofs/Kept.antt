@@ -11,7 +11,7 @@ use Rattle.mj_deeds.specs.declared.four.Four.{Four}
 use Rattle.mj_deeds.specs.declared.deed.Deed.{Deed}
 use Rattle.mj_deeds.specs.declared.deed.Deed.TheVariants.{StartGame, StartHand, Draw, Discard, Chi, Pon, OpenKan, ClosedKan, AddedKan, Dora}
 use Rattle.mj_deeds.specs.Four.{for_each_seat}
-use Rattle.mj_deeds.specs.Facts.{newest, gains_by, losses_by, gained, lost, makes_by, is_kan, kans, kan_seats_by, kan_seats, indicators_by, indicators, is_live_draw, live_draws}
+use Rattle.mj_deeds.specs.Facts.{newest, gains_by, losses_by, tiles_gained, tiles_lost, makes_by, is_kan, kans, kan_seats_by, kan_seats, indicators_by, indicators, is_live_draw, live_draws}
 use Rattle.mj_deeds.specs.Fits.{is_in_place, are_held, has_seats, has_triplet, has_tiles, brought_by, has_live}
 use Rattle.mj_deeds.proofs.Totals.{sum_more, held_room}
 use Rattle.mj_wall.specs.Places.{replacement_tile}
@@ -20,10 +20,9 @@ use Rattle.mj_deeds.specs.Hand.{is_hand_start, hand, before_in, starts, hand_num
 use Rattle.mj_rules.specs.Outcome.{wall_of, hand_dealt}
 use Rattle.mj_rules.proofs.Standing.{stage_before, stage_after, stage_of, is_begun, owes_tile, is_replacement, at_place, brought_from, Standing, Brings, DealsWell, length-more, shown_step, taken_step, fresh_step, live_step, hands_step, brings_more}
 
--- the seat of a deed
-
-first_passes : (who : ℕ) (rest : Bool) → (ltb who 4 && rest) ≡ true → who < 4
-first_passes who rest h = ltb-true who 4 (and_parts (ltb who 4) rest h).0
+-- The first seat of a deed is a seat.
+pub first_seat : (who : ℕ) (rest : Bool) → (ltb who 4 && rest) ≡ true → who < 4
+first_seat who rest h = ltb-true who 4 (and_parts (ltb who 4) rest h).0
 
 -- the tiles of a kind that are brought in
 
@@ -68,7 +67,7 @@ kinds_step wall ds (StartHand round number honba deposits dealer indicator hands
     start_kinds (at_place wall kind) n _ (cond (eqb (kind_of indicator) kind) 1 0) _ _ _ p' q' r' _ e g h fresh
     (ap (λ t. cond (eqb (kind_of t) kind) 1 0) brings.0)
     (start_sum (λ x. cond (eqb (kind_of x) kind) 1 0) indicator hands.first hands.second hands.third hands.fourth)
-    (dealt_sum wall dealer hands kind (first_passes dealer true seats) deals brings.1) k
+    (dealt_sum wall dealer hands kind (first_seat dealer true seats) deals brings.1) k
 kinds_step wall ds (Draw who tile true) kind n p' q' r' seats deals brings e g h fresh taken k =
     brings_more (at_place wall kind) true false false true n _ _ (cond (eqb (kind_of tile) kind) 1 0) _ _ _ p' q' r' _ e g h refl refl
     (ap (λ t. cond (eqb (kind_of t) kind) 1 0) (brings ∙ ap (replacement_tile wall) (less_one _ _ taken))) refl k
@@ -93,13 +92,14 @@ kinds_step wall ds (Dora tile) kind n p' q' r' seats deals brings e g h fresh ta
 
 -- tiles that are held
 
-held_step : (ds : List Deed) (d : Deed) (seat face : ℕ) → are_held (gained ds seat) (lost ds seat) (losses_by seat d) ≡ true →
-    number_in (lost ds seat) face ≤ number_in (gained ds seat) face → number_in (lost (ds ++ d ∷ []) seat) face ≤ number_in (gained (ds ++ d ∷ []) seat) face
+-- One deed further a seat has put down no more than it was given.
+pub held_step : (ds : List Deed) (d : Deed) (seat face : ℕ) → are_held (tiles_gained ds seat) (tiles_lost ds seat) (losses_by seat d) ≡ true →
+    number_in (tiles_lost ds seat) face ≤ number_in (tiles_gained ds seat) face → number_in (tiles_lost (ds ++ d ∷ []) seat) face ≤ number_in (tiles_gained (ds ++ d ∷ []) seat) face
 held_step ds d seat face h within =
     more _ _ _ _ _ _
     (sum_more (λ x. cond (eqb x face) 1 0) (losses_by seat) ds d)
     (sum_more (λ x. cond (eqb x face) 1 0) (gains_by seat) ds d)
-    (held_room (gained ds seat) (lost ds seat) (losses_by seat d) face h within)
+    (held_room (tiles_gained ds seat) (tiles_lost ds seat) (losses_by seat d) face h within)
   where
     more : (l' l x g' g y : ℕ) → l' ≡ l + x → g' ≡ g + y → l + x ≤ g → l' ≤ g'
     more l' l x g' g y e f h = omega arith
@@ -107,9 +107,9 @@ held_step ds d seat face h within =
 -- the seats of the kans
 
 seats_step : (ds : List Deed) (d : Deed) → has_seats d ≡ true → All (λ s. s < 4) (kan_seats_by d)
-seats_step ds (OpenKan who target tile a b c) h = All-cons (λ s. s < 4) who [] (first_passes who _ h) (All-nil (λ s. s < 4))
-seats_step ds (ClosedKan who a b c d) h = All-cons (λ s. s < 4) who [] (first_passes who _ h) (All-nil (λ s. s < 4))
-seats_step ds (AddedKan who tile a b c) h = All-cons (λ s. s < 4) who [] (first_passes who _ h) (All-nil (λ s. s < 4))
+seats_step ds (OpenKan who target tile a b c) h = All-cons (λ s. s < 4) who [] (first_seat who _ h) (All-nil (λ s. s < 4))
+seats_step ds (ClosedKan who a b c d) h = All-cons (λ s. s < 4) who [] (first_seat who _ h) (All-nil (λ s. s < 4))
+seats_step ds (AddedKan who tile a b c) h = All-cons (λ s. s < 4) who [] (first_seat who _ h) (All-nil (λ s. s < 4))
 seats_step ds other h = All-nil (λ s. s < 4)
 
 seats_more : (ds : List Deed) (d : Deed) → All (λ s. s < 4) (kan_seats ds) → All (λ s. s < 4) (kan_seats_by d) → All (λ s. s < 4) (kan_seats (ds ++ d ∷ []))
@@ -125,7 +125,7 @@ wall_for walls ds d = wall_of walls (cond (is_hand_start d) (length (starts ds))
 pub record IsNext (red : Bool) (walls : List (List ℕ)) (ds : List Deed) (d : Deed) : Type 0 where
   pub place : is_in_place (newest ds) d ≡ true
   pub seats : has_seats d ≡ true
-  pub held : (seat : ℕ) → are_held (gained (before_in (hand ds) d) seat) (lost (before_in (hand ds) d) seat) (losses_by seat d) ≡ true
+  pub held : (seat : ℕ) → are_held (tiles_gained (before_in (hand ds) d) seat) (tiles_lost (before_in (hand ds) d) seat) (losses_by seat d) ≡ true
   pub triplet : has_triplet (before_in (hand ds) d) d ≡ true
   pub tiles : has_tiles red d ≡ true
   pub live : has_live (before_in (hand ds) d) d ≡ true
@@ -135,7 +135,7 @@ pub record IsNext (red : Bool) (walls : List (List ℕ)) (ds : List Deed) (d : D
 -- What a deed owes to those before it in its own hand.
 pub record IsNextIn (wall : List ℕ) (ds : List Deed) (d : Deed) : Type 0 where
   pub seats : has_seats d ≡ true
-  pub held : (seat : ℕ) → are_held (gained ds seat) (lost ds seat) (losses_by seat d) ≡ true
+  pub held : (seat : ℕ) → are_held (tiles_gained ds seat) (tiles_lost ds seat) (losses_by seat d) ≡ true
   pub live : has_live ds d ≡ true
   pub brings : Brings wall ds d
 

@@ -1,7 +1,8 @@
 -- Played deeds fit, each behind those before it.
-use Rattle.std.proofs.Common.{◌≡◌, ℕ, zero, suc, ◌+◌, ◌-◌, ◌%◌, ◌<◌, ◌≤◌, ◌||◌, Bool, true, false, cond, List, [], ◌∷◌, ◌++◌, length, refl, ap, sym, ◌∙◌, subst, arith, append-nil, append_assoc}
+use Rattle.std.proofs.Common.{◌≡◌, ℕ, zero, suc, ◌+◌, ◌-◌, ◌%◌, ◌<◌, ◌≤◌, Bool, true, false, cond, List, [], ◌∷◌, ◌++◌, length, refl, ap, sym, subst, arith, append-nil, append_assoc}
 use Rattle.std.specs.Prelude.{Option, Some, IsTrue}
 use Rattle.std.specs.List.{list_all, slice_index_or}
+use Rattle.std.proofs.Math.Bool.{or-true}
 use Rattle.std.proofs.lemmas.Bool.{and_parts}
 use Rattle.std.proofs.lemmas.List.Elements.{All-nil}
 use Rattle.mj_deeds.specs.declared.four.Four.{Four}
@@ -20,7 +21,7 @@ use Rattle.mj_wall.specs.declared.setting.Rules.{Rules}
 use Rattle.mj_rules.specs.Outcome.{wall_of, wall_now, outcome}
 use Rattle.mj_rules.specs.Played.{AllLawful, is_game_start, IsPlayedBehind, AllPlayed, IsPlayed}
 use Rattle.mj_rules.specs.Laws.{EachIsWall, PlayedWithOneMore, PlayedWithoutTheLast, PlayedDeedsFit, NextOfPlayedFits}
-use Rattle.mj_rules.proofs.Standing.{Stage, NoGame, NoHand, Waits, Acts, MadeKan, ShowedDora, stage_before, stage_after, stage_of, is_begun, Standing}
+use Rattle.mj_rules.proofs.Standing.{Stage, NoGame, NoHand, Waits, Acts, MadeKan, ShowedDora, stage_before, stage_after, stage_of, is_begun, owes_dora, owes_tile, holds_more, Standing}
 use Rattle.mj_rules.proofs.Kept.{wall_for, IsNext, inside, keeps}
 use Rattle.mj_rules.proofs.Room.{deals_well, next_fits}
 use Rattle.mj_rules.proofs.Answered.{IfAny}
@@ -49,14 +50,14 @@ pub record Sound (red : Bool) (walls : List (List ℕ)) (ds : List Deed) : Type 
 -- one deed more
 
 -- Before a hand was dealt there is nothing.
-no_game_stands : (wall : List ℕ) → Standing wall [] NoGame
+nothing_stands : (wall : List ℕ) (stage : Stage) → is_begun stage ≡ false → owes_dora stage ≡ 0 → owes_tile stage ≡ 0 → ((seat : ℕ) → holds_more stage seat ≡ 0) → Standing wall [] stage
 unfolding up
-no_game_stands wall = record {
-  kinds = λ kind. refl;
-  hands = λ seat. refl;
-  shown = refl;
-  taken = refl;
-  fresh = refl;
+nothing_stands wall stage begun dora tile more = record {
+  kinds = λ kind. rw begun refl;
+  hands = λ seat. rw (begun, more seat) refl;
+  shown = rw (begun, dora) refl;
+  taken = rw tile refl;
+  fresh = rw begun refl;
   live = omega arith;
   four = omega arith;
   held = λ seat face. omega arith;
@@ -64,18 +65,7 @@ no_game_stands wall = record {
 }
 
 no_hand_stands : (wall : List ℕ) → Standing wall [] NoHand
-unfolding up
-no_hand_stands wall = record {
-  kinds = λ kind. refl;
-  hands = λ seat. refl;
-  shown = refl;
-  taken = refl;
-  fresh = refl;
-  live = omega arith;
-  four = omega arith;
-  held = λ seat face. omega arith;
-  seats = All-nil (λ s. s < 4);
-}
+no_hand_stands wall = nothing_stands wall NoHand refl refl refl (λ seat. refl)
 
 -- Where nothing was dealt no hand is under way.
 not_dealt : (wall : List ℕ) (stage : Stage) → Standing wall [] stage → is_begun stage ≡ false
@@ -144,11 +134,7 @@ sound_more red walls ds d h s next = record {
 
 start_next : (red : Bool) (walls : List (List ℕ)) (d : Deed) → IsTrue (is_game_start d) → IsNext red walls [] d
 unfolding hand
-start_next red walls (StartGame names) h = record { place = refl; seats = refl; held = λ seat. refl; triplet = refl; tiles = either_way red; live = refl; stage = refl; brings = tt }
-  where
-    either_way : (b : Bool) → (b || true) ≡ true
-    either_way true = refl
-    either_way false = refl
+start_next red walls (StartGame names) h = record { place = refl; seats = refl; held = λ seat. refl; triplet = refl; tiles = or-true red; live = refl; stage = refl; brings = tt }
 start_next red walls (StartHand round number honba deposits dealer indicator hands) h = cc
 start_next red walls (Draw who tile replacement) h = cc
 start_next red walls (Discard who tile drawn) h = cc
@@ -177,7 +163,7 @@ behind_next rules walls (first ∷ others) d h s played = given_next rules walls
 
 nothing_sound : (red : Bool) (walls : List (List ℕ)) → Sound red walls []
 unfolding hand
-nothing_sound red walls = record { standing = no_game_stands (wall_of walls 0); fit = refl; seated = tt }
+nothing_sound red walls = record { standing = nothing_stands (wall_of walls 0) NoGame refl refl refl (λ seat. refl); fit = refl; seated = tt }
 
 all_sound : (rules : Rules) (walls : List (List ℕ)) (before ds : List Deed) → ((number : ℕ) → is_wall rules.red (wall_of walls number) ≡ true) → Sound rules.red walls before → AllPlayed rules walls before ds →
     Sound rules.red walls (before ++ ds)

@@ -1,16 +1,17 @@
 -- There is room for a deed that comes in its turn: no kind has a fifth tile and no seat a fifth meld.
 use Rattle.std.proofs.Common.{◌≡◌, ℕ, zero, suc, ◌+◌, ◌-◌, ◌*◌, ◌%◌, ◌<◌, ◌≤◌, ◌==◌, inl, inr, ◌&&◌, Bool, true, false, cond, eqb, List, [], ◌∷◌, ◌++◌, length, get_or, take, drop, refl, ap, ◌∙◌, arith}
 use Rattle.std.specs.Prelude.{All, nat_le, count_by, sum_by, flat_map}
-use Rattle.std.specs.List.{list_all, range_with_len}
+use Rattle.std.specs.List.{list_all}
 use Rattle.std.proofs.lemmas.Bool.{cases_eq, ne_eqb, eq-eqb, and_from, le-leb}
 use Rattle.std.proofs.lemmas.List.{length-map, length-drop, get_or-drop}
 use Rattle.std.proofs.lemmas.List.Sums.{sum_by-cons, sum_by-take-le}
 use Rattle.std.proofs.lemmas.List.Elements.{All-take, All-drop}
+use Rattle.mj_lists.proofs.Ranges.{all_in}
 use Rattle.mj_tiles.specs.Faces.{kind_of, number_in}
 use Rattle.mj_tiles.specs.Counts.{all_kinds, number_of, has_no_fifth}
 use Rattle.mj_deeds.specs.declared.deed.Deed.{Deed}
-use Rattle.mj_deeds.specs.Facts.{gained, lost, makes_by, indicators, live_draws}
-use Rattle.mj_deeds.specs.Fits.{fits, fits_in, fits_behind, is_held_by, is_held, brought_by, keeps_kinds, has_room_for, has_room}
+use Rattle.mj_deeds.specs.Facts.{tiles_gained, tiles_lost, makes_by, indicators, live_draws}
+use Rattle.mj_deeds.specs.Fits.{fits, fits_in, fits_behind, has_held_by, has_held, brought_by, keeps_kinds, has_room_for, has_room}
 use Rattle.mj_wall.specs.Places.{is_wall, dealt_tiles}
 use Rattle.mj_wall.proofs.WallFaces.{wall_has_136, wall_faces}
 use Rattle.mj_wall.proofs.WallKinds.{up, up-take, up-split, wall_has_four, places_are_apart}
@@ -111,14 +112,10 @@ at_most_four red wall ds stage kind h small s =
     bound : (n b u i j k t v x : ℕ) → n ≡ b + i + j + k → b ≤ u → u + i + j + k ≤ t → v ≡ t → v ≤ x → x ≤ 4 → n ≤ 4
     bound n b u i j k t v x e f g h l m = omega arith
 
-all_of_range : (p : ℕ → Bool) (a n : ℕ) → ((k : ℕ) → a ≤ k → k < a + n → p k ≡ true) → list_all p (range_with_len a n) ≡ true
-all_of_range p a zero h = refl
-all_of_range p a (suc n) h = and_from (p a) _ (h a (omega arith) (omega arith)) (all_of_range p (a + 1) n (λ k lo hi. h k (omega arith) (omega arith)))
-
 no_fifth : (red : Bool) (wall : List ℕ) (ds : List Deed) (stage : Stage) → is_wall red wall ≡ true → Standing wall ds stage → has_no_fifth (flat_map brought_by ds) ≡ true
 unfolding has_no_fifth all_kinds
 no_fifth red wall ds stage h s =
-    all_of_range (λ kind. nat_le (number_of (flat_map brought_by ds) kind) 4) 0 34 (λ kind lo hi. le-leb _ _ (at_most_four red wall ds stage kind h hi s))
+    all_in (λ kind. nat_le (number_of (flat_map brought_by ds) kind) 4) 0 34 (λ kind lo hi. le-leb _ _ (at_most_four red wall ds stage kind h hi s))
 
 -- no fifth meld
 
@@ -180,7 +177,7 @@ one_more_at_most other seat = omega arith
 room_for_each : (wall : List ℕ) (ds : List Deed) (d : Deed) (stage : Stage) (seat : ℕ) → Standing wall (ds ++ d ∷ []) stage → has_room_for ds d seat ≡ true
 room_for_each wall ds d stage seat s =
     le-leb _ _ (few _ _ _ _ _ _ _ (is_begun stage) (length-map (flat_map (makes_by seat) ds) _) (length-more (makes_by seat) ds d) (s.hands seat)
-    (length-within (lost (ds ++ d ∷ []) seat) (gained (ds ++ d ∷ []) seat) (s.held seat)) (one_more_at_most stage seat))
+    (length-within (tiles_lost (ds ++ d ∷ []) seat) (tiles_gained (ds ++ d ∷ []) seat) (s.held seat)) (one_more_at_most stage seat))
   where
     few : (a m x m' g l h : ℕ) (b : Bool) → a ≡ m → m' ≡ m + x → g + 3 * m' ≡ l + cond b 13 0 + h → l ≤ g → h ≤ 1 → a + x ≤ 4
     few a m x m' g l h true e f i j k = omega arith
@@ -194,7 +191,7 @@ next_fits red walls ds d h s next =
     let wall : List ℕ = wall_for walls ds d in
     let hs : List Deed = before_in (hand ds) d in
     let after = keeps wall hs d (deals_well red wall h) s (inside red walls ds d next) in
-    let held : is_held hs d ≡ true = four_pass (is_held_by hs d) next.held in
+    let held : has_held hs d ≡ true = four_pass (has_held_by hs d) next.held in
     let kinds : keeps_kinds hs d ≡ true = no_fifth red wall (hs ++ d ∷ []) (stage_after d) h after in
     let room : has_room hs d ≡ true = four_pass (has_room_for hs d) (λ seat. room_for_each wall hs d (stage_after d) seat after) in
     both _ _ next.place (all_seven _ _ _ _ _ _ _ next.seats held next.triplet next.tiles kinds room next.live)

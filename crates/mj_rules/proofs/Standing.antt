@@ -12,7 +12,7 @@ use Rattle.mj_deeds.specs.declared.four.Four.{Four}
 use Rattle.mj_deeds.specs.declared.deed.Deed.{Deed}
 use Rattle.mj_deeds.specs.declared.deed.Deed.TheVariants.{StartGame, StartHand, Draw, Discard, Chi, Pon, OpenKan, ClosedKan, AddedKan, Dora}
 use Rattle.mj_deeds.specs.Four.{at_seat, for_each_seat}
-use Rattle.mj_deeds.specs.Facts.{gains_by, losses_by, gained, lost, makes_by, is_kan, kans, kan_seats, indicators_by, indicators, is_live_draw, live_draws}
+use Rattle.mj_deeds.specs.Facts.{gains_by, losses_by, tiles_gained, tiles_lost, makes_by, is_kan, kans, kan_seats, indicators_by, indicators, is_live_draw, live_draws}
 use Rattle.mj_deeds.specs.Fits.{brought_by, has_live}
 use Rattle.mj_wall.specs.Places.{live_tile, replacement_tile, indicator_tile}
 use Rattle.mj_wall.proofs.WallKinds.{up}
@@ -95,13 +95,13 @@ brought_from f begun draws shown taken =
 
 pub record Standing (wall : List ℕ) (ds : List Deed) (stage : Stage) : Type 0 where
   pub kinds : (kind : ℕ) → number_of (flat_map brought_by ds) kind ≡ brought_from (at_place wall kind) (is_begun stage) (live_draws ds) (length (indicators ds)) (count_by is_replacement ds)
-  pub hands : (seat : ℕ) → length (gained ds seat) + 3 * length (flat_map (makes_by seat) ds) ≡ length (lost ds seat) + cond (is_begun stage) 13 0 + holds_more stage seat
+  pub hands : (seat : ℕ) → length (tiles_gained ds seat) + 3 * length (flat_map (makes_by seat) ds) ≡ length (tiles_lost ds seat) + cond (is_begun stage) 13 0 + holds_more stage seat
   pub shown : length (indicators ds) + owes_dora stage ≡ kans ds + cond (is_begun stage) 1 0
   pub taken : count_by is_replacement ds + owes_tile stage ≡ kans ds
   pub fresh : cond (is_begun stage) 0 (length (indicators ds)) ≡ 0
   pub live : live_draws ds + kans ds ≤ 70
   pub four : kans ds ≤ 4
-  pub held : (seat face : ℕ) → number_in (lost ds seat) face ≤ number_in (gained ds seat) face
+  pub held : (seat face : ℕ) → number_in (tiles_lost ds seat) face ≤ number_in (tiles_gained ds seat) face
   pub seats : All (λ s. s < 4) (kan_seats ds)
 
 -- The tiles that a deed brings in are those of their places.
@@ -125,33 +125,36 @@ length-more f ds d =
     length-flat_map f (ds ++ d ∷ []) ∙ sum_by_push (λ x. length (f x)) ds d ∙ ap (λ n. n + length (f d)) (sym (length-flat_map f ds))
 
 -- kans, indicators and replacement tiles
+
+-- What a deed shows and draws for kans is what is owed before it and what it makes, less what is owed behind it.
+pays_for_kans : (d : Deed) →
+    (length (indicators_by d) + owes_dora (stage_after d) + cond (is_begun (stage_before d)) 1 0 ≡ owes_dora (stage_before d) + cond (is_kan d) 1 0 + cond (is_begun (stage_after d)) 1 0)
+    × (cond (is_replacement d) 1 0 + owes_tile (stage_after d) ≡ owes_tile (stage_before d) + cond (is_kan d) 1 0)
+pays_for_kans (StartGame names) = (refl, refl)
+pays_for_kans (StartHand round number honba deposits dealer indicator hands) = (refl, refl)
+pays_for_kans (Draw who tile true) = (refl, refl)
+pays_for_kans (Draw who tile false) = (refl, refl)
+pays_for_kans (Discard who tile drawn) = (refl, refl)
+pays_for_kans (Chi who target tile a b) = (refl, refl)
+pays_for_kans (Pon who target tile a b) = (refl, refl)
+pays_for_kans (OpenKan who target tile a b c) = (refl, refl)
+pays_for_kans (ClosedKan who a b c d) = (refl, refl)
+pays_for_kans (AddedKan who tile a b c) = (refl, refl)
+pays_for_kans (Dora tile) = (refl, refl)
+
 pub shown_step : (d : Deed) (i k : ℕ) → i + owes_dora (stage_before d) ≡ k + cond (is_begun (stage_before d)) 1 0 →
     i + length (indicators_by d) + owes_dora (stage_after d) ≡ k + cond (is_kan d) 1 0 + cond (is_begun (stage_after d)) 1 0
-shown_step (StartGame names) i k h = omega arith
-shown_step (StartHand round number honba deposits dealer indicator hands) i k h = omega arith
-shown_step (Draw who tile true) i k h = omega arith
-shown_step (Draw who tile false) i k h = omega arith
-shown_step (Discard who tile drawn) i k h = omega arith
-shown_step (Chi who target tile a b) i k h = omega arith
-shown_step (Pon who target tile a b) i k h = omega arith
-shown_step (OpenKan who target tile a b c) i k h = omega arith
-shown_step (ClosedKan who a b c d) i k h = omega arith
-shown_step (AddedKan who tile a b c) i k h = omega arith
-shown_step (Dora tile) i k h = omega arith
+shown_step d i k h = paid _ _ _ _ _ _ _ _ (pays_for_kans d).0 h
+  where
+    paid : (i k shown kan before after begun begins : ℕ) → shown + after + begun ≡ before + kan + begins → i + before ≡ k + begun → i + shown + after ≡ k + kan + begins
+    paid i k shown kan before after begun begins e h = omega arith
 
 pub taken_step : (d : Deed) (r k : ℕ) → r + owes_tile (stage_before d) ≡ k →
     r + cond (is_replacement d) 1 0 + owes_tile (stage_after d) ≡ k + cond (is_kan d) 1 0
-taken_step (StartGame names) r k h = omega arith
-taken_step (StartHand round number honba deposits dealer indicator hands) r k h = omega arith
-taken_step (Draw who tile true) r k h = omega arith
-taken_step (Draw who tile false) r k h = omega arith
-taken_step (Discard who tile drawn) r k h = omega arith
-taken_step (Chi who target tile a b) r k h = omega arith
-taken_step (Pon who target tile a b) r k h = omega arith
-taken_step (OpenKan who target tile a b c) r k h = omega arith
-taken_step (ClosedKan who a b c d) r k h = omega arith
-taken_step (AddedKan who tile a b c) r k h = omega arith
-taken_step (Dora tile) r k h = omega arith
+taken_step d r k h = paid _ _ _ _ _ _ (pays_for_kans d).1 h
+  where
+    paid : (r k drawn kan before after : ℕ) → drawn + after ≡ before + kan → r + before ≡ k → r + drawn + after ≡ k + kan
+    paid r k drawn kan before after e h = omega arith
 
 pub fresh_step : (d : Deed) (i j : ℕ) → j ≡ i + length (indicators_by d) → cond (is_begun (stage_before d)) 0 i ≡ 0 → cond (is_begun (stage_after d)) 0 j ≡ 0
 fresh_step (StartGame names) i j e h = omega arith

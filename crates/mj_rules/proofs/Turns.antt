@@ -2,7 +2,7 @@
 use Rattle.std.proofs.Common.{◌≡◌, ℕ, zero, suc, ◌+◌, ◌-◌, ◌*◌, ◌%◌, ◌<◌, ◌≤◌, ◌==◌, ◌&&◌, ◌||◌, not, Bool, true, false, cond, eqb, ltb, List, [], ◌∷◌, ◌++◌, length, get_or, drop, refl, ap, sym, ◌∙◌, arith}
 use Rattle.std.specs.Prelude.{Option, Some, None, All, count_by, option_and_then, unwrap_or, slice_get}
 use Rattle.std.specs.List.{list_all}
-use Rattle.std.proofs.lemmas.Bool.{and_parts, and_from, ltb-true, lt-ltb, lt-leb, eqb-false}
+use Rattle.std.proofs.lemmas.Bool.{and_from, lt-ltb, lt-leb, eqb-false}
 use Rattle.std.proofs.lemmas.List.Folds.{list_all-append}
 use Rattle.std.proofs.lemmas.List.Sums.{sum_by-cons}
 use Rattle.std.proofs.lemmas.List.Elements.{All-head, All-tail, All-take, All-drop}
@@ -23,13 +23,13 @@ use Rattle.mj_deeds.specs.declared.bid.Bid.TheVariants as bids
 use Rattle.mj_deeds.specs.Bids.{call_of_bid}
 use Rattle.mj_deeds.specs.Hand.{hand, hand_number, starts}
 use Rattle.mj_deeds.proofs.Fitted.{begun}
-use Rattle.mj_window.specs.Decided.{decided, best_bid, call_or_pass}
+use Rattle.mj_window.specs.Decided.{decision_by, best_bid, call_or_pass}
 use Rattle.mj_wall.specs.declared.setting.Rules.{Rules}
-use Rattle.mj_rules.specs.Outcome.{hand_dealt, hand_start, next_draw, next_dora, newest_kan_seat, next_replacement, goes_on, wall_now, follows, outcome, wall_of}
+use Rattle.mj_rules.specs.Outcome.{hand_dealt, hand_start, next_draw, next_dora, newest_kan_seat, next_replacement, after_pass, wall_now, follows, outcome, wall_of}
 use Rattle.mj_wall.proofs.TileOrder.{count_by-in_tile_order}
 use Rattle.mj_rules.specs.Played.{AllLawful}
 use Rattle.mj_rules.proofs.Standing.{Waits, MadeKan, stage_after, stage_of}
-use Rattle.mj_rules.proofs.Kept.{IsNext}
+use Rattle.mj_rules.proofs.Kept.{first_seat, IsNext}
 use Rattle.mj_rules.proofs.Answered.{IfAny, clean_at, act_next, call_next}
 
 -- the tiles of a wall are of the game
@@ -166,14 +166,11 @@ replacement_next red walls ds shown h e seats = record {
   brings = refl;
 }
 
-first_seat : (who : ℕ) (rest : Bool) → (ltb who 4 && rest) ≡ true → who < 4
-first_seat who rest h = ltb-true who 4 (and_parts (ltb who 4) rest h).0
-
 seat_below : (who : ℕ) → next_seat who < 4
 seat_below who = omega arith
 
 -- The bid that is taken, or how the hand goes on.
-pub called_or_on : (P : Deed → Type 0) (rules : Rules) (walls : List (List ℕ)) (ds : List Deed) (n : Deed) (bid : Bid) → IfAny P (call_of_bid bid) → IfAny P (goes_on walls (wall_now walls ds) (hand ds) n) →
+pub called_or_on : (P : Deed → Type 0) (rules : Rules) (walls : List (List ℕ)) (ds : List Deed) (n : Deed) (bid : Bid) → IfAny P (call_of_bid bid) → IfAny P (after_pass walls (wall_now walls ds) (hand ds) n) →
     IfAny P (follows rules walls ds n (call_or_pass bid))
 called_or_on P rules walls ds n bids.NoBid f g = g
 called_or_on P rules walls ds n (bids.Chi seat target tile a b) f g = f
@@ -181,7 +178,7 @@ called_or_on P rules walls ds n (bids.Pon seat target tile a b) f g = f
 called_or_on P rules walls ds n (bids.OpenKan seat target tile a b c) f g = f
 
 follower_next : (rules : Rules) (walls : List (List ℕ)) (ds : List Deed) (given : Four Answer) (n : Deed) → ((number : ℕ) → is_wall rules.red (wall_of walls number) ≡ true) → length (starts ds) ≤ begun (Some n) →
-    All (λ s. s < 4) (kan_seats (hand ds)) → newest ds ≡ Some n → has_seats n ≡ true → AllLawful rules ds given → IfAny (IsNext rules.red walls ds) (follows rules walls ds n (decided n given))
+    All (λ s. s < 4) (kan_seats (hand ds)) → newest ds ≡ Some n → has_seats n ≡ true → AllLawful rules ds given → IfAny (IsNext rules.red walls ds) (follows rules walls ds n (decision_by n given))
 follower_next rules walls ds given (StartGame names) h few kan e seats c = start_next rules.red walls ds names h (none (length (starts ds)) few) e
   where
     none : (n : ℕ) → n ≤ 0 → n ≡ 0
@@ -210,6 +207,6 @@ unfolding outcome
 outcome_next rules walls ds given h few kan seats c = by_newest (newest ds) refl few seats
   where
     by_newest : (o : Option Deed) → newest ds ≡ o → length (starts ds) ≤ begun o → IfAny (λ d. has_seats d ≡ true) o →
-        IfAny (IsNext rules.red walls ds) (option_and_then (λ last. follows rules walls ds last (decided last given)) o)
+        IfAny (IsNext rules.red walls ds) (option_and_then (λ last. follows rules walls ds last (decision_by last given)) o)
     by_newest None e f k = tt
     by_newest (Some n) e f k = follower_next rules walls ds given n h f kan e k c

@@ -1,5 +1,5 @@
 -- The course of a hand: the one deed that follows a closed window.
-use Rattle.std.specs.Prelude.{ℕ, ◌+◌, ◌-◌, ◌%◌, ◌==◌, Bool, true, false, if◌then◌else◌, List, [], ◌∷◌, Option, Some, None, option_and_then, length, slice_get, unwrap_or}
+use Rattle.std.specs.Prelude.{ℕ, ◌+◌, ◌-◌, ◌%◌, ◌==◌, Bool, true, false, if◌then◌else◌, List, [], Option, Some, None, option_and_then, length, slice_get, unwrap_or}
 use Rattle.std.specs.Option.{option_map_or}
 use Rattle.std.specs.List.{slice_index_or}
 use Rattle.mj_tiles.specs.Faces.{in_tile_order}
@@ -20,7 +20,7 @@ use Rattle.mj_deeds.specs.Hand.{hand, hand_number}
 use Rattle.mj_deeds.specs.Facts.{newest, live_draws, live_tiles, kans, kan_seats, indicators}
 use Rattle.mj_window.specs.declared.decision.Decision.{Decision}
 use Rattle.mj_window.specs.declared.decision.Decision.TheVariants.{Call, Act, Pass}
-use Rattle.mj_window.specs.Decided.{decided}
+use Rattle.mj_window.specs.Decided.{decision_by}
 
 -- The wall of a hand, counted from 0: the walls are taken in turn.
 abbrev pub wall_of : List (List ℕ) → ℕ → List ℕ
@@ -79,17 +79,17 @@ act_of seat other = None
 -- after the start of the game the first hand, from the first wall; after the start of a hand the dealer's draw; after a
 -- discard the draw of the next seat; after a kan the next indicator; after that the kan's seat draws a replacement tile.
 -- After a draw, a chi or a pon the answer of its seat decides.
-abbrev pub goes_on : List (List ℕ) → List ℕ → List Deed → Deed → Option Deed
-goes_on walls wall deeds (StartGame names) = Some (hand_start (wall_of walls 0) first_standing 0)
-goes_on walls wall deeds (StartHand round number honba deposits dealer indicator hands) = next_draw wall deeds dealer
-goes_on walls wall deeds (Draw seat tile replacement) = None
-goes_on walls wall deeds (Discard seat tile drawn) = next_draw wall deeds (next_seat seat)
-goes_on walls wall deeds (Chi seat target tile a b) = None
-goes_on walls wall deeds (Pon seat target tile a b) = None
-goes_on walls wall deeds (OpenKan seat target tile a b c) = Some (next_dora wall deeds)
-goes_on walls wall deeds (ClosedKan seat a b c d) = Some (next_dora wall deeds)
-goes_on walls wall deeds (AddedKan seat tile a b c) = Some (next_dora wall deeds)
-goes_on walls wall deeds (Dora tile) = Some (next_replacement wall deeds)
+abbrev pub after_pass : List (List ℕ) → List ℕ → List Deed → Deed → Option Deed
+after_pass walls wall deeds (StartGame names) = Some (hand_start (wall_of walls 0) first_standing 0)
+after_pass walls wall deeds (StartHand round number honba deposits dealer indicator hands) = next_draw wall deeds dealer
+after_pass walls wall deeds (Draw seat tile replacement) = None
+after_pass walls wall deeds (Discard seat tile drawn) = next_draw wall deeds (next_seat seat)
+after_pass walls wall deeds (Chi seat target tile a b) = None
+after_pass walls wall deeds (Pon seat target tile a b) = None
+after_pass walls wall deeds (OpenKan seat target tile a b c) = Some (next_dora wall deeds)
+after_pass walls wall deeds (ClosedKan seat a b c d) = Some (next_dora wall deeds)
+after_pass walls wall deeds (AddedKan seat tile a b c) = Some (next_dora wall deeds)
+after_pass walls wall deeds (Dora tile) = Some (next_replacement wall deeds)
 
 -- The wall of the newest hand.
 abbrev pub wall_now : List (List ℕ) → List Deed → List ℕ
@@ -100,12 +100,12 @@ wall_now walls deeds = wall_of walls (hand_number deeds)
 abbrev pub follows : Rules → List (List ℕ) → List Deed → Deed → Decision → Option Deed
 follows rules walls deeds last (Call bid) = call_of_bid bid
 follows rules walls deeds last (Act seat answer) = act_of seat answer
-follows rules walls deeds last Pass = goes_on walls (wall_now walls deeds) (hand deeds) last
+follows rules walls deeds last Pass = after_pass walls (wall_now walls deeds) (hand deeds) last
 
 -- The one deed that follows the window on the newest deed, by its four answers; none where the course goes on with a
 -- deed that is not built.
 unfoldable pub outcome : Rules → List (List ℕ) → List Deed → Four Answer → Option Deed
-outcome rules walls deeds given = option_and_then (λ last. follows rules walls deeds last (decided last given)) (newest deeds)
+outcome rules walls deeds given = option_and_then (λ last. follows rules walls deeds last (decision_by last given)) (newest deeds)
 
 -- What a deed and a decision lead to is not built: a discard that nobody calls, with no live tile left.
 abbrev pub leads_past : List Deed → Deed → Decision → Bool
@@ -114,4 +114,4 @@ leads_past deeds last decision = false
 
 -- The course goes on with a deed that is not built.
 abbrev pub is_unbuilt : List Deed → Four Answer → Bool
-is_unbuilt deeds given = option_map_or (λ last. leads_past deeds last (decided last given)) (newest deeds) true
+is_unbuilt deeds given = option_map_or (λ last. leads_past deeds last (decision_by last given)) (newest deeds) true

@@ -8,13 +8,13 @@ use Rattle.mj_deeds.specs.Answers.{is_in_form}
 use Rattle.mj_deeds.specs.declared.deed.Deed.{Deed}
 use Rattle.mj_deeds.specs.declared.deed.Deed.TheVariants.{StartGame}
 use Rattle.mj_wall.specs.declared.setting.Rules.{Rules}
-use Rattle.mj_rules.specs.Broken.{broken}
+use Rattle.mj_rules.specs.Broken.{broken_rule}
 use Rattle.mj_rules.specs.Outcome.{outcome}
 
 -- An answer of a seat is lawful in the window on the newest deed: it is in form and breaks no rule.
 pub record IsLawful (rules : Rules) (deeds : List Deed) (seat : ℕ) (answer : Answer) : Type 0 where
   pub form : is_in_form answer ≡ true
-  pub clean : broken rules deeds seat answer ≡ None
+  pub clean : broken_rule rules deeds seat answer ≡ None
 
 -- Each of four answers is lawful for its seat.
 pub record AllLawful (rules : Rules) (deeds : List Deed) (given : Four Answer) : Type 0 where

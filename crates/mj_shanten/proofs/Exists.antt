@@ -8,7 +8,7 @@ use Rattle.mj_readings.specs.declared.reading.Set.{Set}
 use Rattle.mj_readings.specs.declared.reading.SetForm.{SetForm}
 use Rattle.mj_readings.specs.declared.reading.SetForm.TheVariants.{Run, Triplet, Kan}
 use Rattle.mj_readings.specs.Sets.{tiles_of_set, tiles_of_form, is_concealed, tally}
-use Rattle.mj_readings.specs.Ways.{triplet_at}
+use Rattle.mj_readings.specs.Inner.Ways.{triplet_at}
 use Rattle.mj_readings.proofs.Tiles.{in_set, number_at, count-flat_map, in_triplet}
 use Rattle.mj_readings.proofs.Laws.{length-tally, get_or-tally}
 use Rattle.mj_shanten.specs.Room.{IsRoom, is_meld, is_meld_form}

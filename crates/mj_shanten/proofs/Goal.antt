@@ -1,6 +1,6 @@
 -- The best hand of all, and what it says of shanten.
 use Rattle.std.proofs.Common.{ℕ, ◌≡◌, ◌≢◌, ◌<◌, ◌≤◌, ◌+◌, ◌-◌, ◌*◌, ◌++◌, ◌∷◌, [], Bool, true, false, cond, eqb, List, Option, None, Some, length, get_or, take, sum, refl, sym, ◌∙◌, ap, subst, ◌⊎◌, inl, inr, arith}
-use Rattle.std.specs.Prelude.{MatchOption, EachIndex}
+use Rattle.std.specs.Prelude.{MatchOption}
 use Rattle.std.specs.Ordering.{nat_cmp}
 use Rattle.std.specs.Cmp.Lexicographic.{slice_cmp}
 use Rattle.std.specs.List.{count_by, flat_map}
@@ -24,7 +24,8 @@ use Rattle.mj_shanten.specs.Special.{IsPairs, IsOrphans, IsSpecial}
 use Rattle.mj_shanten.proofs.Joint.{cmp_before}
 use Rattle.mj_shanten.proofs.Parting.{number_past}
 use Rattle.mj_shanten.proofs.Standard.{joint_of, hand_of, IsMade}
-use Rattle.mj_shanten.proofs.Pairs.{zero_at, seven_parts, pairs_few}
+use Rattle.mj_lists.proofs.Fronts.{zero_at}
+use Rattle.mj_shanten.proofs.Pairs.{seven_parts, pairs_few}
 use Rattle.mj_shanten.proofs.Doubles.{orphans_size, orphans_at, orphan_few}
 use Rattle.mj_shanten.proofs.Sums.{sum_missing, missing_few, sum_complete}
 use Rattle.mj_shanten.proofs.Order.{sorted_order}
@@ -42,7 +43,7 @@ special_on held melds a b c none first second =
 
 -- ---- two numbers more
 
-wide_low : (c : List ℕ) (k : ℕ) → length c ≡ 34 → k < 34 → get_or (with_two c) k 0 ≡ get_or c k 0
+pub wide_low : (c : List ℕ) (k : ℕ) → length c ≡ 34 → k < 34 → get_or (with_two c) k 0 ≡ get_or c k 0
 wide_low c k size low = get_or_append_left c (0 ∷ 0 ∷ []) 0 k (omega arith)
 
 wide_past : (c : List ℕ) (k : ℕ) → length c ≡ 34 → 34 ≤ k → get_or (with_two c) k 0 ≡ 0

@@ -1,5 +1,5 @@
 -- The best hand so far, handed on for the functions of this crate.
-use Rattle.std.proofs.Common.{◌≡◌, ◌≢◌, ◌⊎◌, ◌<◌, ◌≤◌, ℕ, List, false, Ordering, Less, Equal, Greater, Option, Some, refl, sym, subst, ap, ◌∙◌, inl, inr, length, take, drop, [], ◌∷◌, arith}
+use Rattle.std.proofs.Common.{◌≡◌, ◌≢◌, ◌⊎◌, ℕ, List, false, Ordering, Less, Equal, Greater, Option, Some, refl, sym, subst, ap, ◌∙◌, inl, inr, length, take, drop, [], ◌∷◌, arith}
 use Rattle.std.specs.Ordering.{nat_cmp, is_gt}
 use Rattle.std.specs.Cmp.Lexicographic.{slice_cmp}
 use Rattle.std.proofs.lemmas.List.{take-append-drop, length-take-le}
@@ -9,10 +9,6 @@ use Rattle.mj_suits.specs.Improves.{AsNear, Improves}
 use Rattle.mj_suits.proofs.Near as near
 use Rattle.mj_suits.proofs.Near.{missing-append}
 use Rattle.mj_shanten.specs.Suits.{with_two}
-
--- what is greater is not less the other way round
-pub not_less_back : (xs ys : List ℕ) → slice_cmp nat_cmp xs ys ≡ Greater → is_gt (slice_cmp nat_cmp ys xs) ≡ false
-not_less_back xs ys greater = near.not_less_back xs ys greater
 
 -- one hand that is as near as all with the property stands for them
 pub one_for_all : (held : List ℕ) (P : List ℕ → Type 0) (u : List ℕ) (a b : Option (ℕ × List ℕ)) → P u → ((t : List ℕ) → P t → AsNear (missing u held, u) (missing t held, t))

@@ -1,19 +1,18 @@
 -- The suits one after another: what is left is what the best hand of all of them leaves.
-use Rattle.std.proofs.Common.{◌≡◌, ◌≢◌, ◌⊎◌, ◌&&◌, eqb, cond, Bool, true, false, ℕ, zero, suc, ◌+◌, ◌-◌, ◌*◌, ◌<◌, ◌≤◌, List, [], ◌∷◌, ◌++◌, length, get_or, take, drop, refl, sym, subst, ap, ap₂, ◌∙◌, inl, inr, arith, Ordering, Less, Equal, Greater}
+use Rattle.std.proofs.Common.{◌≡◌, ◌≢◌, ◌&&◌, eqb, cond, Bool, true, false, ℕ, zero, suc, ◌+◌, ◌-◌, ◌*◌, ◌<◌, ◌≤◌, List, [], ◌∷◌, ◌++◌, length, refl, sym, subst, ap, ap₂, ◌∙◌, inl, inr, arith, Ordering, Less, Equal, Greater}
 use Rattle.std.specs.List.{flat_map}
 use Rattle.std.specs.Ordering.{nat_cmp, ordering_then}
 use Rattle.std.specs.Cmp.Lexicographic.{slice_cmp}
 use Rattle.std.proofs.lemmas.Bool.{cases_Bool, cases_lt, cases_order, and_parts, eqb-true, lt-ltb, le-ltb, ne_eqb}
-use Rattle.std.proofs.lemmas.Cmp.{nat_cmp_total, nat_list_cmp_total, tied_itself}
-use Rattle.mj_suits.specs.Rows.{lane, Holds, IsFew, start_lane}
-use Rattle.mj_suits.specs.Left.{pairs, LeavesBy, Leaves, LeavesMost, IsChosen}
+use Rattle.std.proofs.lemmas.Cmp.{nat_list_cmp_total, tied_itself}
+use Rattle.mj_suits.specs.Rows.{lane, Holds, start_lane}
+use Rattle.mj_suits.specs.Left.{pairs, LeavesBy, IsChosen}
 use Rattle.mj_suits.specs.Targets.{missing, IsTarget, IsNearest}
 use Rattle.mj_suits.proofs.Near.{missing-append}
 use Rattle.mj_suits.proofs.Whole.{length-counts_of}
-use Rattle.mj_suits.proofs.Choices.{cmp_after}
 use Rattle.mj_suits.proofs.Tables.{same_tiles, few_missing}
 use Rattle.mj_shanten.specs.declared.suits.Suit.{Suit}
-use Rattle.mj_shanten.specs.Suits.{IsSuit, Begins, IsJoint}
+use Rattle.mj_shanten.specs.Suits.{IsSuit, IsJoint}
 use Rattle.mj_shanten.specs.Walked.{IsRow}
 
 -- ---- the order of lists that begin alike

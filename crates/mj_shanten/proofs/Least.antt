@@ -6,11 +6,11 @@ use Rattle.mj_readings.specs.Tests.{one_more}
 use Rattle.mj_suits.specs.Targets.{missing}
 use Rattle.mj_shanten.specs.Room.{IsHand, IsWithinRoom}
 use Rattle.mj_shanten.specs.Shanten.{IsGoal, IsShanten}
-use Rattle.mj_shanten.specs.Exchanges.{exchanged, MayExchangeAll, after_all, LeadsToReady, ShantenIsLeastExchanges}
+use Rattle.mj_shanten.specs.Exchanges.{exchanged, MayExchangeAll, after_all, LeadsToReady, AreLeastExchanges}
 use Rattle.mj_shanten.proofs.Goal.{counts_from}
 use Rattle.mj_shanten.proofs.Path.{one_more_at, exchanged_at, exchanged_size, path_leads}
 
-fewer_held : (t xs ys : List ℕ) → length xs ≡ length ys → ((k : ℕ) → k < length xs → get_or ys k 0 ≤ get_or xs k 0) → missing t xs ≤ missing t ys
+pub fewer_held : (t xs ys : List ℕ) → length xs ≡ length ys → ((k : ℕ) → k < length xs → get_or ys k 0 ≤ get_or xs k 0) → missing t xs ≤ missing t ys
 fewer_held [] xs ys same each = omega arith
 fewer_held (w ∷ t) [] [] same each = omega arith
 fewer_held (w ∷ t) [] (y ∷ ys) same each = absurd (omega arith)
@@ -27,7 +27,7 @@ shift p k = elim (cases_eq p k) [
 ]
 
 -- one tile more of one kind makes a hand nearer by one at most
-one_nearer : (p : ℕ) (t xs ys : List ℕ) → length xs ≡ length ys → ((k : ℕ) → k < length xs → get_or ys k 0 ≤ get_or xs k 0 + cond (eqb p k) 1 0) → missing t xs ≤ missing t ys + 1
+pub one_nearer : (p : ℕ) (t xs ys : List ℕ) → length xs ≡ length ys → ((k : ℕ) → k < length xs → get_or ys k 0 ≤ get_or xs k 0 + cond (eqb p k) 1 0) → missing t xs ≤ missing t ys + 1
 one_nearer p [] xs ys same each = omega arith
 one_nearer p (w ∷ t) [] [] same each = omega arith
 one_nearer p (w ∷ t) [] (y ∷ ys) same each = absurd (omega arith)
@@ -89,8 +89,9 @@ no_fewer counts room target melds number many exchanges size hand is leads = (le
     goal : IsGoal room melds (one_more (after_all counts exchanges) leads.ready.0)
     goal = record { are_counts = counts_from room (one_more (after_all counts exchanges) leads.ready.0) melds hand.room_is whole within; complete = leads.ready.1.1.1; within = within }
 
-pub least_exchanges : ShantenIsLeastExchanges
-least_exchanges counts room melds number target are hand is = record {
-  some = path_leads counts room target melds number are.size hand is;
-  least = λ many exchanges leads. no_fewer counts room target melds number many exchanges are.size hand is leads;
+-- shanten is the least number of exchanges, and the path to the target has so many
+pub least_exchanges : (counts room target : List ℕ) (melds number : ℕ) → length counts ≡ 34 → IsHand counts room melds → IsShanten counts room melds number target → AreLeastExchanges counts room melds number target
+least_exchanges counts room target melds number size hand is = record {
+  some = path_leads counts room target melds number size hand is;
+  least = λ many exchanges leads. no_fewer counts room target melds number many exchanges size hand is leads;
 }

@@ -15,3 +15,4 @@ pub mod Least
 pub mod Closed
 mod Melded
 pub mod Special
+pub mod BestDiscard

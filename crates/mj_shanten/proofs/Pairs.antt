@@ -1,5 +1,5 @@
 -- The nearest pairs: no other pairs miss fewer, and of those that miss as few none is lexicographically greater.
-use Rattle.std.proofs.Common.{ℕ, ◌≡◌, ◌≢◌, ◌<◌, ◌≤◌, ◌+◌, ◌-◌, ◌*◌, ◌++◌, ◌∷◌, [], Bool, true, false, cond, eqb, leb, ltb, ◌||◌, List, length, get_or, set, replicate, take, drop, refl, sym, ◌∙◌, ap, ap₂, subst, arith, zero, suc, ◌⊎◌, inl, inr}
+use Rattle.std.proofs.Common.{ℕ, ◌≡◌, ◌≢◌, ◌<◌, ◌≤◌, ◌+◌, ◌-◌, ◌*◌, ◌++◌, ◌∷◌, [], Bool, true, false, cond, eqb, leb, ltb, ◌||◌, List, length, get_or, set, take, drop, refl, sym, ◌∙◌, ap, ap₂, subst, arith, zero, suc, ◌⊎◌, inl, inr}
 use Rattle.std.specs.List.{count_by, list_all}
 use Rattle.std.specs.Ordering.{nat_cmp, is_gt}
 use Rattle.std.specs.Cmp.Lexicographic.{slice_cmp}
@@ -8,6 +8,7 @@ use Rattle.std.proofs.lemmas.Bool.Decides.{nat_tests}
 use Rattle.std.proofs.lemmas.List.Sums.{sum_by-cons}
 use mir.Val.{bool_byte}
 use Rattle.std.proofs.lemmas.List.{length-take-le, length-drop, drop_more, drop_all, get_or-take, get_or-drop, take_more_set, append_assoc, append-nil, get_or-set_other, take-append-drop, ext_get_or}
+use Rattle.mj_lists.proofs.Fronts.{zero_at}
 use Rattle.mj_suits.specs.Targets.{missing}
 use Rattle.mj_suits.specs.Improves.{AsNear}
 use Rattle.mj_readings.specs.Complete.{is_seven_pairs}
@@ -235,11 +236,6 @@ whole_kept held target whole kind left twice once taken wide size inside before 
 
 pub later_kept : (target : List ℕ) (kind y : ℕ) → ((k : ℕ) → kind ≤ k → get_or target k 0 ≡ 0) → (k : ℕ) → kind + 1 ≤ k → get_or (set target kind y) k 0 ≡ 0
 later_kept target kind y before k later = (let apart : k ≢ kind = omega arith in get_or-set_other target kind k y 0 apart ∙ before k (omega arith))
-
-pub zero_at : (n k : ℕ) → ◌≡◌ {A = ℕ} (get_or (replicate n 0) k 0) 0
-zero_at zero k = refl
-zero_at (suc n) zero = refl
-zero_at (suc n) (suc k) = zero_at n k
 
 -- a list whose first 34 numbers are these, and the others none
 pub two_more : (target counts : List ℕ) → length target ≡ 36 → take 34 target ≡ counts → ((k : ℕ) → 34 ≤ k → get_or target k 0 ≡ 0) → target ≡ with_two counts

@@ -112,7 +112,7 @@ balance (x ∷ xs) (y ∷ ys) same = (let a = sum-cons x xs in let b = sum-cons 
 pub exchanged_size : (counts : List ℕ) (out put : ℕ) → length (exchanged counts (out, put)) ≡ length counts
 exchanged_size counts out put = length-set (one_less counts out) put _ ∙ length-set counts out _
 
-one_less_at : (counts : List ℕ) (out k : ℕ) → out < length counts → get_or (one_less counts out) k 0 ≡ get_or counts k 0 - cond (eqb out k) 1 0
+pub one_less_at : (counts : List ℕ) (out k : ℕ) → out < length counts → get_or (one_less counts out) k 0 ≡ get_or counts k 0 - cond (eqb out k) 1 0
 one_less_at counts out k inside = elim (cases_eq k out) [
   | inl same ↦ ap (λ j. get_or (one_less counts out) j 0) same ∙ get_or-set_same counts out _ 0 inside ∙ sym (ap₂ (λ j b. get_or counts j 0 - cond b 1 0) same (eq-eqb out k (sym same)))
   | inr apart ↦ (let other : out ≢ k = (λ e. apart (sym e)) in let e : get_or counts k 0 - 0 ≡ get_or counts k 0 = omega arith in get_or-set_other counts out k _ 0 apart ∙ sym (ap (λ b. get_or counts k 0 - cond b 1 0) (ne_eqb out k other) ∙ e))

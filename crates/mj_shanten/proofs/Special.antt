@@ -1,16 +1,16 @@
 -- What seven pairs and thirteen orphans miss at least, and the fewest that a complete hand misses.
-use Rattle.std.proofs.Common.{◌≡◌, ◌≢◌, ◌⊎◌, ◌&&◌, cond, eqb, ℕ, ◌+◌, ◌-◌, ◌*◌, ◌<◌, ◌≤◌, Bool, true, false, Option, None, Some, List, [], ◌∷◌, ◌++◌, map, min, length, take, refl, sym, subst, ap, ap₂, ◌∙◌, inl, inr, arith}
+use Rattle.std.proofs.Common.{◌≡◌, cond, eqb, ℕ, ◌-◌, ◌<◌, ◌≤◌, Bool, true, false, Option, None, Some, List, [], ◌∷◌, ◌++◌, map, min, length, take, refl, sym, subst, ap, ◌∙◌, inl, inr, arith}
 use Rattle.std.specs.Prelude.{IsSomeAnd, MatchOption}
-use Rattle.std.proofs.lemmas.Bool.{cases_lt, cases_eq}
+use Rattle.std.proofs.lemmas.Bool.{cases_lt}
 use Rattle.mj_tiles.specs.Counts.{all_kinds}
-use Rattle.mj_tiles.specs.Terminals.{is_terminal_or_honour, is_terminal, is_honour}
+use Rattle.mj_tiles.specs.Terminals.{is_terminal_or_honour}
 use Rattle.mj_readings.specs.Complete.{orphan_number}
 use Rattle.mj_suits.specs.Targets.{missing}
-use Rattle.mj_suits.specs.Improves.{AsGood, AsNear, Improves}
+use Rattle.mj_suits.specs.Improves.{Improves}
 use Rattle.mj_suits.specs.Tables.{IsLeast}
 use Rattle.mj_suits.specs.Targets.{IsNearest}
 use Rattle.mj_suits.proofs.Near.{Improves-not, best_is_nearest}
-use Rattle.mj_shanten.specs.Room.{IsRoom, IsHand}
+use Rattle.mj_shanten.specs.Room.{IsRoom}
 use Rattle.mj_shanten.specs.Shanten.{IsGoal, IsShanten}
 use Rattle.mj_shanten.specs.Suits.{with_two, Padded, IsJoint, suits_of}
 use Rattle.mj_shanten.specs.Walked.{IsLeastOr}

@@ -1,5 +1,5 @@
 -- The four suits of a hand.
-use Rattle.std.proofs.Common.{◌≡◌, ◌≢◌, inl, inr, zero, suc, ◌-◌, set, Bool, true, false, ℕ, ◌+◌, ◌<◌, ◌≤◌, Option, List, [], ◌∷◌, ◌++◌, length, get_or, take, drop, refl, sym, subst, ap, ap₂, ◌∙◌, arith}
+use Rattle.std.proofs.Common.{◌≡◌, ◌≢◌, inl, inr, zero, suc, ◌-◌, set, Bool, true, false, ℕ, ◌+◌, ◌<◌, ◌≤◌, List, [], ◌∷◌, ◌++◌, length, get_or, take, drop, refl, sym, subst, ap, ap₂, ◌∙◌, arith}
 use Rattle.std.specs.Prelude.{EachIndex}
 use Rattle.std.specs.List.{flat_map}
 use Rattle.std.proofs.lemmas.List.{append-nil, take_all, take-append-drop, length-take-le, length-drop, drop-drop, get_or-take, get_or-drop, append_assoc, take_at, get_or_append_left, get_or-append_right, length-set}
@@ -7,15 +7,15 @@ use Rattle.std.proofs.Common.{get_or-set_other, get_or-set_same}
 use Rattle.std.proofs.lemmas.Bool.{cases_lt, cases_eq}
 use Rattle.mj_shanten.specs.Room.{IsWithinRoom}
 use Rattle.mj_shanten.specs.Exchanges.{one_less}
-use Rattle.mj_shanten.proofs.Pairs.{zero_at}
+use Rattle.mj_lists.proofs.Fronts.{zero_at}
 use Rattle.mj_suits.specs.Targets.{missing}
 use Rattle.mj_shanten.specs.declared.suits.Suit.{Suit}
-use Rattle.mj_suits.specs.Rows.{lane, Holds, IsFew}
-use Rattle.mj_suits.specs.Left.{LeavesMost, IsChosen}
+use Rattle.mj_suits.specs.Rows.{lane}
+use Rattle.mj_suits.specs.Left.{IsChosen}
 use Rattle.mj_suits.specs.Targets.{IsNearest}
 use Rattle.mj_shanten.specs.Suits.{IsSuit, IsJoint, suit_from, suits_of, with_two}
-use Rattle.mj_shanten.specs.Walked.{Tiles, IsRow, AreWalked, IsLeastOr}
-use Rattle.mj_shanten.proofs.Joint.{AllSuits, JointMost, JointChosen, counts_in, no_suit, suit_more, none_chosen, suit_chosen, joint_nearest, joint_none, joint_tiles}
+use Rattle.mj_shanten.specs.Walked.{Tiles, AreWalked, IsLeastOr}
+use Rattle.mj_shanten.proofs.Joint.{AllSuits, JointMost, counts_in, no_suit, suit_more, none_chosen, suit_chosen, joint_nearest, joint_none, joint_tiles}
 
 -- nine numbers, and then the others
 nine_more : (held : List ℕ) (from next : ℕ) → next ≡ from + 9 → drop from held ≡ take 9 (drop from held) ++ drop next held

@@ -1,7 +1,7 @@
 -- Exchanges of tiles, and how many lead to a ready hand.
 use Rattle.std.specs.Prelude.{ℕ, ◌≡◌, ◌-◌, ◌<◌, ◌≤◌, List, [], ◌∷◌, length, flat_map, replicate, slice_index, slice_set}
 use Rattle.std.specs.List.{zip}
-use Rattle.mj_tiles.specs.Counts.{all_kinds, IsCounts}
+use Rattle.mj_tiles.specs.Counts.{all_kinds}
 use Rattle.mj_readings.specs.Tests.{one_more}
 use Rattle.mj_waits.specs.Waits.{IsWait}
 use Rattle.mj_shanten.specs.Room.{IsHand, IsWithinRoom}
@@ -57,13 +57,8 @@ pub record LeadsToReady (counts room : List ℕ) (melds : ℕ) (number : ℕ) (e
   pub each : MayExchangeAll room counts exchanges
   pub ready : IsReady (after_all counts exchanges) room melds
 
--- The path is so many exchanges that lead to a ready hand, and no fewer do.
+-- The path to the target is so many exchanges that lead to a ready hand, and no fewer do, over all lists of exchanges in
+-- which each hand between keeps the room.
 pub record AreLeastExchanges (counts room : List ℕ) (melds number : ℕ) (target : List ℕ) : Type 0 where
   pub some : LeadsToReady counts room melds number (path_to counts target)
   pub least : (many : ℕ) (exchanges : List (ℕ × ℕ)) → LeadsToReady counts room melds many exchanges → number ≤ many
-
--- Shanten is the least number of exchanges after which the hand is ready, over lists of exchanges in which each hand
--- between keeps the room.
-abbrev pub ShantenIsLeastExchanges : Type 0
-ShantenIsLeastExchanges =
-    (counts room : List ℕ) (melds number : ℕ) (target : List ℕ) → IsCounts counts → IsHand counts room melds → IsShanten counts room melds number target → AreLeastExchanges counts room melds number target

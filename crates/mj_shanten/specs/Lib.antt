@@ -4,3 +4,4 @@ pub mod Suits
 pub mod Walked
 pub mod Special
 pub mod Exchanges
+pub mod Discards

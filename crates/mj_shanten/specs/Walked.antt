@@ -4,7 +4,7 @@ use Rattle.mj_suits.specs.Rows.{Holds, IsFew, start_lane}
 use Rattle.mj_suits.specs.Targets.{missing}
 use Rattle.mj_suits.specs.Left.{LeavesMost}
 use Rattle.mj_shanten.specs.declared.suits.Suit.{Suit}
-use Rattle.mj_shanten.specs.Suits.{IsSuit, suit_from, with_two}
+use Rattle.mj_shanten.specs.Suits.{suit_from, with_two}
 
 -- the tiles of a hand, and the room for them
 pub record Tiles : Type 0 where

@@ -1,11 +1,11 @@
-ghost use Rattle.std.specs.Prelude.{◌≡◌, ◌++◌, ℕ, IfOk, replicate, length, List};
+ghost use Rattle.std.specs.Prelude.{◌≡◌, ℕ, IfOk, length, List};
 ghost use Rattle.std.specs.List.{zip};
 ghost use Rattle.mj_shanten.specs.Room.{IsHand};
 ghost use Rattle.mj_shanten.specs.Shanten.{IsShanten};
 ghost use Rattle.mj_shanten.specs.Exchanges.{IsNearestOf, LeadsToReady, kinds_over, path_to};
 
 use crate::nearest_hand::Nearest;
-use mj_tiles::{Counts, Kind};
+use mj_tiles::{Counts, Kind, push_times};
 use std::alloc::{AllocError, Global};
 
 /// The exchanges that make the hand ready: the surplus tiles in tile order, each with the missing tile at the same place
@@ -54,14 +54,4 @@ fn kinds_more(alloc: Global, counts: &Counts, others: &Counts) -> Result<Vec<Kin
         push_times(&mut kinds, kind, more)?;
     }
     Ok(kinds)
-}
-
-// Adds the kind to the list so often.
-fn push_times(kinds: &mut Vec<Kind>, kind: Kind, times: u8) -> Result<(), AllocError>
-    ensures { IfOk result (λ unit. kinds.new.items ≡ kinds.old.items ++ replicate times kind) }
-{
-    for _time in 0..times {
-        kinds.push(kind)?;
-    }
-    Ok(())
 }

@@ -2,14 +2,13 @@
 //! lead to it.
 #![tactic(auto)]
 
+mod discards;
 mod exchanges;
-mod least_exchanges;
 mod nearest_hand;
 mod orphans;
 mod seven_pairs;
 mod suits;
 
 pub use exchanges::exchange_path;
-pub use least_exchanges::shanten_is_the_least_number_of_exchanges;
 pub use nearest_hand::{Nearest, shanten};
 pub use suits::Suits;

@@ -1,10 +1,11 @@
-ghost use Rattle.std.specs.Prelude.{◌≡◌, ◌<◌, ◌≤◌, ℕ, List, IsTrue, IsSomeAnd, take};
+ghost use Rattle.std.specs.Prelude.{◌≡◌, ◌<◌, ◌≤◌, ℕ, List, IsTrue, IsSomeAnd, take, length};
 ghost use Rattle.mj_suits.specs.Targets.{missing};
 ghost use Rattle.mj_suits.specs.Tables.{IsLeast};
 ghost use Rattle.mj_tiles.specs.Counts.{IsCounts};
 ghost use Rattle.mj_suits.specs.Improves.{Improves};
 ghost use Rattle.mj_shanten.specs.Room.{IsHand, IsRoom};
 ghost use Rattle.mj_shanten.specs.Shanten.{IsGoal, IsShanten};
+ghost use Rattle.mj_shanten.specs.Exchanges.{AreLeastExchanges};
 ghost use Rattle.mj_shanten.specs.Special.{IsSpecial, IsLeastWith};
 
 use crate::orphans::take_orphans;
@@ -34,9 +35,14 @@ pub struct Nearest {
 /// and no kind stands more often than its room. A complete hand has the same melds, and no kind of it stands more often
 /// than its room: it is four sets and a pair, where each meld is a set, or without melds seven pairs or thirteen
 /// orphans.
+///
+/// The shanten is also the least number of exchanges after which the hand is ready, where each exchange takes one
+/// tile out and puts one kind in, and in no hand between does a kind stand more often than its room: the surplus tiles
+/// for the missing ones of the target are so many, and no fewer lead to a ready hand.
 pub fn shanten(counts: &Counts, room: &Counts, melds: u8) -> Nearest
     requires { IsHand counts.now room.now melds }
-    ensures { IsShanten counts.now room.now melds result.number result.target }
+    ensures nearest { IsShanten counts.now room.now melds result.number result.target }
+    ensures exchanges { AreLeastExchanges counts.now room.now melds result.number result.target }
 {
     Suits::new(counts, room).shanten(melds)
 }
@@ -46,7 +52,8 @@ impl Suits {
     /// room is what the melds leave.
     pub fn shanten(&self, melds: u8) -> Nearest
         requires { IsHand self.now.counts self.now.room melds }
-        ensures { IsShanten self.now.counts self.now.room melds result.number result.target }
+        ensures nearest { IsShanten self.now.counts self.now.room melds result.number result.target }
+        ensures exchanges { AreLeastExchanges self.now.counts self.now.room melds result.number result.target }
     {
         let mut best = None;
         take_sets(self, 4 - melds, &mut best);
@@ -72,11 +79,12 @@ impl Suits {
     }
 }
 
-// How many tiles the nearest complete hand misses.
-fn least_missing(suits: &Suits, melds: u8) -> u8
+/// How many tiles the nearest complete hand misses.
+pub(crate) fn least_missing(suits: &Suits, melds: u8) -> u8
     requires few { melds ≤ 4 }
     requires room { IsRoom suits.now.room melds }
-    ensures { IsLeast suits.now.counts (IsGoal suits.now.room melds) result }
+    ensures least { IsLeast suits.now.counts (IsGoal suits.now.room melds) result }
+    ensures size { length suits.now.counts ≡ 34 }
 {
     let held = suits.held();
     let sets = missing_of_sets(suits, 4 - melds);

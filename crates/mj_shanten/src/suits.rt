@@ -259,7 +259,7 @@ pub(crate) fn keep_nearer(held: &[u8; 36], target: &[u8; 36], best: &mut Option<
 }
 
 // Whether the best hand misses fewer, or as few and is not lexicographically less.
-#[tactic(auto, using(crate::proofs::Hands::not_less_back))]
+#[tactic(auto, using(mj_lists::proofs::Order::not_less_back))]
 fn is_as_good(best: &Option<(u16, [u8; 36])>, number: u16, target: &[u8; 36]) -> bool
     ensures { MatchBool result
         (AsGood best.now (Some (number, target.now)))

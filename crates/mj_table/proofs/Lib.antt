@@ -1,1 +1,6 @@
-pub mod Readers
+mod FewItems
+mod Gathered
+mod HeldKinds
+mod InHand
+mod KindsAmong
+mod Readers

@@ -1,5 +1,5 @@
 -- What a table of deeds that fit holds, and what none of the deeds so far changes.
-use Rattle.std.proofs.Common.{◌≡◌, ℕ, suc, ◌+◌, ◌-◌, ◌<◌, ◌≤◌, ◌==◌, ◌⊎◌, inl, inr, List, [], ◌∷◌, ◌++◌, length, drop, cond, eqb, get_or, true, false, Bool, refl, sym, ap, ◌∙◌, subst, arith}
+use Rattle.std.proofs.Common.{◌≡◌, ℕ, suc, ◌+◌, ◌<◌, ◌≤◌, ◌==◌, ◌⊎◌, inl, inr, List, [], ◌∷◌, ◌++◌, length, cond, eqb, get_or, true, false, Bool, refl, sym, ap, ◌∙◌, subst, arith}
 use Rattle.std.specs.Prelude.{flat_map, Option, Some, None}
 use Rattle.std.specs.Option.{option_or}
 use Rattle.std.proofs.lemmas.Bool.{cases_lt, ne_eqb}
@@ -11,8 +11,8 @@ use Rattle.mj_tiles.specs.Counts.{number_of, kind_counts, NoFifth}
 use Rattle.mj_tiles.proofs.CountSteps.{length-kind_counts, get_or-kind_counts}
 use Rattle.mj_wall.proofs.TileOrder.{count_by-less}
 use Rattle.mj_deeds.specs.declared.deed.Deed.{Deed}
-use Rattle.mj_deeds.specs.declared.deed.Deed.TheVariants.{StartGame, StartHand, Draw, Discard, Chi, Pon, OpenKan, ClosedKan, AddedKan, Dora}
-use Rattle.mj_deeds.specs.Facts.{gains_by, gained, lost, concealed_tiles}
+use Rattle.mj_deeds.specs.declared.deed.Deed.TheVariants.{StartHand, Draw}
+use Rattle.mj_deeds.specs.Facts.{gains_by, tiles_gained, tiles_lost, concealed_tiles}
 use Rattle.mj_deeds.specs.Fits.{fits, all_fit, brought_by}
 use Rattle.mj_deeds.specs.Hand.{is_hand_start, hand}
 use Rattle.mj_deeds.specs.Facts.{newest}
@@ -21,9 +21,10 @@ use Rattle.mj_rounds.specs.Rounds.{first_standing}
 use Rattle.mj_rounds.specs.declared.rounds.Standing.{Standing}
 use Rattle.mj_deeds.proofs.Hands.{behind, hand_more, standing_stays, standing_starts}
 use Rattle.mj_deeds.proofs.Newest.{newest_more}
-use Rattle.mj_deeds.proofs.InHand.{newest_in_hand}
+use Rattle.mj_table.proofs.InHand.{newest_in_hand}
 use Rattle.mj_wall.specs.declared.setting.Rules.{Rules}
-use Rattle.mj_table.specs.Plays.{Play, Stands, opening, hand_with, opening_with}
+use Rattle.mj_table.specs.Plays.{Play}
+use Rattle.mj_table.specs.Inner.Kept.{Stands, opening, hand_with, opening_with}
 use Rattle.mj_deeds.proofs.FitSteps.{number_of_four}
 use Rattle.mj_deeds.proofs.Fitted.{all_fit-append, four_of_kind, first_start}
 
@@ -53,20 +54,13 @@ gains_within : (seat kind : ℕ) (d : Deed) → number_of (gains_by seat d) kind
 gains_within seat kind (StartHand round number honba deposits dealer indicator hands) =
     dealt_within hands.first hands.second hands.third hands.fourth indicator kind (eqb seat 0) (eqb seat 1) (eqb seat 2)
 gains_within seat kind (Draw who tile replacement) = drawn_within tile kind (eqb who seat)
-gains_within seat kind (StartGame names) = omega arith
-gains_within seat kind (Discard who tile drawn) = omega arith
-gains_within seat kind (Chi who target tile a b) = omega arith
-gains_within seat kind (Pon who target tile a b) = omega arith
-gains_within seat kind (OpenKan who target tile a b c) = omega arith
-gains_within seat kind (ClosedKan who a b c d) = omega arith
-gains_within seat kind (AddedKan who tile a b c) = omega arith
-gains_within seat kind (Dora tile) = omega arith
+gains_within seat kind other = omega arith
 
-gained_within : (ds : List Deed) (seat kind : ℕ) → number_of (gained ds seat) kind ≤ number_of (flat_map brought_by ds) kind
+gained_within : (ds : List Deed) (seat kind : ℕ) → number_of (tiles_gained ds seat) kind ≤ number_of (flat_map brought_by ds) kind
 gained_within [] seat kind = omega arith
 gained_within (d ∷ ds) seat kind =
     sum _ _ _ _ _ _
-    (ap (λ (xs : List ℕ). number_of xs kind) (flat_map-cons (gains_by seat) d ds) ∙ sum_by-append (λ t. cond (eqb (kind_of t) kind) 1 0) (gains_by seat d) (gained ds seat))
+    (ap (λ (xs : List ℕ). number_of xs kind) (flat_map-cons (gains_by seat) d ds) ∙ sum_by-append (λ t. cond (eqb (kind_of t) kind) 1 0) (gains_by seat d) (tiles_gained ds seat))
     (ap (λ (xs : List ℕ). number_of xs kind) (flat_map-cons brought_by d ds) ∙ sum_by-append (λ t. cond (eqb (kind_of t) kind) 1 0) (brought_by d) (flat_map brought_by ds))
     (gains_within seat kind d) (gained_within ds seat kind)
   where
@@ -85,7 +79,7 @@ holds_few red ds seat fit kind = by_kind (cases_lt kind 34)
 
     by_kind : (kind < 34) ⊎ (34 ≤ kind) → get_or (kind_counts (concealed_tiles (hand ds) seat)) kind 0 ≤ 4
     by_kind (inl small) =
-        chain _ _ _ _ (get_or-kind_counts (concealed_tiles (hand ds) seat) kind small) (count_by-less (λ t. eqb (kind_of t) kind) (gained (hand ds) seat) (lost (hand ds) seat))
+        chain _ _ _ _ (get_or-kind_counts (concealed_tiles (hand ds) seat) kind small) (count_by-less (λ t. eqb (kind_of t) kind) (tiles_gained (hand ds) seat) (tiles_lost (hand ds) seat))
         (gained_within (hand ds) seat kind) (four_of_kind red ds kind small fit)
     by_kind (inr large) =
         past _ (get_or_past (kind_counts (concealed_tiles (hand ds) seat)) kind 0 (subst (λ (n : ℕ). n ≤ kind) (sym (length-kind_counts (concealed_tiles (hand ds) seat))) large))

@@ -1,2 +1,3 @@
 pub mod Marks
 pub mod Plays
+pub mod Inner

@@ -1,34 +1,9 @@
 -- What a table stands for.
-use Rattle.std.specs.Prelude.{◌≡◌, ℕ, ◌==◌, IsTrue, if◌then◌else◌, List, [], ◌∷◌, ◌++◌, length, Option, Some, None}
-use Rattle.mj_rounds.specs.declared.rounds.Standing.{Standing}
+use Rattle.std.specs.Prelude.{List}
 use Rattle.mj_deeds.specs.declared.deed.Deed.{Deed}
-use Rattle.mj_deeds.specs.Facts.{newest}
-use Rattle.mj_deeds.specs.Fits.{all_fit}
-use Rattle.mj_deeds.specs.Hand.{is_hand_start, hand}
-use Rattle.mj_deeds.specs.Standings.{standing}
 use Rattle.mj_wall.specs.declared.setting.Rules.{Rules}
 
 -- The rules of a game and its deeds so far, the oldest first.
 pub record Play : Type 0 where
   pub rules : Rules
   pub deeds : List Deed
-
--- The newest deed as long as no hand has begun; none from then on.
-abbrev pub opening : List Deed → Option Deed
-opening deeds = if length (hand deeds) == 0 then newest deeds else None
-
--- What is kept stands for the deeds: each of them fits behind those before it, and kept are those of the newest hand, the
--- newest one where no hand has begun, and the standing.
-pub record Stands (rules : Rules) (deeds : List Deed) (in_hand : List Deed) (first : Option Deed) (now : Standing) : Type 0 where
-  pub fit : IsTrue (all_fit rules.red [] deeds)
-  pub hand : in_hand ≡ hand deeds
-  pub opening : first ≡ opening deeds
-  pub standing : now ≡ standing deeds
-
--- The newest hand with a deed more: a start begins one, and another deed belongs to the one that has begun.
-abbrev pub hand_with : List Deed → Deed → List Deed
-hand_with in_hand deed = if is_hand_start deed then deed ∷ [] else (if length in_hand == 0 then [] else in_hand ++ deed ∷ [])
-
--- With a deed more, the newest deed as long as no hand has begun.
-abbrev pub opening_with : List Deed → Deed → Option Deed
-opening_with in_hand deed = if length (hand_with in_hand deed) == 0 then Some deed else None

@@ -1,7 +1,11 @@
 //! A table stands for the rules of a game and its deeds so far, and says each fact of them.
 #![tactic(auto)]
 
+mod counting;
+mod course;
 mod marks;
+mod melds;
+mod passed;
 mod reason;
 mod standing;
 mod table;

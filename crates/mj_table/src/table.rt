@@ -2,18 +2,22 @@ ghost use Rattle.std.specs.Prelude.{◌≡◌, ◌≤◌, ◌<◌, ◌-◌, ◌+
 ghost use Rattle.std.specs.List.{list_any};
 ghost use Rattle.mj_tiles.specs.Faces.{number_in};
 ghost use Rattle.mj_tiles.specs.Counts.{kind_counts};
-ghost use Rattle.mj_deeds.specs.Facts.{newest, concealed_tiles, gained, lost, drawn_tile, seat_melds, kans, kan_seats, indicators, live_draws, live_tiles};
+ghost use Rattle.mj_deeds.specs.Facts.{newest, concealed_tiles, tiles_gained, tiles_lost, drawn_tile, seat_melds, kans, kan_seats, indicators, live_draws, live_tiles};
 ghost use Rattle.mj_deeds.specs.Fits.{fits, all_fit, is_triplet_of};
 ghost use Rattle.mj_deeds.specs.Course.{cause};
 ghost use Rattle.mj_deeds.specs.Passed.{own_kinds, passed_kinds};
 ghost use Rattle.mj_deeds.specs.Points.{points, deposits};
 ghost use Rattle.mj_deeds.specs.Reasons.{reason};
 ghost use Rattle.mj_table.specs.Marks.{marks};
-ghost use Rattle.mj_table.specs.Plays.{hand_with, opening_with};
+ghost use Rattle.mj_table.specs.Inner.Kept.{hand_with, opening_with};
 ghost use Rattle.mj_deeds.specs.Hand.{hand};
 ghost use Rattle.mj_deeds.specs.Standings.{standing};
 
+use crate::counting::held_counts;
+use crate::course::{cause, drawn, indicator, kan_seat, shown};
 use crate::marks::{Marks, marks_of};
+use crate::melds::held_melds;
+use crate::passed::{own_kinds, passed_kinds};
 use crate::reason::reason;
 use crate::standing::standing_with;
 use mj_deeds::{Deed, Reason, is_hand_start};
@@ -39,7 +43,8 @@ pub struct Table {
 }
 
 impl Model for Table {
-    ghost use Rattle.mj_table.specs.Plays.{Play, Stands};
+    ghost use Rattle.mj_table.specs.Plays.{Play};
+    ghost use Rattle.mj_table.specs.Inner.Kept.{Stands};
 
     ghost Value = { Play };
 
@@ -128,7 +133,7 @@ impl Table {
     pub fn cause(&self) -> Option<&Deed>
         ensures { option_copied result ≡ cause self.now.deeds }
     {
-        mj_deeds::cause(self.hand())
+        cause(self.hand())
     }
 
     /// The points of the four seats: 30,000 each at the start.
@@ -174,7 +179,7 @@ impl Table {
     pub fn kan_seat(&self) -> Option<u8>
         ensures { result ≡ slice_get (kan_seats (hand self.now.deeds)) (length (kan_seats (hand self.now.deeds)) - 1) }
     {
-        mj_deeds::kan_seat(self.hand())
+        kan_seat(self.hand())
     }
 
     /// The standing of the newest hand; before the first hand that of hand 0: round east, dealer 0, no honba.
@@ -188,42 +193,42 @@ impl Table {
     pub fn indicator(&self, k: u8) -> Option<Tile>
         ensures { result ≡ slice_get (indicators (hand self.now.deeds)) k }
     {
-        mj_deeds::indicator(self.hand(), usize::from(k))
+        indicator(self.hand(), usize::from(k))
     }
 
     /// How many indicators are shown.
     pub fn shown(&self) -> usize
         ensures { result ≡ length (indicators (hand self.now.deeds)) }
     {
-        mj_deeds::shown(self.hand())
+        shown(self.hand())
     }
 
     /// How often each kind stands among the concealed tiles of a seat.
     pub fn holds(&self, seat: u8) -> Counts
         ensures { result ≡ kind_counts (concealed_tiles (hand self.now.deeds) seat) }
     {
-        mj_deeds::held_counts(self.hand(), seat)
+        held_counts(self.hand(), seat)
     }
 
     /// How many concealed tiles of the face of a tile a seat holds, four at most.
-    pub fn held(&self, seat: u8, tile: Tile) -> usize
-        ensures { result ≡ min (number_in (gained (hand self.now.deeds) seat) tile - number_in (lost (hand self.now.deeds) seat) tile) 4 }
+    pub fn held_count(&self, seat: u8, tile: Tile) -> usize
+        ensures { result ≡ min (number_in (tiles_gained (hand self.now.deeds) seat) tile - number_in (tiles_lost (hand self.now.deeds) seat) tile) 4 }
     {
-        mj_deeds::held(self.hand(), seat, tile)
+        mj_deeds::held_count(self.hand(), seat, tile)
     }
 
     /// The tile that a seat has drawn and holds as drawn; none exactly where the newest deed isn't its draw.
     pub fn drawn(&self, seat: u8) -> Option<Tile>
         ensures { result ≡ drawn_tile self.now.deeds seat }
     {
-        mj_deeds::drawn(self.hand(), seat)
+        drawn(self.hand(), seat)
     }
 
     /// The melds of a seat, in the order in which they were made; a pon that a tile was added to is an added kan.
     pub fn melds(&self, seat: u8) -> Melds
         ensures { result ≡ seat_melds (hand self.now.deeds) seat }
     {
-        mj_deeds::held_melds(self.hand(), seat)
+        held_melds(self.hand(), seat)
     }
 
     /// Whether a seat has a pon that no tile was added to, of the tiles `a`, `b` and `c` in tile order, and of the kind of
@@ -238,7 +243,7 @@ impl Table {
     pub fn own(&self, seat: u8) -> Kinds
         ensures { result ≡ own_kinds (hand self.now.deeds) seat }
     {
-        mj_deeds::own_kinds(self.hand(), seat)
+        own_kinds(self.hand(), seat)
     }
 
     /// The kinds that a seat let pass: those of the tiles that others discarded, or added to a triplet, since its own last
@@ -246,7 +251,7 @@ impl Table {
     pub fn passed(&self, seat: u8) -> Kinds
         ensures { result ≡ passed_kinds (hand self.now.deeds) seat }
     {
-        mj_deeds::passed_kinds(self.hand(), seat)
+        passed_kinds(self.hand(), seat)
     }
 
     /// The first reason for a drawn hand before its live tiles are drawn, in a game whose rules have such draws: the first

@@ -55,9 +55,9 @@ call_or_pass bid = Call bid
 
 -- By the newest deed: a discard is called by the best bid; who drew or called acts by its own answer; and else nothing is
 -- decided by the answers.
-abbrev pub decided : Deed → Four Answer → Decision
-decided (Discard seat tile drawn) given = call_or_pass (best_bid given)
-decided (Draw seat tile replacement) given = Act seat (at_seat given seat)
-decided (Chi seat target tile a b) given = Act seat (at_seat given seat)
-decided (Pon seat target tile a b) given = Act seat (at_seat given seat)
-decided other given = Pass
+abbrev pub decision_by : Deed → Four Answer → Decision
+decision_by (Discard seat tile drawn) given = call_or_pass (best_bid given)
+decision_by (Draw seat tile replacement) given = Act seat (at_seat given seat)
+decision_by (Chi seat target tile a b) given = Act seat (at_seat given seat)
+decision_by (Pon seat target tile a b) given = Act seat (at_seat given seat)
+decision_by other given = Pass

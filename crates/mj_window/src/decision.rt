@@ -2,7 +2,7 @@ ghost use Rattle.std.specs.Prelude.{◌≡◌, unwrap_or};
 ghost use Rattle.mj_deeds.specs.Four.{at_seat};
 ghost use Rattle.mj_deeds.specs.declared.bid.Bid.TheVariants.{NoBid};
 ghost use Rattle.mj_window.specs.declared.decision.Decision.TheVariants.{Act};
-ghost use Rattle.mj_window.specs.Decided.{decided, triplet_bid, run_bid, or_bid, bid_by, best_bid, call_or_pass};
+ghost use Rattle.mj_window.specs.Decided.{decision_by, triplet_bid, run_bid, or_bid, bid_by, best_bid, call_or_pass};
 
 use mj_deeds::{Answer, Bid, Deed, Four};
 
@@ -22,7 +22,7 @@ pub enum Decision {
 /// Of several bids of one sort, which no four lawful answers hold, the one of the first seat counts, and one with a hidden
 /// tile is none.
 pub fn decide(last: &Deed, answers: &Four<Answer>) -> Decision
-    ensures { result ≡ decided last.now answers.now }
+    ensures { result ≡ decision_by last.now answers.now }
 {
     match last {
         Deed::Discard { .. } => call(answers),

@@ -1,9 +1,9 @@
 ghost use Rattle.std.specs.Prelude.{◌≡◌, IfOk, Some, None, false, if◌then◌else◌, codes, bytes_eq, option_map, unwrap_or};
 ghost use Rattle.std.specs.List.{list_any};
 ghost use Rattle.serde_json.specs.View.{view};
-ghost use Rattle.mj_protocol.specs.Reading.{answer_of, answer_in as answer_read, answer_by as answer_of_type, pass_in as pass_read, discard_in as discard_read, call_in as call_read, closed_kan_in as closed_kan_read, added_kan_in as added_kan_read, chi_by, pon_by, open_kan_by, with_three, with_four, pai_in as pai_read, pai_of as pai_of_text, names_later_type as later_type_named, later_types, text_in as text_read};
+ghost use Rattle.mj_protocol.specs.AnswerForms.{answer_of, answer_in as answer_read, answer_by as answer_of_type, pass_in as pass_read, discard_in as discard_read, call_in as call_read, closed_kan_in as closed_kan_read, added_kan_in as added_kan_read, with_three_tiles, with_four_tiles, pai_in as pai_read, pai_of as pai_of_text, names_later_type as later_type_named, later_types, text_in as text_read};
 ghost use Rattle.mj_deeds.specs.declared.answer.Answer.TheVariants.{ClosedKan, AddedKan};
-ghost use Rattle.mjai_lines.specs.Calls.{called};
+ghost use Rattle.mjai_lines.specs.Inner.Calls.{answer_of_call};
 
 use crate::own::own_in;
 use crate::value::{read_value, seat_as, seat_in, text_in};
@@ -17,7 +17,7 @@ use std::alloc::{AllocError, Global};
 /// the right form: a seat is a whole number from 0 to 3, a tile one of the 37 texts or a question mark, and the consumed
 /// tiles are as many as the type takes, in any order; they are read into tile order, hidden ones last. Other fields are
 /// ignored, and of equal keys the last counts. The only error is want of memory.
-#[tactic(auto, unfolding(mj_protocol::specs::Reading::answer_of))]
+#[tactic(auto, unfolding(mj_protocol::specs::AnswerForms::answer_of))]
 pub fn read_answer(alloc: Global, line: &[u8]) -> Result<Answer, AllocError>
     ensures { IfOk result (λ a. a ≡ answer_of line.now) }
 {
@@ -31,7 +31,7 @@ pub fn read_answer(alloc: Global, line: &[u8]) -> Result<Answer, AllocError>
 }
 
 // The answer that a value is.
-#[tactic(auto, unfolding(mj_protocol::specs::Reading::answer_in))]
+#[tactic(auto, unfolding(mj_protocol::specs::AnswerForms::answer_in))]
 fn answer_in(alloc: Global, value: &Value) -> Result<Option<Answer>, AllocError>
     ensures { IfOk result (λ a. a ≡ answer_read (view value.now)) }
 {
@@ -58,7 +58,7 @@ fn answer_by(alloc: Global, type_name: &str, value: &Value) -> Result<Option<Ans
 }
 
 // The pass that a value is.
-#[tactic(auto, unfolding(mj_protocol::specs::Reading::pass_in))]
+#[tactic(auto, unfolding(mj_protocol::specs::AnswerForms::pass_in))]
 fn pass_in(value: &Value) -> Option<Answer>
     ensures { result ≡ pass_read (view value.now) }
 {
@@ -71,7 +71,7 @@ fn pass_in(value: &Value) -> Option<Answer>
 }
 
 // The discard that a value is.
-#[tactic(auto, unfolding(mj_protocol::specs::Reading::discard_in))]
+#[tactic(auto, unfolding(mj_protocol::specs::AnswerForms::discard_in))]
 fn discard_in(value: &Value) -> Option<Answer>
     ensures { result ≡ discard_read (view value.now) }
 {
@@ -90,9 +90,9 @@ pub(crate) enum Call {
 }
 
 // The call that a value is.
-#[tactic(auto, unfolding(mj_protocol::specs::Reading::call_in))]
+#[tactic(auto, unfolding(mj_protocol::specs::AnswerForms::call_in))]
 fn call_in(alloc: Global, call: Call, value: &Value) -> Result<Option<Answer>, AllocError>
-    ensures { IfOk result (λ a. a ≡ call_read (called call) (view value.now)) }
+    ensures { IfOk result (λ a. a ≡ call_read (answer_of_call call) (view value.now)) }
 {
     let Some(actor) = seat_in("actor", value) else {
         return Ok(None);
@@ -109,55 +109,26 @@ fn call_in(alloc: Global, call: Call, value: &Value) -> Result<Option<Answer>, A
     }
 }
 
-// The call with these own tiles, where they are as many as it takes.
+// The call with these own tiles, where they are as many as it takes: two for a chi or a pon, three for an open kan.
 fn call_of(call: Call, actor: u8, target: u8, tile: Pai, own: &[Pai]) -> Option<Answer>
-    ensures { result ≡ called call actor target tile own.now }
+    ensures { result ≡ answer_of_call call actor target tile own.now }
 {
-    match call {
-        Call::Chi => chi_of(actor, target, tile, own),
-        Call::Pon => pon_of(actor, target, tile, own),
-        Call::OpenKan => open_kan_of(actor, target, tile, own),
-    }
-}
-
-// The chi with these own tiles, where they are two.
-fn chi_of(actor: u8, target: u8, tile: Pai, own: &[Pai]) -> Option<Answer>
-    ensures { result ≡ chi_by actor target tile own.now }
-{
-    match own {
-        [a, b] => Some(Answer::Chi {
+    match (call, own) {
+        (Call::Chi, [a, b]) => Some(Answer::Chi {
             actor,
             target,
             tile,
             a: *a,
             b: *b,
         }),
-        _ => None,
-    }
-}
-
-// The pon with these own tiles, where they are two.
-fn pon_of(actor: u8, target: u8, tile: Pai, own: &[Pai]) -> Option<Answer>
-    ensures { result ≡ pon_by actor target tile own.now }
-{
-    match own {
-        [a, b] => Some(Answer::Pon {
+        (Call::Pon, [a, b]) => Some(Answer::Pon {
             actor,
             target,
             tile,
             a: *a,
             b: *b,
         }),
-        _ => None,
-    }
-}
-
-// The open kan with these own tiles, where they are three.
-fn open_kan_of(actor: u8, target: u8, tile: Pai, own: &[Pai]) -> Option<Answer>
-    ensures { result ≡ open_kan_by actor target tile own.now }
-{
-    match own {
-        [a, b, c] => Some(Answer::OpenKan {
+        (Call::OpenKan, [a, b, c]) => Some(Answer::OpenKan {
             actor,
             target,
             tile,
@@ -170,7 +141,7 @@ fn open_kan_of(actor: u8, target: u8, tile: Pai, own: &[Pai]) -> Option<Answer>
 }
 
 // The kan of concealed tiles that a value is.
-#[tactic(auto, unfolding(mj_protocol::specs::Reading::closed_kan_in))]
+#[tactic(auto, unfolding(mj_protocol::specs::AnswerForms::closed_kan_in))]
 fn closed_kan_in(alloc: Global, value: &Value) -> Result<Option<Answer>, AllocError>
     ensures { IfOk result (λ a. a ≡ closed_kan_read (view value.now)) }
 {
@@ -185,7 +156,7 @@ fn closed_kan_in(alloc: Global, value: &Value) -> Result<Option<Answer>, AllocEr
 
 // The kan of these concealed tiles, where they are four.
 fn closed_kan_of(actor: u8, own: &[Pai]) -> Option<Answer>
-    ensures { result ≡ with_four (λ a b c d. ClosedKan actor a b c d) own.now }
+    ensures { result ≡ with_four_tiles (λ a b c d. ClosedKan actor a b c d) own.now }
 {
     match own {
         [a, b, c, d] => Some(Answer::ClosedKan {
@@ -200,7 +171,7 @@ fn closed_kan_of(actor: u8, own: &[Pai]) -> Option<Answer>
 }
 
 // The added kan that a value is.
-#[tactic(auto, unfolding(mj_protocol::specs::Reading::added_kan_in))]
+#[tactic(auto, unfolding(mj_protocol::specs::AnswerForms::added_kan_in))]
 fn added_kan_in(alloc: Global, value: &Value) -> Result<Option<Answer>, AllocError>
     ensures { IfOk result (λ a. a ≡ added_kan_read (view value.now)) }
 {
@@ -218,7 +189,7 @@ fn added_kan_in(alloc: Global, value: &Value) -> Result<Option<Answer>, AllocErr
 
 // The added kan with this triplet, where it has three tiles.
 fn added_kan_of(actor: u8, tile: Pai, own: &[Pai]) -> Option<Answer>
-    ensures { result ≡ with_three (λ a b c. AddedKan actor tile a b c) own.now }
+    ensures { result ≡ with_three_tiles (λ a b c. AddedKan actor tile a b c) own.now }
 {
     match own {
         [a, b, c] => Some(Answer::AddedKan {
@@ -233,7 +204,7 @@ fn added_kan_of(actor: u8, tile: Pai, own: &[Pai]) -> Option<Answer>
 }
 
 // The tile that a field names.
-#[tactic(auto, unfolding(mj_protocol::specs::Reading::pai_in))]
+#[tactic(auto, unfolding(mj_protocol::specs::AnswerForms::pai_in))]
 fn pai_in(name: &str, value: &Value) -> Option<Pai>
     ensures { result ≡ pai_read name.now (view value.now) }
 {
@@ -241,7 +212,7 @@ fn pai_in(name: &str, value: &Value) -> Option<Pai>
 }
 
 // The tile that a text names.
-#[tactic(auto, unfolding(mj_protocol::specs::Reading::pai_of))]
+#[tactic(auto, unfolding(mj_protocol::specs::AnswerForms::pai_of))]
 pub(crate) fn pai_of(text: &str) -> Option<Pai>
     ensures { result ≡ pai_of_text text.now }
 {
@@ -254,7 +225,7 @@ pub(crate) fn pai_of(text: &str) -> Option<Pai>
 /// What a line reads as, as `read_answer` says; none exactly where the line is an object whose type is one of the answers
 /// that are not built: riichi, a win, and a draw declared with nine kinds. The line is parsed once. The only error is want
 /// of memory.
-#[tactic(auto, unfolding(mj_protocol::specs::Reading::names_later_type, mj_protocol::specs::Reading::answer_of))]
+#[tactic(auto, unfolding(mj_protocol::specs::AnswerForms::names_later_type, mj_protocol::specs::AnswerForms::answer_of))]
 pub fn read_built(alloc: Global, line: &[u8]) -> Result<Option<Answer>, AllocError>
     ensures { IfOk result (λ a. a ≡ (if later_type_named line.now then None else Some (answer_of line.now))) }
 {

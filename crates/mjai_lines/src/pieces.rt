@@ -27,7 +27,7 @@ pub(crate) fn push_tile(line: &mut Vec<u8>, tile: Tile) -> Result<(), AllocError
 }
 
 // Writes a tile as it is seen: a question mark for a hidden one.
-#[tactic(auto, unfolding(mj_protocol::specs::Lines::hidden))]
+#[tactic(auto, unfolding(mj_protocol::specs::Lines::hidden_tile))]
 pub(crate) fn push_tile_seen(line: &mut Vec<u8>, seen: bool, tile: Tile) -> Result<(), AllocError>
     ensures { OnOk result (Adds line.old.items line.new.items (tile_seen seen tile)) }
 {

@@ -1,6 +1,6 @@
-//! Deeds, answers and bids as lines, read for the tests: `game`; `hand|P|123m|..`, with the indicator and the tiles of the four
-//! seats; `draw 0 1m` and `replace 0 1m`; `discard 0 1m`, and `cut 0 1m` for a drawn tile; `chi 1 0 3m 4m 5m` by seat 1 of the
-//! tile of seat 0; `pon` and `open` likewise; `closed 0 1m 1m 1m 1m`; `added 0 E E E E`; `dora 9p`.
+//! Deeds, answers and bids as lines, read for the tests: `game`; `hand|P|123m|..`, with the indicator and the tiles of
+//! the four seats; `draw 0 1m` and `replace 0 1m`; `discard 0 1m`, and `cut 0 1m` for a drawn tile; `chi 1 0 3m 4m 5m`
+//! by seat 1 of the tile of seat 0; `pon` and `open` likewise; `closed 0 1m 1m 1m 1m`; `added 0 E E E E`; `dora 9p`.
 
 use crate::words::{fields, kind, number, tile, tiles, words};
 use mj_deeds::{Answer, Bid, Deed, Four, Pai, Tiles};
@@ -66,7 +66,8 @@ fn draw(words: &[&str; 8], replacement: bool) -> Option<Deed> {
     })
 }
 
-/// What a seat does by itself in a line's words, in an enum whose variants name it in this way, with tiles read in this way.
+/// What a seat does by itself in a line's words, in an enum whose variants name it in this way, with tiles read in this
+/// way.
 macro_rules! by_itself {
     ($deeds:ident, $seat:ident, $read:ident, $words:expr) => {{
         let [word, seat, a, b, c, d, ..] = *$words;
@@ -111,8 +112,8 @@ pub(crate) fn bid(line: &str) -> Option<Bid> {
     call!(Bid, seat, tile, words(line))
 }
 
-/// The answer of a line, which stands as a deed's, or is `unread`, `pass`, or `pass 0` with its actor. A hidden tile is `*`.
-/// Take it by `let`, since rattle has no proof of a `?` that gives an answer which is used from there on.
+/// The answer of a line, which stands as a deed's, or is `unread`, `pass`, or `pass 0` with its actor. A hidden tile is
+/// `*`. Take it by `let`, since rattle has no proof of a `?` that gives an answer which is used from there on.
 pub(crate) fn answer(line: &str) -> Option<Answer> {
     let words = words(line);
     match words[0] {

@@ -1,17 +1,16 @@
 use crate::deed_words::deed;
-use crate::play::{meld, name};
-use crate::words::{are, counts, kinds, number, tile, tile_or_none, tiles, words, yes};
+use crate::play::meld;
+use crate::words::{are, number, tile, tiles, words, yes};
 use mj_deeds::{
-    Deed, Four, Pai, Tiles, before_in, cause, concealed, drawn, fits, has_triplet, held,
-    held_counts, held_melds, indicator, is_call, is_hand_start, kan_seat, kans, live_drawn,
-    live_left, melds, next_seat, ordered, own_kinds, passed_kinds, river, seat_of_kan, shown,
+    Deed, Four, Pai, Tiles, before_in, concealed, discarded_by, fits, has_triplet, held_count,
+    is_call, is_hand_start, kans, live_drawn, live_left, meld_at, melds, next_seat, ordered, river,
+    seat_of_kan,
 };
-use mj_tiles::{Counts, Meld, counts_of};
+use mj_tiles::Tile;
 use std::alloc::Global;
 
 /// Deeds, whether they fit or not, and questions about those before.
 const CALLS: &str = "\
-cause? none
 hand|F|1125m|1p||
 draw 0 5mr
 discard 0 1m
@@ -25,10 +24,7 @@ held 0 1m? 1
 held 0 5m? 1
 held 0 5mr? 1
 held 0 C? 0
-drawn 2? 3s
-drawn 1? none
 live_drawn? 3
-counts 0? 1255m
 pon 2 0 1m 1m 1m
 chi 0 3 3p 2p 5pr
 pon 0 1 5mr 5m 5m
@@ -37,6 +33,7 @@ dora 1p
 meld 2 0? added 1m 1m 1m 1m
 meld 0 0? chi 2p 3p 5pr
 meld 0 1? pon 5m 5m 5mr
+meld 0 2? none
 melds 0? 2
 melds 2? 1
 melds 3? 0
@@ -44,21 +41,12 @@ triplet 0 5m 5m 5m 5mr? yes
 triplet 0 1m 5m 5m 5mr? no
 triplet 2 1m 1m 1m 1m? no
 kans? 1
-shown? 2
 live_left? 66
-kan_seat? 2
 held 0 5m? 0
-indicator 0? F
-indicator 1? 1p
-indicator 2? none
-cause? added
-own 0? 1m
-own 1? C
-passed 0? 1m C
-passed 1? 1m
 concealed 0? 120m";
 
-/// Seat 0 has made four concealed kans and holds four 5m; seat 1 holds four 6m: no fifth kan, and no fifth tile of a kind.
+/// Seat 0 has made four concealed kans and holds four 5m; seat 1 holds four 6m: no fifth kan, and no fifth tile of a
+/// kind.
 const FOUR_KANS: &str = "\
 hand|C|11112222333344445555m|6666m||
 closed 0 1m 1m 1m 1m
@@ -102,13 +90,8 @@ fn tells(alloc: Global, deeds: &[Deed], question: &str, told: &str) -> Option<bo
     }
     let words = words(question);
     match words[0] {
-        "live_left" | "live_drawn" | "kans" | "shown" => {
+        "live_left" | "live_drawn" | "kans" => {
             Some(number_told(deeds, words[0]) == usize::from(number(told)?))
-        }
-        "kan_seat" => Some(kan_seat(deeds) == number(told)),
-        "cause" => Some(name(cause(deeds)) == told),
-        "indicator" => {
-            Some(indicator(deeds, usize::from(number(words[1])?)) == tile_or_none(told)?)
         }
         "concealed" => Some(has_concealed(alloc, deeds, number(words[1])?, told)?),
         "river" => Some(are(
@@ -123,8 +106,7 @@ fn number_told(deeds: &[Deed], word: &str) -> usize {
     match word {
         "live_left" => live_left(deeds),
         "live_drawn" => live_drawn(deeds),
-        "kans" => kans(deeds),
-        _ => shown(deeds),
+        _ => kans(deeds),
     }
 }
 
@@ -133,35 +115,18 @@ fn tells_of_seat(alloc: Global, deeds: &[Deed], words: &[&str; 8], told: &str) -
     let [word, seat, a, b, c, d, ..] = *words;
     let seat = number(seat)?;
     match word {
-        "held" => Some(held(deeds, seat, tile(a)?) == usize::from(number(told)?)),
-        "drawn" => Some(drawn(deeds, seat) == tile_or_none(told)?),
-        "counts" => Some(counts_held(alloc, deeds, seat)? == counts(told)?),
-        "own" => Some(own_kinds(deeds, seat) == kinds(told)),
-        "passed" => Some(passed_kinds(deeds, seat) == kinds(told)),
+        "held" => Some(held_count(deeds, seat, tile(a)?) == usize::from(number(told)?)),
         "melds" => Some(melds(alloc, deeds, seat).ok()?.len() == usize::from(number(told)?)),
-        "meld" => Some(meld_held(alloc, deeds, seat, number(a)?)? == meld(told)?),
+        "meld" => {
+            let place = usize::from(number(a)?);
+            Some(meld_at(deeds, seat, place) == meld(told))
+        }
         "triplet" => {
             let (a, b, c, d) = (tile(a)?, tile(b)?, tile(c)?, tile(d)?);
             Some(has_triplet(deeds, seat, a, b, c, d) == yes(told)?)
         }
         _ => None,
     }
-}
-
-/// How often a seat holds each kind, where it holds none more than four times.
-fn counts_held(alloc: Global, deeds: &[Deed], seat: u8) -> Option<Counts> {
-    let held = concealed(alloc, deeds, seat).ok()?;
-    counts_of(held.as_slice())?;
-    Some(held_counts(deeds, seat))
-}
-
-/// The meld of a seat at a place, as both lists of its melds have it; they hold at most four.
-fn meld_held(alloc: Global, deeds: &[Deed], seat: u8, place: u8) -> Option<Meld> {
-    let made = melds(alloc, deeds, seat).ok()?;
-    if made.len() > 4 || held_melds(deeds, seat).as_slice() != made.as_slice() {
-        return None;
-    }
-    made.get(usize::from(place)).copied()
 }
 
 fn has_concealed(alloc: Global, deeds: &[Deed], seat: u8, told: &str) -> Option<bool> {
@@ -217,6 +182,19 @@ fn each_seat_has_its_own_and_its_next(rt: HostRuntime) {
 fn is_so(alloc: Global, line: &str) -> Option<(bool, Option<u8>, bool)> {
     let deed = deed(alloc, line)?.copy().ok()?;
     Some((is_call(&deed), seat_of_kan(&deed), is_hand_start(&deed)))
+}
+
+/// The tile that a seat discards by a deed.
+fn gone(alloc: Global, line: &str, seat: u8) -> Option<Tile> {
+    discarded_by(&deed(alloc, line)?, seat)
+}
+
+#[test]
+fn a_discard_is_its_own_seats(rt: HostRuntime) {
+    let one = tile("1p");
+    assert!(rt; one.is_some() && gone(rt.alloc(), "cut 2 1p", 2) == one);
+    assert!(rt; gone(rt.alloc(), "cut 2 1p", 1).is_none());
+    assert!(rt; gone(rt.alloc(), "draw 2 1p", 2).is_none());
 }
 
 #[test]

@@ -36,7 +36,8 @@ default 0? cut 0 1m
 discard 0 5m
 judge 1 chi 1 0 5m 4m 5mr? NotHeld";
 
-/// Seat 0 discards 3m, which seat 1 could take for a run and seat 2 for a triplet; seat 1 takes it, and may not discard 6m.
+/// Seat 0 discards 3m, which seat 1 could take for a run and seat 2 for a triplet; seat 1 takes it, and may not discard
+/// 6m.
 const CALLED: &str = "\
 game
 hand|P|3m|456m S F|3345m|E

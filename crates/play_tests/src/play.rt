@@ -1,4 +1,5 @@
-//! Games as texts, played line by line on a table. A line is a deed, or a question and what the table tells: `live? 64`.
+//! Games as texts, played line by line on a table. A line is a deed, or a question and what the table tells: `live?
+//! 64`.
 
 use crate::deed_words::{answer, deed};
 use crate::rounds::standing;
@@ -10,7 +11,8 @@ use mj_tiles::{Form, Kinds, Meld, Tile};
 use mj_wall::Rules;
 use std::alloc::Global;
 
-/// The first line of a game that is no deed which fits, and no question with the right answer; empty where there is none.
+/// The first line of a game that is no deed which fits, and no question with the right answer; empty where there is
+/// none.
 pub(crate) fn wrong_line<'a>(alloc: Global, game: &'a str) -> &'a str {
     let Ok(mut table) = Table::new(alloc, rules(game)) else {
         return "no memory";
@@ -101,7 +103,7 @@ fn tells_of_seat(table: &Table, words: &[&str; 8], told: &str) -> Option<bool> {
     match word {
         "drawn" => Some(table.drawn(seat) == tile_or_none(told)?),
         "holds" => Some(table.holds(seat) == counts(told)?),
-        "held" => Some(table.held(seat, tile(a)?) == usize::from(number(told)?)),
+        "held" => Some(table.held_count(seat, tile(a)?) == usize::from(number(told)?)),
         "own" => Some(table.own(seat) == kinds(told)),
         "passed" => Some(table.passed(seat) == kinds(told)),
         "melds" => Some(table.melds(seat).as_slice().len() == usize::from(number(told)?)),
@@ -203,12 +205,12 @@ fn judges(table: &Table, line: &str, told: &str) -> Option<bool> {
     };
     match judge(table, seat, &answer) {
         Ok(()) => Some(told == "lawful"),
-        Err(broken) => Some(rule(broken) == told),
+        Err(broken_rule) => Some(rule(broken_rule) == told),
     }
 }
 
-fn rule(broken: Rule) -> &'static str {
-    match broken {
+fn rule(broken_rule: Rule) -> &'static str {
+    match broken_rule {
         Rule::Unreadable => "Unreadable",
         Rule::NotYours => "NotYours",
         Rule::NotNow => "NotNow",

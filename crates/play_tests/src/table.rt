@@ -122,6 +122,14 @@ passed 2? P
 passed 3? 5m 2s
 riichi 3? no";
 
+/// A red five counts as a five.
+const RED: &str = "\
+game red
+hand|F|1125m|1p||
+draw 0 5mr
+discard 0 1m
+holds 0? 1255m";
+
 /// Any call ends the first turn of each seat: a chi, a pon, a kan; a draw and an indicator don't.
 const CHI: &str = "\
 game
@@ -208,6 +216,7 @@ fn a_table_tells_what_its_deeds_come_to(rt: HostRuntime) {
     for game in [
         BEGINNING,
         KANS,
+        RED,
         CHI,
         PON,
         OPEN,

@@ -3,8 +3,8 @@ use mj_tiles::Tile;
 use mj_wall::{Rules, Setting, Wall, Walls};
 use std::alloc::Global;
 
-/// How many tiles of the sorted wall are read (behind its 136 one C more), with tiles put into places, in a game with red
-/// fives or without; and the place that is wrong, if it is no wall.
+/// How many tiles of the sorted wall are read (behind its 136 one C more), with tiles put into places, in a game with
+/// red fives or without; and the place that is wrong, if it is no wall.
 const WALLS: &str = "\
 136||plain|wall
 136||red|19
@@ -63,8 +63,8 @@ fn takes() -> Option<bool> {
     Some(dealt && drawn && are(&shown, "F N F") && wall.tiles() == &tiles[..136])
 }
 
-/// The number of the walls of a setting.
-fn number_of_walls(alloc: Global) -> Option<usize> {
+/// Whether a setting has just the wall that it was given.
+fn has_its_wall(alloc: Global) -> Option<bool> {
     let tiles = changed("")?;
     let wall = Wall::read(&tiles[..136], false).ok()?;
     let mut walls = Vec::new(alloc);
@@ -77,11 +77,14 @@ fn number_of_walls(alloc: Global) -> Option<usize> {
             red: false,
         },
     };
-    Some(setting.walls.as_slice().len())
+    let [kept] = setting.walls.as_slice() else {
+        return None;
+    };
+    Some(kept.tiles() == &tiles[..136])
 }
 
 #[test]
 fn tiles_are_taken_from_their_places(rt: HostRuntime) {
     assert!(rt; takes() == Some(true));
-    assert!(rt; number_of_walls(rt.alloc()) == Some(1));
+    assert!(rt; has_its_wall(rt.alloc()) == Some(true));
 }

@@ -10,5 +10,5 @@ returns c = record {
   room = c.in-Some.room;
   melds = 0;
   is_hand = closed_hand _ _ c.tiles_among.result c.tiles_among.ensures.total (omega arith) c.tiles_among.ensures.few c.in-Some.ensures.1;
-  is_shanten = c.shanten.ensures;
+  is_shanten = c.shanten.ensures.nearest;
 }

@@ -1,11 +1,11 @@
 use Rattle.std.proofs.Common.{◌≡◌, length}
 use Rattle.mj_bytes.specs.Parts.{fields}
-use Rattle.mj_protocol.specs.Arrivals.{tiles_of}
-use Rattle.mj_front.proofs.TileLaws.{onto}
+use Rattle.mj_lists.proofs.Onto.{onto}
+use Rattle.mj_protocol.specs.Arrivals.{tiles_in}
 use Rattle.mj_front.proofs.form.read_tiles.Given as goal
 
 abbrev pub invariant-loop-field : goal.invariant-loop-field
-invariant-loop-field l = tiles_of (fields l.text) ≡ onto l.tiles.items (tiles_of (fields l.rest))
+invariant-loop-field l = tiles_in (fields l.text) ≡ onto l.tiles.items (tiles_in (fields l.rest))
 
 abbrev pub decreases-loop-field : goal.decreases-loop-field
 decreases-loop-field l = length l.rest

@@ -6,7 +6,7 @@ returns c = record {
   number = c.shanten-nearest.result.number;
   target = c.shanten-nearest.result.target;
   waits = c.waits-kinds.result;
-  is = c.shanten-nearest.ensures;
+  is = c.shanten-nearest.ensures.nearest;
   waits_are = c.waits-kinds.ensures.law;
   text_is =
       lines_written _ _ _ _ _ _ _ c.new-text.ensures.items

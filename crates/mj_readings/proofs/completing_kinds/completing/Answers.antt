@@ -3,7 +3,7 @@ use Rattle.mj_tiles.specs.Counts.{IsCounts}
 use Rattle.mj_tiles.specs.Kinds.{kinds_that}
 use Rattle.mj_readings.specs.Completing.{is_completing}
 use Rattle.mj_readings.proofs.KindsBelow.{kinds_below-none, gathered-yes, gathered-no, gathered-all}
-use Rattle.mj_readings.proofs.RuledOut.{completing_law}
+use Rattle.mj_readings.proofs.OneMore.{completing_law}
 use Rattle.mj_readings.proofs.completing_kinds.completing.Goals as goal
 use Rattle.mj_readings.proofs.completing_kinds.completing.Goals.{then-completes_with, else-completes_with}
 

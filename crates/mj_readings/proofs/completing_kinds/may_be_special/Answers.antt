@@ -1,4 +1,4 @@
-use Rattle.mj_readings.proofs.RuledOut.{a_middle}
+use Rattle.mj_readings.proofs.OneMore.{a_middle}
 use Rattle.mj_readings.proofs.completing_kinds.may_be_special.Goals as goal
 
 pub returns-else-single_kinds-le1 : goal.returns-else-single_kinds-le1

@@ -4,9 +4,6 @@ use Rattle.mj_readings.proofs.winning_way.+winning_way_at.Given as goal
 abbrev pub decreases-winning_way_at : goal.decreases-winning_way_at
 decreases-winning_way_at l = 4 * length l.numbers.now
 
-abbrev pub decreases-triplet_at : goal.decreases-triplet_at
-decreases-triplet_at l = 4 * length l.others.now + 2
-
 abbrev pub decreases-pair_at : goal.decreases-pair_at
 decreases-pair_at l = 4 * length l.others.now + 2
 

@@ -1,7 +1,7 @@
 use Rattle.std.proofs.Common.{refl, arith}
 use Rattle.mj_shanten.proofs.Doubles.{written_orphans}
 use Rattle.mj_shanten.proofs.Written.{written_more}
-use Rattle.mj_shanten.proofs.Pairs.{zero_at}
+use Rattle.mj_lists.proofs.Fronts.{zero_at}
 use Rattle.mj_shanten.proofs.orphans.with_double.Goals as goal
 
 pub loop-kind-init : goal.loop-kind-init

@@ -2,7 +2,8 @@ use Rattle.std.proofs.Common.{refl, arith, leb, ◌-◌, ◌+◌, ◌≡◌, ◌
 use mir.Val.{bool_byte}
 use Rattle.std.proofs.lemmas.List.{length-set}
 use Rattle.mj_shanten.specs.Special.{so_often}
-use Rattle.mj_shanten.proofs.Pairs.{often_here, whole_kept, later_kept, zero_at, pairs_end}
+use Rattle.mj_shanten.proofs.Pairs.{often_here, whole_kept, later_kept, pairs_end}
+use Rattle.mj_lists.proofs.Fronts.{zero_at}
 use Rattle.mj_shanten.proofs.seven_pairs.pairs_of.Goals as goal
 
 pub loop-kind-init : goal.loop-kind-init

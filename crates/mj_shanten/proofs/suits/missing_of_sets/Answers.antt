@@ -1,4 +1,3 @@
-use Rattle.std.proofs.Common.{arith}
 use Rattle.mj_shanten.proofs.Whole.{least_joint}
 use Rattle.mj_shanten.proofs.suits.missing_of_sets.Goals as goal
 

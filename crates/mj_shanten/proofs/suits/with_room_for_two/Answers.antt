@@ -1,5 +1,5 @@
 use Rattle.std.proofs.Common.{refl, arith, get_or, ap, sym}
-use Rattle.mj_shanten.proofs.Pairs.{zero_at}
+use Rattle.mj_lists.proofs.Fronts.{zero_at}
 use Rattle.mj_shanten.proofs.Written.{written_more, written_all}
 use Rattle.mj_shanten.proofs.suits.with_room_for_two.Goals as goal
 

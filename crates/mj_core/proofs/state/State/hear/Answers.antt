@@ -1,8 +1,8 @@
 use Rattle.std.proofs.Common.{sym, refl}
-use Rattle.mj_core.specs.Calls.{meaning}
+use Rattle.mj_core.specs.Inner.Verdicts.{verdict_given}
 use Rattle.mj_core.proofs.Open.{pieces}
 use Rattle.mj_core.proofs.Steps.{unbuilt-verdict}
-use Rattle.mj_core.proofs.Pieces.{read-chair, place-within, spoken, spoken-open, spoken-closed, spoken-unbuilt, judged-at, given-played, given-lawful}
+use Rattle.mj_core.proofs.Pieces.{read-chair, place-within, is_said, is_said-open, is_said-closed, is_said-unbuilt, judged-at, given-played, given-lawful}
 use Rattle.mj_core.proofs.state.State.hear.Goals as goal
 
 pub index_mut-requires : goal.index_mut-requires
@@ -15,44 +15,44 @@ index_mut-requires-in-Ok-Some c =
 
 pub next-requires-clause-played : goal.next-requires-clause-played
 next-requires-clause-played c =
-    given-played c.args.setting.now c.self.inside.table.rules c.self.inside.deeds.items c.self.inside.table.deeds c.as_slice.result.now c.self.inside.chairs.items c.self.inside.window c.args.seat c.args.answer.now c.index.result.now c.go_on.new.self (meaning c.verdict-verdict.result) c.filled-window.result c.in-Some.answers
+    given-played c.args.setting.now c.self.inside.table.rules c.self.inside.deeds.items c.self.inside.table.deeds c.as_slice.result.now c.self.inside.chairs.items c.self.inside.window c.args.seat c.args.answer.now c.index.result.now c.go_on.new.self (verdict_given c.verdict-verdict.result) c.slots_after-window.result c.in-Some.answers
     (rw (← c.self.view_is) at c.requires) c.as_slice.ensures c.self.invariant
-    (spoken c.args.setting.now c.self.inside.table.rules c.self.inside.deeds.items c.self.inside.table.deeds c.self.inside.chairs.items c.self.inside.window c.args.seat c.from-place.result c.args.answer.now c.index.result.now c.go_on.new.self (meaning c.verdict-verdict.result) c.filled-window.result
-    (rw (← c.self.view_is) at c.requires) c.self.invariant c.from-place.ensures c.index.ensures c.verdict-verdict.ensures.judged (sym c.if-not-may_get.ensures) c.go_on.ensures c.filled-window.ensures)
+    (is_said c.args.setting.now c.self.inside.table.rules c.self.inside.deeds.items c.self.inside.table.deeds c.self.inside.chairs.items c.self.inside.window c.args.seat c.from-place.result c.args.answer.now c.index.result.now c.go_on.new.self (verdict_given c.verdict-verdict.result) c.slots_after-window.result
+    (rw (← c.self.view_is) at c.requires) c.self.invariant c.from-place.ensures c.index.ensures c.verdict-verdict.ensures.judged (sym c.if-not-may_get.ensures) c.go_on.ensures c.slots_after-window.ensures)
 
 pub next-requires-clause-lawful : goal.next-requires-clause-lawful
 next-requires-clause-lawful c =
-    given-lawful c.args.setting.now c.self.inside.table.rules c.self.inside.deeds.items c.self.inside.table.deeds c.as_slice.result.now c.self.inside.chairs.items c.self.inside.window c.args.seat c.args.answer.now c.index.result.now c.go_on.new.self (meaning c.verdict-verdict.result) c.filled-window.result c.in-Some.answers
+    given-lawful c.args.setting.now c.self.inside.table.rules c.self.inside.deeds.items c.self.inside.table.deeds c.as_slice.result.now c.self.inside.chairs.items c.self.inside.window c.args.seat c.args.answer.now c.index.result.now c.go_on.new.self (verdict_given c.verdict-verdict.result) c.slots_after-window.result c.in-Some.answers
     (rw (← c.self.view_is) at c.requires) c.self.invariant
-    (spoken c.args.setting.now c.self.inside.table.rules c.self.inside.deeds.items c.self.inside.table.deeds c.self.inside.chairs.items c.self.inside.window c.args.seat c.from-place.result c.args.answer.now c.index.result.now c.go_on.new.self (meaning c.verdict-verdict.result) c.filled-window.result
-    (rw (← c.self.view_is) at c.requires) c.self.invariant c.from-place.ensures c.index.ensures c.verdict-verdict.ensures.judged (sym c.if-not-may_get.ensures) c.go_on.ensures c.filled-window.ensures)
+    (is_said c.args.setting.now c.self.inside.table.rules c.self.inside.deeds.items c.self.inside.table.deeds c.self.inside.chairs.items c.self.inside.window c.args.seat c.from-place.result c.args.answer.now c.index.result.now c.go_on.new.self (verdict_given c.verdict-verdict.result) c.slots_after-window.result
+    (rw (← c.self.view_is) at c.requires) c.self.invariant c.from-place.ensures c.index.ensures c.verdict-verdict.ensures.judged (sym c.if-not-may_get.ensures) c.go_on.ensures c.slots_after-window.ensures)
     c.in-Some.ensures
 
 pub returns-in_default-clause-ok : goal.returns-in_default-clause-ok
 returns-in_default-clause-ok c =
     rw (c.reserve.ensures.items, ← c.self.view_is)
-    (spoken-open c.args.setting.now c.self.inside.table.rules c.self.inside.deeds.items c.self.inside.chairs.items c.self.inside.window c.args.seat c.from-place.result c.args.answer.now c.index.result.now c.go_on.new.self (meaning c.verdict-verdict.result) c.filled-window.result
+    (is_said-open c.args.setting.now c.self.inside.table.rules c.self.inside.deeds.items c.self.inside.chairs.items c.self.inside.window c.args.seat c.from-place.result c.args.answer.now c.index.result.now c.go_on.new.self (verdict_given c.verdict-verdict.result) c.slots_after-window.result
     (rw (← c.self.view_is) at c.requires) c.from-place.ensures
-    (spoken c.args.setting.now c.self.inside.table.rules c.self.inside.deeds.items c.self.inside.table.deeds c.self.inside.chairs.items c.self.inside.window c.args.seat c.from-place.result c.args.answer.now c.index.result.now c.go_on.new.self (meaning c.verdict-verdict.result) c.filled-window.result
-    (rw (← c.self.view_is) at c.requires) c.self.invariant c.from-place.ensures c.index.ensures c.verdict-verdict.ensures.judged (sym c.if-not-may_get.ensures) c.go_on.ensures c.filled-window.ensures)
+    (is_said c.args.setting.now c.self.inside.table.rules c.self.inside.deeds.items c.self.inside.table.deeds c.self.inside.chairs.items c.self.inside.window c.args.seat c.from-place.result c.args.answer.now c.index.result.now c.go_on.new.self (verdict_given c.verdict-verdict.result) c.slots_after-window.result
+    (rw (← c.self.view_is) at c.requires) c.self.invariant c.from-place.ensures c.index.ensures c.verdict-verdict.ensures.judged (sym c.if-not-may_get.ensures) c.go_on.ensures c.slots_after-window.ensures)
     c.in_default.ensures)
 
 pub returns-in-Ok-Some-clause-ok : goal.returns-in-Ok-Some-clause-ok
 returns-in-Ok-Some-clause-ok c =
     rw (c.push_reserved.ensures.items, c.reserve.ensures.items, c.new-self-inside.ensures, ← c.self.view_is)
-    (spoken-closed c.next.new.table.rules c.from-place.result c.in-Ok-Some.deed c.args.setting.now c.self.inside.table.rules c.self.inside.deeds.items c.self.inside.table.deeds c.as_slice.result.now c.self.inside.chairs.items c.self.inside.window c.args.seat c.args.answer.now c.index.result.now c.go_on.new.self (meaning c.verdict-verdict.result) c.filled-window.result c.in-Some.answers
+    (is_said-closed c.next.new.table.rules c.from-place.result c.in-Ok-Some.deed c.args.setting.now c.self.inside.table.rules c.self.inside.deeds.items c.self.inside.table.deeds c.as_slice.result.now c.self.inside.chairs.items c.self.inside.window c.args.seat c.args.answer.now c.index.result.now c.go_on.new.self (verdict_given c.verdict-verdict.result) c.slots_after-window.result c.in-Some.answers
     c.in-Ok-Some.ensures.pushed.rules (rw (← c.self.view_is) at c.requires.rules) c.as_slice.ensures c.self.invariant c.from-place.ensures
-    (spoken c.args.setting.now c.self.inside.table.rules c.self.inside.deeds.items c.self.inside.table.deeds c.self.inside.chairs.items c.self.inside.window c.args.seat c.from-place.result c.args.answer.now c.index.result.now c.go_on.new.self (meaning c.verdict-verdict.result) c.filled-window.result
-    (rw (← c.self.view_is) at c.requires) c.self.invariant c.from-place.ensures c.index.ensures c.verdict-verdict.ensures.judged (sym c.if-not-may_get.ensures) c.go_on.ensures c.filled-window.ensures)
+    (is_said c.args.setting.now c.self.inside.table.rules c.self.inside.deeds.items c.self.inside.table.deeds c.self.inside.chairs.items c.self.inside.window c.args.seat c.from-place.result c.args.answer.now c.index.result.now c.go_on.new.self (verdict_given c.verdict-verdict.result) c.slots_after-window.result
+    (rw (← c.self.view_is) at c.requires) c.self.invariant c.from-place.ensures c.index.ensures c.verdict-verdict.ensures.judged (sym c.if-not-may_get.ensures) c.go_on.ensures c.slots_after-window.ensures)
     c.in-Some.ensures (rw c.in-Ok-Some.field-0-is at c.in-Ok-Some.ensures.follows))
 
 pub returns-in-Ok-None-clause-ok : goal.returns-in-Ok-None-clause-ok
 returns-in-Ok-None-clause-ok c =
     rw (c.in-Ok-None.ensures.pushed.rules, c.reserve.ensures.items, ← c.self.view_is) (
-      λ author. spoken-unbuilt author c.args.setting.now c.self.inside.table.rules c.self.inside.deeds.items c.self.inside.table.deeds c.as_slice.result.now c.self.inside.chairs.items c.self.inside.window c.args.seat c.args.answer.now c.index.result.now c.go_on.new.self (meaning c.verdict-verdict.result) c.filled-window.result c.in-Some.answers
+      λ author. is_said-unbuilt author c.args.setting.now c.self.inside.table.rules c.self.inside.deeds.items c.self.inside.table.deeds c.as_slice.result.now c.self.inside.chairs.items c.self.inside.window c.args.seat c.args.answer.now c.index.result.now c.go_on.new.self (verdict_given c.verdict-verdict.result) c.slots_after-window.result c.in-Some.answers
           (rw (← c.self.view_is) at c.requires.rules) c.as_slice.ensures c.self.invariant
-          (spoken c.args.setting.now c.self.inside.table.rules c.self.inside.deeds.items c.self.inside.table.deeds c.self.inside.chairs.items c.self.inside.window c.args.seat c.from-place.result c.args.answer.now c.index.result.now c.go_on.new.self (meaning c.verdict-verdict.result) c.filled-window.result
-          (rw (← c.self.view_is) at c.requires) c.self.invariant c.from-place.ensures c.index.ensures c.verdict-verdict.ensures.judged (sym c.if-not-may_get.ensures) c.go_on.ensures c.filled-window.ensures)
+          (is_said c.args.setting.now c.self.inside.table.rules c.self.inside.deeds.items c.self.inside.table.deeds c.self.inside.chairs.items c.self.inside.window c.args.seat c.from-place.result c.args.answer.now c.index.result.now c.go_on.new.self (verdict_given c.verdict-verdict.result) c.slots_after-window.result
+          (rw (← c.self.view_is) at c.requires) c.self.invariant c.from-place.ensures c.index.ensures c.verdict-verdict.ensures.judged (sym c.if-not-may_get.ensures) c.go_on.ensures c.slots_after-window.ensures)
           c.in-Some.ensures (rw c.in-Ok-None.field-0-is at c.in-Ok-None.ensures.follows),
       refl,
     )
@@ -60,9 +60,9 @@ returns-in-Ok-None-clause-ok c =
 pub returns-then-not-may_get-clause-ok : goal.returns-then-not-may_get-clause-ok
 returns-then-not-may_get-clause-ok c =
     rw (c.reserve.ensures.items, ← c.self.view_is) (
-      λ author. unbuilt-verdict c.args.setting.now (pieces c.self.inside.deeds.items c.self.inside.chairs.items c.self.inside.window) author c.args.seat c.args.answer.now c.index.result.now (meaning c.verdict-verdict.result)
+      λ author. unbuilt-verdict c.args.setting.now (pieces c.self.inside.deeds.items c.self.inside.chairs.items c.self.inside.window) author c.args.seat c.args.answer.now c.index.result.now (verdict_given c.verdict-verdict.result)
           (read-chair (pieces c.self.inside.deeds.items c.self.inside.chairs.items c.self.inside.window) c.args.seat c.from-place.result c.index.result.now (rw (← c.self.view_is) at c.requires.due) c.from-place.ensures c.index.ensures)
-          (judged-at c.args.setting.now c.self.inside.table.rules c.self.inside.deeds.items c.self.inside.table.deeds c.args.seat c.args.answer.now c.index.result.now (meaning c.verdict-verdict.result) (rw (← c.self.view_is) at c.requires.rules) c.self.invariant c.verdict-verdict.ensures.judged)
+          (judged-at c.args.setting.now c.self.inside.table.rules c.self.inside.deeds.items c.self.inside.table.deeds c.args.seat c.args.answer.now c.index.result.now (verdict_given c.verdict-verdict.result) (rw (← c.self.view_is) at c.requires.rules) c.self.invariant c.verdict-verdict.ensures.judged)
           (sym c.if-not-may_get.ensures),
       refl,
     )

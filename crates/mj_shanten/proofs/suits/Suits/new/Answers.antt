@@ -1,5 +1,4 @@
-use Rattle.std.proofs.Common.{sym, subst, ap₂, ◌∙◌, take, arith}
-use Rattle.mj_shanten.specs.Walked.{Tiles}
+use Rattle.std.proofs.Common.{◌∙◌}
 use Rattle.mj_shanten.proofs.Whole.{front_two, wide_within, wide_four, same_tiles_of}
 use Rattle.mj_shanten.proofs.suits.Suits.new.Goals as goal
 

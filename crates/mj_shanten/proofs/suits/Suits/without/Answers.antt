@@ -1,6 +1,5 @@
-use Rattle.std.proofs.Common.{sym, subst, ap, ◌∙◌, ◌-◌, take, set, get_or, arith}
-use Rattle.mj_shanten.specs.Walked.{Tiles}
-use Rattle.mj_shanten.proofs.Whole.{less_two, less_within, same_tiles_of, less_of}
+use Rattle.std.proofs.Common.{◌∙◌, arith}
+use Rattle.mj_shanten.proofs.Whole.{less_two, less_of}
 use Rattle.mj_shanten.proofs.suits.Suits.without.Goals as goal
 
 pub walked-requires-clause-held : goal.walked-requires-clause-held

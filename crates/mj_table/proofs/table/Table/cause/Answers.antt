@@ -1,6 +1,6 @@
 use Rattle.std.proofs.Common.{ap, ◌∙◌}
 use Rattle.mj_deeds.specs.Course.{cause}
-use Rattle.mj_deeds.proofs.InHand.{cause_in_hand}
+use Rattle.mj_table.proofs.InHand.{cause_in_hand}
 use Rattle.mj_table.proofs.table.Table.cause.Goals as goal
 
 pub returns : goal.returns

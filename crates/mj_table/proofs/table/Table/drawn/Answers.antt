@@ -1,7 +1,7 @@
 use Rattle.std.proofs.Common.{List, ap, ◌∙◌}
 use Rattle.mj_deeds.specs.declared.deed.Deed.{Deed}
 use Rattle.mj_deeds.specs.Facts.{drawn_tile}
-use Rattle.mj_deeds.proofs.InHand.{drawn_in_hand}
+use Rattle.mj_table.proofs.InHand.{drawn_in_hand}
 use Rattle.mj_table.proofs.table.Table.drawn.Goals as goal
 
 pub returns : goal.returns

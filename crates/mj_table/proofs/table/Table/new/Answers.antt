@@ -1,7 +1,7 @@
 use Rattle.std.proofs.Common.{sym, subst}
 use Rattle.std.specs.Prelude.{None}
 use Rattle.mj_rounds.specs.declared.rounds.Standing.{Standing}
-use Rattle.mj_table.specs.Plays.{Stands}
+use Rattle.mj_table.specs.Inner.Kept.{Stands}
 use Rattle.mj_table.proofs.Readers.{stands_at_first}
 use Rattle.mj_table.proofs.table.Table.new.Goals as goal
 

@@ -1,0 +1,42 @@
+-- What the value that a line was read as stands for.
+use Rattle.std.specs.Prelude.{ℕ, ◌≤◌, List, [], ◌∷◌, Option, Some, None}
+use Rattle.mj_wall.specs.declared.setting.Rules.{Rules}
+use Rattle.mj_front.specs.declared.form.ArrivalForm.{ArrivalForm}
+use Rattle.mj_front.specs.declared.form.ArrivalForm.TheVariants as read
+use Rattle.mj_protocol.specs.Arrivals.{ArrivalForm as Meaning}
+use Rattle.mj_protocol.specs.Arrivals as arrivals
+
+-- The form of a line, as it was read.
+abbrev pub meaning : ArrivalForm → Meaning
+meaning (read.Header rules) = arrivals.Header rules
+meaning (read.Wall tiles) = arrivals.WallOf tiles.items
+meaning (read.Sit line) = arrivals.Sit line.now
+meaning (read.Say seat line) = arrivals.Say seat line.now
+meaning (read.Leave seat) = arrivals.Leave seat
+meaning (read.Expire window t1 t2) = arrivals.Expire window t1 t2
+meaning read.NoForm = arrivals.NoForm
+
+-- The form of a line on the end of a window, as its three numbers were read.
+abbrev pub expiry_meant : Option (ℕ × ℕ × ℕ) → Meaning
+expiry_meant None = arrivals.NoForm
+expiry_meant (Some (window, t1, t2)) = arrivals.Expire window t1 t2
+
+-- Three fields, where there are three.
+abbrev pub three_of : List (List ℕ) → Option (List ℕ × List ℕ × List ℕ)
+three_of (first ∷ second ∷ third ∷ []) = Some (first, second, third)
+three_of fields = None
+
+-- The limit of a window is 1 to 3600000 milliseconds.
+pub record IsLimited (rules : Rules) : Type 0 where
+  pub least : 1 ≤ rules.limit
+  pub longest : rules.limit ≤ 3600000
+
+-- A header has such a limit.
+abbrev pub HasLimit : ArrivalForm → Type 0
+HasLimit (read.Header rules) = IsLimited rules
+HasLimit (read.Wall tiles) = Unit {0}
+HasLimit (read.Sit line) = Unit {0}
+HasLimit (read.Say seat line) = Unit {0}
+HasLimit (read.Leave seat) = Unit {0}
+HasLimit (read.Expire window t1 t2) = Unit {0}
+HasLimit read.NoForm = Unit {0}

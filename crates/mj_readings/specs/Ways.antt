@@ -1,2 +1,0 @@
--- A triplet of concealed tiles.
-pub use Rattle.mj_readings.specs.Inner.Ways.{triplet_at}
