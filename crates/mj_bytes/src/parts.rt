@@ -8,7 +8,8 @@ ghost use Rattle.mj_bytes.specs.Parts.{has_byte, PartsAtFirst, BeginsWithPart, I
 /// byte, and so is one part.
 #[tactic(auto, using(crate::proofs::PartLaws::begins_with_part, crate::proofs::PartLaws::is_one_part))]
 pub fn split_at_first(text: &[u8], byte: u8) -> Option<(&[u8], &[u8])>
-    ensures { MatchOption result (IsOnePart byte text.now) (λ x. BeginsWithPart byte text.now x.0.now x.1.now) }
+    ensures { MatchOption result (IsOnePart byte text.now)
+        (λ x. BeginsWithPart byte text.now x.0.now x.1.now) }
 {
     cut_at_first(text, byte)
 }
@@ -17,7 +18,8 @@ pub fn split_at_first(text: &[u8], byte: u8) -> Option<(&[u8], &[u8])>
 /// text has no newline, and so no whole line.
 #[tactic(auto, using(crate::proofs::PartLaws::begins_with_line, crate::proofs::PartLaws::has_no_line))]
 pub fn split_line(text: &[u8]) -> Option<(&[u8], &[u8])>
-    ensures { MatchOption result (HasNoLine text.now) (λ x. BeginsWithLine text.now x.0.now x.1.now) }
+    ensures { MatchOption result (HasNoLine text.now)
+        (λ x. BeginsWithLine text.now x.0.now x.1.now) }
 {
     cut_at_first(text, b'\n')
 }
@@ -26,7 +28,8 @@ pub fn split_line(text: &[u8]) -> Option<(&[u8], &[u8])>
 /// the text has no space, and so is one field.
 #[tactic(auto, using(crate::proofs::PartLaws::space_splits))]
 pub fn split_space(text: &[u8]) -> Option<(&[u8], &[u8])>
-    ensures cases { MatchOption result (IsOneField text.now) (λ x. BeginsWithField text.now x.0.now x.1.now) }
+    ensures cases { MatchOption result (IsOneField text.now)
+        (λ x. BeginsWithField text.now x.0.now x.1.now) }
     ensures parts { option_map (λ x. (x.0.now, x.1.now)) result ≡ parted text.now }
 {
     let Some((field, rest)) = cut_at_first(text, b' ') else {
@@ -48,7 +51,8 @@ pub fn strip<'a>(text: &'a [u8], beginning: &[u8]) -> Option<&'a [u8]>
 
 #[tactic(auto, using(crate::proofs::PartLaws::search_steps))]
 fn cut_at_first(text: &[u8], byte: u8) -> Option<(&[u8], &[u8])>
-    ensures { MatchOption result (has_byte byte text.now ≡ false) (λ x. PartsAtFirst byte text.now x.0.now x.1.now) }
+    ensures { MatchOption result (has_byte byte text.now ≡ false)
+        (λ x. PartsAtFirst byte text.now x.0.now x.1.now) }
 {
     for (at, found) in text.iter().enumerate() {
         if *found == byte {

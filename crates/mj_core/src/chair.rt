@@ -28,15 +28,35 @@ impl Model for Chair {
 
     ghost Value = { HeldChair };
 
-    ghost view = { λ s. record { author = s.author; name = s.name; key = s.key; progress = record { due = s.due; refused = s.refused; told = [] } } };
+    ghost view = { λ s. record {
+      author = s.author;
+      name = s.name;
+      key = s.key;
+      progress = record
+          { due = s.due; refused = s.refused; told = [] };
+    } };
 
-    ghost inverse = { λ c. record { author = c.author; name = c.name; key = c.key; due = c.progress.due; refused = c.progress.refused } };
+    ghost inverse = { λ c. record {
+      author = c.author;
+      name = c.name;
+      key = c.key;
+      due =
+          c.progress.due;
+      refused = c.progress.refused;
+    } };
 }
 
 impl Chair {
     // A seat that has just been taken.
     pub fn new(author: u8, join: &JoinLine) -> Chair
-        ensures { result ≡ untold_chair (record { author = author; name = join.now.name; key = join.now.key; progress = first_progress }) }
+        ensures { result ≡ untold_chair
+            (record {
+              author = author;
+              name = join.now.name;
+              key = join.now.key;
+              progress =
+                  first_progress;
+            }) }
     {
         Chair {
             author,
@@ -87,7 +107,8 @@ impl Chair {
         requires due { self.now.progress.due < deeds }
         requires many { deeds ≡ length table.now.deeds }
         ensures room { self.now.progress.due < usize.MAX }
-        ensures judged { verdict_given result ≡ verdict_on table.now.rules table.now.deeds seat answer.now self.now.progress }
+        ensures judged { verdict_given result
+            ≡ verdict_on table.now.rules table.now.deeds seat answer.now self.now.progress }
     {
         if self.due + 1 < deeds {
             return Verdict::Late;
@@ -112,8 +133,11 @@ impl Chair {
     // How far the seat has come with this verdict on its answer.
     pub fn go_on(&mut self, verdict: &Verdict)
         requires due { self.old.progress.due < usize.MAX }
-        requires may { is_verdict_built self.old.progress.refused (verdict_given verdict.now) ≡ true }
-        ensures { (lines : List (List ℕ)) → self.new ≡ untold_chair (record self.old { progress = progress_after lines (verdict_given verdict.now) self.old.progress }) }
+        requires may { is_verdict_built self.old.progress.refused (verdict_given verdict.now)
+            ≡ true }
+        ensures { (lines : List (List ℕ)) → self.new
+            ≡ untold_chair (record self.old
+            { progress = progress_after lines (verdict_given verdict.now) self.old.progress }) }
     {
         match verdict {
             Verdict::Refused(_) => {

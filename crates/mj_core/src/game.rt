@@ -48,7 +48,8 @@ impl Core {
         requires whole { IsTrue (list_all (is_wall rules.red) walls.items) }
         requires shortest { 1 ≤ rules.limit }
         requires longest { rules.limit ≤ 3600000 }
-        ensures { IfOk result (λ core. core ≡ record { setting = record { walls = walls.items; rules = rules }; entries = [] }) }
+        ensures { IfOk result (λ core. core
+            ≡ record { setting = record { walls = walls.items; rules = rules }; entries = [] }) }
     {
         let setting = Setting {
             walls: Walls::from_vec(walls),
@@ -153,7 +154,8 @@ impl Core {
     /// Whether a seat is held and the deed that its next line answers exists.
     pub fn may_say(&self, seat: u8) -> bool
         ensures asked { result ≡ may_say_at self.now seat }
-        ensures by_author { result ≡ true → (author : ℕ) → author_at self.now seat ≡ Some author → can_say (after_of self.now) author seat ≡ true }
+        ensures by_author { result ≡ true → (author : ℕ) → author_at self.now seat ≡ Some author
+            → can_say (after_of self.now) author seat ≡ true }
     {
         self.state.is_due(seat)
     }

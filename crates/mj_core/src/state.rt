@@ -32,7 +32,11 @@ impl Model for State {
 
     ghost Value = { Position };
 
-    ghost view = { λ s. record { rules = s.table.rules; now = record { deeds = s.deeds.items; chairs = s.chairs.items; slots = s.window } } };
+    ghost view = { λ s. record {
+      rules = s.table.rules;
+      now = record
+          { deeds = s.deeds.items; chairs = s.chairs.items; slots = s.window };
+    } };
 
     ghost invariant = { λ s. s.table.deeds ≡ s.deeds.items };
 }
@@ -120,7 +124,8 @@ impl State {
         answer: &Answer,
     ) -> Result<Option<Verdict>, AllocError>
         requires { CanHear setting.now self.old seat answer.now }
-        ensures ok { IfOk result (λ heard. IsStateHeard heard setting.now self.old self.new seat answer.now) }
+        ensures ok { IfOk result (λ heard. IsStateHeard heard setting.now self.old self.new seat
+            answer.now) }
         ensures err { OnErr result (self.new ≡ self.old) }
     {
         self.deeds.reserve(1)?;

@@ -23,7 +23,8 @@ pub fn slots_after(window: &Window, verdict: &Verdict, seat: u8, answer: &Answer
 
 // The four answers, once all have come.
 pub fn answers_in(window: &Window) -> Option<Four<Answer>>
-    ensures { result ≡ (if is_window_closed window.now then Some (answers_in window.now) else None) }
+    ensures { result ≡ (if is_window_closed window.now then Some (answers_in window.now) else
+        None) }
 {
     if !window.ready_to_close([true, true, true, true]) {
         return None;

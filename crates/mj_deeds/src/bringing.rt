@@ -22,7 +22,8 @@ pub(crate) fn keeps_kinds(deeds: &[Deed], deed: &Deed) -> bool
 // How many tiles of a kind are brought into a hand, a further deed included; a number too large for a usize counts as the
 // largest.
 fn number_brought_with(deeds: &[Deed], deed: &Deed, kind: u8) -> usize
-    ensures { result ≡ min (number_of (flat_map brought_by (deeds.now ++ deed.now ∷ [])) kind) (2 ^ 64 - 1) }
+    ensures { result ≡ min (number_of (flat_map brought_by (deeds.now ++ deed.now ∷ [])) kind)
+        (2 ^ 64 - 1) }
 {
     number_brought(deeds, kind).saturating_add(brought(deed, kind))
 }
@@ -55,7 +56,9 @@ fn brought(deed: &Deed, kind: u8) -> usize
 }
 
 fn number_dealt(hands: &Four<Tiles>, kind: u8) -> usize
-    ensures { result ≡ min (number_of (hands.now.first ++ hands.now.second ++ hands.now.third ++ hands.now.fourth) kind) (2 ^ 64 - 1) }
+    ensures { result ≡ min (number_of
+        (hands.now.first ++ hands.now.second ++ hands.now.third ++ hands.now.fourth) kind)
+        (2 ^ 64 - 1) }
 {
     number_of(hands.first.as_slice(), kind)
         .saturating_add(number_of(hands.second.as_slice(), kind))

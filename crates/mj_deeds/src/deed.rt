@@ -1,4 +1,5 @@
 ghost use Rattle.std.specs.Prelude.{◌≡◌, IfOk};
+ghost use Rattle.mj_deeds.specs.declared.deed.Deed.TheVariants as deeds;
 
 use crate::four::Four;
 use crate::tiles::Tiles;
@@ -16,7 +17,7 @@ pub enum Viewer {
 }
 
 /// One deed of a game. Seats are 0 to 3.
-#[derive(Clone, Debug, Drop)]
+#[derive(Drop)]
 pub enum Deed {
     /// The game starts, with the names of the four seats.
     StartGame {
@@ -97,6 +98,118 @@ impl Deed {
     pub fn copy(&self) -> Result<Deed, AllocError>
         ensures { IfOk result (λ d. d ≡ self.now) }
     {
-        self.clone()
+        match self {
+            Deed::StartGame { names } => Ok(Deed::StartGame { names: *names }),
+            Deed::StartHand {
+                round,
+                number,
+                honba,
+                deposits,
+                dealer,
+                indicator,
+                hands,
+            } => start_hand(
+                *round, *number, *honba, *deposits, *dealer, *indicator, hands,
+            ),
+            Deed::Draw {
+                seat,
+                tile,
+                replacement,
+            } => Ok(Deed::Draw {
+                seat: *seat,
+                tile: *tile,
+                replacement: *replacement,
+            }),
+            Deed::Discard { seat, tile, drawn } => Ok(Deed::Discard {
+                seat: *seat,
+                tile: *tile,
+                drawn: *drawn,
+            }),
+            Deed::Chi {
+                seat,
+                target,
+                tile,
+                a,
+                b,
+            } => Ok(Deed::Chi {
+                seat: *seat,
+                target: *target,
+                tile: *tile,
+                a: *a,
+                b: *b,
+            }),
+            Deed::Pon {
+                seat,
+                target,
+                tile,
+                a,
+                b,
+            } => Ok(Deed::Pon {
+                seat: *seat,
+                target: *target,
+                tile: *tile,
+                a: *a,
+                b: *b,
+            }),
+            Deed::OpenKan {
+                seat,
+                target,
+                tile,
+                a,
+                b,
+                c,
+            } => Ok(Deed::OpenKan {
+                seat: *seat,
+                target: *target,
+                tile: *tile,
+                a: *a,
+                b: *b,
+                c: *c,
+            }),
+            Deed::ClosedKan { seat, a, b, c, d } => Ok(Deed::ClosedKan {
+                seat: *seat,
+                a: *a,
+                b: *b,
+                c: *c,
+                d: *d,
+            }),
+            Deed::AddedKan {
+                seat,
+                tile,
+                a,
+                b,
+                c,
+            } => Ok(Deed::AddedKan {
+                seat: *seat,
+                tile: *tile,
+                a: *a,
+                b: *b,
+                c: *c,
+            }),
+            Deed::Dora { tile } => Ok(Deed::Dora { tile: *tile }),
+        }
     }
+}
+
+fn start_hand(
+    round: Kind,
+    number: u8,
+    honba: u32,
+    deposits: u32,
+    dealer: u8,
+    indicator: Tile,
+    hands: &Four<Tiles>,
+) -> Result<Deed, AllocError>
+    ensures { IfOk result (λ d. d ≡ deeds.StartHand round number honba deposits dealer indicator
+        hands.now) }
+{
+    Ok(Deed::StartHand {
+        round,
+        number,
+        honba,
+        deposits,
+        dealer,
+        indicator,
+        hands: hands.clone()?,
+    })
 }

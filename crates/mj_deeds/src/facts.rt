@@ -34,7 +34,8 @@ pub fn river(alloc: Global, deeds: &[Deed], seat: u8) -> Result<Tiles, AllocErro
 
 /// How many concealed tiles of the face of a tile a seat holds in one hand, four at most.
 pub fn held_count(deeds: &[Deed], seat: u8, tile: Tile) -> usize
-    ensures { result ≡ min (number_in (tiles_gained deeds.now seat) tile - number_in (tiles_lost deeds.now seat) tile) 4 }
+    ensures { result ≡ min (number_in (tiles_gained deeds.now seat) tile - number_in
+        (tiles_lost deeds.now seat) tile) 4 }
 {
     let given = number_gained(deeds, seat, tile);
     let put_down = number_lost(deeds, seat, tile);

@@ -193,7 +193,8 @@ fn has_held_by(deeds: &[Deed], deed: &Deed, seat: u8) -> bool
 #[tactic(auto, using(crate::proofs::FitSteps::of_its_own, crate::proofs::FitSteps::of_another))]
 fn holds_own(deeds: &[Deed], seat: u8, who: u8, tiles: &[Tile]) -> bool
     requires { length tiles.now ≤ 4 }
-    ensures { result ≡ are_held (tiles_gained deeds.now seat) (tiles_lost deeds.now seat) (of_seat seat who tiles.now) }
+    ensures { result ≡ are_held (tiles_gained deeds.now seat) (tiles_lost deeds.now seat)
+        (of_seat seat who tiles.now) }
 {
     if who != seat {
         return true;
@@ -204,7 +205,8 @@ fn holds_own(deeds: &[Deed], seat: u8, who: u8, tiles: &[Tile]) -> bool
 // Whether a seat holds as many tiles of each face as stand among these, at most four.
 fn are_held(deeds: &[Deed], seat: u8, tiles: &[Tile]) -> bool
     requires { length tiles.now ≤ 4 }
-    ensures { result ≡ are_held (tiles_gained deeds.now seat) (tiles_lost deeds.now seat) tiles.now }
+    ensures { result ≡ are_held (tiles_gained deeds.now seat) (tiles_lost deeds.now seat)
+        tiles.now }
 {
     for tile in tiles {
         if held_count(deeds, seat, *tile) < number_among(tiles, *tile) {
@@ -256,7 +258,8 @@ fn has_tiles(red: bool, deed: &Deed) -> bool
 }
 
 fn are_plain_hands(hands: &Four<Tiles>) -> bool
-    ensures { result ≡ list_all (λ face. not (is_red face)) (hands.now.first ++ hands.now.second ++ hands.now.third ++ hands.now.fourth) }
+    ensures { result ≡ list_all (λ face. not (is_red face))
+        (hands.now.first ++ hands.now.second ++ hands.now.third ++ hands.now.fourth) }
 {
     are_plain(hands.first.as_slice())
         && are_plain(hands.second.as_slice())

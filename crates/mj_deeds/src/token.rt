@@ -4,7 +4,7 @@ use mj_ports::Name;
 use mj_tiles::Tile;
 
 /// What one seat sees of a deed: what everybody sees and its own tiles.
-#[derive(Debug, Drop)]
+#[derive(Drop)]
 pub enum Token {
     StartGame {
         names: Four<Name>,

@@ -37,9 +37,11 @@ pub fn run<S: Source, K: Sink>(
     source: &mut S,
     sink: &mut K,
 ) -> Status
-    ensures run { Runs (asked_by (map string_bytes words.now)) result (S.left source.old) (S.left source.new) (K.written sink.old) (K.written sink.new) }
+    ensures run { Runs (asked_by (map string_bytes words.now)) result (S.left source.old)
+        (S.left source.new) (K.written sink.old) (K.written sink.new) }
     ensures reads { CountsReadFaults result (S.read_faults source.old) (S.read_faults source.new) }
-    ensures unread { MeetsReadFaults (asked_by (map string_bytes words.now)) (S.read_faults source.old) (S.read_faults source.new) }
+    ensures unread { MeetsReadFaults (asked_by (map string_bytes words.now))
+        (S.read_faults source.old) (S.read_faults source.new) }
     ensures writes { CountsWriteFaults result (K.write_faults sink.old) (K.write_faults sink.new) }
 {
     match command_asked(words) {

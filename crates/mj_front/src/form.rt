@@ -100,7 +100,8 @@ fn read_rules(text: &[u8]) -> Option<Rules>
 
 // A limit of 1 to 3600000 milliseconds.
 fn read_limit(field: &[u8]) -> Option<u64>
-    ensures value { result ≡ option_and_then limit_of (option_and_then decimal_of (behind (codes "limit=") field.now)) }
+    ensures value { result ≡ option_and_then limit_of
+        (option_and_then decimal_of (behind (codes "limit=") field.now)) }
     ensures bound { IfSome result (λ limit. (1 ≤ limit) × (limit ≤ 3600000)) }
 {
     let limit = read_number(strip(field, b"limit=")?)?;
@@ -122,7 +123,8 @@ fn read_switch(field: &[u8], name: &[u8]) -> Option<bool>
 }
 
 fn wall_form<'a>(alloc: Global, text: &[u8]) -> Result<ArrivalForm<'a>, AllocError>
-    ensures form { IfOk result (λ form. meaning form ≡ option_map_or WallOf (tiles_in (fields text.now)) NoForm) }
+    ensures form { IfOk result (λ form. meaning form
+        ≡ option_map_or WallOf (tiles_in (fields text.now)) NoForm) }
     ensures limit { IfOk result (λ form. HasLimit form) }
 {
     match read_tiles(alloc, text)? {

@@ -25,8 +25,10 @@ pub(crate) enum HandEnd {
 
 /// Writes the lines of the hand that the words name.
 pub(crate) fn write_hand<K: Sink>(alloc: Global, words: &[String], sink: &mut K) -> HandEnd
-    ensures tells { WritesHand result (map string_bytes words.now) (K.written sink.old) (K.written sink.new) }
-    ensures writes { CountsWriteFaults (hand_status result) (K.write_faults sink.old) (K.write_faults sink.new) }
+    ensures tells { WritesHand result (map string_bytes words.now) (K.written sink.old)
+        (K.written sink.new) }
+    ensures writes { CountsWriteFaults (hand_status result) (K.write_faults sink.old)
+        (K.write_faults sink.new) }
 {
     match hand_lines(alloc, words) {
         Ok(Some(text)) => match write_all(sink, text.as_slice()) {

@@ -84,7 +84,10 @@ fn hear_header(alloc: Global, seat: u8, rules: Rules, input: &[u8]) -> Result<To
     requires fits { length input.now ≤ longest }
     requires least { 1 ≤ rules.limit }
     requires longest { rules.limit ≤ 3600000 }
-    ensures { IfOk result (λ told. Tells (hear_on (header_arrives nothing_read rules) (λ next. hear_from next 2 (whole_lines input.now) (unfinished input.now)) nothing_read 1) seat told.end told.bytes.items) }
+    ensures { IfOk result (λ told. Tells
+        (hear_on (header_arrives nothing_read rules)
+        (λ next. hear_from next 2 (whole_lines input.now) (unfinished input.now)) nothing_read 1)
+        seat told.end told.bytes.items) }
 {
     if rules.red {
         return Ok(nothing_told(alloc, End::Bad(1)));
@@ -102,7 +105,9 @@ fn hear_headed(alloc: Global, seat: u8, rules: Rules, input: &[u8]) -> Result<To
     requires least { 1 ≤ rules.limit }
     requires longest { rules.limit ≤ 3600000 }
     requires plain { rules.red ≡ false }
-    ensures { IfOk result (λ told. Tells (hear_from (intake_with_header rules) 2 (whole_lines input.now) (unfinished input.now)) seat told.end told.bytes.items) }
+    ensures { IfOk result (λ told. Tells
+        (hear_from (intake_with_header rules) 2 (whole_lines input.now) (unfinished input.now)) seat
+        told.end told.bytes.items) }
 {
     let Some((line, others)) = split_line(input) else {
         return Ok(nothing_told(alloc, end_at(input, 2)));
@@ -129,7 +134,9 @@ fn hear_walled(
     requires longest { rules.limit ≤ 3600000 }
     requires plain { rules.red ≡ false }
     requires whole { is_wall false wall ≡ true }
-    ensures { IfOk result (λ told. Tells (hear_from (intake_with_wall rules wall) 3 (whole_lines input.now) (unfinished input.now)) seat told.end told.bytes.items) }
+    ensures { IfOk result (λ told. Tells
+        (hear_from (intake_with_wall rules wall) 3 (whole_lines input.now) (unfinished input.now))
+        seat told.end told.bytes.items) }
 {
     let mut walls = Vec::new(alloc);
     walls.push(wall)?;
@@ -142,7 +149,8 @@ fn hear_walled(
 
 // How an input ends behind its last whole line: nothing may stand there.
 fn end_at(rest: &[u8], number: u32) -> End
-    ensures { (reading : Intake) → at_end reading number rest.now ≡ record { reading = reading; ending = ending result } }
+    ensures { (reading : Intake) → at_end reading number rest.now
+        ≡ record { reading = reading; ending = ending result } }
 {
     match rest {
         [] => End::Whole,
@@ -160,7 +168,9 @@ fn hear_lines(
 ) -> Result<End, AllocError>
     requires play { InPlay seat core.old told.old.items }
     requires fits { length input.now ≤ longest }
-    ensures { IfOk result (λ end. HearsAll (hear_from (intake_of core.old) 3 (whole_lines input.now) (unfinished input.now)) seat end core.new told.new.items) }
+    ensures { IfOk result (λ end. HearsAll
+        (hear_from (intake_of core.old) 3 (whole_lines input.now) (unfinished input.now)) seat end
+        core.new told.new.items) }
 {
     let mut rest = input;
     let mut number = 3;
@@ -186,7 +196,8 @@ fn hear_line(
     line: &[u8],
 ) -> Result<Step, AllocError>
     requires { InPlay seat core.old told.old.items }
-    ensures { IfOk result (λ step. Does step seat core.old core.new told.old.items told.new.items (arrives (intake_of core.old) line.now)) }
+    ensures { IfOk result (λ step. Does step seat core.old core.new told.old.items told.new.items
+        (arrives (intake_of core.old) line.now)) }
 {
     match read_form(alloc, line)? {
         ArrivalForm::Header(_) => Ok(Step::Bad),
@@ -234,7 +245,8 @@ fn sit(
     line: &[u8],
 ) -> Result<Step, AllocError>
     requires { InPlay seat core.old told.old.items }
-    ensures { IfOk result (λ step. Does step seat core.old core.new told.old.items told.new.items (sit_arrives (intake_of core.old) line.now)) }
+    ensures { IfOk result (λ step. Does step seat core.old core.new told.old.items told.new.items
+        (sit_arrives (intake_of core.old) line.now)) }
 {
     match core.sit(alloc, JOINER, line) {
         SitAnswer::Sat(taken) => {
@@ -268,7 +280,8 @@ fn say(
     line: &[u8],
 ) -> Result<Step, AllocError>
     requires { InPlay seat core.old told.old.items }
-    ensures { IfOk result (λ step. Does step seat core.old core.new told.old.items told.new.items (say_arrives (intake_of core.old) who line.now)) }
+    ensures { IfOk result (λ step. Does step seat core.old core.new told.old.items told.new.items
+        (say_arrives (intake_of core.old) who line.now)) }
 {
     if who >= u64::from(core.seats()) {
         return Ok(Step::Bad);
@@ -298,7 +311,8 @@ fn own_line(
     requires play { InPlay seat core.old told.old.items }
     requires present { author_at core.old seat ≡ Some author }
     requires asked { may_say_at core.old seat ≡ true }
-    ensures { IfOk result (λ step. Does step seat core.old core.new told.old.items told.new.items (say_arrives (intake_of core.old) seat line.now)) }
+    ensures { IfOk result (λ step. Does step seat core.old core.new told.old.items told.new.items
+        (say_arrives (intake_of core.old) seat line.now)) }
 {
     let mut due = Vec::new(alloc);
     core.pending(alloc, seat, &mut due)?;
@@ -335,7 +349,8 @@ fn others_line(
     requires present { author_at core.old who ≡ Some author }
     requires asked { may_say_at core.old who ≡ true }
     requires another { (who == seat) ≡ false }
-    ensures { IfOk result (λ step. Does step seat core.old core.new told.old.items told.new.items (say_arrives (intake_of core.old) who line.now)) }
+    ensures { IfOk result (λ step. Does step seat core.old core.new told.old.items told.new.items
+        (say_arrives (intake_of core.old) who line.now)) }
 {
     match core.said(alloc, author, who, line) {
         Heard::Taken => Ok(Step::Leads),

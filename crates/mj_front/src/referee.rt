@@ -35,9 +35,12 @@ pub(crate) fn referee_of<S: Source, K: Sink>(
     source: &mut S,
     sink: &mut K,
 ) -> RefereeEnd
-    ensures run { Referees result seat (S.left source.old) (S.left source.new) (K.written sink.old) (K.written sink.new) }
-    ensures reads { CountsReadFaults (referee_status result) (S.read_faults source.old) (S.read_faults source.new) }
-    ensures writes { CountsWriteFaults (referee_status result) (K.write_faults sink.old) (K.write_faults sink.new) }
+    ensures run { Referees result seat (S.left source.old) (S.left source.new) (K.written sink.old)
+        (K.written sink.new) }
+    ensures reads { CountsReadFaults (referee_status result) (S.read_faults source.old)
+        (S.read_faults source.new) }
+    ensures writes { CountsWriteFaults (referee_status result) (K.write_faults sink.old)
+        (K.write_faults sink.new) }
 {
     let mut input = Vec::new(alloc);
     match read_all(source, LONGEST, &mut input) {
@@ -52,7 +55,8 @@ pub(crate) fn referee_of<S: Source, K: Sink>(
 fn referee<K: Sink>(alloc: Global, seat: u8, input: &[u8], sink: &mut K) -> RefereeEnd
     requires { length input.now ≤ longest }
     ensures tells { RefereesInput result seat input.now (K.written sink.old) (K.written sink.new) }
-    ensures writes { CountsWriteFaults (referee_status result) (K.write_faults sink.old) (K.write_faults sink.new) }
+    ensures writes { CountsWriteFaults (referee_status result) (K.write_faults sink.old)
+        (K.write_faults sink.new) }
 {
     let Ok(told) = hear(alloc, seat, input) else {
         return RefereeEnd::NoMemory;

@@ -92,7 +92,8 @@ fn has_value(case: &Case, pair: Kind) -> bool
 // Whether the set that the winning tile completed, where it isn't the pair, could have been completed at its other
 // end too.
 fn waits_on_both_sides(sets: &[Set], win: u8, winning: Kind) -> bool
-    ensures { result ≡ option_map_or (λ set. two_sided set.low winning) (slice_get sets.now win) false }
+    ensures { result ≡ option_map_or
+        (λ set. two_sided set.low winning) (slice_get sets.now win) false }
 {
     match sets.get(usize::from(win)) {
         Some(set) => is_two_sided(set.low.number(), winning.number()),

@@ -111,7 +111,8 @@ fn wait_fu(sets: &[Set], win: u8, winning: Kind) -> u8
 
 // Whether the winning tile completed a run of which it was the middle or at the edge of the suit.
 fn is_one_sided_set(sets: &[Set], win: u8, winning: Kind) -> bool
-    ensures { result ≡ option_map_or (λ set. run set && one_sided set.low winning) (slice_get sets.now win) false }
+    ensures { result ≡ option_map_or
+        (λ set. run set && one_sided set.low winning) (slice_get sets.now win) false }
 {
     match sets.get(usize::from(win)) {
         Some(set) => is_run(set) && is_one_sided(set.low.number(), winning.number()),

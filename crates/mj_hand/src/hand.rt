@@ -45,7 +45,9 @@ pub(crate) fn read_hand(alloc: Global, words: &[String]) -> Result<Option<Hand>,
 
 // The tiles of all words; none where a word is neither a tile nor a meld.
 fn gather(alloc: Global, words: &[String]) -> Result<Option<Gathered>, AllocError>
-    ensures { IfOk result (λ gathered. MatchOption gathered (words_of (map string_bytes words.now) ≡ None) (λ g. Gathers (map string_bytes words.now) g.held.items g.melded.items g.melds)) }
+    ensures { IfOk result (λ gathered. MatchOption gathered
+        (words_of (map string_bytes words.now) ≡ None)
+        (λ g. Gathers (map string_bytes words.now) g.held.items g.melded.items g.melds)) }
 {
     let mut gathered = Gathered {
         held: Vec::new(alloc),
@@ -90,7 +92,8 @@ fn take(gathered: &mut Gathered, tiles: &[Tile]) -> Result<bool, AllocError>
 
 // The hand of all tiles, where they are as many as a hand has and no kind stands more than four times.
 fn hand_with(gathered: &Gathered) -> Option<Hand>
-    ensures { result ≡ hand_among gathered.now.held.items gathered.now.melded.items gathered.now.melds }
+    ensures { result ≡ hand_among gathered.now.held.items gathered.now.melded.items
+        gathered.now.melds }
 {
     if gathered.melds > 4 || gathered.held.len() + 3 * gathered.melds != 13 {
         return None;

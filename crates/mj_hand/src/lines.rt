@@ -26,7 +26,8 @@ use std::alloc::{AllocError, Global};
 /// triplet or four of a kind in any order. There are no red fives. The result is None exactly where a word is neither, the
 /// tiles and three for each meld aren't thirteen, or a kind stands more than four times, the tiles of melds included.
 pub fn hand_lines(alloc: Global, words: &[String]) -> Result<Option<Vec<u8>>, AllocError>
-    ensures { IfOk result (λ text. MatchOption text (hand_of (map string_bytes words.now) ≡ None) (λ t. IsHandText (map string_bytes words.now) t.items)) }
+    ensures { IfOk result (λ text. MatchOption text (hand_of (map string_bytes words.now) ≡ None)
+        (λ t. IsHandText (map string_bytes words.now) t.items)) }
 {
     match read_hand(alloc, words)? {
         Some(hand) => Ok(Some(text_of_hand(alloc, &hand)?)),
@@ -68,7 +69,8 @@ fn push_target(alloc: Global, text: &mut Vec<u8>, target: &Counts) -> Result<(),
 }
 
 fn push_waits(alloc: Global, text: &mut Vec<u8>, waits: Kinds) -> Result<(), AllocError>
-    ensures { OnOk result (Adds text.old.items text.new.items (waits_line (filter (has_kind waits) all_kinds))) }
+    ensures { OnOk result (Adds text.old.items text.new.items
+        (waits_line (filter (has_kind waits) all_kinds))) }
 {
     let kinds = kinds_in(alloc, waits)?;
     push_all(text, b"waits")?;
@@ -132,7 +134,8 @@ fn kinds_in(alloc: Global, set: Kinds) -> Result<Vec<Kind>, AllocError>
 
 // Adds the kind to the list where it is to stand there.
 fn push_if(kinds: &mut Vec<Kind>, kind: Kind, stands: bool) -> Result<(), AllocError>
-    ensures { IfOk result (λ unit. kinds.new.items ≡ kinds.old.items ++ (if stands then kind ∷ [] else [])) }
+    ensures { IfOk result (λ unit. kinds.new.items ≡ kinds.old.items
+        ++ (if stands then kind ∷ [] else [])) }
 {
     if stands {
         kinds.push(kind)?;

@@ -83,7 +83,9 @@ fn is_no_tile(red: bool, tile: &Pai) -> bool
 #[tactic(auto, unfolding(mj_rules::specs::Broken::view_of))]
 fn has_unheld(table: &Table, seat: u8, tiles: &[Pai]) -> bool
     requires { length tiles.now ≤ 4 }
-    ensures { let faces = flat_map face_in tiles.now in result ≡ list_any (λ face. nat_lt (held_count (view_of table.now.deeds seat) face) (number_in faces face)) faces }
+    ensures { let faces = flat_map face_in tiles.now in
+        result ≡ list_any (λ face. nat_lt (held_count (view_of table.now.deeds seat) face)
+        (number_in faces face)) faces }
 {
     for tile in tiles {
         if let Pai::Known(tile) = tile {

@@ -160,7 +160,8 @@ fn is_kan_answer(answer: &Answer) -> bool
 
 // The newest deed is no discard of that tile by the target.
 fn misses_discard(table: &Table, target: u8, tile: &Pai) -> bool
-    ensures { result ≡ misses_discard (turn_in (option_map turn_by (newest table.now.deeds))) target tile.now }
+    ensures { result ≡ misses_discard (turn_in (option_map turn_by (newest table.now.deeds))) target
+        tile.now }
 {
     match table.newest() {
         Some(

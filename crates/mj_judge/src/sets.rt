@@ -50,7 +50,8 @@ fn is_alike(a: &Pai, b: &Pai) -> bool
 // The seat has a pon of just these tiles, and the tile is of its kind.
 #[tactic(auto, using(mj_rules::proofs::Answered::shown_pon, crate::proofs::Pons::hidden_added, crate::proofs::Pons::hidden_first, crate::proofs::Pons::hidden_second, crate::proofs::Pons::hidden_third))]
 fn has_own_pon(table: &Table, seat: u8, tile: &Pai, a: &Pai, b: &Pai, c: &Pai) -> bool
-    ensures { result ≡ list_any (is_own_pon tile.now a.now b.now c.now) (seat_melds (hand table.now.deeds) seat) }
+    ensures { result ≡ list_any (is_own_pon tile.now a.now b.now c.now)
+        (seat_melds (hand table.now.deeds) seat) }
 {
     match (tile, a, b, c) {
         (Pai::Known(tile), Pai::Known(a), Pai::Known(b), Pai::Known(c)) => {

@@ -84,7 +84,8 @@ fn banned_by_pon(tile: &Pai) -> Kinds
 // Every tile that is held besides these is of a banned kind.
 fn has_nothing_else(table: &Table, seat: u8, used: &[Pai], bans: Kinds) -> bool
     requires { length used.now ≤ 2 }
-    ensures { result ≡ list_all (is_used_up (tiles_gained (hand table.now.deeds) seat) (tiles_lost (hand table.now.deeds) seat) (flat_map face_in used.now) bans) tile_order }
+    ensures { result ≡ list_all (is_used_up (tiles_gained (hand table.now.deeds) seat)
+        (tiles_lost (hand table.now.deeds) seat) (flat_map face_in used.now) bans) tile_order }
 {
     for place in 0..37 {
         let tile = ordered(place);
@@ -98,7 +99,8 @@ fn has_nothing_else(table: &Table, seat: u8, used: &[Pai], bans: Kinds) -> bool
 // The seat holds no more tiles of the face than are used, or they are of a banned kind.
 fn is_used_up(table: &Table, seat: u8, used: &[Pai], bans: Kinds, tile: Tile) -> bool
     requires { length used.now ≤ 2 }
-    ensures { result ≡ is_used_up (tiles_gained (hand table.now.deeds) seat) (tiles_lost (hand table.now.deeds) seat) (flat_map face_in used.now) bans tile }
+    ensures { result ≡ is_used_up (tiles_gained (hand table.now.deeds) seat)
+        (tiles_lost (hand table.now.deeds) seat) (flat_map face_in used.now) bans tile }
 {
     table.held_count(seat, tile) <= number_among(used, tile) || bans.has(tile.kind())
 }

@@ -27,7 +27,8 @@ pub fn default(table: &Table, seat: u8) -> Answer
 
 // Right after a call of the seat: the discard of the last tile that breaks no rule.
 fn after_call(table: &Table, seat: u8) -> Answer
-    ensures { let view = view_of table.now.deeds seat in result ≡ discard_or_pass seat view (last_face (lawful_faces table.now.rules seat view)) }
+    ensures { let view = view_of table.now.deeds seat in
+        result ≡ discard_or_pass seat view (last_face (lawful_faces table.now.rules seat view)) }
 {
     discard_or_pass(table, seat, last_lawful(table, seat))
 }
@@ -35,7 +36,8 @@ fn after_call(table: &Table, seat: u8) -> Answer
 // The last tile in tile order whose discard breaks no rule.
 #[tactic(auto, unfolding(mj_rules::specs::Default::lawful_faces))]
 fn last_lawful(table: &Table, seat: u8) -> Option<Tile>
-    ensures { result ≡ last_face (lawful_faces table.now.rules seat (view_of table.now.deeds seat)) }
+    ensures { result ≡ last_face (lawful_faces table.now.rules seat
+        (view_of table.now.deeds seat)) }
 {
     let mut last = None;
     for place in 0..37 {
@@ -49,7 +51,8 @@ fn last_lawful(table: &Table, seat: u8) -> Option<Tile>
 
 // The discard of the tile breaks no rule.
 fn is_lawful_discard(table: &Table, seat: u8, tile: Tile) -> bool
-    ensures { let view = view_of table.now.deeds seat in result ≡ is_none (broken_by table.now.rules seat view (discard_of seat view tile)) }
+    ensures { let view = view_of table.now.deeds seat in
+        result ≡ is_none (broken_by table.now.rules seat view (discard_of seat view tile)) }
 {
     judge(table, seat, &discard(table, seat, tile)).is_ok()
 }

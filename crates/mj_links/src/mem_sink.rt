@@ -47,7 +47,8 @@ impl Sink for MemSink {
 
     fn write(&mut self, piece: &[u8]) -> Put
         requires { 0 < length piece.now }
-        ensures bytes { Writes result (Some (written_bytes self.old)) (Some (written_bytes self.new)) piece.now }
+        ensures bytes { Writes result (Some (written_bytes self.old))
+            (Some (written_bytes self.new)) piece.now }
         ensures faults { CountsWriteFault result (sink_faults self.old) (sink_faults self.new) }
         ensures whole { TakesWhole result (next_fails (write_plan self.old)) piece.now }
         ensures counted { CountsCall (write_plan self.old) (write_plan self.new) }

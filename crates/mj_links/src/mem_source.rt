@@ -50,7 +50,8 @@ impl Source for MemSource {
         requires { 0 < length into.old }
         ensures bytes { Reads result (Some (unread self.old)) (Some (unread self.new)) into.new }
         ensures faults { CountsReadFault result (source_faults self.old) (source_faults self.new) }
-        ensures exact { result ≡ mem_read (next_fails (read_plan self.old)) (unread self.old) (length into.old) }
+        ensures exact { result ≡ mem_read (next_fails (read_plan self.old)) (unread self.old)
+            (length into.old) }
         ensures counted { CountsCall (read_plan self.old) (read_plan self.new) }
     {
         if self.plan.next_fails() {

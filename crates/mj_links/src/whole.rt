@@ -35,8 +35,10 @@ const ROOM: usize = 4096;
 /// a text. After want of memory the bytes read last may be lost.
 #[tactic(auto, using(crate::proofs::ReadLaws::reading))]
 pub fn read_all<S: Source>(source: &mut S, limit: u64, into: &mut Vec<u8>) -> ReadAll
-    ensures bytes { ReadsAll result limit (S.left source.old) (S.left source.new) into.old.items into.new.items }
-    ensures faults { CountsFaultOfReading result (S.read_faults source.old) (S.read_faults source.new) }
+    ensures bytes { ReadsAll result limit (S.left source.old) (S.left source.new) into.old.items
+        into.new.items }
+    ensures faults { CountsFaultOfReading result (S.read_faults source.old)
+        (S.read_faults source.new) }
 {
     let mut buffer = [0; ROOM];
     let mut room = limit;
@@ -63,7 +65,8 @@ pub fn read_all<S: Source>(source: &mut S, limit: u64, into: &mut Vec<u8>) -> Re
 #[tactic(auto, using(crate::proofs::WriteLaws::writing))]
 pub fn write_all<K: Sink>(sink: &mut K, piece: &[u8]) -> WriteAll
     ensures bytes { WritesAll result (K.written sink.old) (K.written sink.new) piece.now }
-    ensures faults { CountsFaultOfWriting result (K.write_faults sink.old) (K.write_faults sink.new) }
+    ensures faults { CountsFaultOfWriting result (K.write_faults sink.old)
+        (K.write_faults sink.new) }
 {
     let mut rest = piece;
     while !rest.is_empty() {

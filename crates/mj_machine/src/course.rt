@@ -32,7 +32,8 @@ pub fn next(
     requires whole { IsTrue (list_all (is_wall table.old.rules.red) walls.now) }
     requires played { IsPlayed table.old.rules walls.now table.old.deeds }
     requires lawful { AllLawful table.old.rules table.old.deeds answers.now }
-    ensures follows { IfOk result (λ d. d ≡ outcome table.old.rules walls.now table.old.deeds answers.now) }
+    ensures follows { IfOk result (λ d. d
+        ≡ outcome table.old.rules walls.now table.old.deeds answers.now) }
     ensures missing { IfOk result (λ d. is_none d ≡ is_unbuilt table.old.deeds answers.now) }
     ensures pushed { IfOk result (λ d. AddsFollower table.old table.new d) }
     ensures played { IfOk result (λ d. IsPlayed table.old.rules walls.now table.new.deeds) }
@@ -74,7 +75,8 @@ fn after_pass(
     last: &Deed,
 ) -> Result<Option<Deed>, AllocError>
     requires some { 1 ≤ length walls.now }
-    ensures { IfOk result (λ d. d ≡ after_pass walls.now (wall_now walls.now table.now.deeds) (hand table.now.deeds) last.now) }
+    ensures { IfOk result (λ d. d ≡ after_pass walls.now (wall_now walls.now table.now.deeds)
+        (hand table.now.deeds) last.now) }
 {
     let wall = wall_now(table, walls);
     match last {

@@ -22,7 +22,8 @@ impl Model for Numbers {
 
     ghost view = { λ n. n.past.items };
 
-    ghost invariant = { λ n. (n.count ≡ length n.past.items) × (n.high ≡ list_any (nat_lt 9) n.past.items) };
+    ghost invariant = { λ n. (n.count ≡ length n.past.items)
+        × (n.high ≡ list_any (nat_lt 9) n.past.items) };
 }
 
 impl Numbers {

@@ -220,7 +220,8 @@ fn drawn_income(winner: u8, dealer: u8, base: u32, honba: u32) -> u32
 fn income_from(payer: u8, winner: u8, dealer: u8, base: u32, honba: u32) -> u32
     requires base_limit { base ≤ 8000 }
     requires honba_limit { honba ≤ 200 }
-    ensures value { result ≡ (if payer == winner then 0 else drawn_payment winner payer dealer base honba) }
+    ensures value { result ≡ (if payer
+        == winner then 0 else drawn_payment winner payer dealer base honba) }
     ensures limit { result < 37000 }
 {
     if payer == winner {

@@ -47,7 +47,8 @@ pub trait Seated: Drop + Send {
     // What a line that wants a seat, an answer of a seat by an author, and an expiry with its two readings come to.
     ghost sits: { Self.Setting → List (Entry Self.Answer) → List ℕ → SitAnswer };
 
-    ghost hears: { Self.Setting → List (Entry Self.Answer) → ℕ → ℕ → Self.Answer → Heard Self.Rule };
+    ghost hears: { Self.Setting → List (Entry Self.Answer) → ℕ → ℕ → Self.Answer
+        → Heard Self.Rule };
 
     ghost expires: { Self.Setting → List (Entry Self.Answer) → ℕ → ℕ → ℕ → Expiry };
 
@@ -57,32 +58,41 @@ pub trait Seated: Drop + Send {
     /// Gives a seat for the line, or says why not.
     fn sit(&mut self, alloc: Global, author: u8, line: &[u8]) -> SitAnswer
         ensures setting { setting self.new ≡ setting self.old }
-        ensures entries { AnswersSit (history self.old) (history self.new) result (sits (setting self.old) (history self.old) line.now) author (joins line.now) };
+        ensures entries { AnswersSit (history self.old) (history self.new) result
+            (sits (setting self.old) (history self.old) line.now) author (joins line.now) };
 
     /// Enters what the seat says, which is present by this author and whose due deed exists.
     fn said(&mut self, alloc: Global, author: u8, seat: u8, line: &[u8]) -> Heard<Self::Rule>
         requires seat { seat < 4 }
-        requires present { (after (setting self.old) (history self.old)).present seat ≡ Some author }
-        requires due { (after (setting self.old) (history self.old)).due seat < (after (setting self.old) (history self.old)).deeds }
+        requires present { (after (setting self.old) (history self.old)).present seat
+            ≡ Some author }
+        requires due { (after (setting self.old) (history self.old)).due seat
+            < (after (setting self.old) (history self.old)).deeds }
         ensures setting { setting self.new ≡ setting self.old }
-        ensures entries { AnswersSaid (history self.old) (history self.new) result (hears (setting self.old) (history self.old) author seat (reads line.now)) author seat (reads line.now) };
+        ensures entries { AnswersSaid (history self.old) (history self.new) result
+            (hears (setting self.old) (history self.old) author seat (reads line.now)) author seat
+            (reads line.now) };
 
     /// Enters that the seat, which is present by this author, is gone.
     fn gone(&mut self, alloc: Global, author: u8, seat: u8) -> Left
         requires seat { seat < 4 }
-        requires present { (after (setting self.old) (history self.old)).present seat ≡ Some author }
+        requires present { (after (setting self.old) (history self.old)).present seat
+            ≡ Some author }
         ensures setting { setting self.new ≡ setting self.old }
         ensures entries { AnswersGone (history self.old) (history self.new) result author seat };
 
     /// Closes the window if it is the open one and its time has run out between the two readings.
     fn expire(&mut self, alloc: Global, author: u8, window: u32, t1: u64, t2: u64) -> Expiry
         ensures setting { setting self.new ≡ setting self.old }
-        ensures entries { AnswersExpiry (history self.old) (history self.new) result (expires (setting self.old) (history self.old) window t1 t2) author window t1 t2 };
+        ensures entries { AnswersExpiry (history self.old) (history self.new) result
+            (expires (setting self.old) (history self.old) window t1 t2) author window t1 t2 };
 
     /// Line k of a seat; None exactly where there is no such deed yet.
     fn line(&self, seat: u8, k: u32) -> Option<&[u8]>
         requires { seat < 4 }
-        ensures { MatchOption result ((after (setting self.now) (history self.now)).deeds ≤ k) (λ l. (k < (after (setting self.now) (history self.now)).deeds) × (l.now ≡ (after (setting self.now) (history self.now)).text seat k)) };
+        ensures { MatchOption result ((after (setting self.now) (history self.now)).deeds ≤ k)
+            (λ l. (k < (after (setting self.now) (history self.now)).deeds)
+            × (l.now ≡ (after (setting self.now) (history self.now)).text seat k)) };
 
     /// The number of the deed that the seat's next line answers.
     fn due(&self, seat: u8) -> u32
@@ -127,26 +137,45 @@ pub trait Seated: Drop + Send {
         ensures err { OnErr result (into.new.items ≡ into.old.items) };
 
     // What was permitted stays permitted when later entries are left out.
-    ghost legal_before: { (s : Self.Setting) (es fs : List (Entry Self.Answer)) → is_legal s (es ++ fs) → is_legal s es };
+    ghost legal_before: { (s : Self.Setting) (es fs : List (Entry Self.Answer))
+        → is_legal s (es ++ fs) → is_legal s es };
 
     // Lines stay, and the game's end.
-    ghost stays: { (s : Self.Setting) (es : List (Entry Self.Answer)) (e : Entry Self.Answer) → is_legal s (es ++ e ∷ []) → Stays (after s es) (after s (es ++ e ∷ [])) };
+    ghost stays: { (s : Self.Setting) (es : List (Entry Self.Answer)) (e : Entry Self.Answer)
+        → is_legal s (es ++ e ∷ []) → Stays (after s es) (after s (es ++ e ∷ [])) };
 
     // A connection that has ended is told nothing more.
-    ghost ended: { (s : Self.Setting) (es : List (Entry Self.Answer)) (e : Entry Self.Answer) (place : ℕ) → is_legal s (es ++ e ∷ []) → place < length es → (after s es).seat_of place ≡ None → StaysEnded place (after s es) (after s (es ++ e ∷ [])) };
+    ghost ended: { (s : Self.Setting) (es : List (Entry Self.Answer)) (e : Entry Self.Answer)
+        (place : ℕ) → is_legal s (es ++ e ∷ []) → place < length es → (after s es).seat_of place
+        ≡ None → StaysEnded place (after s es) (after s (es ++ e ∷ [])) };
 
     // An entry of another author or seat leaves a present seat alone.
-    ghost others: { (s : Self.Setting) (es : List (Entry Self.Answer)) (e : Entry Self.Answer) (author seat : ℕ) → is_legal s (es ++ e ∷ []) → (after s es).present seat ≡ Some author → IsAside author seat es e → Unmoved seat (after s es) (after s (es ++ e ∷ [])) };
+    ghost others: { (s : Self.Setting) (es : List (Entry Self.Answer)) (e : Entry Self.Answer)
+        (author seat : ℕ) → is_legal s (es ++ e ∷ []) → (after s es).present seat ≡ Some author
+        → IsAside author seat es e → Unmoved seat (after s es) (after s (es ++ e ∷ [])) };
 
     // A seat that is taken begins a connection with the hello line.
-    ghost sat: { (s : Self.Setting) (es : List (Entry Self.Answer)) (author : ℕ) (name : List ℕ) (key : Option (List ℕ)) → is_legal s (es ++ Sat author name key ∷ []) → Begins author (next_seat es) (length es) 0 (hello says) (after s (es ++ Sat author name key ∷ [])) };
+    ghost sat: { (s : Self.Setting) (es : List (Entry Self.Answer)) (author : ℕ) (name : List ℕ)
+        (key : Option (List ℕ)) → is_legal s (es ++ Sat author name key ∷ [])
+        → Begins author (next_seat es) (length es) 0 (hello says)
+        (after s (es ++ Sat author name key ∷ [])) };
 
     // A seat that is taken back begins one with the hello line, the replay head, and the lines before its due deed.
-    ghost back: { (s : Self.Setting) (es : List (Entry Self.Answer)) (author seat : ℕ) → is_legal s (es ++ Back author seat ∷ []) → Begins author seat (length es) ((after s (es ++ Back author seat ∷ [])).due seat) (replay says (after s (es ++ Back author seat ∷ [])) seat) (after s (es ++ Back author seat ∷ [])) };
+    ghost back: { (s : Self.Setting) (es : List (Entry Self.Answer)) (author seat : ℕ)
+        → is_legal s (es ++ Back author seat ∷ [])
+        → Begins author seat (length es) ((after s (es ++ Back author seat ∷ [])).due seat)
+        (replay says (after s (es ++ Back author seat ∷ [])) seat)
+        (after s (es ++ Back author seat ∷ [])) };
 
     // An answer of a seat goes by its verdict.
-    ghost answers: { (s : Self.Setting) (es : List (Entry Self.Answer)) (author seat : ℕ) (answer : Self.Answer) → is_legal s (es ++ Said author seat answer ∷ []) → Answers says (hears s es author seat answer) seat (after s es) (after s (es ++ Said author seat answer ∷ [])) };
+    ghost answers: { (s : Self.Setting) (es : List (Entry Self.Answer)) (author seat : ℕ)
+        (answer : Self.Answer) → is_legal s (es ++ Said author seat answer ∷ [])
+        → Answers says (hears s es author seat answer) seat (after s es)
+        (after s (es ++ Said author seat answer ∷ [])) };
 
     // A seat that is gone leaves, and its connection is told nothing but what was pending.
-    ghost leaves: { (s : Self.Setting) (es : List (Entry Self.Answer)) (author seat : ℕ) → is_legal s (es ++ Gone author seat ∷ []) → Leaves seat (after s es) (after s (es ++ Gone author seat ∷ [])) × Adds seat [] (after s es) (after s (es ++ Gone author seat ∷ [])) };
+    ghost leaves: { (s : Self.Setting) (es : List (Entry Self.Answer)) (author seat : ℕ)
+        → is_legal s (es ++ Gone author seat ∷ [])
+        → Leaves seat (after s es) (after s (es ++ Gone author seat ∷ []))
+        × Adds seat [] (after s es) (after s (es ++ Gone author seat ∷ [])) };
 }

@@ -110,7 +110,8 @@ fn goes_on(others: &[u8], kind: u8, second: u8, runs: u8, triplets: u8, left: Le
     requires second_few { second ≤ 4 }
     requires triplet { triplets ≤ 1 }
     requires few { left.sets ≤ 4 }
-    ensures { result ≡ begins (λ runs sets paired. has_way others.now (kind + 1) second runs sets paired)
+    ensures { result ≡ begins
+        (λ runs sets paired. has_way others.now (kind + 1) second runs sets paired)
         kind runs triplets left.sets left.paired }
 {
     if !can_begin(kind, runs, triplets, left.sets) {

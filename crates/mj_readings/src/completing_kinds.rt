@@ -11,7 +11,8 @@ use mj_tiles::{Counts, Kind, Kinds};
 /// four tiles are held and one tile more of which makes the hand complete.
 pub fn completing(counts: &Counts, melds: u8) -> Kinds
     ensures value { result ≡ kinds_that (is_completing counts.now melds) }
-    ensures law { (kind : ℕ) → kind < 34 → (IsTrue (has_kind result kind) ↔ IsCompleting counts.now melds kind) }
+    ensures law { (kind : ℕ) → kind < 34
+        → (IsTrue (has_kind result kind) ↔ IsCompleting counts.now melds kind) }
 {
     let standard = standard_kinds(counts.numbers(), melds);
     let special = may_be_special(counts.numbers(), melds);
@@ -76,7 +77,8 @@ fn completing_from(
     requires first_few { first ≤ 4 }
     requires second_few { second ≤ 4 }
     requires few { left.sets ≤ 4 }
-    ensures { Adds found result (completes_past numbers.now kind first second left.sets left.paired) }
+    ensures { Adds found result (completes_past numbers.now kind first second left.sets
+        left.paired) }
 {
     let [count, others @ ..] = numbers else {
         return found;
@@ -145,7 +147,8 @@ fn beyond(
     requires runs_few { runs ≤ 4 }
     requires triplet { triplets ≤ 1 }
     requires few { left.sets ≤ 4 }
-    ensures { Adds found result (begins_past others.now kind second runs triplets left.sets left.paired) }
+    ensures { Adds found result (begins_past others.now kind second runs triplets left.sets
+        left.paired) }
 {
     if !can_begin(kind, runs, triplets, left.sets) {
         return found;
@@ -178,7 +181,8 @@ fn single_kinds(numbers: &[u8]) -> usize
 /// Whether a character from two to eight is held.
 fn has_middle_character(numbers: &[u8]) -> bool
     requires { length numbers.now ≡ 34 }
-    ensures { result ≡ true → (kind : ℕ) × ((0 < kind) × (kind < 8) × (0 < slice_index numbers.now kind)) }
+    ensures { result ≡ true → (kind : ℕ)
+        × ((0 < kind) × (kind < 8) × (0 < slice_index numbers.now kind)) }
 {
     for place in 1..8 {
         if numbers[place] > 0 {

@@ -157,7 +157,8 @@ fn pair_at(
     requires kinds { spot.now.kind + length others.now + 1 ≡ 34 }
     requires under_way { spot.now.second ≤ 4 }
     requires room { length sets.now + spot.now.left ≤ 4 }
-    ensures { Picks (winning_ways sets.now winning (pair_ways others.now spot.now free)) index result }
+    ensures { Picks (winning_ways sets.now winning (pair_ways others.now spot.now free)) index
+        result }
 {
     if free < 2 {
         return Err(index);
@@ -193,7 +194,8 @@ fn branch_at(
     requires under_way { spot.now.second ≤ 4 }
     requires triplet { triplets ≤ 1 }
     requires room { length sets.now + spot.now.left ≤ 4 }
-    ensures { Picks (winning_ways sets.now winning (branch_ways others.now spot.now runs triplets pair)) index result }
+    ensures { Picks (winning_ways sets.now winning
+        (branch_ways others.now spot.now runs triplets pair)) index result }
 {
     if !can_begin(spot.kind, runs, triplets, spot.left) {
         return Err(index);
@@ -223,7 +225,8 @@ fn branch_at(
 /// The winning_ways after the last kind: those of the sets made, where none is left to make and the pair is made.
 fn end_at(spot: &Spot, sets: &Sets, winning: Kind, index: usize) -> Result<WinningWay, usize>
     requires { length sets.now ≤ 4 }
-    ensures { Picks (winning_ways sets.now winning (end_of spot.now.left spot.now.pair)) index result }
+    ensures { Picks (winning_ways sets.now winning (end_of spot.now.left spot.now.pair)) index
+        result }
 {
     let Some(pair) = spot.pair else {
         return Err(index);
@@ -253,7 +256,8 @@ fn sets_with(sets: &Sets, kind: Kind, runs: u8, triplets: u8) -> Sets
 /// The sets, and behind them so many equal ones of concealed tiles.
 fn sets_of_form(sets: &Sets, form: SetForm, low: Kind, number: u8) -> Sets
     requires { length sets.now + number ≤ 4 }
-    ensures { result ≡ sets.now ++ replicate number (record { form = form; low = low; shown = false }) }
+    ensures { result ≡ sets.now ++ replicate number
+        (record { form = form; low = low; shown = false }) }
 {
     let set = Set {
         form,

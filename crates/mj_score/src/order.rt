@@ -18,14 +18,17 @@ pub(crate) fn is_better(one: &Score, other: &Score) -> bool
 
 // Whether one score of the same base points is better than another.
 fn is_better_by_han(one: &Score, other: &Score) -> bool
-    ensures { result ≡ greater_or one.now.han other.now.han (greater_or one.now.fu other.now.fu (before (rows_of one.now.yaku) (rows_of other.now.yaku))) }
+    ensures { result ≡ greater_or one.now.han other.now.han
+        (greater_or one.now.fu other.now.fu
+        (before (rows_of one.now.yaku) (rows_of other.now.yaku))) }
 {
     one.han > other.han || (one.han == other.han && is_better_by_fu(one, other))
 }
 
 // Whether one score of the same base points and han is better than another.
 fn is_better_by_fu(one: &Score, other: &Score) -> bool
-    ensures { result ≡ greater_or one.now.fu other.now.fu (before (rows_of one.now.yaku) (rows_of other.now.yaku)) }
+    ensures { result ≡ greater_or one.now.fu other.now.fu
+        (before (rows_of one.now.yaku) (rows_of other.now.yaku)) }
 {
     one.fu > other.fu || (one.fu == other.fu && comes_before(one.yaku, other.yaku))
 }

@@ -32,7 +32,8 @@ pub fn worth(
     requires dora { extra.dora ≤ 20 }
     requires under { extra.under ≤ 20 }
     requires red { extra.red ≤ 3 }
-    ensures value { IfOk result (λ worth. worth ≡ worth_of counts.now melds.now win case.now extra) }
+    ensures value { IfOk result (λ worth. worth
+        ≡ worth_of counts.now melds.now win case.now extra) }
     ensures law { IfOk result (λ worth. IsWorth counts.now melds.now win case.now extra worth) }
 {
     let found = readings(alloc, counts, melds, win)?;
@@ -43,7 +44,8 @@ pub fn worth(
 #[tactic(auto, unfolding(crate::specs::Inner::BestAmong::best_among))]
 fn best_of(readings: &[Reading], melds: &[Meld], case: &Case, extra: Extra) -> Option<Score>
     requires closed { case.now.closed ≡ are_concealed melds.now }
-    requires orphans { All (λ reading. is_orphans reading ≡ true → case.now.closed ≡ true) readings.now }
+    requires orphans { All (λ reading. is_orphans reading ≡ true → case.now.closed ≡ true)
+        readings.now }
     requires dora { extra.dora ≤ 20 }
     requires under { extra.under ≤ 20 }
     requires red { extra.red ≤ 3 }

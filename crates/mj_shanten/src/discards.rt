@@ -40,7 +40,8 @@ fn last_within(suits: &Suits, kinds: Kinds, melds: u8, most: u16) -> Option<Kind
     ensures { MatchOption result
         ((kind : ℕ) → IsDiscard suits.now.counts kinds kind
         → LeavesMore suits.now.counts suits.now.room melds most kind)
-        (λ kind. IsDiscard suits.now.counts kinds kind × LeavesAtMost suits.now.counts suits.now.room melds most kind
+        (λ kind. IsDiscard suits.now.counts kinds kind
+        × LeavesAtMost suits.now.counts suits.now.room melds most kind
         × ((other : ℕ) → kind < other → IsDiscard suits.now.counts kinds other
         → LeavesMore suits.now.counts suits.now.room melds most other)) }
 {
@@ -60,8 +61,10 @@ fn is_within(suits: &Suits, kinds: Kinds, melds: u8, most: u16, kind: Kind) -> b
     requires few { melds ≤ 4 }
     requires room { IsRoom suits.now.room melds }
     ensures { MatchBool result
-        (IsDiscard suits.now.counts kinds kind × LeavesAtMost suits.now.counts suits.now.room melds most kind)
-        (IsDiscard suits.now.counts kinds kind → LeavesMore suits.now.counts suits.now.room melds most kind) }
+        (IsDiscard suits.now.counts kinds kind
+        × LeavesAtMost suits.now.counts suits.now.room melds most kind)
+        (IsDiscard suits.now.counts kinds kind
+        → LeavesMore suits.now.counts suits.now.room melds most kind) }
 {
     if !kinds.has(kind) {
         return false;

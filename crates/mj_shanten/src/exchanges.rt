@@ -21,7 +21,9 @@ pub fn exchange_path(
 ) -> Result<Vec<(Kind, Kind)>, AllocError>
     requires { IsNearestOf counts.now nearest.now.number nearest.now.target }
     ensures value { IfOk result (λ path. path.items ≡ path_to counts.now nearest.now.target) }
-    ensures law { IfOk result (λ path. (room : List ℕ) (melds : ℕ) → IsHand counts.now room melds → IsShanten counts.now room melds nearest.now.number nearest.now.target → LeadsToReady counts.now room melds nearest.now.number path.items) }
+    ensures law { IfOk result (λ path. (room : List ℕ) (melds : ℕ) → IsHand counts.now room melds
+        → IsShanten counts.now room melds nearest.now.number nearest.now.target
+        → LeadsToReady counts.now room melds nearest.now.number path.items) }
 {
     let surplus = kinds_more(alloc, counts, &nearest.target)?;
     let missing = kinds_more(alloc, &nearest.target, counts)?;

@@ -52,8 +52,10 @@ impl Suits {
     /// room is what the melds leave.
     pub fn shanten(&self, melds: u8) -> Nearest
         requires { IsHand self.now.counts self.now.room melds }
-        ensures nearest { IsShanten self.now.counts self.now.room melds result.number result.target }
-        ensures exchanges { AreLeastExchanges self.now.counts self.now.room melds result.number result.target }
+        ensures nearest { IsShanten self.now.counts self.now.room melds result.number
+            result.target }
+        ensures exchanges { AreLeastExchanges self.now.counts self.now.room melds result.number
+            result.target }
     {
         let mut best = None;
         take_sets(self, 4 - melds, &mut best);
@@ -140,7 +142,8 @@ fn is_nearer(best: &Option<(u16, [u8; 36])>, number: u16) -> bool
 // for each terminal and honour that is not held.
 fn least_of_special(held: &[u8; 36]) -> u16
     ensures few { result ≤ 7 }
-    ensures least { (melds : ℕ) (target : List ℕ) → IsSpecial melds target → result ≤ missing target held.now }
+    ensures least { (melds : ℕ) (target : List ℕ) → IsSpecial melds target → result
+        ≤ missing target held.now }
 {
     let pairs = 7usize.saturating_sub(kinds_held(held, 2)) as u16;
     pairs.min(missing_tiles(held, &EACH_ORPHAN))

@@ -45,7 +45,8 @@ impl Model for Suits {
 
     ghost view = { λ suits. record { counts = take 34 suits.held; room = take 34 suits.room } };
 
-    ghost invariant = { λ suits. AreWalked suits.held suits.room suits.start.lanes suits.honours.lanes suits.bamboo.lanes suits.circles.lanes suits.characters.lanes };
+    ghost invariant = { λ suits. AreWalked suits.held suits.room suits.start.lanes
+        suits.honours.lanes suits.bamboo.lanes suits.circles.lanes suits.characters.lanes };
 }
 
 impl Suits {
@@ -115,7 +116,8 @@ fn row_of(after: Row, suit: &Suit) -> Row
 pub(crate) fn take_sets(suits: &Suits, sets: u8, best: &mut Option<(u16, [u8; 36])>)
     requires { sets ≤ 4 }
     ensures { Improves (with_two suits.now.counts)
-        (IsJoint (suits_of (with_two suits.now.counts) (with_two suits.now.room)) sets true) best.old best.new }
+        (IsJoint (suits_of (with_two suits.now.counts) (with_two suits.now.room)) sets true)
+        best.old best.new }
 {
     if let Some(target) = nearest_sets(suits, sets) {
         keep_nearer(&suits.held, &target, best);
@@ -127,7 +129,8 @@ pub(crate) fn missing_of_sets(suits: &Suits, sets: u8) -> u8
     requires { sets ≤ 4 }
     ensures few { result ≤ 15 }
     ensures least { IsLeastOr (with_two suits.now.counts)
-        (IsJoint (suits_of (with_two suits.now.counts) (with_two suits.now.room)) sets true) result }
+        (IsJoint (suits_of (with_two suits.now.counts) (with_two suits.now.room)) sets true)
+        result }
 {
     15 - suits.characters.at(sets, 1)
 }
@@ -137,7 +140,8 @@ fn nearest_sets(suits: &Suits, sets: u8) -> Option<[u8; 36]>
     requires { sets ≤ 4 }
     ensures { MatchOption result
         ((target : List ℕ)
-        → IsJoint (suits_of (with_two suits.now.counts) (with_two suits.now.room)) sets true target → ⊥)
+        → IsJoint (suits_of (with_two suits.now.counts) (with_two suits.now.room)) sets true target
+        → ⊥)
         (λ target. IsNearest (with_two suits.now.counts)
         (IsJoint (suits_of (with_two suits.now.counts) (with_two suits.now.room)) sets true)
         (missing target (with_two suits.now.counts)) target) }

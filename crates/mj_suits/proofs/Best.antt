@@ -2,7 +2,7 @@
 use Rattle.std.proofs.Common.{◌≡◌, ◌⊎◌, ◌&&◌, eqb, cond, ℕ, zero, suc, ◌+◌, ◌-◌, ◌*◌, ◌<◌, ◌≤◌, Bool, true, false, max, List, [], ◌∷◌, drop, length, get_or, refl, sym, subst, ap, ap₂, ◌∙◌, inl, inr, arith}
 use Rattle.std.proofs.lemmas.Bool.{cases_lt, cases_eq, cases_Bool, cases_cond, eqb-true, and_parts}
 use Rattle.std.proofs.lemmas.List.{get_or_past, get_or-drop, length-drop}
-use Rattle.mj_suits.specs.Rows.{taken, price, prices, most_left, begun, begun_by_tiles, stepped, walked}
+use Rattle.mj_suits.specs.Rows.{price, prices, most_left, begun, begun_by_tiles, stepped, walked}
 use Rattle.mj_suits.specs.Targets.{missing}
 use Rattle.mj_suits.proofs.Taken.{taken_in, taken_few_sets, taken_few_pairs}
 use Rattle.mj_suits.proofs.Rows.{walked_at, walked_past, walked_none}

@@ -1,5 +1,5 @@
 -- The choice from number to number.
-use Rattle.std.proofs.Common.{◌≡◌, ◌≢◌, ◌⊎◌, ◌&&◌, eqb, cond, ℕ, zero, suc, ◌+◌, ◌-◌, ◌*◌, ◌/◌, ◌%◌, ◌<◌, ◌≤◌, Bool, true, false, Option, None, Some, List, [], ◌∷◌, ◌++◌, take, set, length, get_or, refl, sym, subst, ap, ap₂, ◌∙◌, inl, inr, arith, append_assoc, append-nil, Ordering, Less, Equal, Greater}
+use Rattle.std.proofs.Common.{◌≡◌, ◌≢◌, ◌⊎◌, ◌&&◌, eqb, cond, ℕ, suc, ◌+◌, ◌-◌, ◌*◌, ◌/◌, ◌%◌, ◌<◌, ◌≤◌, Bool, true, false, Option, None, Some, List, [], ◌∷◌, ◌++◌, take, set, length, get_or, refl, sym, subst, ap, ap₂, ◌∙◌, inl, inr, arith, append_assoc, append-nil, Ordering, Less, Equal, Greater}
 use Rattle.std.specs.Prelude.{MatchOption}
 use Rattle.std.specs.Ordering.{nat_cmp, is_gt, ordering_then, ordering_reverse}
 use Rattle.std.specs.Cmp.Lexicographic.{slice_cmp}
@@ -10,7 +10,7 @@ use Rattle.mj_suits.specs.Rows.{lane, Holds, stepped, walked, IsFew}
 use Rattle.mj_suits.specs.Walked.{row_at, AreRows}
 use Rattle.mj_suits.specs.Targets.{missing}
 use Rattle.mj_suits.specs.Ends.{Goes, Ends}
-use Rattle.mj_suits.specs.Choosing.{rooms, helds, IsState, AreLevels, AreNumbers, Goes_on, By, ByBegin, ByTiles, tiles_of, tiles_at, IsBegin, MayBegin, sets_alone, with_pair, IsPlan, IsGreatest, GreaterOf}
+use Rattle.mj_suits.specs.Choosing.{rooms, helds, IsState, AreLevels, AreNumbers, Goes_on, By, ByBegin, ByTiles, tiles_at, IsBegin, MayBegin, sets_alone, with_pair, IsPlan, IsGreatest, GreaterOf}
 use Rattle.mj_suits.specs.declared.choosing.Aim.{Aim}
 use Rattle.mj_suits.specs.declared.choosing.Level.{Level}
 use Rattle.mj_suits.specs.declared.choosing.Plan.{Plan}
@@ -20,9 +20,9 @@ use Rattle.mj_suits.specs.declared.walk.Rows.{Rows}
 use Rattle.mj_suits.specs.declared.row.Row.{Row}
 use Rattle.mj_suits.proofs.Rows.{walked_at, walked_past}
 use Rattle.mj_suits.proofs.Ends.{fewer_runs}
-use Rattle.mj_suits.proofs.Best.{OfFour, Reached, step_bound, walked_bound, walked_few, walked_reached}
+use Rattle.mj_suits.proofs.Best.{OfFour, step_bound, walked_bound, walked_few, walked_reached}
 use Rattle.mj_suits.proofs.Near.{not_less_back}
-use Rattle.mj_suits.specs.Left.{pairs, LeavesBy, Leaves, LeavesMost, IsChosen}
+use Rattle.mj_suits.specs.Left.{pairs, LeavesBy, LeavesMost, IsChosen}
 use Rattle.mj_suits.proofs.Made.{target_ends}
 use Rattle.mj_suits.proofs.Nine.{nine_of, nine_are, leaves_by, leaves_most_of}
 

@@ -1,11 +1,6 @@
 -- The tiles of the numbers from one on, and how many of fifteen are left when the best of them are paid for.
-use Rattle.std.proofs.Common.{◌≡◌, ◌⊎◌, ◌&&◌, eqb, cond, ℕ, zero, suc, ◌+◌, ◌-◌, ◌*◌, ◌<◌, ◌≤◌, Bool, true, false, max, List, [], ◌∷◌, drop, length, refl, sym, subst, ap, ap₂, ◌∙◌, inl, inr, arith}
-use Rattle.std.proofs.lemmas.Bool.{cases_lt, cases_eq}
-use Rattle.mj_suits.specs.Rows.{taken, price, prices, most_left, begun, begun_by_tiles, stepped, walked}
-use Rattle.mj_suits.specs.Targets.{missing}
+use Rattle.std.proofs.Common.{◌≡◌, ℕ, ◌+◌, ◌-◌, ◌≤◌, Bool, List, [], ◌∷◌, subst, ap, ◌∙◌, arith}
 use Rattle.mj_suits.specs.Ends.{Goes, Ends}
-use Rattle.mj_suits.proofs.Taken.{taken_none, taken_in, taken_few_sets, taken_few_pairs}
-use Rattle.mj_suits.proofs.Rows.{walked_at, walked_past}
 
 -- ---- three equal runs are three triplets
 

@@ -1,12 +1,12 @@
 -- A target is the tiles of the numbers from the lowest on, with no run begun before.
-use Rattle.std.proofs.Common.{◌≡◌, ◌≢◌, ◌⊎◌, ◌&&◌, not, eqb, leb, cond, ℕ, zero, suc, ◌+◌, ◌-◌, ◌*◌, ◌<◌, ◌≤◌, Bool, true, false, Option, None, Some, List, [], ◌∷◌, ◌++◌, replicate, length, get_or, refl, sym, subst, ap, ap₂, ◌∙◌, inl, inr, arith, append-nil, ext_get_or}
+use Rattle.std.proofs.Common.{◌≡◌, ◌&&◌, not, eqb, leb, cond, ℕ, zero, suc, ◌+◌, ◌*◌, ◌<◌, ◌≤◌, Bool, true, false, Option, None, Some, List, [], ◌∷◌, ◌++◌, replicate, length, get_or, refl, sym, subst, ap, ap₂, ◌∙◌, inl, inr, arith}
 use Rattle.std.specs.Prelude.{is_some}
 use Rattle.std.specs.List.{list_all}
-use Rattle.std.proofs.lemmas.Bool.{cases_lt, cases_eq, cases_Bool, ne_eqb, eq-eqb, eqb-true, le-leb, lt-leb, ltb-true, lt-ltb, and_parts, and_from, false≢true}
-use Rattle.mj_suits.specs.Sets.{tiles_of_set, tiles_of_sets, tiles_of_pair, count_of, counts_of, is_well_formed, is_pair}
+use Rattle.std.proofs.lemmas.Bool.{cases_lt, cases_eq, cases_Bool, ne_eqb, eq-eqb, le-leb, lt-leb, ltb-true, lt-ltb, and_parts, and_from, false≢true}
+use Rattle.mj_suits.specs.Sets.{tiles_of_set, tiles_of_sets, tiles_of_pair, count_of, is_well_formed, is_pair}
 use Rattle.mj_suits.specs.Targets.{IsTarget}
 use Rattle.mj_suits.specs.declared.sets.SuitSet.{SuitSet}
-use Rattle.mj_suits.proofs.Tiles.{count_of-append, count_of-below_set, count_of-other_pair, count_of-pair}
+use Rattle.mj_suits.proofs.Tiles.{count_of-append, count_of-below_set, count_of-other_pair}
 use Rattle.mj_suits.proofs.Whole.{get_or-counts_of, length-counts_of, counts_are}
 use Rattle.mj_suits.specs.Ends.{Goes, Ends}
 

@@ -1,16 +1,14 @@
 -- The walk over a whole suit.
-use Rattle.std.proofs.Common.{◌≡◌, ◌⊎◌, ◌&&◌, eqb, cond, ℕ, zero, suc, ◌+◌, ◌-◌, ◌*◌, ◌<◌, ◌≤◌, Bool, true, false, max, List, [], ◌∷◌, drop, length, get_or, refl, sym, subst, ap, ap₂, ◌∙◌, inl, inr, arith}
-use Rattle.std.proofs.lemmas.Bool.{cases_lt}
-use Rattle.std.proofs.lemmas.List.{get_or_past}
-use Rattle.mj_suits.specs.Rows.{lane, Holds, taken, price, prices, most_left, begun, stepped, walked, IsFew}
-use Rattle.mj_suits.specs.Targets.{missing, IsTarget}
+use Rattle.std.proofs.Common.{◌≡◌, ◌⊎◌, ℕ, zero, suc, ◌+◌, ◌-◌, ◌<◌, ◌≤◌, Bool, true, false, max, List, [], ◌∷◌, length, get_or, refl, sym, subst, ap₂, ◌∙◌, inl, inr, arith}
+use Rattle.mj_suits.specs.Rows.{lane, Holds, taken, price, begun, walked, IsFew}
+use Rattle.mj_suits.specs.Targets.{missing}
 use Rattle.mj_suits.specs.Left.{pairs, LeavesBy, Leaves, LeavesMost}
 use Rattle.mj_suits.specs.Walked.{AreCosts}
 use Rattle.mj_suits.specs.declared.walk.Costs.{Costs}
 use Rattle.mj_suits.proofs.Taken.{taken_none, taken_held}
-use Rattle.mj_suits.proofs.Rows.{walked_at, walked_past}
+use Rattle.mj_suits.proofs.Rows.{walked_at}
 use Rattle.mj_suits.specs.Ends.{Ends}
-use Rattle.mj_suits.proofs.Best.{OfFour, Reached, walked_bound, walked_few, walked_reached}
+use Rattle.mj_suits.proofs.Best.{OfFour, walked_bound, walked_few, walked_reached}
 use Rattle.mj_suits.proofs.Made.{target_ends, ends_target}
 
 abbrev pub nine_of : List ℕ → List ℕ

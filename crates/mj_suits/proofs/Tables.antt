@@ -1,13 +1,11 @@
 -- What a suit's row says of its targets alone.
-use Rattle.std.proofs.Common.{◌≡◌, ◌≢◌, ◌⊎◌, ◌&&◌, eqb, cond, ℕ, zero, suc, ◌+◌, ◌-◌, ◌*◌, ◌<◌, ◌≤◌, Bool, true, false, Option, List, [], ◌∷◌, length, refl, sym, subst, ap, ap₂, ◌∙◌, inl, inr, arith}
+use Rattle.std.proofs.Common.{◌≡◌, ◌≢◌, ◌&&◌, eqb, cond, ℕ, ◌+◌, ◌-◌, ◌*◌, ◌<◌, ◌≤◌, Bool, true, false, Option, List, [], ◌∷◌, length, refl, sym, subst, ap, ◌∙◌, inl, inr, arith}
 use Rattle.std.specs.Prelude.{MatchOption}
-use Rattle.std.specs.Ordering.{nat_cmp}
-use Rattle.std.specs.Cmp.Lexicographic.{slice_cmp}
 use Rattle.std.proofs.lemmas.Bool.{cases_Bool, and_parts, eqb-true}
 use Rattle.mj_suits.specs.Rows.{lane, Holds, IsFew, start_lane}
 use Rattle.mj_suits.specs.Targets.{missing, IsTarget, IsNearest}
-use Rattle.mj_suits.specs.Ends.{Goes, Ends}
-use Rattle.mj_suits.specs.Left.{pairs, LeavesBy, Leaves, LeavesMost, IsChosen}
+use Rattle.mj_suits.specs.Ends.{Ends}
+use Rattle.mj_suits.specs.Left.{pairs, LeavesBy, IsChosen}
 use Rattle.mj_suits.specs.Tables.{Suit, IsTable, IsLeast}
 use Rattle.mj_suits.proofs.Made.{target_ends}
 

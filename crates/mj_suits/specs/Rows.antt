@@ -1,5 +1,5 @@
 -- Rows of lanes, and what the walk of a suit from its highest number down makes of them.
-use Rattle.std.specs.Prelude.{◌≡◌, ◌&&◌, ◌==◌, ℕ, ◌+◌, ◌-◌, ◌*◌, ◌<◌, ◌≤◌, Bool, true, false, nat_le, max, if◌then◌else◌, List, [], ◌∷◌, map, drop, slice_index}
+use Rattle.std.specs.Prelude.{◌≡◌, ◌&&◌, ◌==◌, ℕ, ◌+◌, ◌-◌, ◌*◌, ◌<◌, ◌≤◌, Bool, true, false, nat_le, max, if◌then◌else◌, List, [], ◌∷◌, drop, slice_index}
 
 -- the lane of a row for so many sets and pairs
 abbrev pub lane : List ℕ → ℕ → ℕ → ℕ

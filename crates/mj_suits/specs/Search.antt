@@ -4,6 +4,8 @@ use Rattle.mj_suits.specs.Each.{AreAll}
 use Rattle.mj_suits.specs.Sets.{tiles_of_set, tiles_of_sets, tiles_of_pair, count_of, is_well_formed}
 use Rattle.mj_suits.specs.declared.sets.SuitSet.{SuitSet}
 use Rattle.mj_suits.specs.declared.sets.Split.{Split}
+use Rattle.mj_suits.specs.declared.partitioning.Rest.{Rest}
+use Rattle.mj_suits.specs.declared.partitioning.Search.{Search}
 
 -- the place of a set in the order of the search: at each number the run, the triplet, the pair
 abbrev pub place : SuitSet → ℕ
@@ -40,6 +42,10 @@ pub record Finds (P : Split → Type 0) (old new : List Split) : Type 0 where
   pub added : List Split
   pub is : new ≡ old ++ added
   pub are : AreAll P added
+
+-- the search added all and only the splits that go on from the place with the rest
+abbrev pub FoundFrom : ℕ → ℕ → Rest → Search → Search → Type 0
+FoundFrom at low rest old new = Finds (Continues rest.runs at low rest.left old.sets.items rest.pair) old.found.items new.found.items
 
 -- the suit has such a set, and its tiles are among those left
 pub record Fits (left : List ℕ) (set : SuitSet) (runs : Bool) : Type 0 where

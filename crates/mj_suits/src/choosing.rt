@@ -209,7 +209,8 @@ fn choose_tiles(
     requires few { tiles ≤ 4 }
     requires plan { IsPlan aim.now (level.now ∷ others.now) plan.now }
     ensures { MatchOption result
-        ((rest : List ℕ) (sets pairs : ℕ) → ByTiles aim.now level.now others.now plan.now tiles rest sets pairs → ⊥)
+        ((rest : List ℕ) (sets pairs : ℕ)
+        → ByTiles aim.now level.now others.now plan.now tiles rest sets pairs → ⊥)
         (IsGreatest (ByTiles aim.now level.now others.now plan.now tiles) plan.now) }
 {
     let sets_alone = Begin {
@@ -242,7 +243,8 @@ fn choose_begin(
     requires few { IsBegin begin }
     requires plan { IsPlan aim.now (level.now ∷ others.now) plan.now }
     ensures { MatchOption result
-        ((rest : List ℕ) (sets pairs : ℕ) → ByBegin aim.now level.now others.now plan.now begin rest sets pairs → ⊥)
+        ((rest : List ℕ) (sets pairs : ℕ)
+        → ByBegin aim.now level.now others.now plan.now begin rest sets pairs → ⊥)
         (IsGreatest (ByBegin aim.now level.now others.now plan.now begin) plan.now) }
 {
     if !may_begin(aim, level, plan, begin) {
@@ -283,7 +285,8 @@ fn may_begin(aim: &Aim, level: &Level, plan: &Plan, begin: Begin) -> bool
     requires before { plan.now.before < 3 }
     requires earlier { plan.now.earlier < 3 }
     ensures { MatchBool result
-        (MayBegin aim.now level.now plan.now begin) (MayBegin aim.now level.now plan.now begin → ⊥) }
+        (MayBegin aim.now level.now plan.now begin)
+        (MayBegin aim.now level.now plan.now begin → ⊥) }
 {
     if begin.runs > 0 && !aim.runs {
         return false;

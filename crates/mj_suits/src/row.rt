@@ -115,7 +115,8 @@ fn lanes_by_pair(a: u8x16) -> u8x16
 #[inline(always)]
 fn lanes_by_set(a: u8x16) -> u8x16
     ensures long { length a ≡ 16 }
-    ensures lanes { (i : ℕ) → i < 16 → slice_index result i ≡ slice_index (a ++ replicate 16 0) (slice_index set_places i) }
+    ensures lanes { (i : ℕ) → i < 16 → slice_index result i
+        ≡ slice_index (a ++ replicate 16 0) (slice_index set_places i) }
 {
     a.shuffle(
         u8x16::splat(0),

@@ -26,9 +26,14 @@ impl Model for SuitTable {
 
     ghost Value = { Suit };
 
-    ghost view = { λ table. record { counts = table.counts; room = table.room; runs = table.runs } };
+    ghost view = { λ table. record {
+      counts = table.counts;
+      room = table.room;
+      runs = table.runs;
+    } };
 
-    ghost invariant = { λ table. IsTable table.counts table.room table.runs table.start.lanes table.row.lanes };
+    ghost invariant = { λ table. IsTable table.counts table.room table.runs table.start.lanes
+        table.row.lanes };
 }
 
 impl SuitTable {
@@ -56,7 +61,8 @@ impl SuitTable {
         requires { melds ≤ 4 }
         ensures { MatchOption result
             ((target : List ℕ) → IsTarget self.now.room self.now.runs melds pair target → ⊥)
-            (λ number. IsLeast self.now.counts (IsTarget self.now.room self.now.runs melds pair) number) }
+            (λ number. IsLeast self.now.counts (IsTarget self.now.room self.now.runs melds pair)
+            number) }
     {
         let left = self.row.at(melds, pairs_of(pair));
         if left == 0 {
@@ -70,7 +76,8 @@ impl SuitTable {
         requires { melds ≤ 4 }
         ensures { MatchOption result
             ((target : List ℕ) → IsTarget self.now.room self.now.runs melds pair target → ⊥)
-            (λ answer. IsNearest self.now.counts (IsTarget self.now.room self.now.runs melds pair) answer.0 answer.1) }
+            (λ answer. IsNearest self.now.counts (IsTarget self.now.room self.now.runs melds pair)
+            answer.0 answer.1) }
     {
         let pairs = pairs_of(pair);
         match choose(

@@ -37,7 +37,8 @@ fn costs_of(held: u8, room: u8) -> Costs
 #[inline(always)]
 fn cost_of(tiles: u8, held: Row, room: Row) -> Row
     requires { tiles ≤ 4 }
-    ensures { Holds result.lanes (λ s p. max (tiles - lane held.lanes s p) (16 * tiles - lane room.lanes s p)) }
+    ensures { Holds result.lanes (λ s p. max (tiles - lane held.lanes s p)
+        (16 * tiles - lane room.lanes s p)) }
 {
     let missing = Row::all(tiles).less(held);
     let over = Row::all(16 * tiles).less(room);
@@ -74,7 +75,8 @@ impl Begun {
     // What is left where no tile of earlier runs stands at the number.
     #[inline(always)]
     fn alone(&self, costs: &Costs) -> Row
-        ensures { Holds result.lanes (λ s p. most_left (begun_lanes self.now s p) (cost_lanes costs.now s p)) }
+        ensures { Holds result.lanes
+            (λ s p. most_left (begun_lanes self.now s p) (cost_lanes costs.now s p)) }
     {
         let four = self.four.less(costs.four);
         let three = self.three.less(costs.three).greater(four);
@@ -86,7 +88,8 @@ impl Begun {
     // The same where one tile of them does.
     #[inline(always)]
     fn beside_one(&self, costs: &Costs) -> Row
-        ensures { Holds result.lanes (λ s p. most_left (begun_lanes self.now s p) (drop 1 (cost_lanes costs.now s p))) }
+        ensures { Holds result.lanes
+            (λ s p. most_left (begun_lanes self.now s p) (drop 1 (cost_lanes costs.now s p))) }
     {
         let three = self.three.less(costs.four);
         let two = self.two.less(costs.three).greater(three);
@@ -97,7 +100,8 @@ impl Begun {
     // The same where two tiles of them do.
     #[inline(always)]
     fn beside_two(&self, costs: &Costs) -> Row
-        ensures { Holds result.lanes (λ s p. most_left (begun_lanes self.now s p) (drop 2 (cost_lanes costs.now s p))) }
+        ensures { Holds result.lanes
+            (λ s p. most_left (begun_lanes self.now s p) (drop 2 (cost_lanes costs.now s p))) }
     {
         let two = self.two.less(costs.four);
         let one = self.one.less(costs.three).greater(two);
@@ -107,7 +111,8 @@ impl Begun {
     // The same where three tiles of them do.
     #[inline(always)]
     fn beside_three(&self, costs: &Costs) -> Row
-        ensures { Holds result.lanes (λ s p. most_left (begun_lanes self.now s p) (drop 3 (cost_lanes costs.now s p))) }
+        ensures { Holds result.lanes
+            (λ s p. most_left (begun_lanes self.now s p) (drop 3 (cost_lanes costs.now s p))) }
     {
         let one = self.one.less(costs.four);
         self.none.less(costs.three).greater(one)
@@ -116,7 +121,8 @@ impl Begun {
     // The same where four tiles of them do.
     #[inline(always)]
     fn beside_four(&self, costs: &Costs) -> Row
-        ensures { Holds result.lanes (λ s p. most_left (begun_lanes self.now s p) (drop 4 (cost_lanes costs.now s p))) }
+        ensures { Holds result.lanes
+            (λ s p. most_left (begun_lanes self.now s p) (drop 4 (cost_lanes costs.now s p))) }
     {
         self.none.less(costs.four)
     }
@@ -169,7 +175,8 @@ pub(crate) fn rows_past(after: Row) -> Rows
 #[inline(always)]
 pub(crate) fn rows_of(row: Row) -> Rows
     ensures alone { result.none.none ≡ row }
-    ensures none { (before earlier : ℕ) → (before ≡ 0 → earlier ≡ 0 → ⊥) → Holds (row_at result before earlier) (λ s p. 0) }
+    ensures none { (before earlier : ℕ) → (before ≡ 0 → earlier ≡ 0 → ⊥)
+        → Holds (row_at result before earlier) (λ s p. 0) }
 {
     let none = Row::all(0);
     let under_way = ByRuns {
@@ -193,7 +200,8 @@ pub(crate) fn rows_of(row: Row) -> Rows
 pub(crate) fn rows_before(next: &Rows, held: u8, room: u8) -> Rows
     requires { room ≤ 4 }
     ensures { (after : ℕ → ℕ → ℕ) (rooms counts : List ℕ)
-        → AreRows after rooms counts next.now → AreRows after (room ∷ rooms) (held ∷ counts) result }
+        → AreRows after rooms counts next.now
+        → AreRows after (room ∷ rooms) (held ∷ counts) result }
 {
     let costs = costs_of(held, room);
     let none = begin(next.none.none, next.none.one, next.none.two);

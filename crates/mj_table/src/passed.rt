@@ -42,7 +42,9 @@ fn offered_kinds(deeds: &[Deed], seat: u8) -> Kinds
 
 // The kinds that are offered to a seat, one deed further.
 fn with_offer(offered: Kinds, deed: &Deed, seat: u8) -> Kinds
-    ensures { (tiles : List ℕ) → offered ≡ kinds_among tiles → result ≡ kinds_among (if is_discard_by seat deed.now then [] else tiles ++ offers_to seat deed.now) }
+    ensures { (tiles : List ℕ) → offered ≡ kinds_among tiles → result
+        ≡ kinds_among (if is_discard_by seat deed.now then [] else tiles
+        ++ offers_to seat deed.now) }
 {
     if is_discard_by(deed, seat) {
         return Kinds::none();
@@ -52,7 +54,8 @@ fn with_offer(offered: Kinds, deed: &Deed, seat: u8) -> Kinds
 
 // The kinds of some tiles and of one more, where there is one.
 fn with_tile(kinds: Kinds, tile: Option<Tile>) -> Kinds
-    ensures { (tiles : List ℕ) → kinds ≡ kinds_among tiles → result ≡ kinds_among (tiles ++ option_to_list tile) }
+    ensures { (tiles : List ℕ) → kinds ≡ kinds_among tiles → result
+        ≡ kinds_among (tiles ++ option_to_list tile) }
 {
     match tile {
         Some(tile) => kinds.with(tile.kind()),

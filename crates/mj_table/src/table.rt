@@ -71,7 +71,8 @@ impl Table {
     /// changes.
     pub fn push(&mut self, deed: &Deed) -> Result<(), AllocError>
         requires { IsTrue (fits self.old.rules.red self.old.deeds deed.now) }
-        ensures ok { OnOk result (self.new ≡ record { rules = self.old.rules; deeds = self.old.deeds ++ deed.now ∷ [] }) }
+        ensures ok { OnOk result (self.new
+            ≡ record { rules = self.old.rules; deeds = self.old.deeds ++ deed.now ∷ [] }) }
         ensures err { OnErr result (self.new ≡ self.old) }
     {
         add(&mut self.hand, &mut self.opening, deed)?;
@@ -177,7 +178,8 @@ impl Table {
 
     /// The seat of the newest kan; none exactly where there is no kan.
     pub fn kan_seat(&self) -> Option<u8>
-        ensures { result ≡ slice_get (kan_seats (hand self.now.deeds)) (length (kan_seats (hand self.now.deeds)) - 1) }
+        ensures { result ≡ slice_get (kan_seats (hand self.now.deeds))
+            (length (kan_seats (hand self.now.deeds)) - 1) }
     {
         kan_seat(self.hand())
     }
@@ -212,7 +214,8 @@ impl Table {
 
     /// How many concealed tiles of the face of a tile a seat holds, four at most.
     pub fn held_count(&self, seat: u8, tile: Tile) -> usize
-        ensures { result ≡ min (number_in (tiles_gained (hand self.now.deeds) seat) tile - number_in (tiles_lost (hand self.now.deeds) seat) tile) 4 }
+        ensures { result ≡ min (number_in (tiles_gained (hand self.now.deeds) seat) tile - number_in
+            (tiles_lost (hand self.now.deeds) seat) tile) 4 }
     {
         mj_deeds::held_count(self.hand(), seat, tile)
     }
@@ -234,7 +237,8 @@ impl Table {
     /// Whether a seat has a pon that no tile was added to, of the tiles `a`, `b` and `c` in tile order, and of the kind of
     /// the tile.
     pub fn has_triplet(&self, seat: u8, tile: Tile, a: Tile, b: Tile, c: Tile) -> bool
-        ensures { result ≡ list_any (is_triplet_of tile a b c) (seat_melds (hand self.now.deeds) seat) }
+        ensures { result ≡ list_any (is_triplet_of tile a b c)
+            (seat_melds (hand self.now.deeds) seat) }
     {
         mj_deeds::has_triplet(self.hand(), seat, tile, a, b, c)
     }

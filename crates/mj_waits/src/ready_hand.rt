@@ -10,7 +10,8 @@ use mj_tiles::{Counts, Kind, Kinds};
 /// wait.
 pub fn waits(counts: &Counts, room: &Counts, melds: u8) -> Kinds
     ensures value { result ≡ kinds_that (is_wait counts.now room.now melds) }
-    ensures law { (kind : ℕ) → kind < 34 → (IsTrue (has_kind result kind) ↔ IsWait counts.now room.now melds kind) }
+    ensures law { (kind : ℕ) → kind < 34
+        → (IsTrue (has_kind result kind) ↔ IsWait counts.now room.now melds kind) }
 {
     let complete = completing(counts, melds);
     let mut kinds = Kinds::none();
@@ -26,7 +27,8 @@ pub fn waits(counts: &Counts, room: &Counts, melds: u8) -> Kinds
 /// Whether the hand has a wait.
 pub fn ready(counts: &Counts, room: &Counts, melds: u8) -> bool
     ensures value { result ≡ is_ready counts.now room.now melds }
-    ensures law { IsTrue result ↔ ((kind : ℕ) × ((kind < 34) × IsWait counts.now room.now melds kind)) }
+    ensures law { IsTrue result ↔ ((kind : ℕ)
+        × ((kind < 34) × IsWait counts.now room.now melds kind)) }
 {
     let waits = waits(counts, room, melds);
     for number in 0..34 {
@@ -40,7 +42,8 @@ pub fn ready(counts: &Counts, room: &Counts, melds: u8) -> bool
 
 /// Whether the kind is one of those that complete the hand, and the hand has fewer tiles of it than its room.
 fn waits_on(counts: &Counts, room: &Counts, complete: Kinds, kind: Kind) -> bool
-    ensures value { result ≡ (nat_lt (slice_index counts.now kind) (slice_index room.now kind) && has_kind complete kind) }
+    ensures value { result ≡ (nat_lt (slice_index counts.now kind) (slice_index room.now kind)
+        && has_kind complete kind) }
     ensures within { slice_index room.now kind ≤ 4 }
 {
     counts.get(kind) < room.get(kind) && complete.has(kind)

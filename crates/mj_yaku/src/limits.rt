@@ -55,7 +55,8 @@ fn has_gate(reading: &Reading, suit: u8, number: u8) -> bool
     requires low { suit ≤ 18 }
     requires within { number ≤ 8 }
     requires standard { in_standard (λ sets pair. true) reading.now ≡ true }
-    ensures { result ≡ nat_le (in_gates number) (count_by (λ tile. tile == suit + number) (tiles_of reading.now)) }
+    ensures { result ≡ nat_le (in_gates number)
+        (count_by (λ tile. tile == suit + number) (tiles_of reading.now)) }
 {
     let wanted = if number == 0 || number == 8 { 3 } else { 1 };
     wanted <= count_tiles(reading, suit + number)
@@ -64,7 +65,8 @@ fn has_gate(reading: &Reading, suit: u8, number: u8) -> bool
 // How many tiles of the kind with this number the hand has, where it has four sets and a pair.
 #[tactic(auto, unfolding(crate::specs::Hands::tiles_of))]
 fn count_tiles(reading: &Reading, number: u8) -> u8
-    ensures { in_standard (λ sets pair. true) reading.now ≡ true → result ≡ count_by (λ tile. tile == number) (tiles_of reading.now) }
+    ensures { in_standard (λ sets pair. true) reading.now ≡ true → result
+        ≡ count_by (λ tile. tile == number) (tiles_of reading.now) }
 {
     match reading {
         Reading::Standard {

@@ -103,7 +103,8 @@ pub(crate) fn has_sanshoku_doukou(reading: &Reading) -> bool
 
 // Whether one of the numbers has a triplet or kan in each suit.
 fn has_triples_in_suits(sets: &[Set]) -> bool
-    ensures { result ≡ list_any (λ number. list_all (λ suit. triple_of_sets (suit + number) sets.now) suits) numbers }
+    ensures { result ≡ list_any (λ number. list_all
+        (λ suit. triple_of_sets (suit + number) sets.now) suits) numbers }
 {
     NUMBERS
         .iter()
@@ -131,7 +132,8 @@ pub(crate) fn has_sanshoku_doujun(reading: &Reading) -> bool
 
 // Whether one of the numbers is the low number of a run in each suit.
 fn has_runs_in_suits(sets: &[Set]) -> bool
-    ensures { result ≡ list_any (λ number. list_all (λ suit. run_of_sets (suit + number) sets.now) suits) numbers }
+    ensures { result ≡ list_any (λ number. list_all
+        (λ suit. run_of_sets (suit + number) sets.now) suits) numbers }
 {
     NUMBERS.iter().any(|number| is_run_in_suits(*number, sets))
 }
@@ -161,7 +163,8 @@ pub(crate) fn has_ittsu(reading: &Reading) -> bool
 // Whether the sets have the runs 123, 456 and 789 of the suit with this lowest kind.
 fn has_straight(suit: u8, sets: &[Set]) -> bool
     requires { suit ≤ 18 }
-    ensures { result ≡ (run_of_sets suit sets.now && run_of_sets (suit + 3) sets.now && run_of_sets (suit + 6) sets.now) }
+    ensures { result ≡ (run_of_sets suit sets.now && run_of_sets (suit + 3) sets.now
+        && run_of_sets (suit + 6) sets.now) }
 {
     has_run(sets, suit) && has_run(sets, suit + 3) && has_run(sets, suit + 6)
 }

@@ -12,7 +12,8 @@ use mj_tiles::{Counts, Kind, Meld};
 /// kind of the winning tile. Condition: `closed` of the case is true exactly where all melds are concealed kans.
 pub fn has_yaku(counts: &Counts, melds: &[Meld], win: Kind, case: &Case) -> bool
     requires { case.now.closed ≡ are_concealed melds.now }
-    ensures value { result ≡ list_any (gives_yaku melds.now case.now) (readings_of counts.now melds.now win) }
+    ensures value { result ≡ list_any (gives_yaku melds.now case.now)
+        (readings_of counts.now melds.now win) }
     ensures law { IsTrue result ↔ HasYaku counts.now melds.now win case.now }
 {
     let mut index = 0;

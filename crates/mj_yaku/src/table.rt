@@ -34,7 +34,8 @@ pub fn yaku(reading: &Reading, melds: &[Meld], case: &Case) -> YakuSet
     requires { case.now.closed ≡ are_concealed melds.now }
     ensures value { result ≡ yaku_of reading.now melds.now case.now }
     ensures some_han { (result == no_rows) ≡ false → 1 ≤ han_of_rows result case.now.closed }
-    ensures orphans { is_orphans reading.now ≡ true → case.now.closed ≡ true → has_yakuman result ≡ true }
+    ensures orphans { is_orphans reading.now ≡ true → case.now.closed ≡ true → has_yakuman result
+        ≡ true }
 {
     rows_of(reading, melds, case)
 }
@@ -69,7 +70,9 @@ fn is_concealed_kan(form: Form) -> bool
 
 // The first yakuman that holds.
 fn first_yakuman(reading: &Reading, melds: &[Meld], case: &Case) -> Option<u8>
-    ensures value { result ≡ option_map (λ place. 33 + place) (position (λ holds. holds) (rows_to_44 reading.now melds.now case.now)) }
+    ensures value { result ≡ option_map
+        (λ place. 33 + place) (position
+        (λ holds. holds) (rows_to_44 reading.now melds.now case.now)) }
     ensures within { IfSome result (λ row. row < 45) }
 {
     match first_that_holds(&yakuman_rows(reading, melds, case)) {

@@ -118,7 +118,8 @@ pub(crate) fn has_run(sets: &[Set], number: u8) -> bool
 
 // Whether all kinds of a set of kinds are of the class.
 fn all_of_kinds(kinds: Kinds, class: Class) -> bool
-    ensures { result ≡ list_all (λ kind. not (has_kind kinds kind) || in_class class kind) all_kinds }
+    ensures { result ≡ list_all (λ kind. not (has_kind kinds kind) || in_class class kind)
+        all_kinds }
 {
     for number in 0..34 {
         if has_number(kinds, number) && !is_in(class, number) {
@@ -130,7 +131,8 @@ fn all_of_kinds(kinds: Kinds, class: Class) -> bool
 
 // Whether all terminals and honours are of the class.
 fn all_orphans(class: Class) -> bool
-    ensures { result ≡ list_all (λ kind. not (is_terminal_or_honour kind) || in_class class kind) all_kinds }
+    ensures { result ≡ list_all (λ kind. not (is_terminal_or_honour kind) || in_class class kind)
+        all_kinds }
 {
     for number in 0..34 {
         if is_in(Class::Outside, number) && !is_in(class, number) {

@@ -227,7 +227,8 @@ pub(crate) fn pai_of(text: &str) -> Option<Pai>
 /// of memory.
 #[tactic(auto, unfolding(mj_protocol::specs::AnswerForms::names_later_type, mj_protocol::specs::AnswerForms::answer_of))]
 pub fn read_built(alloc: Global, line: &[u8]) -> Result<Option<Answer>, AllocError>
-    ensures { IfOk result (λ a. a ≡ (if later_type_named line.now then None else Some (answer_of line.now))) }
+    ensures { IfOk result (λ a. a ≡ (if later_type_named line.now then None else Some
+        (answer_of line.now))) }
 {
     let Some(value) = read_value(alloc, line)? else {
         return Ok(Some(Answer::Unread));
@@ -243,7 +244,9 @@ pub fn read_built(alloc: Global, line: &[u8]) -> Result<Option<Answer>, AllocErr
 
 // Whether a value is an object with such a type.
 fn names_later_type(value: &Value) -> bool
-    ensures { result ≡ unwrap_or (option_map (λ type. list_any (λ other. bytes_eq other type) later_types) (text_read (codes "type") (view value.now))) false }
+    ensures { result ≡ unwrap_or (option_map
+        (λ type. list_any (λ other. bytes_eq other type) later_types)
+        (text_read (codes "type") (view value.now))) false }
 {
     text_in("type", value).is_some_and(is_later_type)
 }

@@ -176,8 +176,10 @@ fn push_kind(line: &mut Vec<u8>, kind: Kind) -> Result<(), AllocError>
 // Writes the four hands as the viewer sees them, in brackets.
 fn push_hands(line: &mut Vec<u8>, viewer: Viewer, hands: &Four<Tiles>) -> Result<(), AllocError>
     ensures { OnOk result (Adds line.old.items line.new.items (bracketed
-        (bracketed (hands_seen viewer hands.now).first ∷ bracketed (hands_seen viewer hands.now).second
-        ∷ bracketed (hands_seen viewer hands.now).third ∷ bracketed (hands_seen viewer hands.now).fourth
+        (bracketed (hands_seen viewer hands.now).first
+        ∷ bracketed (hands_seen viewer hands.now).second
+        ∷ bracketed (hands_seen viewer hands.now).third
+        ∷ bracketed (hands_seen viewer hands.now).fourth
         ∷ []))) }
 {
     push_all(line, b"[")?;
@@ -194,7 +196,8 @@ fn push_hands(line: &mut Vec<u8>, viewer: Viewer, hands: &Four<Tiles>) -> Result
 
 // Writes a draw.
 fn push_draw(line: &mut Vec<u8>, seat: u8, seen: bool, tile: Tile) -> Result<(), AllocError>
-    ensures { OnOk result (Adds line.old.items line.new.items (draw_line seat (tile_seen seen tile))) }
+    ensures { OnOk result (Adds line.old.items line.new.items
+        (draw_line seat (tile_seen seen tile))) }
 {
     push_all(line, b"{\"type\":\"tsumo\",\"actor\":")?;
     push_number(line, u64::from(seat))?;
@@ -227,7 +230,8 @@ fn push_call(
     tile: Tile,
     own: &[Tile],
 ) -> Result<(), AllocError>
-    ensures { OnOk result (Adds line.old.items line.new.items (call_line type_name.now seat target tile own.now)) }
+    ensures { OnOk result (Adds line.old.items line.new.items
+        (call_line type_name.now seat target tile own.now)) }
 {
     push_all(line, b"{\"type\":")?;
     push_quoted(line, type_name)?;
@@ -262,7 +266,8 @@ fn push_added_kan(
     tile: Tile,
     triplet: &[Tile],
 ) -> Result<(), AllocError>
-    ensures { OnOk result (Adds line.old.items line.new.items (added_kan_line seat tile triplet.now)) }
+    ensures { OnOk result (Adds line.old.items line.new.items
+        (added_kan_line seat tile triplet.now)) }
 {
     push_all(line, b"{\"type\":\"kakan\",\"actor\":")?;
     push_number(line, u64::from(seat))?;

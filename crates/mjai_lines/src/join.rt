@@ -61,7 +61,8 @@ fn is_name(text: &str) -> bool
 
 // Whether no byte of a text is a quotation mark, a backslash or below 32.
 fn has_plain_bytes(text: &[u8]) -> bool
-    ensures { result ≡ list_all (λ byte. nat_le 32 byte && not (byte == 34) && not (byte == 92)) text.now }
+    ensures { result ≡ list_all (λ byte. nat_le 32 byte && not (byte == 34) && not (byte == 92))
+        text.now }
 {
     text.iter()
         .all(|byte| *byte >= 32 && *byte != b'"' && *byte != b'\\')

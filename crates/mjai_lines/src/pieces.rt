@@ -53,7 +53,8 @@ pub(crate) fn push_tiles_seen(
     seen: bool,
     tiles: &[Tile],
 ) -> Result<(), AllocError>
-    ensures { OnOk result (Adds line.old.items line.new.items (bracketed (shown_tiles seen tiles.now))) }
+    ensures { OnOk result (Adds line.old.items line.new.items
+        (bracketed (shown_tiles seen tiles.now))) }
 {
     push_all(line, b"[")?;
     push_joined(line, seen, tiles)?;
@@ -63,7 +64,8 @@ pub(crate) fn push_tiles_seen(
 
 // Writes the tiles as they are seen, with commas between.
 fn push_joined(line: &mut Vec<u8>, seen: bool, tiles: &[Tile]) -> Result<(), AllocError>
-    ensures { OnOk result (Adds line.old.items line.new.items (joined (map (tile_seen seen) tiles.now))) }
+    ensures { OnOk result (Adds line.old.items line.new.items
+        (joined (map (tile_seen seen) tiles.now))) }
 {
     match tiles.split_first() {
         Some((first, rest)) => {

@@ -16,7 +16,8 @@ impl<T: Kept> Turn<T> {
         requires idle { All (IsIdle T.setting self) passes.items }
         ensures setting { T.setting result ≡ T.setting self.opening }
         ensures seen { All (IsSeenIn T.author (T.notes result)) passes.items }
-        ensures numbers { All (λ n. Contains (numbers_of passes.items) (T.author n)) (T.notes result) }
+        ensures numbers { All (λ n. Contains (numbers_of passes.items) (T.author n))
+            (T.notes result) }
         ensures below { All (λ n. T.author n < self.passes) (T.notes result) }
     {
         let Turn { table } = self;
@@ -32,9 +33,14 @@ impl<T: Kept> Turn<T> {
 fn gather<T: Kept>(board: &Board<T>, mut passes: Vec<Pass<T>>) -> Place<T>
     requires board { board.now.table_id.words ≡ 2 }
     requires some { 0 < vec_len passes }
-    requires idle { All (IsPassOf board.now.table_id (T.setting board.now.key.value.value) false) passes.items }
+    requires idle { All (IsPassOf board.now.table_id (T.setting board.now.key.value.value) false)
+        passes.items }
     ensures board { result.table_id ≡ board.now.table_id }
-    ensures me { result.me ≡ (view Idle (gathered (T.setting board.now.key.value.value) passes.items), []) }
+    ensures me { result.me ≡ (
+      view Idle
+          (gathered (T.setting board.now.key.value.value) passes.items),
+      [],
+    ) }
 {
     let mut seat = seat_of(passes.pop().unwrap());
     while let Some(pass) = passes.pop() {

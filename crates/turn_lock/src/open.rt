@@ -56,9 +56,14 @@ fn deal_out<T: Kept>(
 ) -> Vec<Pass<T>>
     requires board { (board.now.table_id.words ≡ 2) × (board.now.key ≡ start.now) }
     requires dealer { dealer.table_id ≡ board.now.table_id }
-    requires all { dealer.me ≡ (view Idle (fresh (T.setting start.now.value.value) 0 start.now.passes), []) }
+    requires all { dealer.me ≡ (
+      view Idle
+          (fresh (T.setting start.now.value.value) 0 start.now.passes),
+      [],
+    ) }
     requires room { (passes.items ≡ []) × (start.now.passes ≤ vec_capacity passes) }
-    ensures { result.items ≡ new_passes board.now.table_id (T.setting start.now.value.value) start.now.passes }
+    ensures { result.items ≡ new_passes board.now.table_id (T.setting start.now.value.value)
+        start.now.passes }
 {
     for number in 0..start.passes {
         let seat = board.split_seat::<Deal>(&mut dealer);

@@ -102,7 +102,8 @@ fn wait_for_turn<T: Kept, R: Wait>(rt: &R, board: &Board<T>, seat: &mut Place<T>
     requires board { (seat.old.table_id ≡ board.now.table_id) × (board.now.table_id.words ≡ 2) }
     requires waits { (t : _) × (o : _) × Awaits ticket t o seat.old.me }
     ensures board { seat.new.table_id ≡ seat.old.table_id }
-    ensures granted { (t : _) × (o : _) × Awaits ticket t o seat.old.me × Granted T.setting T.notes T.author t o seat.new.me }
+    ensures granted { (t : _) × (o : _) × Awaits ticket t o seat.old.me
+        × Granted T.setting T.notes T.author t o seat.new.me }
 {
     for _ in rt.forever() {
         let serving = board.load::<Look>(seat, SERVING);

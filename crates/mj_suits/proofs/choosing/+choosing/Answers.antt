@@ -1,7 +1,7 @@
 -- What is chosen at a number, by the parts of the choice.
-use Rattle.std.proofs.Common.{rules, refl, sym, subst, ap, ◌∙◌, ◌∷◌, ◌+◌, ◌-◌, ◌<◌, arith, inl, inr, length, set}
+use Rattle.std.proofs.Common.{rules, refl, subst, ap, ◌+◌, ◌-◌, arith, inl, inr, set}
 use Rattle.std.proofs.lemmas.Bool.{cases_eq}
-use Rattle.mj_suits.specs.Choosing.{By, ByTiles, IsPlan, IsGreatest}
+use Rattle.mj_suits.specs.Choosing.{ByTiles}
 use Rattle.mj_suits.proofs.Choices.{past_end, next_is, none_begins, begins_greatest, choice_alone, choice_both, most_tiles, some_tiles}
 use Rattle.mj_suits.proofs.choosing.+choosing.Goals as goal
 

@@ -1,5 +1,5 @@
 -- Each call goes on to fewer numbers, or on to a part of the choice at a number. Of the numbers of tiles that were tried none leaves as many.
-use Rattle.std.proofs.Common.{◌≡◌, ℕ, ◌+◌, ◌*◌, ◌≤◌, List, ◌∷◌, length}
+use Rattle.std.proofs.Common.{ℕ, ◌+◌, ◌*◌, ◌≤◌, List, length}
 use Rattle.mj_suits.specs.Choosing.{ByTiles}
 use Rattle.mj_suits.proofs.choosing.+choosing.Given as goal
 

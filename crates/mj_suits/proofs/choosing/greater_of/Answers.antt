@@ -1,4 +1,3 @@
-use Rattle.std.proofs.Common.{sym, ◌∙◌}
 use Rattle.mj_suits.proofs.Choices.{kept_first, not_greater-equal, not_greater-back}
 use Rattle.mj_suits.proofs.choosing.greater_of.Goals as goal
 

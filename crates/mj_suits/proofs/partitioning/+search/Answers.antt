@@ -6,10 +6,10 @@ use Rattle.mj_suits.proofs.Tiles.{pair_parts}
 use Rattle.mj_suits.proofs.Steps.{set_step, set_skipped, pair_step, pair_skipped, number_left, number_done}
 use Rattle.mj_suits.proofs.Whole.{split_found}
 use Rattle.mj_suits.proofs.partitioning.+search.Goals as goal
-use Rattle.mj_suits.proofs.partitioning.+search.Goals.{pair_at-else-is_none-via-then-is_none+else-left-low-ge2, pair_at-else-is_none-via-else-is_none}
+use Rattle.mj_suits.proofs.partitioning.+search.Goals.{pair_at-else-is_none-via-then-is_none+else-rest-low-ge2, pair_at-else-is_none-via-else-is_none}
 
-pub next_number-returns-then-left-low-gt0-clause-found : goal.next_number-returns-then-left-low-gt0-clause-found
-next_number-returns-then-left-low-gt0-clause-found t c = number_left _ _ _ _ _ _ (omega arith) (omega arith)
+pub next_number-returns-then-rest-low-gt0-clause-found : goal.next_number-returns-then-rest-low-gt0-clause-found
+next_number-returns-then-rest-low-gt0-clause-found t c = number_left _ _ _ _ _ _ (omega arith) (omega arith)
 
 pub next_number-returns-then-low-eq8-clause-found : goal.next_number-returns-then-low-eq8-clause-found
 next_number-returns-then-low-eq8-clause-found t c =
@@ -20,17 +20,17 @@ pub next_number-returns-clause-found : goal.next_number-returns-clause-found
 next_number-returns-clause-found t c =
     OnOk-then _ _ _ (λ found. number_done _ _ _ _ _ _ _ _ (omega arith) (omega arith) (omega arith) found) c.sets_from.ensures.found
 
-pub pair_at-returns-then-left-low-ge2-clause-found : goal.pair_at-returns-then-left-low-ge2-clause-found
-pair_at-returns-then-left-low-ge2-clause-found t c =
-    OnOk-then c.next_number-then-left-low-ge2.result _ _
+pub pair_at-returns-then-rest-low-ge2-clause-found : goal.pair_at-returns-then-rest-low-ge2-clause-found
+pair_at-returns-then-rest-low-ge2-clause-found t c =
+    OnOk-then c.next_number-then-rest-low-ge2.result _ _
     (λ found. pair_step _ _ _ _ _ _ _ _ _ _ (omega arith) (search rules) c.in_ok-next_number.ensures.kept
     (λ n high. pair_parts _ _ _ n (omega arith) (omega arith) refl) c.in_ok-next_number.ensures.found found)
-    c.next_number-then-left-low-ge2.ensures.found
+    c.next_number-then-rest-low-ge2.ensures.found
 
 pub pair_at-returns-clause-found : goal.pair_at-returns-clause-found
 pair_at-returns-clause-found t c =
     elim c.else-is_none.branch [
-      | pair_at-else-is_none-via-then-is_none+else-left-low-ge2 w ↦ OnOk-then _ _ _ (λ found. pair_skipped _ _ _ _ _ _ _ (omega arith) (λ none. omega arith) found) c.next_number-2.ensures.found
+      | pair_at-else-is_none-via-then-is_none+else-rest-low-ge2 w ↦ OnOk-then _ _ _ (λ found. pair_skipped _ _ _ _ _ _ _ (omega arith) (λ none. omega arith) found) c.next_number-2.ensures.found
       | pair_at-else-is_none-via-else-is_none w ↦ OnOk-then _ _ _ (λ found. pair_skipped _ _ _ _ _ _ _ (omega arith) (λ none. absurd (search rules)) found) c.next_number-2.ensures.found
     ]
 

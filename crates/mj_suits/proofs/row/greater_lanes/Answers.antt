@@ -1,4 +1,4 @@
-use Rattle.std.proofs.Common.{false, ltb, refl, ◌∙◌, arith, w8}
+use Rattle.std.proofs.Common.{false, ltb, ◌∙◌, arith, w8}
 use Rattle.std.proofs.lemmas.Simd.{tops_compared, get_or-sel_l, get_or-zip2, length-zip2}
 use lib.Lanes.{zip2}
 use Rattle.mj_suits.proofs.Lanes.{greater_is_max}

@@ -1,4 +1,3 @@
-use Rattle.std.proofs.Common.{refl}
 use Rattle.mj_suits.proofs.Rows.{past_are}
 use Rattle.mj_suits.proofs.walk.rows_past.Goals as goal
 

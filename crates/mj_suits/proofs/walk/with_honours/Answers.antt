@@ -1,4 +1,4 @@
-use Rattle.std.proofs.Common.{[], false, refl, sym, arith}
+use Rattle.std.proofs.Common.{[], false, sym, arith}
 use Rattle.mj_suits.specs.Rows.{lane}
 use Rattle.mj_suits.proofs.Rows.{walked_past}
 use Rattle.mj_suits.proofs.Nine.{holds_whole}

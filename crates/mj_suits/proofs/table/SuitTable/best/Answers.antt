@@ -1,4 +1,4 @@
-use Rattle.std.proofs.Common.{sym, refl}
+use Rattle.std.proofs.Common.{refl}
 use Rattle.mj_suits.proofs.Tables.{none_read, nearest_read}
 use Rattle.mj_suits.proofs.table.SuitTable.best.Goals as goal
 
