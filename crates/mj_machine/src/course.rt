@@ -4,7 +4,7 @@ ghost use Rattle.mj_wall.specs.Places.{is_wall};
 ghost use Rattle.mj_deeds.specs.Hand.{hand};
 ghost use Rattle.mj_rules.specs.Outcome.{outcome, is_unbuilt, after_pass, wall_now, hand_start, hand_dealt, next_draw, next_dora, next_replacement};
 ghost use Rattle.mj_rules.specs.Played.{IsPlayed, AllLawful};
-ghost use Rattle.mj_machine.specs.Course.{AddsFollower};
+ghost use Rattle.mj_machine.specs.Followers.{AddsFollower};
 
 use crate::acts::act;
 use mj_deeds::{Answer, Deed, Four, Tiles, next_seat};

@@ -25,7 +25,7 @@ use Rattle.mj_wall.specs.declared.setting.Rules.{Rules}
 use Rattle.mj_rules.specs.Outcome.{act_of}
 use Rattle.mj_rules.specs.Played.{AllLawful}
 use Rattle.mj_rules.proofs.Questions.{all_no}
-use Rattle.mj_rules.proofs.Standing.{Acts, stage_after, stage_of}
+use Rattle.mj_rules.proofs.Stages.{Acts, stage_after, stage_of}
 use Rattle.mj_rules.proofs.Kept.{IsNext}
 
 -- What holds of a deed, where there is one.

@@ -18,7 +18,7 @@ use Rattle.mj_wall.specs.Places.{replacement_tile}
 use Rattle.mj_wall.proofs.WallKinds.{up}
 use Rattle.mj_deeds.specs.Hand.{is_hand_start, hand, before_in, starts, hand_number}
 use Rattle.mj_rules.specs.Outcome.{wall_of, hand_dealt}
-use Rattle.mj_rules.proofs.Standing.{stage_before, stage_after, stage_of, is_begun, owes_tile, is_replacement, at_place, brought_from, Standing, Brings, DealsWell, length-more, shown_step, taken_step, fresh_step, live_step, hands_step, brings_more}
+use Rattle.mj_rules.proofs.Stages.{stage_before, stage_after, stage_of, is_begun, owes_tile, is_replacement, at_place, brought_from, StandsAt, Brings, DealsWell, length-more, shown_step, taken_step, fresh_step, live_step, hands_step, brings_more}
 
 -- The first seat of a deed is a seat.
 pub first_seat : (who : ℕ) (rest : Bool) → (ltb who 4 && rest) ≡ true → who < 4
@@ -143,7 +143,7 @@ pub inside : (red : Bool) (walls : List (List ℕ)) (ds : List Deed) (d : Deed) 
 inside red walls ds d next = record { seats = next.seats; held = next.held; live = next.live; brings = next.brings }
 
 -- One deed more keeps what is true.
-pub keeps : (wall : List ℕ) (ds : List Deed) (d : Deed) → DealsWell wall → Standing wall ds (stage_before d) → IsNextIn wall ds d → Standing wall (ds ++ d ∷ []) (stage_after d)
+pub keeps : (wall : List ℕ) (ds : List Deed) (d : Deed) → DealsWell wall → StandsAt wall ds (stage_before d) → IsNextIn wall ds d → StandsAt wall (ds ++ d ∷ []) (stage_after d)
 keeps wall ds d deals s next =
     let draws : live_draws (ds ++ d ∷ []) ≡ live_draws ds + cond (is_live_draw d) 1 0 = sum_by_push (λ x. cond (is_live_draw x) 1 0) ds d in
     let made : kans (ds ++ d ∷ []) ≡ kans ds + cond (is_kan d) 1 0 = sum_by_push (λ x. cond (is_kan x) 1 0) ds d in

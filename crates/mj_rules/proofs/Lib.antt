@@ -1,5 +1,5 @@
 pub mod Dealing
-pub mod Standing
+pub mod Stages
 pub mod Kept
 pub mod Room
 pub mod Questions

@@ -21,7 +21,7 @@ use Rattle.mj_wall.specs.declared.setting.Rules.{Rules}
 use Rattle.mj_rules.specs.Outcome.{wall_of, wall_now, outcome}
 use Rattle.mj_rules.specs.Played.{AllLawful, is_game_start, IsPlayedBehind, AllPlayed, IsPlayed}
 use Rattle.mj_rules.specs.Laws.{EachIsWall, PlayedWithOneMore, PlayedWithoutTheLast, PlayedDeedsFit, NextOfPlayedFits}
-use Rattle.mj_rules.proofs.Standing.{Stage, NoGame, NoHand, Waits, Acts, MadeKan, ShowedDora, stage_before, stage_after, stage_of, is_begun, owes_dora, owes_tile, holds_more, Standing}
+use Rattle.mj_rules.proofs.Stages.{Stage, NoGame, NoHand, Waits, Acts, MadeKan, ShowedDora, stage_before, stage_after, stage_of, is_begun, owes_dora, owes_tile, holds_more, StandsAt}
 use Rattle.mj_rules.proofs.Kept.{wall_for, IsNext, inside, keeps}
 use Rattle.mj_rules.proofs.Room.{deals_well, next_fits}
 use Rattle.mj_rules.proofs.Answered.{IfAny}
@@ -43,14 +43,14 @@ each_is_wall red walls some whole hand = wall_at red walls (hand % length walls)
 
 -- What is true of deeds that come each in its turn.
 pub record Sound (red : Bool) (walls : List (List ℕ)) (ds : List Deed) : Type 0 where
-  pub standing : Standing (wall_now walls ds) (hand ds) (stage_of (newest ds))
+  pub standing : StandsAt (wall_now walls ds) (hand ds) (stage_of (newest ds))
   pub fit : all_fit red [] ds ≡ true
   pub seated : IfAny (λ d. has_seats d ≡ true) (newest ds)
 
 -- one deed more
 
 -- Before a hand was dealt there is nothing.
-nothing_stands : (wall : List ℕ) (stage : Stage) → is_begun stage ≡ false → owes_dora stage ≡ 0 → owes_tile stage ≡ 0 → ((seat : ℕ) → holds_more stage seat ≡ 0) → Standing wall [] stage
+nothing_stands : (wall : List ℕ) (stage : Stage) → is_begun stage ≡ false → owes_dora stage ≡ 0 → owes_tile stage ≡ 0 → ((seat : ℕ) → holds_more stage seat ≡ 0) → StandsAt wall [] stage
 unfolding up
 nothing_stands wall stage begun dora tile more = record {
   kinds = λ kind. rw begun refl;
@@ -64,11 +64,11 @@ nothing_stands wall stage begun dora tile more = record {
   seats = All-nil (λ s. s < 4);
 }
 
-no_hand_stands : (wall : List ℕ) → Standing wall [] NoHand
+no_hand_stands : (wall : List ℕ) → StandsAt wall [] NoHand
 no_hand_stands wall = nothing_stands wall NoHand refl refl refl (λ seat. refl)
 
 -- Where nothing was dealt no hand is under way.
-not_dealt : (wall : List ℕ) (stage : Stage) → Standing wall [] stage → is_begun stage ≡ false
+not_dealt : (wall : List ℕ) (stage : Stage) → StandsAt wall [] stage → is_begun stage ≡ false
 not_dealt wall NoGame s = refl
 not_dealt wall NoHand s = refl
 not_dealt wall Waits s = absurd (omega (arith, s.shown))
@@ -85,20 +85,20 @@ wall_is walls ds d = ap (wall_of walls) (number (is_hand_start d) (length (start
     number false n m e = omega arith
 
 -- What stands before a deed in its own hand.
-before_stands : (red : Bool) (walls : List (List ℕ)) (ds : List Deed) (d : Deed) → Sound red walls ds → stage_of (newest ds) ≡ stage_before d → Standing (wall_for walls ds d) (before_in (hand ds) d) (stage_before d)
+before_stands : (red : Bool) (walls : List (List ℕ)) (ds : List Deed) (d : Deed) → Sound red walls ds → stage_of (newest ds) ≡ stage_before d → StandsAt (wall_for walls ds d) (before_in (hand ds) d) (stage_before d)
 before_stands red walls ds (StartHand round number honba deposits dealer indicator hands) s e = no_hand_stands (wall_of walls (length (starts ds)))
-before_stands red walls ds (StartGame names) s e = subst (Standing (wall_now walls ds) (hand ds)) e s.standing
-before_stands red walls ds (Draw who tile replacement) s e = subst (Standing (wall_now walls ds) (hand ds)) e s.standing
-before_stands red walls ds (Discard who tile drawn) s e = subst (Standing (wall_now walls ds) (hand ds)) e s.standing
-before_stands red walls ds (Chi who target tile a b) s e = subst (Standing (wall_now walls ds) (hand ds)) e s.standing
-before_stands red walls ds (Pon who target tile a b) s e = subst (Standing (wall_now walls ds) (hand ds)) e s.standing
-before_stands red walls ds (OpenKan who target tile a b c) s e = subst (Standing (wall_now walls ds) (hand ds)) e s.standing
-before_stands red walls ds (ClosedKan who a b c x) s e = subst (Standing (wall_now walls ds) (hand ds)) e s.standing
-before_stands red walls ds (AddedKan who tile a b c) s e = subst (Standing (wall_now walls ds) (hand ds)) e s.standing
-before_stands red walls ds (Dora tile) s e = subst (Standing (wall_now walls ds) (hand ds)) e s.standing
+before_stands red walls ds (StartGame names) s e = subst (StandsAt (wall_now walls ds) (hand ds)) e s.standing
+before_stands red walls ds (Draw who tile replacement) s e = subst (StandsAt (wall_now walls ds) (hand ds)) e s.standing
+before_stands red walls ds (Discard who tile drawn) s e = subst (StandsAt (wall_now walls ds) (hand ds)) e s.standing
+before_stands red walls ds (Chi who target tile a b) s e = subst (StandsAt (wall_now walls ds) (hand ds)) e s.standing
+before_stands red walls ds (Pon who target tile a b) s e = subst (StandsAt (wall_now walls ds) (hand ds)) e s.standing
+before_stands red walls ds (OpenKan who target tile a b c) s e = subst (StandsAt (wall_now walls ds) (hand ds)) e s.standing
+before_stands red walls ds (ClosedKan who a b c x) s e = subst (StandsAt (wall_now walls ds) (hand ds)) e s.standing
+before_stands red walls ds (AddedKan who tile a b c) s e = subst (StandsAt (wall_now walls ds) (hand ds)) e s.standing
+before_stands red walls ds (Dora tile) s e = subst (StandsAt (wall_now walls ds) (hand ds)) e s.standing
 
 -- A deed behind nothing of a hand that doesn't start one starts the game.
-no_hand_yet : (wall : List ℕ) (d : Deed) → is_hand_start d ≡ false → is_begun (stage_before d) ≡ false → Standing wall [] (stage_after d)
+no_hand_yet : (wall : List ℕ) (d : Deed) → is_hand_start d ≡ false → is_begun (stage_before d) ≡ false → StandsAt wall [] (stage_after d)
 no_hand_yet wall (StartGame names) h k = no_hand_stands wall
 no_hand_yet wall (StartHand round number honba deposits dealer indicator hands) h k = cc
 no_hand_yet wall (Draw who tile true) h k = cc
@@ -115,17 +115,17 @@ deed_fits : (red : Bool) (walls : List (List ℕ)) (ds : List Deed) (d : Deed) �
 deed_fits red walls ds d h s next = next_fits red walls ds d (h _) (before_stands red walls ds d s next.stage) next
 
 after_stands : (red : Bool) (walls : List (List ℕ)) (ds : List Deed) (d : Deed) → ((number : ℕ) → is_wall red (wall_of walls number) ≡ true) → Sound red walls ds → IsNext red walls ds d →
-    Standing (wall_for walls ds d) (hand (ds ++ d ∷ [])) (stage_after d)
+    StandsAt (wall_for walls ds d) (hand (ds ++ d ∷ [])) (stage_after d)
 after_stands red walls ds d h s next =
-    hand_with (λ xs. Standing (wall_for walls ds d) xs (stage_after d)) ds d
+    hand_with (λ xs. StandsAt (wall_for walls ds d) xs (stage_after d)) ds d
     (λ not_start empty. no_hand_yet (wall_for walls ds d) d not_start (not_dealt (wall_now walls ds) (stage_before d)
-    (subst (λ (xs : List Deed). Standing (wall_now walls ds) xs (stage_before d)) empty (subst (Standing (wall_now walls ds) (hand ds)) next.stage s.standing))))
+    (subst (λ (xs : List Deed). StandsAt (wall_now walls ds) xs (stage_before d)) empty (subst (StandsAt (wall_now walls ds) (hand ds)) next.stage s.standing))))
     (keeps (wall_for walls ds d) (before_in (hand ds) d) d (deals_well red (wall_for walls ds d) (h _)) (before_stands red walls ds d s next.stage) (inside red walls ds d next))
 
 sound_more : (red : Bool) (walls : List (List ℕ)) (ds : List Deed) (d : Deed) → ((number : ℕ) → is_wall red (wall_of walls number) ≡ true) → Sound red walls ds → IsNext red walls ds d → Sound red walls (ds ++ d ∷ [])
 sound_more red walls ds d h s next = record {
-  standing = subst (λ (o : Option Deed). Standing (wall_now walls (ds ++ d ∷ [])) (hand (ds ++ d ∷ [])) (stage_of o)) (sym (newest_more ds d))
-      (subst (λ (wall : List ℕ). Standing wall (hand (ds ++ d ∷ [])) (stage_after d)) (wall_is walls ds d) (after_stands red walls ds d h s next));
+  standing = subst (λ (o : Option Deed). StandsAt (wall_now walls (ds ++ d ∷ [])) (hand (ds ++ d ∷ [])) (stage_of o)) (sym (newest_more ds d))
+      (subst (λ (wall : List ℕ). StandsAt wall (hand (ds ++ d ∷ [])) (stage_after d)) (wall_is walls ds d) (after_stands red walls ds d h s next));
   fit = all_fit-append red [] ds d s.fit (deed_fits red walls ds d h s next);
   seated = subst (IfAny (λ d. has_seats d ≡ true)) (sym (newest_more ds d)) next.seats;
 }

@@ -19,7 +19,7 @@ use Rattle.mj_deeds.specs.Hand.{hand, before_in}
 use Rattle.mj_rules.specs.Outcome.{hand_dealt}
 use Rattle.mj_rules.proofs.Dealing.{hand_has_thirteen}
 use Rattle.mj_wall.proofs.TileOrder.{count_by-in_tile_order}
-use Rattle.mj_rules.proofs.Standing.{Stage, Acts, stage_before, stage_after, is_begun, holds_more, is_replacement, at_place, Standing, DealsWell, length-more}
+use Rattle.mj_rules.proofs.Stages.{Stage, Acts, stage_before, stage_after, is_begun, holds_more, is_replacement, at_place, StandsAt, DealsWell, length-more}
 use Rattle.mj_rules.proofs.Kept.{wall_for, IsNext, inside, keeps}
 
 -- what is dealt
@@ -82,7 +82,7 @@ deals_well red wall h =
 
 -- no fifth tile of a kind
 
-at_most_four : (red : Bool) (wall : List ℕ) (ds : List Deed) (stage : Stage) (kind : ℕ) → is_wall red wall ≡ true → kind < 34 → Standing wall ds stage → number_of (flat_map brought_by ds) kind ≤ 4
+at_most_four : (red : Bool) (wall : List ℕ) (ds : List Deed) (stage : Stage) (kind : ℕ) → is_wall red wall ≡ true → kind < 34 → StandsAt wall ds stage → number_of (flat_map brought_by ds) kind ≤ 4
 at_most_four red wall ds stage kind h small s =
     let w : ℕ → ℕ = λ t. cond (eqb (kind_of t) kind) 1 0 in
     bound _ _ _ _ _ _ _ _ _ (s.kinds kind) (not_more (is_begun stage) (up (at_place wall kind) 52))
@@ -112,7 +112,7 @@ at_most_four red wall ds stage kind h small s =
     bound : (n b u i j k t v x : ℕ) → n ≡ b + i + j + k → b ≤ u → u + i + j + k ≤ t → v ≡ t → v ≤ x → x ≤ 4 → n ≤ 4
     bound n b u i j k t v x e f g h l m = omega arith
 
-no_fifth : (red : Bool) (wall : List ℕ) (ds : List Deed) (stage : Stage) → is_wall red wall ≡ true → Standing wall ds stage → has_no_fifth (flat_map brought_by ds) ≡ true
+no_fifth : (red : Bool) (wall : List ℕ) (ds : List Deed) (stage : Stage) → is_wall red wall ≡ true → StandsAt wall ds stage → has_no_fifth (flat_map brought_by ds) ≡ true
 unfolding has_no_fifth all_kinds
 no_fifth red wall ds stage h s =
     all_in (λ kind. nat_le (number_of (flat_map brought_by ds) kind) 4) 0 34 (λ kind lo hi. le-leb _ _ (at_most_four red wall ds stage kind h hi s))
@@ -174,7 +174,7 @@ one_more_at_most (Acts who) seat = at_most (who == seat)
     at_most false = omega arith
 one_more_at_most other seat = omega arith
 
-room_for_each : (wall : List ℕ) (ds : List Deed) (d : Deed) (stage : Stage) (seat : ℕ) → Standing wall (ds ++ d ∷ []) stage → has_room_for ds d seat ≡ true
+room_for_each : (wall : List ℕ) (ds : List Deed) (d : Deed) (stage : Stage) (seat : ℕ) → StandsAt wall (ds ++ d ∷ []) stage → has_room_for ds d seat ≡ true
 room_for_each wall ds d stage seat s =
     le-leb _ _ (few _ _ _ _ _ _ _ (is_begun stage) (length-map (flat_map (makes_by seat) ds) _) (length-more (makes_by seat) ds d) (s.hands seat)
     (length-within (tiles_lost (ds ++ d ∷ []) seat) (tiles_gained (ds ++ d ∷ []) seat) (s.held seat)) (one_more_at_most stage seat))
@@ -184,7 +184,7 @@ room_for_each wall ds d stage seat s =
     few a m x m' g l h false e f i j k = omega arith
 
 -- A deed that comes in its turn fits.
-pub next_fits : (red : Bool) (walls : List (List ℕ)) (ds : List Deed) (d : Deed) → is_wall red (wall_for walls ds d) ≡ true → Standing (wall_for walls ds d) (before_in (hand ds) d) (stage_before d) →
+pub next_fits : (red : Bool) (walls : List (List ℕ)) (ds : List Deed) (d : Deed) → is_wall red (wall_for walls ds d) ≡ true → StandsAt (wall_for walls ds d) (before_in (hand ds) d) (stage_before d) →
     IsNext red walls ds d → fits red ds d ≡ true
 unfolding fits_behind fits_in
 next_fits red walls ds d h s next =

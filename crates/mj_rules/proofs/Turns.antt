@@ -28,7 +28,7 @@ use Rattle.mj_wall.specs.declared.setting.Rules.{Rules}
 use Rattle.mj_rules.specs.Outcome.{hand_dealt, hand_start, next_draw, next_dora, newest_kan_seat, next_replacement, after_pass, wall_now, follows, outcome, wall_of}
 use Rattle.mj_wall.proofs.TileOrder.{count_by-in_tile_order}
 use Rattle.mj_rules.specs.Played.{AllLawful}
-use Rattle.mj_rules.proofs.Standing.{Waits, MadeKan, stage_after, stage_of}
+use Rattle.mj_rules.proofs.Stages.{Waits, MadeKan, stage_after, stage_of}
 use Rattle.mj_rules.proofs.Kept.{first_seat, IsNext}
 use Rattle.mj_rules.proofs.Answered.{IfAny, clean_at, act_next, call_next}
 

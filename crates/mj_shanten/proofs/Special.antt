@@ -136,8 +136,8 @@ least_goal counts room melds sets number few is_room size room_size joint specia
     taken t p is = (p.counts, (p.is, is ∙ ap (λ u. missing u (with_two counts)) p.numbers_are ∙ wide_missing p.counts counts p.is.are_counts.size size))
 
 -- the number is one less
-pub number_of : (counts room : List ℕ) (melds least : ℕ) → IsLeast counts (IsGoal room melds) least → (number : ℕ) (target : List ℕ) → IsShanten counts room melds number target → least - 1 ≡ number
-number_of counts room melds least is number target shanten =
+pub number_is : (counts room : List ℕ) (melds least : ℕ) → IsLeast counts (IsGoal room melds) least → (number : ℕ) (target : List ℕ) → IsShanten counts room melds number target → least - 1 ≡ number
+number_is counts room melds least is number target shanten =
     let a = is.least target shanten.is_goal in
     let b = shanten.number_is in
     let c = shanten.least is.some.0 is.some.1.0 in

@@ -23,7 +23,7 @@ fn push_error(line: &mut Vec<u8>, rule: Rule) -> Result<(), AllocError>
     ensures { OnOk result (Adds line.old.items line.new.items (error_text rule)) }
 {
     push_all(line, b"{\"type\":\"error\",\"rule\":")?;
-    push_number(line, number_of(rule))?;
+    push_number(line, rule_number(rule))?;
     push_all(line, b",\"message\":")?;
     push_quoted(line, name_of(rule))?;
     push_all(line, b"}\n")?;
@@ -31,7 +31,7 @@ fn push_error(line: &mut Vec<u8>, rule: Rule) -> Result<(), AllocError>
 }
 
 // The number of a rule.
-fn number_of(rule: Rule) -> u64
+fn rule_number(rule: Rule) -> u64
     ensures { result ≡ rule_number rule }
 {
     rule as u64

@@ -8,7 +8,7 @@ pub returns : goal.returns
 unfolding error_text
 returns c =
     c.in_ok-push_all.ensures.ok
-    ▸ as_piece (ap decimal c.number_of.ensures) c.in_ok-push_number.ensures.ok
+    ▸ as_piece (ap decimal c.rule_number.ensures) c.in_ok-push_number.ensures.ok
     ▸ c.in_ok-push_all-2.ensures.ok
     ▸ as_piece (ap quoted c.name_of.ensures) c.in_ok-push_quoted.ensures
     ▸ c.in_ok-push_all-3.ensures.ok

@@ -93,7 +93,7 @@ abbrev pub brought_from : (ℕ → ℕ) → Bool → ℕ → ℕ → ℕ → ℕ
 brought_from f begun draws shown taken =
     cond begun (up f 52) 0 + up (λ k. f (52 + k)) draws + up (λ k. f (131 - 2 * k)) shown + up (λ k. f (135 - k)) taken
 
-pub record Standing (wall : List ℕ) (ds : List Deed) (stage : Stage) : Type 0 where
+pub record StandsAt (wall : List ℕ) (ds : List Deed) (stage : Stage) : Type 0 where
   pub kinds : (kind : ℕ) → number_of (flat_map brought_by ds) kind ≡ brought_from (at_place wall kind) (is_begun stage) (live_draws ds) (length (indicators ds)) (count_by is_replacement ds)
   pub hands : (seat : ℕ) → length (tiles_gained ds seat) + 3 * length (flat_map (makes_by seat) ds) ≡ length (tiles_lost ds seat) + cond (is_begun stage) 13 0 + holds_more stage seat
   pub shown : length (indicators ds) + owes_dora stage ≡ kans ds + cond (is_begun stage) 1 0
