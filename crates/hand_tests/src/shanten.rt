@@ -1,10 +1,11 @@
-ghost use Rattle.std.specs.Prelude.{◌≡◌, sum, IfSome};
+ghost use Rattle.std.specs.Prelude.{◌≡◌, ◌<◌, sum, length, replicate, IfSome};
 ghost use Rattle.mj_tiles.specs.Counts.{NoFifth};
+ghost use Rattle.mj_readings.specs.Tests.{one_more};
 ghost use Rattle.mj_shanten.specs.Exchanges.{IsNearestOf};
 
-use crate::words::{counts, fields, number};
-use mj_shanten::{Nearest, exchange_path, shanten};
-use mj_tiles::{Counts, Kind};
+use crate::words::{counts, fields, kinds, number};
+use mj_shanten::{Nearest, Suits, exchange_path, shanten};
+use mj_tiles::{Counts, Kind, Kinds};
 use std::alloc::{AllocError, Global};
 
 // Hands with melds are those of `hand`.
@@ -24,6 +25,7 @@ fn nearest_closed(counts: &Counts) -> Option<Nearest>
 
 fn tiles_among(counts: &Counts) -> usize
     ensures total { result ≡ sum counts.now }
+    ensures size { length counts.now ≡ 34 }
     ensures few { NoFifth counts.now }
 {
     let numbers = counts.numbers();
@@ -52,6 +54,96 @@ fn is_nearest(line: &str) -> Option<bool> {
 fn closed_hands_have_their_shanten(rt: HostRuntime) {
     for line in NEAREST.lines() {
         assert!(rt; is_nearest(line) == Some(true), "{line}");
+    }
+}
+
+/// The walked suits of a hand of so many tiles without melds.
+fn walked_closed(counts: &Counts, tiles: usize) -> Option<Suits>
+    ensures { IfSome result (λ suits. suits ≡ record { counts = counts.now; room = replicate 34 4 }) }
+{
+    let Some(room) = Counts::of([4; 34]) else {
+        return None;
+    };
+    if tiles_among(counts) != tiles {
+        return None;
+    }
+    Some(Suits::new(counts, &room))
+}
+
+/// The counts and one tile more of the kind; none where four are held.
+fn with_one_more(counts: &Counts, kind: Kind) -> Option<Counts>
+    ensures value { IfSome result (λ more. more ≡ one_more counts.now kind) }
+    ensures within { kind < 34 }
+{
+    let place = kind.number() as usize;
+    let mut numbers = *counts.numbers();
+    numbers[place] += 1;
+    Counts::of(numbers)
+}
+
+/// The number alone, and what the hand is nearest to, by its walked suits with one tile of the kind more and without it
+/// again.
+fn nearest_again(counts: &Counts, kind: Kind) -> Option<(u8, Nearest)> {
+    if tiles_among(counts) != 13 {
+        return None;
+    }
+    let Some(more) = with_one_more(counts, kind) else {
+        return None;
+    };
+    let Some(suits) = walked_closed(&more, 14) else {
+        return None;
+    };
+    let again = suits.without(kind);
+    Some((again.number(0), again.shanten(0)))
+}
+
+#[test]
+fn a_tile_more_and_without_it_again_is_the_same_hand(rt: HostRuntime) {
+    for line in NEAREST.lines() {
+        assert!(rt; is_same_again(line) == Some(true), "{line}");
+    }
+}
+
+fn is_same_again(line: &str) -> Option<bool> {
+    let [hand, shanten, ..] = fields(line);
+    let held = counts(hand)?;
+    let again = nearest_again(&held, Kind::at(33))?;
+    Some(again.0 == number(shanten)? && again.1 == nearest_closed(&held)?)
+}
+
+/// Hands of fourteen tiles, the kinds that may be discarded, and the best discard: the one that leaves less shanten, and
+/// of several the last in tile order; none where none is held.
+const DISCARDS: &str = "\
+123m 456p 789s EESSC|123456789m 456p 789s ESC|C
+123m 456p 789s EEESC|123m ESC|C
+123m 456p 789s EEESC|123m ES|S
+123m 456p 789s EEESS|19m ES|S
+123m 456p 789s EEESS|19m 6p|6p
+1112345678999m W|1m 9m|9m
+147m 258p 369s EESSC|147m 369s|9s
+123m 456p 789s EESSC|WNPF|";
+
+fn is_best(line: &str) -> Option<bool> {
+    let [hand, among, wanted, ..] = fields(line);
+    let best = best_discard(&counts(hand)?, kinds(among)?)?;
+    Some(best == kinds(wanted)?)
+}
+
+/// The best discard as a set of one kind.
+fn best_discard(counts: &Counts, among: Kinds) -> Option<Kinds> {
+    let Some(suits) = walked_closed(counts, 14) else {
+        return None;
+    };
+    match suits.best_discard(among, 0) {
+        Some(kind) => Some(Kinds::none().with(kind)),
+        None => Some(Kinds::none()),
+    }
+}
+
+#[test]
+fn the_best_discard_is_the_last_that_leaves_the_least(rt: HostRuntime) {
+    for line in DISCARDS.lines() {
+        assert!(rt; is_best(line) == Some(true), "{line}");
     }
 }
 

@@ -1,7 +1,6 @@
 use crate::words::{bit, case, counts, fields, kind, meld, number, numbers, reading};
 use mj_tiles::{Form, Meld};
-use mj_yaku::{YakuList, YakuSet, han_of, has_yaku, is_closed, yaku};
-use std::alloc::AllocError;
+use mj_yaku::{YakuSet, han_of, has_yaku, is_closed, yaku};
 
 /// Of each row its han in a closed and in an open hand, 100 for a yakuman and 0 where it asks for a closed hand, a hand that has the
 /// row, and one near to it that doesn't. A hand is its circumstances, or `-`, and its reading, with `q` for a concealed kan among its
@@ -142,13 +141,6 @@ fn each_row_has_its_han(rt: HostRuntime) {
     for line in ROWS.lines() {
         assert!(rt; has_han(line) == Some(true), "{line}");
     }
-}
-
-#[test]
-fn a_list_keeps_its_rows(rt: HostRuntime) -> Result<(), AllocError> {
-    let list = YakuList::from_vec([(3, 1), (28, 2)].to_vec(rt.alloc())?);
-    assert!(rt; list.as_slice() == [(3, 1), (28, 2)].as_slice());
-    Ok(())
 }
 
 /// Hands, whether they are closed, their han, and what their rows are.

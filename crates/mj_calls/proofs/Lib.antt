@@ -1,1 +1,2 @@
 pub mod KindsFrom
+pub mod RiichiKanSteps

@@ -6,8 +6,8 @@ use crate::shapes::is_run;
 use mj_deeds::Deed;
 use mj_tiles::{Kind, Kinds};
 
-/// The kinds that may not be discarded right after a call: after a chi the called kind, and every kind that makes a run
-/// with the two consumed tiles; after a pon the called kind. Any other deed bans nothing.
+/// The kinds that may not be discarded right after a call: after a chi the called kind, and every kind that makes a
+/// run with the two consumed tiles; after a pon the called kind. Any other deed bans nothing.
 #[tactic(auto, unfolding(crate::specs::Bans::banned_by_chi))]
 pub fn banned(call: &Deed) -> Kinds
     ensures { result ≡ set_of (banned_kinds call.now) }

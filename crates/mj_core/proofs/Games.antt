@@ -21,14 +21,14 @@ use Rattle.mj_protocol.specs.Lines.{line}
 use Rattle.mj_protocol.specs.After.{After, Chair, Verdict, before_all, after, pending, lines_for}
 use Rattle.mj_protocol.specs.Trace.{Game, has_name, can_sit, may_say, can_say, is_answer_built, is_permitted, all_permitted, has_wall, has_ground, IsLegal}
 use Rattle.mj_protocol.proofs.Entries.{after-append, all_permitted-append}
-use Rattle.mj_protocol.specs.AnswerForms.{join_of, answer_of, names_later_type}
+use Rattle.mj_protocol.specs.AnswerForms.{join_of, answer_of}
 use Rattle.mj_protocol.proofs.Fitting.{own_part_can_go_on}
 use Rattle.mj_protocol.proofs.Forms.{answers_that_are_read_are_in_form}
 use Rattle.mj_protocol.proofs.Legality.{IsNamed, join_of-named}
 use Rattle.mj_core.specs.Inner.Untold.{untold_chair, untold}
 use Rattle.mj_core.specs.Inner.States.{Position, TakesNext, is_due, CanHear, Hears}
 use Rattle.mj_core.specs.Inner.Kept.{IsKept}
-use Rattle.mj_core.specs.Calls.{after_of, plain_answer, refused_by, IsSitAnswer, Answers, IsHeard, author_at, may_say_at, pending_at}
+use Rattle.mj_core.specs.Calls.{after_of, refused_by, IsSitAnswer, Answers, IsHeard, author_at, may_say_at, pending_at}
 use Rattle.mj_core.specs.Inner.Verdicts.{verdict_given, heard_by}
 use Rattle.mj_core.specs.declared.verdict.Verdict.{Verdict as Judged}
 use Rattle.mj_core.specs.declared.verdict.Verdict.TheVariants as judged
@@ -182,15 +182,8 @@ pub hear-due : (setting : Setting) (entries : List (Entry Answer)) (state : Posi
 hear-due setting entries state author seat k may = due-kept setting entries state seat k ∙ said-due (after setting entries) author (slice_get (after setting entries).chairs seat) may
 
 -- What is heard is in form.
-pub heard-form : (text : List ℕ) (answer : Answer) → Some answer ≡ plain_answer text → is_in_form answer ≡ true
-heard-form text answer e = by_type (names_later_type text) e
-  where
-    read : Some answer ≡ Some (answer_of text) → answer_of text ≡ answer
-    read h = cc
-
-    by_type : (later : Bool) → Some answer ≡ (if later then None else Some (answer_of text)) → is_in_form answer ≡ true
-    by_type true h = cc
-    by_type false h = subst (λ (said : Answer). is_in_form said ≡ true) (read h) (answers_that_are_read_are_in_form text)
+pub heard-form : (text : List ℕ) (answer : Answer) → answer ≡ answer_of text → is_in_form answer ≡ true
+heard-form text answer e = subst (λ (said : Answer). is_in_form said ≡ true) (sym e) (answers_that_are_read_are_in_form text)
 
 -- What is true where it is heard.
 pub hear-can : (setting : Setting) (entries : List (Entry Answer)) (state : Position) (author seat : ℕ) (answer : Answer) → IsKept setting entries state → can_say (after_of (game setting entries)) author seat ≡ true → is_in_form answer ≡ true
@@ -223,20 +216,20 @@ hear-kept setting entries all state next author seat answer verdict k may form t
     })
 
 pub hear-entered : (setting : Setting) (entries all : List (Entry Answer)) (state next : Position) (author seat : ℕ) (answer : Answer) (verdict : Judged) → IsKept setting entries state
-    → Hears setting state next seat answer (verdict_given verdict) → all ≡ entries ++ Said author seat answer ∷ [] → IsHeard (heard_by verdict) (game setting entries) (game setting all) author seat (Some answer)
+    → Hears setting state next seat answer (verdict_given verdict) → all ≡ entries ++ Said author seat answer ∷ [] → IsHeard (heard_by verdict) (game setting entries) (game setting all) author seat answer
 hear-entered setting entries all state next author seat answer verdict k t e = by verdict (
   sym (is_answer_built-same setting state.now (after setting entries) author seat answer k.same) ∙ t.built author,
   sym (state_verdict-same setting.rules state.now (after setting entries) seat answer k.same) ∙ t.judged,
   record { setting = refl; entries = e },
 )
   where
-    by : (v : Judged) → Answers (Some answer) (game setting entries) (game setting all) author seat (verdict_given v) → IsHeard (heard_by v) (game setting entries) (game setting all) author seat (Some answer)
+    by : (v : Judged) → Answers answer (game setting entries) (game setting all) author seat (verdict_given v) → IsHeard (heard_by v) (game setting entries) (game setting all) author seat answer
     by judged.Taken h = h
     by judged.Late h = h
     by (judged.Refused rule) h = h
 
 pub hear-unbuilt : (setting : Setting) (entries : List (Entry Answer)) (state : Position) (author seat : ℕ) (answer : Answer) → IsKept setting entries state
-    → ((by : ℕ) → is_answer_built setting state.now by seat answer ≡ false) → IsHeard heard.NotBuilt (game setting entries) (game setting entries) author seat (Some answer)
+    → ((by : ℕ) → is_answer_built setting state.now by seat answer ≡ false) → IsHeard heard.NotBuilt (game setting entries) (game setting entries) author seat answer
 hear-unbuilt setting entries state author seat answer k h = (sym (is_answer_built-same setting state.now (after setting entries) author seat answer k.same) ∙ h author, refl)
 
 -- A game before its first entry.

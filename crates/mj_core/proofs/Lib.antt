@@ -1,5 +1,6 @@
 pub mod Same
 pub mod Open
+pub mod Ended
 pub mod Steps
 pub mod Pieces
 pub mod Games

@@ -1,19 +1,18 @@
 -- What the connections were told changes nothing else.
-use Rattle.std.proofs.Common.{◌≡◌, ℕ, zero, suc, List, [], ◌∷◌, ◌++◌, map, true, false, Option, Some, None, refl, ap, ◌∙◌, sym, subst}
-use Rattle.std.specs.Prelude.{slice_get, slice_set, option_map, is_some, if◌then◌else◌}
+use Rattle.std.proofs.Common.{◌≡◌, ℕ, zero, suc, List, [], ◌∷◌, ◌++◌, map, false, Option, Some, None, refl, ap, ◌∙◌, sym, subst}
+use Rattle.std.specs.Prelude.{slice_get, slice_set, option_map}
 use Rattle.std.specs.Option.{option_map_or}
 use Rattle.std.proofs.lemmas.List.{map-set, map-append, length-map}
 use Rattle.std.proofs.lemmas.Option.{slice_get-map}
 use Rattle.mj_ports.specs.declared.entry.Entry.{Entry}
 use Rattle.mj_ports.specs.declared.entry.Entry.TheVariants.{Sat, Back, Said, Gone, Expired}
-use Rattle.mj_deeds.specs.declared.four.Four.{Four}
 use Rattle.mj_deeds.specs.declared.deed.Deed.{Deed}
 use Rattle.mj_deeds.specs.declared.answer.Answer.{Answer}
 use Rattle.mj_wall.specs.declared.setting.Rules.{Rules}
 use Rattle.mj_wall.specs.declared.setting.Setting.{Setting}
-use Rattle.mj_protocol.specs.After.{After, Chair, Verdict, Taken, Late, Refused, verdict_on, first_progress, progress_after, slots_after, is_window_closed, lines_for, after_said, own_part, name_at, names_of, next_deed, with_deed, step}
+use Rattle.mj_protocol.specs.After.{After, Chair, Verdict, Taken, Late, Refused, verdict_on, first_progress, progress_after, slots_after, lines_for, after_said, own_part, name_at, names_of, next_deed, with_deed, step}
 use Rattle.mj_protocol.specs.Laws.{CanGoOn}
-use Rattle.mj_protocol.specs.Trace.{is_verdict_built, is_heard_built, is_deed_built, is_answer_built}
+use Rattle.mj_protocol.specs.Trace.{is_verdict_built, is_heard_built, is_answer_built}
 use Rattle.mj_core.specs.Inner.Untold.{untold_chair, untold}
 use Rattle.mj_core.specs.Inner.States.{state_verdict}
 
@@ -125,12 +124,6 @@ state_verdict-same rules now other seat answer e =
     ap (λ (deeds : List Deed). option_map (λ (chair : Chair). verdict_on rules deeds seat answer chair.progress) (slice_get now.chairs seat)) (ap (λ (n : After). n.deeds) e)
     ∙ seat-same (λ (chair : Chair). verdict_on rules other.deeds seat answer chair.progress) (λ chair. refl) now.chairs other.chairs seat (ap (λ (n : After). n.chairs) e)
 
-is_deed_built-same : (setting : Setting) (now other : After) → untold now ≡ untold other → is_deed_built setting now ≡ is_deed_built setting other
-unfolding is_deed_built
-is_deed_built-same setting now other e =
-    rw (next_deed-same setting now other e)
-    (ap (λ (slots : Four (Option Answer)). if is_window_closed slots then is_some (next_deed setting other) else true) (ap (λ (n : After). n.slots) e))
-
 is_heard_built-same : (rules : Rules) (now other : After) (seat : ℕ) (answer : Answer) → untold now ≡ untold other →
     option_map_or (is_heard_built rules now seat answer) (slice_get now.chairs seat) false ≡ option_map_or (is_heard_built rules other seat answer) (slice_get other.chairs seat) false
 unfolding is_heard_built
@@ -140,8 +133,7 @@ is_heard_built-same rules now other seat answer e =
 
 pub is_answer_built-same : (setting : Setting) (now other : After) (author seat : ℕ) (answer : Answer) → untold now ≡ untold other → is_answer_built setting now author seat answer ≡ is_answer_built setting other author seat answer
 unfolding is_answer_built
-is_answer_built-same setting now other author seat answer e =
-    rw (is_heard_built-same setting.rules now other seat answer e, is_deed_built-same setting _ _ (own_part-same setting now other (Said author seat answer) e))
+is_answer_built-same setting now other author seat answer e = is_heard_built-same setting.rules now other seat answer e
 
 can_go_on-untold : (setting : Setting) (now : After) → CanGoOn setting now → CanGoOn setting (untold now)
 can_go_on-untold setting now c = record { played = c.played; taken = c.taken; ready = c.ready }

@@ -1,6 +1,6 @@
 -- What a state does is what the entries come to.
 use Rattle.std.proofs.Common.{◌≡◌, ℕ, ◌==◌, ◌&&◌, suc, List, [], ◌∷◌, ◌++◌, length, map, Bool, true, false, Option, Some, None, refl, ap, ◌∙◌, sym, subst, ◌≤◌}
-use Rattle.std.specs.Prelude.{slice_get, slice_set, option_map, is_some, if◌then◌else◌}
+use Rattle.std.specs.Prelude.{slice_get, slice_set, option_map, if◌then◌else◌}
 use Rattle.std.specs.Option.{option_map_or}
 use Rattle.std.proofs.lemmas.List.{map-set, map-append, length-set}
 use Rattle.mj_ports.specs.declared.entry.Entry.{Entry}
@@ -10,14 +10,16 @@ use Rattle.mj_deeds.specs.declared.four.Four.{Four}
 use Rattle.mj_deeds.specs.declared.deed.Deed.{Deed}
 use Rattle.mj_deeds.specs.declared.deed.Deed.TheVariants.{StartGame}
 use Rattle.mj_deeds.specs.declared.answer.Answer.{Answer}
+use Rattle.mj_deeds.specs.Facts.{newest}
 use Rattle.mj_wall.specs.declared.setting.Rules.{Rules}
 use Rattle.mj_wall.specs.declared.setting.Setting.{Setting}
 use Rattle.mj_rules.specs.Played.{IsPlayed, AllLawful}
-use Rattle.mj_rules.specs.Outcome.{outcome}
+use Rattle.mj_rules.specs.Outcome.{outcome, goes_on}
+use Rattle.mj_core.proofs.Ended.{no_deed_open}
 use Rattle.mj_window.specs.Slots.{empty_slots}
 use Rattle.mj_protocol.specs.After.{After, Chair, Verdict, verdict_on, progress_after, first_progress, slots_after, is_window_closed, answers_in, lines_for, after_said, own_part, names_of, next_deed, with_deed, step}
 use Rattle.mj_protocol.specs.Laws.{CanGoOn}
-use Rattle.mj_protocol.specs.Trace.{is_verdict_built, is_heard_built, is_deed_built, is_answer_built}
+use Rattle.mj_protocol.specs.Trace.{is_verdict_built, is_heard_built, is_answer_built}
 use Rattle.mj_core.specs.Inner.Untold.{untold_chair, untold}
 use Rattle.mj_core.specs.Inner.States.{Position, IsOpen, TakesNext, state_verdict, Hears}
 use Rattle.mj_core.proofs.Same.{names_of-same, with_deed-same}
@@ -151,18 +153,10 @@ after_said-built rules now seat answer chair verdict b held judged may =
     ap (λ (o : Option Chair). option_map_or (is_heard_built rules now seat answer) o false) held
     ∙ ap (is_verdict_built chair.progress.refused) (sym judged) ∙ may
 
-deed-built : (setting : Setting) (now : After) → (length now.deeds == 0) ≡ false → is_deed_built setting now ≡ (if is_window_closed now.slots then is_some (if is_window_closed now.slots then outcome setting.rules setting.walls now.deeds (answers_in now.slots) else None) else true)
-unfolding is_deed_built
-deed-built setting now d = rw (next-plays setting now d)
-
-is_said-built : (setting : Setting) (old : After) (author seat : ℕ) (answer : Answer) (chair next : Chair) (verdict : Verdict) (slots : Four (Option Answer)) (b : Bool) → IsSaid setting old seat answer chair next verdict slots
-    → (if is_window_closed slots then is_some (if is_window_closed slots then outcome setting.rules setting.walls old.deeds (answers_in slots) else None) else true) ≡ b
-    → is_answer_built setting old author seat answer ≡ b
+is_said-built : (setting : Setting) (old : After) (author seat : ℕ) (answer : Answer) (chair next : Chair) (verdict : Verdict) (slots : Four (Option Answer)) → IsSaid setting old seat answer chair next verdict slots
+    → is_answer_built setting old author seat answer ≡ true
 unfolding is_answer_built
-is_said-built setting old author seat answer chair next verdict slots b s d =
-    ap (λ (h : Bool). h && is_deed_built setting (own_part setting old (Said author seat answer))) (after_said-built setting.rules old seat answer chair verdict true s.held s.judged s.may)
-    ∙ ap (is_deed_built setting) (is_said-own setting old author seat answer chair next verdict slots s)
-    ∙ deed-built setting _ s.begun ∙ d
+is_said-built setting old author seat answer chair next verdict slots s = after_said-built setting.rules old seat answer chair verdict true s.held s.judged s.may
 
 same_many : (chairs : List Chair) (seat : ℕ) (chair : Chair) → length (slice_set chairs seat chair) ≡ length chairs
 same_many chairs seat chair = length-set chairs seat chair
@@ -173,12 +167,12 @@ is_said-judged setting old seat answer chair next verdict slots s =
 
 -- The window stays open.
 pub hears-open : (setting : Setting) (rules : Rules) (old : After) (seat : ℕ) (answer : Answer) (chair next : Chair) (verdict : Verdict) (slots : Four (Option Answer)) → IsSaid setting old seat answer chair next verdict slots
-    → length old.chairs ≤ 4 → IsOpen old → is_window_closed slots ≡ false → Hears setting (under rules old) (under rules (pieces old.deeds (slice_set old.chairs seat next) slots)) seat answer verdict
+    → length old.chairs ≤ 4 → IsOpen old → (goes_on (newest old.deeds) && is_window_closed slots) ≡ false → Hears setting (under rules old) (under rules (pieces old.deeds (slice_set old.chairs seat next) slots)) seat answer verdict
 hears-open setting rules old seat answer chair next verdict slots s four empty r = record {
   rules = refl;
   judged = is_said-judged setting old seat answer chair next verdict slots s;
-  built = λ author. is_said-built setting old author seat answer chair next verdict slots true s (rw r);
-  stepped = λ author. is_said-step setting old author seat answer chair next verdict slots None s (rw r);
+  built = λ author. is_said-built setting old author seat answer chair next verdict slots s;
+  stepped = λ author. is_said-step setting old author seat answer chair next verdict slots None s (no_deed_open setting.rules setting.walls old.deeds slots r);
   as_many = same_many old.chairs seat next;
   empty = answered-open setting old seat answer chair next verdict slots s four empty;
 }
@@ -190,7 +184,7 @@ pub hears-closed : (setting : Setting) (rules after_rules : Rules) (old : After)
 hears-closed setting rules after_rules old seat answer chair next verdict slots deed e s r o = record {
   rules = e;
   judged = is_said-judged setting old seat answer chair next verdict slots s;
-  built = λ author. is_said-built setting old author seat answer chair next verdict slots true s (rw (r, o));
+  built = λ author. is_said-built setting old author seat answer chair next verdict slots s;
   stepped = λ author. is_said-step setting old author seat answer chair next verdict slots (Some deed) s (rw (r, o));
   as_many = same_many old.chairs seat next;
   empty = empty-open (old.deeds ++ deed ∷ []) (slice_set old.chairs seat next);
@@ -210,13 +204,8 @@ pub is_said-lawful : (setting : Setting) (old : After) (author seat : ℕ) (answ
     → CanGoOn setting (own_part setting old (Said author seat answer)) → is_window_closed slots ≡ true → AllLawful setting.rules old.deeds (answers_in slots)
 is_said-lawful setting old author seat answer chair next verdict slots s going ready = (is_said-goes setting old author seat answer chair next verdict slots s going).ready ready
 
--- The window closes, and what comes next isn't built.
-pub unbuilt-deed : (setting : Setting) (old : After) (author seat : ℕ) (answer : Answer) (chair next : Chair) (verdict : Verdict) (slots : Four (Option Answer)) → IsSaid setting old seat answer chair next verdict slots
-    → is_window_closed slots ≡ true → outcome setting.rules setting.walls old.deeds (answers_in slots) ≡ None → is_answer_built setting old author seat answer ≡ false
-unbuilt-deed setting old author seat answer chair next verdict slots s r o = is_said-built setting old author seat answer chair next verdict slots false s (rw (r, o))
-
 -- The seat may not get this verdict.
 pub unbuilt-verdict : (setting : Setting) (old : After) (author seat : ℕ) (answer : Answer) (chair : Chair) (verdict : Verdict) → slice_get old.chairs seat ≡ Some chair → verdict ≡ verdict_on setting.rules old.deeds seat answer chair.progress → is_verdict_built chair.progress.refused verdict ≡ false
     → is_answer_built setting old author seat answer ≡ false
 unfolding is_answer_built
-unbuilt-verdict setting old author seat answer chair verdict held judged may = rw (after_said-built setting.rules old seat answer chair verdict false held judged may)
+unbuilt-verdict setting old author seat answer chair verdict held judged may = after_said-built setting.rules old seat answer chair verdict false held judged may

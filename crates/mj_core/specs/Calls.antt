@@ -8,7 +8,6 @@ use Rattle.mj_ports.specs.declared.sitting.JoinLine.{JoinLine}
 use Rattle.mj_ports.specs.declared.sitting.SitRefused.{SitRefused}
 use Rattle.mj_ports.specs.declared.sitting.SitRefused.TheVariants.{Full, NameTaken, BadName}
 use Rattle.mj_deeds.specs.declared.answer.Answer.{Answer}
-use Rattle.mj_protocol.specs.AnswerForms.{answer_of, names_later_type}
 use Rattle.mj_protocol.specs.After.{After, Chair, Verdict, Taken, Late, Refused, after, verdict_on, pending, lines_for}
 use Rattle.mj_protocol.specs.Trace.{Game, has_name, can_sit, may_say, is_answer_built}
 use Rattle.mj_core.specs.declared.answers.SitAnswer.{SitAnswer}
@@ -52,27 +51,17 @@ verdict_at game seat answer =
     option_map (λ (chair : Chair). verdict_on game.setting.rules (after_of game).deeds seat answer chair.progress)
     (slice_get (after_of game).chairs seat)
 
--- What a line answers, where it names no answer that is not built.
-abbrev pub plain_answer : List ℕ → Option Answer
-plain_answer text = if names_later_type text then None else Some (answer_of text)
-
--- What a line of a seat leads to is built.
-abbrev pub is_built : Game → ℕ → ℕ → Option Answer → Bool
-is_built game author seat None = false
-is_built game author seat (Some answer) = is_answer_built game.setting (after_of game) author seat answer
-
 -- An answer is entered, and has this verdict.
-abbrev pub Answers : Option Answer → Game → Game → ℕ → ℕ → Verdict → Type 0
-Answers None old new author seat verdict = ⊥
-Answers (Some answer) old new author seat verdict =
+abbrev pub Answers : Answer → Game → Game → ℕ → ℕ → Verdict → Type 0
+Answers answer old new author seat verdict =
     (is_answer_built old.setting (after_of old) author seat answer ≡ true) × (verdict_at old seat answer ≡ Some verdict) × Enters old new (Said author seat answer)
 
 -- What the answer to a line of a seat says; one that leads to what is not built changes nothing.
-abbrev pub IsHeard : Heard → Game → Game → ℕ → ℕ → Option Answer → Type 0
+abbrev pub IsHeard : Heard → Game → Game → ℕ → ℕ → Answer → Type 0
 IsHeard heard.Taken old new author seat answer = Answers answer old new author seat Taken
 IsHeard heard.Late old new author seat answer = Answers answer old new author seat Late
 IsHeard (heard.Refused rule) old new author seat answer = Answers answer old new author seat (Refused rule)
-IsHeard heard.NotBuilt old new author seat answer = (is_built old author seat answer ≡ false) × (new ≡ old)
+IsHeard heard.NotBuilt old new author seat answer = (is_answer_built old.setting (after_of old) author seat answer ≡ false) × (new ≡ old)
 IsHeard heard.NoMemory old new author seat answer = new ≡ old
 
 -- A seat is held.

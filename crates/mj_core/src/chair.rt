@@ -1,4 +1,4 @@
-ghost use Rattle.std.specs.Prelude.{◌≡◌, ◌==◌, ◌<◌, ℕ, List, true, length};
+ghost use Rattle.std.specs.Prelude.{◌≡◌, ◌==◌, ◌<◌, ◌≤◌, ℕ, List, true, length};
 ghost use Rattle.mj_protocol.specs.After.{first_progress, progress_after, verdict_on};
 ghost use Rattle.mj_protocol.specs.Trace.{has_name, is_verdict_built};
 ghost use Rattle.mj_core.specs.Inner.Untold.{untold_chair};
@@ -104,6 +104,7 @@ impl Chair {
 
     // The verdict on an answer of this seat, where there are so many deeds.
     pub fn verdict(&self, table: &Table, deeds: usize, seat: u8, answer: &Answer) -> Verdict
+        requires seat { seat ≤ 3 }
         requires due { self.now.progress.due < deeds }
         requires many { deeds ≡ length table.now.deeds }
         ensures room { self.now.progress.due < usize.MAX }

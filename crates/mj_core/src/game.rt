@@ -4,9 +4,9 @@ ghost use Rattle.mj_bytes.specs.Adds.{Adds};
 ghost use Rattle.mj_ports.specs.Names.{is_name};
 ghost use Rattle.mj_wall.specs.Places.{is_wall};
 ghost use Rattle.mj_deeds.specs.Answers.{is_in_form};
-ghost use Rattle.mj_protocol.specs.AnswerForms.{join_of};
+ghost use Rattle.mj_protocol.specs.AnswerForms.{answer_of, join_of};
 ghost use Rattle.mj_protocol.specs.Trace.{can_say};
-ghost use Rattle.mj_core.specs.Calls.{IsSitAnswer, IsHeard, plain_answer, after_of, is_held, author_at, may_say_at, pending_at};
+ghost use Rattle.mj_core.specs.Calls.{IsSitAnswer, IsHeard, after_of, is_held, author_at, may_say_at, pending_at};
 ghost use Rattle.mj_core.specs.Inner.Verdicts.{heard_by};
 
 use crate::answers::{Heard, SitAnswer};
@@ -16,7 +16,7 @@ use crate::verdict::Verdict;
 use mj_deeds::{Answer, Viewer};
 use mj_ports::{JoinLine, SitRefused};
 use mj_wall::{Rules, Setting, Wall, Walls};
-use mjai_lines::{read_built, read_join, write};
+use mjai_lines::{read_answer, read_join, write};
 use std::alloc::{AllocError, Global};
 use std::marker::Model;
 
@@ -102,14 +102,13 @@ impl Core {
     }
 
     /// A line of a seat, 0 to 3, which is present by this author and whose due deed exists. The answer that the line reads
-    /// as is entered and judged, unless what it leads to is not built.
+    /// as is entered and judged, unless it would be the sixteenth to be refused to one deed, which is not built.
     pub fn said(&mut self, alloc: Global, author: u8, seat: u8, line: &[u8]) -> Heard
         requires { can_say (after_of self.old) author seat ≡ true }
-        ensures { IsHeard result self.old self.new author seat (plain_answer line.now) }
+        ensures { IsHeard result self.old self.new author seat (answer_of line.now) }
     {
-        match read_built(alloc, line) {
-            Ok(Some(answer)) => self.hear(alloc, author, seat, &answer),
-            Ok(None) => Heard::NotBuilt,
+        match read_answer(alloc, line) {
+            Ok(answer) => self.hear(alloc, author, seat, &answer),
             Err(_) => Heard::NoMemory,
         }
     }
@@ -118,7 +117,7 @@ impl Core {
     fn hear(&mut self, alloc: Global, author: u8, seat: u8, answer: &Answer) -> Heard
         requires may { can_say (after_of self.old) author seat ≡ true }
         requires form { is_in_form answer.now ≡ true }
-        ensures { IsHeard result self.old self.new author seat (Some answer.now) }
+        ensures { IsHeard result self.old self.new author seat answer.now }
     {
         if self.entries.reserve(1).is_err() {
             return Heard::NoMemory;

@@ -1,6 +1,8 @@
-ghost use Rattle.std.specs.Prelude.{◌≡◌, ◌≤◌, ◌<◌, ◌==◌, ◌++◌, ◌∷◌, [], length, slice_get, true, false, OnOk, OnErr, IfOk, option_copied};
+ghost use Rattle.std.specs.Prelude.{◌≡◌, ◌≤◌, ◌<◌, ◌==◌, ◌++◌, ◌∷◌, ◌&&◌, [], length, slice_get, true, false, not, if◌then◌else◌, Some, None, OnOk, OnErr, IfOk, option_copied};
 ghost use Rattle.std.specs.List.{list_any};
-ghost use Rattle.mj_protocol.specs.After.{before_all, names_of, name_at};
+ghost use Rattle.mj_deeds.specs.Facts.{newest};
+ghost use Rattle.mj_rules.specs.Outcome.{goes_on};
+ghost use Rattle.mj_protocol.specs.After.{before_all, names_of, name_at, is_window_closed, answers_in};
 ghost use Rattle.mj_protocol.specs.Trace.{has_name};
 ghost use Rattle.mj_core.specs.Inner.States.{TakesNext, is_due, CanHear, IsStateHeard};
 
@@ -115,7 +117,7 @@ impl State {
         Ok(())
     }
 
-    // A held seat answers its due deed; None where what that leads to isn't built.
+    // A held seat answers its due deed; None where that would be the sixteenth refusal to one deed, which isn't built.
     pub fn hear(
         &mut self,
         alloc: Global,
@@ -137,21 +139,37 @@ impl State {
         }
         chair.go_on(&verdict);
         let window = slots_after(&self.window, &verdict, seat, answer);
-        let Some(answers) = answers_in(&window) else {
+        let Some(answers) = self.closing(&window) else {
             self.chairs[place] = chair;
             self.window = window;
             return Ok(Some(verdict));
         };
-        match next(alloc, &mut self.table, setting.walls.as_slice(), &answers) {
-            Err(error) => Err(error),
-            Ok(None) => Ok(None),
-            Ok(Some(deed)) => {
-                self.chairs[place] = chair;
-                self.deeds.push_reserved(deed);
-                self.window = Window::new();
-                Ok(Some(verdict))
-            }
+        let deed = next(alloc, &mut self.table, setting.walls.as_slice(), &answers)?;
+        self.chairs[place] = chair;
+        self.deeds.push_reserved(deed);
+        self.window = Window::new();
+        Ok(Some(verdict))
+    }
+
+    // The four answers that close the window, once all have come; the window on the end of the game never closes.
+    fn closing(&self, window: &Window) -> Option<Four<Answer>>
+        ensures { result ≡ (if goes_on (newest self.now.now.deeds) && is_window_closed window.now
+            then Some (answers_in window.now) else None) }
+    {
+        if self.is_over() {
+            return None;
         }
+        answers_in(window)
+    }
+
+    // There is no deed yet, or the game has ended.
+    fn is_over(&self) -> bool
+        ensures { result ≡ not (goes_on (newest self.now.now.deeds)) }
+    {
+        matches!(
+            self.deeds.as_slice().last(),
+            None | Some(Deed::EndGame { .. })
+        )
     }
 }
 

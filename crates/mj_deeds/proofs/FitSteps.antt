@@ -10,7 +10,10 @@ use Rattle.mj_tiles.specs.Counts.{number_of, has_no_fifth}
 use Rattle.mj_tiles.proofs.CountSteps.{number_of-append}
 use Rattle.mj_tiles.proofs.EachKind.{all_kinds-pass, all_kinds-fail}
 use Rattle.mj_deeds.specs.Facts.{of_seat}
-use Rattle.mj_deeds.specs.Fits.{are_held}
+use Rattle.mj_deeds.specs.declared.deed.Deed.{Deed}
+use Rattle.mj_deeds.specs.declared.deed.Deed.TheVariants.{StartHand}
+use Rattle.mj_deeds.specs.Hand.{is_hand_start}
+use Rattle.mj_deeds.specs.Fits.{Ground, is_in_place, starts_hand, are_held}
 
 -- Each kind stands at most four times.
 pub no_fifth : (tiles : List ℕ) → ((k : ℕ) → k < 34 → number_of tiles k ≤ 4) → has_no_fifth tiles ≡ true
@@ -74,3 +77,8 @@ held_no_more got gone tiles i face held among h is few what much less =
   where
     over : (a g held among n : ℕ) → a ≤ n → n ≤ 4 → held ≡ min g 4 → among ≡ a → held < among → leb a g ≡ false
     over a g held among n k l e f h = let more : g < a = omega (arith, k, l, e, f, h) in grind (arith, nat_tests, more)
+
+-- The place of a start of a hand.
+pub place_start : (past : Ground) (d : Deed) (starts : Bool) → is_hand_start d ≡ true → starts ≡ starts_hand past d → starts ≡ is_in_place past d
+place_start past (StartHand round number honba deposits dealer indicator hands) starts h e = e
+place_start past other starts h e = cc

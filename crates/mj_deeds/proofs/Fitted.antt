@@ -1,6 +1,6 @@
 -- What is true of deeds each of which fits behind those before it.
-use Rattle.std.proofs.Common.{◌≡◌, ℕ, zero, suc, ◌+◌, ◌<◌, ◌≤◌, ◌⊎◌, inl, inr, List, [], ◌∷◌, ◌++◌, length, cond, leb, true, false, Bool, ◌&&◌, ◌||◌, not, refl, sym, ap, ◌∙◌, subst, arith, append-nil, append_assoc}
-use Rattle.std.specs.Prelude.{Option, Some, None, flat_map, nat_lt, ◌==◌}
+use Rattle.std.proofs.Common.{◌≡◌, ℕ, zero, suc, ◌+◌, ◌<◌, ◌≤◌, ◌⊎◌, inl, inr, List, [], ◌∷◌, ◌++◌, length, cond, leb, true, false, Bool, ◌&&◌, not, refl, sym, ap, ◌∙◌, subst, arith, append-nil, append_assoc}
+use Rattle.std.specs.Prelude.{Option, Some, None, flat_map, nat_lt}
 use Rattle.std.specs.List.{list_all}
 use Rattle.std.proofs.lemmas.Bool.{and_parts, and_from, ltb-true, leb-true, cases_lt, ne_eqb}
 use Rattle.std.proofs.lemmas.List.{length-append, length-map}
@@ -10,12 +10,13 @@ use Rattle.mj_tiles.specs.Counts.{number_of, has_no_fifth}
 use Rattle.mj_tiles.proofs.EachKind.{each_kind}
 use Rattle.mj_tiles.specs.declared.meld.Meld.{Meld}
 use Rattle.mj_deeds.specs.declared.deed.Deed.{Deed}
-use Rattle.mj_deeds.specs.declared.deed.Deed.TheVariants.{StartGame, StartHand, Draw, Discard, Chi, Pon, OpenKan, ClosedKan, AddedKan, Dora}
+use Rattle.mj_deeds.specs.declared.deed.Deed.TheVariants.{StartGame, StartHand, Draw, Discard, Chi, Pon, OpenKan, ClosedKan, AddedKan, Dora, Reach, ReachAccepted, Win, DrawnHand, EndHand, EndGame}
 use Rattle.mj_deeds.specs.Facts.{newest, of_seat, makes_by, seat_melds, is_kan, kans}
-use Rattle.mj_deeds.specs.Fits.{fits, fits_in, fits_behind, all_fit, is_in_place, is_in_hand, is_after_start, is_after_dora, is_after_kan, is_discard_of, has_seats, has_held, has_triplet, has_tiles, brought_by, keeps_kinds, has_room, has_room_for, has_live}
-use Rattle.mj_deeds.specs.Hand.{is_hand_start, hand, before_in, starts}
+use Rattle.mj_deeds.specs.Fits.{Ground, ground_of, fits, fits_in, fits_behind, all_fit, is_in_place, is_in_hand, is_after_start, is_after_dora, is_after_kan, is_after_result, is_after_hand, taken_from, is_discard_of, has_seats, has_held, has_triplet, has_tiles, brought_by, keeps_kinds, has_room, has_room_for, has_live, is_first_riichi, has_points}
+use Rattle.mj_deeds.specs.Points.{points}
+use Rattle.mj_deeds.specs.Hand.{is_hand_start, hand, before_in}
 use Rattle.mj_deeds.proofs.Newest.{newest_more}
-use Rattle.mj_deeds.proofs.Hands.{behind, hand_more, hand_with, hand_before, starts_more}
+use Rattle.mj_deeds.proofs.HandSteps.{behind, hand_more, hand_with, hand_before}
 
 -- One deed further.
 pub all_fit-append : (red : Bool) (before ds : List Deed) (d : Deed) → all_fit red before ds ≡ true → fits red (before ++ ds) d ≡ true → all_fit red before (ds ++ d ∷ []) ≡ true
@@ -26,7 +27,7 @@ all_fit-append red before (x ∷ ds) d h k =
     (all_fit-append red (before ++ x ∷ []) ds d parts.1 (subst (λ (xs : List Deed). fits red xs d ≡ true) (sym (append_assoc before (x ∷ []) ds)) k))
 
 -- What each deed that fits keeps is true of all.
-kept : (P : List Deed → Type 0) (red : Bool) (before ds : List Deed) → ((xs : List Deed) (d : Deed) → P xs → fits red xs d ≡ true → P (xs ++ d ∷ [])) →
+pub kept : (P : List Deed → Type 0) (red : Bool) (before ds : List Deed) → ((xs : List Deed) (d : Deed) → P xs → fits red xs d ≡ true → P (xs ++ d ∷ [])) →
     P before → all_fit red before ds ≡ true → P (before ++ ds)
 kept P red before [] step h fit = subst P (sym (append-nil before)) h
 kept P red before (d ∷ ds) step h fit =
@@ -42,31 +43,35 @@ pub record Parts (red : Bool) (ds : List Deed) (d : Deed) : Type 0 where
   pub kinds : keeps_kinds ds d ≡ true
   pub room : has_room ds d ≡ true
   pub live : has_live ds d ≡ true
+  pub once : is_first_riichi ds d ≡ true
 
 parts_in : (red : Bool) (ds : List Deed) (d : Deed) → fits_in red ds d ≡ true → Parts red ds d
 unfolding fits_in
 parts_in red ds d h =
-    let p6 = and_parts _ _ h in
+    let p7 = and_parts _ _ h in
+    let p6 = and_parts _ _ p7.0 in
     let p5 = and_parts _ _ p6.0 in
     let p4 = and_parts _ _ p5.0 in
     let p3 = and_parts _ _ p4.0 in
     let p2 = and_parts _ _ p3.0 in
     let p1 = and_parts _ _ p2.0 in
-    record { seats = p1.0; held = p1.1; triplet = p2.1; tiles = p3.1; kinds = p4.1; room = p5.1; live = p6.1 }
+    record { seats = p1.0; held = p1.1; triplet = p2.1; tiles = p3.1; kinds = p4.1; room = p5.1; live = p6.1; once = p7.1 }
 
--- Of a deed that fits: its place, and its parts in its hand.
+-- Of a deed that fits: its place, its parts in its hand, and its points.
 pub record Placed (red : Bool) (ds : List Deed) (d : Deed) : Type 0 where
-  pub place : is_in_place (newest ds) d ≡ true
+  pub place : is_in_place (ground_of ds) d ≡ true
   pub inside : Parts red (before_in (hand ds) d) d
+  pub pointed : has_points (points ds) d ≡ true
 
 pub parts_of : (red : Bool) (ds : List Deed) (d : Deed) → fits red ds d ≡ true → Placed red ds d
-unfolding fits_behind
+unfolding fits_behind ground_of
 parts_of red ds d h =
     let p = and_parts _ _ h in
-    record { place = p.0; inside = parts_in red (before_in (hand ds) d) d p.1 }
+    let q = and_parts _ _ p.0 in
+    record { place = q.0; inside = parts_in red (before_in (hand ds) d) d q.1; pointed = p.1 }
 
 -- What each deed that fits in its hand keeps is true of the newest hand.
-kept_in_hand : (P : List Deed → Type 0) (red : Bool) (ds : List Deed) → ((h : List Deed) (d : Deed) → P h → Parts red h d → P (h ++ d ∷ [])) →
+pub kept_in_hand : (P : List Deed → Type 0) (red : Bool) (ds : List Deed) → ((h : List Deed) (d : Deed) → P h → Parts red h d → P (h ++ d ∷ [])) →
     P [] → all_fit red [] ds ≡ true → P (hand ds)
 unfolding hand
 kept_in_hand P red ds step none fit = kept (λ xs. P (hand xs)) red [] ds more none fit
@@ -161,95 +166,83 @@ pub four_of_kind : (red : Bool) (ds : List Deed) (kind : ℕ) → kind < 34 → 
 four_of_kind red ds kind small fit =
     kept_in_hand (λ xs. number_of (flat_map brought_by xs) kind ≤ 4) red ds (λ xs d h p. kind_at (flat_map brought_by (xs ++ d ∷ [])) kind small p.kinds) (omega arith) fit
 
--- one hand
+-- behind a start of the game
 
-abbrev pub begun : Option Deed → ℕ
-begun before = cond (is_in_hand before) 1 0
+-- The newest deed stands behind the start of the game.
+abbrev pub is_past_start : Option Deed → Bool
+is_past_start None = false
+is_past_start (Some (StartGame names)) = false
+is_past_start (Some other) = true
 
-not_begun : (before : Option Deed) → is_after_start before ≡ true → begun before ≡ 0
-not_begun None h = cc
-not_begun (Some (StartGame names)) h = refl
-not_begun (Some other) h = cc
+pub in_hand_past : (newest : Option Deed) → is_in_hand newest ≡ true → is_past_start newest ≡ true
+in_hand_past None h = cc
+in_hand_past (Some (StartGame names)) h = cc
+in_hand_past (Some other) h = refl
 
-game_begins : (a b : Bool) → not (a || b) ≡ true → ◌≡◌ {A = ℕ} (cond a 1 0) 0
-game_begins true b h = cc
-game_begins false b h = refl
+result_past : (newest : Option Deed) → is_after_result newest ≡ true → is_past_start newest ≡ true
+result_past None h = cc
+result_past (Some (StartGame names)) h = cc
+result_past (Some other) h = refl
 
-begun_within : (before : Option Deed) → begun before ≤ 1
-begun_within before = within (is_in_hand before)
-  where
-    within : (b : Bool) → cond b 1 0 ≤ 1
-    within true = omega arith
-    within false = omega arith
+pub after_past : (newest : Option Deed) → is_after_hand newest ≡ true → is_past_start newest ≡ true
+after_past None h = cc
+after_past (Some (StartGame names)) h = cc
+after_past (Some other) h = refl
 
--- By how much a deed starts hands, and whether one is under way then.
-hand_step : (ds : List Deed) (d : Deed) → is_in_place (newest ds) d ≡ true → length (starts ds) ≤ begun (newest ds) → length (starts ds) + cond (is_hand_start d) 1 0 ≤ begun (Some d)
-hand_step ds (StartHand round number honba deposits dealer indicator hands) h k =
-    omega (arith, k, not_begun (newest ds) (first_part h))
-  where
-    first_part : (is_after_start (newest ds) && round == 27 && number == 1 && honba == 0 && deposits == 0 && dealer == 0) ≡ true → is_after_start (newest ds) ≡ true
-    first_part h =
-        (and_parts (is_after_start (newest ds)) (round == 27)
-        (and_parts (is_after_start (newest ds) && round == 27) (number == 1)
-        (and_parts (is_after_start (newest ds) && round == 27 && number == 1) (honba == 0)
-        (and_parts (is_after_start (newest ds) && round == 27 && number == 1 && honba == 0) (deposits == 0)
-        (and_parts (is_after_start (newest ds) && round == 27 && number == 1 && honba == 0 && deposits == 0) (dealer == 0) h).0).0).0).0).0
-hand_step ds (StartGame names) h k = omega (arith, k, game_begins (is_in_hand (newest ds)) (is_after_start (newest ds)) h)
-hand_step ds other h k = omega (arith, k, begun_within (newest ds))
+start_not_past : (newest : Option Deed) → is_after_start newest ≡ true → is_past_start newest ≡ false
+start_not_past None h = cc
+start_not_past (Some (StartGame names)) h = refl
+start_not_past (Some other) h = cc
 
--- Of deeds that fit at most one starts a hand, and none before the hand is under way.
-pub few_starts : (red : Bool) (ds : List Deed) → all_fit red [] ds ≡ true → length (starts ds) ≤ begun (newest ds)
-few_starts red ds fit = kept (λ xs. length (starts xs) ≤ begun (newest xs)) red [] ds step (omega arith) fit
-  where
-    step : (xs : List Deed) (d : Deed) → length (starts xs) ≤ begun (newest xs) → fits red xs d ≡ true → length (starts (xs ++ d ∷ [])) ≤ begun (newest (xs ++ d ∷ []))
-    step xs d h f =
-        subst (λ (o : Option Deed). length (starts (xs ++ d ∷ [])) ≤ begun o) (sym (newest_more xs d))
-        (subst (λ (n : ℕ). n ≤ begun (Some d)) (sym (starts_more xs d)) (hand_step xs d (parts_of red xs d f).place h))
-
-pub one_start : (red : Bool) (ds : List Deed) → all_fit red [] ds ≡ true → length (starts ds) ≤ 1
-one_start red ds fit = whole (few_starts red ds fit)
-  where
-    whole : length (starts ds) ≤ begun (newest ds) → length (starts ds) ≤ 1
-    whole h = omega (arith, h, begun_within (newest ds))
-
--- A start of a hand that fits is the first one.
-pub first_start : (red : Bool) (ds : List Deed) (d : Deed) → all_fit red [] ds ≡ true → fits red ds d ≡ true → is_hand_start d ≡ true → length (starts ds) ≡ 0
-first_start red ds d fit one start =
-    none (is_hand_start d) start (hand_step ds d (parts_of red ds d one).place (few_starts red ds fit)) (begun_within (Some d))
-  where
-    none : (b : Bool) → b ≡ true → length (starts ds) + cond b 1 0 ≤ begun (Some d) → begun (Some d) ≤ 1 → length (starts ds) ≡ 0
-    none true e h k = omega (arith, h, k)
-    none false e h k = cc
-
--- a hand is under way
-
-kan_in_hand : (before : Option Deed) → is_after_kan before ≡ true → is_in_hand before ≡ true
+kan_in_hand : (newest : Option Deed) → is_after_kan newest ≡ true → is_in_hand newest ≡ true
 kan_in_hand None h = cc
-kan_in_hand (Some (StartGame names)) h = cc
-kan_in_hand (Some other) h = refl
+kan_in_hand (Some (OpenKan who target tile a b c)) h = refl
+kan_in_hand (Some (ClosedKan who a b c d)) h = refl
+kan_in_hand (Some (AddedKan who tile a b c)) h = refl
+kan_in_hand (Some other) h = cc
 
-discard_in_hand : (before : Option Deed) (target called : ℕ) → is_discard_of before target called ≡ true → is_in_hand before ≡ true
-discard_in_hand None target called h = cc
-discard_in_hand (Some (StartGame names)) target called h = cc
-discard_in_hand (Some other) target called h = refl
+taken_in_hand : (hand : List Deed) (newest : Option Deed) (target called : ℕ) → is_discard_of (taken_from hand newest) target called ≡ true → is_in_hand newest ≡ true
+taken_in_hand hand None target called h = cc
+taken_in_hand hand (Some (Discard who tile drawn)) target called h = refl
+taken_in_hand hand (Some (ReachAccepted who points bid)) target called h = refl
+taken_in_hand hand (Some other) target called h = cc
 
--- Every deed in its place that starts neither a game nor a hand stands behind one of a hand.
-pub in_hand_before : (before : Option Deed) (d : Deed) → is_in_place before d ≡ true → is_hand_start d ≡ false → is_in_hand (Some d) ≡ true → is_in_hand before ≡ true
-in_hand_before before (StartGame names) h k l = cc
-in_hand_before before (StartHand round number honba deposits dealer indicator hands) h k l = cc
-in_hand_before before (Draw who tile true) h k l = (and_parts (is_in_hand before) (is_after_dora before) h).0
-in_hand_before before (Draw who tile false) h k l = (and_parts (is_in_hand before) (not (is_after_dora before)) h).0
-in_hand_before before (Discard who tile drawn) h k l = h
-in_hand_before before (Chi who target tile a b) h k l = discard_in_hand before target tile h
-in_hand_before before (Pon who target tile a b) h k l = discard_in_hand before target tile h
-in_hand_before before (OpenKan who target tile a b c) h k l = discard_in_hand before target tile h
-in_hand_before before (ClosedKan who a b c d) h k l = h
-in_hand_before before (AddedKan who tile a b c) h k l = h
-in_hand_before before (Dora tile) h k l = kan_in_hand before h
+-- Every deed of a hand in its place, other than its start, stands behind one of a hand.
+pub in_hand_before : (past : Ground) (d : Deed) → is_in_place past d ≡ true → is_hand_start d ≡ false → is_in_hand (Some d) ≡ true → is_in_hand past.newest ≡ true
+in_hand_before past (StartGame names) h k l = cc
+in_hand_before past (StartHand round number honba deposits dealer indicator hands) h k l = cc
+in_hand_before past (Draw who tile true) h k l = (and_parts (is_in_hand past.newest) (is_after_dora past.newest) h).0
+in_hand_before past (Draw who tile false) h k l = (and_parts (is_in_hand past.newest) (not (is_after_dora past.newest)) h).0
+in_hand_before past (Discard who tile drawn) h k l = h
+in_hand_before past (Chi who target tile a b) h k l = taken_in_hand past.hand past.newest target tile h
+in_hand_before past (Pon who target tile a b) h k l = taken_in_hand past.hand past.newest target tile h
+in_hand_before past (OpenKan who target tile a b c) h k l = taken_in_hand past.hand past.newest target tile h
+in_hand_before past (ClosedKan who a b c d) h k l = h
+in_hand_before past (AddedKan who tile a b c) h k l = h
+in_hand_before past (Dora tile) h k l = kan_in_hand past.newest h
+in_hand_before past (Reach who) h k l = h
+in_hand_before past (ReachAccepted who points bid) h k l = h
+in_hand_before past (Win who target tile unders hand yaku fu han value deltas points rest) h k l = h
+in_hand_before past (DrawnHand reason hands ready deltas points) h k l = h
+in_hand_before past EndHand h k l = cc
+in_hand_before past (EndGame points deposits) h k l = cc
 
--- Behind a deed of a hand there are deeds of a hand.
-pub hand_begun : (red : Bool) (ds : List Deed) → all_fit red [] ds ≡ true → is_in_hand (newest ds) ≡ true → hand ds ≡ [] → ⊥
-hand_begun red ds fit = kept (λ xs. is_in_hand (newest xs) ≡ true → hand xs ≡ [] → ⊥) red [] ds step (λ h k. no h) fit
+-- Every deed in its place that starts neither a game nor a hand stands behind a start of the game.
+pub past_before : (past : Ground) (d : Deed) → is_in_place past d ≡ true → is_hand_start d ≡ false → is_past_start (Some d) ≡ true → is_past_start past.newest ≡ true
+past_before past (StartGame names) h k l = cc
+past_before past (StartHand round number honba deposits dealer indicator hands) h k l = cc
+past_before past EndHand h k l = result_past past.newest h
+past_before past (EndGame points deposits) h k l = after_past past.newest h
+past_before past other h k l = in_hand_past past.newest (in_hand_before past other h refl refl)
+
+-- The same of the deeds of a game.
+pub past_of : (ds : List Deed) (d : Deed) → is_in_place (ground_of ds) d ≡ true → is_hand_start d ≡ false → is_past_start (Some d) ≡ true → is_past_start (newest ds) ≡ true
+unfolding ground_of
+past_of ds d h k l = past_before (ground_of ds) d h k l
+
+-- Behind the start of the game there are deeds of a hand.
+pub some_hand : (red : Bool) (ds : List Deed) → all_fit red [] ds ≡ true → is_past_start (newest ds) ≡ true → hand ds ≡ [] → ⊥
+some_hand red ds fit = kept (λ xs. is_past_start (newest xs) ≡ true → hand xs ≡ [] → ⊥) red [] ds step (λ h k. no h) fit
   where
     no : false ≡ true → ⊥
     no h = cc
@@ -262,7 +255,11 @@ hand_begun red ds fit = kept (λ xs. is_in_hand (newest xs) ≡ true → hand xs
     empty false d [] h = (refl, refl)
     empty false d (x ∷ xs) h = absurd (some x (xs ++ d ∷ []) h)
 
-    step : (xs : List Deed) (d : Deed) → (is_in_hand (newest xs) ≡ true → hand xs ≡ [] → ⊥) → fits red xs d ≡ true → is_in_hand (newest (xs ++ d ∷ [])) ≡ true → hand (xs ++ d ∷ []) ≡ [] → ⊥
+    step : (xs : List Deed) (d : Deed) → (is_past_start (newest xs) ≡ true → hand xs ≡ [] → ⊥) → fits red xs d ≡ true → is_past_start (newest (xs ++ d ∷ [])) ≡ true → hand (xs ++ d ∷ []) ≡ [] → ⊥
     step xs d old f k e =
         let parts = empty (is_hand_start d) d (hand xs) (sym (hand_more xs d) ∙ e) in
-        old (in_hand_before (newest xs) d (parts_of red xs d f).place parts.0 (ap is_in_hand (sym (newest_more xs d)) ∙ k)) parts.1
+        old (past_of xs d (parts_of red xs d f).place parts.0 (ap is_past_start (sym (newest_more xs d)) ∙ k)) parts.1
+
+-- Behind a deed of a hand there are deeds of a hand.
+pub hand_begun : (red : Bool) (ds : List Deed) → all_fit red [] ds ≡ true → is_in_hand (newest ds) ≡ true → hand ds ≡ [] → ⊥
+hand_begun red ds fit h = some_hand red ds fit (in_hand_past (newest ds) h)

@@ -1,7 +1,12 @@
+pub mod Deposits
 pub mod FitSteps
 pub mod Fitted
-pub mod Hands
+pub mod HandSteps
+pub mod Mapped
+pub mod Masked
 pub mod Newest
 pub mod PointLaws
+pub mod RiichiLaws
+pub mod Standings
 pub mod TileOrder
 pub mod Totals

@@ -1,11 +1,11 @@
 -- Facts that are read off a list of deeds of one hand, the oldest first.
-use Rattle.std.specs.Prelude.{ℕ, ◌-◌, ◌==◌, ◌&&◌, Bool, true, false, not, if◌then◌else◌, List, [], ◌∷◌, length, map, Option, Some, None, slice_get, slice_index, count_by, flat_map, option_and_then}
+use Rattle.std.specs.Prelude.{ℕ, ◌-◌, ◌==◌, ◌&&◌, Bool, true, false, not, if◌then◌else◌, List, [], ◌∷◌, length, map, take, Option, Some, None, slice_get, slice_index, count_by, flat_map, option_and_then}
 use Rattle.mj_tiles.specs.Faces.{less, in_tile_order, kind_of}
 use Rattle.mj_tiles.specs.declared.meld.Meld.{Meld}
 use Rattle.mj_tiles.specs.declared.meld.Form.{Form}
 use Rattle.mj_tiles.specs.declared.meld.Form.TheVariants as forms
 use Rattle.mj_deeds.specs.declared.deed.Deed.{Deed}
-use Rattle.mj_deeds.specs.declared.deed.Deed.TheVariants.{StartHand, Draw, Discard, Chi, Pon, OpenKan, ClosedKan, AddedKan, Dora}
+use Rattle.mj_deeds.specs.declared.deed.Deed.TheVariants.{StartHand, Draw, Discard, Chi, Pon, OpenKan, ClosedKan, AddedKan, Dora, Reach}
 use Rattle.mj_deeds.specs.Four.{at_seat}
 
 -- The newest deed.
@@ -48,6 +48,11 @@ concealed_tiles deeds seat = less (tiles_gained deeds seat) (tiles_lost deeds se
 abbrev pub discards_by : ℕ → Deed → List ℕ
 discards_by seat (Discard who tile drawn) = of_seat seat who (tile ∷ [])
 discards_by seat other = []
+
+-- A deed is a discard of a seat.
+abbrev pub is_discard_by : ℕ → Deed → Bool
+is_discard_by seat (Discard who tile drawn) = who == seat
+is_discard_by seat other = false
 
 -- The river of a seat: all its discards, in order, called ones included.
 abbrev pub river_tiles : List Deed → ℕ → List ℕ
@@ -144,11 +149,21 @@ live_draws deeds = count_by is_live_draw deeds
 abbrev pub live_tiles : List Deed → ℕ
 live_tiles deeds = 70 - live_draws deeds - kans deeds
 
--- The tile that a seat holds as drawn by a deed.
+-- The tile that a seat draws by a deed.
 abbrev pub drawn_by : ℕ → Deed → Option ℕ
 drawn_by seat (Draw who tile replacement) = if who == seat then Some tile else None
 drawn_by seat other = None
 
--- The drawn tile of a seat: that of the newest deed, where it is the seat's draw.
+-- The deed before the newest one.
+abbrev pub before_newest : List Deed → Option Deed
+before_newest deeds = newest (take (length deeds - 1) deeds)
+
+-- The tile that a seat holds as drawn after a deed, the one before it given: the tile of its draw, and after its reach
+-- still that of the draw before.
+abbrev pub holds_drawn : ℕ → Option Deed → Deed → Option ℕ
+holds_drawn seat before (Reach who) = if who == seat then option_and_then (drawn_by seat) before else None
+holds_drawn seat before other = drawn_by seat other
+
+-- The drawn tile of a seat: that of the newest deed, where it is the seat's draw, or its reach after it.
 abbrev pub drawn_tile : List Deed → ℕ → Option ℕ
-drawn_tile deeds seat = option_and_then (drawn_by seat) (newest deeds)
+drawn_tile deeds seat = option_and_then (holds_drawn seat (before_newest deeds)) (newest deeds)

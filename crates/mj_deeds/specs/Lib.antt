@@ -1,6 +1,7 @@
 pub mod Answers
 pub mod Bids
 pub mod Course
+pub mod Ends
 pub mod Facts
 pub mod Firsts
 pub mod Fits
@@ -10,4 +11,7 @@ pub mod Pais
 pub mod Passed
 pub mod Points
 pub mod Reasons
+pub mod Riichi
+pub mod Shown
 pub mod Standings
+pub mod Inner

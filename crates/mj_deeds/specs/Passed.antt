@@ -1,11 +1,12 @@
--- Which kinds a seat discarded itself, and which it let pass since.
-use Rattle.std.specs.Prelude.{ℕ, ◌-◌, ◌==◌, Bool, false, nat_lt, if◌then◌else◌, List, [], ◌∷◌, ◌++◌, length, take, Option, Some, None}
+-- Which kinds a seat discarded itself, and which it let pass since then and since its reach.
+use Rattle.std.specs.Prelude.{ℕ, ◌-◌, ◌==◌, nat_lt, if◌then◌else◌, List, [], ◌∷◌, ◌++◌, length, take, flat_map, Option, Some, None}
 use Rattle.std.specs.List.{list_any}
 use Rattle.mj_tiles.specs.Counts.{number_of}
 use Rattle.mj_tiles.specs.Kinds.{kinds_that}
 use Rattle.mj_deeds.specs.declared.deed.Deed.{Deed}
 use Rattle.mj_deeds.specs.declared.deed.Deed.TheVariants.{Discard, AddedKan}
-use Rattle.mj_deeds.specs.Facts.{newest, river_tiles}
+use Rattle.mj_deeds.specs.Facts.{newest, is_discard_by, river_tiles}
+use Rattle.mj_deeds.specs.Riichi.{is_reach_by, behind_first}
 
 -- The set of the kinds that stand among tiles.
 unfoldable pub kinds_among : List ℕ → ℕ
@@ -14,11 +15,6 @@ kinds_among tiles = kinds_that (λ kind. nat_lt 0 (number_of tiles kind))
 -- The kinds of a seat's discards, called ones included.
 abbrev pub own_kinds : List Deed → ℕ → ℕ
 own_kinds deeds seat = kinds_among (river_tiles deeds seat)
-
--- A deed is a discard of a seat.
-abbrev pub is_discard_by : ℕ → Deed → Bool
-is_discard_by seat (Discard who tile drawn) = who == seat
-is_discard_by seat other = false
 
 -- The tile of a deed that a seat might win on: one that another seat discards, or adds to a triplet.
 abbrev pub offers_to : ℕ → Deed → List ℕ
@@ -43,3 +39,11 @@ passed_tiles deeds seat = passed_before (take (length deeds - 1) deeds) seat (ne
 -- The kinds that a seat let pass since its own last discard, or since the start of the hand where it has none.
 abbrev pub passed_kinds : List Deed → ℕ → ℕ
 passed_kinds deeds seat = kinds_among (passed_tiles deeds seat)
+
+-- The tiles that a seat let pass since its reach: those that were offered to it behind the reach and before the newest deed.
+abbrev pub passed_since_reach : List Deed → ℕ → List ℕ
+passed_since_reach deeds seat = flat_map (offers_to seat) (behind_first (is_reach_by seat) (take (length deeds - 1) deeds))
+
+-- The kinds that a seat let pass since its reach; none of a seat that has not reached.
+abbrev pub passed_in_riichi : List Deed → ℕ → ℕ
+passed_in_riichi deeds seat = kinds_among (passed_since_reach deeds seat)

@@ -1,5 +1,5 @@
 -- For what reason a hand ends without a winner before its live tiles are drawn, where the rules of the game have such draws.
-use Rattle.std.specs.Prelude.{ℕ, ◌==◌, ◌&&◌, Bool, true, false, not, nat_le, if◌then◌else◌, List, [], ◌∷◌, filter, slice_get, Option, Some, None, option_and_then}
+use Rattle.std.specs.Prelude.{ℕ, ◌==◌, ◌&&◌, Bool, true, false, not, nat_le, if◌then◌else◌, List, [], ◌∷◌, filter, count_by, slice_get, Option, Some, None, option_and_then}
 use Rattle.std.specs.List.{list_any}
 use Rattle.mj_tiles.specs.Faces.{kind_of}
 use Rattle.mj_deeds.specs.declared.deed.Deed.{Deed}
@@ -7,6 +7,7 @@ use Rattle.mj_deeds.specs.declared.deed.Deed.TheVariants.{Discard}
 use Rattle.mj_deeds.specs.declared.reason.Reason.{Reason}
 use Rattle.mj_deeds.specs.declared.reason.Reason.TheVariants as reasons
 use Rattle.mj_deeds.specs.Facts.{is_call, kans, kan_seats}
+use Rattle.mj_deeds.specs.Points.{is_deposit}
 
 -- A discard, or a call.
 abbrev pub is_turn : Deed → Bool
@@ -35,6 +36,10 @@ is_one_wind a b c d = false
 abbrev pub are_four_winds : List Deed → Bool
 are_four_winds deeds = is_one_wind (kind_at deeds 0) (kind_at deeds 1) (kind_at deeds 2) (kind_at deeds 3)
 
+-- Four reaches were accepted in the hand.
+abbrev pub are_four_riichis : List Deed → Bool
+are_four_riichis deeds = count_by is_deposit deeds == 4
+
 -- Not all of the seats are one.
 abbrev pub differ : List ℕ → Bool
 differ [] = false
@@ -49,4 +54,5 @@ abbrev pub reason : Bool → List Deed → Option Reason
 reason draws deeds =
     if not draws then None else
     (if are_four_winds deeds then Some reasons.Suufonrenta else
-    (if are_four_kans deeds then Some reasons.Suukaikan else None))
+    (if are_four_riichis deeds then Some reasons.Suuchareach else
+    (if are_four_kans deeds then Some reasons.Suukaikan else None)))

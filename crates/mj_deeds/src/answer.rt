@@ -79,4 +79,18 @@ pub enum Answer {
         b: Pai,
         c: Pai,
     },
+    /// The actor announces riichi, and discards next.
+    Reach {
+        actor: u8,
+    },
+    /// The actor wins on a tile of the target, on its own draw with itself as the target; the tile may be named.
+    Win {
+        actor: u8,
+        target: u8,
+        tile: Option<Pai>,
+    },
+    /// The actor shows nine kinds of terminals and honours.
+    NineKinds {
+        actor: u8,
+    },
 }

@@ -3,8 +3,7 @@ ghost use Rattle.mj_tiles.specs.Counts.{number_of};
 ghost use Rattle.mj_deeds.specs.Fits.{keeps_kinds, brought_by};
 
 use crate::deed::Deed;
-use crate::four::Four;
-use crate::tiles::Tiles;
+use crate::hands::Hands;
 use mj_tiles::Tile;
 
 // Whether no kind is brought in a fifth time.
@@ -55,15 +54,15 @@ fn brought(deed: &Deed, kind: u8) -> usize
     }
 }
 
-fn number_dealt(hands: &Four<Tiles>, kind: u8) -> usize
+fn number_dealt(hands: &Hands, kind: u8) -> usize
     ensures { result ≡ min (number_of
         (hands.now.first ++ hands.now.second ++ hands.now.third ++ hands.now.fourth) kind)
         (2 ^ 64 - 1) }
 {
-    number_of(hands.first.as_slice(), kind)
-        .saturating_add(number_of(hands.second.as_slice(), kind))
-        .saturating_add(number_of(hands.third.as_slice(), kind))
-        .saturating_add(number_of(hands.fourth.as_slice(), kind))
+    number_of(hands.at(0), kind)
+        .saturating_add(number_of(hands.at(1), kind))
+        .saturating_add(number_of(hands.at(2), kind))
+        .saturating_add(number_of(hands.at(3), kind))
 }
 
 // How often a kind stands among the tiles.

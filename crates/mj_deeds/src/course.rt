@@ -8,7 +8,13 @@ pub fn live_drawn(deeds: &[Deed]) -> usize
     ensures value { result ≡ live_draws deeds.now }
     ensures within { result ≤ length deeds.now }
 {
-    deeds.iter().filter(|deed| is_live(deed)).count()
+    let mut number = 0;
+    for deed in deeds {
+        if is_live(deed) {
+            number += 1;
+        }
+    }
+    number
 }
 
 /// How many kans were made in one hand, by all seats.
@@ -16,7 +22,13 @@ pub fn kans(deeds: &[Deed]) -> usize
     ensures value { result ≡ kans deeds.now }
     ensures within { result ≤ length deeds.now }
 {
-    deeds.iter().filter(|deed| is_kan(deed)).count()
+    let mut number = 0;
+    for deed in deeds {
+        if is_kan(deed) {
+            number += 1;
+        }
+    }
+    number
 }
 
 /// How many live tiles are left in one hand: there are 70 when the dealer draws first, and each kan takes one away.

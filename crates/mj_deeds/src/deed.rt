@@ -1,8 +1,14 @@
 ghost use Rattle.std.specs.Prelude.{◌≡◌, IfOk};
 ghost use Rattle.mj_deeds.specs.declared.deed.Deed.TheVariants as deeds;
 
+use crate::bid::Bid;
 use crate::four::Four;
+use crate::hands::Hands;
+use crate::reason::Reason;
+use crate::seat_list::SeatList;
+use crate::shown_hands::ShownHands;
 use crate::tiles::Tiles;
+use crate::yaku_list::YakuList;
 use mj_ports::Name;
 use mj_tiles::{Kind, Tile};
 use std::alloc::AllocError;
@@ -16,7 +22,7 @@ pub enum Viewer {
     Record,
 }
 
-/// One deed of a game. Seats are 0 to 3.
+/// One deed of a game. Seats are 0 to 3; points and deltas stand in order of the seats.
 #[derive(Drop)]
 pub enum Deed {
     /// The game starts, with the names of the four seats.
@@ -32,7 +38,7 @@ pub enum Deed {
         deposits: u32,
         dealer: u8,
         indicator: Tile,
-        hands: Four<Tiles>,
+        hands: Hands,
     },
     /// A seat draws a tile, a live one or a replacement after a kan.
     Draw {
@@ -90,6 +96,51 @@ pub enum Deed {
     /// After a kan the next indicator is shown.
     Dora {
         tile: Tile,
+    },
+    /// A seat announces riichi, and discards next.
+    Reach {
+        seat: u8,
+    },
+    /// Nobody won on the discard of a seat's reach: the seat is in riichi, and has laid down 1,000 points; `points` are
+    /// those after it. `then` is the call of that discard that was bid, and is made next.
+    ReachAccepted {
+        seat: u8,
+        points: [i32; 4],
+        then: Bid,
+    },
+    /// A seat wins on a tile of the target, which is itself where it drew the tile: the hidden indicators of a winner in
+    /// riichi, the concealed tiles without the winning one, the rows of the table of yaku with their numbers, fu and han,
+    /// the value in points without honba and deposits, what each seat gains and the points after it, and the seats that
+    /// win on the same tile after this one.
+    Win {
+        seat: u8,
+        target: u8,
+        tile: Tile,
+        unders: Tiles,
+        hand: Tiles,
+        yaku: YakuList,
+        fu: u8,
+        han: u8,
+        value: u32,
+        deltas: [i32; 4],
+        points: [i32; 4],
+        rest: SeatList,
+    },
+    /// The hand ends without a winner: why, the hands that are shown, which seats are ready, what each seat gains and the
+    /// points after it.
+    DrawnHand {
+        reason: Reason,
+        hands: ShownHands,
+        ready: [bool; 4],
+        deltas: [i32; 4],
+        points: [i32; 4],
+    },
+    /// The hand has ended.
+    EndHand,
+    /// The game has ended, with these points and so many deposits left on the table.
+    EndGame {
+        points: [i32; 4],
+        deposits: u32,
     },
 }
 
@@ -187,6 +238,41 @@ impl Deed {
                 c: *c,
             }),
             Deed::Dora { tile } => Ok(Deed::Dora { tile: *tile }),
+            Deed::Reach { seat } => Ok(Deed::Reach { seat: *seat }),
+            Deed::ReachAccepted { seat, points, then } => Ok(Deed::ReachAccepted {
+                seat: *seat,
+                points: *points,
+                then: *then,
+            }),
+            Deed::Win {
+                seat,
+                target,
+                tile,
+                unders,
+                hand,
+                yaku,
+                fu,
+                han,
+                value,
+                deltas,
+                points,
+                rest,
+            } => win(
+                *seat, *target, *tile, unders, hand, yaku, *fu, *han, *value, *deltas, *points,
+                *rest,
+            ),
+            Deed::DrawnHand {
+                reason,
+                hands,
+                ready,
+                deltas,
+                points,
+            } => drawn_hand(*reason, hands, *ready, *deltas, *points),
+            Deed::EndHand => Ok(Deed::EndHand),
+            Deed::EndGame { points, deposits } => Ok(Deed::EndGame {
+                points: *points,
+                deposits: *deposits,
+            }),
         }
     }
 }
@@ -198,7 +284,7 @@ fn start_hand(
     deposits: u32,
     dealer: u8,
     indicator: Tile,
-    hands: &Four<Tiles>,
+    hands: &Hands,
 ) -> Result<Deed, AllocError>
     ensures { IfOk result (λ d. d ≡ deeds.StartHand round number honba deposits dealer indicator
         hands.now) }
@@ -210,6 +296,57 @@ fn start_hand(
         deposits,
         dealer,
         indicator,
-        hands: hands.clone()?,
+        hands: hands.copy()?,
+    })
+}
+
+fn win(
+    seat: u8,
+    target: u8,
+    tile: Tile,
+    unders: &Tiles,
+    hand: &Tiles,
+    yaku: &YakuList,
+    fu: u8,
+    han: u8,
+    value: u32,
+    deltas: [i32; 4],
+    points: [i32; 4],
+    rest: SeatList,
+) -> Result<Deed, AllocError>
+    ensures { IfOk result (λ d. d ≡ deeds.Win seat target tile unders.now hand.now yaku.now fu han
+        value deltas points rest) }
+{
+    Ok(Deed::Win {
+        seat,
+        target,
+        tile,
+        unders: unders.copy()?,
+        hand: hand.copy()?,
+        yaku: yaku.copy()?,
+        fu,
+        han,
+        value,
+        deltas,
+        points,
+        rest,
+    })
+}
+
+fn drawn_hand(
+    reason: Reason,
+    hands: &ShownHands,
+    ready: [bool; 4],
+    deltas: [i32; 4],
+    points: [i32; 4],
+) -> Result<Deed, AllocError>
+    ensures { IfOk result (λ d. d ≡ deeds.DrawnHand reason hands.now ready deltas points) }
+{
+    Ok(Deed::DrawnHand {
+        reason,
+        hands: hands.copy()?,
+        ready,
+        deltas,
+        points,
     })
 }

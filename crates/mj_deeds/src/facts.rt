@@ -1,10 +1,10 @@
-ghost use Rattle.std.specs.Prelude.{◌≡◌, ◌-◌, ◌*◌, ◌^◌, ◌++◌, ◌≤◌, IfOk, OnOk, min, length, option_to_list};
+ghost use Rattle.std.specs.Prelude.{◌≡◌, ◌-◌, ◌*◌, ◌^◌, ◌++◌, ◌≤◌, IfOk, OnOk, min, length, option_to_list, option_and_then};
 ghost use Rattle.mj_tiles.specs.Faces.{number_in};
 ghost use Rattle.mj_deeds.specs.Facts.{concealed_tiles, river_tiles, tiles_gained, tiles_lost, gains_by, losses_by, discards_by};
 ghost use Rattle.mj_deeds.specs.Four.{at_seat};
 
 use crate::deed::Deed;
-use crate::four::Four;
+use crate::hands::Hands;
 use crate::tiles::{Tiles, less};
 use mj_tiles::{Tile, number_among};
 use std::alloc::{AllocError, Global};
@@ -57,10 +57,10 @@ pub fn discarded_by(deed: &Deed, seat: u8) -> Option<Tile>
 }
 
 // The tiles dealt to a seat.
-fn dealt(hands: &Four<Tiles>, seat: u8) -> &[Tile]
+fn dealt(hands: &Hands, seat: u8) -> &[Tile]
     ensures { result.now ≡ at_seat hands.now seat }
 {
-    hands.at(seat.min(3)).as_slice()
+    hands.at(seat.min(3))
 }
 
 // Adds the tiles that a deed gives to a seat.

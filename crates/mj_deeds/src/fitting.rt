@@ -1,28 +1,53 @@
-ghost use Rattle.std.specs.Prelude.{◌≡◌, ◌≤◌, ◌-◌, ◌++◌, not, length, option_copied};
+ghost use Rattle.std.specs.Prelude.{◌≡◌, ◌≤◌, ◌-◌, ◌++◌, not, length, option_copied, nat_lt};
 ghost use Rattle.std.specs.List.{list_all};
 ghost use Rattle.mj_tiles.specs.Faces.{is_red};
+ghost use Rattle.mj_deeds.specs.Shown.{tiles_shown};
 ghost use Rattle.mj_deeds.specs.Facts.{of_seat, makes_by, seat_melds, tiles_gained, tiles_lost};
-ghost use Rattle.mj_deeds.specs.Fits.{fits_behind, fits_in, is_in_place, is_in_hand, is_after_start, is_after_dora, is_after_kan, is_discard_of, has_seats, has_held, has_held_by, are_held, has_triplet, has_tiles, has_room, has_room_for, has_live};
+ghost use Rattle.mj_deeds.specs.Fits.{fits_behind, fits_in, seats_in, seats_in_bid, faces_in, faces_in_bid, has_seats, has_held, has_held_by, are_held, has_triplet, has_tiles, has_room, has_room_for, has_live, is_first_riichi};
 
+use crate::bid::Bid;
 use crate::bringing::keeps_kinds;
 use crate::course::{is_kan, kans, live_left};
 use crate::deed::Deed;
 use crate::facts::held_count;
-use crate::four::Four;
 use crate::hand::before_in;
+use crate::hands::Hands;
 use crate::meld::{has_triplet, made};
-use crate::tiles::Tiles;
+use crate::placing::is_in_place;
+use crate::points::has_points;
+use crate::riichi::is_in_riichi;
+use crate::shown_hands::ShownHands;
+use mj_rounds::Standing;
 use mj_tiles::{Tile, number_among};
 
-/// Whether a deed fits behind the deeds of a game with red fives or without, of which the newest is given and the deeds of
-/// the newest hand, which are none before the first: it stands in its place, seats are 0 to 3, tiles that are put down are
-/// held, a tile is added to an own pon, there is no red five in a game without them, no fifth tile of a kind, no fifth meld
-/// of a seat, no fifth kan, and a live tile is left for a live draw or a kan.
+/// Whether a deed fits behind the deeds of a game with red fives or without, of which the newest is given, the deeds of
+/// the newest hand, which are none before the first, the standing of that hand, the points of the four seats and the
+/// deposits on the table: it stands in its place, seats are 0 to 3, tiles that are put down are held, a tile is added to an
+/// own pon, there is no red five in a game without them, no fifth tile of a kind, no fifth meld of a seat, no fifth kan,
+/// a live tile is left for a live draw or a kan, a reach is accepted once, and the points are those before the deed,
+/// changed as it says, and at most 100,000,000 above or below zero.
 #[tactic(auto, unfolding(crate::specs::Fits::fits_behind))]
-pub fn fits(red: bool, newest: Option<&Deed>, hand: &[Deed], deed: &Deed) -> bool
-    ensures { result ≡ fits_behind red (option_copied newest.entry) hand.now deed.now }
+pub fn fits(
+    red: bool,
+    newest: Option<&Deed>,
+    hand: &[Deed],
+    standing: &Standing,
+    points: [i32; 4],
+    deposits: u32,
+    deed: &Deed,
+) -> bool
+    ensures { result ≡ fits_behind red
+        (record {
+          newest = option_copied newest.entry;
+          hand = hand.now;
+          standing = standing.now;
+          points = points;
+          deposits = deposits;
+        }) deed.now }
 {
-    is_in_place(newest, deed) && fits_in(red, before_in(hand, deed), deed)
+    is_in_place(newest, hand, standing, deposits, deed)
+        && fits_in(red, before_in(hand, deed), deed)
+        && has_points(points, deed)
 }
 
 // Whether a deed fits behind the deeds before it in its own hand.
@@ -37,84 +62,7 @@ fn fits_in(red: bool, hand: &[Deed], deed: &Deed) -> bool
         && keeps_kinds(hand, deed)
         && has_room(hand, deed)
         && has_live(hand, deed)
-}
-
-// Whether a deed stands in its place behind the newest one.
-fn is_in_place(newest: Option<&Deed>, deed: &Deed) -> bool
-    ensures { result ≡ is_in_place (option_copied newest.entry) deed.now }
-{
-    match deed {
-        Deed::StartGame { .. } => !(is_in_hand(newest) || is_after_start(newest)),
-        Deed::StartHand {
-            round,
-            number,
-            honba,
-            deposits,
-            dealer,
-            ..
-        } => {
-            is_after_start(newest)
-                && round.number() == 27
-                && *number == 1
-                && *honba == 0
-                && *deposits == 0
-                && *dealer == 0
-        }
-        Deed::Draw { replacement, .. } if *replacement => {
-            is_in_hand(newest) && is_after_dora(newest)
-        }
-        Deed::Draw { .. } => is_in_hand(newest) && !is_after_dora(newest),
-        Deed::Discard { .. } => is_in_hand(newest),
-        Deed::Chi { target, tile, .. } => is_discard_of(newest, *target, *tile),
-        Deed::Pon { target, tile, .. } => is_discard_of(newest, *target, *tile),
-        Deed::OpenKan { target, tile, .. } => is_discard_of(newest, *target, *tile),
-        Deed::ClosedKan { .. } => is_in_hand(newest),
-        Deed::AddedKan { .. } => is_in_hand(newest),
-        Deed::Dora { .. } => is_after_kan(newest),
-    }
-}
-
-fn is_in_hand(newest: Option<&Deed>) -> bool
-    ensures { result ≡ is_in_hand (option_copied newest.entry) }
-{
-    match newest {
-        None => false,
-        Some(Deed::StartGame { .. }) => false,
-        Some(_) => true,
-    }
-}
-
-fn is_after_start(newest: Option<&Deed>) -> bool
-    ensures { result ≡ is_after_start (option_copied newest.entry) }
-{
-    matches!(newest, Some(Deed::StartGame { .. }))
-}
-
-fn is_after_dora(newest: Option<&Deed>) -> bool
-    ensures { result ≡ is_after_dora (option_copied newest.entry) }
-{
-    matches!(newest, Some(Deed::Dora { .. }))
-}
-
-fn is_after_kan(newest: Option<&Deed>) -> bool
-    ensures { result ≡ is_after_kan (option_copied newest.entry) }
-{
-    match newest {
-        Some(deed) => is_kan(deed),
-        None => false,
-    }
-}
-
-// Whether the newest deed is the discard of that tile by the target.
-fn is_discard_of(newest: Option<&Deed>, target: u8, called: Tile) -> bool
-    ensures { result ≡ is_discard_of (option_copied newest.entry) target called }
-{
-    match newest {
-        Some(Deed::Discard { seat, tile, .. }) => {
-            *seat == target && tile.face() == called.face()
-        }
-        _ => false,
-    }
+        && is_first_riichi(hand, deed)
 }
 
 // Whether every seat that stands in a deed is 0 to 3.
@@ -132,7 +80,35 @@ fn has_seats(deed: &Deed) -> bool
         Deed::ClosedKan { seat, .. } => *seat < 4,
         Deed::AddedKan { seat, .. } => *seat < 4,
         Deed::Dora { .. } => true,
+        Deed::Reach { seat } => *seat < 4,
+        Deed::ReachAccepted { seat, then, .. } => *seat < 4 && are_seats_of_bid(*then),
+        Deed::Win {
+            seat,
+            target,
+            rest,
+            ..
+        } => *seat < 4 && *target < 4 && are_seats(rest.as_slice()),
+        Deed::DrawnHand { .. } => true,
+        Deed::EndHand => true,
+        Deed::EndGame { .. } => true,
     }
+}
+
+fn are_seats_of_bid(bid: Bid) -> bool
+    ensures { result ≡ list_all (λ seat. nat_lt seat 4) (seats_in_bid bid) }
+{
+    match bid {
+        Bid::NoBid => true,
+        Bid::Chi { seat, target, .. } => seat < 4 && target < 4,
+        Bid::Pon { seat, target, .. } => seat < 4 && target < 4,
+        Bid::OpenKan { seat, target, .. } => seat < 4 && target < 4,
+    }
+}
+
+fn are_seats(seats: &[u8]) -> bool
+    ensures { result ≡ list_all (λ seat. nat_lt seat 4) seats.now }
+{
+    seats.iter().all(|seat| *seat < 4)
 }
 
 // Whether each seat holds the tiles that it puts down.
@@ -254,17 +230,50 @@ fn has_tiles(red: bool, deed: &Deed) -> bool
         Deed::ClosedKan { a, b, c, d, .. } => are_plain(&[*a, *b, *c, *d]),
         Deed::AddedKan { tile, a, b, c, .. } => are_plain(&[*tile, *a, *b, *c]),
         Deed::Dora { tile } => are_plain(&[*tile]),
+        Deed::Reach { .. } => true,
+        Deed::ReachAccepted { then, .. } => is_plain_bid(*then),
+        Deed::Win {
+            tile,
+            unders,
+            hand,
+            ..
+        } => { are_plain(&[*tile]) && are_plain(unders.as_slice()) && are_plain(hand.as_slice()) }
+        Deed::DrawnHand { hands, .. } => are_plain_shown(hands),
+        Deed::EndHand => true,
+        Deed::EndGame { .. } => true,
     }
 }
 
-fn are_plain_hands(hands: &Four<Tiles>) -> bool
+fn is_plain_bid(bid: Bid) -> bool
+    ensures { result ≡ list_all (λ face. not (is_red face)) (faces_in_bid bid) }
+{
+    match bid {
+        Bid::NoBid => true,
+        Bid::Chi { tile, a, b, .. } => are_plain(&[tile, a, b]),
+        Bid::Pon { tile, a, b, .. } => are_plain(&[tile, a, b]),
+        Bid::OpenKan { tile, a, b, c, .. } => are_plain(&[tile, a, b, c]),
+    }
+}
+
+fn are_plain_shown(hands: &ShownHands) -> bool
+    ensures { result ≡ list_all (λ face. not (is_red face))
+        (tiles_shown hands.now.first ++ tiles_shown hands.now.second ++ tiles_shown hands.now.third
+        ++ tiles_shown hands.now.fourth) }
+{
+    are_plain(hands.at(0))
+        && are_plain(hands.at(1))
+        && are_plain(hands.at(2))
+        && are_plain(hands.at(3))
+}
+
+fn are_plain_hands(hands: &Hands) -> bool
     ensures { result ≡ list_all (λ face. not (is_red face))
         (hands.now.first ++ hands.now.second ++ hands.now.third ++ hands.now.fourth) }
 {
-    are_plain(hands.first.as_slice())
-        && are_plain(hands.second.as_slice())
-        && are_plain(hands.third.as_slice())
-        && are_plain(hands.fourth.as_slice())
+    are_plain(hands.at(0))
+        && are_plain(hands.at(1))
+        && are_plain(hands.at(2))
+        && are_plain(hands.at(3))
 }
 
 // Whether there is no red five among the tiles.
@@ -319,5 +328,15 @@ fn has_live(deeds: &[Deed], deed: &Deed) -> bool
     match deed {
         Deed::Draw { replacement, .. } => *replacement || live_left(deeds) > 0,
         _ => !is_kan(deed) || kans(deeds) < 4 && live_left(deeds) > 0,
+    }
+}
+
+// Whether an accepted reach is the first one of its seat.
+fn is_first_riichi(deeds: &[Deed], deed: &Deed) -> bool
+    ensures { result ≡ is_first_riichi deeds.now deed.now }
+{
+    match deed {
+        Deed::ReachAccepted { seat, .. } => !is_in_riichi(deeds, *seat),
+        _ => true,
     }
 }

@@ -1,4 +1,6 @@
 use crate::four::Four;
+use crate::reason::Reason;
+use crate::shown_hands::ShownHands;
 use crate::tiles::Tiles;
 use mj_ports::Name;
 use mj_tiles::Tile;
@@ -62,4 +64,23 @@ pub enum Token {
     Dora {
         tile: Tile,
     },
+    Reach {
+        seat: u8,
+    },
+    ReachAccepted {
+        seat: u8,
+    },
+    Win {
+        seat: u8,
+        target: u8,
+        tile: Tile,
+        unders: Tiles,
+        hand: Tiles,
+    },
+    DrawnHand {
+        reason: Reason,
+        hands: ShownHands,
+    },
+    EndHand,
+    EndGame,
 }

@@ -1,5 +1,5 @@
 -- What one entry more changes of what a seat was told by its own entries.
-use Rattle.std.proofs.Common.{◌≡◌, ◌≢◌, ℕ, zero, suc, ◌==◌, false, List, [], ◌∷◌, ◌++◌, length, refl, ap, sym, ◌∙◌, arith, append-nil}
+use Rattle.std.proofs.Common.{◌≡◌, ◌≢◌, ℕ, ◌==◌, false, List, [], ◌∷◌, ◌++◌, length, refl, ap, sym, ◌∙◌, arith, append-nil}
 use Rattle.std.specs.Prelude.{Option, Some, None, option_map, slice_get, slice_set}
 use Rattle.std.specs.Option.{option_map_or}
 use Rattle.std.proofs.lemmas.Bool.Decides.{eqb_tells, nat_tests}
@@ -120,29 +120,6 @@ pub told-other : (author who seat : ℕ) (answer : Answer) (old new : Game) (cha
 told-other author who seat answer old new chair verdict differs e h v =
     ap (told_at seat) (chairs-enters-said old new author who answer chair verdict e h v)
     ∙ ap (λ (o : Option Chair). option_map_or (λ (c : Chair). c.progress.told) o []) (slice_get-set_other (after_of old).chairs who seat (record chair { progress = progress_after (lines_for who (after_of old).deeds) verdict chair.progress }) differs)
-
-length-set : {A : Type 0} (xs : List A) (i : ℕ) (x : A) → length (slice_set xs i x) ≡ length xs
-length-set [] i x = refl
-length-set (y ∷ ys) zero x = refl
-length-set (y ∷ ys) (suc i) x = ap (λ (n : ℕ). suc n) (length-set ys i x)
-
-held : {A : Type 0} (xs : List A) (i : ℕ) (x : A) → slice_get xs i ≡ Some x → (length xs == 0) ≡ false
-held [] i x h = cc h
-held (y ∷ ys) i x h = grind (arith, nat_tests)
-
--- after an answer seats are held
-pub held-said : (author seat : ℕ) (answer : Answer) (old new : Game) (chair : Chair) (verdict : Verdict) → Enters old new (Said author seat answer) → slice_get (after_of old).chairs seat ≡ Some chair → verdict_at old seat answer ≡ Some verdict →
-    (length (after_of new).chairs == 0) ≡ false
-held-said author seat answer old new chair verdict e h v =
-    ap (λ (chairs : List Chair). length chairs == 0) (chairs-enters-said old new author seat answer chair verdict e h v)
-    ∙ ap (λ (n : ℕ). n == 0) (length-set (after_of old).chairs seat (record chair { progress = progress_after (lines_for seat (after_of old).deeds) verdict chair.progress }))
-    ∙ held (after_of old).chairs seat chair h
-
--- after one has been seated, seats are held
-pub held-sat : (author : ℕ) (name : List ℕ) (key : Option (List ℕ)) (old new : Game) → Enters old new (Sat author name key) → (length (after_of new).chairs == 0) ≡ false
-held-sat author name key old new e =
-    ap (λ (chairs : List Chair). length chairs == 0) (chairs-enters old new (Sat author name key) e ∙ chairs-sat old.setting (after_of old) author name key)
-    ∙ nonempty (after_of old).chairs (new_chair author name key)
 
 -- there are entries
 pub entered : (old new : Game) (entry : Entry Answer) → Enters old new entry → (length new.entries == 0) ≡ false

@@ -1,13 +1,14 @@
 //! The lines of the arrivals, heard one by one, and what they tell one seat.
 
-ghost use Rattle.std.specs.Prelude.{◌≡◌, ◌≤◌, ◌==◌, ℕ, true, false, List, [], ◌∷◌, ◌++◌, length, IfOk, OnOk, Some};
+ghost use Rattle.std.specs.Prelude.{◌≡◌, ◌≤◌, ◌==◌, ◌+◌, ◌&&◌, ℕ, true, false, nat_lt, if◌then◌else◌, None, List, [], ◌∷◌, ◌++◌, length, IfOk, OnOk, Some};
+ghost use Rattle.std.specs.List.{list_all};
 ghost use Rattle.mj_bytes.specs.Adds.{Adds};
 ghost use Rattle.mj_bytes.specs.Parts.{whole_lines, unfinished};
 ghost use Rattle.mj_wall.specs.Places.{is_wall};
-ghost use Rattle.mj_protocol.specs.Arrivals.{Leave, Intake, hear_from, hear_on, header_arrives, nothing_read, at_end, input_of, arrives, behind_header, wall_arrives, sit_arrives, say_arrives};
+ghost use Rattle.mj_protocol.specs.Arrivals.{Leave, form_of, Intake, hear_from, hear_on, header_arrives, nothing_read, at_end, input_of, arrives, behind_header, sit_arrives, say_arrives};
 ghost use Rattle.mj_core.specs.Calls.{may_say_at, author_at, after_of, pending_at};
 ghost use Rattle.mj_front.specs.Referee.{longest, ending};
-ghost use Rattle.mj_front.specs.Inner.Hearing.{intake_of, intake_with_header, intake_with_wall, greeting, InPlay, Does, Stops, HearsAll, Tells};
+ghost use Rattle.mj_front.specs.Inner.Hearing.{intake_of, intake_with_walls, is_wall_form, begin_with_wall, greeting, InPlay, Does, Stops, HearsAll, Tells};
 
 use crate::form::{ArrivalForm, read_form};
 use mj_bytes::{push_all, split_line};
@@ -78,7 +79,7 @@ pub(crate) fn hear(alloc: Global, seat: u8, input: &[u8]) -> Result<Told, AllocE
     }
 }
 
-// Hears what stands behind a header. Red fives are no part of a game yet, and the draw reasons are not built.
+// Hears what stands behind a header. Red fives are no part of a game yet.
 #[tactic(auto, unfolding(mj_protocol::specs::Arrivals::header_arrives))]
 fn hear_header(alloc: Global, seat: u8, rules: Rules, input: &[u8]) -> Result<Told, AllocError>
     requires fits { length input.now ≤ longest }
@@ -92,57 +93,78 @@ fn hear_header(alloc: Global, seat: u8, rules: Rules, input: &[u8]) -> Result<To
     if rules.red {
         return Ok(nothing_told(alloc, End::Bad(1)));
     }
-    if rules.draws {
-        return Ok(nothing_told(alloc, End::NotBuilt(1)));
-    }
     hear_headed(alloc, seat, rules, input)
 }
 
-// Hears all lines behind a header, the first of which is line 2: a wall stands there.
-#[tactic(auto, unfolding(mj_protocol::specs::Arrivals::arrives, mj_protocol::specs::Arrivals::wall_arrives, mj_protocol::specs::Arrivals::sit_arrives, mj_protocol::specs::Arrivals::say_arrives))]
+// Hears all lines behind a header, the first of which is line 2: first its walls stand there.
 fn hear_headed(alloc: Global, seat: u8, rules: Rules, input: &[u8]) -> Result<Told, AllocError>
     requires fits { length input.now ≤ longest }
     requires least { 1 ≤ rules.limit }
     requires longest { rules.limit ≤ 3600000 }
     requires plain { rules.red ≡ false }
     ensures { IfOk result (λ told. Tells
-        (hear_from (intake_with_header rules) 2 (whole_lines input.now) (unfinished input.now)) seat
-        told.end told.bytes.items) }
+        (hear_from (intake_with_walls rules []) 2 (whole_lines input.now) (unfinished input.now))
+        seat told.end told.bytes.items) }
 {
-    let Some((line, others)) = split_line(input) else {
-        return Ok(nothing_told(alloc, end_at(input, 2)));
-    };
-    match read_form(alloc, line)? {
-        ArrivalForm::Wall(tiles) => match Wall::read(tiles.as_slice(), false) {
-            Ok(wall) => hear_walled(alloc, seat, rules, wall, others),
-            Err(_) => Ok(nothing_told(alloc, End::Bad(2))),
-        },
-        _ => Ok(nothing_told(alloc, End::Bad(2))),
+    let mut walls = Vec::new(alloc);
+    let mut rest = input;
+    let mut number = 2;
+    while let Some((line, others)) = split_line(rest) {
+        let ArrivalForm::Wall(tiles) = read_form(alloc, line)? else {
+            return hear_walled(alloc, seat, rules, walls, rest, number);
+        };
+        let Some(wall) = next_wall(walls.len(), tiles.as_slice()) else {
+            return Ok(nothing_told(alloc, End::Bad(number)));
+        };
+        walls.push(wall)?;
+        rest = others;
+        number += 1;
+    }
+    Ok(nothing_told(alloc, end_at(rest, number)))
+}
+
+// The wall of these tiles, behind so many others: 200 at most.
+fn next_wall(before: usize, tiles: &[Tile]) -> Option<Wall>
+    ensures { result ≡ (if is_wall false tiles.now && nat_lt before 200 then Some tiles.now else
+        None) }
+{
+    if before >= 200 {
+        return None;
+    }
+    match Wall::read(tiles, false) {
+        Ok(wall) => Some(wall),
+        Err(_) => None,
     }
 }
 
-// Hears all lines behind a header and a wall, and what is pending for the seat at the end.
+// Hears all lines behind a header and its walls, the first of which is no wall and has this number, and what is pending
+// for the seat at the end.
 fn hear_walled(
     alloc: Global,
     seat: u8,
     rules: Rules,
-    wall: Wall,
+    walls: Vec<Wall>,
     input: &[u8],
+    number: u32,
 ) -> Result<Told, AllocError>
-    requires fits { length input.now ≤ longest }
+    requires fits { number + length input.now ≤ u32.MAX }
     requires least { 1 ≤ rules.limit }
     requires longest { rules.limit ≤ 3600000 }
     requires plain { rules.red ≡ false }
-    requires whole { is_wall false wall ≡ true }
+    requires few { length walls.items ≤ 200 }
+    requires whole { list_all (is_wall false) walls.items ≡ true }
+    requires line { (length (whole_lines input.now) == 0) ≡ false }
+    requires other { begin_with_wall (whole_lines input.now) ≡ false }
     ensures { IfOk result (λ told. Tells
-        (hear_from (intake_with_wall rules wall) 3 (whole_lines input.now) (unfinished input.now))
-        seat told.end told.bytes.items) }
+        (hear_from (intake_with_walls rules walls.items) number (whole_lines input.now)
+        (unfinished input.now)) seat told.end told.bytes.items) }
 {
-    let mut walls = Vec::new(alloc);
-    walls.push(wall)?;
+    if walls.is_empty() {
+        return Ok(nothing_told(alloc, End::Bad(number)));
+    }
     let mut core = Core::new(alloc, walls, rules)?;
     let mut bytes = Vec::new(alloc);
-    let end = hear_lines(alloc, seat, &mut core, &mut bytes, input)?;
+    let end = hear_lines(alloc, seat, &mut core, &mut bytes, input, number)?;
     core.pending(alloc, seat, &mut bytes)?;
     Ok(Told { end, bytes })
 }
@@ -158,22 +180,24 @@ fn end_at(rest: &[u8], number: u32) -> End
     }
 }
 
-// Hears all lines of a game in play, the first of which is line 3.
+// Hears all lines of a game in play, the first of which is no wall and has this number.
 fn hear_lines(
     alloc: Global,
     seat: u8,
     core: &mut Core,
     told: &mut Vec<u8>,
     input: &[u8],
+    first: u32,
 ) -> Result<End, AllocError>
     requires play { InPlay seat core.old told.old.items }
-    requires fits { length input.now ≤ longest }
+    requires fits { first + length input.now ≤ u32.MAX }
+    requires other { begin_with_wall (whole_lines input.now) ≡ false }
     ensures { IfOk result (λ end. HearsAll
-        (hear_from (intake_of core.old) 3 (whole_lines input.now) (unfinished input.now)) seat end
-        core.new told.new.items) }
+        (hear_from (intake_of core.old) first (whole_lines input.now) (unfinished input.now))
+        seat end core.new told.new.items) }
 {
     let mut rest = input;
-    let mut number = 3;
+    let mut number = first;
     while let Some((line, others)) = split_line(rest) {
         match hear_line(alloc, seat, core, told, line)? {
             Step::Leads => {}
@@ -186,8 +210,8 @@ fn hear_lines(
     Ok(end_at(rest, number))
 }
 
-// Hears one line of a game in play.
-#[tactic(auto, unfolding(mj_protocol::specs::Arrivals::arrives))]
+// Hears one line of a game in play; before the first entry it is no wall.
+#[tactic(auto, using(crate::proofs::LineLaws::late_walls), unfolding(mj_protocol::specs::Arrivals::arrives))]
 fn hear_line(
     alloc: Global,
     seat: u8,
@@ -195,34 +219,19 @@ fn hear_line(
     told: &mut Vec<u8>,
     line: &[u8],
 ) -> Result<Step, AllocError>
-    requires { InPlay seat core.old told.old.items }
+    requires play { InPlay seat core.old told.old.items }
+    requires placed { (length core.old.entries == 0 && is_wall_form (form_of line.now)) ≡ false }
     ensures { IfOk result (λ step. Does step seat core.old core.new told.old.items told.new.items
         (arrives (intake_of core.old) line.now)) }
 {
     match read_form(alloc, line)? {
         ArrivalForm::Header(_) => Ok(Step::Bad),
-        ArrivalForm::Wall(tiles) => Ok(second_wall(core, tiles.as_slice())),
+        ArrivalForm::Wall(_) => Ok(Step::Bad),
         ArrivalForm::Sit(line) => sit(alloc, seat, core, told, line),
         ArrivalForm::Say { seat: who, line } => say(alloc, seat, core, told, who, line),
         ArrivalForm::Leave(who) => Ok(leave(core, who)),
         ArrivalForm::Expire { .. } => Ok(Step::NotBuilt),
         ArrivalForm::NoForm => Ok(Step::Bad),
-    }
-}
-
-// A wall behind the first.
-#[tactic(auto, using(crate::proofs::LineLaws::walls))]
-fn second_wall(core: &Core, tiles: &[Tile]) -> Step
-    requires wall { (length core.now.setting.walls == 0) ≡ false }
-    requires begun { (length core.now.entries == 0) ≡ (length (after_of core.now).chairs == 0) }
-    ensures { Stops result (wall_arrives (intake_of core.now) tiles.now) }
-{
-    if core.seats() > 0 {
-        return Step::Bad;
-    }
-    match Wall::read(tiles, false) {
-        Ok(_) => Step::NotBuilt,
-        Err(_) => Step::Bad,
     }
 }
 

@@ -1,3 +1,8 @@
+pub mod Discards
+pub mod Missed
+pub mod Outer
 pub mod Places
 pub mod Pons
 pub mod Swaps
+pub mod Verdicts
+pub mod Wins

@@ -7,8 +7,9 @@ use Rattle.mj_tiles.specs.Kinds.{has_kind, set_of}
 use Rattle.mj_tiles.proofs.KindSets.{has_kind-none, has_kind-with}
 use Rattle.mj_calls.specs.Bans.{banned_kinds, is_banned}
 use Rattle.mj_deeds.specs.declared.deed.Deed.{Deed}
-use Rattle.mj_deeds.specs.declared.deed.Deed.TheVariants.{StartGame, StartHand, Draw, Discard, Chi, Pon, OpenKan, ClosedKan, AddedKan, Dora}
-use Rattle.mj_rules.specs.Broken.{SeatView, held_count, turn_by, banned_in, has_nothing_else}
+use Rattle.mj_deeds.specs.declared.deed.Deed.TheVariants.{Chi, Pon}
+use Rattle.mj_rules.specs.Broken.{banned_in, has_nothing_else}
+use Rattle.mj_rules.specs.View.{SeatView, held_count, turn_by}
 use Rattle.mj_judge.specs.Inner.Free.{is_used_up}
 
 pub swap_of : (kinds : List ℕ) (kind : ℕ) → has_kind (set_of kinds) kind ≡ is_banned kinds kind
@@ -25,13 +26,6 @@ stuck_is view used kinds bans result h k =
     h ∙ ap (λ b. list_all (is_used_up view.tiles_gained view.tiles_lost used b) tile_order) k ∙ nothing_else view used kinds
 
 pub bans_of_turn : (deed : Deed) → banned_in (turn_by deed) ≡ banned_kinds deed
-bans_of_turn (StartGame names) = refl
-bans_of_turn (StartHand round number honba deposits dealer indicator hands) = refl
-bans_of_turn (Draw seat tile replacement) = refl
-bans_of_turn (Discard seat tile drawn) = refl
 bans_of_turn (Chi seat target tile a b) = refl
 bans_of_turn (Pon seat target tile a b) = refl
-bans_of_turn (OpenKan seat target tile a b c) = refl
-bans_of_turn (ClosedKan seat a b c d) = refl
-bans_of_turn (AddedKan seat tile a b c) = refl
-bans_of_turn (Dora tile) = refl
+bans_of_turn other = refl

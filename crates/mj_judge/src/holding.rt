@@ -3,7 +3,8 @@ ghost use Rattle.std.specs.List.{list_any};
 ghost use Rattle.mj_tiles.specs.Faces.{number_in};
 ghost use Rattle.mj_deeds.specs.Facts.{drawn_tile};
 ghost use Rattle.mj_deeds.specs.Pais.{face_in};
-ghost use Rattle.mj_rules.specs.Broken.{view_of, held_count, is_that, is_no_tile, is_no_such_tile, is_not_held, is_wrongly_marked, is_not_drawn};
+ghost use Rattle.mj_rules.specs.Broken.{is_that, is_no_tile, is_no_such_tile, is_not_held, is_wrongly_marked, is_not_drawn};
+ghost use Rattle.mj_rules.specs.View.{view_of, held_count};
 
 use crate::questions::is_tile;
 use mj_deeds::{Answer, Pai};
@@ -54,6 +55,10 @@ fn names_tile_outside(red: bool, answer: &Answer) -> bool
         Answer::OpenKan { tile, a, b, c, .. } => has_no_tile(red, &[*tile, *a, *b, *c]),
         Answer::ClosedKan { a, b, c, d, .. } => has_no_tile(red, &[*a, *b, *c, *d]),
         Answer::AddedKan { tile, a, b, c, .. } => has_no_tile(red, &[*tile, *a, *b, *c]),
+        Answer::Win { tile, .. } => match tile {
+            Some(tile) => is_no_tile(red, tile),
+            None => false,
+        },
         _ => false,
     }
 }
@@ -80,7 +85,7 @@ fn is_no_tile(red: bool, tile: &Pai) -> bool
 }
 
 // Of some face of these tiles there are more than the seat holds.
-#[tactic(auto, unfolding(mj_rules::specs::Broken::view_of))]
+#[tactic(auto, unfolding(mj_rules::specs::View::view_of))]
 fn has_unheld(table: &Table, seat: u8, tiles: &[Pai]) -> bool
     requires { length tiles.now ≤ 4 }
     ensures { let faces = flat_map face_in tiles.now in
@@ -111,7 +116,7 @@ pub(crate) fn number_among(tiles: &[Pai], tile: Tile) -> usize
     number
 }
 
-#[tactic(auto, unfolding(mj_rules::specs::Broken::view_of))]
+#[tactic(auto, unfolding(mj_rules::specs::View::view_of))]
 fn is_wrongly_marked(table: &Table, seat: u8, tile: &Pai, marked: bool) -> bool
     ensures { result ≡ is_wrongly_marked (view_of table.now.deeds seat) tile.now marked }
 {

@@ -1,13 +1,19 @@
-//! Whether an answer of a seat is lawful, or which rule it breaks first, and the answer that stands for a seat which
-//! gives none. No call takes memory.
+//! Whether an answer of a seat is lawful, or which rule it breaks first, the answer that stands for a seat which gives
+//! none, and the circumstances of a win. No call takes memory.
 #![tactic(auto)]
 
+mod case;
+mod counting;
 mod holding;
+mod nine;
 mod questions;
+mod riichi;
 mod sets;
 mod swap;
 mod unanswered;
 mod verdict;
+mod winning;
 
+pub use case::case_of;
 pub use unanswered::default;
 pub use verdict::judge;

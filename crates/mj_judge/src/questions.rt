@@ -1,6 +1,10 @@
-ghost use Rattle.std.specs.Prelude.{◌≡◌, not, option_map};
-ghost use Rattle.mj_deeds.specs.Facts.{newest};
-ghost use Rattle.mj_rules.specs.Broken.{is_unreadable, actor_of, is_another, is_not_yours, is_own_act, is_discard, is_pass, is_pass_or_call, is_open, is_not_now, is_call_answer, is_kan_answer, is_own_kan, view_of, turn_by, turn_in, misses_discard, is_wrong_target, is_tile, is_last_tile, is_before, is_not_left, is_kan_full, is_kan_dry};
+ghost use Rattle.std.specs.Prelude.{◌≡◌, ◌||◌, true, not, option_map, option_copied};
+ghost use Rattle.std.specs.Option.{option_map_or};
+ghost use Rattle.mj_deeds.specs.Facts.{newest, drawn_tile};
+ghost use Rattle.mj_deeds.specs.Hand.{hand};
+ghost use Rattle.mj_deeds.specs.Riichi.{is_in_riichi};
+ghost use Rattle.mj_rules.specs.Broken.{is_unreadable, actor_of, is_another, is_not_yours, is_own_act, is_discard, is_pass, is_win, is_pass_or_call, is_open, is_not_now, is_call_answer, is_kan_answer, is_own_kan, misses_discard, misses_winning, is_other_tile, is_wrong_target, is_tile, is_last_tile, is_before, is_not_left, is_kan_full, is_kan_dry};
+ghost use Rattle.mj_rules.specs.View.{view_of, turn_by, turn_in};
 
 use mj_deeds::{Answer, Deed, Pai, next_seat};
 use mj_table::Table;
@@ -24,34 +28,38 @@ pub(crate) fn is_not_yours(seat: u8, answer: &Answer) -> bool
 }
 
 // Such an answer is not open to the seat in this window.
-#[tactic(auto, unfolding(mj_rules::specs::Broken::view_of))]
+#[tactic(auto, unfolding(mj_rules::specs::View::view_of))]
 pub(crate) fn is_not_now(table: &Table, seat: u8, answer: &Answer) -> bool
-    ensures { result ≡ is_not_now seat (view_of table.now.deeds seat).turn answer.now }
+    ensures { result ≡ is_not_now table.now.rules seat (view_of table.now.deeds seat) answer.now }
 {
     match table.newest() {
-        Some(Deed::Draw { seat: who, .. }) if *who == seat => !is_own_act(answer),
+        Some(Deed::Draw { seat: who, .. }) if *who == seat => !is_own_act(table, seat, answer),
         Some(Deed::Discard { seat: who, .. }) if *who != seat => !is_pass_or_call(answer),
+        Some(Deed::AddedKan { seat: who, .. }) if *who != seat => !is_pass_or_win(answer),
+        Some(Deed::Reach { seat: who }) if *who == seat => !is_discard(answer),
         Some(Deed::Chi { seat: who, .. }) if *who == seat => !is_discard(answer),
         Some(Deed::Pon { seat: who, .. }) if *who == seat => !is_discard(answer),
         _ => !is_pass(answer),
     }
 }
 
-// A call names another than the discarder, or another tile than the one that was discarded.
-#[tactic(auto, unfolding(mj_rules::specs::Broken::view_of))]
+// A call names another than the discarder, or another tile than the one that was discarded; a win another than the
+// seat that gave the tile, or another tile.
+#[tactic(auto, unfolding(mj_rules::specs::View::view_of))]
 pub(crate) fn is_wrong_target(table: &Table, seat: u8, answer: &Answer) -> bool
-    ensures { result ≡ is_wrong_target (view_of table.now.deeds seat).turn answer.now }
+    ensures { result ≡ is_wrong_target seat (view_of table.now.deeds seat) answer.now }
 {
     match answer {
         Answer::Chi { target, tile, .. } => misses_discard(table, *target, tile),
         Answer::Pon { target, tile, .. } => misses_discard(table, *target, tile),
         Answer::OpenKan { target, tile, .. } => misses_discard(table, *target, tile),
+        Answer::Win { target, tile, .. } => misses_winning(table, seat, *target, tile.as_ref()),
         _ => false,
     }
 }
 
 // A discard is called with no live tile left.
-#[tactic(auto, unfolding(mj_rules::specs::Broken::view_of))]
+#[tactic(auto, unfolding(mj_rules::specs::View::view_of))]
 pub(crate) fn is_last_tile(table: &Table, seat: u8, answer: &Answer) -> bool
     ensures { result ≡ is_last_tile (view_of table.now.deeds seat) answer.now }
 {
@@ -59,7 +67,7 @@ pub(crate) fn is_last_tile(table: &Table, seat: u8, answer: &Answer) -> bool
 }
 
 // A run is called from another seat than the one before.
-#[tactic(auto, unfolding(mj_rules::specs::Broken::view_of))]
+#[tactic(auto, unfolding(mj_rules::specs::View::view_of))]
 pub(crate) fn is_not_left(table: &Table, seat: u8, answer: &Answer) -> bool
     ensures { result ≡ is_not_left seat (view_of table.now.deeds seat).turn answer.now }
 {
@@ -70,7 +78,7 @@ pub(crate) fn is_not_left(table: &Table, seat: u8, answer: &Answer) -> bool
 }
 
 // A kan where four stand already.
-#[tactic(auto, unfolding(mj_rules::specs::Broken::view_of))]
+#[tactic(auto, unfolding(mj_rules::specs::View::view_of))]
 pub(crate) fn is_kan_full(table: &Table, seat: u8, answer: &Answer) -> bool
     ensures { result ≡ is_kan_full (view_of table.now.deeds seat) answer.now }
 {
@@ -78,7 +86,7 @@ pub(crate) fn is_kan_full(table: &Table, seat: u8, answer: &Answer) -> bool
 }
 
 // A kan at one's own draw with no live tile left.
-#[tactic(auto, unfolding(mj_rules::specs::Broken::view_of))]
+#[tactic(auto, unfolding(mj_rules::specs::View::view_of))]
 pub(crate) fn is_kan_dry(table: &Table, seat: u8, answer: &Answer) -> bool
     ensures { result ≡ is_kan_dry (view_of table.now.deeds seat) answer.now }
 {
@@ -108,14 +116,27 @@ fn actor_of(answer: &Answer) -> Option<u8>
         Answer::OpenKan { actor, .. } => Some(*actor),
         Answer::ClosedKan { actor, .. } => Some(*actor),
         Answer::AddedKan { actor, .. } => Some(*actor),
+        Answer::Reach { actor } => Some(*actor),
+        Answer::Win { actor, .. } => Some(*actor),
+        Answer::NineKinds { actor } => Some(*actor),
     }
 }
 
-// Who drew may discard or make a kan.
-fn is_own_act(answer: &Answer) -> bool
-    ensures { result ≡ is_own_act answer.now }
+// Who drew may discard, reach unless it is in riichi already, make a kan, win, and where the rules have draw reasons
+// show nine kinds.
+fn is_own_act(table: &Table, seat: u8, answer: &Answer) -> bool
+    ensures { result ≡ is_own_act table.now.rules (is_in_riichi (hand table.now.deeds) seat)
+        answer.now }
 {
-    is_discard(answer) || is_own_kan(answer)
+    match answer {
+        Answer::Discard { .. } => true,
+        Answer::Reach { .. } => !table.is_in_riichi(seat),
+        Answer::ClosedKan { .. } => true,
+        Answer::AddedKan { .. } => true,
+        Answer::Win { .. } => true,
+        Answer::NineKinds { .. } => table.rules().draws,
+        _ => false,
+    }
 }
 
 fn is_discard(answer: &Answer) -> bool
@@ -130,7 +151,7 @@ fn is_pass(answer: &Answer) -> bool
     matches!(answer, Answer::Pass { .. })
 }
 
-fn is_call_answer(answer: &Answer) -> bool
+pub(crate) fn is_call_answer(answer: &Answer) -> bool
     ensures { result ≡ is_call_answer answer.now }
 {
     matches!(
@@ -139,10 +160,22 @@ fn is_call_answer(answer: &Answer) -> bool
     )
 }
 
+pub(crate) fn is_win(answer: &Answer) -> bool
+    ensures { result ≡ is_win answer.now }
+{
+    matches!(answer, Answer::Win { .. })
+}
+
+fn is_pass_or_win(answer: &Answer) -> bool
+    ensures { result ≡ (is_pass answer.now || is_win answer.now) }
+{
+    is_pass(answer) || is_win(answer)
+}
+
 fn is_pass_or_call(answer: &Answer) -> bool
     ensures { result ≡ is_pass_or_call answer.now }
 {
-    is_pass(answer) || is_call_answer(answer)
+    is_pass_or_win(answer) || is_call_answer(answer)
 }
 
 // A kan of concealed tiles, or by a tile added to a pon.
@@ -172,6 +205,54 @@ fn misses_discard(table: &Table, target: u8, tile: &Pai) -> bool
             },
         ) => !(target == *who && is_tile(*discarded, tile)),
         _ => true,
+    }
+}
+
+// A win in the window on the newest deed names another than the seat that gave the tile, at its own draw another than
+// itself, or another tile.
+fn misses_winning(table: &Table, seat: u8, target: u8, tile: Option<&Pai>) -> bool
+    ensures { result ≡ misses_winning seat (view_of table.now.deeds seat) target
+        (option_copied tile.entry) (turn_in (option_map turn_by (newest table.now.deeds))) }
+{
+    match table.newest() {
+        Some(Deed::Draw { .. }) => target != seat || misses_drawn(table, seat, tile),
+        Some(
+            Deed::Discard {
+                seat: who,
+                tile: given,
+                ..
+            },
+        ) => target != *who || is_other_tile(*given, tile),
+        Some(
+            Deed::AddedKan {
+                seat: who,
+                tile: given,
+                ..
+            },
+        ) => target != *who || is_other_tile(*given, tile),
+        _ => true,
+    }
+}
+
+// The tile is another than the one that the seat has drawn, or it has drawn none.
+fn misses_drawn(table: &Table, seat: u8, tile: Option<&Pai>) -> bool
+    ensures { result ≡ option_map_or
+        (λ drawn. is_other_tile drawn (option_copied tile.entry)) (drawn_tile table.now.deeds seat)
+        true }
+{
+    match table.drawn(seat) {
+        Some(drawn) => is_other_tile(drawn, tile),
+        None => true,
+    }
+}
+
+// A tile is named, and it is another than this one.
+fn is_other_tile(tile: Tile, named: Option<&Pai>) -> bool
+    ensures { result ≡ is_other_tile tile (option_copied named.entry) }
+{
+    match named {
+        Some(pai) => !is_tile(tile, pai),
+        None => false,
     }
 }
 

@@ -2,14 +2,15 @@ ghost use Rattle.std.specs.Prelude.{◌≡◌};
 ghost use Rattle.std.specs.List.{list_any};
 ghost use Rattle.mj_deeds.specs.Facts.{seat_melds};
 ghost use Rattle.mj_deeds.specs.Hand.{hand};
-ghost use Rattle.mj_rules.specs.Broken.{view_of, is_alike, is_known_run, is_own_pon, is_bad_set};
+ghost use Rattle.mj_rules.specs.Broken.{is_alike, is_known_run, is_own_pon, is_bad_set};
+ghost use Rattle.mj_rules.specs.View.{view_of};
 
 use mj_calls::{chi_shape, same_kind};
 use mj_deeds::{Answer, Pai};
 use mj_table::Table;
 
 // The tiles make no such meld; a tile is added to no own pon.
-#[tactic(auto, unfolding(mj_rules::specs::Broken::view_of))]
+#[tactic(auto, unfolding(mj_rules::specs::View::view_of))]
 pub(crate) fn is_bad_set(table: &Table, seat: u8, answer: &Answer) -> bool
     ensures { result ≡ is_bad_set (view_of table.now.deeds seat) answer.now }
 {

@@ -4,7 +4,8 @@ ghost use Rattle.mj_tiles.specs.Faces.{tile_order};
 ghost use Rattle.mj_tiles.specs.Kinds.{set_of};
 ghost use Rattle.mj_deeds.specs.Facts.{newest, tiles_gained, tiles_lost};
 ghost use Rattle.mj_deeds.specs.Pais.{face_in};
-ghost use Rattle.mj_rules.specs.Broken.{view_of, turn_by, turn_in, banned_in, is_swap_call, bans_of_chi, bans_of_pon, is_stuck_call};
+ghost use Rattle.mj_rules.specs.Broken.{banned_in, is_swap_call, bans_of_chi, bans_of_pon, is_stuck_call};
+ghost use Rattle.mj_rules.specs.View.{view_of, turn_by, turn_in};
 ghost use Rattle.mj_deeds.specs.Hand.{hand};
 ghost use Rattle.mj_judge.specs.Inner.Free.{is_used_up};
 
@@ -15,7 +16,7 @@ use mj_table::Table;
 use mj_tiles::{Kinds, Tile};
 
 // The discard is of a kind that is banned right after the call that is the newest deed.
-#[tactic(auto, using(crate::proofs::Swaps::swap_of), unfolding(mj_rules::specs::Broken::view_of))]
+#[tactic(auto, using(crate::proofs::Swaps::swap_of), unfolding(mj_rules::specs::View::view_of))]
 pub(crate) fn is_swap_call(table: &Table, seat: u8, answer: &Answer) -> bool
     ensures { result ≡ is_swap_call (view_of table.now.deeds seat).turn answer.now }
 {
@@ -40,7 +41,7 @@ fn newest_bans(table: &Table) -> Kinds
 }
 
 // Every discard after the call would be of a banned kind.
-#[tactic(auto, unfolding(mj_rules::specs::Broken::view_of))]
+#[tactic(auto, unfolding(mj_rules::specs::View::view_of))]
 pub(crate) fn is_stuck_call(table: &Table, seat: u8, answer: &Answer) -> bool
     ensures { result ≡ is_stuck_call (view_of table.now.deeds seat) answer.now }
 {

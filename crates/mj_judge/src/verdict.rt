@@ -1,14 +1,21 @@
-ghost use Rattle.std.specs.Prelude.{◌≡◌, if◌then◌else◌, Some, None};
+ghost use Rattle.std.specs.Prelude.{◌≡◌, ◌≤◌, ◌∷◌, [], if◌then◌else◌, Some, None};
 ghost use Rattle.std.specs.Result.{result_err};
-ghost use Rattle.mj_rules.specs.Broken.{broken_rule};
+ghost use Rattle.mj_deeds.specs.declared.rule.Rule.TheVariants as refusal;
+ghost use Rattle.mj_rules.specs.Broken.{broken_rule, first_broken, is_not_complete, is_furiten_win, is_no_yaku, is_not_nine};
+ghost use Rattle.mj_rules.specs.View.{view_of};
 
 use crate::holding::{is_no_such_tile, is_not_drawn, is_not_held};
+use crate::nine::is_not_nine;
 use crate::questions::{
     is_kan_dry, is_kan_full, is_last_tile, is_not_left, is_not_now, is_not_yours, is_unreadable,
     is_wrong_target,
 };
+use crate::riichi::{
+    is_locked, is_reach_late, is_reach_open, is_reach_poor, is_reach_unready, is_riichi_kan_broken,
+};
 use crate::sets::is_bad_set;
 use crate::swap::{is_stuck_call, is_swap_call};
+use crate::winning::judge_win;
 use mj_deeds::{Answer, Rule};
 use mj_table::Table;
 
@@ -16,6 +23,7 @@ use mj_table::Table;
 /// order of refusal that it breaks.
 #[tactic(auto, unfolding(mj_rules::specs::Broken::broken_by))]
 pub fn judge(table: &Table, seat: u8, answer: &Answer) -> Result<(), Rule>
+    requires { seat ≤ 3 }
     ensures { result_err result ≡ broken_rule table.now.rules table.now.deeds seat answer.now }
 {
     refuse_if(is_unreadable(answer), Rule::Unreadable)?;
@@ -26,16 +34,39 @@ pub fn judge(table: &Table, seat: u8, answer: &Answer) -> Result<(), Rule>
     refuse_if(is_last_tile(table, seat, answer), Rule::LastTile)?;
     refuse_if(is_not_held(table, seat, answer), Rule::NotHeld)?;
     refuse_if(is_not_drawn(table, seat, answer), Rule::NotDrawn)?;
+    refuse_if(is_locked(table, seat, answer), Rule::Locked)?;
     refuse_if(is_bad_set(table, seat, answer), Rule::BadSet)?;
     refuse_if(is_not_left(table, seat, answer), Rule::NotLeft)?;
     refuse_if(is_swap_call(table, seat, answer), Rule::SwapCall)?;
     refuse_if(is_stuck_call(table, seat, answer), Rule::StuckCall)?;
     refuse_if(is_kan_full(table, seat, answer), Rule::KanFull)?;
-    refuse_if(is_kan_dry(table, seat, answer), Rule::KanDry)
+    refuse_if(is_kan_dry(table, seat, answer), Rule::KanDry)?;
+    refuse_if(is_riichi_kan_broken(table, seat, answer), Rule::RiichiKan)?;
+    refuse_if(is_reach_open(table, seat, answer), Rule::ReachOpen)?;
+    refuse_if(is_reach_poor(table, seat, answer), Rule::ReachPoor)?;
+    refuse_if(is_reach_late(table, seat, answer), Rule::ReachLate)?;
+    refuse_if(is_reach_unready(table, seat, answer), Rule::ReachUnready)?;
+    judge_end(table, seat, answer)
+}
+
+// Refuses an answer that would end the hand, a win or nine kinds, by the first rule of these that it breaks.
+fn judge_end(table: &Table, seat: u8, answer: &Answer) -> Result<(), Rule>
+    requires { seat ≤ 3 }
+    ensures { let view = view_of table.now.deeds seat in
+        result_err result ≡ first_broken ((
+          is_not_complete view answer.now,
+          refusal.NotComplete,
+        ) ∷ (is_furiten_win view answer.now, refusal.Furiten) ∷ (
+          is_no_yaku view answer.now,
+          refusal.NoYaku,
+        ) ∷ (is_not_nine view answer.now, refusal.NotNine) ∷ []) }
+{
+    judge_win(table, seat, answer)?;
+    refuse_if(is_not_nine(table, seat, answer), Rule::NotNine)
 }
 
 // Refuses an answer by a rule that it breaks.
-fn refuse_if(is_broken: bool, rule: Rule) -> Result<(), Rule>
+pub(crate) fn refuse_if(is_broken: bool, rule: Rule) -> Result<(), Rule>
     ensures { result_err result ≡ (if is_broken then Some rule else None) }
 {
     if is_broken { Err(rule) } else { Ok(()) }

@@ -3,7 +3,7 @@ ghost use Rattle.mj_rules.specs.Outcome.{act_of};
 
 use mj_deeds::{Answer, Deed};
 
-// What the seat whose turn it is does by its answer: a discard, or a kan of its own.
+// What the seat whose turn it is does by its answer: a discard, a reach, or a kan of its own.
 pub(crate) fn act(seat: u8, answer: &Answer) -> Option<Deed>
     ensures { result ≡ act_of seat answer.now }
 {
@@ -27,6 +27,7 @@ pub(crate) fn act(seat: u8, answer: &Answer) -> Option<Deed>
             b: b.known()?,
             c: c.known()?,
         }),
+        Answer::Reach { .. } => Some(Deed::Reach { seat }),
         _ => None,
     }
 }

@@ -3,5 +3,12 @@
 
 mod acts;
 mod course;
+mod discards;
+mod drawing;
+mod draws;
+mod payments;
+mod starting;
+mod winning;
+mod worth;
 
 pub use course::next;

@@ -3,14 +3,15 @@ use Rattle.std.proofs.Common.{◌≡◌, ℕ, zero, suc, ◌≤◌, ◌-◌, ◌
 use Rattle.std.specs.Prelude.{Option, Some, None, option_and_then, option_map, unwrap_or, flat_map, replicate, count_by, codes, bytes_eq}
 use Rattle.std.proofs.lemmas.Bool.{and_parts, and_from, leb-true, le-leb}
 use Rattle.serde_json.specs.Data.{Data}
+use Rattle.serde_json.specs.Find.{get}
 use Rattle.mj_tiles.specs.Faces.{tile_order, less, in_tile_order, number_in}
 use Rattle.mj_deeds.specs.declared.answer.Pai.{Pai}
 use Rattle.mj_deeds.specs.declared.answer.Pai.TheVariants.{Known, Hidden}
 use Rattle.mj_deeds.specs.declared.answer.Answer.{Answer}
-use Rattle.mj_deeds.specs.declared.answer.Answer.TheVariants.{Unread, Pass, Discard, Chi, Pon, OpenKan, ClosedKan, AddedKan}
+use Rattle.mj_deeds.specs.declared.answer.Answer.TheVariants.{Unread, Pass, Discard, Chi, Pon, OpenKan, ClosedKan, AddedKan, Reach, Win, NineKinds}
 use Rattle.mj_deeds.specs.Pais.{face_in}
 use Rattle.mj_deeds.specs.Answers.{place_of, are_in_order, is_in_form}
-use Rattle.mj_protocol.specs.AnswerForms.{value_of, text_in, seat_in, seat_as, pai_in, pass_by, pass_in, discard_in, is_hidden, pais_in_order, own_in, with_two_tiles, with_three_tiles, with_four_tiles, call_in, chi_by, pon_by, open_kan_by, closed_kan_in, added_kan_in, answer_by, answer_in, answer_of}
+use Rattle.mj_protocol.specs.AnswerForms.{value_of, text_in, seat_in, seat_as, pai_in, pass_by, pass_in, discard_in, is_hidden, pais_in_order, own_in, with_two_tiles, with_three_tiles, with_four_tiles, call_in, chi_by, pon_by, open_kan_by, closed_kan_in, added_kan_in, reach_in, optional_pai, win_in, is_nine_kinds, nine_kinds_in, answer_by, answer_in, answer_of}
 use Rattle.mj_protocol.specs.Laws.{AnswersThatAreReadAreInForm}
 
 -- tiles in order
@@ -161,6 +162,23 @@ discard_formed value =
     then_formed _ (seat_in (codes "actor") value) (λ actor.
     then_formed _ (pai_in (codes "pai") value) (λ tile. map_formed (λ drawn. Discard actor tile drawn) _ (λ drawn. refl)))
 
+reach_formed : (value : Data) → IsFormed (reach_in value)
+unfolding reach_in
+reach_formed value = map_formed (λ actor. Reach actor) (seat_in (codes "actor") value) (λ actor. refl)
+
+win_formed : (value : Data) → IsFormed (win_in value)
+unfolding win_in
+win_formed value =
+    then_formed _ (seat_in (codes "actor") value) (λ actor.
+    then_formed _ (seat_in (codes "target") value) (λ target.
+    map_formed (λ tile. Win actor target tile) (optional_pai (get (codes "pai") value)) (λ tile. refl)))
+
+nine_formed : (value : Data) → IsFormed (nine_kinds_in value)
+unfolding nine_kinds_in
+nine_formed value =
+    then_formed _ (seat_in (codes "actor") value) (λ actor.
+    either_formed (is_nine_kinds (get (codes "reason") value)) (Some (NineKinds actor)) None refl tt)
+
 by_formed : (type : List ℕ) (value : Data) → IsFormed (answer_by type value)
 by_formed type value =
     either_formed (bytes_eq type (codes "none")) _ _ (pass_formed value)
@@ -172,7 +190,10 @@ by_formed type value =
     (either_formed (bytes_eq type (codes "daiminkan")) _ _
     (call_formed open_kan_by value (λ actor target tile. three_formed (λ a b c. OpenKan actor target tile a b c) (λ a b c. refl)))
     (either_formed (bytes_eq type (codes "ankan")) _ _ (closed_formed value)
-    (either_formed (bytes_eq type (codes "kakan")) _ _ (added_formed value) tt))))))
+    (either_formed (bytes_eq type (codes "kakan")) _ _ (added_formed value)
+    (either_formed (bytes_eq type (codes "reach")) _ _ (reach_formed value)
+    (either_formed (bytes_eq type (codes "hora")) _ _ (win_formed value)
+    (either_formed (bytes_eq type (codes "ryukyoku")) _ _ (nine_formed value) tt)))))))))
 
 -- The law.
 pub answers_that_are_read_are_in_form : AnswersThatAreReadAreInForm

@@ -1,8 +1,11 @@
 -- A game that is read off an input is legal.
-use Rattle.std.specs.Prelude.{◌≡◌, ℕ, ◌+◌, ◌≤◌, ◌==◌, ◌&&◌, Bool, true, false, if◌then◌else◌, List, [], ◌∷◌, ◌++◌, length, codes, bytes_eq, Option, Some, None, is_some, option_and_then, option_map, slice_get}
+use Rattle.std.specs.Prelude.{◌≡◌, ℕ, ◌+◌, ◌<◌, ◌≤◌, ◌==◌, ◌&&◌, Bool, true, false, nat_lt, if◌then◌else◌, List, [], ◌∷◌, ◌++◌, length, codes, bytes_eq, Option, Some, None, is_some, option_and_then, option_map, slice_get}
 use Rattle.std.specs.Option.{option_map_or}
 use Rattle.std.specs.List.{list_all}
 use Rattle.std.proofs.Common.{refl, ap, ◌∙◌, sym, subst, arith}
+use Rattle.std.proofs.lemmas.Bool.{ltb-true}
+use Rattle.std.proofs.lemmas.List.{length-append}
+use Rattle.std.proofs.lemmas.List.Folds.{list_all-append}
 use Rattle.serde_json.specs.Data.{Data}
 use Rattle.mj_bytes.specs.Parts.{whole_lines, unfinished}
 use Rattle.mj_ports.specs.Names.{is_name}
@@ -14,7 +17,7 @@ use Rattle.mj_deeds.specs.Answers.{is_in_form}
 use Rattle.mj_wall.specs.declared.setting.Rules.{Rules}
 use Rattle.mj_wall.specs.declared.setting.Setting.{Setting}
 use Rattle.mj_wall.specs.Places.{is_wall}
-use Rattle.mj_protocol.specs.AnswerForms.{answer_of, join_of, join_in, name_of, text_in, names_later_type, value_of}
+use Rattle.mj_protocol.specs.AnswerForms.{answer_of, join_of, join_in, name_of, text_in, value_of}
 use Rattle.mj_protocol.specs.After.{Chair, before_all, after}
 use Rattle.mj_protocol.specs.Trace.{can_sit, may_say, can_say, is_answer_built, is_permitted, all_permitted, has_wall, has_ground, IsLegal}
 use Rattle.mj_protocol.specs.Arrivals.{ArrivalForm, Header, WallOf, Sit, Say, Leave, Expire, NoForm, form_of, Intake, setting_of, now_of, Arrival, Leads, NotBuilt, Bad, header_arrives, wall_arrives, with_entry, join_arrives, sit_arrives, answer_arrives, say_arrives, behind_header, first_line, arrives, Input, at_end, hear_on, hear_from, nothing_read, input_of}
@@ -57,22 +60,34 @@ legal_at_start setting (entry ∷ entries) e few whole = absurd (no_length entry
 header-sound : (rules : Rules) → LeadsSoundly (header_arrives nothing_read rules)
 unfolding header_arrives
 header-sound rules =
-    by_test rules.red Bad _ (λ _. tt) (λ red. by_test rules.draws NotBuilt _ (λ _. tt) (λ _. record {
+    by_test rules.red Bad _ (λ _. tt) (λ red. record {
       legal = legal_at_start _ [] refl (omega arith) refl;
       plain = red;
       bare = λ h. cc;
-    }))
+    })
+
+-- One wall more.
+few_more : (walls : List (List ℕ)) (wall : List ℕ) → nat_lt (length walls) 200 ≡ true → length (walls ++ wall ∷ []) ≤ 200
+few_more walls wall h = subst (λ (n : ℕ). n ≤ 200) (sym (length-append walls (wall ∷ []))) (below (length walls) (ltb-true (length walls) 200 h))
+  where
+    below : (n : ℕ) → n < 200 → n + 1 ≤ 200
+    below n h = omega arith
+
+whole_more : (red : Bool) (walls : List (List ℕ)) (wall : List ℕ) → list_all (is_wall red) walls ≡ true → is_wall red wall ≡ true → list_all (is_wall red) (walls ++ wall ∷ []) ≡ true
+whole_more red walls wall h k = list_all-append (is_wall red) walls (wall ∷ []) ∙ and (list_all (is_wall red) walls) _ h (and (is_wall red wall) true k refl)
 
 wall-sound : (reading : Intake) (tiles : List ℕ) → IsSound reading → is_some reading.rules ≡ true → LeadsSoundly (wall_arrives reading tiles)
 unfolding wall_arrives
 wall-sound reading tiles sound headed =
-    by_test (is_wall false tiles && length reading.entries == 0) _ Bad
-    (λ h. let parts = both (is_wall false tiles) (length reading.entries == 0) h in
-    by_test (length reading.walls == 0) _ NotBuilt (λ _. record {
-      legal = legal_at_start _ reading.entries parts.1 (omega arith) (rw sound.plain (and (is_wall false tiles) true parts.0 refl));
+    by_test (is_wall false tiles && length reading.entries == 0 && nat_lt (length reading.walls) 200) _ Bad
+    (λ h. let parts = both (is_wall false tiles && length reading.entries == 0) (nat_lt (length reading.walls) 200) h in
+    let first = both (is_wall false tiles) (length reading.entries == 0) parts.0 in
+    record {
+      legal = legal_at_start _ reading.entries first.1 (few_more reading.walls tiles parts.1)
+          (whole_more (setting_of reading).rules.red reading.walls tiles sound.legal.whole (ap (λ red. is_wall red tiles) sound.plain ∙ first.0));
       plain = sound.plain;
       bare = λ k. cc;
-    }) (λ _. tt))
+    })
     (λ _. tt)
 
 ground-more : (walls : List (List ℕ)) (entries : List (Entry Answer)) (entry : Entry Answer) → has_wall walls ≡ true → has_ground walls (entries ++ entry ∷ []) ≡ true
@@ -166,14 +181,13 @@ held-wall setting (entry ∷ entries) seat chair ground h = ground
 answer-sound : (reading : Intake) (seat : ℕ) (text : List ℕ) (chair : Chair) → IsSound reading → is_some reading.rules ≡ true → slice_get (now_of reading).chairs seat ≡ Some chair → may_say (now_of reading) chair.author chair ≡ true → LeadsSoundly (answer_arrives reading seat text chair.author)
 unfolding answer_arrives
 answer-sound reading seat text chair sound headed held may =
-    by_test (names_later_type text) NotBuilt _ (λ _. tt)
-    (λ _. by_test (is_answer_built (setting_of reading) (now_of reading) chair.author seat (answer_of text)) _ NotBuilt
+    by_test (is_answer_built (setting_of reading) (now_of reading) chair.author seat (answer_of text)) _ NotBuilt
     (λ built. entry-sound reading (Said chair.author seat (answer_of text)) sound headed
     (held-wall (setting_of reading) reading.entries seat chair sound.legal.ground held)
     (and (is_in_form (answer_of text) && can_say (now_of reading) chair.author seat) _
     (and (is_in_form (answer_of text)) _ (answers_that_are_read_are_in_form text) (ap (λ (o : Option Chair). option_map_or (may_say (now_of reading) chair.author) o false) held ∙ may))
     built))
-    (λ _. tt))
+    (λ _. tt)
 
 say-sound : (reading : Intake) (seat : ℕ) (text : List ℕ) → IsSound reading → is_some reading.rules ≡ true → LeadsSoundly (say_arrives reading seat text)
 unfolding say_arrives

@@ -3,7 +3,9 @@ pub mod Forms
 pub mod Legality
 pub mod Places
 pub mod Solo
-pub mod Follows
+pub mod MaskedLine
+pub mod Rebuilt
 pub mod OneWorld
 pub mod Fitting
 pub mod Witness
+pub mod SeenLine

@@ -2,7 +2,6 @@
 -- from two walls which hold other tiles for the other seats.
 use Rattle.std.proofs.Common.{◌≡◌, ◌≢◌, ◌≤◌, ℕ, ◌==◌, ◌&&◌, Bool, true, false, List, [], ◌∷◌, ◌++◌, length, refl, ap, sym, ◌∙◌, subst, arith}
 use Rattle.std.specs.Prelude.{codes, None, flat_map, replicate, IsTrue}
-use Rattle.std.specs.Str.{chars, is_utf8}
 use Rattle.std.proofs.lemmas.Bool.{true≢false}
 use Rattle.std.specs.List.{list_all, slice_index_or}
 use Rattle.std.specs.Str.{chars, is_utf8}
@@ -19,10 +18,11 @@ use Rattle.mj_wall.specs.Places.{is_wall}
 use Rattle.mj_tiles.specs.Faces.{number_in, tile_order, in_tile_order, less}
 use Rattle.mj_deeds.specs.Hand.{hand}
 use Rattle.mj_window.specs.Decided.{best_bid}
-use Rattle.mj_rules.specs.Broken.{view_of, broken_by}
+use Rattle.mj_rules.specs.Broken.{broken_by}
+use Rattle.mj_rules.specs.View.{view_of}
 use Rattle.mj_rules.specs.Outcome.{outcome, hand_start, next_draw}
 use Rattle.mj_protocol.specs.After.{before_all, own_part, after_said, step, next_deed, after}
-use Rattle.mj_protocol.specs.Trace.{Game, IsLegal, can_sit, may_say, is_heard_built, is_deed_built, is_answer_built, all_permitted, has_ground, trace}
+use Rattle.mj_protocol.specs.Trace.{Game, IsLegal, can_sit, may_say, is_heard_built, is_answer_built, all_permitted, has_ground, trace}
 use Rattle.mj_protocol.specs.Witness.{AgreeApart}
 
 -- Four of each kind from one on, in order.
@@ -84,15 +84,15 @@ other_game = record {
 }
 
 one_permitted : all_permitted one_game.setting before_all one_game.entries ≡ true
-unfolding own_part after_said step next_deed can_sit may_say is_heard_built is_deed_built is_answer_built broken_by outcome hand_start view_of hand is_name in_tile_order less tile_order next_draw best_bid chars is_utf8 lib.Utf8.encode
+unfolding own_part after_said step next_deed can_sit may_say is_heard_built is_answer_built broken_by outcome hand_start view_of hand is_name in_tile_order less tile_order next_draw best_bid chars is_utf8 lib.Utf8.encode
 one_permitted = refl
 
 other_permitted : all_permitted other_game.setting before_all other_game.entries ≡ true
-unfolding own_part after_said step next_deed can_sit may_say is_heard_built is_deed_built is_answer_built broken_by outcome hand_start view_of hand is_name in_tile_order less tile_order next_draw best_bid chars is_utf8 lib.Utf8.encode
+unfolding own_part after_said step next_deed can_sit may_say is_heard_built is_answer_built broken_by outcome hand_start view_of hand is_name in_tile_order less tile_order next_draw best_bid chars is_utf8 lib.Utf8.encode
 other_permitted = refl
 
 same_trace : trace 0 one_game.setting one_game.entries ≡ trace 0 other_game.setting other_game.entries
-unfolding own_part after_said step next_deed can_sit may_say is_heard_built is_deed_built is_answer_built broken_by outcome hand_start view_of hand in_tile_order less tile_order next_draw best_bid
+unfolding own_part after_said step next_deed can_sit may_say is_heard_built is_answer_built broken_by outcome hand_start view_of hand in_tile_order less tile_order next_draw best_bid
 same_trace = refl
 
 -- What differs by a test differs.
@@ -104,11 +104,11 @@ has_three : List Deed → Bool
 has_three ds = number_in (tiles_gained ds 1) 3 == 3
 
 one_has_three : has_three (after one_game.setting one_game.entries).deeds ≡ true
-unfolding has_three own_part after_said step next_deed can_sit may_say is_heard_built is_deed_built is_answer_built broken_by outcome hand_start view_of hand in_tile_order less tile_order next_draw best_bid
+unfolding has_three own_part after_said step next_deed can_sit may_say is_heard_built is_answer_built broken_by outcome hand_start view_of hand in_tile_order less tile_order next_draw best_bid
 one_has_three = refl
 
 other_has_none : has_three (after other_game.setting other_game.entries).deeds ≡ false
-unfolding has_three own_part after_said step next_deed can_sit may_say is_heard_built is_deed_built is_answer_built broken_by outcome hand_start view_of hand in_tile_order less tile_order next_draw best_bid
+unfolding has_three own_part after_said step next_deed can_sit may_say is_heard_built is_answer_built broken_by outcome hand_start view_of hand in_tile_order less tile_order next_draw best_bid
 other_has_none = refl
 
 legal_by : (game : Game) (wall : List ℕ) → game.setting.walls ≡ wall ∷ [] → is_wall game.setting.rules.red wall ≡ true → has_ground (wall ∷ []) game.entries ≡ true → all_permitted game.setting before_all game.entries ≡ true →

@@ -1,6 +1,6 @@
 -- What a line that is said reads as, and what a line asks that wants a seat. A line is one JSON value.
 use Rattle.std.specs.Prelude.{ℕ, ◌==◌, Bool, false, nat_lt, nat_le, if◌then◌else◌, List, [], ◌∷◌, length, codes, bytes_eq, Option, Some, None, unwrap_or, option_and_then, option_map, ◌++◌, map, flat_map, replicate, count_by, true}
-use Rattle.std.specs.List.{list_any}
+use Rattle.std.specs.Option.{option_map_or}
 use Rattle.std.specs.Str.Lossy.{utf8_valid_len}
 use Rattle.serde_json.specs.Data.{Data, Items, no_items, item}
 use Rattle.serde_json.specs.Find.{get, as_array, as_str, as_bool, as_number, as_u64}
@@ -12,7 +12,7 @@ use Rattle.mj_deeds.specs.declared.answer.Pai.{Pai}
 use Rattle.mj_deeds.specs.declared.answer.Pai.TheVariants.{Known, Hidden}
 use Rattle.mj_deeds.specs.Pais.{face_in}
 use Rattle.mj_deeds.specs.declared.answer.Answer.{Answer}
-use Rattle.mj_deeds.specs.declared.answer.Answer.TheVariants.{Unread, Pass, Discard, Chi, Pon, OpenKan, ClosedKan, AddedKan}
+use Rattle.mj_deeds.specs.declared.answer.Answer.TheVariants.{Unread, Pass, Discard, Chi, Pon, OpenKan, ClosedKan, AddedKan, Reach, Win, NineKinds}
 
 -- The JSON value that a line is, where it is one: its bytes are UTF-8.
 unfoldable pub value_of : List ℕ → Option Data
@@ -127,6 +127,33 @@ added_kan_in value =
     (pai_in (codes "pai") value))
     (seat_in (codes "actor") value)
 
+-- A reach names its actor.
+unfoldable pub reach_in : Data → Option Answer
+reach_in value = option_map (λ actor. Reach actor) (seat_in (codes "actor") value)
+
+-- A tile that need not be named.
+abbrev pub optional_pai : Option Data → Option (Option Pai)
+optional_pai None = Some None
+optional_pai (Some value) = option_map Some (option_and_then pai_of (as_str value))
+
+-- A win names its actor and the target, and may name the tile.
+unfoldable pub win_in : Data → Option Answer
+win_in value =
+    option_and_then (λ actor.
+    option_and_then (λ target.
+    option_map (λ tile. Win actor target tile)
+    (optional_pai (get (codes "pai") value)))
+    (seat_in (codes "target") value))
+    (seat_in (codes "actor") value)
+
+-- Nine kinds are shown by their actor; a reason that is named is that one.
+abbrev pub is_nine_kinds : Option Data → Bool
+is_nine_kinds None = true
+is_nine_kinds (Some value) = option_map_or (λ text. bytes_eq text (codes "kyushukyuhai")) (as_str value) false
+
+unfoldable pub nine_kinds_in : Data → Option Answer
+nine_kinds_in value = option_and_then (λ actor. if is_nine_kinds (get (codes "reason") value) then Some (NineKinds actor) else None) (seat_in (codes "actor") value)
+
 -- The answer of a value, by its type.
 abbrev pub answer_by : List ℕ → Data → Option Answer
 answer_by type value =
@@ -136,7 +163,10 @@ answer_by type value =
     (if bytes_eq type (codes "pon") then call_in pon_by value else
     (if bytes_eq type (codes "daiminkan") then call_in open_kan_by value else
     (if bytes_eq type (codes "ankan") then closed_kan_in value else
-    (if bytes_eq type (codes "kakan") then added_kan_in value else None))))))
+    (if bytes_eq type (codes "kakan") then added_kan_in value else
+    (if bytes_eq type (codes "reach") then reach_in value else
+    (if bytes_eq type (codes "hora") then win_in value else
+    (if bytes_eq type (codes "ryukyoku") then nine_kinds_in value else None)))))))))
 
 unfoldable pub answer_in : Data → Option Answer
 answer_in value = option_and_then (λ type. answer_by type value) (text_in (codes "type") value)
@@ -144,14 +174,6 @@ answer_in value = option_and_then (λ type. answer_by type value) (text_in (code
 -- What a line reads as: a line that is no answer is unread.
 unfoldable pub answer_of : List ℕ → Answer
 answer_of bytes = unwrap_or (option_and_then answer_in (value_of bytes)) Unread
-
--- The types of answers that are not built.
-abbrev pub later_types : List (List ℕ)
-later_types = codes "reach" ∷ codes "hora" ∷ codes "ryukyoku" ∷ []
-
--- The line is an object with such a type.
-unfoldable pub names_later_type : List ℕ → Bool
-names_later_type bytes = unwrap_or (option_map (λ type. list_any (λ other. bytes_eq other type) later_types) (option_and_then (text_in (codes "type")) (value_of bytes))) false
 
 abbrev pub name_of : List ℕ → Option (List ℕ)
 name_of text = if is_name text then Some text else None

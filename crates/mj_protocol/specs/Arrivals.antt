@@ -11,7 +11,7 @@ use Rattle.mj_deeds.specs.declared.answer.Answer.{Answer}
 use Rattle.mj_wall.specs.declared.setting.Rules.{Rules}
 use Rattle.mj_wall.specs.declared.setting.Setting.{Setting}
 use Rattle.mj_wall.specs.Places.{is_wall}
-use Rattle.mj_protocol.specs.AnswerForms.{answer_of, join_of, names_later_type}
+use Rattle.mj_protocol.specs.AnswerForms.{answer_of, join_of}
 use Rattle.mj_protocol.specs.After.{After, Chair, after}
 use Rattle.mj_protocol.specs.Trace.{Game, can_sit, may_say, is_answer_built}
 
@@ -110,15 +110,15 @@ pub data Arrival : Type 0 where
   NotBuilt : Arrival
   Bad : Arrival
 
--- A header stands first. Red fives are no part of a game yet, and the draw reasons are not built.
+-- A header stands first. Red fives are no part of a game yet.
 unfoldable pub header_arrives : Intake → Rules → Arrival
-header_arrives reading rules = if rules.red then Bad else (if rules.draws then NotBuilt else Leads (record reading { rules = Some rules }))
+header_arrives reading rules = if rules.red then Bad else Leads (record reading { rules = Some rules })
 
--- A wall stands behind the header and before all else. A second one is not built.
+-- Walls stand behind the header and before all else, 200 at most.
 unfoldable pub wall_arrives : Intake → List ℕ → Arrival
 wall_arrives reading tiles =
-    if is_wall false tiles && length reading.entries == 0
-    then (if length reading.walls == 0 then Leads (record reading { walls = tiles ∷ [] }) else NotBuilt)
+    if is_wall false tiles && length reading.entries == 0 && nat_lt (length reading.walls) 200
+    then Leads (record reading { walls = reading.walls ++ tiles ∷ [] })
     else Bad
 
 -- With one entry more.
@@ -139,10 +139,9 @@ sit_arrives reading text = if length reading.walls == 0 then Bad else join_arriv
 -- An answer of a held seat, entered by the author by whom it is present.
 unfoldable pub answer_arrives : Intake → ℕ → List ℕ → ℕ → Arrival
 answer_arrives reading seat text author =
-    if names_later_type text then NotBuilt else
-    (if is_answer_built (setting_of reading) (now_of reading) author seat (answer_of text)
+    if is_answer_built (setting_of reading) (now_of reading) author seat (answer_of text)
     then Leads (with_entry reading (Said author seat (answer_of text)))
-    else NotBuilt)
+    else NotBuilt
 
 -- A seat says a line once its due deed exists.
 unfoldable pub say_arrives : Intake → ℕ → List ℕ → Arrival

@@ -3,13 +3,16 @@ use Rattle.std.specs.Prelude.{◌≡◌, ℕ, List, [], ◌∷◌, ◌++◌, tru
 use Rattle.mj_ports.specs.declared.entry.Entry.{Entry}
 use Rattle.mj_deeds.specs.declared.answer.Answer.{Answer}
 use Rattle.mj_deeds.specs.declared.deed.Deed.{Deed}
+use Rattle.mj_deeds.specs.declared.deed.Viewer.{Viewer}
 use Rattle.mj_deeds.specs.Answers.{is_in_form}
 use Rattle.mj_deeds.specs.Fits.{fits, all_fit}
 use Rattle.mj_wall.specs.declared.setting.Setting.{Setting}
+use Rattle.mj_view.specs.Masks.{mask}
 use Rattle.mj_rules.specs.Played.{AllLawful, IsPlayed}
 use Rattle.mj_protocol.specs.After.{After, after, own_part, next_deed, is_window_closed, answers_in, AreLawfulIn, scripts}
 use Rattle.mj_protocol.specs.Trace.{Game, Agree, IsLegal, is_permitted, says_in_form}
 use Rattle.mj_protocol.specs.AnswerForms.{answer_of}
+use Rattle.mj_protocol.specs.Lines.{line, masked_line}
 use Rattle.mj_protocol.specs.Arrivals.{setting_of, input_of}
 
 -- Any two games that agree for a seat give it the same bytes.
@@ -59,3 +62,7 @@ LegalDeedsFit = (setting : Setting) (entries : List (Entry Answer)) → IsLegal 
 abbrev pub NextDeedFits : Type 0
 NextDeedFits = (setting : Setting) (entries : List (Entry Answer)) (entry : Entry Answer) (d : Deed) → IsLegal setting entries → is_permitted setting (after setting entries) entry ≡ true →
     next_deed setting (own_part setting (after setting entries) entry) ≡ Some d → fits setting.rules.red (after setting entries).deeds d ≡ true
+
+-- The line of a deed for a viewer is made of nothing but what the viewer sees of the deed.
+abbrev pub LinesAreOfMasks : Type 0
+LinesAreOfMasks = (viewer : Viewer) (d : Deed) → line viewer d ≡ masked_line viewer (mask viewer d)

@@ -1,5 +1,5 @@
 -- Which games are legal, what one seat learns of a game, and when two games agree for a seat.
-use Rattle.std.specs.Prelude.{◌≡◌, ℕ, ◌==◌, ◌&&◌, ◌≤◌, not, Bool, true, false, nat_lt, IsTrue, if◌then◌else◌, List, [], ◌∷◌, ◌++◌, length, bytes_eq, Option, Some, None, is_some, slice_get}
+use Rattle.std.specs.Prelude.{◌≡◌, ℕ, ◌==◌, ◌&&◌, ◌≤◌, not, Bool, true, false, nat_lt, IsTrue, if◌then◌else◌, List, [], ◌∷◌, ◌++◌, length, bytes_eq, Option, Some, None, slice_get}
 use Rattle.std.specs.Option.{option_map_or}
 use Rattle.std.specs.List.{list_any, list_all}
 use Rattle.mj_ports.specs.Names.{is_name}
@@ -8,14 +8,12 @@ use Rattle.mj_ports.specs.declared.entry.Entry.TheVariants.{Sat, Back, Said, Gon
 use Rattle.mj_deeds.specs.declared.answer.Answer.{Answer}
 use Rattle.mj_deeds.specs.Answers.{is_in_form}
 use Rattle.mj_deeds.specs.declared.deed.Deed.{Deed}
-use Rattle.mj_deeds.specs.declared.deed.Deed.TheVariants as deeds
 use Rattle.mj_deeds.specs.declared.token.Token.{Token}
-use Rattle.mj_deeds.specs.declared.token.Token.TheVariants as tokens
-use Rattle.mj_deeds.specs.Four.{at_seat}
+use Rattle.mj_view.specs.Tokens.{token}
 use Rattle.mj_wall.specs.declared.setting.Rules.{Rules}
 use Rattle.mj_wall.specs.declared.setting.Setting.{Setting}
 use Rattle.mj_wall.specs.Places.{is_wall}
-use Rattle.mj_protocol.specs.After.{After, Chair, Verdict, Taken, Late, Refused, before_all, own_part, next_deed, step, verdict_on, is_window_closed}
+use Rattle.mj_protocol.specs.After.{After, Chair, Verdict, Taken, Late, Refused, before_all, own_part, next_deed, step, verdict_on}
 
 -- A seat has this name.
 abbrev pub has_name : List ℕ → Chair → Bool
@@ -41,15 +39,10 @@ is_verdict_built refused (Refused rule) = nat_lt refused 15
 unfoldable pub is_heard_built : Rules → After → ℕ → Answer → Chair → Bool
 is_heard_built rules now seat answer chair = is_verdict_built chair.progress.refused (verdict_on rules now.deeds seat answer chair.progress)
 
--- The deed after a closed window is built.
-unfoldable pub is_deed_built : Setting → After → Bool
-is_deed_built setting now = if is_window_closed now.slots then is_some (next_deed setting now) else true
-
 -- What an answer leads to is built.
 unfoldable pub is_answer_built : Setting → After → ℕ → ℕ → Answer → Bool
 is_answer_built setting now author seat answer =
     option_map_or (is_heard_built setting.rules now seat answer) (slice_get now.chairs seat) false
-    && is_deed_built setting (own_part setting now (Said author seat answer))
 
 -- What an entry says is in form.
 abbrev pub says_in_form : Entry Answer → Bool
@@ -87,24 +80,6 @@ pub record IsLegal (setting : Setting) (entries : List (Entry Answer)) : Type 0 
   pub whole : IsTrue (list_all (is_wall setting.rules.red) setting.walls)
   pub ground : IsTrue (has_ground setting.walls entries)
   pub permitted : IsTrue (all_permitted setting before_all entries)
-
--- The tile of a draw, where the seat drew it itself.
-abbrev pub own_tile : Bool → ℕ → Option ℕ
-own_tile true tile = Some tile
-own_tile false tile = None
-
--- What a seat sees of a deed.
-abbrev pub token : ℕ → Deed → Token
-token seat (deeds.StartGame names) = tokens.StartGame names
-token seat (deeds.StartHand round number honba deposits dealer indicator hands) = tokens.StartHand indicator (at_seat hands seat)
-token seat (deeds.Draw who tile replacement) = tokens.Draw who (own_tile (who == seat) tile)
-token seat (deeds.Discard who tile drawn) = tokens.Discard who tile drawn
-token seat (deeds.Chi who target tile a b) = tokens.Chi who target tile a b
-token seat (deeds.Pon who target tile a b) = tokens.Pon who target tile a b
-token seat (deeds.OpenKan who target tile a b c) = tokens.OpenKan who target tile a b c
-token seat (deeds.ClosedKan who a b c d) = tokens.ClosedKan who a b c d
-token seat (deeds.AddedKan who tile a b c) = tokens.AddedKan who tile a b c
-token seat (deeds.Dora tile) = tokens.Dora tile
 
 -- What a seat learns: its own entries without their author, and the token of each deed.
 pub data Item : Type 0 where

@@ -2,7 +2,7 @@
 //! agreement, and the laws over them. Nothing here runs: the functions are the places where the laws are stated.
 #![tactic(auto)]
 
-ghost use Rattle.mj_protocol.specs.Laws.{AgreeingGamesTellTheSame, ReadGamesAreLegal, LegalGamesArePlayed, TakenAnswersAreLawful, AnswersThatAreReadAreInForm, OwnPartCanGoOn, NextDeedIsPlayed, LegalDeedsFit, NextDeedFits};
+ghost use Rattle.mj_protocol.specs.Laws.{AgreeingGamesTellTheSame, ReadGamesAreLegal, LegalGamesArePlayed, TakenAnswersAreLawful, AnswersThatAreReadAreInForm, OwnPartCanGoOn, NextDeedIsPlayed, LegalDeedsFit, NextDeedFits, LinesAreOfMasks};
 ghost use Rattle.mj_protocol.specs.Witness.{AgreeApart};
 
 /// The law of one world: what a game tells a seat depends on nothing but what the seat learns of it, so two games that
@@ -61,4 +61,9 @@ pub fn legal_deeds_fit()
 /// The deed that a permitted entry adds to a legal game fits behind the deeds of that game.
 pub fn next_deed_fits()
     ensures { NextDeedFits }
+{}
+
+/// The line of a deed for a viewer is a function of the deed as the viewer sees it.
+pub fn lines_are_of_masks()
+    ensures { LinesAreOfMasks }
 {}

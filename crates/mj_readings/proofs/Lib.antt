@@ -10,6 +10,7 @@ pub mod WayOnce
 pub mod Orphans
 pub mod Sorting
 pub mod Picking
+pub mod Gathered
 pub mod Places
 pub mod Laws
 pub mod WinningWayLaws

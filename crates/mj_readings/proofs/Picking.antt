@@ -77,7 +77,7 @@ pub end-left : (sets : List Set) (winning left place pair : ℕ) (made : Option 
 unfolding winning_ways
 end-left sets winning left place pair made is more = rw is (rw (ne_eqb left 0 (λ e. omega (arith, e, more))) (omega arith))
 
-end-some : (sets : List Set) (winning pair left : ℕ) (made : Option ℕ) → made ≡ Some pair → left ≤ 0 →
+pub end-some : (sets : List Set) (winning pair left : ℕ) (made : Option ℕ) → made ≡ Some pair → left ≤ 0 →
     winning_ways sets winning (end_of left made) ≡ map (λ win. record { sets = sets; pair = pair; win = win }) (win_places sets pair winning)
 unfolding winning_ways
 end-some sets winning pair left made is none =
@@ -191,7 +191,7 @@ parts_of_cons count others spot sets winning room =
     ∙ winning_ways-append sets winning (branch_ways others spot free 0 spot.pair ++ triplet_ways others spot free) (pair_ways others spot free)
     ∙ ap (λ list. list ++ winning_ways sets winning (pair_ways others spot free)) (winning_ways-append sets winning (branch_ways others spot free 0 spot.pair) (triplet_ways others spot free))
 
-parts_of : (numbers : List ℕ) (count : ℕ) (others : List ℕ) (spot : Spot) (sets : List Set) (winning : ℕ) → numbers ≡ count ∷ others → spot.first + spot.second ≤ count →
+pub parts_of : (numbers : List ℕ) (count : ℕ) (others : List ℕ) (spot : Spot) (sets : List Set) (winning : ℕ) → numbers ≡ count ∷ others → spot.first + spot.second ≤ count →
     winning_ways sets winning (ways_from numbers spot)
     ≡ winning_ways sets winning (branch_ways others spot (count - (spot.first + spot.second)) 0 spot.pair)
     ++ winning_ways sets winning (triplet_ways others spot (count - (spot.first + spot.second)))

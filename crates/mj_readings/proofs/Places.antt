@@ -12,12 +12,16 @@ range_push from zero = ap (λ k. k ∷ []) (sym (add-zero from))
 range_push from (suc n) = ap (λ xs. from ∷ xs) (range_push (from + 1) n ∙ ap (λ k. range_with_len (from + 1) n ++ k ∷ []) (omega arith))
 
 -- How many below the next number pass.
+pub passed_on : (p : ℕ → Bool) (n : ℕ) → filter p (range_with_len 0 (n + 1)) ≡ filter p (range_with_len 0 n) ++ cond (p n) (n ∷ []) []
+passed_on p n =
+    ap (λ k. filter p (range_with_len 0 k)) (add-one n)
+    ∙ ap (filter p) (range_push 0 n ∙ ap (λ k. range_with_len 0 n ++ k ∷ []) (zero-add n))
+    ∙ filter-append p (range_with_len 0 n) (n ∷ [])
+
 pub passed-more : (p : ℕ → Bool) (n : ℕ) → length (filter p (range_with_len 0 (n + 1))) ≡ length (filter p (range_with_len 0 n)) + cond (p n) 1 0
 passed-more p n =
-    ap (λ k. length (filter p (range_with_len 0 k))) (add-one n)
-    ∙ ap (λ xs. length (filter p xs)) (range_push 0 n ∙ ap (λ k. range_with_len 0 n ++ k ∷ []) (zero-add n))
-    ∙ ap length (filter-append p (range_with_len 0 n) (n ∷ []))
-    ∙ length-append (filter p (range_with_len 0 n)) (filter p (n ∷ []))
+    ap length (passed_on p n)
+    ∙ length-append (filter p (range_with_len 0 n)) (cond (p n) (n ∷ []) [])
     ∙ ap (λ k. length (filter p (range_with_len 0 n)) + k) (one (p n))
   where
     one : (b : Bool) → length (cond b (n ∷ []) []) ≡ cond b 1 0

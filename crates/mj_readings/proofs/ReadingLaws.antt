@@ -1,10 +1,9 @@
 -- The list of readings has all readings, no others, and each once.
-use Rattle.std.proofs.Common.{ℕ, ◌≡◌, ◌≢◌, ◌<◌, ◌≤◌, ◌+◌, ◌-◌, ◌++◌, ◌∷◌, [], Bool, true, false, cond, List, length, get_or, map, take, drop, refl, sym, ◌∙◌, ap, subst, arith, eqb, zero, suc, ◌⊎◌, inl, inr, Option, Some, None}
+use Rattle.std.proofs.Common.{ℕ, ◌≡◌, ◌≢◌, ◌<◌, ◌≤◌, ◌+◌, ◌-◌, ◌++◌, ◌∷◌, [], Bool, true, false, cond, List, length, get_or, map, take, drop, refl, sym, ◌∙◌, ap, subst, arith, eqb, ◌⊎◌, inl, inr, Option, Some, None}
 use Rattle.std.specs.List.{All, Contains, slice_get}
 use Rattle.std.specs.Option.{option_to_list}
 use Rattle.std.proofs.lemmas.Bool.{cases_lt, le-leb, lt-leb, eq-eqb, eqb-true}
-use Rattle.std.proofs.lemmas.List.{length-append, length-map, take_at, drop_at, append_cancel_right, take-append-drop, nil_from_length, take_more, take_all}
-use Rattle.std.proofs.lemmas.Option.{slice_get_within, get_or_from_slice_get, none-some}
+use Rattle.std.proofs.lemmas.List.{length-append, length-map, take_at, drop_at, append_cancel_right, take-append-drop, nil_from_length, append-nil}
 use Rattle.std.proofs.lemmas.List.Elements.{All-nil, All-cons, All-append, All-map, All-weaker, Contains-append_left, Contains-append_right}
 use Rattle.mj_tiles.specs.Counts.{IsCounts}
 use Rattle.mj_tiles.specs.declared.meld.Meld.{Meld}
@@ -12,6 +11,7 @@ use Rattle.mj_readings.specs.declared.reading.Set.{Set}
 use Rattle.mj_readings.specs.declared.reading.Reading.{Reading}
 use Rattle.mj_readings.specs.declared.reading.Reading.TheVariants.{Standard, Pairs, Orphans}
 use Rattle.mj_readings.specs.declared.winning_way.WinningWay.{WinningWay}
+use Rattle.mj_readings.specs.declared.winning_way.Spot.{Spot}
 use Rattle.mj_readings.specs.Sets.{set_of_meld, in_order}
 use Rattle.mj_readings.specs.Inner.SetLists.{no_set}
 use Rattle.mj_readings.specs.Complete.{AreSetsAndPair, is_seven_pairs}
@@ -19,7 +19,8 @@ use Rattle.mj_readings.specs.Readings.{IsStandard, IsReading, AreReadings, names
 use Rattle.mj_readings.specs.Inner.Ways.{ways}
 use Rattle.mj_readings.specs.Inner.WinningWays.{winning_ways}
 use Rattle.mj_readings.specs.Tests.{orphan_double}
-use Rattle.mj_readings.specs.Inner.ReadingLists.{standard, standard_of, standard_readings, pair_kinds, pairs_readings, orphans_readings}
+use Rattle.mj_readings.specs.Inner.ReadingLists.{standard, standard_of, readings_past, standard_readings, pair_kinds, pairs_readings, orphans_readings}
+use Rattle.mj_readings.specs.Inner.Spots.{ways_from}
 use Rattle.mj_readings.specs.AllReadings.{readings_of}
 use Rattle.mj_readings.proofs.Distinct.{Distinct, Distinct-append, Distinct-map_on, apart_by, AllPairs-Distinct}
 use Rattle.mj_readings.proofs.Members.{Contains-here, Contains-map, All-slice_get}
@@ -285,27 +286,23 @@ pick-none counts melds winning place rest empty past is none =
     ∙ ap (λ b. slice_get (standard_readings counts melds winning ++ cond b (pairs_readings counts ++ orphans_readings counts) []) (length (standard_readings counts melds winning) + rest)) (sym is ∙ none)
     ∙ slice_get-right (standard_readings counts melds winning) [] rest)
 
--- One reading more, and all of them.
-pub taken-more : (list items new : List Reading) (n place len : ℕ) (reading : Reading) → (items ≡ take n list) × (n ≤ length list) → place ≡ n →
-    Some reading ≡ slice_get list place → new ≡ items ++ reading ∷ [] → len ≡ n + 1 → (new ≡ take len list) × (len ≤ length list)
-taken-more list items new n place len reading before here found more one =
-    let at : slice_get list n ≡ Some reading = ap (slice_get list) (sym here) ∙ sym found in
-    let inside : n < length list = slice_get_within list n reading at in (
-      more ∙ ap (λ xs. xs ++ reading ∷ []) before.0
-          ∙ ap (λ x. take n list ++ x ∷ []) (sym (get_or_from_slice_get list n reading reading at))
-          ∙ sym (take_more list n reading inside)
-          ∙ ap (λ k. take k list) (sym one),
-      omega arith,
-    )
+-- Adding the readings.
+pub adds-no-standard : (old : List Reading) (counts : List ℕ) (melds : List Meld) (winning : ℕ) → 4 < length melds → old ≡ old ++ standard_readings counts melds winning
+adds-no-standard old counts melds winning many = sym (ap (λ list. old ++ list) (standard_off counts melds winning many) ∙ append-nil old)
 
-not_past : (list : List Reading) (n : ℕ) → None ≡ slice_get list n → n < length list → ⊥
-not_past [] n e inside = omega (arith, inside)
-not_past (x ∷ list) zero e inside = none-some x e
-not_past (x ∷ list) (suc n) e inside = not_past list n e (omega (arith, inside))
+pub adds-standard : (old new : List Reading) (counts numbers : List ℕ) (melds : List Meld) (sets : List Set) (winning left : ℕ) (spot : Spot) → numbers ≡ counts → sets ≡ [] → length melds ≤ 4 →
+    left ≡ 4 - length melds → spot ≡ record { kind = 0; first = 0; second = 0; left = left; pair = None } →
+    new ≡ old ++ readings_past melds winning sets (ways_from numbers spot) → new ≡ old ++ standard_readings counts melds winning
+adds-standard old new counts numbers melds sets winning left spot same none few left_is spot_is adds =
+    adds
+    ∙ ap (λ (s : Spot). old ++ readings_past melds winning sets (ways_from numbers s)) spot_is
+    ∙ ap (λ n. old ++ readings_past melds winning sets (ways numbers 0 0 0 n None)) left_is
+    ∙ ap (λ all. old ++ readings_past melds winning all (ways numbers 0 0 0 (4 - length melds) None)) none
+    ∙ ap (λ ns. old ++ readings_past melds winning [] (ways ns 0 0 0 (4 - length melds) None)) same
+    ∙ ap (λ list. old ++ list) (sym (standard_on counts melds winning few))
 
-pub taken-all : (list items : List Reading) (n place : ℕ) → (items ≡ take n list) × (n ≤ length list) → place ≡ n → None ≡ slice_get list place → items ≡ list
-taken-all list items n place before here none = before.0 ∙ split (cases_lt n (length list))
-  where
-    split : (n < length list) ⊎ (length list ≤ n) → take n list ≡ list
-    split (inl inside) = absurd (not_past list n (none ∙ ap (slice_get list) here) inside)
-    split (inr past) = take_all n list past
+pub adds-all : (counts : List ℕ) (melds : List Meld) (winning : ℕ) (first second third : List Reading) → first ≡ [] → second ≡ first ++ standard_readings counts melds winning →
+    third ≡ second ++ cond (eqb (length melds) 0) (pairs_readings counts ++ orphans_readings counts) [] → third ≡ readings_of counts melds winning
+unfolding readings_of
+adds-all counts melds winning first second third none standard special =
+    special ∙ ap (λ list. list ++ cond (eqb (length melds) 0) (pairs_readings counts ++ orphans_readings counts) []) (standard ∙ ap (λ list. list ++ standard_readings counts melds winning) none)

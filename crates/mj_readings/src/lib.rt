@@ -3,6 +3,7 @@
 
 mod complete;
 mod completing_kinds;
+mod gathering;
 mod listing;
 mod reading;
 mod sets;

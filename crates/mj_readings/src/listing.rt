@@ -1,4 +1,4 @@
-ghost use Rattle.std.specs.Prelude.{◌≡◌, ℕ, ◌≤◌, ◌<◌, ◌^◌, ◌+◌, ◌++◌, ◌==◌, length, map, slice_get, slice_index, IfOk};
+ghost use Rattle.std.specs.Prelude.{◌≡◌, ℕ, ◌≤◌, ◌<◌, ◌^◌, ◌+◌, ◌++◌, ◌==◌, [], None, if◌then◌else◌, length, map, slice_get, slice_index, IfOk, OnOk};
 ghost use Rattle.mj_tiles.specs.Counts.{IsCounts};
 ghost use Rattle.mj_readings.specs.Sets.{set_of_meld};
 ghost use Rattle.mj_readings.specs.Readings.{AreReadings};
@@ -7,6 +7,7 @@ ghost use Rattle.mj_readings.specs.AllReadings.{readings_of};
 ghost use Rattle.mj_readings.specs.Inner.WinningWays.{Picks};
 
 use crate::complete::{are_seven_pairs, double_of};
+use crate::gathering::gather;
 use crate::reading::{Reading, Set, SetForm};
 use crate::sets::Sets;
 use crate::winning_way::{Spot, WinningWay, winning_way_at};
@@ -25,9 +26,8 @@ pub fn readings(
     ensures listed { IfOk result (λ v. v.items ≡ readings_of counts.now melds.now win) }
 {
     let mut found = Vec::new(alloc);
-    while let Some(reading) = reading_at(counts, melds, win, found.len()) {
-        found.push(reading)?;
-    }
+    gather_standard(counts, melds, win, &mut found)?;
+    gather_special(counts, melds, &mut found)?;
     Ok(found)
 }
 
@@ -43,6 +43,80 @@ pub fn reading_at(counts: &Counts, melds: &[Meld], win: Kind, index: usize) -> O
         Err(rest) if melds.is_empty() => special_at(counts, rest),
         Err(_) => None,
     }
+}
+
+/// Adds the standard readings.
+fn gather_standard(
+    counts: &Counts,
+    melds: &[Meld],
+    win: Kind,
+    found: &mut Vec<Reading>,
+) -> Result<(), AllocError>
+    ensures value { OnOk result (found.new.items ≡ found.old.items
+        ++ standard_readings counts.now melds.now win) }
+    ensures counted { IsCounts counts.now }
+{
+    let numbers = counts.numbers();
+    if melds.len() > 4 {
+        return Ok(());
+    }
+    let spot = first_spot(4 - melds.len() as u8);
+    gather(numbers, &spot, &Sets::none(), melds, win, found)
+}
+
+/// The spot before the first kind, where so many sets are to be made.
+fn first_spot(left: u8) -> Spot
+    ensures { result ≡ record { kind = 0; first = 0; second = 0; left = left; pair = None } }
+{
+    Spot {
+        kind: 0,
+        first: 0,
+        second: 0,
+        left,
+        pair: None,
+    }
+}
+
+/// Adds the readings as seven pairs and thirteen orphans, where there are no melds.
+fn gather_special(
+    counts: &Counts,
+    melds: &[Meld],
+    found: &mut Vec<Reading>,
+) -> Result<(), AllocError>
+    ensures { OnOk result (found.new.items ≡ found.old.items
+        ++ (if length melds.now == 0
+        then pairs_readings counts.now ++ orphans_readings counts.now
+        else [])) }
+{
+    if !melds.is_empty() {
+        return Ok(());
+    }
+    gather_pairs(counts, found)?;
+    gather_orphans(counts, found)
+}
+
+#[tactic(auto, unfolding(crate::specs::Inner::ReadingLists::pairs_readings))]
+fn gather_pairs(counts: &Counts, found: &mut Vec<Reading>) -> Result<(), AllocError>
+    ensures { OnOk result (found.new.items ≡ found.old.items ++ pairs_readings counts.now) }
+{
+    if !are_seven_pairs(counts.numbers()) {
+        return Ok(());
+    }
+    found.push(Reading::Pairs {
+        kinds: kinds_of_pairs(counts),
+    })?;
+    Ok(())
+}
+
+#[tactic(auto, unfolding(crate::specs::Inner::ReadingLists::orphans_readings))]
+fn gather_orphans(counts: &Counts, found: &mut Vec<Reading>) -> Result<(), AllocError>
+    ensures { OnOk result (found.new.items ≡ found.old.items ++ orphans_readings counts.now) }
+{
+    let Some(double) = double_of(counts.numbers()) else {
+        return Ok(());
+    };
+    found.push(Reading::Orphans { double })?;
+    Ok(())
 }
 
 /// The standard reading at this place of their list; behind its end, how far behind.
@@ -68,7 +142,7 @@ fn standard_at(counts: &Counts, melds: &[Meld], win: Kind, index: usize) -> Resu
 }
 
 /// The reading that these sets, the melds behind them, and the pair are.
-fn as_reading(winning_way: &WinningWay, melds: &[Meld], winning: Kind) -> Reading
+pub(crate) fn as_reading(winning_way: &WinningWay, melds: &[Meld], winning: Kind) -> Reading
     requires { length winning_way.now.sets + length melds.now ≤ 4 }
     ensures { result ≡ standard_of melds.now winning winning_way.now }
 {

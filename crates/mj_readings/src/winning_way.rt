@@ -49,7 +49,7 @@ fn win_at(sets: &[Set], pair: Kind, winning: Kind, index: usize) -> Result<u8, u
 
 /// Whether the winning tile is in the pair, 4, or in the set at this place and in none equal before it.
 #[tactic(auto, unfolding(crate::specs::Readings::names_winning))]
-fn has_winning(sets: &[Set], pair: Kind, winning: Kind, win: u8) -> bool
+pub(crate) fn has_winning(sets: &[Set], pair: Kind, winning: Kind, win: u8) -> bool
     requires { length sets.now ≤ 4 }
     ensures { result ≡ names_winning sets.now pair winning win }
 {
@@ -245,7 +245,7 @@ fn end_at(spot: &Spot, sets: &Sets, winning: Kind, index: usize) -> Result<Winni
 }
 
 /// The sets, and behind them so many runs and then triplets that begin at a kind.
-fn sets_with(sets: &Sets, kind: Kind, runs: u8, triplets: u8) -> Sets
+pub(crate) fn sets_with(sets: &Sets, kind: Kind, runs: u8, triplets: u8) -> Sets
     requires { length sets.now + (runs + triplets) ≤ 4 }
     ensures { result ≡ sets.now ++ sets_at kind runs triplets }
 {

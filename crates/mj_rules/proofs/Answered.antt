@@ -4,6 +4,7 @@ use Rattle.std.specs.Prelude.{Option, Some, None, nat_lt, nat_le, option_map}
 use Rattle.std.specs.List.{list_all, list_any}
 use Rattle.std.proofs.lemmas.Bool.{cases_eq, ne_eqb, eq-eqb, eqb-true, eqb-false, and_parts, and_from, or_parts, ltb-false, lt-ltb, leb-false, le-leb, not-false}
 use Rattle.mj_tiles.specs.Faces.{kind_of, number_in, is_red}
+use Rattle.std.proofs.Math.Bool.{or-true}
 use Rattle.mj_tiles.proofs.Faces.{either_way}
 use Rattle.mj_tiles.specs.declared.meld.Meld.{Meld}
 use Rattle.mj_deeds.specs.declared.four.Four.{Four}
@@ -14,8 +15,9 @@ use Rattle.mj_deeds.specs.declared.deed.Deed.{Deed}
 use Rattle.mj_deeds.specs.declared.deed.Deed.TheVariants.{Discard, Chi, Pon}
 use Rattle.mj_deeds.specs.Four.{at_seat}
 use Rattle.mj_deeds.specs.Facts.{newest, tiles_gained, tiles_lost, seat_melds, is_pon, kans, live_tiles}
-use Rattle.mj_deeds.specs.Fits.{is_in_hand, is_discard_of, are_held, is_triplet_of}
-use Rattle.mj_rules.specs.Broken.{WindowTurn, Discarded, turn_by, turn_in, SeatView, view_of, held_count, questions, broken_by, is_stuck_call, is_no_tile, is_no_such_tile, misses_discard, is_wrong_target, is_last_tile, is_not_held, is_own_pon, is_bad_set, is_kan_full, is_kan_dry}
+use Rattle.mj_deeds.specs.Fits.{ground_of, is_in_hand, taken_from, is_discard_of, are_held, is_triplet_of}
+use Rattle.mj_rules.specs.Broken.{is_not_now, is_reach_unready, questions, broken_by, is_stuck_call, is_no_tile, is_no_such_tile, misses_discard, is_wrong_target, is_last_tile, is_not_held, is_locked, is_own_pon, is_bad_set, is_kan_full, is_kan_dry}
+use Rattle.mj_rules.specs.View.{WindowTurn, Discarded, turn_by, turn_in, SeatView, view_of, held_count}
 use Rattle.mj_deeds.specs.declared.bid.Bid.{Bid}
 use Rattle.mj_deeds.specs.declared.bid.Bid.TheVariants as bids
 use Rattle.mj_deeds.specs.Bids.{call_of_bid}
@@ -25,7 +27,7 @@ use Rattle.mj_wall.specs.declared.setting.Rules.{Rules}
 use Rattle.mj_rules.specs.Outcome.{act_of}
 use Rattle.mj_rules.specs.Played.{AllLawful}
 use Rattle.mj_rules.proofs.Questions.{all_no}
-use Rattle.mj_rules.proofs.Stages.{Acts, stage_after, stage_of}
+use Rattle.mj_rules.proofs.Stages.{Waits, Acts, stage_of, stage_is}
 use Rattle.mj_rules.proofs.Kept.{IsNext}
 
 -- What holds of a deed, where there is one.
@@ -34,30 +36,36 @@ IfAny P None = Unit {0}
 IfAny P (Some d) = P d
 
 -- What an answer owes.
-pub record Clean (rules : Rules) (view : SeatView) (answer : Answer) : Type 0 where
+pub record Clean (rules : Rules) (seat : ℕ) (view : SeatView) (answer : Answer) : Type 0 where
+  pub opens : is_not_now rules seat view answer ≡ false
   pub tiles : is_no_such_tile rules.red answer ≡ false
-  pub target : is_wrong_target view.turn answer ≡ false
+  pub target : is_wrong_target seat view answer ≡ false
   pub early : is_last_tile view answer ≡ false
   pub held : is_not_held view answer ≡ false
+  pub unlocked : is_locked view answer ≡ false
   pub good : is_bad_set view answer ≡ false
   pub free : is_stuck_call view answer ≡ false
   pub fifth : is_kan_full view answer ≡ false
   pub dry : is_kan_dry view answer ≡ false
+  pub ready : is_reach_unready view answer ≡ false
 
 -- An answer that breaks no rule owes nothing.
-pub clean : (rules : Rules) (seat : ℕ) (view : SeatView) (answer : Answer) → broken_by rules seat view answer ≡ None → Clean rules view answer
+pub clean : (rules : Rules) (seat : ℕ) (view : SeatView) (answer : Answer) → broken_by rules seat view answer ≡ None → Clean rules seat view answer
 unfolding broken_by
 clean rules seat view answer h =
     let u = all_no (questions rules seat view answer) h in
     record {
+      opens = u.1.1.0;
       tiles = u.1.1.1.0;
       target = u.1.1.1.1.0;
       early = u.1.1.1.1.1.0;
       held = u.1.1.1.1.1.1.0;
-      good = u.1.1.1.1.1.1.1.1.0;
-      free = u.1.1.1.1.1.1.1.1.1.1.1.0;
-      fifth = u.1.1.1.1.1.1.1.1.1.1.1.1.0;
-      dry = u.1.1.1.1.1.1.1.1.1.1.1.1.1.0;
+      unlocked = u.1.1.1.1.1.1.1.1.0;
+      good = u.1.1.1.1.1.1.1.1.1.0;
+      free = u.1.1.1.1.1.1.1.1.1.1.1.1.0;
+      fifth = u.1.1.1.1.1.1.1.1.1.1.1.1.1.0;
+      dry = u.1.1.1.1.1.1.1.1.1.1.1.1.1.1.0;
+      ready = u.1.1.1.1.1.1.1.1.1.1.1.1.1.1.1.1.1.1.1.0;
     }
 
 -- the named tiles are held
@@ -118,9 +126,9 @@ seat_there : (who : ℕ) → who < 4 → (ltb who 4 && true) ≡ true
 seat_there who h = and_from (ltb who 4) true (lt-ltb who 4 h) refl
 
 -- What a seat does in its turn.
-pub act_next : (rules : Rules) (walls : List (List ℕ)) (ds : List Deed) (n : Deed) (who : ℕ) (answer : Answer) → newest ds ≡ Some n → stage_after n ≡ Acts who → is_in_hand (Some n) ≡ true → who < 4 →
-    Clean rules (view_of ds who) answer → IfAny (IsNext rules.red walls ds) (act_of who answer)
-unfolding view_of
+pub act_next : (rules : Rules) (walls : List (List ℕ)) (ds : List Deed) (n : Deed) (who : ℕ) (answer : Answer) → newest ds ≡ Some n → stage_of ds ≡ Acts who → is_in_hand (Some n) ≡ true → who < 4 →
+    Clean rules who (view_of ds who) answer → IfAny (IsNext rules.red walls ds) (act_of who answer)
+unfolding view_of ground_of
 act_next rules walls ds n who (answers.Discard actor (Known t) drawn) e acts begun small c = record {
   place = ap is_in_hand e ∙ begun;
   seats = seat_there who small;
@@ -128,7 +136,9 @@ act_next rules walls ds n who (answers.Discard actor (Known t) drawn) e acts beg
   triplet = refl;
   tiles = real_tiles rules.red (t ∷ []) c.tiles;
   live = refl;
-  stage = ap stage_of e ∙ acts;
+  once = refl;
+  pointed = refl;
+  stage = acts;
   brings = tt;
 }
 act_next rules walls ds n who (answers.ClosedKan actor (Known x) (Known y) (Known z) (Known w)) e acts begun small c = record {
@@ -138,7 +148,9 @@ act_next rules walls ds n who (answers.ClosedKan actor (Known x) (Known y) (Know
   triplet = refl;
   tiles = real_tiles rules.red (x ∷ y ∷ z ∷ w ∷ []) c.tiles;
   live = kan_may (kans (hand ds)) (live_tiles (hand ds)) c.fifth c.dry;
-  stage = ap stage_of e ∙ acts;
+  once = refl;
+  pointed = refl;
+  stage = acts;
   brings = tt;
 }
 act_next rules walls ds n who (answers.AddedKan actor (Known t) (Known x) (Known y) (Known z)) e acts begun small c = record {
@@ -148,9 +160,25 @@ act_next rules walls ds n who (answers.AddedKan actor (Known t) (Known x) (Known
   triplet = own_triplet t x y z (seat_melds (hand ds) who) c.good;
   tiles = real_tiles rules.red (t ∷ x ∷ y ∷ z ∷ []) c.tiles;
   live = kan_may (kans (hand ds)) (live_tiles (hand ds)) c.fifth c.dry;
-  stage = ap stage_of e ∙ acts;
+  once = refl;
+  pointed = refl;
+  stage = acts;
   brings = tt;
 }
+act_next rules walls ds n who (answers.Reach actor) e acts begun small c = record {
+  place = ap is_in_hand e ∙ begun;
+  seats = seat_there who small;
+  held = λ seat. refl;
+  triplet = refl;
+  tiles = or-true rules.red;
+  live = refl;
+  once = refl;
+  pointed = refl;
+  stage = acts;
+  brings = tt;
+}
+act_next rules walls ds n who (answers.Win actor target tile) e acts begun small c = tt
+act_next rules walls ds n who (answers.NineKinds actor) e acts begun small c = tt
 act_next rules walls ds n who (answers.Discard actor Hidden drawn) e acts begun small c = tt
 act_next rules walls ds n who (answers.ClosedKan actor Hidden b c d) e acts begun small k = tt
 act_next rules walls ds n who (answers.ClosedKan actor (Known x) Hidden c d) e acts begun small k = tt
@@ -185,22 +213,25 @@ pon_next : (rules : Rules) (walls : List (List ℕ)) (ds : List Deed) (who tile 
     misses_discard (view_of ds seat).turn target (Known t) ≡ false →
     list_any (λ face. nat_lt (held_count (view_of ds seat) face) (number_in (x ∷ y ∷ []) face)) (x ∷ y ∷ []) ≡ false →
     list_any (is_no_tile rules.red) (map Known (t ∷ x ∷ y ∷ [])) ≡ false → IsNext rules.red walls ds (Pon seat target t x y)
-unfolding view_of
+unfolding view_of ground_of
 pon_next rules walls ds who tile drawn seat target t x y e small there takes held real =
     let hit = hits who tile target t (ap (λ (turn : WindowTurn). misses_discard turn target (Known t)) (sym (turn_is ds seat who tile drawn e)) ∙ takes) in
     record {
-      place = ap (λ o. is_discard_of o target t) e ∙ hit;
+      place = ap (λ o. is_discard_of (taken_from (hand ds) o) target t) e ∙ hit;
       seats = caller_seats seat target who t tile there small hit;
       held = λ other. answer_held (hand ds) seat other (x ∷ y ∷ []) held;
       triplet = refl;
       tiles = real_tiles rules.red (t ∷ x ∷ y ∷ []) real;
       live = refl;
-      stage = ap stage_of e;
+      once = refl;
+      pointed = refl;
+      stage = stage_is ds (Discard who tile drawn) Waits e (λ before. refl);
       brings = tt;
     }
 
 -- A chi of a discard owes what a pon of the same tiles owes.
 chi_next : (red : Bool) (walls : List (List ℕ)) (ds : List Deed) (seat target t x y : ℕ) → IsNext red walls ds (Pon seat target t x y) → IsNext red walls ds (Chi seat target t x y)
+unfolding ground_of
 chi_next red walls ds seat target t x y n = record {
   place = n.place;
   seats = n.seats;
@@ -208,26 +239,30 @@ chi_next red walls ds seat target t x y n = record {
   triplet = n.triplet;
   tiles = n.tiles;
   live = n.live;
+  once = n.once;
+  pointed = n.pointed;
   stage = n.stage;
   brings = n.brings;
 }
 
 -- What is called: the pon or the kan of a seat.
 triplet_next : (rules : Rules) (walls : List (List ℕ)) (ds : List Deed) (who tile : ℕ) (drawn : Bool) (seat : ℕ) (answer : Answer) → newest ds ≡ Some (Discard who tile drawn) → who < 4 → seat < 4 →
-    Clean rules (view_of ds seat) answer → IfAny (IsNext rules.red walls ds) (call_of_bid (triplet_bid seat answer))
-unfolding view_of
+    Clean rules seat (view_of ds seat) answer → IfAny (IsNext rules.red walls ds) (call_of_bid (triplet_bid seat answer))
+unfolding view_of ground_of
 triplet_next rules walls ds who tile drawn seat (answers.Pon actor target (Known t) (Known x) (Known y)) e small there c =
     pon_next rules walls ds who tile drawn seat target t x y e small there c.target c.held c.tiles
 triplet_next rules walls ds who tile drawn seat (answers.OpenKan actor target (Known t) (Known x) (Known y) (Known z)) e small there c =
     let hit = hits who tile target t (ap (λ (turn : WindowTurn). misses_discard turn target (Known t)) (sym (turn_is ds seat who tile drawn e)) ∙ c.target) in
     record {
-      place = ap (λ o. is_discard_of o target t) e ∙ hit;
+      place = ap (λ o. is_discard_of (taken_from (hand ds) o) target t) e ∙ hit;
       seats = caller_seats seat target who t tile there small hit;
       held = λ other. answer_held (hand ds) seat other (x ∷ y ∷ z ∷ []) c.held;
       triplet = refl;
       tiles = real_tiles rules.red (t ∷ x ∷ y ∷ z ∷ []) c.tiles;
       live = kan_may (kans (hand ds)) (live_tiles (hand ds)) c.fifth c.early;
-      stage = ap stage_of e;
+      once = refl;
+      pointed = refl;
+      stage = stage_is ds (Discard who tile drawn) Waits e (λ before. refl);
       brings = tt;
     }
 triplet_next rules walls ds who tile drawn seat (answers.Pon actor target Hidden b c) e small there k = tt
@@ -242,11 +277,14 @@ triplet_next rules walls ds who tile drawn seat (answers.ClosedKan actor a b c d
 triplet_next rules walls ds who tile drawn seat (answers.AddedKan actor a b c d) e small there k = tt
 triplet_next rules walls ds who tile drawn seat (answers.Pass actor) e small there c = tt
 triplet_next rules walls ds who tile drawn seat (answers.Chi actor target t a b) e small there c = tt
+triplet_next rules walls ds who tile drawn seat (answers.Reach actor) e small there c = tt
+triplet_next rules walls ds who tile drawn seat (answers.Win actor target t) e small there c = tt
+triplet_next rules walls ds who tile drawn seat (answers.NineKinds actor) e small there c = tt
 triplet_next rules walls ds who tile drawn seat answers.Unread e small there c = tt
 
 -- And the chi.
 run_next : (rules : Rules) (walls : List (List ℕ)) (ds : List Deed) (who tile : ℕ) (drawn : Bool) (seat : ℕ) (answer : Answer) → newest ds ≡ Some (Discard who tile drawn) → who < 4 → seat < 4 →
-    Clean rules (view_of ds seat) answer → IfAny (IsNext rules.red walls ds) (call_of_bid (run_bid seat answer))
+    Clean rules seat (view_of ds seat) answer → IfAny (IsNext rules.red walls ds) (call_of_bid (run_bid seat answer))
 unfolding view_of
 run_next rules walls ds who tile drawn seat (answers.Chi actor target (Known t) (Known x) (Known y)) e small there c =
     chi_next rules.red walls ds seat target t x y (pon_next rules walls ds who tile drawn seat target t x y e small there c.target c.held c.tiles)
@@ -259,6 +297,9 @@ run_next rules walls ds who tile drawn seat (answers.AddedKan actor a b c d) e s
 run_next rules walls ds who tile drawn seat (answers.Pass actor) e small there c = tt
 run_next rules walls ds who tile drawn seat (answers.Pon actor target t a b) e small there c = tt
 run_next rules walls ds who tile drawn seat (answers.OpenKan actor target t a b c) e small there k = tt
+run_next rules walls ds who tile drawn seat (answers.Reach actor) e small there c = tt
+run_next rules walls ds who tile drawn seat (answers.Win actor target t) e small there c = tt
+run_next rules walls ds who tile drawn seat (answers.NineKinds actor) e small there c = tt
 run_next rules walls ds who tile drawn seat answers.Unread e small there c = tt
 
 pub either : {A : Type 0} (P : A → Type 0) (b : Bool) (o p : Option A) → IfAny P o → IfAny P p → IfAny P (cond b o p)
@@ -273,7 +314,7 @@ or_other P (bids.Pon seat target tile x y) b f g = f
 or_other P (bids.OpenKan seat target tile x y z) b f g = f
 
 -- Each of four lawful answers owes nothing.
-pub clean_at : (rules : Rules) (ds : List Deed) (given : Four Answer) (seat : ℕ) → seat < 4 → AllLawful rules ds given → Clean rules (view_of ds seat) (at_seat given seat)
+pub clean_at : (rules : Rules) (ds : List Deed) (given : Four Answer) (seat : ℕ) → seat < 4 → AllLawful rules ds given → Clean rules seat (view_of ds seat) (at_seat given seat)
 clean_at rules ds given zero h c = clean rules 0 (view_of ds 0) given.first c.first.clean
 clean_at rules ds given (suc zero) h c = clean rules 1 (view_of ds 1) given.second c.second.clean
 clean_at rules ds given (suc (suc zero)) h c = clean rules 2 (view_of ds 2) given.third c.third.clean

@@ -8,14 +8,14 @@ use Rattle.std.proofs.lemmas.List.Concat.{flat_map-append}
 use Rattle.std.proofs.lemmas.List.Folds.{list_all-append}
 use Rattle.mj_tiles.specs.Faces.{number_in, is_red}
 use Rattle.mj_deeds.specs.declared.deed.Deed.{Deed}
-use Rattle.mj_deeds.specs.declared.deed.Deed.TheVariants.{StartGame, StartHand, Draw, Discard, Chi, Pon, OpenKan, ClosedKan, AddedKan, Dora}
-use Rattle.mj_deeds.specs.Facts.{newest, tiles_gained, gains_by, tiles_lost, losses_by, drawn_tile, drawn_by}
+use Rattle.mj_deeds.specs.declared.deed.Deed.TheVariants.{StartGame, StartHand, Draw, Discard, Chi, Pon, OpenKan, ClosedKan, AddedKan, Dora, Reach}
+use Rattle.mj_deeds.specs.Facts.{newest, tiles_gained, gains_by, tiles_lost, losses_by, drawn_tile, drawn_by, before_newest, holds_drawn}
 use Rattle.mj_deeds.proofs.Totals.{number_more}
-use Rattle.mj_deeds.proofs.Newest.{newest_more}
-use Rattle.mj_deeds.proofs.Hands.{hand_with, hand_before, hand_is}
+use Rattle.mj_deeds.proofs.Newest.{newest_more, before_more}
+use Rattle.mj_deeds.proofs.HandSteps.{hand_with, hand_before, hand_is}
 use Rattle.mj_deeds.proofs.Fitted.{all_fit-append, hand_begun, parts_of, of_four}
 use Rattle.mj_deeds.specs.Hand.{hand, before_in}
-use Rattle.mj_deeds.specs.Fits.{fits, all_fit, is_in_place, is_in_hand, is_after_dora, has_held_by, are_held, has_tiles, faces_in}
+use Rattle.mj_deeds.specs.Fits.{Ground, ground_of, fits, all_fit, is_in_place, is_in_hand, is_after_dora, has_held_by, are_held, has_tiles, faces_in}
 use Rattle.mj_rules.proofs.Kept.{held_step}
 
 -- What is true of a seat behind some deeds.
@@ -58,6 +58,7 @@ gains_real p seat (OpenKan who target tile a b c) h = refl
 gains_real p seat (ClosedKan who a b c d) h = refl
 gains_real p seat (AddedKan who tile a b c) h = refl
 gains_real p seat (Dora tile) h = refl
+gains_real p seat other h = refl
 
 real_step : (red : Bool) (ds : List Deed) (d : Deed) (seat : ℕ) → has_tiles red d ≡ true → (red || list_all (λ face. not (is_red face)) (tiles_gained ds seat)) ≡ true →
     (red || list_all (λ face. not (is_red face)) (tiles_gained (ds ++ d ∷ []) seat)) ≡ true
@@ -103,11 +104,12 @@ drawn_step seat tile (OpenKan who target t a b c) l g h k = cc
 drawn_step seat tile (ClosedKan who a b c d) l g h k = cc
 drawn_step seat tile (AddedKan who t a b c) l g h k = cc
 drawn_step seat tile (Dora t) l g h k = cc
+drawn_step seat tile other l g h k = cc
 
 -- A seat that draws does so in a hand that is under way.
-drawn_in_hand : (seat tile : ℕ) (before : Option Deed) (d : Deed) → drawn_by seat d ≡ Some tile → is_in_place before d ≡ true → is_in_hand before ≡ true
-drawn_in_hand seat tile before (Draw who t true) h k = (and_parts (is_in_hand before) (is_after_dora before) k).0
-drawn_in_hand seat tile before (Draw who t false) h k = (and_parts (is_in_hand before) (not (is_after_dora before)) k).0
+drawn_in_hand : (seat tile : ℕ) (before : Ground) (d : Deed) → drawn_by seat d ≡ Some tile → is_in_place before d ≡ true → is_in_hand before.newest ≡ true
+drawn_in_hand seat tile before (Draw who t true) h k = (and_parts (is_in_hand before.newest) (is_after_dora before.newest) k).0
+drawn_in_hand seat tile before (Draw who t false) h k = (and_parts (is_in_hand before.newest) (not (is_after_dora before.newest)) k).0
 drawn_in_hand seat tile before (StartGame names) h k = cc
 drawn_in_hand seat tile before (StartHand round number honba deposits dealer indicator hands) h k = cc
 drawn_in_hand seat tile before (Discard who t drawn) h k = cc
@@ -117,9 +119,10 @@ drawn_in_hand seat tile before (OpenKan who target t a b c) h k = cc
 drawn_in_hand seat tile before (ClosedKan who a b c d) h k = cc
 drawn_in_hand seat tile before (AddedKan who t a b c) h k = cc
 drawn_in_hand seat tile before (Dora t) h k = cc
+drawn_in_hand seat tile before other h k = cc
 
 -- One deed further in its hand.
-drawn_more : (h : List Deed) (d : Deed) (seat tile : ℕ) → drawn_by seat d ≡ Some tile → number_in (tiles_lost h seat) tile ≤ number_in (tiles_gained h seat) tile →
+pub drawn_more : (h : List Deed) (d : Deed) (seat tile : ℕ) → drawn_by seat d ≡ Some tile → number_in (tiles_lost h seat) tile ≤ number_in (tiles_gained h seat) tile →
     number_in (tiles_lost (h ++ d ∷ []) seat) tile < number_in (tiles_gained (h ++ d ∷ []) seat) tile
 drawn_more h d seat tile drawn within =
     further _ _ _ _ _ _ (number_more (losses_by seat) h d tile) (number_more (gains_by seat) h d tile) (drawn_step seat tile d _ _ drawn within)
@@ -134,6 +137,43 @@ none_red : (red : Bool) (seat : ℕ) → (red || list_all (λ face. not (is_red 
 none_red true seat = refl
 none_red false seat = refl
 
+in_hand_of : (ds : List Deed) (seat tile : ℕ) (d : Deed) → drawn_by seat d ≡ Some tile → is_in_place (ground_of ds) d ≡ true → is_in_hand (newest ds) ≡ true
+unfolding ground_of
+in_hand_of ds seat tile d h k = drawn_in_hand seat tile (ground_of ds) d h k
+
+reach_in_hand : (ds : List Deed) (who : ℕ) → is_in_place (ground_of ds) (Reach who) ≡ true → is_in_hand (newest ds) ≡ true
+unfolding ground_of
+reach_in_hand ds who h = h
+
+-- What a seat holds as drawn with one deed more.
+drawn_is : (ds : List Deed) (d : Deed) (seat : ℕ) → drawn_tile (ds ++ d ∷ []) seat ≡ holds_drawn seat (newest ds) d
+drawn_is ds d seat =
+    ap (option_and_then (holds_drawn seat (before_newest (ds ++ d ∷ [])))) (newest_more ds d)
+    ∙ ap (λ (xs : List Deed). holds_drawn seat (newest xs) d) (before_more ds d)
+
+-- After its reach that of the draw before.
+held_before : (ds : List Deed) (seat who tile : ℕ) → holds_drawn seat (newest ds) (Reach who) ≡ Some tile → drawn_tile ds seat ≡ Some tile
+held_before ds seat who tile h = by_newest (newest ds) (own (eqb who seat) (option_and_then (drawn_by seat) (newest ds)) h)
+  where
+    own : (b : Bool) (o : Option ℕ) → cond b o None ≡ Some tile → o ≡ Some tile
+    own true o e = e
+    own false o e = cc
+
+    by_newest : (o : Option Deed) → option_and_then (drawn_by seat) o ≡ Some tile → option_and_then (holds_drawn seat (before_newest ds)) o ≡ Some tile
+    by_newest None e = cc
+    by_newest (Some (Reach other)) e = cc
+    by_newest (Some other) e = e
+
+-- A reach leaves what each seat was given and put down.
+reach_keeps : (ds : List Deed) (who seat tile : ℕ) → (hand ds ≡ [] → ⊥) → number_in (tiles_lost (hand ds) seat) tile < number_in (tiles_gained (hand ds) seat) tile →
+    number_in (tiles_lost (hand (ds ++ Reach who ∷ [])) seat) tile < number_in (tiles_gained (hand (ds ++ Reach who ∷ [])) seat) tile
+reach_keeps ds who seat tile some h =
+    subst (λ (xs : List Deed). number_in (tiles_lost xs seat) tile < number_in (tiles_gained xs seat) tile) (sym (hand_is ds (Reach who) (λ _ empty. some empty)))
+    (same _ _ _ _ (number_more (losses_by seat) (hand ds) (Reach who) tile) (number_more (gains_by seat) (hand ds) (Reach who) tile) h)
+  where
+    same : (l' l g' g : ℕ) → l' ≡ l + 0 → g' ≡ g + 0 → l < g → l' < g'
+    same l' l g' g e f h = omega arith
+
 -- One deed further.
 owns_more : (red : Bool) (ds : List Deed) (d : Deed) (seat : ℕ) → seat < 4 → all_fit red [] ds ≡ true → fits red ds d ≡ true → Owns red ds seat → Owns red (ds ++ d ∷ []) seat
 owns_more red ds d seat small old fit owns =
@@ -147,15 +187,27 @@ owns_more red ds d seat small old fit owns =
     record {
       within = hand_with (λ xs. (face : ℕ) → number_in (tiles_lost xs seat) face ≤ number_in (tiles_gained xs seat) face) ds d (λ _ _. none_held seat) (λ face. held_step h d seat face held (within face));
       real = hand_with (λ xs. (red || list_all (λ face. not (is_red face)) (tiles_gained xs seat)) ≡ true) ds d (λ _ _. none_red red seat) (real_step red h d seat parts.inside.tiles real);
-      drawn = λ tile k. drawn_now tile (ap (option_and_then (drawn_by seat)) (sym (newest_more ds d)) ∙ k) parts.place (within tile);
+      drawn = λ tile k. holds_now d refl parts.place within tile (sym (drawn_is ds d seat) ∙ k);
     }
   where
-    drawn_now : (tile : ℕ) → drawn_by seat d ≡ Some tile → is_in_place (newest ds) d ≡ true → number_in (tiles_lost (before_in (hand ds) d) seat) tile ≤ number_in (tiles_gained (before_in (hand ds) d) seat) tile →
+    drawn_now : (tile : ℕ) → drawn_by seat d ≡ Some tile → is_in_hand (newest ds) ≡ true → number_in (tiles_lost (before_in (hand ds) d) seat) tile ≤ number_in (tiles_gained (before_in (hand ds) d) seat) tile →
         number_in (tiles_lost (hand (ds ++ d ∷ [])) seat) tile < number_in (tiles_gained (hand (ds ++ d ∷ [])) seat) tile
-    drawn_now tile drew place within =
+    drawn_now tile drew begun within =
         subst (λ (xs : List Deed). number_in (tiles_lost xs seat) tile < number_in (tiles_gained xs seat) tile)
-        (sym (hand_is ds d (λ _ empty. hand_begun red ds old (drawn_in_hand seat tile (newest ds) d drew place) empty)))
+        (sym (hand_is ds d (λ _ empty. hand_begun red ds old begun empty)))
         (drawn_more (before_in (hand ds) d) d seat tile drew within)
+
+    by_draw : (x : Deed) → d ≡ x → is_in_place (ground_of ds) x ≡ true → ((face : ℕ) → number_in (tiles_lost (before_in (hand ds) d) seat) face ≤ number_in (tiles_gained (before_in (hand ds) d) seat) face) → (tile : ℕ) →
+        drawn_by seat x ≡ Some tile → number_in (tiles_lost (hand (ds ++ d ∷ [])) seat) tile < number_in (tiles_gained (hand (ds ++ d ∷ [])) seat) tile
+    by_draw x e place within tile drew = drawn_now tile (ap (drawn_by seat) e ∙ drew) (in_hand_of ds seat tile x drew place) (within tile)
+
+    holds_now : (x : Deed) → d ≡ x → is_in_place (ground_of ds) x ≡ true → ((face : ℕ) → number_in (tiles_lost (before_in (hand ds) d) seat) face ≤ number_in (tiles_gained (before_in (hand ds) d) seat) face) → (tile : ℕ) →
+        holds_drawn seat (newest ds) x ≡ Some tile → number_in (tiles_lost (hand (ds ++ d ∷ [])) seat) tile < number_in (tiles_gained (hand (ds ++ d ∷ [])) seat) tile
+    holds_now (Reach who) e place within tile holds =
+        let before : drawn_tile ds seat ≡ Some tile = held_before ds seat who tile holds in
+        subst (λ (x : Deed). number_in (tiles_lost (hand (ds ++ x ∷ [])) seat) tile < number_in (tiles_gained (hand (ds ++ x ∷ [])) seat) tile) (sym e)
+        (reach_keeps ds who seat tile (λ empty. hand_begun red ds old (reach_in_hand ds who place) empty) (owns.drawn tile before))
+    holds_now other e place within tile holds = by_draw other e place within tile holds
 
 owns_all : (red : Bool) (before ds : List Deed) (seat : ℕ) → seat < 4 → all_fit red [] before ≡ true → all_fit red before ds ≡ true → Owns red before seat → Owns red (before ++ ds) seat
 owns_all red before [] seat small old h owns = subst (λ (xs : List Deed). Owns red xs seat) (sym (append-nil before)) owns

@@ -9,16 +9,17 @@ use Rattle.mj_tiles.specs.Faces.{kind_of, number_in}
 use Rattle.mj_tiles.specs.Counts.{number_of}
 use Rattle.mj_deeds.specs.declared.four.Four.{Four}
 use Rattle.mj_deeds.specs.declared.deed.Deed.{Deed}
-use Rattle.mj_deeds.specs.declared.deed.Deed.TheVariants.{StartGame, StartHand, Draw, Discard, Chi, Pon, OpenKan, ClosedKan, AddedKan, Dora}
+use Rattle.mj_deeds.specs.declared.deed.Deed.TheVariants.{StartGame, StartHand, Draw, Discard, Chi, Pon, OpenKan, ClosedKan, AddedKan, Dora, Reach, ReachAccepted}
 use Rattle.mj_deeds.specs.Four.{for_each_seat}
-use Rattle.mj_deeds.specs.Facts.{newest, gains_by, losses_by, tiles_gained, tiles_lost, makes_by, is_kan, kans, kan_seats_by, kan_seats, indicators_by, indicators, is_live_draw, live_draws}
-use Rattle.mj_deeds.specs.Fits.{is_in_place, are_held, has_seats, has_triplet, has_tiles, brought_by, has_live}
+use Rattle.mj_deeds.specs.Facts.{gains_by, losses_by, tiles_gained, tiles_lost, makes_by, is_kan, kans, kan_seats_by, kan_seats, indicators_by, indicators, is_live_draw, live_draws}
+use Rattle.mj_deeds.specs.Fits.{ground_of, is_in_place, are_held, has_seats, has_triplet, has_tiles, brought_by, has_live, is_first_riichi, has_points}
+use Rattle.mj_deeds.specs.Points.{points}
 use Rattle.mj_deeds.proofs.Totals.{sum_more, held_room}
 use Rattle.mj_wall.specs.Places.{replacement_tile}
 use Rattle.mj_wall.proofs.WallKinds.{up}
 use Rattle.mj_deeds.specs.Hand.{is_hand_start, hand, before_in, starts, hand_number}
 use Rattle.mj_rules.specs.Outcome.{wall_of, hand_dealt}
-use Rattle.mj_rules.proofs.Stages.{stage_before, stage_after, stage_of, is_begun, owes_tile, is_replacement, at_place, brought_from, StandsAt, Brings, DealsWell, length-more, shown_step, taken_step, fresh_step, live_step, hands_step, brings_more}
+use Rattle.mj_rules.proofs.Stages.{Stage, NoHand, stage_before, stage_after, stage_of, is_begun, owes_tile, is_replacement, at_place, brought_from, StandsAt, Brings, DealsWell, length-more, shown_step, taken_step, fresh_step, live_step, hands_step, brings_more}
 
 -- The first seat of a deed is a seat.
 pub first_seat : (who : ℕ) (rest : Bool) → (ltb who 4 && rest) ≡ true → who < 4
@@ -57,38 +58,41 @@ quiet f begun n p q r p' q' r' e g h k =
 less_one : (r k : ℕ) → r + 1 ≡ k → k - 1 ≡ r
 less_one r k e = omega arith
 
-kinds_step : (wall : List ℕ) (ds : List Deed) (d : Deed) (kind n p' q' r' : ℕ) → has_seats d ≡ true → DealsWell wall → Brings wall ds d →
+kinds_step : (s : Stage) (wall : List ℕ) (ds : List Deed) (d : Deed) (kind n p' q' r' : ℕ) → has_seats d ≡ true → DealsWell wall → Brings wall ds d →
     p' ≡ live_draws ds + cond (is_live_draw d) 1 0 → q' ≡ length (indicators ds) + length (indicators_by d) → r' ≡ count_by is_replacement ds + cond (is_replacement d) 1 0 →
-    cond (is_begun (stage_before d)) 0 (length (indicators ds)) ≡ 0 → count_by is_replacement ds + owes_tile (stage_before d) ≡ kans ds →
-    n ≡ brought_from (at_place wall kind) (is_begun (stage_before d)) (live_draws ds) (length (indicators ds)) (count_by is_replacement ds) →
-    n + number_of (brought_by d) kind ≡ brought_from (at_place wall kind) (is_begun (stage_after d)) p' q' r'
-kinds_step wall ds (StartGame names) kind n p' q' r' seats deals brings e g h fresh taken k = quiet (at_place wall kind) false n _ _ _ p' q' r' e g h k
-kinds_step wall ds (StartHand round number honba deposits dealer indicator hands) kind n p' q' r' seats deals brings e g h fresh taken k =
+    cond (is_begun (stage_before s d)) 0 (length (indicators ds)) ≡ 0 → count_by is_replacement ds + owes_tile (stage_before s d) ≡ kans ds →
+    n ≡ brought_from (at_place wall kind) (is_begun (stage_before s d)) (live_draws ds) (length (indicators ds)) (count_by is_replacement ds) →
+    n + number_of (brought_by d) kind ≡ brought_from (at_place wall kind) (is_begun (stage_after s d)) p' q' r'
+kinds_step s wall ds (StartGame names) kind n p' q' r' seats deals brings e g h fresh taken k = quiet (at_place wall kind) false n _ _ _ p' q' r' e g h k
+kinds_step s wall ds (StartHand round number honba deposits dealer indicator hands) kind n p' q' r' seats deals brings e g h fresh taken k =
     start_kinds (at_place wall kind) n _ (cond (eqb (kind_of indicator) kind) 1 0) _ _ _ p' q' r' _ e g h fresh
     (ap (λ t. cond (eqb (kind_of t) kind) 1 0) brings.0)
     (start_sum (λ x. cond (eqb (kind_of x) kind) 1 0) indicator hands.first hands.second hands.third hands.fourth)
     (dealt_sum wall dealer hands kind (first_seat dealer true seats) deals brings.1) k
-kinds_step wall ds (Draw who tile true) kind n p' q' r' seats deals brings e g h fresh taken k =
+kinds_step s wall ds (Draw who tile true) kind n p' q' r' seats deals brings e g h fresh taken k =
     brings_more (at_place wall kind) true false false true n _ _ (cond (eqb (kind_of tile) kind) 1 0) _ _ _ p' q' r' _ e g h refl refl
     (ap (λ t. cond (eqb (kind_of t) kind) 1 0) (brings ∙ ap (replacement_tile wall) (less_one _ _ taken))) refl k
-kinds_step wall ds (Draw who tile false) kind n p' q' r' seats deals brings e g h fresh taken k =
+kinds_step s wall ds (Draw who tile false) kind n p' q' r' seats deals brings e g h fresh taken k =
     brings_more (at_place wall kind) true true false false n (cond (eqb (kind_of tile) kind) 1 0) _ _ _ _ _ p' q' r' _ e g h
     (ap (λ t. cond (eqb (kind_of t) kind) 1 0) brings) refl refl (only _) k
   where
     only : (x : ℕ) → 0 + x ≡ x + 0 + 0
     only x = omega arith
-kinds_step wall ds (Discard who tile drawn) kind n p' q' r' seats deals brings e g h fresh taken k = quiet (at_place wall kind) true n _ _ _ p' q' r' e g h k
-kinds_step wall ds (Chi who target tile a b) kind n p' q' r' seats deals brings e g h fresh taken k = quiet (at_place wall kind) true n _ _ _ p' q' r' e g h k
-kinds_step wall ds (Pon who target tile a b) kind n p' q' r' seats deals brings e g h fresh taken k = quiet (at_place wall kind) true n _ _ _ p' q' r' e g h k
-kinds_step wall ds (OpenKan who target tile a b c) kind n p' q' r' seats deals brings e g h fresh taken k = quiet (at_place wall kind) true n _ _ _ p' q' r' e g h k
-kinds_step wall ds (ClosedKan who a b c d) kind n p' q' r' seats deals brings e g h fresh taken k = quiet (at_place wall kind) true n _ _ _ p' q' r' e g h k
-kinds_step wall ds (AddedKan who tile a b c) kind n p' q' r' seats deals brings e g h fresh taken k = quiet (at_place wall kind) true n _ _ _ p' q' r' e g h k
-kinds_step wall ds (Dora tile) kind n p' q' r' seats deals brings e g h fresh taken k =
+kinds_step s wall ds (Discard who tile drawn) kind n p' q' r' seats deals brings e g h fresh taken k = quiet (at_place wall kind) true n _ _ _ p' q' r' e g h k
+kinds_step s wall ds (Chi who target tile a b) kind n p' q' r' seats deals brings e g h fresh taken k = quiet (at_place wall kind) true n _ _ _ p' q' r' e g h k
+kinds_step s wall ds (Pon who target tile a b) kind n p' q' r' seats deals brings e g h fresh taken k = quiet (at_place wall kind) true n _ _ _ p' q' r' e g h k
+kinds_step s wall ds (OpenKan who target tile a b c) kind n p' q' r' seats deals brings e g h fresh taken k = quiet (at_place wall kind) true n _ _ _ p' q' r' e g h k
+kinds_step s wall ds (ClosedKan who a b c d) kind n p' q' r' seats deals brings e g h fresh taken k = quiet (at_place wall kind) true n _ _ _ p' q' r' e g h k
+kinds_step s wall ds (AddedKan who tile a b c) kind n p' q' r' seats deals brings e g h fresh taken k = quiet (at_place wall kind) true n _ _ _ p' q' r' e g h k
+kinds_step s wall ds (Dora tile) kind n p' q' r' seats deals brings e g h fresh taken k =
     brings_more (at_place wall kind) true false true false n _ (cond (eqb (kind_of tile) kind) 1 0) _ _ _ _ p' q' r' _ e g h
     refl (ap (λ t. cond (eqb (kind_of t) kind) 1 0) brings) refl (only _) k
   where
     only : (x : ℕ) → 0 + x ≡ 0 + x + 0
     only x = omega arith
+kinds_step s wall ds (Reach who) kind n p' q' r' seats deals brings e g h fresh taken k = quiet (at_place wall kind) true n _ _ _ p' q' r' e g h k
+kinds_step s wall ds (ReachAccepted who points bid) kind n p' q' r' seats deals brings e g h fresh taken k = quiet (at_place wall kind) true n _ _ _ p' q' r' e g h k
+kinds_step s wall ds other kind n p' q' r' seats deals brings e g h fresh taken k = quiet (at_place wall kind) (is_begun s) n _ _ _ p' q' r' e g h k
 
 -- tiles that are held
 
@@ -121,15 +125,21 @@ seats_more ds d old new =
 abbrev pub wall_for : List (List ℕ) → List Deed → Deed → List ℕ
 wall_for walls ds d = wall_of walls (cond (is_hand_start d) (length (starts ds)) (hand_number ds))
 
+-- The stage that a deed is held against: a start of a hand leaves the hand before it behind.
+abbrev pub stage_for : Stage → Deed → Stage
+stage_for stage d = cond (is_hand_start d) NoHand stage
+
 -- What a deed owes to those before it, other than that there is room.
 pub record IsNext (red : Bool) (walls : List (List ℕ)) (ds : List Deed) (d : Deed) : Type 0 where
-  pub place : is_in_place (newest ds) d ≡ true
+  pub place : is_in_place (ground_of ds) d ≡ true
   pub seats : has_seats d ≡ true
   pub held : (seat : ℕ) → are_held (tiles_gained (before_in (hand ds) d) seat) (tiles_lost (before_in (hand ds) d) seat) (losses_by seat d) ≡ true
   pub triplet : has_triplet (before_in (hand ds) d) d ≡ true
   pub tiles : has_tiles red d ≡ true
   pub live : has_live (before_in (hand ds) d) d ≡ true
-  pub stage : stage_of (newest ds) ≡ stage_before d
+  pub once : is_first_riichi (before_in (hand ds) d) d ≡ true
+  pub pointed : has_points (points ds) d ≡ true
+  pub stage : stage_for (stage_of ds) d ≡ stage_before (stage_of ds) d
   pub brings : Brings (wall_for walls ds d) (before_in (hand ds) d) d
 
 -- What a deed owes to those before it in its own hand.
@@ -143,19 +153,19 @@ pub inside : (red : Bool) (walls : List (List ℕ)) (ds : List Deed) (d : Deed) 
 inside red walls ds d next = record { seats = next.seats; held = next.held; live = next.live; brings = next.brings }
 
 -- One deed more keeps what is true.
-pub keeps : (wall : List ℕ) (ds : List Deed) (d : Deed) → DealsWell wall → StandsAt wall ds (stage_before d) → IsNextIn wall ds d → StandsAt wall (ds ++ d ∷ []) (stage_after d)
-keeps wall ds d deals s next =
+pub keeps : (stage : Stage) (wall : List ℕ) (ds : List Deed) (d : Deed) → DealsWell wall → StandsAt wall ds (stage_before stage d) → IsNextIn wall ds d → StandsAt wall (ds ++ d ∷ []) (stage_after stage d)
+keeps stage wall ds d deals s next =
     let draws : live_draws (ds ++ d ∷ []) ≡ live_draws ds + cond (is_live_draw d) 1 0 = sum_by_push (λ x. cond (is_live_draw x) 1 0) ds d in
     let made : kans (ds ++ d ∷ []) ≡ kans ds + cond (is_kan d) 1 0 = sum_by_push (λ x. cond (is_kan x) 1 0) ds d in
     let taken : count_by is_replacement (ds ++ d ∷ []) ≡ count_by is_replacement ds + cond (is_replacement d) 1 0 = sum_by_push (λ x. cond (is_replacement x) 1 0) ds d in
     let shown : length (indicators (ds ++ d ∷ [])) ≡ length (indicators ds) + length (indicators_by d) = length-more indicators_by ds d in
     let live = live_step d ds next.live s.live s.four in
     record {
-      kinds = λ kind. sum_more (λ x. cond (eqb (kind_of x) kind) 1 0) brought_by ds d ∙ kinds_step wall ds d kind _ _ _ _ next.seats deals next.brings draws shown taken s.fresh s.taken (s.kinds kind);
-      hands = λ seat. hands_of _ _ _ _ _ _ _ _ _ _ _ (length-more (gains_by seat) ds d) (length-more (makes_by seat) ds d) (length-more (losses_by seat) ds d) (hands_step wall ds d seat _ _ _ deals next.brings (s.hands seat));
-      shown = shown_of _ _ _ _ _ _ shown made (shown_step d _ _ s.shown);
-      taken = taken_of _ _ _ _ _ taken made (taken_step d _ _ s.taken);
-      fresh = fresh_step d _ _ shown s.fresh;
+      kinds = λ kind. sum_more (λ x. cond (eqb (kind_of x) kind) 1 0) brought_by ds d ∙ kinds_step stage wall ds d kind _ _ _ _ next.seats deals next.brings draws shown taken s.fresh s.taken (s.kinds kind);
+      hands = λ seat. hands_of _ _ _ _ _ _ _ _ _ _ _ (length-more (gains_by seat) ds d) (length-more (makes_by seat) ds d) (length-more (losses_by seat) ds d) (hands_step stage wall ds d seat _ _ _ deals next.brings (s.hands seat));
+      shown = shown_of _ _ _ _ _ _ shown made (shown_step stage d _ _ s.shown);
+      taken = taken_of _ _ _ _ _ taken made (taken_step stage d _ _ s.taken);
+      fresh = fresh_step stage d _ _ shown s.fresh;
       live = live_of _ _ _ _ draws made live.0;
       four = four_of _ _ made live.1;
       held = λ seat face. held_step ds d seat face (next.held seat) (s.held seat face);

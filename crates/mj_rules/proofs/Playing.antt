@@ -1,31 +1,38 @@
 -- Played deeds fit, each behind those before it.
-use Rattle.std.proofs.Common.{◌≡◌, ℕ, zero, suc, ◌+◌, ◌-◌, ◌%◌, ◌<◌, ◌≤◌, Bool, true, false, cond, List, [], ◌∷◌, ◌++◌, length, refl, ap, sym, subst, arith, append-nil, append_assoc}
-use Rattle.std.specs.Prelude.{Option, Some, IsTrue}
+use Rattle.std.proofs.Common.{◌≡◌, ℕ, zero, suc, ◌+◌, ◌-◌, ◌%◌, ◌<◌, ◌≤◌, Bool, true, false, cond, List, [], ◌∷◌, ◌++◌, length, refl, ap, sym, ◌∙◌, subst, arith, append-nil, append_assoc}
+use Rattle.std.specs.Prelude.{Option, Some, None, IsTrue, is_none}
 use Rattle.std.specs.List.{list_all, slice_index_or}
 use Rattle.std.proofs.Math.Bool.{or-true}
 use Rattle.std.proofs.lemmas.Bool.{and_parts}
+use Rattle.std.proofs.lemmas.Option.{slice_get-get_or}
 use Rattle.std.proofs.lemmas.List.Elements.{All-nil}
 use Rattle.mj_deeds.specs.declared.four.Four.{Four}
 use Rattle.mj_deeds.specs.declared.answer.Answer.{Answer}
 use Rattle.mj_deeds.specs.declared.deed.Deed.{Deed}
-use Rattle.mj_deeds.specs.declared.deed.Deed.TheVariants.{StartGame, StartHand, Draw, Discard, Chi, Pon, OpenKan, ClosedKan, AddedKan, Dora}
+use Rattle.mj_deeds.specs.declared.deed.Deed.TheVariants.{StartGame, StartHand, Draw, Discard, Chi, Pon, OpenKan, ClosedKan, AddedKan, Dora, Reach, ReachAccepted, Win, DrawnHand, EndHand, EndGame}
 use Rattle.mj_deeds.specs.Facts.{newest}
-use Rattle.mj_deeds.specs.Fits.{fits, all_fit, has_seats}
-use Rattle.mj_deeds.proofs.Fitted.{all_fit-append, few_starts}
-use Rattle.mj_deeds.proofs.Hands.{hand_with, starts_more}
+use Rattle.mj_deeds.specs.Fits.{ground_of, fits, all_fit, is_in_place, is_after_start, has_seats, has_tiles}
+use Rattle.mj_deeds.proofs.Fitted.{all_fit-append}
+use Rattle.mj_deeds.proofs.HandSteps.{hand_with, starts_more}
 use Rattle.mj_deeds.proofs.Newest.{newest_more}
+use Rattle.mj_deeds.proofs.Standings.{may_stand}
 use Rattle.mj_wall.specs.Places.{is_wall}
 use Rattle.mj_wall.proofs.WallKinds.{up}
-use Rattle.mj_deeds.specs.Hand.{is_hand_start, hand, before_in, starts}
+use Rattle.mj_deeds.specs.Hand.{is_hand_start, hand, before_in, starts, hand_number}
 use Rattle.mj_wall.specs.declared.setting.Rules.{Rules}
 use Rattle.mj_rules.specs.Outcome.{wall_of, wall_now, outcome}
 use Rattle.mj_rules.specs.Played.{AllLawful, is_game_start, IsPlayedBehind, AllPlayed, IsPlayed}
 use Rattle.mj_rules.specs.Laws.{EachIsWall, PlayedWithOneMore, PlayedWithoutTheLast, PlayedDeedsFit, NextOfPlayedFits}
-use Rattle.mj_rules.proofs.Stages.{Stage, NoGame, NoHand, Waits, Acts, MadeKan, ShowedDora, stage_before, stage_after, stage_of, is_begun, owes_dora, owes_tile, holds_more, StandsAt}
-use Rattle.mj_rules.proofs.Kept.{wall_for, IsNext, inside, keeps}
+use Rattle.mj_rules.proofs.Stages.{Stage, NoGame, NoHand, Waits, Acts, MadeKan, ShowedDora, stage_before, stage_after, stage_of, stage_more, is_begun, owes_dora, owes_tile, holds_more, StandsAt}
+use Rattle.mj_rules.proofs.Kept.{wall_for, stage_for, IsNext, inside, keeps}
 use Rattle.mj_rules.proofs.Room.{deals_well, next_fits}
 use Rattle.mj_rules.proofs.Answered.{IfAny}
-use Rattle.mj_rules.proofs.Turns.{outcome_next}
+use Rattle.mj_rules.proofs.Given.{owns}
+use Rattle.mj_rules.proofs.Winning.{Fair}
+use Rattle.mj_rules.proofs.Starting.{next_stands}
+use Rattle.mj_rules.proofs.Turns.{Known, outcome_next}
+use Rattle.mj_rules.proofs.Promises.{Promise, Unlocked, outcome_owes, game_owes_nothing, unlocked_more, free_more, promised_more}
+use Rattle.mj_rules.proofs.Riches.{Rich, nothing_rich, start_rich, rich_next, rich_few}
 
 -- The wall at a place of walls that are all whole.
 wall_at : (red : Bool) (walls : List (List ℕ)) (n : ℕ) → n < length walls → list_all (is_wall red) walls ≡ true → is_wall red (slice_index_or walls n []) ≡ true
@@ -43,9 +50,27 @@ each_is_wall red walls some whole hand = wall_at red walls (hand % length walls)
 
 -- What is true of deeds that come each in its turn.
 pub record Sound (red : Bool) (walls : List (List ℕ)) (ds : List Deed) : Type 0 where
-  pub standing : StandsAt (wall_now walls ds) (hand ds) (stage_of (newest ds))
+  pub standing : StandsAt (wall_now walls ds) (hand ds) (stage_of ds)
   pub fit : all_fit red [] ds ≡ true
   pub seated : IfAny (λ d. has_seats d ≡ true) (newest ds)
+  pub known : Known red walls ds
+  pub unlocked : Unlocked ds
+  pub rich : Rich ds
+
+-- What a deed that is played behind them adds to it.
+record Adds (red : Bool) (walls : List (List ℕ)) (ds : List Deed) (d : Deed) : Type 0 where
+  next : IsNext red walls ds d
+  promise : Promise red walls ds d
+  rich : Rich (ds ++ d ∷ [])
+
+-- What follows from that all fit for a win.
+fair_of : (red : Bool) (walls : List (List ℕ)) (ds : List Deed) → ((number : ℕ) → is_wall red (wall_of walls number) ≡ true) → all_fit red [] ds ≡ true → Rich ds → Fair red walls ds
+fair_of red walls ds h fit rich = record {
+  whole = h;
+  honba = (may_stand red ds fit).honba;
+  rich = rich_few red ds fit rich;
+  real = λ seat small. (owns red ds seat small fit).real;
+}
 
 -- one deed more
 
@@ -85,56 +110,106 @@ wall_is walls ds d = ap (wall_of walls) (number (is_hand_start d) (length (start
     number false n m e = omega arith
 
 -- What stands before a deed in its own hand.
-before_stands : (red : Bool) (walls : List (List ℕ)) (ds : List Deed) (d : Deed) → Sound red walls ds → stage_of (newest ds) ≡ stage_before d → StandsAt (wall_for walls ds d) (before_in (hand ds) d) (stage_before d)
+before_stands : (red : Bool) (walls : List (List ℕ)) (ds : List Deed) (d : Deed) → Sound red walls ds → stage_for (stage_of ds) d ≡ stage_before (stage_of ds) d →
+    StandsAt (wall_for walls ds d) (before_in (hand ds) d) (stage_before (stage_of ds) d)
 before_stands red walls ds (StartHand round number honba deposits dealer indicator hands) s e = no_hand_stands (wall_of walls (length (starts ds)))
-before_stands red walls ds (StartGame names) s e = subst (StandsAt (wall_now walls ds) (hand ds)) e s.standing
-before_stands red walls ds (Draw who tile replacement) s e = subst (StandsAt (wall_now walls ds) (hand ds)) e s.standing
-before_stands red walls ds (Discard who tile drawn) s e = subst (StandsAt (wall_now walls ds) (hand ds)) e s.standing
-before_stands red walls ds (Chi who target tile a b) s e = subst (StandsAt (wall_now walls ds) (hand ds)) e s.standing
-before_stands red walls ds (Pon who target tile a b) s e = subst (StandsAt (wall_now walls ds) (hand ds)) e s.standing
-before_stands red walls ds (OpenKan who target tile a b c) s e = subst (StandsAt (wall_now walls ds) (hand ds)) e s.standing
-before_stands red walls ds (ClosedKan who a b c x) s e = subst (StandsAt (wall_now walls ds) (hand ds)) e s.standing
-before_stands red walls ds (AddedKan who tile a b c) s e = subst (StandsAt (wall_now walls ds) (hand ds)) e s.standing
-before_stands red walls ds (Dora tile) s e = subst (StandsAt (wall_now walls ds) (hand ds)) e s.standing
+before_stands red walls ds other s e = subst (StandsAt (wall_now walls ds) (hand ds)) e s.standing
 
 -- A deed behind nothing of a hand that doesn't start one starts the game.
-no_hand_yet : (wall : List ℕ) (d : Deed) → is_hand_start d ≡ false → is_begun (stage_before d) ≡ false → StandsAt wall [] (stage_after d)
-no_hand_yet wall (StartGame names) h k = no_hand_stands wall
-no_hand_yet wall (StartHand round number honba deposits dealer indicator hands) h k = cc
-no_hand_yet wall (Draw who tile true) h k = cc
-no_hand_yet wall (Draw who tile false) h k = cc
-no_hand_yet wall (Discard who tile drawn) h k = cc
-no_hand_yet wall (Chi who target tile a b) h k = cc
-no_hand_yet wall (Pon who target tile a b) h k = cc
-no_hand_yet wall (OpenKan who target tile a b c) h k = cc
-no_hand_yet wall (ClosedKan who a b c x) h k = cc
-no_hand_yet wall (AddedKan who tile a b c) h k = cc
-no_hand_yet wall (Dora tile) h k = cc
+no_hand_yet : (wall : List ℕ) (stage : Stage) (d : Deed) → is_hand_start d ≡ false → is_begun (stage_before stage d) ≡ false → StandsAt wall [] (stage_before stage d) → StandsAt wall [] (stage_after stage d)
+no_hand_yet wall stage (StartGame names) h k s = no_hand_stands wall
+no_hand_yet wall stage (StartHand round number honba deposits dealer indicator hands) h k s = cc
+no_hand_yet wall stage (Draw who tile true) h k s = cc
+no_hand_yet wall stage (Draw who tile false) h k s = cc
+no_hand_yet wall stage (Discard who tile drawn) h k s = cc
+no_hand_yet wall stage (Chi who target tile a b) h k s = cc
+no_hand_yet wall stage (Pon who target tile a b) h k s = cc
+no_hand_yet wall stage (OpenKan who target tile a b c) h k s = cc
+no_hand_yet wall stage (ClosedKan who a b c x) h k s = cc
+no_hand_yet wall stage (AddedKan who tile a b c) h k s = cc
+no_hand_yet wall stage (Dora tile) h k s = cc
+no_hand_yet wall stage (Reach who) h k s = cc
+no_hand_yet wall stage (ReachAccepted who points bid) h k s = cc
+no_hand_yet wall stage other h k s = s
 
 deed_fits : (red : Bool) (walls : List (List ℕ)) (ds : List Deed) (d : Deed) → ((number : ℕ) → is_wall red (wall_of walls number) ≡ true) → Sound red walls ds → IsNext red walls ds d → fits red ds d ≡ true
 deed_fits red walls ds d h s next = next_fits red walls ds d (h _) (before_stands red walls ds d s next.stage) next
 
 after_stands : (red : Bool) (walls : List (List ℕ)) (ds : List Deed) (d : Deed) → ((number : ℕ) → is_wall red (wall_of walls number) ≡ true) → Sound red walls ds → IsNext red walls ds d →
-    StandsAt (wall_for walls ds d) (hand (ds ++ d ∷ [])) (stage_after d)
+    StandsAt (wall_for walls ds d) (hand (ds ++ d ∷ [])) (stage_after (stage_of ds) d)
 after_stands red walls ds d h s next =
-    hand_with (λ xs. StandsAt (wall_for walls ds d) xs (stage_after d)) ds d
-    (λ not_start empty. no_hand_yet (wall_for walls ds d) d not_start (not_dealt (wall_now walls ds) (stage_before d)
-    (subst (λ (xs : List Deed). StandsAt (wall_now walls ds) xs (stage_before d)) empty (subst (StandsAt (wall_now walls ds) (hand ds)) next.stage s.standing))))
-    (keeps (wall_for walls ds d) (before_in (hand ds) d) d (deals_well red (wall_for walls ds d) (h _)) (before_stands red walls ds d s next.stage) (inside red walls ds d next))
+    hand_with (λ xs. StandsAt (wall_for walls ds d) xs (stage_after (stage_of ds) d)) ds d
+    (λ not_start empty. nothing not_start empty)
+    (keeps (stage_of ds) (wall_for walls ds d) (before_in (hand ds) d) d (deals_well red (wall_for walls ds d) (h _)) (before_stands red walls ds d s next.stage) (inside red walls ds d next))
+  where
+    stays : is_hand_start d ≡ false → stage_of ds ≡ stage_before (stage_of ds) d
+    stays not_start = ap (λ b. cond b NoHand (stage_of ds)) (sym not_start) ∙ next.stage
 
-sound_more : (red : Bool) (walls : List (List ℕ)) (ds : List Deed) (d : Deed) → ((number : ℕ) → is_wall red (wall_of walls number) ≡ true) → Sound red walls ds → IsNext red walls ds d → Sound red walls (ds ++ d ∷ [])
-sound_more red walls ds d h s next = record {
-  standing = subst (λ (o : Option Deed). StandsAt (wall_now walls (ds ++ d ∷ [])) (hand (ds ++ d ∷ [])) (stage_of o)) (sym (newest_more ds d))
-      (subst (λ (wall : List ℕ). StandsAt wall (hand (ds ++ d ∷ [])) (stage_after d)) (wall_is walls ds d) (after_stands red walls ds d h s next));
-  fit = all_fit-append red [] ds d s.fit (deed_fits red walls ds d h s next);
-  seated = subst (IfAny (λ d. has_seats d ≡ true)) (sym (newest_more ds d)) next.seats;
+    stands_before : is_hand_start d ≡ false → hand ds ≡ [] → StandsAt (wall_now walls ds) [] (stage_before (stage_of ds) d)
+    stands_before not_start empty =
+        subst (λ (xs : List Deed). StandsAt (wall_now walls ds) xs (stage_before (stage_of ds) d)) empty (subst (StandsAt (wall_now walls ds) (hand ds)) (stays not_start) s.standing)
+
+    nothing : is_hand_start d ≡ false → hand ds ≡ [] → StandsAt (wall_for walls ds d) [] (stage_after (stage_of ds) d)
+    nothing not_start empty =
+        let old = stands_before not_start empty in
+        let begun : is_begun (stage_before (stage_of ds) d) ≡ false = not_dealt (wall_now walls ds) (stage_before (stage_of ds) d) old in
+        no_hand_yet (wall_for walls ds d) (stage_of ds) d not_start begun
+        (subst (λ b. StandsAt (wall_of walls (cond b (length (starts ds)) (hand_number ds))) [] (stage_before (stage_of ds) d)) (sym not_start) old)
+
+nothing_before : (ds : List Deed) → is_none (newest ds) ≡ true → ds ≡ []
+nothing_before [] h = refl
+nothing_before (x ∷ ds) h = absurd (no (sym (ap is_none (slice_get-get_or (x ∷ ds) (length (x ∷ ds) - 1) x (inside (length ds)))) ∙ h))
+  where
+    no : false ≡ true → ⊥
+    no e = cc
+
+    inside : (n : ℕ) → suc n - 1 < suc n
+    inside n = omega arith
+
+-- A start of a game is the first deed, so no hand was started.
+none_more : (ds : List Deed) (d : Deed) → is_in_place (ground_of ds) d ≡ true → is_after_start (newest (ds ++ d ∷ [])) ≡ true → length (starts (ds ++ d ∷ [])) ≡ 0
+unfolding ground_of
+none_more ds d place h = by_deed d place (ap is_after_start (sym (newest_more ds d)) ∙ h)
+  where
+    by_deed : (x : Deed) → is_in_place (ground_of ds) x ≡ true → is_after_start (Some x) ≡ true → length (starts (ds ++ x ∷ [])) ≡ 0
+    by_deed (StartGame names) p k = ap (λ (xs : List Deed). length (starts (xs ++ StartGame names ∷ []))) (nothing_before ds p)
+    by_deed other p k = cc
+
+sound_more : (red : Bool) (walls : List (List ℕ)) (ds : List Deed) (d : Deed) → ((number : ℕ) → is_wall red (wall_of walls number) ≡ true) → Sound red walls ds → Adds red walls ds d → Sound red walls (ds ++ d ∷ [])
+sound_more red walls ds d h s adds = record {
+  standing = stands;
+  fit = fit;
+  seated = seated;
+  known = record {
+    fair = fair_of red walls (ds ++ d ∷ []) h fit adds.rich;
+    none = none_more ds d adds.next.place;
+    later = next_stands red (ds ++ d ∷ []) fit;
+    kans = stands.seats;
+    seated = seated;
+    real = subst (IfAny (λ d. has_tiles red d ≡ true)) (sym (newest_more ds d)) adds.next.tiles;
+    promised = promised_more red walls ds d s.fit adds.next adds.promise;
+    free = free_more red walls ds d s.fit s.unlocked adds.next;
+  };
+  unlocked = unlocked_more red walls ds d s.fit adds.next adds.promise;
+  rich = adds.rich;
 }
+  where
+    stands : StandsAt (wall_now walls (ds ++ d ∷ [])) (hand (ds ++ d ∷ [])) (stage_of (ds ++ d ∷ []))
+    stands =
+        subst (StandsAt (wall_now walls (ds ++ d ∷ [])) (hand (ds ++ d ∷ []))) (sym (stage_more ds d))
+        (subst (λ (wall : List ℕ). StandsAt wall (hand (ds ++ d ∷ [])) (stage_after (stage_of ds) d)) (wall_is walls ds d) (after_stands red walls ds d h s adds.next))
+
+    fit : all_fit red [] (ds ++ d ∷ []) ≡ true
+    fit = all_fit-append red [] ds d s.fit (deed_fits red walls ds d h s adds.next)
+
+    seated : IfAny (λ d. has_seats d ≡ true) (newest (ds ++ d ∷ []))
+    seated = subst (IfAny (λ d. has_seats d ≡ true)) (sym (newest_more ds d)) adds.next.seats
 
 -- a deed that is played
 
 start_next : (red : Bool) (walls : List (List ℕ)) (d : Deed) → IsTrue (is_game_start d) → IsNext red walls [] d
-unfolding hand
-start_next red walls (StartGame names) h = record { place = refl; seats = refl; held = λ seat. refl; triplet = refl; tiles = or-true red; live = refl; stage = refl; brings = tt }
+unfolding hand ground_of
+start_next red walls (StartGame names) h = record { place = refl; seats = refl; held = λ seat. refl; triplet = refl; tiles = or-true red; live = refl; once = refl; pointed = refl; stage = refl; brings = tt }
 start_next red walls (StartHand round number honba deposits dealer indicator hands) h = cc
 start_next red walls (Draw who tile replacement) h = cc
 start_next red walls (Discard who tile drawn) h = cc
@@ -144,36 +219,62 @@ start_next red walls (OpenKan who target tile a b c) h = cc
 start_next red walls (ClosedKan who a b c d) h = cc
 start_next red walls (AddedKan who tile a b c) h = cc
 start_next red walls (Dora tile) h = cc
+start_next red walls (Reach who) h = cc
+start_next red walls (ReachAccepted who points bid) h = cc
+start_next red walls (Win who target tile unders own yaku fu han value deltas points rest) h = cc
+start_next red walls (DrawnHand reason hands ready deltas points) h = cc
+start_next red walls EndHand h = cc
+start_next red walls (EndGame points deposits) h = cc
 
 if_some : {A : Type 0} (P : A → Type 0) (o : Option A) (d : A) → IfAny P o → o ≡ Some d → P d
 if_some P o d h e = subst (IfAny P) e h
 
-given_next : (rules : Rules) (walls : List (List ℕ)) (ds : List Deed) (given : Four Answer) (d : Deed) → ((number : ℕ) → is_wall rules.red (wall_of walls number) ≡ true) → Sound rules.red walls ds →
-    AllLawful rules ds given → outcome rules walls ds given ≡ Some d → IsNext rules.red walls ds d
-given_next rules walls ds given d h s lawful e =
-    if_some (IsNext rules.red walls ds) (outcome rules walls ds given) d
-    (outcome_next rules walls ds given h (few_starts rules.red ds s.fit) s.standing.seats s.seated lawful) e
+given_adds : (rules : Rules) (walls : List (List ℕ)) (ds : List Deed) (given : Four Answer) (d : Deed) → Sound rules.red walls ds → AllLawful rules ds given → outcome rules walls ds given ≡ Some d →
+    Adds rules.red walls ds d
+given_adds rules walls ds given d s lawful e = record {
+  next = if_some (IsNext rules.red walls ds) (outcome rules walls ds given) d (outcome_next rules walls ds given s.known lawful) e;
+  promise = if_some (Promise rules.red walls ds) (outcome rules walls ds given) d (outcome_owes rules walls ds given s.seated lawful) e;
+  rich = if_some (λ x. Rich (ds ++ x ∷ [])) (outcome rules walls ds given) d (rich_next rules walls ds given s.known s.rich s.fit lawful) e;
+}
 
-behind_next : (rules : Rules) (walls : List (List ℕ)) (ds : List Deed) (d : Deed) → ((number : ℕ) → is_wall rules.red (wall_of walls number) ≡ true) → Sound rules.red walls ds → IsPlayedBehind rules walls ds d →
-    IsNext rules.red walls ds d
-behind_next rules walls [] d h s played = start_next rules.red walls d played
-behind_next rules walls (first ∷ others) d h s played = given_next rules walls (first ∷ others) played.given d h s played.lawful played.gives
+behind_adds : (rules : Rules) (walls : List (List ℕ)) (ds : List Deed) (d : Deed) → Sound rules.red walls ds → IsPlayedBehind rules walls ds d → Adds rules.red walls ds d
+behind_adds rules walls [] d s played = record { next = start_next rules.red walls d played; promise = game_owes_nothing rules.red walls d played; rich = start_rich d played }
+behind_adds rules walls (first ∷ others) d s played = given_adds rules walls (first ∷ others) played.given d s played.lawful played.gives
 
 -- all of them
 
-nothing_sound : (red : Bool) (walls : List (List ℕ)) → Sound red walls []
+nothing_sound : (red : Bool) (walls : List (List ℕ)) → ((number : ℕ) → is_wall red (wall_of walls number) ≡ true) → Sound red walls []
 unfolding hand
-nothing_sound red walls = record { standing = nothing_stands (wall_of walls 0) NoGame refl refl refl (λ seat. refl); fit = refl; seated = tt }
+nothing_sound red walls h = record {
+  standing = nothing_stands (wall_of walls 0) NoGame refl refl refl (λ seat. refl);
+  fit = refl;
+  seated = tt;
+  known = record {
+    fair = fair_of red walls [] h refl nothing_rich;
+    none = λ k. refl;
+    later = next_stands red [] refl;
+    kans = All-nil (λ s. s < 4);
+    seated = tt;
+    real = tt;
+    promised = tt;
+    free = λ who tile drawn e. absurd (no_deed (Discard who tile drawn) e);
+  };
+  unlocked = λ who e. absurd (no_deed (Reach who) e);
+  rich = nothing_rich;
+}
+  where
+    no_deed : (d : Deed) → None ≡ Some d → ⊥
+    no_deed d e = cc
 
 all_sound : (rules : Rules) (walls : List (List ℕ)) (before ds : List Deed) → ((number : ℕ) → is_wall rules.red (wall_of walls number) ≡ true) → Sound rules.red walls before → AllPlayed rules walls before ds →
     Sound rules.red walls (before ++ ds)
 all_sound rules walls before [] h s played = subst (Sound rules.red walls) (sym (append-nil before)) s
 all_sound rules walls before (d ∷ ds) h s played =
     subst (Sound rules.red walls) (append_assoc before (d ∷ []) ds)
-    (all_sound rules walls (before ++ d ∷ []) ds h (sound_more rules.red walls before d h s (behind_next rules walls before d h s played.0)) played.1)
+    (all_sound rules walls (before ++ d ∷ []) ds h (sound_more rules.red walls before d h s (behind_adds rules walls before d s played.0)) played.1)
 
 pub played_sound : (rules : Rules) (walls : List (List ℕ)) (ds : List Deed) → ((number : ℕ) → is_wall rules.red (wall_of walls number) ≡ true) → IsPlayed rules walls ds → Sound rules.red walls ds
-played_sound rules walls ds h played = all_sound rules walls [] ds h (nothing_sound rules.red walls) played
+played_sound rules walls ds h played = all_sound rules walls [] ds h (nothing_sound rules.red walls h) played
 
 pub played_deeds_fit : PlayedDeedsFit
 played_deeds_fit rules walls ds h played = (played_sound rules walls ds h played).fit
@@ -208,10 +309,10 @@ given_behind rules walls (first ∷ others) given d lawful e = record { given = 
 pub next_of_played_fits : NextOfPlayedFits
 next_of_played_fits rules walls ds given d h played lawful e =
     let s = played_sound rules walls ds h played in
-    (deed_fits rules.red walls ds d h s (given_next rules walls ds given d h s lawful e), played_more rules walls ds d played (given_behind rules walls ds given d lawful e))
+    (deed_fits rules.red walls ds d h s (given_adds rules walls ds given d s lawful e).next, played_more rules walls ds d played (given_behind rules walls ds given d lawful e))
 
 -- So does any deed that is played behind them.
 pub behind_fits : (rules : Rules) (walls : List (List ℕ)) (ds : List Deed) (d : Deed) → ((number : ℕ) → is_wall rules.red (wall_of walls number) ≡ true) → IsPlayed rules walls ds → IsPlayedBehind rules walls ds d → fits rules.red ds d ≡ true
 behind_fits rules walls ds d h played behind =
     let s = played_sound rules walls ds h played in
-    deed_fits rules.red walls ds d h s (behind_next rules walls ds d h s behind)
+    deed_fits rules.red walls ds d h s (behind_adds rules walls ds d s behind).next

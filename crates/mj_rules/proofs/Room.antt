@@ -11,7 +11,7 @@ use Rattle.mj_tiles.specs.Faces.{kind_of, number_in}
 use Rattle.mj_tiles.specs.Counts.{all_kinds, number_of, has_no_fifth}
 use Rattle.mj_deeds.specs.declared.deed.Deed.{Deed}
 use Rattle.mj_deeds.specs.Facts.{tiles_gained, tiles_lost, makes_by, indicators, live_draws}
-use Rattle.mj_deeds.specs.Fits.{fits, fits_in, fits_behind, has_held_by, has_held, brought_by, keeps_kinds, has_room_for, has_room}
+use Rattle.mj_deeds.specs.Fits.{ground_of, fits, fits_in, fits_behind, has_held_by, has_held, brought_by, keeps_kinds, has_room_for, has_room}
 use Rattle.mj_wall.specs.Places.{is_wall, dealt_tiles}
 use Rattle.mj_wall.proofs.WallFaces.{wall_has_136, wall_faces}
 use Rattle.mj_wall.proofs.WallKinds.{up, up-take, up-split, wall_has_four, places_are_apart}
@@ -19,7 +19,7 @@ use Rattle.mj_deeds.specs.Hand.{hand, before_in}
 use Rattle.mj_rules.specs.Outcome.{hand_dealt}
 use Rattle.mj_rules.proofs.Dealing.{hand_has_thirteen}
 use Rattle.mj_wall.proofs.TileOrder.{count_by-in_tile_order}
-use Rattle.mj_rules.proofs.Stages.{Stage, Acts, stage_before, stage_after, is_begun, holds_more, is_replacement, at_place, StandsAt, DealsWell, length-more}
+use Rattle.mj_rules.proofs.Stages.{Stage, Acts, stage_of, stage_before, stage_after, is_begun, holds_more, is_replacement, at_place, StandsAt, DealsWell, length-more}
 use Rattle.mj_rules.proofs.Kept.{wall_for, IsNext, inside, keeps}
 
 -- what is dealt
@@ -184,20 +184,20 @@ room_for_each wall ds d stage seat s =
     few a m x m' g l h false e f i j k = omega arith
 
 -- A deed that comes in its turn fits.
-pub next_fits : (red : Bool) (walls : List (List ℕ)) (ds : List Deed) (d : Deed) → is_wall red (wall_for walls ds d) ≡ true → StandsAt (wall_for walls ds d) (before_in (hand ds) d) (stage_before d) →
-    IsNext red walls ds d → fits red ds d ≡ true
-unfolding fits_behind fits_in
+pub next_fits : (red : Bool) (walls : List (List ℕ)) (ds : List Deed) (d : Deed) → is_wall red (wall_for walls ds d) ≡ true →
+    StandsAt (wall_for walls ds d) (before_in (hand ds) d) (stage_before (stage_of ds) d) → IsNext red walls ds d → fits red ds d ≡ true
+unfolding fits_behind fits_in ground_of
 next_fits red walls ds d h s next =
     let wall : List ℕ = wall_for walls ds d in
     let hs : List Deed = before_in (hand ds) d in
-    let after = keeps wall hs d (deals_well red wall h) s (inside red walls ds d next) in
+    let after = keeps (stage_of ds) wall hs d (deals_well red wall h) s (inside red walls ds d next) in
     let held : has_held hs d ≡ true = four_pass (has_held_by hs d) next.held in
-    let kinds : keeps_kinds hs d ≡ true = no_fifth red wall (hs ++ d ∷ []) (stage_after d) h after in
-    let room : has_room hs d ≡ true = four_pass (has_room_for hs d) (λ seat. room_for_each wall hs d (stage_after d) seat after) in
-    both _ _ next.place (all_seven _ _ _ _ _ _ _ next.seats held next.triplet next.tiles kinds room next.live)
+    let kinds : keeps_kinds hs d ≡ true = no_fifth red wall (hs ++ d ∷ []) (stage_after (stage_of ds) d) h after in
+    let room : has_room hs d ≡ true = four_pass (has_room_for hs d) (λ seat. room_for_each wall hs d (stage_after (stage_of ds) d) seat after) in
+    all_three _ _ _ next.place (all_eight _ _ _ _ _ _ _ _ next.seats held next.triplet next.tiles kinds room next.live next.once) next.pointed
   where
-    both : (a b : Bool) → a ≡ true → b ≡ true → (a && b) ≡ true
-    both a b i j = λ x. i x && j x
+    all_three : (a b c : Bool) → a ≡ true → b ≡ true → c ≡ true → (a && b && c) ≡ true
+    all_three a b c i j k = λ x. i x && j x && k x
 
-    all_seven : (b c d e f g h : Bool) → b ≡ true → c ≡ true → d ≡ true → e ≡ true → f ≡ true → g ≡ true → h ≡ true → (b && c && d && e && f && g && h) ≡ true
-    all_seven b c d e f g h j k l m n o p = λ x. j x && k x && l x && m x && n x && o x && p x
+    all_eight : (b c d e f g h i : Bool) → b ≡ true → c ≡ true → d ≡ true → e ≡ true → f ≡ true → g ≡ true → h ≡ true → i ≡ true → (b && c && d && e && f && g && h && i) ≡ true
+    all_eight b c d e f g h i j k l m n o p q = λ x. j x && k x && l x && m x && n x && o x && p x && q x

@@ -1,18 +1,20 @@
 -- What stays true from deed to deed of a hand: where the tiles that were brought in lay, how many tiles each seat holds, and
 -- how many kans, indicators and replacement tiles there are.
-use Rattle.std.proofs.Common.{◌≡◌, ℕ, ◌+◌, ◌-◌, ◌*◌, ◌<◌, ◌≤◌, ◌==◌, ◌&&◌, Bool, true, false, cond, eqb, ltb, List, [], ◌∷◌, ◌++◌, length, get_or, refl, ap, sym, ◌∙◌, subst, arith, add-one}
-use Rattle.std.specs.Prelude.{Option, Some, None, All, count_by, flat_map}
+use Rattle.std.proofs.Common.{◌≡◌, ℕ, ◌+◌, ◌-◌, ◌*◌, ◌<◌, ◌≤◌, ◌==◌, ◌&&◌, Bool, true, false, cond, eqb, ltb, List, [], ◌∷◌, ◌++◌, length, take, get_or, refl, ap, sym, ◌∙◌, subst, arith, add-one}
+use Rattle.std.specs.Prelude.{Some, All, count_by, flat_map, fold}
 use Rattle.std.proofs.lemmas.Bool.{and_parts, ltb-true}
-use Rattle.std.proofs.lemmas.List.Sums.{sum_by_push}
+use Rattle.std.proofs.lemmas.List.{take_more, take_all}
+use Rattle.std.proofs.lemmas.Option.{slice_get-get_or, slice_get_within}
+use Rattle.std.proofs.lemmas.List.Sums.{sum_by_push, fold-append}
 use Rattle.std.proofs.lemmas.List.Concat.{length-flat_map}
 use Rattle.mj_tiles.specs.Faces.{kind_of, number_in}
 use Rattle.mj_tiles.specs.Counts.{number_of}
 use Rattle.mj_tiles.specs.declared.meld.Meld.{Meld}
 use Rattle.mj_deeds.specs.declared.four.Four.{Four}
 use Rattle.mj_deeds.specs.declared.deed.Deed.{Deed}
-use Rattle.mj_deeds.specs.declared.deed.Deed.TheVariants.{StartGame, StartHand, Draw, Discard, Chi, Pon, OpenKan, ClosedKan, AddedKan, Dora}
+use Rattle.mj_deeds.specs.declared.deed.Deed.TheVariants.{StartGame, StartHand, Draw, Discard, Chi, Pon, OpenKan, ClosedKan, AddedKan, Dora, Reach, ReachAccepted}
 use Rattle.mj_deeds.specs.Four.{at_seat, for_each_seat}
-use Rattle.mj_deeds.specs.Facts.{gains_by, losses_by, tiles_gained, tiles_lost, makes_by, is_kan, kans, kan_seats, indicators_by, indicators, is_live_draw, live_draws}
+use Rattle.mj_deeds.specs.Facts.{newest, gains_by, losses_by, tiles_gained, tiles_lost, makes_by, is_kan, kans, kan_seats, indicators_by, indicators, is_live_draw, live_draws}
 use Rattle.mj_deeds.specs.Fits.{brought_by, has_live}
 use Rattle.mj_wall.specs.Places.{live_tile, replacement_tile, indicator_tile}
 use Rattle.mj_wall.proofs.WallKinds.{up}
@@ -32,34 +34,62 @@ abbrev pub drawn_from : Bool → Stage
 drawn_from true = ShowedDora
 drawn_from false = Waits
 
--- From where a deed leads, and to where.
-abbrev pub stage_before : Deed → Stage
-stage_before (StartGame names) = NoGame
-stage_before (StartHand round number honba deposits dealer indicator hands) = NoHand
-stage_before (Draw who tile replacement) = drawn_from replacement
-stage_before (Discard who tile drawn) = Acts who
-stage_before (Chi who target tile a b) = Waits
-stage_before (Pon who target tile a b) = Waits
-stage_before (OpenKan who target tile a b c) = Waits
-stage_before (ClosedKan who a b c d) = Acts who
-stage_before (AddedKan who tile a b c) = Acts who
-stage_before (Dora tile) = MadeKan
+-- From where a deed leads, and to where. A win, the draw of a hand and the ends stand wherever the game has come to, and
+-- leave it there.
+abbrev pub stage_before : Stage → Deed → Stage
+stage_before stage (StartGame names) = NoGame
+stage_before stage (StartHand round number honba deposits dealer indicator hands) = NoHand
+stage_before stage (Draw who tile replacement) = drawn_from replacement
+stage_before stage (Discard who tile drawn) = Acts who
+stage_before stage (Chi who target tile a b) = Waits
+stage_before stage (Pon who target tile a b) = Waits
+stage_before stage (OpenKan who target tile a b c) = Waits
+stage_before stage (ClosedKan who a b c d) = Acts who
+stage_before stage (AddedKan who tile a b c) = Acts who
+stage_before stage (Dora tile) = MadeKan
+stage_before stage (Reach who) = Acts who
+stage_before stage (ReachAccepted who points bid) = Waits
+stage_before stage other = stage
 
-abbrev pub stage_after : Deed → Stage
-stage_after (StartGame names) = NoHand
-stage_after (StartHand round number honba deposits dealer indicator hands) = Waits
-stage_after (Draw who tile replacement) = Acts who
-stage_after (Discard who tile drawn) = Waits
-stage_after (Chi who target tile a b) = Acts who
-stage_after (Pon who target tile a b) = Acts who
-stage_after (OpenKan who target tile a b c) = MadeKan
-stage_after (ClosedKan who a b c d) = MadeKan
-stage_after (AddedKan who tile a b c) = MadeKan
-stage_after (Dora tile) = ShowedDora
+abbrev pub stage_after : Stage → Deed → Stage
+stage_after stage (StartGame names) = NoHand
+stage_after stage (StartHand round number honba deposits dealer indicator hands) = Waits
+stage_after stage (Draw who tile replacement) = Acts who
+stage_after stage (Discard who tile drawn) = Waits
+stage_after stage (Chi who target tile a b) = Acts who
+stage_after stage (Pon who target tile a b) = Acts who
+stage_after stage (OpenKan who target tile a b c) = MadeKan
+stage_after stage (ClosedKan who a b c d) = MadeKan
+stage_after stage (AddedKan who tile a b c) = MadeKan
+stage_after stage (Dora tile) = ShowedDora
+stage_after stage (Reach who) = Acts who
+stage_after stage (ReachAccepted who points bid) = Waits
+stage_after stage other = stage
 
-abbrev pub stage_of : Option Deed → Stage
-stage_of None = NoGame
-stage_of (Some deed) = stage_after deed
+-- Where a game has come to by all its deeds.
+abbrev pub stage_of : List Deed → Stage
+stage_of ds = fold stage_after NoGame ds
+
+pub stage_more : (ds : List Deed) (d : Deed) → stage_of (ds ++ d ∷ []) ≡ stage_after (stage_of ds) d
+stage_more ds d = fold-append stage_after NoGame ds (d ∷ [])
+
+-- The newest deed stands behind those before it.
+pub newest_behind : (ds : List Deed) (d : Deed) → newest ds ≡ Some d → ds ≡ take (length ds - 1) ds ++ d ∷ []
+newest_behind ds d e =
+    let i : ℕ = length ds - 1 in
+    let within : i < length ds = slice_get_within ds i d e in
+    let last : get_or ds i d ≡ d = some_is _ _ (sym (slice_get-get_or ds i d within) ∙ e) in
+    sym (take_all (i + 1) ds (enough (length ds) i)) ∙ take_more ds i d within ∙ ap (λ x. take i ds ++ x ∷ []) last
+  where
+    some_is : (a b : Deed) → Some a ≡ Some b → a ≡ b
+    some_is a b e = cc
+
+    enough : (n i : ℕ) → n ≤ n - 1 + 1
+    enough n i = omega arith
+
+-- A game has come to where its newest deed leads.
+pub stage_is : (ds : List Deed) (n : Deed) (stage : Stage) → newest ds ≡ Some n → ((before : Stage) → stage_after before n ≡ stage) → stage_of ds ≡ stage
+stage_is ds n stage e leads = ap stage_of (newest_behind ds n e) ∙ stage_more (take (length ds - 1) ds) n ∙ leads (stage_of (take (length ds - 1) ds))
 
 -- A hand was dealt.
 abbrev pub is_begun : Stage → Bool
@@ -127,46 +157,62 @@ length-more f ds d =
 -- kans, indicators and replacement tiles
 
 -- What a deed shows and draws for kans is what is owed before it and what it makes, less what is owed behind it.
-pays_for_kans : (d : Deed) →
-    (length (indicators_by d) + owes_dora (stage_after d) + cond (is_begun (stage_before d)) 1 0 ≡ owes_dora (stage_before d) + cond (is_kan d) 1 0 + cond (is_begun (stage_after d)) 1 0)
-    × (cond (is_replacement d) 1 0 + owes_tile (stage_after d) ≡ owes_tile (stage_before d) + cond (is_kan d) 1 0)
-pays_for_kans (StartGame names) = (refl, refl)
-pays_for_kans (StartHand round number honba deposits dealer indicator hands) = (refl, refl)
-pays_for_kans (Draw who tile true) = (refl, refl)
-pays_for_kans (Draw who tile false) = (refl, refl)
-pays_for_kans (Discard who tile drawn) = (refl, refl)
-pays_for_kans (Chi who target tile a b) = (refl, refl)
-pays_for_kans (Pon who target tile a b) = (refl, refl)
-pays_for_kans (OpenKan who target tile a b c) = (refl, refl)
-pays_for_kans (ClosedKan who a b c d) = (refl, refl)
-pays_for_kans (AddedKan who tile a b c) = (refl, refl)
-pays_for_kans (Dora tile) = (refl, refl)
+pays_for_kans : (s : Stage) (d : Deed) →
+    (length (indicators_by d) + owes_dora (stage_after s d) + cond (is_begun (stage_before s d)) 1 0 ≡ owes_dora (stage_before s d) + cond (is_kan d) 1 0 + cond (is_begun (stage_after s d)) 1 0)
+    × (cond (is_replacement d) 1 0 + owes_tile (stage_after s d) ≡ owes_tile (stage_before s d) + cond (is_kan d) 1 0)
+pays_for_kans s (StartGame names) = (refl, refl)
+pays_for_kans s (StartHand round number honba deposits dealer indicator hands) = (refl, refl)
+pays_for_kans s (Draw who tile true) = (refl, refl)
+pays_for_kans s (Draw who tile false) = (refl, refl)
+pays_for_kans s (Discard who tile drawn) = (refl, refl)
+pays_for_kans s (Chi who target tile a b) = (refl, refl)
+pays_for_kans s (Pon who target tile a b) = (refl, refl)
+pays_for_kans s (OpenKan who target tile a b c) = (refl, refl)
+pays_for_kans s (ClosedKan who a b c d) = (refl, refl)
+pays_for_kans s (AddedKan who tile a b c) = (refl, refl)
+pays_for_kans s (Dora tile) = (refl, refl)
+pays_for_kans s (Reach who) = (refl, refl)
+pays_for_kans s (ReachAccepted who points bid) = (refl, refl)
+pays_for_kans s other = (same _ _, nothing _)
+  where
+    same : (a b : ℕ) → 0 + a + b ≡ a + 0 + b
+    same a b = omega arith
 
-pub shown_step : (d : Deed) (i k : ℕ) → i + owes_dora (stage_before d) ≡ k + cond (is_begun (stage_before d)) 1 0 →
-    i + length (indicators_by d) + owes_dora (stage_after d) ≡ k + cond (is_kan d) 1 0 + cond (is_begun (stage_after d)) 1 0
-shown_step d i k h = paid _ _ _ _ _ _ _ _ (pays_for_kans d).0 h
+    nothing : (a : ℕ) → 0 + a ≡ a + 0
+    nothing a = omega arith
+
+pub shown_step : (s : Stage) (d : Deed) (i k : ℕ) → i + owes_dora (stage_before s d) ≡ k + cond (is_begun (stage_before s d)) 1 0 →
+    i + length (indicators_by d) + owes_dora (stage_after s d) ≡ k + cond (is_kan d) 1 0 + cond (is_begun (stage_after s d)) 1 0
+shown_step s d i k h = paid _ _ _ _ _ _ _ _ (pays_for_kans s d).0 h
   where
     paid : (i k shown kan before after begun begins : ℕ) → shown + after + begun ≡ before + kan + begins → i + before ≡ k + begun → i + shown + after ≡ k + kan + begins
     paid i k shown kan before after begun begins e h = omega arith
 
-pub taken_step : (d : Deed) (r k : ℕ) → r + owes_tile (stage_before d) ≡ k →
-    r + cond (is_replacement d) 1 0 + owes_tile (stage_after d) ≡ k + cond (is_kan d) 1 0
-taken_step d r k h = paid _ _ _ _ _ _ (pays_for_kans d).1 h
+pub taken_step : (s : Stage) (d : Deed) (r k : ℕ) → r + owes_tile (stage_before s d) ≡ k →
+    r + cond (is_replacement d) 1 0 + owes_tile (stage_after s d) ≡ k + cond (is_kan d) 1 0
+taken_step s d r k h = paid _ _ _ _ _ _ (pays_for_kans s d).1 h
   where
     paid : (r k drawn kan before after : ℕ) → drawn + after ≡ before + kan → r + before ≡ k → r + drawn + after ≡ k + kan
     paid r k drawn kan before after e h = omega arith
 
-pub fresh_step : (d : Deed) (i j : ℕ) → j ≡ i + length (indicators_by d) → cond (is_begun (stage_before d)) 0 i ≡ 0 → cond (is_begun (stage_after d)) 0 j ≡ 0
-fresh_step (StartGame names) i j e h = omega arith
-fresh_step (StartHand round number honba deposits dealer indicator hands) i j e h = refl
-fresh_step (Draw who tile replacement) i j e h = refl
-fresh_step (Discard who tile drawn) i j e h = refl
-fresh_step (Chi who target tile a b) i j e h = refl
-fresh_step (Pon who target tile a b) i j e h = refl
-fresh_step (OpenKan who target tile a b c) i j e h = refl
-fresh_step (ClosedKan who a b c d) i j e h = refl
-fresh_step (AddedKan who tile a b c) i j e h = refl
-fresh_step (Dora tile) i j e h = refl
+pub fresh_step : (s : Stage) (d : Deed) (i j : ℕ) → j ≡ i + length (indicators_by d) → cond (is_begun (stage_before s d)) 0 i ≡ 0 → cond (is_begun (stage_after s d)) 0 j ≡ 0
+fresh_step s (StartGame names) i j e h = omega arith
+fresh_step s (StartHand round number honba deposits dealer indicator hands) i j e h = refl
+fresh_step s (Draw who tile replacement) i j e h = refl
+fresh_step s (Discard who tile drawn) i j e h = refl
+fresh_step s (Chi who target tile a b) i j e h = refl
+fresh_step s (Pon who target tile a b) i j e h = refl
+fresh_step s (OpenKan who target tile a b c) i j e h = refl
+fresh_step s (ClosedKan who a b c d) i j e h = refl
+fresh_step s (AddedKan who tile a b c) i j e h = refl
+fresh_step s (Dora tile) i j e h = refl
+fresh_step s (Reach who) i j e h = refl
+fresh_step s (ReachAccepted who points bid) i j e h = refl
+fresh_step s other i j e h = still (is_begun s) i j e h
+  where
+    still : (b : Bool) (i j : ℕ) → j ≡ i + 0 → cond b 0 i ≡ 0 → cond b 0 j ≡ 0
+    still true i j e h = refl
+    still false i j e h = omega arith
 
 -- live tiles
 kan_live : (n k : ℕ) → (ltb k 4 && ltb 0 (70 - n - k)) ≡ true → (n + 0 + (k + 1) ≤ 70) × (k + 1 ≤ 4)
@@ -195,6 +241,7 @@ live_step (OpenKan who target tile a b c) ds h i j = kan_live (live_draws ds) (k
 live_step (ClosedKan who a b c d) ds h i j = kan_live (live_draws ds) (kans ds) h
 live_step (AddedKan who tile a b c) ds h i j = kan_live (live_draws ds) (kans ds) h
 live_step (Dora tile) ds h i j = still_live (live_draws ds) (kans ds) i j
+live_step other ds h i j = still_live (live_draws ds) (kans ds) i j
 
 -- how many tiles a seat holds
 draw_hand : (own : Bool) (tile g m l : ℕ) → g + 3 * m ≡ l + 13 + 0 → g + length (cond own (tile ∷ []) []) + 3 * (m + 0) ≡ l + 0 + 13 + cond own 1 0
@@ -227,23 +274,32 @@ length-at_seat four n seat a b c d = chosen (seat == 0) _ _ a (chosen (seat == 1
 deal_hand : (x g m l : ℕ) → x ≡ 13 → g + 3 * m ≡ l + 0 + 0 → g + x + 3 * (m + 0) ≡ l + 0 + 13 + 0
 deal_hand x g m l e h = omega arith
 
-pub hands_step : (wall : List ℕ) (ds : List Deed) (d : Deed) (seat g m l : ℕ) → DealsWell wall → Brings wall ds d →
-    g + 3 * m ≡ l + cond (is_begun (stage_before d)) 13 0 + holds_more (stage_before d) seat →
-    g + length (gains_by seat d) + 3 * (m + length (makes_by seat d)) ≡ l + length (losses_by seat d) + cond (is_begun (stage_after d)) 13 0 + holds_more (stage_after d) seat
-hands_step wall ds (StartGame names) seat g m l deals brings h = omega arith
-hands_step wall ds (StartHand round number honba deposits dealer indicator hands) seat g m l deals brings h =
+still_hand : (own : Bool) (g m l : ℕ) → g + 3 * m ≡ l + 13 + cond own 1 0 → g + 0 + 3 * (m + 0) ≡ l + 0 + 13 + cond own 1 0
+still_hand own g m l h = omega arith
+
+kept_hand : (b x g m l : ℕ) → g + 3 * m ≡ l + b + x → g + 0 + 3 * (m + 0) ≡ l + 0 + b + x
+kept_hand b x g m l h = omega arith
+
+pub hands_step : (s : Stage) (wall : List ℕ) (ds : List Deed) (d : Deed) (seat g m l : ℕ) → DealsWell wall → Brings wall ds d →
+    g + 3 * m ≡ l + cond (is_begun (stage_before s d)) 13 0 + holds_more (stage_before s d) seat →
+    g + length (gains_by seat d) + 3 * (m + length (makes_by seat d)) ≡ l + length (losses_by seat d) + cond (is_begun (stage_after s d)) 13 0 + holds_more (stage_after s d) seat
+hands_step s wall ds (StartGame names) seat g m l deals brings h = omega arith
+hands_step s wall ds (StartHand round number honba deposits dealer indicator hands) seat g m l deals brings h =
     deal_hand (length (at_seat hands seat)) g m l
     (ap (λ (four : Four (List ℕ)). length (at_seat four seat)) brings.1
     ∙ length-at_seat (for_each_seat (hand_dealt wall dealer)) 13 seat (deals.thirteen dealer 0) (deals.thirteen dealer 1) (deals.thirteen dealer 2) (deals.thirteen dealer 3)) h
-hands_step wall ds (Draw who tile true) seat g m l deals brings h = draw_hand (who == seat) tile g m l h
-hands_step wall ds (Draw who tile false) seat g m l deals brings h = draw_hand (who == seat) tile g m l h
-hands_step wall ds (Discard who tile drawn) seat g m l deals brings h = discard_hand (who == seat) tile g m l h
-hands_step wall ds (Chi who target tile a b) seat g m l deals brings h = call_hand (who == seat) _ a b g m l h
-hands_step wall ds (Pon who target tile a b) seat g m l deals brings h = call_hand (who == seat) _ a b g m l h
-hands_step wall ds (OpenKan who target tile a b c) seat g m l deals brings h = open_hand (who == seat) _ a b c g m l h
-hands_step wall ds (ClosedKan who a b c d) seat g m l deals brings h = closed_hand (who == seat) _ a b c d g m l h
-hands_step wall ds (AddedKan who tile a b c) seat g m l deals brings h = discard_hand (who == seat) tile g m l h
-hands_step wall ds (Dora tile) seat g m l deals brings h = omega arith
+hands_step s wall ds (Draw who tile true) seat g m l deals brings h = draw_hand (who == seat) tile g m l h
+hands_step s wall ds (Draw who tile false) seat g m l deals brings h = draw_hand (who == seat) tile g m l h
+hands_step s wall ds (Discard who tile drawn) seat g m l deals brings h = discard_hand (who == seat) tile g m l h
+hands_step s wall ds (Chi who target tile a b) seat g m l deals brings h = call_hand (who == seat) _ a b g m l h
+hands_step s wall ds (Pon who target tile a b) seat g m l deals brings h = call_hand (who == seat) _ a b g m l h
+hands_step s wall ds (OpenKan who target tile a b c) seat g m l deals brings h = open_hand (who == seat) _ a b c g m l h
+hands_step s wall ds (ClosedKan who a b c d) seat g m l deals brings h = closed_hand (who == seat) _ a b c d g m l h
+hands_step s wall ds (AddedKan who tile a b c) seat g m l deals brings h = discard_hand (who == seat) tile g m l h
+hands_step s wall ds (Dora tile) seat g m l deals brings h = omega arith
+hands_step s wall ds (Reach who) seat g m l deals brings h = still_hand (who == seat) g m l h
+hands_step s wall ds (ReachAccepted who points bid) seat g m l deals brings h = omega arith
+hands_step s wall ds other seat g m l deals brings h = kept_hand _ _ g m l h
 
 -- tiles of a kind
 grows : (g : ℕ → ℕ) (n m x : ℕ) (b : Bool) → m ≡ n + cond b 1 0 → x ≡ g n → up g m ≡ up g n + cond b x 0

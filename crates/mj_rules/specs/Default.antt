@@ -6,7 +6,8 @@ use Rattle.mj_deeds.specs.declared.answer.Pai.TheVariants.{Known}
 use Rattle.mj_deeds.specs.declared.answer.Answer.{Answer}
 use Rattle.mj_deeds.specs.declared.answer.Answer.TheVariants.{Pass, Discard}
 use Rattle.mj_deeds.specs.declared.deed.Deed.{Deed}
-use Rattle.mj_rules.specs.Broken.{SeatView, view_of, is_that, broken_by, WindowTurn, Drew, Called}
+use Rattle.mj_rules.specs.Broken.{is_that, broken_by}
+use Rattle.mj_rules.specs.View.{SeatView, view_of, WindowTurn, Drew, Reached, Called}
 
 -- The discard of a tile of a face, marked as drawn exactly where the drawn tile has that face.
 abbrev pub discard_of : ℕ → SeatView → ℕ → Answer
@@ -24,10 +25,11 @@ last_face faces = slice_get faces (length faces - 1)
 abbrev pub discard_or_pass : ℕ → SeatView → Option ℕ → Answer
 discard_or_pass seat view face = unwrap_or (option_map (discard_of seat view) face) (Pass None)
 
--- At its own draw the drawn tile; right after its own call the last face in tile order whose discard breaks no rule; else a
--- pass.
+-- At its own draw the drawn tile; right after its own reach or call the last face in tile order whose discard breaks no rule;
+-- else a pass.
 abbrev pub default_in : Rules → ℕ → SeatView → WindowTurn → Answer
 default_in rules seat view (Drew who) = if who == seat then discard_or_pass seat view view.drawn else Pass None
+default_in rules seat view (Reached who) = if who == seat then discard_or_pass seat view (last_face (lawful_faces rules seat view)) else Pass None
 default_in rules seat view (Called who banned) = if who == seat then discard_or_pass seat view (last_face (lawful_faces rules seat view)) else Pass None
 default_in rules seat view other = Pass None
 
@@ -38,8 +40,9 @@ default_by rules seat view = default_in rules seat view view.turn
 abbrev pub default_answer : Rules → List Deed → ℕ → Answer
 default_answer rules deeds seat = default_by rules seat (view_of deeds seat)
 
--- Where a seat has to discard right after its own call, some discard breaks no rule.
+-- Where a seat has to discard right after its own reach or call, some discard breaks no rule.
 abbrev pub can_discard_in : Rules → ℕ → SeatView → WindowTurn → Bool
+can_discard_in rules seat view (Reached who) = not (who == seat) || nat_lt 0 (length (lawful_faces rules seat view))
 can_discard_in rules seat view (Called who banned) = not (who == seat) || nat_lt 0 (length (lawful_faces rules seat view))
 can_discard_in rules seat view other = true
 

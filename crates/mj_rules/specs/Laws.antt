@@ -1,14 +1,18 @@
 -- The laws over played deeds.
-use Rattle.std.specs.Prelude.{◌≡◌, ℕ, Bool, true, List, [], ◌∷◌, ◌++◌, length, ◌≤◌, ◌<◌, Some, is_none}
+use Rattle.std.specs.Prelude.{◌≡◌, ℕ, ◌*◌, Bool, true, List, [], ◌∷◌, ◌++◌, length, ◌≤◌, ◌<◌, Some, is_some, pos, ◌+ℤ◌}
 use Rattle.std.specs.List.{list_all}
 use Rattle.mj_deeds.specs.declared.four.Four.{Four}
 use Rattle.mj_deeds.specs.declared.answer.Answer.{Answer}
 use Rattle.mj_deeds.specs.declared.deed.Deed.{Deed}
 use Rattle.mj_deeds.specs.Fits.{fits, all_fit}
+use Rattle.mj_deeds.specs.Hand.{hand}
+use Rattle.mj_deeds.specs.Points.{points, deposits}
+use Rattle.mj_pay.specs.Payments.{total_change}
 use Rattle.mj_wall.specs.declared.setting.Rules.{Rules}
 use Rattle.mj_wall.specs.Places.{is_wall}
 use Rattle.mj_rules.specs.Default.{default_answer, can_discard}
-use Rattle.mj_rules.specs.Outcome.{wall_of, outcome, is_unbuilt}
+use Rattle.mj_deeds.specs.Facts.{newest}
+use Rattle.mj_rules.specs.Outcome.{wall_of, outcome, goes_on}
 use Rattle.mj_rules.specs.Played.{IsLawful, AllLawful, IsPlayedBehind, IsPlayed}
 
 -- Where there is a wall and all are whole, the wall of each hand is whole.
@@ -34,12 +38,12 @@ NextOfPlayedFits =
     (rules : Rules) (walls : List (List ℕ)) (deeds : List Deed) (given : Four Answer) (deed : Deed) → ((number : ℕ) → is_wall rules.red (wall_of walls number) ≡ true) → IsPlayed rules walls deeds →
     AllLawful rules deeds given → outcome rules walls deeds given ≡ Some deed → (fits rules.red deeds deed ≡ true) × IsPlayed rules walls (deeds ++ deed ∷ [])
 
--- In played deeds some discard of a seat that has to discard right after its own call breaks no rule.
+-- In played deeds some discard of a seat that has to discard right after its own reach or call breaks no rule.
 abbrev pub SomeDiscardIsLawful : Type 0
 SomeDiscardIsLawful = (rules : Rules) (walls : List (List ℕ)) (deeds : List Deed) (seat : ℕ) → seat < 4 → ((number : ℕ) → is_wall rules.red (wall_of walls number) ≡ true) → IsPlayed rules walls deeds → can_discard rules deeds seat ≡ true
 
 -- The default answer of a seat is lawful in deeds each of which fits behind those before it, as long as some discard
--- right after its own call breaks none.
+-- right after its own reach or call breaks none.
 abbrev pub FittingDefaultIsLawful : Type 0
 FittingDefaultIsLawful =
     (rules : Rules) (deeds : List Deed) (seat : ℕ) → seat < 4 → all_fit rules.red [] deeds ≡ true → can_discard rules deeds seat ≡ true →
@@ -51,8 +55,21 @@ PlayedDefaultIsLawful =
     (rules : Rules) (walls : List (List ℕ)) (deeds : List Deed) (seat : ℕ) → seat < 4 → ((number : ℕ) → is_wall rules.red (wall_of walls number) ≡ true) → IsPlayed rules walls deeds →
     IsLawful rules deeds seat (default_answer rules deeds seat)
 
--- Behind played deeds four lawful answers give a deed, unless the course goes on with one that is not built.
-abbrev pub NextIsMissingWhereUnbuilt : Type 0
-NextIsMissingWhereUnbuilt =
+-- Some deed follows: behind played deeds, of which there are some and the last isn't the end of the game, four lawful
+-- answers give a deed.
+abbrev pub SomeDeedFollows : Type 0
+SomeDeedFollows =
     (rules : Rules) (walls : List (List ℕ)) (deeds : List Deed) (given : Four Answer) → ((number : ℕ) → is_wall rules.red (wall_of walls number) ≡ true) → IsPlayed rules walls deeds →
-    AllLawful rules deeds given → is_none (outcome rules walls deeds given) ≡ is_unbuilt deeds given
+    AllLawful rules deeds given → goes_on (newest deeds) ≡ true → is_some (outcome rules walls deeds given) ≡ true
+
+-- In played deeds the points of the four seats and 1,000 for each deposit on the table are 120,000 together.
+abbrev pub TotalStays : Type 0
+TotalStays =
+    (rules : Rules) (walls : List (List ℕ)) (deeds : List Deed) → ((number : ℕ) → is_wall rules.red (wall_of walls number) ≡ true) → IsPlayed rules walls deeds →
+    total_change (points deeds) +ℤ pos (1000 * deposits deeds) ≡ pos 120000
+
+-- In played deeds a hand has at most 300 deeds, and a game at most 60,002.
+abbrev pub FewDeeds : Type 0
+FewDeeds =
+    (rules : Rules) (walls : List (List ℕ)) (deeds : List Deed) → ((number : ℕ) → is_wall rules.red (wall_of walls number) ≡ true) → IsPlayed rules walls deeds →
+    (length (hand deeds) ≤ 300) × (length deeds ≤ 60002)

@@ -2,7 +2,7 @@
 //! played. Nothing here runs: the functions are the places where the laws are stated.
 #![tactic(auto)]
 
-ghost use Rattle.mj_rules.specs.Laws.{EachIsWall, PlayedWithOneMore, PlayedWithoutTheLast, PlayedDeedsFit, NextOfPlayedFits, NextIsMissingWhereUnbuilt, SomeDiscardIsLawful, FittingDefaultIsLawful, PlayedDefaultIsLawful};
+ghost use Rattle.mj_rules.specs.Laws.{EachIsWall, PlayedWithOneMore, PlayedWithoutTheLast, PlayedDeedsFit, NextOfPlayedFits, SomeDeedFollows, SomeDiscardIsLawful, FittingDefaultIsLawful, PlayedDefaultIsLawful, TotalStays, FewDeeds};
 
 /// Where there is a wall and all walls are whole, the one that each hand is played with is.
 pub fn each_is_wall()
@@ -27,21 +27,32 @@ pub fn next_of_played_fits()
     ensures { NextOfPlayedFits }
 {}
 
-/// Behind played deeds four lawful answers give a deed: none is given exactly where the course goes on with a deed that is
-/// not built, behind a discard that nobody calls with no live tile left, and where there is no deed yet.
-pub fn next_is_missing_where_unbuilt()
-    ensures { NextIsMissingWhereUnbuilt }
+/// Behind played deeds four lawful answers give a deed, until the end of the game: no game is stuck.
+pub fn some_deed_follows()
+    ensures { SomeDeedFollows }
 {}
 
-/// In played deeds a seat that has to discard right after its own chi or pon has a discard that breaks no rule: no call is
-/// lawful that leaves it none.
+/// In played deeds a seat that has to discard right after its own reach, chi or pon has a discard that breaks no rule: no
+/// reach and no call is lawful that leaves it none.
 pub fn some_discard_is_lawful()
     ensures { SomeDiscardIsLawful }
 {}
 
 /// The default answer of a seat, 0 to 3, is lawful in played deeds: it is in form and breaks no rule. So it is where each
-/// deed fits behind those before it, as long as some discard right after its own call breaks none.
+/// deed fits behind those before it, as long as some discard right after its own reach or call breaks none.
 pub fn default_is_lawful()
     ensures fitting { FittingDefaultIsLawful }
     ensures played { PlayedDefaultIsLawful }
+{}
+
+/// In played deeds the points of the four seats and 1,000 for each deposit on the table are 120,000 together: what a seat
+/// gains another pays, or it comes from the table.
+pub fn points_stay()
+    ensures { TotalStays }
+{}
+
+/// In played deeds a hand has at most 300 deeds, and a game at most 60,002: no hand goes on without drawing, calling or
+/// discarding tiles, of which there are few, and a game has at most 200 hands.
+pub fn few_deeds()
+    ensures { FewDeeds }
 {}

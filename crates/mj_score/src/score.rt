@@ -33,9 +33,9 @@ pub struct Score {
 pub(crate) fn score_reading(rows: YakuSet, reading: &Reading, case: &Case, extra: Extra) -> Score
     requires some_han { 1 ≤ han_of_rows rows case.now.closed }
     requires orphans { is_orphans reading.now ≡ true → has_yakuman rows ≡ true }
-    requires dora { extra.dora ≤ 20 }
-    requires under { extra.under ≤ 20 }
-    requires red { extra.red ≤ 3 }
+    requires dora { extra.dora ≤ 90 }
+    requires under { extra.under ≤ 90 }
+    requires red { extra.red ≤ 18 }
     ensures { result ≡ score_of_rows rows reading.now case.now extra }
 {
     if rows.is_yakuman() {

@@ -17,8 +17,8 @@ use std::alloc::{AllocError, Global};
 /// tile. It is the greatest score of the readings that have a yaku, by base points, then han, then fu, then the
 /// lexicographically least list of rows; none exactly where no reading has a yaku. `Err` is want of memory.
 ///
-/// Conditions: `closed` of the case is true exactly where all melds are concealed kans, and there are at most 20 dora of
-/// either kind and 3 red fives.
+/// Conditions: `closed` of the case is true exactly where all melds are concealed kans, and there are at most 90 dora of
+/// either kind and 18 red fives: more than eighteen tiles with five indicators can have.
 #[tactic(auto, unfolding(crate::specs::Worth::worth_of))]
 pub fn worth(
     alloc: Global,
@@ -29,9 +29,9 @@ pub fn worth(
     extra: Extra,
 ) -> Result<Option<Score>, AllocError>
     requires closed { case.now.closed ≡ are_concealed melds.now }
-    requires dora { extra.dora ≤ 20 }
-    requires under { extra.under ≤ 20 }
-    requires red { extra.red ≤ 3 }
+    requires dora { extra.dora ≤ 90 }
+    requires under { extra.under ≤ 90 }
+    requires red { extra.red ≤ 18 }
     ensures value { IfOk result (λ worth. worth
         ≡ worth_of counts.now melds.now win case.now extra) }
     ensures law { IfOk result (λ worth. IsWorth counts.now melds.now win case.now extra worth) }
@@ -46,9 +46,9 @@ fn best_of(readings: &[Reading], melds: &[Meld], case: &Case, extra: Extra) -> O
     requires closed { case.now.closed ≡ are_concealed melds.now }
     requires orphans { All (λ reading. is_orphans reading ≡ true → case.now.closed ≡ true)
         readings.now }
-    requires dora { extra.dora ≤ 20 }
-    requires under { extra.under ≤ 20 }
-    requires red { extra.red ≤ 3 }
+    requires dora { extra.dora ≤ 90 }
+    requires under { extra.under ≤ 90 }
+    requires red { extra.red ≤ 18 }
     ensures { result ≡ best_among melds.now case.now extra readings.now }
 {
     let mut best = None;
@@ -68,9 +68,9 @@ fn best_with(
 ) -> Option<Score>
     requires closed { case.now.closed ≡ are_concealed melds.now }
     requires orphans { is_orphans reading.now ≡ true → case.now.closed ≡ true }
-    requires dora { extra.dora ≤ 20 }
-    requires under { extra.under ≤ 20 }
-    requires red { extra.red ≤ 3 }
+    requires dora { extra.dora ≤ 90 }
+    requires under { extra.under ≤ 90 }
+    requires red { extra.red ≤ 18 }
     ensures { result ≡ with_reading melds.now case.now extra best reading.now }
 {
     let rows = yaku(reading, melds, case);

@@ -73,6 +73,13 @@ pub special_far : (held : List ℕ) (melds number : ℕ) (best : Option (ℕ × 
 special_far held melds number None near least = absurd near
 special_far held melds number (Some answer) near least = Improves-not held (IsSpecial melds) (Some answer) (λ t special. inl (let m = least melds t special in omega arith))
 
+-- the best hand is nearer than thirteen orphans
+pub orphans_far : (held : List ℕ) (number : ℕ) (best : Option (ℕ × List ℕ)) → IsSomeAnd best (λ answer. answer.0 < number)
+    → number ≡ missing (1 ∷ 0 ∷ 0 ∷ 0 ∷ 0 ∷ 0 ∷ 0 ∷ 0 ∷ 1 ∷ 1 ∷ 0 ∷ 0 ∷ 0 ∷ 0 ∷ 0 ∷ 0 ∷ 0 ∷ 1 ∷ 1 ∷ 0 ∷ 0 ∷ 0 ∷ 0 ∷ 0 ∷ 0 ∷ 0 ∷ 1 ∷ 1 ∷ 1 ∷ 1 ∷ 1 ∷ 1 ∷ 1 ∷ 1 ∷ 0 ∷ 0 ∷ []) held
+    → Improves held (Padded IsOrphans) best best
+orphans_far held number None near is = absurd near
+orphans_far held number (Some answer) near is = Improves-not held (Padded IsOrphans) (Some answer) (λ t orphans. inl (let m = singles_are _ the_singles held t orphans in omega arith))
+
 -- ---- the fewest that a complete hand misses
 
 -- none of these is nearer than the sets

@@ -13,8 +13,8 @@ use crate::seven_pairs::{kinds_held, take_pairs};
 use crate::suits::{Suits, missing_of_sets, missing_tiles, take_sets};
 use mj_tiles::Counts;
 
-// Each terminal and honour once.
-const EACH_ORPHAN: [u8; 36] = [
+/// Each terminal and honour once.
+pub(crate) const EACH_ORPHAN: [u8; 36] = [
     1, 0, 0, 0, 0, 0, 0, 0, 1, 1, 0, 0, 0, 0, 0, 0, 0, 1, 1, 0, 0, 0, 0, 0, 0, 0, 1, 1, 1, 1, 1, 1,
     1, 1, 0, 0,
 ];
@@ -128,8 +128,8 @@ fn take_special(held: &[u8; 36], melds: u8, best: &mut Option<(u16, [u8; 36])>)
     take_orphans(held, best);
 }
 
-// Whether the best hand misses fewer tiles than so many.
-fn is_nearer(best: &Option<(u16, [u8; 36])>, number: u16) -> bool
+/// Whether the best hand misses fewer tiles than so many.
+pub(crate) fn is_nearer(best: &Option<(u16, [u8; 36])>, number: u16) -> bool
     ensures { IsTrue result → IsSomeAnd best.now (λ answer. answer.0 < number) }
 {
     match best {

@@ -8,12 +8,17 @@ ghost use Rattle.mj_suits.specs.Improves.{Improves};
 ghost use Rattle.mj_shanten.specs.Suits.{Padded, with_two};
 ghost use Rattle.mj_shanten.specs.Special.{IsOrphans, IsOrphansWith};
 
-use crate::suits::keep_nearer;
+use crate::nearest_hand::{EACH_ORPHAN, is_nearer};
+use crate::suits::{keep_nearer, missing_tiles};
 
-/// Takes into the best hand the thirteen orphans that are nearest.
+/// Takes into the best hand the thirteen orphans that are nearest. None is where the best hand misses fewer tiles than
+/// there are terminals and honours that are not held.
 pub(crate) fn take_orphans(held: &[u8; 36], best: &mut Option<(u16, [u8; 36])>)
     ensures { Improves held.now (Padded IsOrphans) best.old best.new }
 {
+    if is_nearer(best, missing_tiles(held, &EACH_ORPHAN)) {
+        return;
+    }
     for double in 0..34 {
         take_double(held, double, best);
     }

@@ -271,6 +271,21 @@ choice_both aim level others plan tiles first second result two =
 
 -- ---- all choices at a number
 
+-- with so many tiles more than fifteen would have been there
+pub too_many : (aim : Aim) (level : Level) (others : List Level) (plan : Plan) → IsPlan aim (level ∷ others) plan → (many : ℕ) → level.held + 15 < plan.left + (plan.before + plan.earlier + many)
+    → (tiles : List ℕ) (sets pairs : ℕ) → ByTiles aim level others plan many tiles sets pairs → ⊥
+too_many aim level others plan is many costs tiles sets pairs by = elim by [
+  | inl alone ↦ past (sets_alone many) (omega arith) alone
+  | inr pair ↦ past (with_pair many) (let two : 2 ≤ many = pair.0 in omega arith) pair.1
+]
+  where
+    past : (begin : Begin) → tiles_at plan begin ≡ plan.before + plan.earlier + many → ByBegin aim level others plan begin tiles sets pairs → ⊥
+    past begin at h =
+        let more = h.more in
+        let few : lane aim.after.lanes sets pairs ≤ 15 = is.few sets pairs (let a = more.sets_are in let f = is.sets_few in omega arith) (let a = more.pairs_are in let f = is.pairs_few in omega arith) in
+        let left = more.left_is in
+        omega arith
+
 -- so many tiles begin, and the choice is one for so many
 record ForSome (aim : Aim) (level : Level) (others : List Level) (plan : Plan) (tiles : List ℕ) (sets pairs : ℕ) : Type 0 where
   pub many : ℕ

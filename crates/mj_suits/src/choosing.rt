@@ -187,7 +187,7 @@ fn choose_at(aim: &Aim, level: &Level, others: &[Level], plan: &Plan) -> Choice
     requires { IsPlan aim.now (level.now ∷ others.now) plan.now }
     ensures { IsGreatest (By aim.now (level.now ∷ others.now) plan.now) plan.now result }
 {
-    let mut tiles = 5;
+    let mut tiles = most_tiles(level, plan) + 1;
     while tiles > 0 {
         tiles -= 1;
         if let Some(choice) = choose_tiles(aim, level, others, plan, tiles) {
@@ -195,6 +195,19 @@ fn choose_at(aim: &Aim, level: &Level, others: &[Level], plan: &Plan) -> Choice
         }
     }
     unreachable!()
+}
+
+// At most so many tiles begin at the plan's number: with more of them fewer than none of fifteen would be left.
+fn most_tiles(level: &Level, plan: &Plan) -> u8
+    requires left { plan.now.left ≤ 15 }
+    requires before { plan.now.before < 3 }
+    requires earlier { plan.now.earlier < 3 }
+    ensures few { result ≤ 4 }
+    ensures most { (many : ℕ) → result < many → many ≤ 4 → level.now.held + 15
+        < plan.now.left + (plan.now.before + plan.now.earlier + many) }
+{
+    let most = level.held.saturating_add(15 - plan.left);
+    most.saturating_sub(plan.before + plan.earlier).min(4)
 }
 
 // The same where so many tiles begin at the plan's number; none where none of these targets leaves so many.

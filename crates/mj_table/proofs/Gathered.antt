@@ -1,8 +1,9 @@
 -- What a list gives, item after item.
-use Rattle.std.proofs.Common.{◌≡◌, ℕ, ◌+◌, ◌-◌, ◌<◌, List, ◌++◌, length, take, get_or, Option, Some, None, refl, sym, ap, ◌∙◌, append-nil}
-use Rattle.std.specs.Prelude.{[], slice_get, option_to_list, flat_map}
+use Rattle.std.proofs.Common.{◌≡◌, ℕ, ◌+◌, ◌-◌, ◌<◌, List, ◌++◌, length, take, get_or, Bool, true, false, not, cond, Option, Some, None, refl, sym, ap, ◌∙◌, append-nil}
+use Rattle.std.specs.Prelude.{[], ◌∷◌, slice_get, option_to_list, flat_map, filter}
 use Rattle.std.specs.Option.{option_or}
 use Rattle.std.proofs.lemmas.List.{take_more, flat_map_more}
+use Rattle.std.proofs.lemmas.List.Elements.{filter-append}
 use Rattle.mj_deeds.proofs.Newest.{last_added}
 
 -- What is added last is the last one; where nothing is added the last stays.
@@ -27,3 +28,22 @@ pub last_gathered : {A : Type 0} (f : A → List ℕ) (xs : List A) (i : ℕ) (x
 last_gathered f xs i x more before after h is what was now =
     now ∙ ap (option_or more) was ∙ sym (last_more (flat_map f (take i xs)) more)
     ∙ ap (λ (ys : List ℕ). slice_get ys (length ys - 1)) (sym (gathered_more f xs i x (option_to_list more) h is what))
+
+-- The last one of a list that doesn't pass, one item further.
+kept_more : {A : Type 0} (p : A → Bool) (xs : List A) (x : A) →
+    slice_get (filter (λ y. not (p y)) (xs ++ x ∷ [])) (length (filter (λ y. not (p y)) (xs ++ x ∷ [])) - 1)
+    ≡ cond (p x) (slice_get (filter (λ y. not (p y)) xs) (length (filter (λ y. not (p y)) xs) - 1)) (Some x)
+kept_more {A = A} p xs x =
+    ap (λ (ys : List A). slice_get ys (length ys - 1)) (filter-append (λ y. not (p y)) xs (x ∷ []))
+    ∙ by_test (p x) (filter (λ y. not (p y)) xs)
+  where
+    by_test : (b : Bool) (ys : List A) → slice_get (ys ++ cond (not b) (x ∷ []) []) (length (ys ++ cond (not b) (x ∷ []) []) - 1) ≡ cond b (slice_get ys (length ys - 1)) (Some x)
+    by_test true ys = ap (λ (zs : List A). slice_get zs (length zs - 1)) (append-nil ys)
+    by_test false ys = last_added ys x
+
+pub last_kept : {A : Type 0} (p : A → Bool) (xs : List A) (i : ℕ) (x : A) (before after : Option A) → i < length xs → x ≡ get_or xs i x →
+    before ≡ slice_get (filter (λ y. not (p y)) (take i xs)) (length (filter (λ y. not (p y)) (take i xs)) - 1) → after ≡ cond (p x) before (Some x) →
+    after ≡ slice_get (filter (λ y. not (p y)) (take (i + 1) xs)) (length (filter (λ y. not (p y)) (take (i + 1) xs)) - 1)
+last_kept {A = A} p xs i x before after h is was now =
+    now ∙ ap (λ o. cond (p x) o (Some x)) was ∙ sym (kept_more p (take i xs) x)
+    ∙ ap (λ (ys : List A). slice_get (filter (λ y. not (p y)) ys) (length (filter (λ y. not (p y)) ys) - 1)) (ap (λ (y : A). take i xs ++ y ∷ []) is ∙ sym (take_more xs i x h))

@@ -12,7 +12,8 @@ use Rattle.mj_tiles.proofs.CountSteps.{number_of-push}
 use Rattle.mj_tiles.proofs.KindSets.{with_kind-within, has_kind-with, has_kind-kinds_that, kinds_that-within, kinds_that-is}
 use Rattle.mj_deeds.specs.declared.deed.Deed.{Deed}
 use Rattle.mj_deeds.specs.declared.deed.Deed.TheVariants.{Discard}
-use Rattle.mj_deeds.specs.Passed.{kinds_among, is_discard_by, offers_to, offered_tiles, passed_before}
+use Rattle.mj_deeds.specs.Facts.{is_discard_by}
+use Rattle.mj_deeds.specs.Passed.{kinds_among, offers_to, offered_tiles, passed_before}
 
 -- No tiles have no kinds.
 pub none_among : no_kinds ≡ kinds_among []

@@ -1,6 +1,10 @@
 mod FewItems
 mod Gathered
 mod HeldKinds
-mod InHand
+pub mod InHand
 mod KindsAmong
 mod Readers
+pub mod OneLess
+mod RoomSteps
+mod Spare
+pub mod WinSteps

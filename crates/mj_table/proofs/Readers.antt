@@ -1,6 +1,7 @@
 -- What a table of deeds that fit holds, and what none of the deeds so far changes.
-use Rattle.std.proofs.Common.{◌≡◌, ℕ, suc, ◌+◌, ◌<◌, ◌≤◌, ◌==◌, ◌⊎◌, inl, inr, List, [], ◌∷◌, ◌++◌, length, cond, eqb, get_or, true, false, Bool, refl, sym, ap, ◌∙◌, subst, arith}
-use Rattle.std.specs.Prelude.{flat_map, Option, Some, None}
+use Rattle.std.proofs.Common.{◌≡◌, ℕ, zero, suc, ◌+◌, ◌<◌, ◌≤◌, ◌-◌, ◌==◌, ◌||◌, ◌⊎◌, inl, inr, List, [], ◌∷◌, ◌++◌, length, cond, eqb, get_or, true, false, Bool, refl, sym, ap, ◌∙◌, subst, arith}
+use Rattle.std.specs.Prelude.{flat_map, filter, Option, Some, None, ℤ, pos}
+use Rattle.std.specs.List.{list_any}
 use Rattle.std.specs.Option.{option_or}
 use Rattle.std.proofs.lemmas.Bool.{cases_lt, ne_eqb}
 use Rattle.std.proofs.lemmas.List.{get_or_past}
@@ -13,20 +14,24 @@ use Rattle.mj_wall.proofs.TileOrder.{count_by-less}
 use Rattle.mj_deeds.specs.declared.deed.Deed.{Deed}
 use Rattle.mj_deeds.specs.declared.deed.Deed.TheVariants.{StartHand, Draw}
 use Rattle.mj_deeds.specs.Facts.{gains_by, tiles_gained, tiles_lost, concealed_tiles}
-use Rattle.mj_deeds.specs.Fits.{fits, all_fit, brought_by}
-use Rattle.mj_deeds.specs.Hand.{is_hand_start, hand}
+use Rattle.mj_deeds.specs.Fits.{Ground, ground_of, fits, fits_behind, all_fit, brought_by, has_points}
+use Rattle.mj_deeds.specs.Hand.{is_hand_start, from_last, hand, starts}
 use Rattle.mj_deeds.specs.Facts.{newest}
+use Rattle.mj_deeds.specs.Points.{points, deposits, changed, is_win, is_deposit}
 use Rattle.mj_deeds.specs.Standings.{standing, standing_by}
 use Rattle.mj_rounds.specs.Rounds.{first_standing}
 use Rattle.mj_rounds.specs.declared.rounds.Standing.{Standing}
-use Rattle.mj_deeds.proofs.Hands.{behind, hand_more, standing_stays, standing_starts}
+use Rattle.mj_deeds.proofs.HandSteps.{behind, hand_more, standing_stays, standing_starts, standing_hand}
 use Rattle.mj_deeds.proofs.Newest.{newest_more}
-use Rattle.mj_table.proofs.InHand.{newest_in_hand}
+use Rattle.mj_deeds.proofs.PointLaws.{all_points_more, deposits_more}
+use Rattle.mj_deeds.proofs.Deposits.{few_deposits}
+use Rattle.mj_deeds.proofs.Standings.{few_hands}
+use Rattle.mj_table.proofs.InHand.{newest_in_hand, has_start}
 use Rattle.mj_wall.specs.declared.setting.Rules.{Rules}
 use Rattle.mj_table.specs.Plays.{Play}
 use Rattle.mj_table.specs.Inner.Kept.{Stands, opening, hand_with, opening_with}
 use Rattle.mj_deeds.proofs.FitSteps.{number_of_four}
-use Rattle.mj_deeds.proofs.Fitted.{all_fit-append, four_of_kind, first_start}
+use Rattle.mj_deeds.proofs.Fitted.{all_fit-append, four_of_kind, parts_of}
 
 -- the tiles that are held
 
@@ -56,7 +61,8 @@ gains_within seat kind (StartHand round number honba deposits dealer indicator h
 gains_within seat kind (Draw who tile replacement) = drawn_within tile kind (eqb who seat)
 gains_within seat kind other = omega arith
 
-gained_within : (ds : List Deed) (seat kind : ℕ) → number_of (tiles_gained ds seat) kind ≤ number_of (flat_map brought_by ds) kind
+-- A seat was given no more tiles than were brought in.
+pub gained_within : (ds : List Deed) (seat kind : ℕ) → number_of (tiles_gained ds seat) kind ≤ number_of (flat_map brought_by ds) kind
 gained_within [] seat kind = omega arith
 gained_within (d ∷ ds) seat kind =
     sum _ _ _ _ _ _
@@ -105,9 +111,9 @@ newest_is ds kept first e before = ap (λ (h : List Deed). option_or (newest h) 
     by_hand (x ∷ xs) e = ap (λ b. option_or (newest (x ∷ xs)) (cond b (newest ds) None)) (not_empty (length xs)) ∙ some x xs ∙ newest_in_hand ds x xs e
 
 -- Where there is a newest deed in the hand, it is the newest of what the table stands for.
-pub newest_some : (rules : Rules) (ds kept told : List Deed) (first : Option Deed) (now : Standing) (played : Play) (d : Deed) → Stands rules ds kept first now →
+pub newest_some : (rules : Rules) (ds kept told : List Deed) (first : Option Deed) (now : Standing) (held : List ℤ) (lying : ℕ) (played : Play) (d : Deed) → Stands rules ds kept first now held lying →
     record { rules = rules; deeds = ds } ≡ played → told ≡ kept → Some d ≡ newest told → Some d ≡ newest played.deeds
-newest_some rules ds kept told first now played d s is same e =
+newest_some rules ds kept told first now held lying played d s is same e =
     ap (λ (o : Option Deed). option_or o first) (e ∙ ap newest same) ∙ newest_is ds kept first s.hand s.opening ∙ ap (λ (p : Play). newest p.deeds) is
 
 -- one deed more
@@ -125,35 +131,135 @@ opening_is_with ds kept d e =
     ap (λ (h : List Deed). cond (length h == 0) (Some d) None) (hand_is_with ds kept d e)
     ∙ ap (λ (o : Option Deed). cond (length (hand (ds ++ d ∷ [])) == 0) o None) (sym (newest_more ds d))
 
-standing_is_with : (red : Bool) (ds : List Deed) (d : Deed) → all_fit red [] ds ≡ true → fits red ds d ≡ true → cond (is_hand_start d) (standing_by 0 (Some d)) (standing ds) ≡ standing (ds ++ d ∷ [])
-standing_is_with red ds d fit one = by_start (is_hand_start d) refl
+standing_is_with : (ds : List Deed) (d : Deed) (number : ℕ) → number ≡ length (starts ds) → cond (is_hand_start d) (standing_by number (Some d)) (standing ds) ≡ standing (ds ++ d ∷ [])
+standing_is_with ds d number is = by_start (is_hand_start d) refl
   where
-    by_start : (b : Bool) → is_hand_start d ≡ b → cond b (standing_by 0 (Some d)) (standing ds) ≡ standing (ds ++ d ∷ [])
-    by_start true e = sym (standing_starts ds d e ∙ ap (λ (n : ℕ). standing_by n (Some d)) (first_start red ds d fit one e))
+    by_start : (b : Bool) → is_hand_start d ≡ b → cond b (standing_by number (Some d)) (standing ds) ≡ standing (ds ++ d ∷ [])
+    by_start true e = sym (standing_starts ds d e ∙ ap (λ (n : ℕ). standing_by n (Some d)) (sym is))
     by_start false e = sym (standing_stays ds d e)
 
-pub stands_at_first : (rules : Rules) (ds kept : List Deed) → ds ≡ [] → kept ≡ [] → Stands rules ds kept None first_standing
+deposits_are_with : (ds : List Deed) (d : Deed) (lying : ℕ) → lying ≡ deposits ds → cond (is_win d) 0 (lying + cond (is_deposit d) 1 0) ≡ deposits (ds ++ d ∷ [])
+deposits_are_with ds d lying is = ap (λ (n : ℕ). cond (is_win d) 0 (n + cond (is_deposit d) 1 0)) is ∙ sym (deposits_more ds d)
+
+pub stands_at_first : (rules : Rules) (ds kept : List Deed) → ds ≡ [] → kept ≡ [] →
+    Stands rules ds kept None first_standing (pos 30000 ∷ pos 30000 ∷ pos 30000 ∷ pos 30000 ∷ []) 0
 unfolding hand
 stands_at_first rules ds kept e h =
-    subst (λ (xs : List Deed). Stands rules xs kept None first_standing) (sym e)
-    (subst (λ (xs : List Deed). Stands rules [] xs None first_standing) (sym h) (record { fit = refl; hand = refl; opening = refl; standing = refl }))
+    subst (λ (xs : List Deed). Stands rules xs kept None first_standing (pos 30000 ∷ pos 30000 ∷ pos 30000 ∷ pos 30000 ∷ []) 0) (sym e)
+    (subst (λ (xs : List Deed). Stands rules [] xs None first_standing (pos 30000 ∷ pos 30000 ∷ pos 30000 ∷ pos 30000 ∷ []) 0) (sym h)
+    (record { fit = refl; hand = refl; opening = refl; standing = refl; points = refl; deposits = refl }))
 
-pub stands_more : (rules : Rules) (ds kept : List Deed) (first : Option Deed) (now : Standing) (d : Deed) → Stands rules ds kept first now → fits rules.red ds d ≡ true →
-    Stands rules (ds ++ d ∷ []) (hand_with kept d) (opening_with kept d) (cond (is_hand_start d) (standing_by 0 (Some d)) now)
-stands_more rules ds kept first now d s one = record {
+pub stands_more : (rules : Rules) (ds kept : List Deed) (first : Option Deed) (now : Standing) (held : List ℤ) (lying number : ℕ) (d : Deed) → Stands rules ds kept first now held lying →
+    fits rules.red ds d ≡ true → number ≡ length (starts ds) →
+    Stands rules (ds ++ d ∷ []) (hand_with kept d) (opening_with kept d) (cond (is_hand_start d) (standing_by number (Some d)) now) (changed held d)
+    (cond (is_win d) 0 (lying + cond (is_deposit d) 1 0))
+stands_more rules ds kept first now held lying number d s one is = record {
   fit = all_fit-append rules.red [] ds d s.fit one;
   hand = hand_is_with ds kept d s.hand;
   opening = opening_is_with ds kept d s.hand;
-  standing = ap (λ (n : Standing). cond (is_hand_start d) (standing_by 0 (Some d)) n) s.standing ∙ standing_is_with rules.red ds d s.fit one;
+  standing = ap (λ (n : Standing). cond (is_hand_start d) (standing_by number (Some d)) n) s.standing ∙ standing_is_with ds d number is;
+  points = ap (λ (p : List ℤ). changed p d) s.points ∙ sym (all_points_more ds d);
+  deposits = deposits_are_with ds d lying s.deposits;
 }
 
 -- What stands for deeds stands for the same ones in other words.
-pub stands_for : (rules : Rules) (ds xs kept hs : List Deed) (first o : Option Deed) (now n : Standing) → Stands rules ds kept first now → xs ≡ ds → hs ≡ kept → o ≡ first → n ≡ now →
-    Stands rules xs hs o n
-stands_for rules ds xs kept hs first o now n s e h k l = subst (λ (t : Standing). Stands rules xs hs o t) (sym l)
-    (subst (λ (p : Option Deed). Stands rules xs hs p now) (sym k)
-    (subst (λ (ys : List Deed). Stands rules xs ys first now) (sym h)
-    (subst (λ (ys : List Deed). Stands rules ys kept first now) (sym e) s)))
+pub stands_for : (rules : Rules) (ds xs kept hs : List Deed) (first o : Option Deed) (now n : Standing) (held p : List ℤ) (lying l : ℕ) → Stands rules ds kept first now held lying →
+    xs ≡ ds → hs ≡ kept → o ≡ first → n ≡ now → p ≡ held → l ≡ lying → Stands rules xs hs o n p l
+stands_for rules ds xs kept hs first o now n held p lying l s e h k f g m = record {
+  fit = subst (λ (ys : List Deed). all_fit rules.red [] ys ≡ true) (sym e) s.fit;
+  hand = h ∙ s.hand ∙ ap hand (sym e);
+  opening = k ∙ s.opening ∙ ap opening (sym e);
+  standing = f ∙ s.standing ∙ ap standing (sym e);
+  points = g ∙ s.points ∙ ap points (sym e);
+  deposits = m ∙ s.deposits ∙ ap deposits (sym e);
+}
+
+-- the number of the next hand
+
+none_kept : {A : Type 0} (p : A → Bool) (xs : List A) → list_any p xs ≡ false → filter p xs ≡ []
+none_kept p [] h = refl
+none_kept {A = A} p (x ∷ xs) h = by_test (p x) h (none_kept p xs)
+  where
+    by_test : (b : Bool) → (b || list_any p xs) ≡ false → (list_any p xs ≡ false → filter p xs ≡ []) → cond b (x ∷ filter p xs) (filter p xs) ≡ []
+    by_test true k others = cc
+    by_test false k others = others k
+
+some_kept : {A : Type 0} (p : A → Bool) (xs : List A) → list_any p xs ≡ true → 0 < length (filter p xs)
+some_kept p [] h = cc
+some_kept {A = A} p (x ∷ xs) h = by_test (p x) h (some_kept p xs)
+  where
+    some : (n : ℕ) → 0 < suc n
+    some n = omega arith
+
+    by_test : (b : Bool) → (b || list_any p xs) ≡ true → (list_any p xs ≡ true → 0 < length (filter p xs)) → 0 < length (cond b (x ∷ filter p xs) (filter p xs))
+    by_test true k others = some (length (filter p xs))
+    by_test false k others = others k
+
+some_from : {A : Type 0} (p : A → Bool) (xs : List A) → list_any p xs ≡ true → from_last p xs ≡ [] → ⊥
+some_from p [] h e = cc
+some_from {A = A} p (x ∷ xs) h e = by_tests (list_any p xs) (p x) refl h e (some_from p xs)
+  where
+    by_tests : (a b : Bool) → list_any p xs ≡ a → (b || a) ≡ true → cond a (from_last p xs) (cond b (x ∷ xs) []) ≡ [] → (list_any p xs ≡ true → from_last p xs ≡ [] → ⊥) → ⊥
+    by_tests true b t h e others = others t e
+    by_tests false true t h e others = cc
+    by_tests false false t h e others = cc
+
+pub some_items : (n : ℕ) → (n == 0) ≡ false → 0 < n
+some_items zero h = cc
+some_items (suc n) h = omega arith
+
+-- No hand was started where the newest one is empty, and as many as its number says with it where it is not.
+pub none_started : (ds kept : List Deed) → kept ≡ hand ds → length kept ≡ 0 → 0 ≡ length (starts ds)
+unfolding hand
+none_started ds kept is empty = by_test (list_any is_hand_start ds) refl
+  where
+    no_items : (xs : List Deed) → length xs ≡ 0 → xs ≡ []
+    no_items [] h = refl
+    no_items (x ∷ xs) h = cc
+
+    by_test : (b : Bool) → list_any is_hand_start ds ≡ b → 0 ≡ length (starts ds)
+    by_test true e = absurd (some_from is_hand_start ds e (sym is ∙ no_items kept empty))
+    by_test false e = ap length (sym (none_kept is_hand_start ds e))
+
+pub next_started : (ds kept : List Deed) (now : Standing) → kept ≡ hand ds → now ≡ standing ds → 0 < length kept → now.hand + 1 ≡ length (starts ds)
+unfolding hand
+next_started ds kept now is at some = by_hand kept is some
+  where
+    plus : (n m l : ℕ) → n ≡ m → m ≡ l - 1 → 0 < l → n + 1 ≡ l
+    plus n m l e h k = omega (arith, e, h, k)
+
+    by_hand : (h : List Deed) → h ≡ hand ds → 0 < length h → now.hand + 1 ≡ length (starts ds)
+    by_hand [] e k = absurd (omega (arith, k))
+    by_hand (x ∷ xs) e k = plus _ _ _ (ap (λ (n : Standing). n.hand) at) (standing_hand ds) (some_kept is_hand_start ds (has_start ds x xs (sym e)))
+
+-- A game has at most 200 hands, and at most 800 deposits lie on its table.
+pub few_numbers : (red : Bool) (ds : List Deed) (now : Standing) → all_fit red [] ds ≡ true → now ≡ standing ds → now.hand ≤ 200
+few_numbers red ds now fit at = few _ _ _ (ap (λ (n : Standing). n.hand) at) (standing_hand ds) (few_hands red ds fit)
+  where
+    few : (n m l : ℕ) → n ≡ m → m ≡ l - 1 → l ≤ 200 → n ≤ 200
+    few n m l e h k = omega (arith, e, h, k)
+
+pub few_lie : (red : Bool) (ds : List Deed) (lying : ℕ) → all_fit red [] ds ≡ true → lying ≡ deposits ds → lying ≤ 800
+few_lie red ds lying fit e = subst (λ (n : ℕ). n ≤ 800) (sym e) (few_deposits red ds fit)
+
+-- A deed that fits says the points that it gives.
+pub points_fit : (red : Bool) (ds : List Deed) (held : List ℤ) (d : Deed) → fits red ds d ≡ true → held ≡ points ds → has_points held d ≡ true
+points_fit red ds held d one e = ap (λ (p : List ℤ). has_points p d) e ∙ (parts_of red ds d one).pointed
+
+-- What a deed is held against, as a table keeps it.
+ground_is : (ds : List Deed) (n : Option Deed) (h : List Deed) (s : Standing) (p : List ℤ) (l : ℕ) → n ≡ newest ds → h ≡ hand ds → s ≡ standing ds → p ≡ points ds → l ≡ deposits ds →
+    ◌≡◌ {A = Ground} (record { newest = n; hand = h; standing = s; points = p; deposits = l }) (ground_of ds)
+unfolding ground_of
+ground_is ds n h s p l a b c e f = λ i. record { newest = a i; hand = b i; standing = c i; points = e i; deposits = f i }
+
+pub fits_told : (rules : Rules) (ds kept : List Deed) (first : Option Deed) (now : Standing) (held : List ℤ) (lying : ℕ) (played : Play) (d : Deed) (n : Option Deed) (h : List Deed) (result : Bool) →
+    Stands rules ds kept first now held lying → record { rules = rules; deeds = ds } ≡ played → n ≡ newest played.deeds → h ≡ hand played.deeds →
+    result ≡ fits_behind rules.red (record { newest = n; hand = h; standing = now; points = held; deposits = lying }) d → result ≡ fits played.rules.red played.deeds d
+fits_told rules ds kept first now held lying played d n h result s is a b e =
+    e
+    ∙ ap (λ (g : Ground). fits_behind rules.red g d)
+    (ground_is ds n h now held lying (a ∙ ap (λ (p : Play). newest p.deeds) (sym is)) (b ∙ ap (λ (p : Play). hand p.deeds) (sym is)) s.standing s.points s.deposits)
+    ∙ ap (λ (p : Play). fits p.rules.red p.deeds d) is
 
 -- What a table stands for, by its parts.
 pub fit_within : (rules : Rules) (ds : List Deed) (played : Play) (d : Deed) → record { rules = rules; deeds = ds } ≡ played → fits played.rules.red played.deeds d ≡ true →

@@ -1,3 +1,4 @@
 pub mod Marks
+pub mod Offers
 pub mod Plays
 pub mod Inner

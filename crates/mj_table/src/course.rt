@@ -1,6 +1,7 @@
-ghost use Rattle.std.specs.Prelude.{◌≡◌, ◌≤◌, ◌-◌, length, option_copied, option_to_list, slice_get};
-ghost use Rattle.mj_deeds.specs.Course.{cause};
-ghost use Rattle.mj_deeds.specs.Facts.{kan_seats, indicators, indicators_by, drawn_tile};
+ghost use Rattle.std.specs.Prelude.{◌≡◌, ◌≤◌, ◌-◌, if◌then◌else◌, Some, length, option_and_then, option_copied, option_to_list, slice_get};
+ghost use Rattle.mj_deeds.specs.Course.{cause, comes_of, only_if, is_reach, is_offer, before_wins};
+ghost use Rattle.mj_deeds.specs.Points.{is_win};
+ghost use Rattle.mj_deeds.specs.Facts.{kan_seats, indicators, indicators_by, drawn_tile, drawn_by, newest};
 
 use mj_deeds::{Deed, seat_of_kan};
 use mj_tiles::Tile;
@@ -10,23 +11,114 @@ pub(crate) fn cause(deeds: &[Deed]) -> Option<&Deed>
     ensures { option_copied result ≡ cause deeds.now }
 {
     match deeds.split_last() {
-        Some((Deed::Dora { .. }, before)) => before.last(),
+        Some((newest, before)) => comes_of(before, newest),
+        None => None,
+    }
+}
+
+// Of the deeds before a deed the one that it comes of.
+fn comes_of<'a>(before: &'a [Deed], deed: &Deed) -> Option<&'a Deed>
+    ensures { option_copied result ≡ comes_of before.now deed.now }
+{
+    match deed {
+        Deed::Discard { .. } => reach_at_end(before),
+        Deed::ReachAccepted { .. } => before.last(),
+        Deed::Win { .. } => offer_before_wins(before),
+        Deed::Dora { .. } => before.last(),
+        Deed::EndHand => before.last(),
         _ => None,
     }
 }
 
-// The tile that a seat has drawn and holds as drawn: that of the newest deed, where it is the seat's draw.
+// The newest deed, where it is a reach.
+fn reach_at_end(deeds: &[Deed]) -> Option<&Deed>
+    ensures { option_copied result ≡ only_if is_reach (newest deeds.now) }
+{
+    match deeds.last() {
+        Some(deed) => if is_reach(deed) { Some(deed) } else { None },
+        None => None,
+    }
+}
+
+// The newest deed that is no win, where it gives a tile that may be won on.
+fn offer_before_wins(deeds: &[Deed]) -> Option<&Deed>
+    ensures { option_copied result ≡ only_if is_offer (newest (before_wins deeds.now)) }
+{
+    match before_wins(deeds) {
+        Some(deed) => if is_offer(deed) { Some(deed) } else { None },
+        None => None,
+    }
+}
+
+// The newest deed that is no win.
+pub(crate) fn before_wins(deeds: &[Deed]) -> Option<&Deed>
+    ensures { option_copied result ≡ newest (before_wins deeds.now) }
+{
+    let mut found = None;
+    for deed in deeds {
+        found = later(found, deed);
+    }
+    found
+}
+
+// A deed, unless it is a win, and else the one before it.
+fn later<'a>(found: Option<&'a Deed>, deed: &'a Deed) -> Option<&'a Deed>
+    ensures { option_copied result ≡ if is_win deed.now then option_copied found.entry else Some
+        deed.now }
+{
+    if is_win(deed) { found } else { Some(deed) }
+}
+
+fn is_reach(deed: &Deed) -> bool
+    ensures { result ≡ is_reach deed.now }
+{
+    matches!(deed, Deed::Reach { .. })
+}
+
+fn is_offer(deed: &Deed) -> bool
+    ensures { result ≡ is_offer deed.now }
+{
+    matches!(deed, Deed::Discard { .. } | Deed::AddedKan { .. })
+}
+
+fn is_win(deed: &Deed) -> bool
+    ensures { result ≡ is_win deed.now }
+{
+    matches!(deed, Deed::Win { .. })
+}
+
+// The tile that a seat has drawn and holds as drawn: that of the newest deed, where it is the seat's draw, or its reach
+// after it.
 pub(crate) fn drawn(deeds: &[Deed], seat: u8) -> Option<Tile>
     ensures { result ≡ drawn_tile deeds.now seat }
 {
+    match deeds.split_last() {
+        Some((Deed::Reach { seat: who }, before)) if *who == seat => drawn_last(before, seat),
+        Some((newest, _)) => drawn_by(newest, seat),
+        None => None,
+    }
+}
+
+// The tile of a seat's draw, where it is the newest deed.
+fn drawn_last(deeds: &[Deed], seat: u8) -> Option<Tile>
+    ensures { result ≡ option_and_then (drawn_by seat) (newest deeds.now) }
+{
     match deeds.last() {
-        Some(
-            Deed::Draw {
-                seat: who,
-                tile,
-                ..
-            },
-        ) if *who == seat => Some(*tile),
+        Some(newest) => drawn_by(newest, seat),
+        None => None,
+    }
+}
+
+// The tile that a seat draws by a deed.
+fn drawn_by(deed: &Deed, seat: u8) -> Option<Tile>
+    ensures { result ≡ drawn_by seat deed.now }
+{
+    match deed {
+        Deed::Draw {
+            seat: who,
+            tile,
+            ..
+        } if *who == seat => Some(*tile),
         _ => None,
     }
 }

@@ -7,8 +7,11 @@ mod marks;
 mod melds;
 mod passed;
 mod reason;
+mod riichi;
+mod room;
 mod standing;
 mod table;
+mod winning;
 
 pub use marks::Marks;
 pub use mj_rounds::Standing;

@@ -1,6 +1,8 @@
-ghost use Rattle.std.specs.Prelude.{◌≡◌, ◌++◌, ℕ, List, [], if◌then◌else◌, option_to_list};
-ghost use Rattle.mj_deeds.specs.Passed.{kinds_among, own_kinds, passed_kinds, offered_tiles, is_discard_by, offers_to};
+ghost use Rattle.std.specs.Prelude.{◌≡◌, ◌++◌, ℕ, List, [], if◌then◌else◌, ◌-◌, length, take, flat_map, option_to_list};
+ghost use Rattle.mj_deeds.specs.Facts.{is_discard_by};
+ghost use Rattle.mj_deeds.specs.Passed.{kinds_among, own_kinds, passed_kinds, passed_in_riichi, offered_tiles, offers_to};
 
+use crate::riichi::behind_reach_deed;
 use mj_deeds::{Deed, discarded_by};
 use mj_tiles::{Kinds, Tile};
 
@@ -27,6 +29,32 @@ pub(crate) fn passed_kinds(deeds: &[Deed], seat: u8) -> Kinds
         return Kinds::none();
     }
     offered_kinds(&deeds[..deeds.len() - 1], seat)
+}
+
+// The kinds that a seat let pass in one hand since its reach: those of the tiles that others discarded, or added to a
+// triplet, behind it. The tile of the newest deed isn't counted. None of a seat that has not reached.
+pub(crate) fn passed_in_riichi(deeds: &[Deed], seat: u8) -> Kinds
+    ensures { result ≡ passed_in_riichi deeds.now seat }
+{
+    all_offered(behind_reach_deed(before_last(deeds), seat), seat)
+}
+
+// The deeds before the newest one.
+fn before_last(deeds: &[Deed]) -> &[Deed]
+    ensures { result.now ≡ take (length deeds.now - 1) deeds.now }
+{
+    &deeds[..deeds.len().saturating_sub(1)]
+}
+
+// The kinds of all tiles that were offered to a seat.
+fn all_offered(deeds: &[Deed], seat: u8) -> Kinds
+    ensures { result ≡ kinds_among (flat_map (offers_to seat) deeds.now) }
+{
+    let mut offered = Kinds::none();
+    for deed in deeds {
+        offered = with_tile(offered, offered_by(deed, seat));
+    }
+    offered
 }
 
 // The kinds of the tiles that were offered to a seat since its own last discard.
@@ -64,7 +92,7 @@ fn with_tile(kinds: Kinds, tile: Option<Tile>) -> Kinds
 }
 
 // Whether a deed is a discard of a seat.
-fn is_discard_by(deed: &Deed, seat: u8) -> bool
+pub(crate) fn is_discard_by(deed: &Deed, seat: u8) -> bool
     ensures { result ≡ is_discard_by seat deed.now }
 {
     match deed {

@@ -1,8 +1,8 @@
 ghost use Rattle.std.specs.Prelude.{◌≡◌};
 ghost use Rattle.mj_deeds.specs.Facts.{kan_seats};
-ghost use Rattle.mj_deeds.specs.Reasons.{reason, are_four_winds, are_four_kans, is_turn, discarded_kind, kind_at, differ};
+ghost use Rattle.mj_deeds.specs.Reasons.{reason, are_four_winds, are_four_riichis, are_four_kans, is_turn, discarded_kind, kind_at, differ};
 
-use mj_deeds::{Deed, Reason, is_call, kans, seat_of_kan};
+use mj_deeds::{Deed, Reason, is_call, kans, riichis, seat_of_kan};
 use mj_tiles::Kind;
 
 // The first draw reason that holds in one hand; none where the game has no such draws.
@@ -14,6 +14,9 @@ pub(crate) fn reason(draws: bool, deeds: &[Deed]) -> Option<Reason>
     }
     if are_four_winds(deeds) {
         return Some(Reason::Suufonrenta);
+    }
+    if are_four_riichis(deeds) {
+        return Some(Reason::Suuchareach);
     }
     if are_four_kans(deeds) {
         return Some(Reason::Suukaikan);
@@ -38,6 +41,13 @@ fn are_four_winds(deeds: &[Deed]) -> bool
         return false;
     };
     (27..=30).contains(&a.number()) && b == a && c == a && d == a
+}
+
+// Four reaches were accepted.
+fn are_four_riichis(deeds: &[Deed]) -> bool
+    ensures { result ≡ are_four_riichis deeds.now }
+{
+    riichis(deeds) == 4
 }
 
 // Four kans were made, and not all by one seat.

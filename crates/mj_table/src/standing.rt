@@ -5,9 +5,10 @@ ghost use Rattle.mj_deeds.specs.Standings.{standing_by};
 use mj_deeds::Deed;
 use mj_rounds::Standing;
 
-// The standing of the newest hand of a game of one hand, with a deed more: a start of a hand says it.
-pub(crate) fn standing_with(before: Standing, deed: &Deed) -> Standing
-    ensures { result ≡ (if is_hand_start deed.now then standing_by 0 (Some deed.now) else before) }
+// The standing of the newest hand, with a deed more: a start of a hand says it, and has the number of the next hand.
+pub(crate) fn standing_with(before: Standing, number: u32, deed: &Deed) -> Standing
+    ensures { result ≡ (if is_hand_start deed.now then standing_by number (Some deed.now) else
+        before) }
 {
     match deed {
         Deed::StartHand {
@@ -19,7 +20,7 @@ pub(crate) fn standing_with(before: Standing, deed: &Deed) -> Standing
             round: *round,
             dealer: *dealer,
             honba: *honba,
-            hand: 0,
+            hand: number,
         },
         _ => before,
     }

@@ -1,35 +1,43 @@
-ghost use Rattle.std.specs.Prelude.{◌≡◌, ◌≤◌, ◌<◌, ◌-◌, ◌++◌, [], ◌∷◌, IfOk, OnOk, OnErr, IsTrue, length, min, option_copied, slice_get};
+ghost use Rattle.std.specs.Prelude.{◌≡◌, ◌≤◌, ◌<◌, ◌==◌, ◌-◌, ◌++◌, [], ◌∷◌, ℕ, Some, IfOk, OnOk, OnErr, IsTrue, length, not, min, flat_map, option_copied, slice_get, slice_index};
 ghost use Rattle.std.specs.List.{list_any};
-ghost use Rattle.mj_tiles.specs.Faces.{number_in};
-ghost use Rattle.mj_tiles.specs.Counts.{kind_counts};
+ghost use Rattle.mj_tiles.specs.Faces.{number_in, kind_of};
+ghost use Rattle.mj_tiles.specs.Counts.{kind_counts, room_beside};
+ghost use Rattle.mj_tiles.specs.Melds.{tiles_of_meld};
 ghost use Rattle.mj_deeds.specs.Facts.{newest, concealed_tiles, tiles_gained, tiles_lost, drawn_tile, seat_melds, kans, kan_seats, indicators, live_draws, live_tiles};
+ghost use Rattle.mj_deeds.specs.Firsts.{is_first};
 ghost use Rattle.mj_deeds.specs.Fits.{fits, all_fit, is_triplet_of};
-ghost use Rattle.mj_deeds.specs.Course.{cause};
-ghost use Rattle.mj_deeds.specs.Passed.{own_kinds, passed_kinds};
+ghost use Rattle.mj_deeds.specs.Course.{cause, before_wins};
+ghost use Rattle.mj_deeds.specs.Ends.{dealer_won, winners, end_of};
+ghost use Rattle.mj_deeds.specs.Passed.{own_kinds, passed_kinds, passed_in_riichi};
 ghost use Rattle.mj_deeds.specs.Points.{points, deposits};
+ghost use Rattle.mj_deeds.specs.Riichi.{is_in_riichi, is_ippatsu};
 ghost use Rattle.mj_deeds.specs.Reasons.{reason};
 ghost use Rattle.mj_table.specs.Marks.{marks};
+ghost use Rattle.mj_table.specs.Offers.{offered_tile};
 ghost use Rattle.mj_table.specs.Inner.Kept.{hand_with, opening_with};
-ghost use Rattle.mj_deeds.specs.Hand.{hand};
+ghost use Rattle.mj_deeds.specs.Hand.{hand, starts};
 ghost use Rattle.mj_deeds.specs.Standings.{standing};
 
 use crate::counting::held_counts;
-use crate::course::{cause, drawn, indicator, kan_seat, shown};
+use crate::course::{before_wins, cause, drawn, indicator, kan_seat, shown};
 use crate::marks::{Marks, marks_of};
 use crate::melds::held_melds;
-use crate::passed::{own_kinds, passed_kinds};
+use crate::passed::{own_kinds, passed_in_riichi, passed_kinds};
 use crate::reason::reason;
+use crate::riichi::is_first;
+use crate::room::room_beside;
 use crate::standing::standing_with;
-use mj_deeds::{Deed, Reason, is_hand_start};
+use crate::winning::{has_winner, is_ippatsu_before_wins};
+use mj_deeds::{Deed, Reason, Tiles, deposits_after, is_hand_start, points_after};
 use mj_past::Past;
-use mj_rounds::{Standing, first};
+use mj_rounds::{HandEnd, Standing, first};
 use mj_tiles::{Counts, Kinds, Melds, Tile};
 use mj_wall::Rules;
 use std::alloc::{AllocError, Global};
 use std::marker::Model;
 
-/// A game as far as it was played: its rules, and its deeds so far, each of which fits behind those before it. It says each
-/// fact of these deeds. No call but `new`, `push` and `copy` takes memory. Seats are 0 to 3.
+/// A game as far as it was played: its rules, and its deeds so far, each of which fits behind those before it. It
+/// says each fact of these deeds. No call but `new`, `push`, `copy` and `concealed` takes memory. Seats are 0 to 3.
 #[derive(Drop)]
 pub struct Table {
     rules: Rules,
@@ -38,6 +46,9 @@ pub struct Table {
     // the newest deed as long as no hand has begun
     opening: Option<Deed>,
     standing: Standing,
+    // the points of the seats and the deposits on the table
+    points: [i32; 4],
+    deposits: u32,
     // all deeds, which are not kept
     past: Past<Deed>,
 }
@@ -50,7 +61,8 @@ impl Model for Table {
 
     ghost view = { λ t. record { rules = t.rules; deeds = t.past.items } };
 
-    ghost invariant = { λ t. Stands t.rules t.past.items t.hand.items t.opening t.standing };
+    ghost invariant = { λ t. Stands t.rules t.past.items t.hand.items t.opening t.standing t.points
+        t.deposits };
 }
 
 impl Table {
@@ -63,6 +75,8 @@ impl Table {
             hand: Vec::new(alloc),
             opening: None,
             standing: first(),
+            points: [30_000; 4],
+            deposits: 0,
             past: Past::new(),
         })
     }
@@ -75,8 +89,11 @@ impl Table {
             ≡ record { rules = self.old.rules; deeds = self.old.deeds ++ deed.now ∷ [] }) }
         ensures err { OnErr result (self.new ≡ self.old) }
     {
+        let number = self.next_number();
         add(&mut self.hand, &mut self.opening, deed)?;
-        self.standing = standing_with(self.standing, deed);
+        self.standing = standing_with(self.standing, number, deed);
+        self.points = points_after(self.points, deed);
+        self.deposits = deposits_after(self.deposits, deed);
         self.past = self.past.and(deed);
         Ok(())
     }
@@ -92,8 +109,20 @@ impl Table {
             hand,
             opening,
             standing: self.standing,
+            points: self.points,
+            deposits: self.deposits,
             past: self.past.again(),
         })
+    }
+
+    // The number of a hand that begins next, counted from 0.
+    fn next_number(&self) -> u32
+        ensures { result ≡ length (starts self.now.deeds) }
+    {
+        if self.hand().is_empty() {
+            return 0;
+        }
+        self.standing.hand + 1
     }
 
     // The deeds of the newest hand.
@@ -104,13 +133,22 @@ impl Table {
         self.hand.as_slice()
     }
 
-    /// Whether a deed fits behind the deeds so far: it stands in its place, its seats are 0 to 3, tiles that are put down
-    /// are held, a tile is added to an own pon, there is no red five in a game without them, no fifth tile of a kind, no
-    /// fifth meld of a seat, no fifth kan, and a live tile is left for a live draw or a kan.
+    /// Whether a deed fits behind the deeds so far: it stands in its place, its seats are 0 to 3, tiles that are put
+    /// down are held, a tile is added to an own pon, there is no red five in a game without them, no fifth tile of a
+    /// kind, no fifth meld of a seat, no fifth kan, a live tile is left for a live draw or a kan, a seat's reach is
+    /// accepted once, and the points that it says are those before it, changed as it says.
     pub fn fits(&self, deed: &Deed) -> bool
         ensures { result ≡ fits self.now.rules.red self.now.deeds deed.now }
     {
-        mj_deeds::fits(self.rules.red, self.newest(), self.hand(), deed)
+        mj_deeds::fits(
+            self.rules.red,
+            self.newest(),
+            self.hand(),
+            &self.standing,
+            self.points,
+            self.deposits,
+            deed,
+        )
     }
 
     /// The rules of the game.
@@ -130,7 +168,9 @@ impl Table {
         }
     }
 
-    /// The deed that the newest one comes of: before an indicator the kan. None after every other deed.
+    /// The deed that the newest one comes of: the reach before a discard, the discard before an accepted reach, the
+    /// discard or the added kan that was won on, the kan before an indicator, and the win or the drawn hand before
+    /// the end of a hand. None after every other deed.
     pub fn cause(&self) -> Option<&Deed>
         ensures { option_copied result ≡ cause self.now.deeds }
     {
@@ -138,22 +178,21 @@ impl Table {
     }
 
     /// The points of the four seats: 30,000 each at the start.
-    #[tactic(auto, using(mj_deeds::proofs::PointLaws::points_stay))]
     pub fn points(&self) -> [i32; 4]
         ensures { result ≡ points self.now.deeds }
     {
-        [30_000; 4]
+        self.points
     }
 
     /// How many deposits of 1,000 points lie on the table.
-    #[tactic(auto, using(mj_deeds::proofs::PointLaws::no_deposits))]
     pub fn deposits(&self) -> u32
         ensures { result ≡ deposits self.now.deeds }
     {
-        0
+        self.deposits
     }
 
-    /// How many live tiles are left, 70 at most: those are there when the dealer draws first, and each kan takes one away.
+    /// How many live tiles are left, 70 at most: those are there when the dealer draws first, and each kan takes one
+    /// away.
     pub fn live(&self) -> u8
         ensures value { result ≡ live_tiles (hand self.now.deeds) }
         ensures within { result ≤ 70 }
@@ -191,7 +230,8 @@ impl Table {
         self.standing
     }
 
-    /// The indicator at a place of those that are shown, the first one at 0; none exactly where at most so many are shown.
+    /// The indicator at a place of those that are shown, the first one at 0; none exactly where at most so many are
+    /// shown.
     pub fn indicator(&self, k: u8) -> Option<Tile>
         ensures { result ≡ slice_get (indicators (hand self.now.deeds)) k }
     {
@@ -205,9 +245,12 @@ impl Table {
         shown(self.hand())
     }
 
-    /// How often each kind stands among the concealed tiles of a seat.
+    /// How often each kind stands among the concealed tiles of a seat: the kind of a tile that the newest deed offers
+    /// to be won on at most three times.
     pub fn holds(&self, seat: u8) -> Counts
-        ensures { result ≡ kind_counts (concealed_tiles (hand self.now.deeds) seat) }
+        ensures value { result ≡ kind_counts (concealed_tiles (hand self.now.deeds) seat) }
+        ensures spare { (tile : ℕ) → offered_tile self.now.deeds ≡ Some tile → seat < 4
+            → slice_index result (kind_of tile) < 4 }
     {
         held_counts(self.hand(), seat)
     }
@@ -220,7 +263,8 @@ impl Table {
         mj_deeds::held_count(self.hand(), seat, tile)
     }
 
-    /// The tile that a seat has drawn and holds as drawn; none exactly where the newest deed isn't its draw.
+    /// The tile that a seat has drawn and holds as drawn; none exactly where the newest deed isn't its draw, or its
+    /// reach after it.
     pub fn drawn(&self, seat: u8) -> Option<Tile>
         ensures { result ≡ drawn_tile self.now.deeds seat }
     {
@@ -234,8 +278,16 @@ impl Table {
         held_melds(self.hand(), seat)
     }
 
-    /// Whether a seat has a pon that no tile was added to, of the tiles `a`, `b` and `c` in tile order, and of the kind of
-    /// the tile.
+    /// The room that the melds of a seat leave of four tiles of each kind.
+    pub fn room(&self, seat: u8) -> Counts
+        ensures { result ≡ room_beside
+            (flat_map tiles_of_meld (seat_melds (hand self.now.deeds) seat)) }
+    {
+        room_beside(self.melds(seat).as_slice())
+    }
+
+    /// Whether a seat has a pon that no tile was added to, of the tiles `a`, `b` and `c` in tile order, and of the
+    /// kind of the tile.
     pub fn has_triplet(&self, seat: u8, tile: Tile, a: Tile, b: Tile, c: Tile) -> bool
         ensures { result ≡ list_any (is_triplet_of tile a b c)
             (seat_melds (hand self.now.deeds) seat) }
@@ -250,25 +302,91 @@ impl Table {
         own_kinds(self.hand(), seat)
     }
 
-    /// The kinds that a seat let pass: those of the tiles that others discarded, or added to a triplet, since its own last
-    /// discard, or since the start of the hand where it has none. The tile of the newest deed isn't counted.
+    /// The kinds that a seat let pass: those of the tiles that others discarded, or added to a triplet, since its own
+    /// last discard, or since the start of the hand where it has none. The tile of the newest deed isn't counted.
     pub fn passed(&self, seat: u8) -> Kinds
         ensures { result ≡ passed_kinds (hand self.now.deeds) seat }
     {
         passed_kinds(self.hand(), seat)
     }
 
-    /// The first reason for a drawn hand before its live tiles are drawn, in a game whose rules have such draws: the first
-    /// four discards of the hand are one wind and no call stands before, or four kans stand and not all are one seat's.
-    /// None exactly where none holds. That all four seats are in riichi is no reason yet, since there is no riichi.
+    /// The kinds that a seat let pass since its reach: those of the tiles that others discarded, or added to a
+    /// triplet, since then; none of a seat that has not reached. The tile of the newest deed isn't counted.
+    pub fn passed_in_riichi(&self, seat: u8) -> Kinds
+        ensures { result ≡ passed_in_riichi (hand self.now.deeds) seat }
+    {
+        passed_in_riichi(self.hand(), seat)
+    }
+
+    /// How the newest hand ended, as far as the next one depends on it: by its draw, or else by its wins.
+    pub fn hand_end(&self) -> HandEnd
+        ensures { result ≡ end_of (hand self.now.deeds) (standing self.now.deeds).dealer }
+    {
+        mj_deeds::hand_end(self.hand(), self.standing.dealer)
+    }
+
+    /// Whether the dealer is among the winners of the hand.
+    pub fn dealer_won(&self) -> bool
+        ensures { result ≡ dealer_won (hand self.now.deeds) (standing self.now.deeds).dealer }
+    {
+        mj_deeds::dealer_won(self.hand(), self.standing.dealer)
+    }
+
+    /// Whether a seat has won in the hand.
+    pub fn has_winner(&self) -> bool
+        ensures { result ≡ not (length (winners (hand self.now.deeds)) == 0) }
+    {
+        has_winner(self.hand())
+    }
+
+    /// The newest deed of the hand that is no win: where there are winners, the one that gave the tile that was won
+    /// on.
+    pub fn before_wins(&self) -> Option<&Deed>
+        ensures { option_copied result ≡ newest (before_wins (hand self.now.deeds)) }
+    {
+        before_wins(self.hand())
+    }
+
+    /// Whether a seat was within one turn of its riichi when the tile was given that `before_wins` gives: an added
+    /// kan that gives it doesn't count.
+    pub fn ippatsu_before_wins(&self, seat: u8) -> bool
+        ensures { result ≡ is_ippatsu (before_wins (hand self.now.deeds)) seat }
+    {
+        is_ippatsu_before_wins(self.hand(), seat)
+    }
+
+    /// The first reason for a drawn hand before its live tiles are drawn, in a game whose rules have such draws: the
+    /// first four discards of the hand are one wind and no call stands before, four reaches were accepted, or four
+    /// kans stand and not all are one seat's. None exactly where none holds.
     pub fn reason(&self) -> Option<Reason>
         ensures { result ≡ reason self.now.rules.draws (hand self.now.deeds) }
     {
         reason(self.rules.draws, self.hand())
     }
 
-    /// The marks of a seat in its hand, all false before a hand has begun. No deed of riichi is built yet, so only `first`
-    /// can be true.
+    /// Whether a seat is in its first turn: a hand has begun, the seat has not discarded in it, and no seat made a
+    /// chi, pon or kan.
+    pub fn is_first(&self, seat: u8) -> bool
+        ensures { result ≡ is_first (hand self.now.deeds) seat }
+    {
+        is_first(self.hand(), seat)
+    }
+
+    /// Whether a seat is in riichi: its reach in the hand was accepted.
+    pub fn is_in_riichi(&self, seat: u8) -> bool
+        ensures { result ≡ is_in_riichi (hand self.now.deeds) seat }
+    {
+        mj_deeds::is_in_riichi(self.hand(), seat)
+    }
+
+    /// The concealed tiles of a seat, in tile order.
+    pub fn concealed(&self, alloc: Global, seat: u8) -> Result<Tiles, AllocError>
+        ensures { IfOk result (λ t. t ≡ concealed_tiles (hand self.now.deeds) seat) }
+    {
+        mj_deeds::concealed(alloc, self.hand(), seat)
+    }
+
+    /// The marks of a seat in its hand, all false before a hand has begun.
     pub fn marks(&self, seat: u8) -> Marks
         ensures { result ≡ marks (hand self.now.deeds) seat }
     {

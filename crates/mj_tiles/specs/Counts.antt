@@ -1,5 +1,5 @@
 -- Counts of tiles by kind.
-use Rattle.std.specs.Prelude.{ℕ, ◌≡◌, ◌≤◌, ◌==◌, Bool, nat_le, List, length, slice_index, count_by, map}
+use Rattle.std.specs.Prelude.{ℕ, ◌≡◌, ◌≤◌, ◌-◌, ◌==◌, Bool, nat_le, List, length, slice_index, count_by, map}
 use Rattle.std.specs.List.{list_all, range_with_len}
 use Rattle.mj_tiles.specs.Faces.{kind_of}
 
@@ -14,6 +14,10 @@ number_of tiles kind = count_by (λ tile. kind_of tile == kind) tiles
 -- For each kind how often it stands among tiles.
 unfoldable pub kind_counts : List ℕ → List ℕ
 kind_counts tiles = map (number_of tiles) all_kinds
+
+-- The room that tiles leave for others: four of each kind less these.
+unfoldable pub room_beside : List ℕ → List ℕ
+room_beside tiles = map (λ kind. 4 - number_of tiles kind) all_kinds
 
 -- Among tiles no kind stands more than four times.
 unfoldable pub has_no_fifth : List ℕ → Bool

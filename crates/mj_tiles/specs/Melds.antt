@@ -1,8 +1,12 @@
 -- Lists of melds that take no memory: four places, of which the first are the melds and the others are blank.
-use Rattle.std.specs.Prelude.{ℕ, List, None}
+use Rattle.std.specs.Prelude.{ℕ, List, [], ◌∷◌, Option, None, option_to_list}
 use Rattle.mj_lists.specs.Padded.{padded, IsPadded}
 use Rattle.mj_tiles.specs.declared.meld.Meld.{Meld}
 use Rattle.mj_tiles.specs.declared.meld.Form.TheVariants.{Chi}
+
+-- The tiles of a meld.
+abbrev pub tiles_of_meld : Meld → List ℕ
+tiles_of_meld meld = meld.a ∷ meld.b ∷ meld.c ∷ option_to_list meld.d
 
 -- What stands in a place without a meld.
 abbrev pub no_meld : Meld

@@ -1,5 +1,5 @@
 -- What the four answers to a window decide: a bid that is taken, or the act of the seat whose turn it is.
-use Rattle.std.specs.Prelude.{ℕ}
+use Rattle.std.specs.Prelude.{ℕ, ◌+◌, ◌%◌, Bool, true, false, List, [], ◌∷◌, filter, slice_get}
 use Rattle.mj_deeds.specs.declared.four.Four.{Four}
 use Rattle.mj_deeds.specs.declared.answer.Pai.{Pai}
 use Rattle.mj_deeds.specs.declared.answer.Pai.TheVariants.{Known, Hidden}
@@ -8,10 +8,11 @@ use Rattle.mj_deeds.specs.declared.answer.Answer.TheVariants as answers
 use Rattle.mj_deeds.specs.declared.bid.Bid.{Bid}
 use Rattle.mj_deeds.specs.declared.bid.Bid.TheVariants as bids
 use Rattle.mj_deeds.specs.declared.deed.Deed.{Deed}
-use Rattle.mj_deeds.specs.declared.deed.Deed.TheVariants.{Draw, Discard, Chi, Pon}
+use Rattle.mj_deeds.specs.declared.deed.Deed.TheVariants.{Draw, Discard, Chi, Pon, AddedKan, Reach}
 use Rattle.mj_deeds.specs.Four.{at_seat}
 use Rattle.mj_window.specs.declared.decision.Decision.{Decision}
-use Rattle.mj_window.specs.declared.decision.Decision.TheVariants.{Call, Act, Pass}
+use Rattle.mj_window.specs.declared.decision.Seats.{Seats}
+use Rattle.mj_window.specs.declared.decision.Decision.TheVariants.{Rons, Call, Act, Pass}
 
 -- A bid of named tiles; none where one of them is hidden.
 abbrev pub bid_of_three : (ℕ → ℕ → ℕ → Bid) → Pai → Pai → Pai → Bid
@@ -53,11 +54,31 @@ abbrev pub call_or_pass : Bid → Decision
 call_or_pass bids.NoBid = Pass
 call_or_pass bid = Call bid
 
--- By the newest deed: a discard is called by the best bid; who drew or called acts by its own answer; and else nothing is
--- decided by the answers.
+-- A seat wins by its answer.
+abbrev pub is_win : Answer → Bool
+is_win (answers.Win actor target tile) = true
+is_win other = false
+
+-- The other seats in turn order after a seat.
+abbrev pub seats_after : ℕ → List ℕ
+seats_after seat = (seat + 1) % 4 ∷ (seat + 2) % 4 ∷ (seat + 3) % 4 ∷ []
+
+-- The seats that win on a tile of a seat, in turn order after it.
+abbrev pub rons_on : ℕ → Four Answer → List ℕ
+rons_on seat given = filter (λ other. is_win (at_seat given other)) (seats_after seat)
+
+-- They win, where there are any; and else it is decided otherwise.
+abbrev pub rons_or : List ℕ → Decision → Decision
+rons_or [] other = other
+rons_or (seat ∷ seats) other = Rons (record { first = seat; second = slice_get seats 0; third = slice_get seats 1 })
+
+-- By the newest deed: a discard or an added kan is won on by the seats that say so; else a discard is called by the best
+-- bid; who drew, reached or called acts by its own answer; and else nothing is decided by the answers.
 abbrev pub decision_by : Deed → Four Answer → Decision
-decision_by (Discard seat tile drawn) given = call_or_pass (best_bid given)
+decision_by (Discard seat tile drawn) given = rons_or (rons_on seat given) (call_or_pass (best_bid given))
+decision_by (AddedKan seat tile a b c) given = rons_or (rons_on seat given) Pass
 decision_by (Draw seat tile replacement) given = Act seat (at_seat given seat)
+decision_by (Reach seat) given = Act seat (at_seat given seat)
 decision_by (Chi seat target tile a b) given = Act seat (at_seat given seat)
 decision_by (Pon seat target tile a b) given = Act seat (at_seat given seat)
 decision_by other given = Pass

@@ -4,5 +4,5 @@
 mod decision;
 mod window;
 
-pub use decision::{Decision, decide};
+pub use decision::{Decision, Seats, decide};
 pub use window::Window;

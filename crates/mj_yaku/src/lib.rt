@@ -10,11 +10,9 @@ mod table;
 mod tiles;
 mod whole_hand;
 mod wins;
-mod yaku_list;
 mod yaku_set;
 
 pub use han::han_of;
 pub use some_yaku::has_yaku;
 pub use table::{is_closed, yaku};
-pub use yaku_list::YakuList;
 pub use yaku_set::YakuSet;

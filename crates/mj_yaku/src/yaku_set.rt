@@ -32,7 +32,7 @@ impl Model for YakuSet {
 impl YakuSet {
     /// The set without any row.
     #[tactic(auto, unfolding(crate::specs::Rows::no_rows))]
-    pub(crate) fn none() -> YakuSet
+    pub fn none() -> YakuSet
         ensures { result ≡ no_rows }
     {
         YakuSet { mask: 0 }

@@ -1,4 +1,6 @@
 mod Chains
 mod Lists
 mod Named
+mod Rows
 mod Texts
+mod Wins

@@ -1,10 +1,10 @@
-ghost use Rattle.std.specs.Prelude.{◌≡◌, IfOk, Some, None, false, if◌then◌else◌, codes, bytes_eq, option_map, unwrap_or};
-ghost use Rattle.std.specs.List.{list_any};
+ghost use Rattle.std.specs.Prelude.{◌≡◌, IfOk};
 ghost use Rattle.serde_json.specs.View.{view};
-ghost use Rattle.mj_protocol.specs.AnswerForms.{answer_of, answer_in as answer_read, answer_by as answer_of_type, pass_in as pass_read, discard_in as discard_read, call_in as call_read, closed_kan_in as closed_kan_read, added_kan_in as added_kan_read, with_three_tiles, with_four_tiles, pai_in as pai_read, pai_of as pai_of_text, names_later_type as later_type_named, later_types, text_in as text_read};
+ghost use Rattle.mj_protocol.specs.AnswerForms.{answer_of, answer_in as answer_read, answer_by as answer_of_type, pass_in as pass_read, discard_in as discard_read, call_in as call_read, closed_kan_in as closed_kan_read, added_kan_in as added_kan_read, with_three_tiles, with_four_tiles, pai_in as pai_read, pai_of as pai_of_text};
 ghost use Rattle.mj_deeds.specs.declared.answer.Answer.TheVariants.{ClosedKan, AddedKan};
 ghost use Rattle.mjai_lines.specs.Inner.Calls.{answer_of_call};
 
+use crate::announcement::{nine_kinds_in, reach_in, win_in};
 use crate::own::own_in;
 use crate::value::{read_value, seat_as, seat_in, text_in};
 use mj_deeds::{Answer, Pai};
@@ -12,11 +12,12 @@ use mj_tiles::Tile;
 use serde_json::Value;
 use std::alloc::{AllocError, Global};
 
-/// What a line of a player reads as: a `none`, which may name its actor, a `dahai`, a call (`chi`, `pon`, `daiminkan`)
-/// or an own kan (`ankan`, `kakan`); every other line is unread. An answer is an object with the fields of its type in
-/// the right form: a seat is a whole number from 0 to 3, a tile one of the 37 texts or a question mark, and the consumed
-/// tiles are as many as the type takes, in any order; they are read into tile order, hidden ones last. Other fields are
-/// ignored, and of equal keys the last counts. The only error is want of memory.
+/// What a line of a player reads as: a `none`, which may name its actor, a `dahai`, a call (`chi`, `pon`,
+/// `daiminkan`), an own kan (`ankan`, `kakan`), a `reach`, a `hora`, which may name its tile, or a `ryukyoku`, which
+/// may name its reason, `kyushukyuhai`; every other line is unread. An answer is an object with the fields of its
+/// type in the right form: a seat is a whole number from 0 to 3, a tile one of the 37 texts or a question mark, and
+/// the consumed tiles are as many as the type takes, in any order; they are read into tile order, hidden ones last.
+/// Other fields are ignored, and of equal keys the last counts. The only error is want of memory.
 #[tactic(auto, unfolding(mj_protocol::specs::AnswerForms::answer_of))]
 pub fn read_answer(alloc: Global, line: &[u8]) -> Result<Answer, AllocError>
     ensures { IfOk result (λ a. a ≡ answer_of line.now) }
@@ -53,6 +54,9 @@ fn answer_by(alloc: Global, type_name: &str, value: &Value) -> Result<Option<Ans
         "daiminkan" => call_in(alloc, Call::OpenKan, value),
         "ankan" => closed_kan_in(alloc, value),
         "kakan" => added_kan_in(alloc, value),
+        "reach" => Ok(reach_in(value)),
+        "hora" => Ok(win_in(value)),
+        "ryukyoku" => Ok(nine_kinds_in(value)),
         _ => Ok(None),
     }
 }
@@ -220,40 +224,4 @@ pub(crate) fn pai_of(text: &str) -> Option<Pai>
         return Some(Pai::Hidden);
     }
     Some(Pai::Known(Tile::read(text.as_bytes())?))
-}
-
-/// What a line reads as, as `read_answer` says; none exactly where the line is an object whose type is one of the answers
-/// that are not built: riichi, a win, and a draw declared with nine kinds. The line is parsed once. The only error is want
-/// of memory.
-#[tactic(auto, unfolding(mj_protocol::specs::AnswerForms::names_later_type, mj_protocol::specs::AnswerForms::answer_of))]
-pub fn read_built(alloc: Global, line: &[u8]) -> Result<Option<Answer>, AllocError>
-    ensures { IfOk result (λ a. a ≡ (if later_type_named line.now then None else Some
-        (answer_of line.now))) }
-{
-    let Some(value) = read_value(alloc, line)? else {
-        return Ok(Some(Answer::Unread));
-    };
-    if names_later_type(&value) {
-        return Ok(None);
-    }
-    match answer_in(alloc, &value)? {
-        Some(answer) => Ok(Some(answer)),
-        None => Ok(Some(Answer::Unread)),
-    }
-}
-
-// Whether a value is an object with such a type.
-fn names_later_type(value: &Value) -> bool
-    ensures { result ≡ unwrap_or (option_map
-        (λ type. list_any (λ other. bytes_eq other type) later_types)
-        (text_read (codes "type") (view value.now))) false }
-{
-    text_in("type", value).is_some_and(is_later_type)
-}
-
-// Whether the text is such a type.
-fn is_later_type(type_name: &str) -> bool
-    ensures { result ≡ list_any (λ other. bytes_eq other type_name.now) later_types }
-{
-    matches!(type_name, "reach" | "hora" | "ryukyoku")
 }

@@ -1,16 +1,21 @@
 ghost use Rattle.std.specs.Prelude.{◌≡◌, ◌∷◌, ◌++◌, [], OnOk, OnErr, codes, decimal};
 ghost use Rattle.mj_bytes.specs.Adds.{Adds};
-ghost use Rattle.mj_protocol.specs.Lines.{line as line_for, quoted, bracketed, sees as is_seen, seat_in_line as seat_written, start_game_line, draw_line, discard_line, call_line, closed_kan_line, added_kan_line, dora_line, hands_seen, quoted_tile, tile_seen};
+ghost use Rattle.mj_view.specs.Masks.{sees as is_seen};
+ghost use Rattle.mj_protocol.specs.Lines.{line as line_for, quoted, bracketed, seat_in_line as seat_written, start_game_line, draw_line, discard_line, call_line, call_object, closed_kan_line, added_kan_line, dora_line, hands_seen, quoted_tile, tile_seen};
 
+use crate::ending::{push_drawn_hand, push_end_game};
 use crate::pieces::{push_quoted, push_tile, push_tile_seen, push_tiles_seen, push_truth};
+use crate::riichi::{push_reach, push_reach_accepted};
+use crate::winning::{push_changes, push_rest, push_winner, push_worth};
 use mj_bytes::{push_all, push_number};
-use mj_deeds::{Deed, Four, Tiles, Viewer};
+use mj_deeds::{Deed, Four, Hands, Viewer};
 use mj_ports::Name;
 use mj_tiles::{Kind, Tile};
 use std::alloc::{AllocError, Global};
 
 /// Writes the line of a deed, as the viewer sees it, behind a text: a seat sees its own tiles and a question mark for
-/// each hidden tile of another, the record sees all. The only error is want of memory, and then the text stays as it
+/// each hidden tile of another, the record sees all, and it alone has the call that is kept at an accepted reach and the
+/// seats that win next. The only error is want of memory, and then the text stays as it
 /// was.
 pub fn write(
     alloc: Global,
@@ -82,6 +87,39 @@ fn push_deed(line: &mut Vec<u8>, viewer: Viewer, deed: &Deed) -> Result<(), Allo
             c,
         } => push_added_kan(line, *seat, *tile, &[*a, *b, *c]),
         Deed::Dora { tile } => push_dora(line, *tile),
+        Deed::Reach { seat } => push_reach(line, *seat),
+        Deed::ReachAccepted { seat, points, then } => {
+            push_reach_accepted(line, viewer, *seat, *points, *then)
+        }
+        Deed::Win {
+            seat,
+            target,
+            tile,
+            unders,
+            hand,
+            yaku,
+            fu,
+            han,
+            value,
+            deltas,
+            points,
+            rest,
+        } => {
+            push_winner(line, *seat, *target, *tile, unders, hand)?;
+            push_worth(line, yaku, *fu, *han, *value)?;
+            push_changes(line, *deltas, *points)?;
+            push_rest(line, viewer, *rest)?;
+            Ok(())
+        }
+        Deed::DrawnHand {
+            reason,
+            hands,
+            ready,
+            deltas,
+            points,
+        } => push_drawn_hand(line, *reason, hands, *ready, *deltas, *points),
+        Deed::EndHand => push_all(line, b"{\"type\":\"end_kyoku\"}\n"),
+        Deed::EndGame { points, deposits } => push_end_game(line, *points, *deposits),
     }
 }
 
@@ -174,7 +212,7 @@ fn push_kind(line: &mut Vec<u8>, kind: Kind) -> Result<(), AllocError>
 }
 
 // Writes the four hands as the viewer sees them, in brackets.
-fn push_hands(line: &mut Vec<u8>, viewer: Viewer, hands: &Four<Tiles>) -> Result<(), AllocError>
+fn push_hands(line: &mut Vec<u8>, viewer: Viewer, hands: &Hands) -> Result<(), AllocError>
     ensures { OnOk result (Adds line.old.items line.new.items (bracketed
         (bracketed (hands_seen viewer hands.now).first
         ∷ bracketed (hands_seen viewer hands.now).second
@@ -183,13 +221,13 @@ fn push_hands(line: &mut Vec<u8>, viewer: Viewer, hands: &Four<Tiles>) -> Result
         ∷ []))) }
 {
     push_all(line, b"[")?;
-    push_tiles_seen(line, sees(viewer, 0), hands.first.as_slice())?;
+    push_tiles_seen(line, sees(viewer, 0), hands.at(0))?;
     push_all(line, b",")?;
-    push_tiles_seen(line, sees(viewer, 1), hands.second.as_slice())?;
+    push_tiles_seen(line, sees(viewer, 1), hands.at(1))?;
     push_all(line, b",")?;
-    push_tiles_seen(line, sees(viewer, 2), hands.third.as_slice())?;
+    push_tiles_seen(line, sees(viewer, 2), hands.at(2))?;
     push_all(line, b",")?;
-    push_tiles_seen(line, sees(viewer, 3), hands.fourth.as_slice())?;
+    push_tiles_seen(line, sees(viewer, 3), hands.at(3))?;
     push_all(line, b"]")?;
     Ok(())
 }
@@ -233,6 +271,24 @@ fn push_call(
     ensures { OnOk result (Adds line.old.items line.new.items
         (call_line type_name.now seat target tile own.now)) }
 {
+    push_call_object(line, type_name, seat, target, tile, own)?;
+    push_all(line, b"\n")?;
+    Ok(())
+}
+
+// Writes a call of a discard as an object, under its type.
+#[tactic(auto, unfolding(mj_protocol::specs::Lines::call_object))]
+pub(crate) fn push_call_object(
+    line: &mut Vec<u8>,
+    type_name: &[u8],
+    seat: u8,
+    target: u8,
+    tile: Tile,
+    own: &[Tile],
+) -> Result<(), AllocError>
+    ensures { OnOk result (Adds line.old.items line.new.items
+        (call_object type_name.now seat target tile own.now)) }
+{
     push_all(line, b"{\"type\":")?;
     push_quoted(line, type_name)?;
     push_all(line, b",\"actor\":")?;
@@ -243,7 +299,7 @@ fn push_call(
     push_tile(line, tile)?;
     push_all(line, b",\"consumed\":")?;
     push_tiles_seen(line, true, own)?;
-    push_all(line, b"}\n")?;
+    push_all(line, b"}")?;
     Ok(())
 }
 

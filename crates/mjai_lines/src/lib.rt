@@ -2,15 +2,20 @@
 //! read. A line that is written is compact JSON and ends with one newline.
 #![tactic(auto)]
 
+mod announcement;
 mod answer;
 mod deed;
+mod ending;
 mod error;
 mod join;
 mod own;
 mod pieces;
+mod riichi;
 mod value;
+mod winning;
+mod yaku;
 
-pub use answer::{read_answer, read_built};
+pub use answer::read_answer;
 pub use deed::write;
 pub use error::error_line;
 pub use join::read_join;

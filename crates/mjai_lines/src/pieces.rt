@@ -1,9 +1,9 @@
 // Pieces of a line: quoted texts, tiles, and lists in brackets.
-ghost use Rattle.std.specs.Prelude.{◌≡◌, ◌∷◌, ◌++◌, map, flat_map, OnOk, codes, decimal};
+ghost use Rattle.std.specs.Prelude.{◌∷◌, map, flat_map, OnOk};
 ghost use Rattle.mj_bytes.specs.Adds.{Adds};
-ghost use Rattle.mj_protocol.specs.Lines.{quoted, quoted_tile, tile_seen, joined, bracketed, truth, shown_tiles};
+ghost use Rattle.mj_protocol.specs.Lines.{quoted, quoted_tile, tile_seen, joined, bracketed, truth, points_text, shown_tiles};
 
-use mj_bytes::push_all;
+use mj_bytes::{push_all, push_signed};
 use mj_tiles::Tile;
 use std::alloc::AllocError;
 
@@ -45,6 +45,22 @@ pub(crate) fn push_truth(line: &mut Vec<u8>, holds: bool) -> Result<(), AllocErr
         return push_all(line, b"true");
     }
     push_all(line, b"false")
+}
+
+// Writes the points of the four seats, in brackets.
+pub(crate) fn push_points(line: &mut Vec<u8>, points: [i32; 4]) -> Result<(), AllocError>
+    ensures { OnOk result (Adds line.old.items line.new.items (points_text points)) }
+{
+    push_all(line, b"[")?;
+    push_signed(line, points[0])?;
+    push_all(line, b",")?;
+    push_signed(line, points[1])?;
+    push_all(line, b",")?;
+    push_signed(line, points[2])?;
+    push_all(line, b",")?;
+    push_signed(line, points[3])?;
+    push_all(line, b"]")?;
+    Ok(())
 }
 
 // Writes the tiles as they are seen, in brackets.

@@ -1,6 +1,7 @@
 use crate::deed_words::deed;
-use crate::words::{fields, kinds, tile, words, yes};
-use mj_calls::{banned, chi_shape, same_kind};
+use crate::words::{counts, fields, kind, kinds, tile, words, yes};
+use mj_calls::{banned, chi_shape, riichi_kan, same_kind};
+use mj_tiles::{Counts, Form, Kind, Meld, Tile};
 use std::alloc::Global;
 
 /// A deed, and the kinds that may not be discarded right after it.
@@ -67,5 +68,61 @@ fn a_run_lies_within_one_suit(rt: HostRuntime) {
     }
     for line in ["5m 5mr yes", "5p 5mr no", "E E yes", "1m 1p no"] {
         assert!(rt; is_alike(line) == Some(true), "{line}");
+    }
+}
+
+/// The concealed tiles before a draw, `1p` where a concealed kan of that was made, the drawn kind and that of the kan; and whether a seat in
+/// riichi may make it.
+const KANS: &str = "\
+123456m 11p 555s EE||5s|5s|yes
+123456m 11p 555s EE||E|E|no
+123456m 11p 555s EE||5s|E|no
+123456m 55667s EEE||E|E|yes
+123456m 11p 34555s||5s|5s|no
+123456m 2223p EEE||E|E|yes
+123456m 2223p EEE||2p|2p|no
+123m 22233344p 55s||2p|2p|no
+111222333m 45p 99s||1m|1m|no
+2223334445556m||6m|6m|no
+123p 11m 77s EEE|1p|E|E|yes";
+
+fn is_lawful(line: &str) -> Option<bool> {
+    let [before, made, drawn, kan, wanted, ..] = fields(line);
+    let before = counts(before)?;
+    let (drawn, kan) = (kind(drawn)?, kind(kan)?);
+    let found = if made.is_empty() {
+        is_lawful_alone(&before, drawn, kan)?
+    } else {
+        is_lawful_beside_a_kan(&before, drawn, kan)?
+    };
+    Some(found == yes(wanted)?)
+}
+
+/// Without a meld.
+fn is_lawful_alone(before: &Counts, drawn: Kind, kan: Kind) -> Option<bool> {
+    let room = Counts::of([4; 34])?;
+    Some(riichi_kan(before, &room, &[], drawn, kan))
+}
+
+/// Beside a concealed kan of 1p.
+fn is_lawful_beside_a_kan(before: &Counts, drawn: Kind, kan: Kind) -> Option<bool> {
+    let mut room = [4; 34];
+    room[9] = 0;
+    let room = Counts::of(room)?;
+    let tile = Tile::at(9);
+    let made = Meld {
+        form: Form::ClosedKan,
+        a: tile,
+        b: tile,
+        c: tile,
+        d: Some(tile),
+    };
+    Some(riichi_kan(before, &room, &[made], drawn, kan))
+}
+
+#[test]
+fn a_riichi_kan_changes_neither_waits_nor_readings(rt: HostRuntime) {
+    for line in KANS.lines() {
+        assert!(rt; is_lawful(line) == Some(true), "{line}");
     }
 }

@@ -1,16 +1,22 @@
-//! Deeds, answers and bids as lines, read for the tests: `game`; `hand|P|123m|..`, with the indicator and the tiles of
-//! the four seats; `draw 0 1m` and `replace 0 1m`; `discard 0 1m`, and `cut 0 1m` for a drawn tile; `chi 1 0 3m 4m 5m`
-//! by seat 1 of the tile of seat 0; `pon` and `open` likewise; `closed 0 1m 1m 1m 1m`; `added 0 E E E E`; `dora 9p`.
+//! Deeds, answers and bids as lines, read for the tests: `game`; `hand|P|123m|..`, with the indicator and the tiles
+//! of the four seats; `draw 0 1m` and `replace 0 1m`; `discard 0 1m`, and `cut 0 1m` for a drawn tile; `chi 1 0 3m 4m
+//! 5m` by seat 1 of the tile of seat 0; `pon` and `open` likewise; `closed 0 1m 1m 1m 1m`; `added 0 E E E E`; `dora
+//! 9p`; `reach 0`; `accepted|0|29000 30000 30000 30000`, with the call that is kept behind it; `win|1|0|5p|-1000 1000
+//! 0 0|29000 31000 30000 30000|2`, with what each gains, the points, and the winners that follow; `drawn|yes no no
+//! no|3000 -1000 -1000 -1000|33000 29000 29000 29000` at the last tile, with the reason behind it where there is another;
+//! `end`; `over|30000 30000 30000 30000|0`.
 
-use crate::words::{fields, kind, number, tile, tiles, words};
-use mj_deeds::{Answer, Bid, Deed, Four, Pai, Tiles};
+use crate::words::{fields, kind, number, points, tile, tiles, truths, words};
+use mj_deeds::{
+    Answer, Bid, Deed, Four, Hands, Pai, Reason, SeatList, ShownHands, Tiles, YakuList,
+};
 use mj_ports::Name;
 use std::alloc::Global;
 
 /// The deed of a line.
 pub(crate) fn deed(alloc: Global, line: &str) -> Option<Deed> {
-    if line.starts_with("hand|") {
-        return start_hand(alloc, &fields(line));
+    if line.contains('|') {
+        return deed_of_fields(alloc, &fields(line));
     }
     let words = words(line);
     match words[0] {
@@ -21,7 +27,85 @@ pub(crate) fn deed(alloc: Global, line: &str) -> Option<Deed> {
         "dora" => Some(Deed::Dora {
             tile: tile(words[1])?,
         }),
+        "reach" => Some(Deed::Reach {
+            seat: number(words[1])?,
+        }),
+        "end" => Some(Deed::EndHand),
         _ => bid(line)?.deed(),
+    }
+}
+
+fn deed_of_fields(alloc: Global, fields: &[&str; 8]) -> Option<Deed> {
+    match fields[0] {
+        "hand" => start_hand(alloc, fields),
+        "deal" => start_later(alloc, fields),
+        "accepted" => Some(Deed::ReachAccepted {
+            seat: number(fields[1])?,
+            points: points(fields[2])?,
+            then: bid(fields[3]).unwrap_or(Bid::NoBid),
+        }),
+        "win" => win(alloc, fields),
+        "drawn" => drawn_hand(alloc, fields),
+        _ => Some(Deed::EndGame {
+            points: points(fields[1])?,
+            deposits: u32::from(number(fields[2])?),
+        }),
+    }
+}
+
+fn win(alloc: Global, fields: &[&str; 8]) -> Option<Deed> {
+    Some(Deed::Win {
+        seat: number(fields[1])?,
+        target: number(fields[2])?,
+        tile: tile(fields[3])?,
+        unders: Tiles::from_vec(Vec::new(alloc)),
+        hand: Tiles::from_vec(Vec::new(alloc)),
+        yaku: YakuList::from_vec(Vec::new(alloc)),
+        fu: 30,
+        han: 1,
+        value: 1000,
+        deltas: points(fields[4])?,
+        points: points(fields[5])?,
+        rest: seats(fields[6]),
+    })
+}
+
+/// At most two seats.
+pub(crate) fn seats(text: &str) -> SeatList {
+    match words(text) {
+        [first, second, ..] => match (number(first), number(second)) {
+            (Some(first), Some(second)) => SeatList::of(&[first, second]),
+            (Some(first), None) => SeatList::of(&[first]),
+            _ => SeatList::of(&[]),
+        },
+    }
+}
+
+/// No hand of the four is shown.
+fn drawn_hand(alloc: Global, fields: &[&str; 8]) -> Option<Deed> {
+    let hidden = Four {
+        first: Some(13),
+        second: Some(13),
+        third: Some(13),
+        fourth: Some(13),
+    };
+    let hands = Hands::of(alloc, &[], &[], &[], &[]).ok()?;
+    Some(Deed::DrawnHand {
+        reason: reason(fields[4]),
+        hands: ShownHands::of(hands, hidden),
+        ready: truths(fields[1])?,
+        deltas: points(fields[2])?,
+        points: points(fields[3])?,
+    })
+}
+
+fn reason(text: &str) -> Reason {
+    match text {
+        "kyushukyuhai" => Reason::Kyushukyuhai,
+        "suufonrenta" => Reason::Suufonrenta,
+        "suuchareach" => Reason::Suuchareach,
+        "suukaikan" => Reason::Suukaikan,
+        _ => Reason::Fanpai,
     }
 }
 
@@ -45,17 +129,35 @@ fn start_hand(alloc: Global, fields: &[&str; 8]) -> Option<Deed> {
         deposits: 0,
         dealer: 0,
         indicator,
-        hands: hands(alloc, fields)?,
+        hands: hands(alloc, [fields[2], fields[3], fields[4], fields[5]])?,
     })
 }
 
-fn hands(alloc: Global, fields: &[&str; 8]) -> Option<Four<Tiles>> {
-    Some(Four {
-        first: tiles(alloc, fields[2])?,
-        second: tiles(alloc, fields[3])?,
-        third: tiles(alloc, fields[4])?,
-        fourth: tiles(alloc, fields[5])?,
+/// A hand of another standing: its round, the number of its dealer, the honba and the deposits.
+fn start_later(alloc: Global, fields: &[&str; 8]) -> Option<Deed> {
+    let [round, dealer, honba, deposits, ..] = words(fields[1]);
+    let dealer = number(dealer)?;
+    Some(Deed::StartHand {
+        round: kind(round)?,
+        number: dealer.saturating_add(1),
+        honba: u32::from(number(honba)?),
+        deposits: u32::from(number(deposits)?),
+        dealer,
+        indicator: tile(fields[2])?,
+        hands: hands(alloc, [fields[3], fields[4], fields[5], fields[6]])?,
     })
+}
+
+fn hands(alloc: Global, texts: [&str; 4]) -> Option<Hands> {
+    let [first, second, third, fourth] = texts;
+    Hands::of(
+        alloc,
+        tiles(alloc, first)?.as_slice(),
+        tiles(alloc, second)?.as_slice(),
+        tiles(alloc, third)?.as_slice(),
+        tiles(alloc, fourth)?.as_slice(),
+    )
+    .ok()
 }
 
 fn draw(words: &[&str; 8], replacement: bool) -> Option<Deed> {
@@ -112,8 +214,9 @@ pub(crate) fn bid(line: &str) -> Option<Bid> {
     call!(Bid, seat, tile, words(line))
 }
 
-/// The answer of a line, which stands as a deed's, or is `unread`, `pass`, or `pass 0` with its actor. A hidden tile is
-/// `*`. Take it by `let`, since rattle has no proof of a `?` that gives an answer which is used from there on.
+/// The answer of a line, which stands as a deed's, or is `unread`, `pass`, or `pass 0` with its actor, `ron 1 0` or
+/// `ron 1 0 5p` by seat 1 on a tile of seat 0, or `nine 0`. A hidden tile is `*`. Take it by `let`, since rattle has no
+/// proof of a `?` that gives an answer which is used from there on.
 pub(crate) fn answer(line: &str) -> Option<Answer> {
     let words = words(line);
     match words[0] {
@@ -122,6 +225,17 @@ pub(crate) fn answer(line: &str) -> Option<Answer> {
             actor: number(words[1]),
         }),
         "discard" | "cut" | "closed" | "added" => answer_by_itself(&words),
+        "reach" => Some(Answer::Reach {
+            actor: number(words[1])?,
+        }),
+        "ron" => Some(Answer::Win {
+            actor: number(words[1])?,
+            target: number(words[2])?,
+            tile: pai(words[3]),
+        }),
+        "nine" => Some(Answer::NineKinds {
+            actor: number(words[1])?,
+        }),
         _ => answer_by_call(&words),
     }
 }

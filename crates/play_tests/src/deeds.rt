@@ -2,12 +2,13 @@ use crate::deed_words::deed;
 use crate::play::meld;
 use crate::words::{are, number, tile, tiles, words, yes};
 use mj_deeds::{
-    Deed, Four, Pai, Tiles, before_in, concealed, discarded_by, fits, has_triplet, held_count,
-    is_call, is_hand_start, kans, live_drawn, live_left, meld_at, melds, next_seat, ordered, river,
-    seat_of_kan,
+    Deed, Four, Pai, Tiles, YakuList, before_in, concealed, discarded_by, fits, has_triplet,
+    held_count, is_call, is_hand_start, kans, live_drawn, live_left, meld_at, melds, next_seat,
+    ordered, river, seat_of_kan,
 };
+use mj_rounds::first;
 use mj_tiles::Tile;
-use std::alloc::Global;
+use std::alloc::{AllocError, Global};
 
 /// Deeds, whether they fit or not, and questions about those before.
 const CALLS: &str = "\
@@ -86,7 +87,16 @@ fn tells(alloc: Global, deeds: &[Deed], question: &str, told: &str) -> Option<bo
     if let Some(line) = question.strip_prefix("fits ") {
         let (rules, line) = line.split_once(' ')?;
         let deed = deed(alloc, line)?;
-        return Some(fits(rules == "red", deeds.last(), deeds, &deed) == yes(told)?);
+        let fitting = fits(
+            rules == "red",
+            deeds.last(),
+            deeds,
+            &first(),
+            [30_000; 4],
+            0,
+            &deed,
+        );
+        return Some(fitting == yes(told)?);
     }
     let words = words(question);
     match words[0] {
@@ -234,4 +244,11 @@ fn a_hidden_tile_is_not_known(rt: HostRuntime) {
         assert!(rt; Pai::Known(tile).known() == red);
     }
     assert!(rt; red.is_some() && Pai::Hidden.known().is_none());
+}
+
+#[test]
+fn a_list_keeps_its_rows(rt: HostRuntime) -> Result<(), AllocError> {
+    let list = YakuList::from_vec([(3, 1), (28, 2)].to_vec(rt.alloc())?);
+    assert!(rt; list.as_slice() == [(3, 1), (28, 2)].as_slice());
+    Ok(())
 }

@@ -19,6 +19,8 @@ mod rounds;
 #[cfg(test)]
 mod table;
 #[cfg(test)]
+mod views;
+#[cfg(test)]
 mod wall;
 #[cfg(test)]
 mod window;

@@ -1,11 +1,14 @@
 //! Games as texts, played line by line on a table. A line is a deed, or a question and what the table tells: `live?
 //! 64`.
 
+ghost use Rattle.std.specs.Prelude.{IfSome, ◌≤◌};
+
 use crate::deed_words::{answer, deed};
-use crate::rounds::standing;
-use crate::words::{counts, kind, kinds, number, tile, tile_or_none, words, yes};
+use crate::rounds::{end, standing};
+use crate::words::{are, counts, kind, kinds, number, points, tile, tile_or_none, words, yes};
 use mj_deeds::{Deed, Reason, Rule};
-use mj_judge::{default, judge};
+use mj_judge::{case_of, default, judge};
+use mj_readings::Riichi;
 use mj_table::Table;
 use mj_tiles::{Form, Kinds, Meld, Tile};
 use mj_wall::Rules;
@@ -88,9 +91,18 @@ fn tells(alloc: Global, table: &Table, question: &str, told: &str) -> Option<boo
         "newest" => Some(name(table.newest()) == told),
         "cause" => Some(name(table.cause()) == told),
         "reason" => Some(reason(table) == told),
+        "points" => Some(table.points() == points(told)?),
+        "winner" => Some(table.has_winner() == yes(told)?),
+        "ended" => Some(table.hand_end() == end(told)?),
+        "dealer_won" => Some(table.dealer_won() == yes(told)?),
+        "before_wins" => Some(name(table.before_wins()) == told),
+        "concealed" => Some(are(
+            table.concealed(alloc, number(words[1])?).ok()?.as_slice(),
+            told,
+        )),
         "standing" => Some(table.standing() == standing(told)?),
         "kan_seat" => Some(table.kan_seat() == number(told)),
-        "default" => Some(default_is(table, number(words[1])?, told)),
+        "default" => Some(default_is(table, seat_of(words[1])?, told)),
         "indicator" => Some(table.indicator(number(words[1])?) == tile_or_none(told)?),
         _ => tells_of_seat(table, &words, told),
     }
@@ -108,11 +120,28 @@ fn tells_of_seat(table: &Table, words: &[&str; 8], told: &str) -> Option<bool> {
         "passed" => Some(table.passed(seat) == kinds(told)),
         "melds" => Some(table.melds(seat).as_slice().len() == usize::from(number(told)?)),
         "meld" => Some(meld_at(table, seat, a)? == meld(told)?),
-        "first" => Some(table.marks(seat).first == yes(told)?),
-        "riichi" => Some(is_in_riichi(table, seat) == yes(told)?),
+        "first" => Some(
+            table.marks(seat).first == yes(told)? && table.is_first(seat) == yes(told)?,
+        ),
+        "riichi" => Some(table.is_in_riichi(seat) == yes(told)?),
+        "since_reach" => Some(table.passed_in_riichi(seat) == kinds(told)),
+        "marks" => Some(has_marks(table, seat, told)),
+        "room" => Some(table.room(seat).get(kind(a)?) == number(told)?),
+        "case" => has_case(table, seat, told),
         "triplet" => Some(has_triplet(table, seat, [a, b, c, d])? == yes(told)?),
         _ => None,
     }
+}
+
+/// A seat, 0 to 3.
+fn seat_of(text: &str) -> Option<u8>
+    ensures { IfSome result (λ seat. seat ≤ 3) }
+{
+    let seat = number(text)?;
+    if seat > 3 {
+        return None;
+    }
+    Some(seat)
 }
 
 /// A number that a table tells of its newest hand.
@@ -140,6 +169,12 @@ pub(crate) fn name(deed: Option<&Deed>) -> &'static str {
         Some(Deed::ClosedKan { .. }) => "closed",
         Some(Deed::AddedKan { .. }) => "added",
         Some(Deed::Dora { .. }) => "dora",
+        Some(Deed::Reach { .. }) => "reach",
+        Some(Deed::ReachAccepted { .. }) => "accepted",
+        Some(Deed::Win { .. }) => "win",
+        Some(Deed::DrawnHand { .. }) => "drawn",
+        Some(Deed::EndHand) => "end",
+        Some(Deed::EndGame { .. }) => "over",
     }
 }
 
@@ -155,9 +190,36 @@ pub(crate) fn reason(table: &Table) -> &'static str {
     }
 }
 
-fn is_in_riichi(table: &Table, seat: u8) -> bool {
+/// Whether a seat has just these marks of riichi.
+fn has_marks(table: &Table, seat: u8, told: &str) -> bool {
     let marks = table.marks(seat);
-    marks.reached || marks.accepted || marks.double || marks.ippatsu
+    marks.reached == has_word(told, "reached")
+        && marks.accepted == has_word(told, "accepted")
+        && marks.double == has_word(told, "double")
+        && marks.ippatsu == has_word(told, "ippatsu")
+}
+
+fn has_word(text: &str, word: &str) -> bool {
+    text.split_whitespace().any(|other| other == word)
+}
+
+/// Whether a win of a seat would have these circumstances: its wind, that of the round, and what else holds.
+fn has_case(table: &Table, seat: u8, told: &str) -> Option<bool> {
+    let case = case_of(table, seat);
+    let [seat_wind, round_wind, ..] = words(told);
+    let winds = case.seat_wind == kind(seat_wind)? && case.round_wind == kind(round_wind)?;
+    let riichi = match case.riichi {
+        Riichi::No => !has_word(told, "single") && !has_word(told, "double"),
+        Riichi::Single => has_word(told, "single"),
+        Riichi::Double => has_word(told, "double"),
+    };
+    let way = case.by_draw == has_word(told, "draw")
+        && case.rinshan == has_word(told, "replacement")
+        && case.robbed == has_word(told, "robbed");
+    let time = case.first == has_word(told, "first")
+        && case.last == has_word(told, "last")
+        && case.ippatsu == has_word(told, "ippatsu");
+    Some(winds && riichi && way && time && case.closed == has_word(told, "closed"))
 }
 
 fn has_triplet(table: &Table, seat: u8, texts: [&str; 4]) -> Option<bool> {
@@ -192,14 +254,16 @@ pub(crate) fn meld(text: &str) -> Option<Meld> {
 }
 
 /// Whether that answer stands for a seat which gives none.
-fn default_is(table: &Table, seat: u8, told: &str) -> bool {
+fn default_is(table: &Table, seat: u8, told: &str) -> bool
+    requires { seat ≤ 3 }
+{
     Some(default(table, seat)) == answer(told)
 }
 
 /// Whether an answer of a seat breaks that rule first, or none where it is `lawful`.
 fn judges(table: &Table, line: &str, told: &str) -> Option<bool> {
     let (seat, line) = line.split_once(' ')?;
-    let seat = number(seat)?;
+    let seat = seat_of(seat)?;
     let Some(answer) = answer(line) else {
         return None;
     };
@@ -225,6 +289,15 @@ fn rule(broken_rule: Rule) -> &'static str {
         Rule::StuckCall => "StuckCall",
         Rule::KanFull => "KanFull",
         Rule::KanDry => "KanDry",
-        _ => "another",
+        Rule::Locked => "Locked",
+        Rule::RiichiKan => "RiichiKan",
+        Rule::ReachOpen => "ReachOpen",
+        Rule::ReachPoor => "ReachPoor",
+        Rule::ReachLate => "ReachLate",
+        Rule::ReachUnready => "ReachUnready",
+        Rule::NotComplete => "NotComplete",
+        Rule::Furiten => "Furiten",
+        Rule::NoYaku => "NoYaku",
+        Rule::NotNine => "NotNine",
     }
 }

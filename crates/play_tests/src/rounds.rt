@@ -37,7 +37,8 @@ pub(crate) fn standing(text: &str) -> Option<Standing>
     })
 }
 
-fn end(text: &str) -> Option<HandEnd> {
+/// How a hand ended.
+pub(crate) fn end(text: &str) -> Option<HandEnd> {
     match text {
         "dealer won" => Some(Won { dealer_among: true }),
         "another won" => Some(Won {

@@ -211,6 +211,184 @@ closed 0 4m 4m 4m 4m
 kans? 4
 reason? none";
 
+/// Riichi: its marks, its deposit, and what passed since.
+const RIICHI: &str = "\
+game
+hand|C|123456789m EE 23p|1s|2s|3s
+draw 0 9p
+marks 0?
+reach 0
+cause? none
+drawn 0? 9p
+marks 0? reached double
+riichi 0? no
+discard 0 9p
+cause? reach
+since_reach 0?
+accepted|0|29000 30000 30000 30000
+cause? discard
+deposits? 1
+points? 29000 30000 30000 30000
+marks 0? reached accepted double ippatsu
+riichi 0? yes
+fits accepted|0|28000 30000 30000 30000? no
+fits accepted|1|29000 30000 30000 30000? no
+fits accepted|1|29000 29000 30000 30000? yes
+draw 1 5s
+case 1? S E closed draw first
+discard 1 5s
+since_reach 0?
+draw 2 6s
+since_reach 0? 5s
+discard 2 6s
+draw 3 7s
+discard 3 7s
+draw 0 1p
+since_reach 0? 567s
+passed 0? 567s
+case 0? E E closed draw double ippatsu
+cut 0 1p
+marks 0? reached accepted double
+passed 0?
+since_reach 0? 567s
+concealed 0? 1m 2m 3m 4m 5m 6m 7m 8m 9m 2p 3p E E
+room 0 E? 4";
+
+/// A reach behind an own discard, a call that is kept, a kan that is robbed by two, and the hands that follow.
+const WINS: &str = "\
+game
+hand|C|123456789m EE 23p F|PP|23p|3s
+discard 0 F
+reach 0
+discard 0 1m
+accepted|0|29000 30000 30000 30000|chi 1 0 1m 2m 3m
+marks 0? reached accepted ippatsu
+draw 3 P
+discard 3 P
+pon 1 3 P P P
+marks 0? reached accepted
+room 1 P? 1
+reach 2
+discard 2 2p
+accepted|2|29000 30000 29000 30000
+draw 1 P
+added 1 P P P P
+marks 2? reached accepted ippatsu
+case 0? E E closed robbed single
+case 2? W E closed robbed single ippatsu
+winner? no
+dealer_won? no
+deposits? 2
+win|2|1|P|0 -8000 10000 0|29000 22000 39000 30000|0
+before_wins? added
+cause? added
+deposits? 0
+winner? yes
+dealer_won? no
+marks 2? reached accepted
+case 2? W E closed robbed single ippatsu
+points? 29000 22000 39000 30000
+win|0|1|P|1000 -1000 0 0|30000 21000 39000 30000|
+before_wins? added
+cause? added
+dealer_won? yes
+fits end? yes
+end
+cause? win
+fits deal|E 1 0 0|C|1m|1m|1m|1m? no
+fits deal|E 0 0 0|C|1m|1m|1m|1m? no
+fits deal|E 0 1 1|C|1m|1m|1m|1m? no
+fits deal|E 0 1 0|C|1m|1m|1m|1m? yes
+deal|E 0 1 0|C|1m|1m|1m|1m
+standing? E 0 1 1
+points? 30000 21000 39000 30000
+dealer_won? no
+marks 2?
+first 2? yes
+drawn|no yes no no|-1000 3000 -1000 -1000|29000 24000 38000 29000
+fits deal|E 1 2 0|C|1m|1m|1m|1m? no
+end
+cause? drawn
+deal|E 1 2 0|C|1m|1m|1m|1m
+standing? E 1 2 2
+points? 29000 24000 38000 29000";
+
+/// A fourth accepted reach ends the hand.
+const RIICHIS: &str = "\
+game draws
+hand|C|1m|1m|1m|1m
+accepted|0|29000 30000 30000 30000
+accepted|1|29000 29000 30000 30000
+accepted|2|29000 29000 29000 30000
+reason? none
+accepted|3|29000 29000 29000 29000
+reason? suuchareach
+deposits? 4";
+
+/// How hands end: on nine kinds with a deposit, with the dealer ready, with no seat ready, won by another and won by
+/// the dealer; and what follows each.
+const ENDS: &str = "\
+game draws
+hand|C|1m|1m|1m|1m
+fits end? no
+accepted|1|30000 29000 30000 30000
+drawn|no no no no|0 0 0 0|30000 29000 30000 30000|kyushukyuhai
+ended? aborted
+dealer_won? no
+deposits? 1
+default 0? pass
+judge 0 nine 0? NotNow
+judge 0 pass? lawful
+end
+cause? drawn
+default 3? pass
+judge 1 nine 1? NotNow
+judge 2 pass? lawful
+fits deal|E 1 1 1|C|1m|1m|1m|1m? no
+fits deal|E 0 1 0|C|1m|1m|1m|1m? no
+deal|E 0 1 1|C|1m|1m|1m|1m
+standing? E 0 1 1
+deposits? 1
+drawn|yes no no no|3000 -1000 -1000 -1000|33000 28000 29000 29000
+ended? ready
+end
+fits deal|E 1 2 1|C|1m|1m|1m|1m? no
+deal|E 0 2 1|C|1m|1m|1m|1m
+standing? E 0 2 2
+drawn|no no no no|0 0 0 0|33000 28000 29000 29000
+ended? not ready
+end
+fits deal|E 0 3 1|C|1m|1m|1m|1m? no
+deal|E 1 3 1|C|1m|1m|1m|1m
+standing? E 1 3 3
+win|2|3|5p|0 0 2900 -1900|33000 28000 31900 27100|
+ended? another won
+deposits? 0
+end
+fits deal|E 2 4 0|C|1m|1m|1m|1m? no
+deal|E 2 0 0|C|1m|1m|1m|1m
+standing? E 2 0 4
+win|2|3|5p|0 0 1500 -1500|33000 28000 33400 25600|
+ended? dealer won
+end
+deal|E 2 1 0|C|1m|1m|1m|1m
+standing? E 2 1 5
+ended? another won";
+
+/// A reach whose discard is won on lays no deposit.
+const WON_AT_THE_REACH: &str = "\
+game
+hand|C|1m F|1m|1m|1m
+reach 0
+discard 0 F
+win|1|0|F|-1000 1000 0 0|29000 31000 30000 30000|
+deposits? 0
+cause? discard
+points? 29000 31000 30000 30000
+end
+deal|E 1 0 0|C|1m|1m|1m|1m
+deposits? 0";
+
 #[test]
 fn a_table_tells_what_its_deeds_come_to(rt: HostRuntime) {
     for game in [
@@ -224,6 +402,11 @@ fn a_table_tells_what_its_deeds_come_to(rt: HostRuntime) {
         CALL_BEFORE,
         SEVERAL,
         OF_ONE,
+        RIICHI,
+        WINS,
+        RIICHIS,
+        ENDS,
+        WON_AT_THE_REACH,
     ] {
         assert_eq!(rt; wrong_line(rt.alloc(), game), "");
     }

@@ -1,8 +1,8 @@
 use crate::deed_words::{answer, bid, deed};
 use crate::play::name;
-use crate::words::{fields, number};
+use crate::words::{fields, number, words};
 use mj_deeds::{Answer, Bid, Four};
-use mj_window::{Decision, Window, decide};
+use mj_window::{Decision, Seats, Window, decide};
 use std::alloc::Global;
 
 /// The newest deed, the answers of the four seats (nothing for a pass), and what they decide.
@@ -18,6 +18,16 @@ draw 2 1p||cut 1 9m|cut 2 1p||act cut 2 1p
 draw 2 1p|||closed 2 1p 1p 1p 1p||act closed 2 1p 1p 1p 1p
 pon 2 0 7m 7m 7m||cut 1 9m|discard 2 1p||act discard 2 1p
 chi 1 0 7m 5m 6m||discard 1 9m|||act discard 1 9m
+reach 3|cut 0 7m|||cut 3 7m|act cut 3 7m
+cut 3 7m||ron 1 3|pon 2 3 7m 7m 7m||rons 1
+cut 3 7m|ron 0 3|ron 1 3|ron 2 3||rons 0 1 2
+cut 0 7m||ron 1 0||ron 3 0 7m|rons 1 3
+cut 0 7m||chi 1 0 7m 5m 6m||ron 3 0|rons 3
+cut 1 7m|ron 0 1||||rons 0
+added 2 7m 7m 7m 7m|ron 0 2|ron 1 2||ron 3 2|rons 3 0 1
+added 2 7m 7m 7m 7m||ron 1 2|||rons 1
+added 2 7m 7m 7m 7m|||||pass
+draw 2 1p|ron 0 2||ron 2 2|cut 3 1p|act ron 2 2
 dora 1p||cut 1 1p|||pass";
 
 fn said(field: &str) -> Option<Answer> {
@@ -42,8 +52,19 @@ fn decision(text: &str) -> Option<Decision> {
     match text.split_once(' ') {
         None => Some(Decision::Pass),
         Some(("call", line)) => Some(Decision::Call(bid(line)?)),
+        Some(("rons", seats)) => Some(Decision::Rons(winners(seats)?)),
         Some((_, line)) => Some(Decision::Act(actor(line)?, answer(line)?)),
     }
+}
+
+/// The seats that win.
+fn winners(text: &str) -> Option<Seats> {
+    let [first, second, third, ..] = words(text);
+    Some(Seats {
+        first: number(first)?,
+        second: number(second),
+        third: number(third),
+    })
 }
 
 fn actor(line: &str) -> Option<u8> {

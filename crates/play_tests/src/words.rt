@@ -31,6 +31,23 @@ pub(crate) fn number(text: &str) -> Option<u8> {
     text.parse().ok()
 }
 
+/// Four numbers, below zero with `-`.
+pub(crate) fn points(text: &str) -> Option<[i32; 4]> {
+    let [a, b, c, d, ..] = words(text);
+    Some([
+        a.parse().ok()?,
+        b.parse().ok()?,
+        c.parse().ok()?,
+        d.parse().ok()?,
+    ])
+}
+
+/// `yes` or `no` four times.
+pub(crate) fn truths(text: &str) -> Option<[bool; 4]> {
+    let [a, b, c, d, ..] = words(text);
+    Some([yes(a)?, yes(b)?, yes(c)?, yes(d)?])
+}
+
 /// The tile of a text, as `1m`, `5mr` or `E`.
 pub(crate) fn tile(text: &str) -> Option<Tile> {
     Tile::read(text.as_bytes())
@@ -58,8 +75,8 @@ pub(crate) fn yes(text: &str) -> Option<bool> {
     }
 }
 
-/// Tiles that stand suit by suit, with 0 for a red five and each honour by its letter, as `123m 055p EES`. They come in
-/// tile order.
+/// Tiles that stand suit by suit, with 0 for a red five and each honour by its letter, as `123m 055p EES`. They come
+/// in tile order.
 pub(crate) fn tiles(alloc: Global, text: &str) -> Option<Tiles> {
     let mut items = Vec::new(alloc);
     let mut suit = 0;

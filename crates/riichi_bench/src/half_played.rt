@@ -1,6 +1,6 @@
 //! A hand that is played half, whose answers are judged.
 
-use mj_deeds::{Answer, Deed, Four, Pai, Tiles};
+use mj_deeds::{Answer, Deed, Four, Hands, Pai, Tiles};
 use mj_judge::judge;
 use mj_ports::Name;
 use mj_table::Table;
@@ -45,7 +45,7 @@ pub fn may_discard(table: &Table, kind: Kind) -> u64 {
 }
 
 // Adds a deed that fits.
-fn add(table: &mut Table, deed: &Deed) -> Result<(), AllocError> {
+pub fn add(table: &mut Table, deed: &Deed) -> Result<(), AllocError> {
     if table.fits(deed) {
         table.push(deed)?;
     }
@@ -65,7 +65,7 @@ fn placed(place: u8) -> Tile {
     tile(place / 4)
 }
 
-fn start_of_game() -> Deed {
+pub fn start_of_game() -> Deed {
     Deed::StartGame {
         names: Four {
             first: Name::of(b"a"),
@@ -77,12 +77,13 @@ fn start_of_game() -> Deed {
 }
 
 fn start_of_hand(alloc: Global, round: Kind) -> Result<Deed, AllocError> {
-    let hands = Four {
-        first: hand(alloc, 0)?,
-        second: hand(alloc, 13)?,
-        third: hand(alloc, 26)?,
-        fourth: hand(alloc, 39)?,
-    };
+    let hands = Hands::of(
+        alloc,
+        hand(alloc, 0)?.as_slice(),
+        hand(alloc, 13)?.as_slice(),
+        hand(alloc, 26)?.as_slice(),
+        hand(alloc, 39)?.as_slice(),
+    )?;
     Ok(Deed::StartHand {
         round,
         number: 1,

@@ -12,7 +12,8 @@ pub struct Hands {
     words: Pcg32,
 }
 
-/// A hand with an open triplet of a dragon: the kind of the dragon, and how often each kind stands among the concealed tiles.
+/// A hand with an open triplet of a dragon: the kind of the dragon, and how often each kind stands among the
+/// concealed tiles.
 #[derive(Clone, Copy)]
 pub struct OpenHand {
     pub dragon: u8,

@@ -5,12 +5,13 @@ ghost use Rattle.mj_tiles.specs.Counts.{NoFifth};
 
 use crate::half_played::{half_played, may_discard};
 use crate::hands::{Hands, OpenHand, ROOM, first_kind, without_first};
+use crate::winning::{awaited, may_win};
 use mj_readings::{Case, Riichi, readings};
 use mj_score::{Extra, worth};
-use mj_shanten::shanten;
+use mj_shanten::{Suits, shanten};
 use mj_suits::partitions;
 use mj_table::Table;
-use mj_tiles::{Counts, Form, Kind, Meld, Tile};
+use mj_tiles::{Counts, Form, Kind, Kinds, Meld, Tile};
 use mj_waits::waits;
 use mj_yaku::is_closed;
 use std::alloc::{AllocError, Global};
@@ -24,21 +25,27 @@ pub enum Job {
     Partitions,
     Worth,
     Shanten,
+    Number,
+    BestDiscard,
     Judge,
+    JudgeWin,
     WaitsOfOpen,
     ReadingsOfOpen,
     WorthOfOpen,
 }
 
 /// All jobs, in the order in which they are printed.
-pub const JOBS: [Job; 10] = [
+pub const JOBS: [Job; 13] = [
     Job::Waits,
     Job::WaitsOfReady,
     Job::Readings,
     Job::Partitions,
     Job::Worth,
     Job::Shanten,
+    Job::Number,
+    Job::BestDiscard,
     Job::Judge,
+    Job::JudgeWin,
     Job::WaitsOfOpen,
     Job::ReadingsOfOpen,
     Job::WorthOfOpen,
@@ -54,7 +61,10 @@ impl Job {
             Job::Partitions => "partitions of one suit",
             Job::Worth => "worth of a drawn closed hand",
             Job::Shanten => "shanten of 13 tiles",
+            Job::Number => "shanten of 13 tiles, the number alone",
+            Job::BestDiscard => "best discard of 14 tiles",
             Job::Judge => "judge of a discard in the middle of a hand",
+            Job::JudgeWin => "judge of a win in the middle of a hand",
             Job::WaitsOfOpen => "waits of a ready open hand",
             Job::ReadingsOfOpen => "readings of a complete open hand",
             Job::WorthOfOpen => "worth of an open hand",
@@ -64,6 +74,8 @@ impl Job {
     /// Goes through so many hands, and answers a checksum.
     pub fn run(self, alloc: Global, hands: &mut Hands, times: u32) -> Result<u64, AllocError> {
         let table = half_played(alloc)?;
+        let won = awaited(alloc)?;
+        let kinds = all_kinds();
         let mut sum = 0u64;
         for _ in 0..times {
             let part = match self {
@@ -73,7 +85,10 @@ impl Job {
                 Job::Partitions => partitions_of(alloc, &hands.complete_numbers())?,
                 Job::Worth => worth_of(alloc, &hands.complete_numbers())?,
                 Job::Shanten => shanten_of(&hands.numbers(13)),
+                Job::Number => number_of(&hands.numbers(13)),
+                Job::BestDiscard => best_discard_of(&hands.numbers(14), kinds),
                 Job::Judge => judged(&table, &hands.numbers(1)),
+                Job::JudgeWin => u64::from(hands.numbers(1)[0]).wrapping_add(may_win(&won)),
                 Job::WaitsOfOpen => waits_of_open(&hands.open_hand()),
                 Job::ReadingsOfOpen => readings_of_open(alloc, &hands.open_hand())?,
                 Job::WorthOfOpen => worth_of_open(alloc, &hands.open_hand())?,
@@ -90,8 +105,9 @@ pub fn make_only(job: Job, hands: &mut Hands, times: u32) -> u64 {
     for _ in 0..times {
         let numbers = match job {
             Job::Waits => hands.mixed_numbers(),
-            Job::Shanten => hands.numbers(13),
-            Job::Judge => hands.numbers(1),
+            Job::Shanten | Job::Number => hands.numbers(13),
+            Job::BestDiscard => hands.numbers(14),
+            Job::Judge | Job::JudgeWin => hands.numbers(1),
             Job::WaitsOfReady => hands.ready_numbers(),
             Job::Readings | Job::Partitions | Job::Worth => hands.complete_numbers(),
             Job::WaitsOfOpen => without_first(&hands.open_hand().numbers),
@@ -130,6 +146,40 @@ fn shanten_of(numbers: &[u8; 34]) -> u64 {
     let nearest = shanten(&counts, &room, 0);
     let first = first_kind(&nearest.target).map_or(0, |kind| kind.number());
     35 * u64::from(nearest.number) + u64::from(first)
+}
+
+// The shanten of a hand of thirteen tiles without melds, without its target.
+fn number_of(numbers: &[u8; 34]) -> u64 {
+    let (Some(counts), Some(room)) = (Counts::of(*numbers), Counts::of(ROOM)) else {
+        return 0;
+    };
+    if tiles_among(&counts) != 13 {
+        return 0;
+    }
+    u64::from(Suits::new(&counts, &room).number(0))
+}
+
+// Which of the kinds is the best discard of a hand without melds; 34 where none is held.
+fn best_discard_of(numbers: &[u8; 34], kinds: Kinds) -> u64 {
+    let (Some(counts), Some(room)) = (Counts::of(*numbers), Counts::of(ROOM)) else {
+        return 0;
+    };
+    if tiles_among(&counts) != 14 {
+        return 0;
+    }
+    match Suits::new(&counts, &room).best_discard(kinds, 0) {
+        Some(kind) => u64::from(kind.number()),
+        None => 34,
+    }
+}
+
+// The set of all kinds.
+fn all_kinds() -> Kinds {
+    let mut kinds = Kinds::none();
+    for number in 0..34 {
+        kinds = kinds.with(Kind::at(number));
+    }
+    kinds
 }
 
 // How many tiles there are.

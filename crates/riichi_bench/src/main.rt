@@ -1,20 +1,23 @@
-//! Times the calls that play leans on. With no word each job runs once over a few hands, and its checksum is printed, and the
-//! game on standard input is refereed; with the word `time` each job is printed with its nanoseconds a call and its calls a
-//! second, and the game with its nanoseconds a deed.
+//! Times the calls that play leans on. Each job runs once over a few hands, and its checksum is printed, and the game on
+//! standard input is refereed, and the parts of the games in the files that the words name. Where the first word is `time`,
+//! each job is printed with its nanoseconds a call and its calls a second, and each game with its nanoseconds a deed.
 #![tactic(auto)]
 
 mod half_played;
 mod hands;
 mod jobs;
+mod parts;
 mod referee;
+mod winning;
 
 use anyhow::Result;
 use hands::Hands;
 use jobs::{JOBS, Job};
+use parts::{PARTS, first_lines};
 use referee::referee;
-use std::env;
 use std::io::Read;
 use std::time::CpuClock;
+use std::{env, fs};
 
 /// How many hands a job goes through for its checksum.
 const FEW: u32 = 2_000;
@@ -22,7 +25,7 @@ const FEW: u32 = 2_000;
 /// How many it goes through when it is timed.
 const MANY: u32 = 200_000;
 
-/// How often the game is refereed when it is timed.
+/// How often a game is refereed when it is timed; the fastest run counts.
 const GAMES: u32 = 200;
 
 fn main(rt: HostRuntime) -> Result<()> {
@@ -41,12 +44,12 @@ fn main(rt: HostRuntime) -> Result<()> {
     }
     let mut game = Vec::new(rt.alloc());
     rt.stdin().read_to_end(&mut game)?;
-    if timed {
-        return time_game(&rt, game.as_slice());
+    tell_game(&rt, "referee of a stored game", &[], game.as_slice(), timed)?;
+    for word in env::args(&rt)?.skip(1) {
+        if word.as_str() != "time" {
+            tell_parts(&rt, word.as_str(), timed)?;
+        }
     }
-    let told = referee(rt.alloc(), game.as_slice(), 1)?;
-    let (deeds, sum) = (told.deeds, told.sum);
-    println!(rt; "referee of a stored game: {deeds} deeds, checksum {sum}")?;
     Ok(())
 }
 
@@ -65,13 +68,49 @@ fn time_job(rt: &HostRuntime, job: Job) -> Result<()> {
     Ok(())
 }
 
-fn time_game(rt: &HostRuntime, game: &[u8]) -> Result<()> {
-    let before = rt.process_cpu_time()?;
-    let told = referee(rt.alloc(), game, GAMES)?;
-    let after = rt.process_cpu_time()?;
-    let all = after.as_nanos().saturating_sub(before.as_nanos());
-    let (deeds, sum) = (told.deeds, told.sum);
-    let each = all / u128::from(deeds.max(1));
-    println!(rt; "referee of a stored game: {each} ns a deed, {deeds} deeds (checksum {sum})")?;
+// Prints each part of the game in a file.
+fn tell_parts(rt: &HostRuntime, file: &str, timed: bool) -> Result<()> {
+    let game = fs::read(rt, file)?;
+    for part in PARTS {
+        if file.ends_with(part.file) {
+            let before = first_lines(rt.alloc(), game.as_slice(), part.from)?;
+            let all = first_lines(rt.alloc(), game.as_slice(), part.to)?;
+            tell_game(rt, part.name, before.as_slice(), all.as_slice(), timed)?;
+        }
+    }
     Ok(())
+}
+
+// Prints how many deeds a game has behind its beginning, and what they cost or what was told.
+fn tell_game(
+    rt: &HostRuntime,
+    name: &str,
+    beginning: &[u8],
+    game: &[u8],
+    timed: bool,
+) -> Result<()> {
+    let begun = referee(rt.alloc(), beginning)?;
+    let told = referee(rt.alloc(), game)?;
+    let deeds = told.deeds.saturating_sub(begun.deeds);
+    let sum = told.sum;
+    if !timed {
+        println!(rt; "{name}: {deeds} deeds, checksum {sum}")?;
+        return Ok(());
+    }
+    let before = least_time(rt, beginning)?;
+    let each = least_time(rt, game)?.saturating_sub(before) / u128::from(deeds.max(1));
+    println!(rt; "{name}: {each} ns a deed, {deeds} deeds (checksum {sum})")?;
+    Ok(())
+}
+
+// The nanoseconds of processor time that the fastest of many runs of a game took.
+fn least_time(rt: &HostRuntime, game: &[u8]) -> Result<u128> {
+    let mut least = u128::MAX;
+    for _ in 0..GAMES {
+        let before = rt.process_cpu_time()?;
+        referee(rt.alloc(), game)?;
+        let after = rt.process_cpu_time()?;
+        least = least.min(after.as_nanos().saturating_sub(before.as_nanos()));
+    }
+    Ok(least)
 }

@@ -11,35 +11,21 @@ pub struct Refereed {
     pub sum: u64,
 }
 
-/// Referees a game for seat 3 so many times.
-pub fn referee(alloc: Global, game: &[u8], times: u32) -> Result<Refereed, AllocError> {
+/// Referees a game for seat 3.
+pub fn referee(alloc: Global, game: &[u8]) -> Result<Refereed, AllocError> {
     let command = String::from_str(alloc, "referee")?;
     let words = vec![in alloc; command, String::from_str(alloc, "3")?]?;
-    let mut all = Refereed { deeds: 0, sum: 0 };
-    for _ in 0..times {
-        all = once_more(alloc, words.as_slice(), game, all)?;
-    }
-    Ok(all)
-}
-
-// Referees a game once more.
-fn once_more(
-    alloc: Global,
-    words: &[String],
-    game: &[u8],
-    before: Refereed,
-) -> Result<Refereed, AllocError> {
     let mut source = MemSource::new(Vec::from_slice(alloc, game)?, Vec::new(alloc));
     let mut sink = MemSink::new(Vec::new(alloc));
-    match run(alloc, words, &mut source, &mut sink) {
-        Status::Done => Ok(with_told(before, sink.written())),
-        _ => Ok(before),
+    match run(alloc, words.as_slice(), &mut source, &mut sink) {
+        Status::Done => Ok(told_in(sink.written())),
+        _ => Ok(told_in(&[])),
     }
 }
 
 // Each line but the first is that of a deed.
-fn with_told(before: Refereed, told: &[u8]) -> Refereed {
-    let mut all = before;
+fn told_in(told: &[u8]) -> Refereed {
+    let mut all = Refereed { deeds: 0, sum: 0 };
     let mut greeted = false;
     for byte in told {
         all.sum = all.sum.wrapping_mul(31).wrapping_add(u64::from(*byte));

@@ -161,15 +161,15 @@ const FIRST_DISCARD: [Step; 24] = [
     Step::IsTold(1, "{\"type\":\"tsumo\",\"actor\":1,\"pai\":\"5p\"}\n"),
 ];
 
-// The start of a game, and then the same line of seat 0 so many times.
+// The start of a game, and then so many lines of seat 0 that are refused, and one more.
 fn refused(alloc: Global, times: u8) -> Result<bool, Fail> {
     let mut core = before_all(alloc)?;
     for line in [A, B, C, D] {
         core.sit(alloc, 1, line.as_bytes());
     }
-    let reach = "{\"type\":\"reach\",\"actor\":0}";
-    let mut hold = said(&mut core, alloc, 0, reach)? == Heard::NotBuilt;
-    for _ in 0..times {
+    let nine = "{\"type\":\"ryukyoku\",\"actor\":0}";
+    let mut hold = said(&mut core, alloc, 0, nine)? == Heard::Refused(Rule::NotNow);
+    for _ in 1..times {
         hold = hold && said(&mut core, alloc, 0, "x")? == Heard::Refused(Rule::Unreadable);
     }
     Ok(hold && said(&mut core, alloc, 0, "x")? == Heard::NotBuilt)

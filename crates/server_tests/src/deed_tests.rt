@@ -1,4 +1,4 @@
-use mj_deeds::{Deed, Four, Rule, Tiles, Viewer};
+use mj_deeds::{Deed, Four, Hands, Rule, Tiles, Viewer};
 use mj_ports::Name;
 use mj_tiles::Tile;
 use mjai_lines::{error_line, write};
@@ -35,17 +35,18 @@ fn start_of_game() -> Deed {
     }
 }
 
-fn hands(alloc: Global) -> Result<Four<Tiles>, Fail> {
+fn hands(alloc: Global) -> Result<Hands, Fail> {
     let first = hand(alloc, "1m 1m 1m 1m 2m 2m 2m 2m 3m 3m 3m 3m 4m")?;
     let second = hand(alloc, "4m 4m 4m 5m 5m 5m 5mr 6m 6m 6m 6m 7m 7m")?;
     let third = hand(alloc, "7m 7m 8m 8m 8m 8m 9m 9m 9m 9m 1p 1p 1p")?;
     let fourth = hand(alloc, "1p 2p 2p 2p 2p 3p 3p 3p 3p 4p 4p 4p 4p")?;
-    Ok(Four {
-        first,
-        second,
-        third,
-        fourth,
-    })
+    Ok(Hands::of(
+        alloc,
+        first.as_slice(),
+        second.as_slice(),
+        third.as_slice(),
+        fourth.as_slice(),
+    )?)
 }
 
 fn start_of_hand(alloc: Global) -> Result<Deed, Fail> {

@@ -13,4 +13,6 @@ mod links_tests;
 #[cfg(test)]
 mod reading_tests;
 #[cfg(test)]
+mod result_tests;
+#[cfg(test)]
 mod slow;

@@ -1,7 +1,7 @@
 use mj_bytes::{push_all, push_number};
 use mj_deeds::{Answer, Pai};
 use mj_ports::JoinLine;
-use mjai_lines::{read_answer, read_built, read_join};
+use mjai_lines::{read_answer, read_join};
 use std::alloc::{AllocError, Global};
 use std::test::Fail;
 
@@ -99,6 +99,16 @@ fn told(alloc: Global, line: &[u8]) -> Result<Vec<u8>, AllocError> {
             &[actor],
             &[text_of(&tile), text_of(&a), text_of(&b), text_of(&c)],
         ),
+        Answer::Reach { actor } => words(alloc, b"reach", &[actor], &[]),
+        Answer::Win {
+            actor,
+            target,
+            tile,
+        } => match tile {
+            Some(tile) => words(alloc, b"win", &[actor, target], &[text_of(&tile)]),
+            None => words(alloc, b"win", &[actor, target], &[]),
+        },
+        Answer::NineKinds { actor } => words(alloc, b"nine kinds", &[actor], &[]),
     }
 }
 
@@ -136,6 +146,35 @@ fn a_line_reads_as_the_answer_that_it_is(rt: HostRuntime) -> Result<(), Fail> {
             "{\"type\":\"kakan\",\"actor\":1,\"pai\":\"5m\",\"consumed\":[],\"consumed\":[\"5mr\",\"5m\",\"5m\"]}",
             "added kan 1 5m 5m 5m 5mr",
         ),
+        ("{\"type\":\"reach\",\"actor\":2,\"pai\":null}", "reach 2"),
+        ("{\"type\":\"hora\",\"actor\":2,\"target\":0}", "win 2 0"),
+        (
+            "{\"pai\":\"5sr\",\"target\":2,\"actor\":2,\"type\":\"hora\"}",
+            "win 2 2 5sr",
+        ),
+        (
+            "{\"type\":\"hora\",\"actor\":2,\"target\":0,\"pai\":\"?\"}",
+            "win 2 0 ?",
+        ),
+        ("{\"type\":\"ryukyoku\",\"actor\":1}", "nine kinds 1"),
+        (
+            "{\"type\":\"ryukyoku\",\"actor\":1,\"reason\":\"kyushukyuhai\"}",
+            "nine kinds 1",
+        ),
+        ("{\"type\":\"reach\"}", "unread"),
+        ("{\"type\":\"hora\",\"actor\":2}", "unread"),
+        (
+            "{\"type\":\"hora\",\"actor\":2,\"target\":0,\"pai\":null}",
+            "unread",
+        ),
+        (
+            "{\"type\":\"ryukyoku\",\"actor\":1,\"reason\":\"fanpai\"}",
+            "unread",
+        ),
+        (
+            "{\"type\":\"ryukyoku\",\"actor\":1,\"reason\":null}",
+            "unread",
+        ),
         ("{\"type\":\"none\"}\0", "unread"),
         (
             "{\"type\":\"ankan\",\"consumed\":[\"N\",\"N\",\"N\",\"N\"]}",
@@ -150,33 +189,6 @@ fn a_line_reads_as_the_answer_that_it_is(rt: HostRuntime) -> Result<(), Fail> {
     assert!(rt;
         told(alloc, b"{\"type\":\"none\",\"x\":\"\xff\"}")?.as_slice() == b"unread".as_slice()
     );
-    Ok(())
-}
-
-// Whether a line is an answer that is not built.
-fn is_not_built(alloc: Global, line: &[u8]) -> Result<bool, AllocError> {
-    match read_built(alloc, line) {
-        Ok(Some(_)) => Ok(false),
-        Ok(None) => Ok(true),
-        Err(e) => Err(e),
-    }
-}
-
-#[test]
-fn the_types_of_answers_that_are_not_built_are_known(rt: HostRuntime) -> Result<(), Fail> {
-    let alloc = rt.alloc();
-    for (line, later) in [
-        ("{\"type\":\"hora\"}", true),
-        ("{\"type\":\"pon\"}", false),
-        ("{\"type\":\"reach\",\"actor\":9}", true),
-        ("{\"type\":\"ryukyoku\"}", true),
-        ("{\"type\":\"none\"}", false),
-        ("{\"type\":\"join\"}", false),
-        ("[\"hora\"]", false),
-        ("hora", false),
-    ] {
-        assert!(rt; is_not_built(alloc, line.as_bytes())? == later, "{line:?}");
-    }
     Ok(())
 }
 

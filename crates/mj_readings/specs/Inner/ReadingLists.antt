@@ -11,7 +11,7 @@ use Rattle.mj_readings.specs.declared.winning_way.WinningWay.{WinningWay}
 use Rattle.mj_readings.specs.Sets.{set_of_meld}
 use Rattle.mj_readings.specs.Inner.SetLists.{no_set}
 use Rattle.mj_readings.specs.Complete.{is_seven_pairs}
-use Rattle.mj_readings.specs.Inner.Ways.{ways}
+use Rattle.mj_readings.specs.Inner.Ways.{Way, ways}
 use Rattle.mj_readings.specs.Inner.WinningWays.{winning_ways}
 use Rattle.mj_readings.specs.Tests.{orphan_double}
 
@@ -22,6 +22,14 @@ standard sets pair win winning =
 
 abbrev pub standard_of : List Meld → ℕ → WinningWay → Reading
 standard_of melds winning winning_way = standard (winning_way.sets ++ map set_of_meld melds) winning_way.pair winning_way.win winning
+
+-- The reading of sets of concealed tiles and a pair where the winning tile is at this place.
+abbrev pub with_win : List Meld → ℕ → List Set → ℕ → ℕ → Reading
+with_win melds winning sets pair win = standard_of melds winning (record { sets = sets; pair = pair; win = win })
+
+-- The readings of some ways, behind these sets.
+abbrev pub readings_past : List Meld → ℕ → List Set → List Way → List Reading
+readings_past melds winning sets list = map (standard_of melds winning) (winning_ways sets winning list)
 
 unfoldable pub standard_readings : List ℕ → List Meld → ℕ → List Reading
 standard_readings counts melds winning =

@@ -1,5 +1,6 @@
 use Rattle.std.proofs.Common.{sym, ap, ◌∙◌}
-use Rattle.mj_rules.specs.Broken.{view_of, is_stuck_call}
+use Rattle.mj_rules.specs.Broken.{is_stuck_call}
+use Rattle.mj_rules.specs.View.{view_of}
 use Rattle.mj_judge.proofs.Swaps.{stuck_is}
 use Rattle.mj_judge.proofs.swap.is_stuck_call.Goals as goal
 

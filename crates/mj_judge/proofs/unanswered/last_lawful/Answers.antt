@@ -1,6 +1,7 @@
 use Rattle.std.proofs.Common.{sym, ◌∙◌}
 use Rattle.std.specs.Prelude.{is_none}
-use Rattle.mj_rules.specs.Broken.{view_of, broken_by}
+use Rattle.mj_rules.specs.Broken.{broken_by}
+use Rattle.mj_rules.specs.View.{view_of}
 use Rattle.mj_rules.specs.Default.{discard_of, lawful_faces}
 use Rattle.mj_judge.proofs.Places.{last_passes, last_stays, all_seen}
 use Rattle.mj_judge.proofs.unanswered.last_lawful.Goals as goal

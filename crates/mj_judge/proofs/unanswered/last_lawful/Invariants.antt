@@ -1,7 +1,8 @@
 use Rattle.std.proofs.Common.{◌≡◌, take}
 use Rattle.std.specs.Prelude.{is_none, filter}
 use Rattle.mj_tiles.specs.Faces.{tile_order}
-use Rattle.mj_rules.specs.Broken.{view_of, broken_by}
+use Rattle.mj_rules.specs.Broken.{broken_by}
+use Rattle.mj_rules.specs.View.{view_of}
 use Rattle.mj_rules.specs.Default.{discard_of, last_face}
 use Rattle.mj_judge.proofs.unanswered.last_lawful.Given as goal
 

@@ -2,7 +2,7 @@
 use Rattle.std.proofs.Common.{rules, refl, subst, ap, ◌+◌, ◌-◌, arith, inl, inr, set}
 use Rattle.std.proofs.lemmas.Bool.{cases_eq}
 use Rattle.mj_suits.specs.Choosing.{ByTiles}
-use Rattle.mj_suits.proofs.Choices.{past_end, next_is, none_begins, begins_greatest, choice_alone, choice_both, most_tiles, some_tiles}
+use Rattle.mj_suits.proofs.Choices.{past_end, next_is, none_begins, begins_greatest, choice_alone, choice_both, most_tiles, some_tiles, too_many}
 use Rattle.mj_suits.proofs.choosing.+choosing.Goals as goal
 
 pub choose_begin-returns-then-left-plan : goal.choose_begin-returns-then-left-plan
@@ -20,6 +20,12 @@ choose_begin-returns t c = begins_greatest _ _ _ _ _ _ _ (omega arith) c.require
 
 pub choose_from-returns-in_default : goal.choose_from-returns-in_default
 choose_from-returns-in_default t c = past_end _ _ _ _ (omega arith) (omega arith) c.requires refl refl refl
+
+pub choose_at-loop-tiles-init : goal.choose_at-loop-tiles-init
+choose_at-loop-tiles-init t c = (
+  omega arith,
+  λ many above few rest sets pairs by. too_many _ _ _ _ c.requires many (c.most_tiles-tiles.ensures.most many (omega arith) few) rest sets pairs by,
+)
 
 pub choose_at-returns-in-Some : goal.choose_at-returns-in-Some
 choose_at-returns-in-Some t c = most_tiles _ _ _ _ (c.loop-tiles.tiles - 1) _ c.requires

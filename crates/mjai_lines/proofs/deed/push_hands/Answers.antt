@@ -13,11 +13,11 @@ hand {a} {b} {seen} {seen'} {tiles} {tiles'} s t p =
 pub returns : goal.returns
 returns c = as_piece (sym (bracketed_four _ _ _ _))
     (c.in_ok-push_all.ensures.ok
-    ▸ hand c.sees.ensures c.as_slice.ensures c.in_ok-push_tiles_seen.ensures
+    ▸ hand c.sees.ensures c.at.ensures c.in_ok-push_tiles_seen.ensures
     ▸ c.in_ok-push_all-2.ensures.ok
-    ▸ hand c.sees-2.ensures c.as_slice-2.ensures c.in_ok-push_tiles_seen-2.ensures
+    ▸ hand c.sees-2.ensures c.at-2.ensures c.in_ok-push_tiles_seen-2.ensures
     ▸ c.in_ok-push_all-3.ensures.ok
-    ▸ hand c.sees-3.ensures c.as_slice-3.ensures c.in_ok-push_tiles_seen-3.ensures
+    ▸ hand c.sees-3.ensures c.at-3.ensures c.in_ok-push_tiles_seen-3.ensures
     ▸ c.in_ok-push_all-4.ensures.ok
-    ▸ hand c.sees-4.ensures c.as_slice-4.ensures c.in_ok-push_tiles_seen-4.ensures
+    ▸ hand c.sees-4.ensures c.at-4.ensures c.in_ok-push_tiles_seen-4.ensures
     ▸ c.in_ok-push_all-5.ensures.ok)

@@ -2,4 +2,4 @@ use Rattle.mj_core.proofs.Games.{heard-form}
 use Rattle.mj_core.proofs.game.Core.said.Goals as goal
 
 pub hear-requires-clause-form : goal.hear-requires-clause-form
-hear-requires-clause-form c = heard-form c.args.line.now c.in-Ok-Some.answer (rw c.in-Ok-Some.field-0-is at c.in-Ok-Some.ensures)
+hear-requires-clause-form c = heard-form c.args.line.now c.in-Ok.answer c.in-Ok.ensures

@@ -1,16 +1,13 @@
-use Rattle.std.proofs.Common.{sym, refl}
+use Rattle.std.proofs.Common.{sym, refl, ap}
+use Rattle.mj_table.specs.Plays.{Play}
 use Rattle.mj_core.specs.Inner.Verdicts.{verdict_given}
 use Rattle.mj_core.proofs.Open.{pieces}
 use Rattle.mj_core.proofs.Steps.{unbuilt-verdict}
-use Rattle.mj_core.proofs.Pieces.{read-chair, place-within, is_said, is_said-open, is_said-closed, is_said-unbuilt, judged-at, given-played, given-lawful}
+use Rattle.mj_core.proofs.Pieces.{read-chair, place-within, is_said, is_said-open, is_said-closed, judged-at, given-played, given-lawful, given-on}
 use Rattle.mj_core.proofs.state.State.hear.Goals as goal
 
 pub index_mut-requires : goal.index_mut-requires
 index_mut-requires c =
-    place-within c.self.inside.deeds.items c.self.inside.chairs.items c.self.inside.window c.args.seat _ _ (rw (← c.self.view_is) at c.requires.due) c.from-place.ensures c.self.inside.chairs.ok.0
-
-pub index_mut-requires-in-Ok-Some : goal.index_mut-requires-in-Ok-Some
-index_mut-requires-in-Ok-Some c =
     place-within c.self.inside.deeds.items c.self.inside.chairs.items c.self.inside.window c.args.seat _ _ (rw (← c.self.view_is) at c.requires.due) c.from-place.ensures c.self.inside.chairs.ok.0
 
 pub next-requires-clause-played : goal.next-requires-clause-played
@@ -26,7 +23,10 @@ next-requires-clause-lawful c =
     (rw (← c.self.view_is) at c.requires) c.self.invariant
     (is_said c.args.setting.now c.self.inside.table.rules c.self.inside.deeds.items c.self.inside.table.deeds c.self.inside.chairs.items c.self.inside.window c.args.seat c.from-place.result c.args.answer.now c.index.result.now c.go_on.new.self (verdict_given c.verdict-verdict.result) c.slots_after-window.result
     (rw (← c.self.view_is) at c.requires) c.self.invariant c.from-place.ensures c.index.ensures c.verdict-verdict.ensures.judged (sym c.if-not-may_get.ensures) c.go_on.ensures c.slots_after-window.ensures)
-    c.in-Some.ensures
+    (rw c.reserve.ensures.items at c.in-Some.ensures)
+
+pub next-requires-clause-on : goal.next-requires-clause-on
+next-requires-clause-on c = given-on c.self.inside.deeds.items c.self.inside.table.deeds c.slots_after-window.result c.in-Some.answers c.self.invariant (rw c.reserve.ensures.items at c.in-Some.ensures)
 
 pub returns-in_default-clause-ok : goal.returns-in_default-clause-ok
 returns-in_default-clause-ok c =
@@ -35,27 +35,16 @@ returns-in_default-clause-ok c =
     (rw (← c.self.view_is) at c.requires) c.from-place.ensures
     (is_said c.args.setting.now c.self.inside.table.rules c.self.inside.deeds.items c.self.inside.table.deeds c.self.inside.chairs.items c.self.inside.window c.args.seat c.from-place.result c.args.answer.now c.index.result.now c.go_on.new.self (verdict_given c.verdict-verdict.result) c.slots_after-window.result
     (rw (← c.self.view_is) at c.requires) c.self.invariant c.from-place.ensures c.index.ensures c.verdict-verdict.ensures.judged (sym c.if-not-may_get.ensures) c.go_on.ensures c.slots_after-window.ensures)
-    c.in_default.ensures)
+    (rw c.reserve.ensures.items at c.in_default.ensures))
 
-pub returns-in-Ok-Some-clause-ok : goal.returns-in-Ok-Some-clause-ok
-returns-in-Ok-Some-clause-ok c =
+pub returns-clause-ok : goal.returns-clause-ok
+returns-clause-ok c =
     rw (c.push_reserved.ensures.items, c.reserve.ensures.items, c.new-self-inside.ensures, ← c.self.view_is)
-    (is_said-closed c.next.new.table.rules c.from-place.result c.in-Ok-Some.deed c.args.setting.now c.self.inside.table.rules c.self.inside.deeds.items c.self.inside.table.deeds c.as_slice.result.now c.self.inside.chairs.items c.self.inside.window c.args.seat c.args.answer.now c.index.result.now c.go_on.new.self (verdict_given c.verdict-verdict.result) c.slots_after-window.result c.in-Some.answers
-    c.in-Ok-Some.ensures.pushed.rules (rw (← c.self.view_is) at c.requires.rules) c.as_slice.ensures c.self.invariant c.from-place.ensures
+    (is_said-closed c.next.new.table.rules c.from-place.result c.in_ok-deed.deed c.args.setting.now c.self.inside.table.rules c.self.inside.deeds.items c.self.inside.table.deeds c.as_slice.result.now c.self.inside.chairs.items c.self.inside.window c.args.seat c.args.answer.now c.index.result.now c.go_on.new.self (verdict_given c.verdict-verdict.result) c.slots_after-window.result c.in-Some.answers
+    (ap (λ (p : Play). p.rules) c.in_ok-deed.ensures.pushed) (rw (← c.self.view_is) at c.requires.rules) c.as_slice.ensures c.self.invariant c.from-place.ensures
     (is_said c.args.setting.now c.self.inside.table.rules c.self.inside.deeds.items c.self.inside.table.deeds c.self.inside.chairs.items c.self.inside.window c.args.seat c.from-place.result c.args.answer.now c.index.result.now c.go_on.new.self (verdict_given c.verdict-verdict.result) c.slots_after-window.result
     (rw (← c.self.view_is) at c.requires) c.self.invariant c.from-place.ensures c.index.ensures c.verdict-verdict.ensures.judged (sym c.if-not-may_get.ensures) c.go_on.ensures c.slots_after-window.ensures)
-    c.in-Some.ensures (rw c.in-Ok-Some.field-0-is at c.in-Ok-Some.ensures.follows))
-
-pub returns-in-Ok-None-clause-ok : goal.returns-in-Ok-None-clause-ok
-returns-in-Ok-None-clause-ok c =
-    rw (c.in-Ok-None.ensures.pushed.rules, c.reserve.ensures.items, ← c.self.view_is) (
-      λ author. is_said-unbuilt author c.args.setting.now c.self.inside.table.rules c.self.inside.deeds.items c.self.inside.table.deeds c.as_slice.result.now c.self.inside.chairs.items c.self.inside.window c.args.seat c.args.answer.now c.index.result.now c.go_on.new.self (verdict_given c.verdict-verdict.result) c.slots_after-window.result c.in-Some.answers
-          (rw (← c.self.view_is) at c.requires.rules) c.as_slice.ensures c.self.invariant
-          (is_said c.args.setting.now c.self.inside.table.rules c.self.inside.deeds.items c.self.inside.table.deeds c.self.inside.chairs.items c.self.inside.window c.args.seat c.from-place.result c.args.answer.now c.index.result.now c.go_on.new.self (verdict_given c.verdict-verdict.result) c.slots_after-window.result
-          (rw (← c.self.view_is) at c.requires) c.self.invariant c.from-place.ensures c.index.ensures c.verdict-verdict.ensures.judged (sym c.if-not-may_get.ensures) c.go_on.ensures c.slots_after-window.ensures)
-          c.in-Some.ensures (rw c.in-Ok-None.field-0-is at c.in-Ok-None.ensures.follows),
-      refl,
-    )
+    (rw c.reserve.ensures.items at c.in-Some.ensures) c.in_ok-deed.ensures.follows)
 
 pub returns-then-not-may_get-clause-ok : goal.returns-then-not-may_get-clause-ok
 returns-then-not-may_get-clause-ok c =

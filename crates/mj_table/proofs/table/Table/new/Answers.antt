@@ -1,5 +1,5 @@
-use Rattle.std.proofs.Common.{sym, subst}
-use Rattle.std.specs.Prelude.{None}
+use Rattle.std.proofs.Common.{[], ◌∷◌, sym, subst}
+use Rattle.std.specs.Prelude.{None, pos}
 use Rattle.mj_rounds.specs.declared.rounds.Standing.{Standing}
 use Rattle.mj_table.specs.Inner.Kept.{Stands}
 use Rattle.mj_table.proofs.Readers.{stands_at_first}
@@ -7,5 +7,5 @@ use Rattle.mj_table.proofs.table.Table.new.Goals as goal
 
 pub invariant_of-result : goal.invariant_of-result
 invariant_of-result c =
-    subst (λ (now : Standing). Stands c.args.rules c.new-2.result.items c.new.result.items None now) (sym c.first.ensures)
+    subst (λ (now : Standing). Stands c.args.rules c.new-2.result.items c.new.result.items None now (pos 30000 ∷ pos 30000 ∷ pos 30000 ∷ pos 30000 ∷ []) 0) (sym c.first.ensures)
     (stands_at_first c.args.rules c.new-2.result.items c.new.result.items c.new-2.ensures c.new.ensures.items)

@@ -1,9 +1,24 @@
-use Rattle.mj_table.proofs.Readers.{stands_more, stands_for, fit_within}
+use Rattle.std.proofs.Common.{length, sym, ap, ◌∙◌}
+use Rattle.mj_deeds.specs.Hand.{starts}
+use Rattle.mj_table.specs.Plays.{Play}
+use Rattle.mj_table.proofs.Readers.{stands_more, stands_for, fit_within, few_lie, points_fit}
 use Rattle.mj_table.proofs.table.Table.push.Goals as goal
+
+pub points_after-self-inside-requires : goal.points_after-self-inside-requires
+points_after-self-inside-requires c =
+    points_fit c.self.inside.rules.red c.self.inside.past.items c.self.inside.points c.args.deed.now
+    (fit_within c.self.inside.rules c.self.inside.past.items c.args.self.now c.args.deed.now c.self.view_is c.requires) c.self.invariant.points
+
+pub deposits_after-self-inside-requires : goal.deposits_after-self-inside-requires
+deposits_after-self-inside-requires c = few_lie c.self.inside.rules.red c.self.inside.past.items c.self.inside.deposits c.self.invariant.fit c.self.invariant.deposits
 
 pub invariant_of-self-2 : goal.invariant_of-self-2
 invariant_of-self-2 c =
     stands_for c.self.inside.rules _ c.and-self-inside.result.items _ c.add.new.hand.items _ c.add.new.opening _ c.standing_with-self-inside.result
-    (stands_more c.self.inside.rules c.self.inside.past.items c.self.inside.hand.items c.self.inside.opening c.self.inside.standing c.args.deed.now c.self.invariant
-    (fit_within c.self.inside.rules c.self.inside.past.items c.args.self.now c.args.deed.now c.self.view_is c.requires))
-    c.and-self-inside.ensures c.in_ok-add.ensures.in_hand c.in_ok-add.ensures.before c.standing_with-self-inside.ensures
+    _ c.points_after-self-inside.result _ c.deposits_after-self-inside.result
+    (stands_more c.self.inside.rules c.self.inside.past.items c.self.inside.hand.items c.self.inside.opening c.self.inside.standing c.self.inside.points c.self.inside.deposits
+    c.next_number-number.result c.args.deed.now c.self.invariant
+    (fit_within c.self.inside.rules c.self.inside.past.items c.args.self.now c.args.deed.now c.self.view_is c.requires)
+    (c.next_number-number.ensures ∙ ap (λ (p : Play). length (starts p.deeds)) (sym c.self.view_is)))
+    c.and-self-inside.ensures c.in_ok-add.ensures.in_hand c.in_ok-add.ensures.before c.standing_with-self-inside.ensures c.points_after-self-inside.ensures
+    c.deposits_after-self-inside.ensures

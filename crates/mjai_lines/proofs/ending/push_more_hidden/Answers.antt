@@ -1,0 +1,6 @@
+use Rattle.mjai_lines.proofs.Chains.{◌▸◌, as_piece}
+use Rattle.mjai_lines.proofs.Lists.{one_more_hidden}
+use Rattle.mjai_lines.proofs.ending.push_more_hidden.Goals as goal
+
+pub loop-copy-preserved : goal.loop-copy-preserved
+loop-copy-preserved c = as_piece (one_more_hidden c.loop-copy.copy) (c.loop-copy.invariant ▸ c.in_ok-push_all.ensures.ok)

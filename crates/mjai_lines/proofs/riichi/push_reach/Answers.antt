@@ -1,0 +1,12 @@
+use Rattle.std.proofs.Common.{ap}
+use Rattle.std.specs.Prelude.{decimal}
+use Rattle.mj_protocol.specs.Lines.{reach_line}
+use Rattle.mjai_lines.proofs.Chains.{◌▸◌, as_piece}
+use Rattle.mjai_lines.proofs.riichi.push_reach.Goals as goal
+
+pub returns : goal.returns
+unfolding reach_line
+returns c =
+    c.in_ok-push_all.ensures.ok
+    ▸ as_piece (ap decimal c.from.ensures) c.in_ok-push_number.ensures.ok
+    ▸ c.in_ok-push_all-2.ensures.ok

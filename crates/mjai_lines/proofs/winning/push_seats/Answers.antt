@@ -1,0 +1,7 @@
+use Rattle.mj_protocol.specs.Lines.{bracketed}
+use Rattle.mjai_lines.proofs.Chains.{◌▸◌}
+use Rattle.mjai_lines.proofs.winning.push_seats.Goals as goal
+
+pub returns : goal.returns
+unfolding bracketed
+returns c = c.in_ok-push_all.ensures.ok ▸ c.in_ok-push_joined_seats.ensures ▸ c.in_ok-push_all-2.ensures.ok

@@ -1,0 +1,138 @@
+use crate::deed_words::{bid, deed, seats};
+use crate::words::{are, fields, number, tile, tile_or_none, words};
+use mj_deeds::{Tiles, Token, Viewer};
+use mj_tiles::Tile;
+use mj_view::{Masked, SeenHands, mask, token};
+use std::alloc::Global;
+
+/// A seat, a deed, and what the token of it says: a draw its seat and its tile or `none`; a start of a hand the
+/// indicator and the own tiles; a win its seat, its target and its tile.
+const TOKENS: &str = "\
+0 draw 0 1m=0 1m
+1 draw 0 1m=0 none
+2 replace 2 5pr=2 5pr
+0 draw 3 E=3 none
+0 hand|C|13m|2p 5s|EE|=C|1m 3m
+1 hand|C|13m|2p 5s|EE|=C|2p 5s
+2 hand|C|13m|2p 5s|EE|=C|E E
+3 hand|C|13m|2p 5s|EE|=C|
+0 win|1|0|5p|-1000 1000 0 0|29000 31000 30000 30000|2=1 0 5p
+1 win|1|0|5p|-1000 1000 0 0|29000 31000 30000 30000|=1 0 5p";
+
+fn has_token(alloc: Global, line: &str) -> Option<bool> {
+    let (told, wanted) = line.split_once('=')?;
+    let (seat, told) = told.split_once(' ')?;
+    let deed = deed(alloc, told)?;
+    match token(alloc, number(seat)?, &deed) {
+        Ok(found) => is_token(&found, wanted),
+        Err(_) => None,
+    }
+}
+
+fn is_token(found: &Token, wanted: &str) -> Option<bool> {
+    match found {
+        Token::Draw { seat, tile } => is_draw(*seat, *tile, wanted),
+        Token::StartHand { indicator, hand } => is_start(*indicator, hand, wanted),
+        Token::Win {
+            seat,
+            target,
+            tile,
+            unders,
+            hand,
+        } => Some(is_win(*seat, *target, *tile, wanted)? && are_none(unders) && are_none(hand)),
+        _ => Some(false),
+    }
+}
+
+fn is_draw(seat: u8, drawn: Option<Tile>, wanted: &str) -> Option<bool> {
+    let [who, tile, ..] = words(wanted);
+    Some(seat == number(who)? && drawn == tile_or_none(tile)?)
+}
+
+fn is_start(indicator: Tile, hand: &Tiles, wanted: &str) -> Option<bool> {
+    let [shown, own, ..] = fields(wanted);
+    Some(indicator == tile(shown)? && are(hand.as_slice(), own))
+}
+
+fn is_win(seat: u8, target: u8, won: Tile, wanted: &str) -> Option<bool> {
+    let [who, from, on, ..] = words(wanted);
+    Some(seat == number(who)? && target == number(from)? && won == tile(on)?)
+}
+
+fn are_none(tiles: &Tiles) -> bool {
+    tiles.as_slice().is_empty()
+}
+
+#[test]
+fn a_token_has_the_own_tiles_alone(rt: HostRuntime) {
+    for line in TOKENS.lines() {
+        assert!(rt; has_token(rt.alloc(), line) == Some(true), "{line}");
+    }
+}
+
+/// A seat or the record, a deed, and what it sees of it: of a draw its seat and its tile or `none`; of a start of a hand
+/// the tiles of each seat, or `hidden` and their number; of an accepted reach the call that is kept, and of a win the
+/// seats that win next, or `none`.
+const MASKS: &str = "\
+0 draw 0 1m=0 1m
+1 draw 0 1m=0 none
+record draw 0 1m=0 1m
+0 hand|C|13m|2p 5s|E|=1m 3m|hidden 2|hidden 1|hidden 0
+2 hand|C|13m|2p 5s|E|=hidden 2|hidden 2|E|hidden 0
+record hand|C|13m|2p 5s|E|=1m 3m|2p 5s|E|
+1 accepted|0|29000 30000 30000 30000|pon 1 0 E E E=none
+record accepted|0|29000 30000 30000 30000|pon 1 0 E E E=pon 1 0 E E E
+2 win|1|0|5p|-1000 1000 0 0|29000 31000 30000 30000|2=none
+record win|1|0|5p|-1000 1000 0 0|29000 31000 30000 30000|2=2";
+
+fn has_mask(alloc: Global, line: &str) -> Option<bool> {
+    let (told, wanted) = line.split_once('=')?;
+    let (viewer, told) = told.split_once(' ')?;
+    let deed = deed(alloc, told)?;
+    match mask(alloc, viewer_of(viewer), &deed) {
+        Ok(found) => is_mask(&found, wanted),
+        Err(_) => None,
+    }
+}
+
+/// The seat of a number, or the record.
+fn viewer_of(text: &str) -> Viewer {
+    match number(text) {
+        Some(seat) => Viewer::Seat(seat),
+        None => Viewer::Record,
+    }
+}
+
+fn is_mask(found: &Masked, wanted: &str) -> Option<bool> {
+    match found {
+        Masked::Draw { seat, tile, .. } => is_draw(*seat, *tile, wanted),
+        Masked::StartHand { hands, .. } => are_hands(hands, &fields(wanted)),
+        Masked::ReachAccepted { then, .. } => Some(*then == bid(wanted)),
+        Masked::Win { rest, .. } if wanted == "none" => Some(rest.is_none()),
+        Masked::Win { rest, .. } => Some(*rest == Some(seats(wanted))),
+        _ => Some(false),
+    }
+}
+
+fn are_hands(hands: &SeenHands, wanted: &[&str; 8]) -> Option<bool> {
+    Some(
+        is_hand(hands.at(0), hands.hidden(0), wanted[0])?
+            && is_hand(hands.at(1), hands.hidden(1), wanted[1])?
+            && is_hand(hands.at(2), hands.hidden(2), wanted[2])?
+            && is_hand(hands.at(3), hands.hidden(3), wanted[3])?,
+    )
+}
+
+fn is_hand(seen: &[Tile], hidden: Option<usize>, wanted: &str) -> Option<bool> {
+    match wanted.strip_prefix("hidden ") {
+        Some(text) => Some(seen.is_empty() && hidden == Some(usize::from(number(text)?))),
+        None => Some(hidden.is_none() && are(seen, wanted)),
+    }
+}
+
+#[test]
+fn a_seat_sees_its_own_tiles_and_the_record_all(rt: HostRuntime) {
+    for line in MASKS.lines() {
+        assert!(rt; has_mask(rt.alloc(), line) == Some(true), "{line}");
+    }
+}
