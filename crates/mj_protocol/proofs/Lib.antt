@@ -9,3 +9,10 @@ pub mod OneWorld
 pub mod Fitting
 pub mod Witness
 pub mod SeenLine
+pub mod ToldAnswers
+pub mod ToldActs
+pub mod ToldWins
+pub mod ToldCalls
+pub mod ToldPasses
+pub mod Told
+pub mod ToldRows

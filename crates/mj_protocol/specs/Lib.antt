@@ -5,3 +5,4 @@ pub mod Trace
 pub mod Witness
 pub mod Arrivals
 pub mod Laws
+pub mod Told

@@ -3,6 +3,7 @@
 #![tactic(auto)]
 
 ghost use Rattle.mj_protocol.specs.Laws.{AgreeingGamesTellTheSame, ReadGamesAreLegal, LegalGamesArePlayed, TakenAnswersAreLawful, AnswersThatAreReadAreInForm, OwnPartCanGoOn, NextDeedIsPlayed, LegalDeedsFit, NextDeedFits, LinesAreOfMasks};
+ghost use Rattle.mj_protocol.specs.Told.{ToldAnswersGive, EachWinnerIsTold, NothingPlayed};
 ghost use Rattle.mj_protocol.specs.Witness.{AgreeApart};
 
 /// The law of one world: what a game tells a seat depends on nothing but what the seat learns of it, so two games that
@@ -66,4 +67,21 @@ pub fn next_deed_fits()
 /// The line of a deed for a viewer is a function of the deed as the viewer sees it.
 pub fn lines_are_of_masks()
     ensures { LinesAreOfMasks }
+{}
+
+/// What a deed tells of the answers that gave it is enough: wherever some four lawful answers give a deed behind played deeds,
+/// the four that are read off the deed are lawful and give it too.
+pub fn told_answers_give()
+    ensures { ToldAnswersGive }
+{}
+
+/// A win that isn't behind another tells of the winner and of each seat of `rest` that it wins on a tile of the target; the
+/// tile isn't named.
+pub fn each_winner_is_told()
+    ensures { EachWinnerIsTold }
+{}
+
+/// The summary of no deeds has no deeds, 30,000 points for each seat and no deposits.
+pub fn nothing_played()
+    ensures { NothingPlayed }
 {}

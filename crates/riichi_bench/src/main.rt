@@ -97,20 +97,21 @@ fn tell_game(
         println!(rt; "{name}: {deeds} deeds, checksum {sum}")?;
         return Ok(());
     }
-    let before = least_time(rt, beginning)?;
-    let each = least_time(rt, game)?.saturating_sub(before) / u128::from(deeds.max(1));
+    let mut before = u128::MAX;
+    let mut all = u128::MAX;
+    for _ in 0..GAMES {
+        before = before.min(time_of(rt, beginning)?);
+        all = all.min(time_of(rt, game)?);
+    }
+    let each = all.saturating_sub(before) / u128::from(deeds.max(1));
     println!(rt; "{name}: {each} ns a deed, {deeds} deeds (checksum {sum})")?;
     Ok(())
 }
 
-// The nanoseconds of processor time that the fastest of many runs of a game took.
-fn least_time(rt: &HostRuntime, game: &[u8]) -> Result<u128> {
-    let mut least = u128::MAX;
-    for _ in 0..GAMES {
-        let before = rt.process_cpu_time()?;
-        referee(rt.alloc(), game)?;
-        let after = rt.process_cpu_time()?;
-        least = least.min(after.as_nanos().saturating_sub(before.as_nanos()));
-    }
-    Ok(least)
+// The nanoseconds of processor time that a run of a game takes.
+fn time_of(rt: &HostRuntime, game: &[u8]) -> Result<u128> {
+    let before = rt.process_cpu_time()?;
+    referee(rt.alloc(), game)?;
+    let after = rt.process_cpu_time()?;
+    Ok(after.as_nanos().saturating_sub(before.as_nanos()))
 }
