@@ -105,6 +105,16 @@ order_room number numbers i face kind n h is what small held was few =
     both : (a b m n : ℕ) → a ≡ b → b + m ≤ 4 → n ≡ min m 4 → (a + n ≤ 4) × (n ≡ m)
     both a b m n e f g = (omega (arith, e, f, g), omega (arith, e, f, g))
 
+-- So there are few of the next face.
+pub order_few : (number : ℕ → ℕ) (i face kind n : ℕ) → i < 37 → face ≡ get_or tile_order i 0 → kind ≡ kind_of face → kind < 34 →
+    n ≡ number face → NoFifth (kind_counts (copies_of number tile_order)) → n ≡ min (number face) 4
+order_few number i face kind n h is what small held few =
+    let inside : i < length tile_order = omega (arith, h, all_faces) in
+    least _ _ _ (has_room_at number tile_order i face kind inside is what small few) held
+  where
+    least : (a m n : ℕ) → a + m ≤ 4 → n ≡ m → n ≡ min m 4
+    least a m n f e = omega (arith, e, f)
+
 pub order_step : (number : ℕ → ℕ) (numbers : List ℕ) (i face kind n : ℕ) → i < 37 → face ≡ get_or tile_order i 0 → kind ≡ kind_of face → kind < 34 →
     n ≡ min (number face) 4 → numbers ≡ kind_counts (copies_of number (take i tile_order)) → NoFifth (kind_counts (copies_of number tile_order)) →
     set numbers kind (get_or numbers kind 0 + n) ≡ kind_counts (copies_of number (take (i + 1) tile_order))

@@ -1,3 +1,4 @@
+mod FacesHeld
 mod FewItems
 mod Gathered
 mod HeldKinds

@@ -41,7 +41,7 @@ count_without p (t ∷ ts) tile h = elim (cases_eq t tile) [
     behind true n m e h k = cc
     behind false n m e h k = omega (arith, h, k)
 
-number_push : (ts : List ℕ) (tile face : ℕ) → number_in (ts ++ tile ∷ []) face ≡ number_in ts face + cond (eqb tile face) 1 0
+pub number_push : (ts : List ℕ) (tile face : ℕ) → number_in (ts ++ tile ∷ []) face ≡ number_in ts face + cond (eqb tile face) 1 0
 number_push ts tile face = grind (arith, common_steps)
 
 -- Where a tile more is put down, the others are left.

@@ -29,7 +29,9 @@ use Rattle.mj_deeds.proofs.Standings.{few_hands}
 use Rattle.mj_table.proofs.InHand.{newest_in_hand, has_start}
 use Rattle.mj_wall.specs.declared.setting.Rules.{Rules}
 use Rattle.mj_table.specs.Plays.{Play}
-use Rattle.mj_table.specs.Inner.Kept.{Stands, opening, hand_with, opening_with}
+use Rattle.mj_deeds.specs.Four.{at_seat}
+use Rattle.mj_deeds.specs.declared.four.Four.{Four}
+use Rattle.mj_table.specs.Inner.Kept.{Stands, Holds, opening, hand_with, opening_with}
 use Rattle.mj_deeds.proofs.FitSteps.{number_of_four}
 use Rattle.mj_deeds.proofs.Fitted.{all_fit-append, four_of_kind, parts_of}
 
@@ -111,9 +113,9 @@ newest_is ds kept first e before = ap (λ (h : List Deed). option_or (newest h) 
     by_hand (x ∷ xs) e = ap (λ b. option_or (newest (x ∷ xs)) (cond b (newest ds) None)) (not_empty (length xs)) ∙ some x xs ∙ newest_in_hand ds x xs e
 
 -- Where there is a newest deed in the hand, it is the newest of what the table stands for.
-pub newest_some : (rules : Rules) (ds kept told : List Deed) (first : Option Deed) (now : Standing) (held : List ℤ) (lying : ℕ) (played : Play) (d : Deed) → Stands rules ds kept first now held lying →
+pub newest_some : (rules : Rules) (ds kept told : List Deed) (first : Option Deed) (now : Standing) (held : List ℤ) (lying : ℕ) (tiles : Four (List ℕ)) (played : Play) (d : Deed) → Stands rules ds kept first now held lying tiles →
     record { rules = rules; deeds = ds } ≡ played → told ≡ kept → Some d ≡ newest told → Some d ≡ newest played.deeds
-newest_some rules ds kept told first now held lying played d s is same e =
+newest_some rules ds kept told first now held lying tiles played d s is same e =
     ap (λ (o : Option Deed). option_or o first) (e ∙ ap newest same) ∙ newest_is ds kept first s.hand s.opening ∙ ap (λ (p : Play). newest p.deeds) is
 
 -- one deed more
@@ -141,37 +143,39 @@ standing_is_with ds d number is = by_start (is_hand_start d) refl
 deposits_are_with : (ds : List Deed) (d : Deed) (lying : ℕ) → lying ≡ deposits ds → cond (is_win d) 0 (lying + cond (is_deposit d) 1 0) ≡ deposits (ds ++ d ∷ [])
 deposits_are_with ds d lying is = ap (λ (n : ℕ). cond (is_win d) 0 (n + cond (is_deposit d) 1 0)) is ∙ sym (deposits_more ds d)
 
-pub stands_at_first : (rules : Rules) (ds kept : List Deed) → ds ≡ [] → kept ≡ [] →
-    Stands rules ds kept None first_standing (pos 30000 ∷ pos 30000 ∷ pos 30000 ∷ pos 30000 ∷ []) 0
+pub stands_at_first : (rules : Rules) (ds kept : List Deed) (tiles : Four (List ℕ)) → ds ≡ [] → kept ≡ [] → ((seat : ℕ) → Holds [] seat (at_seat tiles seat)) →
+    Stands rules ds kept None first_standing (pos 30000 ∷ pos 30000 ∷ pos 30000 ∷ pos 30000 ∷ []) 0 tiles
 unfolding hand
-stands_at_first rules ds kept e h =
-    subst (λ (xs : List Deed). Stands rules xs kept None first_standing (pos 30000 ∷ pos 30000 ∷ pos 30000 ∷ pos 30000 ∷ []) 0) (sym e)
-    (subst (λ (xs : List Deed). Stands rules [] xs None first_standing (pos 30000 ∷ pos 30000 ∷ pos 30000 ∷ pos 30000 ∷ []) 0) (sym h)
-    (record { fit = refl; hand = refl; opening = refl; standing = refl; points = refl; deposits = refl }))
+stands_at_first rules ds kept tiles e h none =
+    subst (λ (xs : List Deed). Stands rules xs kept None first_standing (pos 30000 ∷ pos 30000 ∷ pos 30000 ∷ pos 30000 ∷ []) 0 tiles) (sym e)
+    (subst (λ (xs : List Deed). Stands rules [] xs None first_standing (pos 30000 ∷ pos 30000 ∷ pos 30000 ∷ pos 30000 ∷ []) 0 tiles) (sym h)
+    (record { fit = refl; hand = refl; opening = refl; standing = refl; points = refl; deposits = refl; concealed = λ seat low. none seat }))
 
-pub stands_more : (rules : Rules) (ds kept : List Deed) (first : Option Deed) (now : Standing) (held : List ℤ) (lying number : ℕ) (d : Deed) → Stands rules ds kept first now held lying →
-    fits rules.red ds d ≡ true → number ≡ length (starts ds) →
+pub stands_more : (rules : Rules) (ds kept : List Deed) (first : Option Deed) (now : Standing) (held : List ℤ) (lying number : ℕ) (tiles more : Four (List ℕ)) (d : Deed) → Stands rules ds kept first now held lying tiles →
+    fits rules.red ds d ≡ true → number ≡ length (starts ds) → ((seat : ℕ) → seat ≤ 3 → Holds (hand (ds ++ d ∷ [])) seat (at_seat more seat)) →
     Stands rules (ds ++ d ∷ []) (hand_with kept d) (opening_with kept d) (cond (is_hand_start d) (standing_by number (Some d)) now) (changed held d)
-    (cond (is_win d) 0 (lying + cond (is_deposit d) 1 0))
-stands_more rules ds kept first now held lying number d s one is = record {
+    (cond (is_win d) 0 (lying + cond (is_deposit d) 1 0)) more
+stands_more rules ds kept first now held lying number tiles more d s one is moved = record {
   fit = all_fit-append rules.red [] ds d s.fit one;
   hand = hand_is_with ds kept d s.hand;
   opening = opening_is_with ds kept d s.hand;
   standing = ap (λ (n : Standing). cond (is_hand_start d) (standing_by number (Some d)) n) s.standing ∙ standing_is_with ds d number is;
   points = ap (λ (p : List ℤ). changed p d) s.points ∙ sym (all_points_more ds d);
   deposits = deposits_are_with ds d lying s.deposits;
+  concealed = moved;
 }
 
 -- What stands for deeds stands for the same ones in other words.
-pub stands_for : (rules : Rules) (ds xs kept hs : List Deed) (first o : Option Deed) (now n : Standing) (held p : List ℤ) (lying l : ℕ) → Stands rules ds kept first now held lying →
-    xs ≡ ds → hs ≡ kept → o ≡ first → n ≡ now → p ≡ held → l ≡ lying → Stands rules xs hs o n p l
-stands_for rules ds xs kept hs first o now n held p lying l s e h k f g m = record {
+pub stands_for : (rules : Rules) (ds xs kept hs : List Deed) (first o : Option Deed) (now n : Standing) (held p : List ℤ) (lying l : ℕ) (tiles : Four (List ℕ)) → Stands rules ds kept first now held lying tiles →
+    xs ≡ ds → hs ≡ kept → o ≡ first → n ≡ now → p ≡ held → l ≡ lying → Stands rules xs hs o n p l tiles
+stands_for rules ds xs kept hs first o now n held p lying l tiles s e h k f g m = record {
   fit = subst (λ (ys : List Deed). all_fit rules.red [] ys ≡ true) (sym e) s.fit;
   hand = h ∙ s.hand ∙ ap hand (sym e);
   opening = k ∙ s.opening ∙ ap opening (sym e);
   standing = f ∙ s.standing ∙ ap standing (sym e);
   points = g ∙ s.points ∙ ap points (sym e);
   deposits = m ∙ s.deposits ∙ ap deposits (sym e);
+  concealed = λ seat low. subst (λ (ys : List Deed). Holds (hand ys) seat (at_seat tiles seat)) (sym e) (s.concealed seat low);
 }
 
 -- the number of the next hand
@@ -252,10 +256,10 @@ ground_is : (ds : List Deed) (n : Option Deed) (h : List Deed) (s : Standing) (p
 unfolding ground_of
 ground_is ds n h s p l a b c e f = λ i. record { newest = a i; hand = b i; standing = c i; points = e i; deposits = f i }
 
-pub fits_told : (rules : Rules) (ds kept : List Deed) (first : Option Deed) (now : Standing) (held : List ℤ) (lying : ℕ) (played : Play) (d : Deed) (n : Option Deed) (h : List Deed) (result : Bool) →
-    Stands rules ds kept first now held lying → record { rules = rules; deeds = ds } ≡ played → n ≡ newest played.deeds → h ≡ hand played.deeds →
+pub fits_told : (rules : Rules) (ds kept : List Deed) (first : Option Deed) (now : Standing) (held : List ℤ) (lying : ℕ) (tiles : Four (List ℕ)) (played : Play) (d : Deed) (n : Option Deed) (h : List Deed) (result : Bool) →
+    Stands rules ds kept first now held lying tiles → record { rules = rules; deeds = ds } ≡ played → n ≡ newest played.deeds → h ≡ hand played.deeds →
     result ≡ fits_behind rules.red (record { newest = n; hand = h; standing = now; points = held; deposits = lying }) d → result ≡ fits played.rules.red played.deeds d
-fits_told rules ds kept first now held lying played d n h result s is a b e =
+fits_told rules ds kept first now held lying tiles played d n h result s is a b e =
     e
     ∙ ap (λ (g : Ground). fits_behind rules.red g d)
     (ground_is ds n h now held lying (a ∙ ap (λ (p : Play). newest p.deeds) (sym is)) (b ∙ ap (λ (p : Play). hand p.deeds) (sym is)) s.standing s.points s.deposits)

@@ -107,7 +107,7 @@ record Offers (d : Deed) (who tile : ℕ) : Type 0 where
   brings : brought_by d ≡ []
   loses : (seat : ℕ) → losses_by seat d ≡ cond (eqb who seat) (tile ∷ []) []
 
-one_more : (f : Deed → List ℕ) (ds : List Deed) (d : Deed) → flat_map f (ds ++ d ∷ []) ≡ flat_map f ds ++ f d
+pub one_more : (f : Deed → List ℕ) (ds : List Deed) (d : Deed) → flat_map f (ds ++ d ∷ []) ≡ flat_map f ds ++ f d
 one_more f ds d = flat_map-append f ds (d ∷ []) ∙ ap (λ (ys : List ℕ). flat_map f ds ++ ys) (append-nil (f d))
 
 -- The tile was held.

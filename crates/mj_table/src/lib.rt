@@ -3,6 +3,7 @@
 
 mod counting;
 mod course;
+mod held;
 mod marks;
 mod melds;
 mod passed;

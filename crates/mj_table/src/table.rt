@@ -18,8 +18,9 @@ ghost use Rattle.mj_table.specs.Inner.Kept.{hand_with, opening_with};
 ghost use Rattle.mj_deeds.specs.Hand.{hand, starts};
 ghost use Rattle.mj_deeds.specs.Standings.{standing};
 
-use crate::counting::held_counts;
+use crate::counting::{held_counts, kinds_held};
 use crate::course::{before_wins, cause, drawn, indicator, kan_seat, shown};
+use crate::held::held_after;
 use crate::marks::{Marks, marks_of};
 use crate::melds::held_melds;
 use crate::passed::{own_kinds, passed_in_riichi, passed_kinds};
@@ -28,7 +29,7 @@ use crate::riichi::is_first;
 use crate::room::room_beside;
 use crate::standing::standing_with;
 use crate::winning::{has_winner, is_ippatsu_before_wins};
-use mj_deeds::{Deed, Reason, Tiles, deposits_after, is_hand_start, points_after};
+use mj_deeds::{Deed, Four, Reason, Tiles, deposits_after, is_hand_start, points_after};
 use mj_past::Past;
 use mj_rounds::{HandEnd, Standing, first};
 use mj_tiles::{Counts, Kinds, Melds, Tile};
@@ -49,6 +50,8 @@ pub struct Table {
     // the points of the seats and the deposits on the table
     points: [i32; 4],
     deposits: u32,
+    // how many concealed tiles of each face the seats hold
+    held: Four<[u8; 37]>,
     // all deeds, which are not kept
     past: Past<Deed>,
 }
@@ -62,7 +65,7 @@ impl Model for Table {
     ghost view = { λ t. record { rules = t.rules; deeds = t.past.items } };
 
     ghost invariant = { λ t. Stands t.rules t.past.items t.hand.items t.opening t.standing t.points
-        t.deposits };
+        t.deposits t.held };
 }
 
 impl Table {
@@ -77,6 +80,12 @@ impl Table {
             standing: first(),
             points: [30_000; 4],
             deposits: 0,
+            held: Four {
+                first: [0; 37],
+                second: [0; 37],
+                third: [0; 37],
+                fourth: [0; 37],
+            },
             past: Past::new(),
         })
     }
@@ -94,6 +103,7 @@ impl Table {
         self.standing = standing_with(self.standing, number, deed);
         self.points = points_after(self.points, deed);
         self.deposits = deposits_after(self.deposits, deed);
+        self.held = held_after(&self.held, deed);
         self.past = self.past.and(deed);
         Ok(())
     }
@@ -111,6 +121,7 @@ impl Table {
             standing: self.standing,
             points: self.points,
             deposits: self.deposits,
+            held: self.held,
             past: self.past.again(),
         })
     }
@@ -252,6 +263,9 @@ impl Table {
         ensures spare { (tile : ℕ) → offered_tile self.now.deeds ≡ Some tile → seat < 4
             → slice_index result (kind_of tile) < 4 }
     {
+        if seat < 4 {
+            return kinds_held(self.held.at(seat));
+        }
         held_counts(self.hand(), seat)
     }
 
@@ -260,6 +274,9 @@ impl Table {
         ensures { result ≡ min (number_in (tiles_gained (hand self.now.deeds) seat) tile - number_in
             (tiles_lost (hand self.now.deeds) seat) tile) 4 }
     {
+        if seat < 4 {
+            return usize::from(self.held.at(seat)[tile.face() as usize]);
+        }
         mj_deeds::held_count(self.hand(), seat, tile)
     }
 

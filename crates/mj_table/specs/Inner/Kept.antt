@@ -1,9 +1,12 @@
 -- What a table keeps of the deeds that it stands for, and what a deed more makes of it.
-use Rattle.std.specs.Prelude.{◌≡◌, ◌==◌, IsTrue, if◌then◌else◌, List, [], ◌∷◌, ◌++◌, length, Option, Some, None, ℕ, ℤ}
+use Rattle.std.specs.Prelude.{◌≡◌, ◌≤◌, ◌<◌, ◌+◌, ◌-◌, ◌==◌, IsTrue, if◌then◌else◌, List, [], ◌∷◌, ◌++◌, length, flat_map, replicate, slice_index, Option, Some, None, ℕ, ℤ}
+use Rattle.mj_tiles.specs.Faces.{number_in, tile_order}
 use Rattle.mj_rounds.specs.declared.rounds.Standing.{Standing}
 use Rattle.mj_deeds.specs.declared.deed.Deed.{Deed}
-use Rattle.mj_deeds.specs.Facts.{newest}
+use Rattle.mj_deeds.specs.declared.four.Four.{Four}
+use Rattle.mj_deeds.specs.Facts.{newest, gains_by, losses_by, tiles_gained, tiles_lost}
 use Rattle.mj_deeds.specs.Fits.{all_fit}
+use Rattle.mj_deeds.specs.Four.{at_seat}
 use Rattle.mj_deeds.specs.Hand.{is_hand_start, hand}
 use Rattle.mj_deeds.specs.Points.{points, deposits}
 use Rattle.mj_deeds.specs.Standings.{standing}
@@ -13,15 +16,25 @@ use Rattle.mj_wall.specs.declared.setting.Rules.{Rules}
 abbrev pub opening : List Deed → Option Deed
 opening deeds = if length (hand deeds) == 0 then newest deeds else None
 
+-- A seat holds so many tiles of each face in one hand: those that it holds and those that it put down are those given to it.
+abbrev pub Holds : List Deed → ℕ → List ℕ → Type 0
+Holds deeds seat held = (face : ℕ) → face < 37 → slice_index held face + number_in (tiles_lost deeds seat) face ≡ number_in (tiles_gained deeds seat) face
+
+-- The same of each of the four seats in the newest hand.
+abbrev pub AllHold : List Deed → Four (List ℕ) → Type 0
+AllHold deeds tiles = (seat : ℕ) → seat ≤ 3 → Holds (hand deeds) seat (at_seat tiles seat)
+
 -- What is kept stands for the deeds: each of them fits behind those before it, and kept are those of the newest hand, the
--- newest one where no hand has begun, the standing, the points and the deposits.
-pub record Stands (rules : Rules) (deeds : List Deed) (in_hand : List Deed) (first : Option Deed) (now : Standing) (held : List ℤ) (lying : ℕ) : Type 0 where
+-- newest one where no hand has begun, the standing, the points, the deposits, and how many tiles of each face each seat
+-- holds.
+pub record Stands (rules : Rules) (deeds : List Deed) (in_hand : List Deed) (first : Option Deed) (now : Standing) (held : List ℤ) (lying : ℕ) (tiles : Four (List ℕ)) : Type 0 where
   pub fit : IsTrue (all_fit rules.red [] deeds)
   pub hand : in_hand ≡ hand deeds
   pub opening : first ≡ opening deeds
   pub standing : now ≡ standing deeds
   pub points : held ≡ points deeds
   pub deposits : lying ≡ deposits deeds
+  pub concealed : AllHold deeds tiles
 
 -- The newest hand with a deed more: a start begins one, and another deed belongs to the one that has begun.
 abbrev pub hand_with : List Deed → Deed → List Deed
@@ -30,3 +43,18 @@ hand_with in_hand deed = if is_hand_start deed then deed ∷ [] else (if length 
 -- With a deed more, the newest deed as long as no hand has begun.
 abbrev pub opening_with : List Deed → Deed → Option Deed
 opening_with in_hand deed = if length (hand_with in_hand deed) == 0 then Some deed else None
+
+-- The tiles of which there are so many of each face, in tile order.
+abbrev pub tiles_held : List ℕ → List ℕ
+tiles_held held = flat_map (λ face. replicate (slice_index held face) face) tile_order
+
+-- How many tiles of a face a seat held before a deed in its own hand: none before a start.
+abbrev pub held_before : Deed → List ℕ → ℕ → ℕ
+held_before deed held face = if is_hand_start deed then 0 else slice_index held face
+
+-- By a deed a seat holds more tiles by those that it gains, and fewer by those that it puts down, as long as it holds at
+-- most 255 of the face.
+abbrev pub Moves : Deed → ℕ → List ℕ → List ℕ → Type 0
+Moves deed seat held now =
+    (face : ℕ) → held_before deed held face + number_in (gains_by seat deed) face ≤ 255 →
+    slice_index now face ≡ held_before deed held face + number_in (gains_by seat deed) face - number_in (losses_by seat deed) face
