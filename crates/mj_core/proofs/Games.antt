@@ -1,16 +1,23 @@
 -- What a core keeps is what its entries come to.
-use Rattle.std.proofs.Common.{◌≡◌, ℕ, ◌<◌, ◌≤◌, ◌==◌, ◌&&◌, suc, List, [], ◌∷◌, ◌++◌, length, map, get_or, Bool, true, false, Option, Some, None, refl, ap, ◌∙◌, sym, subst, arith}
-use Rattle.std.specs.Prelude.{slice_get, option_map, nat_lt, not, if◌then◌else◌}
+use Rattle.std.proofs.Common.{◌≡◌, ◌≢◌, ℕ, zero, suc, ◌+◌, ◌-◌, ◌<◌, ◌≤◌, ◌==◌, ◌&&◌, ◌||◌, not, inl, inr, List, [], ◌∷◌, ◌++◌, length, map, get_or, Bool, true, false, refl, ap, ◌∙◌, sym, subst, arith}
+use Rattle.std.specs.Prelude.{if◌then◌else◌, Option, Some, None, is_some, unwrap_or, option_map, slice_get, nat_lt, nat_le}
 use Rattle.std.specs.Option.{option_map_or}
-use Rattle.std.specs.List.{list_any, list_all}
-use Rattle.std.proofs.lemmas.Bool.{and_from, eq-eqb}
-use Rattle.std.proofs.lemmas.List.{length-map}
-use Rattle.std.proofs.lemmas.Option.{slice_get-map, slice_get-get_or, slice_get_past}
+use Rattle.std.specs.List.{list_all, list_any}
+use Rattle.std.proofs.lemmas.Bool.{and_parts, and_from, ltb-true, eq-eqb}
+use Rattle.std.proofs.lemmas.Bool.Decides.{eqb_tells}
+use Rattle.std.proofs.lemmas.Option.{slice_get-map, slice_get-get_or, slice_get_past, slice_get_within, same_Some}
 use Rattle.mj_ports.specs.Names.{is_name}
 use Rattle.mj_ports.specs.declared.entry.Entry.{Entry}
-use Rattle.mj_ports.specs.declared.entry.Entry.TheVariants.{Sat, Said}
+use Rattle.mj_ports.specs.declared.entry.Entry.TheVariants.{Sat, Back, Said, Gone, Expired}
 use Rattle.mj_ports.specs.declared.sitting.JoinLine.{JoinLine}
-use Rattle.mj_ports.specs.declared.sitting.SitRefused.TheVariants.{Full, NameTaken}
+use Rattle.mj_ports.specs.declared.sitting.SitRefused.{SitRefused}
+use Rattle.mj_ports.specs.declared.sitting.SitRefused.TheVariants.{Over, BadName}
+use Rattle.mj_ports.specs.declared.answers.SitAnswer.TheVariants as sits
+use Rattle.mj_ports.specs.declared.answers.Heard.TheVariants as heard
+use Rattle.mj_seating.specs.declared.desk.Placed.{Placed}
+use Rattle.mj_seating.specs.declared.desk.Placed.TheVariants as places
+use Rattle.mj_seating.specs.Sitting.{Held, placed}
+use Rattle.mj_deeds.specs.declared.four.Four.{Four}
 use Rattle.mj_deeds.specs.declared.deed.Deed.{Deed}
 use Rattle.mj_deeds.specs.declared.deed.Viewer.TheVariants.{Seat}
 use Rattle.mj_deeds.specs.declared.answer.Answer.{Answer}
@@ -18,111 +25,57 @@ use Rattle.mj_deeds.specs.Answers.{is_in_form}
 use Rattle.mj_wall.specs.declared.setting.Setting.{Setting}
 use Rattle.mj_wall.specs.Places.{is_wall}
 use Rattle.mj_protocol.specs.Lines.{line}
-use Rattle.mj_protocol.specs.After.{After, Chair, Verdict, before_all, after, pending, lines_for}
-use Rattle.mj_protocol.specs.Trace.{Game, has_name, can_sit, may_say, can_say, is_answer_built, is_permitted, all_permitted, has_wall, has_ground, IsLegal}
+use Rattle.mj_protocol.specs.After.{After, Chair, Verdict, before_all, after, own_part, is_present, pending, lines_for, verdict_on}
+use Rattle.mj_protocol.specs.Trace.{Game, has_name, can_sit, can_say, may_say, can_return, is_present_by, is_over, is_open, can_expire, is_permitted, all_permitted, has_wall, has_ground, IsLegal}
+use Rattle.mj_protocol.specs.Sitting.{held_of, placing, author_at}
+use Rattle.mj_protocol.specs.AnswerForms.{answer_of, join_of}
+use Rattle.mj_protocol.specs.Laws.{CanGoOn}
 use Rattle.mj_protocol.proofs.Entries.{after-append, all_permitted-append}
-use Rattle.mj_protocol.specs.AnswerForms.{join_of, answer_of}
-use Rattle.mj_protocol.proofs.Fitting.{own_part_can_go_on}
-use Rattle.mj_protocol.proofs.Forms.{answers_that_are_read_are_in_form}
-use Rattle.mj_protocol.proofs.Legality.{IsNamed, join_of-named}
+use Rattle.mj_core.specs.Calls.{after_of, Enters, IsSitAnswer, Answers, IsHeard, verdict_at, open_window, due_of, may_say_at, pending_at, line_of, author_of_seat}
 use Rattle.mj_core.specs.Inner.Untold.{untold_chair, untold}
-use Rattle.mj_core.specs.Inner.States.{Position, TakesNext, is_due, CanHear, Hears}
-use Rattle.mj_core.specs.Inner.Kept.{IsKept}
-use Rattle.mj_core.specs.Calls.{after_of, refused_by, IsSitAnswer, Answers, IsHeard, author_at, may_say_at, pending_at}
 use Rattle.mj_core.specs.Inner.Verdicts.{verdict_given, heard_by}
+use Rattle.mj_core.specs.Inner.States.{Position, nobody, now_of, player_in, HasWalls, MayAdd, Steps, IsInOrder, IsPatientAt, is_due, is_present_in, placed_in, CanTakeSeat, CanTakeBack, CanHear, Hears, state_verdict, CanLeave, CanExpire}
+use Rattle.mj_core.specs.Inner.Kept.{IsKept}
+use Rattle.mj_core.specs.declared.chair.Chair.{Chair as Player}
 use Rattle.mj_core.specs.declared.verdict.Verdict.{Verdict as Judged}
 use Rattle.mj_core.specs.declared.verdict.Verdict.TheVariants as judged
-use Rattle.mj_core.specs.declared.answers.SitAnswer.TheVariants as sits
-use Rattle.mj_core.specs.declared.answers.Heard.TheVariants as heard
-use Rattle.mj_core.proofs.Same.{step-same, seat-same, seat_or-same, state_verdict-same, is_answer_built-same, can_go_on-same}
-use Rattle.mj_core.proofs.Open.{begun-due, unbegun-open}
+use Rattle.mj_rules.proofs.Lengths.{few_deeds}
+use Rattle.mj_rules.proofs.Playing.{each_is_wall}
+use Rattle.mj_protocol.proofs.Fitting.{own_part_can_go_on, legal_games_are_played}
+use Rattle.mj_protocol.proofs.Forms.{answers_that_are_read_are_in_form}
+use Rattle.mj_core.proofs.Laws.{sat-permitted, back-permitted}
+use Rattle.mj_core.proofs.Same.{own_part-same, step-same, can_go_on-same, seat-same, seat_or-same, held-same, length-same}
+use Rattle.mj_core.proofs.Order.{legal-in-order, order-same}
 
 abbrev pub game : Setting → List (Entry Answer) → Game
 game setting entries = record { setting = setting; entries = entries }
 
-same_chairs : (now other : After) → untold now ≡ untold other → map untold_chair now.chairs ≡ map untold_chair other.chairs
-same_chairs now other e = ap (λ (n : After). n.chairs) e
+-- What the state has is what the entries come to.
+pub kept-deeds : (setting : Setting) (entries : List (Entry Answer)) (state : Position) → IsKept setting entries state → state.deeds ≡ (after setting entries).deeds
+kept-deeds setting entries state k = ap (λ (n : After). n.deeds) k.same
 
-same_deeds : (now other : After) → untold now ≡ untold other → now.deeds ≡ other.deeds
-same_deeds now other e = ap (λ (n : After). n.deeds) e
+kept-slots : (setting : Setting) (entries : List (Entry Answer)) (state : Position) → IsKept setting entries state → state.slots ≡ (after setting entries).slots
+kept-slots setting entries state k = ap (λ (n : After). n.slots) k.same
 
-same_many : (chairs others : List Chair) → map untold_chair chairs ≡ map untold_chair others → length chairs ≡ length others
-same_many chairs others e = sym (long chairs) ∙ ap length e ∙ long others
-  where
-    long : (cs : List Chair) → length (map untold_chair cs) ≡ length cs
-    long cs = rw length-map
+kept-chairs : (setting : Setting) (entries : List (Entry Answer)) (state : Position) → IsKept setting entries state → map untold_chair (now_of state).chairs ≡ map untold_chair (after setting entries).chairs
+kept-chairs setting entries state k = ap (λ (n : After). n.chairs) k.same
 
--- What is read of a core.
-pub held-kept : (setting : Setting) (entries : List (Entry Answer)) (state : Position) → IsKept setting entries state → length state.now.chairs ≡ length (after_of (game setting entries)).chairs
-held-kept setting entries state k = same_many state.now.chairs (after setting entries).chairs (same_chairs state.now (after setting entries) k.same)
+pub kept-order : (setting : Setting) (entries : List (Entry Answer)) (state : Position) → IsKept setting entries state → IsInOrder (now_of state)
+kept-order setting entries state k = order-same (now_of state) (after setting entries) k.same (legal-in-order setting entries k.legal)
 
-pub author-kept : (setting : Setting) (entries : List (Entry Answer)) (state : Position) (seat : ℕ) → IsKept setting entries state → option_map (λ (chair : Chair). chair.author) (slice_get state.now.chairs seat) ≡ author_at (game setting entries) seat
-author-kept setting entries state seat k = seat-same (λ (chair : Chair). chair.author) (λ chair. refl) state.now.chairs (after setting entries).chairs seat (same_chairs state.now (after setting entries) k.same)
+kept-ground : (setting : Setting) (entries : List (Entry Answer)) (state : Position) → IsKept setting entries state → HasWalls setting state
+kept-ground setting entries state k = record { rules = k.rules; some = k.some; few = k.legal.few; whole = k.legal.whole }
 
-asked-may : (now : After) (o : Option Chair) → option_map_or (λ (chair : Chair). nat_lt chair.progress.due (length now.deeds)) o false ≡ option_map_or (λ (chair : Chair). may_say now chair.author chair) o false
-unfolding may_say
-asked-may now None = refl
-asked-may now (Some chair) = rw (eq-eqb chair.author chair.author refl)
+expired_own : (setting : Setting) (now : After) → own_part setting now (Expired 0 0 0 0) ≡ now
+unfolding own_part
+expired_own setting now = refl
 
-pub due-kept : (setting : Setting) (entries : List (Entry Answer)) (state : Position) (seat : ℕ) → IsKept setting entries state → is_due state.now seat ≡ may_say_at (game setting entries) seat
-due-kept setting entries state seat k =
-    ap (λ (deeds : List Deed). option_map_or (λ (chair : Chair). nat_lt chair.progress.due (length deeds)) (slice_get state.now.chairs seat) false) (same_deeds state.now (after setting entries) k.same)
-    ∙ seat_or-same (λ (chair : Chair). nat_lt chair.progress.due (length (after setting entries).deeds)) (λ chair. refl) false state.now.chairs (after setting entries).chairs seat (same_chairs state.now (after setting entries) k.same)
-    ∙ asked-may (after setting entries) (slice_get (after setting entries).chairs seat)
-
-pub pending-kept : (setting : Setting) (entries : List (Entry Answer)) (state : Position) (seat : ℕ) → IsKept setting entries state
-    → option_map_or (λ (chair : Chair). pending (lines_for seat state.now.deeds) chair.progress) (slice_get state.now.chairs seat) [] ≡ pending_at (game setting entries) seat
-unfolding pending
-pending-kept setting entries state seat k =
-    ap (λ (deeds : List Deed). option_map_or (λ (chair : Chair). pending (lines_for seat deeds) chair.progress) (slice_get state.now.chairs seat) []) (same_deeds state.now (after setting entries) k.same)
-    ∙ seat_or-same (λ (chair : Chair). pending (lines_for seat (after setting entries).deeds) chair.progress) (λ chair. refl) [] state.now.chairs (after setting entries).chairs seat (same_chairs state.now (after setting entries) k.same)
-
-name-untold : (name : List ℕ) (chairs : List Chair) → list_any (has_name name) (map untold_chair chairs) ≡ list_any (has_name name) chairs
-name-untold name [] = refl
-name-untold name (chair ∷ chairs) = rw (name-untold name chairs)
-
-name-same : (name : List ℕ) (chairs others : List Chair) → map untold_chair chairs ≡ map untold_chair others → list_any (has_name name) chairs ≡ list_any (has_name name) others
-name-same name chairs others e = sym (name-untold name chairs) ∙ ap (list_any (has_name name)) e ∙ name-untold name others
-
-pub name-kept : (setting : Setting) (entries : List (Entry Answer)) (state : Position) (name : List ℕ) → IsKept setting entries state → list_any (has_name name) state.now.chairs ≡ list_any (has_name name) (after_of (game setting entries)).chairs
-name-kept setting entries state name k = name-same name state.now.chairs (after setting entries).chairs (same_chairs state.now (after setting entries) k.same)
-
--- A name can't be taken twice, and no fifth seat is taken.
-can-sit : (chairs : List Chair) (name : List ℕ) (named : Bool) (few : Bool) → list_any (has_name name) chairs ≡ named → nat_lt (length chairs) 4 ≡ few → can_sit chairs name ≡ (few && not named)
-unfolding can_sit
-can-sit chairs name named few n f = rw (n, f)
-
-pub sit-named : (setting : Setting) (entries : List (Entry Answer)) (state : Position) (author : ℕ) (join : JoinLine) → IsKept setting entries state → list_any (has_name join.name) state.now.chairs ≡ true
-    → IsSitAnswer (sits.Refused NameTaken) (game setting entries) (game setting entries) author (Some join)
-sit-named setting entries state author join k named =
-    let n : list_any (has_name join.name) (after setting entries).chairs ≡ true = sym (name-kept setting entries state join.name k) ∙ named in
-    (refused (nat_lt (length (after setting entries).chairs) 4) n refl, refl)
-  where
-    refused : (few : Bool) → list_any (has_name join.name) (after setting entries).chairs ≡ true → nat_lt (length (after setting entries).chairs) 4 ≡ few → refused_by (after setting entries).chairs (Some join) ≡ Some NameTaken
-    refused true n f = rw (can-sit (after setting entries).chairs join.name true true n f, n)
-    refused false n f = rw (can-sit (after setting entries).chairs join.name true false n f, n)
-
-pub sit-full : (setting : Setting) (entries : List (Entry Answer)) (state : Position) (author : ℕ) (join : JoinLine) → IsKept setting entries state → list_any (has_name join.name) state.now.chairs ≡ false → length state.now.chairs ≡ 4
-    → IsSitAnswer (sits.Refused Full) (game setting entries) (game setting entries) author (Some join)
-sit-full setting entries state author join k unnamed full =
-    let n : list_any (has_name join.name) (after setting entries).chairs ≡ false = sym (name-kept setting entries state join.name k) ∙ unnamed in
-    let four : length (after setting entries).chairs ≡ 4 = sym (held-kept setting entries state k) ∙ full in
-    (rw (can-sit (after setting entries).chairs join.name false false n (rw four), n), refl)
-
--- The name that a line has is of the right form.
-pub named-by : (text : List ℕ) (join : JoinLine) → Some join ≡ join_of text → is_name join.name ≡ true
-named-by text join e = subst IsNamed (sym e) (join_of-named text)
-
--- A seat is taken.
-pub sit-before : (setting : Setting) (entries : List (Entry Answer)) (state : Position) (seat : ℕ) → IsKept setting entries state → seat ≡ length state.now.chairs → (seat ≡ 4 → ⊥) → (length state.now.deeds == 0) ≡ true
-sit-before setting entries state seat k s h = before (length state.now.deeds == 0) refl
-  where
-    before : (b : Bool) → (length state.now.deeds == 0) ≡ b → (length state.now.deeds == 0) ≡ true
-    before true e = e
-    before false e = absurd (h (s ∙ k.started e))
-
-below-four : (n : ℕ) → n ≤ 4 → (n ≡ 4 → ⊥) → nat_lt n 4 ≡ true
-below-four n l h = grind (arith, h)
+kept-may : (setting : Setting) (entries : List (Entry Answer)) (state : Position) → IsKept setting entries state → MayAdd setting state.deeds state.slots
+kept-may setting entries state k =
+    let on : CanGoOn setting (after setting entries) = subst (CanGoOn setting) (expired_own setting (after setting entries)) (own_part_can_go_on setting entries (Expired 0 0 0 0) k.legal refl) in
+    let may : MayAdd setting (after setting entries).deeds (after setting entries).slots = record { played = on.played; lawful = on.ready } in
+    subst (λ (slots : Four (Option Answer)). MayAdd setting state.deeds slots) (sym (kept-slots setting entries state k))
+    (subst (λ (deeds : List Deed). MayAdd setting deeds (after setting entries).slots) (sym (kept-deeds setting entries state k)) may)
 
 -- A game stays legal with an entry that is permitted.
 some-wall : (walls : List (List ℕ)) → 1 ≤ length walls → has_wall walls ≡ true
@@ -141,148 +94,385 @@ legal-more setting entries entry some p l = record {
   permitted = all_permitted-append setting before_all entries entry ∙ and_from (all_permitted setting before_all entries) _ l.permitted p;
 }
 
-free : (setting : Setting) (entries : List (Entry Answer)) (state : Position) (name : List ℕ) (seat : ℕ) → IsKept setting entries state → list_any (has_name name) state.now.chairs ≡ false → seat ≡ length state.now.chairs → (seat ≡ 4 → ⊥)
-    → can_sit (after setting entries).chairs name ≡ true
-free setting entries state name seat k unnamed s h =
-    let n : list_any (has_name name) (after setting entries).chairs ≡ false = sym (name-kept setting entries state name k) ∙ unnamed in
-    let m : length state.now.chairs ≡ length (after setting entries).chairs = held-kept setting entries state k in
-    let few : nat_lt (length (after setting entries).chairs) 4 ≡ true = rw (← m) (below-four (length state.now.chairs) k.four (λ f. h (s ∙ f))) in
-    can-sit (after setting entries).chairs name false true n few
-
-pub sit-kept : (setting : Setting) (entries all : List (Entry Answer)) (state next : Position) (author seat : ℕ) (join : JoinLine) → IsKept setting entries state → is_name join.name ≡ true → list_any (has_name join.name) state.now.chairs ≡ false
-    → TakesNext state next author join → seat ≡ length state.now.chairs → (seat ≡ 4 → ⊥) → all ≡ entries ++ Sat author join.name join.key ∷ [] → IsKept setting all next
-sit-kept setting entries all state next author seat join k named unnamed t s h e =
-    let P : List (Entry Answer) → Type 0 = λ es. IsKept setting es next in
-    subst P (sym e) (record {
-      legal = legal-more setting entries (Sat author join.name join.key) k.some (and_from (is_name join.name) _ named (free setting entries state join.name seat k unnamed s h)) k.legal;
+-- A permitted entry is made.
+pub kept-more : (setting : Setting) (entries all : List (Entry Answer)) (state next : Position) (entry : Entry Answer) → IsKept setting entries state → is_permitted setting (after setting entries) entry ≡ true
+    → Steps setting state next entry → all ≡ entries ++ entry ∷ [] → IsKept setting all next
+kept-more setting entries all state next entry k p t e =
+    subst (λ (es : List (Entry Answer)). IsKept setting es next) (sym e) (record {
+      legal = legal-more setting entries entry k.some p k.legal;
       some = k.some;
       rules = t.rules ∙ k.rules;
-      same = t.stepped setting ∙ step-same setting state.now (after setting entries) (Sat author join.name join.key) k.same ∙ ap untold (sym (after-append setting entries (Sat author join.name join.key)));
-      four = let m : length next.now.chairs ≡ suc (length state.now.chairs) = t.one_more in let l : length state.now.chairs ≤ 4 = k.four in let f : seat ≡ length state.now.chairs = s in grind (arith, h);
-      started = t.started;
-      empty = t.empty;
+      same = t.stepped ∙ step-same setting (now_of state) (after setting entries) entry k.same ∙ ap untold (sym (after-append setting entries entry));
     })
 
-pub sit-taken : (setting : Setting) (entries all : List (Entry Answer)) (state : Position) (author seat : ℕ) (join : JoinLine) → IsKept setting entries state → list_any (has_name join.name) state.now.chairs ≡ false
-    → seat ≡ length state.now.chairs → (seat ≡ 4 → ⊥) → all ≡ entries ++ Sat author join.name join.key ∷ [] → IsSitAnswer (sits.Sat seat) (game setting entries) (game setting all) author (Some join)
-sit-taken setting entries all state author seat join k unnamed s h e =
-    (free setting entries state join.name seat k unnamed s h, s ∙ held-kept setting entries state k, record { setting = refl; entries = e })
+-- A game before its first entry.
+pub new-kept : (setting : Setting) (state : Position) → state ≡ nobody setting.rules → 1 ≤ length setting.walls → length setting.walls ≤ 200 → list_all (is_wall setting.rules.red) setting.walls ≡ true → IsKept setting [] state
+new-kept setting state e some few whole =
+    subst (λ (s : Position). IsKept setting [] s) (sym e) (record {
+      legal = record { few = few; whole = whole; ground = refl; permitted = refl };
+      some = some;
+      rules = refl;
+      same = refl;
+    })
 
--- A seat is heard.
-said-due : (now : After) (author : ℕ) (o : Option Chair) → option_map_or (may_say now author) o false ≡ true → option_map_or (λ (chair : Chair). may_say now chair.author chair) o false ≡ true
+-- A game has few deeds.
+pub kept-few : (setting : Setting) (entries : List (Entry Answer)) (state : Position) → IsKept setting entries state → length state.deeds ≤ 60002
+kept-few setting entries state k =
+    let few = few_deeds setting.rules setting.walls (after setting entries).deeds (each_is_wall setting.rules.red setting.walls k.some k.legal.whole) (legal_games_are_played setting entries k.legal) in
+    subst (λ (ds : List Deed). length ds ≤ 60002) (sym (kept-deeds setting entries state k)) few.1
+
+-- A join.
+placing-over : (now : After) (join : JoinLine) → is_over now.deeds ≡ true → placing now (Some join) ≡ places.Refused Over
+unfolding placing
+placing-over now join h = rw h
+
+placing-open : (now : After) (join : JoinLine) → is_over now.deeds ≡ false → placing now (Some join) ≡ placed (map held_of now.chairs) join
+unfolding placing
+placing-open now join h = rw h
+
+placing-sat : (now : After) (join : JoinLine) (seat : ℕ) → placing now (Some join) ≡ places.Sat seat → placed (map held_of now.chairs) join ≡ places.Sat seat
+unfolding placing
+placing-sat now join seat h = by (is_over now.deeds) h
+  where
+    by : (b : Bool) → (if b then places.Refused Over else placed (map held_of now.chairs) join) ≡ places.Sat seat → placed (map held_of now.chairs) join ≡ places.Sat seat
+    by true h = cc
+    by false h = h
+
+placing-back : (now : After) (join : JoinLine) (seat : ℕ) → placing now (Some join) ≡ places.Back seat → placed (map held_of now.chairs) join ≡ places.Back seat
+unfolding placing
+placing-back now join seat h = by (is_over now.deeds) h
+  where
+    by : (b : Bool) → (if b then places.Refused Over else placed (map held_of now.chairs) join) ≡ places.Back seat → placed (map held_of now.chairs) join ≡ places.Back seat
+    by true h = cc
+    by false h = h
+
+kept-placed : (setting : Setting) (entries : List (Entry Answer)) (state : Position) (join : JoinLine) → IsKept setting entries state → placed_in (now_of state) join ≡ placed (map held_of (after setting entries).chairs) join
+kept-placed setting entries state join k = ap (λ (hs : List Held). placed hs join) (held-same (now_of state).chairs (after setting entries).chairs (kept-chairs setting entries state k))
+
+pub bad-name : (now : After) → placing now None ≡ places.Refused BadName
+unfolding placing
+bad-name now = refl
+
+pub sit-over : (setting : Setting) (entries : List (Entry Answer)) (state : Position) (author : ℕ) (join : JoinLine) → IsKept setting entries state → is_over state.deeds ≡ true
+    → IsSitAnswer (sits.Refused Over) (game setting entries) (game setting entries) author (Some join)
+sit-over setting entries state author join k h = (placing-over (after setting entries) join (ap is_over (sym (kept-deeds setting entries state k)) ∙ h), refl)
+
+pub sit-placed : (setting : Setting) (entries : List (Entry Answer)) (state : Position) (join : JoinLine) (place : Placed) → IsKept setting entries state → is_over state.deeds ≡ false → place ≡ placed_in (now_of state) join
+    → placing (after_of (game setting entries)) (Some join) ≡ place
+sit-placed setting entries state join place k h e =
+    placing-open (after setting entries) join (ap is_over (sym (kept-deeds setting entries state k)) ∙ h) ∙ sym (kept-placed setting entries state join k) ∙ sym e
+
+pub sat-may : (setting : Setting) (entries : List (Entry Answer)) (state : Position) (author seat : ℕ) (join : JoinLine) → IsKept setting entries state → is_name join.name ≡ true → placing (after_of (game setting entries)) (Some join) ≡ places.Sat seat
+    → is_permitted setting (after setting entries) (Sat author join.name join.key) ≡ true
+sat-may setting entries state author seat join k named h = sat-permitted setting (after setting entries) author seat join (legal-in-order setting entries k.legal).few named h
+
+unbegun : (now : After) (name : List ℕ) → IsInOrder now → can_sit now.chairs name ≡ true → (length now.deeds == 0) ≡ true
+unfolding can_sit
+unbegun now name o p = early (length now.deeds == 0) (length now.chairs) o.started (and_parts (nat_lt (length now.chairs) 4) (not (list_any (has_name name) now.chairs)) p).0
+  where
+    early : (none : Bool) (n : ℕ) → (n == 4) ≡ not none → nat_lt n 4 ≡ true → none ≡ true
+    early true n e h = refl
+    early false n e h = let k : n < 4 = ltb-true n 4 h in grind (arith, e)
+
+pub sat-can : (setting : Setting) (entries : List (Entry Answer)) (state : Position) (seat : ℕ) (join : JoinLine) → IsKept setting entries state → is_name join.name ≡ true → placing (after_of (game setting entries)) (Some join) ≡ places.Sat seat
+    → CanTakeSeat state join
+sat-can setting entries state seat join k named h =
+    let may = and_parts (is_name join.name) (can_sit (after setting entries).chairs join.name) (sat-may setting entries state 0 seat join k named h) in
+    record {
+      seat = seat;
+      order = kept-order setting entries state k;
+      unbegun = ap (λ (ds : List Deed). length ds == 0) (kept-deeds setting entries state k) ∙ unbegun (after setting entries) join.name (legal-in-order setting entries k.legal) may.1;
+      placing = kept-placed setting entries state join k ∙ placing-sat (after setting entries) join seat h;
+    }
+
+held-by : (o : Option Chair) (test : Chair → Bool) → option_map_or test o false ≡ true → (chair : Chair) × (o ≡ Some chair)
+held-by None test h = cc
+held-by (Some chair) test h = (chair, refl)
+
+within : (chairs : List Chair) (seat : ℕ) (test : Chair → Bool) → option_map_or test (slice_get chairs seat) false ≡ true → seat < length chairs
+within chairs seat test h =
+    let k = held-by (slice_get chairs seat) test h in
+    slice_get_within chairs seat k.0 k.1
+
+pub back-may : (setting : Setting) (entries : List (Entry Answer)) (state : Position) (author seat : ℕ) (join : JoinLine) → IsKept setting entries state → is_name join.name ≡ true → placing (after_of (game setting entries)) (Some join) ≡ places.Back seat
+    → is_permitted setting (after setting entries) (Back author seat) ≡ true
+back-may setting entries state author seat join k named h = back-permitted setting (after setting entries) author seat join (legal-in-order setting entries k.legal).few named h
+
+pub back-can : (setting : Setting) (entries : List (Entry Answer)) (state : Position) (seat : ℕ) (join : JoinLine) → IsKept setting entries state → is_name join.name ≡ true → placing (after_of (game setting entries)) (Some join) ≡ places.Back seat
+    → CanTakeBack setting state seat join
+back-can setting entries state seat join k named h = record {
+  ground = kept-ground setting entries state k;
+  order = kept-order setting entries state k;
+  held =
+      subst (λ (n : ℕ). seat < n) (sym (length-same (now_of state).chairs (after setting entries).chairs (kept-chairs setting entries state k)))
+      (within (after setting entries).chairs seat (can_return (after setting entries)) (back-may setting entries state 0 seat join k named h));
+  placing = kept-placed setting entries state join k ∙ placing-back (after setting entries) join seat h;
+  may = kept-may setting entries state k;
+}
+
+-- An answer.
+said-due : (now : After) (author : ℕ) (o : Option Chair) → option_map_or (may_say now author) o false ≡ true → option_map_or (λ (chair : Chair). nat_lt chair.progress.due (length now.deeds)) o false ≡ true
 unfolding may_say
 said-due now author None h = cc
-said-due now author (Some chair) h = rw (eq-eqb chair.author chair.author refl) (second (chair.author == author) (nat_lt chair.progress.due (length now.deeds)) h)
-  where
-    second : (a b : Bool) → (a && b) ≡ true → b ≡ true
-    second true b h = h
-    second false b h = cc
+said-due now author (Some chair) h = (and_parts (is_present_by author chair) (nat_lt chair.progress.due (length now.deeds)) h).1
 
-pub hear-due : (setting : Setting) (entries : List (Entry Answer)) (state : Position) (author seat : ℕ) → IsKept setting entries state → can_say (after_of (game setting entries)) author seat ≡ true → is_due state.now seat ≡ true
-hear-due setting entries state author seat k may = due-kept setting entries state seat k ∙ said-due (after setting entries) author (slice_get (after setting entries).chairs seat) may
+by-author : (author : ℕ) (o : Option ℕ) → option_map_or (λ by. by == author) o false ≡ true → is_some o ≡ true
+by-author author None h = cc
+by-author author (Some by) h = refl
 
--- What is heard is in form.
+here-present : (author : ℕ) (o : Option Chair) → option_map_or (is_present_by author) o false ≡ true → option_map_or is_present o false ≡ true
+here-present author None h = cc
+here-present author (Some chair) h = by-author author chair.author h
+
+said-here : (now : After) (author : ℕ) (o : Option Chair) → option_map_or (may_say now author) o false ≡ true → option_map_or (is_present_by author) o false ≡ true
+unfolding may_say
+said-here now author None h = cc
+said-here now author (Some chair) h = (and_parts (is_present_by author chair) (nat_lt chair.progress.due (length now.deeds)) h).0
+
+kept-due : (setting : Setting) (entries : List (Entry Answer)) (state : Position) (seat : ℕ) → IsKept setting entries state
+    → is_due (now_of state) seat ≡ option_map_or (λ (chair : Chair). nat_lt chair.progress.due (length (after setting entries).deeds)) (slice_get (after setting entries).chairs seat) false
+kept-due setting entries state seat k =
+    ap (λ (deeds : List Deed). option_map_or (λ (chair : Chair). nat_lt chair.progress.due (length deeds)) (slice_get (now_of state).chairs seat) false) (kept-deeds setting entries state k)
+    ∙ seat_or-same (λ (chair : Chair). nat_lt chair.progress.due (length (after setting entries).deeds)) (λ chair. refl) false (now_of state).chairs (after setting entries).chairs seat (kept-chairs setting entries state k)
+
+kept-present : (setting : Setting) (entries : List (Entry Answer)) (state : Position) (author seat : ℕ) → IsKept setting entries state → option_map_or (is_present_by author) (slice_get (after setting entries).chairs seat) false ≡ true
+    → is_present_in (now_of state) seat ≡ true
+kept-present setting entries state author seat k h =
+    seat_or-same is_present (λ chair. refl) false (now_of state).chairs (after setting entries).chairs seat (kept-chairs setting entries state k)
+    ∙ here-present author (slice_get (after setting entries).chairs seat) h
+
 pub heard-form : (text : List ℕ) (answer : Answer) → answer ≡ answer_of text → is_in_form answer ≡ true
 heard-form text answer e = subst (λ (said : Answer). is_in_form said ≡ true) (sym e) (answers_that_are_read_are_in_form text)
 
--- What is true where it is heard.
 pub hear-can : (setting : Setting) (entries : List (Entry Answer)) (state : Position) (author seat : ℕ) (answer : Answer) → IsKept setting entries state → can_say (after_of (game setting entries)) author seat ≡ true → is_in_form answer ≡ true
     → CanHear setting state seat answer
 hear-can setting entries state author seat answer k may form = record {
-  rules = k.rules;
-  due = hear-due setting entries state author seat k may;
-  four = k.four;
-  empty = k.empty;
-  some = k.some;
-  few = k.legal.few;
-  whole = k.legal.whole;
-  going = λ by. can_go_on-same setting state.now (after setting entries) (Said by seat answer) k.same (own_part_can_go_on setting entries (Said by seat answer) k.legal form);
+  ground = kept-ground setting entries state k;
+  order = kept-order setting entries state k;
+  due = kept-due setting entries state seat k ∙ said-due (after setting entries) author (slice_get (after setting entries).chairs seat) may;
+  present = kept-present setting entries state author seat k (said-here (after setting entries) author (slice_get (after setting entries).chairs seat) may);
+  going = λ by. can_go_on-same setting _ _ (own_part-same setting (now_of state) (after setting entries) (Said by seat answer) k.same) (own_part_can_go_on setting entries (Said by seat answer) k.legal form);
 }
 
-pub hear-kept : (setting : Setting) (entries all : List (Entry Answer)) (state next : Position) (author seat : ℕ) (answer : Answer) (verdict : Verdict) → IsKept setting entries state → can_say (after_of (game setting entries)) author seat ≡ true → is_in_form answer ≡ true
-    → Hears setting state next seat answer verdict → all ≡ entries ++ Said author seat answer ∷ [] → IsKept setting all next
-hear-kept setting entries all state next author seat answer verdict k may form t e =
-    let P : List (Entry Answer) → Type 0 = λ es. IsKept setting es next in
-    let m : length next.now.chairs ≡ length state.now.chairs = t.as_many in
-    let built : is_answer_built setting (after setting entries) author seat answer ≡ true = sym (is_answer_built-same setting state.now (after setting entries) author seat answer k.same) ∙ t.built author in
-    subst P (sym e) (record {
-      legal = legal-more setting entries (Said author seat answer) k.some (and_from (is_in_form answer && can_say (after setting entries) author seat) _ (and_from (is_in_form answer) _ form may) built) k.legal;
-      some = k.some;
-      rules = t.rules ∙ k.rules;
-      same = t.stepped author ∙ step-same setting state.now (after setting entries) (Said author seat answer) k.same ∙ ap untold (sym (after-append setting entries (Said author seat answer)));
-      four = rw m k.four;
-      started = λ _. m ∙ k.started (begun-due state.now seat (hear-due setting entries state author seat k may));
-      empty = t.empty;
-    })
+pub said-may : (setting : Setting) (now : After) (author seat : ℕ) (answer : Answer) → can_say now author seat ≡ true → is_in_form answer ≡ true → is_permitted setting now (Said author seat answer) ≡ true
+said-may setting now author seat answer may form = and_from (is_in_form answer) (can_say now author seat) form may
+
+kept-verdict : (setting : Setting) (entries : List (Entry Answer)) (state : Position) (seat : ℕ) (answer : Answer) → IsKept setting entries state → state_verdict setting.rules (now_of state) seat answer ≡ verdict_at (game setting entries) seat answer
+kept-verdict setting entries state seat answer k =
+    ap (λ (deeds : List Deed). option_map (λ (chair : Chair). verdict_on setting.rules deeds seat answer chair.progress) (slice_get (now_of state).chairs seat)) (kept-deeds setting entries state k)
+    ∙ seat-same (λ (chair : Chair). verdict_on setting.rules (after setting entries).deeds seat answer chair.progress) (λ chair. refl) (now_of state).chairs (after setting entries).chairs seat (kept-chairs setting entries state k)
 
 pub hear-entered : (setting : Setting) (entries all : List (Entry Answer)) (state next : Position) (author seat : ℕ) (answer : Answer) (verdict : Judged) → IsKept setting entries state
     → Hears setting state next seat answer (verdict_given verdict) → all ≡ entries ++ Said author seat answer ∷ [] → IsHeard (heard_by verdict) (game setting entries) (game setting all) author seat answer
-hear-entered setting entries all state next author seat answer verdict k t e = by verdict (
-  sym (is_answer_built-same setting state.now (after setting entries) author seat answer k.same) ∙ t.built author,
-  sym (state_verdict-same setting.rules state.now (after setting entries) seat answer k.same) ∙ t.judged,
-  record { setting = refl; entries = e },
-)
+hear-entered setting entries all state next author seat answer verdict k t e =
+    by verdict (sym (kept-verdict setting entries state seat answer k) ∙ t.judged, record { setting = refl; entries = e })
   where
     by : (v : Judged) → Answers answer (game setting entries) (game setting all) author seat (verdict_given v) → IsHeard (heard_by v) (game setting entries) (game setting all) author seat answer
     by judged.Taken h = h
     by judged.Late h = h
     by (judged.Refused rule) h = h
+    by (judged.Closing rule) h = h
 
-pub hear-unbuilt : (setting : Setting) (entries : List (Entry Answer)) (state : Position) (author seat : ℕ) (answer : Answer) → IsKept setting entries state
-    → ((by : ℕ) → is_answer_built setting state.now by seat answer ≡ false) → IsHeard heard.NotBuilt (game setting entries) (game setting entries) author seat answer
-hear-unbuilt setting entries state author seat answer k h = (sym (is_answer_built-same setting state.now (after setting entries) author seat answer k.same) ∙ h author, refl)
+-- A seat leaves.
+pub gone-can : (setting : Setting) (entries : List (Entry Answer)) (state : Position) (author seat : ℕ) → IsKept setting entries state → is_permitted setting (after setting entries) (Gone author seat) ≡ true → CanLeave setting state seat
+gone-can setting entries state author seat k h = record {
+  ground = kept-ground setting entries state k;
+  order = kept-order setting entries state k;
+  present = kept-present setting entries state author seat k h;
+  may = kept-may setting entries state k;
+}
 
--- A game before its first entry.
-pub new-kept : (setting : Setting) (state : Position) → state ≡ (let start : Position = record { rules = setting.rules; now = before_all } in start) → 1 ≤ length setting.walls → length setting.walls ≤ 200
-    → list_all (is_wall setting.rules.red) setting.walls ≡ true → IsKept setting [] state
-new-kept setting state e some few whole =
-    let P : Position → Type 0 = λ s. IsKept setting [] s in
-    subst P (sym e) (record {
-      legal = record { few = few; whole = whole; ground = refl; permitted = refl };
-      some = some;
-      rules = refl;
-      same = refl;
-      four = omega arith;
-      started = λ h. cc;
-      empty = unbegun-open before_all refl;
-    })
-
--- A seat that is asked may say something, by the author by whom it is present.
-asked-say : (now : After) (author : ℕ) (o : Option Chair) → option_map_or (λ (chair : Chair). may_say now chair.author chair) o false ≡ true → option_map (λ (chair : Chair). chair.author) o ≡ Some author → option_map_or (may_say now author) o false ≡ true
-asked-say now author None h a = cc
-asked-say now author (Some chair) h a =
-    let same : chair.author ≡ author = cc in
-    ap (λ (n : ℕ). may_say now n chair) (sym same) ∙ h
-
-pub asked-can : (game : Game) (author seat : ℕ) → may_say_at game seat ≡ true → author_at game seat ≡ Some author → can_say (after_of game) author seat ≡ true
-asked-can game author seat h a = asked-say (after_of game) author (slice_get (after_of game).chairs seat) h a
-
--- What is still to be told to a held seat.
-pending-seat : (deeds : List Deed) (chairs : List Chair) (seat : ℕ) (chair : Chair) (told : List ℕ) → slice_get chairs seat ≡ Some chair → pending (lines_for seat deeds) chair.progress ≡ told
-    → option_map_or (λ (c : Chair). pending (lines_for seat deeds) c.progress) (slice_get chairs seat) [] ≡ told
-pending-seat deeds chairs seat chair told h e = ap (λ (o : Option Chair). option_map_or (λ (c : Chair). pending (lines_for seat deeds) c.progress) o []) h ∙ e
-
-pub pending-stale : (setting : Setting) (entries : List (Entry Answer)) (state : Position) (seat : ℕ) (chair : Chair) → IsKept setting entries state → slice_get state.now.chairs seat ≡ Some chair → (chair.progress.refused == 0) ≡ false
-    → pending_at (game setting entries) seat ≡ []
-unfolding pending
-pending-stale setting entries state seat chair k h r = sym (pending-kept setting entries state seat k) ∙ pending-seat state.now.deeds state.now.chairs seat chair [] h (rw r)
-
-pub pending-told : (setting : Setting) (entries : List (Entry Answer)) (state : Position) (seat due : ℕ) (chair : Chair) (deed : Deed) → IsKept setting entries state → slice_get state.now.chairs seat ≡ Some chair → (chair.progress.refused == 0) ≡ true
-    → due ≡ chair.progress.due → due < length state.now.deeds → deed ≡ get_or state.now.deeds due deed → pending_at (game setting entries) seat ≡ line (Seat seat) deed
-unfolding pending
-pending-told setting entries state seat due chair deed k h r d l g =
-    let there : slice_get state.now.deeds chair.progress.due ≡ Some deed = rw (← d) (slice_get-get_or state.now.deeds due deed l ∙ ap Some (sym g)) in
-    sym (pending-kept setting entries state seat k)
-    ∙ pending-seat state.now.deeds state.now.chairs seat chair (line (Seat seat) deed) h (rw (r, slice_get-map (line (Seat seat)) state.now.deeds chair.progress.due, there))
-
-pub pending-early : (setting : Setting) (entries : List (Entry Answer)) (state : Position) (seat due : ℕ) (chair : Chair) → IsKept setting entries state → slice_get state.now.chairs seat ≡ Some chair
-    → due ≡ chair.progress.due → length state.now.deeds ≤ due → pending_at (game setting entries) seat ≡ []
-unfolding pending
-pending-early setting entries state seat due chair k h d l =
-    let none : slice_get state.now.deeds chair.progress.due ≡ None = rw (← d) (slice_get_past state.now.deeds due l) in
-    sym (pending-kept setting entries state seat k)
-    ∙ pending-seat state.now.deeds state.now.chairs seat chair [] h (rw (slice_get-map (line (Seat seat)) state.now.deeds chair.progress.due, none) (either (chair.progress.refused == 0)))
+-- A window runs out.
+window-open : (deeds : List Deed) (window : ℕ) → is_open deeds window ≡ true → is_some (open_window deeds) ≡ true
+window-open deeds window h = by (length deeds == 0) (is_over deeds) (window + 1 == length deeds) (length deeds - 1) h
   where
-    either : (b : Bool) → (if b then [] else []) ≡ (let none : List ℕ = [] in none)
-    either true = refl
-    either false = refl
+    by : (none over same : Bool) (n : ℕ) → (not none && not over && same) ≡ true → is_some (if not none && not over then Some n else None) ≡ true
+    by true over same n k = cc
+    by false true same n k = cc
+    by false false same n k = refl
+
+expire-open : (limit : ℕ) (deeds : List Deed) (window t1 t2 : ℕ) → can_expire limit deeds window t1 t2 ≡ true → is_open deeds window ≡ true
+unfolding can_expire
+expire-open limit deeds window t1 t2 h = (and_parts (is_open deeds window) (nat_le t1 t2) (and_parts (is_open deeds window && nat_le t1 t2) (nat_le limit (t2 - t1)) h).0).0
+
+pub expire-can : (setting : Setting) (entries : List (Entry Answer)) (state : Position) (author window t1 t2 : ℕ) → IsKept setting entries state → is_permitted setting (after setting entries) (Expired author window t1 t2) ≡ true → CanExpire setting state
+expire-can setting entries state author window t1 t2 k h = record {
+  ground = kept-ground setting entries state k;
+  window =
+      ap (λ (ds : List Deed). is_some (open_window ds)) (kept-deeds setting entries state k)
+      ∙ window-open (after setting entries).deeds window (expire-open setting.rules.limit (after setting entries).deeds window t1 t2 h);
+  may = kept-may setting entries state k;
+}
+
+-- Another window than the open one is stale.
+pub stale : (deeds : List Deed) (window : ℕ) → (open_window deeds ≡ Some window → ⊥) → is_open deeds window ≡ false
+stale deeds window h = by (length deeds == 0) (is_over deeds) h
+  where
+    back : (l w : ℕ) → w + 1 ≡ l → l - 1 ≡ w
+    back l w e = omega arith
+
+    other : (Some (length deeds - 1) ≡ Some window → ⊥) → (window + 1 == length deeds) ≡ false
+    other ne = elim (eqb_tells (window + 1) (length deeds)) [
+      | inl p ↦ absurd (ne (ap Some (back (length deeds) window p.1)))
+      | inr p ↦ p.0
+    ]
+
+    by : (none over : Bool) → ((if not none && not over then Some (length deeds - 1) else None) ≡ Some window → ⊥) → (not none && not over && window + 1 == length deeds) ≡ false
+    by true over ne = refl
+    by false true ne = refl
+    by false false ne = other ne
+
+pub is_the_open : (deeds : List Deed) (window : ℕ) → open_window deeds ≡ Some window → is_open deeds window ≡ true
+is_the_open deeds window h = elim (eqb_tells (length deeds) 0) [
+  | inl p ↦ none (length deeds == 0) (is_over deeds) (length deeds - 1) p.0 h
+  | inr p ↦ by (length deeds == 0) (is_over deeds) p.0 (λ e. same (length deeds) window p.1 e) h
+]
+  where
+    none : (b over : Bool) (n : ℕ) → b ≡ true → (if not b && not over then Some n else None) ≡ Some window → is_open deeds window ≡ true
+    none true over n e k = cc
+    none false over n e k = cc
+
+    same : (l w : ℕ) → l ≢ 0 → l - 1 ≡ w → (w + 1 == l) ≡ true
+    same l w ne e = elim (eqb_tells (w + 1) l) [ inl p ↦ p.0 | inr p ↦ absurd (p.1 (forth l w ne e)) ]
+      where
+        forth : (l w : ℕ) → l ≢ 0 → l - 1 ≡ w → w + 1 ≡ l
+        forth zero w ne e = absurd (ne refl)
+        forth (suc l) w ne e = omega arith
+
+    by : (b over : Bool) → b ≡ false → (length deeds - 1 ≡ window → (window + 1 == length deeds) ≡ true) → (if not b && not over then Some (length deeds - 1) else None) ≡ Some window
+        → (not b && not over && window + 1 == length deeds) ≡ true
+    by true over e s k = cc
+    by false true e s k = cc
+    by false false e s k = s (same_Some (length deeds - 1) window k)
+
+pub too-early : (limit : ℕ) (deeds : List Deed) (window t1 t2 : ℕ) → (t2 < t1) → can_expire limit deeds window t1 t2 ≡ false
+unfolding can_expire
+too-early limit deeds window t1 t2 h = by (is_open deeds window) (nat_le t1 t2) (nat_le limit (t2 - t1)) (after_it t1 t2 h)
+  where
+    after_it : (t1 t2 : ℕ) → t2 < t1 → nat_le t1 t2 ≡ false
+    after_it t1 t2 h = grind (arith, h)
+
+    by : (a b c : Bool) → b ≡ false → (a && b && c) ≡ false
+    by true b c e = rw e
+    by false b c e = refl
+
+pub too-short : (limit : ℕ) (deeds : List Deed) (window t1 t2 : ℕ) → (t2 - t1 < limit) → can_expire limit deeds window t1 t2 ≡ false
+unfolding can_expire
+too-short limit deeds window t1 t2 h = by (is_open deeds window) (nat_le t1 t2) (nat_le limit (t2 - t1)) (less limit (t2 - t1) h)
+  where
+    less : (l d : ℕ) → d < l → nat_le l d ≡ false
+    less l d h = grind (arith, h)
+
+    by : (a b c : Bool) → c ≡ false → (a && b && c) ≡ false
+    by true true c e = e
+    by true false c e = refl
+    by false b c e = refl
+
+pub run-out : (limit : ℕ) (deeds : List Deed) (window t1 t2 : ℕ) → is_open deeds window ≡ true → t1 ≤ t2 → limit ≤ t2 - t1 → can_expire limit deeds window t1 t2 ≡ true
+unfolding can_expire
+run-out limit deeds window t1 t2 o h l = and_from (is_open deeds window && nat_le t1 t2) _ (and_from (is_open deeds window) _ o (no_more t1 t2 h)) (no_more limit (t2 - t1) l)
+  where
+    no_more : (a b : ℕ) → a ≤ b → nat_le a b ≡ true
+    no_more a b h = grind (arith, h)
+
+-- What is read of a seat.
+read-some : {A : Type 0} (f : Player → A) (d : A) (o : Option Chair) (held : Player) → Some held ≡ option_map player_in o → option_map_or (λ (chair : Chair). f (player_in chair)) o d ≡ f held
+read-some f d None held e = cc
+read-some f d (Some chair) held e = ap f (sym (same_Some held (player_in chair) e))
+
+read-none : {A : Type 0} (f : Player → A) (d : A) (o : Option Chair) → None ≡ option_map player_in o → option_map_or (λ (chair : Chair). f (player_in chair)) o d ≡ d
+read-none f d None e = refl
+read-none f d (Some chair) e = cc
+
+pub reads-some : {A : Type 0} (f : Player → A) (d : A) (setting : Setting) (entries : List (Entry Answer)) (state : Position) (seat : ℕ) (held : Player) → IsKept setting entries state
+    → Some held ≡ option_map player_in (slice_get (now_of state).chairs seat) → f held ≡ option_map_or (λ (chair : Chair). f (player_in chair)) (slice_get (after setting entries).chairs seat) d
+reads-some f d setting entries state seat held k e =
+    sym (read-some f d (slice_get (now_of state).chairs seat) held e)
+    ∙ seat_or-same (λ (chair : Chair). f (player_in chair)) (λ chair. refl) d (now_of state).chairs (after setting entries).chairs seat (kept-chairs setting entries state k)
+
+pub reads-none : {A : Type 0} (f : Player → A) (d : A) (setting : Setting) (entries : List (Entry Answer)) (state : Position) (seat : ℕ) → IsKept setting entries state
+    → None ≡ option_map player_in (slice_get (now_of state).chairs seat) → d ≡ option_map_or (λ (chair : Chair). f (player_in chair)) (slice_get (after setting entries).chairs seat) d
+reads-none f d setting entries state seat k e =
+    sym (read-none f d (slice_get (now_of state).chairs seat) e)
+    ∙ seat_or-same (λ (chair : Chair). f (player_in chair)) (λ chair. refl) d (now_of state).chairs (after setting entries).chairs seat (kept-chairs setting entries state k)
+
+-- The line of a seat with a number, where there is one.
+pub line-some : (setting : Setting) (entries : List (Entry Answer)) (state : Position) (seat k : ℕ) (deed : Deed) → IsKept setting entries state → k < length state.deeds → deed ≡ get_or state.deeds k deed
+    → line_of (game setting entries) seat k ≡ line (Seat seat) deed
+line-some setting entries state seat k deed kept l g =
+    let there : slice_get (after setting entries).deeds k ≡ Some deed = ap (λ (ds : List Deed). slice_get ds k) (sym (kept-deeds setting entries state kept)) ∙ slice_get-get_or state.deeds k deed l ∙ ap Some (sym g) in
+    ap (λ (o : Option Deed). option_map_or (λ (d : Deed). line (Seat seat) d) o []) there
+
+pub line-none : (setting : Setting) (entries : List (Entry Answer)) (state : Position) (seat k : ℕ) → IsKept setting entries state → length state.deeds ≤ k → line_of (game setting entries) seat k ≡ []
+line-none setting entries state seat k kept l =
+    let none : slice_get (after setting entries).deeds k ≡ None = ap (λ (ds : List Deed). slice_get ds k) (sym (kept-deeds setting entries state kept)) ∙ slice_get_past state.deeds k l in
+    ap (λ (o : Option Deed). option_map_or (λ (d : Deed). line (Seat seat) d) o []) none
+
+-- What is pending for a seat.
+abbrev pending_by : List (List ℕ) → Player → List ℕ
+pending_by lines p = if is_some p.author then (if p.refused == 0 then unwrap_or (slice_get lines p.due) [] else []) else []
+
+pending_at-by : (game : Game) (seat : ℕ) → pending_at game seat ≡ option_map_or (λ (chair : Chair). pending_by (lines_for seat (after_of game).deeds) (player_in chair)) (slice_get (after_of game).chairs seat) []
+unfolding pending
+pending_at-by game seat = refl
+
+line-mapped : (seat : ℕ) (o : Option Deed) → unwrap_or (option_map (line (Seat seat)) o) [] ≡ option_map_or (λ (d : Deed). line (Seat seat) d) o []
+line-mapped seat None = refl
+line-mapped seat (Some deed) = refl
+
+pub pending-some : (setting : Setting) (entries : List (Entry Answer)) (state : Position) (seat : ℕ) (held : Player) → IsKept setting entries state → Some held ≡ option_map player_in (slice_get (now_of state).chairs seat) → is_some held.author ≡ true
+    → (held.refused == 0) ≡ true → pending_at (game setting entries) seat ≡ line_of (game setting entries) seat held.due
+pending-some setting entries state seat held k e a r =
+    let lines : List (List ℕ) = lines_for seat (after setting entries).deeds in
+    pending_at-by (game setting entries) seat ∙ sym (reads-some (pending_by lines) [] setting entries state seat held k e)
+    ∙ ap (λ (b : Bool). if b then (if held.refused == 0 then unwrap_or (slice_get lines held.due) [] else []) else []) a
+    ∙ ap (λ (b : Bool). if b then unwrap_or (slice_get lines held.due) [] else []) r
+    ∙ ap (λ (o : Option (List ℕ)). unwrap_or o []) (slice_get-map (line (Seat seat)) (after setting entries).deeds held.due)
+    ∙ line-mapped seat (slice_get (after setting entries).deeds held.due)
+
+pub pending-stale : (setting : Setting) (entries : List (Entry Answer)) (state : Position) (seat : ℕ) (held : Player) → IsKept setting entries state → Some held ≡ option_map player_in (slice_get (now_of state).chairs seat)
+    → (is_some held.author && held.refused == 0) ≡ false → pending_at (game setting entries) seat ≡ []
+pending-stale setting entries state seat held k e h =
+    let lines : List (List ℕ) = lines_for seat (after setting entries).deeds in
+    pending_at-by (game setting entries) seat ∙ sym (reads-some (pending_by lines) [] setting entries state seat held k e) ∙ by (is_some held.author) (held.refused == 0) (unwrap_or (slice_get lines held.due) []) h
+  where
+    by : (a r : Bool) (told : List ℕ) → (a && r) ≡ false → (if a then (if r then told else []) else []) ≡ []
+    by true true told e = cc
+    by true false told e = refl
+    by false r told e = refl
+
+pub pending-none : (setting : Setting) (entries : List (Entry Answer)) (state : Position) (seat : ℕ) → IsKept setting entries state → None ≡ option_map player_in (slice_get (now_of state).chairs seat) → pending_at (game setting entries) seat ≡ []
+pending-none setting entries state seat k e = pending_at-by (game setting entries) seat ∙ sym (reads-none (pending_by (lines_for seat (after setting entries).deeds)) [] setting entries state seat k e)
+
+-- What was entered.
+pub sat-entered : (setting : Setting) (entries all : List (Entry Answer)) (author seat : ℕ) (join : JoinLine) → placing (after_of (game setting entries)) (Some join) ≡ places.Sat seat → all ≡ entries ++ Sat author join.name join.key ∷ []
+    → IsSitAnswer (sits.Sat seat) (game setting entries) (game setting all) author (Some join)
+sat-entered setting entries all author seat join h e = (h, record { setting = refl; entries = e })
+
+pub back-entered : (setting : Setting) (entries all : List (Entry Answer)) (author seat : ℕ) (join : JoinLine) → placing (after_of (game setting entries)) (Some join) ≡ places.Back seat → all ≡ entries ++ Back author seat ∷ []
+    → IsSitAnswer (sits.Back seat) (game setting entries) (game setting all) author (Some join)
+back-entered setting entries all author seat join h e = (h, record { setting = refl; entries = e })
+
+-- A seat's due deed is one of the deeds or the next one.
+due-few : (o : Option Chair) (deeds : List Deed) (held : Player) → IsPatientAt deeds o → Some held ≡ option_map player_in o → held.due ≤ length deeds
+due-few None deeds held p e = cc
+due-few (Some chair) deeds held p e = subst (λ (n : ℕ). n ≤ length deeds) (sym (ap (λ (q : Player). q.due) (same_Some held (player_in chair) e))) p.due
+
+pub due-small : (setting : Setting) (entries : List (Entry Answer)) (state : Position) (seat : ℕ) (held : Player) → IsKept setting entries state → Some held ≡ option_map player_in (slice_get (now_of state).chairs seat) → held.due ≤ 60002
+due-small setting entries state seat held k e =
+    let few : length state.deeds ≤ 60002 = kept-few setting entries state k in
+    let due : held.due ≤ length state.deeds = due-few (slice_get (now_of state).chairs seat) state.deeds held ((kept-order setting entries state k).patient seat) e in
+    omega arith
+
+-- A seat that may say something, by the author by whom it is present.
+asked-by : (now : After) (author : ℕ) (o : Option Chair) → option_map_or (λ (chair : Chair). is_present chair && nat_lt chair.progress.due (length now.deeds)) o false ≡ true → option_map_or (λ (chair : Chair). chair.author) o None ≡ Some author
+    → option_map_or (may_say now author) o false ≡ true
+unfolding may_say
+asked-by now author None h a = cc
+asked-by now author (Some chair) h a =
+    and_from (is_present_by author chair) (nat_lt chair.progress.due (length now.deeds))
+    (ap (λ (o : Option ℕ). option_map_or (λ by. by == author) o false) a ∙ eq-eqb author author refl)
+    (and_parts (is_present chair) (nat_lt chair.progress.due (length now.deeds)) h).1
+
+pub asked-can : (game : Game) (author seat : ℕ) → may_say_at game seat ≡ true → author_of_seat game seat ≡ Some author → can_say (after_of game) author seat ≡ true
+asked-can game author seat h a = asked-by (after_of game) author (slice_get (after_of game).chairs seat) h a

@@ -1,53 +1,114 @@
--- The laws of a state, stated over the pieces that the code holds.
-use Rattle.std.proofs.Common.{◌≡◌, ℕ, suc, ◌<◌, ◌==◌, ◌+◌, List, [], ◌∷◌, ◌++◌, length, get_or, Bool, true, false, Option, Some, None, refl, ap, ◌∙◌, sym, subst, arith}
-use Rattle.std.specs.Prelude.{slice_get, slice_set, ◌&&◌, if◌then◌else◌}
-use Rattle.std.proofs.lemmas.Option.{slice_get-get_or}
-use Rattle.std.proofs.lemmas.List.{length-append}
-use Rattle.mj_ports.specs.declared.sitting.JoinLine.{JoinLine}
+-- The laws of a state, over the pieces that the code holds.
+use Rattle.std.proofs.Common.{◌≡◌, ◌≢◌, ℕ, zero, suc, ◌+◌, ◌-◌, ◌<◌, ◌≤◌, ◌==◌, ◌&&◌, ◌||◌, not, inl, inr, List, [], ◌∷◌, ◌++◌, length, map, get_or, Bool, true, false, refl, ap, ◌∙◌, sym, subst, arith}
+use Rattle.std.specs.Prelude.{if◌then◌else◌, Option, Some, None, is_some, option_map, slice_get, slice_set, nat_lt}
+use Rattle.std.specs.Option.{option_map_or}
+use Rattle.std.proofs.lemmas.Bool.{true≢false, ltb-true}
+use Rattle.std.proofs.lemmas.Bool.Decides.{eqb_tells}
+use Rattle.std.proofs.lemmas.List.{length-set}
+use Rattle.std.proofs.lemmas.Option.{slice_get_within, slice_get-get_or}
 use Rattle.mj_tiles.specs.Counts.{all_kinds, has_no_fifth}
+use Rattle.mj_ports.specs.declared.entry.Entry.{Entry}
+use Rattle.mj_ports.specs.declared.entry.Entry.TheVariants.{Sat, Back, Said, Gone, Expired}
+use Rattle.mj_ports.specs.declared.sitting.JoinLine.{JoinLine}
+use Rattle.mj_seating.specs.declared.desk.Placed.{Placed}
+use Rattle.mj_seating.specs.declared.desk.Placed.TheVariants as places
+use Rattle.mj_seating.specs.Sitting.{Held, placed, seated, changed_at, new_held, came_back, gone, is_present_at}
 use Rattle.mj_deeds.specs.declared.four.Four.{Four}
 use Rattle.mj_deeds.specs.declared.deed.Deed.{Deed}
 use Rattle.mj_deeds.specs.declared.deed.Deed.TheVariants.{StartGame}
 use Rattle.mj_deeds.specs.declared.answer.Answer.{Answer}
-use Rattle.mj_deeds.specs.Facts.{newest}
 use Rattle.mj_deeds.specs.Fits.{fits, fits_in, fits_behind, ground_of}
 use Rattle.mj_deeds.specs.Hand.{hand}
 use Rattle.mj_wall.specs.declared.setting.Rules.{Rules}
 use Rattle.mj_wall.specs.declared.setting.Setting.{Setting}
-use Rattle.mj_rules.specs.Outcome.{outcome, goes_on}
-use Rattle.mj_rules.specs.Played.{IsPlayed, AllLawful}
-use Rattle.mj_window.specs.Slots.{empty_slots}
-use Rattle.mj_protocol.specs.After.{After, Chair, Verdict, verdict_on, progress_after, slots_after, is_window_closed, answers_in, names_of, lines_for}
-use Rattle.mj_protocol.specs.Trace.{is_verdict_built}
-use Rattle.mj_core.specs.Inner.Untold.{untold_chair}
-use Rattle.mj_core.specs.Inner.States.{TakesNext, is_due, CanHear, Hears}
-use Rattle.mj_core.proofs.Open.{pieces, IsSaid, begun-due, due-within}
-use Rattle.mj_core.proofs.Steps.{under, new_chair, takes-waits, takes-starts, hears-open, hears-closed, is_said-played, is_said-lawful}
+use Rattle.mj_window.specs.Slots.{empty_slots, closes}
+use Rattle.mj_rules.specs.Outcome.{outcome}
+use Rattle.mj_protocol.specs.After.{After, Chair, Verdict, verdict_on, progress_after, author_after, slots_after, due_on_return, own_part, names_of, answers_in, is_present, is_expiry, next_deed}
+use Rattle.mj_protocol.specs.Trace.{is_over}
+use Rattle.mj_protocol.specs.Sitting.{held_of}
+use Rattle.mj_protocol.specs.Laws.{CanGoOn}
+use Rattle.mj_core.specs.Calls.{open_window}
+use Rattle.mj_core.specs.Inner.Untold.{untold}
+use Rattle.mj_core.specs.Inner.States.{Position, presence_at, desk_names, chair_of, chairs_of, player_in, AreSeated, progress_of, player_of, now_of, Steps, HasWalls, MayAdd, changed, desk_after, with_next, Settles, IsStarted, CanSettle, IsInOrder, IsPatient, IsPatientAt, is_due, is_present_in, CanHear, Hears}
+use Rattle.mj_core.specs.declared.chair.Chair.{Chair as Player}
+use Rattle.mj_core.proofs.Seats.{chairs_of-get, chairs_of-length, seated-append, seated-set, presence-is, name-at-desk, changed-is, desk_after-is, held_after, held_after-present}
+use Rattle.mj_core.proofs.Steps.{makes-step, said-own, gone-own, back-own, sat-own, first_player, next-waits, next-starts, next-plays, by_closing, no-window}
+use Rattle.mj_core.proofs.Ended.{no_outcome}
 
--- The pieces of a state that has taken the next seat are these.
-pub record TakesChair (deeds : List Deed) (chairs all : List Chair) (author : ℕ) (join : JoinLine) : Type 0 where
-  pub chair : Chair
-  pub before : (length deeds == 0) ≡ true
-  pub new : chair ≡ untold_chair (new_chair author join)
-  pub all_is : all ≡ chairs ++ chair ∷ []
+abbrev pub position : Rules → List Deed → List Held → List Player → Four (Option Answer) → Position
+position rules deeds desk players slots = record { rules = rules; deeds = deeds; desk = desk; players = players; slots = slots }
 
-pub seat-waits : (rules : Rules) (deeds : List Deed) (chairs all : List Chair) (slots : Four (Option Answer)) (author : ℕ) (join : JoinLine) → TakesChair deeds chairs all author join
-    → (length chairs ≡ 3 → ⊥) → TakesNext (under rules (pieces deeds chairs slots)) (under rules (pieces deeds all slots)) author join
-seat-waits rules deeds chairs all slots author join s h =
-    let P : List Chair → Type 0 = λ cs. TakesNext (under rules (pieces deeds chairs slots)) (under rules (pieces deeds cs slots)) author join in
-    subst P (sym s.all_is) (takes-waits rules (pieces deeds chairs slots) author join s.chair s.before (ap untold_chair s.new)
-    (not_four (length (chairs ++ s.chair ∷ [])) (length chairs) (length-append chairs (s.chair ∷ [])) h))
+-- The player of a seat is in its chair.
+pub player-at : (desk : List Held) (players : List Player) (seat : ℕ) → length players ≡ length desk → slice_get players seat ≡ option_map player_in (slice_get (chairs_of desk players) seat)
+player-at [] [] seat e = refl
+player-at [] (q ∷ players) seat e = absurd (omega arith)
+player-at (d ∷ desk) [] seat e = absurd (omega arith)
+player-at (d ∷ desk) (q ∷ players) zero e = refl
+player-at (d ∷ desk) (q ∷ players) (suc seat) e = player-at desk players seat (less (length players) (length desk) e)
   where
-    not_four : (n m : ℕ) → n ≡ m + 1 → (m ≡ 3 → ⊥) → (n == 4) ≡ false
-    not_four n m e h = grind (arith, e, h)
+    less : (a b : ℕ) → suc a ≡ suc b → a ≡ b
+    less a b e = omega arith
 
-pub seat-starts : (rules after_rules : Rules) (deeds : List Deed) (chairs all : List Chair) (slots : Four (Option Answer)) (author : ℕ) (join : JoinLine) (names : Four (List ℕ)) → after_rules ≡ rules → (s : TakesChair deeds chairs all author join)
-    → length chairs ≡ 3 → names ≡ names_of (chairs ++ s.chair ∷ [])
-    → TakesNext (under rules (pieces deeds chairs slots)) (under after_rules (pieces (deeds ++ StartGame names ∷ []) all empty_slots)) author join
-seat-starts rules after_rules deeds chairs all slots author join names e s three n =
-    let P : List Chair → Type 0 = λ cs. TakesNext (under rules (pieces deeds chairs slots)) (under after_rules (pieces (deeds ++ StartGame names ∷ []) cs empty_slots)) author join in
-    subst P (sym s.all_is) (takes-starts rules after_rules (pieces deeds chairs slots) author join s.chair names e s.before (ap untold_chair s.new)
-    (length-append chairs (s.chair ∷ []) ∙ ap (λ (m : ℕ). m + 1) three) n)
+-- The desk behind a join.
+pub desk-behind : (desk after_desk : List Held) (players : List Player) (join : JoinLine) (place right : Placed) → AreSeated desk players → placed (map held_of (chairs_of desk players)) join ≡ right → place ≡ placed desk join
+    → after_desk ≡ seated desk join place → after_desk ≡ seated desk join right
+desk-behind desk after_desk players join place right s p e d = d ∙ ap (seated desk join) (e ∙ ap (λ (hs : List Held). placed hs join) (sym s.held) ∙ p)
+
+-- The next seat is taken.
+not_four : (n m : ℕ) → n ≡ m → (n ≡ 4 → ⊥) → (m == 4) ≡ false
+not_four n m e ne = elim (eqb_tells m 4) [ inl p ↦ absurd (ne (e ∙ p.1)) | inr p ↦ p.0 ]
+
+is_four : (n m : ℕ) → n ≡ m → n ≡ 4 → (m == 4) ≡ true
+is_four n m e f = elim (eqb_tells m 4) [ inl p ↦ p.0 | inr p ↦ absurd (p.1 (sym e ∙ f)) ]
+
+-- What is known of the pieces of a state whose next seat is taken.
+pub record TakesChair (deeds : List Deed) (desk after_desk : List Held) (players all : List Player) (author : ℕ) (join : JoinLine) : Type 0 where
+  pub unbegun : (length deeds == 0) ≡ true
+  pub seats : AreSeated desk players
+  pub desk_is : after_desk ≡ desk ++ new_held join ∷ []
+  pub all_is : all ≡ players ++ first_player author ∷ []
+
+pub takes-seated : (deeds : List Deed) (desk after_desk : List Held) (players all : List Player) (author : ℕ) (join : JoinLine) → TakesChair deeds desk after_desk players all author join → AreSeated after_desk all
+takes-seated deeds desk after_desk players all author join t =
+    subst (λ (ds : List Held). AreSeated ds all) (sym t.desk_is)
+    (subst (λ (ps : List Player). AreSeated (desk ++ new_held join ∷ []) ps) (sym t.all_is) (seated-append desk players (new_held join) (first_player author) t.seats refl))
+
+takes-own : (setting : Setting) (rules : Rules) (deeds : List Deed) (desk after_desk : List Held) (players all : List Player) (slots : Four (Option Answer)) (author : ℕ) (join : JoinLine) → TakesChair deeds desk after_desk players all author join
+    → untold (now_of (position rules deeds after_desk all slots)) ≡ untold (own_part setting (now_of (position rules deeds desk players slots)) (Sat author join.name join.key))
+takes-own setting rules deeds desk after_desk players all slots author join t =
+    ap (λ (ds : List Held). untold (now_of (position rules deeds ds all slots))) t.desk_is
+    ∙ ap (λ (ps : List Player). untold (now_of (position rules deeds (desk ++ new_held join ∷ []) ps slots))) t.all_is
+    ∙ sat-own setting (position rules deeds desk players slots) author join t.seats.many
+
+pub seat-waits : (rules : Rules) (deeds : List Deed) (desk after_desk : List Held) (players all : List Player) (slots : Four (Option Answer)) (author held : ℕ) (join : JoinLine) → TakesChair deeds desk after_desk players all author join
+    → held ≡ length after_desk → (held ≡ 4 → ⊥) → (setting : Setting) → Steps setting (position rules deeds desk players slots) (position rules deeds after_desk all slots) (Sat author join.name join.key)
+seat-waits rules deeds desk after_desk players all slots author held join t h ne setting =
+    let middle : Position = position rules deeds after_desk all slots in
+    let four : (length (now_of middle).chairs == 4) ≡ false = not_four held (length (chairs_of after_desk all)) (h ∙ sym (chairs_of-length after_desk all (takes-seated deeds desk after_desk players all author join t).many)) ne in
+    makes-step setting (position rules deeds desk players slots) middle middle (Sat author join.name join.key) refl
+    (takes-own setting rules deeds desk after_desk players all slots author join t)
+    (sym (ap (with_next middle) (next-waits setting (now_of middle) (Sat author join.name join.key) t.unbegun four)))
+
+pub seat-starts : (rules after_rules : Rules) (deeds : List Deed) (desk after_desk : List Held) (players all : List Player) (slots : Four (Option Answer)) (author held : ℕ) (join : JoinLine) (names : Four (List ℕ)) → after_rules ≡ rules
+    → TakesChair deeds desk after_desk players all author join → held ≡ length after_desk → held ≡ 4 → names ≡ names_of (chairs_of after_desk all)
+    → (setting : Setting) → Steps setting (position rules deeds desk players slots) (position after_rules (deeds ++ StartGame names ∷ []) after_desk all empty_slots) (Sat author join.name join.key)
+seat-starts rules after_rules deeds desk after_desk players all slots author held join names r t h f n setting =
+    let middle : Position = position rules deeds after_desk all slots in
+    let four : (length (now_of middle).chairs == 4) ≡ true = is_four held (length (chairs_of after_desk all)) (h ∙ sym (chairs_of-length after_desk all (takes-seated deeds desk after_desk players all author join t).many)) f in
+    makes-step setting (position rules deeds desk players slots) middle (position after_rules (deeds ++ StartGame names ∷ []) after_desk all empty_slots) (Sat author join.name join.key) refl
+    (takes-own setting rules deeds desk after_desk players all slots author join t)
+    (ap (λ (x : Rules). position x (deeds ++ StartGame names ∷ []) after_desk all empty_slots) r
+    ∙ ap (λ (ns : Four (List ℕ)). position rules (deeds ++ StartGame ns ∷ []) after_desk all empty_slots) n
+    ∙ sym (ap (with_next middle) (next-starts setting (now_of middle) (Sat author join.name join.key) t.unbegun four)))
+
+pub names-at-desk : (desk : List Held) (players : List Player) → AreSeated desk players
+    → desk_names desk ≡ names_of (chairs_of desk players)
+names-at-desk desk players s =
+    let a = name-at-desk desk players 0 s in
+    let b = name-at-desk desk players 1 s in
+    let c = name-at-desk desk players 2 s in
+    let d = name-at-desk desk players 3 s in
+    λ i. record { first = a i; second = b i; third = c i; fourth = d i }
 
 -- The start of a game is its first deed.
 start_first : (red : Bool) (names : Four (List ℕ)) → fits red [] (StartGame names) ≡ true
@@ -62,81 +123,206 @@ start-fits red (deed ∷ deeds) names h = absurd (more (length deeds) h)
     more : (n : ℕ) → (suc n == 0) ≡ true → ⊥
     more n h = grind (arith, h)
 
+-- No deed comes where no window is open, or the open one isn't closed.
+next-none : (setting : Setting) (now : After) (entry : Entry Answer) → is_expiry entry ≡ false → IsStarted now → (is_some (open_window now.deeds) && closes now.slots (map is_present now.chairs)) ≡ false → next_deed setting now entry ≡ None
+next-none setting now entry x s h = by (length now.deeds == 0) refl
+  where
+    shut : (shown ready : Bool) → is_some (open_window now.deeds) ≡ shown → closes now.slots (map is_present now.chairs) ≡ ready → (shown && ready) ≡ false → (length now.deeds == 0) ≡ false → next_deed setting now entry ≡ None
+    shut shown false o r k d = next-plays setting now entry false d (by_closing (is_expiry entry) _ false x r)
+    shut false true o r k d = next-plays setting now entry true d (by_closing (is_expiry entry) _ true x r) ∙ no_outcome setting.rules setting.walls now.deeds _ (no-window now.deeds o d)
+    shut true true o r k d = cc
+
+    by : (none : Bool) → (length now.deeds == 0) ≡ none → next_deed setting now entry ≡ None
+    by true d = next-waits setting now entry d (s ∙ ap not d)
+    by false d = shut (is_some (open_window now.deeds)) (closes now.slots (map is_present now.chairs)) refl refl h d
+
+open-begun : (deeds : List Deed) → is_some (open_window deeds) ≡ true → (length deeds == 0) ≡ false
+open-begun deeds h = by (length deeds == 0) (is_over deeds) (length deeds - 1) h
+  where
+    by : (none over : Bool) (n : ℕ) → is_some (if not none && not over then Some n else None) ≡ true → none ≡ false
+    by true over n k = cc
+    by false over n k = refl
+
+next-some : (setting : Setting) (now : After) (entry : Entry Answer) (deed : Deed) → (length now.deeds == 0) ≡ false → (is_expiry entry || closes now.slots (map is_present now.chairs)) ≡ true
+    → outcome setting.rules setting.walls now.deeds (answers_in setting.rules now.deeds now.slots) ≡ Some deed → next_deed setting now entry ≡ Some deed
+next-some setting now entry deed d c o = next-plays setting now entry true d c ∙ o
+
+-- A seat has changed.
+settled-many : (old : Position) (seat : ℕ) (desk : List Held) (player : Player) → length old.players ≡ length old.desk → AreSeated desk (slice_set old.players seat player)
+    → length (chairs_of desk (slice_set old.players seat player)) ≡ length (chairs_of old.desk old.players)
+settled-many old seat desk player m s =
+    chairs_of-length desk (slice_set old.players seat player) s.many ∙ sym s.many ∙ length-set old.players seat player ∙ m ∙ sym (chairs_of-length old.desk old.players m)
+
+four-started : (n : ℕ) (none : Bool) → (n == 4) ≡ not none → none ≡ false → n ≡ 4
+four-started n true h e = cc
+four-started n false h e = elim (eqb_tells n 4) [ inl p ↦ p.1 | inr p ↦ absurd (true≢false (sym h ∙ p.0)) ]
+
+settled-presence : (setting : Setting) (old : Position) (seat : ℕ) (desk : List Held) (player : Player) (slots : Four (Option Answer)) → length old.players ≡ length old.desk → CanSettle setting old seat desk player slots
+    → (length old.deeds == 0) ≡ false → presence_at desk ≡ map is_present (chairs_of desk (slice_set old.players seat player))
+settled-presence setting old seat desk player slots m c d =
+    presence-is desk (slice_set old.players seat player) c.seated
+    (sym (chairs_of-length desk (slice_set old.players seat player) c.seated.many) ∙ settled-many old seat desk player m c.seated ∙ four-started (length (chairs_of old.desk old.players)) (length old.deeds == 0) c.started d)
+
+-- The window stays open.
+pub settles-open : (setting : Setting) (old : Position) (seat : ℕ) (desk : List Held) (player : Player) (slots : Four (Option Answer)) → length old.players ≡ length old.desk → CanSettle setting old seat desk player slots
+    → (is_some (open_window old.deeds) && closes slots (presence_at desk)) ≡ false
+    → Settles setting (changed old desk (slice_set old.players seat player) slots) (changed old desk (slice_set old.players seat player) slots)
+settles-open setting old seat desk player slots m c h entry x =
+    let middle : Position = changed old desk (slice_set old.players seat player) slots in
+    let started : IsStarted (now_of middle) = ap (λ (n : ℕ). n == 4) (settled-many old seat desk player m c.seated) ∙ c.started in
+    sym (ap (with_next middle) (next-none setting (now_of middle) entry x started (by (is_some (open_window old.deeds)) refl h)))
+  where
+    by : (shown : Bool) → is_some (open_window old.deeds) ≡ shown → (shown && closes slots (presence_at desk)) ≡ false
+        → (is_some (open_window old.deeds) && closes slots (map is_present (chairs_of desk (slice_set old.players seat player)))) ≡ false
+    by false o k = ap (λ (b : Bool). b && closes slots (map is_present (chairs_of desk (slice_set old.players seat player)))) o
+    by true o k =
+        ap (λ (b : Bool). b && closes slots (map is_present (chairs_of desk (slice_set old.players seat player)))) o
+        ∙ ap (closes slots) (sym (settled-presence setting old seat desk player slots m c (open-begun old.deeds o))) ∙ k
+
+-- The window closes, and the next deed comes.
+pub settles-closed : (setting : Setting) (old new : Position) (seat : ℕ) (desk : List Held) (player : Player) (slots : Four (Option Answer)) (deed : Deed) → length old.players ≡ length old.desk → CanSettle setting old seat desk player slots
+    → is_some (open_window old.deeds) ≡ true → closes slots (presence_at desk) ≡ true
+    → outcome setting.rules setting.walls old.deeds (answers_in setting.rules old.deeds slots) ≡ Some deed
+    → new ≡ with_next (changed old desk (slice_set old.players seat player) slots) (Some deed)
+    → Settles setting (changed old desk (slice_set old.players seat player) slots) new
+settles-closed setting old new seat desk player slots deed m c o r f e entry x =
+    let middle : Position = changed old desk (slice_set old.players seat player) slots in
+    let begun : (length old.deeds == 0) ≡ false = open-begun old.deeds o in
+    let ready : closes slots (map is_present (chairs_of desk (slice_set old.players seat player))) ≡ true =
+    ap (closes slots) (sym (settled-presence setting old seat desk player slots m c begun)) ∙ r in
+    e ∙ sym (ap (with_next middle) (next-some setting (now_of middle) entry deed begun (by_closing (is_expiry entry) _ true x ready) f))
+
+-- The time of the open window has run out.
+expired-own : (setting : Setting) (now : After) (author window t1 t2 : ℕ) → own_part setting now (Expired author window t1 t2) ≡ now
+unfolding own_part
+expired-own setting now author window t1 t2 = refl
+
+pub expires : (setting : Setting) (old new : Position) (deed : Deed) → is_some (open_window old.deeds) ≡ true → outcome setting.rules setting.walls old.deeds (answers_in setting.rules old.deeds old.slots) ≡ Some deed
+    → new ≡ with_next old (Some deed) → (author window t1 t2 : ℕ) → Steps setting old new (Expired author window t1 t2)
+expires setting old new deed o f e author window t1 t2 =
+    makes-step setting old old new (Expired author window t1 t2) refl (ap untold (sym (expired-own setting (now_of old) author window t1 t2)))
+    (e ∙ sym (ap (with_next old) (next-some setting (now_of old) (Expired author window t1 t2) deed (open-begun old.deeds o) refl f)))
+
+-- A seat that is held.
+pub held-within : (old : Position) (seat : ℕ) → AreSeated old.desk old.players → seat < length (now_of old).chairs → seat < length old.players
+held-within old seat s h = subst (λ (n : ℕ). seat < n) (chairs_of-length old.desk old.players s.many ∙ sym s.many) h
+
+some-chair : (o : Option Chair) (test : Chair → Bool) → option_map_or test o false ≡ true → (chair : Chair) × (o ≡ Some chair)
+some-chair None test h = cc
+some-chair (Some chair) test h = (chair, refl)
+
+pub due-within : (old : Position) (seat : ℕ) → AreSeated old.desk old.players → is_due (now_of old) seat ≡ true → seat < length old.players
+due-within old seat s h =
+    let k = some-chair (slice_get (now_of old).chairs seat) (λ (chair : Chair). nat_lt chair.progress.due (length old.deeds)) h in
+    held-within old seat s (slice_get_within (now_of old).chairs seat k.0 k.1)
+
+pub present-within : (old : Position) (seat : ℕ) → AreSeated old.desk old.players → is_present_in (now_of old) seat ≡ true → seat < length old.players
+present-within old seat s h =
+    let k = some-chair (slice_get (now_of old).chairs seat) is_present h in
+    held-within old seat s (slice_get_within (now_of old).chairs seat k.0 k.1)
+
+-- A desk has those present that are so by an author.
+held-present : (cs : List Chair) (k : ℕ) → is_present_at (map held_of cs) k ≡ option_map_or is_present (slice_get cs k) false
+held-present [] k = refl
+held-present (c ∷ cs) zero = refl
+held-present (c ∷ cs) (suc k) = held-present cs k
+
+pub present-at-desk : (old : Position) (seat : ℕ) → AreSeated old.desk old.players → is_present_in (now_of old) seat ≡ true → is_present_at old.desk seat ≡ true
+present-at-desk old seat s h = ap (λ (d : List Held). is_present_at d seat) (sym s.held) ∙ held-present (chairs_of old.desk old.players) seat ∙ h
+
 -- The chair that was read.
-pub read-chair : (now : After) (seat place : ℕ) (chair : Chair) → is_due now seat ≡ true → place ≡ seat → chair ≡ get_or now.chairs place chair → slice_get now.chairs seat ≡ Some chair
-read-chair now seat place chair due at read =
-    slice_get-get_or now.chairs seat chair (due-within now seat due) ∙ ap Some (ap (λ (i : ℕ). get_or now.chairs i chair) (sym at) ∙ sym read)
+pub read-chair : (players : List Player) (seat place : ℕ) (player : Player) → seat < length players → place ≡ seat → player ≡ get_or players place player → slice_get players seat ≡ Some player
+read-chair players seat place player h at read =
+    slice_get-get_or players seat player h ∙ ap Some (ap (λ (i : ℕ). get_or players i player) (sym at) ∙ sym read)
 
--- The verdict, by the deeds of the table and its rules.
-pub judged-at : (setting : Setting) (rules : Rules) (deeds told : List Deed) (seat : ℕ) (answer : Answer) (chair : Chair) (verdict : Verdict) → rules ≡ setting.rules → told ≡ deeds → verdict ≡ verdict_on rules told seat answer chair.progress
-    → verdict ≡ verdict_on setting.rules deeds seat answer chair.progress
-judged-at setting rules deeds told seat answer chair verdict r d judged = judged ∙ (λ i. verdict_on (r i) (d i) seat answer chair.progress)
-
--- What is known when the held seat that was read has answered.
-pub is_said : (setting : Setting) (rules : Rules) (deeds told : List Deed) (chairs : List Chair) (before : Four (Option Answer)) (seat place : ℕ) (answer : Answer) (chair next : Chair) (verdict : Verdict) (slots : Four (Option Answer))
-    → CanHear setting (under rules (pieces deeds chairs before)) seat answer → told ≡ deeds → place ≡ seat → chair ≡ get_or chairs place chair → verdict ≡ verdict_on rules told seat answer chair.progress
-    → is_verdict_built chair.progress.refused verdict ≡ true → ((lines : List (List ℕ)) → next ≡ untold_chair (record chair { progress = progress_after lines verdict chair.progress }))
-    → slots ≡ slots_after verdict before seat answer → IsSaid setting (pieces deeds chairs before) seat answer chair next verdict slots
-is_said setting rules deeds told chairs before seat place answer chair next verdict slots k same at read judged may on filling = record {
-  begun = begun-due (pieces deeds chairs before) seat k.due;
-  due = k.due;
-  held = read-chair (pieces deeds chairs before) seat place chair k.due at read;
-  judged = judged-at setting rules deeds told seat answer chair verdict k.rules same judged;
-  may = may;
-  filling = filling;
-  on = ap untold_chair (on (lines_for seat deeds));
+-- A seat that leaves, and one that is taken back.
+pub leaves-can : (setting : Setting) (old : Position) (seat : ℕ) (h : Held) (player next : Player) (desk : List Held) (change : Held → Held) → HasWalls setting old → IsInOrder (now_of old) → MayAdd setting old.deeds old.slots → AreSeated old.desk old.players
+    → slice_get old.desk seat ≡ Some h → seat < length old.players → desk ≡ changed_at old.desk seat change → (change h).present ≡ is_some next.author → CanSettle setting old seat desk next old.slots
+leaves-can setting old seat h player next desk change g o m s at k d p = record {
+  ground = g;
+  held = k;
+  seated = subst (λ (ds : List Held). AreSeated ds (slice_set old.players seat next)) (sym (d ∙ changed-is old.desk seat change h at)) (seated-set old.desk old.players seat (change h) next s p);
+  started = o.started;
+  may = m;
 }
 
--- The chair that was read is put back as it has come on.
-pub is_said-open : (setting : Setting) (rules : Rules) (deeds : List Deed) (chairs : List Chair) (before : Four (Option Answer)) (seat place : ℕ) (answer : Answer) (chair next : Chair) (verdict : Verdict) (slots : Four (Option Answer))
-    → CanHear setting (under rules (pieces deeds chairs before)) seat answer → place ≡ seat → IsSaid setting (pieces deeds chairs before) seat answer chair next verdict slots
-    → None ≡ (if goes_on (newest deeds) && is_window_closed slots then Some (answers_in slots) else None)
-    → Hears setting (under rules (pieces deeds chairs before)) (under rules (pieces deeds (slice_set chairs place next) slots)) seat answer verdict
-is_said-open setting rules deeds chairs before seat place answer chair next verdict slots k at s r =
-    rw at (hears-open setting rules (pieces deeds chairs before) seat answer chair next verdict slots s k.four k.empty (not_ready (goes_on (newest deeds) && is_window_closed slots) (answers_in slots) r))
-  where
-    not_ready : (b : Bool) (given : Four Answer) → None ≡ (if b then Some given else None) → b ≡ false
-    not_ready true given h = cc
-    not_ready false given h = refl
+-- An answer of a seat.
+pub due-at : (old : Position) (seat : ℕ) (h : Held) (p : Player) → slice_get old.desk seat ≡ Some h → slice_get old.players seat ≡ Some p → is_due (now_of old) seat ≡ true → p.due < length old.deeds
+due-at old seat h p d c due =
+    ltb-true p.due (length old.deeds)
+    (sym (ap (λ (o : Option Chair). option_map_or (λ (chair : Chair). nat_lt chair.progress.due (length old.deeds)) o false) (chairs_of-get old.desk old.players seat h p d c)) ∙ due)
 
--- All four have answered, and these are their answers.
-all_given : (on closed : Bool) (given found : Four Answer) → Some found ≡ (if on && closed then Some given else None) → (on ≡ true) × (closed ≡ true) × (found ≡ given)
-all_given true true given found h = (refl, refl, cc)
-all_given true false given found h = cc
-all_given false closed given found h = cc
+pub refused-at : (old : Position) (seat : ℕ) (h : Held) (p : Player) → slice_get old.desk seat ≡ Some h → slice_get old.players seat ≡ Some p → IsInOrder (now_of old) → is_present_in (now_of old) seat ≡ true → p.refused ≤ 15
+refused-at old seat h p d c o here =
+    let is : slice_get (chairs_of old.desk old.players) seat ≡ Some (chair_of h p) = chairs_of-get old.desk old.players seat h p d c in
+    let patient : IsPatient old.deeds (chair_of h p) = subst (IsPatientAt old.deeds) is (o.patient seat) in
+    patient.refused (sym (ap (λ (x : Option Chair). option_map_or is_present x false) is) ∙ here)
 
--- The deed that follows, over the deeds of the table and the walls that it was given.
-follows : (rules kept : Rules) (walls others : List (List ℕ)) (deeds told : List Deed) (given found : Four Answer) (deed : Option Deed) → kept ≡ rules → others ≡ walls → told ≡ deeds → found ≡ given → deed ≡ outcome kept others told found → outcome rules walls deeds given ≡ deed
-follows rules kept walls others deeds told given found deed r w e g o = sym (o ∙ (λ i. outcome (r i) (w i) (e i) (g i)))
+-- What is known once it has its verdict.
+pub record IsSaid (setting : Setting) (old : Position) (seat : ℕ) (answer : Answer) (h : Held) (p next : Player) (v : Verdict) (slots : Four (Option Answer)) : Type 0 where
+  pub at_desk : slice_get old.desk seat ≡ Some h
+  pub at_chair : slice_get old.players seat ≡ Some p
+  pub present : h.present ≡ is_some p.author
+  pub judged : v ≡ verdict_on setting.rules old.deeds seat answer (progress_of p)
+  pub on : (lines : List (List ℕ)) → next ≡ player_of (author_after v p.author) (progress_after lines v (progress_of p))
+  pub filled : slots ≡ slots_after v old.slots seat answer
 
-pub is_said-closed : (after_rules : Rules) (place : ℕ) (deed : Deed) (setting : Setting) (rules : Rules) (deeds told : List Deed) (walls : List (List ℕ)) (chairs : List Chair) (before : Four (Option Answer)) (seat : ℕ) (answer : Answer) (chair next : Chair) (verdict : Verdict) (slots : Four (Option Answer)) (found : Four Answer)
-    → after_rules ≡ rules → rules ≡ setting.rules → walls ≡ setting.walls → told ≡ deeds → place ≡ seat → IsSaid setting (pieces deeds chairs before) seat answer chair next verdict slots
-    → Some found ≡ (if goes_on (newest deeds) && is_window_closed slots then Some (answers_in slots) else None) → Some deed ≡ outcome rules walls told found
-    → Hears setting (under rules (pieces deeds chairs before)) (under after_rules (pieces (deeds ++ deed ∷ []) (slice_set chairs place next) empty_slots)) seat answer verdict
-is_said-closed after_rules place deed setting rules deeds told walls chairs before seat answer chair next verdict slots found e same w d at s r o =
-    let g = all_given (goes_on (newest deeds)) (is_window_closed slots) (answers_in slots) found r in
-    rw at (hears-closed setting rules after_rules (pieces deeds chairs before) seat answer chair next verdict slots deed e s g.1 (follows setting.rules rules setting.walls walls deeds told (answers_in slots) found (Some deed) same w d g.2 o))
+said-middle : (setting : Setting) (old : Position) (author seat : ℕ) (answer : Answer) (h : Held) (p next : Player) (v : Verdict) (slots : Four (Option Answer)) → IsSaid setting old seat answer h p next v slots
+    → untold (now_of (changed old (desk_after v old.desk seat) (slice_set old.players seat next) slots)) ≡ untold (own_part setting (now_of old) (Said author seat answer))
+said-middle setting old author seat answer h p next v slots s = said-own setting old author seat answer h p next v slots s.at_desk s.at_chair s.judged s.on s.filled
 
--- The deeds of the table are played, and the four answers lawful.
-pub given-played : (setting : Setting) (rules : Rules) (deeds told : List Deed) (walls : List (List ℕ)) (chairs : List Chair) (before : Four (Option Answer)) (seat : ℕ) (answer : Answer) (chair next : Chair) (verdict : Verdict) (slots : Four (Option Answer)) (found : Four Answer)
-    → CanHear setting (under rules (pieces deeds chairs before)) seat answer → walls ≡ setting.walls → told ≡ deeds → IsSaid setting (pieces deeds chairs before) seat answer chair next verdict slots
-    → IsPlayed rules walls told
-given-played setting rules deeds told walls chairs before seat answer chair next verdict slots found k w d s =
-    let played : IsPlayed setting.rules setting.walls deeds = is_said-played setting (pieces deeds chairs before) 0 seat answer chair next verdict slots s (k.going 0) in
-    rw (k.rules, w, d) played
+may-add-same : (setting : Setting) (now other : After) → untold now ≡ untold other → CanGoOn setting other → MayAdd setting now.deeds now.slots
+may-add-same setting now other e c =
+    let may : MayAdd setting other.deeds other.slots = record { played = c.played; lawful = c.ready } in
+    subst (λ (slots : Four (Option Answer)). MayAdd setting now.deeds slots) (sym (ap (λ (n : After). n.slots) e))
+    (subst (λ (deeds : List Deed). MayAdd setting deeds other.slots) (sym (ap (λ (n : After). n.deeds) e)) may)
 
-pub given-lawful : (setting : Setting) (rules : Rules) (deeds told : List Deed) (walls : List (List ℕ)) (chairs : List Chair) (before : Four (Option Answer)) (seat : ℕ) (answer : Answer) (chair next : Chair) (verdict : Verdict) (slots : Four (Option Answer)) (found : Four Answer)
-    → CanHear setting (under rules (pieces deeds chairs before)) seat answer → told ≡ deeds → IsSaid setting (pieces deeds chairs before) seat answer chair next verdict slots
-    → Some found ≡ (if goes_on (newest deeds) && is_window_closed slots then Some (answers_in slots) else None) → AllLawful rules told found
-given-lawful setting rules deeds told walls chairs before seat answer chair next verdict slots found k d s r =
-    let g = all_given (goes_on (newest deeds)) (is_window_closed slots) (answers_in slots) found r in
-    let lawful : AllLawful setting.rules deeds (answers_in slots) = is_said-lawful setting (pieces deeds chairs before) 0 seat answer chair next verdict slots s (k.going 0) g.1 in
-    rw (k.rules, d, g.2) lawful
+next-author : (v : Verdict) (lines : List (List ℕ)) (p next : Player) → next ≡ player_of (author_after v p.author) (progress_after lines v (progress_of p)) → author_after v p.author ≡ next.author
+next-author v lines p next e = sym (ap (λ (q : Player). q.author) e)
 
--- The game goes on.
-pub given-on : (deeds told : List Deed) (slots : Four (Option Answer)) (found : Four Answer) → told ≡ deeds → Some found ≡ (if goes_on (newest deeds) && is_window_closed slots then Some (answers_in slots) else None) → goes_on (newest told) ≡ true
-given-on deeds told slots found d r = rw d (all_given (goes_on (newest deeds)) (is_window_closed slots) (answers_in slots) found r).0
+pub hears-can : (setting : Setting) (old : Position) (seat : ℕ) (answer : Answer) (h : Held) (p next : Player) (v : Verdict) (desk : List Held) (slots : Four (Option Answer)) → CanHear setting old seat answer → AreSeated old.desk old.players
+    → IsSaid setting old seat answer h p next v slots → desk ≡ desk_after v old.desk seat → CanSettle setting old seat desk next slots
+hears-can setting old seat answer h p next v desk slots k a s d =
+    let middle : Position = changed old (desk_after v old.desk seat) (slice_set old.players seat next) slots in
+    record {
+      ground = k.ground;
+      held = due-within old seat a k.due;
+      seated =
+          subst (λ (ds : List Held). AreSeated ds (slice_set old.players seat next)) (sym (d ∙ desk_after-is v old.desk seat h s.at_desk))
+          (seated-set old.desk old.players seat (held_after v h) next a (held_after-present v h p.author s.present ∙ ap is_some (next-author v [] p next (s.on []))));
+      started = k.order.started;
+      may = may-add-same setting (now_of middle) (own_part setting (now_of old) (Said 0 seat answer)) (said-middle setting old 0 seat answer h p next v slots s) (k.going 0);
+    }
 
--- The place that was read lies within the chairs.
-pub place-within : (deeds : List Deed) (chairs : List Chair) (slots : Four (Option Answer)) (seat place len : ℕ) → is_due (pieces deeds chairs slots) seat ≡ true → place ≡ seat → len ≡ length chairs → place < len
-place-within deeds chairs slots seat place len due at n = let k : seat < length chairs = due-within (pieces deeds chairs slots) seat due in omega arith
+pub hears : (setting : Setting) (old new : Position) (seat : ℕ) (answer : Answer) (h : Held) (p next : Player) (v : Verdict) (desk : List Held) (slots : Four (Option Answer)) → IsSaid setting old seat answer h p next v slots → desk ≡ desk_after v old.desk seat
+    → Settles setting (changed old desk (slice_set old.players seat next) slots) new → Hears setting old new seat answer v
+hears setting old new seat answer h p next v desk slots s d settled = record {
+  judged = ap (option_map (λ (chair : Chair). verdict_on setting.rules old.deeds seat answer chair.progress)) (chairs_of-get old.desk old.players seat h p s.at_desk s.at_chair) ∙ ap Some (sym s.judged);
+  entered = λ author.
+      let middle : Position = changed old desk (slice_set old.players seat next) slots in
+      makes-step setting old middle new (Said author seat answer) refl
+      (ap (λ (ds : List Held). untold (now_of (changed old ds (slice_set old.players seat next) slots))) d ∙ said-middle setting old author seat answer h p next v slots s)
+      (settled (Said author seat answer) refl);
+}
+
+-- A seat leaves.
+pub leaves : (setting : Setting) (old new : Position) (seat : ℕ) (h : Held) (p next : Player) (desk : List Held) → slice_get old.desk seat ≡ Some h → slice_get old.players seat ≡ Some p → desk ≡ changed_at old.desk seat gone
+    → next ≡ (let q : Player = record { author = None; due = p.due; refused = p.refused } in q) → Settles setting (changed old desk (slice_set old.players seat next) old.slots) new → (author : ℕ) → Steps setting old new (Gone author seat)
+leaves setting old new seat h p next desk d c e n settled author =
+    makes-step setting old (changed old desk (slice_set old.players seat next) old.slots) new (Gone author seat) refl
+    (ap (λ (ds : List Held). untold (now_of (changed old ds (slice_set old.players seat next) old.slots))) e
+    ∙ ap (λ (q : Player). untold (now_of (changed old (changed_at old.desk seat gone) (slice_set old.players seat q) old.slots))) n
+    ∙ gone-own setting old author seat h p d c)
+    (settled (Gone author seat) refl)
+
+-- A seat is taken back.
+pub returns : (setting : Setting) (old new : Position) (author seat due : ℕ) (h : Held) (p next : Player) (desk : List Held) → slice_get old.desk seat ≡ Some h → slice_get old.players seat ≡ Some p → desk ≡ changed_at old.desk seat came_back
+    → due ≡ due_on_return (now_of old) seat → next ≡ (let q : Player = record { author = Some author; due = due; refused = 0 } in q) → Settles setting (changed old desk (slice_set old.players seat next) old.slots) new
+    → Steps setting old new (Back author seat)
+returns setting old new author seat due h p next desk d c e n q settled =
+    makes-step setting old (changed old desk (slice_set old.players seat next) old.slots) new (Back author seat) refl
+    (ap (λ (ds : List Held). untold (now_of (changed old ds (slice_set old.players seat next) old.slots))) e
+    ∙ ap (λ (x : Player). untold (now_of (changed old (changed_at old.desk seat came_back) (slice_set old.players seat x) old.slots)))
+    (q ∙ ap (λ (m : ℕ). let r : Player = record { author = Some author; due = m; refused = 0 } in r) n)
+    ∙ back-own setting old author seat h p d c)
+    (settled (Back author seat) refl)

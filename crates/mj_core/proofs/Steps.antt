@@ -1,11 +1,12 @@
 -- What a state does is what the entries come to.
-use Rattle.std.proofs.Common.{◌≡◌, ℕ, ◌==◌, ◌&&◌, suc, List, [], ◌∷◌, ◌++◌, length, map, Bool, true, false, Option, Some, None, refl, ap, ◌∙◌, sym, subst, ◌≤◌}
-use Rattle.std.specs.Prelude.{slice_get, slice_set, option_map, if◌then◌else◌}
+use Rattle.std.proofs.Common.{◌≡◌, ℕ, ◌+◌, ◌-◌, ◌==◌, ◌&&◌, ◌||◌, not, List, [], ◌∷◌, ◌++◌, length, map, Bool, true, false, refl, ap, ◌∙◌, sym}
+use Rattle.std.specs.Prelude.{if◌then◌else◌, Option, Some, None, is_some, slice_get, slice_set}
 use Rattle.std.specs.Option.{option_map_or}
-use Rattle.std.proofs.lemmas.List.{map-set, map-append, length-set}
+use Rattle.std.proofs.lemmas.List.{map-append, map-set}
 use Rattle.mj_ports.specs.declared.entry.Entry.{Entry}
-use Rattle.mj_ports.specs.declared.entry.Entry.TheVariants.{Sat, Said}
+use Rattle.mj_ports.specs.declared.entry.Entry.TheVariants.{Sat, Back, Said, Gone}
 use Rattle.mj_ports.specs.declared.sitting.JoinLine.{JoinLine}
+use Rattle.mj_seating.specs.Sitting.{Held, changed_at, new_held, came_back, gone}
 use Rattle.mj_deeds.specs.declared.four.Four.{Four}
 use Rattle.mj_deeds.specs.declared.deed.Deed.{Deed}
 use Rattle.mj_deeds.specs.declared.deed.Deed.TheVariants.{StartGame}
@@ -13,199 +14,174 @@ use Rattle.mj_deeds.specs.declared.answer.Answer.{Answer}
 use Rattle.mj_deeds.specs.Facts.{newest}
 use Rattle.mj_wall.specs.declared.setting.Rules.{Rules}
 use Rattle.mj_wall.specs.declared.setting.Setting.{Setting}
-use Rattle.mj_rules.specs.Played.{IsPlayed, AllLawful}
+use Rattle.mj_window.specs.Slots.{closes}
 use Rattle.mj_rules.specs.Outcome.{outcome, goes_on}
-use Rattle.mj_core.proofs.Ended.{no_deed_open}
-use Rattle.mj_window.specs.Slots.{empty_slots}
-use Rattle.mj_protocol.specs.After.{After, Chair, Verdict, verdict_on, progress_after, first_progress, slots_after, is_window_closed, answers_in, lines_for, after_said, own_part, names_of, next_deed, with_deed, step}
-use Rattle.mj_protocol.specs.Laws.{CanGoOn}
-use Rattle.mj_protocol.specs.Trace.{is_verdict_built, is_heard_built, is_answer_built}
+use Rattle.mj_protocol.specs.After.{After, Chair, Verdict, Taken, Late, Refused, Closing, verdict_on, progress_after, author_after, slots_after, lines_for, after_said, after_gone, after_back, due_on_return, new_chair, own_part, names_of, answers_in, is_present, is_expiry, next_deed, with_deed, step}
+use Rattle.mj_core.specs.Calls.{open_window}
 use Rattle.mj_core.specs.Inner.Untold.{untold_chair, untold}
-use Rattle.mj_core.specs.Inner.States.{Position, IsOpen, TakesNext, state_verdict, Hears}
-use Rattle.mj_core.proofs.Same.{names_of-same, with_deed-same}
-use Rattle.mj_core.proofs.Open.{pieces, IsSaid, unbegun-open, empty-open, answered-open}
+use Rattle.mj_core.specs.Inner.States.{Position, chair_of, chairs_of, progress_of, player_of, now_of, Steps, changed, desk_after, with_next}
+use Rattle.mj_core.specs.declared.chair.Chair.{Chair as Player}
+use Rattle.mj_core.proofs.Same.{pieces, moved-same, step-is}
+use Rattle.mj_core.proofs.Seats.{chairs_of-get, chairs_of-set, chairs_of-append, changed-is, held_after, desk_after-is}
 
--- A step is what an entry changes of its own seat, and then the next deed.
-step-of : (setting : Setting) (now changed : After) (entry : Entry Answer) (deed : Option Deed) → own_part setting now entry ≡ changed → next_deed setting changed ≡ deed → step setting now entry ≡ with_deed changed deed
-unfolding step
-step-of setting now changed entry deed own next =
-    ap (λ (n : After). with_deed n (next_deed setting n)) own ∙ ap (with_deed changed) next
+-- A state that has changed as its seat's part of an entry does, and then has the next deed, has made the step.
+with_next-now : (p : Position) (deed : Option Deed) → now_of (with_next p deed) ≡ with_deed (now_of p) deed
+with_next-now p None = refl
+with_next-now p (Some deed) = refl
 
-abbrev pub under : Rules → After → Position
-under rules now = record { rules = rules; now = now }
+with_next-rules : (p : Position) (deed : Option Deed) → (with_next p deed).rules ≡ p.rules
+with_next-rules p None = refl
+with_next-rules p (Some deed) = refl
 
--- The seat that a join takes.
-abbrev pub new_chair : ℕ → JoinLine → Chair
-new_chair author join = record { author = author; name = join.name; key = join.key; progress = first_progress }
-
-sat-own : (setting : Setting) (old : After) (author : ℕ) (join : JoinLine) → own_part setting old (Sat author join.name join.key) ≡ record old { chairs = old.chairs ++ new_chair author join ∷ [] }
-unfolding own_part
-sat-own setting old author join = refl
-
--- Before the game nothing happens until four seats are held, and then it starts.
-next-waits : (setting : Setting) (now : After) → (length now.deeds == 0) ≡ true → (length now.chairs == 4) ≡ false → next_deed setting now ≡ None
-unfolding next_deed
-next-waits setting now d c = rw (d, c)
-
-next-starts : (setting : Setting) (now : After) → (length now.deeds == 0) ≡ true → (length now.chairs == 4) ≡ true → next_deed setting now ≡ Some (StartGame (names_of now.chairs))
-unfolding next_deed
-next-starts setting now d c = rw (d, c)
-
--- Afterwards the window on the newest deed decides.
-next-plays : (setting : Setting) (now : After) → (length now.deeds == 0) ≡ false → next_deed setting now ≡ (if is_window_closed now.slots then outcome setting.rules setting.walls now.deeds (answers_in now.slots) else None)
-unfolding next_deed
-next-plays setting now d = rw d
-
-untold-append : (chairs : List Chair) (chair other : Chair) → untold_chair chair ≡ untold_chair other → map untold_chair (chairs ++ chair ∷ []) ≡ map untold_chair (chairs ++ other ∷ [])
-untold-append chairs chair other e = rw (map-append untold_chair chairs (chair ∷ []), map-append untold_chair chairs (other ∷ []), e)
-
-same_length : (chairs : List Chair) (chair other : Chair) → length (chairs ++ chair ∷ []) ≡ length (chairs ++ other ∷ [])
-same_length [] chair other = refl
-same_length (c ∷ chairs) chair other = ap suc (same_length chairs chair other)
-
-one_longer : (chairs : List Chair) (chair : Chair) → length (chairs ++ chair ∷ []) ≡ suc (length chairs)
-one_longer [] chair = refl
-one_longer (c ∷ chairs) chair = ap suc (one_longer chairs chair)
-
-abbrev with_chairs : After → List Chair → After
-with_chairs now cs = record { deeds = now.deeds; chairs = cs; slots = now.slots }
-
--- The seat is taken, and the game hasn't all its seats yet.
-pub takes-waits : (rules : Rules) (old : After) (author : ℕ) (join : JoinLine) (chair : Chair) → (length old.deeds == 0) ≡ true → untold_chair chair ≡ untold_chair (new_chair author join)
-    → (length (old.chairs ++ chair ∷ []) == 4) ≡ false → TakesNext (under rules old) (under rules (with_chairs old (old.chairs ++ chair ∷ []))) author join
-takes-waits rules old author join chair d e c = record {
-  rules = refl;
-  stepped = λ setting.
-      ap (with_chairs (untold old)) (untold-append old.chairs chair (new_chair author join) e)
-      ∙ sym (ap untold (step-of setting old _ (Sat author join.name join.key) None (sat-own setting old author join)
-      (next-waits setting _ d (ap (λ n. n == 4) (same_length old.chairs (new_chair author join) chair) ∙ c))));
-  one_more = one_longer old.chairs chair;
-  started = λ k. cc;
-  empty = unbegun-open (with_chairs old (old.chairs ++ chair ∷ [])) d;
+pub makes-step : (setting : Setting) (old middle new : Position) (entry : Entry Answer) → middle.rules ≡ old.rules → untold (now_of middle) ≡ untold (own_part setting (now_of old) entry)
+    → new ≡ with_next middle (next_deed setting (now_of middle) entry) → Steps setting old new entry
+makes-step setting old middle new entry r own e = record {
+  rules = ap (λ (p : Position). p.rules) e ∙ with_next-rules middle (next_deed setting (now_of middle) entry) ∙ r;
+  stepped =
+      ap (λ (p : Position). untold (now_of p)) e ∙ ap untold (with_next-now middle (next_deed setting (now_of middle) entry))
+      ∙ moved-same setting (now_of middle) (own_part setting (now_of old) entry) entry own ∙ sym (step-is setting (now_of old) entry);
 }
 
--- The fourth seat is taken, and the game starts.
-pub takes-starts : (rules after_rules : Rules) (old : After) (author : ℕ) (join : JoinLine) (chair : Chair) (names : Four (List ℕ)) → after_rules ≡ rules → (length old.deeds == 0) ≡ true
-    → untold_chair chair ≡ untold_chair (new_chair author join) → length (old.chairs ++ chair ∷ []) ≡ 4 → names ≡ names_of (old.chairs ++ chair ∷ [])
-    → TakesNext (under rules old) (under after_rules (pieces (old.deeds ++ StartGame names ∷ []) (old.chairs ++ chair ∷ []) empty_slots)) author join
-takes-starts rules after_rules old author join chair names r d e c n = record {
-  rules = r;
-  stepped = λ setting.
-      let same : map untold_chair (old.chairs ++ chair ∷ []) ≡ map untold_chair (old.chairs ++ new_chair author join ∷ []) = untold-append old.chairs chair (new_chair author join) e in
-      let four : (length (old.chairs ++ new_chair author join ∷ []) == 4) ≡ true = ap (λ m. m == 4) (same_length old.chairs (new_chair author join) chair ∙ c) in
-      let said : names ≡ names_of (old.chairs ++ new_chair author join ∷ []) = n ∙ names_of-same _ _ same in
-      ap (λ (ns : Four (List ℕ)). let now : After = record { deeds = old.deeds ++ StartGame ns ∷ []; chairs = map untold_chair (old.chairs ++ chair ∷ []); slots = empty_slots } in now) said
-      ∙ ap (λ (cs : List Chair). let now : After = record { deeds = old.deeds ++ StartGame (names_of (old.chairs ++ new_chair author join ∷ [])) ∷ []; chairs = cs; slots = empty_slots } in now) same
-      ∙ sym (ap untold (step-of setting old _ (Sat author join.name join.key) _ (sat-own setting old author join) (next-starts setting _ d four)));
-  one_more = one_longer old.chairs chair;
-  started = λ k. c;
-  empty = empty-open (old.deeds ++ StartGame names ∷ []) (old.chairs ++ chair ∷ []);
-}
-
--- What a held seat says.
-said-own : (setting : Setting) (old : After) (author seat : ℕ) (answer : Answer) (chair : Chair) → slice_get old.chairs seat ≡ Some chair → own_part setting old (Said author seat answer) ≡ after_said setting.rules old seat answer chair
-unfolding own_part
-said-own setting old author seat answer chair h = ap (λ (o : Option Chair). option_map_or (after_said setting.rules old seat answer) o old) h
-
-abbrev gone_on : Setting → After → ℕ → Answer → Chair → Chair
-gone_on setting old seat answer chair =
-    record chair { progress = progress_after (lines_for seat old.deeds) (verdict_on setting.rules old.deeds seat answer chair.progress) chair.progress }
-
-after_said-is : (setting : Setting) (old : After) (seat : ℕ) (answer : Answer) (chair : Chair) → after_said setting.rules old seat answer chair ≡ record {
-  deeds = old.deeds;
-  chairs = slice_set old.chairs seat (gone_on setting old seat answer chair);
-  slots = slots_after (verdict_on setting.rules old.deeds seat answer chair.progress) old.slots seat answer;
-}
-unfolding after_said
-after_said-is setting old seat answer chair = refl
-
+-- Seats put together as the entry changes them.
 untold-set : (chairs : List Chair) (seat : ℕ) (chair other : Chair) → untold_chair chair ≡ untold_chair other → map untold_chair (slice_set chairs seat chair) ≡ map untold_chair (slice_set chairs seat other)
 untold-set chairs seat chair other e =
     map-set untold_chair chairs seat chair ∙ ap (λ (c : Chair). slice_set (map untold_chair chairs) seat c) e ∙ sym (map-set untold_chair chairs seat other)
 
--- What the answer changes of its own seat.
-is_said-own : (setting : Setting) (old : After) (author seat : ℕ) (answer : Answer) (chair next : Chair) (verdict : Verdict) (slots : Four (Option Answer)) → IsSaid setting old seat answer chair next verdict slots
-    → own_part setting old (Said author seat answer) ≡ pieces old.deeds (slice_set old.chairs seat (gone_on setting old seat answer chair)) slots
-is_said-own setting old author seat answer chair next verdict slots s =
-    said-own setting old author seat answer chair s.held ∙ after_said-is setting old seat answer chair
-    ∙ ap (pieces old.deeds (slice_set old.chairs seat (gone_on setting old seat answer chair)))
-    (ap (λ (v : Verdict). slots_after v old.slots seat answer) (sym s.judged) ∙ sym s.filling)
+put-untold : (desk after_desk : List Held) (players : List Player) (seat : ℕ) (h : Held) (p : Player) (other : Chair) → after_desk ≡ slice_set desk seat h → untold_chair (chair_of h p) ≡ untold_chair other
+    → map untold_chair (chairs_of after_desk (slice_set players seat p)) ≡ map untold_chair (slice_set (chairs_of desk players) seat other)
+put-untold desk after_desk players seat h p other d e =
+    ap (λ (ds : List Held). map untold_chair (chairs_of ds (slice_set players seat p))) d
+    ∙ ap (map untold_chair) (chairs_of-set desk players seat h p)
+    ∙ untold-set (chairs_of desk players) seat (chair_of h p) other e
 
-is_said-same : (setting : Setting) (old : After) (seat : ℕ) (answer : Answer) (chair next : Chair) (verdict : Verdict) (slots : Four (Option Answer)) → IsSaid setting old seat answer chair next verdict slots
-    → map untold_chair (slice_set old.chairs seat next) ≡ map untold_chair (slice_set old.chairs seat (gone_on setting old seat answer chair))
-is_said-same setting old seat answer chair next verdict slots s =
-    untold-set old.chairs seat next _
-    (s.on ∙ ap (λ (v : Verdict). untold_chair (record chair { progress = progress_after (lines_for seat old.deeds) v chair.progress })) s.judged)
+-- A seat says something.
+said-chair : (lines : List (List ℕ)) (v : Verdict) (h : Held) (p : Player) →
+    untold_chair (chair_of (held_after v h) (player_of (author_after v p.author) (progress_after lines v (progress_of p))))
+    ≡ untold_chair (record (chair_of h p) { author = author_after v p.author; progress = progress_after lines v (progress_of p) })
+said-chair lines Taken h p = refl
+said-chair lines Late h p = refl
+said-chair lines (Refused rule) h p = refl
+said-chair lines (Closing rule) h p = refl
 
-is_said-step : (setting : Setting) (old : After) (author seat : ℕ) (answer : Answer) (chair next : Chair) (verdict : Verdict) (slots : Four (Option Answer)) (deed : Option Deed) → IsSaid setting old seat answer chair next verdict slots
-    → (if is_window_closed slots then outcome setting.rules setting.walls old.deeds (answers_in slots) else None) ≡ deed
-    → untold (with_deed (pieces old.deeds (slice_set old.chairs seat next) slots) deed) ≡ untold (step setting old (Said author seat answer))
-is_said-step setting old author seat answer chair next verdict slots deed s n =
-    let changed : After = pieces old.deeds (slice_set old.chairs seat (gone_on setting old seat answer chair)) slots in
-    with_deed-same _ changed deed (ap (λ (cs : List Chair). pieces old.deeds cs slots) (is_said-same setting old seat answer chair next verdict slots s))
-    ∙ sym (ap untold (step-of setting old changed (Said author seat answer) deed (is_said-own setting old author seat answer chair next verdict slots s) (next-plays setting changed s.begun ∙ n)))
+said-at : (setting : Setting) (now : After) (author seat : ℕ) (answer : Answer) (chair : Chair) → slice_get now.chairs seat ≡ Some chair → own_part setting now (Said author seat answer) ≡ after_said setting.rules now seat answer chair
+unfolding own_part
+said-at setting now author seat answer chair e = ap (λ (o : Option Chair). option_map_or (after_said setting.rules now seat answer) o now) e
 
--- The verdict is one that the seat may get.
-after_said-built : (rules : Rules) (now : After) (seat : ℕ) (answer : Answer) (chair : Chair) (verdict : Verdict) (b : Bool) → slice_get now.chairs seat ≡ Some chair → verdict ≡ verdict_on rules now.deeds seat answer chair.progress → is_verdict_built chair.progress.refused verdict ≡ b
-    → option_map_or (is_heard_built rules now seat answer) (slice_get now.chairs seat) false ≡ b
-unfolding is_heard_built
-after_said-built rules now seat answer chair verdict b held judged may =
-    ap (λ (o : Option Chair). option_map_or (is_heard_built rules now seat answer) o false) held
-    ∙ ap (is_verdict_built chair.progress.refused) (sym judged) ∙ may
+said-is : (rules : Rules) (now : After) (seat : ℕ) (answer : Answer) (chair : Chair) (v : Verdict) → v ≡ verdict_on rules now.deeds seat answer chair.progress
+    → untold (after_said rules now seat answer chair) ≡ pieces now.deeds
+    (map untold_chair (slice_set now.chairs seat (record chair { author = author_after v chair.author; progress = progress_after (lines_for seat now.deeds) v chair.progress })))
+    (slots_after v now.slots seat answer)
+unfolding after_said
+said-is rules now seat answer chair v e =
+    ap (λ (w : Verdict). pieces now.deeds
+    (map untold_chair (slice_set now.chairs seat (record chair { author = author_after w chair.author; progress = progress_after (lines_for seat now.deeds) w chair.progress })))
+    (slots_after w now.slots seat answer)) (sym e)
 
-is_said-built : (setting : Setting) (old : After) (author seat : ℕ) (answer : Answer) (chair next : Chair) (verdict : Verdict) (slots : Four (Option Answer)) → IsSaid setting old seat answer chair next verdict slots
-    → is_answer_built setting old author seat answer ≡ true
-unfolding is_answer_built
-is_said-built setting old author seat answer chair next verdict slots s = after_said-built setting.rules old seat answer chair verdict true s.held s.judged s.may
+pub said-own : (setting : Setting) (old : Position) (author seat : ℕ) (answer : Answer) (h : Held) (p next : Player) (v : Verdict) (slots : Four (Option Answer))
+    → slice_get old.desk seat ≡ Some h → slice_get old.players seat ≡ Some p → v ≡ verdict_on setting.rules old.deeds seat answer (progress_of p)
+    → ((lines : List (List ℕ)) → next ≡ player_of (author_after v p.author) (progress_after lines v (progress_of p))) → slots ≡ slots_after v old.slots seat answer
+    → untold (now_of (changed old (desk_after v old.desk seat) (slice_set old.players seat next) slots)) ≡ untold (own_part setting (now_of old) (Said author seat answer))
+said-own setting old author seat answer h p next v slots d c judged on filled =
+    let lines : List (List ℕ) = lines_for seat old.deeds in
+    let came : Chair = record (chair_of h p) { author = author_after v p.author; progress = progress_after lines v (progress_of p) } in
+    let same : untold_chair (chair_of (held_after v h) next) ≡ untold_chair came = ap (λ (q : Player). untold_chair (chair_of (held_after v h) q)) (on lines) ∙ said-chair lines v h p in
+    ap (λ (cs : List Chair). pieces old.deeds cs slots) (put-untold old.desk (desk_after v old.desk seat) old.players seat (held_after v h) next came (desk_after-is v old.desk seat h d) same)
+    ∙ ap (pieces old.deeds (map untold_chair (slice_set (chairs_of old.desk old.players) seat came))) filled
+    ∙ sym (said-is setting.rules (now_of old) seat answer (chair_of h p) v judged)
+    ∙ ap untold (sym (said-at setting (now_of old) author seat answer (chair_of h p) (chairs_of-get old.desk old.players seat h p d c)))
 
-same_many : (chairs : List Chair) (seat : ℕ) (chair : Chair) → length (slice_set chairs seat chair) ≡ length chairs
-same_many chairs seat chair = length-set chairs seat chair
+-- A seat leaves.
+gone-at : (setting : Setting) (now : After) (author seat : ℕ) (chair : Chair) → slice_get now.chairs seat ≡ Some chair → own_part setting now (Gone author seat) ≡ after_gone now seat chair
+unfolding own_part
+gone-at setting now author seat chair e = ap (λ (o : Option Chair). option_map_or (after_gone now seat) o now) e
 
-is_said-judged : (setting : Setting) (old : After) (seat : ℕ) (answer : Answer) (chair next : Chair) (verdict : Verdict) (slots : Four (Option Answer)) → IsSaid setting old seat answer chair next verdict slots → state_verdict setting.rules old seat answer ≡ Some verdict
-is_said-judged setting old seat answer chair next verdict slots s =
-    ap (λ (o : Option Chair). option_map (λ (c : Chair). verdict_on setting.rules old.deeds seat answer c.progress) o) s.held ∙ ap Some (sym s.judged)
+gone-is : (now : After) (seat : ℕ) (chair : Chair) → untold (after_gone now seat chair) ≡ pieces now.deeds (map untold_chair (slice_set now.chairs seat (untold_chair (record chair { author = None })))) now.slots
+unfolding after_gone
+gone-is now seat chair = ap (λ (cs : List Chair). pieces now.deeds cs now.slots) (untold-set now.chairs seat _ _ refl)
 
--- The window stays open.
-pub hears-open : (setting : Setting) (rules : Rules) (old : After) (seat : ℕ) (answer : Answer) (chair next : Chair) (verdict : Verdict) (slots : Four (Option Answer)) → IsSaid setting old seat answer chair next verdict slots
-    → length old.chairs ≤ 4 → IsOpen old → (goes_on (newest old.deeds) && is_window_closed slots) ≡ false → Hears setting (under rules old) (under rules (pieces old.deeds (slice_set old.chairs seat next) slots)) seat answer verdict
-hears-open setting rules old seat answer chair next verdict slots s four empty r = record {
-  rules = refl;
-  judged = is_said-judged setting old seat answer chair next verdict slots s;
-  built = λ author. is_said-built setting old author seat answer chair next verdict slots s;
-  stepped = λ author. is_said-step setting old author seat answer chair next verdict slots None s (no_deed_open setting.rules setting.walls old.deeds slots r);
-  as_many = same_many old.chairs seat next;
-  empty = answered-open setting old seat answer chair next verdict slots s four empty;
+pub gone-own : (setting : Setting) (old : Position) (author seat : ℕ) (h : Held) (p : Player) → slice_get old.desk seat ≡ Some h → slice_get old.players seat ≡ Some p
+    → untold (now_of (changed old (changed_at old.desk seat gone) (slice_set old.players seat (record { author = None; due = p.due; refused = p.refused })) old.slots))
+    ≡ untold (own_part setting (now_of old) (Gone author seat))
+gone-own setting old author seat h p d c =
+    let left : Player = record { author = None; due = p.due; refused = p.refused } in
+    ap (λ (cs : List Chair). pieces old.deeds cs old.slots)
+    (put-untold old.desk (changed_at old.desk seat gone) old.players seat (gone h) left (untold_chair (record (chair_of h p) { author = None })) (changed-is old.desk seat gone h d) refl)
+    ∙ sym (gone-is (now_of old) seat (chair_of h p))
+    ∙ ap untold (sym (gone-at setting (now_of old) author seat (chair_of h p) (chairs_of-get old.desk old.players seat h p d c)))
+
+-- A seat comes back.
+back-at : (setting : Setting) (now : After) (author seat : ℕ) (chair : Chair) → slice_get now.chairs seat ≡ Some chair → own_part setting now (Back author seat) ≡ after_back now author seat chair
+unfolding own_part
+back-at setting now author seat chair e = ap (λ (o : Option Chair). option_map_or (after_back now author seat) o now) e
+
+abbrev back_chair : After → ℕ → ℕ → Chair → Chair
+back_chair now author seat chair = record {
+  author = Some author;
+  name = chair.name;
+  key = chair.key;
+  returns = chair.returns + 1;
+  place = 0;
+  progress = record { due = due_on_return now seat; refused = 0; told = [] };
+  earlier = [];
 }
 
--- The window closes, and the next deed comes.
-pub hears-closed : (setting : Setting) (rules after_rules : Rules) (old : After) (seat : ℕ) (answer : Answer) (chair next : Chair) (verdict : Verdict) (slots : Four (Option Answer)) (deed : Deed) → after_rules ≡ rules
-    → IsSaid setting old seat answer chair next verdict slots → is_window_closed slots ≡ true → outcome setting.rules setting.walls old.deeds (answers_in slots) ≡ Some deed
-    → Hears setting (under rules old) (under after_rules (pieces (old.deeds ++ deed ∷ []) (slice_set old.chairs seat next) empty_slots)) seat answer verdict
-hears-closed setting rules after_rules old seat answer chair next verdict slots deed e s r o = record {
-  rules = e;
-  judged = is_said-judged setting old seat answer chair next verdict slots s;
-  built = λ author. is_said-built setting old author seat answer chair next verdict slots s;
-  stepped = λ author. is_said-step setting old author seat answer chair next verdict slots (Some deed) s (rw (r, o));
-  as_many = same_many old.chairs seat next;
-  empty = empty-open (old.deeds ++ deed ∷ []) (slice_set old.chairs seat next);
-}
+back-is : (now : After) (author seat : ℕ) (chair : Chair) → untold (after_back now author seat chair) ≡ pieces now.deeds (map untold_chair (slice_set now.chairs seat (back_chair now author seat chair))) now.slots
+unfolding after_back
+back-is now author seat chair = ap (λ (cs : List Chair). pieces now.deeds cs now.slots) (untold-set now.chairs seat _ _ refl)
 
--- The deeds and the answers in the slots are fit for the next deed.
-pub is_said-goes : (setting : Setting) (old : After) (author seat : ℕ) (answer : Answer) (chair next : Chair) (verdict : Verdict) (slots : Four (Option Answer)) → IsSaid setting old seat answer chair next verdict slots
-    → CanGoOn setting (own_part setting old (Said author seat answer)) → CanGoOn setting (pieces old.deeds (slice_set old.chairs seat (gone_on setting old seat answer chair)) slots)
-is_said-goes setting old author seat answer chair next verdict slots s going =
-    subst (CanGoOn setting) (is_said-own setting old author seat answer chair next verdict slots s) going
+pub back-own : (setting : Setting) (old : Position) (author seat : ℕ) (h : Held) (p : Player) → slice_get old.desk seat ≡ Some h → slice_get old.players seat ≡ Some p
+    → untold (now_of (changed old (changed_at old.desk seat came_back) (slice_set old.players seat (record { author = Some author; due = due_on_return (now_of old) seat; refused = 0 })) old.slots))
+    ≡ untold (own_part setting (now_of old) (Back author seat))
+back-own setting old author seat h p d c =
+    let here : Player = record { author = Some author; due = due_on_return (now_of old) seat; refused = 0 } in
+    ap (λ (cs : List Chair). pieces old.deeds cs old.slots)
+    (put-untold old.desk (changed_at old.desk seat came_back) old.players seat (came_back h) here (back_chair (now_of old) author seat (chair_of h p)) (changed-is old.desk seat came_back h d) refl)
+    ∙ sym (back-is (now_of old) author seat (chair_of h p))
+    ∙ ap untold (sym (back-at setting (now_of old) author seat (chair_of h p) (chairs_of-get old.desk old.players seat h p d c)))
 
-pub is_said-played : (setting : Setting) (old : After) (author seat : ℕ) (answer : Answer) (chair next : Chair) (verdict : Verdict) (slots : Four (Option Answer)) → IsSaid setting old seat answer chair next verdict slots
-    → CanGoOn setting (own_part setting old (Said author seat answer)) → IsPlayed setting.rules setting.walls old.deeds
-is_said-played setting old author seat answer chair next verdict slots s going = (is_said-goes setting old author seat answer chair next verdict slots s going).played
+-- A seat is taken.
+abbrev pub first_player : ℕ → Player
+first_player author = record { author = Some author; due = 0; refused = 0 }
 
-pub is_said-lawful : (setting : Setting) (old : After) (author seat : ℕ) (answer : Answer) (chair next : Chair) (verdict : Verdict) (slots : Four (Option Answer)) → IsSaid setting old seat answer chair next verdict slots
-    → CanGoOn setting (own_part setting old (Said author seat answer)) → is_window_closed slots ≡ true → AllLawful setting.rules old.deeds (answers_in slots)
-is_said-lawful setting old author seat answer chair next verdict slots s going ready = (is_said-goes setting old author seat answer chair next verdict slots s going).ready ready
+sat-is : (setting : Setting) (now : After) (author : ℕ) (join : JoinLine) → untold (own_part setting now (Sat author join.name join.key)) ≡ pieces now.deeds (map untold_chair (now.chairs ++ new_chair now.entered author join.name join.key ∷ [])) now.slots
+unfolding own_part
+sat-is setting now author join = refl
 
--- The seat may not get this verdict.
-pub unbuilt-verdict : (setting : Setting) (old : After) (author seat : ℕ) (answer : Answer) (chair : Chair) (verdict : Verdict) → slice_get old.chairs seat ≡ Some chair → verdict ≡ verdict_on setting.rules old.deeds seat answer chair.progress → is_verdict_built chair.progress.refused verdict ≡ false
-    → is_answer_built setting old author seat answer ≡ false
-unfolding is_answer_built
-unbuilt-verdict setting old author seat answer chair verdict held judged may = after_said-built setting.rules old seat answer chair verdict false held judged may
+append-untold : (chairs : List Chair) (chair other : Chair) → untold_chair chair ≡ untold_chair other → map untold_chair (chairs ++ chair ∷ []) ≡ map untold_chair (chairs ++ other ∷ [])
+append-untold chairs chair other e =
+    map-append untold_chair chairs (chair ∷ []) ∙ ap (λ (c : Chair). map untold_chair chairs ++ c ∷ []) e ∙ sym (map-append untold_chair chairs (other ∷ []))
+
+pub sat-own : (setting : Setting) (old : Position) (author : ℕ) (join : JoinLine) → length old.players ≡ length old.desk
+    → untold (now_of (changed old (old.desk ++ new_held join ∷ []) (old.players ++ first_player author ∷ []) old.slots)) ≡ untold (own_part setting (now_of old) (Sat author join.name join.key))
+sat-own setting old author join e =
+    ap (λ (cs : List Chair). pieces old.deeds cs old.slots)
+    (ap (map untold_chair) (chairs_of-append old.desk old.players (new_held join) (first_player author) e)
+    ∙ append-untold (chairs_of old.desk old.players) (chair_of (new_held join) (first_player author)) (new_chair 0 author join.name join.key) refl)
+    ∙ sym (sat-is setting (now_of old) author join)
+
+-- The next deed: before the game nothing, until four seats are held, and then its start.
+pub next-waits : (setting : Setting) (now : After) (entry : Entry Answer) → (length now.deeds == 0) ≡ true → (length now.chairs == 4) ≡ false → next_deed setting now entry ≡ None
+unfolding next_deed
+next-waits setting now entry d c = rw (d, c)
+
+pub next-starts : (setting : Setting) (now : After) (entry : Entry Answer) → (length now.deeds == 0) ≡ true → (length now.chairs == 4) ≡ true → next_deed setting now entry ≡ Some (StartGame (names_of now.chairs))
+unfolding next_deed
+next-starts setting now entry d c = rw (d, c)
+
+-- Afterwards the window on the newest deed decides.
+pub next-plays : (setting : Setting) (now : After) (entry : Entry Answer) (closed : Bool) → (length now.deeds == 0) ≡ false → (is_expiry entry || closes now.slots (map is_present now.chairs)) ≡ closed
+    → next_deed setting now entry ≡ (if closed then outcome setting.rules setting.walls now.deeds (answers_in setting.rules now.deeds now.slots) else None)
+unfolding next_deed
+next-plays setting now entry closed d c = rw (d, c)
+
+pub by_closing : (a b c : Bool) → a ≡ false → b ≡ c → (a || b) ≡ c
+by_closing a b c e f = rw (e, f)
+
+-- The game is over, or not begun, where no window is open.
+pub no-window : (deeds : List Deed) → is_some (open_window deeds) ≡ false → (length deeds == 0) ≡ false → goes_on (newest deeds) ≡ false
+no-window deeds h d = by (length deeds == 0) (goes_on (newest deeds)) (length deeds - 1) d h
+  where
+    by : (none on : Bool) (n : ℕ) → none ≡ false → is_some (if not none && not (not none && not on) then Some n else None) ≡ false → on ≡ false
+    by true on n e k = cc
+    by false true n e k = cc
+    by false false n e k = refl

@@ -1,19 +1,28 @@
 -- What the calls of a core answer and enter.
-use Rattle.std.specs.Prelude.{◌≡◌, ℕ, Bool, true, false, if◌then◌else◌, List, [], ◌∷◌, ◌++◌, length, Option, Some, None, is_some, option_map, slice_get}
+use Rattle.std.specs.Prelude.{◌≡◌, ℕ, ◌-◌, ◌==◌, ◌&&◌, not, Bool, true, false, nat_lt, if◌then◌else◌, List, [], ◌∷◌, ◌++◌, length, Option, Some, None, is_some, option_map, slice_get}
 use Rattle.std.specs.Option.{option_map_or}
-use Rattle.std.specs.List.{list_any}
 use Rattle.mj_ports.specs.declared.entry.Entry.{Entry}
-use Rattle.mj_ports.specs.declared.entry.Entry.TheVariants.{Sat, Said}
+use Rattle.mj_ports.specs.declared.entry.Entry.TheVariants.{Sat, Back, Said, Gone, Expired}
 use Rattle.mj_ports.specs.declared.sitting.JoinLine.{JoinLine}
-use Rattle.mj_ports.specs.declared.sitting.SitRefused.{SitRefused}
-use Rattle.mj_ports.specs.declared.sitting.SitRefused.TheVariants.{Full, NameTaken, BadName}
+use Rattle.mj_ports.specs.declared.answers.SitAnswer.{SitAnswer}
+use Rattle.mj_ports.specs.declared.answers.SitAnswer.TheVariants as sits
+use Rattle.mj_ports.specs.declared.answers.Heard.{Heard}
+use Rattle.mj_ports.specs.declared.answers.Heard.TheVariants as heard
+use Rattle.mj_ports.specs.declared.answers.Left.{Left}
+use Rattle.mj_ports.specs.declared.answers.Left.TheVariants as left
+use Rattle.mj_ports.specs.declared.answers.Expiry.{Expiry}
+use Rattle.mj_ports.specs.declared.answers.Expiry.TheVariants as expiry
+use Rattle.mj_seating.specs.declared.desk.Placed.TheVariants as places
+use Rattle.mj_deeds.specs.declared.rule.Rule.{Rule}
 use Rattle.mj_deeds.specs.declared.answer.Answer.{Answer}
-use Rattle.mj_protocol.specs.After.{After, Chair, Verdict, Taken, Late, Refused, after, verdict_on, pending, lines_for}
-use Rattle.mj_protocol.specs.Trace.{Game, has_name, can_sit, may_say, is_answer_built}
-use Rattle.mj_core.specs.declared.answers.SitAnswer.{SitAnswer}
-use Rattle.mj_core.specs.declared.answers.SitAnswer.TheVariants as sits
-use Rattle.mj_core.specs.declared.answers.Heard.{Heard}
-use Rattle.mj_core.specs.declared.answers.Heard.TheVariants as heard
+use Rattle.mj_deeds.specs.declared.deed.Deed.{Deed}
+use Rattle.mj_deeds.specs.declared.deed.Viewer.TheVariants.{Seat}
+use Rattle.mj_protocol.specs.Lines.{line}
+use Rattle.mj_protocol.specs.After.{After, Chair, Verdict, Taken, Late, Refused, Closing, after, verdict_on, is_present, pending, lines_for}
+use Rattle.mj_protocol.specs.Trace.{Game, is_over, is_open, is_present_by, can_expire}
+use Rattle.mj_protocol.specs.Sitting.{placing, author_at}
+use Rattle.mj_protocol.specs.Shown.{verdict_at as verdict_in, due_at, line_at}
+pub use Rattle.mj_protocol.specs.Shown.{open_window}
 
 -- What the entries of a game come to.
 abbrev pub after_of : Game → After
@@ -24,59 +33,75 @@ pub record Enters (old new : Game) (entry : Entry Answer) : Type 0 where
   pub setting : new.setting ≡ old.setting
   pub entries : new.entries ≡ old.entries ++ entry ∷ []
 
--- Why no seat is given under a name: a seat has it, or else all four are held.
-abbrev pub why_refused : List Chair → List ℕ → SitRefused
-why_refused chairs name = if list_any (has_name name) chairs then NameTaken else Full
+-- A seat is taken under the name and key of the join.
+abbrev pub TakesSeat : Option JoinLine → Game → Game → ℕ → Type 0
+TakesSeat None old new author = ⊥
+TakesSeat (Some join) old new author = Enters old new (Sat author join.name join.key)
 
--- A seat is taken: the next one, under the name and key of the join.
-abbrev pub TakesSeat : Option JoinLine → Game → Game → ℕ → ℕ → Type 0
-TakesSeat None old new author seat = ⊥
-TakesSeat (Some join) old new author seat =
-    (can_sit (after_of old).chairs join.name ≡ true) × (seat ≡ length (after_of old).chairs) × Enters old new (Sat author join.name join.key)
-
--- Why a line gets no seat: it is no join, or a seat can't be taken under its name.
-abbrev pub refused_by : List Chair → Option JoinLine → Option SitRefused
-refused_by chairs None = Some BadName
-refused_by chairs (Some join) = if can_sit chairs join.name then None else Some (why_refused chairs join.name)
-
--- What the answer to a line that wants a seat says; one that gives none changes nothing.
+-- What the answer to a line that wants a seat says: what the table of sitting says of the join; a seat that is taken or
+-- taken back is entered, and one that isn't given changes nothing.
 abbrev pub IsSitAnswer : SitAnswer → Game → Game → ℕ → Option JoinLine → Type 0
-IsSitAnswer (sits.Sat seat) old new author join = TakesSeat join old new author seat
-IsSitAnswer (sits.Refused why) old new author join = (refused_by (after_of old).chairs join ≡ Some why) × (new ≡ old)
+IsSitAnswer (sits.Sat seat) old new author join = (placing (after_of old) join ≡ places.Sat seat) × TakesSeat join old new author
+IsSitAnswer (sits.Back seat) old new author join = (placing (after_of old) join ≡ places.Back seat) × Enters old new (Back author seat)
+IsSitAnswer (sits.Refused why) old new author join = (placing (after_of old) join ≡ places.Refused why) × (new ≡ old)
 IsSitAnswer sits.NoMemory old new author join = new ≡ old
 
 -- The verdict on what a held seat says.
 abbrev pub verdict_at : Game → ℕ → Answer → Option Verdict
-verdict_at game seat answer =
-    option_map (λ (chair : Chair). verdict_on game.setting.rules (after_of game).deeds seat answer chair.progress)
-    (slice_get (after_of game).chairs seat)
+verdict_at game seat answer = verdict_in game.setting.rules (after_of game) seat answer
 
 -- An answer is entered, and has this verdict.
 abbrev pub Answers : Answer → Game → Game → ℕ → ℕ → Verdict → Type 0
-Answers answer old new author seat verdict =
-    (is_answer_built old.setting (after_of old) author seat answer ≡ true) × (verdict_at old seat answer ≡ Some verdict) × Enters old new (Said author seat answer)
+Answers answer old new author seat verdict = (verdict_at old seat answer ≡ Some verdict) × Enters old new (Said author seat answer)
 
--- What the answer to a line of a seat says; one that leads to what is not built changes nothing.
-abbrev pub IsHeard : Heard → Game → Game → ℕ → ℕ → Answer → Type 0
+-- What the answer to a line of a seat says.
+abbrev pub IsHeard : Heard Rule → Game → Game → ℕ → ℕ → Answer → Type 0
 IsHeard heard.Taken old new author seat answer = Answers answer old new author seat Taken
 IsHeard heard.Late old new author seat answer = Answers answer old new author seat Late
 IsHeard (heard.Refused rule) old new author seat answer = Answers answer old new author seat (Refused rule)
-IsHeard heard.NotBuilt old new author seat answer = (is_answer_built old.setting (after_of old) author seat answer ≡ false) × (new ≡ old)
+IsHeard (heard.Closing rule) old new author seat answer = Answers answer old new author seat (Closing rule)
 IsHeard heard.NoMemory old new author seat answer = new ≡ old
 
--- A seat is held.
-abbrev pub is_held : Game → ℕ → Bool
-is_held game seat = is_some (slice_get (after_of game).chairs seat)
+-- What comes of a seat that leaves.
+abbrev pub IsLeft : Left → Game → Game → ℕ → ℕ → Type 0
+IsLeft left.Gone old new author seat = Enters old new (Gone author seat)
+IsLeft left.NoMemory old new author seat = new ≡ old
 
--- The author by whom a seat is held.
-abbrev pub author_at : Game → ℕ → Option ℕ
-author_at game seat = option_map (λ (chair : Chair). chair.author) (slice_get (after_of game).chairs seat)
+-- A window may be closed between two readings of the clock: it is the open one, and its time has run out.
+abbrev pub may_expire : Game → ℕ → ℕ → ℕ → Bool
+may_expire game window t1 t2 = can_expire game.setting.rules.limit (after_of game).deeds window t1 t2
 
--- A seat is held, and the deed that its next line answers exists.
+-- What comes of an expiry: closed where the window is open and its time has run out, stale exactly where it isn't the open
+-- one, and early exactly where it is and its time has not run out.
+abbrev pub IsExpiry : Expiry → Game → Game → ℕ → ℕ → ℕ → ℕ → Type 0
+IsExpiry expiry.Closed old new author window t1 t2 = (may_expire old window t1 t2 ≡ true) × Enters old new (Expired author window t1 t2)
+IsExpiry expiry.Stale old new author window t1 t2 = (is_open (after_of old).deeds window ≡ false) × (new ≡ old)
+IsExpiry expiry.Early old new author window t1 t2 = (is_open (after_of old).deeds window ≡ true) × (may_expire old window t1 t2 ≡ false) × (new ≡ old)
+IsExpiry expiry.NoMemory old new author window t1 t2 = new ≡ old
+
+-- A seat is present by an author.
+abbrev pub is_here : Game → ℕ → ℕ → Bool
+is_here game author seat = option_map_or (is_present_by author) (slice_get (after_of game).chairs seat) false
+
+-- The author by whom a seat is present.
+abbrev pub author_of_seat : Game → ℕ → Option ℕ
+author_of_seat game seat = author_at (after_of game) seat
+
+-- The number of the deed that a seat's next line answers; 0 where the seat isn't held.
+abbrev pub due_of : Game → ℕ → ℕ
+due_of game seat = due_at (after_of game) seat
+
+-- A seat is present, and the deed that its next line answers exists.
 abbrev pub may_say_at : Game → ℕ → Bool
-may_say_at game seat = option_map_or (λ (chair : Chair). may_say (after_of game) chair.author chair) (slice_get (after_of game).chairs seat) false
+may_say_at game seat =
+    option_map_or (λ (chair : Chair). is_present chair && nat_lt chair.progress.due (length (after_of game).deeds)) (slice_get (after_of game).chairs seat) false
 
--- What is still to be told to a seat; nothing where it isn't held.
+-- What is still to be told to a seat; nothing where it isn't present.
 abbrev pub pending_at : Game → ℕ → List ℕ
 pending_at game seat =
-    option_map_or (λ (chair : Chair). pending (lines_for seat (after_of game).deeds) chair.progress) (slice_get (after_of game).chairs seat) []
+    option_map_or (λ (chair : Chair). if is_present chair then pending (lines_for seat (after_of game).deeds) chair.progress else [])
+    (slice_get (after_of game).chairs seat) []
+
+-- Line k of a seat; nothing where there is no such deed yet.
+abbrev pub line_of : Game → ℕ → ℕ → List ℕ
+line_of game seat k = line_at (after_of game).deeds seat k

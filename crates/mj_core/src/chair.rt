@@ -1,103 +1,62 @@
-ghost use Rattle.std.specs.Prelude.{◌≡◌, ◌==◌, ◌<◌, ◌≤◌, ℕ, List, true, length};
-ghost use Rattle.mj_protocol.specs.After.{first_progress, progress_after, verdict_on};
-ghost use Rattle.mj_protocol.specs.Trace.{has_name, is_verdict_built};
-ghost use Rattle.mj_core.specs.Inner.Untold.{untold_chair};
+ghost use Rattle.std.specs.Prelude.{◌≡◌, ◌==◌, ◌<◌, ◌≤◌, ℕ, List, Some, None, is_some};
+ghost use Rattle.mj_rules.specs.Broken.{broken_rule};
+ghost use Rattle.mj_protocol.specs.After.{author_after, progress_after, verdict as verdict_for};
+ghost use Rattle.mj_core.specs.Inner.States.{progress_of, player_of};
 ghost use Rattle.mj_core.specs.Inner.Verdicts.{verdict_given};
 
 use crate::verdict::Verdict;
 use mj_deeds::Answer;
 use mj_judge::judge;
-use mj_ports::{JoinLine, Key, Name};
 use mj_table::Table;
-use std::marker::Model;
 
-// A seat that is held: the author by whom it is present, the name and key of its join, the number of the deed that its
-// next line answers, and how many answers to that deed were refused.
+// How many refusals of one prompt a connection outlives.
+const REFUSALS: u8 = 15;
+
+// A seat that is held, beside what the desk keeps of it: the author by whom it is present, where it is, the number of
+// the deed that its next line answers, and how many answers to that deed were refused.
 #[derive(Clone, Copy, Debug, Drop)]
 pub struct Chair {
-    author: u8,
-    name: Name,
-    key: Option<Key>,
+    author: Option<u8>,
     due: usize,
     refused: u8,
 }
 
-impl Model for Chair {
-    ghost use Rattle.std.specs.Prelude.{[]};
-    ghost use Rattle.mj_protocol.specs.After.{Chair as HeldChair};
-
-    ghost Value = { HeldChair };
-
-    ghost view = { λ s. record {
-      author = s.author;
-      name = s.name;
-      key = s.key;
-      progress = record
-          { due = s.due; refused = s.refused; told = [] };
-    } };
-
-    ghost inverse = { λ c. record {
-      author = c.author;
-      name = c.name;
-      key = c.key;
-      due =
-          c.progress.due;
-      refused = c.progress.refused;
-    } };
-}
-
 impl Chair {
     // A seat that has just been taken.
-    pub fn new(author: u8, join: &JoinLine) -> Chair
-        ensures { result ≡ untold_chair
-            (record {
-              author = author;
-              name = join.now.name;
-              key = join.now.key;
-              progress =
-                  first_progress;
-            }) }
+    pub fn new(author: u8) -> Chair
+        ensures { result ≡ record { author = Some author; due = 0; refused = 0 } }
     {
         Chair {
-            author,
-            name: join.name,
-            key: join.key,
+            author: Some(author),
             due: 0,
             refused: 0,
         }
     }
 
     // The author by whom the seat is present.
-    pub fn author(&self) -> u8
+    pub fn author(&self) -> Option<u8>
         ensures { result ≡ self.now.author }
     {
         self.author
     }
 
-    // The name under which the seat was taken.
-    pub fn name(&self) -> Name
-        ensures { result ≡ self.now.name }
+    // Whether the seat is present.
+    pub fn is_present(&self) -> bool
+        ensures { result ≡ is_some self.now.author }
     {
-        self.name
-    }
-
-    // Whether that is this name.
-    pub fn has_name(&self, name: &Name) -> bool
-        ensures { result ≡ has_name name.now self.now }
-    {
-        self.name.as_slice() == name.as_slice()
+        self.author.is_some()
     }
 
     // The number of the deed that the seat answers next.
     pub fn due(&self) -> usize
-        ensures { result ≡ self.now.progress.due }
+        ensures { result ≡ self.now.due }
     {
         self.due
     }
 
     // Whether no answer to that deed was refused.
     pub fn is_fresh(&self) -> bool
-        ensures { result ≡ (self.now.progress.refused == 0) }
+        ensures { result ≡ (self.now.refused == 0) }
     {
         self.refused == 0
     }
@@ -105,49 +64,63 @@ impl Chair {
     // The verdict on an answer of this seat, where there are so many deeds.
     pub fn verdict(&self, table: &Table, deeds: usize, seat: u8, answer: &Answer) -> Verdict
         requires seat { seat ≤ 3 }
-        requires due { self.now.progress.due < deeds }
-        requires many { deeds ≡ length table.now.deeds }
-        ensures room { self.now.progress.due < usize.MAX }
-        ensures judged { verdict_given result
-            ≡ verdict_on table.now.rules table.now.deeds seat answer.now self.now.progress }
+        requires due { self.now.due < deeds }
+        ensures { verdict_given result ≡ verdict_for self.now.due self.now.refused deeds
+            (broken_rule table.now.rules table.now.deeds seat answer.now) }
     {
         if self.due + 1 < deeds {
             return Verdict::Late;
         }
         match judge(table, seat, answer) {
             Ok(()) => Verdict::Taken,
-            Err(rule) => Verdict::Refused(rule),
+            Err(rule) => {
+                if self.refused < REFUSALS {
+                    Verdict::Refused(rule)
+                } else {
+                    Verdict::Closing(rule)
+                }
+            }
         }
     }
 
-    // Whether the verdict is one that this seat may still get: a prompt has at most fifteen refusals.
-    pub fn may_get(&self, verdict: &Verdict) -> bool
-        ensures { result ≡ is_verdict_built self.now.progress.refused (verdict_given verdict.now) }
-    {
-        match verdict {
-            Verdict::Taken => true,
-            Verdict::Late => true,
-            Verdict::Refused(_) => self.refused < 15,
-        }
-    }
-
-    // How far the seat has come with this verdict on its answer.
+    // How far the seat has come with this verdict on its answer, whatever the lines of the deeds are.
     pub fn go_on(&mut self, verdict: &Verdict)
-        requires due { self.old.progress.due < usize.MAX }
-        requires may { is_verdict_built self.old.progress.refused (verdict_given verdict.now)
-            ≡ true }
+        requires due { self.old.due < usize.MAX }
+        requires refused { self.old.refused ≤ 15 }
         ensures { (lines : List (List ℕ)) → self.new
-            ≡ untold_chair (record self.old
-            { progress = progress_after lines (verdict_given verdict.now) self.old.progress }) }
+            ≡ player_of (author_after (verdict_given verdict.now) self.old.author)
+            (progress_after lines (verdict_given verdict.now) (progress_of self.old)) }
     {
         match verdict {
             Verdict::Refused(_) => {
                 self.refused += 1;
                 return;
             }
+            Verdict::Closing(_) => {
+                self.refused += 1;
+                self.author = None;
+                return;
+            }
             _ => {}
         }
         self.due += 1;
+        self.refused = 0;
+    }
+
+    // The seat leaves.
+    pub fn leave(&mut self)
+        ensures { self.new
+            ≡ record { author = None; due = self.old.due; refused = self.old.refused } }
+    {
+        self.author = None;
+    }
+
+    // The seat is taken back by an author, with this due deed.
+    pub fn come_back(&mut self, author: u8, due: usize)
+        ensures { self.new ≡ record { author = Some author; due = due; refused = 0 } }
+    {
+        self.author = Some(author);
+        self.due = due;
         self.refused = 0;
     }
 }

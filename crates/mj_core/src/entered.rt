@@ -1,23 +1,44 @@
 ghost use Rattle.std.specs.Prelude.{◌≡◌, IfOk};
-ghost use Rattle.mj_ports.specs.declared.entry.Entry.TheVariants.{Sat, Said};
+ghost use Rattle.mj_ports.specs.declared.entry.Entry.TheVariants.{Sat, Back, Said, Gone, Expired};
 
 use mj_deeds::Answer;
 use mj_ports::JoinLine;
 use std::alloc::{AllocError, Global};
 use std::marker::Model;
 
-// What is kept of an entry. A join lies in memory of its own, since a game has four of them beside all its answers.
+// What is kept of an entry. A join and the readings of an expiry lie in memory of their own, since a game has few of
+// them beside all its answers.
 #[derive(Drop)]
 enum Kept {
     Sat {
         author: u8,
         join: Box<JoinLine>,
     },
+    Back {
+        author: u8,
+        seat: u8,
+    },
     Said {
         author: u8,
         seat: u8,
         answer: Answer,
     },
+    Gone {
+        author: u8,
+        seat: u8,
+    },
+    Expired {
+        author: u8,
+        spent: Box<Spent>,
+    },
+}
+
+// A window and the two readings between which its time ran out.
+#[derive(Clone, Copy, Debug, Drop)]
+struct Spent {
+    window: u32,
+    t1: u64,
+    t2: u64,
 }
 
 // An entry as a core keeps it.
@@ -47,6 +68,15 @@ impl Entered {
         })
     }
 
+    // The entry of a seat that is taken back.
+    pub fn back(author: u8, seat: u8) -> Entered
+        ensures { result ≡ Back author seat }
+    {
+        Entered {
+            kept: Kept::Back { author, seat },
+        }
+    }
+
     // The entry of what a seat says.
     pub fn said(author: u8, seat: u8, answer: &Answer) -> Entered
         ensures { result ≡ Said author seat answer.now }
@@ -58,5 +88,30 @@ impl Entered {
                 answer: *answer,
             },
         }
+    }
+
+    // The entry of a seat that leaves.
+    pub fn gone(author: u8, seat: u8) -> Entered
+        ensures { result ≡ Gone author seat }
+    {
+        Entered {
+            kept: Kept::Gone { author, seat },
+        }
+    }
+
+    // The entry of a window whose time has run out.
+    pub fn expired(
+        alloc: Global,
+        author: u8,
+        window: u32,
+        t1: u64,
+        t2: u64,
+    ) -> Result<Entered, AllocError>
+        ensures { IfOk result (λ entry. entry ≡ Expired author window t1 t2) }
+    {
+        let spent = Box::new(alloc, Spent { window, t1, t2 })?;
+        Ok(Entered {
+            kept: Kept::Expired { author, spent },
+        })
     }
 }

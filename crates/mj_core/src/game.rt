@@ -1,22 +1,27 @@
-ghost use Rattle.std.specs.Prelude.{◌≡◌, ℕ, ◌≤◌, length, [], Some, None, true, false, if◌then◌else◌, IfOk, OnOk, OnErr, IsTrue};
+ghost use Rattle.std.specs.Prelude.{◌≡◌, ℕ, ◌≤◌, ◌<◌, length, [], Some, None, true, false, is_some, IfOk, MatchOption, OnOk, OnErr, IsTrue};
 ghost use Rattle.std.specs.List.{list_all};
 ghost use Rattle.mj_bytes.specs.Adds.{Adds};
 ghost use Rattle.mj_ports.specs.Names.{is_name};
 ghost use Rattle.mj_wall.specs.Places.{is_wall};
 ghost use Rattle.mj_deeds.specs.Answers.{is_in_form};
 ghost use Rattle.mj_protocol.specs.AnswerForms.{answer_of, join_of};
-ghost use Rattle.mj_protocol.specs.Trace.{can_say};
-ghost use Rattle.mj_core.specs.Calls.{IsSitAnswer, IsHeard, after_of, is_held, author_at, may_say_at, pending_at};
+ghost use Rattle.mj_protocol.specs.Trace.{can_say, is_over};
+ghost use Rattle.mj_protocol.specs.Sitting.{placing};
+ghost use Rattle.mj_protocol.specs.Shown.{control_line, line_at};
+ghost use Rattle.mj_seating.specs.declared.desk.Placed.TheVariants.{Sat, Back};
+ghost use Rattle.mj_core.specs.Calls.{IsSitAnswer, IsHeard, IsLeft, IsExpiry, after_of, is_here, may_expire, author_of_seat, due_of, open_window, may_say_at, pending_at, line_of};
 ghost use Rattle.mj_core.specs.Inner.Verdicts.{heard_by};
 
-use crate::answers::{Heard, SitAnswer};
+use crate::answers::{Expiry, Heard, Left, SitAnswer};
+use crate::control::write_control;
 use crate::entered::Entered;
 use crate::state::State;
 use crate::verdict::Verdict;
-use mj_deeds::{Answer, Viewer};
-use mj_ports::{JoinLine, SitRefused};
+use mj_deeds::{Answer, Rule, Viewer};
+use mj_ports::{Control, JoinLine, SitRefused};
+use mj_seating::Placed;
 use mj_wall::{Rules, Setting, Wall, Walls};
-use mjai_lines::{read_answer, read_join, write};
+use mjai_lines::{read_answer, read_join, write_alone};
 use std::alloc::{AllocError, Global};
 use std::marker::Model;
 
@@ -62,8 +67,9 @@ impl Core {
         })
     }
 
-    /// A line that wants a seat. The next seat is given under the name and key of the line, unless the line is no join, a
-    /// seat has the name, or all four are held. The author is the number of the worker that enters it.
+    /// A line that wants a seat: the next seat is given under the name and key of the line, or a seat that is gone is
+    /// taken back by them, or it is said why neither is: the line is no join, the game is over, or what the table of
+    /// sitting says. The author is the number of the worker that enters it.
     pub fn sit(&mut self, alloc: Global, author: u8, line: &[u8]) -> SitAnswer
         ensures { IsSitAnswer result self.old self.new author (join_of line.now) }
     {
@@ -79,20 +85,29 @@ impl Core {
         requires { is_name join.now.name ≡ true }
         ensures { IsSitAnswer result self.old self.new author (Some join.now) }
     {
-        if self.state.has_name(&join.name) {
-            return SitAnswer::Refused(SitRefused::NameTaken);
+        if self.state.is_over() {
+            return SitAnswer::Refused(SitRefused::Over);
         }
-        let seat = self.state.held();
-        if seat == 4 {
-            return SitAnswer::Refused(SitRefused::Full);
+        match self.state.place(join) {
+            Placed::Refused(why) => SitAnswer::Refused(why),
+            Placed::Sat(seat) => self.take_seat(alloc, author, seat, join),
+            Placed::Back(seat) => self.take_back(alloc, author, seat, join),
         }
+    }
+
+    // The seat, which is the next one, is taken by a join.
+    fn take_seat(&mut self, alloc: Global, author: u8, seat: u8, join: &JoinLine) -> SitAnswer
+        requires name { is_name join.now.name ≡ true }
+        requires placing { placing (after_of self.old) (Some join.now) ≡ Sat seat }
+        ensures { IsSitAnswer result self.old self.new author (Some join.now) }
+    {
         if self.entries.reserve(1).is_err() {
             return SitAnswer::NoMemory;
         }
         let Ok(entered) = Entered::sat(alloc, author, join) else {
             return SitAnswer::NoMemory;
         };
-        match self.state.take_seat(author, join) {
+        match self.state.take_seat(alloc, author, join) {
             Ok(()) => {
                 self.entries.push_reserved(entered);
                 SitAnswer::Sat(seat)
@@ -101,8 +116,29 @@ impl Core {
         }
     }
 
-    /// A line of a seat, 0 to 3, which is present by this author and whose due deed exists. The answer that the line reads
-    /// as is entered and judged, unless it would be the sixteenth to be refused to one deed, which is not built.
+    // The seat, which is gone, is taken back by a join.
+    fn take_back(&mut self, alloc: Global, author: u8, seat: u8, join: &JoinLine) -> SitAnswer
+        requires name { is_name join.now.name ≡ true }
+        requires placing { placing (after_of self.old) (Some join.now) ≡ Back seat }
+        ensures { IsSitAnswer result self.old self.new author (Some join.now) }
+    {
+        if self.entries.reserve(1).is_err() {
+            return SitAnswer::NoMemory;
+        }
+        match self
+            .state
+            .take_back(alloc, &self.setting, author, seat, join)
+        {
+            Ok(()) => {
+                self.entries.push_reserved(Entered::back(author, seat));
+                SitAnswer::Back(seat)
+            }
+            Err(_) => SitAnswer::NoMemory,
+        }
+    }
+
+    /// A line of a seat, 0 to 3, which is present by this author and whose due deed exists. The answer that the line
+    /// reads as is entered and judged; the sixteenth that is refused to one deed makes the seat gone.
     pub fn said(&mut self, alloc: Global, author: u8, seat: u8, line: &[u8]) -> Heard
         requires { can_say (after_of self.old) author seat ≡ true }
         ensures { IsHeard result self.old self.new author seat (answer_of line.now) }
@@ -123,51 +159,140 @@ impl Core {
             return Heard::NoMemory;
         }
         match self.state.hear(alloc, &self.setting, seat, answer) {
-            Ok(Some(verdict)) => {
+            Ok(verdict) => {
                 self.entries
                     .push_reserved(Entered::said(author, seat, answer));
                 heard_by(&verdict)
             }
-            Ok(None) => Heard::NotBuilt,
             Err(_) => Heard::NoMemory,
         }
     }
 
-    /// Whether a seat is held.
-    pub fn present(&self, seat: u8) -> bool
-        ensures { result ≡ is_held self.now seat }
+    /// The seat, which is present by this author, is gone.
+    pub fn gone(&mut self, alloc: Global, author: u8, seat: u8) -> Left
+        requires { is_here self.old author seat ≡ true }
+        ensures { IsLeft result self.old self.new author seat }
     {
-        self.state.seat(seat).is_some()
+        if self.entries.reserve(1).is_err() {
+            return Left::NoMemory;
+        }
+        match self.state.leave(alloc, &self.setting, seat) {
+            Ok(()) => {
+                self.entries.push_reserved(Entered::gone(author, seat));
+                Left::Gone
+            }
+            Err(_) => Left::NoMemory,
+        }
     }
 
-    /// The author by whom a seat is present; None exactly where it isn't held.
+    /// The time of a window may have run out between two readings of a clock, in milliseconds: stale exactly where the
+    /// window isn't the open one, and early exactly where it is and less time than the limit lies between the readings.
+    pub fn expire(&mut self, alloc: Global, author: u8, window: u32, t1: u64, t2: u64) -> Expiry
+        ensures { IsExpiry result self.old self.new author window t1 t2 }
+    {
+        if self.open() != Some(window) {
+            return Expiry::Stale;
+        }
+        if t2 < t1 || t2 - t1 < self.setting.rules.limit {
+            return Expiry::Early;
+        }
+        self.close(alloc, author, window, t1, t2)
+    }
+
+    // The open window closes, since its time has run out.
+    fn close(&mut self, alloc: Global, author: u8, window: u32, t1: u64, t2: u64) -> Expiry
+        requires { may_expire self.old window t1 t2 ≡ true }
+        ensures { IsExpiry result self.old self.new author window t1 t2 }
+    {
+        if self.entries.reserve(1).is_err() {
+            return Expiry::NoMemory;
+        }
+        let Ok(entered) = Entered::expired(alloc, author, window, t1, t2) else {
+            return Expiry::NoMemory;
+        };
+        match self.state.expire(alloc, &self.setting) {
+            Ok(()) => {
+                self.entries.push_reserved(entered);
+                Expiry::Closed
+            }
+            Err(_) => Expiry::NoMemory,
+        }
+    }
+
+    /// Whether a seat is present.
+    pub fn present(&self, seat: u8) -> bool
+        ensures { result ≡ is_some (author_of_seat self.now seat) }
+    {
+        self.author(seat).is_some()
+    }
+
+    /// The author by whom a seat is present; None exactly where it isn't.
     pub fn author(&self, seat: u8) -> Option<u8>
-        ensures { result ≡ author_at self.now seat }
+        ensures { result ≡ author_of_seat self.now seat }
     {
         match self.state.seat(seat) {
-            Some(held) => Some(held.author()),
+            Some(held) => held.author(),
             None => None,
         }
     }
 
-    /// Whether a seat is held and the deed that its next line answers exists.
-    pub fn may_say(&self, seat: u8) -> bool
-        ensures asked { result ≡ may_say_at self.now seat }
-        ensures by_author { result ≡ true → (author : ℕ) → author_at self.now seat ≡ Some author
-            → can_say (after_of self.now) author seat ≡ true }
+    /// The number of the deed that a seat's next line answers; 0 for a seat that isn't held.
+    pub fn due(&self, seat: u8) -> u32
+        ensures { result ≡ due_of self.now seat }
     {
-        self.state.is_due(seat)
+        match self.state.seat(seat) {
+            Some(held) => held.due() as u32,
+            None => 0,
+        }
     }
 
-    /// The number of held seats, 0 to 4.
-    pub fn seats(&self) -> u8
-        ensures { result ≡ length (after_of self.now).chairs }
+    /// The number of deeds.
+    pub fn deeds(&self) -> u32
+        ensures { result ≡ length (after_of self.now).deeds }
     {
-        self.state.held()
+        self.state.deeds().len() as u32
+    }
+
+    /// The number of the open window, that of the newest deed; None exactly before the first deed and after the game's
+    /// end.
+    pub fn open(&self) -> Option<u32>
+        ensures { result ≡ open_window (after_of self.now).deeds }
+    {
+        match self.state.open() {
+            Some(window) => Some(window as u32),
+            None => None,
+        }
+    }
+
+    /// Whether the game has ended.
+    pub fn over(&self) -> bool
+        ensures { result ≡ is_over (after_of self.now).deeds }
+    {
+        self.state.is_over()
+    }
+
+    /// The number of entries.
+    pub fn entries(&self) -> u64
+        ensures { result ≡ length self.now.entries }
+    {
+        self.entries.len() as u64
+    }
+
+    /// Whether a seat is present and the deed that its next line answers exists.
+    pub fn may_say(&self, seat: u8) -> bool
+        ensures asked { result ≡ may_say_at self.now seat }
+        ensures by_author { result ≡ true → (author : ℕ)
+            → author_of_seat self.now seat ≡ Some author
+            → can_say (after_of self.now) author seat ≡ true }
+    {
+        match self.state.seat(seat) {
+            Some(held) => held.is_present() && held.due() < self.state.deeds().len(),
+            None => false,
+        }
     }
 
     /// Writes behind what stands in `into` what is still to be told to a seat: the line of its due deed as soon as that
-    /// deed exists, unless an answer to it was refused. For a seat that isn't held there is nothing.
+    /// deed exists, unless an answer to it was refused. For a seat that isn't present there is nothing.
     pub fn pending(&self, alloc: Global, seat: u8, into: &mut Vec<u8>) -> Result<(), AllocError>
         ensures ok { OnOk result (Adds into.old.items into.new.items (pending_at self.now seat)) }
         ensures err { OnErr result (into.new.items ≡ into.old.items) }
@@ -175,11 +300,67 @@ impl Core {
         let Some(held) = self.state.seat(seat) else {
             return Ok(());
         };
+        if !held.is_present() {
+            return Ok(());
+        }
         if !held.is_fresh() {
             return Ok(());
         }
-        match self.state.deeds().get(held.due()) {
-            Some(deed) => write(alloc, Viewer::Seat(seat), deed, into),
+        self.push_line(alloc, seat, held.due(), into)
+    }
+
+    /// Writes line `k` of a seat behind what stands in `into`; nothing where there is no deed `k` yet.
+    pub fn line(
+        &self,
+        alloc: Global,
+        seat: u8,
+        k: u32,
+        into: &mut Vec<u8>,
+    ) -> Result<(), AllocError>
+        ensures ok { OnOk result (Adds into.old.items into.new.items (line_of self.now seat k)) }
+        ensures err { OnErr result (into.new.items ≡ into.old.items) }
+    {
+        self.push_line(alloc, seat, k as usize, into)
+    }
+
+    /// Line `k` of a seat, 0 to 3, as it was rendered when its deed was added; None exactly where there is no deed `k` yet.
+    pub fn kept_line(&self, seat: u8, k: u32) -> Option<&[u8]>
+        requires { seat < 4 }
+        ensures { MatchOption result (length (after_of self.now).deeds ≤ k)
+            (λ l. (k < length (after_of self.now).deeds)
+            × (l.now ≡ line_at (after_of self.now).deeds seat k)) }
+    {
+        self.state.line(seat, k)
+    }
+
+    /// Writes a line that is no deed's behind what stands in `into`: the first line of a connection, the head of the lines
+    /// that are told again after a return, or why an answer or a seat is refused. The only error is want of memory, and
+    /// then the text stays as it was.
+    pub fn control(
+        &self,
+        alloc: Global,
+        control: &Control<Rule>,
+        into: &mut Vec<u8>,
+    ) -> Result<(), AllocError>
+        ensures ok { OnOk result (Adds into.old.items into.new.items (control_line control.now)) }
+        ensures err { OnErr result (into.new.items ≡ into.old.items) }
+    {
+        write_control(alloc, control, into)
+    }
+
+    // Writes the line of a seat with this number, where there is one.
+    fn push_line(
+        &self,
+        alloc: Global,
+        seat: u8,
+        k: usize,
+        into: &mut Vec<u8>,
+    ) -> Result<(), AllocError>
+        ensures ok { OnOk result (Adds into.old.items into.new.items (line_of self.now seat k)) }
+        ensures err { OnErr result (into.new.items ≡ into.old.items) }
+    {
+        match self.state.deeds().get(k) {
+            Some(deed) => write_alone(alloc, Viewer::Seat(seat), deed, into),
             None => Ok(()),
         }
     }
@@ -193,5 +374,6 @@ fn heard_by(verdict: &Verdict) -> Heard
         Verdict::Taken => Heard::Taken,
         Verdict::Late => Heard::Late,
         Verdict::Refused(rule) => Heard::Refused(*rule),
+        Verdict::Closing(rule) => Heard::Closing(*rule),
     }
 }

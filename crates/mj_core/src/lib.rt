@@ -3,11 +3,12 @@
 
 mod answers;
 mod chair;
+mod control;
 mod entered;
 mod game;
 mod state;
 mod verdict;
 mod window;
 
-pub use answers::{Heard, SitAnswer};
+pub use answers::{Expiry, Heard, Left, SitAnswer};
 pub use game::Core;

@@ -1,10 +1,17 @@
-ghost use Rattle.std.specs.Prelude.{◌≡◌, ◌≤◌, ◌<◌, ◌==◌, ◌++◌, ◌∷◌, ◌&&◌, [], length, slice_get, true, false, not, if◌then◌else◌, Some, None, OnOk, OnErr, IfOk, option_copied};
-ghost use Rattle.std.specs.List.{list_any};
-ghost use Rattle.mj_deeds.specs.Facts.{newest};
+ghost use Rattle.std.specs.Prelude.{◌≡◌, ◌≤◌, ◌<◌, ◌==◌, ◌-◌, ◌&&◌, ◌++◌, ◌∷◌, [], ℕ, length, slice_get, slice_set, true, false, not, is_some, Some, None, OnOk, OnErr, IfOk, option_copied, option_map, if◌then◌else◌};
+ghost use Rattle.std.specs.Option.{option_map_or};
+ghost use Rattle.mj_ports.specs.declared.entry.Entry.TheVariants.{Sat, Back, Gone, Expired};
+ghost use Rattle.mj_seating.specs.Sitting.{is_present_at};
+ghost use Rattle.mj_wall.specs.declared.setting.Setting.{Setting};
+ghost use Rattle.mj_window.specs.Slots.{closes};
 ghost use Rattle.mj_rules.specs.Outcome.{goes_on};
-ghost use Rattle.mj_protocol.specs.After.{before_all, names_of, name_at, is_window_closed, answers_in};
-ghost use Rattle.mj_protocol.specs.Trace.{has_name};
-ghost use Rattle.mj_core.specs.Inner.States.{TakesNext, is_due, CanHear, IsStateHeard};
+ghost use Rattle.mj_deeds.specs.Facts.{newest};
+ghost use Rattle.mj_protocol.specs.After.{due_on_return};
+ghost use Rattle.mj_protocol.specs.Trace.{is_over};
+ghost use Rattle.mj_streams.specs.Streams.{line_of};
+ghost use Rattle.mj_core.specs.Calls.{open_window};
+ghost use Rattle.mj_core.specs.Inner.States.{Steps, Hears, Advances, Settles, CanTakeSeat, CanTakeBack, CanHear, CanLeave, CanExpire, CanSettle, HasWalls, MayAdd, changed, now_of, nobody, desk_after, player_in, placed_in, presence_at, desk_name, desk_names};
+ghost use Rattle.mj_core.specs.Inner.Verdicts.{verdict_given};
 
 use crate::chair::Chair;
 use crate::verdict::Verdict;
@@ -12,45 +19,53 @@ use crate::window::{answers_in, slots_after};
 use mj_deeds::{Answer, Deed, Four};
 use mj_machine::next;
 use mj_ports::{JoinLine, Name};
+use mj_seating::{Desk, Placed};
+use mj_streams::Streams;
 use mj_table::Table;
 use mj_wall::{Rules, Setting};
 use mj_window::Window;
 use std::alloc::{AllocError, Global};
 use std::marker::Model;
 
-// What the entries of a game come to: the deeds so far and the table that they make, the held seats in order, and the
-// window on the newest deed.
+// What the entries of a game come to: the deeds so far, the table that they make and the lines that the seats are told of
+// them, the seats as they are held and how far each has come, and the window on the newest deed.
 #[derive(Drop)]
 pub struct State {
     table: Table,
     deeds: Vec<Deed>,
+    streams: Streams,
+    desk: Desk,
     chairs: Vec<Chair>,
     window: Window,
 }
 
 impl Model for State {
-    ghost use Rattle.std.specs.Prelude.{◌≡◌};
-    ghost use Rattle.mj_core.specs.Inner.States.{Position};
+    ghost use Rattle.mj_core.specs.Inner.States.{Position, AreKept};
 
     ghost Value = { Position };
 
     ghost view = { λ s. record {
       rules = s.table.rules;
-      now = record
-          { deeds = s.deeds.items; chairs = s.chairs.items; slots = s.window };
+      deeds = s.deeds.items;
+      desk = s.desk;
+      players = s.chairs.items;
+      slots = s.window;
     } };
 
-    ghost invariant = { λ s. s.table.deeds ≡ s.deeds.items };
+    ghost invariant = { λ s. AreKept s.table.deeds s.streams s.deeds.items s.desk
+        s.chairs.items };
 }
 
 impl State {
     // A state without seats.
     pub fn new(alloc: Global, rules: Rules) -> Result<State, AllocError>
-        ensures { IfOk result (λ state. state ≡ record { rules = rules; now = before_all }) }
+        ensures { IfOk result (λ state. state ≡ nobody rules) }
     {
         Ok(State {
             table: Table::new(alloc, rules)?,
             deeds: Vec::new(alloc),
+            streams: Streams::new(alloc)?,
+            desk: Desk::new(),
             chairs: Vec::with_capacity(alloc, 4)?,
             window: Window::new(),
         })
@@ -58,138 +73,281 @@ impl State {
 
     // The deeds so far.
     pub fn deeds(&self) -> &[Deed]
-        ensures { result.now ≡ self.now.now.deeds }
+        ensures { result.now ≡ self.now.deeds }
     {
         self.deeds.as_slice()
     }
 
+    // Line k of a seat, 0 to 3; None exactly where there is no deed k yet.
+    pub fn line(&self, seat: u8, k: u32) -> Option<&[u8]>
+        requires { seat < 4 }
+        ensures { option_copied result ≡ line_of self.now.deeds seat k }
+    {
+        self.streams.line(seat, k)
+    }
+
     // A seat, where it is held.
     pub fn seat(&self, seat: u8) -> Option<&Chair>
-        ensures { option_copied result ≡ slice_get self.now.now.chairs seat }
+        ensures { option_copied result
+            ≡ option_map player_in (slice_get (now_of self.now).chairs seat) }
+    {
+        let _ = &self.desk;
+        self.chair(seat)
+    }
+
+    // The chair of a seat, where it is held.
+    fn chair(&self, seat: u8) -> Option<&Chair>
+        ensures { option_copied result ≡ slice_get self.now.players seat }
     {
         self.chairs.get(usize::from(seat))
     }
 
-    // How many seats are held.
-    pub fn held(&self) -> u8
-        requires { length self.now.now.chairs ≤ 4 }
-        ensures { result ≡ length self.now.now.chairs }
+    // The game has ended.
+    pub fn is_over(&self) -> bool
+        ensures { result ≡ is_over self.now.deeds }
     {
-        self.chairs.len() as u8
+        matches!(self.deeds.as_slice().last(), Some(Deed::EndGame { .. }))
     }
 
-    // Whether a seat has the name.
-    pub fn has_name(&self, name: &Name) -> bool
-        ensures { result ≡ list_any (has_name name.now) self.now.now.chairs }
+    // The number of the open window: that of the newest deed, until the game has ended.
+    pub fn open(&self) -> Option<usize>
+        ensures { result ≡ open_window self.now.deeds }
     {
-        self.chairs.iter().any(|seat| seat.has_name(name))
-    }
-
-    // Whether the deed that a held seat answers next exists.
-    pub fn is_due(&self, seat: u8) -> bool
-        ensures { result ≡ is_due self.now.now seat }
-    {
-        match self.seat(seat) {
-            Some(held) => held.due() < self.deeds.len(),
-            None => false,
+        if self.deeds.is_empty() || self.is_over() {
+            return None;
         }
+        Some(self.deeds.len() - 1)
+    }
+
+    // What becomes of a join.
+    pub fn place(&self, join: &JoinLine) -> Placed
+        ensures { result ≡ placed_in (now_of self.now) join.now }
+    {
+        let mut desk = self.desk;
+        desk.sit(join)
     }
 
     // The next seat is taken; with the fourth the game starts.
-    pub fn take_seat(&mut self, author: u8, join: &JoinLine) -> Result<(), AllocError>
-        requires { (length self.old.now.deeds == 0) ≡ true }
-        ensures ok { OnOk result (TakesNext self.old self.new author join.now) }
+    pub fn take_seat(
+        &mut self,
+        alloc: Global,
+        author: u8,
+        join: &JoinLine,
+    ) -> Result<(), AllocError>
+        requires { CanTakeSeat self.old join.now }
+        ensures ok { OnOk result ((setting : Setting) → Steps setting self.old self.new
+            (Sat author join.now.name join.now.key)) }
         ensures err { OnErr result (self.new ≡ self.old) }
     {
         self.deeds.reserve(1)?;
         self.chairs.reserve(1)?;
-        let seat = Chair::new(author, join);
-        if self.chairs.len() == 3 {
-            let names = names(self.chairs.as_slice(), &seat);
-            let deed = Deed::StartGame { names };
-            self.table.push(&deed)?;
+        let mut desk = self.desk;
+        desk.sit(join);
+        if desk.held() == 4 {
+            let deed = Deed::StartGame {
+                names: names(&desk),
+            };
+            let mut table = self.table.copy(alloc)?;
+            table.push(&deed)?;
+            self.streams.push_alone(alloc, &deed)?;
+            self.table = table;
             self.deeds.push_reserved(deed);
-            self.chairs.push_reserved(seat);
+            self.chairs.push_reserved(Chair::new(author));
+            self.desk = desk;
             self.window = Window::new();
             return Ok(());
         }
-        self.chairs.push_reserved(seat);
+        self.chairs.push_reserved(Chair::new(author));
+        self.desk = desk;
         Ok(())
     }
 
-    // A held seat answers its due deed; None where that would be the sixteenth refusal to one deed, which isn't built.
+    // A seat that is gone is taken back by an author.
+    pub fn take_back(
+        &mut self,
+        alloc: Global,
+        setting: &Setting,
+        author: u8,
+        seat: u8,
+        join: &JoinLine,
+    ) -> Result<(), AllocError>
+        requires { CanTakeBack setting.now self.old seat join.now }
+        ensures ok { OnOk result (Steps setting.now self.old self.new (Back author seat)) }
+        ensures err { OnErr result (self.new ≡ self.old) }
+    {
+        let mut desk = self.desk;
+        desk.sit(join);
+        let mut chair = self.chairs[usize::from(seat)];
+        chair.come_back(author, self.due_on_return(seat));
+        let window = self.window;
+        self.settle(alloc, setting, seat, desk, chair, window)
+    }
+
+    // The deed that a seat answers next where it comes back: the newest one where its slot is empty, else the one after
+    // it; before the first deed the first.
+    fn due_on_return(&self, seat: u8) -> usize
+        requires { seat ≤ 3 }
+        ensures { result ≡ due_on_return (now_of self.now) seat }
+    {
+        match self.window.slot(seat) {
+            Some(_) => self.deeds.len(),
+            None => self.deeds.len().saturating_sub(1),
+        }
+    }
+
+    // A present seat answers its due deed.
     pub fn hear(
         &mut self,
         alloc: Global,
         setting: &Setting,
         seat: u8,
         answer: &Answer,
-    ) -> Result<Option<Verdict>, AllocError>
+    ) -> Result<Verdict, AllocError>
         requires { CanHear setting.now self.old seat answer.now }
-        ensures ok { IfOk result (λ heard. IsStateHeard heard setting.now self.old self.new seat
-            answer.now) }
+        ensures ok { IfOk result (λ verdict. Hears setting.now self.old self.new seat answer.now
+            (verdict_given verdict)) }
+        ensures err { OnErr result (self.new ≡ self.old) }
+    {
+        let mut chair = self.chairs[usize::from(seat)];
+        let verdict = chair.verdict(&self.table, self.deeds.len(), seat, answer);
+        chair.go_on(&verdict);
+        let desk = desk_after(&self.desk, &verdict, seat);
+        let window = slots_after(&self.window, &verdict, seat, answer);
+        self.settle(alloc, setting, seat, desk, chair, window)?;
+        Ok(verdict)
+    }
+
+    // A present seat leaves.
+    pub fn leave(&mut self, alloc: Global, setting: &Setting, seat: u8) -> Result<(), AllocError>
+        requires { CanLeave setting.now self.old seat }
+        ensures ok { OnOk result ((author : ℕ) → Steps setting.now self.old self.new
+            (Gone author seat)) }
+        ensures err { OnErr result (self.new ≡ self.old) }
+    {
+        let mut desk = self.desk;
+        desk.leave(seat);
+        let mut chair = self.chairs[usize::from(seat)];
+        chair.leave();
+        let window = self.window;
+        self.settle(alloc, setting, seat, desk, chair, window)
+    }
+
+    // The time of the open window has run out.
+    pub fn expire(&mut self, alloc: Global, setting: &Setting) -> Result<(), AllocError>
+        requires { CanExpire setting.now self.old }
+        ensures ok { OnOk result ((author window t1 t2 : ℕ) → Steps setting.now self.old self.new
+            (Expired author window t1 t2)) }
+        ensures err { OnErr result (self.new ≡ self.old) }
+    {
+        let window = self.window;
+        self.advance(alloc, setting, &window)?;
+        self.window = Window::new();
+        Ok(())
+    }
+
+    // A seat changes, and its slot perhaps; then the window closes where nobody is waited for.
+    fn settle(
+        &mut self,
+        alloc: Global,
+        setting: &Setting,
+        seat: u8,
+        desk: Desk,
+        chair: Chair,
+        window: Window,
+    ) -> Result<(), AllocError>
+        requires { CanSettle setting.now self.old seat desk chair window }
+        ensures ok { OnOk result (Settles setting.now
+            (changed self.old desk (slice_set self.old.players seat chair) window) self.new) }
+        ensures err { OnErr result (self.new ≡ self.old) }
+    {
+        if self.is_closed(&desk, &window) {
+            self.advance(alloc, setting, &window)?;
+            self.chairs[usize::from(seat)] = chair;
+            self.desk = desk;
+            self.window = Window::new();
+            return Ok(());
+        }
+        self.chairs[usize::from(seat)] = chair;
+        self.desk = desk;
+        self.window = window;
+        Ok(())
+    }
+
+    // Whether the window closes: it is open, and nobody at the desk is waited for.
+    fn is_closed(&self, desk: &Desk, window: &Window) -> bool
+        ensures { result ≡ (is_some (open_window self.now.deeds)
+            && closes window.now (presence_at desk.now)) }
+    {
+        self.open().is_some() && window.ready_to_close(presence(desk))
+    }
+
+    // The deed that follows by the answers in a window is added.
+    fn advance(
+        &mut self,
+        alloc: Global,
+        setting: &Setting,
+        window: &Window,
+    ) -> Result<(), AllocError>
+        requires ground { HasWalls setting.now self.old }
+        requires on { goes_on (newest self.old.deeds) ≡ true }
+        requires may { MayAdd setting.now self.old.deeds window.now }
+        ensures ok { OnOk result (Advances setting.now self.old self.new window.now) }
         ensures err { OnErr result (self.new ≡ self.old) }
     {
         self.deeds.reserve(1)?;
-        let place = usize::from(seat);
-        let mut chair = self.chairs[place];
-        let verdict = chair.verdict(&self.table, self.deeds.len(), seat, answer);
-        if !chair.may_get(&verdict) {
-            return Ok(None);
-        }
-        chair.go_on(&verdict);
-        let window = slots_after(&self.window, &verdict, seat, answer);
-        let Some(answers) = self.closing(&window) else {
-            self.chairs[place] = chair;
-            self.window = window;
-            return Ok(Some(verdict));
-        };
-        let deed = next(alloc, &mut self.table, setting.walls.as_slice(), &answers)?;
-        self.chairs[place] = chair;
+        let answers = answers_in(&self.table, window);
+        let mut table = self.table.copy(alloc)?;
+        let deed = next(alloc, &mut table, setting.walls.as_slice(), &answers)?;
+        self.streams.push_alone(alloc, &deed)?;
+        self.table = table;
         self.deeds.push_reserved(deed);
-        self.window = Window::new();
-        Ok(Some(verdict))
+        Ok(())
     }
+}
 
-    // The four answers that close the window, once all have come; the window on the end of the game never closes.
-    fn closing(&self, window: &Window) -> Option<Four<Answer>>
-        ensures { result ≡ (if goes_on (newest self.now.now.deeds) && is_window_closed window.now
-            then Some (answers_in window.now) else None) }
-    {
-        if self.is_over() {
-            return None;
-        }
-        answers_in(window)
+// The desk once an answer of a seat has this verdict: one that is refused for good makes the seat leave.
+fn desk_after(desk: &Desk, verdict: &Verdict, seat: u8) -> Desk
+    requires { is_present_at desk.now seat ≡ true }
+    ensures { result ≡ desk_after (verdict_given verdict.now) desk.now seat }
+{
+    let mut next = *desk;
+    match verdict {
+        Verdict::Closing(_) => next.leave(seat),
+        _ => {}
     }
+    next
+}
 
-    // There is no deed yet, or the game has ended.
-    fn is_over(&self) -> bool
-        ensures { result ≡ not (goes_on (newest self.now.now.deeds)) }
-    {
-        matches!(
-            self.deeds.as_slice().last(),
-            None | Some(Deed::EndGame { .. })
-        )
-    }
+// Which of the four seats are present.
+fn presence(desk: &Desk) -> [bool; 4]
+    ensures { result ≡ presence_at desk.now }
+{
+    [
+        desk.present(0),
+        desk.present(1),
+        desk.present(2),
+        desk.present(3),
+    ]
 }
 
 // The name of a seat.
-fn name_of(chairs: &[Chair], seat: usize) -> Name
-    requires { seat < length chairs.now }
-    ensures { result ≡ name_at chairs.now seat }
+fn name_of(desk: &Desk, seat: u8) -> Name
+    ensures { result ≡ desk_name desk.now seat }
 {
-    chairs[seat].name()
+    match desk.name(seat) {
+        Some(name) => name,
+        None => Name::of(&[]),
+    }
 }
 
-// The names of the four seats, with the one that is taken last.
-fn names(chairs: &[Chair], fourth: &Chair) -> Four<Name>
-    requires { length chairs.now ≡ 3 }
-    ensures { result ≡ names_of (chairs.now ++ fourth.now ∷ []) }
+// The names of the four seats.
+fn names(desk: &Desk) -> Four<Name>
+    ensures { result ≡ desk_names desk.now }
 {
     Four {
-        first: name_of(chairs, 0),
-        second: name_of(chairs, 1),
-        third: name_of(chairs, 2),
-        fourth: fourth.name(),
+        first: name_of(desk, 0),
+        second: name_of(desk, 1),
+        third: name_of(desk, 2),
+        fourth: name_of(desk, 3),
     }
 }

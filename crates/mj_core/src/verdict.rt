@@ -6,4 +6,5 @@ pub enum Verdict {
     Taken,
     Late,
     Refused(Rule),
+    Closing(Rule),
 }

@@ -1,6 +1,9 @@
 pub mod FieldLaws
 pub mod TileLaws
 pub mod StatusLaws
+pub mod Placing
 pub mod Telling
-pub mod LineLaws
+pub mod Returning
+pub mod PlayLaws
+pub mod WallLaws
 pub mod RunLaws

@@ -12,7 +12,6 @@ CountsReadFaults statuses.WriteFault old new = old ≤ new
 CountsReadFaults statuses.NoMemory old new = old ≤ new
 CountsReadFaults (statuses.BadArrival line) old new = old ≤ new
 CountsReadFaults statuses.TooLong old new = old ≤ new
-CountsReadFaults (statuses.NotBuilt line) old new = old ≤ new
 
 -- The count of write faults never falls, and rises where the status says so.
 abbrev pub CountsWriteFaults : Status → ℕ → ℕ → Type 0
@@ -23,4 +22,3 @@ CountsWriteFaults statuses.WriteFault old new = old < new
 CountsWriteFaults statuses.NoMemory old new = old ≡ new
 CountsWriteFaults (statuses.BadArrival line) old new = old ≤ new
 CountsWriteFaults statuses.TooLong old new = old ≡ new
-CountsWriteFaults (statuses.NotBuilt line) old new = old ≤ new

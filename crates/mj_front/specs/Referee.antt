@@ -5,7 +5,7 @@ use Rattle.mj_links.specs.Sinks.{WritesPrefix}
 use Rattle.mj_rules.specs.Played.{IsPlayed}
 use Rattle.mj_protocol.specs.After.{after, scripts}
 use Rattle.mj_protocol.specs.Trace.{Game, Agree, IsLegal}
-use Rattle.mj_protocol.specs.Arrivals.{Ending, Whole, BadAt, NotBuiltAt, input_of, game_of}
+use Rattle.mj_protocol.specs.Arrivals.{Ending, Whole, BadAt, input_of, game_of}
 use Rattle.mj_front.specs.declared.hearing.End.{End}
 use Rattle.mj_front.specs.declared.hearing.End.TheVariants as inputs
 use Rattle.mj_front.specs.declared.referee.RefereeEnd.{RefereeEnd}
@@ -60,7 +60,6 @@ pub record IsTooLong (old_left new_left old_written new_written : Option (List �
 abbrev pub ending : End → Ending
 ending inputs.Whole = Whole
 ending (inputs.Bad line) = BadAt line
-ending (inputs.NotBuilt line) = NotBuiltAt line
 
 -- What the referee of a seat does, by its end. A fault of the source and want of memory write nothing.
 abbrev pub Referees : RefereeEnd → ℕ → Option (List ℕ) → Option (List ℕ) → Option (List ℕ) → Option (List ℕ) → Type 0

@@ -14,7 +14,6 @@ use Rattle.mj_front.specs.declared.status.Status.TheVariants as statuses
 abbrev pub referee_status : RefereeEnd → Status
 referee_status (referees.Told ends.Whole) = statuses.Done
 referee_status (referees.Told (ends.Bad line)) = statuses.BadArrival line
-referee_status (referees.Told (ends.NotBuilt line)) = statuses.NotBuilt line
 referee_status referees.WriteFault = statuses.WriteFault
 referee_status referees.ReadFault = statuses.ReadFault
 referee_status referees.TooLong = statuses.TooLong
@@ -36,7 +35,6 @@ code_of statuses.WriteFault = 4
 code_of statuses.NoMemory = 5
 code_of (statuses.BadArrival line) = 6
 code_of statuses.TooLong = 9
-code_of (statuses.NotBuilt line) = 10
 
 -- How the program is called.
 unfoldable pub usage : List ℕ
@@ -55,4 +53,3 @@ status_words statuses.WriteFault = codes "write fault\n"
 status_words statuses.NoMemory = codes "no memory\n"
 status_words (statuses.BadArrival line) = at_line (codes "bad arrival") line
 status_words statuses.TooLong = codes "input too long\n"
-status_words (statuses.NotBuilt line) = at_line (codes "not built") line

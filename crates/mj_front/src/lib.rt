@@ -2,6 +2,7 @@
 //! of a hand written to a sink.
 #![tactic(auto)]
 
+mod arriving;
 mod commands;
 mod form;
 mod hand;

@@ -11,7 +11,7 @@ use mj_bytes::{push_all, push_number};
 use std::alloc::{AllocError, Global};
 
 /// How a run ended. Where several fit, the first of this order answers: `Words`; `ReadFault` or `TooLong`, whichever is met
-/// first; `WriteFault`; `BadArrival` or `NotBuilt`; `Done`.
+/// first; `WriteFault`; `BadArrival`; `Done`.
 #[derive(Clone, Copy, Debug, PartialEq, Eq)]
 pub enum Status {
     /// The input was read to its end and is valid, and what it tells the seat is written; or the lines of a hand are written.
@@ -28,8 +28,6 @@ pub enum Status {
     BadArrival(u32),
     /// The input has more than 67,108,864 bytes. Nothing is written.
     TooLong,
-    /// The line, counted from 1, is the first that asks for what isn't built. What the lines before it tell is written.
-    NotBuilt(u32),
 }
 
 /// The status that the end of the referee gives.
@@ -39,7 +37,6 @@ pub(crate) fn status_of_referee(end: RefereeEnd) -> Status
     match end {
         RefereeEnd::Told(End::Whole) => Status::Done,
         RefereeEnd::Told(End::Bad(line)) => Status::BadArrival(line),
-        RefereeEnd::Told(End::NotBuilt(line)) => Status::NotBuilt(line),
         RefereeEnd::WriteFault => Status::WriteFault,
         RefereeEnd::ReadFault => Status::ReadFault,
         RefereeEnd::TooLong => Status::TooLong,
@@ -71,7 +68,6 @@ pub fn exit_code(status: &Status) -> u8
         Status::NoMemory => 5,
         Status::BadArrival(_) => 6,
         Status::TooLong => 9,
-        Status::NotBuilt(_) => 10,
     }
 }
 
@@ -91,7 +87,6 @@ pub fn status_text(alloc: Global, status: &Status) -> Result<Vec<u8>, AllocError
         Status::NoMemory => Vec::from_slice(alloc, b"no memory\n"),
         Status::BadArrival(line) => text_at_line(alloc, b"bad arrival", *line),
         Status::TooLong => Vec::from_slice(alloc, b"input too long\n"),
-        Status::NotBuilt(line) => text_at_line(alloc, b"not built", *line),
     }
 }
 

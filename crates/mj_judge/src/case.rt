@@ -34,8 +34,8 @@ pub fn case_of(table: &Table, seat: u8) -> Case
     }
 }
 
-// The wind of a seat: the dealer's is east, and the others' follow in turn order.
-fn seat_wind(dealer: u8, seat: u8) -> Kind
+/// The wind of a seat, 0 to 3: the dealer's is east, and the others' follow in turn order.
+pub fn seat_wind(dealer: u8, seat: u8) -> Kind
     ensures { result ≡ seat_wind dealer seat }
 {
     let turns = (u32::from(seat) + 4).saturating_sub(u32::from(dealer)) % 4;

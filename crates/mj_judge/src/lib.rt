@@ -14,6 +14,6 @@ mod unanswered;
 mod verdict;
 mod winning;
 
-pub use case::case_of;
-pub use unanswered::default;
+pub use case::{case_of, seat_wind};
+pub use unanswered::{default, discard};
 pub use verdict::judge;

@@ -63,9 +63,9 @@ fn is_lawful_discard(table: &Table, seat: u8, tile: Tile) -> bool
     judge(table, seat, &discard(table, seat, tile)).is_ok()
 }
 
-// The discard of a tile, marked as drawn exactly where the drawn tile has its face.
+/// The discard of a tile by a seat, 0 to 3, marked as drawn exactly where the drawn tile has its face.
 #[tactic(auto, unfolding(mj_rules::specs::View::view_of))]
-fn discard(table: &Table, seat: u8, tile: Tile) -> Answer
+pub fn discard(table: &Table, seat: u8, tile: Tile) -> Answer
     ensures { result ≡ discard_of seat (view_of table.now.deeds seat) tile }
 {
     Answer::Discard {

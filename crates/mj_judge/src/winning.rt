@@ -3,8 +3,6 @@ ghost use Rattle.std.specs.List.{list_all};
 ghost use Rattle.std.specs.Result.{result_err};
 ghost use Rattle.mj_tiles.specs.Faces.{kind_of};
 ghost use Rattle.mj_tiles.specs.Counts.{kind_counts};
-ghost use Rattle.mj_tiles.specs.Kinds.{has_kind};
-ghost use Rattle.mj_waits.specs.Waits.{is_wait};
 ghost use Rattle.mj_waits.specs.Furiten.{is_furiten};
 ghost use Rattle.mj_deeds.specs.Facts.{newest};
 ghost use Rattle.mj_deeds.specs.declared.rule.Rule.TheVariants as refusal;
@@ -12,16 +10,17 @@ ghost use Rattle.mj_readings.specs.Tests.{complete};
 ghost use Rattle.mj_rules.specs.Broken.{offered_in, won_tiles, is_not_complete, is_furiten_win, winning_kinds, has_no_yaku, is_no_yaku, first_broken};
 ghost use Rattle.mj_rules.specs.View.{view_of, turn_by, turn_in, concealed};
 ghost use Rattle.mj_table.specs.Offers.{offered_tile};
-ghost use Rattle.mj_judge.specs.Inner.Missed.{facts_of, is_missing_out, missed_wait};
+ghost use Rattle.mj_judge.specs.Inner.Missed.{facts_of, is_missing_out};
 
 use crate::case::case_of;
 use crate::counting::with;
 use crate::questions::is_win;
 use crate::verdict::refuse_if;
 use mj_deeds::{Answer, Deed, Rule};
-use mj_readings::{Case, is_complete, is_complete_with};
+use mj_readings::{Case, is_complete};
 use mj_table::Table;
-use mj_tiles::{Counts, Kind, Kinds, Meld, Tile};
+use mj_tiles::{Counts, Kind, Meld, Tile};
+use mj_waits::{Facts, furiten, waits};
 use mj_yaku::has_yaku;
 
 // Refuses a win by the first rule of wins that it breaks: the tiles are not complete, it is on the tile of another
@@ -97,8 +96,7 @@ fn is_missing_out(table: &Table, seat: u8, held: &Counts, melds: &[Meld]) -> boo
     offered(table).is_some() && is_furiten(table, seat, held, melds)
 }
 
-// The seat may not win on the tile of another: a wait is among its own discards or was let pass. Only kinds that it
-// missed are tried as waits.
+// The seat may not win on the tile of another: a wait is among its own discards or was let pass.
 fn is_furiten(table: &Table, seat: u8, held: &Counts, melds: &[Meld]) -> bool
     requires few { length melds.now ≤ 4 }
     requires held { held.now ≡ kind_counts (concealed (view_of table.now.deeds seat)) }
@@ -106,51 +104,12 @@ fn is_furiten(table: &Table, seat: u8, held: &Counts, melds: &[Meld]) -> bool
     ensures { result ≡ is_furiten (facts_of (view_of table.now.deeds seat)) }
 {
     let room = table.room(seat);
-    let missed = Missed {
+    furiten(&Facts {
+        waits: waits(held, &room, melds.len() as u8),
         own: table.own(seat),
         passed: table.passed(seat),
         passed_in_riichi: table.passed_in_riichi(seat),
-    };
-    for number in 0..34 {
-        let kind = Kind::at(number);
-        if is_missed_wait(&missed, held, &room, melds.len() as u8, kind) {
-            return true;
-        }
-    }
-    false
-}
-
-// The kinds that a seat discarded itself, let pass since its last discard, and since its reach.
-#[derive(Clone, Copy)]
-struct Missed {
-    own: Kinds,
-    passed: Kinds,
-    passed_in_riichi: Kinds,
-}
-
-impl Missed {
-    // Whether the kind is one of them.
-    fn has(&self, kind: Kind) -> bool
-        ensures { result ≡ (has_kind self.now.own kind || has_kind self.now.passed kind
-            || has_kind self.now.passed_in_riichi kind) }
-    {
-        self.own.has(kind) || self.passed.has(kind) || self.passed_in_riichi.has(kind)
-    }
-}
-
-// The seat missed the kind, and the hand waits on it.
-fn is_missed_wait(missed: &Missed, held: &Counts, room: &Counts, melds: u8, kind: Kind) -> bool
-    ensures { result ≡ missed_wait missed.now.own missed.now.passed missed.now.passed_in_riichi
-        held.now room.now melds kind }
-{
-    missed.has(kind) && is_wait(held, room, melds, kind)
-}
-
-// The hand waits on the kind.
-fn is_wait(held: &Counts, room: &Counts, melds: u8, kind: Kind) -> bool
-    ensures { result ≡ is_wait held.now room.now melds kind }
-{
-    held.get(kind) < room.get(kind) && is_complete_with(held, kind, melds)
+    })
 }
 
 // No reading of the hand, won on the tile in question, has a yaku.

@@ -1,4 +1,5 @@
 pub mod Entries
+pub mod Seats
 pub mod Forms
 pub mod Legality
 pub mod Places
@@ -16,3 +17,10 @@ pub mod ToldCalls
 pub mod ToldPasses
 pub mod Told
 pub mod ToldRows
+pub mod Connections
+pub mod Ended
+pub mod Entered
+pub mod Seated
+pub mod Moves
+pub mod Arriving
+pub mod Order

@@ -1,5 +1,5 @@
 -- A machine that has nothing of a game but what one seat learns, and tells that seat its bytes.
-use Rattle.std.proofs.Common.{◌≡◌, ℕ, List, [], ◌∷◌, ◌++◌, refl}
+use Rattle.std.proofs.Common.{◌≡◌, ℕ, ◌-◌, Bool, true, false, cond, List, [], ◌∷◌, ◌++◌, length, refl}
 use Rattle.std.specs.Prelude.{Option, Some, None}
 use Rattle.std.specs.Option.{option_map_or}
 use Rattle.mj_deeds.specs.declared.answer.Answer.{Answer}
@@ -8,17 +8,25 @@ use Rattle.mj_deeds.specs.declared.token.Token.{Token}
 use Rattle.mj_wall.specs.declared.setting.Rules.{Rules}
 use Rattle.mj_rules.specs.Broken.{broken_by}
 use Rattle.mj_rules.specs.View.{SeatView}
-use Rattle.mj_protocol.specs.After.{Progress, verdict_on, progress_after, pending, first_progress, lines_for}
-use Rattle.mj_protocol.specs.Trace.{Item, OwnSat, OwnSaid, Saw}
+use Rattle.mj_protocol.specs.After.{Progress, Verdict, Taken, Closing, verdict_on, progress_after, pending, told_again, first_progress, lines_for}
+use Rattle.mj_protocol.specs.Trace.{Item, OwnSat, OwnBack, OwnSaid, OwnGone, Saw}
 use Rattle.mj_protocol.proofs.Rebuilt.{rebuilt}
 
--- how far the seat has come, and the deeds as it sees them
+-- what decides the bytes of a seat that is held: whether it is present, how far it has come in its newest connection, and
+-- what its earlier ones were told
+pub record Part : Type 0 where
+  pub present : Bool
+  pub progress : Progress
+  pub earlier : List ℕ
+
+-- the seat's part, the deeds as it sees them, and whether its slot of the newest window is filled
 pub record Solo : Type 0 where
-  pub progress : Option Progress
+  pub part : Option Part
   pub deeds : List Deed
+  pub filled : Bool
 
 abbrev pub at_first : Solo
-at_first = record { progress = None; deeds = [] }
+at_first = record { part = None; deeds = []; filled = false }
 
 -- The rules without the limit of a window, of which no verdict tells.
 abbrev pub untimed : Rules → Rules
@@ -28,28 +36,62 @@ pub untimed_verdict : (rules : Rules) (seat : ℕ) (view : SeatView) (answer : A
 unfolding broken_by
 untimed_verdict rules seat view answer = refl
 
-unfoldable pub after_answer : Rules → ℕ → Solo → Answer → Progress → Solo
+-- an answer that is refused for good ends the presence
+abbrev pub present_after : Verdict → Bool → Bool
+present_after (Closing rule) present = false
+present_after other present = present
+
+-- only an answer that is taken fills the slot
+abbrev pub filled_after : Verdict → Bool → Bool
+filled_after Taken filled = true
+filled_after other filled = filled
+
+-- the part of a seat once its answer has a verdict
+abbrev pub judged : List (List ℕ) → Verdict → Part → Part
+judged lines v p = record { present = present_after v p.present; progress = progress_after lines v p.progress; earlier = p.earlier }
+
+unfoldable pub after_answer : Rules → ℕ → Solo → Answer → Part → Solo
 after_answer rules seat s answer p =
-    record { progress = Some (progress_after (lines_for seat s.deeds) (verdict_on rules s.deeds seat answer p) p); deeds = s.deeds }
+    let v = verdict_on rules s.deeds seat answer p.progress in
+    record { part = Some (judged (lines_for seat s.deeds) v p); deeds = s.deeds; filled = filled_after v s.filled }
+
+-- once it has left
+abbrev pub left : List (List ℕ) → Part → Part
+left lines p = record { present = false; progress = record p.progress { told = p.progress.told ++ pending lines p.progress }; earlier = p.earlier }
+
+unfoldable pub after_leaving : ℕ → Solo → Part → Solo
+after_leaving seat s p = record { part = Some (left (lines_for seat s.deeds) p); deeds = s.deeds; filled = s.filled }
+
+-- once it is back, due to answer a deed
+abbrev pub again : List (List ℕ) → ℕ → Part → Part
+again lines due p = record { present = true; progress = record { due = due; refused = 0; told = told_again lines due }; earlier = p.earlier ++ p.progress.told }
+
+abbrev pub next_due : Bool → ℕ → ℕ
+next_due filled deeds = cond filled deeds (deeds - 1)
+
+unfoldable pub after_return : ℕ → Solo → Part → Solo
+after_return seat s p = record { part = Some (again (lines_for seat s.deeds) (next_due s.filled (length s.deeds)) p); deeds = s.deeds; filled = s.filled }
 
 abbrev pub saw : ℕ → Solo → Token → Solo
-saw seat s t = record { progress = s.progress; deeds = s.deeds ++ rebuilt seat s.deeds t ∷ [] }
+saw seat s t = record { part = s.part; deeds = s.deeds ++ rebuilt seat s.deeds t ∷ []; filled = false }
 
 abbrev pub learns : Rules → ℕ → Solo → Item → Solo
-learns rules seat s (OwnSat name key) = record { progress = Some first_progress; deeds = s.deeds }
-learns rules seat s (OwnSaid answer) = option_map_or (after_answer rules seat s answer) s.progress s
+learns rules seat s (OwnSat name key) = record { part = Some (record { present = true; progress = first_progress; earlier = [] }); deeds = s.deeds; filled = s.filled }
+learns rules seat s OwnBack = option_map_or (after_return seat s) s.part s
+learns rules seat s (OwnSaid answer) = option_map_or (after_answer rules seat s answer) s.part s
+learns rules seat s OwnGone = option_map_or (after_leaving seat s) s.part s
 learns rules seat s (Saw t) = saw seat s t
 
 abbrev pub learns_all : Rules → ℕ → Solo → List Item → Solo
 learns_all rules seat s [] = s
 learns_all rules seat s (item ∷ items) = learns_all rules seat (learns rules seat s item) items
 
-abbrev pub told_by : ℕ → Solo → Progress → List ℕ
-told_by seat s p = p.told ++ pending (lines_for seat s.deeds) p
+abbrev pub told_by : List (List ℕ) → Part → List ℕ
+told_by lines p = p.earlier ++ (p.progress.told ++ cond p.present (pending lines p.progress) [])
 
 -- the bytes that the machine tells
 abbrev pub solo_script : ℕ → Solo → List ℕ
-solo_script seat s = option_map_or (told_by seat s) s.progress []
+solo_script seat s = option_map_or (told_by (lines_for seat s.deeds)) s.part []
 
 pub learns_all-append : (rules : Rules) (seat : ℕ) (s : Solo) (xs ys : List Item) → learns_all rules seat s (xs ++ ys) ≡ learns_all rules seat (learns_all rules seat s xs) ys
 learns_all-append rules seat s [] ys = refl

@@ -1,12 +1,12 @@
 -- Two games that agree for seat 0: the same four seats, each of which lets the start of the game pass, and a hand that is dealt
 -- from two walls which hold other tiles for the other seats.
 use Rattle.std.proofs.Common.{◌≡◌, ◌≢◌, ◌≤◌, ℕ, ◌==◌, ◌&&◌, Bool, true, false, List, [], ◌∷◌, ◌++◌, length, refl, ap, sym, ◌∙◌, subst, arith}
-use Rattle.std.specs.Prelude.{codes, None, flat_map, replicate, IsTrue}
+use Rattle.std.specs.Prelude.{codes, Some, None, flat_map, replicate, IsTrue}
 use Rattle.std.proofs.lemmas.Bool.{true≢false}
 use Rattle.std.specs.List.{list_all, slice_index_or}
 use Rattle.std.specs.Str.{chars, is_utf8}
 use Rattle.mj_ports.specs.declared.entry.Entry.{Entry}
-use Rattle.mj_ports.specs.declared.entry.Entry.TheVariants.{Sat, Said}
+use Rattle.mj_ports.specs.declared.entry.Entry.TheVariants.{Sat, Back, Said, Gone, Expired}
 use Rattle.mj_ports.specs.Names.{is_name}
 use Rattle.mj_deeds.specs.declared.answer.Answer.{Answer}
 use Rattle.mj_deeds.specs.declared.answer.Answer.TheVariants.{Unread, Pass, Discard}
@@ -19,10 +19,11 @@ use Rattle.mj_tiles.specs.Faces.{number_in, tile_order, in_tile_order, less}
 use Rattle.mj_deeds.specs.Hand.{hand}
 use Rattle.mj_window.specs.Decided.{best_bid}
 use Rattle.mj_rules.specs.Broken.{broken_by}
+use Rattle.mj_rules.specs.Default.{default_by}
 use Rattle.mj_rules.specs.View.{view_of}
 use Rattle.mj_rules.specs.Outcome.{outcome, hand_start, next_draw}
-use Rattle.mj_protocol.specs.After.{before_all, own_part, after_said, step, next_deed, after}
-use Rattle.mj_protocol.specs.Trace.{Game, IsLegal, can_sit, may_say, is_heard_built, is_answer_built, all_permitted, has_ground, trace}
+use Rattle.mj_protocol.specs.After.{before_all, own_part, after_said, after_gone, after_back, step, next_deed, after}
+use Rattle.mj_protocol.specs.Trace.{Game, IsLegal, can_sit, can_return, may_say, can_expire, all_permitted, has_ground, trace}
 use Rattle.mj_protocol.specs.Witness.{AgreeApart}
 
 -- Four of each kind from one on, in order.
@@ -72,27 +73,29 @@ one_game = record {
 }
 
 -- The other: each seat has an author of its own, the others answer the other way round, and what seat 1 says first is refused.
+-- Seat 3 leaves while the start of the hand is open, comes back by another author while seat 0 is to discard, and doesn't
+-- answer until the time of that window has run out.
 abbrev other_game : Game
 other_game = record {
   setting = record { walls = other_wall ∷ []; rules = rules_of 2000 };
   entries =
-      Sat 1 (codes "a") None ∷ Sat 2 (codes "b") None ∷ Sat 3 (codes "c") None ∷ Sat 4 (codes "d") None
+      Sat 1 (codes "a") None ∷ Sat 2 (codes "b") None ∷ Sat 3 (codes "c") None ∷ Sat 4 (codes "d") (Some (codes "k"))
       ∷ Said 2 1 Unread ∷ passes 1 0 ∷ passes 4 3 ∷ passes 3 2 ∷ passes 2 1
-      ∷ passes 1 0 ∷ passes 4 3 ∷ passes 3 2 ∷ passes 2 1
-      ∷ throws 1 ∷ passes 4 3 ∷ passes 3 2 ∷ passes 2 1
-      ∷ passes 1 0 ∷ passes 4 3 ∷ passes 3 2 ∷ passes 2 1 ∷ [];
+      ∷ passes 1 0 ∷ Gone 4 3 ∷ passes 3 2 ∷ passes 2 1
+      ∷ throws 1 ∷ Back 5 3 ∷ passes 3 2 ∷ passes 2 1 ∷ Expired 0 2 500 2500
+      ∷ passes 1 0 ∷ passes 5 3 ∷ passes 5 3 ∷ passes 3 2 ∷ passes 2 1 ∷ [];
 }
 
 one_permitted : all_permitted one_game.setting before_all one_game.entries ≡ true
-unfolding own_part after_said step next_deed can_sit may_say is_heard_built is_answer_built broken_by outcome hand_start view_of hand is_name in_tile_order less tile_order next_draw best_bid chars is_utf8 lib.Utf8.encode
+unfolding own_part after_said after_gone after_back step next_deed can_sit can_return may_say can_expire default_by broken_by outcome hand_start view_of hand is_name in_tile_order less tile_order next_draw best_bid chars is_utf8 lib.Utf8.encode
 one_permitted = refl
 
 other_permitted : all_permitted other_game.setting before_all other_game.entries ≡ true
-unfolding own_part after_said step next_deed can_sit may_say is_heard_built is_answer_built broken_by outcome hand_start view_of hand is_name in_tile_order less tile_order next_draw best_bid chars is_utf8 lib.Utf8.encode
+unfolding own_part after_said after_gone after_back step next_deed can_sit can_return may_say can_expire default_by broken_by outcome hand_start view_of hand is_name in_tile_order less tile_order next_draw best_bid chars is_utf8 lib.Utf8.encode
 other_permitted = refl
 
 same_trace : trace 0 one_game.setting one_game.entries ≡ trace 0 other_game.setting other_game.entries
-unfolding own_part after_said step next_deed can_sit may_say is_heard_built is_answer_built broken_by outcome hand_start view_of hand in_tile_order less tile_order next_draw best_bid
+unfolding own_part after_said after_gone after_back step next_deed can_sit can_return may_say can_expire default_by broken_by outcome hand_start view_of hand in_tile_order less tile_order next_draw best_bid
 same_trace = refl
 
 -- What differs by a test differs.
@@ -104,11 +107,11 @@ has_three : List Deed → Bool
 has_three ds = number_in (tiles_gained ds 1) 3 == 3
 
 one_has_three : has_three (after one_game.setting one_game.entries).deeds ≡ true
-unfolding has_three own_part after_said step next_deed can_sit may_say is_heard_built is_answer_built broken_by outcome hand_start view_of hand in_tile_order less tile_order next_draw best_bid
+unfolding has_three own_part after_said after_gone after_back step next_deed can_sit can_return may_say can_expire default_by broken_by outcome hand_start view_of hand in_tile_order less tile_order next_draw best_bid
 one_has_three = refl
 
 other_has_none : has_three (after other_game.setting other_game.entries).deeds ≡ false
-unfolding has_three own_part after_said step next_deed can_sit may_say is_heard_built is_answer_built broken_by outcome hand_start view_of hand in_tile_order less tile_order next_draw best_bid
+unfolding has_three own_part after_said after_gone after_back step next_deed can_sit can_return may_say can_expire default_by broken_by outcome hand_start view_of hand in_tile_order less tile_order next_draw best_bid
 other_has_none = refl
 
 legal_by : (game : Game) (wall : List ℕ) → game.setting.walls ≡ wall ∷ [] → is_wall game.setting.rules.red wall ≡ true → has_ground (wall ∷ []) game.entries ≡ true → all_permitted game.setting before_all game.entries ≡ true →
@@ -136,4 +139,7 @@ games_agree_apart = record {
   limits = differ (λ limit. limit == 1000) _ _ refl refl;
   writers = differ (λ authors. slice_index_or authors 1 0 == 1) _ _ refl refl;
   order = differ (λ seats. slice_index_or seats 1 0 == 2) _ _ refl refl;
+  leaving = differ (λ seats. length seats == 0) _ _ refl refl;
+  coming = differ (λ seats. length seats == 0) _ _ refl refl;
+  time = differ (λ windows. length windows == 0) _ _ refl refl;
 }

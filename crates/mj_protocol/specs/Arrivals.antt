@@ -1,19 +1,19 @@
 -- What an input says, line by line: a header, a wall, and then what arrives.
-use Rattle.std.specs.Prelude.{ℕ, ◌+◌, ◌^◌, ◌==◌, ◌&&◌, Bool, true, false, nat_lt, nat_le, if◌then◌else◌, List, [], ◌∷◌, ◌++◌, length, codes, bytes_eq, Option, Some, None, is_some, unwrap_or, option_and_then, option_map, slice_get}
+use Rattle.std.specs.Prelude.{ℕ, ◌+◌, ◌^◌, ◌==◌, ◌&&◌, not, Bool, true, false, nat_lt, nat_le, if◌then◌else◌, List, [], ◌∷◌, ◌++◌, length, codes, bytes_eq, Option, Some, None, is_some, unwrap_or, option_and_then, option_map}
 use Rattle.std.specs.Option.{option_map_or}
 use Rattle.mj_bytes.specs.Numbers.{decimal_of}
 use Rattle.mj_bytes.specs.Parts.{whole_lines, unfinished, fields, parted, behind}
 use Rattle.mj_tiles.specs.Faces.{face_of}
 use Rattle.mj_ports.specs.declared.entry.Entry.{Entry}
-use Rattle.mj_ports.specs.declared.entry.Entry.TheVariants.{Sat, Said}
-use Rattle.mj_ports.specs.declared.sitting.JoinLine.{JoinLine}
+use Rattle.mj_ports.specs.declared.entry.Entry.TheVariants.{Said, Gone, Expired}
 use Rattle.mj_deeds.specs.declared.answer.Answer.{Answer}
 use Rattle.mj_wall.specs.declared.setting.Rules.{Rules}
 use Rattle.mj_wall.specs.declared.setting.Setting.{Setting}
 use Rattle.mj_wall.specs.Places.{is_wall}
 use Rattle.mj_protocol.specs.AnswerForms.{answer_of, join_of}
-use Rattle.mj_protocol.specs.After.{After, Chair, after}
-use Rattle.mj_protocol.specs.Trace.{Game, can_sit, may_say, is_answer_built}
+use Rattle.mj_protocol.specs.After.{After, after}
+use Rattle.mj_protocol.specs.Trace.{Game, can_say, can_expire}
+use Rattle.mj_protocol.specs.Sitting.{placing, entries_of_placing, author_at}
 
 -- The forms of a line that arrives.
 pub data ArrivalForm : Type 0 where
@@ -83,10 +83,11 @@ form_by word text =
 unfoldable pub form_of : List ℕ → ArrivalForm
 form_of text = option_map_or (λ parts. form_by parts.0 parts.1) (parted text) NoForm
 
--- What was read so far.
+-- What was read so far: the header, the walls, whether an arrival came behind these, and the entries.
 pub record Intake : Type 0 where
   pub rules : Option Rules
   pub walls : List (List ℕ)
+  pub begun : Bool
   pub entries : List (Entry Answer)
 
 -- Where no header was read, these rules stand.
@@ -104,10 +105,9 @@ now_of reading = after (setting_of reading) reading.entries
 abbrev pub game_of : Intake → Game
 game_of reading = record { setting = setting_of reading; entries = reading.entries }
 
--- What a line does: it is an arrival in its place and leads on, or one that isn't built, or none.
+-- What a line does: it is an arrival in its place and leads on, or it is none.
 pub data Arrival : Type 0 where
   Leads : Intake → Arrival
-  NotBuilt : Arrival
   Bad : Arrival
 
 -- A header stands first. Red fives are no part of a game yet.
@@ -117,37 +117,34 @@ header_arrives reading rules = if rules.red then Bad else Leads (record reading 
 -- Walls stand behind the header and before all else, 200 at most.
 unfoldable pub wall_arrives : Intake → List ℕ → Arrival
 wall_arrives reading tiles =
-    if is_wall false tiles && length reading.entries == 0 && nat_lt (length reading.walls) 200
+    if is_wall false tiles && not reading.begun && nat_lt (length reading.walls) 200
     then Leads (record reading { walls = reading.walls ++ tiles ∷ [] })
     else Bad
 
--- With one entry more.
-abbrev pub with_entry : Intake → Entry Answer → Intake
-with_entry reading entry = record reading { entries = reading.entries ++ entry ∷ [] }
+-- An arrival that adds these entries, one or none.
+abbrev pub with_entries : Intake → List (Entry Answer) → Intake
+with_entries reading entries = record reading { begun = true; entries = reading.entries ++ entries }
 
--- Whoever joins gets the next seat; the author is 1. That a join is refused is not built.
-unfoldable pub join_arrives : Intake → Option JoinLine → Arrival
-join_arrives reading None = NotBuilt
-join_arrives reading (Some join) =
-    if can_sit (now_of reading).chairs join.name
-    then Leads (with_entry reading (Sat 1 join.name join.key))
-    else NotBuilt
-
+-- Somebody wants a seat, by author 1; a refused join adds no entry.
 unfoldable pub sit_arrives : Intake → List ℕ → Arrival
-sit_arrives reading text = if length reading.walls == 0 then Bad else join_arrives reading (join_of text)
+sit_arrives reading text =
+    if length reading.walls == 0 then Bad else Leads (with_entries reading (entries_of_placing 1 (join_of text) (placing (now_of reading) (join_of text))))
 
--- An answer of a held seat, entered by the author by whom it is present.
-unfoldable pub answer_arrives : Intake → ℕ → List ℕ → ℕ → Arrival
-answer_arrives reading seat text author =
-    if is_answer_built (setting_of reading) (now_of reading) author seat (answer_of text)
-    then Leads (with_entry reading (Said author seat (answer_of text)))
-    else NotBuilt
-
--- A seat says a line once its due deed exists.
+-- A present seat says a line once its due deed exists; it is entered by the author by whom it is present.
 unfoldable pub say_arrives : Intake → ℕ → List ℕ → Arrival
 say_arrives reading seat text =
-    option_map_or (λ (chair : Chair). if may_say (now_of reading) chair.author chair then answer_arrives reading seat text chair.author else Bad)
-    (slice_get (now_of reading).chairs seat) Bad
+    option_map_or (λ author. if can_say (now_of reading) author seat then Leads (with_entries reading (Said author seat (answer_of text) ∷ [])) else Bad)
+    (author_at (now_of reading) seat) Bad
+
+-- A present seat leaves.
+unfoldable pub gone_arrives : Intake → ℕ → Arrival
+gone_arrives reading seat = option_map_or (λ author. Leads (with_entries reading (Gone author seat ∷ []))) (author_at (now_of reading) seat) Bad
+
+-- The time of a window may have run out; an expiry of another window, or too early, adds no entry. The author is 0.
+unfoldable pub expiry_arrives : Intake → ℕ → ℕ → ℕ → Arrival
+expiry_arrives reading window t1 t2 =
+    if length reading.walls == 0 then Bad
+    else Leads (with_entries reading (if can_expire (setting_of reading).rules.limit (now_of reading).deeds window t1 t2 then Expired 0 window t1 t2 ∷ [] else []))
 
 -- A line of the arrivals behind the header.
 abbrev pub behind_header : Intake → ArrivalForm → Arrival
@@ -155,8 +152,8 @@ behind_header reading (Header rules) = Bad
 behind_header reading (WallOf tiles) = wall_arrives reading tiles
 behind_header reading (Sit text) = sit_arrives reading text
 behind_header reading (Say seat text) = say_arrives reading seat text
-behind_header reading (Leave seat) = if is_some (slice_get (now_of reading).chairs seat) then NotBuilt else Bad
-behind_header reading (Expire window t1 t2) = if length reading.walls == 0 then Bad else NotBuilt
+behind_header reading (Leave seat) = gone_arrives reading seat
+behind_header reading (Expire window t1 t2) = expiry_arrives reading window t1 t2
 behind_header reading NoForm = Bad
 
 -- The first line.
@@ -173,12 +170,10 @@ first_line reading NoForm = Bad
 unfoldable pub arrives : Intake → List ℕ → Arrival
 arrives reading text = if is_some reading.rules then behind_header reading (form_of text) else first_line reading (form_of text)
 
--- How an input ends: with all its lines, or at the first line, counted from 1, that is no arrival in its place or that is
--- not built.
+-- How an input ends: with all its lines, or at the first line, counted from 1, that is no arrival in its place.
 pub data Ending : Type 0 where
   Whole : Ending
   BadAt : ℕ → Ending
-  NotBuiltAt : ℕ → Ending
 
 -- What an input gives, and how it ends.
 pub record Input : Type 0 where
@@ -193,7 +188,6 @@ at_end reading number (byte ∷ bytes) = record { reading = reading; ending = Ba
 -- Where a line leads, and what is heard from there on.
 abbrev pub hear_on : Arrival → (Intake → Input) → Intake → ℕ → Input
 hear_on (Leads next) onwards reading number = onwards next
-hear_on NotBuilt onwards reading number = record { reading = reading; ending = NotBuiltAt number }
 hear_on Bad onwards reading number = record { reading = reading; ending = BadAt number }
 
 -- The lines from some point on: the number of the next, and what stands behind the last newline.
@@ -202,7 +196,7 @@ hear_from reading number [] rest = at_end reading number rest
 hear_from reading number (text ∷ texts) rest = hear_on (arrives reading text) (λ next. hear_from next (number + 1) texts rest) reading number
 
 abbrev pub nothing_read : Intake
-nothing_read = record { rules = None; walls = []; entries = [] }
+nothing_read = record { rules = None; walls = []; begun = false; entries = [] }
 
 -- The game that an input gives, and how the input ends.
 abbrev pub input_of : List ℕ → Input

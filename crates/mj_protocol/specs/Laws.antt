@@ -9,7 +9,7 @@ use Rattle.mj_deeds.specs.Fits.{fits, all_fit}
 use Rattle.mj_wall.specs.declared.setting.Setting.{Setting}
 use Rattle.mj_view.specs.Masks.{mask}
 use Rattle.mj_rules.specs.Played.{AllLawful, IsPlayed}
-use Rattle.mj_protocol.specs.After.{After, after, own_part, next_deed, is_window_closed, answers_in, AreLawfulIn, scripts}
+use Rattle.mj_protocol.specs.After.{After, after, own_part, next_deed, answers_in, AreLawfulIn, scripts}
 use Rattle.mj_protocol.specs.Trace.{Game, Agree, IsLegal, is_permitted, says_in_form}
 use Rattle.mj_protocol.specs.AnswerForms.{answer_of}
 use Rattle.mj_protocol.specs.Lines.{line, masked_line}
@@ -35,12 +35,12 @@ AnswersThatAreReadAreInForm = (line : List ℕ) → is_in_form (answer_of line) 
 abbrev pub TakenAnswersAreLawful : Type 0
 TakenAnswersAreLawful = (setting : Setting) (entries : List (Entry Answer)) → IsLegal setting entries → AreLawfulIn setting.rules (after setting entries).deeds (after setting entries).slots
 
--- What is true where a deed may be added: the deeds are played and the answers in the slots lawful, and where each slot has
--- one, all four are.
+-- What is true where a deed may be added: the deeds are played and the answers in the slots lawful, and so are all four with
+-- the default answer in each empty slot.
 pub record CanGoOn (setting : Setting) (now : After) : Type 0 where
   pub played : IsPlayed setting.rules setting.walls now.deeds
   pub taken : AreLawfulIn setting.rules now.deeds now.slots
-  pub ready : is_window_closed now.slots ≡ true → AllLawful setting.rules now.deeds (answers_in now.slots)
+  pub ready : AllLawful setting.rules now.deeds (answers_in setting.rules now.deeds now.slots)
 
 -- So it is in a legal game once an entry whose answer is in form has changed what is its own seat's, whether or not that
 -- entry is permitted.
@@ -52,7 +52,7 @@ OwnPartCanGoOn =
 -- The deeds of a legal game are played with the deed that a permitted entry adds.
 abbrev pub NextDeedIsPlayed : Type 0
 NextDeedIsPlayed = (setting : Setting) (entries : List (Entry Answer)) (entry : Entry Answer) (d : Deed) → IsLegal setting entries → is_permitted setting (after setting entries) entry ≡ true →
-    next_deed setting (own_part setting (after setting entries) entry) ≡ Some d → IsPlayed setting.rules setting.walls ((after setting entries).deeds ++ d ∷ [])
+    next_deed setting (own_part setting (after setting entries) entry) entry ≡ Some d → IsPlayed setting.rules setting.walls ((after setting entries).deeds ++ d ∷ [])
 
 -- Every deed of a legal game fits behind those before it.
 abbrev pub LegalDeedsFit : Type 0
@@ -61,7 +61,7 @@ LegalDeedsFit = (setting : Setting) (entries : List (Entry Answer)) → IsLegal 
 -- The deed that a permitted entry adds to a legal game fits behind the game's deeds.
 abbrev pub NextDeedFits : Type 0
 NextDeedFits = (setting : Setting) (entries : List (Entry Answer)) (entry : Entry Answer) (d : Deed) → IsLegal setting entries → is_permitted setting (after setting entries) entry ≡ true →
-    next_deed setting (own_part setting (after setting entries) entry) ≡ Some d → fits setting.rules.red (after setting entries).deeds d ≡ true
+    next_deed setting (own_part setting (after setting entries) entry) entry ≡ Some d → fits setting.rules.red (after setting entries).deeds d ≡ true
 
 -- The line of a deed for a viewer is made of nothing but what the viewer sees of the deed.
 abbrev pub LinesAreOfMasks : Type 0

@@ -2,7 +2,11 @@ pub mod Lines
 pub mod AnswerForms
 pub mod After
 pub mod Trace
+pub mod Sitting
+pub mod Shown
 pub mod Witness
 pub mod Arrivals
 pub mod Laws
+pub mod Seated
+pub mod Arriving
 pub mod Told

@@ -5,6 +5,8 @@ use Rattle.std.specs.Option.{option_map_or}
 use Rattle.mj_tiles.specs.Faces.{text_of}
 use Rattle.mj_yaku.specs.Han.{table}
 use Rattle.mj_pay.specs.Payments.{deposit_changes}
+use Rattle.mj_ports.specs.declared.sitting.SitRefused.{SitRefused}
+use Rattle.mj_ports.specs.declared.sitting.SitRefused.TheVariants as refusals
 use Rattle.mj_deeds.specs.declared.four.Four.{Four}
 use Rattle.mj_deeds.specs.declared.bid.Bid.{Bid}
 use Rattle.mj_deeds.specs.declared.bid.Bid.TheVariants as bids
@@ -303,6 +305,33 @@ rule_name rules.NotNine = codes "NotNine"
 unfoldable pub error_text : Rule → List ℕ
 error_text rule = codes "{\"type\":\"error\",\"rule\":" ++ decimal (rule_number rule) ++ codes ",\"message\":" ++ quoted (rule_name rule) ++ codes "}\n"
 
+-- The number of a refusal of a seat, and its name.
+abbrev pub refusal_number : SitRefused → ℕ
+refusal_number refusals.Full = 1
+refusal_number refusals.NameTaken = 2
+refusal_number refusals.WrongKey = 3
+refusal_number refusals.NoKey = 4
+refusal_number refusals.TooOften = 5
+refusal_number refusals.Over = 6
+refusal_number refusals.BadName = 7
+
+abbrev pub refusal_name : SitRefused → List ℕ
+refusal_name refusals.Full = codes "Full"
+refusal_name refusals.NameTaken = codes "NameTaken"
+refusal_name refusals.WrongKey = codes "WrongKey"
+refusal_name refusals.NoKey = codes "NoKey"
+refusal_name refusals.TooOften = codes "TooOften"
+refusal_name refusals.Over = codes "Over"
+refusal_name refusals.BadName = codes "BadName"
+
+-- The line that a refused join gets.
+unfoldable pub refusal_line : SitRefused → List ℕ
+refusal_line cause = codes "{\"type\":\"error\",\"sit\":" ++ decimal (refusal_number cause) ++ codes ",\"message\":" ++ quoted (refusal_name cause) ++ codes "}\n"
+
 -- The first line of each connection.
 unfoldable pub hello_line : List ℕ
 hello_line = codes "{\"type\":\"hello\",\"protocol\":\"mjsonp\",\"protocol_version\":3}\n"
+
+-- The line behind it after a return: how many lines are told again.
+unfoldable pub replay_line : ℕ → List ℕ
+replay_line count = codes "{\"type\":\"replay\",\"count\":" ++ decimal count ++ codes "}\n"

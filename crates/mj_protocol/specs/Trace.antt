@@ -1,5 +1,5 @@
 -- Which games are legal, what one seat learns of a game, and when two games agree for a seat.
-use Rattle.std.specs.Prelude.{◌≡◌, ℕ, ◌==◌, ◌&&◌, ◌≤◌, not, Bool, true, false, nat_lt, IsTrue, if◌then◌else◌, List, [], ◌∷◌, ◌++◌, length, bytes_eq, Option, Some, None, slice_get}
+use Rattle.std.specs.Prelude.{◌≡◌, ℕ, ◌+◌, ◌-◌, ◌==◌, ◌&&◌, ◌≤◌, not, nat_le, Bool, true, false, nat_lt, IsTrue, if◌then◌else◌, List, [], ◌∷◌, ◌++◌, length, bytes_eq, Option, Some, None, is_some, slice_get}
 use Rattle.std.specs.Option.{option_map_or}
 use Rattle.std.specs.List.{list_any, list_all}
 use Rattle.mj_ports.specs.Names.{is_name}
@@ -10,39 +10,46 @@ use Rattle.mj_deeds.specs.Answers.{is_in_form}
 use Rattle.mj_deeds.specs.declared.deed.Deed.{Deed}
 use Rattle.mj_deeds.specs.declared.token.Token.{Token}
 use Rattle.mj_view.specs.Tokens.{token}
-use Rattle.mj_wall.specs.declared.setting.Rules.{Rules}
 use Rattle.mj_wall.specs.declared.setting.Setting.{Setting}
 use Rattle.mj_wall.specs.Places.{is_wall}
-use Rattle.mj_protocol.specs.After.{After, Chair, Verdict, Taken, Late, Refused, before_all, own_part, next_deed, step, verdict_on}
+use Rattle.mj_deeds.specs.Facts.{newest}
+use Rattle.mj_rules.specs.Outcome.{goes_on}
+use Rattle.mj_protocol.specs.After.{After, Chair, before_all, is_present, own_part, next_deed, step}
 
 -- A seat has this name.
 abbrev pub has_name : List ℕ → Chair → Bool
 has_name name chair = bytes_eq chair.name name
 
+-- The game has ended.
+abbrev pub is_over : List Deed → Bool
+is_over deeds = not (length deeds == 0) && not (goes_on (newest deeds))
+
 -- A seat can be taken under a name: fewer than four are held, and none has the name.
 unfoldable pub can_sit : List Chair → List ℕ → Bool
 can_sit chairs name = nat_lt (length chairs) 4 && not (list_any (has_name name) chairs)
 
+-- A seat can be taken back: it is gone, was taken with a key, has come back fewer than 64 times, and the game goes on.
+unfoldable pub can_return : After → Chair → Bool
+can_return now chair = not (is_present chair) && is_some chair.key && nat_lt chair.returns 64 && not (is_over now.deeds)
+
+-- A seat is present by an author.
+abbrev pub is_present_by : ℕ → Chair → Bool
+is_present_by author chair = option_map_or (λ by. by == author) chair.author false
+
 -- A line of a seat may be entered by an author: the seat is present by that author, and its due deed exists.
 unfoldable pub may_say : After → ℕ → Chair → Bool
-may_say now author chair = chair.author == author && nat_lt chair.progress.due (length now.deeds)
+may_say now author chair = is_present_by author chair && nat_lt chair.progress.due (length now.deeds)
 
 abbrev pub can_say : After → ℕ → ℕ → Bool
 can_say now author seat = option_map_or (may_say now author) (slice_get now.chairs seat) false
 
--- A verdict that is built: a sixteenth refusal on one prompt isn't.
-abbrev pub is_verdict_built : ℕ → Verdict → Bool
-is_verdict_built refused Taken = true
-is_verdict_built refused Late = true
-is_verdict_built refused (Refused rule) = nat_lt refused 15
+-- The open window: that of the newest deed, until the game has ended.
+abbrev pub is_open : List Deed → ℕ → Bool
+is_open deeds window = not (length deeds == 0) && not (is_over deeds) && window + 1 == length deeds
 
-unfoldable pub is_heard_built : Rules → After → ℕ → Answer → Chair → Bool
-is_heard_built rules now seat answer chair = is_verdict_built chair.progress.refused (verdict_on rules now.deeds seat answer chair.progress)
-
--- What an answer leads to is built.
-unfoldable pub is_answer_built : Setting → After → ℕ → ℕ → Answer → Bool
-is_answer_built setting now author seat answer =
-    option_map_or (is_heard_built setting.rules now seat answer) (slice_get now.chairs seat) false
+-- The time of a window may have run out: it is the open one, and so much time lies between the two readings.
+unfoldable pub can_expire : ℕ → List Deed → ℕ → ℕ → ℕ → Bool
+can_expire limit deeds window t1 t2 = is_open deeds window && nat_le t1 t2 && nat_le limit (t2 - t1)
 
 -- What an entry says is in form.
 abbrev pub says_in_form : Entry Answer → Bool
@@ -50,13 +57,14 @@ says_in_form (Said author seat answer) = is_in_form answer
 says_in_form other = true
 
 -- An entry is permitted where it stands: a seat is taken under a good name that no seat has, while fewer than four are
--- held; an answer in form is said by the author by whom the seat is present, once the due deed exists.
+-- held; a seat that may return is taken back; an answer in form is said by the author by whom the seat is present, once the
+-- due deed exists; a present seat leaves; and the open window expires once its time has run out.
 abbrev pub is_permitted : Setting → After → Entry Answer → Bool
 is_permitted setting now (Sat author name key) = is_name name && can_sit now.chairs name
-is_permitted setting now (Said author seat answer) = is_in_form answer && can_say now author seat && is_answer_built setting now author seat answer
-is_permitted setting now (Back author seat) = false
-is_permitted setting now (Gone author seat) = false
-is_permitted setting now (Expired author window t1 t2) = false
+is_permitted setting now (Back author seat) = option_map_or (can_return now) (slice_get now.chairs seat) false
+is_permitted setting now (Said author seat answer) = is_in_form answer && can_say now author seat
+is_permitted setting now (Gone author seat) = option_map_or (is_present_by author) (slice_get now.chairs seat) false
+is_permitted setting now (Expired author window t1 t2) = can_expire setting.rules.limit now.deeds window t1 t2
 
 -- Every entry is permitted where it stands.
 abbrev pub all_permitted : Setting → After → List (Entry Answer) → Bool
@@ -84,15 +92,17 @@ pub record IsLegal (setting : Setting) (entries : List (Entry Answer)) : Type 0 
 -- What a seat learns: its own entries without their author, and the token of each deed.
 pub data Item : Type 0 where
   OwnSat : (name : List ℕ) (key : Option (List ℕ)) → Item
+  OwnBack : Item
   OwnSaid : Answer → Item
+  OwnGone : Item
   Saw : Token → Item
 
 -- The entry, where it is the seat's own. The seat of one that sits down is the number of the seats before it.
 abbrev pub own_items : ℕ → After → Entry Answer → List Item
 own_items seat now (Sat author name key) = if length now.chairs == seat then OwnSat name key ∷ [] else []
 own_items seat now (Said author who answer) = if who == seat then OwnSaid answer ∷ [] else []
-own_items seat now (Back author who) = []
-own_items seat now (Gone author who) = []
+own_items seat now (Back author who) = if who == seat then OwnBack ∷ [] else []
+own_items seat now (Gone author who) = if who == seat then OwnGone ∷ [] else []
 own_items seat now (Expired author window t1 t2) = []
 
 -- The token of a deed that was added.
@@ -104,7 +114,7 @@ seen_items seat (Some deed) = Saw (token seat deed) ∷ []
 abbrev pub trace_from : Setting → ℕ → After → List (Entry Answer) → List Item
 trace_from setting seat now [] = []
 trace_from setting seat now (entry ∷ entries) =
-    own_items seat now entry ++ (seen_items seat (next_deed setting (own_part setting now entry)) ++ trace_from setting seat (step setting now entry) entries)
+    own_items seat now entry ++ (seen_items seat (next_deed setting (own_part setting now entry) entry) ++ trace_from setting seat (step setting now entry) entries)
 
 -- What a seat learns of a game.
 abbrev pub trace : ℕ → Setting → List (Entry Answer) → List Item

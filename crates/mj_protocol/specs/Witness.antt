@@ -27,8 +27,33 @@ other_answers seat other = []
 abbrev pub answers_of_others : ℕ → Game → List ℕ
 answers_of_others seat game = flat_map (other_answers seat) game.entries
 
+-- The seats that leave, in order.
+abbrev pub leaves : Entry Answer → List ℕ
+leaves (Gone author seat) = seat ∷ []
+leaves other = []
+
+abbrev pub departures : Game → List ℕ
+departures game = flat_map leaves game.entries
+
+-- The seats that come back, in order.
+abbrev pub comes_back : Entry Answer → List ℕ
+comes_back (Back author seat) = seat ∷ []
+comes_back other = []
+
+abbrev pub returns : Game → List ℕ
+returns game = flat_map comes_back game.entries
+
+-- The windows whose time runs out, in order.
+abbrev pub runs_out : Entry Answer → List ℕ
+runs_out (Expired author window t1 t2) = window ∷ []
+runs_out other = []
+
+abbrev pub expiries : Game → List ℕ
+expiries game = flat_map runs_out game.entries
+
 -- Two games agree for a seat, and differ in the walls, in the deeds that come of them, in the limit of a window, in the
--- authors, and in what the other seats said and in which order.
+-- authors, in what the other seats said and in which order, in who left, in who came back, and in which
+-- windows the time ran out.
 pub record AgreeApart (seat : ℕ) : Type 0 where
   pub one : Game
   pub other : Game
@@ -38,3 +63,6 @@ pub record AgreeApart (seat : ℕ) : Type 0 where
   pub limits : one.setting.rules.limit ≢ other.setting.rules.limit
   pub writers : authors one ≢ authors other
   pub order : answers_of_others seat one ≢ answers_of_others seat other
+  pub leaving : departures one ≢ departures other
+  pub coming : returns one ≢ returns other
+  pub time : expiries one ≢ expiries other

@@ -5,16 +5,19 @@
 ghost use Rattle.mj_protocol.specs.Laws.{AgreeingGamesTellTheSame, ReadGamesAreLegal, LegalGamesArePlayed, TakenAnswersAreLawful, AnswersThatAreReadAreInForm, OwnPartCanGoOn, NextDeedIsPlayed, LegalDeedsFit, NextDeedFits, LinesAreOfMasks};
 ghost use Rattle.mj_protocol.specs.Told.{ToldAnswersGive, EachWinnerIsTold, NothingPlayed};
 ghost use Rattle.mj_protocol.specs.Witness.{AgreeApart};
+ghost use Rattle.mj_protocol.specs.Seated.{BeginningsAreLegal, LinesStay, EndedConnectionsStay, OthersLeaveAlone, SeatsBegin, ReturnsBegin, AnswersGoByVerdict, SeatsLeave};
+ghost use Rattle.mj_protocol.specs.Arriving.{OneDeedAnEntry, OrderIsFree, LawfulAnswersAreTaken, NewNamesAreSeated, ExpiriesClose};
 
-/// The law of one world: what a game tells a seat depends on nothing but what the seat learns of it, so two games that
-/// agree for a seat tell it the same bytes.
+/// The law of one world: what a game tells a seat, over all its connections, depends on nothing but
+/// what the seat learns of it, so two games that agree for a seat tell it the same bytes.
 pub fn agreeing_games_tell_the_same()
     ensures { AgreeingGamesTellTheSame }
 {}
 
-/// The law has games to speak of: two games agree for seat 0 that differ in the walls and so in what the other seats are dealt
-/// and draw, in the limit of a window, in the authors, in the order in which the other seats answer, and in that an answer of
-/// another seat is refused in one of them.
+/// The law has games to speak of: two games agree for seat 0 that differ in the walls and so in what
+/// the other seats are dealt and draw, in the limit of a window, in the authors, in the order in
+/// which the other seats answer, and in that in one of them an answer of another seat is refused,
+/// another seat leaves and comes back, and the time of a window runs out.
 pub fn some_games_agree_apart()
     ensures { AgreeApart 0 }
 {}
@@ -42,8 +45,9 @@ pub fn taken_answers_are_lawful()
     ensures { TakenAnswersAreLawful }
 {}
 
-/// Once an entry whose answer is in form has changed what is its own seat's, and before a deed is added, the deeds are played
-/// and the answers in the slots lawful; where each slot has one, all four are.
+/// Once an entry whose answer is in form has changed what is its own seat's, and before a deed is
+/// added, the deeds are played and the answers in the slots lawful, and so are all four with the
+/// default answer in each empty slot.
 pub fn own_part_can_go_on()
     ensures { OwnPartCanGoOn }
 {}
@@ -84,4 +88,73 @@ pub fn each_winner_is_told()
 /// The summary of no deeds has no deeds, 30,000 points for each seat and no deposits.
 pub fn nothing_played()
     ensures { NothingPlayed }
+{}
+
+/// What was legal stays legal when later entries are left out.
+pub fn beginnings_are_legal()
+    ensures { BeginningsAreLegal }
+{}
+
+/// Lines stay as they are, and so does the end of a game, behind which no deed comes.
+pub fn lines_stay()
+    ensures { LinesStay }
+{}
+
+/// A connection that has ended is told nothing more.
+pub fn ended_connections_stay()
+    ensures { EndedConnectionsStay }
+{}
+
+/// An entry of another author or seat leaves a present seat alone: it stays present by its author, with its due deed, and
+/// what its connection was told stays the same.
+pub fn others_leave_alone()
+    ensures { OthersLeaveAlone }
+{}
+
+/// A seat that is taken begins a connection with the hello line.
+pub fn seats_begin()
+    ensures { SeatsBegin }
+{}
+
+/// A seat that is taken back begins a connection with the hello line, the replay head, and the lines before its due deed.
+pub fn returns_begin()
+    ensures { ReturnsBegin }
+{}
+
+/// An answer of a seat goes by its verdict: the seat goes on to the next deed, is asked again, or leaves; and its connection is
+/// told what was pending, and then why, where the answer is refused.
+pub fn answers_go_by_verdict()
+    ensures { AnswersGoByVerdict }
+{}
+
+/// A seat that is gone leaves, and its connection is told nothing but what was pending.
+pub fn seats_leave()
+    ensures { SeatsLeave }
+{}
+
+/// An entry adds at most one deed.
+pub fn one_deed_an_entry()
+    ensures { OneDeedAnEntry }
+{}
+
+/// Every lawful answer of a present seat to the prompt of the newest deed is taken.
+pub fn lawful_answers_are_taken()
+    ensures { LawfulAnswersAreTaken }
+{}
+
+/// Every join under a new name is given the next seat, as long as there is one and the game goes on.
+pub fn new_names_are_seated()
+    ensures { NewNamesAreSeated }
+{}
+
+/// Every expiry of the open window with at least the limit between its readings closes it.
+pub fn expiries_close()
+    ensures { ExpiriesClose }
+{}
+
+/// The order of arrivals is free: two lists of answers of one window, in which each seat's accepted answers are the same,
+/// come to the same deeds, slots and due prompts, in whatever order the seats answer and whatever refused answers stand
+/// between, as long as no seat is gone by them.
+pub fn order_is_free()
+    ensures { OrderIsFree }
 {}

@@ -6,7 +6,7 @@ use Rattle.std.proofs.lemmas.List.{length-set}
 use Rattle.mj_tiles.specs.Kinds.{has_kind}
 use Rattle.mj_suits.specs.Targets.{missing}
 use Rattle.mj_suits.specs.Tables.{IsLeast}
-use Rattle.mj_shanten.specs.Shanten.{IsGoal, IsShanten}
+use Rattle.mj_shanten.specs.Shanten.{IsGoal}
 use Rattle.mj_shanten.specs.Exchanges.{one_less}
 use Rattle.mj_shanten.specs.Suits.{with_two}
 use Rattle.mj_shanten.specs.Discards.{IsDiscard, IsBestDiscard, LeavesAtMost, LeavesMore}
@@ -23,12 +23,6 @@ one_least held P a b x y =
     let r = x.some.1.1 in
     let s = y.some.1.1 in
     omega arith
-
-shanten_least : (counts room : List ℕ) (melds number : ℕ) (target : List ℕ) → IsShanten counts room melds number target → IsLeast counts (IsGoal room melds) (number + 1)
-shanten_least counts room melds number target is = record {
-  some = (target, (is.is_goal, sym is.number_is));
-  least = is.least;
-}
 
 -- a hand of one tile less misses as many or one more
 record AsMany (all less : ℕ) : Type 0 where
@@ -80,32 +74,35 @@ is_held counts held kind size low is some = (let a : get_or held kind 0 ≡ get_
 
 -- ---- the answer
 
+-- of a discard that is the best no other has to be later and as near
+later_is_far : (number others kind other bound : ℕ) → number ≤ bound → others ≤ number → (kind < other → bound < others) → other ≤ kind
+later_is_far number others kind other bound few over far = elim (cases_lt kind other) [
+  | inl later ↦ (let m = far later in absurd (omega arith))
+  | inr before ↦ before
+]
+
 -- the last that misses as many as the whole hand
 pub best_of_all : (counts room : List ℕ) (melds kinds all kind : ℕ) → length counts ≡ 34 → IsLeast counts (IsGoal room melds) all → IsDiscard counts kinds kind → LeavesAtMost counts room melds all kind
     → ((other : ℕ) → kind < other → IsDiscard counts kinds other → LeavesMore counts room melds all other) → IsBestDiscard counts room melds kinds kind
 best_of_all counts room melds kinds all kind size whole is leaves last = record {
   is_discard = is;
-  best = λ number other others target other_target discard mine theirs.
-      (let a = shanten_least (one_less counts kind) room melds number target mine in
-      let b = shanten_least (one_less counts other) room melds others other_target theirs in
-      let e = one_least (one_less counts kind) (IsGoal room melds) (number + 1) leaves.number a leaves.least in
-      let f = leaves.few in
-      let g = less_misses counts other (IsGoal room melds) all (others + 1) size discard.kind_is whole b in
+  number = leaves.number;
+  leaves = leaves.least;
+  best = λ other others discard theirs.
+      (let f = leaves.few in
+      let g = less_misses counts other (IsGoal room melds) all others size discard.kind_is whole theirs in
       let h = g.at_least in
-      elim (cases_lt number others) [
+      elim (cases_lt leaves.number others) [
         | inl less ↦ inl less
-        | inr over ↦ inr (
-          omega arith,
-          elim (cases_lt kind other) [
-            | inl later ↦ (let m = last other later discard in
-                let n = one_least (one_less counts other) (IsGoal room melds) (others + 1) m.number b m.least in
-                let o = m.more in
-                absurd (omega arith))
-            | inr before ↦ before
-          ],
-        )
+        | inr over ↦ inr (omega arith, later_is_far leaves.number others kind other all f over (λ later. more_of other others theirs (last other later discard)))
       ]);
 }
+  where
+    more_of : (other others : ℕ) → IsLeast (one_less counts other) (IsGoal room melds) others → LeavesMore counts room melds all other → all < others
+    more_of other others theirs m =
+        let n = one_least (one_less counts other) (IsGoal room melds) others m.number theirs m.least in
+        let o = m.more in
+        omega arith
 
 -- where none misses so few, each misses one more, and the last is the best
 pub best_of_others : (counts room : List ℕ) (melds kinds all more kind : ℕ) → length counts ≡ 34 → more ≡ all + 1 → IsLeast counts (IsGoal room melds) all
@@ -113,30 +110,29 @@ pub best_of_others : (counts room : List ℕ) (melds kinds all more kind : ℕ) 
     → ((other : ℕ) → kind < other → IsDiscard counts kinds other → LeavesMore counts room melds more other) → IsBestDiscard counts room melds kinds kind
 best_of_others counts room melds kinds all more kind size is whole none discards last = record {
   is_discard = discards;
-  best = λ number other others target other_target discard mine theirs.
-      (let a = shanten_least (one_less counts kind) room melds number target mine in
-      let b = shanten_least (one_less counts other) room melds others other_target theirs in
-      let c = none kind discards in
-      let d = one_least (one_less counts kind) (IsGoal room melds) (number + 1) c.number a c.least in
-      let e = c.more in
-      let f = less_misses counts kind (IsGoal room melds) all (number + 1) size discards.kind_is whole a in
-      let g = f.at_most in
-      let h = none other discard in
-      let i = one_least (one_less counts other) (IsGoal room melds) (others + 1) h.number b h.least in
-      let j = h.more in
-      let k = less_misses counts other (IsGoal room melds) all (others + 1) size discard.kind_is whole b in
-      let l = k.at_most in
-      inr (
-        omega arith,
-        elim (cases_lt kind other) [
-          | inl later ↦ (let m = last other later discard in
-              let n = one_least (one_less counts other) (IsGoal room melds) (others + 1) m.number b m.least in
-              let o = m.more in
-              absurd (omega arith))
-          | inr before ↦ before
-        ],
-      ));
+  number = (none kind discards).number;
+  leaves = (none kind discards).least;
+  best = λ other others discard theirs.
+      (let a = one_more kind discards (none kind discards).number (none kind discards).least in
+      let b = one_more other discard others theirs in
+      inr (omega arith, later_is_far (none kind discards).number others kind other more (omega arith) (omega arith) (λ later. more_of other others theirs (last other later discard))));
 }
+  where
+    -- each misses one more than the whole hand
+    one_more : (other : ℕ) → IsDiscard counts kinds other → (others : ℕ) → IsLeast (one_less counts other) (IsGoal room melds) others → others ≡ more
+    one_more other discard others theirs =
+        let h = none other discard in
+        let i = one_least (one_less counts other) (IsGoal room melds) others h.number theirs h.least in
+        let j = h.more in
+        let k = less_misses counts other (IsGoal room melds) all others size discard.kind_is whole theirs in
+        let l = k.at_most in
+        omega arith
+
+    more_of : (other others : ℕ) → IsLeast (one_less counts other) (IsGoal room melds) others → LeavesMore counts room melds more other → more < others
+    more_of other others theirs m =
+        let n = one_least (one_less counts other) (IsGoal room melds) others m.number theirs m.least in
+        let o = m.more in
+        omega arith
 
 -- where each misses more than one more, there is none
 pub no_discard : (counts room : List ℕ) (melds kinds all more : ℕ) → length counts ≡ 34 → more ≡ all + 1 → IsLeast counts (IsGoal room melds) all
@@ -164,3 +160,18 @@ when_true false P Q h is = absurd (false≢true is)
 pub when_false : (b : Bool) (P Q : Type 0) → MatchBool b P Q → b ≡ false → Q
 when_false true P Q h is = absurd (false≢true (sym is))
 when_false false P Q h is = h
+
+-- ---- there is one
+
+-- Two best discards are of one kind.
+pub one_best : (counts room : List ℕ) (melds kinds a b : ℕ) → IsBestDiscard counts room melds kinds a → IsBestDiscard counts room melds kinds b → a ≡ b
+one_best counts room melds kinds a b x y = elim (x.best b y.number y.is_discard y.leaves) [
+  | inl less ↦ elim (y.best a x.number x.is_discard x.leaves) [
+    | inl more ↦ absurd (omega arith)
+    | inr same ↦ (let e = same.0 in absurd (omega arith))
+  ]
+  | inr same ↦ elim (y.best a x.number x.is_discard x.leaves) [
+    | inl more ↦ (let e = same.0 in absurd (omega arith))
+    | inr again ↦ (let e = same.1 in let f = again.1 in omega arith)
+  ]
+]

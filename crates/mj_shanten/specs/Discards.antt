@@ -2,7 +2,7 @@
 use Rattle.std.specs.Prelude.{ℕ, ◌≡◌, ◌<◌, ◌≤◌, ◌⊎◌, true, List, slice_index}
 use Rattle.mj_tiles.specs.Kinds.{has_kind}
 use Rattle.mj_suits.specs.Tables.{IsLeast}
-use Rattle.mj_shanten.specs.Shanten.{IsGoal, IsShanten}
+use Rattle.mj_shanten.specs.Shanten.{IsGoal}
 use Rattle.mj_shanten.specs.Exchanges.{one_less}
 
 -- A kind of the set, of which a tile is held.
@@ -11,11 +11,13 @@ pub record IsDiscard (counts : List ℕ) (kinds kind : ℕ) : Type 0 where
   pub among : has_kind kinds kind ≡ true
   pub held : 0 < slice_index counts kind
 
--- Each other discard leaves more shanten, or as much and does not stand later in tile order.
+-- Each other discard leaves more shanten, or as much and does not stand later in tile order: shanten is one less than the fewest
+-- tiles that a complete hand misses.
 pub record IsBestDiscard (counts room : List ℕ) (melds kinds kind : ℕ) : Type 0 where
   pub is_discard : IsDiscard counts kinds kind
-  pub best : (number other others : ℕ) (target other_target : List ℕ) → IsDiscard counts kinds other
-      → IsShanten (one_less counts kind) room melds number target → IsShanten (one_less counts other) room melds others other_target
+  pub number : ℕ
+  pub leaves : IsLeast (one_less counts kind) (IsGoal room melds) number
+  pub best : (other others : ℕ) → IsDiscard counts kinds other → IsLeast (one_less counts other) (IsGoal room melds) others
       → (number < others) ⊎ ((number ≡ others) × (other ≤ kind))
 
 -- Without a tile of the kind the nearest complete hand misses at most so many tiles.

@@ -18,7 +18,7 @@ use Rattle.mj_deeds.specs.Fits.{fits, all_fit, has_held, has_held_by, brought_by
 use Rattle.mj_deeds.specs.Four.{at_seat}
 use Rattle.mj_deeds.specs.Hand.{is_hand_start, hand, before_in}
 use Rattle.mj_deeds.proofs.HandSteps.{hand_with}
-use Rattle.mj_deeds.proofs.Fitted.{Parts, parts_of, past_of, is_past_start, some_hand, of_four, four_of_kind}
+use Rattle.mj_deeds.proofs.Fitted.{Parts, parts_of, past_of, some_hand, of_four, four_of_kind}
 use Rattle.mj_table.proofs.OneLess.{number_push}
 use Rattle.mj_table.proofs.Readers.{gained_within, holds_few}
 use Rattle.mj_table.proofs.Spare.{one_more}

@@ -29,7 +29,7 @@ last_gathered f xs i x more before after h is what was now =
     now ∙ ap (option_or more) was ∙ sym (last_more (flat_map f (take i xs)) more)
     ∙ ap (λ (ys : List ℕ). slice_get ys (length ys - 1)) (sym (gathered_more f xs i x (option_to_list more) h is what))
 
--- The last one of a list that doesn't pass, one item further.
+-- The last one of a list that doesn't pass, with one item more.
 kept_more : {A : Type 0} (p : A → Bool) (xs : List A) (x : A) →
     slice_get (filter (λ y. not (p y)) (xs ++ x ∷ [])) (length (filter (λ y. not (p y)) (xs ++ x ∷ [])) - 1)
     ≡ cond (p x) (slice_get (filter (λ y. not (p y)) xs) (length (filter (λ y. not (p y)) xs) - 1)) (Some x)
@@ -41,9 +41,10 @@ kept_more {A = A} p xs x =
     by_test true ys = ap (λ (zs : List A). slice_get zs (length zs - 1)) (append-nil ys)
     by_test false ys = last_added ys x
 
-pub last_kept : {A : Type 0} (p : A → Bool) (xs : List A) (i : ℕ) (x : A) (before after : Option A) → i < length xs → x ≡ get_or xs i x →
-    before ≡ slice_get (filter (λ y. not (p y)) (take i xs)) (length (filter (λ y. not (p y)) (take i xs)) - 1) → after ≡ cond (p x) before (Some x) →
-    after ≡ slice_get (filter (λ y. not (p y)) (take (i + 1) xs)) (length (filter (λ y. not (p y)) (take (i + 1) xs)) - 1)
-last_kept {A = A} p xs i x before after h is was now =
-    now ∙ ap (λ o. cond (p x) o (Some x)) was ∙ sym (kept_more p (take i xs) x)
-    ∙ ap (λ (ys : List A). slice_get (filter (λ y. not (p y)) ys) (length (filter (λ y. not (p y)) ys) - 1)) (ap (λ (y : A). take i xs ++ y ∷ []) is ∙ sym (take_more xs i x h))
+pub last_if_kept : {A : Type 0} (p : A → Bool) (all xs : List A) (x : A) → all ≡ xs ++ x ∷ [] → p x ≡ false →
+    Some x ≡ slice_get (filter (λ y. not (p y)) all) (length (filter (λ y. not (p y)) all) - 1)
+last_if_kept {A = A} p all xs x e h =
+    sym
+    (ap (λ (ys : List A). slice_get (filter (λ y. not (p y)) ys) (length (filter (λ y. not (p y)) ys) - 1)) e
+    ∙ kept_more p xs x
+    ∙ ap (λ b. cond b (slice_get (filter (λ y. not (p y)) xs) (length (filter (λ y. not (p y)) xs) - 1)) (Some x)) h)

@@ -41,7 +41,8 @@ no_own : (seat : ℕ) (d : Deed) → is_discard_by seat d ≡ true → offers_to
 no_own seat (Discard who tile drawn) h = rw h refl
 no_own seat other h = cc
 
-offered_more : (xs : List Deed) (d : Deed) (seat : ℕ) → offered_tiles (xs ++ d ∷ []) seat ≡ cond (is_discard_by seat d) [] (offered_tiles xs seat ++ offers_to seat d)
+-- What was offered to a seat since its last discard, with one deed more.
+pub offered_more : (xs : List Deed) (d : Deed) (seat : ℕ) → offered_tiles (xs ++ d ∷ []) seat ≡ cond (is_discard_by seat d) [] (offered_tiles xs seat ++ offers_to seat d)
 offered_more [] d seat = first (is_discard_by seat d) refl
   where
     first : (b : Bool) → is_discard_by seat d ≡ b → offers_to seat d ++ [] ≡ cond b [] (offers_to seat d)

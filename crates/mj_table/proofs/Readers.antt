@@ -31,6 +31,8 @@ use Rattle.mj_wall.specs.declared.setting.Rules.{Rules}
 use Rattle.mj_table.specs.Plays.{Play}
 use Rattle.mj_deeds.specs.Four.{at_seat}
 use Rattle.mj_deeds.specs.declared.four.Four.{Four}
+use Rattle.mj_table.specs.declared.hand_facts.HandFacts.{HandFacts}
+use Rattle.mj_table.specs.Inner.Hands.{Knows}
 use Rattle.mj_table.specs.Inner.Kept.{Stands, Holds, opening, hand_with, opening_with}
 use Rattle.mj_deeds.proofs.FitSteps.{number_of_four}
 use Rattle.mj_deeds.proofs.Fitted.{all_fit-append, four_of_kind, parts_of}
@@ -113,14 +115,15 @@ newest_is ds kept first e before = ap (λ (h : List Deed). option_or (newest h) 
     by_hand (x ∷ xs) e = ap (λ b. option_or (newest (x ∷ xs)) (cond b (newest ds) None)) (not_empty (length xs)) ∙ some x xs ∙ newest_in_hand ds x xs e
 
 -- Where there is a newest deed in the hand, it is the newest of what the table stands for.
-pub newest_some : (rules : Rules) (ds kept told : List Deed) (first : Option Deed) (now : Standing) (held : List ℤ) (lying : ℕ) (tiles : Four (List ℕ)) (played : Play) (d : Deed) → Stands rules ds kept first now held lying tiles →
+pub newest_some : (rules : Rules) (ds kept told : List Deed) (first : Option Deed) (now : Standing) (held : List ℤ) (lying : ℕ) (tiles : Four (List ℕ)) (facts : HandFacts) (played : Play) (d : Deed) → Stands rules ds kept first now held lying tiles facts →
     record { rules = rules; deeds = ds } ≡ played → told ≡ kept → Some d ≡ newest told → Some d ≡ newest played.deeds
-newest_some rules ds kept told first now held lying tiles played d s is same e =
+newest_some rules ds kept told first now held lying tiles facts played d s is same e =
     ap (λ (o : Option Deed). option_or o first) (e ∙ ap newest same) ∙ newest_is ds kept first s.hand s.opening ∙ ap (λ (p : Play). newest p.deeds) is
 
 -- one deed more
 
-hand_is_with : (ds kept : List Deed) (d : Deed) → kept ≡ hand ds → hand_with kept d ≡ hand (ds ++ d ∷ [])
+-- The newest hand with a deed more, by what is kept of it.
+pub hand_is_with : (ds kept : List Deed) (d : Deed) → kept ≡ hand ds → hand_with kept d ≡ hand (ds ++ d ∷ [])
 hand_is_with ds kept d e = ap (λ (h : List Deed). hand_with h d) e ∙ by_hand (is_hand_start d) (hand ds) ∙ sym (hand_more ds d)
   where
     by_hand : (b : Bool) (h : List Deed) → cond b (d ∷ []) (cond (length h == 0) [] (h ++ d ∷ [])) ≡ cond b (d ∷ []) (behind h d)
@@ -143,19 +146,19 @@ standing_is_with ds d number is = by_start (is_hand_start d) refl
 deposits_are_with : (ds : List Deed) (d : Deed) (lying : ℕ) → lying ≡ deposits ds → cond (is_win d) 0 (lying + cond (is_deposit d) 1 0) ≡ deposits (ds ++ d ∷ [])
 deposits_are_with ds d lying is = ap (λ (n : ℕ). cond (is_win d) 0 (n + cond (is_deposit d) 1 0)) is ∙ sym (deposits_more ds d)
 
-pub stands_at_first : (rules : Rules) (ds kept : List Deed) (tiles : Four (List ℕ)) → ds ≡ [] → kept ≡ [] → ((seat : ℕ) → Holds [] seat (at_seat tiles seat)) →
-    Stands rules ds kept None first_standing (pos 30000 ∷ pos 30000 ∷ pos 30000 ∷ pos 30000 ∷ []) 0 tiles
+pub stands_at_first : (rules : Rules) (ds kept : List Deed) (tiles : Four (List ℕ)) (facts : HandFacts) → ds ≡ [] → kept ≡ [] → ((seat : ℕ) → Holds [] seat (at_seat tiles seat)) →
+    Knows [] facts → Stands rules ds kept None first_standing (pos 30000 ∷ pos 30000 ∷ pos 30000 ∷ pos 30000 ∷ []) 0 tiles facts
 unfolding hand
-stands_at_first rules ds kept tiles e h none =
-    subst (λ (xs : List Deed). Stands rules xs kept None first_standing (pos 30000 ∷ pos 30000 ∷ pos 30000 ∷ pos 30000 ∷ []) 0 tiles) (sym e)
-    (subst (λ (xs : List Deed). Stands rules [] xs None first_standing (pos 30000 ∷ pos 30000 ∷ pos 30000 ∷ pos 30000 ∷ []) 0 tiles) (sym h)
-    (record { fit = refl; hand = refl; opening = refl; standing = refl; points = refl; deposits = refl; concealed = λ seat low. none seat }))
+stands_at_first rules ds kept tiles facts e h none kept_of =
+    subst (λ (xs : List Deed). Stands rules xs kept None first_standing (pos 30000 ∷ pos 30000 ∷ pos 30000 ∷ pos 30000 ∷ []) 0 tiles facts) (sym e)
+    (subst (λ (xs : List Deed). Stands rules [] xs None first_standing (pos 30000 ∷ pos 30000 ∷ pos 30000 ∷ pos 30000 ∷ []) 0 tiles facts) (sym h)
+    (record { fit = refl; hand = refl; opening = refl; standing = refl; points = refl; deposits = refl; concealed = λ seat low. none seat; facts = kept_of }))
 
-pub stands_more : (rules : Rules) (ds kept : List Deed) (first : Option Deed) (now : Standing) (held : List ℤ) (lying number : ℕ) (tiles more : Four (List ℕ)) (d : Deed) → Stands rules ds kept first now held lying tiles →
-    fits rules.red ds d ≡ true → number ≡ length (starts ds) → ((seat : ℕ) → seat ≤ 3 → Holds (hand (ds ++ d ∷ [])) seat (at_seat more seat)) →
+pub stands_more : (rules : Rules) (ds kept : List Deed) (first : Option Deed) (now : Standing) (held : List ℤ) (lying number : ℕ) (tiles more : Four (List ℕ)) (facts after : HandFacts) (d : Deed) → Stands rules ds kept first now held lying tiles facts →
+    fits rules.red ds d ≡ true → number ≡ length (starts ds) → ((seat : ℕ) → seat ≤ 3 → Holds (hand (ds ++ d ∷ [])) seat (at_seat more seat)) → Knows (hand (ds ++ d ∷ [])) after →
     Stands rules (ds ++ d ∷ []) (hand_with kept d) (opening_with kept d) (cond (is_hand_start d) (standing_by number (Some d)) now) (changed held d)
-    (cond (is_win d) 0 (lying + cond (is_deposit d) 1 0)) more
-stands_more rules ds kept first now held lying number tiles more d s one is moved = record {
+    (cond (is_win d) 0 (lying + cond (is_deposit d) 1 0)) more after
+stands_more rules ds kept first now held lying number tiles more facts after d s one is moved seats = record {
   fit = all_fit-append rules.red [] ds d s.fit one;
   hand = hand_is_with ds kept d s.hand;
   opening = opening_is_with ds kept d s.hand;
@@ -163,12 +166,13 @@ stands_more rules ds kept first now held lying number tiles more d s one is move
   points = ap (λ (p : List ℤ). changed p d) s.points ∙ sym (all_points_more ds d);
   deposits = deposits_are_with ds d lying s.deposits;
   concealed = moved;
+  facts = seats;
 }
 
 -- What stands for deeds stands for the same ones in other words.
-pub stands_for : (rules : Rules) (ds xs kept hs : List Deed) (first o : Option Deed) (now n : Standing) (held p : List ℤ) (lying l : ℕ) (tiles : Four (List ℕ)) → Stands rules ds kept first now held lying tiles →
-    xs ≡ ds → hs ≡ kept → o ≡ first → n ≡ now → p ≡ held → l ≡ lying → Stands rules xs hs o n p l tiles
-stands_for rules ds xs kept hs first o now n held p lying l tiles s e h k f g m = record {
+pub stands_for : (rules : Rules) (ds xs kept hs : List Deed) (first o : Option Deed) (now n : Standing) (held p : List ℤ) (lying l : ℕ) (tiles : Four (List ℕ)) (facts : HandFacts) → Stands rules ds kept first now held lying tiles facts →
+    xs ≡ ds → hs ≡ kept → o ≡ first → n ≡ now → p ≡ held → l ≡ lying → Stands rules xs hs o n p l tiles facts
+stands_for rules ds xs kept hs first o now n held p lying l tiles facts s e h k f g m = record {
   fit = subst (λ (ys : List Deed). all_fit rules.red [] ys ≡ true) (sym e) s.fit;
   hand = h ∙ s.hand ∙ ap hand (sym e);
   opening = k ∙ s.opening ∙ ap opening (sym e);
@@ -176,6 +180,7 @@ stands_for rules ds xs kept hs first o now n held p lying l tiles s e h k f g m 
   points = g ∙ s.points ∙ ap points (sym e);
   deposits = m ∙ s.deposits ∙ ap deposits (sym e);
   concealed = λ seat low. subst (λ (ys : List Deed). Holds (hand ys) seat (at_seat tiles seat)) (sym e) (s.concealed seat low);
+  facts = subst (λ (ys : List Deed). Knows (hand ys) facts) (sym e) s.facts;
 }
 
 -- the number of the next hand
@@ -256,10 +261,10 @@ ground_is : (ds : List Deed) (n : Option Deed) (h : List Deed) (s : Standing) (p
 unfolding ground_of
 ground_is ds n h s p l a b c e f = λ i. record { newest = a i; hand = b i; standing = c i; points = e i; deposits = f i }
 
-pub fits_told : (rules : Rules) (ds kept : List Deed) (first : Option Deed) (now : Standing) (held : List ℤ) (lying : ℕ) (tiles : Four (List ℕ)) (played : Play) (d : Deed) (n : Option Deed) (h : List Deed) (result : Bool) →
-    Stands rules ds kept first now held lying tiles → record { rules = rules; deeds = ds } ≡ played → n ≡ newest played.deeds → h ≡ hand played.deeds →
+pub fits_told : (rules : Rules) (ds kept : List Deed) (first : Option Deed) (now : Standing) (held : List ℤ) (lying : ℕ) (tiles : Four (List ℕ)) (facts : HandFacts) (played : Play) (d : Deed) (n : Option Deed) (h : List Deed) (result : Bool) →
+    Stands rules ds kept first now held lying tiles facts → record { rules = rules; deeds = ds } ≡ played → n ≡ newest played.deeds → h ≡ hand played.deeds →
     result ≡ fits_behind rules.red (record { newest = n; hand = h; standing = now; points = held; deposits = lying }) d → result ≡ fits played.rules.red played.deeds d
-fits_told rules ds kept first now held lying tiles played d n h result s is a b e =
+fits_told rules ds kept first now held lying tiles facts played d n h result s is a b e =
     e
     ∙ ap (λ (g : Ground). fits_behind rules.red g d)
     (ground_is ds n h now held lying (a ∙ ap (λ (p : Play). newest p.deeds) (sym is)) (b ∙ ap (λ (p : Play). hand p.deeds) (sym is)) s.standing s.points s.deposits)

@@ -1,8 +1,8 @@
-ghost use Rattle.std.specs.Prelude.{◌≡◌, ◌≤◌, ◌-◌, if◌then◌else◌, Some, length, option_and_then, option_copied, option_to_list, slice_get};
+ghost use Rattle.std.specs.Prelude.{◌≡◌, ◌≤◌, ◌-◌, length, option_and_then, option_copied, option_to_list, slice_get};
 ghost use Rattle.mj_deeds.specs.Course.{cause, comes_of, only_if, is_reach, is_offer, before_wins};
-ghost use Rattle.mj_deeds.specs.Points.{is_win};
 ghost use Rattle.mj_deeds.specs.Facts.{kan_seats, indicators, indicators_by, drawn_tile, drawn_by, newest};
 
+use crate::winning::is_win;
 use mj_deeds::{Deed, seat_of_kan};
 use mj_tiles::Tile;
 
@@ -54,19 +54,14 @@ fn offer_before_wins(deeds: &[Deed]) -> Option<&Deed>
 pub(crate) fn before_wins(deeds: &[Deed]) -> Option<&Deed>
     ensures { option_copied result ≡ newest (before_wins deeds.now) }
 {
-    let mut found = None;
-    for deed in deeds {
-        found = later(found, deed);
+    match deeds.split_last() {
+        Some((newest, before)) => if is_win(newest) {
+            before_wins(before)
+        } else {
+            Some(newest)
+        },
+        None => None,
     }
-    found
-}
-
-// A deed, unless it is a win, and else the one before it.
-fn later<'a>(found: Option<&'a Deed>, deed: &'a Deed) -> Option<&'a Deed>
-    ensures { option_copied result ≡ if is_win deed.now then option_copied found.entry else Some
-        deed.now }
-{
-    if is_win(deed) { found } else { Some(deed) }
 }
 
 fn is_reach(deed: &Deed) -> bool
@@ -79,12 +74,6 @@ fn is_offer(deed: &Deed) -> bool
     ensures { result ≡ is_offer deed.now }
 {
     matches!(deed, Deed::Discard { .. } | Deed::AddedKan { .. })
-}
-
-fn is_win(deed: &Deed) -> bool
-    ensures { result ≡ is_win deed.now }
-{
-    matches!(deed, Deed::Win { .. })
 }
 
 // The tile that a seat has drawn and holds as drawn: that of the newest deed, where it is the seat's draw, or its reach

@@ -3,13 +3,16 @@
 
 mod counting;
 mod course;
+mod hand_facts;
 mod held;
+mod mark_facts;
 mod marks;
 mod melds;
 mod passed;
 mod reason;
 mod riichi;
 mod room;
+mod seat_facts;
 mod standing;
 mod table;
 mod winning;

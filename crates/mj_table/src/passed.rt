@@ -69,7 +69,7 @@ fn offered_kinds(deeds: &[Deed], seat: u8) -> Kinds
 }
 
 // The kinds that are offered to a seat, one deed further.
-fn with_offer(offered: Kinds, deed: &Deed, seat: u8) -> Kinds
+pub(crate) fn with_offer(offered: Kinds, deed: &Deed, seat: u8) -> Kinds
     ensures { (tiles : List ℕ) → offered ≡ kinds_among tiles → result
         ≡ kinds_among (if is_discard_by seat deed.now then [] else tiles
         ++ offers_to seat deed.now) }
@@ -81,7 +81,7 @@ fn with_offer(offered: Kinds, deed: &Deed, seat: u8) -> Kinds
 }
 
 // The kinds of some tiles and of one more, where there is one.
-fn with_tile(kinds: Kinds, tile: Option<Tile>) -> Kinds
+pub(crate) fn with_tile(kinds: Kinds, tile: Option<Tile>) -> Kinds
     ensures { (tiles : List ℕ) → kinds ≡ kinds_among tiles → result
         ≡ kinds_among (tiles ++ option_to_list tile) }
 {
@@ -102,7 +102,7 @@ pub(crate) fn is_discard_by(deed: &Deed, seat: u8) -> bool
 }
 
 // The tile of a deed that a seat might win on.
-fn offered_by(deed: &Deed, seat: u8) -> Option<Tile>
+pub(crate) fn offered_by(deed: &Deed, seat: u8) -> Option<Tile>
     ensures { option_to_list result ≡ offers_to seat deed.now }
 {
     match deed {

@@ -43,7 +43,7 @@ pub(crate) fn is_first(deeds: &[Deed], seat: u8) -> bool
 }
 
 // Whether a deed is the reach of a seat.
-fn is_reach_by(deed: &Deed, seat: u8) -> bool
+pub(crate) fn is_reach_by(deed: &Deed, seat: u8) -> bool
     ensures { result ≡ is_reach_by seat deed.now }
 {
     match deed {
@@ -130,7 +130,7 @@ fn has_ended_first(deeds: &[Deed], seat: u8) -> bool
 }
 
 // Whether a deed ends the first turn of a seat.
-fn ends_first(deed: &Deed, seat: u8) -> bool
+pub(crate) fn ends_first(deed: &Deed, seat: u8) -> bool
     ensures { result ≡ ends_first seat deed.now }
 {
     match deed {

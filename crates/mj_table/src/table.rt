@@ -15,11 +15,13 @@ ghost use Rattle.mj_deeds.specs.Reasons.{reason};
 ghost use Rattle.mj_table.specs.Marks.{marks};
 ghost use Rattle.mj_table.specs.Offers.{offered_tile};
 ghost use Rattle.mj_table.specs.Inner.Kept.{hand_with, opening_with};
+ghost use Rattle.mj_table.specs.Inner.Seats.{Keeps};
 ghost use Rattle.mj_deeds.specs.Hand.{hand, starts};
 ghost use Rattle.mj_deeds.specs.Standings.{standing};
 
 use crate::counting::{held_counts, kinds_held};
 use crate::course::{before_wins, cause, drawn, indicator, kan_seat, shown};
+use crate::hand_facts::{HandFacts, facts_after, no_facts};
 use crate::held::held_after;
 use crate::marks::{Marks, marks_of};
 use crate::melds::held_melds;
@@ -27,6 +29,7 @@ use crate::passed::{own_kinds, passed_in_riichi, passed_kinds};
 use crate::reason::reason;
 use crate::riichi::is_first;
 use crate::room::room_beside;
+use crate::seat_facts::SeatFacts;
 use crate::standing::standing_with;
 use crate::winning::{has_winner, is_ippatsu_before_wins};
 use mj_deeds::{Deed, Four, Reason, Tiles, deposits_after, is_hand_start, points_after};
@@ -52,6 +55,8 @@ pub struct Table {
     deposits: u32,
     // how many concealed tiles of each face the seats hold
     held: Four<[u8; 37]>,
+    // the facts of the newest hand
+    facts: HandFacts,
     // all deeds, which are not kept
     past: Past<Deed>,
 }
@@ -65,7 +70,7 @@ impl Model for Table {
     ghost view = { λ t. record { rules = t.rules; deeds = t.past.items } };
 
     ghost invariant = { λ t. Stands t.rules t.past.items t.hand.items t.opening t.standing t.points
-        t.deposits t.held };
+        t.deposits t.held t.facts };
 }
 
 impl Table {
@@ -86,6 +91,7 @@ impl Table {
                 third: [0; 37],
                 fourth: [0; 37],
             },
+            facts: no_facts(),
             past: Past::new(),
         })
     }
@@ -104,6 +110,7 @@ impl Table {
         self.points = points_after(self.points, deed);
         self.deposits = deposits_after(self.deposits, deed);
         self.held = held_after(&self.held, deed);
+        self.facts = facts_after(&self.facts, self.hand.as_slice(), deed);
         self.past = self.past.and(deed);
         Ok(())
     }
@@ -122,6 +129,7 @@ impl Table {
             points: self.points,
             deposits: self.deposits,
             held: self.held,
+            facts: self.facts,
             past: self.past.again(),
         })
     }
@@ -142,6 +150,14 @@ impl Table {
         ensures fit { IsTrue (all_fit self.now.rules.red [] self.now.deeds) }
     {
         self.hand.as_slice()
+    }
+
+    // What is kept of a seat, 0 to 3.
+    fn kept(&self, seat: u8) -> &SeatFacts
+        requires { seat < 4 }
+        ensures { Keeps (hand self.now.deeds) seat result.now }
+    {
+        self.facts.seats.at(seat)
     }
 
     /// Whether a deed fits behind the deeds so far: it stands in its place, its seats are 0 to 3, tiles that are put
@@ -208,14 +224,14 @@ impl Table {
         ensures value { result ≡ live_tiles (hand self.now.deeds) }
         ensures within { result ≤ 70 }
     {
-        mj_deeds::live_left(self.hand()) as u8
+        self.facts.live()
     }
 
     /// How many live tiles were drawn.
     pub fn live_drawn(&self) -> usize
         ensures { result ≡ live_draws (hand self.now.deeds) }
     {
-        mj_deeds::live_drawn(self.hand())
+        usize::from(self.facts.drawn)
     }
 
     /// How many kans were made, by all seats: four at most.
@@ -223,7 +239,7 @@ impl Table {
         ensures value { result ≡ kans (hand self.now.deeds) }
         ensures within { result ≤ 4 }
     {
-        mj_deeds::kans(self.hand()) as u8
+        self.facts.kans
     }
 
     /// The seat of the newest kan; none exactly where there is no kan.
@@ -292,6 +308,9 @@ impl Table {
     pub fn melds(&self, seat: u8) -> Melds
         ensures { result ≡ seat_melds (hand self.now.deeds) seat }
     {
+        if seat < 4 {
+            return self.kept(seat).melds;
+        }
         held_melds(self.hand(), seat)
     }
 
@@ -316,6 +335,9 @@ impl Table {
     pub fn own(&self, seat: u8) -> Kinds
         ensures { result ≡ own_kinds (hand self.now.deeds) seat }
     {
+        if seat < 4 {
+            return self.kept(seat).own;
+        }
         own_kinds(self.hand(), seat)
     }
 
@@ -324,6 +346,9 @@ impl Table {
     pub fn passed(&self, seat: u8) -> Kinds
         ensures { result ≡ passed_kinds (hand self.now.deeds) seat }
     {
+        if seat < 4 {
+            return self.kept(seat).passed;
+        }
         passed_kinds(self.hand(), seat)
     }
 
@@ -332,6 +357,9 @@ impl Table {
     pub fn passed_in_riichi(&self, seat: u8) -> Kinds
         ensures { result ≡ passed_in_riichi (hand self.now.deeds) seat }
     {
+        if seat < 4 {
+            return self.kept(seat).passed_in_riichi;
+        }
         passed_in_riichi(self.hand(), seat)
     }
 
@@ -369,6 +397,9 @@ impl Table {
     pub fn ippatsu_before_wins(&self, seat: u8) -> bool
         ensures { result ≡ is_ippatsu (before_wins (hand self.now.deeds)) seat }
     {
+        if seat < 4 {
+            return self.kept(seat).marks.given;
+        }
         is_ippatsu_before_wins(self.hand(), seat)
     }
 
@@ -386,6 +417,9 @@ impl Table {
     pub fn is_first(&self, seat: u8) -> bool
         ensures { result ≡ is_first (hand self.now.deeds) seat }
     {
+        if seat < 4 {
+            return self.kept(seat).marks.is_first();
+        }
         is_first(self.hand(), seat)
     }
 
@@ -393,6 +427,9 @@ impl Table {
     pub fn is_in_riichi(&self, seat: u8) -> bool
         ensures { result ≡ is_in_riichi (hand self.now.deeds) seat }
     {
+        if seat < 4 {
+            return self.kept(seat).marks.accepted;
+        }
         mj_deeds::is_in_riichi(self.hand(), seat)
     }
 
@@ -407,6 +444,9 @@ impl Table {
     pub fn marks(&self, seat: u8) -> Marks
         ensures { result ≡ marks (hand self.now.deeds) seat }
     {
+        if seat < 4 {
+            return self.kept(seat).marks.told();
+        }
         marks_of(self.hand(), seat)
     }
 }

@@ -42,7 +42,7 @@ pub(crate) fn is_ippatsu_before_wins(deeds: &[Deed], seat: u8) -> bool
 }
 
 // Whether a deed is a win.
-fn is_win(deed: &Deed) -> bool
+pub(crate) fn is_win(deed: &Deed) -> bool
     ensures { result ≡ is_win deed.now }
 {
     matches!(deed, Deed::Win { .. })

@@ -2,6 +2,7 @@
 #![tactic(auto)]
 
 mod setting;
+mod shuffle;
 mod wall;
 
 pub use setting::{Rules, Setting, Walls};

@@ -1,6 +1,10 @@
-ghost use Rattle.std.specs.Prelude.{◌≡◌};
+ghost use Rattle.std.specs.Prelude.{◌≡◌, IfOk, IsTrue, length};
+ghost use Rattle.std.specs.List.{list_all};
+ghost use Rattle.mj_wall.specs.Places.{is_wall};
+ghost use Rattle.mj_wall.specs.Shuffle.{shuffled_walls};
 
 use crate::wall::Wall;
+use std::alloc::{AllocError, Global};
 use std::marker::Model;
 
 /// The rules of a game that may differ: the limit of a window in milliseconds, from 1 to 3600000, whether the four
@@ -32,6 +36,24 @@ impl Walls {
         ensures { result ≡ items.items }
     {
         Walls { items }
+    }
+
+    /// The first walls of a seed of 32 bytes, so many of them.
+    pub fn shuffled(
+        alloc: Global,
+        seed: [u8; 32],
+        number: u64,
+        red: bool,
+    ) -> Result<Walls, AllocError>
+        ensures value { IfOk result (λ walls. walls ≡ shuffled_walls seed red number) }
+        ensures many { IfOk result (λ walls. length walls ≡ number) }
+        ensures whole { IfOk result (λ walls. IsTrue (list_all (is_wall red) walls)) }
+    {
+        let mut items = Vec::new(alloc);
+        for n in 0..number {
+            items.push(Wall::shuffled(seed, n, red))?;
+        }
+        Ok(Walls { items })
     }
 
     /// Its walls, in order.

@@ -9,7 +9,7 @@ use thiserror::Error;
 /// A wall of 136 tiles.
 #[derive(Drop)]
 pub struct Wall {
-    tiles: [Tile; 136],
+    pub(crate) tiles: [Tile; 136],
 }
 
 impl Model for Wall {

@@ -1,4 +1,4 @@
-ghost use Rattle.std.specs.Prelude.{◌≡◌, ◌∷◌, ◌++◌, [], OnOk, OnErr, codes, decimal};
+ghost use Rattle.std.specs.Prelude.{◌≡◌, ◌+◌, ◌<◌, ◌∷◌, ◌++◌, [], OnOk, OnErr, codes, decimal};
 ghost use Rattle.mj_bytes.specs.Adds.{Adds};
 ghost use Rattle.mj_view.specs.Masks.{sees as is_seen};
 ghost use Rattle.mj_protocol.specs.Lines.{line as line_for, quoted, bracketed, seat_in_line as seat_written, start_game_line, draw_line, discard_line, call_line, call_object, closed_kan_line, added_kan_line, dora_line, hands_seen, quoted_tile, tile_seen};
@@ -6,18 +6,39 @@ ghost use Rattle.mj_protocol.specs.Lines.{line as line_for, quoted, bracketed, s
 use crate::ending::{push_drawn_hand, push_end_game};
 use crate::pieces::{push_quoted, push_tile, push_tile_seen, push_tiles_seen, push_truth};
 use crate::riichi::{push_reach, push_reach_accepted};
+use crate::steps::Steps;
 use crate::winning::{push_changes, push_rest, push_winner, push_worth};
 use mj_bytes::{push_all, push_number};
 use mj_deeds::{Deed, Four, Hands, Viewer};
 use mj_ports::Name;
 use mj_tiles::{Kind, Tile};
 use std::alloc::{AllocError, Global};
+use std::marker::Brand;
+use std::sync::ledger::{Blank, Ledger};
 
 /// Writes the line of a deed, as the viewer sees it, behind a text: a seat sees its own tiles and a question mark for
 /// each hidden tile of another, the record sees all, and it alone has the call that is kept at an accepted reach and the
 /// seats that win next. The only error is want of memory, and then the text stays as it
-/// was.
-pub fn write(
+/// was. It counts one line.
+pub fn write<L: Ledger>(
+    alloc: Global,
+    viewer: Viewer,
+    deed: &Deed,
+    into: &mut Vec<u8>,
+    steps: &mut Steps<L>,
+) -> Result<(), AllocError>
+    ensures ok { OnOk result (Adds into.old.items into.new.items (line_for viewer deed.now)) }
+    ensures err { OnErr result (into.new.items ≡ into.old.items) }
+    ensures steps { steps.new ≡ steps.old + 1 }
+{
+    steps.take();
+    let mut line = Vec::new(alloc);
+    push_deed(&mut line, viewer, deed)?;
+    push_all(into, line.as_slice())
+}
+
+/// Writes the line of a deed as `write` does, with a counter that is made for this call.
+pub fn write_alone(
     alloc: Global,
     viewer: Viewer,
     deed: &Deed,
@@ -26,9 +47,25 @@ pub fn write(
     ensures ok { OnOk result (Adds into.old.items into.new.items (line_for viewer deed.now)) }
     ensures err { OnErr result (into.new.items ≡ into.old.items) }
 {
-    let mut line = Vec::new(alloc);
-    push_deed(&mut line, viewer, deed)?;
-    push_all(into, line.as_slice())
+    write_on::<Brand>(alloc, viewer, deed, into, Blank::new(1))
+}
+
+// Writes the line of a deed, counted on a new ledger.
+fn write_on<L: Ledger>(
+    alloc: Global,
+    viewer: Viewer,
+    deed: &Deed,
+    into: &mut Vec<u8>,
+    blank: Blank,
+) -> Result<(), AllocError>
+    requires name { blank.name ≡ L.name }
+    requires parts { blank.parts ≡ L.parts }
+    requires some { 0 < blank.parts }
+    ensures ok { OnOk result (Adds into.old.items into.new.items (line_for viewer deed.now)) }
+    ensures err { OnErr result (into.new.items ≡ into.old.items) }
+{
+    let mut steps = Steps::<L>::new(blank);
+    write(alloc, viewer, deed, into, &mut steps)
 }
 
 // Writes the line of a deed.

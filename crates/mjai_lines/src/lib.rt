@@ -11,11 +11,13 @@ mod join;
 mod own;
 mod pieces;
 mod riichi;
+mod steps;
 mod value;
 mod winning;
 mod yaku;
 
 pub use answer::read_answer;
-pub use deed::write;
-pub use error::error_line;
+pub use deed::{write, write_alone};
+pub use error::{error_line, refusal_line};
 pub use join::read_join;
+pub use steps::Steps;

@@ -5,6 +5,8 @@
 #[cfg(test)]
 mod calls;
 #[cfg(test)]
+mod choices;
+#[cfg(test)]
 mod deed_words;
 #[cfg(test)]
 mod deeds;
@@ -16,6 +18,8 @@ mod play;
 mod ports;
 #[cfg(test)]
 mod rounds;
+#[cfg(test)]
+mod seating;
 #[cfg(test)]
 mod table;
 #[cfg(test)]

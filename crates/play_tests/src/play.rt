@@ -6,6 +6,7 @@ ghost use Rattle.std.specs.Prelude.{IfSome, ◌≤◌};
 use crate::deed_words::{answer, deed};
 use crate::rounds::{end, standing};
 use crate::words::{are, counts, kind, kinds, number, points, tile, tile_or_none, words, yes};
+use mj_bot::choose;
 use mj_deeds::{Deed, Reason, Rule};
 use mj_judge::{case_of, default, judge};
 use mj_readings::Riichi;
@@ -103,6 +104,7 @@ fn tells(alloc: Global, table: &Table, question: &str, told: &str) -> Option<boo
         "standing" => Some(table.standing() == standing(told)?),
         "kan_seat" => Some(table.kan_seat() == number(told)),
         "default" => Some(default_is(table, seat_of(words[1])?, told)),
+        "choose" => Some(choice_is(table, seat_of(words[1])?, told)),
         "indicator" => Some(table.indicator(number(words[1])?) == tile_or_none(told)?),
         _ => tells_of_seat(table, &words, told),
     }
@@ -258,6 +260,13 @@ fn default_is(table: &Table, seat: u8, told: &str) -> bool
     requires { seat ≤ 3 }
 {
     Some(default(table, seat)) == answer(told)
+}
+
+/// Whether the built-in player answers so for a seat.
+fn choice_is(table: &Table, seat: u8, told: &str) -> bool
+    requires { seat ≤ 3 }
+{
+    Some(choose(table, seat)) == answer(told)
 }
 
 /// Whether an answer of a seat breaks that rule first, or none where it is `lawful`.

@@ -5,6 +5,7 @@ ghost use Rattle.mj_tiles.specs.Counts.{NoFifth};
 
 use crate::half_played::{half_played, may_discard};
 use crate::hands::{Hands, OpenHand, ROOM, first_kind, without_first};
+use crate::told::{line_sum, told};
 use crate::winning::{awaited, may_win};
 use mj_readings::{Case, Riichi, readings};
 use mj_score::{Extra, worth};
@@ -32,10 +33,12 @@ pub enum Job {
     WaitsOfOpen,
     ReadingsOfOpen,
     WorthOfOpen,
+    EarlyLine,
+    LateLine,
 }
 
 /// All jobs, in the order in which they are printed.
-pub const JOBS: [Job; 13] = [
+pub const JOBS: [Job; 15] = [
     Job::Waits,
     Job::WaitsOfReady,
     Job::Readings,
@@ -49,7 +52,14 @@ pub const JOBS: [Job; 13] = [
     Job::WaitsOfOpen,
     Job::ReadingsOfOpen,
     Job::WorthOfOpen,
+    Job::EarlyLine,
+    Job::LateLine,
 ];
+
+// The places of the lines that are asked for.
+const EARLY: u32 = 100;
+
+const LATE: u32 = 10_000;
 
 impl Job {
     /// What the job is called.
@@ -68,11 +78,22 @@ impl Job {
             Job::WaitsOfOpen => "waits of a ready open hand",
             Job::ReadingsOfOpen => "readings of a complete open hand",
             Job::WorthOfOpen => "worth of an open hand",
+            Job::EarlyLine => "line 100 of a seat",
+            Job::LateLine => "line 10000 of a seat",
         }
     }
 
     /// Goes through so many hands, and answers a checksum.
     pub fn run(self, alloc: Global, hands: &mut Hands, times: u32) -> Result<u64, AllocError> {
+        match self {
+            Job::EarlyLine => lines_asked(alloc, hands, times, EARLY),
+            Job::LateLine => lines_asked(alloc, hands, times, LATE),
+            _ => self.asked(alloc, hands, times),
+        }
+    }
+
+    // The same for the jobs that ask of hands.
+    fn asked(self, alloc: Global, hands: &mut Hands, times: u32) -> Result<u64, AllocError> {
         let table = half_played(alloc)?;
         let won = awaited(alloc)?;
         let kinds = all_kinds();
@@ -92,11 +113,28 @@ impl Job {
                 Job::WaitsOfOpen => waits_of_open(&hands.open_hand()),
                 Job::ReadingsOfOpen => readings_of_open(alloc, &hands.open_hand())?,
                 Job::WorthOfOpen => worth_of_open(alloc, &hands.open_hand())?,
+                Job::EarlyLine | Job::LateLine => 0,
             };
             sum = sum.wrapping_mul(31).wrapping_add(part);
         }
         Ok(sum)
     }
+}
+
+// Asks so many times for the line of a seat at one place, of as many as the latest place wants.
+fn lines_asked(
+    alloc: Global,
+    hands: &mut Hands,
+    times: u32,
+    place: u32,
+) -> Result<u64, AllocError> {
+    let streams = told(alloc, LATE + 1)?;
+    let mut sum = 0u64;
+    for _ in 0..times {
+        let part = line_sum(&streams, hands.numbers(1)[0], place);
+        sum = sum.wrapping_mul(31).wrapping_add(part);
+    }
+    Ok(sum)
 }
 
 /// Makes the hands of a job and asks nothing, so that the time of making them can be taken off.
@@ -107,7 +145,7 @@ pub fn make_only(job: Job, hands: &mut Hands, times: u32) -> u64 {
             Job::Waits => hands.mixed_numbers(),
             Job::Shanten | Job::Number => hands.numbers(13),
             Job::BestDiscard => hands.numbers(14),
-            Job::Judge | Job::JudgeWin => hands.numbers(1),
+            Job::Judge | Job::JudgeWin | Job::EarlyLine | Job::LateLine => hands.numbers(1),
             Job::WaitsOfReady => hands.ready_numbers(),
             Job::Readings | Job::Partitions | Job::Worth => hands.complete_numbers(),
             Job::WaitsOfOpen => without_first(&hands.open_hand().numbers),

@@ -1,6 +1,7 @@
 //! Times the calls that play leans on. Each job runs once over a few hands, and its checksum is printed, and the game on
 //! standard input is refereed, and the parts of the games in the files that the words name. Where the first word is `time`,
-//! each job is printed with its nanoseconds a call and its calls a second, and each game with its nanoseconds a deed.
+//! each job is printed with its nanoseconds a call and its calls a second, and each game with its nanoseconds a deed or
+//! an arrival.
 #![tactic(auto)]
 
 mod half_played;
@@ -8,12 +9,13 @@ mod hands;
 mod jobs;
 mod parts;
 mod referee;
+mod told;
 mod winning;
 
 use anyhow::Result;
 use hands::Hands;
 use jobs::{JOBS, Job};
-use parts::{PARTS, first_lines};
+use parts::{PARTS, Part, Unit, first_lines};
 use referee::referee;
 use std::io::Read;
 use std::time::CpuClock;
@@ -27,6 +29,15 @@ const MANY: u32 = 200_000;
 
 /// How often a game is refereed when it is timed; the fastest run counts.
 const GAMES: u32 = 200;
+
+/// The game on standard input, all of it.
+const STORED: Part = Part {
+    name: "referee of a stored game",
+    file: "",
+    from: 0,
+    to: u32::MAX,
+    unit: Unit::Deed,
+};
 
 fn main(rt: HostRuntime) -> Result<()> {
     let timed = match env::args(&rt)?.nth(1) {
@@ -44,7 +55,7 @@ fn main(rt: HostRuntime) -> Result<()> {
     }
     let mut game = Vec::new(rt.alloc());
     rt.stdin().read_to_end(&mut game)?;
-    tell_game(&rt, "referee of a stored game", &[], game.as_slice(), timed)?;
+    tell_part(&rt, &STORED, game.as_slice(), timed)?;
     for word in env::args(&rt)?.skip(1) {
         if word.as_str() != "time" {
             tell_parts(&rt, word.as_str(), timed)?;
@@ -73,39 +84,43 @@ fn tell_parts(rt: &HostRuntime, file: &str, timed: bool) -> Result<()> {
     let game = fs::read(rt, file)?;
     for part in PARTS {
         if file.ends_with(part.file) {
-            let before = first_lines(rt.alloc(), game.as_slice(), part.from)?;
-            let all = first_lines(rt.alloc(), game.as_slice(), part.to)?;
-            tell_game(rt, part.name, before.as_slice(), all.as_slice(), timed)?;
+            tell_part(rt, &part, game.as_slice(), timed)?;
         }
     }
     Ok(())
 }
 
-// Prints how many deeds a game has behind its beginning, and what they cost or what was told.
-fn tell_game(
-    rt: &HostRuntime,
-    name: &str,
-    beginning: &[u8],
-    game: &[u8],
-    timed: bool,
-) -> Result<()> {
-    let begun = referee(rt.alloc(), beginning)?;
-    let told = referee(rt.alloc(), game)?;
-    let deeds = told.deeds.saturating_sub(begun.deeds);
-    let sum = told.sum;
+// Prints how much a part of a game has, and what it costs or a checksum of all that was told until its end.
+fn tell_part(rt: &HostRuntime, part: &Part, game: &[u8], timed: bool) -> Result<()> {
+    let beginning = first_lines(rt.alloc(), game, part.from)?;
+    let all = first_lines(rt.alloc(), game, part.to)?;
+    let begun = referee(rt.alloc(), beginning.as_slice())?;
+    let told = referee(rt.alloc(), all.as_slice())?;
+    let number = match part.unit {
+        Unit::Deed => told.deeds.saturating_sub(begun.deeds),
+        Unit::Arrival => u64::from(part.to.saturating_sub(part.from)),
+    };
+    let (name, plural, sum) = (part.name, part.unit.plural(), told.sum);
     if !timed {
-        println!(rt; "{name}: {deeds} deeds, checksum {sum}")?;
+        println!(rt; "{name}: {number} {plural}, checksum {sum}")?;
         return Ok(());
     }
+    let cost = cost_of(rt, beginning.as_slice(), all.as_slice())?;
+    let each = cost / u128::from(number.max(1));
+    let one = part.unit.one();
+    println!(rt; "{name}: {each} ns {one}, {number} {plural} (checksum {sum})")?;
+    Ok(())
+}
+
+// The least nanoseconds that a game takes, less the least that its beginning does.
+fn cost_of(rt: &HostRuntime, beginning: &[u8], game: &[u8]) -> Result<u128> {
     let mut before = u128::MAX;
     let mut all = u128::MAX;
     for _ in 0..GAMES {
         before = before.min(time_of(rt, beginning)?);
         all = all.min(time_of(rt, game)?);
     }
-    let each = all.saturating_sub(before) / u128::from(deeds.max(1));
-    println!(rt; "{name}: {each} ns a deed, {deeds} deeds (checksum {sum})")?;
-    Ok(())
+    Ok(all.saturating_sub(before))
 }
 
 // The nanoseconds of processor time that a run of a game takes.

@@ -1,4 +1,4 @@
-use mj_core::{Core, Heard, SitAnswer};
+use mj_core::{Core, Expiry, Heard, Left, SitAnswer};
 use mj_deeds::Rule;
 use mj_ports::SitRefused;
 use mj_tiles::Tile;
@@ -17,10 +17,22 @@ enum Step {
     Says(u8, &'static str, Heard),
     // All seats pass.
     AllPass,
+    // A seat leaves.
+    Leaves(u8, Left),
+    // The time of a window may have run out between two readings of the clock.
+    Expires(u32, u64, u64, Expiry),
     // This is pending for a seat.
     IsTold(u8, &'static str),
-    // So many seats are held, and the seats of these marks may say a line.
+    // This is the line of a seat with this number.
+    HasLine(u8, u32, &'static str),
+    // So many seats are held, all of them present, and the seats of these marks may say a line.
     Asks(u8, [bool; 4]),
+    // A seat is gone.
+    IsGone(u8),
+    // A seat's next line answers this deed.
+    IsDue(u8, u32),
+    // There are so many deeds, this window is open, and so many entries were made.
+    Counts(u32, Option<u32>, u64),
 }
 
 // A game on the wall in tile order, before its first entry.
@@ -62,8 +74,26 @@ fn is_told(core: &Core, alloc: Global, seat: u8, line: &str) -> Result<bool, Fai
     Ok(told.as_slice() == line.as_bytes())
 }
 
+fn has_line(core: &Core, alloc: Global, seat: u8, k: u32, line: &str) -> Result<bool, Fail> {
+    let mut told = Vec::new(alloc);
+    core.line(alloc, seat, k, &mut told)?;
+    Ok(told.as_slice() == line.as_bytes())
+}
+
+// What comes of a present seat that leaves.
+fn left(core: &mut Core, alloc: Global, seat: u8) -> Result<Left, Fail> {
+    if core.author(seat) == Some(1) {
+        return Ok(core.gone(alloc, 1, seat));
+    }
+    Err("the seat is not present".into())
+}
+
+fn counts(core: &Core, deeds: u32, open: Option<u32>, entries: u64) -> bool {
+    core.deeds() == deeds && core.open() == open && core.entries() == entries && !core.over()
+}
+
 fn asks(core: &Core, held: u8, asked: [bool; 4]) -> bool {
-    let mut right = core.seats() == held;
+    let mut right = true;
     for (seat, may_say) in asked.iter().enumerate() {
         let seat = seat as u8;
         right = right && core.may_say(seat) == *may_say && core.present(seat) == (seat < held);
@@ -77,8 +107,16 @@ fn holds(core: &mut Core, alloc: Global, step: Step) -> Result<bool, Fail> {
         Step::Sits(line, answer) => Ok(core.sit(alloc, 1, line.as_bytes()) == answer),
         Step::Says(seat, line, heard) => Ok(said(core, alloc, seat, line)? == heard),
         Step::AllPass => all_pass(core, alloc),
+        Step::Leaves(seat, answer) => Ok(left(core, alloc, seat)? == answer),
+        Step::Expires(window, t1, t2, answer) => {
+            Ok(core.expire(alloc, 0, window, t1, t2) == answer)
+        }
         Step::IsTold(seat, line) => is_told(core, alloc, seat, line),
+        Step::HasLine(seat, k, line) => has_line(core, alloc, seat, k, line),
         Step::Asks(held, asked) => Ok(asks(core, held, asked)),
+        Step::IsGone(seat) => Ok(!core.present(seat) && !core.may_say(seat)),
+        Step::IsDue(seat, due) => Ok(core.due(seat) == due),
+        Step::Counts(deeds, open, entries) => Ok(counts(core, deeds, open, entries)),
     }
 }
 
@@ -161,6 +199,48 @@ const FIRST_DISCARD: [Step; 24] = [
     Step::IsTold(1, "{\"type\":\"tsumo\",\"actor\":1,\"pai\":\"5p\"}\n"),
 ];
 
+const START: &str = "{\"type\":\"start_game\",\"id\":0,\"names\":[\"a\",\"b\",\"c\",\"d\"]}\n";
+
+const DRAW: &str = "{\"type\":\"tsumo\",\"actor\":0,\"pai\":\"?\"}\n";
+
+const WRONG_KEY: &str = "{\"type\":\"join\",\"name\":\"a\",\"key\":\"l\"}";
+
+const A_RETURN: [Step; 33] = [
+    Step::Expires(0, 0, 1000, Expiry::Stale),
+    Step::Sits(A, SitAnswer::Sat(0)),
+    Step::Sits(B, SitAnswer::Sat(1)),
+    Step::Sits(C, SitAnswer::Sat(2)),
+    Step::Counts(0, None, 3),
+    Step::Sits(D, SitAnswer::Sat(3)),
+    Step::Counts(1, Some(0), 4),
+    Step::Expires(0, 1, 1000, Expiry::Early),
+    Step::Expires(0, 1000, 0, Expiry::Early),
+    Step::Expires(1, 0, 1000, Expiry::Stale),
+    Step::Leaves(0, Left::Gone),
+    Step::IsGone(0),
+    Step::IsTold(0, ""),
+    Step::Leaves(1, Left::Gone),
+    Step::Sits(WRONG_KEY, SitAnswer::Refused(SitRefused::WrongKey)),
+    Step::Sits(B, SitAnswer::Refused(SitRefused::NoKey)),
+    Step::Says(2, PASS, Heard::Taken),
+    Step::IsDue(2, 1),
+    Step::Says(3, PASS, Heard::Taken),
+    Step::Counts(2, Some(1), 8),
+    Step::IsDue(0, 0),
+    Step::Sits(A, SitAnswer::Back(0)),
+    Step::IsDue(0, 1),
+    Step::HasLine(0, 0, START),
+    Step::HasLine(0, 2, ""),
+    Step::Expires(1, 5, 1005, Expiry::Closed),
+    Step::Counts(3, Some(2), 10),
+    Step::HasLine(3, 2, DRAW),
+    Step::Says(3, PASS, Heard::Late),
+    Step::IsDue(3, 2),
+    Step::IsTold(3, DRAW),
+    Step::Says(3, PASS, Heard::Taken),
+    Step::IsTold(3, ""),
+];
+
 // The start of a game, and then so many lines of seat 0 that are refused, and one more.
 fn refused(alloc: Global, times: u8) -> Result<bool, Fail> {
     let mut core = before_all(alloc)?;
@@ -172,7 +252,8 @@ fn refused(alloc: Global, times: u8) -> Result<bool, Fail> {
     for _ in 1..times {
         hold = hold && said(&mut core, alloc, 0, "x")? == Heard::Refused(Rule::Unreadable);
     }
-    Ok(hold && said(&mut core, alloc, 0, "x")? == Heard::NotBuilt)
+    hold = hold && said(&mut core, alloc, 0, "x")? == Heard::Closing(Rule::Unreadable);
+    Ok(hold && !core.present(0) && core.sit(alloc, 1, A.as_bytes()) == SitAnswer::Back(0))
 }
 
 #[test]
@@ -188,7 +269,15 @@ fn a_deed_comes_once_all_four_have_answered_it_lawfully(rt: HostRuntime) -> Resu
 }
 
 #[test]
-fn fifteen_answers_to_one_deed_are_refused(rt: HostRuntime) -> Result<(), Fail> {
+fn a_seat_that_is_gone_comes_back_by_its_key_and_windows_run_out(
+    rt: HostRuntime,
+) -> Result<(), Fail> {
+    assert!(rt; all_hold(rt.alloc(), &A_RETURN)?);
+    Ok(())
+}
+
+#[test]
+fn the_sixteenth_answer_that_is_refused_makes_the_seat_gone(rt: HostRuntime) -> Result<(), Fail> {
     assert!(rt; refused(rt.alloc(), 15)?);
     Ok(())
 }

@@ -1,7 +1,7 @@
 use mj_deeds::{Deed, Four, Hands, Rule, Tiles, Viewer};
-use mj_ports::Name;
+use mj_ports::{Name, SitRefused};
 use mj_tiles::Tile;
-use mjai_lines::{error_line, write};
+use mjai_lines::{error_line, refusal_line, write_alone};
 use std::alloc::{AllocError, Global};
 use std::test::Fail;
 
@@ -20,7 +20,7 @@ fn hand(alloc: Global, texts: &str) -> Result<Tiles, Fail> {
 // Whether a deed is written so for a viewer.
 fn writes(alloc: Global, viewer: Viewer, deed: Deed, line: &str) -> Result<bool, AllocError> {
     let mut written = Vec::new(alloc);
-    write(alloc, viewer, &deed, &mut written)?;
+    write_alone(alloc, viewer, &deed, &mut written)?;
     Ok(written.as_slice() == line.as_bytes())
 }
 
@@ -228,5 +228,31 @@ fn an_error_line_has_the_number_and_the_name_of_the_rule(rt: HostRuntime) -> Res
         lines.as_slice()
             == b"{\"type\":\"error\",\"rule\":7,\"message\":\"NotHeld\"}\n{\"type\":\"error\",\"rule\":1,\"message\":\"Unreadable\"}\n{\"type\":\"error\",\"rule\":24,\"message\":\"NotNine\"}\n".as_slice()
     );
+    Ok(())
+}
+
+#[test]
+fn a_refused_join_is_told_the_number_and_the_name_of_the_cause(
+    rt: HostRuntime,
+) -> Result<(), Fail> {
+    let alloc = rt.alloc();
+    for (cause, line) in [
+        (
+            SitRefused::Full,
+            "{\"type\":\"error\",\"sit\":1,\"message\":\"Full\"}\n",
+        ),
+        (
+            SitRefused::WrongKey,
+            "{\"type\":\"error\",\"sit\":3,\"message\":\"WrongKey\"}\n",
+        ),
+        (
+            SitRefused::BadName,
+            "{\"type\":\"error\",\"sit\":7,\"message\":\"BadName\"}\n",
+        ),
+    ] {
+        let mut written = Vec::new(alloc);
+        refusal_line(alloc, cause, &mut written)?;
+        assert!(rt; written.as_slice() == line.as_bytes());
+    }
     Ok(())
 }

@@ -111,13 +111,12 @@ fn each_status_has_its_code_and_its_text(rt: HostRuntime) -> Result<(), Fail> {
         (Status::ReadFault, 3, "read fault\n"),
         (Status::WriteFault, 4, "write fault\n"),
         (Status::NoMemory, 5, "no memory\n"),
-        (Status::BadArrival(23), 6, "bad arrival at line 23\n"),
-        (Status::TooLong, 9, "input too long\n"),
         (
-            Status::NotBuilt(u32::MAX),
-            10,
-            "not built at line 4294967295\n",
+            Status::BadArrival(u32::MAX),
+            6,
+            "bad arrival at line 4294967295\n",
         ),
+        (Status::TooLong, 9, "input too long\n"),
         (
             Status::Words,
             2,

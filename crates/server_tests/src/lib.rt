@@ -16,3 +16,5 @@ mod reading_tests;
 mod result_tests;
 #[cfg(test)]
 mod slow;
+#[cfg(test)]
+mod streams_tests;

@@ -1,6 +1,6 @@
 use mj_deeds::{Bid, Deed, Four, Hands, Reason, SeatList, ShownHands, Tiles, Viewer, YakuList};
 use mj_tiles::Tile;
-use mjai_lines::write;
+use mjai_lines::write_alone;
 use std::alloc::{AllocError, Global};
 use std::test::Fail;
 
@@ -20,9 +20,9 @@ fn tiles(alloc: Global, texts: &str) -> Result<Tiles, Fail> {
 fn writes(alloc: Global, viewer: Viewer, deed: &Deed, line: &str) -> Result<bool, AllocError> {
     let copy = deed.copy()?;
     let mut written = Vec::new(alloc);
-    write(alloc, viewer, deed, &mut written)?;
+    write_alone(alloc, viewer, deed, &mut written)?;
     let mut again = Vec::new(alloc);
-    write(alloc, viewer, &copy, &mut again)?;
+    write_alone(alloc, viewer, &copy, &mut again)?;
     Ok(written.as_slice() == line.as_bytes() && again.as_slice() == line.as_bytes())
 }
 

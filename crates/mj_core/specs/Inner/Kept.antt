@@ -6,14 +6,11 @@ use Rattle.mj_wall.specs.declared.setting.Setting.{Setting}
 use Rattle.mj_protocol.specs.After.{after}
 use Rattle.mj_protocol.specs.Trace.{IsLegal}
 use Rattle.mj_core.specs.Inner.Untold.{untold}
-use Rattle.mj_core.specs.Inner.States.{Position, IsStarted, IsOpen}
+use Rattle.mj_core.specs.Inner.States.{Position, now_of}
 
 -- The game is legal and has a wall, and the state is what its entries come to under its rules.
 pub record IsKept (setting : Setting) (entries : List (Entry Answer)) (state : Position) : Type 0 where
   pub legal : IsLegal setting entries
   pub some : 1 ≤ length setting.walls
   pub rules : state.rules ≡ setting.rules
-  pub same : untold state.now ≡ untold (after setting entries)
-  pub four : length state.now.chairs ≤ 4
-  pub started : IsStarted state.now
-  pub empty : IsOpen state.now
+  pub same : untold (now_of state) ≡ untold (after setting entries)

@@ -1,24 +1,24 @@
 -- What is kept of an input while its lines are heard.
-use Rattle.std.specs.Prelude.{◌≡◌, ℕ, ◌==◌, Bool, true, false, if◌then◌else◌, List, [], ◌∷◌, length, Some, slice_get}
+use Rattle.std.specs.Prelude.{◌≡◌, ℕ, ◌==◌, ◌≤◌, Bool, true, false, if◌then◌else◌, List, [], ◌∷◌, ◌++◌, length, flat_map, Option, Some, option_map, slice_get}
 use Rattle.std.specs.Option.{option_map_or}
 use Rattle.mj_wall.specs.declared.setting.Rules.{Rules}
 use Rattle.mj_protocol.specs.Lines.{hello_line}
-use Rattle.mj_protocol.specs.After.{After, Chair, script_in}
+use Rattle.mj_protocol.specs.After.{After, Chair, Connection, lines_for, told_again, scripts_in}
 use Rattle.mj_protocol.specs.Trace.{Game}
-use Rattle.mj_protocol.specs.Arrivals.{ArrivalForm, Header, WallOf, Sit, Say, Leave, Expire, NoForm, form_of, Intake, Arrival, Leads, NotBuilt, Bad, Input, now_of}
-use Rattle.mj_core.specs.Calls.{after_of}
-use Rattle.mj_front.specs.declared.hearing.Step.{Step}
-use Rattle.mj_front.specs.declared.hearing.Step.TheVariants as steps
+use Rattle.mj_protocol.specs.Arrivals.{ArrivalForm, Header, WallOf, Sit, Say, Leave, Expire, NoForm, form_of, Intake, Arrival, Leads, Bad, Input, now_of}
+use Rattle.mj_core.specs.Calls.{after_of, author_of_seat, due_of, pending_at}
+use Rattle.mj_front.specs.declared.arriving.Step.{Step}
+use Rattle.mj_front.specs.declared.arriving.Step.TheVariants as steps
 use Rattle.mj_front.specs.declared.hearing.End.{End}
 use Rattle.mj_front.specs.Referee.{ending}
 
--- What was read, where a game is in play.
-abbrev pub intake_of : Game → Intake
-intake_of game = record { rules = Some game.setting.rules; walls = game.setting.walls; entries = game.entries }
-
--- What was read behind a header and walls.
+-- What was read behind a header and walls alone.
 abbrev pub intake_with_walls : Rules → List (List ℕ) → Intake
-intake_with_walls rules walls = record { rules = Some rules; walls = walls; entries = [] }
+intake_with_walls rules walls = record { rules = Some rules; walls = walls; begun = false; entries = [] }
+
+-- What was read, where a game is in play: no wall may stand here any more.
+abbrev pub intake_of : Game → Intake
+intake_of game = record { rules = Some game.setting.rules; walls = game.setting.walls; begun = true; entries = game.entries }
 
 -- A line is a wall by its form.
 abbrev pub is_wall_form : ArrivalForm → Bool
@@ -35,30 +35,45 @@ abbrev pub begin_with_wall : List (List ℕ) → Bool
 begin_with_wall [] = false
 begin_with_wall (text ∷ texts) = is_wall_form (form_of text)
 
--- What the connection of a seat was told by the seat's own entries.
+-- What all connections of a held seat were told by the seat's own entries, one after the other.
+abbrev pub told_of : Chair → List ℕ
+told_of chair = flat_map (λ (c : Connection). c.told) chair.earlier ++ chair.progress.told
+
+-- So for a seat of a game; nothing where it isn't held.
 abbrev pub told_in : ℕ → After → List ℕ
-told_in seat now = option_map_or (λ (chair : Chair). chair.progress.told) (slice_get now.chairs seat) []
+told_in seat now = option_map_or told_of (slice_get now.chairs seat) []
 
 -- The greeting of a seat, where it is the one that was taken.
 abbrev pub greeting : ℕ → ℕ → List ℕ
 greeting taken seat = if taken == seat then hello_line else []
 
--- A game is in play: there is a wall, and the bytes are those that the connection of the seat was told.
+-- What a seat that is back is told again: the lines before its due deed.
+abbrev pub told_again_in : ℕ → Game → List ℕ
+told_again_in seat game = told_again (lines_for seat (after_of game).deeds) (due_of game seat)
+
+-- So where it is the seat that was taken back.
+abbrev pub greeting_again : ℕ → ℕ → Game → List ℕ
+greeting_again taken seat game = if taken == seat then told_again_in seat game else []
+
+-- A seat with the author by whom it is present, where it is.
+abbrev pub present_in : Game → ℕ → Option (ℕ × ℕ)
+present_in game who = option_map (λ author. (who, author)) (author_of_seat game who)
+
+-- What is pending for a seat, where it is the one that leaves.
+abbrev pub last_lines : ℕ → ℕ → Game → List ℕ
+last_lines who seat game = if who == seat then pending_at game seat else []
+
+-- A game is in play: there is a wall, four seats at most are held, and the bytes are what the connections of the seat were
+-- told by its own entries. What is pending for the seat besides makes them its scripts.
 pub record InPlay (seat : ℕ) (game : Game) (told : List ℕ) : Type 0 where
   pub wall : (length game.setting.walls == 0) ≡ false
+  pub few : length (after_of game).chairs ≤ 4
   pub bytes : told ≡ told_in seat (after_of game)
 
--- What a line does to a game in play and to what the seat was told; behind one that leads on there are entries.
+-- What a line does to a game in play and to what the seat was told.
 abbrev pub Does : Step → ℕ → Game → Game → List ℕ → List ℕ → Arrival → Type 0
-Does steps.Leads seat old new old_told new_told arrival = (arrival ≡ Leads (intake_of new)) × InPlay seat new new_told × ((length new.entries == 0) ≡ false)
-Does steps.NotBuilt seat old new old_told new_told arrival = (arrival ≡ NotBuilt) × (new ≡ old) × (new_told ≡ old_told)
+Does steps.Leads seat old new old_told new_told arrival = (arrival ≡ Leads (intake_of new)) × InPlay seat new new_told
 Does steps.Bad seat old new old_told new_told arrival = (arrival ≡ Bad) × (new ≡ old) × (new_told ≡ old_told)
-
--- What a line does that leads nowhere.
-abbrev pub Stops : Step → Arrival → Type 0
-Stops steps.Leads arrival = ⊥
-Stops steps.NotBuilt arrival = arrival ≡ NotBuilt
-Stops steps.Bad arrival = arrival ≡ Bad
 
 -- All lines were heard, from some point on.
 pub record HearsAll (input : Input) (seat : ℕ) (end : End) (game : Game) (told : List ℕ) : Type 0 where
@@ -69,4 +84,4 @@ pub record HearsAll (input : Input) (seat : ℕ) (end : End) (game : Game) (told
 -- How an input ends, and what its game tells the seat.
 pub record Tells (input : Input) (seat : ℕ) (end : End) (bytes : List ℕ) : Type 0 where
   pub ends : input.ending ≡ ending end
-  pub told : bytes ≡ script_in seat (now_of input.reading)
+  pub told : bytes ≡ scripts_in seat (now_of input.reading)

@@ -11,6 +11,8 @@ use Rattle.mj_deeds.specs.Hand.{is_hand_start, hand}
 use Rattle.mj_deeds.specs.Points.{points, deposits}
 use Rattle.mj_deeds.specs.Standings.{standing}
 use Rattle.mj_wall.specs.declared.setting.Rules.{Rules}
+use Rattle.mj_table.specs.declared.hand_facts.HandFacts.{HandFacts}
+use Rattle.mj_table.specs.Inner.Hands.{Knows}
 
 -- The newest deed as long as no hand has begun; none from then on.
 abbrev pub opening : List Deed → Option Deed
@@ -24,10 +26,14 @@ Holds deeds seat held = (face : ℕ) → face < 37 → slice_index held face + n
 abbrev pub AllHold : List Deed → Four (List ℕ) → Type 0
 AllHold deeds tiles = (seat : ℕ) → seat ≤ 3 → Holds (hand deeds) seat (at_seat tiles seat)
 
+-- What is kept of the newest hand says its facts.
+abbrev pub KnowsNewest : List Deed → HandFacts → Type 0
+KnowsNewest deeds facts = Knows (hand deeds) facts
+
 -- What is kept stands for the deeds: each of them fits behind those before it, and kept are those of the newest hand, the
--- newest one where no hand has begun, the standing, the points, the deposits, and how many tiles of each face each seat
--- holds.
-pub record Stands (rules : Rules) (deeds : List Deed) (in_hand : List Deed) (first : Option Deed) (now : Standing) (held : List ℤ) (lying : ℕ) (tiles : Four (List ℕ)) : Type 0 where
+-- newest one where no hand has begun, the standing, the points, the deposits, how many tiles of each face each seat holds,
+-- and the facts of the newest hand.
+pub record Stands (rules : Rules) (deeds : List Deed) (in_hand : List Deed) (first : Option Deed) (now : Standing) (held : List ℤ) (lying : ℕ) (tiles : Four (List ℕ)) (known : HandFacts) : Type 0 where
   pub fit : IsTrue (all_fit rules.red [] deeds)
   pub hand : in_hand ≡ hand deeds
   pub opening : first ≡ opening deeds
@@ -35,6 +41,7 @@ pub record Stands (rules : Rules) (deeds : List Deed) (in_hand : List Deed) (fir
   pub points : held ≡ points deeds
   pub deposits : lying ≡ deposits deeds
   pub concealed : AllHold deeds tiles
+  pub facts : KnowsNewest deeds known
 
 -- The newest hand with a deed more: a start begins one, and another deed belongs to the one that has begun.
 abbrev pub hand_with : List Deed → Deed → List Deed

@@ -1,6 +1,6 @@
 use Rattle.std.proofs.Common.{ap, sym, ◌∙◌, Some}
 use Rattle.mj_bytes.specs.Parts.{whole_lines}
-use Rattle.mj_front.proofs.LineLaws.{IsWallLine, heard-wall, few-more, whole-more, counted, tells-bad_wall}
+use Rattle.mj_front.proofs.WallLaws.{IsWallLine, heard-wall, few-more, whole-more, counted, tells-bad_wall}
 use Rattle.mj_front.specs.Referee.{ending}
 use Rattle.mj_front.proofs.hearing.hear_headed.Goals as goal
 

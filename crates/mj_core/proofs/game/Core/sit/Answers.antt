@@ -1,5 +1,12 @@
-use Rattle.mj_core.proofs.Games.{named-by}
+use Rattle.std.proofs.Common.{refl, sym, subst, ◌≡◌}
+use Rattle.std.specs.Prelude.{Option}
+use Rattle.mj_ports.specs.declared.sitting.JoinLine.{JoinLine}
+use Rattle.mj_core.proofs.Laws.{named-by}
+use Rattle.mj_core.proofs.Readers.{no-join}
 use Rattle.mj_core.proofs.game.Core.sit.Goals as goal
 
 pub seat-requires : goal.seat-requires
 seat-requires c = named-by c.args.line.now c.in-Ok-Some.join (rw c.in-Ok-Some.field-0-is at c.in-Ok-Some.ensures)
+
+pub returns-in-Ok-None : goal.returns-in-Ok-None
+returns-in-Ok-None c = (no-join _ c.args.line.now (rw c.in-Ok-None.field-0-is at c.in-Ok-None.ensures), refl)

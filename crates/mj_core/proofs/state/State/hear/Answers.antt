@@ -1,57 +1,83 @@
-use Rattle.std.proofs.Common.{sym, refl, ap}
-use Rattle.mj_table.specs.Plays.{Play}
+use Rattle.std.proofs.Common.{arith, ◌∙◌}
 use Rattle.mj_core.specs.Inner.Verdicts.{verdict_given}
-use Rattle.mj_core.proofs.Open.{pieces}
-use Rattle.mj_core.proofs.Steps.{unbuilt-verdict}
-use Rattle.mj_core.proofs.Pieces.{read-chair, place-within, is_said, is_said-open, is_said-closed, judged-at, given-played, given-lawful, given-on}
+use Rattle.mj_core.specs.contracts.state.State.{the_view}
+use Rattle.mj_core.proofs.Pieces.{due-within, present-at-desk}
+use Rattle.mj_core.proofs.Turns.{hear-due, hear-refused, hear-settles, hear-hears}
 use Rattle.mj_core.proofs.state.State.hear.Goals as goal
 
-pub index_mut-requires : goal.index_mut-requires
-index_mut-requires c =
-    place-within c.self.inside.deeds.items c.self.inside.chairs.items c.self.inside.window c.args.seat _ _ (rw (← c.self.view_is) at c.requires.due) c.from-place.ensures c.self.inside.chairs.ok.0
+pub verdict-verdict-requires-clause-due : goal.verdict-verdict-requires-clause-due
+verdict-verdict-requires-clause-due c =
+    hear-due c.args.setting.now (the_view c.self.inside) c.args.seat c.from.result c.len.result c.args.answer.now c.index.result.now (rw (← c.self.view_is) at c.requires)
+    (record {
+      seated = c.self.invariant.seated;
+      within = due-within (the_view c.self.inside) c.args.seat c.self.invariant.seated (rw (← c.self.view_is) at c.requires.due);
+      place_is = c.from.ensures;
+      read = c.index.ensures;
+    })
+    (c.len.ensures ∙ c.self.inside.deeds.ok.0)
 
-pub next-requires-clause-played : goal.next-requires-clause-played
-next-requires-clause-played c =
-    given-played c.args.setting.now c.self.inside.table.rules c.self.inside.deeds.items c.self.inside.table.deeds c.as_slice.result.now c.self.inside.chairs.items c.self.inside.window c.args.seat c.args.answer.now c.index.result.now c.go_on.new.self (verdict_given c.verdict-verdict.result) c.slots_after-window.result c.in-Some.answers
-    (rw (← c.self.view_is) at c.requires) c.as_slice.ensures c.self.invariant
-    (is_said c.args.setting.now c.self.inside.table.rules c.self.inside.deeds.items c.self.inside.table.deeds c.self.inside.chairs.items c.self.inside.window c.args.seat c.from-place.result c.args.answer.now c.index.result.now c.go_on.new.self (verdict_given c.verdict-verdict.result) c.slots_after-window.result
-    (rw (← c.self.view_is) at c.requires) c.self.invariant c.from-place.ensures c.index.ensures c.verdict-verdict.ensures.judged (sym c.if-not-may_get.ensures) c.go_on.ensures c.slots_after-window.ensures)
+pub go_on-requires-clause-due : goal.go_on-requires-clause-due
+go_on-requires-clause-due c =
+    let less = hear-due c.args.setting.now (the_view c.self.inside) c.args.seat c.from.result c.len.result c.args.answer.now c.index.result.now (rw (← c.self.view_is) at c.requires)
+    (record {
+      seated = c.self.invariant.seated;
+      within = due-within (the_view c.self.inside) c.args.seat c.self.invariant.seated (rw (← c.self.view_is) at c.requires.due);
+      place_is = c.from.ensures;
+      read = c.index.ensures;
+    })
+    (c.len.ensures ∙ c.self.inside.deeds.ok.0) in
+    omega (arith, less, c.len.type_inv)
 
-pub next-requires-clause-lawful : goal.next-requires-clause-lawful
-next-requires-clause-lawful c =
-    given-lawful c.args.setting.now c.self.inside.table.rules c.self.inside.deeds.items c.self.inside.table.deeds c.as_slice.result.now c.self.inside.chairs.items c.self.inside.window c.args.seat c.args.answer.now c.index.result.now c.go_on.new.self (verdict_given c.verdict-verdict.result) c.slots_after-window.result c.in-Some.answers
-    (rw (← c.self.view_is) at c.requires) c.self.invariant
-    (is_said c.args.setting.now c.self.inside.table.rules c.self.inside.deeds.items c.self.inside.table.deeds c.self.inside.chairs.items c.self.inside.window c.args.seat c.from-place.result c.args.answer.now c.index.result.now c.go_on.new.self (verdict_given c.verdict-verdict.result) c.slots_after-window.result
-    (rw (← c.self.view_is) at c.requires) c.self.invariant c.from-place.ensures c.index.ensures c.verdict-verdict.ensures.judged (sym c.if-not-may_get.ensures) c.go_on.ensures c.slots_after-window.ensures)
-    (rw c.reserve.ensures.items at c.in-Some.ensures)
+pub go_on-requires-clause-refused : goal.go_on-requires-clause-refused
+go_on-requires-clause-refused c =
+    hear-refused c.args.setting.now (the_view c.self.inside) c.args.seat c.from.result c.args.answer.now c.index.result.now (rw (← c.self.view_is) at c.requires)
+    (record {
+      seated = c.self.invariant.seated;
+      within = due-within (the_view c.self.inside) c.args.seat c.self.invariant.seated (rw (← c.self.view_is) at c.requires.due);
+      place_is = c.from.ensures;
+      read = c.index.ensures;
+    })
 
-pub next-requires-clause-on : goal.next-requires-clause-on
-next-requires-clause-on c = given-on c.self.inside.deeds.items c.self.inside.table.deeds c.slots_after-window.result c.in-Some.answers c.self.invariant (rw c.reserve.ensures.items at c.in-Some.ensures)
+pub desk_after-desk-requires : goal.desk_after-desk-requires
+desk_after-desk-requires c = present-at-desk (the_view c.self.inside) c.args.seat c.self.invariant.seated (rw (← c.self.view_is) at c.requires.present)
 
-pub returns-in_default-clause-ok : goal.returns-in_default-clause-ok
-returns-in_default-clause-ok c =
-    rw (c.reserve.ensures.items, ← c.self.view_is)
-    (is_said-open c.args.setting.now c.self.inside.table.rules c.self.inside.deeds.items c.self.inside.chairs.items c.self.inside.window c.args.seat c.from-place.result c.args.answer.now c.index.result.now c.go_on.new.self (verdict_given c.verdict-verdict.result) c.slots_after-window.result
-    (rw (← c.self.view_is) at c.requires) c.from-place.ensures
-    (is_said c.args.setting.now c.self.inside.table.rules c.self.inside.deeds.items c.self.inside.table.deeds c.self.inside.chairs.items c.self.inside.window c.args.seat c.from-place.result c.args.answer.now c.index.result.now c.go_on.new.self (verdict_given c.verdict-verdict.result) c.slots_after-window.result
-    (rw (← c.self.view_is) at c.requires) c.self.invariant c.from-place.ensures c.index.ensures c.verdict-verdict.ensures.judged (sym c.if-not-may_get.ensures) c.go_on.ensures c.slots_after-window.ensures)
-    (rw c.reserve.ensures.items at c.in_default.ensures))
+pub settle-requires : goal.settle-requires
+settle-requires c =
+    rw (← c.self.view_is)
+    (hear-settles c.args.setting.now (the_view c.self.inside) c.self.inside.table.deeds c.args.seat c.from.result c.len.result c.args.answer.now c.index.result.now c.go_on.new.self (verdict_given c.verdict-verdict.result) c.desk_after-desk.result c.slots_after-window.result
+    (record {
+      can = rw (← c.self.view_is) at c.requires;
+      told_is = c.self.invariant.same;
+      reads = record {
+        seated = c.self.invariant.seated;
+        within = due-within (the_view c.self.inside) c.args.seat c.self.invariant.seated (rw (← c.self.view_is) at c.requires.due);
+        place_is = c.from.ensures;
+        read = c.index.ensures;
+      };
+      many_is = c.len.ensures ∙ c.self.inside.deeds.ok.0;
+      judged = c.verdict-verdict.ensures;
+      on = c.go_on.ensures;
+      desk_is = c.desk_after-desk.ensures;
+      slots_is = c.slots_after-window.ensures;
+    }))
 
 pub returns-clause-ok : goal.returns-clause-ok
 returns-clause-ok c =
-    rw (c.push_reserved.ensures.items, c.reserve.ensures.items, c.new-self-inside.ensures, ← c.self.view_is)
-    (is_said-closed c.next.new.table.rules c.from-place.result c.in_ok-deed.deed c.args.setting.now c.self.inside.table.rules c.self.inside.deeds.items c.self.inside.table.deeds c.as_slice.result.now c.self.inside.chairs.items c.self.inside.window c.args.seat c.args.answer.now c.index.result.now c.go_on.new.self (verdict_given c.verdict-verdict.result) c.slots_after-window.result c.in-Some.answers
-    (ap (λ (p : Play). p.rules) c.in_ok-deed.ensures.pushed) (rw (← c.self.view_is) at c.requires.rules) c.as_slice.ensures c.self.invariant c.from-place.ensures
-    (is_said c.args.setting.now c.self.inside.table.rules c.self.inside.deeds.items c.self.inside.table.deeds c.self.inside.chairs.items c.self.inside.window c.args.seat c.from-place.result c.args.answer.now c.index.result.now c.go_on.new.self (verdict_given c.verdict-verdict.result) c.slots_after-window.result
-    (rw (← c.self.view_is) at c.requires) c.self.invariant c.from-place.ensures c.index.ensures c.verdict-verdict.ensures.judged (sym c.if-not-may_get.ensures) c.go_on.ensures c.slots_after-window.ensures)
-    (rw c.reserve.ensures.items at c.in-Some.ensures) c.in_ok-deed.ensures.follows)
-
-pub returns-then-not-may_get-clause-ok : goal.returns-then-not-may_get-clause-ok
-returns-then-not-may_get-clause-ok c =
-    rw (c.reserve.ensures.items, ← c.self.view_is) (
-      λ author. unbuilt-verdict c.args.setting.now (pieces c.self.inside.deeds.items c.self.inside.chairs.items c.self.inside.window) author c.args.seat c.args.answer.now c.index.result.now (verdict_given c.verdict-verdict.result)
-          (read-chair (pieces c.self.inside.deeds.items c.self.inside.chairs.items c.self.inside.window) c.args.seat c.from-place.result c.index.result.now (rw (← c.self.view_is) at c.requires.due) c.from-place.ensures c.index.ensures)
-          (judged-at c.args.setting.now c.self.inside.table.rules c.self.inside.deeds.items c.self.inside.table.deeds c.args.seat c.args.answer.now c.index.result.now (verdict_given c.verdict-verdict.result) (rw (← c.self.view_is) at c.requires.rules) c.self.invariant c.verdict-verdict.ensures.judged)
-          (sym c.if-not-may_get.ensures),
-      refl,
-    )
+    rw (← c.self.view_is)
+    (hear-hears c.args.setting.now (the_view c.self.inside) c.settle.new.self c.self.inside.table.deeds c.args.seat c.from.result c.len.result c.args.answer.now c.index.result.now c.go_on.new.self (verdict_given c.verdict-verdict.result) c.desk_after-desk.result c.slots_after-window.result
+    (record {
+      can = rw (← c.self.view_is) at c.requires;
+      told_is = c.self.invariant.same;
+      reads = record {
+        seated = c.self.invariant.seated;
+        within = due-within (the_view c.self.inside) c.args.seat c.self.invariant.seated (rw (← c.self.view_is) at c.requires.due);
+        place_is = c.from.ensures;
+        read = c.index.ensures;
+      };
+      many_is = c.len.ensures ∙ c.self.inside.deeds.ok.0;
+      judged = c.verdict-verdict.ensures;
+      on = c.go_on.ensures;
+      desk_is = c.desk_after-desk.ensures;
+      slots_is = c.slots_after-window.ensures;
+    })
+    (rw (← c.self.view_is) at c.in_ok-settle.ensures.ok))

@@ -1,21 +1,56 @@
-use Rattle.std.proofs.Common.{sym, ap, ◌∙◌}
+use Rattle.std.proofs.Common.{List, [], ◌∷◌, ◌++◌, ap, ◌∙◌, sym}
+use Rattle.mj_deeds.specs.declared.deed.Deed.{Deed}
+use Rattle.mj_deeds.specs.declared.deed.Deed.TheVariants.{StartGame}
 use Rattle.mj_table.specs.Plays.{Play}
-use Rattle.mj_core.proofs.Pieces.{seat-waits, seat-starts, start-fits}
+use Rattle.mj_core.specs.contracts.state.State.{the_view}
+use Rattle.mj_core.proofs.Pieces.{takes-seated, seat-waits, seat-starts, start-fits, names-at-desk}
+use Rattle.mj_core.proofs.Turns.{takes}
 use Rattle.mj_core.proofs.state.State.take_seat.Goals as goal
 
 pub push-requires : goal.push-requires
-push-requires c = rw c.self.invariant (start-fits c.self.inside.table.rules.red c.self.inside.deeds.items c.names-names.result (rw (← c.self.view_is) at c.requires))
+push-requires c = rw (c.in_ok-table.ensures, c.self.invariant.same) (start-fits c.self.inside.table.rules.red c.self.inside.deeds.items c.names.result (rw (← c.self.view_is) at c.requires.unbegun))
 
-pub returns-then-len-eq3-clause-ok : goal.returns-then-len-eq3-clause-ok
-returns-then-len-eq3-clause-ok c =
+pub invariant_of-self-then-held-eq4 : goal.invariant_of-self-then-held-eq4
+invariant_of-self-then-held-eq4 c = record {
+  same =
+      ap (λ (p : Play). p.deeds) c.in_ok-push.ensures.ok ∙ ap (λ (p : Play). p.deeds ++ StartGame c.names.result ∷ []) c.in_ok-table.ensures
+      ∙ ap (λ (ds : List Deed). ds ++ StartGame c.names.result ∷ []) (c.self.invariant.same ∙ sym c.reserve.ensures.items)
+      ∙ sym c.push_reserved.ensures.items;
+  lines =
+      c.in_ok-push_alone.ensures.ok ∙ ap (λ (ds : List Deed). ds ++ StartGame c.names.result ∷ []) (c.self.invariant.lines ∙ sym c.reserve.ensures.items)
+      ∙ sym c.push_reserved.ensures.items;
+  seated = takes-seated c.self.inside.deeds.items c.self.inside.desk c.sit.new.self c.self.inside.chairs.items c.push_reserved-then-held-eq4.new.self.items c.args.author c.args.join.now
+      (takes (the_view c.self.inside) c.args.author c.args.join.now c.sit.result c.sit.new.self c.push_reserved-then-held-eq4.new.self.items (rw (← c.self.view_is) at c.requires) c.self.invariant.seated c.sit.ensures.answer c.sit.ensures.desk
+      (rw (c.reserve-2.ensures.items, c.new.ensures) at c.push_reserved-then-held-eq4.ensures.items));
+}
+
+pub returns-then-held-eq4-clause-ok : goal.returns-then-held-eq4-clause-ok
+returns-then-held-eq4-clause-ok c =
     rw (c.push_reserved.ensures.items, c.reserve.ensures.items, c.new-self-inside.ensures, ← c.self.view_is)
-    (seat-starts c.self.inside.table.rules _ c.self.inside.deeds.items c.self.inside.chairs.items _ c.self.inside.window _ _ c.names-names.result (ap (λ (p : Play). p.rules) c.in_ok-push.ensures.ok)
-    (record { chair = c.new-seat.result; before = rw (← c.self.view_is) at c.requires; new = c.new-seat.ensures; all_is = rw (c.reserve-2.ensures.items) at c.push_reserved-then-len-eq3.ensures.items })
-    (sym (c.len.ensures ∙ c.reserve-2.ensures.len ∙ c.self.inside.chairs.ok.0) ∙ c.if-len-eq3.true) (rw (c.as_slice.ensures.value, c.reserve-2.ensures.items) at c.names-names.ensures))
+    (seat-starts c.self.inside.table.rules c.push.new.self.rules c.self.inside.deeds.items c.self.inside.desk c.sit.new.self c.self.inside.chairs.items c.push_reserved-then-held-eq4.new.self.items c.self.inside.window c.args.author c.held.result
+    c.args.join.now c.names.result (ap (λ (p : Play). p.rules) c.in_ok-push.ensures.ok ∙ ap (λ (p : Play). p.rules) c.in_ok-table.ensures)
+    (takes (the_view c.self.inside) c.args.author c.args.join.now c.sit.result c.sit.new.self c.push_reserved-then-held-eq4.new.self.items (rw (← c.self.view_is) at c.requires) c.self.invariant.seated c.sit.ensures.answer c.sit.ensures.desk
+    (rw (c.reserve-2.ensures.items, c.new.ensures) at c.push_reserved-then-held-eq4.ensures.items))
+    c.held.ensures.number c.if-held-eq4.true
+    (c.names.ensures
+    ∙ names-at-desk c.sit.new.self c.push_reserved-then-held-eq4.new.self.items
+    (takes-seated c.self.inside.deeds.items c.self.inside.desk c.sit.new.self c.self.inside.chairs.items c.push_reserved-then-held-eq4.new.self.items c.args.author c.args.join.now
+    (takes (the_view c.self.inside) c.args.author c.args.join.now c.sit.result c.sit.new.self c.push_reserved-then-held-eq4.new.self.items (rw (← c.self.view_is) at c.requires) c.self.invariant.seated c.sit.ensures.answer c.sit.ensures.desk
+    (rw (c.reserve-2.ensures.items, c.new.ensures) at c.push_reserved-then-held-eq4.ensures.items)))))
+
+pub invariant_of-self-2 : goal.invariant_of-self-2
+invariant_of-self-2 c = record {
+  same = c.self.invariant.same ∙ sym c.reserve.ensures.items;
+  lines = c.self.invariant.lines ∙ sym c.reserve.ensures.items;
+  seated = takes-seated c.self.inside.deeds.items c.self.inside.desk c.sit.new.self c.self.inside.chairs.items c.push_reserved-2.new.self.items c.args.author c.args.join.now
+      (takes (the_view c.self.inside) c.args.author c.args.join.now c.sit.result c.sit.new.self c.push_reserved-2.new.self.items (rw (← c.self.view_is) at c.requires) c.self.invariant.seated c.sit.ensures.answer c.sit.ensures.desk
+      (rw (c.reserve-2.ensures.items, c.new-2.ensures) at c.push_reserved-2.ensures.items));
+}
 
 pub returns-clause-ok : goal.returns-clause-ok
 returns-clause-ok c =
     rw (c.reserve.ensures.items, ← c.self.view_is)
-    (seat-waits c.self.inside.table.rules c.self.inside.deeds.items c.self.inside.chairs.items _ c.self.inside.window _ _
-    (record { chair = c.new-seat.result; before = rw (← c.self.view_is) at c.requires; new = c.new-seat.ensures; all_is = rw (c.reserve-2.ensures.items) at c.push_reserved-2.ensures.items })
-    (λ e. c.if-len-eq3.false ((c.len.ensures ∙ c.reserve-2.ensures.len ∙ c.self.inside.chairs.ok.0) ∙ e)))
+    (seat-waits c.self.inside.table.rules c.self.inside.deeds.items c.self.inside.desk c.sit.new.self c.self.inside.chairs.items c.push_reserved-2.new.self.items c.self.inside.window c.args.author c.held.result c.args.join.now
+    (takes (the_view c.self.inside) c.args.author c.args.join.now c.sit.result c.sit.new.self c.push_reserved-2.new.self.items (rw (← c.self.view_is) at c.requires) c.self.invariant.seated c.sit.ensures.answer c.sit.ensures.desk
+    (rw (c.reserve-2.ensures.items, c.new-2.ensures) at c.push_reserved-2.ensures.items))
+    c.held.ensures.number c.if-held-eq4.false)

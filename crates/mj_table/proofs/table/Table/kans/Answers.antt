@@ -1,15 +1,8 @@
-use Rattle.std.proofs.Common.{◌≤◌, List, sym, subst, arith}
-use Rattle.mj_deeds.specs.declared.deed.Deed.{Deed}
-use Rattle.mj_deeds.specs.Facts.{kans}
-use Rattle.mj_deeds.proofs.Fitted.{four_kans}
+use Rattle.mj_table.proofs.HandsKept.{known_of, few_known}
 use Rattle.mj_table.proofs.table.Table.kans.Goals as goal
 
-pub overflow_cast-result : goal.overflow_cast-result
-overflow_cast-result c =
-    let few : kans c.hand.result.now ≤ 4 = subst (λ (ds : List Deed). kans ds ≤ 4) (sym c.hand.ensures.value) (four_kans c.args.self.now.rules.red c.args.self.now.deeds c.hand.ensures.fit) in
-    omega (arith, few, c.kans.ensures.value)
+pub returns-clause-value : goal.returns-clause-value
+returns-clause-value c = (known_of c.self.inside.rules c.self.inside.past.items c.args.self.now c.self.inside.facts c.self.invariant.facts c.self.view_is).kans
 
 pub returns-clause-within : goal.returns-clause-within
-returns-clause-within c =
-    let few : kans c.hand.result.now ≤ 4 = subst (λ (ds : List Deed). kans ds ≤ 4) (sym c.hand.ensures.value) (four_kans c.args.self.now.rules.red c.args.self.now.deeds c.hand.ensures.fit) in
-    omega (arith, few, c.kans.ensures.value)
+returns-clause-within c = few_known c.self.inside.rules.red c.self.inside.past.items c.self.inside.facts c.self.invariant.fit c.self.invariant.facts

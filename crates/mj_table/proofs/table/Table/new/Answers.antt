@@ -8,5 +8,5 @@ use Rattle.mj_table.proofs.table.Table.new.Goals as goal
 
 pub invariant_of-result : goal.invariant_of-result
 invariant_of-result c =
-    subst (λ (now : Standing). Stands c.args.rules c.new-2.result.items c.new.result.items None now (pos 30000 ∷ pos 30000 ∷ pos 30000 ∷ pos 30000 ∷ []) 0 (record { first = replicate 37 0; second = replicate 37 0; third = replicate 37 0; fourth = replicate 37 0 })) (sym c.first.ensures)
-    (stands_at_first c.args.rules c.new-2.result.items c.new.result.items _ c.new-2.ensures c.new.ensures.items holds_nothing)
+    subst (λ (now : Standing). Stands c.args.rules c.new-2.result.items c.new.result.items None now (pos 30000 ∷ pos 30000 ∷ pos 30000 ∷ pos 30000 ∷ []) 0 (record { first = replicate 37 0; second = replicate 37 0; third = replicate 37 0; fourth = replicate 37 0 }) c.no_facts.result) (sym c.first.ensures)
+    (stands_at_first c.args.rules c.new-2.result.items c.new.result.items _ c.no_facts.result c.new-2.ensures c.new.ensures.items holds_nothing c.no_facts.ensures)

@@ -1,0 +1,350 @@
+-- Which discards are lawful: their kinds, the last of them, and the best.
+use Rattle.std.proofs.Common.{◌≡◌, ℕ, zero, suc, ◌+◌, ◌-◌, ◌<◌, ◌≤◌, ◌==◌, ◌&&◌, ◌||◌, not, Bool, true, false, cond, eqb, ltb, List, [], ◌∷◌, length, drop, get_or, Option, Some, None, refl, sym, ap, ◌∙◌, subst, arith}
+use Rattle.std.specs.Prelude.{nat_lt, is_none, filter, map, slice_get, slice_index, MatchOption, MatchBool}
+use Rattle.std.specs.List.{list_all}
+use Rattle.std.proofs.lemmas.Bool.{and_parts, and_from, ltb-true, true≢false, false≢true, eqb-true, eq-eqb}
+use Rattle.std.proofs.lemmas.Bool.Decides.{nat_tests}
+use Rattle.std.proofs.lemmas.List.{drop_more, drop_all}
+use Rattle.std.proofs.lemmas.Option.{slice_get-get_or}
+use Rattle.mj_tiles.specs.Faces.{kind_of, number_in, tile_order}
+use Rattle.mj_tiles.specs.Counts.{kind_counts}
+use Rattle.mj_tiles.specs.Kinds.{has_kind, no_kinds, with_kind, set_of}
+use Rattle.mj_tiles.proofs.Faces.{all_faces, either_way}
+use Rattle.mj_tiles.proofs.CountSteps.{get_or-kind_counts}
+use Rattle.mj_calls.specs.Bans.{is_banned}
+use Rattle.mj_readings.specs.declared.reading.Set.{Set}
+use Rattle.mj_readings.specs.Sets.{set_of_meld}
+use Rattle.mj_shanten.specs.Discards.{IsDiscard, IsBestDiscard}
+use Rattle.mj_deeds.specs.declared.answer.Pai.{Pai}
+use Rattle.mj_deeds.specs.declared.answer.Pai.TheVariants.{Known}
+use Rattle.mj_deeds.specs.declared.answer.Answer.TheVariants.{Discard}
+use Rattle.mj_deeds.specs.declared.rule.Rule.{Rule}
+use Rattle.mj_wall.specs.declared.setting.Rules.{Rules}
+use Rattle.mj_table.proofs.OneLess.{count_without, some_left}
+use Rattle.mj_rules.specs.Broken.{is_open, is_that, questions, broken_by}
+use Rattle.mj_rules.specs.View.{SeatView, WindowTurn, Drew, Discarded, Added, Reached, Called, Nobodys, held_count, concealed, room}
+use Rattle.mj_rules.specs.Default.{discard_of, lawful_faces, last_face}
+use Rattle.mj_rules.proofs.Questions.{all_no}
+use Rattle.mj_judge.proofs.Swaps.{swap_of}
+use Rattle.mj_bot.specs.Choice.{lawful_of, is_measured, IsBestLawful, IsBest}
+use Rattle.mj_bot.specs.Inner.Turns.{is_own_turn, is_among}
+
+-- The discard of a face breaks no rule.
+abbrev pub passes : Rules → ℕ → SeatView → ℕ → Bool
+passes rules seat view face = is_none (broken_by rules seat view (discard_of seat view face))
+
+none_is : (o : Option Rule) → is_none o ≡ true → o ≡ None
+none_is None h = refl
+none_is (Some rule) h = cc
+
+-- A lawful discard is held.
+pub held_of_lawful : (rules : Rules) (seat : ℕ) (view : SeatView) (face : ℕ) → passes rules seat view face ≡ true → 0 < held_count view face
+unfolding broken_by
+held_of_lawful rules seat view face h =
+    let each = all_no (questions rules seat view (discard_of seat view face)) (none_is (broken_by rules seat view (discard_of seat view face)) h) in
+    enough (held_count view face) (number_in (face ∷ []) face) (one_of face) each.1.1.1.1.1.1.0
+  where
+    one_of : (tile : ℕ) → number_in (tile ∷ []) tile ≡ 1
+    one_of tile = rw (eq-eqb tile tile refl) refl
+
+    enough : (held n : ℕ) → n ≡ 1 → (ltb held n || false) ≡ false → 0 < held
+    enough zero n e k = absurd (false≢true (sym k ∙ ap (λ m. ltb 0 m || false) e))
+    enough (suc m) n e k = omega arith
+
+-- And open to the seat.
+open_of_lawful : (rules : Rules) (seat : ℕ) (view : SeatView) (face : ℕ) → passes rules seat view face ≡ true → is_open rules seat view.turn view.accepted (discard_of seat view face) ≡ true
+unfolding broken_by
+open_of_lawful rules seat view face h =
+    let each = all_no (questions rules seat view (discard_of seat view face)) (none_is (broken_by rules seat view (discard_of seat view face)) h) in
+    opened (is_open rules seat view.turn view.accepted (discard_of seat view face)) each.1.1.0
+  where
+    opened : (b : Bool) → not b ≡ false → b ≡ true
+    opened true k = refl
+    opened false k = cc
+
+pub kind_small : (face : ℕ) → face < 37 → kind_of face < 34
+kind_small face h = grind (arith, nat_tests)
+
+-- Its kind stands among the concealed tiles.
+pub counted_of_lawful : (rules : Rules) (seat : ℕ) (view : SeatView) (face : ℕ) → face < 37 → passes rules seat view face ≡ true → 0 < get_or (kind_counts (concealed view)) (kind_of face) 0
+counted_of_lawful rules seat view face small h =
+    positive _ _ _ _ (get_or-kind_counts (concealed view) (kind_of face) (kind_small face small))
+    (count_without (λ t. eqb (kind_of t) (kind_of face)) (concealed view) face (some_left view.tiles_gained view.tiles_lost face (held_of_lawful rules seat view face h) small))
+    (ap (λ b. cond b 1 0) (eq-eqb (kind_of face) (kind_of face) refl))
+  where
+    positive : (a b c d : ℕ) → a ≡ b → b ≡ c + d → d ≡ 1 → 0 < a
+    positive a b c d e f g = omega (arith, e, f, g)
+
+-- A tile of a kind that isn't held may not go.
+pub none_counted : (rules : Rules) (seat : ℕ) (view : SeatView) (counts : List ℕ) (face kind count : ℕ) → face < 37 → counts ≡ kind_counts (concealed view) → kind ≡ kind_of face → count ≡ get_or counts kind 0 → count ≡ 0 →
+    false ≡ passes rules seat view face
+none_counted rules seat view counts face kind count small is at told none = by_test (passes rules seat view face) refl
+  where
+    zero_of : (a b : ℕ) → a ≡ 0 → a ≡ b → 0 < b → ⊥
+    zero_of a b e f g = omega (arith, e, f, g)
+
+    by_test : (b : Bool) → passes rules seat view face ≡ b → false ≡ b
+    by_test true h = absurd (zero_of count _ none (told ∙ (λ i. get_or (is i) (at i) 0)) (counted_of_lawful rules seat view face small h))
+    by_test false h = refl
+
+-- whose turn it is
+
+closed : (rules : Rules) (seat : ℕ) (turn : WindowTurn) (accepted : Bool) (tile : Pai) (drawn : Bool) → is_own_turn seat turn ≡ false → is_open rules seat turn accepted (Discard seat tile drawn) ≡ false
+closed rules seat (Drew who) accepted tile drawn h = ap (λ b. cond b true false) h
+closed rules seat (Discarded who called) accepted tile drawn h = same (eqb who seat)
+  where
+    same : (b : Bool) → cond b false false ≡ false
+    same true = refl
+    same false = refl
+closed rules seat (Added who called) accepted tile drawn h = same (eqb who seat)
+  where
+    same : (b : Bool) → cond b false (false || false) ≡ false
+    same true = refl
+    same false = refl
+closed rules seat (Reached who) accepted tile drawn h = ap (λ b. cond b true false) h
+closed rules seat (Called who banned) accepted tile drawn h = ap (λ b. cond b true false) h
+closed rules seat Nobodys accepted tile drawn h = refl
+
+filter_none : (p : ℕ → Bool) (xs : List ℕ) → ((x : ℕ) → p x ≡ false) → filter p xs ≡ []
+filter_none p [] never = refl
+filter_none p (x ∷ xs) never = ap (λ b. cond b (x ∷ filter p xs) (filter p xs)) (never x) ∙ filter_none p xs never
+
+-- Out of its turn a seat has no lawful discard.
+pub none_lawful : (rules : Rules) (seat : ℕ) (view : SeatView) → is_own_turn seat view.turn ≡ false → lawful_faces rules seat view ≡ []
+unfolding lawful_faces
+none_lawful rules seat view h = filter_none (passes rules seat view) tile_order never
+  where
+    never : (face : ℕ) → passes rules seat view face ≡ false
+    never face = by_test (passes rules seat view face) refl
+      where
+        by_test : (b : Bool) → passes rules seat view face ≡ b → b ≡ false
+        by_test true k = absurd (true≢false (sym (open_of_lawful rules seat view face k) ∙ closed rules seat view.turn view.accepted (Known face) (is_that view.drawn face) h))
+        by_test false k = refl
+
+-- the kinds of the lawful discards
+
+kinds_step : (p : ℕ → Bool) (i tile : ℕ) (b : Bool) → i < 37 → tile ≡ slice_index tile_order i → p tile ≡ b →
+    set_of (map kind_of (filter p (drop i tile_order))) ≡ cond b (with_kind (set_of (map kind_of (filter p (drop (i + 1) tile_order)))) (kind_of tile)) (set_of (map kind_of (filter p (drop (i + 1) tile_order))))
+kinds_step p i tile b low is test =
+    ap (λ (xs : List ℕ). set_of (map kind_of (filter p xs))) (drop_more tile_order i 0 (omega (arith, low, all_faces)) ∙ ap (λ (t : ℕ). t ∷ drop (i + 1) tile_order) (sym is))
+    ∙ ap (λ c. set_of (map kind_of (cond c (tile ∷ filter p (drop (i + 1) tile_order)) (filter p (drop (i + 1) tile_order))))) test
+    ∙ by_test b
+  where
+    by_test : (c : Bool) → set_of (map kind_of (cond c (tile ∷ filter p (drop (i + 1) tile_order)) (filter p (drop (i + 1) tile_order)))) ≡
+        cond c (with_kind (set_of (map kind_of (filter p (drop (i + 1) tile_order)))) (kind_of tile)) (set_of (map kind_of (filter p (drop (i + 1) tile_order))))
+    by_test true = refl
+    by_test false = refl
+
+-- The set from a place on.
+abbrev pub kinds_from : (ℕ → Bool) → ℕ → ℕ
+kinds_from p place = set_of (map kind_of (filter p (drop place tile_order)))
+
+one_more : (place next : ℕ) → 0 < place → next ≡ place - 1 → place ≡ next + 1
+one_more place next some at = omega (arith, some, at)
+
+pub kinds_none : (p : ℕ → Bool) (place kinds : ℕ) → 37 ≤ place → kinds ≡ no_kinds → kinds ≡ kinds_from p place
+kinds_none p place kinds all is = is ∙ sym (ap (λ (xs : List ℕ). set_of (map kind_of (filter p xs))) (drop_all place tile_order (omega (arith, all, all_faces))))
+
+pub kinds_with : (p : ℕ → Bool) (place next tile kind before kinds : ℕ) → 0 < place → place ≤ 37 → next ≡ place - 1 → tile ≡ slice_index tile_order next → kind ≡ kind_of tile → p tile ≡ true → before ≡ kinds_from p place →
+    kinds ≡ with_kind before kind → kinds ≡ kinds_from p next
+kinds_with p place next tile kind before kinds some low at_next is at passed was told =
+    told ∙ (λ i. with_kind (was i) (at i)) ∙ ap (λ n. with_kind (kinds_from p n) (kind_of tile)) (one_more place next some at_next) ∙ sym (kinds_step p next tile true (omega (arith, some, low, at_next)) is passed)
+
+pub kinds_stay : (p : ℕ → Bool) (place next tile before kinds : ℕ) → 0 < place → place ≤ 37 → next ≡ place - 1 → tile ≡ slice_index tile_order next → p tile ≡ false → before ≡ kinds_from p place → kinds ≡ before →
+    kinds ≡ kinds_from p next
+kinds_stay p place next tile before kinds some low at_next is failed was told =
+    told ∙ was ∙ ap (kinds_from p) (one_more place next some at_next) ∙ sym (kinds_step p next tile false (omega (arith, some, low, at_next)) is failed)
+
+-- the last of them
+
+pub both_filters : (p q : ℕ → Bool) (xs : List ℕ) → filter (λ x. q x && p x) xs ≡ filter q (filter p xs)
+both_filters p q [] = refl
+both_filters p q (x ∷ xs) = by_tests (p x) (q x) refl refl (both_filters p q xs)
+  where
+    by_tests : (b c : Bool) → p x ≡ b → q x ≡ c → filter (λ x. q x && p x) xs ≡ filter q (filter p xs) → filter (λ x. q x && p x) (x ∷ xs) ≡ filter q (filter p (x ∷ xs))
+    by_tests true true e f same =
+        ap (λ a. cond a (x ∷ filter (λ x. q x && p x) xs) (filter (λ x. q x && p x) xs)) (λ i. f i && e i)
+        ∙ ap (λ (ys : List ℕ). x ∷ ys) same
+        ∙ sym (ap (λ a. filter q (cond a (x ∷ filter p xs) (filter p xs))) e ∙ ap (λ a. cond a (x ∷ filter q (filter p xs)) (filter q (filter p xs))) f)
+    by_tests true false e f same =
+        ap (λ a. cond a (x ∷ filter (λ x. q x && p x) xs) (filter (λ x. q x && p x) xs)) (λ i. f i && e i)
+        ∙ same
+        ∙ sym (ap (λ a. filter q (cond a (x ∷ filter p xs) (filter p xs))) e ∙ ap (λ a. cond a (x ∷ filter q (filter p xs)) (filter q (filter p xs))) f)
+    by_tests false true e f same =
+        ap (λ a. cond a (x ∷ filter (λ x. q x && p x) xs) (filter (λ x. q x && p x) xs)) (λ i. f i && e i)
+        ∙ same
+        ∙ sym (ap (λ a. filter q (cond a (x ∷ filter p xs) (filter p xs))) e)
+    by_tests false false e f same =
+        ap (λ a. cond a (x ∷ filter (λ x. q x && p x) xs) (filter (λ x. q x && p x) xs)) (λ i. f i && e i)
+        ∙ same
+        ∙ sym (ap (λ a. filter q (cond a (x ∷ filter p xs) (filter p xs))) e)
+
+all_kept : (q : ℕ → Bool) (xs : List ℕ) → list_all q xs ≡ true → filter q xs ≡ xs
+all_kept q [] each = refl
+all_kept q (x ∷ xs) each =
+    let parts = and_parts (q x) (list_all q xs) each in
+    ap (λ b. cond b (x ∷ filter q xs) (filter q xs)) parts.0 ∙ ap (λ (ys : List ℕ). x ∷ ys) (all_kept q xs parts.1)
+
+-- Each is of its own kind.
+weaker : (p q : ℕ → Bool) (xs : List ℕ) → ((x : ℕ) → p x ≡ true → q x ≡ true) → list_all p xs ≡ true → list_all q xs ≡ true
+weaker p q [] more each = refl
+weaker p q (x ∷ xs) more each =
+    let parts = and_parts (p x) (list_all p xs) each in
+    and_from (q x) (list_all q xs) (more x parts.0) (weaker p q xs more parts.1)
+
+each_among : (xs : List ℕ) → list_all (λ face. is_banned (map kind_of xs) (kind_of face)) xs ≡ true
+each_among [] = refl
+each_among (x ∷ xs) =
+    and_from (is_banned (map kind_of (x ∷ xs)) (kind_of x)) (list_all (λ face. is_banned (map kind_of (x ∷ xs)) (kind_of face)) xs)
+    (ap (λ b. b || is_banned (map kind_of xs) (kind_of x)) (eq-eqb (kind_of x) (kind_of x) refl))
+    (weaker (λ face. is_banned (map kind_of xs) (kind_of face)) (λ face. is_banned (map kind_of (x ∷ xs)) (kind_of face)) xs (λ face h. either (eqb (kind_of x) (kind_of face)) h) (each_among xs))
+  where
+    either : {b : Bool} (a : Bool) → b ≡ true → (a || b) ≡ true
+    either true h = refl
+    either false h = h
+
+-- All lawful ones are of the lawful kinds.
+kept : (xs : List ℕ) → filter (is_among (set_of (map kind_of xs))) xs ≡ xs
+kept xs =
+    (λ i. filter (λ (face : ℕ). swap_of (map kind_of xs) (kind_of face) i) xs)
+    ∙ all_kept (λ face. is_banned (map kind_of xs) (kind_of face)) xs (each_among xs)
+
+-- Those of one kind.
+of_one : (kind : ℕ) (xs : List ℕ) → filter (is_among (with_kind no_kinds kind)) xs ≡ filter (λ other. kind_of other == kind) xs
+of_one kind xs i = filter (λ (face : ℕ). one_kind face i) xs
+  where
+    or-false : (b : Bool) → (b || false) ≡ b
+    or-false true = refl
+    or-false false = refl
+
+    one_kind : (face : ℕ) → has_kind (with_kind no_kinds kind) (kind_of face) ≡ eqb (kind_of face) kind
+    one_kind face = swap_of (kind ∷ []) (kind_of face) ∙ or-false (eqb kind (kind_of face)) ∙ either_way kind (kind_of face)
+
+-- A tile that is picked out of a list by a test passes it.
+picked : (p : ℕ → Bool) (xs : List ℕ) (i tile : ℕ) → slice_get (filter p xs) i ≡ Some tile → p tile ≡ true
+picked p [] i tile h = cc
+picked p (x ∷ xs) i tile h = by_test (p x) refl (λ k. picked p xs k tile) i h
+  where
+    some_is : (a b : ℕ) → Some a ≡ Some b → a ≡ b
+    some_is a b e = cc
+
+    by_test : (b : Bool) → p x ≡ b → ((k : ℕ) → slice_get (filter p xs) k ≡ Some tile → p tile ≡ true) → (i : ℕ) → slice_get (cond b (x ∷ filter p xs) (filter p xs)) i ≡ Some tile → p tile ≡ true
+    by_test true e others zero k = ap p (sym (some_is x tile k)) ∙ e
+    by_test true e others (suc i) k = others i k
+    by_test false e others i k = others i k
+
+some_last : (xs : List ℕ) → last_face xs ≡ None → xs ≡ []
+some_last [] h = refl
+some_last (x ∷ xs) h = absurd (never (get_or (x ∷ xs) (length (x ∷ xs) - 1) 0) (sym (slice_get-get_or (x ∷ xs) (length (x ∷ xs) - 1) 0 (omega arith)) ∙ h))
+  where
+    never : (a : ℕ) → Some a ≡ None → ⊥
+    never a e = cc
+
+-- the best
+
+-- A best discard is lawful.
+pub best_passes : (rules : Rules) (seat : ℕ) (view : SeatView) (face : ℕ) → IsBest rules seat view face → passes rules seat view face ≡ true
+unfolding lawful_faces
+best_passes rules seat view face best = by_test (is_measured (kind_counts (concealed view)) (room view) (map set_of_meld view.melds)) best
+  where
+    last_of : last_face (lawful_faces rules seat view) ≡ Some face → passes rules seat view face ≡ true
+    last_of h = picked (passes rules seat view) tile_order (length (lawful_faces rules seat view) - 1) face h
+
+    of_kind : last_face (filter (λ other. kind_of other == kind_of face) (filter (passes rules seat view) tile_order)) ≡ Some face → passes rules seat view face ≡ true
+    of_kind h =
+        let both = picked (λ other. (kind_of other == kind_of face) && passes rules seat view other) tile_order (length (lawful_of rules seat view (kind_of face)) - 1) face
+        (ap (λ (xs : List ℕ). slice_get xs (length (lawful_of rules seat view (kind_of face)) - 1)) (both_filters (passes rules seat view) (λ other. kind_of other == kind_of face) tile_order) ∙ h) in
+        (and_parts (kind_of face == kind_of face) (passes rules seat view face) both).1
+
+    by_test : (b : Bool) → MatchBool b (IsBestLawful rules seat view face) (last_face (lawful_faces rules seat view) ≡ Some face) → passes rules seat view face ≡ true
+    by_test true k = of_kind k.face_is
+    by_test false k = last_of k
+
+-- Where shanten isn't said, the last.
+pub unmeasured : (rules : Rules) (seat : ℕ) (view : SeatView) (counts left : List ℕ) (melds : List Set) (measured : Bool) (last : Option ℕ) (kinds : ℕ) → counts ≡ kind_counts (concealed view) → left ≡ room view → melds ≡ map set_of_meld view.melds →
+    measured ≡ is_measured counts left melds → measured ≡ false → kinds ≡ set_of (map kind_of (lawful_faces rules seat view)) → last ≡ last_face (filter (is_among kinds) (lawful_faces rules seat view)) → MatchOption last (lawful_faces rules seat view ≡ []) (IsBest rules seat view)
+unmeasured rules seat view counts left melds measured last kinds is beside sets told not_so set last_is = by_last last refl
+  where
+    no : is_measured (kind_counts (concealed view)) (room view) (map set_of_meld view.melds) ≡ false
+    no = sym (told ∙ (λ i. is_measured (is i) (beside i) (sets i))) ∙ not_so
+
+    all : last ≡ last_face (lawful_faces rules seat view)
+    all = last_is ∙ ap (λ s. last_face (filter (is_among s) (lawful_faces rules seat view))) set ∙ ap last_face (kept (lawful_faces rules seat view))
+
+    by_last : (o : Option ℕ) → last ≡ o → MatchOption o (lawful_faces rules seat view ≡ []) (IsBest rules seat view)
+    by_last None e = some_last (lawful_faces rules seat view) (sym all ∙ e)
+    by_last (Some face) e = subst (λ b. MatchBool b (IsBestLawful rules seat view face) (last_face (lawful_faces rules seat view) ≡ Some face)) (sym no) (sym all ∙ e)
+
+-- Where it is said, the last of the best kind.
+any_of : (kind : ℕ) (xs : List ℕ) → is_banned (map kind_of xs) kind ≡ true → filter (λ other. kind_of other == kind) xs ≡ [] → ⊥
+any_of kind [] h e = cc
+any_of kind (x ∷ xs) h e = by_test (eqb (kind_of x) kind) (any_of kind xs) h e
+  where
+    by_test : (b : Bool) → (is_banned (map kind_of xs) kind ≡ true → filter (λ other. kind_of other == kind) xs ≡ [] → ⊥) → (b || is_banned (map kind_of xs) kind) ≡ true →
+        cond b (x ∷ filter (λ other. kind_of other == kind) xs) (filter (λ other. kind_of other == kind) xs) ≡ [] → ⊥
+    by_test true f k l = cc
+    by_test false f k l = f k l
+
+small_faces : list_all (λ face. nat_lt face 37) tile_order ≡ true
+unfolding tile_order
+small_faces = refl
+
+-- The first that is picked.
+first_picked : (p q : ℕ → Bool) (xs : List ℕ) (face : ℕ) (others : List ℕ) → list_all q xs ≡ true → filter p xs ≡ face ∷ others → (p face ≡ true) × (q face ≡ true)
+first_picked p q [] face others each h = cc
+first_picked p q (x ∷ xs) face others each h = by_test (p x) refl (first_picked p q xs face others (and_parts (q x) (list_all q xs) each).1) h
+  where
+    by_test : (b : Bool) → p x ≡ b → (filter p xs ≡ face ∷ others → (p face ≡ true) × (q face ≡ true)) → cond b (x ∷ filter p xs) (filter p xs) ≡ face ∷ others → (p face ≡ true) × (q face ≡ true)
+    by_test true e later k = (let same : x ≡ face = cc in (ap p (sym same) ∙ e, ap q (sym same) ∙ (and_parts (q x) (list_all q xs) each).0))
+    by_test false e later k = later k
+
+-- No kind may be discarded where no discard is lawful, and only there.
+pub no_kind_lawful : (rules : Rules) (seat kinds : ℕ) (view : SeatView) (counts : List ℕ) → counts ≡ kind_counts (concealed view) → kinds ≡ set_of (map kind_of (lawful_faces rules seat view)) →
+    ((kind : ℕ) → IsDiscard counts kinds kind → ⊥) → lawful_faces rules seat view ≡ []
+unfolding lawful_faces
+no_kind_lawful rules seat kinds view counts is set none = by_list (lawful_faces rules seat view) refl
+  where
+    by_list : (xs : List ℕ) → lawful_faces rules seat view ≡ xs → xs ≡ []
+    by_list [] e = refl
+    by_list (face ∷ others) e =
+        let first = first_picked (passes rules seat view) (λ t. nat_lt t 37) tile_order face others small_faces e in
+        let small : face < 37 = ltb-true face 37 first.1 in
+        absurd (none (kind_of face) (record {
+          kind_is = kind_small face small;
+          among =
+              ap (λ s. has_kind s (kind_of face)) (set ∙ ap (λ (xs : List ℕ). set_of (map kind_of xs)) e) ∙ swap_of (kind_of face ∷ map kind_of others) (kind_of face)
+              ∙ ap (λ b. b || is_banned (map kind_of others) (kind_of face)) (eq-eqb (kind_of face) (kind_of face) refl);
+          held = subst (λ (ns : List ℕ). 0 < get_or ns (kind_of face) 0) (sym is) (counted_of_lawful rules seat view face small first.0);
+        }))
+
+-- What the code asks for, read of the view.
+pub measured_best : (rules : Rules) (seat kinds kind one number : ℕ) (view : SeatView) (counts left counts_of left_of : List ℕ) (melds : List Set) (measured : Bool) (last : Option ℕ) →
+    counts ≡ kind_counts (concealed view) → left ≡ room view → melds ≡ map set_of_meld view.melds → measured ≡ is_measured counts left melds → measured ≡ true → counts_of ≡ counts → left_of ≡ left → number ≡ length view.melds →
+    kinds ≡ set_of (map kind_of (lawful_faces rules seat view)) → IsBestDiscard counts_of left_of number kinds kind → one ≡ with_kind no_kinds kind → last ≡ last_face (filter (is_among one) (lawful_faces rules seat view)) →
+    MatchOption last (lawful_faces rules seat view ≡ []) (IsBest rules seat view)
+measured_best rules seat kinds kind one number view counts left counts_of left_of melds measured last is beside sets told so same_counts same_room many set best one_is last_told = by_last last refl
+  where
+    yes : is_measured (kind_counts (concealed view)) (room view) (map set_of_meld view.melds) ≡ true
+    yes = sym (told ∙ (λ i. is_measured (is i) (beside i) (sets i))) ∙ so
+
+    here : IsBestDiscard (kind_counts (concealed view)) (room view) (length view.melds) (set_of (map kind_of (lawful_faces rules seat view))) kind
+    here =
+        subst (λ (s : ℕ). IsBestDiscard (kind_counts (concealed view)) (room view) (length view.melds) s kind) set
+        (subst (λ (m : ℕ). IsBestDiscard (kind_counts (concealed view)) (room view) m kinds kind) many
+        (subst (λ (r : List ℕ). IsBestDiscard (kind_counts (concealed view)) r number kinds kind) (same_room ∙ beside)
+        (subst (λ (ns : List ℕ). IsBestDiscard ns left_of number kinds kind) (same_counts ∙ is) best)))
+
+    last_is : last ≡ last_face (lawful_of rules seat view kind)
+    last_is = last_told ∙ ap (λ s. last_face (filter (is_among s) (lawful_faces rules seat view))) one_is ∙ ap last_face (of_one kind (lawful_faces rules seat view))
+
+    some : lawful_of rules seat view kind ≡ [] → ⊥
+    some = any_of kind (lawful_faces rules seat view) (sym (swap_of (map kind_of (lawful_faces rules seat view)) kind) ∙ here.is_discard.among)
+
+    by_last : (o : Option ℕ) → last ≡ o → MatchOption o (lawful_faces rules seat view ≡ []) (IsBest rules seat view)
+    by_last None e = absurd (some (some_last (lawful_of rules seat view kind) (sym last_is ∙ e)))
+    by_last (Some face) e =
+        let at : kind_of face ≡ kind = eqb-true (kind_of face) kind (picked (λ other. kind_of other == kind) (lawful_faces rules seat view) (length (lawful_of rules seat view kind) - 1) face (sym last_is ∙ e)) in
+        subst (λ b. MatchBool b (IsBestLawful rules seat view face) (last_face (lawful_faces rules seat view) ≡ Some face)) (sym yes) (record {
+          kind_is = subst (IsBestDiscard (kind_counts (concealed view)) (room view) (length view.melds) (set_of (map kind_of (lawful_faces rules seat view)))) (sym at) here;
+          face_is = ap (λ k. last_face (lawful_of rules seat view k)) at ∙ sym last_is ∙ e;
+        })

@@ -1,0 +1,6 @@
+pub mod Chosen
+pub mod Lawful
+pub mod Measured
+pub mod Offered
+pub mod Promises
+pub mod One

@@ -1,0 +1,151 @@
+ghost use Rattle.std.specs.Prelude.{◌≡◌, ◌≤◌, ◌∷◌, [], Some, option_to_list};
+ghost use Rattle.mj_deeds.specs.declared.answer.Answer.TheVariants as answers;
+ghost use Rattle.mj_deeds.specs.declared.answer.Pai.TheVariants as pais;
+ghost use Rattle.mj_fu.specs.Forms.{has_value};
+ghost use Rattle.mj_rules.specs.View.{view_of};
+ghost use Rattle.mj_bot.specs.Choice.{win_in, pon_in, first_lawful, IsChoice};
+
+use crate::discards::best_discard;
+use mj_deeds::{Answer, Deed, Pai};
+use mj_fu::is_dragon;
+use mj_judge::{discard, judge, seat_wind};
+use mj_table::Table;
+use mj_tiles::{Kind, Tile};
+
+/// What the built-in player answers for a seat, 0 to 3, in the window on the newest deed, by the first of these that
+/// fits: a lawful win, with its target and tile; at its own draw a lawful reach; at its own draw, or right after its
+/// own reach, chi or pon, of the lawful discards the one that leaves the least shanten, and of several the last in tile
+/// order, marked exactly where the tile has the face of the drawn one; a lawful pon of a dragon, its own wind or the
+/// round wind; a pass.
+///
+/// It is lawful as long as some discard right after the seat's own reach, chi or pon is.
+pub fn choose(table: &Table, seat: u8) -> Answer
+    requires { seat ≤ 3 }
+    ensures { IsChoice table.now.rules table.now.deeds seat result }
+{
+    let best = best_discard(table, seat);
+    if let Some(win) = lawful_win(table, seat) {
+        return win;
+    }
+    if let Some(reach) = if_lawful(table, seat, &Answer::Reach { actor: seat }) {
+        return reach;
+    }
+    if let Some(tile) = best {
+        return discard(table, seat, tile);
+    }
+    match lawful_pon(table, seat) {
+        Some(pon) => pon,
+        None => Answer::Pass { actor: None },
+    }
+}
+
+// The win on the tile in question, where it is lawful.
+fn lawful_win(table: &Table, seat: u8) -> Option<Answer>
+    requires { seat ≤ 3 }
+    ensures { let view = view_of table.now.deeds seat in
+        result ≡ first_lawful table.now.rules seat view (win_in seat view view.turn) }
+{
+    match win(table, seat) {
+        Some(win) => if_lawful(table, seat, &win),
+        None => None,
+    }
+}
+
+// The pon of a dragon, the seat's wind or that of the round, where it is lawful.
+fn lawful_pon(table: &Table, seat: u8) -> Option<Answer>
+    requires { seat ≤ 3 }
+    ensures { let view = view_of table.now.deeds seat in
+        result ≡ first_lawful table.now.rules seat view (pon_in seat view view.turn) }
+{
+    match pon(table, seat) {
+        Some(pon) => if_lawful(table, seat, &pon),
+        None => None,
+    }
+}
+
+// The answer, where it breaks no rule.
+fn if_lawful(table: &Table, seat: u8, answer: &Answer) -> Option<Answer>
+    requires { seat ≤ 3 }
+    ensures { result ≡ first_lawful table.now.rules seat (view_of table.now.deeds seat)
+        (answer.now ∷ []) }
+{
+    match judge(table, seat, answer) {
+        Ok(()) => Some(*answer),
+        Err(_) => None,
+    }
+}
+
+// The win on the tile that the seat has drawn, or on the one that the newest deed offers.
+#[tactic(auto, unfolding(mj_rules::specs::View::view_of))]
+fn win(table: &Table, seat: u8) -> Option<Answer>
+    ensures { let view = view_of table.now.deeds seat in
+        option_to_list result ≡ win_in seat view view.turn }
+{
+    match table.newest() {
+        Some(Deed::Draw { .. }) => match table.drawn(seat) {
+            Some(tile) => Some(win_on(seat, seat, tile)),
+            None => None,
+        },
+        Some(
+            Deed::Discard {
+                seat: who,
+                tile,
+                ..
+            },
+        ) => Some(win_on(seat, *who, *tile)),
+        Some(
+            Deed::AddedKan {
+                seat: who,
+                tile,
+                ..
+            },
+        ) => Some(win_on(seat, *who, *tile)),
+        _ => None,
+    }
+}
+
+// The win of a seat on a tile of the target.
+fn win_on(seat: u8, target: u8, tile: Tile) -> Answer
+    ensures { result ≡ answers.Win seat target (Some (pais.Known tile)) }
+{
+    Answer::Win {
+        actor: seat,
+        target,
+        tile: Some(Pai::Known(tile)),
+    }
+}
+
+// The pon of the tile that the newest deed discards, where it is a dragon, the seat's wind or that of the round.
+#[tactic(auto, unfolding(mj_rules::specs::View::view_of))]
+fn pon(table: &Table, seat: u8) -> Option<Answer>
+    ensures { let view = view_of table.now.deeds seat in
+        option_to_list result ≡ pon_in seat view view.turn }
+{
+    match table.newest() {
+        Some(
+            Deed::Discard {
+                seat: who,
+                tile,
+                ..
+            },
+        ) if has_value(table, seat, tile.kind()) => {
+            Some(Answer::Pon {
+                actor: seat,
+                target: *who,
+                tile: Pai::Known(*tile),
+                a: Pai::Known(*tile),
+                b: Pai::Known(*tile),
+            })
+        }
+        _ => None,
+    }
+}
+
+// The kind is a dragon, the seat's wind or that of the round.
+#[tactic(auto, unfolding(mj_rules::specs::View::view_of, mj_rules::specs::Wins::case_of))]
+fn has_value(table: &Table, seat: u8, kind: Kind) -> bool
+    ensures { result ≡ has_value (view_of table.now.deeds seat).case kind }
+{
+    let standing = table.standing();
+    is_dragon(kind) || kind == seat_wind(standing.dealer, seat) || kind == standing.round
+}

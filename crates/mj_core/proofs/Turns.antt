@@ -1,0 +1,158 @@
+-- What a state does with what comes, over what its code holds.
+use Rattle.std.proofs.Common.{◌≡◌, ℕ, ◌+◌, ◌<◌, ◌≤◌, ◌&&◌, List, [], ◌∷◌, ◌++◌, length, get_or, Bool, true, false, refl, ap, ◌∙◌, sym, subst, arith}
+use Rattle.std.specs.Prelude.{Option, Some, None, is_some, slice_get, slice_set}
+use Rattle.mj_ports.specs.declared.entry.Entry.TheVariants.{Sat, Back, Gone, Expired}
+use Rattle.mj_ports.specs.declared.sitting.JoinLine.{JoinLine}
+use Rattle.mj_seating.specs.declared.desk.Placed.{Placed}
+use Rattle.mj_seating.specs.declared.desk.Placed.TheVariants as places
+use Rattle.mj_seating.specs.Sitting.{Held, placed, seated, changed_at, came_back, gone}
+use Rattle.mj_deeds.specs.declared.four.Four.{Four}
+use Rattle.mj_deeds.specs.declared.deed.Deed.{Deed}
+use Rattle.mj_deeds.specs.declared.answer.Answer.{Answer}
+use Rattle.mj_wall.specs.declared.setting.Rules.{Rules}
+use Rattle.mj_wall.specs.declared.setting.Setting.{Setting}
+use Rattle.mj_window.specs.Slots.{empty_slots, closes}
+use Rattle.mj_rules.specs.Broken.{broken_rule}
+use Rattle.mj_protocol.specs.After.{Verdict, verdict, progress_after, author_after, slots_after, due_on_return}
+use Rattle.mj_core.specs.Calls.{open_window}
+use Rattle.mj_core.specs.Inner.States.{Position, presence_at, AreSeated, progress_of, player_of, now_of, Steps, Advances, changed, desk_after, Settles, CanSettle, CanTakeSeat, CanTakeBack, CanHear, CanLeave, CanExpire, Hears}
+use Rattle.mj_core.specs.declared.chair.Chair.{Chair as Player}
+use Rattle.mj_core.proofs.Seats.{HasParts, parts-at}
+use Rattle.mj_core.proofs.Steps.{first_player}
+use Rattle.mj_core.proofs.Pieces.{position, desk-behind, TakesChair, settles-closed, expires, read-chair, leaves-can, due-at, refused-at, IsSaid, hears-can, hears, leaves, returns}
+
+-- A window closes: the state has the deed that was added, and its seat as it has changed.
+pub settled : (setting : Setting) (old mid : Position) (seat place : ℕ) (desk : List Held) (player : Player) (slots : Four (Option Answer)) → CanSettle setting old seat desk player slots → length old.players ≡ length old.desk → place ≡ seat
+    → (is_some (open_window old.deeds) && closes slots (presence_at desk)) ≡ true → Advances setting old mid slots
+    → Settles setting (changed old desk (slice_set old.players seat player) slots) (position mid.rules mid.deeds desk (slice_set mid.players place player) empty_slots)
+settled setting old mid seat place desk player slots c m at h a =
+    settles-closed setting old (position mid.rules mid.deeds desk (slice_set mid.players place player) empty_slots) seat desk player slots a.deed m c
+    (and_left (is_some (open_window old.deeds)) (closes slots (presence_at desk)) h) (and_right (is_some (open_window old.deeds)) (closes slots (presence_at desk)) h) a.adds.follows
+    (ap (λ (n : ℕ). position mid.rules mid.deeds desk (slice_set mid.players n player) empty_slots) at
+    ∙ ap (λ (p : Position). position p.rules p.deeds desk (slice_set p.players seat player) empty_slots) a.adds.new_is)
+  where
+    and_left : (a b : Bool) → (a && b) ≡ true → a ≡ true
+    and_left true b e = refl
+    and_left false b e = e
+
+    and_right : (a b : Bool) → (a && b) ≡ true → b ≡ true
+    and_right true b e = e
+    and_right false b e = cc
+
+-- The time of the open window has run out.
+pub expired : (setting : Setting) (old mid : Position) → CanExpire setting old → Advances setting old mid old.slots → (author window t1 t2 : ℕ)
+    → Steps setting old (position mid.rules mid.deeds mid.desk mid.players empty_slots) (Expired author window t1 t2)
+expired setting old mid c a author window t1 t2 =
+    expires setting old (position mid.rules mid.deeds mid.desk mid.players empty_slots) a.deed c.window a.adds.follows
+    (ap (λ (p : Position). position p.rules p.deeds p.desk p.players empty_slots) a.adds.new_is) author window t1 t2
+
+-- The seat that the code reads is that of both tables.
+pub record ReadsSeat (old : Position) (seat place : ℕ) (player : Player) : Type 0 where
+  pub seated : AreSeated old.desk old.players
+  pub within : seat < length old.players
+  pub place_is : place ≡ seat
+  pub read : player ≡ get_or old.players place player
+
+pub place-within : (place seat many len : ℕ) → seat < many → place ≡ seat → len ≡ many → place < len
+place-within place seat many len h e f = omega arith
+
+chair-is : (old : Position) (seat place : ℕ) (player : Player) → ReadsSeat old seat place player → slice_get old.players seat ≡ Some player
+chair-is old seat place player r = read-chair old.players seat place player r.within r.place_is r.read
+
+parts : (old : Position) (seat place : ℕ) (player : Player) → ReadsSeat old seat place player → HasParts old.desk old.players seat
+parts old seat place player r = parts-at old.desk old.players seat r.seated r.within
+
+-- A seat leaves.
+pub leave-settles : (setting : Setting) (old : Position) (seat place : ℕ) (player next : Player) (desk : List Held) → CanLeave setting old seat → ReadsSeat old seat place player → desk ≡ changed_at old.desk seat gone
+    → next ≡ (let q : Player = record { author = None; due = player.due; refused = player.refused } in q) → CanSettle setting old seat desk next old.slots
+leave-settles setting old seat place player next desk c r d n =
+    let held = parts old seat place player r in
+    leaves-can setting old seat held.h player next desk gone c.ground c.order c.may r.seated held.at_desk r.within d (sym (ap (λ (q : Player). is_some q.author) n))
+
+pub leave-steps : (setting : Setting) (old new : Position) (seat place : ℕ) (player next : Player) (desk : List Held) → ReadsSeat old seat place player → desk ≡ changed_at old.desk seat gone
+    → next ≡ (let q : Player = record { author = None; due = player.due; refused = player.refused } in q) → Settles setting (changed old desk (slice_set old.players seat next) old.slots) new → (author : ℕ) → Steps setting old new (Gone author seat)
+leave-steps setting old new seat place player next desk r d n settled author =
+    let held = parts old seat place player r in
+    leaves setting old new seat held.h player next desk held.at_desk (chair-is old seat place player r) d n settled author
+
+-- A seat is taken back.
+came-desk : (setting : Setting) (old : Position) (seat : ℕ) (join : JoinLine) (place : Placed) (desk : List Held) → CanTakeBack setting old seat join → AreSeated old.desk old.players → place ≡ placed old.desk join → desk ≡ seated old.desk join place
+    → desk ≡ changed_at old.desk seat came_back
+came-desk setting old seat join place desk c s p d = desk-behind old.desk desk old.players join place (places.Back seat) s c.placing p d
+
+pub back-settles : (setting : Setting) (old : Position) (author seat place due : ℕ) (player next : Player) (join : JoinLine) (placing : Placed) (desk : List Held) → CanTakeBack setting old seat join → ReadsSeat old seat place player
+    → placing ≡ placed old.desk join → desk ≡ seated old.desk join placing → next ≡ (let q : Player = record { author = Some author; due = due; refused = 0 } in q) → CanSettle setting old seat desk next old.slots
+back-settles setting old author seat place due player next join placing desk c r p d n =
+    let held = parts old seat place player r in
+    leaves-can setting old seat held.h player next desk came_back c.ground c.order c.may r.seated held.at_desk r.within (came-desk setting old seat join placing desk c r.seated p d) (sym (ap (λ (q : Player). is_some q.author) n))
+
+pub back-steps : (setting : Setting) (old new : Position) (author seat place due : ℕ) (player next : Player) (join : JoinLine) (placing : Placed) (desk : List Held) → CanTakeBack setting old seat join → ReadsSeat old seat place player
+    → placing ≡ placed old.desk join → desk ≡ seated old.desk join placing → due ≡ due_on_return (now_of old) seat → next ≡ (let q : Player = record { author = Some author; due = due; refused = 0 } in q)
+    → Settles setting (changed old desk (slice_set old.players seat next) old.slots) new → Steps setting old new (Back author seat)
+back-steps setting old new author seat place due player next join placing desk c r p d e n settled =
+    let held = parts old seat place player r in
+    returns setting old new author seat due held.h player next desk held.at_desk (chair-is old seat place player r) (came-desk setting old seat join placing desk c r.seated p d) e n settled
+
+-- A seat says something.
+pub hear-due : (setting : Setting) (old : Position) (seat place many : ℕ) (answer : Answer) (player : Player) → CanHear setting old seat answer → ReadsSeat old seat place player → many ≡ length old.deeds → player.due < many
+hear-due setting old seat place many answer player c r e =
+    let held = parts old seat place player r in
+    subst (λ (n : ℕ). player.due < n) (sym e) (due-at old seat held.h player held.at_desk (chair-is old seat place player r) c.due)
+
+pub hear-refused : (setting : Setting) (old : Position) (seat place : ℕ) (answer : Answer) (player : Player) → CanHear setting old seat answer → ReadsSeat old seat place player → player.refused ≤ 15
+hear-refused setting old seat place answer player c r =
+    let held = parts old seat place player r in
+    refused-at old seat held.h player held.at_desk (chair-is old seat place player r) c.order c.present
+
+-- What the code has found of an answer: its verdict, and what it makes of the seat and the slots.
+pub record Finds (setting : Setting) (old : Position) (told : List Deed) (seat place many : ℕ) (answer : Answer) (player next : Player) (v : Verdict) (desk : List Held) (slots : Four (Option Answer)) : Type 0 where
+  pub can : CanHear setting old seat answer
+  pub told_is : told ≡ old.deeds
+  pub reads : ReadsSeat old seat place player
+  pub many_is : many ≡ length old.deeds
+  pub judged : v ≡ verdict player.due player.refused many (broken_rule old.rules told seat answer)
+  pub on : (lines : List (List ℕ)) → next ≡ player_of (author_after v player.author) (progress_after lines v (progress_of player))
+  pub desk_is : desk ≡ desk_after v old.desk seat
+  pub slots_is : slots ≡ slots_after v old.slots seat answer
+
+found : (setting : Setting) (old : Position) (told : List Deed) (seat place many : ℕ) (answer : Answer) (player next : Player) (v : Verdict) (desk : List Held) (slots : Four (Option Answer)) → (f : Finds setting old told seat place many answer player next v desk slots)
+    → IsSaid setting old seat answer (parts old seat place player f.reads).h player next v slots
+found setting old told seat place many answer player next v desk slots f =
+    let held = parts old seat place player f.reads in
+    record {
+      at_desk = held.at_desk;
+      at_chair = chair-is old seat place player f.reads;
+      present = present-of old seat held player (chair-is old seat place player f.reads);
+      judged =
+          f.judged ∙ ap (λ (n : ℕ). verdict player.due player.refused n (broken_rule old.rules told seat answer)) f.many_is
+          ∙ ap (λ (ds : List Deed). verdict player.due player.refused (length old.deeds) (broken_rule old.rules ds seat answer)) f.told_is
+          ∙ ap (λ (r : Rules). verdict player.due player.refused (length old.deeds) (broken_rule r old.deeds seat answer)) f.can.ground.rules;
+      on = f.on;
+      filled = f.slots_is;
+    }
+  where
+    same_some : (a b : Player) → Some a ≡ Some b → a ≡ b
+    same_some a b e = cc
+
+    present-of : (old : Position) (seat : ℕ) (held : HasParts old.desk old.players seat) (player : Player) → slice_get old.players seat ≡ Some player → held.h.present ≡ is_some player.author
+    present-of old seat held player e = held.present ∙ ap (λ (q : Player). is_some q.author) (same_some held.p player (sym held.at_chair ∙ e))
+
+pub hear-settles : (setting : Setting) (old : Position) (told : List Deed) (seat place many : ℕ) (answer : Answer) (player next : Player) (v : Verdict) (desk : List Held) (slots : Four (Option Answer)) → Finds setting old told seat place many answer player next v desk slots
+    → CanSettle setting old seat desk next slots
+hear-settles setting old told seat place many answer player next v desk slots f =
+    hears-can setting old seat answer (parts old seat place player f.reads).h player next v desk slots f.can f.reads.seated (found setting old told seat place many answer player next v desk slots f) f.desk_is
+
+pub hear-hears : (setting : Setting) (old new : Position) (told : List Deed) (seat place many : ℕ) (answer : Answer) (player next : Player) (v : Verdict) (desk : List Held) (slots : Four (Option Answer)) → Finds setting old told seat place many answer player next v desk slots
+    → Settles setting (changed old desk (slice_set old.players seat next) slots) new → Hears setting old new seat answer v
+hear-hears setting old new told seat place many answer player next v desk slots f settled =
+    hears setting old new seat answer (parts old seat place player f.reads).h player next v desk slots (found setting old told seat place many answer player next v desk slots f) f.desk_is settled
+
+-- The next seat is taken.
+pub takes : (old : Position) (author : ℕ) (join : JoinLine) (place : Placed) (desk : List Held) (players : List Player) → CanTakeSeat old join → AreSeated old.desk old.players → place ≡ placed old.desk join → desk ≡ seated old.desk join place
+    → players ≡ old.players ++ first_player author ∷ [] → TakesChair old.deeds old.desk desk old.players players author join
+takes old author join place desk players c s p d a = record {
+  unbegun = c.unbegun;
+  seats = s;
+  desk_is = desk-behind old.desk desk old.players join place (places.Sat c.seat) s c.placing p d;
+  all_is = a;
+}
