@@ -1,5 +1,5 @@
 -- What a core keeps is what its entries come to.
-use Rattle.std.proofs.Common.{◌≡◌, ◌≢◌, ℕ, zero, suc, ◌+◌, ◌-◌, ◌<◌, ◌≤◌, ◌==◌, ◌&&◌, ◌||◌, not, inl, inr, List, [], ◌∷◌, ◌++◌, length, map, get_or, Bool, true, false, refl, ap, ◌∙◌, sym, subst, arith}
+use Rattle.std.proofs.Common.{◌≡◌, ◌≢◌, ℕ, zero, suc, ◌+◌, ◌-◌, ◌<◌, ◌≤◌, ◌==◌, ◌&&◌, not, inl, inr, List, [], ◌∷◌, ◌++◌, length, map, get_or, Bool, true, false, refl, ap, ◌∙◌, sym, subst, arith}
 use Rattle.std.specs.Prelude.{if◌then◌else◌, Option, Some, None, is_some, unwrap_or, option_map, slice_get, nat_lt, nat_le}
 use Rattle.std.specs.Option.{option_map_or}
 use Rattle.std.specs.List.{list_all, list_any}
@@ -10,10 +10,8 @@ use Rattle.mj_ports.specs.Names.{is_name}
 use Rattle.mj_ports.specs.declared.entry.Entry.{Entry}
 use Rattle.mj_ports.specs.declared.entry.Entry.TheVariants.{Sat, Back, Said, Gone, Expired}
 use Rattle.mj_ports.specs.declared.sitting.JoinLine.{JoinLine}
-use Rattle.mj_ports.specs.declared.sitting.SitRefused.{SitRefused}
 use Rattle.mj_ports.specs.declared.sitting.SitRefused.TheVariants.{Over, BadName}
 use Rattle.mj_ports.specs.declared.answers.SitAnswer.TheVariants as sits
-use Rattle.mj_ports.specs.declared.answers.Heard.TheVariants as heard
 use Rattle.mj_seating.specs.declared.desk.Placed.{Placed}
 use Rattle.mj_seating.specs.declared.desk.Placed.TheVariants as places
 use Rattle.mj_seating.specs.Sitting.{Held, placed}
@@ -25,13 +23,13 @@ use Rattle.mj_deeds.specs.Answers.{is_in_form}
 use Rattle.mj_wall.specs.declared.setting.Setting.{Setting}
 use Rattle.mj_wall.specs.Places.{is_wall}
 use Rattle.mj_protocol.specs.Lines.{line}
-use Rattle.mj_protocol.specs.After.{After, Chair, Verdict, before_all, after, own_part, is_present, pending, lines_for, verdict_on}
+use Rattle.mj_protocol.specs.After.{After, Chair, before_all, after, own_part, is_present, pending, lines_for, verdict_on}
 use Rattle.mj_protocol.specs.Trace.{Game, has_name, can_sit, can_say, may_say, can_return, is_present_by, is_over, is_open, can_expire, is_permitted, all_permitted, has_wall, has_ground, IsLegal}
-use Rattle.mj_protocol.specs.Sitting.{held_of, placing, author_at}
-use Rattle.mj_protocol.specs.AnswerForms.{answer_of, join_of}
+use Rattle.mj_protocol.specs.Sitting.{held_of, placing}
+use Rattle.mj_protocol.specs.AnswerForms.{answer_of}
 use Rattle.mj_protocol.specs.Laws.{CanGoOn}
 use Rattle.mj_protocol.proofs.Entries.{after-append, all_permitted-append}
-use Rattle.mj_core.specs.Calls.{after_of, Enters, IsSitAnswer, Answers, IsHeard, verdict_at, open_window, due_of, may_say_at, pending_at, line_of, author_of_seat}
+use Rattle.mj_core.specs.Calls.{after_of, IsSitAnswer, Answers, IsHeard, verdict_at, open_window, may_say_at, pending_at, line_of, author_of_seat}
 use Rattle.mj_core.specs.Inner.Untold.{untold_chair, untold}
 use Rattle.mj_core.specs.Inner.Verdicts.{verdict_given, heard_by}
 use Rattle.mj_core.specs.Inner.States.{Position, nobody, now_of, player_in, HasWalls, MayAdd, Steps, IsInOrder, IsPatientAt, is_due, is_present_in, placed_in, CanTakeSeat, CanTakeBack, CanHear, Hears, state_verdict, CanLeave, CanExpire}
@@ -130,7 +128,7 @@ placing-open : (now : After) (join : JoinLine) → is_over now.deeds ≡ false �
 unfolding placing
 placing-open now join h = rw h
 
-placing-sat : (now : After) (join : JoinLine) (seat : ℕ) → placing now (Some join) ≡ places.Sat seat → placed (map held_of now.chairs) join ≡ places.Sat seat
+pub placing-sat : (now : After) (join : JoinLine) (seat : ℕ) → placing now (Some join) ≡ places.Sat seat → placed (map held_of now.chairs) join ≡ places.Sat seat
 unfolding placing
 placing-sat now join seat h = by (is_over now.deeds) h
   where
@@ -291,7 +289,7 @@ window-open deeds window h = by (length deeds == 0) (is_over deeds) (window + 1 
     by false true same n k = cc
     by false false same n k = refl
 
-expire-open : (limit : ℕ) (deeds : List Deed) (window t1 t2 : ℕ) → can_expire limit deeds window t1 t2 ≡ true → is_open deeds window ≡ true
+pub expire-open : (limit : ℕ) (deeds : List Deed) (window t1 t2 : ℕ) → can_expire limit deeds window t1 t2 ≡ true → is_open deeds window ≡ true
 unfolding can_expire
 expire-open limit deeds window t1 t2 h = (and_parts (is_open deeds window) (nat_le t1 t2) (and_parts (is_open deeds window && nat_le t1 t2) (nat_le limit (t2 - t1)) h).0).0
 
@@ -452,6 +450,18 @@ sat-entered setting entries all author seat join h e = (h, record { setting = re
 pub back-entered : (setting : Setting) (entries all : List (Entry Answer)) (author seat : ℕ) (join : JoinLine) → placing (after_of (game setting entries)) (Some join) ≡ places.Back seat → all ≡ entries ++ Back author seat ∷ []
     → IsSitAnswer (sits.Back seat) (game setting entries) (game setting all) author (Some join)
 back-entered setting entries all author seat join h e = (h, record { setting = refl; entries = e })
+
+-- A seat that is held is one of the four.
+some-held : (o : Option Chair) (held : Player) → Some held ≡ option_map player_in o → (chair : Chair) × (o ≡ Some chair)
+some-held None held e = cc
+some-held (Some chair) held e = (chair, refl)
+
+pub held-small : (setting : Setting) (entries : List (Entry Answer)) (state : Position) (seat : ℕ) (held : Player) → IsKept setting entries state → Some held ≡ option_map player_in (slice_get (now_of state).chairs seat) → seat < 4
+held-small setting entries state seat held k e =
+    let few : length (now_of state).chairs ≤ 4 = (kept-order setting entries state k).few in
+    let chair : (chair : Chair) × (slice_get (now_of state).chairs seat ≡ Some chair) = some-held (slice_get (now_of state).chairs seat) held e in
+    let within : seat < length (now_of state).chairs = slice_get_within (now_of state).chairs seat chair.0 chair.1 in
+    omega (arith, few, within)
 
 -- A seat's due deed is one of the deeds or the next one.
 due-few : (o : Option Chair) (deeds : List Deed) (held : Player) → IsPatientAt deeds o → Some held ≡ option_map player_in o → held.due ≤ length deeds

@@ -1,5 +1,5 @@
 -- The line that is kept for a seat is the one that the game shows.
-use Rattle.std.proofs.Common.{◌≡◌, ℕ, zero, suc, ◌<◌, ◌≤◌, List, [], ◌∷◌, length, refl, ap, ◌∙◌, sym, arith}
+use Rattle.std.proofs.Common.{◌≡◌, ℕ, zero, suc, ◌<◌, ◌≤◌, List, [], ◌∷◌, length, refl, ap, ◌∙◌, sym, arith, append-nil}
 use Rattle.std.specs.Prelude.{Option, Some, None, option_map, option_copied, slice_get, MatchOption}
 use Rattle.std.specs.Option.{option_map_or}
 use Rattle.std.specs.Borrow.{Bor}
@@ -8,6 +8,8 @@ use Rattle.mj_deeds.specs.declared.deed.Deed.{Deed}
 use Rattle.mj_deeds.specs.declared.deed.Viewer.TheVariants.{Seat}
 use Rattle.mj_protocol.specs.Lines.{line}
 use Rattle.mj_protocol.specs.Shown.{line_at}
+use Rattle.mj_protocol.proofs.Places.{none_behind}
+use Rattle.mj_bytes.specs.Adds.{Adds}
 use Rattle.mj_streams.specs.Streams.{line_of}
 
 absent : (deeds : List Deed) (k : ℕ) → slice_get deeds k ≡ None → length deeds ≤ k
@@ -28,3 +30,7 @@ pub kept-line : (deeds : List Deed) (seat k : ℕ) (kept : Option (Bor (List ℕ
     → MatchOption kept (length deeds ≤ k) (λ l. (k < length deeds) × (l.now ≡ line_at deeds seat k))
 kept-line deeds seat k None e = no-line deeds seat k (slice_get deeds k) refl e
 kept-line deeds seat k (Some text) e = one-line deeds seat k text.now (slice_get deeds k) refl e
+
+-- There is no line behind the last deed.
+pub no_line : (seat k : ℕ) (deeds : List Deed) (told : List ℕ) → length deeds ≤ k → Adds told told (line_at deeds seat k)
+no_line seat k deeds told behind = record { is = rw (none_behind deeds k behind) (sym (append-nil told)) }

@@ -1,6 +1,6 @@
 -- What a core needs of the laws of what is told.
 use Rattle.std.proofs.Common.{◌≡◌, ℕ, ◌≤◌, List, length, true, sym, subst}
-use Rattle.std.specs.Prelude.{Option, Some}
+use Rattle.std.specs.Prelude.{Some}
 use Rattle.mj_ports.specs.Names.{is_name}
 use Rattle.mj_ports.specs.declared.entry.Entry.TheVariants as entries
 use Rattle.mj_ports.specs.declared.sitting.JoinLine.{JoinLine}

@@ -9,3 +9,4 @@ pub mod Pieces
 pub mod Turns
 pub mod Readers
 pub mod KeptLines
+pub mod ByEntries

@@ -1,6 +1,6 @@
 -- What is true of every legal game in play: four seats at most, and four once it has begun; the slot of a seat is empty as
 -- long as its due deed exists; no seat waits for a deed behind the next one, or had more refused answers than it may.
-use Rattle.std.proofs.Common.{◌≡◌, ◌≢◌, ℕ, zero, suc, ◌+◌, ◌-◌, ◌<◌, ◌≤◌, ◌==◌, ◌&&◌, not, inl, inr, List, [], ◌∷◌, ◌++◌, length, map, Bool, true, false, refl, ap, ◌∙◌, sym, subst, arith}
+use Rattle.std.proofs.Common.{◌≡◌, ◌≢◌, ℕ, zero, suc, ◌+◌, ◌-◌, ◌<◌, ◌≤◌, ◌==◌, not, inl, inr, List, [], ◌∷◌, ◌++◌, length, map, Bool, true, false, refl, ap, ◌∙◌, sym, subst, arith}
 use Rattle.std.specs.Prelude.{if◌then◌else◌, Option, Some, None, is_some, option_map, slice_get, slice_set, nat_lt}
 use Rattle.std.specs.Option.{option_map_or}
 use Rattle.std.specs.List.{list_any}
@@ -20,11 +20,11 @@ use Rattle.mj_deeds.specs.Four.{at_seat}
 use Rattle.mj_wall.specs.declared.setting.Setting.{Setting}
 use Rattle.mj_window.specs.Slots.{empty_slots, put_at}
 use Rattle.mj_rules.specs.Broken.{broken_rule}
-use Rattle.mj_protocol.specs.After.{After, Chair, Verdict, Taken, Late, Refused, Closing, verdict, progress_after, author_after, slots_after, lines_for, after_said, after_gone, after_back, due_on_return, new_chair, own_part, is_present, next_deed, with_deed, step, before_all, after_from, after}
+use Rattle.mj_protocol.specs.After.{After, Chair, Verdict, Taken, Late, Refused, Closing, verdict, progress_after, author_after, slots_after, lines_for, after_said, after_gone, after_back, new_chair, own_part, next_deed, with_deed, step, before_all, after_from, after}
 use Rattle.mj_protocol.specs.Trace.{has_name, can_sit, is_present_by, may_say, can_say, can_return, is_permitted, all_permitted, IsLegal}
-use Rattle.mj_protocol.proofs.Places.{slice_get-set_at, slice_get-set_other, slice_get-append_other}
+use Rattle.mj_protocol.proofs.Places.{slice_get-set_at, slice_get-set_other}
 use Rattle.mj_core.specs.Inner.Untold.{untold_chair, untold}
-use Rattle.mj_core.specs.Inner.States.{IsStarted, is_due, IsOpen, IsPatient, IsPatientAt, IsInOrder}
+use Rattle.mj_core.specs.Inner.States.{is_due, IsOpen, IsPatient, IsPatientAt, IsInOrder}
 use Rattle.mj_core.proofs.Steps.{next-waits, next-starts}
 
 -- So far as an entry has changed its own seat's part.

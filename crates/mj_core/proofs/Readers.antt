@@ -7,7 +7,6 @@ use Rattle.std.proofs.lemmas.Option.{same_Some}
 use Rattle.std.specs.declared.alloc.AllocError.{AllocError}
 use Rattle.mj_bytes.specs.Adds.{Adds}
 use Rattle.mj_ports.specs.declared.entry.Entry.{Entry}
-use Rattle.mj_ports.specs.declared.sitting.JoinLine.{JoinLine}
 use Rattle.mj_ports.specs.declared.sitting.SitRefused.TheVariants.{BadName}
 use Rattle.mj_seating.specs.declared.desk.Placed.TheVariants as places
 use Rattle.mj_protocol.specs.Sitting.{placing}

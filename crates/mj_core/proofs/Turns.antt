@@ -1,7 +1,7 @@
 -- What a state does with what comes, over what its code holds.
-use Rattle.std.proofs.Common.{◌≡◌, ℕ, ◌+◌, ◌<◌, ◌≤◌, ◌&&◌, List, [], ◌∷◌, ◌++◌, length, get_or, Bool, true, false, refl, ap, ◌∙◌, sym, subst, arith}
+use Rattle.std.proofs.Common.{◌≡◌, ℕ, ◌<◌, ◌≤◌, ◌&&◌, List, [], ◌∷◌, ◌++◌, length, get_or, Bool, true, false, refl, ap, ◌∙◌, sym, subst, arith}
 use Rattle.std.specs.Prelude.{Option, Some, None, is_some, slice_get, slice_set}
-use Rattle.mj_ports.specs.declared.entry.Entry.TheVariants.{Sat, Back, Gone, Expired}
+use Rattle.mj_ports.specs.declared.entry.Entry.TheVariants.{Back, Gone, Expired}
 use Rattle.mj_ports.specs.declared.sitting.JoinLine.{JoinLine}
 use Rattle.mj_seating.specs.declared.desk.Placed.{Placed}
 use Rattle.mj_seating.specs.declared.desk.Placed.TheVariants as places

@@ -1,5 +1,5 @@
 -- What the calls of a core answer and enter.
-use Rattle.std.specs.Prelude.{◌≡◌, ℕ, ◌-◌, ◌==◌, ◌&&◌, not, Bool, true, false, nat_lt, if◌then◌else◌, List, [], ◌∷◌, ◌++◌, length, Option, Some, None, is_some, option_map, slice_get}
+use Rattle.std.specs.Prelude.{◌≡◌, ℕ, ◌&&◌, Bool, true, false, nat_lt, if◌then◌else◌, List, [], ◌∷◌, ◌++◌, length, Option, Some, None, slice_get}
 use Rattle.std.specs.Option.{option_map_or}
 use Rattle.mj_ports.specs.declared.entry.Entry.{Entry}
 use Rattle.mj_ports.specs.declared.entry.Entry.TheVariants.{Sat, Back, Said, Gone, Expired}
@@ -15,11 +15,8 @@ use Rattle.mj_ports.specs.declared.answers.Expiry.TheVariants as expiry
 use Rattle.mj_seating.specs.declared.desk.Placed.TheVariants as places
 use Rattle.mj_deeds.specs.declared.rule.Rule.{Rule}
 use Rattle.mj_deeds.specs.declared.answer.Answer.{Answer}
-use Rattle.mj_deeds.specs.declared.deed.Deed.{Deed}
-use Rattle.mj_deeds.specs.declared.deed.Viewer.TheVariants.{Seat}
-use Rattle.mj_protocol.specs.Lines.{line}
-use Rattle.mj_protocol.specs.After.{After, Chair, Verdict, Taken, Late, Refused, Closing, after, verdict_on, is_present, pending, lines_for}
-use Rattle.mj_protocol.specs.Trace.{Game, is_over, is_open, is_present_by, can_expire}
+use Rattle.mj_protocol.specs.After.{After, Chair, Verdict, Taken, Late, Refused, Closing, after, is_present, pending, lines_for}
+use Rattle.mj_protocol.specs.Trace.{Game, is_open, is_present_by, can_expire}
 use Rattle.mj_protocol.specs.Sitting.{placing, author_at}
 use Rattle.mj_protocol.specs.Shown.{verdict_at as verdict_in, due_at, line_at}
 pub use Rattle.mj_protocol.specs.Shown.{open_window}

@@ -5,7 +5,7 @@ ghost use Rattle.mj_ports.specs.Names.{is_name};
 ghost use Rattle.mj_wall.specs.Places.{is_wall};
 ghost use Rattle.mj_deeds.specs.Answers.{is_in_form};
 ghost use Rattle.mj_protocol.specs.AnswerForms.{answer_of, join_of};
-ghost use Rattle.mj_protocol.specs.Trace.{can_say, is_over};
+ghost use Rattle.mj_protocol.specs.Trace.{IsLegal, can_say, is_over};
 ghost use Rattle.mj_protocol.specs.Sitting.{placing};
 ghost use Rattle.mj_protocol.specs.Shown.{control_line, line_at};
 ghost use Rattle.mj_seating.specs.declared.desk.Placed.TheVariants.{Sat, Back};
@@ -17,11 +17,12 @@ use crate::control::write_control;
 use crate::entered::Entered;
 use crate::state::State;
 use crate::verdict::Verdict;
-use mj_deeds::{Answer, Rule, Viewer};
+use mj_bytes::push_all;
+use mj_deeds::{Answer, Rule};
 use mj_ports::{Control, JoinLine, SitRefused};
 use mj_seating::Placed;
 use mj_wall::{Rules, Setting, Wall, Walls};
-use mjai_lines::{read_answer, read_join, write_alone};
+use mjai_lines::{read_answer, read_join};
 use std::alloc::{AllocError, Global};
 use std::marker::Model;
 
@@ -271,9 +272,10 @@ impl Core {
         self.state.is_over()
     }
 
-    /// The number of entries.
+    /// The number of entries, each of which is permitted where it stands.
     pub fn entries(&self) -> u64
-        ensures { result ≡ length self.now.entries }
+        ensures number { result ≡ length self.now.entries }
+        ensures legal { IsLegal self.now.setting self.now.entries }
     {
         self.entries.len() as u64
     }
@@ -293,7 +295,7 @@ impl Core {
 
     /// Writes behind what stands in `into` what is still to be told to a seat: the line of its due deed as soon as that
     /// deed exists, unless an answer to it was refused. For a seat that isn't present there is nothing.
-    pub fn pending(&self, alloc: Global, seat: u8, into: &mut Vec<u8>) -> Result<(), AllocError>
+    pub fn pending(&self, seat: u8, into: &mut Vec<u8>) -> Result<(), AllocError>
         ensures ok { OnOk result (Adds into.old.items into.new.items (pending_at self.now seat)) }
         ensures err { OnErr result (into.new.items ≡ into.old.items) }
     {
@@ -306,25 +308,11 @@ impl Core {
         if !held.is_fresh() {
             return Ok(());
         }
-        self.push_line(alloc, seat, held.due(), into)
-    }
-
-    /// Writes line `k` of a seat behind what stands in `into`; nothing where there is no deed `k` yet.
-    pub fn line(
-        &self,
-        alloc: Global,
-        seat: u8,
-        k: u32,
-        into: &mut Vec<u8>,
-    ) -> Result<(), AllocError>
-        ensures ok { OnOk result (Adds into.old.items into.new.items (line_of self.now seat k)) }
-        ensures err { OnErr result (into.new.items ≡ into.old.items) }
-    {
-        self.push_line(alloc, seat, k as usize, into)
+        self.push_line(seat, held.due() as u32, into)
     }
 
     /// Line `k` of a seat, 0 to 3, as it was rendered when its deed was added; None exactly where there is no deed `k` yet.
-    pub fn kept_line(&self, seat: u8, k: u32) -> Option<&[u8]>
+    pub fn line(&self, seat: u8, k: u32) -> Option<&[u8]>
         requires { seat < 4 }
         ensures { MatchOption result (length (after_of self.now).deeds ≤ k)
             (λ l. (k < length (after_of self.now).deeds)
@@ -349,18 +337,14 @@ impl Core {
     }
 
     // Writes the line of a seat with this number, where there is one.
-    fn push_line(
-        &self,
-        alloc: Global,
-        seat: u8,
-        k: usize,
-        into: &mut Vec<u8>,
-    ) -> Result<(), AllocError>
+    #[tactic(auto, using(crate::proofs::KeptLines::no_line))]
+    fn push_line(&self, seat: u8, k: u32, into: &mut Vec<u8>) -> Result<(), AllocError>
+        requires { seat < 4 }
         ensures ok { OnOk result (Adds into.old.items into.new.items (line_of self.now seat k)) }
         ensures err { OnErr result (into.new.items ≡ into.old.items) }
     {
-        match self.state.deeds().get(k) {
-            Some(deed) => write_alone(alloc, Viewer::Seat(seat), deed, into),
+        match self.line(seat, k) {
+            Some(line) => push_all(into, line),
             None => Ok(()),
         }
     }

@@ -6,6 +6,7 @@ mod chair;
 mod control;
 mod entered;
 mod game;
+mod seated;
 mod state;
 mod verdict;
 mod window;

@@ -17,7 +17,7 @@ use Rattle.mj_protocol.specs.Lines.{line, hello_line, replay_line}
 use Rattle.mj_protocol.specs.After.{After, Chair, Connection, lines_for, due_on_return, told_again, after_back, own_part, next_deed, with_deed, step}
 use Rattle.mj_protocol.specs.Shown.{line_at}
 use Rattle.mj_protocol.specs.Trace.{Game}
-use Rattle.mj_protocol.proofs.Places.{slice_get-set_at, none_behind}
+use Rattle.mj_protocol.proofs.Places.{slice_get-set_at}
 use Rattle.mj_core.specs.Calls.{after_of, Enters, due_of}
 use Rattle.mj_front.specs.Inner.Hearing.{told_of, told_in, told_again_in}
 use Rattle.mj_front.proofs.Telling.{told_at, set-own, set-other, set-few, after_of-enters, chairs-enters}
@@ -127,10 +127,6 @@ line-at seat k deeds = ap (λ (o : Option (List ℕ)). option_map_or (λ (line :
     by_deed : (o : Option Deed) → option_map_or (λ (line : List ℕ). line) (option_map (line (Seat seat)) o) [] ≡ option_map_or (λ (deed : Deed). line (Seat seat) deed) o []
     by_deed None = refl
     by_deed (Some deed) = refl
-
--- there is no line behind the last deed
-pub no_line : (seat k : ℕ) (deeds : List Deed) (told : List ℕ) → length deeds ≤ k → Adds told told (line_at deeds seat k)
-no_line seat k deeds told behind = record { is = rw (none_behind deeds k behind) (sym (append-nil told)) }
 
 -- what a seat was told that is back, as far as so many lines
 abbrev pub told_to : ℕ → ℕ → ℕ → Game → List ℕ

@@ -1,5 +1,6 @@
 pub mod Referee
 pub mod Hand
+pub mod SelfPlay
 pub mod Statuses
 pub mod Faults
 pub mod Run

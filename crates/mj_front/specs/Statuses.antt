@@ -7,6 +7,8 @@ use Rattle.mj_front.specs.declared.hand.HandEnd.TheVariants as hands
 use Rattle.mj_front.specs.declared.hearing.End.TheVariants as ends
 use Rattle.mj_front.specs.declared.referee.RefereeEnd.{RefereeEnd}
 use Rattle.mj_front.specs.declared.referee.RefereeEnd.TheVariants as referees
+use Rattle.mj_front.specs.declared.self_game.SelfPlayEnd.{SelfPlayEnd}
+use Rattle.mj_front.specs.declared.self_game.SelfPlayEnd.TheVariants as games
 use Rattle.mj_front.specs.declared.status.Status.{Status}
 use Rattle.mj_front.specs.declared.status.Status.TheVariants as statuses
 
@@ -25,6 +27,12 @@ hand_status hands.Written = statuses.Done
 hand_status hands.NoHand = statuses.Words
 hand_status hands.WriteFault = statuses.WriteFault
 hand_status hands.NoMemory = statuses.NoMemory
+
+-- The status that the end of the command `selfplay` gives.
+abbrev pub self_play_status : SelfPlayEnd → Status
+self_play_status games.Written = statuses.Done
+self_play_status games.WriteFault = statuses.WriteFault
+self_play_status games.NoMemory = statuses.NoMemory
 
 -- The exit code; 0 for success alone.
 abbrev pub code_of : Status → ℕ

@@ -129,13 +129,13 @@ fn tell_again(alloc: Global, seat: u8, core: &Core, told: &mut Vec<u8>) -> Resul
 }
 
 // Tells a seat its line with this number; nothing where there is none.
-#[tactic(auto, using(crate::proofs::Returning::no_line))]
+#[tactic(auto, using(mj_core::proofs::KeptLines::no_line))]
 fn tell_line(seat: u8, k: u32, core: &Core, told: &mut Vec<u8>) -> Result<(), AllocError>
     requires { seat < 4 }
     ensures { OnOk result (Adds told.old.items told.new.items
         (line_at (after_of core.now).deeds seat k)) }
 {
-    match core.kept_line(seat, k) {
+    match core.line(seat, k) {
         Some(line) => push_all(told, line),
         None => Ok(()),
     }
@@ -194,7 +194,7 @@ fn own_line(
     ensures { IfOk result (λ step. Does step seat core.old core.new told.old.items told.new.items
         (say_arrives (intake_of core.old) seat line.now)) }
 {
-    core.pending(alloc, seat, told)?;
+    core.pending(seat, told)?;
     match core.said(alloc, author, seat, line) {
         Heard::Taken => Ok(Step::Leads),
         Heard::Late => Ok(Step::Leads),
@@ -249,7 +249,7 @@ fn leave(
     let Some((leaver, author)) = present(core, who) else {
         return Ok(Step::Bad);
     };
-    tell_last(alloc, core, told, leaver, seat)?;
+    tell_last(core, told, leaver, seat)?;
     match core.gone(alloc, author, leaver) {
         Left::Gone => Ok(Step::Leads),
         Left::NoMemory => Err(AllocError),
@@ -257,17 +257,11 @@ fn leave(
 }
 
 // Tells a seat what is pending, where it is the one that leaves.
-fn tell_last(
-    alloc: Global,
-    core: &Core,
-    told: &mut Vec<u8>,
-    leaver: u8,
-    seat: u8,
-) -> Result<(), AllocError>
+fn tell_last(core: &Core, told: &mut Vec<u8>, leaver: u8, seat: u8) -> Result<(), AllocError>
     ensures { OnOk result (Adds told.old.items told.new.items (last_lines leaver seat core.now)) }
 {
     if leaver == seat {
-        return core.pending(alloc, seat, told);
+        return core.pending(seat, told);
     }
     Ok(())
 }

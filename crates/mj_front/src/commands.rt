@@ -2,13 +2,15 @@
 
 ghost use Rattle.std.specs.Prelude.{◌≡◌, map};
 ghost use Rattle.std.specs.String.{string_bytes};
-ghost use Rattle.mj_front.specs.Run.{referee_seat, seat_named, asked_by, Runs, MeetsReadFaults};
+ghost use Rattle.mj_front.specs.Run.{referee_seat, seat_named, number_said, asked_by, self_play_asked, Runs, MeetsReadFaults};
 ghost use Rattle.mj_front.specs.Inner.Commands.{asked_by_command};
 ghost use Rattle.mj_front.specs.Faults.{CountsReadFaults, CountsWriteFaults};
 
 use crate::hand::write_hand;
 use crate::referee::referee_of;
-use crate::status::{Status, status_of_hand, status_of_referee};
+use crate::self_game::write_self_play;
+use crate::status::{Status, status_of_hand, status_of_referee, status_of_self_play};
+use mj_bytes::read_number;
 use mj_links::{Sink, Source};
 use std::alloc::Global;
 
@@ -19,6 +21,8 @@ enum Command<'a> {
     Referee(u8),
     // The lines of the hand that these words name.
     Hand(&'a [String]),
+    // The self-played game of a number.
+    SelfPlay(u64),
     // Nothing that there is.
     Unknown,
 }
@@ -31,6 +35,9 @@ enum Command<'a> {
 ///
 /// `hand WORDS`, with words that name a hand of thirteen tiles, writes its shanten, its target and its waits, each on a line.
 /// Other words are refused. The source is left as it was.
+///
+/// `selfplay N`, with a decimal number below 2^64 without a leading zero, plays a whole game of four built-in players with the
+/// 200 walls that the number shuffles, and writes what it comes to on six lines. The source is left as it was.
 pub fn run<S: Source, K: Sink>(
     alloc: Global,
     words: &[String],
@@ -47,6 +54,7 @@ pub fn run<S: Source, K: Sink>(
     match command_asked(words) {
         Command::Referee(seat) => status_of_referee(referee_of(alloc, seat, source, sink)),
         Command::Hand(others) => status_of_hand(write_hand(alloc, others, sink)),
+        Command::SelfPlay(number) => status_of_self_play(write_self_play(alloc, number, sink)),
         Command::Unknown => Status::Words,
     }
 }
@@ -61,10 +69,33 @@ fn command_asked(words: &[String]) -> Command<'_>
     if command.as_str() == "hand" {
         return Command::Hand(others);
     }
+    if command.as_str() == "selfplay" {
+        return game_asked(others);
+    }
     match seat_asked(words) {
         Some(seat) => Command::Referee(seat),
         None => Command::Unknown,
     }
+}
+
+// The self-played game of the number that the words say.
+fn game_asked<'a>(words: &[String]) -> Command<'a>
+    ensures { asked_by_command result ≡ self_play_asked (number_said (map string_bytes words.now)) }
+{
+    match number_of(words) {
+        Some(number) => Command::SelfPlay(number),
+        None => Command::Unknown,
+    }
+}
+
+// The number that the words say.
+fn number_of(words: &[String]) -> Option<u64>
+    ensures { result ≡ number_said (map string_bytes words.now) }
+{
+    let [word] = words else {
+        return None;
+    };
+    read_number(word.as_bytes())
 }
 
 // The seat whose referee the words ask for.

@@ -144,7 +144,7 @@ fn hear_walled(
     let mut core = Core::new(alloc, walls, rules)?;
     let mut bytes = Vec::new(alloc);
     let end = hear_lines(alloc, seat, &mut core, &mut bytes, input, number)?;
-    core.pending(alloc, seat, &mut bytes)?;
+    core.pending(seat, &mut bytes)?;
     Ok(Told { end, bytes })
 }
 

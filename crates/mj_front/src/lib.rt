@@ -1,5 +1,5 @@
-//! The commands that words ask for: arrivals read from a source, and what one seat is told written to a sink; and the lines
-//! of a hand written to a sink.
+//! The commands that words ask for: arrivals read from a source, and what one seat is told written to a sink; the lines of a
+//! hand written to a sink; and a self-played game whose summary is written to a sink.
 #![tactic(auto)]
 
 mod arriving;
@@ -8,6 +8,7 @@ mod form;
 mod hand;
 mod hearing;
 mod referee;
+mod self_game;
 mod status;
 
 pub use commands::run;

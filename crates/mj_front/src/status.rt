@@ -2,11 +2,12 @@
 
 ghost use Rattle.std.specs.Prelude.{◌≡◌, IfOk, OnOk, OnErr, codes};
 ghost use Rattle.mj_bytes.specs.Adds.{Adds};
-ghost use Rattle.mj_front.specs.Statuses.{referee_status, hand_status, code_of, status_words, at_line, usage};
+ghost use Rattle.mj_front.specs.Statuses.{referee_status, hand_status, self_play_status, code_of, status_words, at_line, usage};
 
 use crate::hand::HandEnd;
 use crate::hearing::End;
 use crate::referee::RefereeEnd;
+use crate::self_game::SelfPlayEnd;
 use mj_bytes::{push_all, push_number};
 use std::alloc::{AllocError, Global};
 
@@ -14,9 +15,11 @@ use std::alloc::{AllocError, Global};
 /// first; `WriteFault`; `BadArrival`; `Done`.
 #[derive(Clone, Copy, Debug, PartialEq, Eq)]
 pub enum Status {
-    /// The input was read to its end and is valid, and what it tells the seat is written; or the lines of a hand are written.
+    /// The input was read to its end and is valid, and what it tells the seat is written; or the lines of a hand or of a
+    /// self-played game are written.
     Done,
-    /// The words ask for no command, or for one with other arguments than its own, as `hand` with words that name no hand.
+    /// The words ask for no command, or for one with other arguments than its own, as `hand` with words that name no hand, or
+    /// `selfplay` with a word that is no number. Nothing is written.
     Words,
     /// A read failed. Nothing is written.
     ReadFault,
@@ -53,6 +56,17 @@ pub(crate) fn status_of_hand(end: HandEnd) -> Status
         HandEnd::NoHand => Status::Words,
         HandEnd::WriteFault => Status::WriteFault,
         HandEnd::NoMemory => Status::NoMemory,
+    }
+}
+
+/// The status that the end of the command `selfplay` gives.
+pub(crate) fn status_of_self_play(end: SelfPlayEnd) -> Status
+    ensures { result ≡ self_play_status end }
+{
+    match end {
+        SelfPlayEnd::Written => Status::Done,
+        SelfPlayEnd::WriteFault => Status::WriteFault,
+        SelfPlayEnd::NoMemory => Status::NoMemory,
     }
 }
 

@@ -88,3 +88,43 @@ fn tiles_are_taken_from_their_places(rt: HostRuntime) {
     assert!(rt; takes() == Some(true));
     assert!(rt; has_its_wall(rt.alloc()) == Some(true));
 }
+
+/// A wall of the seed that has 7 in its first byte and then zeros, with red fives or without: its number, and its tiles in
+/// order. They were found by a program of the shuffle over the cipher as it is published, which is no part of this one.
+const SHUFFLED: &str = "\
+0|plain|9p 4m 3p C 7s 8s 8m 1p 3s W 3m 8p 4m N 1p 5m 9s 6m 8m 4s 4m 1m 5m W 3m 7p 7s 1m 9s P 5p 4m 1s 3p 5p \
+3p 7p 2s 5p 9m 8p 4p 8s 2m E 6m 4p 8p 8m 5m S 4s 9m N C S 4p 2p 3p 3s 6p P F 1m 7m 3m 1s E 2s 5m C \
+7p 1s 2m 8s 2m C 8m 6s 5p 8s 9m 6s E 2p 9p S N 2p 7p 9m 4p 6s 1p N 6m 6m 7m 2m W 2p 5s 9p F 2s 6p \
+5s S 1m P F 7s 6s W 8p 9p 3m 7m 1p 7s 6p 9s 6p E 4s 5s 3s P 5s 2s 9s 4s 1s 3s F 7m
+1|red|1m 4p 6p 2m 5m 9p 3s 6p 2p 5p 4m 8s 7m 6m F N 8m P 8m N 1p C 4s 7p S F P 7s 4s C C 3m 3m 2s 3p 3s \
+3s 4m W 5pr 7p 5p 2m 9m 8m 6s 3p 4p 2m 1s 8s 8p 6p 9m 5mr 8p 5m 4p 8s 2p W 4s E 3p 1s 7s 5p 9p 2p \
+4p P 4m 9s 1m 2m N 1p 7p 1s 1p 5s 6p S 9m 7m 7s 6s 9s 3s E W E 2s 5s 7s 4s 6m 2s P 7m 1s C 5m 3m F \
+9s 3m 9m 8m W 5sr S 3p 8s 5s 9p 7m 1p F 1m 2s 6m N 6m 8p 7p 4m 8p 6s S 2p E 9p 1m 6s 9s";
+
+fn has_tiles(wall: &Wall, text: &str) -> bool {
+    let mut words = text.split(' ');
+    for tile in wall.tiles() {
+        if words.next().map(str::as_bytes) != Some(tile.text()) {
+            return false;
+        }
+    }
+    words.next().is_none()
+}
+
+/// Whether the wall of a number, alone and among the first of the seed, has the tiles.
+fn is_shuffled(alloc: Global, line: &str) -> Option<bool> {
+    let [n, red, wanted, ..] = fields(line);
+    let (n, red) = (number(n)?, red == "red");
+    let mut seed = [0; 32];
+    seed[0] = 7;
+    let walls = Walls::shuffled(alloc, seed, 2, red).ok()?;
+    let wall = walls.as_slice().get(usize::from(n))?;
+    Some(has_tiles(&Wall::shuffled(seed, u64::from(n), red), wanted) && has_tiles(wall, wanted))
+}
+
+#[test]
+fn a_seed_gives_its_walls(rt: HostRuntime) {
+    for line in SHUFFLED.lines() {
+        assert!(rt; is_shuffled(rt.alloc(), line) == Some(true), "{line}");
+    }
+}

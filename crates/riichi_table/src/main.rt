@@ -1,6 +1,7 @@
 //! A referee for four-player riichi mahjong over mjai: `riichi_table referee SEAT` reads the arrivals of a game from
 //! standard input and writes what the game tells the connection of that seat; `riichi_table hand WORDS` writes the shanten,
-//! the target and the waits of the hand that the words name.
+//! the target and the waits of the hand that the words name; `riichi_table selfplay N` writes what the game of four built-in
+//! players with the walls of a number comes to.
 #![tactic(auto)]
 
 use mj_front::{Status, exit_code, run, status_text};

@@ -9,6 +9,9 @@ const READY: &str = "hand 1m 2m 3m 4p 5p 6p 7s 8s 9s E E S S";
 const LINES_OF_READY: &[u8] =
     b"shanten 0\ntarget 1m 2m 3m 4p 5p 6p 7s 8s 9s E E E S S\nwaits E S\n";
 
+const LINES_OF_SEVEN: &[u8] =
+    b"hands 9\nwins 9\ndraws 0\ndeeds 1016\npoints 25600 47500 25900 21000\ndeposits 0\n";
+
 // A wall in tile order and one seat.
 const ONE_SEAT: &[u8] =
     b"game limit=1000 draws=0 red=0\nwall 1m 1m 1m 1m 2m 2m 2m 2m 3m 3m 3m 3m 4m 4m 4m 4m 5m 5m 5m 5m 6m 6m 6m 6m 7m 7m 7m 7m 8m 8m 8m 8m 9m 9m 9m 9m 1p 1p 1p 1p 2p 2p 2p 2p 3p 3p 3p 3p 4p 4p 4p 4p 5p 5p 5p 5p 6p 6p 6p 6p 7p 7p 7p 7p 8p 8p 8p 8p 9p 9p 9p 9p 1s 1s 1s 1s 2s 2s 2s 2s 3s 3s 3s 3s 4s 4s 4s 4s 5s 5s 5s 5s 6s 6s 6s 6s 7s 7s 7s 7s 8s 8s 8s 8s 9s 9s 9s 9s E E E E S S S S W W W W N N N N P P P P F F F F C C C C\nsit {\"type\":\"join\",\"name\":\"a\"}\n";
@@ -59,6 +62,25 @@ fn the_command_hand_leaves_the_source_as_it_was(rt: HostRuntime) -> Result<(), F
 }
 
 #[test]
+fn the_command_selfplay_has_one_number(rt: HostRuntime) -> Result<(), Fail> {
+    let alloc = rt.alloc();
+    let mut source = source_of(alloc, ONE_SEAT, 1)?;
+    let mut sink = MemSink::new(Vec::new(alloc));
+    for (line, status) in [
+        ("selfplay 7", Status::Done),
+        ("selfplay", Status::Words),
+        ("selfplay 7 7", Status::Words),
+        ("selfplay 07", Status::Words),
+        ("selfplay -7", Status::Words),
+        ("selfplay 18446744073709551616", Status::Words),
+    ] {
+        assert!(rt; ends(alloc, line, &mut source, &mut sink)? == status);
+    }
+    assert!(rt; sink.written() == LINES_OF_SEVEN);
+    Ok(())
+}
+
+#[test]
 fn a_failed_read_ends_the_referee_and_no_other_command(rt: HostRuntime) -> Result<(), Fail> {
     let alloc = rt.alloc();
     for (line, fails, status, text) in [
@@ -94,6 +116,7 @@ fn a_failed_write_leaves_a_prefix(rt: HostRuntime) -> Result<(), Fail> {
         (READY, 0, Status::Done, LINES_OF_READY),
         (READY, 1, Status::WriteFault, b"".as_slice()),
         (READY, 11, Status::WriteFault, b"shanten 0\n".as_slice()),
+        ("selfplay 7", 8, Status::WriteFault, b"hands 9".as_slice()),
     ] {
         let mut source = source_of(alloc, ONE_SEAT, 0)?;
         let mut sink = slow_sink(alloc, fails)?;

@@ -1,5 +1,3 @@
-use Rattle.std.proofs.Common.{ap}
-use Rattle.std.specs.Prelude.{decimal}
 use Rattle.mj_protocol.specs.Lines.{replay_line}
 use Rattle.mj_bytes.proofs.AddLaws.{adds_more}
 use Rattle.mj_core.proofs.control.push_replay.Goals as goal

@@ -1,6 +1,4 @@
-use Rattle.std.proofs.Common.{refl, sym, subst, ◌≡◌}
-use Rattle.std.specs.Prelude.{Option}
-use Rattle.mj_ports.specs.declared.sitting.JoinLine.{JoinLine}
+use Rattle.std.proofs.Common.{refl}
 use Rattle.mj_core.proofs.Laws.{named-by}
 use Rattle.mj_core.proofs.Readers.{no-join}
 use Rattle.mj_core.proofs.game.Core.sit.Goals as goal

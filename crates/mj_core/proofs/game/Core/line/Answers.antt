@@ -4,7 +4,7 @@ use Rattle.mj_protocol.specs.After.{after}
 use Rattle.mj_streams.specs.Streams.{line_of}
 use Rattle.mj_core.proofs.Games.{kept-deeds}
 use Rattle.mj_core.proofs.KeptLines.{kept-line}
-use Rattle.mj_core.proofs.game.Core.kept_line.Goals as goal
+use Rattle.mj_core.proofs.game.Core.line.Goals as goal
 
 pub returns : goal.returns
 returns c =

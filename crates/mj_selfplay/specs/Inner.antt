@@ -1,0 +1,2 @@
+-- What the game keeps while it goes. No definition outside the crate names it, and no public clause.
+pub mod Tallies

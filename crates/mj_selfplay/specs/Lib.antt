@@ -1,0 +1,4 @@
+pub mod SelfGame
+pub mod Text
+pub mod Laws
+pub mod Inner
