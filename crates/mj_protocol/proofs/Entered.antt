@@ -1,17 +1,18 @@
 -- What an entry changes of the seats and the deeds, and what it leaves.
 use Rattle.std.proofs.Common.{◌≡◌, ℕ, suc, ◌+◌, List, [], ◌∷◌, ◌++◌, length, Bool, true, false, refl, ap, ◌∙◌, sym, subst, arith, append-nil}
-use Rattle.std.specs.Prelude.{if◌then◌else◌, Option, Some, None, slice_get, slice_set}
+use Rattle.std.specs.Prelude.{if◌then◌else◌, Option, Some, None, slice_get, slice_set, nat_lt}
 use Rattle.std.specs.Option.{option_map_or}
 use Rattle.std.proofs.lemmas.List.{length-append, length-set}
 use Rattle.std.proofs.lemmas.List.Recursion.{is_count_by}
 use Rattle.mj_ports.specs.declared.entry.Entry.{Entry}
 use Rattle.mj_ports.specs.declared.entry.Entry.TheVariants.{Sat, Back, Said, Gone, Expired}
 use Rattle.mj_ports.specs.Entries.{is_sat, next_seat}
+use Rattle.mj_deeds.specs.declared.rule.Rule.{Rule}
 use Rattle.mj_deeds.specs.declared.answer.Answer.{Answer}
 use Rattle.mj_deeds.specs.declared.deed.Deed.{Deed}
 use Rattle.mj_wall.specs.declared.setting.Rules.{Rules}
 use Rattle.mj_wall.specs.declared.setting.Setting.{Setting}
-use Rattle.mj_protocol.specs.After.{After, Chair, Connection, Verdict, author_after, progress_after, verdict_on, lines_for, after_said, after_gone, after_back, due_on_return, told_again, new_chair, own_part, pending, next_deed, with_deed, step, after_from, after, before_all}
+use Rattle.mj_protocol.specs.After.{After, Chair, Connection, Verdict, Taken, Late, verdict, verdict_by, author_after, progress_after, verdict_on, lines_for, after_said, after_gone, after_back, due_on_return, told_again, new_chair, own_part, pending, next_deed, with_deed, step, after_from, after, before_all}
 use Rattle.mj_protocol.proofs.Fitting.{own_deeds}
 use Rattle.mj_protocol.proofs.Connections.{ArePlaced, placed-idle, placed-kept, placed-new, placed-again}
 
@@ -210,3 +211,23 @@ back-chairs setting now author seat chair e = step-chairs setting now (Back auth
 pub sat-chairs : (setting : Setting) (now : After) (author : ℕ) (name : List ℕ) (key : Option (List ℕ)) → (step setting now (Sat author name key)).chairs ≡ now.chairs ++ new_chair now.entered author name key ∷ []
 unfolding own_part
 sat-chairs setting now author name key = step-chairs setting now (Sat author name key)
+
+-- An answer to the newest deed is taken, and one to an earlier deed is late.
+pub taken_at : (due refused n : ℕ) (rule : Option Rule) → verdict due refused n rule ≡ Taken → nat_lt (due + 1) n ≡ false
+taken_at due refused n rule h = by (nat_lt (due + 1) n) h
+  where
+    by : (b : Bool) → (if b then Late else verdict_by refused rule) ≡ Taken → b ≡ false
+    by true e = cc
+    by false e = refl
+
+pub late_at : (due refused n : ℕ) (rule : Option Rule) → verdict due refused n rule ≡ Late → nat_lt (due + 1) n ≡ true
+late_at due refused n rule h = by (nat_lt (due + 1) n) h
+  where
+    never : (o : Option Rule) (b : Bool) → nat_lt refused 15 ≡ b → verdict_by refused o ≡ Late → ⊥
+    never None b r e = cc
+    never (Some rule) true r e = cc
+    never (Some rule) false r e = cc
+
+    by : (b : Bool) → (if b then Late else verdict_by refused rule) ≡ Late → b ≡ true
+    by true e = refl
+    by false e = absurd (never rule (nat_lt refused 15) refl e)

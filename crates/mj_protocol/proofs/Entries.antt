@@ -11,6 +11,10 @@ pub after_from-append : (setting : Setting) (now : After) (es : List (Entry Answ
 after_from-append setting now [] e = refl
 after_from-append setting now (d ∷ es) e = after_from-append setting (step setting now d) es e
 
+pub after_from-list : (setting : Setting) (now : After) (es more : List (Entry Answer)) → after_from setting now (es ++ more) ≡ after_from setting (after_from setting now es) more
+after_from-list setting now [] more = refl
+after_from-list setting now (e ∷ es) more = after_from-list setting (step setting now e) es more
+
 pub after-append : (setting : Setting) (es : List (Entry Answer)) (e : Entry Answer) → after setting (es ++ e ∷ []) ≡ step setting (after setting es) e
 after-append setting es e = after_from-append setting before_all es e
 

@@ -23,4 +23,5 @@ pub mod Entered
 pub mod Seated
 pub mod Moves
 pub mod Arriving
+pub mod Filled
 pub mod Order

@@ -144,7 +144,7 @@ seats_begin setting entries author name key l =
     (subst (λ (n : ℕ). Begins author n now.entered 0 (hello control_line) (shown (step setting now entry))) (seats-are setting entries) begins))
 
 -- A held seat of a permitted entry.
-held_here : (o : Option Chair) (test : Chair → Bool) → option_map_or test o false ≡ true → (chair : Chair) × (o ≡ Some chair) × (test chair ≡ true)
+pub held_here : (o : Option Chair) (test : Chair → Bool) → option_map_or test o false ≡ true → (chair : Chair) × (o ≡ Some chair) × (test chair ≡ true)
 held_here None test h = cc
 held_here (Some chair) test h = (chair, refl, h)
 

@@ -78,7 +78,7 @@ filled_is slots seat answer Late small = refl
 filled_is slots seat answer (Refused rule) small = refl
 filled_is slots seat answer (Closing rule) small = refl
 
-others_filled : (slots : Four (Option Answer)) (who seat : ℕ) (answer : Answer) (v : Verdict) → who < 4 → seat < 4 → who ≢ seat → at_seat (slots_after v slots who answer) seat ≡ at_seat slots seat
+pub others_filled : (slots : Four (Option Answer)) (who seat : ℕ) (answer : Answer) (v : Verdict) → who < 4 → seat < 4 → who ≢ seat → at_seat (slots_after v slots who answer) seat ≡ at_seat slots seat
 others_filled slots who seat answer Taken known small ne = slot-put_other slots who seat answer known small ne
 others_filled slots who seat answer Late known small ne = refl
 others_filled slots who seat answer (Refused rule) known small ne = refl

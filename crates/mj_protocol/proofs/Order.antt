@@ -1,316 +1,396 @@
--- In one window the order of the answers is free.
-use Rattle.std.proofs.Common.{◌≡◌, ◌≢◌, ℕ, zero, suc, ◌+◌, ◌<◌, ◌≤◌, ◌==◌, ◌&&◌, inl, inr, List, [], ◌∷◌, ◌++◌, length, map, Bool, true, false, refl, ap, ◌∙◌, sym, subst, arith, append-nil}
-use Rattle.std.specs.Prelude.{if◌then◌else◌, Option, Some, None, option_map, slice_get, slice_set, nat_lt}
+-- The law of order: behind answers in one window, what a seat comes to follows from its own accepted answers.
+use Rattle.std.proofs.Common.{◌≡◌, ℕ, zero, suc, ◌+◌, ◌<◌, ◌≤◌, ◌==◌, ◌&&◌, not, inl, inr, List, [], ◌∷◌, ◌++◌, length, map, Bool, true, false, refl, ap, ◌∙◌, sym, subst, arith, append-nil}
+use Rattle.std.specs.Prelude.{if◌then◌else◌, Option, Some, None, is_some, unwrap_or, option_map, slice_get, slice_set, nat_lt}
 use Rattle.std.specs.Option.{option_map_or}
-use Rattle.std.proofs.lemmas.Bool.{and_parts}
+use Rattle.std.proofs.lemmas.Bool.{and_parts, not-true, eqb-true}
 use Rattle.std.proofs.lemmas.Bool.Decides.{eqb_tells}
-use Rattle.std.proofs.lemmas.List.{length-append, length-set}
-use Rattle.std.proofs.lemmas.Option.{same_Some, slice_get_within}
+use Rattle.std.proofs.lemmas.List.{length-append}
+use Rattle.std.proofs.lemmas.Option.{same_Some, slice_get-map, slice_get_within}
 use Rattle.mj_ports.specs.declared.entry.Entry.{Entry}
 use Rattle.mj_ports.specs.declared.entry.Entry.TheVariants.{Sat, Back, Said, Gone, Expired}
 use Rattle.mj_deeds.specs.declared.four.Four.{Four}
-use Rattle.mj_deeds.specs.Four.{at_seat}
-use Rattle.mj_deeds.specs.declared.rule.Rule.{Rule}
 use Rattle.mj_deeds.specs.declared.answer.Answer.{Answer}
 use Rattle.mj_deeds.specs.declared.deed.Deed.{Deed}
 use Rattle.mj_deeds.specs.declared.deed.Deed.TheVariants.{StartGame}
+use Rattle.mj_deeds.specs.Answers.{is_in_form}
+use Rattle.mj_deeds.specs.Four.{at_seat}
 use Rattle.mj_wall.specs.declared.setting.Rules.{Rules}
 use Rattle.mj_wall.specs.declared.setting.Setting.{Setting}
-use Rattle.mj_window.specs.Slots.{empty_slots, closes}
+use Rattle.mj_window.specs.Slots.{closes}
+use Rattle.mj_rules.specs.Broken.{broken_rule}
 use Rattle.mj_rules.specs.Outcome.{outcome}
-use Rattle.mj_protocol.specs.After.{After, Chair, Verdict, Taken, Late, Refused, Closing, verdict_by, verdict_on, slots_after, lines_for, name_at, names_of, answers_in, is_present, after_said, own_part, next_deed, with_deed, step, after_from, after}
-use Rattle.mj_protocol.specs.Trace.{may_say}
+use Rattle.mj_protocol.specs.After.{After, Chair, Progress, Verdict, Taken, Late, Refused, Closing, verdict_on, progress_after, slots_after, lines_for, is_present, names_of, answers_in, after_said, own_part, next_deed, with_deed, step, after_from, after, before_all}
+use Rattle.mj_protocol.specs.Trace.{is_open, is_over, can_say, is_permitted}
+use Rattle.mj_protocol.specs.Sitting.{author_at}
 use Rattle.mj_protocol.specs.Shown.{due_at}
-use Rattle.mj_protocol.specs.Arriving.{stays_by, is_answer, AreOfOneWindow, accepted_by, accepted_of, accepted_from, OrderIsFree}
-use Rattle.mj_protocol.proofs.Places.{slice_get-set_at, slice_get-set_other, slot-put_at, slot-put_other}
+use Rattle.mj_protocol.specs.Order.{is_acceptance, is_closing, accepted, accepted_from, answers_in_window, all_answer, IsSameGame, OrderIsFree}
+use Rattle.mj_protocol.proofs.Places.{slice_get-set_at, slice_get-set_other, slot-put_at}
 use Rattle.mj_protocol.proofs.Fitting.{own_deeds}
-use Rattle.mj_protocol.proofs.Seats.{legal_seats}
-use Rattle.mj_protocol.proofs.Entered.{step-chairs, listed, said_chair}
+use Rattle.mj_protocol.proofs.OneWorld.{others_filled}
+use Rattle.mj_protocol.proofs.Entered.{said_chair, taken_at, late_at, listed, step-chairs, step-deeds}
+use Rattle.mj_protocol.proofs.Seats.{AreSeats, step_seats, legal_seats}
+use Rattle.mj_protocol.proofs.Entries.{after_from-list}
+use Rattle.mj_protocol.proofs.Filled.{AreFilled, below_four, legal_filled, not_closed}
 
--- The slot of a seat behind its accepted answers, where there are so many deeds.
-abbrev slot_run : ℕ → ℕ → Option Answer → List Answer → Option Answer
-slot_run n due slot [] = slot
-slot_run n due slot (a ∷ xs) = slot_run n (due + 1) (if nat_lt (due + 1) n then slot else Some a) xs
+-- What the accepted answers of a seat make of its slot, behind so many deeds and from its due number on.
+abbrev slot_behind : ℕ → ℕ → Option Answer → List Answer → Option Answer
+slot_behind n due slot [] = slot
+slot_behind n due slot (answer ∷ answers) = slot_behind n (due + 1) (if nat_lt (due + 1) n then slot else Some answer) answers
 
-record Runs (n seat : ℕ) (now mid : After) (xs : List Answer) : Type 0 where
-  due : due_at mid seat ≡ due_at now seat + length xs
-  slot : at_seat mid.slots seat ≡ slot_run n (due_at now seat) (at_seat now.slots seat) xs
-
-slot-append : (n due : ℕ) (slot : Option Answer) (xs bs : List Answer) → slot_run n due slot (xs ++ bs) ≡ slot_run n (due + length xs) (slot_run n due slot xs) bs
-slot-append n due slot [] bs = ap (λ (d : ℕ). slot_run n d slot bs) (none due)
+slot-more : (n due : ℕ) (slot : Option Answer) (answers more : List Answer) → slot_behind n due slot (answers ++ more) ≡ slot_behind n (due + length answers) (slot_behind n due slot answers) more
+slot-more n due slot [] more = ap (λ (k : ℕ). slot_behind n k slot more) (none due)
   where
-    none : (d : ℕ) → d ≡ d + 0
-    none d = omega arith
-slot-append n due slot (a ∷ xs) bs =
-    let next : Option Answer = if nat_lt (due + 1) n then slot else Some a in
-    slot-append n (due + 1) next xs bs ∙ ap (λ (d : ℕ). slot_run n d (slot_run n (due + 1) next xs) bs) (longer due (length xs))
+    none : (k : ℕ) → k ≡ k + 0
+    none k = omega arith
+slot-more n due slot (answer ∷ answers) more =
+    let next : Option Answer = if nat_lt (due + 1) n then slot else Some answer in
+    slot-more n (due + 1) next answers more
+    ∙ ap (λ (k : ℕ). slot_behind n k (slot_behind n (due + 1) next answers) more) (one due (length answers))
   where
-    longer : (d m : ℕ) → d + 1 + m ≡ d + suc m
-    longer d m = omega arith
+    one : (k m : ℕ) → k + 1 + m ≡ k + suc m
+    one k m = omega arith
 
-runs_on : (n seat : ℕ) (now b mid : After) (xs bs : List Answer) → Runs n seat now b xs → Runs n seat b mid bs → Runs n seat now mid (xs ++ bs)
-runs_on n seat now b mid xs bs r s = record {
-  due = s.due ∙ ap (λ (d : ℕ). d + length bs) r.due ∙ sums (due_at now seat) (length xs) (length bs) (length (xs ++ bs)) (length-append xs bs);
-  slot = s.slot ∙ (λ i. slot_run n (r.due i) (r.slot i) bs) ∙ sym (slot-append n (due_at now seat) (at_seat now.slots seat) xs bs);
+-- By whom the seats are present.
+abbrev authors : List Chair → List (Option ℕ)
+authors chairs = map (λ (chair : Chair). chair.author) chairs
+
+presence-is : (chairs : List Chair) → map is_present chairs ≡ map (λ (author : Option ℕ). is_some author) (authors chairs)
+presence-is [] = refl
+presence-is (chair ∷ chairs) = ap (λ (bs : List Bool). is_present chair ∷ bs) (presence-is chairs)
+
+author-is : (now : After) (seat : ℕ) → author_at now seat ≡ unwrap_or (slice_get (authors now.chairs) seat) None
+author-is now seat = by (slice_get now.chairs seat) ∙ ap (λ (o : Option (Option ℕ)). unwrap_or o None) (sym (slice_get-map (λ (chair : Chair). chair.author) now.chairs seat))
+  where
+    by : (o : Option Chair) → option_map_or (λ (chair : Chair). chair.author) o None ≡ unwrap_or (option_map (λ (chair : Chair). chair.author) o) None
+    by None = refl
+    by (Some chair) = refl
+
+authors-set : (chairs : List Chair) (seat : ℕ) (old new : Chair) → slice_get chairs seat ≡ Some old → new.author ≡ old.author → authors (slice_set chairs seat new) ≡ authors chairs
+authors-set [] seat old new e same = refl
+authors-set (first ∷ chairs) zero old new e same = ap (λ (author : Option ℕ). author ∷ authors chairs) (same ∙ ap (λ (c : Chair). c.author) (same_Some old first (sym e)))
+authors-set (first ∷ chairs) (suc seat) old new e same = ap (λ (others : List (Option ℕ)). first.author ∷ others) (authors-set chairs seat old new e same)
+
+-- The seats go on by these accepted answers of each, without a deed.
+record Moves (now next : After) (answers : ℕ → List Answer) : Type 0 where
+  deeds : next.deeds ≡ now.deeds
+  authors : authors next.chairs ≡ authors now.chairs
+  due : (seat : ℕ) → due_at next seat ≡ due_at now seat + length (answers seat)
+  slot : (seat : ℕ) → seat < 4 → at_seat next.slots seat ≡ slot_behind (length now.deeds) (due_at now seat) (at_seat now.slots seat) (answers seat)
+
+moves_as : (now next : After) (answers others : ℕ → List Answer) → ((seat : ℕ) → answers seat ≡ others seat) → Moves now next answers → Moves now next others
+moves_as now next answers others same m = record {
+  deeds = m.deeds;
+  authors = m.authors;
+  due = λ seat. m.due seat ∙ ap (λ (said : List Answer). due_at now seat + length said) (same seat);
+  slot = λ seat small. m.slot seat small ∙ ap (slot_behind (length now.deeds) (due_at now seat) (at_seat now.slots seat)) (same seat);
+}
+
+moves_on : (now mid next : After) (answers more : ℕ → List Answer) → Moves now mid answers → Moves mid next more → Moves now next (λ seat. answers seat ++ more seat)
+moves_on now mid next answers more m k = record {
+  deeds = k.deeds ∙ m.deeds;
+  authors = k.authors ∙ m.authors;
+  due = λ seat. sum (due_at next seat) (due_at mid seat) (due_at now seat) (length (answers seat)) (length (more seat)) _ (k.due seat) (m.due seat) (length-append (answers seat) (more seat));
+  slot = λ seat small. k.slot seat small
+      ∙ (λ i. slot_behind (length (m.deeds i)) (m.due seat i) (m.slot seat small i) (more seat))
+      ∙ sym (slot-more (length now.deeds) (due_at now seat) (at_seat now.slots seat) (answers seat) (more seat));
 }
   where
-    sums : (d a b c : ℕ) → c ≡ a + b → d + a + b ≡ d + c
-    sums d a b c e = omega arith
+    sum : (a b c x y z : ℕ) → a ≡ b + y → b ≡ c + x → z ≡ x + y → a ≡ c + z
+    sum a b c x y z e f g = omega arith
 
--- What an answer leaves.
-record Keeps (now mid : After) : Type 0 where
-  deeds : mid.deeds ≡ now.deeds
-  many : length mid.chairs ≡ length now.chairs
-  names : names_of mid.chairs ≡ names_of now.chairs
-  presence : map is_present mid.chairs ≡ map is_present now.chairs
+-- What a verdict changes of the due number and of the slot.
+abbrev answer_if : Bool → Answer → List Answer
+answer_if b answer = if b then answer ∷ [] else []
 
-keeps_on : (now b mid : After) → Keeps now b → Keeps b mid → Keeps now mid
-keeps_on now b mid k l = record { deeds = l.deeds ∙ k.deeds; many = l.many ∙ k.many; names = l.names ∙ k.names; presence = l.presence ∙ k.presence }
+due_by : (lines : List (List ℕ)) (v : Verdict) (p : Progress) (answer : Answer) → (progress_after lines v p).due ≡ p.due + length (answer_if (is_acceptance v) answer)
+due_by lines Taken p answer = refl
+due_by lines Late p answer = refl
+due_by lines (Refused rule) p answer = omega arith
+due_by lines (Closing rule) p answer = omega arith
 
-same_names : (chairs : List Chair) (i k : ℕ) (old new : Chair) → slice_get chairs i ≡ Some old → new.name ≡ old.name → name_at (slice_set chairs i new) k ≡ name_at chairs k
-same_names [] i k old new e h = refl
-same_names (c ∷ cs) zero zero old new e h = h ∙ ap (λ (x : Chair). x.name) (sym (same_Some c old e))
-same_names (c ∷ cs) zero (suc k) old new e h = refl
-same_names (c ∷ cs) (suc i) zero old new e h = refl
-same_names (c ∷ cs) (suc i) (suc k) old new e h = same_names cs i k old new e h
+slot_by : (n due seat : ℕ) (slots : Four (Option Answer)) (v : Verdict) (answer : Answer) → seat < 4 → (v ≡ Taken → nat_lt (due + 1) n ≡ false) → (v ≡ Late → nat_lt (due + 1) n ≡ true)
+    → at_seat (slots_after v slots seat answer) seat ≡ slot_behind n due (at_seat slots seat) (answer_if (is_acceptance v) answer)
+slot_by n due seat slots Taken answer small t l = slot-put_at slots seat answer small ∙ ap (λ (b : Bool). if b then at_seat slots seat else Some answer) (sym (t refl))
+slot_by n due seat slots Late answer small t l = ap (λ (b : Bool). if b then at_seat slots seat else Some answer) (sym (l refl))
+slot_by n due seat slots (Refused rule) answer small t l = refl
+slot_by n due seat slots (Closing rule) answer small t l = refl
 
-same_presence : (chairs : List Chair) (i : ℕ) (old new : Chair) → slice_get chairs i ≡ Some old → is_present new ≡ is_present old → map is_present (slice_set chairs i new) ≡ map is_present chairs
-same_presence [] i old new e h = refl
-same_presence (c ∷ cs) zero old new e h = ap (λ (b : Bool). b ∷ map is_present cs) (h ∙ ap is_present (sym (same_Some c old e)))
-same_presence (c ∷ cs) (suc i) old new e h = ap (λ (bs : List Bool). is_present c ∷ bs) (same_presence cs i old new e h)
+author_by : (lines : List (List ℕ)) (v : Verdict) (chair : Chair) → is_closing v ≡ false → (said_chair lines v chair).author ≡ chair.author
+author_by lines Taken chair h = refl
+author_by lines Late chair h = refl
+author_by lines (Refused rule) chair h = refl
+author_by lines (Closing rule) chair h = cc
 
-stays_present : (lines : List (List ℕ)) (v : Verdict) (chair : Chair) → stays_by v ≡ true → is_present (said_chair lines v chair) ≡ is_present chair
-stays_present lines Taken chair h = refl
-stays_present lines Late chair h = refl
-stays_present lines (Refused rule) chair h = refl
-stays_present lines (Closing rule) chair h = cc
+-- One answer.
+abbrev with_said : After → ℕ → Answer → Chair → Verdict → After
+with_said now seat answer chair v = record {
+  entered = now.entered;
+  deeds = now.deeds;
+  chairs = slice_set now.chairs seat (said_chair (lines_for seat now.deeds) v chair);
+  slots = slots_after v now.slots seat answer;
+}
 
-said_keeps : (rules : Rules) (now : After) (who : ℕ) (answer : Answer) (chair : Chair) → slice_get now.chairs who ≡ Some chair → stays_by (verdict_on rules now.deeds who answer chair.progress) ≡ true → Keeps now (after_said rules now who answer chair)
-unfolding after_said
-said_keeps rules now who answer chair e h =
-    let new : Chair = said_chair (lines_for who now.deeds) (verdict_on rules now.deeds who answer chair.progress) chair in
-    record {
-      deeds = refl;
-      many = length-set now.chairs who new;
-      names = (λ i. record {
-        first = same_names now.chairs who 0 chair new e refl i;
-        second = same_names now.chairs who 1 chair new e refl i;
-        third = same_names now.chairs who 2 chair new e refl i;
-        fourth = same_names now.chairs who 3 chair new e refl i;
-      });
-      presence = same_presence now.chairs who chair new e (stays_present (lines_for who now.deeds) (verdict_on rules now.deeds who answer chair.progress) chair h);
-    }
+none_more : (n : ℕ) → n ≡ n + 0
+none_more n = omega arith
 
--- An answer is late exactly where its deed isn't the newest.
-not_late : (refused : ℕ) (o : Option Rule) → verdict_by refused o ≡ Late → ⊥
-not_late refused None h = cc
-not_late refused (Some rule) h = by (nat_lt refused 15) h
-  where
-    by : (b : Bool) → (if b then Refused rule else Closing rule) ≡ Late → ⊥
-    by true k = cc
-    by false k = cc
+not_said : (b c : Bool) (answer : Answer) → b ≡ false → answer_if (b && c) answer ≡ []
+not_said b c answer e = ap (λ (a : Bool). answer_if (a && c) answer) e
 
-late_is : (b : Bool) (refused : ℕ) (o : Option Rule) → (if b then Late else verdict_by refused o) ≡ Late → b ≡ true
-late_is true refused o h = refl
-late_is false refused o h = absurd (not_late refused o h)
+is_said : (b c : Bool) (answer : Answer) → b ≡ true → answer_if (b && c) answer ≡ answer_if c answer
+is_said b c answer e = ap (λ (a : Bool). answer_if (a && c) answer) e
 
-taken_is : (b : Bool) (refused : ℕ) (o : Option Rule) → (if b then Late else verdict_by refused o) ≡ Taken → b ≡ false
-taken_is true refused o h = cc
-taken_is false refused o h = refl
-
--- One answer, for the seat that gives it and for another.
-none_more : (d : ℕ) → d ≡ d + 0
-none_more d = omega arith
-
-own_runs : (now : After) (who : ℕ) (answer : Answer) (chair : Chair) (lines : List (List ℕ)) (v : Verdict) (b : Bool) → who < 4 → slice_get now.chairs who ≡ Some chair → (v ≡ Late → b ≡ true) → (v ≡ Taken → b ≡ false)
-    → nat_lt (chair.progress.due + 1) (length now.deeds) ≡ b
-    → Runs (length now.deeds) who now (record now { chairs = slice_set now.chairs who (said_chair lines v chair); slots = slots_after v now.slots who answer }) (accepted_by v answer)
-own_runs now who answer chair lines v b small e late taken is = by v late taken
-  where
-    due_of : (new : Chair) → option_map_or (λ (c : Chair). c.progress.due) (slice_get (slice_set now.chairs who new) who) 0 ≡ new.progress.due
-    due_of new = ap (λ (o : Option Chair). option_map_or (λ (c : Chair). c.progress.due) o 0) (slice_get-set_at now.chairs who new chair e)
-
-    was : due_at now who ≡ chair.progress.due
-    was = ap (λ (o : Option Chair). option_map_or (λ (c : Chair). c.progress.due) o 0) e
-
-    one : (w : Verdict) (slot : Option Answer) (t : Bool) → nat_lt (chair.progress.due + 1) (length now.deeds) ≡ t → slot ≡ (if t then at_seat now.slots who else Some answer) → slot ≡ slot_run (length now.deeds) (due_at now who) (at_seat now.slots who) (answer ∷ [])
-    one w slot t k f = f ∙ (λ i. if (sym k) i then at_seat now.slots who else Some answer) ∙ ap (λ (d : ℕ). if nat_lt (d + 1) (length now.deeds) then at_seat now.slots who else Some answer) (sym was)
-
-    by : (w : Verdict) → (w ≡ Late → b ≡ true) → (w ≡ Taken → b ≡ false) → Runs (length now.deeds) who now (record now { chairs = slice_set now.chairs who (said_chair lines w chair); slots = slots_after w now.slots who answer }) (accepted_by w answer)
-    by Taken f g = record { due = due_of (said_chair lines Taken chair) ∙ ap (λ (d : ℕ). d + 1) (sym was); slot = one Taken _ false (is ∙ g refl) (slot-put_at now.slots who answer small) }
-    by Late f g = record { due = due_of (said_chair lines Late chair) ∙ ap (λ (d : ℕ). d + 1) (sym was); slot = one Late _ true (is ∙ f refl) refl }
-    by (Refused rule) f g = record { due = due_of (said_chair lines (Refused rule) chair) ∙ sym was ∙ none_more (due_at now who); slot = refl }
-    by (Closing rule) f g = record { due = due_of (said_chair lines (Closing rule) chair) ∙ sym was ∙ none_more (due_at now who); slot = refl }
-
-other_runs : (now : After) (who seat : ℕ) (answer : Answer) (chair : Chair) (lines : List (List ℕ)) (v : Verdict) → who < 4 → seat < 4 → who ≢ seat
-    → Runs (length now.deeds) seat now (record now { chairs = slice_set now.chairs who (said_chair lines v chair); slots = slots_after v now.slots who answer }) []
-other_runs now who seat answer chair lines v small near ne = record {
-  due = ap (λ (o : Option Chair). option_map_or (λ (c : Chair). c.progress.due) o 0) (slice_get-set_other now.chairs who seat (said_chair lines v chair) ne) ∙ none_more (due_at now seat);
-  slot = by v;
+held_moves : (now : After) (who : ℕ) (answer : Answer) (chair : Chair) (v : Verdict) → slice_get now.chairs who ≡ Some chair → length now.chairs ≤ 4 → is_closing v ≡ false
+    → (v ≡ Taken → nat_lt (chair.progress.due + 1) (length now.deeds) ≡ false) → (v ≡ Late → nat_lt (chair.progress.due + 1) (length now.deeds) ≡ true)
+    → Moves now (with_said now who answer chair v) (λ seat. answer_if (who == seat && is_acceptance v) answer)
+held_moves now who answer chair v e few stays t l = record {
+  deeds = refl;
+  authors = authors-set now.chairs who chair new e (author_by lines v chair stays);
+  due = λ seat. elim (eqb_tells who seat) [
+    | inl p ↦ subst (λ (k : ℕ). due_at next k ≡ due_at now k + length (answer_if (is_acceptance v) answer)) p.1 own_due ∙ ap (λ (said : List Answer). due_at now seat + length said) (sym (is_said (who == seat) (is_acceptance v) answer p.0))
+    | inr p ↦ ap (λ (o : Option Chair). option_map_or (λ (c : Chair). c.progress.due) o 0) (slice_get-set_other now.chairs who seat new p.1) ∙ none_more (due_at now seat)
+        ∙ ap (λ (said : List Answer). due_at now seat + length said) (sym (not_said (who == seat) (is_acceptance v) answer p.0))
+  ];
+  slot = λ seat small. elim (eqb_tells who seat) [
+    | inl p ↦ subst (λ (k : ℕ). at_seat next.slots k ≡ slot_behind n (due_at now k) (at_seat now.slots k) (answer_if (is_acceptance v) answer)) p.1 own_slot
+        ∙ ap (slot_behind n (due_at now seat) (at_seat now.slots seat)) (sym (is_said (who == seat) (is_acceptance v) answer p.0))
+    | inr p ↦ others_filled now.slots who seat answer v known small p.1 ∙ ap (slot_behind n (due_at now seat) (at_seat now.slots seat)) (sym (not_said (who == seat) (is_acceptance v) answer p.0))
+  ];
 }
   where
-    by : (w : Verdict) → at_seat (slots_after w now.slots who answer) seat ≡ at_seat now.slots seat
-    by Taken = slot-put_other now.slots who seat answer small near ne
-    by Late = refl
-    by (Refused rule) = refl
-    by (Closing rule) = refl
+    lines : List (List ℕ)
+    lines = lines_for who now.deeds
 
-abbrev verdict_here : Rules → After → ℕ → Answer → Chair → Verdict
-verdict_here rules now who answer chair = verdict_on rules now.deeds who answer chair.progress
+    n : ℕ
+    n = length now.deeds
 
-abbrev said_to : Rules → After → ℕ → Answer → Chair → After
-said_to rules now who answer chair = record now { chairs = slice_set now.chairs who (said_chair (lines_for who now.deeds) (verdict_here rules now who answer chair) chair); slots = slots_after (verdict_here rules now who answer chair) now.slots who answer }
+    new : Chair
+    new = said_chair (lines_for who now.deeds) v chair
 
-said_runs : (rules : Rules) (now : After) (who seat : ℕ) (answer : Answer) (chair : Chair) → who < 4 → seat < 4 → slice_get now.chairs who ≡ Some chair
-    → Runs (length now.deeds) seat now (after_said rules now who answer chair) (if who == seat then accepted_by (verdict_on rules now.deeds who answer chair.progress) answer else [])
+    next : After
+    next = with_said now who answer chair v
+
+    known : who < 4
+    known = below_four who (length now.chairs) (slice_get_within now.chairs who chair e) few
+
+    due_is : due_at now who ≡ chair.progress.due
+    due_is = ap (λ (o : Option Chair). option_map_or (λ (c : Chair). c.progress.due) o 0) e
+
+    own_due : due_at next who ≡ due_at now who + length (answer_if (is_acceptance v) answer)
+    own_due = ap (λ (o : Option Chair). option_map_or (λ (c : Chair). c.progress.due) o 0) (slice_get-set_at now.chairs who new chair e)
+        ∙ due_by lines v chair.progress answer ∙ ap (λ (k : ℕ). k + length (answer_if (is_acceptance v) answer)) (sym due_is)
+
+    own_slot : at_seat next.slots who ≡ slot_behind n (due_at now who) (at_seat now.slots who) (answer_if (is_acceptance v) answer)
+    own_slot = slot_by n chair.progress.due who now.slots v answer known t l ∙ ap (λ (k : ℕ). slot_behind n k (at_seat now.slots who) (answer_if (is_acceptance v) answer)) (sym due_is)
+
+-- An answer of a seat that isn't held changes nothing.
+idle_moves : (now : After) (answers : ℕ → List Answer) → ((seat : ℕ) → answers seat ≡ []) → Moves now now answers
+idle_moves now answers none = record {
+  deeds = refl;
+  authors = refl;
+  due = λ seat. none_more (due_at now seat) ∙ ap (λ (said : List Answer). due_at now seat + length said) (sym (none seat));
+  slot = λ seat small. ap (slot_behind (length now.deeds) (due_at now seat) (at_seat now.slots seat)) (sym (none seat));
+}
+
+never_said : (b : Bool) (answer : Answer) → answer_if (b && false) answer ≡ []
+never_said true answer = refl
+never_said false answer = refl
+
+said_moves : (rules : Rules) (now : After) (who : ℕ) (answer : Answer) (held : Option Chair) → slice_get now.chairs who ≡ held → length now.chairs ≤ 4
+    → option_map_or is_closing (option_map (λ (chair : Chair). verdict_on rules now.deeds who answer chair.progress) held) false ≡ false
+    → Moves now (option_map_or (after_said rules now who answer) held now)
+    (λ seat. answer_if (who == seat && option_map_or is_acceptance (option_map (λ (chair : Chair). verdict_on rules now.deeds who answer chair.progress) held) false) answer)
 unfolding after_said
-said_runs rules now who seat answer chair small near e = elim (eqb_tells who seat) [
-  | inl s ↦ subst (λ (b : Bool). Runs (length now.deeds) seat now (said_to rules now who answer chair) (if b then accepted_by (verdict_here rules now who answer chair) answer else [])) (sym s.0)
-      (subst (λ (k : ℕ). Runs (length now.deeds) k now (said_to rules now who answer chair) (accepted_by (verdict_here rules now who answer chair) answer)) s.1
-      (own_runs now who answer chair (lines_for who now.deeds) (verdict_here rules now who answer chair) (nat_lt (chair.progress.due + 1) (length now.deeds)) small e (late_is _ chair.progress.refused _) (taken_is _ chair.progress.refused _) refl))
-  | inr s ↦ subst (λ (b : Bool). Runs (length now.deeds) seat now (said_to rules now who answer chair) (if b then accepted_by (verdict_here rules now who answer chair) answer else [])) (sym s.0) (other_runs now who seat answer chair (lines_for who now.deeds) (verdict_here rules now who answer chair) small near s.1)
-]
+said_moves rules now who answer None e few stays = idle_moves now _ (λ seat. never_said (who == seat) answer)
+said_moves rules now who answer (Some chair) e few stays =
+    held_moves now who answer chair (verdict_on rules now.deeds who answer chair.progress) e few stays
+    (taken_at chair.progress.due chair.progress.refused (length now.deeds) (broken_rule rules now.deeds who answer))
+    (late_at chair.progress.due chair.progress.refused (length now.deeds) (broken_rule rules now.deeds who answer))
 
-said_one : (setting : Setting) (now : After) (author who seat : ℕ) (answer : Answer) (held : Option Chair) → slice_get now.chairs who ≡ held → length now.chairs ≤ 4 → seat < 4
-    → (option_map_or (may_say now author) held false && option_map_or stays_by (option_map (λ (chair : Chair). verdict_on setting.rules now.deeds who answer chair.progress) held) false) ≡ true
-    → Runs (length now.deeds) seat now (option_map_or (after_said setting.rules now who answer) held now)
-    (if who == seat then option_map_or (λ (v : Verdict). accepted_by v answer) (option_map (λ (chair : Chair). verdict_on setting.rules now.deeds who answer chair.progress) held) [] else [])
-    × Keeps now (option_map_or (after_said setting.rules now who answer) held now)
-said_one setting now author who seat answer None e few near h = cc
-said_one setting now author who seat answer (Some chair) e few near h = (
-  said_runs setting.rules now who seat answer chair (below who (length now.chairs) (slice_get_within now.chairs who chair e) few) near e,
-  said_keeps setting.rules now who answer chair e (and_parts (may_say now author chair) _ h).1,
-)
-  where
-    below : (k n : ℕ) → k < n → n ≤ 4 → k < 4
-    below k n h f = omega arith
-
-one_answer : (setting : Setting) (now : After) (entry : Entry Answer) (seat : ℕ) → length now.chairs ≤ 4 → seat < 4 → is_answer setting now entry ≡ true
-    → Runs (length now.deeds) seat now (own_part setting now entry) (accepted_of setting seat now entry) × Keeps now (own_part setting now entry)
+answer_moves : (setting : Setting) (window : ℕ) (now : After) (entry : Entry Answer) → length now.chairs ≤ 4 → answers_in_window setting window now entry ≡ true → Moves now (own_part setting now entry) (λ seat. accepted setting seat now entry)
 unfolding own_part
-one_answer setting now (Sat author name key) seat few near h = cc
-one_answer setting now (Back author who) seat few near h = cc
-one_answer setting now (Gone author who) seat few near h = cc
-one_answer setting now (Expired author window t1 t2) seat few near h = cc
-one_answer setting now (Said author who answer) seat few near h = said_one setting now author who seat answer (slice_get now.chairs who) refl few near h
+answer_moves setting window now (Said author seat answer) few h = said_moves setting.rules now seat answer (slice_get now.chairs seat) refl few (not-true _ (and_parts _ _ h).1)
+answer_moves setting window now (Sat author name key) few h = cc
+answer_moves setting window now (Back author seat) few h = cc
+answer_moves setting window now (Gone author seat) few h = cc
+answer_moves setting window now (Expired author window_now t1 t2) few h = cc
 
--- The next deed, by the parts that it is made of.
-abbrev next_by : Setting → List Deed → ℕ → Four (List ℕ) → List Bool → Four (Option Answer) → Option Deed
-next_by setting deeds many names presence slots =
-    if length deeds == 0
-    then (if many == 4 then Some (StartGame names) else None)
-    else (if closes slots presence then outcome setting.rules setting.walls deeds (answers_in setting.rules deeds slots) else None)
+answer_permitted : (setting : Setting) (window : ℕ) (now : After) (entry : Entry Answer) → answers_in_window setting window now entry ≡ true → (is_permitted setting now entry ≡ true) × (is_open now.deeds window ≡ true)
+answer_permitted setting window now (Said author seat answer) h = and_parts (is_permitted setting now (Said author seat answer)) (is_open now.deeds window) (and_parts _ _ h).0
+answer_permitted setting window now (Sat author name key) h = cc
+answer_permitted setting window now (Back author seat) h = cc
+answer_permitted setting window now (Gone author seat) h = cc
+answer_permitted setting window now (Expired author window_now t1 t2) h = cc
 
-abbrev slots_with : Option Deed → Four (Option Answer) → Four (Option Answer)
-slots_with None slots = slots
-slots_with (Some deed) slots = empty_slots
+-- The open window is that of the newest deed.
+opened : (deeds : List Deed) (window : ℕ) → is_open deeds window ≡ true → ((length deeds == 0) ≡ false) × (window + 1 ≡ length deeds)
+opened deeds window h =
+    let parts = and_parts (not (length deeds == 0) && not (is_over deeds)) (window + 1 == length deeds) h in
+    (not-true _ (and_parts (not (length deeds == 0)) (not (is_over deeds)) parts.0).0, eqb-true (window + 1) (length deeds) parts.1)
 
-record Ends (mid end : After) (next : Option Deed) : Type 0 where
-  deeds : end.deeds ≡ mid.deeds ++ listed next
-  slots : end.slots ≡ slots_with next mid.slots
-  chairs : end.chairs ≡ mid.chairs
+-- The deed that follows an answer, by the deeds, who is present and the slots.
+abbrev following : Setting → List Deed → List Bool → Four (Option Answer) → Option Deed
+following setting deeds presence slots = if closes slots presence then outcome setting.rules setting.walls deeds (answers_in setting.rules deeds slots) else None
 
-step_ends : (setting : Setting) (now : After) (entry : Entry Answer) → Ends (own_part setting now entry) (step setting now entry) (next_deed setting (own_part setting now entry) entry)
+abbrev followed : Setting → After → Option Deed
+followed setting now = following setting now.deeds (map is_present now.chairs) now.slots
+
+next_follows : (setting : Setting) (window : ℕ) (now next : After) (entry : Entry Answer) → answers_in_window setting window now entry ≡ true → (length next.deeds == 0) ≡ false → next_deed setting next entry ≡ followed setting next
+unfolding next_deed
+next_follows setting window now next (Said author seat answer) h begun =
+    ap (λ (b : Bool). if b then (if length next.chairs == 4 then Some (StartGame (names_of next.chairs)) else None) else followed setting next) begun
+next_follows setting window now next (Sat author name key) h begun = cc
+next_follows setting window now next (Back author seat) h begun = cc
+next_follows setting window now next (Gone author seat) h begun = cc
+next_follows setting window now next (Expired author window_now t1 t2) h begun = cc
+
+-- A step is its own part and its deed.
+record IsStep (now next : After) (added : Option Deed) : Type 0 where
+  deeds : next.deeds ≡ now.deeds ++ listed added
+  chairs : next.chairs ≡ now.chairs
+  slots : next.slots ≡ (with_deed now added).slots
+
+step_is : (setting : Setting) (now : After) (entry : Entry Answer) → IsStep (own_part setting now entry) (step setting now entry) (next_deed setting (own_part setting now entry) entry)
 unfolding step
-step_ends setting now entry = by (next_deed setting (own_part setting now entry) entry)
+step_is setting now entry = record {
+  deeds = step-deeds setting now entry ∙ ap (λ (ds : List Deed). ds ++ listed (next_deed setting (own_part setting now entry) entry)) (sym (own_deeds setting now entry));
+  chairs = step-chairs setting now entry;
+  slots = refl;
+}
+
+no_deed : (deeds others : List Deed) (o : Option Deed) → others ≡ deeds ++ listed o → length others ≡ length deeds → o ≡ None
+no_deed deeds others None e l = refl
+no_deed deeds others (Some deed) e l = absurd (longer (length others) (length deeds) (ap (λ (ds : List Deed). length ds) e ∙ length-append deeds (deed ∷ [])) l)
   where
-    by : (o : Option Deed) → Ends (own_part setting now entry) (record (with_deed (own_part setting now entry) o) { entered = (with_deed (own_part setting now entry) o).entered + 1 }) o
-    by None = record { deeds = sym (append-nil (own_part setting now entry).deeds); slots = refl; chairs = refl }
-    by (Some deed) = record { deeds = refl; slots = refl; chairs = refl }
+    longer : (a b : ℕ) → a ≡ b + 1 → a ≡ b → ⊥
+    longer a b e f = omega arith
 
--- As long xs no deed is added nothing else happens.
-no_deed_slots : (mid end : After) (next : Option Deed) → Ends mid end next → end.deeds ≡ mid.deeds → end.slots ≡ mid.slots
-no_deed_slots mid end None k e = k.slots
-no_deed_slots mid end (Some deed) k e = absurd (longer (length mid.deeds) (length (mid.deeds ++ deed ∷ [])) (length-append mid.deeds (deed ∷ [])) (ap (λ (ds : List Deed). length ds) (sym k.deeds ∙ e)))
-  where
-    longer : (n m : ℕ) → m ≡ n + 1 → m ≡ n → ⊥
-    longer n m e f = omega arith
-
--- Answers of one window, up to what the last of them changes of its own seat.
-abbrev mid_of : Setting → After → Entry Answer → List (Entry Answer) → After
-mid_of setting now entry [] = own_part setting now entry
-mid_of setting now entry (next ∷ entries) = mid_of setting (step setting now entry) next entries
-
-record Comes (n seat : ℕ) (now mid : After) (xs : List Answer) : Type 0 where
-  runs : Runs n seat now mid xs
-  keeps : Keeps now mid
-
-one_on : (setting : Setting) (n seat : ℕ) (now : After) (entry : Entry Answer) → n ≡ length now.deeds → length now.chairs ≤ 4 → seat < 4 → is_answer setting now entry ≡ true → (step setting now entry).deeds ≡ now.deeds
-    → Comes n seat now (step setting now entry) (accepted_of setting seat now entry)
-one_on setting n seat now entry m few near h open_is =
-    let one = one_answer setting now entry seat few near h in
-    let same : (step setting now entry).chairs ≡ (own_part setting now entry).chairs = step-chairs setting now entry in
-    let slots : (step setting now entry).slots ≡ (own_part setting now entry).slots =
-    no_deed_slots (own_part setting now entry) (step setting now entry) (next_deed setting (own_part setting now entry) entry) (step_ends setting now entry) (open_is ∙ sym (own_deeds setting now entry)) in
-    let runs : Runs n seat now (own_part setting now entry) (accepted_of setting seat now entry) = subst (λ (k : ℕ). Runs k seat now (own_part setting now entry) (accepted_of setting seat now entry)) (sym m) one.0 in
+-- Where no deed is added, the step has what the own part has.
+idle_step : (now mid next : After) (answers : ℕ → List Answer) (added : Option Deed) → Moves now mid answers → IsStep mid next added → length next.deeds ≡ length now.deeds → Moves now next answers
+idle_step now mid next answers added m s l =
+    let none : added ≡ None = no_deed mid.deeds next.deeds added s.deeds (l ∙ ap (λ (ds : List Deed). length ds) (sym m.deeds)) in
+    let slots : next.slots ≡ mid.slots = s.slots ∙ ap (λ (o : Option Deed). (with_deed mid o).slots) none in
     record {
-      runs = record {
-        due = ap (λ (cs : List Chair). option_map_or (λ (c : Chair). c.progress.due) (slice_get cs seat) 0) same ∙ runs.due;
-        slot = ap (λ (s : Four (Option Answer)). at_seat s seat) slots ∙ runs.slot;
-      };
-      keeps = record {
-        deeds = open_is;
-        many = ap (λ (cs : List Chair). length cs) same ∙ one.1.many;
-        names = ap names_of same ∙ one.1.names;
-        presence = ap (map is_present) same ∙ one.1.presence;
-      };
+      deeds = s.deeds ∙ ap (λ (o : Option Deed). mid.deeds ++ listed o) none ∙ append-nil mid.deeds ∙ m.deeds;
+      authors = ap authors s.chairs ∙ m.authors;
+      due = λ seat. ap (λ (cs : List Chair). option_map_or (λ (c : Chair). c.progress.due) (slice_get cs seat) 0) s.chairs ∙ m.due seat;
+      slot = λ seat small. ap (λ (fs : Four (Option Answer)). at_seat fs seat) slots ∙ m.slot seat small;
     }
 
-middle : (setting : Setting) (n seat : ℕ) (now : After) (entry : Entry Answer) (entries : List (Entry Answer)) → n ≡ length now.deeds → length now.chairs ≤ 4 → seat < 4 → AreOfOneWindow setting now (entry ∷ entries)
-    → Comes n seat now (mid_of setting now entry entries) (accepted_from setting seat now (entry ∷ entries))
-middle setting n seat now entry [] m few near w =
-    let one = one_answer setting now entry seat few near w.0 in
-    let runs : Runs n seat now (own_part setting now entry) (accepted_of setting seat now entry) = subst (λ (k : ℕ). Runs k seat now (own_part setting now entry) (accepted_of setting seat now entry)) (sym m) one.0 in
-    record { runs = subst (λ (xs : List Answer). Runs n seat now (own_part setting now entry) xs) (sym (append-nil (accepted_of setting seat now entry))) runs; keeps = one.1 }
-middle setting n seat now entry (next ∷ entries) m few near w =
-    let one : Comes n seat now (step setting now entry) (accepted_of setting seat now entry) = one_on setting n seat now entry m few near w.0 w.1 in
-    let rest : Comes n seat (step setting now entry) (mid_of setting (step setting now entry) next entries) (accepted_from setting seat (step setting now entry) (next ∷ entries)) =
-    middle setting n seat (step setting now entry) next entries (m ∙ sym (ap (λ (ds : List Deed). length ds) w.1)) (subst (λ (k : ℕ). k ≤ 4) (sym one.keeps.many) few) near w.2 in
-    record { runs = runs_on n seat now (step setting now entry) _ _ _ one.runs rest.runs; keeps = keeps_on now (step setting now entry) _ one.keeps rest.keeps }
+-- Where entries end that answer in one window: behind the seats' own parts, the deed follows that the last of them adds.
+record Ends (setting : Setting) (now : After) (entries : List (Entry Answer)) : Type 0 where
+  rest : After
+  moves : Moves now rest (λ seat. accepted_from setting seat now entries)
+  last : IsStep rest (after_from setting now entries) (followed setting rest)
 
--- Then the last answer may close the window.
-last_ends : (setting : Setting) (now : After) (entry : Entry Answer) → is_answer setting now entry ≡ true → Ends (own_part setting now entry) (step setting now entry)
-    (let mid = own_part setting now entry in next_by setting mid.deeds (length mid.chairs) (names_of mid.chairs) (map is_present mid.chairs) mid.slots)
-unfolding next_deed
-last_ends setting now (Sat author name key) h = cc
-last_ends setting now (Back author who) h = cc
-last_ends setting now (Gone author who) h = cc
-last_ends setting now (Expired author window t1 t2) h = cc
-last_ends setting now (Said author who answer) h = step_ends setting now (Said author who answer)
+ends : (setting : Setting) (window : ℕ) (now : After) (entry : Entry Answer) (entries : List (Entry Answer)) → AreSeats now.chairs → all_answer setting window now (entry ∷ entries) ≡ true → Ends setting now (entry ∷ entries)
+ends setting window now entry [] seats h =
+    let answers = (and_parts (answers_in_window setting window now entry) true h).0 in
+    let own : After = own_part setting now entry in
+    let begun : (length own.deeds == 0) ≡ false = ap (λ (ds : List Deed). length ds == 0) (own_deeds setting now entry) ∙ (opened now.deeds window (answer_permitted setting window now entry answers).1).0 in
+    record {
+      rest = own;
+      moves = moves_as now own (λ seat. accepted setting seat now entry) _ (λ seat. sym (append-nil (accepted setting seat now entry))) (answer_moves setting window now entry seats.few answers);
+      last = subst (λ (o : Option Deed). IsStep own (step setting now entry) o) (next_follows setting window now own entry answers begun) (step_is setting now entry);
+    }
+ends setting window now entry (second ∷ entries) seats h =
+    let parts = and_parts (answers_in_window setting window now entry) (all_answer setting window (step setting now entry) (second ∷ entries)) h in
+    let allowed = answer_permitted setting window now entry parts.0 in
+    let own : After = own_part setting now entry in
+    let next : After = step setting now entry in
+    let later = answer_permitted setting window next second (and_parts (answers_in_window setting window next second) _ parts.1).0 in
+    let same : length next.deeds ≡ length now.deeds = sym (opened next.deeds window later.1).1 ∙ (opened now.deeds window allowed.1).1 in
+    let more : Ends setting next (second ∷ entries) = ends setting window next second entries (step_seats setting now entry allowed.0 seats) parts.1 in
+    record {
+      rest = more.rest;
+      moves = moves_on now next more.rest (λ seat. accepted setting seat now entry) (λ seat. accepted_from setting seat next (second ∷ entries))
+          (idle_step now own next (λ seat. accepted setting seat now entry) (next_deed setting own entry) (answer_moves setting window now entry seats.few parts.0) (step_is setting now entry) same) more.moves;
+      last = more.last;
+    }
 
-ends : (setting : Setting) (now : After) (entry : Entry Answer) (entries : List (Entry Answer)) → AreOfOneWindow setting now (entry ∷ entries) → Ends (mid_of setting now entry entries) (after_from setting now (entry ∷ entries))
-    (let mid = mid_of setting now entry entries in next_by setting mid.deeds (length mid.chairs) (names_of mid.chairs) (map is_present mid.chairs) mid.slots)
-ends setting now entry [] w = last_ends setting now entry w.0
-ends setting now entry (next ∷ entries) w = ends setting (step setting now entry) next entries w.2
+-- The same accepted answers, the same end.
+record IsSameRest (now other : After) : Type 0 where
+  deeds : now.deeds ≡ other.deeds
+  authors : authors now.chairs ≡ authors other.chairs
+  due : (seat : ℕ) → due_at now seat ≡ due_at other seat
+  slots : now.slots ≡ other.slots
 
--- Two lists of the same accepted answers.
-slots_same : (a b : Four (Option Answer)) → ((seat : ℕ) → seat < 4 → at_seat a seat ≡ at_seat b seat) → a ≡ b
-slots_same a b e = λ i. record { first = e 0 (omega arith) i; second = e 1 (omega arith) i; third = e 2 (omega arith) i; fourth = e 3 (omega arith) i }
+four_is : {A : Type 0} (some other : Four A) → ((seat : ℕ) → seat < 4 → at_seat some seat ≡ at_seat other seat) → some ≡ other
+four_is some other h = λ i. record { first = h 0 (omega arith) i; second = h 1 (omega arith) i; third = h 2 (omega arith) i; fourth = h 3 (omega arith) i }
+
+same_rest : (now some other : After) (answers others : ℕ → List Answer) → Moves now some answers → Moves now other others → ((seat : ℕ) → answers seat ≡ others seat) → IsSameRest some other
+same_rest now some other answers others m k same = record {
+  deeds = m.deeds ∙ sym k.deeds;
+  authors = m.authors ∙ sym k.authors;
+  due = λ seat. m.due seat ∙ ap (λ (said : List Answer). due_at now seat + length said) (same seat) ∙ sym (k.due seat);
+  slots = four_is some.slots other.slots (λ seat small. m.slot seat small ∙ ap (slot_behind (length now.deeds) (due_at now seat) (at_seat now.slots seat)) (same seat) ∙ sym (k.slot seat small));
+}
+
+same_followed : (setting : Setting) (now other : After) → IsSameRest now other → followed setting now ≡ followed setting other
+same_followed setting now other s =
+    let presence : map is_present now.chairs ≡ map is_present other.chairs =
+    presence-is now.chairs ∙ ap (λ (by : List (Option ℕ)). map (λ (author : Option ℕ). is_some author) by) s.authors ∙ sym (presence-is other.chairs) in
+    (λ i. following setting (s.deeds i) (presence i) (s.slots i))
+
+added_slots : (now other : After) (added : Option Deed) → now.slots ≡ other.slots → (with_deed now added).slots ≡ (with_deed other added).slots
+added_slots now other None e = e
+added_slots now other (Some deed) e = refl
+
+same_due : (now next : After) (seat : ℕ) → next.chairs ≡ now.chairs → due_at next seat ≡ due_at now seat
+same_due now next seat e = ap (λ (cs : List Chair). option_map_or (λ (c : Chair). c.progress.due) (slice_get cs seat) 0) e
+
+same_authors : (now next other last : After) → next.chairs ≡ now.chairs → last.chairs ≡ other.chairs → authors now.chairs ≡ authors other.chairs → (seat : ℕ) → author_at next seat ≡ author_at last seat
+same_authors now next other last e f s seat =
+    author-is next seat ∙ ap (λ (by : List (Option ℕ)). unwrap_or (slice_get by seat) None) (ap authors e ∙ s ∙ sym (ap authors f)) ∙ sym (author-is last seat)
+
+same_game : (setting : Setting) (now next other last : After) (some added : Option Deed) → IsSameRest now other → IsStep now next some → IsStep other last added → some ≡ added → IsSameGame next last
+same_game setting now next other last some added s k l e = record {
+  deeds = k.deeds ∙ (λ i. s.deeds i ++ listed (e i)) ∙ sym l.deeds;
+  slots = k.slots ∙ ap (λ (o : Option Deed). (with_deed now o).slots) e ∙ added_slots now other added s.slots ∙ sym l.slots;
+  due = λ seat. same_due now next seat k.chairs ∙ s.due seat ∙ sym (same_due other last seat l.chairs);
+  present = same_authors now next other last k.chairs l.chairs s.authors;
+}
+
+-- Refused answers alone add no deed: the first of them is of a seat that hasn't answered.
+first_open : (setting : Setting) (window : ℕ) (now : After) (entry : Entry Answer) → AreSeats now.chairs → AreFilled now → answers_in_window setting window now entry ≡ true → followed setting now ≡ None
+first_open setting window now (Said author seat answer) seats filled h =
+    let may : can_say now author seat ≡ true = (and_parts (is_in_form answer) (can_say now author seat) (answer_permitted setting window now (Said author seat answer) h).0).1 in
+    ap (λ (b : Bool). if b then outcome setting.rules setting.walls now.deeds (answers_in setting.rules now.deeds now.slots) else None) (not_closed now author seat seats filled may)
+first_open setting window now (Sat author name key) seats filled h = cc
+first_open setting window now (Back author seat) seats filled h = cc
+first_open setting window now (Gone author seat) seats filled h = cc
+first_open setting window now (Expired author window_now t1 t2) seats filled h = cc
+
+no_step : (now : After) → IsStep now now None
+no_step now = record { deeds = sym (append-nil now.deeds); chairs = refl; slots = refl }
+
+turned : (now other : After) → IsSameGame now other → IsSameGame other now
+turned now other s = record { deeds = sym s.deeds; slots = sym s.slots; due = λ seat. sym (s.due seat); present = λ seat. sym (s.present seat) }
+
+none_taken : (setting : Setting) (window : ℕ) (now : After) (entry : Entry Answer) (entries : List (Entry Answer)) → AreSeats now.chairs → AreFilled now → all_answer setting window now (entry ∷ entries) ≡ true
+    → ((seat : ℕ) → accepted_from setting seat now [] ≡ accepted_from setting seat now (entry ∷ entries)) → IsSameGame now (after_from setting now (entry ∷ entries))
+none_taken setting window now entry entries seats filled h same =
+    let there : Ends setting now (entry ∷ entries) = ends setting window now entry entries seats h in
+    let idle : Moves now now (λ seat. accepted_from setting seat now []) = idle_moves now (λ seat. accepted_from setting seat now []) (λ seat. refl) in
+    let s : IsSameRest now there.rest = same_rest now now there.rest _ _ idle there.moves same in
+    let none : followed setting now ≡ None = first_open setting window now entry seats filled (and_parts (answers_in_window setting window now entry) _ h).0 in
+    same_game setting now now there.rest (after_from setting now (entry ∷ entries)) None (followed setting there.rest) s (no_step now) there.last (sym none ∙ same_followed setting now there.rest s)
+
+free_from : (setting : Setting) (window : ℕ) (now : After) (some others : List (Entry Answer)) → AreSeats now.chairs → AreFilled now → all_answer setting window now some ≡ true → all_answer setting window now others ≡ true
+    → ((seat : ℕ) → accepted_from setting seat now some ≡ accepted_from setting seat now others) → IsSameGame (after_from setting now some) (after_from setting now others)
+free_from setting window now [] [] seats filled h k same = record { deeds = refl; slots = refl; due = λ seat. refl; present = λ seat. refl }
+free_from setting window now [] (other ∷ others) seats filled h k same = none_taken setting window now other others seats filled k same
+free_from setting window now (entry ∷ entries) [] seats filled h k same = turned now (after_from setting now (entry ∷ entries)) (none_taken setting window now entry entries seats filled h (λ seat. sym (same seat)))
+free_from setting window now (entry ∷ entries) (other ∷ others) seats filled h k same =
+    let here : Ends setting now (entry ∷ entries) = ends setting window now entry entries seats h in
+    let there : Ends setting now (other ∷ others) = ends setting window now other others seats k in
+    let s : IsSameRest here.rest there.rest = same_rest now here.rest there.rest _ _ here.moves there.moves same in
+    same_game setting here.rest (after_from setting now (entry ∷ entries)) there.rest (after_from setting now (other ∷ others)) (followed setting here.rest) (followed setting there.rest) s here.last there.last
+    (same_followed setting here.rest there.rest s)
 
 pub order_is_free : OrderIsFree
-order_is_free setting entries first other more others l w v same =
+order_is_free setting entries some others window legal h k same =
     let now : After = after setting entries in
-    let few : length now.chairs ≤ 4 = (legal_seats setting entries l).few in
-    let n : ℕ = length now.deeds in
-    let x : After = mid_of setting now first more in
-    let y : After = mid_of setting now other others in
-    let of_x : (seat : ℕ) → seat < 4 → Comes n seat now x (accepted_from setting seat now (first ∷ more)) = λ seat near. middle setting n seat now first more refl few near w in
-    let of_y : (seat : ℕ) → seat < 4 → Comes n seat now y (accepted_from setting seat now (other ∷ others)) = λ seat near. middle setting n seat now other others refl few near v in
-    let kx : Keeps now x = (of_x 0 (omega arith)).keeps in
-    let ky : Keeps now y = (of_y 0 (omega arith)).keeps in
-    let slots : x.slots ≡ y.slots = slots_same x.slots y.slots (λ seat near.
-    (of_x seat near).runs.slot ∙ ap (slot_run n (due_at now seat) (at_seat now.slots seat)) (same seat near) ∙ sym (of_y seat near).runs.slot) in
-    let deeds : x.deeds ≡ y.deeds = kx.deeds ∙ sym ky.deeds in
-    let many : length x.chairs ≡ length y.chairs = kx.many ∙ sym ky.many in
-    let names : names_of x.chairs ≡ names_of y.chairs = kx.names ∙ sym ky.names in
-    let presence : map is_present x.chairs ≡ map is_present y.chairs = kx.presence ∙ sym ky.presence in
-    let ex = ends setting now first more w in
-    let ey = ends setting now other others v in
-    record {
-      deeds = ex.deeds ∙ (λ i. deeds i ++ listed (next_by setting (deeds i) (many i) (names i) (presence i) (slots i))) ∙ sym ey.deeds;
-      slots = ex.slots ∙ (λ i. slots_with (next_by setting (deeds i) (many i) (names i) (presence i) (slots i)) (slots i)) ∙ sym ey.slots;
-      due = λ seat near.
-          ap (λ (cs : List Chair). option_map_or (λ (c : Chair). c.progress.due) (slice_get cs seat) 0) ex.chairs ∙ (of_x seat near).runs.due
-          ∙ ap (λ (xs : List Answer). due_at now seat + length xs) (same seat near)
-          ∙ sym (ap (λ (cs : List Chair). option_map_or (λ (c : Chair). c.progress.due) (slice_get cs seat) 0) ey.chairs ∙ (of_y seat near).runs.due);
-    }
+    let free : IsSameGame (after_from setting now some) (after_from setting now others) =
+    free_from setting window now some others (legal_seats setting entries legal) (legal_filled setting entries legal) h k same in
+    subst (λ (a : After). IsSameGame a (after setting (entries ++ others))) (sym (after_from-list setting before_all entries some))
+    (subst (λ (a : After). IsSameGame (after_from setting now some) a) (sym (after_from-list setting before_all entries others)) free)

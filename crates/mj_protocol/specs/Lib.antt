@@ -9,4 +9,5 @@ pub mod Arrivals
 pub mod Laws
 pub mod Seated
 pub mod Arriving
+pub mod Order
 pub mod Told

@@ -6,7 +6,8 @@ ghost use Rattle.mj_protocol.specs.Laws.{AgreeingGamesTellTheSame, ReadGamesAreL
 ghost use Rattle.mj_protocol.specs.Told.{ToldAnswersGive, EachWinnerIsTold, NothingPlayed};
 ghost use Rattle.mj_protocol.specs.Witness.{AgreeApart};
 ghost use Rattle.mj_protocol.specs.Seated.{BeginningsAreLegal, LinesStay, EndedConnectionsStay, OthersLeaveAlone, SeatsBegin, ReturnsBegin, AnswersGoByVerdict, SeatsLeave};
-ghost use Rattle.mj_protocol.specs.Arriving.{OneDeedAnEntry, OrderIsFree, LawfulAnswersAreTaken, NewNamesAreSeated, ExpiriesClose};
+ghost use Rattle.mj_protocol.specs.Arriving.{OneDeedAnEntry, LawfulAnswersAreTaken, NewNamesAreSeated, ExpiriesClose};
+ghost use Rattle.mj_protocol.specs.Order.{OrderIsFree};
 
 /// The law of one world: what a game tells a seat, over all its connections, depends on nothing but
 /// what the seat learns of it, so two games that agree for a seat tell it the same bytes.
@@ -152,9 +153,8 @@ pub fn expiries_close()
     ensures { ExpiriesClose }
 {}
 
-/// The order of arrivals is free: two lists of answers of one window, in which each seat's accepted answers are the same,
-/// come to the same deeds, slots and due prompts, in whatever order the seats answer and whatever refused answers stand
-/// between, as long as no seat is gone by them.
+/// In one window in which nobody comes, goes or runs out of time, the order of answers makes no difference: any two orders of
+/// the same accepted answers, with any refused ones between, give equal deeds, slots and due prompts.
 pub fn order_is_free()
     ensures { OrderIsFree }
 {}
