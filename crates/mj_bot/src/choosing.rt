@@ -1,9 +1,10 @@
-ghost use Rattle.std.specs.Prelude.{◌≡◌, ◌≤◌, ◌∷◌, [], Some, option_to_list};
+ghost use Rattle.std.specs.Prelude.{◌≡◌, ◌≤◌, ◌∷◌, [], Some, IsTrue, option_to_list};
 ghost use Rattle.mj_deeds.specs.declared.answer.Answer.TheVariants as answers;
 ghost use Rattle.mj_deeds.specs.declared.answer.Pai.TheVariants as pais;
 ghost use Rattle.mj_fu.specs.Forms.{has_value};
 ghost use Rattle.mj_rules.specs.View.{view_of};
 ghost use Rattle.mj_bot.specs.Choice.{win_in, pon_in, first_lawful, IsChoice};
+ghost use Rattle.mj_bot.specs.Inner.Turns.{IsNeverReady};
 
 use crate::discards::best_discard;
 use mj_deeds::{Answer, Deed, Pai};
@@ -27,10 +28,10 @@ pub fn choose(table: &Table, seat: u8) -> Answer
     if let Some(win) = lawful_win(table, seat) {
         return win;
     }
-    if let Some(reach) = if_lawful(table, seat, &Answer::Reach { actor: seat }) {
+    if let Some(reach) = lawful_reach(table, seat, best.unready) {
         return reach;
     }
-    if let Some(tile) = best {
+    if let Some(tile) = best.tile {
         return discard(table, seat, tile);
     }
     match lawful_pon(table, seat) {
@@ -49,6 +50,19 @@ fn lawful_win(table: &Table, seat: u8) -> Option<Answer>
         Some(win) => if_lawful(table, seat, &win),
         None => None,
     }
+}
+
+// A reach, where it is lawful: it isn't where it is known that no discard leaves the hand ready.
+fn lawful_reach(table: &Table, seat: u8, unready: bool) -> Option<Answer>
+    requires seat { seat ≤ 3 }
+    requires unready { IsTrue unready → IsNeverReady (view_of table.now.deeds seat) }
+    ensures { result ≡ first_lawful table.now.rules seat (view_of table.now.deeds seat)
+        (answers.Reach seat ∷ []) }
+{
+    if unready {
+        return None;
+    }
+    if_lawful(table, seat, &Answer::Reach { actor: seat })
 }
 
 // The pon of a dragon, the seat's wind or that of the round, where it is lawful.

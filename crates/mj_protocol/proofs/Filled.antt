@@ -20,7 +20,7 @@ use Rattle.mj_rules.specs.Broken.{broken_rule}
 use Rattle.mj_protocol.specs.After.{After, Chair, Verdict, Taken, Late, Refused, Closing, verdict_on, slots_after, lines_for, is_present, after_said, after_gone, after_back, new_chair, own_part, next_deed, with_deed, step, after_from, after, before_all}
 use Rattle.mj_protocol.specs.Trace.{IsLegal, is_present_by, may_say, can_say, is_permitted, all_permitted}
 use Rattle.mj_protocol.proofs.Places.{slice_get-set_at, slice_get-set_other, slice_get-append_other, slot-empty}
-use Rattle.mj_protocol.proofs.OneWorld.{others_filled}
+use Rattle.mj_protocol.proofs.OneWorld.{others_slot}
 use Rattle.mj_protocol.proofs.Entered.{said_chair, gone_chair, back_chair, taken_at}
 use Rattle.mj_protocol.proofs.Fitting.{own_deeds}
 use Rattle.mj_protocol.proofs.Seats.{AreSeats, step_seats, no_seats}
@@ -82,7 +82,7 @@ said_filled rules now author seat answer (Some chair) e few may filled =
     let v : Verdict = verdict_on rules now.deeds seat answer chair.progress in
     let near : nat_lt chair.progress.due (length now.deeds) ≡ true = (and_parts (is_present_by author chair) (nat_lt chair.progress.due (length now.deeds)) may).1 in
     filled_set (length now.deeds) now.chairs now.slots (slots_after v now.slots seat answer) seat chair (said_chair (lines_for seat now.deeds) v chair) e filled
-    (λ other small ne. others_filled now.slots seat other answer v (below_four seat (length now.chairs) (slice_get_within now.chairs seat chair e) few) small ne)
+    (λ other small ne. others_slot now.slots seat other answer v (below_four seat (length now.chairs) (slice_get_within now.chairs seat chair e) few) small ne)
     (own_past (lines_for seat now.deeds) (length now.deeds) now.slots seat answer chair v
     (taken_at chair.progress.due chair.progress.refused (length now.deeds) (broken_rule rules now.deeds seat answer))
     (λ s. true≢false (sym near ∙ past_at (length now.deeds) now.chairs now.slots seat chair e few filled s)))
@@ -126,7 +126,7 @@ own_filled setting now (Gone author seat) p seats filled = gone_filled now seat 
 own_filled setting now (Expired author window t1 t2) p seats filled = filled
 
 none_filled : (n : ℕ) (chairs : List Chair) → AreFilledBy n chairs empty_slots
-none_filled n chairs seat small s = absurd (true≢false (sym s ∙ slot-empty seat))
+none_filled n chairs seat small s = absurd (true≢false (sym s ∙ ap is_some (slot-empty seat)))
 
 deed_filled : (now : After) (added : Option Deed) → AreFilled now → AreFilled (with_deed now added)
 deed_filled now None filled = filled

@@ -25,3 +25,5 @@ pub mod Moves
 pub mod Arriving
 pub mod Filled
 pub mod Order
+pub mod Heard
+pub mod Follows

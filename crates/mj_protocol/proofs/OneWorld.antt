@@ -34,7 +34,7 @@ use Rattle.mj_protocol.proofs.MaskedLine.{lines-masked}
 use Rattle.mj_protocol.proofs.Places.{slice_get-append_other, slice_get-set_at, slice_get-set_other, none_behind, slot-put_at, slot-put_other, slot-empty}
 use Rattle.mj_protocol.proofs.Rebuilt.{rebuilt, IsTold, DealsThirteen, Only, only_none, only_some, by_choice, outcome_is_told}
 use Rattle.mj_protocol.proofs.Seats.{AreSeats, no_seats, step_seats, legal_seats}
-use Rattle.mj_protocol.proofs.Solo.{Part, Solo, untimed, untimed_verdict, at_first, filled_after, judged, left, next_due, after_answer, after_leaving, after_return, learns_all, learns_all-append, solo_script, told_by}
+use Rattle.mj_protocol.proofs.Solo.{Part, Solo, untimed, untimed_verdict, at_first, slot_after, judged, left, next_due, after_answer, after_leaving, after_return, learns_all, learns_all-append, solo_script, told_by}
 
 -- what decides the bytes of a seat that is held
 abbrev pub part_of : Chair → Part
@@ -47,7 +47,7 @@ part_at chairs seat = option_map part_of (slice_get chairs seat)
 pub record Matches (seat : ℕ) (now : After) (s : Solo) : Type 0 where
   pub part : part_at now.chairs seat ≡ s.part
   pub deeds : all_masked seat now.deeds ≡ s.deeds
-  pub filled : is_some (at_seat now.slots seat) ≡ s.filled
+  pub slot : at_seat now.slots seat ≡ s.slot
 
 lines_follow : (seat : ℕ) (now : After) (s : Solo) → Matches seat now s → lines_for seat now.deeds ≡ lines_for seat s.deeds
 lines_follow seat now s m = lines-masked seat now.deeds ∙ ap (lines_for seat) m.deeds
@@ -56,7 +56,7 @@ count_follows : (seat : ℕ) (now : After) (s : Solo) → Matches seat now s →
 count_follows seat now s m = sym (length-map now.deeds (masked seat)) ∙ ap length m.deeds
 
 -- the verdict on an answer follows from the deeds as the seat sees them
-verdict_follows : (rules : Rules) (seat : ℕ) (now : After) (s : Solo) (answer : Answer) (p : Progress) → Matches seat now s →
+pub verdict_follows : (rules : Rules) (seat : ℕ) (now : After) (s : Solo) (answer : Answer) (p : Progress) → Matches seat now s →
     verdict_on rules now.deeds seat answer p ≡ verdict_on (untimed rules) s.deeds seat answer p
 verdict_follows rules seat now s answer p m =
     let long = count_follows seat now s m in
@@ -72,17 +72,17 @@ judged_is lines Late chair = refl
 judged_is lines (Refused rule) chair = refl
 judged_is lines (Closing rule) chair = refl
 
-filled_is : (slots : Four (Option Answer)) (seat : ℕ) (answer : Answer) (v : Verdict) → seat < 4 → is_some (at_seat (slots_after v slots seat answer) seat) ≡ filled_after v (is_some (at_seat slots seat))
-filled_is slots seat answer Taken small = ap is_some (slot-put_at slots seat answer small)
-filled_is slots seat answer Late small = refl
-filled_is slots seat answer (Refused rule) small = refl
-filled_is slots seat answer (Closing rule) small = refl
+slot_is : (slots : Four (Option Answer)) (seat : ℕ) (answer : Answer) (v : Verdict) → seat < 4 → at_seat (slots_after v slots seat answer) seat ≡ slot_after v answer (at_seat slots seat)
+slot_is slots seat answer Taken small = slot-put_at slots seat answer small
+slot_is slots seat answer Late small = refl
+slot_is slots seat answer (Refused rule) small = refl
+slot_is slots seat answer (Closing rule) small = refl
 
-pub others_filled : (slots : Four (Option Answer)) (who seat : ℕ) (answer : Answer) (v : Verdict) → who < 4 → seat < 4 → who ≢ seat → at_seat (slots_after v slots who answer) seat ≡ at_seat slots seat
-others_filled slots who seat answer Taken known small ne = slot-put_other slots who seat answer known small ne
-others_filled slots who seat answer Late known small ne = refl
-others_filled slots who seat answer (Refused rule) known small ne = refl
-others_filled slots who seat answer (Closing rule) known small ne = refl
+pub others_slot : (slots : Four (Option Answer)) (who seat : ℕ) (answer : Answer) (v : Verdict) → who < 4 → seat < 4 → who ≢ seat → at_seat (slots_after v slots who answer) seat ≡ at_seat slots seat
+others_slot slots who seat answer Taken known small ne = slot-put_other slots who seat answer known small ne
+others_slot slots who seat answer Late known small ne = refl
+others_slot slots who seat answer (Refused rule) known small ne = refl
+others_slot slots who seat answer (Closing rule) known small ne = refl
 
 -- the machine's part where the seat is held, and where it isn't
 held_part : (seat : ℕ) (now : After) (s : Solo) (held : Option Chair) → slice_get now.chairs seat ≡ held → Matches seat now s → option_map part_of held ≡ s.part
@@ -101,7 +101,7 @@ said_follows rules seat now s answer (Some chair) small at m =
     subst (λ (o : Option Part). Matches seat (after_said rules now seat answer chair) (option_map_or (after_answer (untimed rules) seat s answer) o s)) (held_part seat now s (Some chair) at m) (record {
       part = ap (option_map part_of) (slice_get-set_at now.chairs seat _ chair at) ∙ ap Some (judged_is (lines_for seat now.deeds) v chair ∙ (λ i. judged (lines i) (same i) (part_of chair)));
       deeds = m.deeds;
-      filled = filled_is now.slots seat answer v small ∙ (λ i. filled_after (same i) (m.filled i));
+      slot = slot_is now.slots seat answer v small ∙ (λ i. slot_after (same i) answer (m.slot i));
     })
 
 -- what another's answer changes is nothing of the seat's
@@ -112,7 +112,7 @@ others_said rules seat who now s answer None small few ne at m = m
 others_said rules seat who now s answer (Some chair) small few ne at m = record {
   part = ap (option_map part_of) (slice_get-set_other now.chairs who seat _ ne) ∙ m.part;
   deeds = m.deeds;
-  filled = ap is_some (others_filled now.slots who seat answer (verdict_on rules now.deeds who answer chair.progress) (below who (length now.chairs) (slice_get_within now.chairs who chair at) few) small ne) ∙ m.filled;
+  slot = others_slot now.slots who seat answer (verdict_on rules now.deeds who answer chair.progress) (below who (length now.chairs) (slice_get_within now.chairs who chair at) few) small ne ∙ m.slot;
 }
   where
     below : (who n : ℕ) → who < n → n ≤ 4 → who < 4
@@ -127,7 +127,7 @@ left_follows seat now s (Some chair) at m =
     subst (λ (o : Option Part). Matches seat (after_gone now seat chair) (option_map_or (after_leaving seat s) o s)) (held_part seat now s (Some chair) at m) (record {
       part = ap (option_map part_of) (slice_get-set_at now.chairs seat _ chair at) ∙ ap (λ ls. Some (left ls (part_of chair))) (lines_follow seat now s m);
       deeds = m.deeds;
-      filled = m.filled;
+      slot = m.slot;
     })
 
 others_left : (seat who : ℕ) (now : After) (s : Solo) (held : Option Chair) → who ≢ seat → Matches seat now s → Matches seat (option_map_or (after_gone now who) held now) s
@@ -136,7 +136,7 @@ others_left seat who now s None ne m = m
 others_left seat who now s (Some chair) ne m = record {
   part = ap (option_map part_of) (slice_get-set_other now.chairs who seat _ ne) ∙ m.part;
   deeds = m.deeds;
-  filled = m.filled;
+  slot = m.slot;
 }
 
 -- what changes where it comes back
@@ -150,14 +150,14 @@ back_follows seat author now s None at m = subst (λ (o : Option Part). Matches 
 back_follows seat author now s (Some chair) at m =
     let lines = lines_follow seat now s m in
     let long = count_follows seat now s m in
-    let due : next_due (is_some (at_seat now.slots seat)) (length now.deeds) ≡ next_due s.filled (length s.deeds) = λ i. next_due (m.filled i) (long i) in
+    let due : next_due (is_some (at_seat now.slots seat)) (length now.deeds) ≡ next_due (is_some s.slot) (length s.deeds) = λ i. next_due (is_some (m.slot i)) (long i) in
     let before = told_before chair.earlier (record { place = chair.place; told = chair.progress.told }) in
     subst (λ (o : Option Part). Matches seat (after_back now author seat chair) (option_map_or (after_return seat s) o s)) (held_part seat now s (Some chair) at m) (record {
       part =
           ap (option_map part_of) (slice_get-set_at now.chairs seat _ chair at)
           ∙ (λ i. Some (record { present = true; progress = record { due = due i; refused = 0; told = told_again (lines i) (due i) }; earlier = before i }));
       deeds = m.deeds;
-      filled = m.filled;
+      slot = m.slot;
     })
 
 others_back : (seat author who : ℕ) (now : After) (s : Solo) (held : Option Chair) → who ≢ seat → Matches seat now s → Matches seat (option_map_or (after_back now author who) held now) s
@@ -166,7 +166,7 @@ others_back seat author who now s None ne m = m
 others_back seat author who now s (Some chair) ne m = record {
   part = ap (option_map part_of) (slice_get-set_other now.chairs who seat _ ne) ∙ m.part;
   deeds = m.deeds;
-  filled = m.filled;
+  slot = m.slot;
 }
 
 -- who sits down: the seat itself, where its number is that of the seats before
@@ -177,12 +177,12 @@ sat_follows seat author name key setting now s m = elim (eqb_tells (length now.c
   | inl p ↦ rw p.0 (record {
     part = ap (option_map part_of) (ap (slice_get (now.chairs ++ _ ∷ [])) (sym p.1) ∙ at_end now.chairs _);
     deeds = m.deeds;
-    filled = m.filled;
+    slot = m.slot;
   })
   | inr p ↦ rw p.0 (record {
     part = ap (option_map part_of) (slice_get-append_other now.chairs _ seat (λ e. p.1 (sym e))) ∙ m.part;
     deeds = m.deeds;
-    filled = m.filled;
+    slot = m.slot;
   })
 ]
 
@@ -241,11 +241,11 @@ deed_follows rules seat (Some d) now s told m = record {
   deeds = map-append (masked seat) now.deeds (d ∷ [])
       ∙ ap (λ (x : Deed). all_masked seat now.deeds ++ x ∷ []) (told d refl)
       ∙ (λ i. m.deeds i ++ rebuilt seat (m.deeds i) (token seat d) ∷ []);
-  filled = slot-empty seat;
+  slot = slot-empty seat;
 }
 
 -- one entry
-stepped_follows : (seat : ℕ) (entry : Entry Answer) (setting : Setting) (now : After) (s : Solo) → seat < 4 → length now.chairs ≤ 4 → DealsThirteen setting.walls → Matches seat now s →
+pub stepped_follows : (seat : ℕ) (entry : Entry Answer) (setting : Setting) (now : After) (s : Solo) → seat < 4 → length now.chairs ≤ 4 → DealsThirteen setting.walls → Matches seat now s →
     Matches seat (step setting now entry)
     (learns_all (untimed setting.rules) seat (learns_all (untimed setting.rules) seat s (own_items seat now entry)) (seen_items seat (next_deed setting (own_part setting now entry) entry)))
 unfolding step Only
@@ -253,7 +253,7 @@ stepped_follows seat entry setting now s small few deals m =
     let next = deed_follows (untimed setting.rules) seat (next_deed setting (own_part setting now entry) entry) (own_part setting now entry)
     (learns_all (untimed setting.rules) seat s (own_items seat now entry)) (next_is_told seat setting (own_part setting now entry) entry deals)
     (own_follows seat entry setting now s small few m) in
-    record { part = next.part; deeds = next.deeds; filled = next.filled }
+    record { part = next.part; deeds = next.deeds; slot = next.slot }
 
 -- a whole game
 game_follows : (seat : ℕ) (entries : List (Entry Answer)) (setting : Setting) (now : After) (s : Solo) → seat < 4 → DealsThirteen setting.walls → all_permitted setting now entries ≡ true → AreSeats now.chairs → Matches seat now s →
@@ -279,11 +279,11 @@ script_by seat now s (Some chair) at m =
     ap (λ ls. told_by ls (part_of chair)) (lines_follow seat now s m)
     ∙ ap (λ (o : Option Part). option_map_or (told_by (lines_for seat s.deeds)) o []) (held_part seat now s (Some chair) at m)
 
-nothing_known : (seat : ℕ) → Matches seat before_all at_first
-nothing_known seat = record { part = refl; deeds = refl; filled = slot-empty seat }
+pub nothing_known : (seat : ℕ) → Matches seat before_all at_first
+nothing_known seat = record { part = refl; deeds = refl; slot = slot-empty seat }
 
 -- where there is a wall, each deals thirteen tiles to each seat
-deals_thirteen : (red : Bool) (walls : List (List ℕ)) → IsTrue (has_wall walls) → IsTrue (list_all (is_wall red) walls) → DealsThirteen walls
+pub deals_thirteen : (red : Bool) (walls : List (List ℕ)) → IsTrue (has_wall walls) → IsTrue (list_all (is_wall red) walls) → DealsThirteen walls
 unfolding DealsThirteen
 deals_thirteen red [] ground whole = cc
 deals_thirteen red (wall ∷ walls) ground whole = λ number dealer seat. hand_has_thirteen red (wall_of (wall ∷ walls) number) dealer seat (each_is_wall red (wall ∷ walls) (some (length walls)) whole number)
@@ -291,14 +291,27 @@ deals_thirteen red (wall ∷ walls) ground whole = λ number dealer seat. hand_h
     some : (n : ℕ) → 1 ≤ suc n
     some n = omega arith
 
+-- the machine that has learnt the trace of a game
+abbrev pub learnt : ℕ → Rules → List Item → Solo
+learnt seat rules items = learns_all (untimed rules) seat at_first items
+
+-- of a legal game it is as far as the game
+pub legal_game_follows : (seat : ℕ) (setting : Setting) (entries : List (Entry Answer)) → seat < 4 → IsLegal setting entries →
+    Matches seat (after setting entries) (learnt seat setting.rules (trace seat setting entries))
+legal_game_follows seat setting [] small legal = nothing_known seat
+legal_game_follows seat setting (entry ∷ entries) small legal =
+    let deals = deals_thirteen setting.rules.red setting.walls legal.ground legal.whole in
+    game_follows seat (entry ∷ entries) setting before_all at_first small deals legal.permitted no_seats (nothing_known seat)
+
+-- games that agree for a seat are learnt alike
+pub learnt_alike : (seat : ℕ) (g h : Game) → Agree seat g h → learnt seat g.setting.rules (trace seat g.setting g.entries) ≡ learnt seat h.setting.rules (trace seat h.setting h.entries)
+learnt_alike seat g h a = λ i. learns_all (record { limit = 0; draws = a.draws i; red = a.red i }) seat at_first (a.same i)
+
 -- of a legal game the seat's script is what the machine tells that learns the game's trace
 pub script_follows : (seat : ℕ) (setting : Setting) (entries : List (Entry Answer)) → seat < 4 → IsLegal setting entries →
-    scripts seat setting entries ≡ solo_script seat (learns_all (untimed setting.rules) seat at_first (trace seat setting entries))
-script_follows seat setting [] small legal = refl
-script_follows seat setting (entry ∷ entries) small legal =
-    let deals = deals_thirteen setting.rules.red setting.walls legal.ground legal.whole in
-    let m = game_follows seat (entry ∷ entries) setting before_all at_first small deals legal.permitted no_seats (nothing_known seat) in
-    script_by seat (after setting (entry ∷ entries)) _ (slice_get (after setting (entry ∷ entries)).chairs seat) refl m
+    scripts seat setting entries ≡ solo_script seat (learnt seat setting.rules (trace seat setting entries))
+script_follows seat setting entries small legal =
+    script_by seat (after setting entries) _ (slice_get (after setting entries).chairs seat) refl (legal_game_follows seat setting entries small legal)
 
 -- a fifth seat is never held, and so told nothing
 no_script : (seat : ℕ) (setting : Setting) (entries : List (Entry Answer)) → 4 ≤ seat → IsLegal setting entries → scripts seat setting entries ≡ []
@@ -313,13 +326,9 @@ no_script seat setting entries beyond legal =
 pub agreeing_scripts : (seat : ℕ) (g h : Game) → Agree seat g h → scripts seat g.setting g.entries ≡ scripts seat h.setting h.entries
 agreeing_scripts seat g h a = by_number (nat_lt seat 4) refl
   where
-    rules : untimed g.setting.rules ≡ untimed h.setting.rules
-    rules = λ i. record { limit = 0; draws = a.draws i; red = a.red i }
-
     by_number : (b : Bool) → nat_lt seat 4 ≡ b → scripts seat g.setting g.entries ≡ scripts seat h.setting h.entries
     by_number true e =
         script_follows seat g.setting g.entries (ltb-true seat 4 e) a.legal
-        ∙ ap (λ (r : Rules). solo_script seat (learns_all r seat at_first (trace seat g.setting g.entries))) rules
-        ∙ ap (λ (items : List Item). solo_script seat (learns_all (untimed h.setting.rules) seat at_first items)) a.same
+        ∙ ap (solo_script seat) (learnt_alike seat g h a)
         ∙ sym (script_follows seat h.setting h.entries (ltb-true seat 4 e) a.other_legal)
     by_number false e = no_script seat g.setting g.entries (ltb-false seat 4 e) a.legal ∙ sym (no_script seat h.setting h.entries (ltb-false seat 4 e) a.other_legal)

@@ -26,7 +26,7 @@ use Rattle.mj_protocol.specs.Shown.{due_at}
 use Rattle.mj_protocol.specs.Order.{is_acceptance, is_closing, accepted, accepted_from, answers_in_window, all_answer, IsSameGame, OrderIsFree}
 use Rattle.mj_protocol.proofs.Places.{slice_get-set_at, slice_get-set_other, slot-put_at}
 use Rattle.mj_protocol.proofs.Fitting.{own_deeds}
-use Rattle.mj_protocol.proofs.OneWorld.{others_filled}
+use Rattle.mj_protocol.proofs.OneWorld.{others_slot}
 use Rattle.mj_protocol.proofs.Entered.{said_chair, taken_at, late_at, listed, step-chairs, step-deeds}
 use Rattle.mj_protocol.proofs.Seats.{AreSeats, step_seats, legal_seats}
 use Rattle.mj_protocol.proofs.Entries.{after_from-list}
@@ -153,7 +153,7 @@ held_moves now who answer chair v e few stays t l = record {
   slot = λ seat small. elim (eqb_tells who seat) [
     | inl p ↦ subst (λ (k : ℕ). at_seat next.slots k ≡ slot_behind n (due_at now k) (at_seat now.slots k) (answer_if (is_acceptance v) answer)) p.1 own_slot
         ∙ ap (slot_behind n (due_at now seat) (at_seat now.slots seat)) (sym (is_said (who == seat) (is_acceptance v) answer p.0))
-    | inr p ↦ others_filled now.slots who seat answer v known small p.1 ∙ ap (slot_behind n (due_at now seat) (at_seat now.slots seat)) (sym (not_said (who == seat) (is_acceptance v) answer p.0))
+    | inr p ↦ others_slot now.slots who seat answer v known small p.1 ∙ ap (slot_behind n (due_at now seat) (at_seat now.slots seat)) (sym (not_said (who == seat) (is_acceptance v) answer p.0))
   ];
 }
   where

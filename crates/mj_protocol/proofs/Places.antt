@@ -1,6 +1,6 @@
 -- What stands at a place of a list that grows or that is written to, and in the slots of a window.
 use Rattle.std.proofs.Common.{◌≡◌, ◌≢◌, ℕ, zero, suc, ◌<◌, ◌≤◌, ◌==◌, Bool, true, false, cond, List, [], ◌∷◌, ◌++◌, length, refl, ap, arith}
-use Rattle.std.specs.Prelude.{Option, Some, None, is_some, slice_get, slice_set}
+use Rattle.std.specs.Prelude.{Option, Some, None, slice_get, slice_set}
 use Rattle.std.proofs.lemmas.Option.{slice_get_within}
 use Rattle.mj_deeds.specs.declared.four.Four.{Four}
 use Rattle.mj_deeds.specs.declared.answer.Answer.{Answer}
@@ -79,10 +79,10 @@ slot-put_other slots (suc (suc (suc zero))) (suc (suc (suc (suc n)))) answer h k
 slot-put_other slots (suc (suc (suc (suc n)))) seat answer h k ne = absurd (omega arith)
 
 -- empty slots have none
-pub slot-empty : (seat : ℕ) → is_some (at_seat empty_slots seat) ≡ false
+pub slot-empty : (seat : ℕ) → at_seat empty_slots seat ≡ None
 slot-empty seat = by_tests (seat == 0) (seat == 1) (seat == 2)
   where
-    by_tests : (a b c : Bool) → is_some (cond a (empty_slots.first) (cond b empty_slots.second (cond c empty_slots.third empty_slots.fourth))) ≡ false
+    by_tests : (a b c : Bool) → cond a (empty_slots.first) (cond b empty_slots.second (cond c empty_slots.third empty_slots.fourth)) ≡ None
     by_tests true b c = refl
     by_tests false true c = refl
     by_tests false false true = refl

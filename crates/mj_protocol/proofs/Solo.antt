@@ -1,6 +1,6 @@
 -- A machine that has nothing of a game but what one seat learns, and tells that seat its bytes.
 use Rattle.std.proofs.Common.{◌≡◌, ℕ, ◌-◌, Bool, true, false, cond, List, [], ◌∷◌, ◌++◌, length, refl}
-use Rattle.std.specs.Prelude.{Option, Some, None}
+use Rattle.std.specs.Prelude.{Option, Some, None, is_some}
 use Rattle.std.specs.Option.{option_map_or}
 use Rattle.mj_deeds.specs.declared.answer.Answer.{Answer}
 use Rattle.mj_deeds.specs.declared.deed.Deed.{Deed}
@@ -19,14 +19,14 @@ pub record Part : Type 0 where
   pub progress : Progress
   pub earlier : List ℕ
 
--- the seat's part, the deeds as it sees them, and whether its slot of the newest window is filled
+-- the seat's part, the deeds as it sees them, and its slot of the newest window
 pub record Solo : Type 0 where
   pub part : Option Part
   pub deeds : List Deed
-  pub filled : Bool
+  pub slot : Option Answer
 
 abbrev pub at_first : Solo
-at_first = record { part = None; deeds = []; filled = false }
+at_first = record { part = None; deeds = []; slot = None }
 
 -- The rules without the limit of a window, of which no verdict tells.
 abbrev pub untimed : Rules → Rules
@@ -42,9 +42,9 @@ present_after (Closing rule) present = false
 present_after other present = present
 
 -- only an answer that is taken fills the slot
-abbrev pub filled_after : Verdict → Bool → Bool
-filled_after Taken filled = true
-filled_after other filled = filled
+abbrev pub slot_after : Verdict → Answer → Option Answer → Option Answer
+slot_after Taken answer slot = Some answer
+slot_after other answer slot = slot
 
 -- the part of a seat once its answer has a verdict
 abbrev pub judged : List (List ℕ) → Verdict → Part → Part
@@ -53,14 +53,14 @@ judged lines v p = record { present = present_after v p.present; progress = prog
 unfoldable pub after_answer : Rules → ℕ → Solo → Answer → Part → Solo
 after_answer rules seat s answer p =
     let v = verdict_on rules s.deeds seat answer p.progress in
-    record { part = Some (judged (lines_for seat s.deeds) v p); deeds = s.deeds; filled = filled_after v s.filled }
+    record { part = Some (judged (lines_for seat s.deeds) v p); deeds = s.deeds; slot = slot_after v answer s.slot }
 
 -- once it has left
 abbrev pub left : List (List ℕ) → Part → Part
 left lines p = record { present = false; progress = record p.progress { told = p.progress.told ++ pending lines p.progress }; earlier = p.earlier }
 
 unfoldable pub after_leaving : ℕ → Solo → Part → Solo
-after_leaving seat s p = record { part = Some (left (lines_for seat s.deeds) p); deeds = s.deeds; filled = s.filled }
+after_leaving seat s p = record { part = Some (left (lines_for seat s.deeds) p); deeds = s.deeds; slot = s.slot }
 
 -- once it is back, due to answer a deed
 abbrev pub again : List (List ℕ) → ℕ → Part → Part
@@ -70,13 +70,13 @@ abbrev pub next_due : Bool → ℕ → ℕ
 next_due filled deeds = cond filled deeds (deeds - 1)
 
 unfoldable pub after_return : ℕ → Solo → Part → Solo
-after_return seat s p = record { part = Some (again (lines_for seat s.deeds) (next_due s.filled (length s.deeds)) p); deeds = s.deeds; filled = s.filled }
+after_return seat s p = record { part = Some (again (lines_for seat s.deeds) (next_due (is_some s.slot) (length s.deeds)) p); deeds = s.deeds; slot = s.slot }
 
 abbrev pub saw : ℕ → Solo → Token → Solo
-saw seat s t = record { part = s.part; deeds = s.deeds ++ rebuilt seat s.deeds t ∷ []; filled = false }
+saw seat s t = record { part = s.part; deeds = s.deeds ++ rebuilt seat s.deeds t ∷ []; slot = None }
 
 abbrev pub learns : Rules → ℕ → Solo → Item → Solo
-learns rules seat s (OwnSat name key) = record { part = Some (record { present = true; progress = first_progress; earlier = [] }); deeds = s.deeds; filled = s.filled }
+learns rules seat s (OwnSat name key) = record { part = Some (record { present = true; progress = first_progress; earlier = [] }); deeds = s.deeds; slot = s.slot }
 learns rules seat s OwnBack = option_map_or (after_return seat s) s.part s
 learns rules seat s (OwnSaid answer) = option_map_or (after_answer rules seat s answer) s.part s
 learns rules seat s OwnGone = option_map_or (after_leaving seat s) s.part s

@@ -11,3 +11,4 @@ pub mod Seated
 pub mod Arriving
 pub mod Order
 pub mod Told
+pub mod Follows

@@ -5,6 +5,7 @@
 ghost use Rattle.mj_protocol.specs.Laws.{AgreeingGamesTellTheSame, ReadGamesAreLegal, LegalGamesArePlayed, TakenAnswersAreLawful, AnswersThatAreReadAreInForm, OwnPartCanGoOn, NextDeedIsPlayed, LegalDeedsFit, NextDeedFits, LinesAreOfMasks};
 ghost use Rattle.mj_protocol.specs.Told.{ToldAnswersGive, EachWinnerIsTold, NothingPlayed};
 ghost use Rattle.mj_protocol.specs.Witness.{AgreeApart};
+ghost use Rattle.mj_protocol.specs.Follows.{FactsFollow, VerdictsFollow, LinesFollow};
 ghost use Rattle.mj_protocol.specs.Seated.{BeginningsAreLegal, LinesStay, EndedConnectionsStay, OthersLeaveAlone, SeatsBegin, ReturnsBegin, AnswersGoByVerdict, SeatsLeave};
 ghost use Rattle.mj_protocol.specs.Arriving.{OneDeedAnEntry, LawfulAnswersAreTaken, NewNamesAreSeated, ExpiriesClose};
 ghost use Rattle.mj_protocol.specs.Order.{OrderIsFree};
@@ -13,6 +14,29 @@ ghost use Rattle.mj_protocol.specs.Order.{OrderIsFree};
 /// what the seat learns of it, so two games that agree for a seat tell it the same bytes.
 pub fn agreeing_games_tell_the_same()
     ensures { AgreeingGamesTellTheSame }
+{}
+
+/// Facts follow: in two games that agree for a seat of the four the facts that it may know are the
+/// same: the points of all, the deposits, the honba, the dealer, the round and the hand; the live
+/// tiles, the kans, the indicators, every river and meld, every riichi and ippatsu; its own tiles;
+/// and its slot, its presence, its due prompt and how many of its answers to that were refused.
+pub fn facts_follow()
+    ensures { FactsFollow }
+{}
+
+/// Verdicts follow: in two games that agree for a seat of the four all that the seat said had the
+/// same verdicts, in order, and so has whatever it may say next: it breaks the same rules, the same
+/// one first, and is late, refused, refused for good or taken in both. The answer that stands where
+/// the seat gives none is the same too.
+pub fn verdicts_follow()
+    ensures { VerdictsFollow }
+{}
+
+/// Lines follow: in two games that agree for a seat of the four the seat's line of each deed is the
+/// same, and so is its token; and behind any number of deeds all that the numbers of a win or of a
+/// drawn hand are made of is the same, beside what the deed's own token tells.
+pub fn lines_follow()
+    ensures { LinesFollow }
 {}
 
 /// The law has games to speak of: two games agree for seat 0 that differ in the walls and so in what

@@ -1,8 +1,11 @@
 -- Whose turn it is to discard, and of which kinds.
-use Rattle.std.specs.Prelude.{ℕ, ◌==◌, Bool, false}
+use Rattle.std.specs.Prelude.{ℕ, ◌≡◌, ◌==◌, ◌||◌, Bool, false, List, slice_index}
+use Rattle.std.specs.List.{list_all, list_any}
+use Rattle.mj_tiles.specs.Counts.{all_kinds}
 use Rattle.mj_tiles.specs.Faces.{kind_of}
 use Rattle.mj_tiles.specs.Kinds.{has_kind}
-use Rattle.mj_rules.specs.View.{WindowTurn, Drew, Reached, Called}
+use Rattle.mj_rules.specs.Broken.{is_ready_without}
+use Rattle.mj_rules.specs.View.{SeatView, WindowTurn, Drew, Reached, Called, concealed}
 
 -- The seat has drawn, or has to discard after its own reach or call.
 abbrev pub is_own_turn : ℕ → WindowTurn → Bool
@@ -14,3 +17,15 @@ is_own_turn seat other = false
 -- The face is of one of these kinds.
 abbrev pub is_among : ℕ → ℕ → Bool
 is_among kinds face = has_kind kinds (kind_of face)
+
+-- The kind isn't held, or is one of these.
+abbrev pub is_out_or_among : List ℕ → ℕ → ℕ → Bool
+is_out_or_among counts kinds kind = slice_index counts kind == 0 || has_kind kinds kind
+
+-- Each kind that is held is one of these.
+unfoldable pub are_all_among : List ℕ → ℕ → Bool
+are_all_among counts kinds = list_all (is_out_or_among counts kinds) all_kinds
+
+-- No discard leaves the hand ready.
+abbrev pub IsNeverReady : SeatView → Type 0
+IsNeverReady view = list_any (is_ready_without view) (concealed view) ≡ false

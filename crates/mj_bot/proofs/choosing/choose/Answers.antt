@@ -1,15 +1,19 @@
-use Rattle.std.proofs.Common.{sym, ◌∙◌}
+use Rattle.std.proofs.Common.{◌≡◌, [], sym, subst, ◌∙◌}
+use Rattle.std.specs.Prelude.{MatchOption}
+use Rattle.mj_rules.specs.Default.{lawful_faces}
+use Rattle.mj_bot.specs.Choice.{IsBest}
 use Rattle.mj_rules.specs.View.{view_of}
 use Rattle.mj_bot.proofs.Chosen.{discard_chosen}
 use Rattle.mj_bot.proofs.Lawful.{best_passes}
 use Rattle.mj_bot.proofs.choosing.choose.Goals as goal
 
-pub returns-in-Some-best : goal.returns-in-Some-best
-returns-in-Some-best c = record {
-  best = c.best_discard-best.result;
-  best_is = c.best_discard-best.ensures;
+pub returns-in-Some-tile : goal.returns-in-Some-tile
+returns-in-Some-tile c = record {
+  best = c.best_discard-best.result.tile;
+  best_is = c.best_discard-best.ensures.tile;
   chosen_is =
-      discard_chosen c.args.table.now.rules c.args.seat c.in-Some-best.tile (view_of c.args.table.now.deeds c.args.seat) c.best_discard-best.result c.discard.result
-      (sym c.lawful_win.ensures ∙ c.in_default.is) (sym c.if_lawful.ensures ∙ c.in_default-if_lawful.is) c.in-Some-best.is
-      (best_passes c.args.table.now.rules c.args.seat (view_of c.args.table.now.deeds c.args.seat) c.in-Some-best.tile c.in-Some-best.ensures) c.discard.ensures;
+      discard_chosen c.args.table.now.rules c.args.seat c.in-Some-tile.tile (view_of c.args.table.now.deeds c.args.seat) c.best_discard-best.result.tile c.discard.result
+      (sym c.lawful_win.ensures ∙ c.in_default.is) (sym c.lawful_reach.ensures ∙ c.in_default-lawful_reach.is) c.in-Some-tile.is
+      (best_passes c.args.table.now.rules c.args.seat (view_of c.args.table.now.deeds c.args.seat) c.in-Some-tile.tile
+      (subst (λ o. MatchOption o (lawful_faces c.args.table.now.rules c.args.seat (view_of c.args.table.now.deeds c.args.seat) ≡ []) (IsBest c.args.table.now.rules c.args.seat (view_of c.args.table.now.deeds c.args.seat))) c.in-Some-tile.is c.best_discard-best.ensures.tile)) c.discard.ensures;
 }
