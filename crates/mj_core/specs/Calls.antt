@@ -19,6 +19,7 @@ use Rattle.mj_protocol.specs.After.{After, Chair, Verdict, Taken, Late, Refused,
 use Rattle.mj_protocol.specs.Trace.{Game, is_open, is_present_by, can_expire}
 use Rattle.mj_protocol.specs.Sitting.{placing, author_at}
 use Rattle.mj_protocol.specs.Shown.{verdict_at as verdict_in, due_at, line_at}
+use Rattle.mj_protocol.specs.Records.{record_text}
 pub use Rattle.mj_protocol.specs.Shown.{open_window}
 
 -- What the entries of a game come to.
@@ -102,3 +103,7 @@ pending_at game seat =
 -- Line k of a seat; nothing where there is no such deed yet.
 abbrev pub line_of : Game → ℕ → ℕ → List ℕ
 line_of game seat k = line_at (after_of game).deeds seat k
+
+-- The record of a game: its header, its walls, and the deeds that its entries come to.
+abbrev pub record_of : Game → List ℕ
+record_of game = record_text game.setting.rules game.setting.walls (after_of game).deeds

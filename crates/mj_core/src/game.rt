@@ -9,7 +9,7 @@ ghost use Rattle.mj_protocol.specs.Trace.{IsLegal, can_say, is_over};
 ghost use Rattle.mj_protocol.specs.Sitting.{placing};
 ghost use Rattle.mj_protocol.specs.Shown.{control_line, line_at};
 ghost use Rattle.mj_seating.specs.declared.desk.Placed.TheVariants.{Sat, Back};
-ghost use Rattle.mj_core.specs.Calls.{IsSitAnswer, IsHeard, IsLeft, IsExpiry, after_of, is_here, may_expire, author_of_seat, due_of, open_window, may_say_at, pending_at, line_of};
+ghost use Rattle.mj_core.specs.Calls.{IsSitAnswer, IsHeard, IsLeft, IsExpiry, after_of, is_here, may_expire, author_of_seat, due_of, open_window, may_say_at, pending_at, line_of, record_of};
 ghost use Rattle.mj_core.specs.Inner.Verdicts.{heard_by};
 
 use crate::answers::{Expiry, Heard, Left, SitAnswer};
@@ -22,7 +22,7 @@ use mj_deeds::{Answer, Rule};
 use mj_ports::{Control, JoinLine, SitRefused};
 use mj_seating::Placed;
 use mj_wall::{Rules, Setting, Wall, Walls};
-use mjai_lines::{read_answer, read_join};
+use mjai_lines::{read_answer, read_join, write_record};
 use std::alloc::{AllocError, Global};
 use std::marker::Model;
 
@@ -334,6 +334,22 @@ impl Core {
         ensures err { OnErr result (into.new.items ≡ into.old.items) }
     {
         write_control(alloc, control, into)
+    }
+
+    /// Writes the record of the game behind what stands in `into`: the header with its rules, a line for each of its walls, and
+    /// the record's line of each deed so far, which hides nothing. The only error is want of memory, and then the text stays as
+    /// it was.
+    pub fn record(&self, alloc: Global, into: &mut Vec<u8>) -> Result<(), AllocError>
+        ensures ok { OnOk result (Adds into.old.items into.new.items (record_of self.now)) }
+        ensures err { OnErr result (into.new.items ≡ into.old.items) }
+    {
+        write_record(
+            alloc,
+            self.setting.rules,
+            self.setting.walls.as_slice(),
+            self.state.deeds(),
+            into,
+        )
     }
 
     // Writes the line of a seat with this number, where there is one.

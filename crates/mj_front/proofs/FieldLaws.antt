@@ -1,50 +1,13 @@
--- Texts of three fields and of other numbers of fields.
-use Rattle.std.proofs.Common.{◌≡◌, ℕ, ◌^◌, ◌<◌, List, [], ◌∷◌, Bool, true, false, refl, ap, sym, cond}
-use Rattle.std.specs.Prelude.{Option, Some, None, option_map, option_and_then, ◌==◌, nat_lt}
+-- The end of a window, said by three fields and by other numbers of fields.
+use Rattle.std.proofs.Common.{◌≡◌, ℕ, ◌^◌, ◌<◌, List, [], ◌∷◌, true, refl, ap, sym}
+use Rattle.std.specs.Prelude.{Option, Some, None, option_map, option_and_then, nat_lt}
 use Rattle.std.proofs.Common.{arith}
 use Rattle.std.proofs.lemmas.Bool.Decides.{nat_tests}
 use Rattle.mj_bytes.specs.Numbers.{decimal_of}
-use Rattle.mj_bytes.specs.Parts.{fields, onto_first}
-use Rattle.mj_protocol.specs.Arrivals.{NoForm, Expire, rules_of, expire_form, numbers_in}
-use Rattle.mj_front.specs.Inner.Forms.{three_of}
+use Rattle.mj_protocol.specs.Arrivals.{NoForm, Expire, expire_form, numbers_in}
+use Rattle.mjai_lines.specs.Settings.{three_of}
 
--- a text has at least one field
-has_first : (text : List ℕ) → fields text ≡ [] → ⊥
-has_first [] h = cc h
-has_first (b ∷ bs) h = either (b == 32) (fields bs) (has_first bs) h
-  where
-    either : (t : Bool) (others : List (List ℕ)) → (others ≡ [] → ⊥) → cond t ([] ∷ others) (onto_first b others) ≡ [] → ⊥
-    either true others g k = cc k
-    either false [] g k = g refl
-    either false (x ∷ xs) g k = cc k
-
-more : (a b c : List ℕ) (others : List (List ℕ)) → (others ≡ [] → ⊥) → three_of (a ∷ b ∷ c ∷ others) ≡ None
-more a b c [] g = absurd (g refl)
-more a b c (x ∷ xs) g = refl
-
-pub one_field : (text a : List ℕ) → fields text ≡ a ∷ [] → None ≡ three_of (fields text)
-one_field text a e = rw e
-
-pub two_fields : (text a rest b : List ℕ) → fields text ≡ a ∷ fields rest → fields rest ≡ b ∷ [] → None ≡ three_of (fields text)
-two_fields text a rest b e f = rw (e, f)
-
-pub all_three : (text a rest b last c : List ℕ) → fields text ≡ a ∷ fields rest → fields rest ≡ b ∷ fields last → fields last ≡ c ∷ [] → Some (a, b, c) ≡ three_of (fields text)
-all_three text a rest b last c e f g = rw (e, f, g)
-
-pub more_fields : (text a rest b last c behind : List ℕ) → fields text ≡ a ∷ fields rest → fields rest ≡ b ∷ fields last → fields last ≡ c ∷ fields behind → None ≡ three_of (fields text)
-more_fields text a rest b last c behind e f g = rw (e, f, g, more a b c (fields behind) (has_first behind))
-
-pub ruleset three_fields = (one_field, two_fields, all_three, more_fields)
-
--- other numbers of fields say no rules and no end of a window
-pub rules_of_others : (texts : List (List ℕ)) → three_of texts ≡ None → rules_of texts ≡ None
-unfolding rules_of
-rules_of_others [] h = refl
-rules_of_others (a ∷ []) h = refl
-rules_of_others (a ∷ b ∷ []) h = refl
-rules_of_others (a ∷ b ∷ c ∷ []) h = cc h
-rules_of_others (a ∷ b ∷ c ∷ d ∷ ds) h = refl
-
+-- other numbers of fields say no end of a window
 pub expire_form_of_others : (texts : List (List ℕ)) → three_of texts ≡ None → expire_form (numbers_in texts) ≡ NoForm
 expire_form_of_others [] h = refl
 expire_form_of_others (a ∷ []) h = one (decimal_of a)

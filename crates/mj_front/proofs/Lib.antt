@@ -1,5 +1,4 @@
 pub mod FieldLaws
-pub mod TileLaws
 pub mod StatusLaws
 pub mod Placing
 pub mod Telling
@@ -7,3 +6,5 @@ pub mod Returning
 pub mod PlayLaws
 pub mod WallLaws
 pub mod RunLaws
+pub mod WordLaws
+pub mod ReplayLaws

@@ -11,6 +11,7 @@ CountsReadFaults statuses.ReadFault old new = old < new
 CountsReadFaults statuses.WriteFault old new = old ≤ new
 CountsReadFaults statuses.NoMemory old new = old ≤ new
 CountsReadFaults (statuses.BadArrival line) old new = old ≤ new
+CountsReadFaults (statuses.BadRecord line cause) old new = old ≤ new
 CountsReadFaults statuses.TooLong old new = old ≤ new
 
 -- The count of write faults never falls, and rises where the status says so.
@@ -21,4 +22,5 @@ CountsWriteFaults statuses.ReadFault old new = old ≡ new
 CountsWriteFaults statuses.WriteFault old new = old < new
 CountsWriteFaults statuses.NoMemory old new = old ≡ new
 CountsWriteFaults (statuses.BadArrival line) old new = old ≤ new
+CountsWriteFaults (statuses.BadRecord line cause) old new = old ≡ new
 CountsWriteFaults statuses.TooLong old new = old ≡ new

@@ -2,5 +2,5 @@
 -- outside the crate names them, and no public clause.
 pub mod Forms
 pub mod Hearing
-pub mod Commands
 pub mod Refereeing
+pub mod Replaying

@@ -1,4 +1,6 @@
+pub mod Inputs
 pub mod Referee
+pub mod Replay
 pub mod Hand
 pub mod SelfPlay
 pub mod Statuses

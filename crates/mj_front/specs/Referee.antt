@@ -1,6 +1,6 @@
 -- What the command `referee` tells a seat, reads and writes.
-use Rattle.std.specs.Prelude.{◌≡◌, ℕ, ◌≤◌, ◌<◌, List, length, Option}
-use Rattle.std.specs.Io.KnownBytes.{Consumes, Appends, Keeps, IsAtEnd}
+use Rattle.std.specs.Prelude.{◌≡◌, ℕ, List, Option}
+use Rattle.std.specs.Io.KnownBytes.{Appends, Keeps}
 use Rattle.mj_links.specs.Sinks.{WritesPrefix}
 use Rattle.mj_rules.specs.Played.{IsPlayed}
 use Rattle.mj_protocol.specs.After.{after, scripts}
@@ -10,6 +10,7 @@ use Rattle.mj_front.specs.declared.hearing.End.{End}
 use Rattle.mj_front.specs.declared.hearing.End.TheVariants as inputs
 use Rattle.mj_front.specs.declared.referee.RefereeEnd.{RefereeEnd}
 use Rattle.mj_front.specs.declared.referee.RefereeEnd.TheVariants as ends
+use Rattle.mj_front.specs.Inputs.{IsRead, IsTooLong}
 
 -- The headline: what the referee of a seat writes of a game, whole or in part, as `IsWritten` says.
 pub record IsTold (IsWritten : List ℕ → Type 0) (seat : ℕ) (game : Game) : Type 0 where
@@ -21,16 +22,6 @@ pub record IsTold (IsWritten : List ℕ → Type 0) (seat : ℕ) (game : Game) :
   -- the game goes by the rules: it is legal, and its deeds are played, each given by four lawful answers
   pub legal : IsLegal game.setting game.entries
   pub played : IsPlayed game.setting.rules game.setting.walls (after game.setting game.entries).deeds
-
--- The most bytes that an input may have.
-abbrev pub longest : ℕ
-longest = 67108864
-
--- An input was read: it is all that was left of the source, and not too long.
-pub record IsRead (old_left new_left : Option (List ℕ)) (input : List ℕ) : Type 0 where
-  pub taken : Consumes old_left new_left input
-  pub all : IsAtEnd new_left
-  pub fits : length input ≤ longest
 
 -- An input ends so, and what its game tells the seat is written whole.
 pub record TellsAll (ends_so : Ending) (seat : ℕ) (input : List ℕ) (old new : Option (List ℕ)) : Type 0 where
@@ -48,13 +39,6 @@ pub record RefereesPart (seat : ℕ) (old_left new_left old_written new_written 
   pub input : List ℕ
   pub read : IsRead old_left new_left input
   pub told : IsTold (WritesPrefix old_written new_written) seat (game_of (input_of input).reading)
-
--- More was read than an input may have, and nothing is written.
-pub record IsTooLong (old_left new_left old_written new_written : Option (List ℕ)) : Type 0 where
-  pub bytes : List ℕ
-  pub taken : Consumes old_left new_left bytes
-  pub more : longest < length bytes
-  pub unwritten : Keeps old_written new_written
 
 -- How an input ends.
 abbrev pub ending : End → Ending

@@ -2,11 +2,15 @@
 -- text on standard error.
 use Rattle.std.specs.Prelude.{ℕ, List, [], ◌++◌, codes}
 use Rattle.mj_bytes.specs.Numbers.{number_text}
+use Rattle.mj_replay.specs.declared.checking.Cause.{Cause}
+use Rattle.mj_replay.specs.declared.checking.Cause.TheVariants as causes
 use Rattle.mj_front.specs.declared.hand.HandEnd.{HandEnd}
 use Rattle.mj_front.specs.declared.hand.HandEnd.TheVariants as hands
 use Rattle.mj_front.specs.declared.hearing.End.TheVariants as ends
 use Rattle.mj_front.specs.declared.referee.RefereeEnd.{RefereeEnd}
 use Rattle.mj_front.specs.declared.referee.RefereeEnd.TheVariants as referees
+use Rattle.mj_front.specs.declared.replay.ReplayEnd.{ReplayEnd}
+use Rattle.mj_front.specs.declared.replay.ReplayEnd.TheVariants as replays
 use Rattle.mj_front.specs.declared.self_game.SelfPlayEnd.{SelfPlayEnd}
 use Rattle.mj_front.specs.declared.self_game.SelfPlayEnd.TheVariants as games
 use Rattle.mj_front.specs.declared.status.Status.{Status}
@@ -20,6 +24,15 @@ referee_status referees.WriteFault = statuses.WriteFault
 referee_status referees.ReadFault = statuses.ReadFault
 referee_status referees.TooLong = statuses.TooLong
 referee_status referees.NoMemory = statuses.NoMemory
+
+-- The status that the end of the command `replay` gives.
+abbrev pub replay_status : ReplayEnd → Status
+replay_status replays.Written = statuses.Done
+replay_status (replays.Bad line cause) = statuses.BadRecord line cause
+replay_status replays.WriteFault = statuses.WriteFault
+replay_status replays.ReadFault = statuses.ReadFault
+replay_status replays.TooLong = statuses.TooLong
+replay_status replays.NoMemory = statuses.NoMemory
 
 -- The status that the end of the command `hand` gives.
 abbrev pub hand_status : HandEnd → Status
@@ -42,6 +55,7 @@ code_of statuses.ReadFault = 3
 code_of statuses.WriteFault = 4
 code_of statuses.NoMemory = 5
 code_of (statuses.BadArrival line) = 6
+code_of (statuses.BadRecord line cause) = 7
 code_of statuses.TooLong = 9
 
 -- How the program is called.
@@ -52,6 +66,18 @@ usage = codes "usage: riichi_table referee SEAT | serve --seed HEX [--limit MS] 
 unfoldable pub at_line : List ℕ → ℕ → List ℕ
 at_line fault line = fault ++ (codes " at line " ++ (number_text line ++ codes "\n"))
 
+-- The number of a cause by which a line breaks the form of a record.
+abbrev pub cause_number : Cause → ℕ
+cause_number causes.Header = 1
+cause_number causes.Wall = 2
+cause_number causes.Line = 3
+cause_number causes.Next = 4
+cause_number causes.Cut = 5
+
+-- A fault at a line of a record, with the number of its cause.
+unfoldable pub bad_record : ℕ → Cause → List ℕ
+bad_record line cause = codes "bad record at line " ++ (number_text line ++ (codes ": " ++ (number_text (cause_number cause) ++ codes "\n")))
+
 -- The text on standard error; none for success.
 abbrev pub status_words : Status → List ℕ
 status_words statuses.Done = []
@@ -60,4 +86,5 @@ status_words statuses.ReadFault = codes "read fault\n"
 status_words statuses.WriteFault = codes "write fault\n"
 status_words statuses.NoMemory = codes "no memory\n"
 status_words (statuses.BadArrival line) = at_line (codes "bad arrival") line
+status_words (statuses.BadRecord line cause) = bad_record line cause
 status_words statuses.TooLong = codes "input too long\n"

@@ -1,16 +1,17 @@
 //! The forms that a line of the arrivals may have.
 
-ghost use Rattle.std.specs.Prelude.{◌≡◌, ◌<◌, ◌≤◌, ◌^◌, IfOk, IfSome, codes, option_and_then, option_map};
+ghost use Rattle.std.specs.Prelude.{◌≡◌, ◌<◌, ◌^◌, IfOk};
 ghost use Rattle.std.specs.Option.{SomeIff, option_map_or};
 ghost use Rattle.mj_bytes.specs.Numbers.{decimal_of};
-ghost use Rattle.mj_bytes.specs.Parts.{fields, parted, behind};
-ghost use Rattle.mj_protocol.specs.Arrivals.{Header, WallOf, Leave, NoForm, form_of, rules_of, tiles_in, limit_of, switch_of, numbers_in};
+ghost use Rattle.mj_bytes.specs.Parts.{fields, parted};
+ghost use Rattle.mj_protocol.specs.Arrivals.{Header, WallOf, Leave, NoForm, form_of, rules_of, tiles_in, numbers_in};
 ghost use Rattle.mj_protocol.specs.Arrivals.{form_by as form_meant, sit_form as sit_meant, say_form as say_meant, expire_form as expire_meant};
-ghost use Rattle.mj_front.specs.Inner.Forms.{meaning, expiry_meant, three_of, IsLimited, HasLimit};
+ghost use Rattle.mj_front.specs.Inner.Forms.{meaning, expiry_meant, HasLimit};
 
-use mj_bytes::{read_number, split_space, strip};
+use mj_bytes::{read_number, split_space};
 use mj_tiles::Tile;
 use mj_wall::Rules;
+use mjai_lines::{read_rules, read_tiles, three_fields};
 use std::alloc::{AllocError, Global};
 
 /// The most bytes that the line of a player may have.
@@ -84,44 +85,6 @@ fn header_form(text: &[u8]) -> ArrivalForm<'_>
     }
 }
 
-// The rules that three fields say: the limit of a window in milliseconds and two switches.
-#[tactic(auto, using(crate::proofs::FieldLaws::rules_of_others), unfolding(mj_protocol::specs::Arrivals::rules_of))]
-fn read_rules(text: &[u8]) -> Option<Rules>
-    ensures rules { result ≡ rules_of (fields text.now) }
-    ensures limit { IfSome result IsLimited }
-{
-    let (limit, draws, red) = three_fields(text)?;
-    Some(Rules {
-        limit: read_limit(limit)?,
-        draws: read_switch(draws, b"draws=")?,
-        red: read_switch(red, b"red=")?,
-    })
-}
-
-// A limit of 1 to 3600000 milliseconds.
-fn read_limit(field: &[u8]) -> Option<u64>
-    ensures value { result ≡ option_and_then limit_of
-        (option_and_then decimal_of (behind (codes "limit=") field.now)) }
-    ensures bound { IfSome result (λ limit. (1 ≤ limit) × (limit ≤ 3600000)) }
-{
-    let limit = read_number(strip(field, b"limit=")?)?;
-    if (1..=3_600_000).contains(&limit) {
-        return Some(limit);
-    }
-    None
-}
-
-// A switch under a name, `0` or `1`.
-fn read_switch(field: &[u8], name: &[u8]) -> Option<bool>
-    ensures { result ≡ option_and_then switch_of (behind name.now field.now) }
-{
-    match strip(field, name)? {
-        b"0" => Some(false),
-        b"1" => Some(true),
-        _ => None,
-    }
-}
-
 fn wall_form<'a>(alloc: Global, text: &[u8]) -> Result<ArrivalForm<'a>, AllocError>
     ensures form { IfOk result (λ form. meaning form
         ≡ option_map_or WallOf (tiles_in (fields text.now)) NoForm) }
@@ -131,27 +94,6 @@ fn wall_form<'a>(alloc: Global, text: &[u8]) -> Result<ArrivalForm<'a>, AllocErr
         Some(tiles) => Ok(ArrivalForm::Wall(tiles)),
         None => Ok(ArrivalForm::NoForm),
     }
-}
-
-// The tiles that the fields of a text name, where each names one.
-#[tactic(auto, using(crate::proofs::TileLaws::reading))]
-fn read_tiles(alloc: Global, text: &[u8]) -> Result<Option<Vec<Tile>>, AllocError>
-    ensures { IfOk result (λ tiles. option_map (λ t. t.items) tiles ≡ tiles_in (fields text.now)) }
-{
-    let mut tiles = Vec::new(alloc);
-    let mut rest = text;
-    while let Some((field, others)) = split_space(rest) {
-        let Some(tile) = Tile::read(field) else {
-            return Ok(None);
-        };
-        tiles.push(tile)?;
-        rest = others;
-    }
-    let Some(tile) = Tile::read(rest) else {
-        return Ok(None);
-    };
-    tiles.push(tile)?;
-    Ok(Some(tiles))
 }
 
 fn sit_form(line: &[u8]) -> ArrivalForm<'_>
@@ -220,17 +162,4 @@ fn window_below(number: u64) -> Option<u32>
         return None;
     }
     Some(number as u32)
-}
-
-// The fields of a text that has three.
-#[tactic(auto, using(crate::proofs::FieldLaws::three_fields))]
-fn three_fields(text: &[u8]) -> Option<(&[u8], &[u8], &[u8])>
-    ensures { option_map (λ x. (x.0.now, x.1.now, x.2.now)) result ≡ three_of (fields text.now) }
-{
-    let (first, others) = split_space(text)?;
-    let (second, third) = split_space(others)?;
-    match split_space(third) {
-        Some(_) => None,
-        None => Some((first, second, third)),
-    }
 }

@@ -5,7 +5,8 @@ ghost use Rattle.std.specs.List.{list_all};
 ghost use Rattle.mj_bytes.specs.Parts.{whole_lines, unfinished};
 ghost use Rattle.mj_wall.specs.Places.{is_wall};
 ghost use Rattle.mj_protocol.specs.Arrivals.{Intake, hear_from, hear_on, header_arrives, nothing_read, at_end, input_of};
-ghost use Rattle.mj_front.specs.Referee.{longest, ending};
+ghost use Rattle.mj_front.specs.Inputs.{longest};
+ghost use Rattle.mj_front.specs.Referee.{ending};
 ghost use Rattle.mj_front.specs.Inner.Hearing.{intake_of, intake_with_walls, begin_with_wall, InPlay, HearsAll, Tells};
 
 use crate::arriving::{Step, hear_line};

@@ -1,5 +1,6 @@
-//! The commands that words ask for: arrivals read from a source, and what one seat is told written to a sink; the lines of a
-//! hand written to a sink; and a self-played game whose summary is written to a sink.
+//! The commands that words ask for: arrivals read from a source, and what one seat is told written to a sink; a record read
+//! from a source, and its summary written to a sink; the lines of a hand written to a sink; and a self-played game whose summary
+//! is written to a sink.
 #![tactic(auto)]
 
 mod arriving;
@@ -7,9 +8,12 @@ mod commands;
 mod form;
 mod hand;
 mod hearing;
+mod input;
 mod referee;
+mod replay;
 mod self_game;
 mod status;
 
-pub use commands::run;
+pub use commands::run_alone;
+pub use mj_replay::Cause;
 pub use status::{Status, exit_code, status_text};

@@ -1,17 +1,16 @@
 //! The command `referee`: the input read whole, and what its game tells a seat written.
 
 ghost use Rattle.std.specs.Prelude.{◌≤◌, length};
-ghost use Rattle.mj_front.specs.Referee.{longest, Referees};
+ghost use Rattle.mj_front.specs.Inputs.{longest};
+ghost use Rattle.mj_front.specs.Referee.{Referees};
 ghost use Rattle.mj_front.specs.Inner.Refereeing.{RefereesInput};
 ghost use Rattle.mj_front.specs.Statuses.{referee_status};
 ghost use Rattle.mj_front.specs.Faults.{CountsReadFaults, CountsWriteFaults};
 
 use crate::hearing::{End, hear};
+use crate::input::LONGEST;
 use mj_links::{ReadAll, Sink, Source, WriteAll, read_all, write_all};
 use std::alloc::Global;
-
-/// The most bytes that an input may have.
-const LONGEST: u64 = 67_108_864;
 
 /// How the command `referee` ends.
 #[derive(Clone, Copy)]

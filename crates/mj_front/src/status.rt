@@ -2,21 +2,23 @@
 
 ghost use Rattle.std.specs.Prelude.{◌≡◌, IfOk, OnOk, OnErr, codes};
 ghost use Rattle.mj_bytes.specs.Adds.{Adds};
-ghost use Rattle.mj_front.specs.Statuses.{referee_status, hand_status, self_play_status, code_of, status_words, at_line, usage};
+ghost use Rattle.mj_front.specs.Statuses.{referee_status, replay_status, hand_status, self_play_status, code_of, cause_number, status_words, at_line, bad_record, usage};
 
 use crate::hand::HandEnd;
 use crate::hearing::End;
 use crate::referee::RefereeEnd;
+use crate::replay::ReplayEnd;
 use crate::self_game::SelfPlayEnd;
 use mj_bytes::{push_all, push_number};
+use mj_replay::Cause;
 use std::alloc::{AllocError, Global};
 
 /// How a run ended. Where several fit, the first of this order answers: `Words`; `ReadFault` or `TooLong`, whichever is met
-/// first; `WriteFault`; `BadArrival`; `Done`.
+/// first; `BadRecord`; `WriteFault`; `BadArrival`; `Done`.
 #[derive(Clone, Copy, Debug, PartialEq, Eq)]
 pub enum Status {
-    /// The input was read to its end and is valid, and what it tells the seat is written; or the lines of a hand or of a
-    /// self-played game are written.
+    /// The input was read to its end and is valid, and what it tells the seat or the summary of its record is written; or the
+    /// lines of a hand or of a self-played game are written.
     Done,
     /// The words ask for no command, or for one with other arguments than its own, as `hand` with words that name no hand, or
     /// `selfplay` with a word that is no number. Nothing is written.
@@ -29,6 +31,8 @@ pub enum Status {
     NoMemory,
     /// The line, counted from 1, is the first that is no arrival in its place. What the lines before it tell is written.
     BadArrival(u32),
+    /// The line, counted from 1, is the first that breaks the form of a record, by this cause. Nothing is written.
+    BadRecord(u32, Cause),
     /// The input has more than 67,108,864 bytes. Nothing is written.
     TooLong,
 }
@@ -44,6 +48,20 @@ pub(crate) fn status_of_referee(end: RefereeEnd) -> Status
         RefereeEnd::ReadFault => Status::ReadFault,
         RefereeEnd::TooLong => Status::TooLong,
         RefereeEnd::NoMemory => Status::NoMemory,
+    }
+}
+
+/// The status that the end of the command `replay` gives.
+pub(crate) fn status_of_replay(end: ReplayEnd) -> Status
+    ensures { result ≡ replay_status end }
+{
+    match end {
+        ReplayEnd::Written => Status::Done,
+        ReplayEnd::Bad(line, cause) => Status::BadRecord(line, cause),
+        ReplayEnd::WriteFault => Status::WriteFault,
+        ReplayEnd::ReadFault => Status::ReadFault,
+        ReplayEnd::TooLong => Status::TooLong,
+        ReplayEnd::NoMemory => Status::NoMemory,
     }
 }
 
@@ -81,6 +99,7 @@ pub fn exit_code(status: &Status) -> u8
         Status::WriteFault => 4,
         Status::NoMemory => 5,
         Status::BadArrival(_) => 6,
+        Status::BadRecord(_, _) => 7,
         Status::TooLong => 9,
     }
 }
@@ -100,6 +119,7 @@ pub fn status_text(alloc: Global, status: &Status) -> Result<Vec<u8>, AllocError
         Status::WriteFault => Vec::from_slice(alloc, b"write fault\n"),
         Status::NoMemory => Vec::from_slice(alloc, b"no memory\n"),
         Status::BadArrival(line) => text_at_line(alloc, b"bad arrival", *line),
+        Status::BadRecord(line, cause) => text_of_record(alloc, *line, *cause),
         Status::TooLong => Vec::from_slice(alloc, b"input too long\n"),
     }
 }
@@ -114,4 +134,30 @@ fn text_at_line(alloc: Global, fault: &[u8], line: u32) -> Result<Vec<u8>, Alloc
     push_number(&mut text, u64::from(line))?;
     push_all(&mut text, b"\n")?;
     Ok(text)
+}
+
+// The text on a fault at a line of a record.
+#[tactic(auto, using(crate::proofs::StatusLaws::five_pieces), unfolding(crate::specs::Statuses::bad_record))]
+fn text_of_record(alloc: Global, line: u32, cause: Cause) -> Result<Vec<u8>, AllocError>
+    ensures { IfOk result (λ text. text.items ≡ bad_record line cause) }
+{
+    let mut text = Vec::from_slice(alloc, b"bad record at line ")?;
+    push_number(&mut text, u64::from(line))?;
+    push_all(&mut text, b": ")?;
+    push_number(&mut text, number_of(cause))?;
+    push_all(&mut text, b"\n")?;
+    Ok(text)
+}
+
+// The number of a cause by which a line breaks the form of a record.
+fn number_of(cause: Cause) -> u64
+    ensures { result ≡ cause_number cause }
+{
+    match cause {
+        Cause::Header => 1,
+        Cause::Wall => 2,
+        Cause::Line => 3,
+        Cause::Next => 4,
+        Cause::Cut => 5,
+    }
 }

@@ -1,5 +1,5 @@
 -- Steps of the objects in memory.
-use Rattle.std.proofs.Common.{◌≡◌, ℕ, ◌+◌, ◌^◌, ◌<◌, ◌≤◌, List, [], ◌∷◌, ◌++◌, length, take, drop, refl, sym, ap, ◌∙◌, arith, suc, get_or, Fits, w64, false, length-take, take-append-drop}
+use Rattle.std.proofs.Common.{◌≡◌, ℕ, ◌+◌, ◌^◌, ◌<◌, ◌≤◌, List, [], ◌∷◌, ◌++◌, length, take, drop, refl, sym, ap, ◌∙◌, arith, suc, get_or, Fits, w64, false, length-take, take-append-drop, take-add, append-nil}
 use Rattle.std.specs.Prelude.{◌==◌}
 use Rattle.std.proofs.lemmas.List.{take-append-le, take_all, drop-drop}
 use Rattle.std.proofs.lemmas.Bool.Decides.{nat_tests}
@@ -25,3 +25,13 @@ pub moved : (bytes into : List ℕ) (at count : ℕ) → take count into ≡ tak
 moved bytes into at count f =
     sym (take-append-drop count (drop at bytes)) ∙ (ap (λ l. l ++ drop count (drop at bytes)) (sym f)
     ∙ ap (λ l. take count into ++ l) (drop-drop count at bytes))
+
+-- what was read before, and the bytes that stand in the buffer, are what was read since
+pub gone_on : (bytes into : List ℕ) (at count : ℕ) → take count into ≡ take count (drop at bytes) → take (at + count) bytes ≡ take at bytes ++ take count into
+gone_on bytes into at count f = take-add at count bytes ∙ ap (λ l. take at bytes ++ l) (sym f)
+
+-- a read that gives nothing
+pub gone_none : (xs : List ℕ) → xs ≡ xs ++ []
+gone_none xs = sym (append-nil xs)
+
+pub ruleset moving = (moved, gone_on, gone_none)

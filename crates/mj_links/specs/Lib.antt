@@ -2,3 +2,13 @@ pub mod MemObjects
 pub mod Memory
 pub mod Sources
 pub mod Sinks
+pub mod Links
+pub mod MemLinks
+pub mod Helds
+pub mod Fills
+pub mod Clocks
+pub mod Hosts
+pub mod MemFaults
+pub mod FreshLinks
+pub mod MemHosts
+pub mod TcpLinks

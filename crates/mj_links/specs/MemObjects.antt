@@ -1,5 +1,5 @@
 -- What the objects in memory have left and written, and which of their calls fail next.
-use Rattle.std.specs.Prelude.{ℕ, List, drop}
+use Rattle.std.specs.Prelude.{ℕ, List, take, drop}
 use Rattle.mj_links.specs.declared.plan.Plan.{Plan}
 use Rattle.mj_links.specs.declared.mem_source.MemSource.{MemSource}
 use Rattle.mj_links.specs.declared.mem_sink.MemSink.{MemSink}
@@ -7,6 +7,10 @@ use Rattle.mj_links.specs.declared.mem_sink.MemSink.{MemSink}
 -- the bytes that are still to be read
 abbrev pub unread : MemSource → List ℕ
 unread s = drop s.at s.bytes.items
+
+-- the bytes that were read so far
+abbrev pub gone : MemSource → List ℕ
+gone s = take s.at s.bytes.items
 
 -- which of the reads fail, and how many were made
 abbrev pub read_plan : MemSource → Plan

@@ -1,5 +1,5 @@
 -- What reading from a source does to the bytes that are left there, and to its count of faults.
-use Rattle.std.specs.Prelude.{◌≡◌, ℕ, ◌+◌, ◌<◌, ◌≤◌, List, ◌++◌, length, take, Option}
+use Rattle.std.specs.Prelude.{◌≡◌, ℕ, ◌+◌, ◌<◌, ◌≤◌, List, [], ◌++◌, length, take, Option}
 use Rattle.std.specs.Io.KnownBytes.{Consumes, Keeps, IsAtEnd}
 use Rattle.mj_links.specs.declared.source.Got.{Got}
 use Rattle.mj_links.specs.declared.source.Got.TheVariants.{Bytes, End, Failed}
@@ -11,6 +11,12 @@ abbrev pub Reads : Got → Option (List ℕ) → Option (List ℕ) → List ℕ 
 Reads (Bytes n) old new into = (1 ≤ n) × (n ≤ length into) × Consumes old new (take n into)
 Reads End old new into = IsAtEnd new × Keeps old new
 Reads Failed old new into = Keeps old new
+
+-- the bytes that a read gave: those at the front of the buffer, and none at the end and at a failure
+abbrev pub got_bytes : Got → List ℕ → List ℕ
+got_bytes (Bytes n) into = take n into
+got_bytes End into = []
+got_bytes Failed into = []
 
 -- the count of read faults never falls, and rises with each failure
 abbrev pub CountsReadFault : Got → ℕ → ℕ → Type 0

@@ -19,6 +19,9 @@ impl Model for FaultCount {
 // It owns nothing.
 unsafe impl Send for FaultCount {}
 
+// It has nothing to share.
+unsafe impl Sync for FaultCount {}
+
 impl FaultCount {
     /// No fault yet.
     pub fn new() -> FaultCount

@@ -1,6 +1,6 @@
 //! A source in memory, some of whose reads fail as planned.
 
-ghost use Rattle.std.specs.Prelude.{◌≡◌, ◌<◌, ◌≤◌, length, min, take, Some};
+ghost use Rattle.std.specs.Prelude.{◌≡◌, ◌<◌, ◌≤◌, ◌++◌, [], length, min, take, Some};
 
 use crate::faults::FaultCount;
 use crate::plan::Plan;
@@ -19,12 +19,13 @@ pub struct MemSource {
 
 impl MemSource {
     ghost use Rattle.mj_links.specs.Memory.{IsNewPlan};
-    ghost use Rattle.mj_links.specs.MemObjects.{read_plan};
+    ghost use Rattle.mj_links.specs.MemObjects.{gone, read_plan};
 
     /// A source of these bytes, whose reads of these numbers fail.
     pub fn new(bytes: Vec<u8>, reads: Vec<u64>) -> MemSource
         ensures left { ⟦<MemSource as Source>⟧.left result ≡ Some bytes.items }
         ensures faults { ⟦<MemSource as Source>⟧.read_faults result ≡ 0 }
+        ensures gone { gone result ≡ [] }
         ensures planned { IsNewPlan (read_plan result) reads.items }
     {
         MemSource {
@@ -38,14 +39,14 @@ impl MemSource {
 
 impl Source for MemSource {
     ghost use Rattle.mj_links.specs.Memory.{CountsCall, mem_read, next_fails};
-    ghost use Rattle.mj_links.specs.MemObjects.{unread, read_plan, source_faults};
-    ghost use Rattle.mj_links.specs.Sources.{Reads, CountsReadFault};
+    ghost use Rattle.mj_links.specs.MemObjects.{unread, gone, read_plan, source_faults};
+    ghost use Rattle.mj_links.specs.Sources.{Reads, CountsReadFault, got_bytes};
 
     ghost left = { λ s. Some (unread s) };
 
     ghost read_faults = { source_faults };
 
-    #[tactic(auto, using(crate::proofs::MemoryLaws::moved))]
+    #[tactic(auto, using(crate::proofs::MemoryLaws::moving))]
     fn read(&mut self, into: &mut [u8]) -> Got
         requires { 0 < length into.old }
         ensures bytes { Reads result (Some (unread self.old)) (Some (unread self.new)) into.new }
@@ -53,6 +54,7 @@ impl Source for MemSource {
         ensures exact { result ≡ mem_read (next_fails (read_plan self.old)) (unread self.old)
             (length into.old) }
         ensures counted { CountsCall (read_plan self.old) (read_plan self.new) }
+        ensures gone { gone self.new ≡ gone self.old ++ got_bytes result into.new }
     {
         if self.plan.next_fails() {
             self.faults = self.faults.more();

@@ -2,6 +2,7 @@
 
 ghost use Rattle.std.specs.Prelude.{ℕ, ◌<◌, List, length, Option};
 ghost use Rattle.mj_links.specs.Sources.{Reads, CountsReadFault};
+ghost use Rattle.mj_links.specs.declared.source.Got.{Got};
 
 /// What one read gave.
 #[derive(Clone, Copy, PartialEq, Eq, Debug)]
@@ -23,11 +24,15 @@ pub trait Source {
 
     ghost read_faults: { Self → ℕ };
 
+    // what else a kind of source says of each read, as a link does of its writing half
+    ghost also_reads: { Got → List ℕ → Self → Self → Type 0 } = { λ got into old new. Unit {0} };
+
     /// Reads some bytes, at least one and at most as many as fit, into the front of a buffer that has
     /// room. The source may give fewer than it has. `Failed` comes only with a fault, and the count of
     /// faults never falls.
     fn read(&mut self, into: &mut [u8]) -> Got
         requires { 0 < length into.old }
         ensures bytes { Reads result (left self.old) (left self.new) into.new }
-        ensures faults { CountsReadFault result (read_faults self.old) (read_faults self.new) };
+        ensures faults { CountsReadFault result (read_faults self.old) (read_faults self.new) }
+        ensures also { also_reads result into.new self.old self.new };
 }

@@ -9,11 +9,11 @@ use Rattle.mj_protocol.proofs.Places.{slice_get-set_at, slice_get-set_other}
 use Rattle.mj_protocol.specs.Shown.{is_connected, seat_at, told_by, told_in, told_at}
 
 -- How many connections began at a place: of the earlier ones of a seat, of all of a seat, and of all seats.
-abbrev one_if : Bool → ℕ
+abbrev pub one_if : Bool → ℕ
 one_if true = 1
 one_if false = 0
 
-abbrev earlier_from : ℕ → List Connection → ℕ
+abbrev pub earlier_from : ℕ → List Connection → ℕ
 earlier_from p [] = 0
 earlier_from p (c ∷ cs) = one_if (c.place == p) + earlier_from p cs
 
@@ -28,6 +28,10 @@ earlier-more : (p : ℕ) (cs : List Connection) (c : Connection) → earlier_fro
 earlier-more p [] c = omega arith
 earlier-more p (d ∷ cs) c = omega (arith, earlier-more p cs c)
 
+pub earlier-append : (p : ℕ) (cs ds : List Connection) → earlier_from p (cs ++ ds) ≡ earlier_from p cs + earlier_from p ds
+earlier-append p [] ds = omega arith
+earlier-append p (c ∷ cs) ds = omega (arith, earlier-append p cs ds)
+
 begun-append : (p : ℕ) (chairs : List Chair) (chair : Chair) → begun_at p (chairs ++ chair ∷ []) ≡ begun_at p chairs + begun_in p chair
 begun-append p [] chair = omega arith
 begun-append p (c ∷ chairs) chair = omega (arith, begun-append p chairs chair)
@@ -36,6 +40,19 @@ begun-set : (p : ℕ) (chairs : List Chair) (i : ℕ) (old new : Chair) → slic
 begun-set p [] i old new e = cc
 begun-set p (c ∷ cs) zero old new e = let same : begun_in p c ≡ begun_in p old = ap (begun_in p) (same_Some c old e) in omega (arith, same)
 begun-set p (c ∷ cs) (suc i) old new e = omega (arith, begun-set p cs i old new e)
+
+-- Those of a seat are among all, and those of two seats together.
+pub begun-one : (p : ℕ) (chairs : List Chair) (i : ℕ) (c : Chair) → slice_get chairs i ≡ Some c → begun_in p c ≤ begun_at p chairs
+begun-one p [] i c e = cc
+begun-one p (d ∷ ds) zero c e = let same : begun_in p d ≡ begun_in p c = ap (begun_in p) (same_Some d c e) in omega (arith, same)
+begun-one p (d ∷ ds) (suc i) c e = omega (arith, begun-one p ds i c e)
+
+pub begun-two : (p : ℕ) (chairs : List Chair) (i j : ℕ) (c d : Chair) → i ≢ j → slice_get chairs i ≡ Some c → slice_get chairs j ≡ Some d → begun_in p c + begun_in p d ≤ begun_at p chairs
+begun-two p [] i j c d ne e f = cc
+begun-two p (x ∷ xs) zero zero c d ne e f = absurd (ne refl)
+begun-two p (x ∷ xs) zero (suc j) c d ne e f = let same : begun_in p x ≡ begun_in p c = ap (begun_in p) (same_Some x c e) in omega (arith, same, begun-one p xs j d f)
+begun-two p (x ∷ xs) (suc i) zero c d ne e f = let same : begun_in p x ≡ begun_in p d = ap (begun_in p) (same_Some x d f) in omega (arith, same, begun-one p xs i c e)
+begun-two p (x ∷ xs) (suc i) (suc j) c d ne e f = omega (arith, begun-two p xs i j c d (λ s. ne (ap (λ (n : ℕ). suc n) s)) e f)
 
 -- The newest connection of a seat is one of them, and those of two seats are two.
 one_at : (p : ℕ) (d c : Chair) → Some d ≡ Some c → (c.place == p) ≡ true → one_if (d.place == p) ≡ 1
@@ -64,7 +81,7 @@ apart-at p chairs i j c d few ne e f h = by (d.place == p) refl
     by false k = k
 
 -- What the connections of a place were told, where there is none.
-untold-earlier : (p : ℕ) (cs : List Connection) → earlier_from p cs ≡ 0 → flat_map (told_by p) cs ≡ []
+pub untold-earlier : (p : ℕ) (cs : List Connection) → earlier_from p cs ≡ 0 → flat_map (told_by p) cs ≡ []
 untold-earlier p [] h = refl
 untold-earlier p (c ∷ cs) h = by (c.place == p) h (untold-earlier p cs)
   where
@@ -75,7 +92,7 @@ untold-earlier p (c ∷ cs) h = by (c.place == p) h (untold-earlier p cs)
     by true e f = absurd (omega arith)
     by false e f = f (rest (earlier_from p cs) e)
 
-untold-in : (p : ℕ) (c : Chair) → begun_in p c ≡ 0 → told_in p c ≡ []
+pub untold-in : (p : ℕ) (c : Chair) → begun_in p c ≡ 0 → told_in p c ≡ []
 untold-in p c h = by (c.place == p) h
   where
     rest : (n : ℕ) → n + 0 ≡ 0 → n ≡ 0
@@ -85,7 +102,7 @@ untold-in p c h = by (c.place == p) h
     by true e = absurd (omega arith)
     by false e = ap (λ (l : List ℕ). l ++ []) (untold-earlier p c.earlier (rest (earlier_from p c.earlier) e))
 
-untold-at : (p : ℕ) (cs : List Chair) → begun_at p cs ≡ 0 → told_at cs p ≡ []
+pub untold-at : (p : ℕ) (cs : List Chair) → begun_at p cs ≡ 0 → told_at cs p ≡ []
 untold-at p [] h = refl
 untold-at p (c ∷ cs) h =
     let own : told_in p c ≡ [] = untold-in p c (omega (arith, h)) in
@@ -166,7 +183,7 @@ nobody-at p (c ∷ cs) f =
     ap (λ (b : Bool). if b then Some 0 else option_map (λ (n : ℕ). suc n) (seat_at cs p)) (f 0 c refl)
     ∙ ap (option_map (λ (n : ℕ). suc n)) (nobody-at p cs (λ i d e. f (suc i) d e))
 
-and_off : (a b : Bool) → b ≡ false → (a && b) ≡ false
+pub and_off : (a b : Bool) → b ≡ false → (a && b) ≡ false
 and_off true b e = e
 and_off false b e = refl
 

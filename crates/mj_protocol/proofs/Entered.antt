@@ -14,7 +14,7 @@ use Rattle.mj_wall.specs.declared.setting.Rules.{Rules}
 use Rattle.mj_wall.specs.declared.setting.Setting.{Setting}
 use Rattle.mj_protocol.specs.After.{After, Chair, Connection, Verdict, Taken, Late, verdict, verdict_by, author_after, progress_after, verdict_on, lines_for, after_said, after_gone, after_back, due_on_return, told_again, new_chair, own_part, pending, next_deed, with_deed, step, after_from, after, before_all}
 use Rattle.mj_protocol.proofs.Fitting.{own_deeds}
-use Rattle.mj_protocol.proofs.Connections.{ArePlaced, placed-idle, placed-kept, placed-new, placed-again}
+use Rattle.mj_protocol.proofs.Connections.{one_if, ArePlaced, placed-idle, placed-kept, placed-new, placed-again}
 
 -- The seats are those that the entry's own part leaves.
 pub step-chairs : (setting : Setting) (now : After) (entry : Entry Answer) → (step setting now entry).chairs ≡ (own_part setting now entry).chairs
@@ -87,10 +87,6 @@ entered-is setting entries = more_entered setting before_all entries ∙ none (l
     none n = omega arith
 
 -- Seats are taken in order.
-abbrev one_if : Bool → ℕ
-one_if true = 1
-one_if false = 0
-
 said_seats : (rules : Rules) (now : After) (seat : ℕ) (answer : Answer) (held : Option Chair) → length (option_map_or (after_said rules now seat answer) held now).chairs ≡ length now.chairs
 unfolding after_said
 said_seats rules now seat answer None = refl
@@ -109,7 +105,7 @@ back_seats now author seat (Some chair) = length-set now.chairs seat _
 and_none : (m n : ℕ) → m ≡ n → m ≡ n + 0
 and_none m n e = omega arith
 
-own_seats : (setting : Setting) (now : After) (entry : Entry Answer) → length (own_part setting now entry).chairs ≡ length now.chairs + one_if (is_sat entry)
+pub own_seats : (setting : Setting) (now : After) (entry : Entry Answer) → length (own_part setting now entry).chairs ≡ length now.chairs + one_if (is_sat entry)
 unfolding own_part
 own_seats setting now (Sat author name key) = length-append now.chairs _
 own_seats setting now (Said author seat answer) = and_none _ _ (said_seats setting.rules now seat answer (slice_get now.chairs seat))

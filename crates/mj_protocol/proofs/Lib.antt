@@ -22,8 +22,11 @@ pub mod Ended
 pub mod Entered
 pub mod Seated
 pub mod Moves
+pub mod ByPlace
 pub mod Arriving
 pub mod Filled
 pub mod Order
 pub mod Heard
 pub mod Follows
+pub mod Cuts
+pub mod Bare

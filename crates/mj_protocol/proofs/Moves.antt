@@ -223,7 +223,7 @@ line_or_none deeds seat k = by (nat_lt k (length deeds)) refl
     by true e = refl
     by false e = sym (untold_line deeds seat k e)
 
-waiting_is : (now : After) (seat : ℕ) (chair : Chair) → slice_get now.chairs seat ≡ Some chair → waiting (shown now) seat ≡ pending (lines_for seat now.deeds) chair.progress
+pub waiting_is : (now : After) (seat : ℕ) (chair : Chair) → slice_get now.chairs seat ≡ Some chair → waiting (shown now) seat ≡ pending (lines_for seat now.deeds) chair.progress
 unfolding pending
 waiting_is now seat chair e =
     ap (λ (o : Option Chair). if option_map_or (λ (c : Chair). not (c.progress.refused == 0)) o false then [] else

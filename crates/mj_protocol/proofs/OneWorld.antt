@@ -1,12 +1,13 @@
 -- The law of one world: what a game tells a seat is what a machine tells that has nothing but what the seat learns. So two
 -- games that agree for a seat tell it the same.
 use Rattle.std.proofs.Common.{◌≡◌, ◌≢◌, ℕ, suc, ◌<◌, ◌≤◌, ◌==◌, inl, inr, Bool, true, false, cond, List, [], ◌∷◌, ◌++◌, length, refl, ap, sym, ◌∙◌, subst, arith, append-nil}
-use Rattle.std.specs.Prelude.{Option, Some, None, is_some, option_map, IsTrue, slice_get, flat_map, nat_lt}
+use Rattle.std.specs.Prelude.{Option, Some, None, is_some, option_map, IsTrue, slice_get, flat_map, map, nat_lt}
 use Rattle.std.specs.Option.{option_map_or}
 use Rattle.std.specs.List.{list_all}
 use Rattle.std.proofs.lemmas.Bool.{and_parts, ltb-true, ltb-false}
 use Rattle.std.proofs.lemmas.Grind.{flat_map-append}
 use Rattle.std.proofs.lemmas.List.{length-map, map-append}
+use Rattle.std.proofs.lemmas.List.Folds.{flat_map-map}
 use Rattle.std.proofs.lemmas.Option.{slice_get_within}
 use Rattle.std.proofs.lemmas.Bool.Decides.{eqb_tells}
 use Rattle.mj_ports.specs.declared.entry.Entry.{Entry}
@@ -24,7 +25,7 @@ use Rattle.mj_rules.specs.View.{SeatView, view_of}
 use Rattle.mj_rules.specs.Outcome.{outcome, wall_of}
 use Rattle.mj_rules.proofs.Playing.{each_is_wall}
 use Rattle.mj_rules.proofs.Dealing.{hand_has_thirteen}
-use Rattle.mj_protocol.specs.After.{After, Chair, Connection, Progress, Verdict, Taken, Late, Refused, Closing, verdict, verdict_on, author_after, slots_after, progress_after, lines_for, told_again, is_present, after_said, after_gone, after_back, own_part, next_deed, names_of, answers_in, is_window_closed, with_deed, step, after_from, after, before_all, script_at, scripts_at, scripts}
+use Rattle.mj_protocol.specs.After.{After, Chair, Connection, Progress, Verdict, Taken, Late, Refused, Closing, verdict, verdict_on, author_after, slots_after, progress_after, lines_for, told_again, is_present, after_said, after_gone, after_back, own_part, next_deed, names_of, answers_in, is_window_closed, with_deed, step, after_from, after, before_all, script_at, connections_at, connections, scripts_at, scripts}
 use Rattle.mj_view.specs.Tokens.{token}
 use Rattle.mj_protocol.specs.Trace.{Item, own_items, seen_items, trace_from, trace, is_permitted, all_permitted, IsLegal, Game, Agree, has_wall}
 use Rattle.mj_lists.proofs.Fronts.{at_end}
@@ -34,11 +35,11 @@ use Rattle.mj_protocol.proofs.MaskedLine.{lines-masked}
 use Rattle.mj_protocol.proofs.Places.{slice_get-append_other, slice_get-set_at, slice_get-set_other, none_behind, slot-put_at, slot-put_other, slot-empty}
 use Rattle.mj_protocol.proofs.Rebuilt.{rebuilt, IsTold, DealsThirteen, Only, only_none, only_some, by_choice, outcome_is_told}
 use Rattle.mj_protocol.proofs.Seats.{AreSeats, no_seats, step_seats, legal_seats}
-use Rattle.mj_protocol.proofs.Solo.{Part, Solo, untimed, untimed_verdict, at_first, slot_after, judged, left, next_due, after_answer, after_leaving, after_return, learns_all, learns_all-append, solo_script, told_by}
+use Rattle.mj_protocol.proofs.Solo.{Part, Solo, untimed, untimed_verdict, at_first, slot_after, judged, left, next_due, after_answer, after_leaving, after_return, learns_all, learns_all-append, solo_connections, told_by}
 
 -- what decides the bytes of a seat that is held
 abbrev pub part_of : Chair → Part
-part_of chair = record { present = is_present chair; progress = chair.progress; earlier = flat_map (λ (c : Connection). c.told) chair.earlier }
+part_of chair = record { present = is_present chair; progress = chair.progress; earlier = map (λ (c : Connection). c.told) chair.earlier }
 
 abbrev pub part_at : List Chair → ℕ → Option Part
 part_at chairs seat = option_map part_of (slice_get chairs seat)
@@ -140,8 +141,8 @@ others_left seat who now s (Some chair) ne m = record {
 }
 
 -- what changes where it comes back
-told_before : (earlier : List Connection) (last : Connection) → flat_map (λ (c : Connection). c.told) (earlier ++ last ∷ []) ≡ flat_map (λ (c : Connection). c.told) earlier ++ last.told
-told_before earlier last = flat_map-append (λ (c : Connection). c.told) earlier (last ∷ []) ∙ ap (λ (bytes : List ℕ). flat_map (λ (c : Connection). c.told) earlier ++ bytes) (append-nil last.told)
+told_before : (earlier : List Connection) (last : Connection) → map (λ (c : Connection). c.told) (earlier ++ last ∷ []) ≡ map (λ (c : Connection). c.told) earlier ++ last.told ∷ []
+told_before earlier last = map-append (λ (c : Connection). c.told) earlier (last ∷ [])
 
 back_follows : (seat author : ℕ) (now : After) (s : Solo) (held : Option Chair) → slice_get now.chairs seat ≡ held → Matches seat now s →
     Matches seat (option_map_or (after_back now author seat) held now) (option_map_or (after_return seat s) s.part s)
@@ -271,13 +272,23 @@ game_follows seat (entry ∷ entries) setting now s small deals permitted seats 
     (step_seats setting now entry parts.0 seats) (stepped_follows seat entry setting now s small seats.few deals m))
 
 -- what the machine tells is what the game tells
-script_by : (seat : ℕ) (now : After) (s : Solo) (held : Option Chair) → slice_get now.chairs seat ≡ held → Matches seat now s →
-    option_map_or (scripts_at seat now) held [] ≡ solo_script seat s
-unfolding scripts_at script_at
-script_by seat now s None at m = ap (λ (o : Option Part). option_map_or (told_by (lines_for seat s.deeds)) o []) (held_part seat now s None at m)
-script_by seat now s (Some chair) at m =
+connections_by : (seat : ℕ) (now : After) (s : Solo) (held : Option Chair) → slice_get now.chairs seat ≡ held → Matches seat now s →
+    option_map_or (connections_at seat now) held [] ≡ solo_connections seat s
+unfolding script_at
+connections_by seat now s None at m = ap (λ (o : Option Part). option_map_or (told_by (lines_for seat s.deeds)) o []) (held_part seat now s None at m)
+connections_by seat now s (Some chair) at m =
     ap (λ ls. told_by ls (part_of chair)) (lines_follow seat now s m)
     ∙ ap (λ (o : Option Part). option_map_or (told_by (lines_for seat s.deeds)) o []) (held_part seat now s (Some chair) at m)
+
+-- a seat's script is what its connections are told, one after the other
+joined_at : (seat : ℕ) (now : After) (held : Option Chair) → option_map_or (scripts_at seat now) held [] ≡ flat_map (λ (bytes : List ℕ). bytes) (option_map_or (connections_at seat now) held [])
+unfolding scripts_at
+joined_at seat now None = refl
+joined_at seat now (Some chair) =
+    let earlier = map (λ (c : Connection). c.told) chair.earlier in
+    sym (flat_map-append (λ (bytes : List ℕ). bytes) earlier (script_at seat now chair ∷ [])
+    ∙ ap (λ (bytes : List ℕ). bytes ++ (script_at seat now chair ++ [])) (flat_map-map (λ (bytes : List ℕ). bytes) (λ (c : Connection). c.told) chair.earlier)
+    ∙ ap (λ (bytes : List ℕ). flat_map (λ (c : Connection). c.told) chair.earlier ++ bytes) (append-nil (script_at seat now chair)))
 
 pub nothing_known : (seat : ℕ) → Matches seat before_all at_first
 nothing_known seat = record { part = refl; deeds = refl; slot = slot-empty seat }
@@ -307,28 +318,35 @@ legal_game_follows seat setting (entry ∷ entries) small legal =
 pub learnt_alike : (seat : ℕ) (g h : Game) → Agree seat g h → learnt seat g.setting.rules (trace seat g.setting g.entries) ≡ learnt seat h.setting.rules (trace seat h.setting h.entries)
 learnt_alike seat g h a = λ i. learns_all (record { limit = 0; draws = a.draws i; red = a.red i }) seat at_first (a.same i)
 
--- of a legal game the seat's script is what the machine tells that learns the game's trace
-pub script_follows : (seat : ℕ) (setting : Setting) (entries : List (Entry Answer)) → seat < 4 → IsLegal setting entries →
-    scripts seat setting entries ≡ solo_script seat (learnt seat setting.rules (trace seat setting entries))
-script_follows seat setting entries small legal =
-    script_by seat (after setting entries) _ (slice_get (after setting entries).chairs seat) refl (legal_game_follows seat setting entries small legal)
+-- of a legal game the seat's connections are told what the machine tells that learns the game's trace
+pub connections_follow : (seat : ℕ) (setting : Setting) (entries : List (Entry Answer)) → seat < 4 → IsLegal setting entries →
+    connections seat setting entries ≡ solo_connections seat (learnt seat setting.rules (trace seat setting entries))
+connections_follow seat setting entries small legal =
+    connections_by seat (after setting entries) _ (slice_get (after setting entries).chairs seat) refl (legal_game_follows seat setting entries small legal)
 
--- a fifth seat is never held, and so told nothing
-no_script : (seat : ℕ) (setting : Setting) (entries : List (Entry Answer)) → 4 ≤ seat → IsLegal setting entries → scripts seat setting entries ≡ []
-no_script seat setting entries beyond legal =
-    ap (λ (o : Option Chair). option_map_or (scripts_at seat (after setting entries)) o [])
+-- a fifth seat is never held, and so has no connection
+no_connection : (seat : ℕ) (setting : Setting) (entries : List (Entry Answer)) → 4 ≤ seat → IsLegal setting entries → connections seat setting entries ≡ []
+no_connection seat setting entries beyond legal =
+    ap (λ (o : Option Chair). option_map_or (connections_at seat (after setting entries)) o [])
     (none_behind (after setting entries).chairs seat (behind (length (after setting entries).chairs) (legal_seats setting entries legal).few))
   where
     behind : (n : ℕ) → n ≤ 4 → n ≤ seat
     behind n h = omega (arith, beyond, h)
 
--- games that agree for a seat tell it the same bytes
-pub agreeing_scripts : (seat : ℕ) (g h : Game) → Agree seat g h → scripts seat g.setting g.entries ≡ scripts seat h.setting h.entries
-agreeing_scripts seat g h a = by_number (nat_lt seat 4) refl
+-- games that agree for a seat tell each of its connections the same bytes
+pub agreeing_connections : (seat : ℕ) (g h : Game) → Agree seat g h → connections seat g.setting g.entries ≡ connections seat h.setting h.entries
+agreeing_connections seat g h a = by_number (nat_lt seat 4) refl
   where
-    by_number : (b : Bool) → nat_lt seat 4 ≡ b → scripts seat g.setting g.entries ≡ scripts seat h.setting h.entries
+    by_number : (b : Bool) → nat_lt seat 4 ≡ b → connections seat g.setting g.entries ≡ connections seat h.setting h.entries
     by_number true e =
-        script_follows seat g.setting g.entries (ltb-true seat 4 e) a.legal
-        ∙ ap (solo_script seat) (learnt_alike seat g h a)
-        ∙ sym (script_follows seat h.setting h.entries (ltb-true seat 4 e) a.other_legal)
-    by_number false e = no_script seat g.setting g.entries (ltb-false seat 4 e) a.legal ∙ sym (no_script seat h.setting h.entries (ltb-false seat 4 e) a.other_legal)
+        connections_follow seat g.setting g.entries (ltb-true seat 4 e) a.legal
+        ∙ ap (solo_connections seat) (learnt_alike seat g h a)
+        ∙ sym (connections_follow seat h.setting h.entries (ltb-true seat 4 e) a.other_legal)
+    by_number false e = no_connection seat g.setting g.entries (ltb-false seat 4 e) a.legal ∙ sym (no_connection seat h.setting h.entries (ltb-false seat 4 e) a.other_legal)
+
+-- and so the same script
+pub agreeing_scripts : (seat : ℕ) (g h : Game) → Agree seat g h → scripts seat g.setting g.entries ≡ scripts seat h.setting h.entries
+agreeing_scripts seat g h a =
+    joined_at seat (after g.setting g.entries) (slice_get (after g.setting g.entries).chairs seat)
+    ∙ ap (flat_map (λ (bytes : List ℕ). bytes)) (agreeing_connections seat g h a)
+    ∙ sym (joined_at seat (after h.setting h.entries) (slice_get (after h.setting h.entries).chairs seat))

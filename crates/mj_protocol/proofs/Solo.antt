@@ -17,7 +17,7 @@ use Rattle.mj_protocol.proofs.Rebuilt.{rebuilt}
 pub record Part : Type 0 where
   pub present : Bool
   pub progress : Progress
-  pub earlier : List ℕ
+  pub earlier : List (List ℕ)
 
 -- the seat's part, the deeds as it sees them, and its slot of the newest window
 pub record Solo : Type 0 where
@@ -64,7 +64,7 @@ after_leaving seat s p = record { part = Some (left (lines_for seat s.deeds) p);
 
 -- once it is back, due to answer a deed
 abbrev pub again : List (List ℕ) → ℕ → Part → Part
-again lines due p = record { present = true; progress = record { due = due; refused = 0; told = told_again lines due }; earlier = p.earlier ++ p.progress.told }
+again lines due p = record { present = true; progress = record { due = due; refused = 0; told = told_again lines due }; earlier = p.earlier ++ p.progress.told ∷ [] }
 
 abbrev pub next_due : Bool → ℕ → ℕ
 next_due filled deeds = cond filled deeds (deeds - 1)
@@ -86,12 +86,12 @@ abbrev pub learns_all : Rules → ℕ → Solo → List Item → Solo
 learns_all rules seat s [] = s
 learns_all rules seat s (item ∷ items) = learns_all rules seat (learns rules seat s item) items
 
-abbrev pub told_by : List (List ℕ) → Part → List ℕ
-told_by lines p = p.earlier ++ (p.progress.told ++ cond p.present (pending lines p.progress) [])
+abbrev pub told_by : List (List ℕ) → Part → List (List ℕ)
+told_by lines p = p.earlier ++ (p.progress.told ++ cond p.present (pending lines p.progress) []) ∷ []
 
--- the bytes that the machine tells
-abbrev pub solo_script : ℕ → Solo → List ℕ
-solo_script seat s = option_map_or (told_by (lines_for seat s.deeds)) s.part []
+-- the bytes that the machine tells each connection, the oldest first
+abbrev pub solo_connections : ℕ → Solo → List (List ℕ)
+solo_connections seat s = option_map_or (told_by (lines_for seat s.deeds)) s.part []
 
 pub learns_all-append : (rules : Rules) (seat : ℕ) (s : Solo) (xs ys : List Item) → learns_all rules seat s (xs ++ ys) ≡ learns_all rules seat (learns_all rules seat s xs) ys
 learns_all-append rules seat s [] ys = refl

@@ -220,6 +220,16 @@ after setting entries = after_from setting before_all entries
 unfoldable pub script_at : ℕ → After → Chair → List ℕ
 script_at seat now chair = chair.progress.told ++ (if is_present chair then pending (lines_for seat now.deeds) chair.progress else [])
 
+-- The bytes of each connection of a seat, the oldest first; there is none where the seat isn't held.
+abbrev pub connections_at : ℕ → After → Chair → List (List ℕ)
+connections_at seat now chair = map (λ (c : Connection). c.told) chair.earlier ++ script_at seat now chair ∷ []
+
+abbrev pub connections_in : ℕ → After → List (List ℕ)
+connections_in seat now = option_map_or (connections_at seat now) (slice_get now.chairs seat) []
+
+abbrev pub connections : ℕ → Setting → List (Entry Answer) → List (List ℕ)
+connections seat setting entries = connections_in seat (after setting entries)
+
 -- The bytes of all connections of a seat, one after the other; none where the seat isn't held.
 unfoldable pub scripts_at : ℕ → After → Chair → List ℕ
 scripts_at seat now chair = flat_map (λ (c : Connection). c.told) chair.earlier ++ script_at seat now chair

@@ -9,6 +9,7 @@ use Rattle.mj_deeds.specs.Four.{at_seat}
 use Rattle.mj_deeds.specs.Shown.{Shown}
 use Rattle.mj_deeds.specs.declared.answer.Answer.{Answer}
 use Rattle.mj_deeds.specs.declared.deed.Deed.{Deed}
+use Rattle.mj_deeds.specs.declared.token.Token.{Token}
 use Rattle.mj_deeds.specs.Hand.{hand}
 use Rattle.mj_deeds.specs.Facts.{concealed_tiles, drawn_tile, river_tiles, seat_melds, kans, live_tiles, indicators}
 use Rattle.mj_deeds.specs.Riichi.{has_reached, is_ippatsu}
@@ -25,7 +26,7 @@ use Rattle.mj_rules.specs.Wins.{riichi_of, case_of, Shows, extra_of, for_first, 
 use Rattle.mj_rules.specs.Draws.{draw_shown}
 use Rattle.mj_protocol.specs.After.{After, Chair, Verdict, before_all, is_present, lines_for, pending, step, after}
 use Rattle.mj_protocol.specs.Shown.{verdict_at}
-use Rattle.mj_protocol.specs.Trace.{Game, Agree}
+use Rattle.mj_protocol.specs.Trace.{Item, Saw, trace, IsLegal, Game, Agree}
 
 -- A fact of a seat that is held; none of one that isn't.
 abbrev pub of_chair : {A : Type 0} → (Chair → A) → After → ℕ → Option A
@@ -126,3 +127,33 @@ pub record SameLines (seat : ℕ) (ds es : List Deed) : Type 0 where
 -- Lines follow: whichever two games agree for a seat, the seat's line of each deed is the same in both.
 abbrev pub LinesFollow : Type 0
 LinesFollow = (seat : ℕ) (g h : Game) → seat < 4 → Agree seat g h → SameLines seat (after g.setting g.entries).deeds (after h.setting h.entries).deeds
+
+-- Two games of which a seat learns the same up to some deed, whatever it learns of each later: both are legal, under the
+-- same switches.
+pub record AgreeUpTo (seat : ℕ) (items : List Item) (t : Token) (g h : Game) : Type 0 where
+  pub legal : IsLegal g.setting g.entries
+  pub other_legal : IsLegal h.setting h.entries
+  pub draws : g.setting.rules.draws ≡ h.setting.rules.draws
+  pub red : g.setting.rules.red ≡ h.setting.rules.red
+  pub later : List Item
+  pub begins : trace seat g.setting g.entries ≡ items ++ Saw t ∷ later
+  pub other_later : List Item
+  pub other_begins : trace seat h.setting h.entries ≡ items ++ Saw t ∷ other_later
+
+-- The first entries of a game, of which a seat learns just this.
+pub record Beginning (seat : ℕ) (items : List Item) (game : Game) : Type 0 where
+  pub first : List (Entry Answer)
+  pub later : List (Entry Answer)
+  pub are : game.entries ≡ first ++ later
+  pub learnt : trace seat game.setting first ≡ items
+
+-- Two games begin with games that agree for a seat and of which it learns just this.
+pub record BeginAlike (seat : ℕ) (items : List Item) (g h : Game) : Type 0 where
+  pub one : Beginning seat items g
+  pub other : Beginning seat items h
+  pub agree : Agree seat (record { setting = g.setting; entries = one.first }) (record { setting = h.setting; entries = other.first })
+
+-- Until a deed whose token differs all laws of games that agree hold: games of which a seat learns the same up to some deed
+-- begin with games that agree up to that deed.
+abbrev pub BeginningsAgree : Type 0
+BeginningsAgree = (seat : ℕ) (items : List Item) (t : Token) (g h : Game) → AgreeUpTo seat items t g h → BeginAlike seat (items ++ Saw t ∷ []) g h

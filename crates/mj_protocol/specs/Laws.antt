@@ -9,7 +9,7 @@ use Rattle.mj_deeds.specs.Fits.{fits, all_fit}
 use Rattle.mj_wall.specs.declared.setting.Setting.{Setting}
 use Rattle.mj_view.specs.Masks.{mask}
 use Rattle.mj_rules.specs.Played.{AllLawful, IsPlayed}
-use Rattle.mj_protocol.specs.After.{After, after, own_part, next_deed, answers_in, AreLawfulIn, scripts}
+use Rattle.mj_protocol.specs.After.{After, after, own_part, next_deed, answers_in, AreLawfulIn, connections, scripts}
 use Rattle.mj_protocol.specs.Trace.{Game, Agree, IsLegal, is_permitted, says_in_form}
 use Rattle.mj_protocol.specs.AnswerForms.{answer_of}
 use Rattle.mj_protocol.specs.Lines.{line, masked_line}
@@ -18,6 +18,10 @@ use Rattle.mj_protocol.specs.Arrivals.{setting_of, input_of}
 -- Any two games that agree for a seat give it the same bytes.
 abbrev pub AgreeingGamesTellTheSame : Type 0
 AgreeingGamesTellTheSame = (seat : ℕ) (g h : Game) → Agree seat g h → scripts seat g.setting g.entries ≡ scripts seat h.setting h.entries
+
+-- So each of its connections is given the same bytes, and there are as many.
+abbrev pub AgreeingConnectionsAreTheSame : Type 0
+AgreeingConnectionsAreTheSame = (seat : ℕ) (g h : Game) → Agree seat g h → connections seat g.setting g.entries ≡ connections seat h.setting h.entries
 
 -- The game that an input gives is legal, whatever the input.
 abbrev pub ReadGamesAreLegal : Type 0

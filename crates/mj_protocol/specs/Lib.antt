@@ -12,3 +12,5 @@ pub mod Arriving
 pub mod Order
 pub mod Told
 pub mod Follows
+pub mod Records
+pub mod Bare

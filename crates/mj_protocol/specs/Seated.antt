@@ -1,11 +1,12 @@
 -- The laws by which a game is one that workers play by entries, over what it shows.
-use Rattle.std.specs.Prelude.{◌≡◌, ◌<◌, ℕ, List, [], ◌∷◌, ◌++◌, length, Option, Some, None}
+use Rattle.std.specs.Prelude.{◌≡◌, ◌<◌, ℕ, ◌+◌, ◌==◌, if◌then◌else◌, List, [], ◌∷◌, ◌++◌, length, map, Option, Some, None}
 use Rattle.mj_ports.specs.declared.entry.Entry.{Entry}
-use Rattle.mj_ports.specs.declared.entry.Entry.TheVariants.{Sat, Back, Said, Gone}
-use Rattle.mj_ports.specs.Entries.{next_seat, IsAside}
-use Rattle.mj_ports.specs.Seats.{Stays, StaysEnded, Unmoved, Begins, Answers, Leaves, Adds, hello, replay}
+use Rattle.mj_ports.specs.declared.entry.Entry.TheVariants.{Sat, Back, Said, Gone, Expired}
+use Rattle.mj_ports.specs.Entries.{is_sat, next_seat, IsAside}
+use Rattle.mj_ports.specs.Seats.{Stays, StaysEnded, Unmoved, Begins, Answers, Leaves, Adds, script, hello, replay}
 use Rattle.mj_deeds.specs.declared.answer.Answer.{Answer}
 use Rattle.mj_wall.specs.declared.setting.Setting.{Setting}
+use Rattle.mj_protocol.specs.After.{Chair, Connection, connections}
 use Rattle.mj_protocol.specs.Trace.{IsLegal}
 use Rattle.mj_protocol.specs.Shown.{shown_of, hears_of, control_line}
 
@@ -47,3 +48,28 @@ AnswersGoByVerdict = (setting : Setting) (entries : List (Entry Answer)) (author
 abbrev pub SeatsLeave : Type 0
 SeatsLeave = (setting : Setting) (entries : List (Entry Answer)) (author seat : ℕ) → IsLegal setting (entries ++ Gone author seat ∷ []) →
     Leaves seat (shown_of setting entries) (shown_of setting (entries ++ Gone author seat ∷ [])) × Adds seat [] (shown_of setting entries) (shown_of setting (entries ++ Gone author seat ∷ []))
+
+-- Where the connections of a seat began, by what the entries come to: the oldest first.
+abbrev pub places_at : Chair → List ℕ
+places_at chair = map (λ (c : Connection). c.place) chair.earlier ++ chair.place ∷ []
+
+-- The place of an entry by which a seat sits down, behind so many others, or comes back.
+abbrev pub begins : ℕ → ℕ → ℕ → Entry Answer → List ℕ
+begins seat place taken (Sat author name key) = if taken == seat then place ∷ [] else []
+begins seat place taken (Back author who) = if who == seat then place ∷ [] else []
+begins seat place taken (Said author who answer) = []
+begins seat place taken (Gone author who) = []
+begins seat place taken (Expired author window t1 t2) = []
+
+-- The places of the entries by which a seat sits down or comes back, the oldest first, from some place on.
+abbrev pub begun_from : ℕ → ℕ → ℕ → List (Entry Answer) → List ℕ
+begun_from seat place taken [] = []
+begun_from seat place taken (entry ∷ entries) = begins seat place taken entry ++ begun_from seat (place + 1) (if is_sat entry then taken + 1 else taken) entries
+
+-- The places of a seat's connections.
+abbrev pub begun_by : ℕ → List (Entry Answer) → List ℕ
+begun_by seat entries = begun_from seat 0 0 entries
+
+-- The script of a connection, found by its place, is what the seat is told in it.
+abbrev pub ScriptsByPlace : Type 0
+ScriptsByPlace = (seat : ℕ) (setting : Setting) (entries : List (Entry Answer)) → IsLegal setting entries → map (script (shown_of setting entries)) (begun_by seat entries) ≡ connections seat setting entries

@@ -2,11 +2,12 @@
 //! agreement, and the laws over them. Nothing here runs: the functions are the places where the laws are stated.
 #![tactic(auto)]
 
-ghost use Rattle.mj_protocol.specs.Laws.{AgreeingGamesTellTheSame, ReadGamesAreLegal, LegalGamesArePlayed, TakenAnswersAreLawful, AnswersThatAreReadAreInForm, OwnPartCanGoOn, NextDeedIsPlayed, LegalDeedsFit, NextDeedFits, LinesAreOfMasks};
+ghost use Rattle.mj_protocol.specs.Laws.{AgreeingGamesTellTheSame, AgreeingConnectionsAreTheSame, ReadGamesAreLegal, LegalGamesArePlayed, TakenAnswersAreLawful, AnswersThatAreReadAreInForm, OwnPartCanGoOn, NextDeedIsPlayed, LegalDeedsFit, NextDeedFits, LinesAreOfMasks};
 ghost use Rattle.mj_protocol.specs.Told.{ToldAnswersGive, EachWinnerIsTold, NothingPlayed};
 ghost use Rattle.mj_protocol.specs.Witness.{AgreeApart};
-ghost use Rattle.mj_protocol.specs.Follows.{FactsFollow, VerdictsFollow, LinesFollow};
-ghost use Rattle.mj_protocol.specs.Seated.{BeginningsAreLegal, LinesStay, EndedConnectionsStay, OthersLeaveAlone, SeatsBegin, ReturnsBegin, AnswersGoByVerdict, SeatsLeave};
+ghost use Rattle.mj_protocol.specs.Bare.{TokensHoldNoMore};
+ghost use Rattle.mj_protocol.specs.Follows.{FactsFollow, VerdictsFollow, LinesFollow, BeginningsAgree};
+ghost use Rattle.mj_protocol.specs.Seated.{BeginningsAreLegal, LinesStay, EndedConnectionsStay, OthersLeaveAlone, SeatsBegin, ReturnsBegin, AnswersGoByVerdict, SeatsLeave, ScriptsByPlace};
 ghost use Rattle.mj_protocol.specs.Arriving.{OneDeedAnEntry, LawfulAnswersAreTaken, NewNamesAreSeated, ExpiriesClose};
 ghost use Rattle.mj_protocol.specs.Order.{OrderIsFree};
 
@@ -14,6 +15,12 @@ ghost use Rattle.mj_protocol.specs.Order.{OrderIsFree};
 /// what the seat learns of it, so two games that agree for a seat tell it the same bytes.
 pub fn agreeing_games_tell_the_same()
     ensures { AgreeingGamesTellTheSame }
+{}
+
+/// The law of one world, connection by connection: two games that agree for a seat have as many
+/// connections of it, and tell each of them the same bytes.
+pub fn agreeing_connections_are_the_same()
+    ensures { AgreeingConnectionsAreTheSame }
 {}
 
 /// Facts follow: in two games that agree for a seat of the four the facts that it may know are the
@@ -39,12 +46,26 @@ pub fn lines_follow()
     ensures { LinesFollow }
 {}
 
+/// Beginnings agree: two legal games under the same switches, of which a seat learns the same up to
+/// some deed, begin with games that agree for the seat and of which it learns just this. So facts,
+/// verdicts, lines and scripts are the same up to the last deed before what the seat learns differs.
+pub fn beginnings_agree()
+    ensures { BeginningsAgree }
+{}
+
 /// The law has games to speak of: two games agree for seat 0 that differ in the walls and so in what
 /// the other seats are dealt and draw, in the limit of a window, in the authors, in the order in
 /// which the other seats answer, and in that in one of them an answer of another seat is refused,
 /// another seat leaves and comes back, and the time of a window runs out.
 pub fn some_games_agree_apart()
     ensures { AgreeApart 0 }
+{}
+
+/// The token of a deed holds nothing but what the seat sees and can't reckon: it is the same whatever the points, the honba,
+/// the deposits, the round and the dealer, the yaku, fu, han and value of a win, the seats that are ready, the call that is
+/// kept at an accepted reach, the winners behind one, the hands that others are dealt and the tiles that they draw.
+pub fn tokens_hold_no_more()
+    ensures { TokensHoldNoMore }
 {}
 
 /// Whatever an input holds, the game that is read off it is legal.
@@ -181,4 +202,10 @@ pub fn expiries_close()
 /// the same accepted answers, with any refused ones between, give equal deeds, slots and due prompts.
 pub fn order_is_free()
     ensures { OrderIsFree }
+{}
+
+/// The script of each connection, found by the place of the entry by which its seat sat down or came
+/// back, is what the seat is told in it.
+pub fn scripts_by_place()
+    ensures { ScriptsByPlace }
 {}

@@ -1,4 +1,4 @@
-//! What is written of a self-played game.
+//! What is written of a self-played game, and of deeds alone.
 
 ghost use Rattle.std.specs.Prelude.{◌≡◌, ◌∷◌, IfOk, OnOk};
 ghost use Rattle.mj_bytes.specs.Adds.{Adds};
@@ -18,18 +18,38 @@ pub fn summary_lines(alloc: Global, summary: &Summary) -> Result<Vec<u8>, AllocE
     push_line(&mut text, b"hands", summary.hands)?;
     push_line(&mut text, b"wins", summary.wins)?;
     push_line(&mut text, b"draws", summary.draws)?;
-    push_result(&mut text, summary)?;
+    push_result(&mut text, summary.deeds, summary.points, summary.deposits)?;
+    Ok(text)
+}
+
+/// The last three of these lines, of deeds that need not be a whole game: `deeds`, how many there are, and `points` and
+/// `deposits` behind the last of them.
+pub fn result_lines(
+    alloc: Global,
+    deeds: u32,
+    points: [i32; 4],
+    deposits: u32,
+) -> Result<Vec<u8>, AllocError>
+    ensures { IfOk result (λ text. text.items ≡ result_text deeds points deposits) }
+{
+    let mut text = Vec::new(alloc);
+    push_result(&mut text, deeds, points, deposits)?;
     Ok(text)
 }
 
 // How many deeds there are, and the points and the deposits that are left.
-fn push_result(text: &mut Vec<u8>, summary: &Summary) -> Result<(), AllocError>
+fn push_result(
+    text: &mut Vec<u8>,
+    deeds: u32,
+    points: [i32; 4],
+    deposits: u32,
+) -> Result<(), AllocError>
     ensures { OnOk result (Adds text.old.items text.new.items
-        (result_text summary.now.deeds summary.now.points summary.now.deposits)) }
+        (result_text deeds points deposits)) }
 {
-    push_line(text, b"deeds", summary.deeds)?;
-    push_points(text, &summary.points)?;
-    push_line(text, b"deposits", summary.deposits)?;
+    push_line(text, b"deeds", deeds)?;
+    push_points(text, &points)?;
+    push_line(text, b"deposits", deposits)?;
     Ok(())
 }
 

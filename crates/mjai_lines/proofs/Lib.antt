@@ -2,5 +2,7 @@ mod Chains
 mod Lists
 mod Named
 mod Rows
+mod Settings
+mod Spellings
 mod Texts
 mod Wins

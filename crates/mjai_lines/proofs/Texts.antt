@@ -1,9 +1,10 @@
 -- Texts that are read.
-use Rattle.std.proofs.Common.{◌≡◌, ◌≤◌, ◌<◌, ℕ, Bool, true, false, List, length, Decides, refl, sym, arith}
+use Rattle.std.proofs.Common.{◌≡◌, ◌≤◌, ◌<◌, ◌+◌, ◌-◌, ℕ, Bool, true, false, List, ◌++◌, length, take, drop, Decides, refl, sym, ap, ◌∙◌, arith}
 use Rattle.std.specs.Prelude.{None, IsUtf8, bytes_eq, nat_lt, nat_le, not, ◌==◌, ◌&&◌}
 use Rattle.std.specs.List.{list_all}
 use Rattle.std.specs.Str.Lossy.{utf8_valid_len}
 use Rattle.std.proofs.lemmas.Str.{utf8_valid_len-IsUtf8, is_utf8-from_IsUtf8}
+use Rattle.std.proofs.lemmas.List.{take-append-drop}
 use Rattle.std.proofs.lemmas.Slice.Eq.{bytes_eq-Decides}
 use Rattle.serde_json.specs.Read.{read}
 use Rattle.mj_ports.specs.Names.{is_name}
@@ -41,3 +42,14 @@ untrue false d h = refl
 -- another text is not equal
 pub unlike : (a b : List ℕ) → (b ≡ a → ⊥) → bytes_eq a b ≡ false
 unlike a b h = untrue (bytes_eq a b) (bytes_eq-Decides a b) (λ e. h (sym e))
+
+-- what is behind a beginning that was found, and what is before an end
+pub begun : (text front rest : List ℕ) → (bytes_eq (take (length front) text) front ≡ true) × (rest ≡ drop (length front) text) × (length rest + length front ≡ length text) → text ≡ front ++ rest
+begun text front rest h =
+    let same = (bytes_eq-Decides (take (length front) text) front).0 h.0 in
+    sym (take-append-drop (length front) text) ∙ ap (λ t. t ++ drop (length front) text) same ∙ ap (λ t. front ++ t) (sym h.1)
+
+pub ended : (text end rest : List ℕ) → (bytes_eq (drop (length text - length end) text) end ≡ true) × (rest ≡ take (length text - length end) text) × (length rest + length end ≡ length text) → text ≡ rest ++ end
+ended text end rest h =
+    let same = (bytes_eq-Decides (drop (length text - length end) text) end).0 h.0 in
+    sym (take-append-drop (length text - length end) text) ∙ ap (λ t. take (length text - length end) text ++ t) same ∙ ap (λ t. t ++ end) (sym h.1)

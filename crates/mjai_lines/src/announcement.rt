@@ -51,7 +51,7 @@ fn optional_pai(value: &Value) -> Option<Option<Pai>>
     ensures { result ≡ optional_pai (get (codes "pai") (view value.now)) }
 {
     match value.get("pai") {
-        Some(field) => Some(Some(pai_of(field.as_str()?)?)),
+        Some(field) => Some(Some(pai_of(field.as_str()?.as_bytes())?)),
         None => Some(None),
     }
 }

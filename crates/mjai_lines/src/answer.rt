@@ -6,6 +6,7 @@ ghost use Rattle.mjai_lines.specs.Inner.Calls.{answer_of_call};
 
 use crate::announcement::{nine_kinds_in, reach_in, win_in};
 use crate::own::own_in;
+use crate::usual::usual_answer;
 use crate::value::{read_value, seat_as, seat_in, text_in};
 use mj_deeds::{Answer, Pai};
 use mj_tiles::Tile;
@@ -22,6 +23,9 @@ use std::alloc::{AllocError, Global};
 pub fn read_answer(alloc: Global, line: &[u8]) -> Result<Answer, AllocError>
     ensures { IfOk result (λ a. a ≡ answer_of line.now) }
 {
+    if let Some(answer) = usual_answer(line) {
+        return Ok(answer);
+    }
     let Some(value) = read_value(alloc, line)? else {
         return Ok(Answer::Unread);
     };
@@ -212,16 +216,16 @@ fn added_kan_of(actor: u8, tile: Pai, own: &[Pai]) -> Option<Answer>
 fn pai_in(name: &str, value: &Value) -> Option<Pai>
     ensures { result ≡ pai_read name.now (view value.now) }
 {
-    pai_of(text_in(name, value)?)
+    pai_of(text_in(name, value)?.as_bytes())
 }
 
 // The tile that a text names.
 #[tactic(auto, unfolding(mj_protocol::specs::AnswerForms::pai_of))]
-pub(crate) fn pai_of(text: &str) -> Option<Pai>
+pub(crate) fn pai_of(text: &[u8]) -> Option<Pai>
     ensures { result ≡ pai_of_text text.now }
 {
-    if text == "?" {
+    if text == b"?".as_slice() {
         return Some(Pai::Hidden);
     }
-    Some(Pai::Known(Tile::read(text.as_bytes())?))
+    Some(Pai::Known(Tile::read(text)?))
 }

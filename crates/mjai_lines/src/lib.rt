@@ -1,5 +1,6 @@
 //! The lines of mjai that go out and come in: deeds and refusals as they are written, answers and joins as they are
-//! read. A line that is written is compact JSON and ends with one newline.
+//! read. A line that is written is compact JSON and ends with one newline. The record of a game has the header and the walls
+//! besides, and what these lines say is read here too.
 #![tactic(auto)]
 
 mod announcement;
@@ -10,8 +11,11 @@ mod error;
 mod join;
 mod own;
 mod pieces;
+mod record;
 mod riichi;
+mod setting;
 mod steps;
+mod usual;
 mod value;
 mod winning;
 mod yaku;
@@ -20,4 +24,7 @@ pub use answer::read_answer;
 pub use deed::{write, write_alone};
 pub use error::{error_line, refusal_line};
 pub use join::read_join;
+pub use record::write_record;
+pub use setting::{read_rules, read_tiles, three_fields};
 pub use steps::Steps;
+pub use yaku::yaku_name;

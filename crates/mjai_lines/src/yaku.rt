@@ -1,9 +1,9 @@
 ghost use Rattle.std.specs.Prelude.{◌≡◌};
 ghost use Rattle.mj_protocol.specs.Lines.{row_name};
 
-// The name of a row of the table of yaku, 0 to 44; empty for a number above these.
+/// The name of a row of the table of yaku, 0 to 44; empty for a number above these.
 #[tactic(auto, unfolding(mj_yaku::specs::Han::table))]
-pub(crate) fn yaku_name(row: u8) -> &'static [u8]
+pub fn yaku_name(row: u8) -> &'static [u8]
     ensures { result.now ≡ row_name row }
 {
     match row {

@@ -1,7 +1,8 @@
 //! Times the calls that play leans on. Each job runs once over a few hands, and its checksum is printed, and the game on
-//! standard input is refereed, and the parts of the games in the files that the words name. Where the first word is `time`,
-//! each job is printed with its nanoseconds a call and its calls a second, and each game with its nanoseconds a deed or
-//! an arrival.
+//! standard input is refereed, and the parts of the games in the files that the words name, and a record in such a file is
+//! checked; last the built-in players play twenty games. Where the first word is `time`, each job is printed with its
+//! nanoseconds a call and its calls a second, each game with its nanoseconds a deed or an arrival, the record with the megabytes
+//! of its deeds' lines that are checked a second, and the self-played games with their games and deeds a second.
 #![tactic(auto)]
 
 mod half_played;
@@ -9,6 +10,8 @@ mod hands;
 mod jobs;
 mod parts;
 mod referee;
+mod replayed;
+mod self_played;
 mod told;
 mod winning;
 
@@ -17,6 +20,8 @@ use hands::Hands;
 use jobs::{JOBS, Job};
 use parts::{PARTS, Part, Unit, first_lines};
 use referee::referee;
+use replayed::deeds_checked;
+use self_played::{PLAYED, self_played};
 use std::io::Read;
 use std::time::CpuClock;
 use std::{env, fs};
@@ -29,6 +34,12 @@ const MANY: u32 = 200_000;
 
 /// How often a game is refereed when it is timed; the fastest run counts.
 const GAMES: u32 = 200;
+
+/// How often the self-played games are played when they are timed; the fastest run counts.
+const RUNS: u32 = 20;
+
+/// The header and the walls of the stored record.
+const BEFORE_DEEDS: u32 = 201;
 
 /// The game on standard input, all of it.
 const STORED: Part = Part {
@@ -61,7 +72,7 @@ fn main(rt: HostRuntime) -> Result<()> {
             tell_parts(&rt, word.as_str(), timed)?;
         }
     }
-    Ok(())
+    tell_played(&rt, timed)
 }
 
 fn time_job(rt: &HostRuntime, job: Job) -> Result<()> {
@@ -79,9 +90,12 @@ fn time_job(rt: &HostRuntime, job: Job) -> Result<()> {
     Ok(())
 }
 
-// Prints each part of the game in a file.
+// Prints each part of the game in a file, or what is to be said of the record in it.
 fn tell_parts(rt: &HostRuntime, file: &str, timed: bool) -> Result<()> {
     let game = fs::read(rt, file)?;
+    if file.ends_with("record") {
+        return tell_record(rt, game.as_slice(), timed);
+    }
     for part in PARTS {
         if file.ends_with(part.file) {
             tell_part(rt, &part, game.as_slice(), timed)?;
@@ -129,4 +143,66 @@ fn time_of(rt: &HostRuntime, game: &[u8]) -> Result<u128> {
     referee(rt.alloc(), game)?;
     let after = rt.process_cpu_time()?;
     Ok(after.as_nanos().saturating_sub(before.as_nanos()))
+}
+
+// Prints how many deeds a record has, or how many megabytes of their lines are checked a second.
+fn tell_record(rt: &HostRuntime, record: &[u8], timed: bool) -> Result<()> {
+    let deeds = deeds_checked(rt.alloc(), record);
+    if !timed {
+        println!(rt; "replay of a whole game's record: {deeds} deeds")?;
+        return Ok(());
+    }
+    let rate = rate_of_record(rt, record)?;
+    println!(rt; "replay of a whole game's record: {rate} megabytes a second, {deeds} deeds")?;
+    Ok(())
+}
+
+// How many megabytes of the lines behind the header and the walls of a record are checked a second.
+fn rate_of_record(rt: &HostRuntime, record: &[u8]) -> Result<u128> {
+    let beginning = first_lines(rt.alloc(), record, BEFORE_DEEDS)?;
+    let bytes = record.len().saturating_sub(beginning.len());
+    let mut before = u128::MAX;
+    let mut all = u128::MAX;
+    for _ in 0..GAMES {
+        before = before.min(time_of_check(rt, beginning.as_slice())?);
+        all = all.min(time_of_check(rt, record)?);
+    }
+    Ok(bytes as u128 * 1_000 / all.saturating_sub(before).max(1))
+}
+
+// The nanoseconds of processor time that the check of a record takes.
+fn time_of_check(rt: &HostRuntime, record: &[u8]) -> Result<u128> {
+    let before = rt.process_cpu_time()?;
+    deeds_checked(rt.alloc(), record);
+    let after = rt.process_cpu_time()?;
+    Ok(after.as_nanos().saturating_sub(before.as_nanos()))
+}
+
+// Prints how many deeds the self-played games have, and a checksum of what they come to, or how many are played a second.
+fn tell_played(rt: &HostRuntime, timed: bool) -> Result<()> {
+    let played = self_played(rt.alloc())?;
+    let (deeds, sum) = (played.deeds, played.sum);
+    if !timed {
+        println!(rt; "self-played games: {PLAYED} games, {deeds} deeds, checksum {sum}")?;
+        return Ok(());
+    }
+    let cost = cost_of_play(rt)?.max(1);
+    let games = u128::from(PLAYED) * 1_000_000_000 / cost;
+    let rate = u128::from(deeds) * 1_000_000_000 / cost;
+    println!(rt;
+        "self-played games: {games} games a second, {rate} deeds a second (checksum {sum})"
+    )?;
+    Ok(())
+}
+
+// The least nanoseconds of processor time that the self-played games take.
+fn cost_of_play(rt: &HostRuntime) -> Result<u128> {
+    let mut least = u128::MAX;
+    for _ in 0..RUNS {
+        let before = rt.process_cpu_time()?;
+        self_played(rt.alloc())?;
+        let after = rt.process_cpu_time()?;
+        least = least.min(after.as_nanos().saturating_sub(before.as_nanos()));
+    }
+    Ok(least)
 }

@@ -1,6 +1,6 @@
 //! A stored game, refereed.
 
-use mj_front::{Status, run};
+use mj_front::{Status, run_alone};
 use mj_links::{MemSink, MemSource};
 use std::alloc::{AllocError, Global};
 
@@ -17,7 +17,7 @@ pub fn referee(alloc: Global, game: &[u8]) -> Result<Refereed, AllocError> {
     let words = vec![in alloc; command, String::from_str(alloc, "3")?]?;
     let mut source = MemSource::new(Vec::from_slice(alloc, game)?, Vec::new(alloc));
     let mut sink = MemSink::new(Vec::new(alloc));
-    match run(alloc, words.as_slice(), &mut source, &mut sink) {
+    match run_alone(alloc, words.as_slice(), &mut source, &mut sink) {
         Status::Done => Ok(told_in(sink.written())),
         _ => Ok(told_in(&[])),
     }

@@ -25,6 +25,8 @@ enum Step {
     IsTold(u8, &'static str),
     // This is the line of a seat with this number.
     HasLine(u8, u32, &'static str),
+    // The record of the game is this behind its header and its wall.
+    IsRecorded(&'static str),
     // So many seats are held, all of them present, and the seats of these marks may say a line.
     Asks(u8, [bool; 4]),
     // A seat is gone.
@@ -36,7 +38,7 @@ enum Step {
 }
 
 // A game on the wall in tile order, before its first entry.
-fn before_all(alloc: Global) -> Result<Core, Fail> {
+pub(crate) fn before_all(alloc: Global) -> Result<Core, Fail> {
     let mut tiles = [Tile::of(0).ok_or("no tile")?; 136];
     for place in 0..136u8 {
         tiles[usize::from(place)] = Tile::of(place / 4).ok_or("no tile")?;
@@ -85,6 +87,16 @@ fn has_line(core: &Core, seat: u8, k: u32, line: &str) -> bool {
     }
 }
 
+// Whether the record of the game is the header, the wall, and this.
+fn is_recorded(core: &Core, alloc: Global, deeds: &str) -> Result<bool, Fail> {
+    let mut text = Vec::new(alloc);
+    core.record(alloc, &mut text)?;
+    match text.as_slice().strip_prefix(HEAD.as_bytes()) {
+        Some(rest) => Ok(rest == deeds.as_bytes()),
+        None => Ok(false),
+    }
+}
+
 // What comes of a present seat that leaves.
 fn left(core: &mut Core, alloc: Global, seat: u8) -> Result<Left, Fail> {
     if core.author(seat) == Some(1) {
@@ -118,6 +130,7 @@ fn holds(core: &mut Core, alloc: Global, step: Step) -> Result<bool, Fail> {
         }
         Step::IsTold(seat, line) => is_told(core, alloc, seat, line),
         Step::HasLine(seat, k, line) => Ok(has_line(core, seat, k, line)),
+        Step::IsRecorded(deeds) => is_recorded(core, alloc, deeds),
         Step::Asks(held, asked) => Ok(asks(core, held, asked)),
         Step::IsGone(seat) => Ok(!core.present(seat) && !core.may_say(seat)),
         Step::IsDue(seat, due) => Ok(core.due(seat) == due),
@@ -166,7 +179,14 @@ const FOUR_SEATS: [Step; 13] = [
     ),
 ];
 
-const FIRST_DISCARD: [Step; 24] = [
+const HEAD: &str =
+    "game limit=1000 draws=0 red=0\nwall 1m 1m 1m 1m 2m 2m 2m 2m 3m 3m 3m 3m 4m 4m 4m 4m 5m 5m 5m 5m 6m 6m 6m 6m 7m 7m 7m 7m 8m 8m 8m 8m 9m 9m 9m 9m 1p 1p 1p 1p 2p 2p 2p 2p 3p 3p 3p 3p 4p 4p 4p 4p 5p 5p 5p 5p 6p 6p 6p 6p 7p 7p 7p 7p 8p 8p 8p 8p 9p 9p 9p 9p 1s 1s 1s 1s 2s 2s 2s 2s 3s 3s 3s 3s 4s 4s 4s 4s 5s 5s 5s 5s 6s 6s 6s 6s 7s 7s 7s 7s 8s 8s 8s 8s 9s 9s 9s 9s E E E E S S S S W W W W N N N N P P P P F F F F C C C C\n";
+
+const FIVE_DEEDS: &str =
+    "{\"type\":\"start_game\",\"id\":0,\"names\":[\"a\",\"b\",\"c\",\"d\"]}\n{\"type\":\"start_kyoku\",\"bakaze\":\"E\",\"kyoku\":1,\"honba\":0,\"kyotaku\":0,\"oya\":0,\"dora_marker\":\"F\",\"tehais\":[[\"1m\",\"1m\",\"1m\",\"1m\",\"2m\",\"2m\",\"2m\",\"2m\",\"3m\",\"3m\",\"3m\",\"3m\",\"4m\"],[\"4m\",\"4m\",\"4m\",\"5m\",\"5m\",\"5m\",\"5m\",\"6m\",\"6m\",\"6m\",\"6m\",\"7m\",\"7m\"],[\"7m\",\"7m\",\"8m\",\"8m\",\"8m\",\"8m\",\"9m\",\"9m\",\"9m\",\"9m\",\"1p\",\"1p\",\"1p\"],[\"1p\",\"2p\",\"2p\",\"2p\",\"2p\",\"3p\",\"3p\",\"3p\",\"3p\",\"4p\",\"4p\",\"4p\",\"4p\"]]}\n{\"type\":\"tsumo\",\"actor\":0,\"pai\":\"5p\"}\n{\"type\":\"dahai\",\"actor\":0,\"pai\":\"1m\",\"tsumogiri\":false}\n{\"type\":\"tsumo\",\"actor\":1,\"pai\":\"5p\"}\n";
+
+const FIRST_DISCARD: [Step; 26] = [
+    Step::IsRecorded(""),
     Step::Sits(A, SitAnswer::Sat(0)),
     Step::Sits(B, SitAnswer::Sat(1)),
     Step::Sits(C, SitAnswer::Sat(2)),
@@ -202,6 +222,7 @@ const FIRST_DISCARD: [Step; 24] = [
     Step::Asks(4, [true, true, true, true]),
     Step::AllPass,
     Step::IsTold(1, "{\"type\":\"tsumo\",\"actor\":1,\"pai\":\"5p\"}\n"),
+    Step::IsRecorded(FIVE_DEEDS),
 ];
 
 const START: &str = "{\"type\":\"start_game\",\"id\":0,\"names\":[\"a\",\"b\",\"c\",\"d\"]}\n";

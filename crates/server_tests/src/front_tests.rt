@@ -1,5 +1,5 @@
 use crate::slow::{SlowSink, SlowSource};
-use mj_front::{Status, exit_code, run, status_text};
+use mj_front::{Cause, Status, exit_code, run_alone, status_text};
 use mj_links::{MemSink, MemSource, Sink, Source};
 use std::alloc::{AllocError, Global};
 use std::test::Fail;
@@ -29,7 +29,7 @@ fn ends<S: Source, K: Sink>(
     for word in line.split_whitespace() {
         words.push(String::from_str(alloc, word)?)?;
     }
-    Ok(run(alloc, words.as_slice(), source, sink))
+    Ok(run_alone(alloc, words.as_slice(), source, sink))
 }
 
 // A source one of whose reads fails.
@@ -81,12 +81,19 @@ fn the_command_selfplay_has_one_number(rt: HostRuntime) -> Result<(), Fail> {
 }
 
 #[test]
-fn a_failed_read_ends_the_referee_and_no_other_command(rt: HostRuntime) -> Result<(), Fail> {
+fn a_failed_read_ends_the_commands_that_read(rt: HostRuntime) -> Result<(), Fail> {
     let alloc = rt.alloc();
     for (line, fails, status, text) in [
         ("referee 0", 1, Status::ReadFault, b"".as_slice()),
         ("referee 0", 2, Status::ReadFault, b"".as_slice()),
         ("referee 0", 3, Status::Done, HELLO),
+        ("replay", 1, Status::ReadFault, b"".as_slice()),
+        (
+            "replay",
+            3,
+            Status::BadRecord(3, Cause::Line),
+            b"".as_slice(),
+        ),
         (READY, 1, Status::Done, LINES_OF_READY),
     ] {
         let mut source = source_of(alloc, ONE_SEAT, fails)?;
@@ -138,6 +145,11 @@ fn each_status_has_its_code_and_its_text(rt: HostRuntime) -> Result<(), Fail> {
             Status::BadArrival(u32::MAX),
             6,
             "bad arrival at line 4294967295\n",
+        ),
+        (
+            Status::BadRecord(u32::MAX, Cause::Next),
+            7,
+            "bad record at line 4294967295: 4\n",
         ),
         (Status::TooLong, 9, "input too long\n"),
         (

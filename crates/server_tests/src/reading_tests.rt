@@ -117,10 +117,15 @@ fn a_line_reads_as_the_answer_that_it_is(rt: HostRuntime) -> Result<(), Fail> {
     let alloc = rt.alloc();
     for (line, text) in [
         ("{\"type\":\"none\"}", "pass"),
+        ("{\"type\":\"none\",\"actor\":2}", "pass 2"),
         (" {\"type\":\"none\",\"actor\":3}\r", "pass 3"),
         (
             "{\"type\":\"dahai\",\"actor\":0,\"pai\":\"5pr\",\"tsumogiri\":true}",
             "drawn 0 5pr",
+        ),
+        (
+            "{\"type\":\"dahai\",\"actor\":3,\"pai\":\"?\",\"tsumogiri\":false}",
+            "held 3 ?",
         ),
         (
             "{\"actor\":3,\"tsumogiri\":false,\"pai\":\"?\",\"type\":\"dahai\"}",
@@ -176,6 +181,11 @@ fn a_line_reads_as_the_answer_that_it_is(rt: HostRuntime) -> Result<(), Fail> {
             "unread",
         ),
         ("{\"type\":\"none\"}\0", "unread"),
+        ("{\"type\":\"none\",\"actor\":4}", "unread"),
+        (
+            "{\"type\":\"dahai\",\"actor\":0,\"pai\":\"0m\",\"tsumogiri\":true}",
+            "unread",
+        ),
         (
             "{\"type\":\"ankan\",\"consumed\":[\"N\",\"N\",\"N\",\"N\"]}",
             "unread",

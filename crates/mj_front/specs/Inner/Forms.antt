@@ -1,6 +1,6 @@
 -- What the value that a line was read as stands for.
-use Rattle.std.specs.Prelude.{ℕ, ◌≤◌, List, [], ◌∷◌, Option, Some, None}
-use Rattle.mj_wall.specs.declared.setting.Rules.{Rules}
+use Rattle.std.specs.Prelude.{ℕ, Option, Some, None}
+use Rattle.mjai_lines.specs.Settings.{IsLimited}
 use Rattle.mj_front.specs.declared.form.ArrivalForm.{ArrivalForm}
 use Rattle.mj_front.specs.declared.form.ArrivalForm.TheVariants as read
 use Rattle.mj_protocol.specs.Arrivals.{ArrivalForm as Meaning}
@@ -20,16 +20,6 @@ meaning read.NoForm = arrivals.NoForm
 abbrev pub expiry_meant : Option (ℕ × ℕ × ℕ) → Meaning
 expiry_meant None = arrivals.NoForm
 expiry_meant (Some (window, t1, t2)) = arrivals.Expire window t1 t2
-
--- Three fields, where there are three.
-abbrev pub three_of : List (List ℕ) → Option (List ℕ × List ℕ × List ℕ)
-three_of (first ∷ second ∷ third ∷ []) = Some (first, second, third)
-three_of fields = None
-
--- The limit of a window is 1 to 3600000 milliseconds.
-pub record IsLimited (rules : Rules) : Type 0 where
-  pub least : 1 ≤ rules.limit
-  pub longest : rules.limit ≤ 3600000
 
 -- A header has such a limit.
 abbrev pub HasLimit : ArrivalForm → Type 0

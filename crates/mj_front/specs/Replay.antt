@@ -1,0 +1,51 @@
+-- What the command `replay` reads and writes.
+use Rattle.std.specs.Prelude.{ℕ, List, Option}
+use Rattle.std.specs.Io.KnownBytes.{Appends, Keeps}
+use Rattle.mj_links.specs.Sinks.{WritesPrefix}
+use Rattle.mj_protocol.specs.Told.{Summary}
+use Rattle.mj_protocol.specs.Records.{IsRecord, IsNoRecord}
+use Rattle.mj_selfplay.specs.Text.{result_text}
+use Rattle.mj_replay.specs.Checks.{fault_of}
+use Rattle.mj_replay.specs.declared.checking.Cause.{Cause}
+use Rattle.mj_front.specs.declared.replay.ReplayEnd.{ReplayEnd}
+use Rattle.mj_front.specs.declared.replay.ReplayEnd.TheVariants as ends
+use Rattle.mj_front.specs.Inputs.{IsRead, IsTooLong}
+
+-- The three lines of a summary: the deeds, the points of the four seats, and the deposits.
+abbrev pub replay_text : Summary → List ℕ
+replay_text summary = result_text summary.deeds summary.points summary.deposits
+
+-- An input is a record, and the lines of its summary are written, whole or in part, as `IsWritten` says.
+pub record IsSummed (IsWritten : List ℕ → Type 0) (input : List ℕ) : Type 0 where
+  pub summary : Summary
+  pub sums : IsRecord input summary
+  pub bytes : IsWritten (replay_text summary)
+
+-- An input is no record: the line, counted from 1, is the first that breaks its form, by this cause. Nothing is written.
+pub record IsRefused (line : ℕ) (cause : Cause) (input : List ℕ) (old new : Option (List ℕ)) : Type 0 where
+  pub breaks : IsNoRecord input line (fault_of cause)
+  pub unwritten : Keeps old new
+
+-- What is written once an input was read, by the end. Want of memory writes nothing, and no read can fail any more.
+abbrev pub ReplaysInput : ReplayEnd → List ℕ → Option (List ℕ) → Option (List ℕ) → Type 0
+ReplaysInput ends.Written input old new = IsSummed (Appends old new) input
+ReplaysInput (ends.Bad line cause) input old new = IsRefused line cause input old new
+ReplaysInput ends.WriteFault input old new = IsSummed (WritesPrefix old new) input
+ReplaysInput ends.ReadFault input old new = ⊥
+ReplaysInput ends.TooLong input old new = ⊥
+ReplaysInput ends.NoMemory input old new = Keeps old new
+
+-- An input was read, and this is what is written of it.
+pub record ReplaysAll (end : ReplayEnd) (old_left new_left old_written new_written : Option (List ℕ)) : Type 0 where
+  pub input : List ℕ
+  pub read : IsRead old_left new_left input
+  pub written : ReplaysInput end input old_written new_written
+
+-- What the command does, by its end. A fault of the source and want of memory write nothing.
+abbrev pub Replays : ReplayEnd → Option (List ℕ) → Option (List ℕ) → Option (List ℕ) → Option (List ℕ) → Type 0
+Replays ends.Written old_left new_left old_written new_written = ReplaysAll ends.Written old_left new_left old_written new_written
+Replays (ends.Bad line cause) old_left new_left old_written new_written = ReplaysAll (ends.Bad line cause) old_left new_left old_written new_written
+Replays ends.WriteFault old_left new_left old_written new_written = ReplaysAll ends.WriteFault old_left new_left old_written new_written
+Replays ends.ReadFault old_left new_left old_written new_written = Keeps old_written new_written
+Replays ends.TooLong old_left new_left old_written new_written = IsTooLong old_left new_left old_written new_written
+Replays ends.NoMemory old_left new_left old_written new_written = Keeps old_written new_written

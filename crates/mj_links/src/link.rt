@@ -1,0 +1,36 @@
+//! A connection, which is read from and written to.
+
+ghost use Rattle.std.specs.Prelude.{ℕ, List, Option};
+ghost use Rattle.mj_links.specs.declared.source.Got.{Got};
+ghost use Rattle.mj_links.specs.declared.sink.Put.{Put};
+ghost use Rattle.mj_links.specs.Links.{ReadingStays, WritingStays, ReadsOn};
+
+use crate::sink::Sink;
+use crate::source::Source;
+
+/// A connection to a player. For proofs it tells what `was_read` from it, where that is known. A read
+/// changes nothing of its writing half, and a write nothing of its reading half.
+pub trait Link: Source + Sink {
+    ghost was_read: { Self → Option (List ℕ) };
+
+    /// Ends the link. It changes nothing that the link tells, and no count.
+    fn shut(&mut self)
+        ensures reading { ReadingStays (was_read self.old) (was_read self.new)
+            (Self.left self.old) (Self.left self.new)
+            (Self.read_faults self.old) (Self.read_faults self.new) }
+        ensures writing { WritingStays (Self.written self.old) (Self.written self.new)
+            (Self.write_faults self.old) (Self.write_faults self.new) };
+
+    // a read puts its bytes behind what was read, and leaves the writing half alone
+    ghost reads_apart: { (got : Got) → (into : List ℕ) → (old new : Self)
+        → Self.also_reads got into old new
+        → ReadsOn got into (was_read old) (was_read new)
+        × WritingStays (Self.written old) (Self.written new)
+        (Self.write_faults old) (Self.write_faults new) };
+
+    // a write leaves the reading half alone
+    ghost writes_apart: { (put : Put) → (piece : List ℕ) → (old new : Self)
+        → Self.also_writes put piece old new
+        → ReadingStays (was_read old) (was_read new) (Self.left old) (Self.left new)
+        (Self.read_faults old) (Self.read_faults new) };
+}

@@ -1,0 +1,9 @@
+use Rattle.std.proofs.Common.{length}
+use Rattle.mj_replay.proofs.CheckLaws.{InPlay}
+use Rattle.mj_replay.proofs.checking.behind_walls.Given as goal
+
+abbrev pub invariant-loop-line : goal.invariant-loop-line
+invariant-loop-line l = InPlay l.fn.rules l.walls l.text l.rest l.table l.deeds
+
+abbrev pub decreases-loop-line : goal.decreases-loop-line
+decreases-loop-line l = length l.rest

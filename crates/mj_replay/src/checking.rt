@@ -1,0 +1,173 @@
+//! The records of games, checked line by line.
+
+ghost use Rattle.std.specs.Prelude.{◌≡◌, ◌≤◌, ◌++◌, ◌∷◌, [], length, true, IfOk, IsTrue, MatchOption};
+ghost use Rattle.std.specs.List.{list_all};
+ghost use Rattle.mj_wall.specs.Places.{is_wall};
+ghost use Rattle.mj_protocol.specs.Records.{are_rules, header_line, record_text, needs_wall};
+ghost use Rattle.mj_replay.specs.Checks.{Tells};
+ghost use Rattle.mj_replay.specs.Inner.Steps.{cause_at_end, IsNext, IsNoNext, NoneNeeded};
+ghost use Rattle.mj_replay.specs.declared.checking.Checked.TheVariants.{Bad};
+
+use crate::following::follow;
+use crate::setting::{header_of, wall_of};
+use mj_bytes::{split_line, strip};
+use mj_table::Table;
+use mj_wall::{Rules, Wall};
+use std::alloc::{AllocError, Global};
+
+/// What a record comes to: how many deeds it has, the points of the four seats behind them, and the deposits on the table.
+#[derive(Clone, Copy, Debug, PartialEq, Eq)]
+pub struct Summary {
+    pub deeds: u32,
+    pub points: [i32; 4],
+    pub deposits: u32,
+}
+
+/// What is wrong with the first line that breaks the form of a record.
+#[derive(Clone, Copy, Debug, PartialEq, Eq)]
+pub enum Cause {
+    /// It is the first and no header.
+    Header,
+    /// It stands where a wall must, and is none.
+    Wall,
+    /// It is the line of no deed.
+    Line,
+    /// It is the line of a deed that no four lawful answers give there.
+    Next,
+    /// It has no newline.
+    Cut,
+}
+
+/// What a text is as a record.
+#[derive(Clone, Copy, Debug, PartialEq, Eq)]
+pub enum Checked {
+    /// It is the record of a game.
+    Good(Summary),
+    /// It is none, and this line, counted from 1, is the first that breaks its form.
+    Bad(u32, Cause),
+    /// Memory was wanting.
+    NoMemory,
+}
+
+/// Whether a text is the record of a game: a header, 1 to 200 walls, and the record's line of each deed from the start of the
+/// game on, each of which some four lawful answers give behind those before it. The record may end behind its walls or
+/// behind any deed.
+pub fn check(alloc: Global, text: &[u8]) -> Checked
+    ensures { Tells text.now result }
+{
+    match checked_text(alloc, text) {
+        Ok(answer) => answer,
+        Err(_) => Checked::NoMemory,
+    }
+}
+
+#[tactic(auto, using(crate::proofs::CheckLaws::headers))]
+fn checked_text(alloc: Global, text: &[u8]) -> Result<Checked, AllocError>
+    ensures { IfOk result (λ answer. Tells text.now answer) }
+{
+    let Some((line, rest)) = split_line(text) else {
+        return Ok(ending(text, 1, Cause::Header));
+    };
+    match header_of(line) {
+        Some(rules) => behind_header(alloc, rules, rest),
+        None => Ok(Checked::Bad(1, Cause::Header)),
+    }
+}
+
+// What a text that ends here without a line that must stand there is.
+fn ending(rest: &[u8], line: u32, cause: Cause) -> Checked
+    ensures { result ≡ Bad line (cause_at_end rest.now cause) }
+{
+    if rest.is_empty() {
+        return Checked::Bad(line, cause);
+    }
+    Checked::Bad(line, Cause::Cut)
+}
+
+// What a text is behind its header.
+fn behind_header(alloc: Global, rules: Rules, text: &[u8]) -> Result<Checked, AllocError>
+    requires { are_rules rules ≡ true }
+    ensures { IfOk result (λ answer. Tells (header_line rules ++ text.now) answer) }
+{
+    let mut walls = Vec::new(alloc);
+    let mut rest = text;
+    while let Some((line, others)) = split_line(rest) {
+        if !must_be_wall(walls.as_slice(), line) {
+            return behind_walls(alloc, rules, walls.as_slice(), rest);
+        }
+        let Some(wall) = next_wall(alloc, rules, walls.len(), line)? else {
+            return Ok(Checked::Bad(walls.len() as u32 + 2, Cause::Wall));
+        };
+        walls.push(wall)?;
+        rest = others;
+    }
+    if walls.is_empty() {
+        return Ok(ending(rest, 2, Cause::Wall));
+    }
+    behind_walls(alloc, rules, walls.as_slice(), rest)
+}
+
+// Whether a line behind these walls must be a wall: the first one must, and each that begins with `wall`.
+#[tactic(auto, using(crate::proofs::CheckLaws::wall_needs))]
+fn must_be_wall(walls: &[Wall], line: &[u8]) -> bool
+    ensures { result ≡ needs_wall walls.now [] (line.now ++ 10 ∷ []) }
+{
+    if walls.is_empty() {
+        return true;
+    }
+    match strip(line, b"wall") {
+        Some(_) => true,
+        None => false,
+    }
+}
+
+// The wall that a line says behind so many others: 200 at most.
+fn next_wall(
+    alloc: Global,
+    rules: Rules,
+    before: usize,
+    line: &[u8],
+) -> Result<Option<Wall>, AllocError>
+    ensures { IfOk result (λ wall. MatchOption wall (IsNoNext rules.red before line.now)
+        (λ w. IsNext rules.red before line.now w)) }
+{
+    if before >= 200 {
+        return Ok(None);
+    }
+    wall_of(alloc, line, rules.red)
+}
+
+// What a text is behind its walls.
+fn behind_walls(
+    alloc: Global,
+    rules: Rules,
+    walls: &[Wall],
+    text: &[u8],
+) -> Result<Checked, AllocError>
+    requires rules { are_rules rules ≡ true }
+    requires some { 1 ≤ length walls.now }
+    requires few { length walls.now ≤ 200 }
+    requires whole { IsTrue (list_all (is_wall rules.red) walls.now) }
+    requires other { NoneNeeded walls.now [] text.now }
+    ensures { IfOk result (λ answer. Tells (record_text rules walls.now [] ++ text.now) answer) }
+{
+    let mut table = Table::new(alloc, rules)?;
+    let mut deeds = 0;
+    let mut rest = text;
+    let first = walls.len() as u32 + 2;
+    while let Some((line, others)) = split_line(rest) {
+        if let Some(cause) = follow(alloc, &mut table, walls, &rest[..line.len() + 1])? {
+            return Ok(Checked::Bad(first + deeds, cause));
+        }
+        deeds += 1;
+        rest = others;
+    }
+    if !rest.is_empty() {
+        return Ok(Checked::Bad(first + deeds, Cause::Cut));
+    }
+    Ok(Checked::Good(Summary {
+        deeds,
+        points: table.points(),
+        deposits: table.deposits(),
+    }))
+}

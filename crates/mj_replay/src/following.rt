@@ -1,0 +1,222 @@
+//! Whether the deed that a line tells may follow the deeds on a table.
+
+ghost use Rattle.std.specs.Prelude.{◌≡◌, ◌≤◌, ◌↔◌, [], length, Some, None, Bool, IfOk, IsTrue, bytes_eq, is_none, nat_le};
+ghost use Rattle.std.specs.List.{list_all};
+ghost use Rattle.mj_wall.specs.Places.{is_wall};
+ghost use Rattle.mj_deeds.specs.Answers.{is_in_form, place_of};
+ghost use Rattle.mj_deeds.specs.Facts.{newest};
+ghost use Rattle.mj_deeds.specs.declared.deed.Viewer.TheVariants.{Record};
+ghost use Rattle.mj_rules.specs.Outcome.{goes_on};
+ghost use Rattle.mj_rules.specs.Played.{IsPlayed, IsLawful, AllLawful};
+ghost use Rattle.mj_protocol.specs.Lines.{line as line_for};
+ghost use Rattle.mj_replay.specs.Inner.Deeds.{deed_in};
+ghost use Rattle.mj_replay.specs.Inner.Steps.{FollowsOr, FollowsIf, FollowsBy, has_different_names};
+
+use crate::checking::Cause;
+use crate::reading::deed_in;
+use crate::told::told;
+use mj_deeds::{Answer, Deed, Four, Pai, Viewer};
+use mj_judge::judge;
+use mj_machine::next;
+use mj_table::Table;
+use mj_wall::Wall;
+use mjai_lines::write_alone;
+use std::alloc::{AllocError, Global};
+
+/// Puts the deed of a line, which ends with its newline, on the table, where some four lawful answers give it; else says
+/// what is wrong with the line.
+pub(crate) fn follow(
+    alloc: Global,
+    table: &mut Table,
+    walls: &[Wall],
+    line: &[u8],
+) -> Result<Option<Cause>, AllocError>
+    requires some { 1 ≤ length walls.now }
+    requires few { length walls.now ≤ 200 }
+    requires whole { IsTrue (list_all (is_wall table.old.rules.red) walls.now) }
+    requires played { IsPlayed table.old.rules walls.now table.old.deeds }
+    ensures { IfOk result (λ cause. FollowsOr cause walls.now table.old table.new line.now) }
+{
+    let Some(deed) = deed_in(alloc, line)? else {
+        return Ok(Some(Cause::Line));
+    };
+    if follows(alloc, table, walls, &deed, line)? {
+        return Ok(None);
+    }
+    if is_line_of(alloc, &deed, line)? {
+        return Ok(Some(Cause::Next));
+    }
+    Ok(Some(Cause::Line))
+}
+
+// Whether a text is the record's line of a deed.
+fn is_line_of(alloc: Global, deed: &Deed, line: &[u8]) -> Result<bool, AllocError>
+    ensures { IfOk result (λ same. same ≡ bytes_eq (line_for Record deed.now) line.now) }
+{
+    let mut written = Vec::new(alloc);
+    write_alone(alloc, Viewer::Record, deed, &mut written)?;
+    Ok(written.as_slice() == line)
+}
+
+// Puts the deed that a line tells on the table, where some four lawful answers give one with this line; says whether they
+// do. The deed is the one that was read of the line.
+#[tactic(auto, using(crate::proofs::FollowLaws::following))]
+fn follows(
+    alloc: Global,
+    table: &mut Table,
+    walls: &[Wall],
+    deed: &Deed,
+    line: &[u8],
+) -> Result<bool, AllocError>
+    requires some { 1 ≤ length walls.now }
+    requires few { length walls.now ≤ 200 }
+    requires whole { IsTrue (list_all (is_wall table.old.rules.red) walls.now) }
+    requires played { IsPlayed table.old.rules walls.now table.old.deeds }
+    requires read { deed_in line.now ≡ Some deed.now }
+    ensures { IfOk result (λ yes. FollowsIf yes walls.now table.old table.new line.now) }
+{
+    if table.newest().is_none() {
+        return starts(alloc, table, walls, deed, line);
+    }
+    if !can_go_on(table) {
+        return Ok(false);
+    }
+    let answers = told(table.newest(), deed);
+    if follows_by(alloc, table, walls, &answers, line)? {
+        return Ok(true);
+    }
+    Ok(false)
+}
+
+// Whether the game goes on behind the newest deed.
+fn can_go_on(table: &Table) -> bool
+    ensures { result ≡ goes_on (newest table.now.deeds) }
+{
+    match table.newest() {
+        None => false,
+        Some(Deed::EndGame { .. }) => false,
+        Some(_) => true,
+    }
+}
+
+// Puts the deed that the four answers give on the table, where they are lawful; says whether it has the line.
+#[tactic(auto, using(crate::proofs::FollowLaws::by_answers))]
+fn follows_by(
+    alloc: Global,
+    table: &mut Table,
+    walls: &[Wall],
+    answers: &Four<Answer>,
+    line: &[u8],
+) -> Result<bool, AllocError>
+    requires some { 1 ≤ length walls.now }
+    requires few { length walls.now ≤ 200 }
+    requires whole { IsTrue (list_all (is_wall table.old.rules.red) walls.now) }
+    requires played { IsPlayed table.old.rules walls.now table.old.deeds }
+    requires on { IsTrue (goes_on (newest table.old.deeds)) }
+    ensures { IfOk result (λ yes. FollowsBy yes walls.now table.old table.new answers.now line.now) }
+{
+    if !are_lawful(table, answers) {
+        return Ok(false);
+    }
+    let followed = next(alloc, table, walls, answers)?;
+    if is_line_of(alloc, &followed, line)? {
+        return Ok(true);
+    }
+    Ok(false)
+}
+
+// Whether each of the four answers is lawful.
+fn are_lawful(table: &Table, answers: &Four<Answer>) -> bool
+    ensures { IsTrue result ↔ AllLawful table.now.rules table.now.deeds answers.now }
+{
+    is_lawful(table, 0, &answers.first)
+        && is_lawful(table, 1, &answers.second)
+        && is_lawful(table, 2, &answers.third)
+        && is_lawful(table, 3, &answers.fourth)
+}
+
+fn is_lawful(table: &Table, seat: u8, answer: &Answer) -> bool
+    requires { seat ≤ 3 }
+    ensures { IsTrue result ↔ IsLawful table.now.rules table.now.deeds seat answer.now }
+{
+    is_in_form(answer) && judge(table, seat, answer).is_ok()
+}
+
+// Whether the own tiles that an answer names together stand in tile order.
+fn is_in_form(answer: &Answer) -> bool
+    ensures { result ≡ is_in_form answer.now }
+{
+    match answer {
+        Answer::Chi { a, b, .. } => is_before(*a, *b),
+        Answer::Pon { a, b, .. } => is_before(*a, *b),
+        Answer::OpenKan { a, b, c, .. } => is_before(*a, *b) && is_before(*b, *c),
+        Answer::ClosedKan { a, b, c, d, .. } => {
+            is_before(*a, *b) && is_before(*b, *c) && is_before(*c, *d)
+        }
+        Answer::AddedKan { a, b, c, .. } => is_before(*a, *b) && is_before(*b, *c),
+        _ => true,
+    }
+}
+
+// Whether a tile stands before another in tile order, or is the same.
+fn is_before(a: Pai, b: Pai) -> bool
+    ensures { result ≡ nat_le (place_of a) (place_of b) }
+{
+    place_of(a) <= place_of(b)
+}
+
+// The place of a tile in tile order, a hidden one behind all.
+fn place_of(pai: Pai) -> u8
+    ensures { result ≡ place_of pai }
+{
+    match pai {
+        Pai::Known(tile) => 2 * tile.kind().number() + u8::from(tile.face() >= 34),
+        Pai::Hidden => 68,
+    }
+}
+
+// Puts a start of a game with four different names on the table, which has no deed; says whether the deed that was read of
+// the line is one and has the line.
+fn starts(
+    alloc: Global,
+    table: &mut Table,
+    walls: &[Wall],
+    deed: &Deed,
+    line: &[u8],
+) -> Result<bool, AllocError>
+    requires some { 1 ≤ length walls.now }
+    requires whole { IsTrue (list_all (is_wall table.old.rules.red) walls.now) }
+    requires new { newest table.old.deeds ≡ None }
+    requires read { deed_in line.now ≡ Some deed.now }
+    ensures { IfOk result (λ yes. FollowsIf yes walls.now table.old table.new line.now) }
+{
+    if !has_different_names(deed) {
+        return Ok(false);
+    }
+    if !is_line_of(alloc, deed, line)? {
+        return Ok(false);
+    }
+    table.push(deed)?;
+    Ok(true)
+}
+
+// A start of a game with four different names.
+fn has_different_names(deed: &Deed) -> bool
+    ensures { result ≡ has_different_names deed.now }
+{
+    match deed {
+        Deed::StartGame { names } => {
+            let first = names.first.as_slice();
+            let second = names.second.as_slice();
+            let third = names.third.as_slice();
+            let fourth = names.fourth.as_slice();
+            first != second
+                && first != third
+                && first != fourth
+                && second != third
+                && second != fourth
+                && third != fourth
+        }
+        _ => false,
+    }
+}

@@ -1,0 +1,10 @@
+pub mod Wiring
+pub mod Entering
+pub mod Scripts
+pub mod Moving
+pub mod Waiting
+pub mod Finishing
+pub mod Seating
+pub mod Timing
+pub mod Handling
+pub mod Placing

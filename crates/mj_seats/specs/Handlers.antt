@@ -1,0 +1,70 @@
+-- What a worker comes to that takes links from a host and serves them.
+use Rattle.std.specs.Prelude.{◌≡◌, ℕ, true, List, [], ◌∷◌, Option, Some, None}
+use Rattle.mj_links.specs.Hosts.{IsFresh}
+use Rattle.mj_ports.specs.declared.entry.Entry.{Entry}
+use Rattle.mj_ports.specs.declared.sitting.JoinLine.{JoinLine}
+use Rattle.mj_ports.specs.declared.answers.SitAnswer.{SitAnswer}
+use Rattle.mj_ports.specs.declared.answers.Heard.{Heard}
+use Rattle.mj_ports.specs.declared.answers.Control.{Control}
+use Rattle.mj_ports.specs.Seats.{After}
+use Rattle.mj_seats.specs.declared.served.Ended.{Ended}
+use Rattle.mj_seats.specs.declared.handle.HandlerEnd.{HandlerEnd}
+use Rattle.mj_seats.specs.declared.handle.HandlerEnd.TheVariants.{Over, Host, NoMemory}
+use Rattle.mj_seats.specs.declared.handle.Call.{Call}
+use Rattle.mj_seats.specs.declared.handle.Call.TheVariants as call
+use Rattle.mj_seats.specs.declared.handle.Session.{Session}
+use Rattle.mj_seats.specs.Histories.{Enters}
+use Rattle.mj_seats.specs.Sessions.{SeatedSession, IsExcused}
+use Rattle.mj_seats.specs.Wires.{WireState}
+
+module _ {L : Type 0} (read left written : L → Option (List ℕ)) (read_faults write_faults : L → ℕ) where
+  -- A link that was on a wire, with what the wire held of it.
+  abbrev pub at_link : List ℕ → L → WireState
+  at_link held link = record { read = read link; left = left link; written = written link; read_faults = read_faults link; write_faults = write_faults link; held = held }
+
+-- A wire on whose link nothing was read or written yet.
+pub record IsNew (x : WireState) : Type 0 where
+  pub fresh : IsFresh x.read x.written x.read_faults x.write_faults
+  pub holds_nothing : x.held ≡ []
+
+-- Want of memory excuses a session that it ended.
+abbrev pub WantsMemory : {F : Type 0} → HandlerEnd F → Type 0
+WantsMemory Over = ⊥
+WantsMemory (Host fault) = ⊥
+WantsMemory NoMemory = Unit {0}
+
+-- A handler that goes on has had no want of memory.
+abbrev pub Excuses : {F : Type 0} → Option (HandlerEnd F) → Type 0
+Excuses None = ⊥
+Excuses (Some end) = WantsMemory end
+
+module _ {A R L : Type 0} (after : List (Entry A) → After) (reads : List ℕ → A) (joins : List ℕ → Option JoinLine) (sits : List (Entry A) → List ℕ → SitAnswer) (hears : List (Entry A) → ℕ → ℕ → A → Heard R) (says : Control R → List ℕ) (at : List ℕ → L → WireState) where
+  -- A link that is kept had a session with a seat, from its first byte on, at the place that is kept with it.
+  pub record Kept (excuse : Type 0) (author : ℕ) (old new : List (Entry A)) (session : Session L) : Type 0 where
+    pub start : WireState
+    pub is_new : IsNew start
+    pub held : List ℕ
+    pub ended : Ended
+    pub seated : SeatedSession after reads joins sits hears says author old new start (at held session.link) ended session.place
+    pub excused : IsExcused ended → excuse
+
+  -- The sessions that are kept, one after the other, are all that the author entered.
+  abbrev pub Handled : Type 0 → ℕ → List (Entry A) → List (Entry A) → List (Session L) → Type 0
+  Handled excuse author old new [] = Enters author old new []
+  Handled excuse author old new (session ∷ sessions) = (mid : List (Entry A)) × Kept excuse author old mid session × Handled excuse author mid new sessions
+
+-- The game is over in the history seen, or the host made a fault with the handler's number.
+abbrev pub HandlerEnds : {A F : Type 0} → (List (Entry A) → After) → (F → Type 0) → (F → ℕ) → HandlerEnd F → ℕ → List (Entry A) → Type 0
+HandlerEnds after made number Over by new = (after new).over ≡ true
+HandlerEnds after made number (Host fault) by new = made fault × (number fault ≡ by)
+HandlerEnds after made number NoMemory by new = Unit {0}
+
+abbrev pub HandlerEndsTo : {A F : Type 0} → (List (Entry A) → After) → (F → Type 0) → (F → ℕ) → Option (HandlerEnd F) → ℕ → List (Entry A) → Type 0
+HandlerEndsTo after made number None by new = Unit {0}
+HandlerEndsTo after made number (Some end) by new = HandlerEnds after made number end by new
+
+-- A handler ends where it finds the game over.
+abbrev pub Asks : Call → After → Type 0
+Asks call.GoesOn w = Unit {0}
+Asks call.Over w = w.over ≡ true
+Asks call.NoMemory w = Unit {0}

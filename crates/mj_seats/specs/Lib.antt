@@ -1,0 +1,7 @@
+pub mod Faults
+pub mod Wires
+pub mod Histories
+pub mod Sessions
+pub mod Steps
+pub mod Ticks
+pub mod Handlers

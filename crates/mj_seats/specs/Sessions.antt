@@ -1,0 +1,165 @@
+-- What the session of a link comes to.
+use Rattle.std.specs.Prelude.{◌≡◌, ◌⊎◌, ℕ, ◌<◌, ◌≤◌, true, false, List, [], ◌∷◌, ◌++◌, length, map, Option, Some, None}
+use Rattle.std.specs.Io.KnownBytes.{IsAtEnd}
+use Rattle.mj_links.specs.Links.{has_newline}
+use Rattle.mj_ports.specs.declared.entry.Entry.{Entry}
+use Rattle.mj_ports.specs.declared.entry.Entry.TheVariants.{Said, Gone}
+use Rattle.mj_ports.specs.declared.sitting.JoinLine.{JoinLine}
+use Rattle.mj_ports.specs.declared.answers.SitAnswer.{SitAnswer}
+use Rattle.mj_ports.specs.declared.answers.SitAnswer.TheVariants as sit
+use Rattle.mj_ports.specs.declared.answers.Heard.{Heard}
+use Rattle.mj_ports.specs.declared.answers.Heard.TheVariants as heard
+use Rattle.mj_ports.specs.declared.answers.Control.{Control}
+use Rattle.mj_ports.specs.declared.answers.Control.TheVariants as control
+use Rattle.mj_ports.specs.SeatCalls.{AnswersSit}
+use Rattle.mj_ports.specs.Seats.{After, script}
+use Rattle.mj_seats.specs.declared.served.Ended.{Ended}
+use Rattle.mj_seats.specs.declared.served.Ended.TheVariants.{GameOver, PeerEnded, LinkFault, LineTooLong, TooManyRefusals, NotSeated, NoMemory}
+use Rattle.mj_seats.specs.declared.served.Served.{Served}
+use Rattle.mj_seats.specs.Histories.{Enters}
+use Rattle.mj_seats.specs.Wires.{WireState, Took, ToldInPart}
+
+-- Want of memory excuses what is missing.
+abbrev pub IsExcused : Ended → Type 0
+IsExcused GameOver = ⊥
+IsExcused PeerEnded = ⊥
+IsExcused LinkFault = ⊥
+IsExcused LineTooLong = ⊥
+IsExcused TooManyRefusals = ⊥
+IsExcused (NotSeated why) = ⊥
+IsExcused NoMemory = Unit {0}
+
+-- What the wire shows of the end: its input ended within a line, or a write failed, or a read failed while no whole line was
+-- held, or it holds 4,096 bytes without a newline. Only at the end of the input is there a rest of a line.
+abbrev pub WireEnds : Ended → WireState → WireState → List ℕ → Type 0
+WireEnds GameOver x y rest = rest ≡ []
+WireEnds PeerEnded x y rest = (has_newline rest ≡ false) × (y.held ≡ []) × IsAtEnd y.left
+WireEnds LinkFault x y rest = (rest ≡ []) × ((x.write_faults < y.write_faults) ⊎ ((x.read_faults < y.read_faults) × (has_newline y.held ≡ false)))
+WireEnds LineTooLong x y rest = (rest ≡ []) × (length y.held ≡ 4096) × (has_newline y.held ≡ false)
+WireEnds TooManyRefusals x y rest = rest ≡ []
+WireEnds (NotSeated why) x y rest = rest ≡ []
+WireEnds NoMemory x y rest = has_newline rest ≡ false
+
+module _ {A : Type 0} where
+  -- A seat enters that it is gone exactly where its link ended the session.
+  abbrev pub last_entry : Ended → ℕ → ℕ → List (Entry A)
+  last_entry GameOver author seat = []
+  last_entry PeerEnded author seat = Gone author seat ∷ []
+  last_entry LinkFault author seat = Gone author seat ∷ []
+  last_entry LineTooLong author seat = Gone author seat ∷ []
+  last_entry TooManyRefusals author seat = []
+  last_entry (NotSeated why) author seat = []
+  last_entry NoMemory author seat = []
+
+  -- What a seat said by these lines.
+  abbrev pub said_by : (List ℕ → A) → ℕ → ℕ → List (List ℕ) → List (Entry A)
+  said_by reads author seat lines = map (λ line. Said author seat (reads line)) lines
+
+-- Every line that came was entered, but perhaps for the last one, where memory was wanting.
+abbrev pub LeavesOut : Ended → List (List ℕ) → Type 0
+LeavesOut GameOver lines = lines ≡ []
+LeavesOut PeerEnded lines = lines ≡ []
+LeavesOut LinkFault lines = lines ≡ []
+LeavesOut LineTooLong lines = lines ≡ []
+LeavesOut TooManyRefusals lines = lines ≡ []
+LeavesOut (NotSeated why) lines = lines ≡ []
+LeavesOut NoMemory lines = length lines ≤ 1
+
+-- A line that wants a seat got this one.
+abbrev pub GivesSeat : SitAnswer → ℕ → Type 0
+GivesSeat (sit.Sat given) seat = given ≡ seat
+GivesSeat (sit.Back given) seat = given ≡ seat
+GivesSeat (sit.Refused why) seat = ⊥
+GivesSeat sit.NoMemory seat = ⊥
+
+module _ {A : Type 0} (sits : List (Entry A) → List ℕ → SitAnswer) (joins : List ℕ → Option JoinLine) where
+  -- After these entries the line was given the seat, which is entered as the first entry of the connection.
+  pub record GetsSeat (before : List (Entry A)) (line : List ℕ) (author seat : ℕ) (first : Entry A) : Type 0 where
+    pub answer : SitAnswer
+    pub given : GivesSeat answer seat
+    pub is_right : AnswersSit before (before ++ first ∷ []) answer (sits before line) author (joins line)
+
+-- Before its last entry, which is this one, the connection of the place was that of the seat.
+pub record EndsBy {A : Type 0} (after : List (Entry A) → After) (seat place : ℕ) (new : List (Entry A)) (last : Entry A) (verdict : List (Entry A) → Type 0) : Type 0 where
+  pub before : List (Entry A)
+  pub last_is : new ≡ before ++ last ∷ []
+  pub was_of : (after before).seat_of place ≡ Some seat
+  pub right : verdict before
+
+-- A closing refusal ends a connection.
+pub record EndsByRefusal {A R : Type 0} (after : List (Entry A) → After) (hears : List (Entry A) → ℕ → ℕ → A → Heard R) (author seat place : ℕ) (new : List (Entry A)) : Type 0 where
+  pub answer : A
+  pub rule : R
+  pub ends : EndsBy after seat place new (Said author seat answer) (λ before. hears before author seat answer ≡ heard.Closing rule)
+
+-- What the history shows of the end of a seat's session. The game is over, the connection goes on, and the seat has no
+-- deed to answer; or its last entry is that it is gone; or its last entry is an answer with a closing refusal.
+abbrev pub HistoryEnds : {A R : Type 0} → (List (Entry A) → After) → (List (Entry A) → ℕ → ℕ → A → Heard R) → Ended → ℕ → ℕ → ℕ → List (Entry A) → Type 0
+HistoryEnds after hears GameOver author seat place new = ((after new).over ≡ true) × ((after new).seat_of place ≡ Some seat) × ((after new).deeds ≤ (after new).due seat)
+HistoryEnds after hears PeerEnded author seat place new = EndsBy after seat place new (Gone author seat) (λ _. Unit {0})
+HistoryEnds after hears LinkFault author seat place new = EndsBy after seat place new (Gone author seat) (λ _. Unit {0})
+HistoryEnds after hears LineTooLong author seat place new = EndsBy after seat place new (Gone author seat) (λ _. Unit {0})
+HistoryEnds after hears TooManyRefusals author seat place new = EndsByRefusal after hears author seat place new
+HistoryEnds after hears (NotSeated why) author seat place new = ⊥
+HistoryEnds after hears NoMemory author seat place new = Unit {0}
+
+-- What is written on the link of a session without a seat: the hello line, and the line of its refusal.
+abbrev pub turned_away : {R : Type 0} → (Control R → List ℕ) → Ended → List ℕ
+turned_away says GameOver = says control.Hello
+turned_away says PeerEnded = says control.Hello
+turned_away says LinkFault = says control.Hello
+turned_away says LineTooLong = says control.Hello
+turned_away says TooManyRefusals = says control.Hello
+turned_away says (NotSeated why) = says control.Hello ++ says (control.SitRefused why)
+turned_away says NoMemory = says control.Hello
+
+-- A session without a seat ended before its first line came, or by the refusal that this line has in the history seen.
+abbrev pub NoSeatFor : {A : Type 0} → (List (Entry A) → List ℕ → SitAnswer) → Ended → List (List ℕ) → List (Entry A) → Type 0
+NoSeatFor sits GameOver lines new = ⊥
+NoSeatFor sits PeerEnded lines new = lines ≡ []
+NoSeatFor sits LinkFault lines new = lines ≡ []
+NoSeatFor sits LineTooLong lines new = lines ≡ []
+NoSeatFor sits TooManyRefusals lines new = ⊥
+NoSeatFor sits (NotSeated why) lines new = (line : List ℕ) × (lines ≡ line ∷ []) × (sits new line ≡ sit.Refused why)
+NoSeatFor sits NoMemory lines new = length lines ≤ 1
+
+module _ {A R : Type 0} (sits : List (Entry A) → List ℕ → SitAnswer) (says : Control R → List ℕ) where
+  -- A session without a seat entered nothing.
+  pub record SeatlessSession (author : ℕ) (old new : List (Entry A)) (x y : WireState) (ended : Ended) : Type 0 where
+    pub lines : List (List ℕ)
+    pub rest : List ℕ
+    pub nothing : Enters author old new []
+    pub took : Took x y lines rest
+    pub no_seat : NoSeatFor sits ended lines new
+    pub wrote : ToldInPart (IsExcused ended) x y [] (turned_away says ended)
+    pub wire_ends : WireEnds ended x y rest
+
+module _ {A R : Type 0} (after : List (Entry A) → After) (reads : List ℕ → A) (joins : List ℕ → Option JoinLine) (sits : List (Entry A) → List ℕ → SitAnswer) (hears : List (Entry A) → ℕ → ℕ → A → Heard R) (says : Control R → List ℕ) where
+  -- A session with a seat. Its first line was given the seat at the place, and each line after it was entered, in order,
+  -- once each, with what it reads as; nothing else was entered but, as the last entry, that the seat is gone. What was
+  -- written is the script of the connection.
+  pub record SeatedSession (author : ℕ) (old new : List (Entry A)) (x y : WireState) (ended : Ended) (place : ℕ) : Type 0 where
+    pub seat : ℕ
+    pub before : List (Entry A)
+    pub first : Entry A
+    pub line : List ℕ
+    pub lines : List (List ℕ)
+    pub left_out : List (List ℕ)
+    pub rest : List ℕ
+    pub place_is : place ≡ length before
+    pub nothing_before : Enters author old before []
+    pub gets_seat : GetsSeat sits joins before line author seat first
+    pub entered : Enters author (before ++ first ∷ []) new (said_by reads author seat lines ++ last_entry ended author seat)
+    pub took : Took x y (line ∷ (lines ++ left_out)) rest
+    pub all_but : LeavesOut ended left_out
+    pub wrote : ToldInPart (IsExcused ended) x y [] (script (after new) place)
+    pub wire_ends : WireEnds ended x y rest
+    pub history_ends : HistoryEnds after hears ended author seat place new
+
+  -- A session has a place exactly where it has a seat.
+  abbrev pub SessionAt : ℕ → List (Entry A) → List (Entry A) → WireState → WireState → Ended → Option ℕ → Type 0
+  SessionAt author old new x y ended None = SeatlessSession sits says author old new x y ended
+  SessionAt author old new x y ended (Some place) = SeatedSession author old new x y ended place
+
+  abbrev pub Session : ℕ → List (Entry A) → List (Entry A) → WireState → WireState → Served → Type 0
+  Session author old new x y served = SessionAt author old new x y served.ended served.place

@@ -1,0 +1,264 @@
+//! The worker that takes links from a host, and serves them one after the other.
+
+ghost use Rattle.std.specs.Prelude.{◌≡◌, ◌<◌, ◌+◌, ◌++◌, ◌≤◌, map, [], List, IfSome, vec_len, vec_capacity};
+ghost use Rattle.mj_links.specs.Hosts.{IsFresh};
+ghost use Rattle.mj_ports.specs.declared.entry.Entry.{Entry};
+ghost use Rattle.mj_seats.specs.Handlers.{Handled, HandlerEnds, HandlerEndsTo, Excuses, WantsMemory, Asks, at_link};
+ghost use Rattle.mj_seats.specs.Histories.{Enters, places_of};
+ghost use Rattle.mj_seats.specs.Sessions.{IsExcused};
+ghost use Rattle.turn_lock.specs.Turns.{IsIdle};
+
+use crate::hold;
+use crate::room::Room;
+use crate::serve::serve_at;
+use crate::served::Ended;
+use crate::table::Table;
+use mj_links::{Came, Host, Link, Wire};
+use mj_ports::Seated;
+use std::alloc::Global;
+use std::sync::Wait;
+use turn_lock::{Kept, Pass, Turn};
+
+/// A link whose session with a seat is over, and the place of its Sat or Back among the entries.
+#[derive(Drop)]
+pub struct Session<L> {
+    pub link: L,
+    pub place: u64,
+}
+
+/// How a handler ended.
+#[derive(Drop)]
+pub enum HandlerEnd<F> {
+    /// The game is over.
+    Over,
+    /// The host failed this handler.
+    Host(F),
+    /// Memory was wanting, of this worker or of another one before.
+    NoMemory,
+}
+
+// Whether a handler goes on.
+#[derive(Clone, Copy)]
+pub(crate) enum Call {
+    GoesOn,
+    Over,
+    NoMemory,
+}
+
+/// Takes links from the host, with the pass's number, and serves each to the end of its session, until the game is over,
+/// the host fails, or memory is wanting. Each link is shut then, and kept where its session had a seat.
+pub fn handler<G: Seated, H: Host, R: Wait>(
+    turn: &Turn<Room<G, H::Fault>>,
+    rt: &R,
+    alloc: Global,
+    pass: &mut Pass<Room<G, H::Fault>>,
+    host: &H,
+    sessions: &mut Vec<Session<H::Link>>,
+) -> HandlerEnd<H::Fault>
+    requires idle { IsIdle ⟦<Room<G, H::Fault> as Kept>⟧.setting turn.now pass.old }
+    requires empty { sessions.old.items ≡ [] }
+    ensures idle { IsIdle ⟦<Room<G, H::Fault> as Kept>⟧.setting turn.now pass.new
+        × (pass.new.number ≡ pass.old.number) }
+    ensures handled { Handled (G.after (G.setting turn.now.opening.game)) G.reads G.joins
+        (G.sits (G.setting turn.now.opening.game)) (G.hears (G.setting turn.now.opening.game))
+        G.says (at_link H.Link.was_read H.Link.left H.Link.written H.Link.read_faults
+        H.Link.write_faults) (WantsMemory result) pass.old.number pass.old.seen pass.new.seen
+        sessions.new.items }
+    ensures places { places_of pass.old.number pass.new.seen
+        ≡ places_of pass.old.number pass.old.seen ++ map (λ s. s.place) sessions.new.items }
+    ensures ended { HandlerEnds (G.after (G.setting turn.now.opening.game)) (H.made_by host.now)
+        H.Fault.number result pass.old.number pass.new.seen }
+{
+    handle_at(turn, rt, alloc, pass, host, sessions)
+}
+
+// The same at any table.
+pub(crate) fn handle_at<T: Table, H: Host<Fault = <T as Table>::Fault>, R: Wait>(
+    turn: &Turn<T>,
+    rt: &R,
+    alloc: Global,
+    pass: &mut Pass<T>,
+    host: &H,
+    sessions: &mut Vec<Session<H::Link>>,
+) -> HandlerEnd<H::Fault>
+    requires idle { IsIdle T.Kept.setting turn.now pass.old }
+    requires empty { sessions.old.items ≡ [] }
+    ensures idle { IsIdle T.Kept.setting turn.now pass.new × (pass.new.number ≡ pass.old.number) }
+    ensures handled { Handled (T.after (T.Kept.setting turn.now.opening)) T.reads T.joins
+        (T.sits (T.Kept.setting turn.now.opening)) (T.hears (T.Kept.setting turn.now.opening))
+        T.says (at_link H.Link.was_read H.Link.left H.Link.written H.Link.read_faults
+        H.Link.write_faults) (WantsMemory result) pass.old.number pass.old.seen pass.new.seen
+        sessions.new.items }
+    ensures places { places_of pass.old.number pass.new.seen
+        ≡ places_of pass.old.number pass.old.seen ++ map (λ s. s.place) sessions.new.items }
+    ensures ended { HandlerEnds (T.after (T.Kept.setting turn.now.opening)) (H.made_by host.now)
+        T.Fault.number result pass.old.number pass.new.seen }
+{
+    for _ in rt.forever() {
+        if let Some(end) = handle_once(turn, rt, alloc, pass, host, sessions) {
+            return end;
+        }
+    }
+    unreachable!()
+}
+
+// Takes one link, and serves it.
+fn handle_once<T: Table, H: Host<Fault = <T as Table>::Fault>, R: Wait>(
+    turn: &Turn<T>,
+    rt: &R,
+    alloc: Global,
+    pass: &mut Pass<T>,
+    host: &H,
+    sessions: &mut Vec<Session<H::Link>>,
+) -> Option<HandlerEnd<H::Fault>>
+    requires idle { IsIdle T.Kept.setting turn.now pass.old }
+    ensures idle { IsIdle T.Kept.setting turn.now pass.new × (pass.new.number ≡ pass.old.number) }
+    ensures handled { (first : List (Entry T.Answer))
+        → Handled (T.after (T.Kept.setting turn.now.opening)) T.reads T.joins
+        (T.sits (T.Kept.setting turn.now.opening)) (T.hears (T.Kept.setting turn.now.opening))
+        T.says (at_link H.Link.was_read H.Link.left H.Link.written H.Link.read_faults
+        H.Link.write_faults) ⊥ pass.old.number first pass.old.seen sessions.old.items
+        → Handled (T.after (T.Kept.setting turn.now.opening)) T.reads T.joins
+        (T.sits (T.Kept.setting turn.now.opening)) (T.hears (T.Kept.setting turn.now.opening))
+        T.says (at_link H.Link.was_read H.Link.left H.Link.written H.Link.read_faults
+        H.Link.write_faults) (Excuses result) pass.old.number first pass.new.seen sessions.new.items }
+    ensures ended { HandlerEndsTo (T.after (T.Kept.setting turn.now.opening)) (H.made_by host.now)
+        T.Fault.number result pass.old.number pass.new.seen }
+{
+    match ask(turn, rt, pass) {
+        Call::Over => Some(HandlerEnd::Over),
+        Call::NoMemory => Some(HandlerEnd::NoMemory),
+        Call::GoesOn => match sessions.reserve(1) {
+            Ok(()) => take_link(turn, rt, alloc, pass, host, sessions),
+            Err(_) => {
+                hold::give_up(turn, rt, pass);
+                Some(HandlerEnd::NoMemory)
+            }
+        },
+    }
+}
+
+// Takes a link, for which there is room, and serves it.
+fn take_link<T: Table, H: Host<Fault = <T as Table>::Fault>, R: Wait>(
+    turn: &Turn<T>,
+    rt: &R,
+    alloc: Global,
+    pass: &mut Pass<T>,
+    host: &H,
+    sessions: &mut Vec<Session<H::Link>>,
+) -> Option<HandlerEnd<H::Fault>>
+    requires idle { IsIdle T.Kept.setting turn.now pass.old }
+    requires room { vec_len sessions.old + 1 ≤ vec_capacity sessions.old }
+    ensures idle { IsIdle T.Kept.setting turn.now pass.new × (pass.new.number ≡ pass.old.number) }
+    ensures handled { (first : List (Entry T.Answer))
+        → Handled (T.after (T.Kept.setting turn.now.opening)) T.reads T.joins
+        (T.sits (T.Kept.setting turn.now.opening)) (T.hears (T.Kept.setting turn.now.opening))
+        T.says (at_link H.Link.was_read H.Link.left H.Link.written H.Link.read_faults
+        H.Link.write_faults) ⊥ pass.old.number first pass.old.seen sessions.old.items
+        → Handled (T.after (T.Kept.setting turn.now.opening)) T.reads T.joins
+        (T.sits (T.Kept.setting turn.now.opening)) (T.hears (T.Kept.setting turn.now.opening))
+        T.says (at_link H.Link.was_read H.Link.left H.Link.written H.Link.read_faults
+        H.Link.write_faults) (Excuses result) pass.old.number first pass.new.seen sessions.new.items }
+    ensures ended { HandlerEndsTo (T.after (T.Kept.setting turn.now.opening)) (H.made_by host.now)
+        T.Fault.number result pass.old.number pass.new.seen }
+{
+    match host.accept(pass.number()) {
+        Came::Link(link) => serve_link(turn, rt, alloc, pass, link, sessions),
+        Came::Nothing => None,
+        Came::Failed(fault) => {
+            lose(turn, rt, pass, fault);
+            Some(HandlerEnd::Host(fault))
+        }
+    }
+}
+
+// Serves a link to the end of its session, shuts it, and keeps it where its session had a seat.
+fn serve_link<T: Table, L: Link + Drop, F, R: Wait>(
+    turn: &Turn<T>,
+    rt: &R,
+    alloc: Global,
+    pass: &mut Pass<T>,
+    link: L,
+    sessions: &mut Vec<Session<L>>,
+) -> Option<HandlerEnd<F>>
+    requires idle { IsIdle T.Kept.setting turn.now pass.old }
+    requires fresh { IsFresh (L.was_read link) (L.written link) (L.read_faults link)
+        (L.write_faults link) }
+    requires room { vec_len sessions.old + 1 ≤ vec_capacity sessions.old }
+    ensures idle { IsIdle T.Kept.setting turn.now pass.new × (pass.new.number ≡ pass.old.number) }
+    ensures handled { (first : List (Entry T.Answer))
+        → Handled (T.after (T.Kept.setting turn.now.opening)) T.reads T.joins
+        (T.sits (T.Kept.setting turn.now.opening)) (T.hears (T.Kept.setting turn.now.opening))
+        T.says (at_link L.was_read L.left L.written L.read_faults
+        L.write_faults) ⊥ pass.old.number first pass.old.seen sessions.old.items
+        → Handled (T.after (T.Kept.setting turn.now.opening)) T.reads T.joins
+        (T.sits (T.Kept.setting turn.now.opening)) (T.hears (T.Kept.setting turn.now.opening))
+        T.says (at_link L.was_read L.left L.written L.read_faults
+        L.write_faults) (Excuses result) pass.old.number first pass.new.seen sessions.new.items }
+    ensures ended { IfSome result WantsMemory }
+{
+    let mut wire = Wire::new(link);
+    let served = serve_at(turn, rt, alloc, pass, &mut wire);
+    let mut link = wire.into_link();
+    link.shut();
+    match served.place {
+        Some(place) => {
+            sessions.push_reserved(Session { link, place });
+            end_after(served.ended)
+        }
+        None => end_after(served.ended),
+    }
+}
+
+// How a handler ends after a session: not at all, but where memory was wanting.
+fn end_after<F>(ended: Ended) -> Option<HandlerEnd<F>>
+    ensures excuses { IsExcused ended → Excuses result }
+    ensures ended { IfSome result WantsMemory }
+{
+    match ended {
+        Ended::NoMemory => Some(HandlerEnd::NoMemory),
+        Ended::GameOver => None,
+        Ended::PeerEnded => None,
+        Ended::LinkFault => None,
+        Ended::LineTooLong => None,
+        Ended::TooManyRefusals => None,
+        Ended::NotSeated(_) => None,
+    }
+}
+
+// Whether the game is over, or memory was wanting.
+fn ask<T: Table, R: Wait>(turn: &Turn<T>, rt: &R, pass: &mut Pass<T>) -> Call
+    requires { IsIdle T.Kept.setting turn.now pass.old }
+    ensures idle { IsIdle T.Kept.setting turn.now pass.new × (pass.new.number ≡ pass.old.number) }
+    ensures nothing { Enters pass.old.number pass.old.seen pass.new.seen [] }
+    ensures asks { Asks result (T.after (T.Kept.setting turn.now.opening) pass.new.seen) }
+{
+    let mut held = hold::take(turn, rt, pass);
+    let call = call_of(held.value());
+    hold::give(turn, pass, held, false);
+    call
+}
+
+fn call_of<T: Table>(table: &mut T) -> Call
+    ensures same { table.new ≡ table.old }
+    ensures asks { Asks result (T.after (T.Seated.setting table.old) (T.history table.old)) }
+{
+    if table.dry() {
+        return Call::NoMemory;
+    }
+    if table.over() {
+        return Call::Over;
+    }
+    Call::GoesOn
+}
+
+// Keeps the fault by which the host failed the handler.
+fn lose<T: Table, R: Wait>(turn: &Turn<T>, rt: &R, pass: &mut Pass<T>, fault: T::Fault)
+    requires { IsIdle T.Kept.setting turn.now pass.old }
+    ensures idle { IsIdle T.Kept.setting turn.now pass.new × (pass.new.number ≡ pass.old.number) }
+    ensures nothing { Enters pass.old.number pass.old.seen pass.new.seen [] }
+{
+    let mut held = hold::take(turn, rt, pass);
+    held.value().lose(fault);
+    hold::give(turn, pass, held, false);
+}

@@ -1,0 +1,64 @@
+// A turn of a table, in words of its game.
+ghost use Rattle.std.specs.Prelude.{◌≡◌, ℕ, [], Some};
+ghost use Rattle.mj_ports.specs.Entries.{author_of};
+ghost use Rattle.mj_seats.specs.Histories.{Enters};
+ghost use Rattle.mj_seats.specs.Steps.{Watches};
+ghost use Rattle.turn_lock.specs.Notes.{Follows};
+ghost use Rattle.turn_lock.specs.Turns.{IsIdle, IsBusy, taken, given};
+
+use crate::table::Table;
+use std::sync::Wait;
+use turn_lock::{Held, Pass, Turn};
+
+// Takes the table in its turn. Since the pass gave it back, others entered what they entered.
+pub(crate) fn take<T: Table, R: Wait>(turn: &Turn<T>, rt: &R, pass: &mut Pass<T>) -> Held<T>
+    requires { IsIdle T.Kept.setting turn.now pass.old }
+    ensures pass { pass.new ≡ taken pass.old (T.history result) }
+    ensures setting { T.Seated.setting result ≡ T.Kept.setting turn.now.opening }
+    ensures legal { T.is_legal (T.Kept.setting turn.now.opening) (T.history result) }
+    ensures nothing { Enters pass.old.number pass.old.seen (T.history result) [] }
+    ensures watches { (seat : ℕ)
+        → (T.after (T.Kept.setting turn.now.opening) pass.old.seen).present seat
+        ≡ Some pass.old.number
+        → Watches (T.after (T.Kept.setting turn.now.opening)) pass.old.number seat pass.old.seen
+        (T.history result) }
+{
+    let mut held = turn.take(rt, pass);
+    let _entries = held.value().entries();
+    held
+}
+
+// Gives the table back, with at most one entry more, of the pass's number, and marks it where memory was wanting.
+pub(crate) fn give<T: Table>(turn: &Turn<T>, pass: &mut Pass<T>, mut held: Held<T>, wanting: bool)
+    requires busy { IsBusy T.Kept.setting turn.now pass.old }
+    requires setting { T.Seated.setting held ≡ T.Kept.setting turn.now.opening }
+    requires entries { Follows author_of pass.old.number pass.old.seen (T.history held) }
+    ensures { pass.new ≡ given pass.old (T.history held) }
+{
+    mark(held.value(), wanting);
+    turn.give(pass, held);
+}
+
+// Marks that memory was wanting, and enters nothing.
+pub(crate) fn give_up<T: Table, R: Wait>(turn: &Turn<T>, rt: &R, pass: &mut Pass<T>)
+    requires { IsIdle T.Kept.setting turn.now pass.old }
+    ensures idle { IsIdle T.Kept.setting turn.now pass.new × (pass.new.number ≡ pass.old.number) }
+    ensures nothing { Enters pass.old.number pass.old.seen pass.new.seen [] }
+    ensures watches { (seat : ℕ)
+        → (T.after (T.Kept.setting turn.now.opening) pass.old.seen).present seat
+        ≡ Some pass.old.number
+        → Watches (T.after (T.Kept.setting turn.now.opening)) pass.old.number seat pass.old.seen
+        pass.new.seen }
+{
+    let held = take(turn, rt, pass);
+    give(turn, pass, held, true);
+}
+
+fn mark<T: Table>(table: &mut T, wanting: bool)
+    ensures setting { T.Seated.setting table.new ≡ T.Seated.setting table.old }
+    ensures entries { T.history table.new ≡ T.history table.old }
+{
+    if wanting {
+        table.run_dry();
+    }
+}

@@ -1,0 +1,26 @@
+//! The workers that play a seated game under a turn: one that serves a seat over a link, one that takes links, and one
+//! that tells the time.
+#![tactic(auto)]
+
+mod due;
+mod handle;
+mod hear;
+mod hold;
+mod leave;
+mod lost;
+mod play;
+mod room;
+mod serve;
+mod served;
+mod sit;
+mod step;
+mod table;
+mod ticker;
+
+pub use handle::{HandlerEnd, Session, handler};
+pub use lost::Lost;
+pub use room::Room;
+pub use serve::serve_seat;
+pub use served::{Ended, Served};
+pub use table::Table;
+pub use ticker::{Ticked, tick};

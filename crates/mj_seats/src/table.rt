@@ -1,0 +1,45 @@
+ghost use Rattle.std.specs.Prelude.{◌≡◌, ℕ, Bool, true};
+ghost use Rattle.mj_ports.specs.Entries.{author_of};
+
+use mj_links::Numbered;
+use mj_ports::{Entry, Seated};
+use turn_lock::Kept;
+
+/// A seated game under a turn, whose notes are its entries, with the faults that its host made, and a mark that memory
+/// was wanting.
+pub trait Table: Seated
+    + Kept<Setting = <Self as Seated>::Setting, Note = Entry<<Self as Seated>::Answer>> {
+    /// What a host fails with.
+    type Fault: Numbered;
+
+    // Whether a fault with this number is kept.
+    ghost lost: { Self → ℕ → Bool };
+
+    ghost is_dry: { Self → Bool };
+
+    /// Whether memory was wanting of some worker.
+    fn dry(&self) -> bool
+        ensures { result ≡ is_dry self.now };
+
+    /// Marks that memory was wanting.
+    fn run_dry(&mut self)
+        ensures setting { Self.Seated.setting self.new ≡ Self.Seated.setting self.old }
+        ensures history { Self.Seated.history self.new ≡ Self.Seated.history self.old }
+        ensures dry { is_dry self.new ≡ true };
+
+    /// Whether a fault with this number is kept.
+    fn has_lost(&self, number: u8) -> bool
+        ensures { result ≡ lost self.now number };
+
+    /// Keeps a fault.
+    fn lose(&mut self, fault: Self::Fault)
+        ensures setting { Self.Seated.setting self.new ≡ Self.Seated.setting self.old }
+        ensures history { Self.Seated.history self.new ≡ Self.Seated.history self.old };
+
+    // The notes are the entries.
+    ghost same_setting: { (t : Self) → Self.Kept.setting t ≡ Self.Seated.setting t };
+
+    ghost same_notes: { (t : Self) → Self.Kept.notes t ≡ Self.Seated.history t };
+
+    ghost same_author: { Self.Kept.author ≡ author_of };
+}

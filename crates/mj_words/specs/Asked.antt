@@ -1,0 +1,63 @@
+-- What words ask for.
+use Rattle.std.specs.Prelude.{ℕ, Bool, true, false, if◌then◌else◌, List, [], ◌∷◌, codes, bytes_eq, Option, Some, None, option_and_then}
+use Rattle.mj_bytes.specs.Numbers.{decimal_of}
+use Rattle.mj_words.specs.Lines.{referee_line, replay_line, hand_line, self_play_line, is_taken, value_in, values_in}
+
+-- The referee of a seat, the summary of a record, the lines of the hand that further words name, the self-played game of a
+-- number, or nothing that there is.
+pub data Asked : Type 0 where
+  RefereeOf : (seat : ℕ) → Asked
+  SummaryOfRecord : Asked
+  HandOf : (words : List (List ℕ)) → Asked
+  SelfPlayOf : (number : ℕ) → Asked
+  Nothing : Asked
+
+-- The seat that a word names.
+abbrev pub seat_named : List ℕ → Option ℕ
+seat_named word =
+    if bytes_eq word (codes "0") then Some 0 else
+    (if bytes_eq word (codes "1") then Some 1 else
+    (if bytes_eq word (codes "2") then Some 2 else
+    (if bytes_eq word (codes "3") then Some 3 else None)))
+
+-- Words whose first is `referee` ask for the referee of the seat that their value names.
+abbrev pub referee_by : Option ℕ → Asked
+referee_by None = Nothing
+referee_by (Some seat) = RefereeOf seat
+
+abbrev pub referee_asked : List (List ℕ) → Asked
+referee_asked words = referee_by (option_and_then seat_named (value_in referee_line (codes "seat") words))
+
+-- Those whose first is `replay` ask for the summary of a record.
+abbrev pub replay_by : Bool → Asked
+replay_by false = Nothing
+replay_by true = SummaryOfRecord
+
+abbrev pub replay_asked : List (List ℕ) → Asked
+replay_asked words = replay_by (is_taken replay_line words)
+
+-- Those whose first is `hand` ask for the lines of the hand that their values name.
+abbrev pub hand_by : Option (List (List ℕ)) → Asked
+hand_by None = Nothing
+hand_by (Some words) = HandOf words
+
+abbrev pub hand_asked : List (List ℕ) → Asked
+hand_asked words = hand_by (values_in hand_line (codes "words") words)
+
+-- Those whose first is `selfplay` ask for the game of the number that their value writes in decimal digits, below 2^64 and
+-- without a leading zero.
+abbrev pub self_play_by : Option ℕ → Asked
+self_play_by None = Nothing
+self_play_by (Some number) = SelfPlayOf number
+
+abbrev pub self_play_asked : List (List ℕ) → Asked
+self_play_asked words = self_play_by (option_and_then decimal_of (value_in self_play_line (codes "n") words))
+
+-- Other words ask for nothing, and so do words that clap refuses.
+abbrev pub asked_by : List (List ℕ) → Asked
+asked_by [] = Nothing
+asked_by (command ∷ words) =
+    if bytes_eq command (codes "referee") then referee_asked (command ∷ words) else
+    (if bytes_eq command (codes "replay") then replay_asked (command ∷ words) else
+    (if bytes_eq command (codes "hand") then hand_asked (command ∷ words) else
+    (if bytes_eq command (codes "selfplay") then self_play_asked (command ∷ words) else Nothing)))

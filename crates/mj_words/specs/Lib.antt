@@ -1,0 +1,5 @@
+pub mod Lines
+pub mod Asked
+pub mod Commands
+pub mod Laws
+pub mod Inner

@@ -1,0 +1,44 @@
+-- The command lines that clap reads: the first word is the command, and stands where clap has the name of a program; each has
+-- exactly the arguments that stand here, and each value is text.
+use Rattle.std.specs.Prelude.{ℕ, Bool, true, false, if◌then◌else◌, List, [], ◌∷◌, codes, Option, Some, None}
+use Rattle.clap.specs.Lexer.{usize_max}
+use Rattle.clap.specs.Words.{App, Kinds, Rule, all_of, fault_of, first_of, matches_of, new_app, new_rule, with_rule}
+
+-- An argument without a name before it, which must be there.
+abbrev pub wanted : List ℕ → Rule
+wanted name = record (new_rule name) { required = true }
+
+-- It has one value or more.
+abbrev pub wanted_often : List ℕ → Rule
+wanted_often name = record (wanted name) { range = Some (record { start_inclusive = 1; end_inclusive = usize_max }) }
+
+-- One seat.
+unfoldable pub referee_line : App
+referee_line = with_rule (new_app (codes "referee")) (wanted (codes "seat"))
+
+-- Nothing.
+unfoldable pub replay_line : App
+replay_line = new_app (codes "replay")
+
+-- One word or more.
+unfoldable pub hand_line : App
+hand_line = with_rule (new_app (codes "hand")) (wanted_often (codes "words"))
+
+-- One number.
+unfoldable pub self_play_line : App
+self_play_line = with_rule (new_app (codes "selfplay")) (wanted (codes "n"))
+
+-- Clap finds no fault in words; a request for help is one.
+abbrev pub are_none : Kinds → Bool
+are_none [] = true
+are_none (kind ∷ kinds) = false
+
+unfoldable pub is_taken : App → List (List ℕ) → Bool
+is_taken line words = are_none (fault_of line words)
+
+-- The value, or the values, of an argument, where it takes them.
+unfoldable pub value_in : App → List ℕ → List (List ℕ) → Option (List ℕ)
+value_in line name words = if is_taken line words then first_of name (matches_of line words) else None
+
+unfoldable pub values_in : App → List ℕ → List (List ℕ) → Option (List (List ℕ))
+values_in line name words = if is_taken line words then all_of name (matches_of line words) else None

@@ -1,0 +1,114 @@
+//! The command that words ask for.
+
+ghost use Rattle.std.specs.Prelude.{◌≡◌, map, IfOk};
+ghost use Rattle.std.specs.String.{string_bytes};
+ghost use Rattle.mj_words.specs.Asked.{asked_by, seat_named, referee_asked, replay_asked, hand_asked, self_play_asked};
+ghost use Rattle.mj_words.specs.Commands.{asked_by_command};
+
+use crate::parsing::{hand_words, number_word, seat_word, takes_replay};
+use mj_bytes::read_number;
+use std::alloc::{AllocError, Global};
+
+/// What words ask for.
+#[derive(Drop)]
+pub enum Command {
+    /// The referee of a seat, 0 to 3.
+    Referee(u8),
+    /// The summary of a record.
+    Replay,
+    /// The lines of the hand that these words name.
+    Hand(Vec<String>),
+    /// The self-played game of a number.
+    SelfPlay(u64),
+    /// Nothing that there is.
+    Unknown,
+}
+
+/// The command that words ask for, which leave out the program's name. The first is the command, and the others are read by
+/// clap: a seat behind `referee`, nothing behind `replay`, one word or more behind `hand`, and a number behind `selfplay`. The
+/// only error is want of memory.
+pub fn command_of(alloc: Global, words: &[String]) -> Result<Command, AllocError>
+    ensures { IfOk result (λ command. asked_by_command command
+        ≡ asked_by (map string_bytes words.now)) }
+{
+    let [first, ..] = words else {
+        return Ok(Command::Unknown);
+    };
+    let name = first.as_str();
+    if name == "referee" {
+        return referee_of(alloc, words);
+    }
+    if name == "replay" {
+        return replay_of(alloc, words);
+    }
+    if name == "hand" {
+        return hand_of(alloc, words);
+    }
+    if name == "selfplay" {
+        return self_play_of(alloc, words);
+    }
+    Ok(Command::Unknown)
+}
+
+// The referee of the seat that the words behind the first say.
+fn referee_of(alloc: Global, words: &[String]) -> Result<Command, AllocError>
+    ensures { IfOk result (λ command. asked_by_command command
+        ≡ referee_asked (map string_bytes words.now)) }
+{
+    let Some(word) = seat_word(alloc, words)? else {
+        return Ok(Command::Unknown);
+    };
+    match named_seat(word) {
+        Some(seat) => Ok(Command::Referee(seat)),
+        None => Ok(Command::Unknown),
+    }
+}
+
+// The summary of a record, where no words stand behind the first.
+fn replay_of(alloc: Global, words: &[String]) -> Result<Command, AllocError>
+    ensures { IfOk result (λ command. asked_by_command command
+        ≡ replay_asked (map string_bytes words.now)) }
+{
+    if takes_replay(alloc, words)? {
+        return Ok(Command::Replay);
+    }
+    Ok(Command::Unknown)
+}
+
+// The hand that the words behind the first name.
+fn hand_of(alloc: Global, words: &[String]) -> Result<Command, AllocError>
+    ensures { IfOk result (λ command. asked_by_command command
+        ≡ hand_asked (map string_bytes words.now)) }
+{
+    match hand_words(alloc, words)? {
+        Some(others) => Ok(Command::Hand(others)),
+        None => Ok(Command::Unknown),
+    }
+}
+
+// The self-played game of the number that the words behind the first say.
+fn self_play_of(alloc: Global, words: &[String]) -> Result<Command, AllocError>
+    ensures { IfOk result (λ command. asked_by_command command
+        ≡ self_play_asked (map string_bytes words.now)) }
+{
+    let Some(word) = number_word(alloc, words)? else {
+        return Ok(Command::Unknown);
+    };
+    match read_number(word.as_bytes()) {
+        Some(number) => Ok(Command::SelfPlay(number)),
+        None => Ok(Command::Unknown),
+    }
+}
+
+// The seat that a word names.
+fn named_seat(word: &str) -> Option<u8>
+    ensures { result ≡ seat_named word.now }
+{
+    match word {
+        "0" => Some(0),
+        "1" => Some(1),
+        "2" => Some(2),
+        "3" => Some(3),
+        _ => None,
+    }
+}

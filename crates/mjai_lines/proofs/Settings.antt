@@ -1,0 +1,60 @@
+-- Texts of three fields and of other numbers of fields, and tiles read field by field.
+use Rattle.std.proofs.Common.{◌≡◌, ℕ, List, [], ◌∷◌, ◌++◌, true, false, Bool, refl, sym, ◌∙◌, cond}
+use Rattle.std.specs.Prelude.{Option, Some, None, ◌==◌}
+use Rattle.mj_lists.proofs.Onto.{onto, onto-more, onto-nothing}
+use Rattle.mj_bytes.specs.Parts.{fields, onto_first}
+use Rattle.mj_tiles.specs.Faces.{face_of}
+use Rattle.mj_protocol.specs.Arrivals.{rules_of, tiles_in}
+use Rattle.mjai_lines.specs.Settings.{three_of}
+
+-- a text has at least one field
+has_first : (text : List ℕ) → fields text ≡ [] → ⊥
+has_first [] h = cc h
+has_first (b ∷ bs) h = either (b == 32) (fields bs) (has_first bs) h
+  where
+    either : (t : Bool) (others : List (List ℕ)) → (others ≡ [] → ⊥) → cond t ([] ∷ others) (onto_first b others) ≡ [] → ⊥
+    either true others g k = cc k
+    either false [] g k = g refl
+    either false (x ∷ xs) g k = cc k
+
+more : (a b c : List ℕ) (others : List (List ℕ)) → (others ≡ [] → ⊥) → three_of (a ∷ b ∷ c ∷ others) ≡ None
+more a b c [] g = absurd (g refl)
+more a b c (x ∷ xs) g = refl
+
+pub one_field : (text a : List ℕ) → fields text ≡ a ∷ [] → None ≡ three_of (fields text)
+one_field text a e = rw e
+
+pub two_fields : (text a rest b : List ℕ) → fields text ≡ a ∷ fields rest → fields rest ≡ b ∷ [] → None ≡ three_of (fields text)
+two_fields text a rest b e f = rw (e, f)
+
+pub all_three : (text a rest b last c : List ℕ) → fields text ≡ a ∷ fields rest → fields rest ≡ b ∷ fields last → fields last ≡ c ∷ [] → Some (a, b, c) ≡ three_of (fields text)
+all_three text a rest b last c e f g = rw (e, f, g)
+
+pub more_fields : (text a rest b last c behind : List ℕ) → fields text ≡ a ∷ fields rest → fields rest ≡ b ∷ fields last → fields last ≡ c ∷ fields behind → None ≡ three_of (fields text)
+more_fields text a rest b last c behind e f g = rw (e, f, g, more a b c (fields behind) (has_first behind))
+
+pub ruleset three_fields = (one_field, two_fields, all_three, more_fields)
+
+-- other numbers of fields say no rules
+pub rules_of_others : (texts : List (List ℕ)) → three_of texts ≡ None → rules_of texts ≡ None
+unfolding rules_of
+rules_of_others [] h = refl
+rules_of_others (a ∷ []) h = refl
+rules_of_others (a ∷ b ∷ []) h = refl
+rules_of_others (a ∷ b ∷ c ∷ []) h = cc h
+rules_of_others (a ∷ b ∷ c ∷ d ∷ ds) h = refl
+
+-- a tile more was read
+pub onto-step : (whole : Option (List ℕ)) (tiles rest field others : List ℕ) (tile : ℕ) → whole ≡ onto tiles (tiles_in (fields rest)) → fields rest ≡ field ∷ fields others → Some tile ≡ face_of field → whole ≡ onto (tiles ++ tile ∷ []) (tiles_in (fields others))
+onto-step whole tiles rest field others tile h e f =
+    let k = rw (e, ← f) at h in k ∙ onto-more tiles tile (tiles_in (fields others))
+
+-- the last tile was read
+pub onto-last : (whole : Option (List ℕ)) (tiles rest : List ℕ) (tile : ℕ) → whole ≡ onto tiles (tiles_in (fields rest)) → fields rest ≡ rest ∷ [] → Some tile ≡ face_of rest → Some (tiles ++ tile ∷ []) ≡ whole
+onto-last whole tiles rest tile h e f = let k = rw (e, ← f) at h in sym k
+
+-- a field names no tile
+pub onto-none : (whole : Option (List ℕ)) (tiles rest field : List ℕ) (others : List (List ℕ)) → whole ≡ onto tiles (tiles_in (fields rest)) → fields rest ≡ field ∷ others → None ≡ face_of field → None ≡ whole
+onto-none whole tiles rest field others h e f = let k = rw (e, ← f) at h in sym k
+
+pub ruleset reading = (onto-nothing, onto-step, onto-last, onto-none)

@@ -1,0 +1,30 @@
+-- Lines of players in their usual spelling: without spaces, and the fields in one order.
+use Rattle.std.specs.Prelude.{◌≡◌, ℕ, ◌+◌, ◌<◌, List, ◌∷◌, ◌++◌, codes, Bool, true, false}
+
+-- A text that begins with a seat, and what is behind it.
+pub record BeginsWithSeat (text : List ℕ) (seat : ℕ) (behind : List ℕ) : Type 0 where
+  pub within : seat < 4
+  pub parts : text ≡ (48 + seat) ∷ behind
+
+-- How a pass begins that names its actor.
+abbrev pub pass_front : List ℕ
+pass_front = codes "{\"type\":\"none\",\"actor\":"
+
+-- A pass that names its actor.
+unfoldable pub pass_text : ℕ → List ℕ
+pass_text actor = pass_front ++ (48 + actor) ∷ codes "}"
+
+-- How a discard begins, what stands between its actor and the text of its tile, and how it ends behind that text.
+abbrev pub discard_front : List ℕ
+discard_front = codes "{\"type\":\"dahai\",\"actor\":"
+
+abbrev pub tile_front : List ℕ
+tile_front = codes ",\"pai\":\""
+
+abbrev pub mark_text : Bool → List ℕ
+mark_text true = codes "\",\"tsumogiri\":true}"
+mark_text false = codes "\",\"tsumogiri\":false}"
+
+-- A discard by its actor, the text of its tile, and whether that is the drawn one.
+unfoldable pub discard_text : ℕ → List ℕ → Bool → List ℕ
+discard_text actor tile drawn = discard_front ++ (48 + actor) ∷ (tile_front ++ (tile ++ mark_text drawn))

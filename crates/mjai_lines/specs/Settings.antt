@@ -1,0 +1,13 @@
+-- Words of the readers of a header.
+use Rattle.std.specs.Prelude.{ℕ, ◌≤◌, List, [], ◌∷◌, Option, Some, None}
+use Rattle.mj_wall.specs.declared.setting.Rules.{Rules}
+
+-- Three fields, where there are three.
+abbrev pub three_of : List (List ℕ) → Option (List ℕ × List ℕ × List ℕ)
+three_of (first ∷ second ∷ third ∷ []) = Some (first, second, third)
+three_of fields = None
+
+-- The limit of a window is 1 to 3600000 milliseconds.
+pub record IsLimited (rules : Rules) : Type 0 where
+  pub least : 1 ≤ rules.limit
+  pub longest : rules.limit ≤ 3600000

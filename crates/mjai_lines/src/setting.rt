@@ -1,0 +1,85 @@
+//! What a header and a wall line say: the rules of a game, and tiles.
+
+ghost use Rattle.std.specs.Prelude.{◌≡◌, ◌≤◌, IfOk, IfSome, codes, option_and_then, option_map};
+ghost use Rattle.mj_bytes.specs.Numbers.{decimal_of};
+ghost use Rattle.mj_bytes.specs.Parts.{fields, behind};
+ghost use Rattle.mj_protocol.specs.Arrivals.{rules_of, tiles_in, limit_of, switch_of};
+ghost use Rattle.mjai_lines.specs.Settings.{three_of, IsLimited};
+
+use mj_bytes::{read_number, split_space, strip};
+use mj_tiles::Tile;
+use mj_wall::Rules;
+use std::alloc::{AllocError, Global};
+
+/// The rules that three fields say: the limit of a window in milliseconds, from 1 to 3600000, and the two switches of
+/// draws and of red fives; none where the text says no rules.
+#[tactic(auto, using(crate::proofs::Settings::rules_of_others), unfolding(mj_protocol::specs::Arrivals::rules_of))]
+pub fn read_rules(text: &[u8]) -> Option<Rules>
+    ensures rules { result ≡ rules_of (fields text.now) }
+    ensures limit { IfSome result IsLimited }
+{
+    let (limit, draws, red) = three_fields(text)?;
+    Some(Rules {
+        limit: read_limit(limit)?,
+        draws: read_switch(draws, b"draws=")?,
+        red: read_switch(red, b"red=")?,
+    })
+}
+
+/// The tiles that the fields of a text name; none where a field names no tile. The only error is want of memory.
+#[tactic(auto, using(crate::proofs::Settings::reading))]
+pub fn read_tiles(alloc: Global, text: &[u8]) -> Result<Option<Vec<Tile>>, AllocError>
+    ensures { IfOk result (λ tiles. option_map (λ t. t.items) tiles ≡ tiles_in (fields text.now)) }
+{
+    let mut tiles = Vec::new(alloc);
+    let mut rest = text;
+    while let Some((field, others)) = split_space(rest) {
+        let Some(tile) = Tile::read(field) else {
+            return Ok(None);
+        };
+        tiles.push(tile)?;
+        rest = others;
+    }
+    let Some(tile) = Tile::read(rest) else {
+        return Ok(None);
+    };
+    tiles.push(tile)?;
+    Ok(Some(tiles))
+}
+
+/// The fields of a text that has three; none where it has fewer or more.
+#[tactic(auto, using(crate::proofs::Settings::three_fields))]
+pub fn three_fields(text: &[u8]) -> Option<(&[u8], &[u8], &[u8])>
+    ensures { option_map (λ x. (x.0.now, x.1.now, x.2.now)) result ≡ three_of (fields text.now) }
+{
+    let (first, others) = split_space(text)?;
+    let (second, third) = split_space(others)?;
+    match split_space(third) {
+        Some(_) => None,
+        None => Some((first, second, third)),
+    }
+}
+
+// A limit of 1 to 3600000 milliseconds.
+fn read_limit(field: &[u8]) -> Option<u64>
+    ensures value { result ≡ option_and_then limit_of
+        (option_and_then decimal_of (behind (codes "limit=") field.now)) }
+    ensures bound { IfSome result (λ limit. (1 ≤ limit) × (limit ≤ 3600000)) }
+{
+    let limit = read_number(strip(field, b"limit=")?)?;
+    if (1..=3_600_000).contains(&limit) {
+        return Some(limit);
+    }
+    None
+}
+
+// A switch under a name, `0` or `1`.
+fn read_switch(field: &[u8], name: &[u8]) -> Option<bool>
+    ensures { result ≡ option_and_then switch_of (behind name.now field.now) }
+{
+    match strip(field, name)? {
+        b"0" => Some(false),
+        b"1" => Some(true),
+        _ => None,
+    }
+}

@@ -1,0 +1,66 @@
+// Answers in their usual spelling, which are read without JSON: a pass, and a discard that names its actor, the tile
+// and the mark in this order, each without spaces.
+ghost use Rattle.std.specs.Prelude.{◌≡◌, ◌++◌, IfSome};
+ghost use Rattle.mj_protocol.specs.AnswerForms.{answer_of};
+ghost use Rattle.mjai_lines.specs.Inner.Spellings.{BeginsWithSeat, mark_text};
+
+use crate::answer::pai_of;
+use mj_deeds::Answer;
+
+// The answer of a line in its usual spelling; none where it is spelled in another way.
+pub(crate) fn usual_answer(line: &[u8]) -> Option<Answer>
+    ensures { IfSome result (λ answer. answer ≡ answer_of line.now) }
+{
+    match usual_pass(line) {
+        Some(answer) => Some(answer),
+        None => usual_discard(line),
+    }
+}
+
+// The pass of a line in its usual spelling.
+fn usual_pass(line: &[u8]) -> Option<Answer>
+    ensures { IfSome result (λ answer. answer ≡ answer_of line.now) }
+{
+    if line == b"{\"type\":\"none\"}".as_slice() {
+        return Some(Answer::Pass { actor: None });
+    }
+    let rest = line.strip_prefix(b"{\"type\":\"none\",\"actor\":")?;
+    let (actor, rest) = seat_first(rest)?;
+    if rest == b"}".as_slice() {
+        return Some(Answer::Pass { actor: Some(actor) });
+    }
+    None
+}
+
+// The discard of a line in its usual spelling.
+fn usual_discard(line: &[u8]) -> Option<Answer>
+    ensures { IfSome result (λ answer. answer ≡ answer_of line.now) }
+{
+    let rest = line.strip_prefix(b"{\"type\":\"dahai\",\"actor\":")?;
+    let (actor, rest) = seat_first(rest)?;
+    let rest = rest.strip_prefix(b",\"pai\":\"")?;
+    let (text, drawn) = mark_last(rest)?;
+    let tile = pai_of(text)?;
+    Some(Answer::Discard { actor, tile, drawn })
+}
+
+// The seat that a text begins with, and the rest behind it.
+fn seat_first(text: &[u8]) -> Option<(u8, &[u8])>
+    ensures { IfSome result (λ x. BeginsWithSeat text.now x.0 x.1.now) }
+{
+    match text {
+        [digit @ b'0'..=b'3', rest @ ..] => Some((*digit - b'0', rest)),
+        _ => None,
+    }
+}
+
+// What stands before the mark that a discard ends with, and the mark: whether the tile is the drawn one.
+fn mark_last(text: &[u8]) -> Option<(&[u8], bool)>
+    ensures { IfSome result (λ x. text.now ≡ x.0.now ++ mark_text x.1) }
+{
+    if let Some(front) = text.strip_suffix(b"\",\"tsumogiri\":true}") {
+        return Some((front, true));
+    }
+    let front = text.strip_suffix(b"\",\"tsumogiri\":false}")?;
+    Some((front, false))
+}

@@ -1,0 +1,161 @@
+//! Hosts and clocks in memory.
+
+ghost use Rattle.std.specs.Prelude.{IfOk};
+ghost use Rattle.mj_links.specs.FreshLinks.{IsFreshLink};
+
+use mj_links::{
+    Came, Clock, Given, Got, Host, MemClock, MemFault, MemHost, MemLink, Numbered, Opened, Source,
+};
+use std::alloc::{AllocError, Global};
+use std::test::Fail;
+use std::thread::join;
+
+// A link from which this byte is read.
+fn link(alloc: Global, byte: u8) -> Result<MemLink, AllocError>
+    ensures { IfOk result IsFreshLink }
+{
+    let bytes = [byte].to_vec(alloc)?;
+    Ok(MemLink::new(bytes, Vec::new(alloc), Vec::new(alloc)))
+}
+
+// A host of two links, some of whose accepts fail.
+fn host(alloc: Global, open_fails: bool, accepts: &[u64]) -> Result<MemHost, AllocError> {
+    let mut links = Vec::new(alloc);
+    links.push(link(alloc, b'a')?)?;
+    links.push(link(alloc, b'b')?)?;
+    Ok(MemHost::new(links, open_fails, accepts.to_vec(alloc)?))
+}
+
+// What came on behalf of a worker: the first byte that is read from the link, or the number of the fault.
+#[derive(Clone, Copy, PartialEq, Eq)]
+enum Seen {
+    Link(u8),
+    Nothing,
+    Failed(u8),
+}
+
+fn what_came(came: Came<MemLink, MemFault>) -> Seen {
+    match came {
+        Came::Link(mut link) => {
+            let mut byte = [0];
+            match link.read(&mut byte) {
+                Got::Bytes(_) => Seen::Link(byte[0]),
+                Got::End | Got::Failed => Seen::Nothing,
+            }
+        }
+        Came::Nothing => Seen::Nothing,
+        Came::Failed(fault) => Seen::Failed(fault.by()),
+    }
+}
+
+#[test]
+fn links_come_in_their_order_and_planned_accepts_fail(rt: HostRuntime) -> Result<(), Fail> {
+    let alloc = rt.alloc();
+    for (accepts, wanted) in [
+        (
+            [].as_slice(),
+            [
+                Seen::Link(b'a'),
+                Seen::Link(b'b'),
+                Seen::Nothing,
+                Seen::Nothing,
+            ],
+        ),
+        (
+            [2].as_slice(),
+            [
+                Seen::Link(b'a'),
+                Seen::Failed(1),
+                Seen::Link(b'b'),
+                Seen::Nothing,
+            ],
+        ),
+        (
+            [1, 4].as_slice(),
+            [
+                Seen::Failed(0),
+                Seen::Link(b'a'),
+                Seen::Link(b'b'),
+                Seen::Failed(3),
+            ],
+        ),
+    ] {
+        let host = host(alloc, false, accepts)?;
+        for (by, wanted) in (0..4).zip(wanted) {
+            assert!(rt; what_came(host.accept(by)) == wanted);
+        }
+    }
+    Ok(())
+}
+
+// Whether two openings end so.
+fn open_two(host: &mut MemHost, fails: bool) -> bool {
+    let mut hold = true;
+    for port in [11600, 11601] {
+        let as_wanted = match host.open(port) {
+            Opened::Ready => !fails,
+            Opened::Failed(fault) => fails && fault.by() == 255,
+        };
+        hold = hold && as_wanted;
+    }
+    hold && host.ports() == [11600, 11601].as_slice()
+}
+
+#[test]
+fn ports_are_opened_or_not_as_planned(rt: HostRuntime) -> Result<(), Fail> {
+    let alloc = rt.alloc();
+    for fails in [false, true] {
+        let mut host = host(alloc, fails, &[])?;
+        assert!(rt; open_two(&mut host, fails));
+    }
+    Ok(())
+}
+
+#[test]
+fn links_given_back_keep_their_places(rt: HostRuntime) -> Result<(), Fail> {
+    let alloc = rt.alloc();
+    let mut host = host(alloc, false, &[])?;
+    for place in [7, 2] {
+        let Came::Link(link) = host.accept(0) else {
+            return Err("no link".into());
+        };
+        assert!(rt; host.give_back(link, place) == Given::Kept);
+    }
+    let returned = host.returned();
+    assert!(rt; returned.len() == 2 && returned[0].1 == 7 && returned[1].1 == 2);
+    Ok(())
+}
+
+// The links that come to a worker which asks four times.
+fn count_links<H: Host>(host: &H, by: u8) -> u32 {
+    let mut count = 0u32;
+    for _ in 0..4 {
+        if let Came::Link(_) = host.accept(by) {
+            count = count.saturating_add(1);
+        }
+    }
+    count
+}
+
+#[test]
+fn no_link_comes_twice_to_two_threads(rt: HostRuntime) -> Result<(), Fail> {
+    let host = host(rt.alloc(), false, &[])?;
+    let shared = &host;
+    let (left, right) = join(&rt, || count_links(shared, 0), || count_links(shared, 1));
+    assert!(rt; left.saturating_add(right) <= 2);
+    Ok(())
+}
+
+#[test]
+fn a_clock_in_memory_goes_on_by_its_step(rt: HostRuntime) {
+    for (first, step, wanted) in [
+        (5, 1000, [5, 1005, 2005]),
+        (7, 0, [7, 7, 7]),
+        (u64::MAX - 1, 3, [u64::MAX - 1, 1, 4]),
+    ] {
+        let mut clock = MemClock::new(first, step);
+        for reading in wanted {
+            assert!(rt; clock.now() == reading);
+        }
+    }
+}

@@ -1,0 +1,91 @@
+//! The real objects: a host that listens, links over TCP, and the machine's clock.
+
+use mj_links::{
+    Came, Clock, Host, LineRead, Link, MachineClock, Numbered, Opened, Sent, TcpHost, Wire,
+};
+use std::alloc::Global;
+use std::io;
+use std::io::{Read, Write};
+use std::net::{Ipv4Addr, Net, TcpStream};
+use std::test::Fail;
+use std::thread::join;
+
+// Opens the first of some ports that is free.
+fn open_some<H: Host>(host: &mut H) -> Option<u16> {
+    for port in 42_600..42_700 {
+        if let Opened::Ready = host.open(port) {
+            return Some(port);
+        }
+    }
+    None
+}
+
+// The link that comes within some seconds.
+fn await_link<H: Host>(host: &H) -> Option<H::Link> {
+    for _ in 0..500u32 {
+        if let Came::Link(link) = host.accept(0) {
+            return Some(link);
+        }
+    }
+    None
+}
+
+// Answers the one line that comes on the first link: whether all went well, and the input ended then.
+fn answer<H: Host>(alloc: Global, host: &H) -> bool {
+    let Some(link) = await_link(host) else {
+        return false;
+    };
+    let mut wire = Wire::new(link);
+    let mut line = Vec::new(alloc);
+    let read = wire.read_line(&mut line) == LineRead::Line
+        && line.as_slice() == b"chi".as_slice()
+        && wire.send(b"ron\n") == Sent::Whole
+        && wire.read_line(&mut line) == LineRead::Ended;
+    wire.into_link().shut();
+    read
+}
+
+// Says a line and the beginning of another to a port, and gives what is answered to the first.
+fn ask<R: Net<Stream = TcpStream>>(rt: &R, port: u16) -> io::Result<[u8; 4]> {
+    let mut stream = TcpStream::connect(rt, (Ipv4Addr::LOCALHOST, port))?;
+    stream.write_all(b"chi\np")?;
+    let mut answer = [0; 4];
+    stream.read_exact(&mut answer)?;
+    Ok(answer)
+}
+
+#[test]
+fn a_line_and_its_answer_go_over_tcp(rt: HostRuntime) -> Result<(), Fail> {
+    let alloc = rt.alloc();
+    let mut host = TcpHost::new(&rt);
+    let Some(port) = open_some(&mut host) else {
+        return Err("no port is free".into());
+    };
+    let shared = &host;
+    let (answered, told) = join(&rt, || answer(alloc, shared), || ask(&rt, port));
+    assert!(rt; answered && told? == *b"ron\n");
+    Ok(())
+}
+
+#[test]
+fn nothing_comes_to_a_host_that_is_not_open(rt: HostRuntime) -> Result<(), Fail> {
+    let mut open = TcpHost::new(&rt);
+    let Some(port) = open_some(&mut open) else {
+        return Err("no port is free".into());
+    };
+    let mut late = TcpHost::new(&rt);
+    let number = match late.open(port) {
+        Opened::Ready => None,
+        Opened::Failed(fault) => Some(fault.by()),
+    };
+    assert!(rt; number == Some(255) && matches!(&late.accept(1), Came::Nothing));
+    assert!(rt; matches!(&open.accept(1), Came::Nothing));
+    Ok(())
+}
+
+#[test]
+fn the_clock_of_the_machine_goes_on(rt: HostRuntime) {
+    let mut clock = MachineClock::new(&rt);
+    let first = clock.now();
+    assert!(rt; 0 < first && first.saturating_add(15) < clock.now());
+}

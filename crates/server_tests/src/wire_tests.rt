@@ -1,0 +1,184 @@
+//! Lines that come off a wire, and pieces that go onto it.
+
+use crate::slow::SlowLink;
+use mj_links::{LineRead, Link, MemLink, Sent, Wire};
+use std::alloc::{AllocError, Global};
+use std::test::Fail;
+
+// A link from which these bytes are read, one of whose reads fails.
+fn link(alloc: Global, bytes: &[u8], fails: u64) -> Result<MemLink, AllocError> {
+    let reads = [fails].to_vec(alloc)?;
+    Ok(MemLink::new(bytes.to_vec(alloc)?, reads, Vec::new(alloc)))
+}
+
+// Reads lines until one does not come, and puts what the line then is behind a text, with a bar behind each line that came.
+fn read_lines<L: Link>(
+    alloc: Global,
+    wire: &mut Wire<L>,
+    text: &mut Vec<u8>,
+) -> Result<LineRead, AllocError> {
+    let mut line = Vec::new(alloc);
+    for _ in 0..9u32 {
+        let read = wire.read_line(&mut line);
+        text.extend_from_slice(&line)?;
+        if read != LineRead::Line {
+            return Ok(read);
+        }
+        text.push(b'|')?;
+    }
+    Ok(LineRead::Line)
+}
+
+// Whether the lines of a wire are these, first up to such an end and then to the end of the input.
+fn reads<L: Link + Drop>(
+    alloc: Global,
+    link: L,
+    end: LineRead,
+    wanted: &[u8],
+) -> Result<bool, AllocError> {
+    let mut wire = Wire::new(link);
+    let mut text = Vec::new(alloc);
+    let first = read_lines(alloc, &mut wire, &mut text)?;
+    let second = read_lines(alloc, &mut wire, &mut text)?;
+    Ok(first == end && second == LineRead::Ended && text.as_slice() == wanted)
+}
+
+#[test]
+fn a_line_is_the_bytes_before_the_next_newline(rt: HostRuntime) -> Result<(), Fail> {
+    let alloc = rt.alloc();
+    for (bytes, fails, end, text) in [
+        (
+            b"chi\n\nron\r\n".as_slice(),
+            0,
+            LineRead::Ended,
+            b"chi||ron\r|ron\r".as_slice(),
+        ),
+        (
+            b"chi\npo".as_slice(),
+            0,
+            LineRead::Ended,
+            b"chi|chi".as_slice(),
+        ),
+        (
+            b"chi\npon\n".as_slice(),
+            1,
+            LineRead::Fault,
+            b"chi|pon|pon".as_slice(),
+        ),
+        (
+            b"chi\npon\n".as_slice(),
+            2,
+            LineRead::Fault,
+            b"chi|pon|pon".as_slice(),
+        ),
+    ] {
+        assert!(rt; reads(alloc, link(alloc, bytes, fails)?, end, text)?);
+    }
+    Ok(())
+}
+
+#[test]
+fn a_line_that_comes_a_byte_a_read_is_read_alike(rt: HostRuntime) -> Result<(), Fail> {
+    let alloc = rt.alloc();
+    for (bytes, fails, end, text) in [
+        (
+            b"chi\n\nron\r\n".as_slice(),
+            0,
+            LineRead::Ended,
+            b"chi||ron\r|ron\r".as_slice(),
+        ),
+        (
+            b"chi\npo".as_slice(),
+            0,
+            LineRead::Ended,
+            b"chi|chi".as_slice(),
+        ),
+        (
+            b"chi\npon\n".as_slice(),
+            7,
+            LineRead::Fault,
+            b"chi|chipon|pon".as_slice(),
+        ),
+    ] {
+        assert!(rt; reads(alloc, SlowLink(link(alloc, bytes, fails)?), end, text)?);
+    }
+    Ok(())
+}
+
+// So many bytes, and then some more.
+fn long(alloc: Global, count: usize, last: &[u8]) -> Result<Vec<u8>, AllocError> {
+    let mut bytes = Vec::new(alloc);
+    bytes.resize(count, b'1')?;
+    bytes.extend_from_slice(last)?;
+    Ok(bytes)
+}
+
+// How the first reading of these bytes ends, how the next one does, and how long the line then is.
+fn first_two<L: Link + Drop>(alloc: Global, link: L) -> (LineRead, LineRead, usize) {
+    let mut wire = Wire::new(link);
+    let mut line = Vec::new(alloc);
+    let first = wire.read_line(&mut line);
+    let second = wire.read_line(&mut line);
+    (first, second, line.len())
+}
+
+#[test]
+fn a_line_has_fewer_than_4096_bytes(rt: HostRuntime) -> Result<(), Fail> {
+    let alloc = rt.alloc();
+    for (count, last, ends) in [
+        (
+            4095,
+            b"\n".as_slice(),
+            (LineRead::Line, LineRead::Ended, 4095),
+        ),
+        (4095, b"", (LineRead::Ended, LineRead::Ended, 0)),
+        (4096, b"\n", (LineRead::TooLong, LineRead::TooLong, 0)),
+        (4096, b"", (LineRead::TooLong, LineRead::TooLong, 0)),
+    ] {
+        let bytes = long(alloc, count, last)?;
+        assert!(rt; first_two(alloc, link(alloc, bytes.as_slice(), 0)?) == ends);
+    }
+    Ok(())
+}
+
+// A link one of whose writes fails.
+fn mute(alloc: Global, fails: u64) -> Result<MemLink, AllocError> {
+    let writes = [fails].to_vec(alloc)?;
+    Ok(MemLink::new(Vec::new(alloc), Vec::new(alloc), writes))
+}
+
+// How the sending of two pieces ends, and the link.
+fn send_two<L: Link>(link: L) -> (Sent, Sent, L) {
+    let mut wire = Wire::new(link);
+    let first = wire.send(b"chi");
+    let second = wire.send(b"ron");
+    (first, second, wire.into_link())
+}
+
+#[test]
+fn a_piece_is_sent_whole_or_up_to_a_fault(rt: HostRuntime) -> Result<(), Fail> {
+    let alloc = rt.alloc();
+    for (fails, first, second, text) in [
+        (0, Sent::Whole, Sent::Whole, b"chiron".as_slice()),
+        (1, Sent::Failed, Sent::Whole, b"ron".as_slice()),
+        (2, Sent::Whole, Sent::Failed, b"chi".as_slice()),
+    ] {
+        let sent = send_two(mute(alloc, fails)?);
+        assert!(rt; sent.0 == first && sent.1 == second && sent.2.written() == text);
+    }
+    Ok(())
+}
+
+#[test]
+fn a_piece_goes_on_where_the_last_write_ended(rt: HostRuntime) -> Result<(), Fail> {
+    let alloc = rt.alloc();
+    for (fails, first, second, text) in [
+        (0, Sent::Whole, Sent::Whole, b"chiron".as_slice()),
+        (3, Sent::Failed, Sent::Whole, b"chron".as_slice()),
+        (6, Sent::Whole, Sent::Failed, b"chiro".as_slice()),
+    ] {
+        let sent = send_two(SlowLink(mute(alloc, fails)?));
+        assert!(rt; sent.0 == first && sent.1 == second && sent.2.0.written() == text);
+    }
+    Ok(())
+}
