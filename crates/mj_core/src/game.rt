@@ -57,12 +57,21 @@ impl Core {
         ensures { IfOk result (λ core. core
             ≡ record { setting = record { walls = walls.items; rules = rules }; entries = [] }) }
     {
-        let setting = Setting {
-            walls: Walls::from_vec(walls),
-            rules,
-        };
+        Core::with_walls(alloc, Walls::from_vec(walls), rules)
+    }
+
+    /// The same with a list of walls.
+    pub fn with_walls(alloc: Global, walls: Walls, rules: Rules) -> Result<Core, AllocError>
+        requires some { 1 ≤ length walls }
+        requires few { length walls ≤ 200 }
+        requires whole { IsTrue (list_all (is_wall rules.red) walls) }
+        requires shortest { 1 ≤ rules.limit }
+        requires longest { rules.limit ≤ 3600000 }
+        ensures { IfOk result (λ core. core
+            ≡ record { setting = record { walls = walls; rules = rules }; entries = [] }) }
+    {
         Ok(Core {
-            setting,
+            setting: Setting { walls, rules },
             entries: Vec::new(alloc),
             state: State::new(alloc, rules)?,
         })

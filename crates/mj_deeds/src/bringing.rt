@@ -38,8 +38,9 @@ fn number_brought(deeds: &[Deed], kind: u8) -> usize
     number
 }
 
-// How many tiles of a kind a deed brings into a hand; a number too large for a usize counts as the largest.
-fn brought(deed: &Deed, kind: u8) -> usize
+/// How many tiles of a kind a deed brings into a hand: those that are dealt and drawn, and the indicators. A number too
+/// large for a usize counts as the largest.
+pub fn brought(deed: &Deed, kind: u8) -> usize
     ensures { result ≡ min (number_of (brought_by deed.now) kind) (2 ^ 64 - 1) }
 {
     match deed {

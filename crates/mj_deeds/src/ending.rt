@@ -57,12 +57,16 @@ fn drawn_end(deed: &Deed, dealer: u8) -> Option<HandEnd>
     ensures { option_to_list result ≡ draws_by dealer deed.now }
 {
     match deed {
-        Deed::DrawnHand { reason, ready, .. } => Some(end_by_reason(
-            *reason,
-            is_ready(*ready, dealer),
-        )),
+        Deed::DrawnHand { reason, ready, .. } => Some(end_by_draw(*reason, *ready, dealer)),
         _ => None,
     }
+}
+
+/// How a draw for a reason ends a hand, of which the ready seats and the dealer are given.
+pub fn end_by_draw(reason: Reason, ready: [bool; 4], dealer: u8) -> HandEnd
+    ensures { result ≡ drawn_by_reason reason (slice_index_or ready dealer false) }
+{
+    end_by_reason(reason, is_ready(ready, dealer))
 }
 
 // Whether a seat is marked as ready; no other than 0 to 3 is.

@@ -9,11 +9,12 @@ use crate::bid::Bid;
 use crate::bringing::keeps_kinds;
 use crate::course::{is_kan, kans, live_left};
 use crate::deed::Deed;
+use crate::ending::hand_end;
 use crate::facts::held_count;
 use crate::hand::before_in;
 use crate::hands::Hands;
 use crate::meld::{has_triplet, made};
-use crate::placing::is_in_place;
+use crate::placing::{is_in_place, taken_from};
 use crate::points::has_points;
 use crate::riichi::is_in_riichi;
 use crate::shown_hands::ShownHands;
@@ -45,7 +46,9 @@ pub fn fits(
           deposits = deposits;
         }) deed.now }
 {
-    is_in_place(newest, hand, standing, deposits, deed)
+    let taken = taken_from(hand, newest);
+    let end = hand_end(hand, standing.dealer);
+    is_in_place(newest, taken, end, standing, deposits, deed)
         && fits_in(red, before_in(hand, deed), deed)
         && has_points(points, deed)
 }
@@ -65,8 +68,8 @@ fn fits_in(red: bool, hand: &[Deed], deed: &Deed) -> bool
         && is_first_riichi(hand, deed)
 }
 
-// Whether every seat that stands in a deed is 0 to 3.
-fn has_seats(deed: &Deed) -> bool
+/// Whether every seat that stands in a deed is 0 to 3.
+pub fn has_seats(deed: &Deed) -> bool
     ensures { result ≡ has_seats deed.now }
 {
     match deed {
@@ -208,8 +211,8 @@ fn adds_to_pon(deeds: &[Deed], deed: &Deed) -> bool
     }
 }
 
-// Whether no red five stands in a deed of a game without them.
-fn has_tiles(red: bool, deed: &Deed) -> bool
+/// Whether no red five stands in a deed of a game without them.
+pub fn has_tiles(red: bool, deed: &Deed) -> bool
     ensures { result ≡ has_tiles red deed.now }
 {
     if red {

@@ -1,4 +1,4 @@
-ghost use Rattle.std.specs.Prelude.{◌≡◌, IfOk, option_to_list, flat_map, slice_get};
+ghost use Rattle.std.specs.Prelude.{◌≡◌, ◌∷◌, [], IfOk, option_to_list, flat_map, slice_get};
 ghost use Rattle.std.specs.List.{list_any};
 ghost use Rattle.mj_deeds.specs.Facts.{seat_melds, makes_by, adds_by, with_added, is_pon, meld_of_three, meld_of_four};
 ghost use Rattle.mj_deeds.specs.Fits.{is_triplet_of};
@@ -52,8 +52,9 @@ pub fn has_triplet(deeds: &[Deed], seat: u8, tile: Tile, a: Tile, b: Tile, c: Ti
     false
 }
 
-// The meld is a pon of these tiles, of the kind of the tile.
-fn is_triplet_of(meld: Meld, tile: Tile, a: Tile, b: Tile, c: Tile) -> bool
+/// Whether a meld is a pon that no tile was added to, of the tiles `a`, `b` and `c` in tile order, and of the kind of the
+/// tile.
+pub fn is_triplet_of(meld: Meld, tile: Tile, a: Tile, b: Tile, c: Tile) -> bool
     ensures { result ≡ is_triplet_of tile a b c meld }
 {
     is_pon(meld.form)
@@ -69,8 +70,8 @@ fn is_pon(form: Form) -> bool
     matches!(form, Form::Pon)
 }
 
-// The meld that a seat makes by a deed, other than a tile added to one.
-pub(crate) fn made(deed: &Deed, seat: u8) -> Option<Meld>
+/// The meld that a seat makes by a deed, other than a tile added to one; none where it makes none.
+pub fn made(deed: &Deed, seat: u8) -> Option<Meld>
     ensures { option_to_list result ≡ makes_by seat deed.now }
 {
     match deed {
@@ -107,8 +108,8 @@ pub(crate) fn made(deed: &Deed, seat: u8) -> Option<Meld>
     }
 }
 
-// The tile that a seat adds to a pon by a deed.
-fn added(deed: &Deed, seat: u8) -> Option<Tile>
+/// The tile that a seat adds to a pon by a deed; none where it adds none.
+pub fn added(deed: &Deed, seat: u8) -> Option<Tile>
     ensures { option_to_list result ≡ adds_by seat deed.now }
 {
     match deed {
@@ -119,6 +120,17 @@ fn added(deed: &Deed, seat: u8) -> Option<Tile>
         } if *who == seat => Some(*tile),
         _ => None,
     }
+}
+
+/// What a meld becomes by a tile that its seat adds: an added kan, where it is a pon of the kind of the tile.
+#[tactic(auto, unfolding(crate::specs::Facts::with_added))]
+pub fn with_one_added(meld: Meld, tile: Tile) -> Meld
+    ensures { result ≡ with_added meld (tile ∷ []) }
+{
+    if is_pon(meld.form) && tile.kind().number() == meld.a.kind().number() {
+        return meld_of_four(Form::AddedKan, tile, meld.a, meld.b, meld.c);
+    }
+    meld
 }
 
 // What a meld of a seat has become: an added kan, where it is a pon and the fourth tile was added.

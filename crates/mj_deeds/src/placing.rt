@@ -1,30 +1,33 @@
 ghost use Rattle.std.specs.Prelude.{◌≡◌, if◌then◌else◌, false, List, ℤ, option_copied};
 ghost use Rattle.std.specs.Option.{option_map_or};
-ghost use Rattle.mj_deeds.specs.Ends.{standing_after};
+ghost use Rattle.mj_deeds.specs.declared.deed.Deed.{Deed};
+ghost use Rattle.mj_deeds.specs.Ends.{standing_after, end_of};
 ghost use Rattle.mj_deeds.specs.Facts.{before_newest};
 ghost use Rattle.mj_deeds.specs.Fits.{is_in_place, is_in_hand, is_after_start, is_after_dora, is_after_kan, is_after_result, is_after_hand, is_discard_of, taken_from, starts_hand, starts_with};
 ghost use Rattle.mj_rounds.specs.Rounds.{first_standing, next_standing, stays, is_draw, honba_after, dealer_after, is_last, round_is_over};
 
 use crate::course::is_kan;
 use crate::deed::Deed;
-use crate::ending::hand_end;
 use crate::four::next_seat;
 use mj_rounds::{HandEnd, Standing, first};
 use mj_tiles::Tile;
 
-// Whether a deed stands in its place behind the newest one and the deeds of its hand, of which the standing is given and
-// the deposits on the table.
-pub(crate) fn is_in_place(
+/// Whether a deed stands in its place behind the newest one and the deeds of its hand, of which the discard that may be
+/// taken is given, how the hand ended as far as it has, its standing and the deposits on the table.
+pub fn is_in_place(
     newest: Option<&Deed>,
-    hand: &[Deed],
+    taken: Option<&Deed>,
+    end: HandEnd,
     standing: &Standing,
     deposits: u32,
     deed: &Deed,
 ) -> bool
-    ensures { (points : List ℤ) → result
+    ensures { (hand : List Deed) → (points : List ℤ)
+        → option_copied taken.entry ≡ taken_from hand (option_copied newest.entry)
+        → end ≡ end_of hand standing.now.dealer → result
         ≡ is_in_place (record {
           newest = option_copied newest.entry;
-          hand = hand.now;
+          hand = hand;
           standing =
               standing.now;
           points = points;
@@ -33,17 +36,15 @@ pub(crate) fn is_in_place(
 {
     match deed {
         Deed::StartGame { .. } => newest.is_none(),
-        Deed::StartHand { .. } => starts_hand(newest, hand, standing, deposits, deed),
+        Deed::StartHand { .. } => starts_hand(newest, end, standing, deposits, deed),
         Deed::Draw { replacement, .. } if *replacement => {
             is_in_hand(newest) && is_after_dora(newest)
         }
         Deed::Draw { .. } => is_in_hand(newest) && !is_after_dora(newest),
         Deed::Discard { .. } => is_in_hand(newest),
-        Deed::Chi { target, tile, .. } => is_discard_of(taken_from(hand, newest), *target, *tile),
-        Deed::Pon { target, tile, .. } => is_discard_of(taken_from(hand, newest), *target, *tile),
-        Deed::OpenKan { target, tile, .. } => {
-            is_discard_of(taken_from(hand, newest), *target, *tile)
-        }
+        Deed::Chi { target, tile, .. } => is_discard_of(taken, *target, *tile),
+        Deed::Pon { target, tile, .. } => is_discard_of(taken, *target, *tile),
+        Deed::OpenKan { target, tile, .. } => is_discard_of(taken, *target, *tile),
         Deed::ClosedKan { .. } => is_in_hand(newest),
         Deed::AddedKan { .. } => is_in_hand(newest),
         Deed::Dora { .. } => is_after_kan(newest),
@@ -59,15 +60,15 @@ pub(crate) fn is_in_place(
 // Whether a deed starts the hand that comes next.
 fn starts_hand(
     newest: Option<&Deed>,
-    hand: &[Deed],
+    end: HandEnd,
     standing: &Standing,
     deposits: u32,
     deed: &Deed,
 ) -> bool
-    ensures { (points : List ℤ) → result
+    ensures { (hand : List Deed) → (points : List ℤ) → end ≡ end_of hand standing.now.dealer → result
         ≡ starts_hand (record {
           newest = option_copied newest.entry;
-          hand = hand.now;
+          hand = hand;
           standing =
               standing.now;
           points = points;
@@ -77,7 +78,7 @@ fn starts_hand(
     if is_after_start(newest) {
         return starts_with(&first(), 0, deed);
     }
-    is_after_hand(newest) && starts_after(standing, hand_end(hand, standing.dealer), deposits, deed)
+    is_after_hand(newest) && starts_after(standing, end, deposits, deed)
 }
 
 // Whether a deed starts a hand with this standing and so many deposits.
@@ -238,7 +239,7 @@ fn is_after_hand(newest: Option<&Deed>) -> bool
 }
 
 // The discard that may be taken: the newest deed, or the one before it where the newest is a reach that was accepted.
-fn taken_from<'a>(hand: &'a [Deed], newest: Option<&'a Deed>) -> Option<&'a Deed>
+pub(crate) fn taken_from<'a>(hand: &'a [Deed], newest: Option<&'a Deed>) -> Option<&'a Deed>
     ensures { option_copied result ≡ taken_from hand.now (option_copied newest.entry) }
 {
     match newest {

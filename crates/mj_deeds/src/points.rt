@@ -8,8 +8,8 @@ use crate::deed::Deed;
 // The greatest number of points that a deed can say, above zero and below.
 const MOST: i64 = 100_000_000;
 
-// Whether a deed says the points that stand after it, of those before it, and none greater than a game can have.
-pub(crate) fn has_points(before: [i32; 4], deed: &Deed) -> bool
+/// Whether a deed says the points that stand after it, of those before it, and none greater than a game can have.
+pub fn has_points(before: [i32; 4], deed: &Deed) -> bool
     ensures { result ≡ has_points before deed.now }
 {
     match deed {

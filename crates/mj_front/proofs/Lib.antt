@@ -8,3 +8,5 @@ pub mod WallLaws
 pub mod RunLaws
 pub mod WordLaws
 pub mod ReplayLaws
+pub mod ServeLaws
+pub mod WaitLaws

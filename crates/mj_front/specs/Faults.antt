@@ -12,6 +12,7 @@ CountsReadFaults statuses.WriteFault old new = old ≤ new
 CountsReadFaults statuses.NoMemory old new = old ≤ new
 CountsReadFaults (statuses.BadArrival line) old new = old ≤ new
 CountsReadFaults (statuses.BadRecord line cause) old new = old ≤ new
+CountsReadFaults statuses.HostFault old new = old ≡ new
 CountsReadFaults statuses.TooLong old new = old ≤ new
 
 -- The count of write faults never falls, and rises where the status says so.
@@ -23,4 +24,5 @@ CountsWriteFaults statuses.WriteFault old new = old < new
 CountsWriteFaults statuses.NoMemory old new = old ≡ new
 CountsWriteFaults (statuses.BadArrival line) old new = old ≤ new
 CountsWriteFaults (statuses.BadRecord line cause) old new = old ≡ new
+CountsWriteFaults statuses.HostFault old new = old ≤ new
 CountsWriteFaults statuses.TooLong old new = old ≡ new

@@ -4,3 +4,4 @@ pub mod Forms
 pub mod Hearing
 pub mod Refereeing
 pub mod Replaying
+pub mod Serving

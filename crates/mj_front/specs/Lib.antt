@@ -3,6 +3,7 @@ pub mod Referee
 pub mod Replay
 pub mod Hand
 pub mod SelfPlay
+pub mod Serve
 pub mod Statuses
 pub mod Faults
 pub mod Run

@@ -1,14 +1,15 @@
 -- What a run does by what its words ask for.
-use Rattle.std.specs.Prelude.{◌≡◌, ℕ, ◌≤◌, List, Option}
+use Rattle.std.specs.Prelude.{◌≡◌, ℕ, ◌≤◌, Bool, false, List, [], ◌∷◌, codes, bytes_eq, Option}
 use Rattle.std.specs.Io.KnownBytes.{Keeps}
-pub use Rattle.mj_words.specs.Asked.{Asked, RefereeOf, SummaryOfRecord, HandOf, SelfPlayOf, Nothing, asked_by}
+pub use Rattle.mj_words.specs.Asked.{Asked, ServedWith, RefereeOf, ServingOf, SummaryOfRecord, HandOf, SelfPlayOf, Nothing, asked_by}
 use Rattle.mj_front.specs.declared.hand.HandEnd.{HandEnd}
 use Rattle.mj_front.specs.declared.referee.RefereeEnd.{RefereeEnd}
 use Rattle.mj_front.specs.declared.replay.ReplayEnd.{ReplayEnd}
 use Rattle.mj_front.specs.declared.self_game.SelfPlayEnd.{SelfPlayEnd}
+use Rattle.mj_front.specs.declared.serve.ServeEnd.{ServeEnd}
 use Rattle.mj_front.specs.declared.status.Status.{Status}
 use Rattle.mj_front.specs.declared.status.Status.TheVariants as statuses
-use Rattle.mj_front.specs.Statuses.{referee_status, replay_status, hand_status, self_play_status}
+use Rattle.mj_front.specs.Statuses.{referee_status, serve_status, replay_status, hand_status, self_play_status}
 use Rattle.mj_front.specs.Referee.{Referees}
 use Rattle.mj_front.specs.Replay.{Replays}
 use Rattle.mj_front.specs.Hand.{WritesHand}
@@ -52,10 +53,28 @@ pub record RunsSelfPlay (status : Status) (number : ℕ) (old_left new_left old_
   pub unread : Keeps old_left new_left
   pub does : WritesSelfPlay end number old_written new_written
 
--- What a run does, by what its words ask for.
+-- A game was served, which gives the status by its end, and nothing is read. What was served stands under `does`.
+pub record RunsServe (Does : ServeEnd → Type 0) (status : Status) (old_left new_left : Option (List ℕ)) : Type 0 where
+  pub end : ServeEnd
+  pub gives : status ≡ serve_status end
+  pub unread : Keeps old_left new_left
+  pub does : Does end
+
+-- The first word is that of a command that waits for others.
+abbrev pub is_waiting : List (List ℕ) → Bool
+is_waiting [] = false
+is_waiting (command ∷ words) = bytes_eq command (codes "serve")
+
+-- No game is to be served.
+abbrev pub IsAlone : Asked → Type 0
+IsAlone (ServingOf s) = ⊥
+IsAlone asked = Unit {0}
+
+-- What a run does that waits for nobody, by what its words ask for.
 abbrev pub Runs : Asked → Status → Option (List ℕ) → Option (List ℕ) → Option (List ℕ) → Option (List ℕ) → Type 0
 Runs Nothing status old_left new_left old_written new_written = IsUnheard status old_left new_left old_written new_written
 Runs (RefereeOf seat) status old_left new_left old_written new_written = RunsReferee status seat old_left new_left old_written new_written
+Runs (ServingOf s) status old_left new_left old_written new_written = ⊥
 Runs SummaryOfRecord status old_left new_left old_written new_written = RunsReplay status old_left new_left old_written new_written
 Runs (HandOf words) status old_left new_left old_written new_written = RunsHand status words old_left new_left old_written new_written
 Runs (SelfPlayOf number) status old_left new_left old_written new_written = RunsSelfPlay status number old_left new_left old_written new_written
@@ -64,6 +83,17 @@ Runs (SelfPlayOf number) status old_left new_left old_written new_written = Runs
 abbrev pub MeetsReadFaults : Asked → ℕ → ℕ → Type 0
 MeetsReadFaults Nothing old new = old ≡ new
 MeetsReadFaults (RefereeOf seat) old new = old ≤ new
+MeetsReadFaults (ServingOf s) old new = old ≡ new
 MeetsReadFaults SummaryOfRecord old new = old ≤ new
 MeetsReadFaults (HandOf words) old new = old ≡ new
 MeetsReadFaults (SelfPlayOf number) old new = old ≡ new
+
+-- What any run does: a game that is served goes by `Does`, and all else as where nobody is waited for.
+abbrev pub RunsAny : (ServeEnd → ServedWith → Type 0) → Asked → Status → Option (List ℕ) → Option (List ℕ) → Option (List ℕ) → Option (List ℕ) → Type 0
+RunsAny Does (ServingOf s) status old_left new_left old_written new_written = RunsServe (λ end. Does end s) status old_left new_left
+RunsAny Does asked status old_left new_left old_written new_written = Runs asked status old_left new_left old_written new_written
+
+-- A run that serves no game leaves the host and the clock as they were.
+abbrev pub LeavesAlone : Asked → Type 0 → Type 0
+LeavesAlone (ServingOf s) Same = Unit {0}
+LeavesAlone asked Same = Same

@@ -13,6 +13,8 @@ use Rattle.mj_front.specs.declared.replay.ReplayEnd.{ReplayEnd}
 use Rattle.mj_front.specs.declared.replay.ReplayEnd.TheVariants as replays
 use Rattle.mj_front.specs.declared.self_game.SelfPlayEnd.{SelfPlayEnd}
 use Rattle.mj_front.specs.declared.self_game.SelfPlayEnd.TheVariants as games
+use Rattle.mj_front.specs.declared.serve.ServeEnd.{ServeEnd}
+use Rattle.mj_front.specs.declared.serve.ServeEnd.TheVariants as serving
 use Rattle.mj_front.specs.declared.status.Status.{Status}
 use Rattle.mj_front.specs.declared.status.Status.TheVariants as statuses
 
@@ -47,6 +49,14 @@ self_play_status games.Written = statuses.Done
 self_play_status games.WriteFault = statuses.WriteFault
 self_play_status games.NoMemory = statuses.NoMemory
 
+-- The status that the end of the command `serve` gives.
+abbrev pub serve_status : ServeEnd → Status
+serve_status serving.Over = statuses.Done
+serve_status serving.HostLost = statuses.HostFault
+serve_status serving.NotOpened = statuses.HostFault
+serve_status serving.WriteFault = statuses.WriteFault
+serve_status serving.NoMemory = statuses.NoMemory
+
 -- The exit code; 0 for success alone.
 abbrev pub code_of : Status → ℕ
 code_of statuses.Done = 0
@@ -56,6 +66,7 @@ code_of statuses.WriteFault = 4
 code_of statuses.NoMemory = 5
 code_of (statuses.BadArrival line) = 6
 code_of (statuses.BadRecord line cause) = 7
+code_of statuses.HostFault = 8
 code_of statuses.TooLong = 9
 
 -- How the program is called.
@@ -87,4 +98,5 @@ status_words statuses.WriteFault = codes "write fault\n"
 status_words statuses.NoMemory = codes "no memory\n"
 status_words (statuses.BadArrival line) = at_line (codes "bad arrival") line
 status_words (statuses.BadRecord line cause) = bad_record line cause
+status_words statuses.HostFault = codes "host fault\n"
 status_words statuses.TooLong = codes "input too long\n"

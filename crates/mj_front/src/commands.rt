@@ -1,24 +1,81 @@
-//! The top call: one run of a command that waits for nobody.
+//! The top calls: one run of any command, and one of a command that waits for nobody.
 
-ghost use Rattle.std.specs.Prelude.{◌≡◌, map};
+ghost use Rattle.std.specs.Prelude.{◌≡◌, false, map};
 ghost use Rattle.std.specs.String.{string_bytes};
 ghost use Rattle.mj_words.specs.Asked.{asked_by};
 ghost use Rattle.mj_words.specs.Commands.{asked_by_command};
-ghost use Rattle.mj_front.specs.Run.{Runs, MeetsReadFaults};
+ghost use Rattle.mj_front.specs.Run.{Runs, RunsAny, MeetsReadFaults, LeavesAlone, is_waiting, IsAlone};
+ghost use Rattle.mj_front.specs.Serve.{Serves};
 ghost use Rattle.mj_front.specs.Faults.{CountsReadFaults, CountsWriteFaults};
 
 use crate::hand::write_hand;
 use crate::referee::referee_of;
 use crate::replay::replay_of;
 use crate::self_game::write_self_play;
+use crate::serve::serve;
 use crate::status::{
     Status, status_of_hand, status_of_referee, status_of_replay, status_of_self_play,
+    status_of_serve,
 };
-use mj_links::{Sink, Source};
-use mj_words::{Command, command_of};
+use mj_links::{Clock, Host, Sink, Source};
+use mj_words::{Command, command_of, serving_of};
 use std::alloc::Global;
+use std::sync::Wait;
+use std::thread::Threads;
 
-/// Runs the command that the words ask for, which leave out the program's name. What ends the run otherwise than well, the
+/// Runs the command that the words ask for, which leave out the program's name. It is `run_alone` for every command that waits
+/// for nobody, and for words that ask for nothing.
+///
+/// `serve --seed HEX`, with 64 hex digits, plays one game with the 200 walls that the seed shuffles over the host: it opens the
+/// port that `--port` says, 1 to 65535 and else 11600, takes links, and gives each that asks for a seat one as the table of sitting
+/// says. Each window closes by its answers or once `--limit`, 1 to 3600000 and else 10000 milliseconds, has run out. `--draws` puts
+/// the draw reasons in force. Once the game is over, or the host has failed each handler, the links of all connections are given
+/// back to the host, each with the place of its connection among the entries, and the record is written. The source is left as it
+/// was. It may wait for others for ever.
+#[tactic(auto, using(crate::proofs::WaitLaws::any_of, crate::proofs::WaitLaws::left_alone, crate::proofs::WordLaws::unread))]
+pub fn run<S: Source, K: Sink, H: Host, C: Clock, R: Threads + Wait + Sync>(
+    rt: &R,
+    alloc: Global,
+    words: &[String],
+    source: &mut S,
+    sink: &mut K,
+    host: &mut H,
+    clock: &mut C,
+) -> Status
+    ensures run { RunsAny (λ end s. Serves H.Link.was_read H.Link.left H.Link.written
+        H.Link.read_faults H.Link.write_faults (H.made_by host.new) H.Fault.number end s
+        (H.ports host.old) (H.ports host.new) (H.returned host.old) (H.returned host.new)
+        (C.readings clock.old) (C.readings clock.new) (K.written sink.old) (K.written sink.new))
+        (asked_by (map string_bytes words.now)) result (S.left source.old) (S.left source.new)
+        (K.written sink.old) (K.written sink.new) }
+    ensures reads { CountsReadFaults result (S.read_faults source.old) (S.read_faults source.new) }
+    ensures unread { MeetsReadFaults (asked_by (map string_bytes words.now))
+        (S.read_faults source.old) (S.read_faults source.new) }
+    ensures writes { CountsWriteFaults result (K.write_faults sink.old) (K.write_faults sink.new) }
+    ensures host { LeavesAlone (asked_by (map string_bytes words.now)) (host.new ≡ host.old) }
+    ensures clock { LeavesAlone (asked_by (map string_bytes words.now)) (clock.new ≡ clock.old) }
+{
+    if !is_for_waiting(words) {
+        return run_alone(alloc, words, source, sink);
+    }
+    match serving_of(alloc, words) {
+        Ok(Some(serving)) => status_of_serve(serve(rt, alloc, &serving, sink, host, clock)),
+        Ok(None) => Status::Words,
+        Err(_) => Status::NoMemory,
+    }
+}
+
+/// Whether the first word is that of a command that waits for others: `serve`.
+pub fn is_for_waiting(words: &[String]) -> bool
+    ensures { result ≡ is_waiting (map string_bytes words.now) }
+{
+    match words {
+        [first, ..] => first.as_str() == "serve",
+        [] => false,
+    }
+}
+
+/// Runs the command that the words ask for, which leave out the program's name, where it waits for nobody. What ends the run otherwise than well, the
 /// status says. Words that ask for no command, or that clap refuses, change nothing.
 ///
 /// `referee SEAT`, with a seat from `0` to `3`, reads the arrivals of a game to their end and then writes what the game tells
@@ -32,13 +89,14 @@ use std::alloc::Global;
 ///
 /// `selfplay N`, with a decimal number below 2^64 without a leading zero, plays a whole game of four built-in players with the
 /// 200 walls that the number shuffles, and writes what it comes to on six lines. The source is left as it was.
-#[tactic(auto, using(crate::proofs::WordLaws::unheard, crate::proofs::WordLaws::unread))]
+#[tactic(auto, using(crate::proofs::WordLaws::unheard, crate::proofs::WordLaws::unread, crate::proofs::WaitLaws::alone_of, crate::proofs::WaitLaws::alone_as))]
 pub fn run_alone<S: Source, K: Sink>(
     alloc: Global,
     words: &[String],
     source: &mut S,
     sink: &mut K,
 ) -> Status
+    requires { is_waiting (map string_bytes words.now) ≡ false }
     ensures run { Runs (asked_by (map string_bytes words.now)) result (S.left source.old)
         (S.left source.new) (K.written sink.old) (K.written sink.new) }
     ensures reads { CountsReadFaults result (S.read_faults source.old) (S.read_faults source.new) }
@@ -59,6 +117,7 @@ fn run_command<S: Source, K: Sink>(
     source: &mut S,
     sink: &mut K,
 ) -> Status
+    requires { IsAlone (asked_by_command command.now) }
     ensures run { Runs (asked_by_command command.now) result (S.left source.old)
         (S.left source.new) (K.written sink.old) (K.written sink.new) }
     ensures reads { CountsReadFaults result (S.read_faults source.old) (S.read_faults source.new) }
@@ -68,6 +127,7 @@ fn run_command<S: Source, K: Sink>(
 {
     match command {
         Command::Referee(seat) => status_of_referee(referee_of(alloc, *seat, source, sink)),
+        Command::Serve(_) => unreachable!(),
         Command::Replay => status_of_replay(replay_of(alloc, source, sink)),
         Command::Hand(words) => status_of_hand(write_hand(alloc, words.as_slice(), sink)),
         Command::SelfPlay(number) => status_of_self_play(write_self_play(alloc, *number, sink)),

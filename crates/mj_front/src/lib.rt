@@ -1,6 +1,6 @@
 //! The commands that words ask for: arrivals read from a source, and what one seat is told written to a sink; a record read
-//! from a source, and its summary written to a sink; the lines of a hand written to a sink; and a self-played game whose summary
-//! is written to a sink.
+//! from a source, and its summary written to a sink; the lines of a hand written to a sink; a self-played game whose summary
+//! is written to a sink; and a game that is served to whoever connects, and its record written to a sink.
 #![tactic(auto)]
 
 mod arriving;
@@ -12,8 +12,9 @@ mod input;
 mod referee;
 mod replay;
 mod self_game;
+mod serve;
 mod status;
 
-pub use commands::run_alone;
+pub use commands::{is_for_waiting, run, run_alone};
 pub use mj_replay::Cause;
 pub use status::{Status, exit_code, status_text};

@@ -2,23 +2,25 @@
 
 ghost use Rattle.std.specs.Prelude.{◌≡◌, IfOk, OnOk, OnErr, codes};
 ghost use Rattle.mj_bytes.specs.Adds.{Adds};
-ghost use Rattle.mj_front.specs.Statuses.{referee_status, replay_status, hand_status, self_play_status, code_of, cause_number, status_words, at_line, bad_record, usage};
+ghost use Rattle.mj_front.specs.Statuses.{referee_status, serve_status, replay_status, hand_status, self_play_status, code_of, cause_number, status_words, at_line, bad_record, usage};
 
 use crate::hand::HandEnd;
 use crate::hearing::End;
 use crate::referee::RefereeEnd;
 use crate::replay::ReplayEnd;
 use crate::self_game::SelfPlayEnd;
+use crate::serve::ServeEnd;
 use mj_bytes::{push_all, push_number};
 use mj_replay::Cause;
 use std::alloc::{AllocError, Global};
 
 /// How a run ended. Where several fit, the first of this order answers: `Words`; `ReadFault` or `TooLong`, whichever is met
-/// first; `BadRecord`; `WriteFault`; `BadArrival`; `Done`.
+/// first; `BadRecord`; `WriteFault`; `BadArrival` or `HostFault`; `Done`.
 #[derive(Clone, Copy, Debug, PartialEq, Eq)]
 pub enum Status {
     /// The input was read to its end and is valid, and what it tells the seat or the summary of its record is written; or the
-    /// lines of a hand or of a self-played game are written.
+    /// lines of a hand or of a self-played game are written; or a served game is over, its links are given back, and its
+    /// record is written.
     Done,
     /// The words ask for no command, or for one with other arguments than its own, as `hand` with words that name no hand, or
     /// `selfplay` with a word that is no number. Nothing is written.
@@ -33,6 +35,9 @@ pub enum Status {
     BadArrival(u32),
     /// The line, counted from 1, is the first that breaks the form of a record, by this cause. Nothing is written.
     BadRecord(u32, Cause),
+    /// The host was not opened, and nothing is written; or it failed each handler of a served game that is not over, whose
+    /// links are given back and whose record so far is written.
+    HostFault,
     /// The input has more than 67,108,864 bytes. Nothing is written.
     TooLong,
 }
@@ -88,6 +93,19 @@ pub(crate) fn status_of_self_play(end: SelfPlayEnd) -> Status
     }
 }
 
+/// The status that the end of the command `serve` gives.
+pub(crate) fn status_of_serve(end: ServeEnd) -> Status
+    ensures { result ≡ serve_status end }
+{
+    match end {
+        ServeEnd::Over => Status::Done,
+        ServeEnd::HostLost => Status::HostFault,
+        ServeEnd::NotOpened => Status::HostFault,
+        ServeEnd::WriteFault => Status::WriteFault,
+        ServeEnd::NoMemory => Status::NoMemory,
+    }
+}
+
 /// The exit code of a program that ends so.
 pub fn exit_code(status: &Status) -> u8
     ensures { result ≡ code_of status.now }
@@ -100,6 +118,7 @@ pub fn exit_code(status: &Status) -> u8
         Status::NoMemory => 5,
         Status::BadArrival(_) => 6,
         Status::BadRecord(_, _) => 7,
+        Status::HostFault => 8,
         Status::TooLong => 9,
     }
 }
@@ -120,6 +139,7 @@ pub fn status_text(alloc: Global, status: &Status) -> Result<Vec<u8>, AllocError
         Status::NoMemory => Vec::from_slice(alloc, b"no memory\n"),
         Status::BadArrival(line) => text_at_line(alloc, b"bad arrival", *line),
         Status::BadRecord(line, cause) => text_of_record(alloc, *line, *cause),
+        Status::HostFault => Vec::from_slice(alloc, b"host fault\n"),
         Status::TooLong => Vec::from_slice(alloc, b"input too long\n"),
     }
 }

@@ -8,8 +8,13 @@ use crate::sink::{Put, Sink};
 use crate::source::{Got, Source};
 use std::io::{Read, Write};
 use std::net::{Shutdown, TcpStream};
+use std::time::Duration;
 
-/// A link over a TCP stream. It tells nothing of the bytes, and each error of the system is a fault.
+// The longest limit that a window may have, so no answer in time is cut off.
+const PATIENCE_S: u64 = 3600;
+
+/// A link over a TCP stream. It tells nothing of the bytes, and each error of the system is a fault. A read or a write for
+/// which the peer lets the link wait for an hour fails.
 #[derive(Drop)]
 pub struct TcpLink {
     stream: TcpStream,
@@ -18,11 +23,16 @@ pub struct TcpLink {
 }
 
 impl TcpLink {
-    /// A link over a stream whose reads and writes block.
+    /// A link over a stream whose reads and writes block. Lines are short, so they are sent as they come. A stream that
+    /// refuses one of these settings is taken as it is.
     pub fn new(stream: TcpStream) -> TcpLink
         ensures read_faults { ⟦<TcpLink as Source>⟧.read_faults result ≡ 0 }
         ensures write_faults { ⟦<TcpLink as Sink>⟧.write_faults result ≡ 0 }
     {
+        let patience = Some(Duration::from_secs(PATIENCE_S));
+        let _ = stream.set_read_timeout(patience);
+        let _ = stream.set_write_timeout(patience);
+        let _ = stream.set_nodelay(true);
         TcpLink {
             stream,
             read_faults: FaultCount::new(),

@@ -55,10 +55,13 @@ pub record Unmoved (seat : ℕ) (w w' : After) : Type 0 where
   pub seat_of : (place : ℕ) → w.seat_of place ≡ Some seat → w'.seat_of place ≡ Some seat
   pub told : (place : ℕ) → w.seat_of place ≡ Some seat → w'.told place ≡ w.told place
 
--- A connection begins: its seat is present by the author, and was told this, and not yet the line of its due deed.
+-- A connection begins: its seat, one of the four, is present by the author, and was told this, and not yet the line of its
+-- due deed; all deeds before that one are there.
 pub record Begins (author seat place due : ℕ) (first : List ℕ) (w' : After) : Type 0 where
+  pub within : seat < 4
   pub present : w'.present seat ≡ Some author
   pub due_is : w'.due seat ≡ due
+  pub due_within : due ≤ w'.deeds
   pub is_told : w'.is_told seat ≡ false
   pub seat_of : w'.seat_of place ≡ Some seat
   pub told : w'.told place ≡ first

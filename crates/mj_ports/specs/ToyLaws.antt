@@ -120,7 +120,7 @@ pub sat : (es : List (Entry ℕ)) (author : ℕ) (name : List ℕ) (key : Option
 sat es author name key h =
     let e : Entry ℕ = Sat author name key in
     let empty : es ≡ [] = none_yet es (legal_before first es (e ∷ []) h) (last_permitted first es e h) in
-    subst (λ (fs : List (Entry ℕ)). Begins author (next_seat fs) (length fs) 0 (hello toy_says) (after_toy (fs ++ e ∷ []))) (sym empty) (record { present = refl; due_is = refl; is_told = refl; seat_of = refl; told = refl })
+    subst (λ (fs : List (Entry ℕ)). Begins author (next_seat fs) (length fs) 0 (hello toy_says) (after_toy (fs ++ e ∷ []))) (sym empty) (record { within = omega arith; present = refl; due_is = refl; due_within = omega arith; is_told = refl; seat_of = refl; told = refl })
 
 pub back : (es : List (Entry ℕ)) (author seat : ℕ) → IsLegalFrom first (es ++ Back author seat ∷ [])
     → Begins author seat (length es) ((after_toy (es ++ Back author seat ∷ [])).due seat) (replay toy_says (after_toy (es ++ Back author seat ∷ [])) seat) (after_toy (es ++ Back author seat ∷ []))

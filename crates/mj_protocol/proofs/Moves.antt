@@ -22,14 +22,15 @@ use Rattle.mj_wall.specs.declared.setting.Rules.{Rules}
 use Rattle.mj_wall.specs.declared.setting.Setting.{Setting}
 use Rattle.mj_protocol.specs.Lines.{line, error_text}
 use Rattle.mj_protocol.specs.After.{After, Chair, Verdict, Taken, Late, Refused, Closing, verdict_on, is_present, lines_for, after_said, after_gone, after_back, due_on_return, new_chair, own_part, pending, next_deed, step, after}
-use Rattle.mj_protocol.specs.Trace.{is_present_by, may_say, can_return, is_permitted}
+use Rattle.mj_protocol.specs.Trace.{IsLegal, is_present_by, may_say, can_return, is_permitted}
 use Rattle.mj_protocol.specs.Sitting.{author_at}
 use Rattle.mj_protocol.specs.Shown.{shown, due_at, line_at, is_connected, seat_at, told_at, heard_of, hears_of, control_line}
 use Rattle.mj_protocol.specs.Seated.{OthersLeaveAlone, SeatsBegin, ReturnsBegin, AnswersGoByVerdict, SeatsLeave}
 use Rattle.mj_protocol.proofs.Places.{slice_get-append_other, slice_get-set_at, slice_get-set_other}
 use Rattle.mj_protocol.proofs.Connections.{ArePlaced, IsConnected, connected-by, seat-is, told-is, apart-at, nobody-at}
 use Rattle.mj_protocol.proofs.Entered.{step-chairs, step-deeds, entered-is, seats-are, step-placed, after-placed, back_chair, said_chair, gone_chair, said-chairs, gone-chairs, back-chairs, sat-chairs}
-use Rattle.mj_protocol.proofs.Seated.{stepped, last_permitted, said_present, on_off, same_deed}
+use Rattle.mj_protocol.proofs.Seats.{AreSeats, step_seats, legal_seats, held_within}
+use Rattle.mj_protocol.proofs.Seated.{stepped, beginnings_are_legal, stays_step, last_permitted, said_present, on_off, same_deed}
 
 -- The seats of what entries come to are placed.
 abbrev Placed : After → Type 0
@@ -115,17 +116,23 @@ others_leave_alone setting entries entry author seat l here aside =
     stepped (Unmoved seat (shown now)) setting entries entry (unmoved_if now (step setting now entry) seat c.0 (after-placed setting entries) (step-placed setting now entry (after-placed setting entries)) c.1 there)
 
 -- A connection begins.
-begins_if : (next : After) (seat place author : ℕ) (chair : Chair) (first : List ℕ) → Placed next → slice_get next.chairs seat ≡ Some chair → chair.author ≡ Some author → chair.place ≡ place → (chair.progress.refused == 0) ≡ true → chair.progress.told ≡ first
-    → Begins author seat place chair.progress.due first (shown next)
-begins_if next seat place author chair first k e a at r t =
+begins_if : (next : After) (seat place author : ℕ) (chair : Chair) (first : List ℕ) → Placed next → AreSeats next.chairs → slice_get next.chairs seat ≡ Some chair → chair.author ≡ Some author → chair.place ≡ place → chair.progress.due ≤ length next.deeds
+    → (chair.progress.refused == 0) ≡ true → chair.progress.told ≡ first → Begins author seat place chair.progress.due first (shown next)
+begins_if next seat place author chair first k s e a at d r t =
     let here : (chair.place == place) ≡ true = eq-eqb chair.place place at in
     record {
+      within = held_within next.chairs seat chair s e;
       present = ap (λ (o : Option Chair). option_map_or (λ (c : Chair). c.author) o None) e ∙ a;
       due_is = ap (λ (o : Option Chair). option_map_or (λ (c : Chair). c.progress.due) o 0) e;
+      due_within = d;
       is_told = ap (λ (o : Option Chair). option_map_or (λ (c : Chair). not (c.progress.refused == 0)) o false) e ∙ ap not r;
       seat_of = seat-is place next.chairs seat chair (k.once place) e (ap is_some a) here;
       told = told-is place next.chairs seat chair (k.once place) e here ∙ t;
     }
+
+seats_next : (setting : Setting) (entries : List (Entry Answer)) (entry : Entry Answer) → IsLegal setting (entries ++ entry ∷ []) → AreSeats (step setting (after setting entries) entry).chairs
+seats_next setting entries entry l =
+    step_seats setting (after setting entries) entry (last_permitted setting entries entry l) (legal_seats setting entries (beginnings_are_legal setting entries (entry ∷ []) l))
 
 at_end : (chairs : List Chair) (chair : Chair) → slice_get (chairs ++ chair ∷ []) (length chairs) ≡ Some chair
 at_end [] chair = refl
@@ -138,10 +145,13 @@ seats_begin setting entries author name key l =
     let chair : Chair = new_chair now.entered author name key in
     let there : slice_get (step setting now entry).chairs (length now.chairs) ≡ Some chair = ap (λ (cs : List Chair). slice_get cs (length now.chairs)) (sat-chairs setting now author name key) ∙ at_end now.chairs chair in
     let begins : Begins author (length now.chairs) now.entered 0 (hello control_line) (shown (step setting now entry)) =
-    begins_if (step setting now entry) (length now.chairs) now.entered author chair _ (step-placed setting now entry (after-placed setting entries)) there refl refl refl refl in
+    begins_if (step setting now entry) (length now.chairs) now.entered author chair _ (step-placed setting now entry (after-placed setting entries)) (seats_next setting entries entry l) there refl refl (least (length (step setting now entry).deeds)) refl refl in
     stepped (Begins author (next_seat entries) (length entries) 0 (hello control_line)) setting entries entry
     (subst (λ (n : ℕ). Begins author (next_seat entries) n 0 (hello control_line) (shown (step setting now entry))) (entered-is setting entries)
     (subst (λ (n : ℕ). Begins author n now.entered 0 (hello control_line) (shown (step setting now entry))) (seats-are setting entries) begins))
+  where
+    least : (n : ℕ) → 0 ≤ n
+    least n = omega arith
 
 -- A held seat of a permitted entry.
 pub held_here : (o : Option Chair) (test : Chair → Bool) → option_map_or test o false ≡ true → (chair : Chair) × (o ≡ Some chair) × (test chair ≡ true)
@@ -203,10 +213,13 @@ returns_begin setting entries author seat l =
     let first : chair.progress.told ≡ replay control_line (shown next) seat =
     told ∙ ap (λ (n : ℕ). control_line control.Hello ++ control_line (control.Head n) ++ lines_to (shown next) seat n) (sym due) in
     let begins : Begins author seat now.entered (due_on_return now seat) (replay control_line (shown next) seat) (shown next) =
-    begins_if next seat now.entered author chair _ (step-placed setting now entry (after-placed setting entries)) there refl refl refl first in
+    begins_if next seat now.entered author chair _ (step-placed setting now entry (after-placed setting entries)) (seats_next setting entries entry l) there refl refl (still (due_on_return now seat) (length now.deeds) (length next.deeds) (due_within now seat) (stays_step setting now entry).deeds) refl first in
     stepped (λ (w : Seen). Begins author seat (length entries) (w.due seat) (replay control_line w seat) w) setting entries entry
     (subst (λ (n : ℕ). Begins author seat n (due_at next seat) (replay control_line (shown next) seat) (shown next)) (entered-is setting entries)
     (subst (λ (n : ℕ). Begins author seat now.entered n (replay control_line (shown next) seat) (shown next)) (sym due) begins))
+  where
+    still : (a b c : ℕ) → a ≤ b → b ≤ c → a ≤ c
+    still a b c h k = omega arith
 
 -- What is pending for a held seat, by its progress.
 untold_line : (deeds : List Deed) (seat k : ℕ) → nat_lt k (length deeds) ≡ false → line_at deeds seat k ≡ []

@@ -69,7 +69,7 @@ over_deeds setting now entry h =
     ∙ ap (λ (o : Option Deed). now.deeds ++ listed o) (no_more setting (own_part setting now entry) entry (ap is_over (own_deeds setting now entry) ∙ h))
     ∙ append-nil now.deeds
 
-stays_step : (setting : Setting) (now : After) (entry : Entry Answer) → Stays (shown now) (shown (step setting now entry))
+pub stays_step : (setting : Setting) (now : After) (entry : Entry Answer) → Stays (shown now) (shown (step setting now entry))
 stays_step setting now entry =
     let more : List Deed = listed (next_deed setting (own_part setting now entry) entry) in
     record {

@@ -5,6 +5,7 @@ use Rattle.std.specs.Option.{option_map_or}
 use Rattle.std.specs.List.{list_all, list_any}
 use Rattle.std.proofs.lemmas.Bool.{and_parts, and_from, or_parts, ltb-true, not-true}
 use Rattle.std.proofs.lemmas.List.{length-append, length-set}
+use Rattle.std.proofs.lemmas.Option.{slice_get_within}
 use Rattle.std.proofs.lemmas.List.Folds.{list_all-append, list_any-append}
 use Rattle.mj_ports.specs.Names.{is_name, are_different}
 use Rattle.mj_ports.specs.declared.entry.Entry.{Entry}
@@ -25,6 +26,12 @@ names_in chairs = map (λ (chair : Chair). chair.name) chairs
 pub record AreSeats (chairs : List Chair) : Type 0 where
   pub few : length chairs ≤ 4
   pub named : are_listed_names (names_in chairs) ≡ true
+
+pub held_within : (chairs : List Chair) (seat : ℕ) (chair : Chair) → AreSeats chairs → slice_get chairs seat ≡ Some chair → seat < 4
+held_within chairs seat chair s e = below seat (length chairs) (slice_get_within chairs seat chair e) s.few
+  where
+    below : (n m : ℕ) → n < m → m ≤ 4 → n < 4
+    below n m h k = omega arith
 
 -- names
 

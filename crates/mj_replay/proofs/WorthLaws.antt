@@ -1,6 +1,6 @@
 -- What a win is worth fits its fields: its fu, its han and each of its rows.
 use Rattle.std.proofs.Common.{◌≡◌, ℕ, zero, suc, ◌+◌, ◌*◌, ◌/◌, ◌<◌, ◌≤◌, ◌==◌, ◌&&◌, not, Bool, true, false, cond, List, [], ◌∷◌, ◌++◌, length, refl, sym, ◌∙◌, subst, arith}
-use Rattle.std.specs.Prelude.{Option, Some, None, fold, map, filter, sum_by, unwrap_or, nat_lt}
+use Rattle.std.specs.Prelude.{Option, Some, None, fold, map, filter, unwrap_or, nat_lt}
 use Rattle.std.specs.List.{list_all, range_with_len}
 use Rattle.std.proofs.lemmas.Bool.{and_from, lt-ltb}
 use Rattle.std.proofs.lemmas.List.Folds.{list_all-append}
@@ -19,9 +19,10 @@ use Rattle.mj_readings.specs.AllReadings.{readings_of}
 use Rattle.mj_fu.specs.Forms.{is_dragon, is_concealed_at, is_pinfu}
 use Rattle.mj_fu.specs.Fu.{form_fu, set_fu, pair_fu, wait_fu, win_fu, to_tens, sum_of_parts, rounded, fu_of}
 use Rattle.mj_yaku.specs.Rows.{has_row}
-use Rattle.mj_yaku.specs.Han.{han, table, closed_han, open_han, ordinary_numbers, has_yakuman, han_in, sum_of_han, han_of_rows}
+use Rattle.mj_yaku.specs.Han.{han, table, closed_han, open_han, has_yakuman, sum_of_han, han_of_rows}
 use Rattle.mj_yaku.specs.SomeYaku.{gives_yaku}
 use Rattle.mj_yaku.specs.Yaku.{yaku_of}
+use Rattle.mj_yaku.proofs.SomeHan.{most_sum}
 use Rattle.mj_lists.proofs.Ranges.{passes}
 use Rattle.mj_score.specs.declared.score.Extra.{Extra}
 use Rattle.mj_score.specs.declared.score.Score.{Score}
@@ -115,29 +116,6 @@ fu_few (Orphans double) case = omega arith
 pub record Small (score : Score) : Type 0 where
   pub fu : score.fu < 256
   pub han : score.han < 256
-
--- the han of the rows of a set together are no more than those of all rows
-sum_more : (set : ℕ) (shut : Bool) (row : ℕ) (rows : List ℕ) (b : Bool) → has_row set row ≡ b →
-    sum_by (han_in set shut) rows ≤ sum_by (λ row. han row shut) rows → sum_by (han_in set shut) (row ∷ rows) ≤ sum_by (λ row. han row shut) (row ∷ rows)
-sum_more set shut row rows true is rest =
-    let here : han_in set shut row ≤ han row shut = rw is (omega arith) in
-    omega (arith, sum_by-cons (han_in set shut) row rows, sum_by-cons (λ row. han row shut) row rows)
-sum_more set shut row rows false is rest =
-    let here : han_in set shut row ≤ han row shut = rw is (omega arith) in
-    omega (arith, sum_by-cons (han_in set shut) row rows, sum_by-cons (λ row. han row shut) row rows)
-
-sum_of_all : (set : ℕ) (shut : Bool) (rows : List ℕ) → sum_by (han_in set shut) rows ≤ sum_by (λ row. han row shut) rows
-sum_of_all set shut [] = omega arith
-sum_of_all set shut (row ∷ rows) = sum_more set shut row rows (has_row set row) refl (sum_of_all set shut rows)
-
-all_han : (shut : Bool) → sum_by (λ row. han row shut) ordinary_numbers ≤ 52
-unfolding han closed_han open_han table
-all_han true = omega arith
-all_han false = omega arith
-
-most_sum : (set : ℕ) (shut : Bool) → sum_of_han set shut ≤ 52
-unfolding sum_of_han
-most_sum set shut = omega (arith, sum_of_all set shut ordinary_numbers, all_han shut)
 
 plain_han : (rows : ℕ) (closed : Bool) → has_yakuman rows ≡ false → han_of_rows rows closed ≤ 52
 unfolding han_of_rows

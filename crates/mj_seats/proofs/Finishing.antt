@@ -96,7 +96,7 @@ module _ {A R : Type 0} (after : List (Entry A) → After) (reads : List ℕ →
     done_as e r same f = subst (λ (k : Ended). Finished after reads hears author seat place k old new x y text) (sym same) f
 
     pub finished : (e r : Ended) → Moves after reads hears author seat place (Ends e) [] old mid x y text → FinishesAs after e r author seat place mid new → Finished after reads hears author seat place r old new x y text
-    finished GameOver r m (is, same) = done_as GameOver r is (finished_as GameOver same m refl (m.reaches.2.1, m.reaches.2.0.mine, m.reaches.2.2))
+    finished GameOver r m (is, same) = done_as GameOver r is (finished_as GameOver same m refl (m.reaches.2.1, m.reaches.2.0.present, m.reaches.2.0.mine, m.reaches.2.2))
     finished PeerEnded r m (inl (is, g)) = done_as PeerEnded r is (finished_gone PeerEnded m refl m.reaches.2.0 m.reaches.2.1 (λ h. h) g)
     finished PeerEnded r m (inr (is, w)) = done_as NoMemory r is (finished_dry PeerEnded m m.reaches.0 m.reaches.1.0 m.reaches.2.0 m.reaches.2.1 w)
     finished LinkFault r m (inl (is, g)) = done_as LinkFault r is (finished_gone LinkFault m refl m.reaches.2.0 m.reaches.2.1 (λ h. h) g)

@@ -8,3 +8,8 @@ pub mod Seating
 pub mod Timing
 pub mod Handling
 pub mod Placing
+pub mod Whole
+pub mod Begun
+pub mod Joining
+pub mod Working
+pub mod Played

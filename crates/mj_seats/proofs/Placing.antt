@@ -72,7 +72,7 @@ module _ {A : Type 0} where
   is_entry : (before : List (Entry A)) (e f : Entry A) → before ++ e ∷ [] ≡ before ++ f ∷ [] → e ≡ f
   is_entry before e f h = ap (first_or e) (append_cancel_left before (e ∷ []) (f ∷ []) h)
 
-  begins_by : (before : List (Entry A)) (first : Entry A) (seat author : ℕ) (answer right : SitAnswer) (join : Option JoinLine) → GivesSeat answer seat → AnswersSit before (before ++ first ∷ []) answer right author join → (begins_one first ≡ true) × (author_of first ≡ author)
+  pub begins_by : (before : List (Entry A)) (first : Entry A) (seat author : ℕ) (answer right : SitAnswer) (join : Option JoinLine) → GivesSeat answer seat → AnswersSit before (before ++ first ∷ []) answer right author join → (begins_one first ≡ true) × (author_of first ≡ author)
   begins_by before first seat author (sit.Sat k) right None g (e, h) = absurd h
   begins_by before first seat author (sit.Sat k) right (Some join) g (e, (h, is)) =
       let same : first ≡ Sat author join.name join.key = is_entry before first (Sat author join.name join.key) is in
@@ -116,7 +116,7 @@ module _ {A R L : Type 0} (after : List (Entry A) → After) (reads : List ℕ �
   -- the places of the sessions that a handler keeps are those of its author's connections
   pub handled_places : (excuse : Type 0) (author : ℕ) (old new : List (Entry A)) (ss : List (Session L)) → Handled after reads joins sits hears says at excuse author old new ss → places_of author new ≡ places_of author old ++ map (λ (s : Session L). s.place) ss
   handled_places excuse author old new [] e = places_still author old new e ∙ sym (append-nil (places_of author old))
-  handled_places excuse author old new (s ∷ ss) (mid, k, h) =
+  handled_places excuse author old new (s ∷ ss) (mid, k, o, h) =
       handled_places excuse author mid new ss h
-      ∙ (ap (λ (l : List ℕ). l ++ map (λ (t : Session L). t.place) ss) (seated_place author old mid k.start (at k.held s.link) k.ended s.place k.seated)
+      ∙ (ap (λ (l : List ℕ). l ++ map (λ (t : Session L). t.place) ss) (seated_place author old mid (at [] k.start) (at k.held s.link) k.ended s.place k.seated)
       ∙ append_assoc (places_of author old) (s.place ∷ []) (map (λ (t : Session L). t.place) ss))

@@ -55,7 +55,7 @@ module _ {A : Type 0} where
       (stays : (es : List (Entry A)) (e : Entry A) → is_legal (es ++ e ∷ []) → Stays (after es) (after (es ++ e ∷ [])))
       (others : (es : List (Entry A)) (e : Entry A) (author seat : ℕ) → is_legal (es ++ e ∷ []) → (after es).present seat ≡ Some author → IsAside author seat es e → Unmoved seat (after es) (after (es ++ e ∷ []))) where
     -- what others enter leaves a present seat alone
-    between : (author seat : ℕ) (es gap : List (Entry A)) → is_legal (es ++ gap) → notes_of author_of author gap ≡ [] → (after es).present seat ≡ Some author
+    pub between : (author seat : ℕ) (es gap : List (Entry A)) → is_legal (es ++ gap) → notes_of author_of author gap ≡ [] → (after es).present seat ≡ Some author
         → Unmoved seat (after es) (after (es ++ gap)) × Stays (after es) (after (es ++ gap))
     between author seat es [] legal none here =
         subst (λ (fs : List (Entry A)). Unmoved seat (after es) (after fs) × Stays (after es) (after fs)) (sym (append-nil es)) (unmoved_itself seat (after es), stays_itself (after es))

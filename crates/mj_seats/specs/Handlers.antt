@@ -1,5 +1,5 @@
 -- What a worker comes to that takes links from a host and serves them.
-use Rattle.std.specs.Prelude.{◌≡◌, ℕ, true, List, [], ◌∷◌, Option, Some, None}
+use Rattle.std.specs.Prelude.{◌≡◌, ℕ, true, false, List, [], ◌∷◌, ◌++◌, Option, Some, None}
 use Rattle.mj_links.specs.Hosts.{IsFresh}
 use Rattle.mj_ports.specs.declared.entry.Entry.{Entry}
 use Rattle.mj_ports.specs.declared.sitting.JoinLine.{JoinLine}
@@ -39,19 +39,21 @@ Excuses None = ⊥
 Excuses (Some end) = WantsMemory end
 
 module _ {A R L : Type 0} (after : List (Entry A) → After) (reads : List ℕ → A) (joins : List ℕ → Option JoinLine) (sits : List (Entry A) → List ℕ → SitAnswer) (hears : List (Entry A) → ℕ → ℕ → A → Heard R) (says : Control R → List ℕ) (at : List ℕ → L → WireState) where
-  -- A link that is kept had a session with a seat, from its first byte on, at the place that is kept with it.
+  -- A link that is kept had a session with a seat, from when it came on, at the place that is kept with it.
   pub record Kept (excuse : Type 0) (author : ℕ) (old new : List (Entry A)) (session : Session L) : Type 0 where
-    pub start : WireState
-    pub is_new : IsNew start
+    pub start : L
+    pub is_new : IsNew (at [] start)
     pub held : List ℕ
     pub ended : Ended
-    pub seated : SeatedSession after reads joins sits hears says author old new start (at held session.link) ended session.place
+    pub seated : SeatedSession after reads joins sits hears says author old new (at [] start) (at held session.link) ended session.place
     pub excused : IsExcused ended → excuse
 
-  -- The sessions that are kept, one after the other, are all that the author entered.
+  -- The sessions that are kept, one after the other, are all that the author entered. After one that saw the end of the game
+  -- no other begins.
   abbrev pub Handled : Type 0 → ℕ → List (Entry A) → List (Entry A) → List (Session L) → Type 0
   Handled excuse author old new [] = Enters author old new []
-  Handled excuse author old new (session ∷ sessions) = (mid : List (Entry A)) × Kept excuse author old mid session × Handled excuse author mid new sessions
+  Handled excuse author old new (session ∷ sessions) =
+      (mid : List (Entry A)) × Kept excuse author old mid session × ((after mid).over ≡ true → sessions ≡ []) × Handled excuse author mid new sessions
 
 -- The game is over in the history seen, or the host made a fault with the handler's number.
 abbrev pub HandlerEnds : {A F : Type 0} → (List (Entry A) → After) → (F → Type 0) → (F → ℕ) → HandlerEnd F → ℕ → List (Entry A) → Type 0
@@ -63,8 +65,17 @@ abbrev pub HandlerEndsTo : {A F : Type 0} → (List (Entry A) → After) → (F 
 HandlerEndsTo after made number None by new = Unit {0}
 HandlerEndsTo after made number (Some end) by new = HandlerEnds after made number end by new
 
--- A handler ends where it finds the game over.
-abbrev pub Asks : Call → After → Type 0
-Asks call.GoesOn w = Unit {0}
-Asks call.Over w = w.over ≡ true
-Asks call.NoMemory w = Unit {0}
+-- In no beginning of a history is the game over.
+abbrev pub IsOn : {A : Type 0} → (List (Entry A) → After) → List (Entry A) → Type 0
+IsOn {A} after entries = (es since : List (Entry A)) → entries ≡ es ++ since → (after es).over ≡ false
+
+-- A handler ends where it finds the game over, and else goes on.
+abbrev pub Finds : Call → After → Type 0
+Finds call.GoesOn w = w.over ≡ false
+Finds call.Over w = w.over ≡ true
+Finds call.NoMemory w = Unit {0}
+
+abbrev pub Asks : {A : Type 0} → Call → (List (Entry A) → After) → List (Entry A) → Type 0
+Asks call.GoesOn after new = IsOn after new
+Asks call.Over after new = (after new).over ≡ true
+Asks call.NoMemory after new = Unit {0}

@@ -5,3 +5,5 @@ pub mod Sessions
 pub mod Steps
 pub mod Ticks
 pub mod Handlers
+pub mod Workers
+pub mod Joined

@@ -3,7 +3,7 @@
 ghost use Rattle.std.specs.Prelude.{◌≡◌, ◌<◌, ◌+◌, ◌++◌, ◌≤◌, map, [], List, IfSome, vec_len, vec_capacity};
 ghost use Rattle.mj_links.specs.Hosts.{IsFresh};
 ghost use Rattle.mj_ports.specs.declared.entry.Entry.{Entry};
-ghost use Rattle.mj_seats.specs.Handlers.{Handled, HandlerEnds, HandlerEndsTo, Excuses, WantsMemory, Asks, at_link};
+ghost use Rattle.mj_seats.specs.Handlers.{Handled, HandlerEnds, HandlerEndsTo, Excuses, WantsMemory, IsOn, Finds, Asks, at_link};
 ghost use Rattle.mj_seats.specs.Histories.{Enters, places_of};
 ghost use Rattle.mj_seats.specs.Sessions.{IsExcused};
 ghost use Rattle.turn_lock.specs.Turns.{IsIdle};
@@ -148,6 +148,7 @@ fn take_link<T: Table, H: Host<Fault = <T as Table>::Fault>, R: Wait>(
     sessions: &mut Vec<Session<H::Link>>,
 ) -> Option<HandlerEnd<H::Fault>>
     requires idle { IsIdle T.Kept.setting turn.now pass.old }
+    requires on { IsOn (T.after (T.Kept.setting turn.now.opening)) pass.old.seen }
     requires room { vec_len sessions.old + 1 ≤ vec_capacity sessions.old }
     ensures idle { IsIdle T.Kept.setting turn.now pass.new × (pass.new.number ≡ pass.old.number) }
     ensures handled { (first : List (Entry T.Answer))
@@ -182,6 +183,7 @@ fn serve_link<T: Table, L: Link + Drop, F, R: Wait>(
     sessions: &mut Vec<Session<L>>,
 ) -> Option<HandlerEnd<F>>
     requires idle { IsIdle T.Kept.setting turn.now pass.old }
+    requires on { IsOn (T.after (T.Kept.setting turn.now.opening)) pass.old.seen }
     requires fresh { IsFresh (L.was_read link) (L.written link) (L.read_faults link)
         (L.write_faults link) }
     requires room { vec_len sessions.old + 1 ≤ vec_capacity sessions.old }
@@ -231,7 +233,7 @@ fn ask<T: Table, R: Wait>(turn: &Turn<T>, rt: &R, pass: &mut Pass<T>) -> Call
     requires { IsIdle T.Kept.setting turn.now pass.old }
     ensures idle { IsIdle T.Kept.setting turn.now pass.new × (pass.new.number ≡ pass.old.number) }
     ensures nothing { Enters pass.old.number pass.old.seen pass.new.seen [] }
-    ensures asks { Asks result (T.after (T.Kept.setting turn.now.opening) pass.new.seen) }
+    ensures asks { Asks result (T.after (T.Kept.setting turn.now.opening)) pass.new.seen }
 {
     let mut held = hold::take(turn, rt, pass);
     let call = call_of(held.value());
@@ -241,7 +243,7 @@ fn ask<T: Table, R: Wait>(turn: &Turn<T>, rt: &R, pass: &mut Pass<T>) -> Call
 
 fn call_of<T: Table>(table: &mut T) -> Call
     ensures same { table.new ≡ table.old }
-    ensures asks { Asks result (T.after (T.Seated.setting table.old) (T.history table.old)) }
+    ensures finds { Finds result (T.after (T.Seated.setting table.old) (T.history table.old)) }
 {
     if table.dry() {
         return Call::NoMemory;

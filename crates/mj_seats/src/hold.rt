@@ -1,10 +1,10 @@
 // A turn of a table, in words of its game.
-ghost use Rattle.std.specs.Prelude.{◌≡◌, ℕ, [], Some};
+ghost use Rattle.std.specs.Prelude.{◌≡◌, ◌<◌, ℕ, [], Some, All, length};
 ghost use Rattle.mj_ports.specs.Entries.{author_of};
 ghost use Rattle.mj_seats.specs.Histories.{Enters};
 ghost use Rattle.mj_seats.specs.Steps.{Watches};
 ghost use Rattle.turn_lock.specs.Notes.{Follows};
-ghost use Rattle.turn_lock.specs.Turns.{IsIdle, IsBusy, taken, given};
+ghost use Rattle.turn_lock.specs.Turns.{IsIdle, IsBusy, IsSeenIn, taken, given};
 
 use crate::table::Table;
 use std::sync::Wait;
@@ -37,6 +37,20 @@ pub(crate) fn give<T: Table>(turn: &Turn<T>, pass: &mut Pass<T>, mut held: Held<
 {
     mark(held.value(), wanting);
     turn.give(pass, held);
+}
+
+// Ends the turn of a table, with all of its passes.
+pub(crate) fn close<T: Table>(turn: Turn<T>, passes: Vec<Pass<T>>) -> T
+    requires all { length passes.items ≡ turn.passes }
+    requires idle { All (IsIdle T.Kept.setting turn) passes.items }
+    ensures setting { T.Seated.setting result ≡ T.Kept.setting turn.opening }
+    ensures legal { T.is_legal (T.Kept.setting turn.opening) (T.history result) }
+    ensures seen { All (IsSeenIn author_of (T.history result)) passes.items }
+    ensures below { All (λ e. author_of e < turn.passes) (T.history result) }
+{
+    let table = turn.close(passes);
+    let _entries = table.entries();
+    table
 }
 
 // Marks that memory was wanting, and enters nothing.

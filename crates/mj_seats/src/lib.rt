@@ -3,6 +3,7 @@
 #![tactic(auto)]
 
 mod due;
+mod gather;
 mod handle;
 mod hear;
 mod hold;
@@ -16,6 +17,8 @@ mod sit;
 mod step;
 mod table;
 mod ticker;
+mod worker;
+mod workers;
 
 pub use handle::{HandlerEnd, Session, handler};
 pub use lost::Lost;
@@ -24,3 +27,4 @@ pub use serve::serve_seat;
 pub use served::{Ended, Served};
 pub use table::Table;
 pub use ticker::{Ticked, tick};
+pub use workers::{Closed, ClosedGame, run_workers};

@@ -1,5 +1,5 @@
 // How the first line of a link is given a seat.
-ghost use Rattle.std.specs.Prelude.{◌≡◌, ◌<◌, ◌++◌, [], OnOk};
+ghost use Rattle.std.specs.Prelude.{◌≡◌, ◌<◌, ◌≤◌, ◌++◌, [], OnOk};
 ghost use Rattle.mj_ports.specs.declared.answers.Control.TheVariants.{Head};
 ghost use Rattle.mj_ports.specs.Seats.{lines_to};
 ghost use Rattle.mj_seats.specs.Steps.{SitsDown, SitsAt};
@@ -62,17 +62,10 @@ fn sit_down<T: Table>(
     match table.sit(alloc, author, line) {
         SitAnswer::Sat(seat) => {
             let _entries = table.entries();
-            if seat < 4 {
-                Sitting::Seated(Connection { seat, place })
-            } else {
-                Sitting::Cut(Connection { seat, place })
-            }
+            Sitting::Seated(Connection { seat, place })
         }
         SitAnswer::Back(seat) => {
             let _entries = table.entries();
-            if seat >= 4 {
-                return Sitting::Cut(Connection { seat, place });
-            }
             match replay(table, alloc, seat, told) {
                 Ok(()) => Sitting::Seated(Connection { seat, place }),
                 Err(_) => Sitting::Cut(Connection { seat, place }),
@@ -94,7 +87,9 @@ fn replay<T: Table>(
     seat: u8,
     told: &mut Vec<u8>,
 ) -> Result<(), AllocError>
-    requires { seat < 4 }
+    requires seat { seat < 4 }
+    requires due { (T.after (T.Seated.setting table.now) (T.history table.now)).due seat
+        ≤ (T.after (T.Seated.setting table.now) (T.history table.now)).deeds }
     ensures { OnOk result (told.new.items ≡ told.old.items
         ++ T.says (Head ((T.after (T.Seated.setting table.now) (T.history table.now)).due seat))
         ++ lines_to (T.after (T.Seated.setting table.now) (T.history table.now)) seat
@@ -104,7 +99,7 @@ fn replay<T: Table>(
     table.control(alloc, &Control::Head(due), told)?;
     for k in 0..due {
         let Some(text) = table.line(seat, k) else {
-            return Err(AllocError);
+            unreachable!()
         };
         told.extend_from_slice(text)?;
     }

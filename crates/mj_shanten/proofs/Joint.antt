@@ -71,11 +71,11 @@ pairs_eqb zero few = refl
 pairs_eqb (suc zero) few = refl
 pairs_eqb (suc (suc p)) few = absurd (omega arith)
 
-eqb_pairs : (b : Bool) → eqb (pairs b) 1 ≡ b
+pub eqb_pairs : (b : Bool) → eqb (pairs b) 1 ≡ b
 eqb_pairs true = refl
 eqb_pairs false = refl
 
-pairs_few : (b : Bool) → pairs b ≤ 1
+pub pairs_few : (b : Bool) → pairs b ≤ 1
 pairs_few true = omega arith
 pairs_few false = omega arith
 
@@ -120,10 +120,10 @@ no_suit start holds = record {
     no_pair (suc (suc p)) few none = absurd (omega arith)
 
 -- a target of the first suit and a hand of the others
-parts_missing : (suit : Suit) (others : List Suit) (here rest : List ℕ) → length here ≡ length suit.counts → missing (here ++ rest) (counts_in (suit ∷ others)) ≡ missing here suit.counts + missing rest (counts_in others)
+pub parts_missing : (suit : Suit) (others : List Suit) (here rest : List ℕ) → length here ≡ length suit.counts → missing (here ++ rest) (counts_in (suit ∷ others)) ≡ missing here suit.counts + missing rest (counts_in others)
 parts_missing suit others here rest same = missing-append here rest suit.counts (counts_in others) same
 
-target_long : (suit : Suit) (melds : ℕ) (paired : Bool) (here : List ℕ) → IsSuit suit → IsTarget suit.room suit.runs melds paired here → length here ≡ length suit.counts
+pub target_long : (suit : Suit) (melds : ℕ) (paired : Bool) (here : List ℕ) → IsSuit suit → IsTarget suit.room suit.runs melds paired here → length here ≡ length suit.counts
 target_long suit melds paired here is target = ap length target.made ∙ length-counts_of _ ∙ sym is.nine
 
 -- what a target of the first suit leaves, if anything

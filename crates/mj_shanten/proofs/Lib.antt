@@ -1,5 +1,6 @@
 pub mod Hands
 pub mod Joint
+mod Turned
 pub mod Parting
 pub mod Standard
 pub mod Whole

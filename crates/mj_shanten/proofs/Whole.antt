@@ -2,7 +2,7 @@
 use Rattle.std.proofs.Common.{◌≡◌, ◌≢◌, inl, inr, zero, suc, ◌-◌, set, Bool, true, false, ℕ, ◌+◌, ◌<◌, ◌≤◌, List, [], ◌∷◌, ◌++◌, length, get_or, take, drop, refl, sym, subst, ap, ap₂, ◌∙◌, arith}
 use Rattle.std.specs.Prelude.{EachIndex}
 use Rattle.std.specs.List.{flat_map}
-use Rattle.std.proofs.lemmas.List.{append-nil, take_all, take-append-drop, length-take-le, length-drop, drop-drop, get_or-take, get_or-drop, append_assoc, take_at, get_or_append_left, get_or-append_right, length-set}
+use Rattle.std.proofs.lemmas.List.{append-nil, take_all, take-append-drop, length-take-le, length-drop, drop-drop, get_or-take, get_or-drop, append_assoc, take_at, get_or_append_left, get_or-append_right, length-set, drop-set-add, take-set-le}
 use Rattle.std.proofs.Common.{get_or-set_other, get_or-set_same}
 use Rattle.std.proofs.lemmas.Bool.{cases_lt, cases_eq}
 use Rattle.mj_shanten.specs.Room.{IsWithinRoom}
@@ -14,7 +14,8 @@ use Rattle.mj_suits.specs.Rows.{lane}
 use Rattle.mj_suits.specs.Left.{IsChosen}
 use Rattle.mj_suits.specs.Targets.{IsNearest}
 use Rattle.mj_shanten.specs.Suits.{IsSuit, IsJoint, suit_from, suits_of, with_two}
-use Rattle.mj_shanten.specs.Walked.{Tiles, AreWalked, IsLeastOr}
+use Rattle.mj_shanten.specs.Walked.{Tiles, IsRow, IsWide, AreWalked, AreTargetRows, IsLeastOr}
+use Rattle.mj_shanten.proofs.Turned.{turned}
 use Rattle.mj_shanten.proofs.Joint.{AllSuits, JointMost, counts_in, no_suit, suit_more, none_chosen, suit_chosen, joint_nearest, joint_none, joint_tiles}
 
 -- nine numbers, and then the others
@@ -44,20 +45,33 @@ pub part_suit : (held room : List ℕ) (from : ℕ) (runs : Bool) (s : Suit) →
 part_suit held room from runs s size far within of_four room_size is = subst IsSuit (sym is) (a_suit held room from runs size far within of_four room_size)
 
 -- each of the four is a suit
-pub four_are : (held room start honours bamboo circles characters : List ℕ) → AreWalked held room start honours bamboo circles characters → AllSuits (suits_of held room)
-four_are held room start honours bamboo circles characters are = (one 0 true (omega arith), (one 9 true (omega arith), (one 18 true (omega arith), (one 27 false (omega arith), tt))))
+pub four_are : (held room : List ℕ) → IsWide held room → AllSuits (suits_of held room)
+four_are held room wide = (one 0 true (omega arith), (one 9 true (omega arith), (one 18 true (omega arith), (one 27 false (omega arith), tt))))
   where
     one : (from : ℕ) (runs : Bool) → from ≤ 27 → IsSuit (suit_from held room from runs) × (length (take 9 (drop from room)) ≡ 9)
-    one from runs far = (a_suit held room from runs are.held_size far are.within are.of_four are.room_size, length-take-le 9 (drop from room) (let d = length-drop from room in let s = are.room_size in omega arith))
+    one from runs far = (a_suit held room from runs wide.held_size far wide.within wide.of_four wide.room_size, length-take-le 9 (drop from room) (let d = length-drop from room in let s = wide.room_size in omega arith))
 
--- the last row says what the hand leaves
-pub last_row : (held room start honours bamboo circles characters : List ℕ) → AreWalked held room start honours bamboo circles characters → JointMost (suits_of held room) characters
+-- the last row of a target says what the hand leaves
+pub last_row : (held room start honours bamboo circles characters : List ℕ) → AreTargetRows held room start honours bamboo circles characters → JointMost (suits_of held room) characters
 last_row held room start honours bamboo circles characters are =
-    let suits = four_are held room start honours bamboo circles characters are in
+    let suits = four_are held room are.wide in
     suit_more (suit_from held room 0 true) _ circles characters suits.0.0 are.first
     (suit_more (suit_from held room 9 true) _ bamboo circles suits.1.0.0 are.second
     (suit_more (suit_from held room 18 true) _ honours bamboo suits.1.1.0.0 are.third
     (suit_more (suit_from held room 27 false) _ start honours suits.1.1.1.0.0 are.fourth (no_suit start are.start_is))))
+
+-- the suits from the honours to the characters
+abbrev pub suits_back : List ℕ → List ℕ → List Suit
+suits_back held room = suit_from held room 27 false ∷ suit_from held room 18 true ∷ suit_from held room 9 true ∷ suit_from held room 0 true ∷ []
+
+-- the row of the honours says what the suits in that order leave
+last_back : (held room start characters circles bamboo honours : List ℕ) → AreWalked held room start characters circles bamboo honours → JointMost (suits_back held room) honours
+last_back held room start characters circles bamboo honours are =
+    let suits = four_are held room are.wide in
+    suit_more (suit_from held room 27 false) _ bamboo honours suits.1.1.1.0.0 are.fourth
+    (suit_more (suit_from held room 18 true) _ circles bamboo suits.1.1.0.0 are.third
+    (suit_more (suit_from held room 9 true) _ characters circles suits.1.0.0 are.second
+    (suit_more (suit_from held room 0 true) _ start characters suits.0.0 are.first (no_suit start are.start_is))))
 
 suit_same : (a b : Suit) (after : List ℕ) (s p left : ℕ) (target : List ℕ) (sa pa : ℕ) → a ≡ b → IsChosen a.counts a.room a.runs after s p left target sa pa → IsChosen b.counts b.room b.runs after s p left target sa pa
 suit_same a b after s p left target sa pa same chosen = subst (λ (u : Suit). IsChosen u.counts u.room u.runs after s p left target sa pa) same chosen
@@ -82,23 +96,23 @@ pub sizes_of : (tiles : Tiles) (held room : List ℕ) → tiles_of held room ≡
 sizes_of tiles held room same size room_size = subst (λ (t : Tiles). (length t.counts ≡ 34) × (length t.room ≡ 34)) same (length-take-le 34 held (omega arith), length-take-le 34 room (omega arith))
 
 -- where nothing is left no hand fits
-pub none_joint : (tiles : Tiles) (held room start honours bamboo circles characters : List ℕ) (s : ℕ) → tiles_of held room ≡ tiles → AreWalked held room start honours bamboo circles characters → s ≤ 4 → lane characters s 1 ≡ 0
+pub none_joint : (tiles : Tiles) (held room start honours bamboo circles characters : List ℕ) (s : ℕ) → tiles_of held room ≡ tiles → AreTargetRows held room start honours bamboo circles characters → s ≤ 4 → lane characters s 1 ≡ 0
     → (target : List ℕ) → IsJoint (suits_of (with_two tiles.counts) (with_two tiles.room)) s true target → ⊥
 none_joint tiles held room start honours bamboo circles characters s same are few none =
-    of_tiles tiles held room (λ h r. (target : List ℕ) → IsJoint (suits_of h r) s true target → ⊥) same are.held_is are.room_is
+    of_tiles tiles held room (λ h r. (target : List ℕ) → IsJoint (suits_of h r) s true target → ⊥) same are.wide.held_is are.wide.room_is
     (λ target joint.
-    let bound = joint_tiles (suits_of held room) s true target held (four_are held room start honours bamboo circles characters are) joint (counts_are held room are.held_size) in
-    joint_none (suits_of held room) characters held s few (counts_are held room are.held_size) (last_row held room start honours bamboo circles characters are) none target joint (omega arith))
+    let bound = joint_tiles (suits_of held room) s true target held (four_are held room are.wide) joint (counts_are held room are.wide.held_size) in
+    joint_none (suits_of held room) characters held s few (counts_are held room are.wide.held_size) (last_row held room start honours bamboo circles characters are) none target joint (omega arith))
 
 -- the targets of the four suits are the nearest hand
-pub found_joint : (tiles : Tiles) (held room start honours bamboo circles characters : List ℕ) (s : ℕ) (a b c d : Suit) (one two three four target : List ℕ) (sa pa sb pb sc pc sd pd : ℕ) → tiles_of held room ≡ tiles → AreWalked held room start honours bamboo circles characters → s ≤ 4
+pub found_joint : (tiles : Tiles) (held room start honours bamboo circles characters : List ℕ) (s : ℕ) (a b c d : Suit) (one two three four target : List ℕ) (sa pa sb pb sc pc sd pd : ℕ) → tiles_of held room ≡ tiles → AreTargetRows held room start honours bamboo circles characters → s ≤ 4
     → a ≡ suit_from held room 0 true → b ≡ suit_from held room 9 true → c ≡ suit_from held room 18 true → d ≡ suit_from held room 27 false → lane characters s 1 ≢ 0
     → IsChosen a.counts a.room a.runs circles s 1 (lane characters s 1) one sa pa → IsChosen b.counts b.room b.runs bamboo sa pa (lane circles sa pa) two sb pb
     → IsChosen c.counts c.room c.runs honours sb pb (lane bamboo sb pb) three sc pc → IsChosen d.counts d.room d.runs start sc pc (lane honours sc pc) four sd pd
     → target ≡ one ++ (two ++ (three ++ (four ++ [])))
     → IsNearest (with_two tiles.counts) (IsJoint (suits_of (with_two tiles.counts) (with_two tiles.room)) s true) (missing target (with_two tiles.counts)) target
 found_joint tiles held room start honours bamboo circles characters s a b c d one two three four target sa pa sb pb sc pc sd pd same are few a_is b_is c_is d_is some first second third fourth target_is =
-    let suits = four_are held room start honours bamboo circles characters are in
+    let suits = four_are held room are.wide in
     let m4 = suit_more (suit_from held room 27 false) [] start honours suits.1.1.1.0.0 are.fourth (no_suit start are.start_is) in
     let m3 = suit_more (suit_from held room 18 true) (suit_from held room 27 false ∷ []) honours bamboo suits.1.1.0.0 are.third m4 in
     let m2 = suit_more (suit_from held room 9 true) (suit_from held room 18 true ∷ suit_from held room 27 false ∷ []) bamboo circles suits.1.0.0 are.second m3 in
@@ -119,9 +133,9 @@ found_joint tiles held room start honours bamboo circles characters s a b c d on
     let j3 = suit_chosen (suit_from held room 18 true) (suit_from held room 27 false ∷ []) honours bamboo sb pb (lane bamboo sb pb) three _ sc pc suits.1.1.0.0 suits.1.1.0.1 are.third m4 (omega arith) (omega arith) refl (suit_same c _ honours sb pb (lane bamboo sb pb) three sc pc c_is third) j4 in
     let j2 = suit_chosen (suit_from held room 9 true) (suit_from held room 18 true ∷ suit_from held room 27 false ∷ []) bamboo circles sa pa (lane circles sa pa) two _ sb pb suits.1.0.0 suits.1.0.1 are.second m3 (omega arith) (omega arith) refl (suit_same b _ bamboo sa pa (lane circles sa pa) two sb pb b_is second) j3 in
     let j1 = suit_chosen (suit_from held room 0 true) (suit_from held room 9 true ∷ suit_from held room 18 true ∷ suit_from held room 27 false ∷ []) circles characters s 1 (lane characters s 1) one _ sa pa suits.0.0 suits.0.1 are.first m2 (omega arith) (omega arith) refl (suit_same a _ circles s 1 (lane characters s 1) one sa pa a_is first) j2 in
-    of_tiles tiles held room (λ h r. IsNearest h (IsJoint (suits_of h r) s true) (missing target h) target) same are.held_is are.room_is
+    of_tiles tiles held room (λ h r. IsNearest h (IsJoint (suits_of h r) s true) (missing target h) target) same are.wide.held_is are.wide.room_is
     (subst (λ t. IsNearest held (IsJoint (suits_of held room) s true) (missing t held) t) (sym target_is)
-    (joint_nearest (suits_of held room) characters held (one ++ (two ++ (three ++ (four ++ [])))) s (omega arith) (counts_are held room are.held_size) (last_row held room start honours bamboo circles characters are) j1))
+    (joint_nearest (suits_of held room) characters held (one ++ (two ++ (three ++ (four ++ [])))) s (omega arith) (counts_are held room are.wide.held_size) (last_row held room start honours bamboo circles characters are) j1))
 
 -- the target as it is written, suit by suit
 pub four_written : (a b c d one two three four : List ℕ) → length d ≡ 36 → take 9 a ≡ one → take 18 b ≡ take 9 a ++ two → take 27 c ≡ take 18 b ++ three → take 36 d ≡ take 27 c ++ four → d ≡ one ++ (two ++ (three ++ (four ++ [])))
@@ -186,19 +200,65 @@ less_of tiles held room kind number kind_is same size low is =
     (same_tiles_of _ _ _ _ ((less_two held kind (get_or held kind 0 - 1) size low is).1 ∙ ap (λ n. set (take 34 held) kind (n - 1)) (sym (get_or-take 34 held kind 0 low))) refl))
 
 -- what the last row leaves says the fewest tiles that a hand of so many sets and a pair misses
-pub least_joint : (tiles : Tiles) (held room start honours bamboo circles characters : List ℕ) (s left : ℕ) → tiles_of held room ≡ tiles → AreWalked held room start honours bamboo circles characters → s ≤ 4 → left ≡ lane characters s 1
+pub least_joint : (tiles : Tiles) (held room start characters circles bamboo honours : List ℕ) (s left : ℕ) → tiles_of held room ≡ tiles → AreWalked held room start characters circles bamboo honours → s ≤ 4 → left ≡ lane honours s 1
     → IsLeastOr (with_two tiles.counts) (IsJoint (suits_of (with_two tiles.counts) (with_two tiles.room)) s true) (15 - left)
-least_joint tiles held room start honours bamboo circles characters s left same are few left_is =
-    let row = last_row held room start honours bamboo circles characters are in
-    of_tiles tiles held room (λ h r. IsLeastOr h (IsJoint (suits_of h r) s true) (15 - left)) same are.held_is are.room_is record {
-      least = λ t joint. (let m = row.most s 1 t (omega arith) (omega arith) joint in let e : missing t (counts_in (suits_of held room)) ≡ missing t held = ap (missing t) (counts_are held room are.held_size) in omega arith);
-      few = λ t joint. (let b = joint_tiles (suits_of held room) s true t held (four_are held room start honours bamboo circles characters are) joint (counts_are held room are.held_size) in omega arith);
-      some = elim (cases_eq (lane characters s 1) 0) [
+least_joint tiles held room start characters circles bamboo honours s left same are few left_is =
+    let row = last_back held room start characters circles bamboo honours are in
+    let suits = four_are held room are.wide in
+    let size = are.wide.held_size in
+    of_tiles tiles held room (λ h r. IsLeastOr h (IsJoint (suits_of h r) s true) (15 - left)) same are.wide.held_is are.wide.room_is record {
+      least = λ t joint.
+          (let back = turned _ _ _ _ s true t suits.0.0 suits.1.0.0 suits.1.1.0.0 suits.1.1.1.0.0 joint in
+          let m = row.most s 1 back.tiles (omega arith) (omega arith) back.is in
+          let f = back.missed in
+          let e : missing t (counts_in (suits_of held room)) ≡ missing t held = ap (missing t) (counts_are held room size) in
+          omega arith);
+      few = λ t joint. (let b = joint_tiles (suits_of held room) s true t held suits joint (counts_are held room size) in omega arith);
+      some = elim (cases_eq (lane honours s 1) 0) [
         | inl none ↦ inl (omega arith)
         | inr some ↦
             let found = row.some s 1 (omega arith) (omega arith) (omega arith) in
+            let back = turned _ _ _ _ s true found.0 suits.1.1.1.0.0 suits.1.1.0.0 suits.1.0.0 suits.0.0 found.1.is in
             let l = found.1.left_is in
-            let e : missing found.0 (counts_in (suits_of held room)) ≡ missing found.0 held = ap (missing found.0) (counts_are held room are.held_size) in
-            inr (found.0, (found.1.is, omega arith))
+            let f = back.missed in
+            let e : missing back.tiles (counts_in (suits_of held room)) ≡ missing back.tiles held = ap (missing back.tiles) (counts_are held room size) in
+            inr (back.tiles, (back.is, omega arith))
       ];
     }
+
+-- ---- the suits of which no tile is less
+
+-- a suit before the kind's has the same tiles
+pub same_suit : (held room : List ℕ) (kind number from : ℕ) (runs : Bool) → from + 9 ≤ kind → suit_from held room from runs ≡ suit_from (set held kind number) room from runs
+same_suit held room kind number from runs past = ap (λ c. let s : Suit = record { counts = c; room = take 9 (drop from room); runs = runs } in s) (sym same)
+  where
+    place : from + (kind - from) ≡ kind
+    place = omega arith
+
+    same : take 9 (drop from (set held kind number)) ≡ take 9 (drop from held)
+    same = ap (λ k. take 9 (drop from (set held k number))) (sym place) ∙ ap (take 9) (drop-set-add from held (kind - from) number) ∙ take-set-le 9 (drop from held) (kind - from) number (omega arith)
+
+pub same_row : (held room after row : List ℕ) (number less from : ℕ) (runs : Bool) → from + 9 ≤ number → IsRow (suit_from held room from runs) after row → IsRow (suit_from (set held number less) room from runs) after row
+same_row held room after row number less from runs past is = subst (λ (s : Suit). IsRow s after row) (same_suit held room number less from runs past) is
+
+-- a hand with two numbers more, of one tile less
+pub less_wide : (held room : List ℕ) (kind number less : ℕ) → number ≡ kind → kind < 34 → less ≤ get_or held number 0 → IsWide held room → IsWide (set held number less) room
+less_wide held room kind number less kind_is low few wide = record {
+  held_size = length-set held number less ∙ wide.held_size;
+  room_size = wide.room_size;
+  within = less_within held room number less few wide.within;
+  of_four = wide.of_four;
+  held_is = (less_two held number less wide.held_size (omega arith) wide.held_is).0;
+  room_is = wide.room_is;
+}
+
+-- the counts and the room of a hand with two numbers more
+pub new_wide : (held wide counts room : List ℕ) → length held ≡ 36 → length wide ≡ 36 → held ≡ with_two counts → wide ≡ with_two room → length counts ≡ 34 → length room ≡ 34 → ((n : ℕ) → get_or room n 0 ≤ 4) → IsWithinRoom counts room → IsWide held wide
+new_wide held wide counts room held_size wide_size a b size room_size few within = record {
+  held_size = held_size;
+  room_size = wide_size;
+  within = wide_within held wide counts room a b size room_size within;
+  of_four = wide_four wide room b room_size few;
+  held_is = (front_two held counts a size).1;
+  room_is = (front_two wide room b room_size).1;
+}

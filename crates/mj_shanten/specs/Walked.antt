@@ -15,14 +15,28 @@ pub record Tiles : Type 0 where
 abbrev pub IsRow : Suit → List ℕ → List ℕ → Type 0
 IsRow suit after row = LeavesMost suit.counts suit.room suit.runs after row
 
--- each row is that of its suit before those after it, in a hand with two numbers more, which no kind has
-pub record AreWalked (held room start honours bamboo circles characters : List ℕ) : Type 0 where
+-- a hand with two numbers more, which no kind has, and the room for it
+pub record IsWide (held room : List ℕ) : Type 0 where
   pub held_size : length held ≡ 36
   pub room_size : length room ≡ 36
   pub within : EachIndex held (λ n. slice_index held n ≤ slice_index room n)
   pub of_four : EachIndex room (λ n. slice_index room n ≤ 4)
   pub held_is : held ≡ with_two (take 34 held)
   pub room_is : room ≡ with_two (take 34 room)
+
+-- each row is that of its suit after those before it
+pub record AreWalked (held room start characters circles bamboo honours : List ℕ) : Type 0 where
+  pub wide : IsWide held room
+  pub start_is : Holds start start_lane
+  pub start_few : IsFew start
+  pub first : IsRow (suit_from held room 0 true) start characters
+  pub second : IsRow (suit_from held room 9 true) characters circles
+  pub third : IsRow (suit_from held room 18 true) circles bamboo
+  pub fourth : IsRow (suit_from held room 27 false) bamboo honours
+
+-- each row is that of its suit before those after it
+pub record AreTargetRows (held room start honours bamboo circles characters : List ℕ) : Type 0 where
+  pub wide : IsWide held room
   pub start_is : Holds start start_lane
   pub start_few : IsFew start
   pub fourth : IsRow (suit_from held room 27 false) start honours

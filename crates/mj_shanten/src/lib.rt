@@ -8,6 +8,7 @@ mod nearest_hand;
 mod orphans;
 mod seven_pairs;
 mod suits;
+mod target_rows;
 
 pub use exchanges::exchange_path;
 pub use nearest_hand::{Nearest, shanten};

@@ -1,18 +1,19 @@
-//! The nearest hand of sets and a pair: one suit is walked after the other, from the honours to the characters, and each
-//! row says what is left of the tiles of all suits from its own on.
+//! The suits of a hand: one is walked after the other, from the characters to the honours, and each row says what is left
+//! of the tiles of all suits up to its own. So without a tile only its suit and those after it are walked again.
 
-ghost use Rattle.std.specs.Prelude.{◌≡◌, ◌≤◌, ◌<◌, ◌+◌, ◌++◌, ℕ, List, true, false, Some, MatchOption, MatchBool, length, slice_index, EachIndex, take, drop};
-ghost use Rattle.mj_suits.specs.Rows.{lane, IsFew};
-ghost use Rattle.mj_suits.specs.Left.{LeavesMost, IsChosen};
-ghost use Rattle.mj_suits.specs.Targets.{missing, IsNearest};
+ghost use Rattle.std.specs.Prelude.{◌≡◌, ◌≤◌, ◌<◌, true, false, Some, MatchBool, length, slice_index, take, drop};
+ghost use Rattle.mj_suits.specs.Rows.{Holds, IsFew, start_lane};
+ghost use Rattle.mj_suits.specs.Left.{LeavesMost};
+ghost use Rattle.mj_suits.specs.Targets.{missing};
 ghost use Rattle.mj_suits.specs.Improves.{AsGood, Improves};
 ghost use Rattle.mj_tiles.specs.Counts.{NoFifth};
 ghost use Rattle.mj_shanten.specs.Exchanges.{one_less};
 ghost use Rattle.mj_shanten.specs.Room.{IsWithinRoom};
 ghost use Rattle.mj_shanten.specs.Suits.{IsSuit, IsJoint, suit_from, suits_of, with_two};
-ghost use Rattle.mj_shanten.specs.Walked.{Tiles, IsLeastOr};
+ghost use Rattle.mj_shanten.specs.Walked.{Tiles, IsWide, IsRow, IsLeastOr};
 
-use mj_suits::{Choice, Row, choose, with_suit};
+use crate::target_rows::{TargetRows, walked};
+use mj_suits::{Row, with_suit};
 use mj_tiles::{Counts, Kind};
 use std::cmp::Ordering;
 use std::marker::Model;
@@ -20,21 +21,21 @@ use std::marker::Model;
 // One suit: the tiles held, the room, and whether it has runs.
 #[derive(Drop)]
 pub(crate) struct Suit {
-    counts: [u8; 9],
-    room: [u8; 9],
-    runs: bool,
+    pub(crate) counts: [u8; 9],
+    pub(crate) room: [u8; 9],
+    pub(crate) runs: bool,
 }
 
-/// The tiles of a hand, the room for them, and what each suit and those after it leave for each number of sets.
+/// The tiles of a hand, the room for them, and what each suit and those before it leave for each number of sets.
 #[derive(Drop)]
 pub struct Suits {
     held: [u8; 36],
     room: [u8; 36],
     start: Row,
-    honours: Row,
-    bamboo: Row,
-    circles: Row,
     characters: Row,
+    circles: Row,
+    bamboo: Row,
+    honours: Row,
 }
 
 impl Model for Suits {
@@ -46,7 +47,7 @@ impl Model for Suits {
     ghost view = { λ suits. record { counts = take 34 suits.held; room = take 34 suits.room } };
 
     ghost invariant = { λ suits. AreWalked suits.held suits.room suits.start.lanes
-        suits.honours.lanes suits.bamboo.lanes suits.circles.lanes suits.characters.lanes };
+        suits.characters.lanes suits.circles.lanes suits.bamboo.lanes suits.honours.lanes };
 }
 
 impl Suits {
@@ -55,7 +56,9 @@ impl Suits {
         requires { IsWithinRoom counts.now room.now }
         ensures { result ≡ record { counts = counts.now; room = room.now } }
     {
-        walked(with_room_for_two(counts), with_room_for_two(room))
+        let held = with_room_for_two(counts);
+        let room = with_room_for_two(room);
+        from_characters(held, room, Row::start())
     }
 
     /// The suits of the hand with one tile less of the kind, and the same room. The kind is held.
@@ -66,7 +69,21 @@ impl Suits {
         let mut held = self.held;
         held[kind.number() as usize] -= 1;
         let room = self.room;
-        walked(held, room)
+        let (start, characters) = (self.start, self.characters);
+        let (circles, bamboo) = (self.circles, self.bamboo);
+        match kind.number() / 9 {
+            0 => from_characters(held, room, start),
+            1 => from_circles(held, room, start, characters),
+            2 => from_bamboo(held, room, start, characters, circles),
+            _ => from_honours(held, room, start, characters, circles, bamboo),
+        }
+    }
+
+    // What each suit and those after it leave.
+    pub(crate) fn target_rows(&self) -> TargetRows
+        ensures { result ≡ record { counts = self.now.counts; room = self.now.room } }
+    {
+        walked(self.held, self.room)
     }
 
     // The counts, and two numbers more, which no kind has.
@@ -80,48 +97,81 @@ impl Suits {
 }
 
 // The suits of a hand with two numbers more, which no kind has.
-fn walked(held: [u8; 36], room: [u8; 36]) -> Suits
-    requires within { EachIndex held (λ n. slice_index held n ≤ slice_index room n) }
-    requires of_four { EachIndex room (λ n. slice_index room n ≤ 4) }
-    requires held { held ≡ with_two (take 34 held) }
-    requires room { room ≡ with_two (take 34 room) }
+#[inline(always)]
+fn from_characters(held: [u8; 36], room: [u8; 36], start: Row) -> Suits
+    requires wide { IsWide held room }
+    requires start { Holds start.lanes start_lane }
+    requires few { IsFew start.lanes }
     ensures { result ≡ record { counts = take 34 held; room = take 34 room } }
 {
-    let start = Row::start();
-    let honours = row_of(start, &suit_at(&held, &room, 27, false));
-    let bamboo = row_of(honours, &suit_at(&held, &room, 18, true));
-    let circles = row_of(bamboo, &suit_at(&held, &room, 9, true));
-    let characters = row_of(circles, &suit_at(&held, &room, 0, true));
+    let characters = row_of(start, &suit_at(&held, &room, 0, true));
+    from_circles(held, room, start, characters)
+}
+
+// The same where the row of the characters is known.
+#[inline(always)]
+fn from_circles(held: [u8; 36], room: [u8; 36], start: Row, characters: Row) -> Suits
+    requires wide { IsWide held room }
+    requires start { Holds start.lanes start_lane }
+    requires few { IsFew start.lanes }
+    requires first { IsRow (suit_from held room 0 true) start.lanes characters.lanes }
+    ensures { result ≡ record { counts = take 34 held; room = take 34 room } }
+{
+    let circles = row_of(characters, &suit_at(&held, &room, 9, true));
+    from_bamboo(held, room, start, characters, circles)
+}
+
+// The same where the rows of characters and circles are known.
+#[inline(always)]
+fn from_bamboo(held: [u8; 36], room: [u8; 36], start: Row, characters: Row, circles: Row) -> Suits
+    requires wide { IsWide held room }
+    requires start { Holds start.lanes start_lane }
+    requires few { IsFew start.lanes }
+    requires first { IsRow (suit_from held room 0 true) start.lanes characters.lanes }
+    requires second { IsRow (suit_from held room 9 true) characters.lanes circles.lanes }
+    ensures { result ≡ record { counts = take 34 held; room = take 34 room } }
+{
+    let bamboo = row_of(circles, &suit_at(&held, &room, 18, true));
+    from_honours(held, room, start, characters, circles, bamboo)
+}
+
+// The same where all rows but that of the honours are known.
+#[inline(always)]
+fn from_honours(
+    held: [u8; 36],
+    room: [u8; 36],
+    start: Row,
+    characters: Row,
+    circles: Row,
+    bamboo: Row,
+) -> Suits
+    requires wide { IsWide held room }
+    requires start { Holds start.lanes start_lane }
+    requires few { IsFew start.lanes }
+    requires first { IsRow (suit_from held room 0 true) start.lanes characters.lanes }
+    requires second { IsRow (suit_from held room 9 true) characters.lanes circles.lanes }
+    requires third { IsRow (suit_from held room 18 true) circles.lanes bamboo.lanes }
+    ensures { result ≡ record { counts = take 34 held; room = take 34 room } }
+{
+    let honours = row_of(bamboo, &suit_at(&held, &room, 27, false));
     Suits {
         held,
         room,
         start,
-        honours,
-        bamboo,
-        circles,
         characters,
+        circles,
+        bamboo,
+        honours,
     }
 }
 
-// The row of a suit before those of which `after` says what is left.
-fn row_of(after: Row, suit: &Suit) -> Row
+/// The row of a suit beside those of which `after` says what is left.
+pub(crate) fn row_of(after: Row, suit: &Suit) -> Row
     requires suit { IsSuit suit.now }
     requires few { IsFew after.lanes }
     ensures { LeavesMost suit.now.counts suit.now.room suit.now.runs after.lanes result.lanes }
 {
     with_suit(after, &suit.counts, &suit.room, suit.runs)
-}
-
-/// Takes into the best hand those of so many sets and a pair within the room.
-pub(crate) fn take_sets(suits: &Suits, sets: u8, best: &mut Option<(u16, [u8; 36])>)
-    requires { sets ≤ 4 }
-    ensures { Improves (with_two suits.now.counts)
-        (IsJoint (suits_of (with_two suits.now.counts) (with_two suits.now.room)) sets true)
-        best.old best.new }
-{
-    if let Some(target) = nearest_sets(suits, sets) {
-        keep_nearer(&suits.held, &target, best);
-    }
 }
 
 /// How many tiles the nearest hand of so many sets and a pair misses; fifteen where none fits.
@@ -132,77 +182,11 @@ pub(crate) fn missing_of_sets(suits: &Suits, sets: u8) -> u8
         (IsJoint (suits_of (with_two suits.now.counts) (with_two suits.now.room)) sets true)
         result }
 {
-    15 - suits.characters.at(sets, 1)
+    15 - suits.honours.at(sets, 1)
 }
 
-// The nearest hand of so many sets and a pair within the room; none where none fits.
-fn nearest_sets(suits: &Suits, sets: u8) -> Option<[u8; 36]>
-    requires { sets ≤ 4 }
-    ensures { MatchOption result
-        ((target : List ℕ)
-        → IsJoint (suits_of (with_two suits.now.counts) (with_two suits.now.room)) sets true target
-        → ⊥)
-        (λ target. IsNearest (with_two suits.now.counts)
-        (IsJoint (suits_of (with_two suits.now.counts) (with_two suits.now.room)) sets true)
-        (missing target (with_two suits.now.counts)) target) }
-{
-    if suits.characters.at(sets, 1) == 0 {
-        return None;
-    }
-    let (held, room) = (&suits.held, &suits.room);
-    let first = part(
-        suits.circles,
-        suits.characters,
-        &suit_at(held, room, 0, true),
-        sets,
-        1,
-    );
-    let second = part(
-        suits.bamboo,
-        suits.circles,
-        &suit_at(held, room, 9, true),
-        first.sets,
-        first.pairs,
-    );
-    let third = part(
-        suits.honours,
-        suits.bamboo,
-        &suit_at(held, room, 18, true),
-        second.sets,
-        second.pairs,
-    );
-    let fourth = part(
-        suits.start,
-        suits.honours,
-        &suit_at(held, room, 27, false),
-        third.sets,
-        third.pairs,
-    );
-    let target = with_nine(&[0; 36], 0, &first.target);
-    let target = with_nine(&target, 9, &second.target);
-    let target = with_nine(&target, 18, &third.target);
-    Some(with_nine(&target, 27, &fourth.target))
-}
-
-// The suit's target that leaves the most for the suits after it.
-fn part(after: Row, row: Row, suit: &Suit, sets: u8, pairs: u8) -> Choice
-    requires suit { IsSuit suit.now }
-    requires few { IsFew after.lanes }
-    requires row { LeavesMost suit.now.counts suit.now.room suit.now.runs after.lanes row.lanes }
-    requires sets { sets < 8 }
-    requires pairs { pairs < 2 }
-    requires some { 0 < lane row.lanes sets pairs }
-    ensures { IsChosen suit.now.counts suit.now.room suit.now.runs after.lanes sets pairs
-        (lane row.lanes sets pairs) result.target result.sets result.pairs }
-{
-    match choose(after, row, &suit.counts, &suit.room, suit.runs, sets, pairs) {
-        Some(choice) => choice,
-        None => unreachable!(),
-    }
-}
-
-// The nine numbers from a place on as a suit.
-fn suit_at(held: &[u8; 36], room: &[u8; 36], from: usize, runs: bool) -> Suit
+/// The nine numbers from a place on as a suit.
+pub(crate) fn suit_at(held: &[u8; 36], room: &[u8; 36], from: usize, runs: bool) -> Suit
     requires { from ≤ 27 }
     ensures { result ≡ suit_from held.now room.now from runs }
 {
@@ -225,8 +209,8 @@ fn nine_from(numbers: &[u8; 36], from: usize) -> [u8; 9]
     nine
 }
 
-// The numbers by kind, and two more that no kind has, so that four suits have nine numbers each.
-fn with_room_for_two(counts: &Counts) -> [u8; 36]
+/// The numbers by kind, and two more that no kind has, so that four suits have nine numbers each.
+pub(crate) fn with_room_for_two(counts: &Counts) -> [u8; 36]
     ensures value { result ≡ with_two counts.now }
     ensures size { length counts.now ≡ 34 }
     ensures few { NoFifth counts.now }
@@ -237,18 +221,6 @@ fn with_room_for_two(counts: &Counts) -> [u8; 36]
         wide[kind] = numbers[kind];
     }
     wide
-}
-
-// The target with a suit's numbers from a place on.
-fn with_nine(target: &[u8; 36], from: usize, nine: &[u8; 9]) -> [u8; 36]
-    requires { from ≤ 27 }
-    ensures { take (from + 9) result ≡ take from target.now ++ nine.now }
-{
-    let mut more = *target;
-    for n in 0..9 {
-        more[from + n] = nine[n];
-    }
-    more
 }
 
 /// Takes the target for the best hand where it is nearer.

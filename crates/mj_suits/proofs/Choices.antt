@@ -8,9 +8,12 @@ use Rattle.std.proofs.lemmas.Cmp.{upto, tied_itself, nat_cmp_total, nat_list_cmp
 use Rattle.std.proofs.Math.Seq.{take-suc-set}
 use Rattle.mj_suits.specs.Rows.{lane, Holds, stepped, walked, IsFew}
 use Rattle.mj_suits.specs.Walked.{row_at, AreRows}
-use Rattle.mj_suits.specs.Targets.{missing}
+use Rattle.std.specs.Prelude.{is_some}
+use Rattle.mj_suits.specs.Targets.{missing, IsTarget}
+use Rattle.mj_suits.specs.Sets.{counts_of, tiles_of_sets, tiles_of_pair}
+use Rattle.mj_suits.specs.declared.sets.SuitSet.{SuitSet}
 use Rattle.mj_suits.specs.Ends.{Goes, Ends}
-use Rattle.mj_suits.specs.Choosing.{rooms, helds, IsState, AreLevels, AreNumbers, Goes_on, By, ByBegin, ByTiles, tiles_at, IsBegin, MayBegin, sets_alone, with_pair, IsPlan, IsGreatest, GreaterOf}
+use Rattle.mj_suits.specs.Choosing.{rooms, helds, IsState, AreLevels, AreNumbers, Goes_on, By, ByBegin, ByTiles, tiles_at, IsBegin, MayBegin, LeavesAsMany, sets_alone, with_pair, IsTooMany, IsPlan, IsGreatest, GreaterOf}
 use Rattle.mj_suits.specs.declared.choosing.Aim.{Aim}
 use Rattle.mj_suits.specs.declared.choosing.Level.{Level}
 use Rattle.mj_suits.specs.declared.choosing.Plan.{Plan}
@@ -134,18 +137,18 @@ next_is aim level others plan next begin row is begins may row_is number before 
       earlier_few = (let b = is.before_few in omega arith);
     }
 
--- where the rows leave another number, none of these leaves as many
-pub none_begins : (aim : Aim) (level : Level) (others : List Level) (plan : Plan) (begin : Begin) (row : List ℕ) (left : ℕ) → IsPlan aim (level ∷ others) plan → IsBegin begin → MayBegin aim level plan begin → row ≡ row_at level.rows begin.runs plan.before
-    → left ≡ lane row (plan.sets - (begin.runs + begin.triplets)) (plan.pairs - begin.pairs) → left ≢ plan.left + (tiles_at plan begin - level.held)
-    → (tiles : List ℕ) (sets pairs : ℕ) → ByBegin aim level others plan begin tiles sets pairs → ⊥
-none_begins aim level others plan begin row left is begins may row_is left_is differ tiles sets pairs by =
+-- where these begin the rows leave as many
+pub begins_leave : (aim : Aim) (level : Level) (others : List Level) (plan : Plan) (begin : Begin) → IsPlan aim (level ∷ others) plan → IsBegin begin
+    → (tiles : List ℕ) (sets pairs : ℕ) → ByBegin aim level others plan begin tiles sets pairs → LeavesAsMany aim level plan begin
+begins_leave aim level others plan begin is begins tiles sets pairs by =
     let more = by.more in
+    let may = by.may in
     let runs_few : begin.runs < 3 = (let r = begins.runs_few in omega arith) in
     let state : IsState aim.runs begin.runs plan.before = state_next aim.runs plan.before plan.earlier begin.runs is.state runs_few may.only in
     let s : ℕ = plan.sets - (begin.runs + begin.triplets) in
     let p : ℕ = plan.pairs - begin.pairs in
-    let held : lane row s p ≡ walked aim.runs (lane aim.after.lanes) (rooms others) (helds others) begin.runs plan.before s p =
-    subst (λ r. lane r s p ≡ walked aim.runs (lane aim.after.lanes) (rooms others) (helds others) begin.runs plan.before s p) (sym row_is) ((is.levels_are.1.0 begin.runs plan.before state).at s p (let f = is.sets_few in omega arith) (let f = is.pairs_few in omega arith)) in
+    let held : lane (row_at level.rows begin.runs plan.before) s p ≡ walked aim.runs (lane aim.after.lanes) (rooms others) (helds others) begin.runs plan.before s p =
+    (is.levels_are.1.0 begin.runs plan.before state).at s p (let f = is.sets_few in omega arith) (let f = is.pairs_few in omega arith) in
     let bound : lane aim.after.lanes sets pairs ≤ walked aim.runs (lane aim.after.lanes) (rooms others) (helds others) begin.runs plan.before (more.sets_here + sets) (more.pairs_here + pairs) + missing by.rest (helds others) =
     walked_bound aim.runs (lane aim.after.lanes) (rooms others) (helds others) begin.runs plan.before more.sets_here more.pairs_here by.rest (same_length others) (of_four aim others is.levels_are.1.1) more.ends sets pairs (let e = more.pairs_are in let f = is.pairs_few in omega arith) in
     let same : walked aim.runs (lane aim.after.lanes) (rooms others) (helds others) begin.runs plan.before (more.sets_here + sets) (more.pairs_here + pairs) ≡ walked aim.runs (lane aim.after.lanes) (rooms others) (helds others) begin.runs plan.before s p =
@@ -154,7 +157,10 @@ none_begins aim level others plan begin row left is begins may row_is left_is di
     step_bound aim.runs (walked aim.runs (lane aim.after.lanes) (rooms others) (helds others)) level.held level.room plan.before plan.earlier plan.sets plan.pairs begin.runs begin.triplets begin.pairs is.levels_are.0 begins.runs_few begins.one may.within may.only may.sets may.pairs in
     let whole : stepped aim.runs level.held level.room (walked aim.runs (lane aim.after.lanes) (rooms others) (helds others)) plan.before plan.earlier plan.sets plan.pairs ≡ plan.left =
     sym (walked_at aim.runs (lane aim.after.lanes) level.room level.held (rooms others) (helds others) plan.before plan.earlier plan.sets plan.pairs) ∙ is.left_is in
-    differ (equal _ _ _ _ _ _ _ _ left_is held bound same step whole more.left_is)
+    record {
+      may = may;
+      left_is = equal _ _ _ _ _ _ _ _ refl held bound same step whole more.left_is;
+    }
   where
     equal : (left row here here' spare missed whole cost : ℕ) → left ≡ row → row ≡ here' → spare ≤ here + missed → here ≡ here' → here' ≤ whole + cost → whole ≡ plan.left → spare ≡ (plan.left + cost) + missed → left ≡ plan.left + cost
     equal left row here here' spare missed whole cost a b c d e f g = omega arith
@@ -203,6 +209,15 @@ begins_greatest aim level others plan next begin choice nine is may target numbe
     }
 
 -- ---- the choices for so many tiles
+
+-- runs and a pair
+pub pair_begins : (tiles : ℕ) → 2 ≤ tiles → tiles ≤ 4 → IsBegin (with_pair tiles)
+pair_begins tiles two four = record { runs_few = omega arith; one = omega arith; four = omega arith }
+
+-- of one choice alone it is the greater
+pub greater_none : (first : Option Choice) → GreaterOf first None first
+greater_none None = refl
+greater_none (Some one) = refl
 
 -- of two choices with equal fronts the lexicographically greater one
 pub kept_first : (first second : Option Choice) (one other : Choice) → first ≡ Some one → second ≡ Some other → slice_cmp nat_cmp other.target one.target ≢ Greater → GreaterOf first second (Some one)
@@ -271,20 +286,25 @@ choice_both aim level others plan tiles first second result two =
 
 -- ---- all choices at a number
 
--- with so many tiles more than fifteen would have been there
-pub too_many : (aim : Aim) (level : Level) (others : List Level) (plan : Plan) → IsPlan aim (level ∷ others) plan → (many : ℕ) → level.held + 15 < plan.left + (plan.before + plan.earlier + many)
+-- with so many tiles more than fifteen would have been there, or more sets and pairs are made than are still to be
+pub too_many : (aim : Aim) (level : Level) (others : List Level) (plan : Plan) → IsPlan aim (level ∷ others) plan → (many : ℕ) → IsTooMany level plan many
     → (tiles : List ℕ) (sets pairs : ℕ) → ByTiles aim level others plan many tiles sets pairs → ⊥
 too_many aim level others plan is many costs tiles sets pairs by = elim by [
-  | inl alone ↦ past (sets_alone many) (omega arith) alone
-  | inr pair ↦ past (with_pair many) (let two : 2 ≤ many = pair.0 in omega arith) pair.1
+  | inl alone ↦ past (sets_alone many) (omega arith) (omega arith) alone
+  | inr pair ↦ past (with_pair many) (let two : 2 ≤ many = pair.0 in omega arith) (let two : 2 ≤ many = pair.0 in omega arith) pair.1
 ]
   where
-    past : (begin : Begin) → tiles_at plan begin ≡ plan.before + plan.earlier + many → ByBegin aim level others plan begin tiles sets pairs → ⊥
-    past begin at h =
+    past : (begin : Begin) → tiles_at plan begin ≡ plan.before + plan.earlier + many → many ≤ 3 * (begin.runs + begin.triplets) + 2 * begin.pairs → ByBegin aim level others plan begin tiles sets pairs → ⊥
+    past begin at made h =
         let more = h.more in
         let few : lane aim.after.lanes sets pairs ≤ 15 = is.few sets pairs (let a = more.sets_are in let f = is.sets_few in omega arith) (let a = more.pairs_are in let f = is.pairs_few in omega arith) in
         let left = more.left_is in
-        omega arith
+        let may_sets = h.may.sets in
+        let may_pairs = h.may.pairs in
+        elim costs [
+          | inl none_left ↦ omega arith
+          | inr none_wanted ↦ omega arith
+        ]
 
 -- so many tiles begin, and the choice is one for so many
 record ForSome (aim : Aim) (level : Level) (others : List Level) (plan : Plan) (tiles : List ℕ) (sets pairs : ℕ) : Type 0 where
@@ -555,3 +575,51 @@ suit_chosen counts room aim row levels plan choice nine most numbers number befo
       most = λ more leaves. most.most plan.sets plan.pairs more few_sets few_pairs leaves;
       greatest = λ other s p by. subst (λ t. slice_cmp nat_cmp other t ≢ Greater) (sym whole) (greatest.greatest other s p (goes_of counts room aim levels plan other s p row nine numbers before earlier left by));
     }
+
+-- ---- nothing to choose
+
+no_pairs : (paired : Bool) → pairs paired ≡ 0 → paired ≡ false
+no_pairs true none = absurd (omega arith)
+no_pairs false none = refl
+
+abbrev pub nine_zeros : List ℕ
+nine_zeros = 0 ∷ 0 ∷ 0 ∷ 0 ∷ 0 ∷ 0 ∷ 0 ∷ 0 ∷ 0 ∷ []
+
+counts_of_none : counts_of [] ≡ nine_zeros
+unfolding counts_of
+counts_of_none = refl
+
+-- a target of no set and no pair has no tile
+no_tiles : (room : List ℕ) (runs : Bool) (melds : ℕ) (paired : Bool) (target : List ℕ) → IsTarget room runs melds paired target → melds ≡ 0 → paired ≡ false → target ≡ nine_zeros
+no_tiles room runs melds paired target is no_melds no_pair =
+    is.made ∙ ap₂ (λ s p. counts_of (tiles_of_sets s ++ tiles_of_pair p)) (no_sets is.sets (is.many ∙ no_melds)) (no_number is.pair (is.has_pair ∙ no_pair)) ∙ counts_of_none
+  where
+    no_sets : (sets : List SuitSet) → length sets ≡ 0 → sets ≡ []
+    no_sets [] none = refl
+    no_sets (set ∷ sets) none = absurd (omega arith)
+
+    no_number : (pair : Option ℕ) → is_some pair ≡ false → pair ≡ None
+    no_number None none = refl
+    no_number (Some number) none = absurd (cc)
+
+-- no tile is what leaves the most where no set and no pair is to be made
+pub no_tiles_chosen : (counts room : List ℕ) (runs : Bool) (after row target : List ℕ) (s p sa pa : ℕ) → LeavesMost counts room runs after row → s + p ≡ 0 → lane row s p ≢ 0 → target ≡ nine_zeros → sa ≡ 0 → pa ≡ 0 → IsChosen counts room runs after s p (lane row s p) target sa pa
+no_tiles_chosen counts room runs after row target s p sa pa most none some target_is sa_is pa_is = record {
+  is = elim (most.some s p (omega arith) (omega arith)) [
+    | inl nothing ↦ absurd (some nothing)
+    | inr leaves ↦
+        let sets = leaves.by.sets_are in
+        let pairs_are = leaves.by.pairs_are in
+        subst (λ n. LeavesBy counts room runs after s p (lane row s p) target n pa) (let e : leaves.sets_after ≡ sa = omega arith in e)
+        (subst (λ n. LeavesBy counts room runs after s p (lane row s p) target leaves.sets_after n) (let e : leaves.pairs_after ≡ pa = omega arith in e)
+        (subst (λ t. LeavesBy counts room runs after s p (lane row s p) t leaves.sets_after leaves.pairs_after) (alone leaves.target leaves.sets_after leaves.pairs_after leaves.by) leaves.by))
+  ];
+  most = λ more leaves. most.most s p more (omega arith) (omega arith) leaves;
+  greatest = λ other other_sets other_pairs by. subst (λ t. slice_cmp nat_cmp t target ≢ Greater) (sym (alone other other_sets other_pairs by)) (not_greater-same target);
+}
+  where
+    alone : (other : List ℕ) (other_sets other_pairs : ℕ) → LeavesBy counts room runs after s p (lane row s p) other other_sets other_pairs → other ≡ target
+    alone other other_sets other_pairs by =
+        let sets = by.sets_are in
+        let pairs_are = by.pairs_are in
+        no_tiles room runs by.melds by.paired other by.is_target (omega arith) (no_pairs by.paired (omega arith)) ∙ sym target_is

@@ -74,6 +74,11 @@ pub record MayBegin (aim : Aim) (level : Level) (plan : Plan) (begin : Begin) : 
   pub pairs : begin.pairs ≤ plan.pairs
   pub within : tiles_at plan begin ≤ level.room
 
+-- these may begin, and by the rows after the number as many are left as the plan says
+pub record LeavesAsMany (aim : Aim) (level : Level) (plan : Plan) (begin : Begin) : Type 0 where
+  pub may : MayBegin aim level plan begin
+  pub left_is : lane (row_at level.rows begin.runs plan.before) (plan.sets - (begin.runs + begin.triplets)) (plan.pairs - begin.pairs) ≡ plan.left + (tiles_at plan begin - level.held)
+
 -- the same where these runs, triplets and pairs begin at the plan's number
 pub record ByBegin (aim : Aim) (level : Level) (others : List Level) (plan : Plan) (begin : Begin) (tiles : List ℕ) (sets_after pairs_after : ℕ) : Type 0 where
   pub rest : List ℕ
@@ -92,6 +97,10 @@ abbrev pub ByTiles : Aim → Level → List Level → Plan → ℕ → List ℕ 
 ByTiles aim level others plan tiles rest sets pairs =
     ByBegin aim level others plan (sets_alone tiles) rest sets pairs
     ⊎ ((2 ≤ tiles) × ByBegin aim level others plan (with_pair tiles) rest sets pairs)
+
+-- with so many tiles that begin fewer than none of fifteen would be left, or more sets and pairs would be made than are still to be
+abbrev pub IsTooMany : Level → Plan → ℕ → Type 0
+IsTooMany level plan many = (level.held + 15 < plan.left + (plan.before + plan.earlier + many)) ⊎ (3 * plan.sets + 2 * plan.pairs < many)
 
 -- the numbers that are still to come have the rows of the walk, by which the most that is left is what the plan says, and it is more than none
 pub record IsPlan (aim : Aim) (levels : List Level) (plan : Plan) : Type 0 where

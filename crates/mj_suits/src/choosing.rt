@@ -5,7 +5,7 @@ ghost use Rattle.std.specs.Prelude.{◌≡◌, ◌≤◌, ◌<◌, ◌+◌, ◌*
 ghost use Rattle.mj_suits.specs.Rows.{IsFew, lane};
 ghost use Rattle.mj_suits.specs.Left.{LeavesMost, IsChosen};
 ghost use Rattle.mj_suits.specs.Walked.{row_at};
-ghost use Rattle.mj_suits.specs.Choosing.{By, ByTiles, ByBegin, IsPlan, IsGreatest, GreaterOf, IsBegin, MayBegin, tiles_of, AreNumbers};
+ghost use Rattle.mj_suits.specs.Choosing.{By, ByTiles, ByBegin, IsPlan, IsGreatest, GreaterOf, IsBegin, MayBegin, LeavesAsMany, IsTooMany, tiles_of, AreNumbers};
 
 use crate::row::Row;
 use crate::walk::{Rows, honours_before, rows_before, rows_of, rows_past};
@@ -87,6 +87,13 @@ pub fn choose(
     if left == 0 {
         return None;
     }
+    if sets + pairs == 0 {
+        return Some(Choice {
+            target: [0; 9],
+            sets: 0,
+            pairs: 0,
+        });
+    }
     let aim = Aim { runs, after };
     let plan = Plan {
         target: [0; 9],
@@ -167,6 +174,7 @@ fn level_of(held: u8, room: u8, rows: Rows) -> Level
 
 // Chooses the tiles of the numbers from the plan's on.
 #[cycle(choosing)]
+#[inline(always)]
 fn choose_from(aim: &Aim, levels: &[Level], plan: &Plan) -> Choice
     requires { IsPlan aim.now levels.now plan.now }
     ensures { IsGreatest (By aim.now levels.now plan.now) plan.now result }
@@ -197,21 +205,28 @@ fn choose_at(aim: &Aim, level: &Level, others: &[Level], plan: &Plan) -> Choice
     unreachable!()
 }
 
-// At most so many tiles begin at the plan's number: with more of them fewer than none of fifteen would be left.
+// At most so many tiles begin at the plan's number: with more of them fewer than none of fifteen would be left, or more sets
+// and pairs would be made than are still to be.
 fn most_tiles(level: &Level, plan: &Plan) -> u8
     requires left { plan.now.left ≤ 15 }
     requires before { plan.now.before < 3 }
     requires earlier { plan.now.earlier < 3 }
+    requires sets { plan.now.sets < 8 }
+    requires pairs { plan.now.pairs < 2 }
     ensures few { result ≤ 4 }
-    ensures most { (many : ℕ) → result < many → many ≤ 4 → level.now.held + 15
-        < plan.now.left + (plan.now.before + plan.now.earlier + many) }
+    ensures most { (many : ℕ) → result < many → many ≤ 4
+        → IsTooMany level.now plan.now many }
 {
     let most = level.held.saturating_add(15 - plan.left);
-    most.saturating_sub(plan.before + plan.earlier).min(4)
+    let wanted = 3 * plan.sets + 2 * plan.pairs;
+    most.saturating_sub(plan.before + plan.earlier)
+        .min(wanted)
+        .min(4)
 }
 
 // The same where so many tiles begin at the plan's number; none where none of these targets leaves so many.
 #[cycle(choosing)]
+#[inline(always)]
 fn choose_tiles(
     aim: &Aim,
     level: &Level,
@@ -231,21 +246,25 @@ fn choose_tiles(
         triplets: tiles / 3,
         pairs: 0,
     };
-    let first = choose_begin(aim, level, others, plan, sets_alone);
     if tiles < 2 {
-        return first;
+        return choose_begin(aim, level, others, plan, sets_alone);
     }
     let with_pair = Begin {
         runs: tiles - 2,
         triplets: 0,
         pairs: 1,
     };
-    let second = choose_begin(aim, level, others, plan, with_pair);
-    greater_of(first, second)
+    if !leaves_as_many(aim, level, plan, with_pair) {
+        return choose_begin(aim, level, others, plan, sets_alone);
+    }
+    let first = choose_begin(aim, level, others, plan, sets_alone);
+    let second = choose_next(aim, level, others, plan, with_pair);
+    greater_of(first, Some(second))
 }
 
 // The same where these runs, triplets and pairs begin at the plan's number.
 #[cycle(choosing)]
+#[inline(always)]
 fn choose_begin(
     aim: &Aim,
     level: &Level,
@@ -260,16 +279,22 @@ fn choose_begin(
         → ByBegin aim.now level.now others.now plan.now begin rest sets pairs → ⊥)
         (IsGreatest (ByBegin aim.now level.now others.now plan.now begin) plan.now) }
 {
-    if !may_begin(aim, level, plan, begin) {
+    if !leaves_as_many(aim, level, plan, begin) {
         return None;
     }
+    Some(choose_next(aim, level, others, plan, begin))
+}
+
+// The same where by the rows after the number as many are left.
+#[cycle(choosing)]
+#[inline(always)]
+fn choose_next(aim: &Aim, level: &Level, others: &[Level], plan: &Plan, begin: Begin) -> Choice
+    requires few { IsBegin begin }
+    requires plan { IsPlan aim.now (level.now ∷ others.now) plan.now }
+    requires leaves { LeavesAsMany aim.now level.now plan.now begin }
+    ensures { IsGreatest (ByBegin aim.now level.now others.now plan.now begin) plan.now result }
+{
     let tiles = plan.before + plan.earlier + tiles_of(begin);
-    let sets = plan.sets - (begin.runs + begin.triplets);
-    let pairs = plan.pairs - begin.pairs;
-    let left = level.rows.at(begin.runs, plan.before).at(sets, pairs);
-    if left != plan.left + tiles.saturating_sub(level.held) {
-        return None;
-    }
     let mut target = plan.target;
     target[plan.number] = tiles;
     let next = Plan {
@@ -277,11 +302,37 @@ fn choose_begin(
         number: plan.number + 1,
         before: begin.runs,
         earlier: plan.before,
-        sets,
-        pairs,
-        left,
+        sets: plan.sets - (begin.runs + begin.triplets),
+        pairs: plan.pairs - begin.pairs,
+        left: plan.left + tiles.saturating_sub(level.held),
     };
-    Some(choose_from(aim, others, &next))
+    choose_from(aim, others, &next)
+}
+
+// Whether these may begin at the plan's number, and the rows after it leave as many as the plan says.
+#[inline(always)]
+fn leaves_as_many(aim: &Aim, level: &Level, plan: &Plan, begin: Begin) -> bool
+    requires few { IsBegin begin }
+    requires before { plan.now.before < 3 }
+    requires earlier { plan.now.earlier < 3 }
+    requires sets { plan.now.sets < 8 }
+    requires pairs { plan.now.pairs < 2 }
+    requires left { plan.now.left ≤ 15 }
+    ensures { MatchBool result
+        (LeavesAsMany aim.now level.now plan.now begin)
+        (LeavesAsMany aim.now level.now plan.now begin → ⊥) }
+{
+    if !may_begin(aim, level, plan, begin) {
+        return false;
+    }
+    let tiles = plan.before + plan.earlier + tiles_of(begin);
+    let sets = plan.sets - (begin.runs + begin.triplets);
+    let pairs = plan.pairs - begin.pairs;
+    let left = level.rows.at(begin.runs, plan.before).at(sets, pairs);
+    if left != plan.left + tiles.saturating_sub(level.held) {
+        return false;
+    }
+    true
 }
 
 // How many tiles begin.

@@ -7,27 +7,10 @@ use Rattle.std.proofs.lemmas.List.Elements.{filter-append}
 use Rattle.mj_deeds.proofs.Newest.{last_added}
 
 -- What is added last is the last one; where nothing is added the last stays.
-last_more : (xs : List ℕ) (more : Option ℕ) →
+pub last_more : (xs : List ℕ) (more : Option ℕ) →
     slice_get (xs ++ option_to_list more) (length (xs ++ option_to_list more) - 1) ≡ option_or more (slice_get xs (length xs - 1))
 last_more xs None = simp append-nil refl
 last_more xs (Some x) = last_added xs x
-
--- What a list gives one item further.
-pub gathered_more : {A : Type 0} (f : A → List ℕ) (xs : List A) (i : ℕ) (x : A) (piece : List ℕ) → i < length xs → x ≡ get_or xs i x → piece ≡ f x →
-    flat_map f (take (i + 1) xs) ≡ flat_map f (take i xs) ++ piece
-gathered_more f xs i x piece h is what =
-    ap (flat_map f) (take_more xs i x h)
-    ∙ sym (flat_map_more f [] (take i xs) (get_or xs i x))
-    ∙ ap (λ y. flat_map f (take i xs) ++ f y) (sym is)
-    ∙ ap (λ (ys : List ℕ). flat_map f (take i xs) ++ ys) (sym what)
-
--- The last of what a list gives, one item further.
-pub last_gathered : {A : Type 0} (f : A → List ℕ) (xs : List A) (i : ℕ) (x : A) (more before after : Option ℕ) → i < length xs → x ≡ get_or xs i x →
-    option_to_list more ≡ f x → before ≡ slice_get (flat_map f (take i xs)) (length (flat_map f (take i xs)) - 1) → after ≡ option_or more before →
-    after ≡ slice_get (flat_map f (take (i + 1) xs)) (length (flat_map f (take (i + 1) xs)) - 1)
-last_gathered f xs i x more before after h is what was now =
-    now ∙ ap (option_or more) was ∙ sym (last_more (flat_map f (take i xs)) more)
-    ∙ ap (λ (ys : List ℕ). slice_get ys (length ys - 1)) (sym (gathered_more f xs i x (option_to_list more) h is what))
 
 -- The last one of a list that doesn't pass, with one item more.
 kept_more : {A : Type 0} (p : A → Bool) (xs : List A) (x : A) →

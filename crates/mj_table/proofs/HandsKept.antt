@@ -1,20 +1,29 @@
 -- What is kept of the newest hand, a deed further.
-use Rattle.std.proofs.Common.{◌≡◌, ℕ, ◌+◌, ◌-◌, ◌==◌, ◌<◌, ◌≤◌, ◌||◌, not, ltb, Bool, true, false, List, [], ◌∷◌, ◌++◌, length, cond, refl, sym, ap, ◌∙◌, subst, arith}
-use Rattle.std.proofs.lemmas.Bool.{eqb-true, ltb-true}
+use Rattle.std.proofs.Common.{◌≡◌, ℕ, suc, ◌+◌, ◌-◌, ◌==◌, ◌<◌, ◌≤◌, ◌||◌, not, eqb, ltb, Bool, true, false, List, [], ◌∷◌, ◌++◌, length, get_or, cond, refl, sym, ap, ◌∙◌, subst, arith}
+use Rattle.std.specs.Prelude.{flat_map, Option, Some}
+use Rattle.std.proofs.lemmas.Bool.{ltb-true, ne_eqb}
 use Rattle.std.proofs.lemmas.Grind.{common_steps}
+use Rattle.std.proofs.lemmas.List.{length-append}
+use Rattle.std.proofs.lemmas.List.Sums.{sum_by-cons}
+use Rattle.mj_tiles.specs.Counts.{number_of}
+use Rattle.mj_tiles.proofs.CountSteps.{number_of-append}
 use Rattle.mj_deeds.specs.declared.deed.Deed.{Deed}
-use Rattle.mj_deeds.specs.declared.deed.Deed.TheVariants.{Draw}
-use Rattle.mj_deeds.specs.Facts.{seat_melds, is_kan, kans, is_live_draw, live_draws, live_tiles}
-use Rattle.mj_deeds.specs.Fits.{fits, all_fit, has_live}
-use Rattle.mj_deeds.specs.Four.{at_seat}
-use Rattle.mj_deeds.specs.Hand.{is_hand_start, hand, before_in}
-use Rattle.mj_deeds.proofs.Fitted.{Parts, all_fit-append, kept_in_hand, four_kans, four_melds}
+use Rattle.mj_deeds.specs.declared.deed.Deed.TheVariants.{StartHand, Draw, OpenKan, ClosedKan, AddedKan, Dora}
+use Rattle.mj_deeds.specs.Facts.{newest, indicators_by, indicators, adds_by, is_kan, kans, is_live_draw, live_draws, live_tiles}
+use Rattle.mj_deeds.specs.Fits.{ground_of, is_in_place, is_after_kan, fits, all_fit, has_live, has_seats, brought_by}
+use Rattle.mj_deeds.specs.Hand.{is_hand_start, hand}
+use Rattle.mj_deeds.proofs.Fitted.{Parts, all_fit-append, kept, kept_in_hand, parts_of, four_kans, four_melds, four_of_kind}
+use Rattle.mj_deeds.proofs.HandSteps.{behind, hand_more}
+use Rattle.mj_deeds.proofs.Newest.{newest_more}
+use Rattle.mj_table.proofs.InHand.{hand_none}
 use Rattle.mj_table.proofs.Readers.{hand_is_with}
+use Rattle.mj_table.proofs.Spare.{one_more}
 use Rattle.mj_table.specs.Plays.{Play}
 use Rattle.mj_table.specs.declared.hand_facts.HandFacts.{HandFacts}
 use Rattle.mj_table.specs.declared.seat_facts.SeatFacts.{SeatFacts}
+use Rattle.mj_table.specs.Inner.Any.{of_any}
 use Rattle.mj_table.specs.Inner.Kept.{hand_with}
-use Rattle.mj_table.specs.Inner.Hands.{Knows}
+use Rattle.mj_table.specs.Inner.Hands.{Brings, Knows, Few}
 use Rattle.mj_table.specs.Inner.Seats.{Keeps}
 use Rattle.mj_wall.specs.declared.setting.Rules.{Rules}
 
@@ -40,14 +49,27 @@ counted_is kept n m most result b more e f few small is told = by_test b more is
     by_test false true h f k = cc
 
 -- How many live tiles were drawn, and how many kans were made, with one deed more.
-pub drawn_with : (all ds : List Deed) (d : Deed) (kept result : ℕ) (more : Bool) → all ≡ ds ++ d ∷ [] → live_draws all ≤ 70 → kept ≡ live_draws ds → more ≡ is_live_draw d →
-    (kept + cond more 1 0 ≤ 255 → result ≡ kept + cond more 1 0) → result ≡ live_draws all
-drawn_with all ds d kept result more e few was is told =
-    counted_is kept (live_draws ds) (live_draws all) 70 result (is_live_draw d) more was (ap live_draws e ∙ draws_more ds d) few (omega arith) is told
+pub drawn_with : (ds : List Deed) (d : Deed) (kept result : ℕ) (more : Bool) → live_draws (ds ++ d ∷ []) ≤ 70 → kept ≡ live_draws ds → more ≡ is_live_draw d →
+    (kept + cond more 1 0 ≤ 255 → result ≡ kept + cond more 1 0) → result ≡ live_draws (ds ++ d ∷ [])
+drawn_with ds d kept result more few was is told = counted_is kept (live_draws ds) (live_draws (ds ++ d ∷ [])) 70 result (is_live_draw d) more was (draws_more ds d) few (omega arith) is told
 
-pub kans_with : (all ds : List Deed) (d : Deed) (kept result : ℕ) (more : Bool) → all ≡ ds ++ d ∷ [] → kans all ≤ 4 → kept ≡ kans ds → more ≡ is_kan d →
-    (kept + cond more 1 0 ≤ 255 → result ≡ kept + cond more 1 0) → result ≡ kans all
-kans_with all ds d kept result more e few was is told = counted_is kept (kans ds) (kans all) 4 result (is_kan d) more was (ap kans e ∙ kans_more ds d) few (omega arith) is told
+pub kans_with : (ds : List Deed) (d : Deed) (kept result : ℕ) (more : Bool) → kans (ds ++ d ∷ []) ≤ 4 → kept ≡ kans ds → more ≡ is_kan d →
+    (kept + cond more 1 0 ≤ 255 → result ≡ kept + cond more 1 0) → result ≡ kans (ds ++ d ∷ [])
+kans_with ds d kept result more few was is told = counted_is kept (kans ds) (kans (ds ++ d ∷ [])) 4 result (is_kan d) more was (kans_more ds d) few (omega arith) is told
+
+-- How many tiles of each kind were brought in.
+pub brought_with : (ds : List Deed) (d : Deed) (kept result : List ℕ) → ((kind : ℕ) → kind < 34 → number_of (flat_map brought_by (ds ++ d ∷ [])) kind ≤ 4) → Brings ds kept →
+    ((kind : ℕ) → kind < 34 → get_or kept kind 0 + number_of (brought_by d) kind ≤ 255 → get_or result kind 0 ≡ get_or kept kind 0 + number_of (brought_by d) kind) → Brings (ds ++ d ∷ []) result
+brought_with ds d kept result few was told kind small =
+    sum _ _ _ _ _ (was kind small) (number_with kind) (few kind small) (told kind small)
+  where
+    number_with : (kind : ℕ) → number_of (flat_map brought_by (ds ++ d ∷ [])) kind ≡ number_of (flat_map brought_by ds) kind + number_of (brought_by d) kind
+    number_with kind = ap (λ (xs : List ℕ). number_of xs kind) (one_more brought_by ds d) ∙ number_of-append (flat_map brought_by ds) (brought_by d) kind
+
+    sum : (n k g m a : ℕ) → k ≡ g → m ≡ g + a → m ≤ 4 → (k + a ≤ 255 → n ≡ k + a) → n ≡ m
+    sum n k g m a e f h t =
+        let now : n ≡ k + a = t (omega (arith, e, f, h)) in
+        omega (arith, e, f, now)
 
 -- Of deeds that fit at most 70 draw a live tile.
 live_left : (ds : List Deed) (d : Deed) → has_live ds d ≡ true → is_live_draw d ≡ true → live_draws ds < 70
@@ -71,42 +93,154 @@ few_drawn red ds fit = kept_in_hand (λ xs. live_draws xs ≤ 70) red ds step (o
     step : (xs : List Deed) (d : Deed) → live_draws xs ≤ 70 → Parts red xs d → live_draws (xs ++ d ∷ []) ≤ 70
     step xs d h p = one (live_draws xs) (live_draws (xs ++ d ∷ [])) (is_live_draw d) (draws_more xs d) h (live_left xs d p.live)
 
+-- At most five indicators are shown: one at the start, and one behind each kan.
+
+shows_more : (ds : List Deed) (d : Deed) → length (indicators (ds ++ d ∷ [])) ≡ length (indicators ds) + length (indicators_by d)
+shows_more ds d = ap length (one_more indicators_by ds d) ∙ length-append (indicators ds) (indicators_by d)
+
+behind_kan : (xs : List Deed) (tile : ℕ) → is_in_place (ground_of xs) (Dora tile) ≡ true → is_after_kan (newest xs) ≡ true
+unfolding ground_of
+behind_kan xs tile h = h
+
+few_shown : (red : Bool) (ds : List Deed) → all_fit red [] ds ≡ true → length (indicators (hand ds)) ≤ 5
+few_shown red ds fit =
+    five _ _ _ (kept (λ (xs : List Deed). length (indicators (hand xs)) + cond (is_after_kan (newest xs)) 1 0 ≤ 1 + kans (hand xs)) red [] ds step (at_first hand_none) fit) (four_kans red ds fit)
+  where
+    five : (n b k : ℕ) → n + b ≤ 1 + k → k ≤ 4 → n ≤ 5
+    five n b k e f = omega (arith, e, f)
+
+    at_first : hand [] ≡ [] → length (indicators (hand [])) + 0 ≤ 1 + kans (hand [])
+    at_first e = subst (λ (xs : List Deed). length (indicators xs) + 0 ≤ 1 + kans xs) (sym e) (omega arith)
+
+    placed : (n m k j x y b c : ℕ) → n ≡ m + x → k ≡ j + y → m + b ≤ 1 + j → x + c ≤ y + b → n + c ≤ 1 + k
+    placed n m k j x y b c e f g h = omega (arith, e, f, g, h)
+
+    dora : (b : Bool) → b ≡ true → 1 + 0 ≤ 0 + cond b 1 0
+    dora true e = omega arith
+    dora false e = cc
+
+    little : (b : ℕ) → 0 + 0 ≤ 0 + b
+    little b = omega arith
+
+    kan : (b : ℕ) → 0 + 1 ≤ 1 + b
+    kan b = omega arith
+
+    by_deed : (xs : List Deed) (d : Deed) → is_hand_start d ≡ false → is_in_place (ground_of xs) d ≡ true →
+        length (indicators_by d) + cond (is_after_kan (Some d)) 1 0 ≤ cond (is_kan d) 1 0 + cond (is_after_kan (newest xs)) 1 0
+    by_deed xs (StartHand round number honba deposits dealer indicator hands) h place = cc
+    by_deed xs (Dora tile) h place = dora (is_after_kan (newest xs)) (behind_kan xs tile place)
+    by_deed xs (OpenKan who target tile a b c) h place = kan _
+    by_deed xs (ClosedKan who a b c d) h place = kan _
+    by_deed xs (AddedKan who tile a b c) h place = kan _
+    by_deed xs other h place = little _
+
+    started : (d : Deed) → is_hand_start d ≡ true → length (indicators (d ∷ [])) + cond (is_after_kan (Some d)) 1 0 ≤ 1 + kans (d ∷ [])
+    started (StartHand round number honba deposits dealer indicator hands) h = omega arith
+    started other h = cc
+
+    alone : (b : Bool) → 0 + cond b 1 0 ≤ 1 + 0
+    alone true = omega arith
+    alone false = omega arith
+
+    by_hand : (xs : List Deed) (d : Deed) (h : List Deed) → is_hand_start d ≡ false → is_in_place (ground_of xs) d ≡ true → length (indicators h) + cond (is_after_kan (newest xs)) 1 0 ≤ 1 + kans h →
+        length (indicators (behind h d)) + cond (is_after_kan (Some d)) 1 0 ≤ 1 + kans (behind h d)
+    by_hand xs d [] e place was = alone (is_after_kan (Some d))
+    by_hand xs d (x ∷ h) e place was =
+        placed _ (length (indicators (x ∷ h))) _ (kans (x ∷ h)) (length (indicators_by d)) (cond (is_kan d) 1 0) (cond (is_after_kan (newest xs)) 1 0) _
+        (shows_more (x ∷ h) d) (kans_more (x ∷ h) d) was (by_deed xs d e place)
+
+    step : (xs : List Deed) (d : Deed) → length (indicators (hand xs)) + cond (is_after_kan (newest xs)) 1 0 ≤ 1 + kans (hand xs) → fits red xs d ≡ true →
+        length (indicators (hand (xs ++ d ∷ []))) + cond (is_after_kan (newest (xs ++ d ∷ []))) 1 0 ≤ 1 + kans (hand (xs ++ d ∷ []))
+    step xs d was one =
+        subst (λ (o : Option Deed). length (indicators (hand (xs ++ d ∷ []))) + cond (is_after_kan o) 1 0 ≤ 1 + kans (hand (xs ++ d ∷ []))) (sym (newest_more xs d))
+        (subst (λ (h : List Deed). length (indicators h) + cond (is_after_kan (Some d)) 1 0 ≤ 1 + kans h) (sym (hand_more xs d)) (by_start (is_hand_start d) refl))
+      where
+        by_start : (b : Bool) → is_hand_start d ≡ b →
+            length (indicators (cond b (d ∷ []) (behind (hand xs) d))) + cond (is_after_kan (Some d)) 1 0 ≤ 1 + kans (cond b (d ∷ []) (behind (hand xs) d))
+        by_start true e = started d e
+        by_start false e = by_hand xs d (hand xs) e (parts_of red xs d one).place was
+
+-- A seat adds no more tiles than there are kans.
+few_added : (ds : List Deed) (seat : ℕ) → length (flat_map (adds_by seat) ds) ≤ kans ds
+few_added [] seat = omega arith
+few_added (d ∷ ds) seat =
+    sum _ _ _ _ _ _ (length-append (adds_by seat d) (flat_map (adds_by seat) ds)) (sum_by-cons (λ x. cond (is_kan x) 1 0) d ds) (by_deed d) (few_added ds seat)
+  where
+    sum : (n m a b c e : ℕ) → n ≡ a + b → m ≡ c + e → a ≤ c → b ≤ e → n ≤ m
+    sum n m a b c e h k l o = omega (arith, h, k, l, o)
+
+    one : (b : Bool) (tile : ℕ) → length (cond b (tile ∷ []) []) ≤ 1
+    one true tile = omega arith
+    one false tile = omega arith
+
+    none : (n : ℕ) → 0 ≤ n
+    none n = omega arith
+
+    by_deed : (d : Deed) → length (adds_by seat d) ≤ cond (is_kan d) 1 0
+    by_deed (AddedKan who tile a b c) = one (eqb who seat) tile
+    by_deed other = none _
+
+-- No more stands in the newest hand of deeds that fit than is kept.
+pub few_in_hand : (red : Bool) (ds : List Deed) → all_fit red [] ds ≡ true → Few (hand ds)
+few_in_hand red ds fit = record {
+  drawn = few_drawn red ds fit;
+  kans = four_kans red ds fit;
+  shown = few_shown red ds fit;
+  melds = λ seat. four_melds red ds seat fit;
+  added = λ seat. chain _ _ (few_added (hand ds) seat) (four_kans red ds fit);
+  brought = λ kind small. four_of_kind red ds kind small fit;
+}
+  where
+    chain : (n m : ℕ) → n ≤ m → m ≤ 4 → n ≤ 5
+    chain n m h k = omega (arith, h, k)
+
 -- the hand
 
-no_items : (xs : List Deed) → (length xs == 0) ≡ true → xs ≡ []
-no_items xs h = none xs (eqb-true (length xs) 0 h)
+no_items : (xs : List Deed) → false ≡ not (length xs == 0) → xs ≡ []
+no_items [] h = refl
+no_items (x ∷ xs) h = absurd (both (h ∙ ap not (ne_eqb (suc (length xs)) 0 (λ e. omega (arith, e)))))
   where
-    none : (ys : List Deed) → length ys ≡ 0 → ys ≡ []
-    none [] e = refl
-    none (y ∷ ys) e = cc
+    both : false ≡ true → ⊥
+    both p = cc
 
--- What is kept of no deed, and of a hand with one deed more.
-pub of_none : (all : List Deed) (after : HandFacts) → (length all == 0) ≡ true → Knows [] after → Knows all after
-of_none all after h k = subst (λ (xs : List Deed). Knows xs after) (sym (no_items all h)) k
+-- Of a hand with a deed more, which it begins with, belongs to, or stands before.
+pub at_start : (before : List Deed) (d : Deed) (after : HandFacts) → is_hand_start d ≡ true → Knows ([] ++ d ∷ []) after → Knows (hand_with before d) after
+at_start before d after h k = subst (λ (b : Bool). Knows (cond b (d ∷ []) (cond (length before == 0) [] (before ++ d ∷ []))) after) (sym h) k
 
-pub at_start : (before : List Deed) (d : Deed) (none : HandFacts) → is_hand_start d ≡ true → Knows [] none → Knows (before_in before d) none
-at_start before d none h k = subst (λ (b : Bool). Knows (cond b [] before) none) (sym h) k
+pub few_at_start : (before : List Deed) (d : Deed) → is_hand_start d ≡ true → Few (hand_with before d) → Few ([] ++ d ∷ [])
+few_at_start before d h k = subst (λ (b : Bool). Few (cond b (d ∷ []) (cond (length before == 0) [] (before ++ d ∷ [])))) h k
 
-pub past_start : (before : List Deed) (d : Deed) (facts : HandFacts) → is_hand_start d ≡ false → Knows before facts → Knows (before_in before d) facts
-past_start before d facts h k = subst (λ (b : Bool). Knows (cond b [] before) facts) (sym h) k
-
--- The deeds of its hand before a deed and the deed are that hand, where there is one.
-pub hand_whole : (before all : List Deed) (d : Deed) → (length all == 0) ≡ false → all ≡ hand_with before d → all ≡ before_in before d ++ d ∷ []
-hand_whole before all d some e = by_tests (is_hand_start d) (length before == 0) e
+whole : (before : List Deed) (d : Deed) → is_hand_start d ≡ false → true ≡ not (length before == 0) → hand_with before d ≡ before ++ d ∷ []
+whole before d h some =
+    ap (λ (b : Bool). cond b (d ∷ []) (cond (length before == 0) [] (before ++ d ∷ []))) h ∙ by_test (length before == 0) some
   where
-    none : false ≡ true → ⊥
-    none p = cc
+    by_test : (b : Bool) → true ≡ not b → cond b [] (before ++ d ∷ []) ≡ before ++ d ∷ []
+    by_test true e = cc
+    by_test false e = refl
 
-    by_tests : (a b : Bool) → all ≡ cond a (d ∷ []) (cond b [] (before ++ d ∷ [])) → all ≡ cond a [] before ++ d ∷ []
-    by_tests true b e = e
-    by_tests false false e = e
-    by_tests false true e = absurd (none (sym some ∙ ap (λ (xs : List Deed). length xs == 0) e))
+pub within_hand : (before : List Deed) (d : Deed) (after : HandFacts) → is_hand_start d ≡ false → true ≡ not (length before == 0) → Knows (before ++ d ∷ []) after → Knows (hand_with before d) after
+within_hand before d after h some k = subst (λ (xs : List Deed). Knows xs after) (sym (whole before d h some)) k
+
+pub few_within : (before : List Deed) (d : Deed) → is_hand_start d ≡ false → true ≡ not (length before == 0) → Few (hand_with before d) → Few (before ++ d ∷ [])
+few_within before d h some k = subst Few (whole before d h some) k
+
+pub before_hand : (before : List Deed) (d : Deed) (facts : HandFacts) → is_hand_start d ≡ false → false ≡ not (length before == 0) → Knows before facts → Knows (hand_with before d) facts
+before_hand before d facts h none k =
+    subst (λ (xs : List Deed). Knows (hand_with xs d) facts) (sym empty)
+    (subst (λ (b : Bool). Knows (cond b (d ∷ []) []) facts) (sym h) (subst (λ (xs : List Deed). Knows xs facts) empty k))
+  where
+    empty : before ≡ []
+    empty = no_items before none
+
+pub some_deeds : (ds : List Deed) (d : Deed) → true ≡ not (length (ds ++ d ∷ []) == 0)
+some_deeds [] d = refl
+some_deeds (x ∷ ds) d = sym (ap not (ne_eqb (suc (length (ds ++ d ∷ []))) 0 (λ e. omega (arith, e))))
 
 -- What is kept of a seat, of the deeds that a table stands for.
-pub seat_kept : (rules : Rules) (ds : List Deed) (played : Play) (facts : HandFacts) (seat : ℕ) (one : SeatFacts) → Knows (hand ds) facts → record { rules = rules; deeds = ds } ≡ played → seat < 4 →
-    one ≡ at_seat facts.seats seat → Keeps (hand played.deeds) seat one
-seat_kept rules ds played facts seat one known is low at =
-    subst (λ (f : SeatFacts). Keeps (hand played.deeds) seat f) (sym at) (subst (λ (p : Play). Keeps (hand p.deeds) seat (at_seat facts.seats seat)) is (known.seats seat (omega (arith, low))))
+pub seat_kept : (rules : Rules) (ds : List Deed) (played : Play) (facts : HandFacts) (seat : ℕ) (one : SeatFacts) → Knows (hand ds) facts → record { rules = rules; deeds = ds } ≡ played →
+    one ≡ of_any facts.seats seat → Keeps (hand played.deeds) seat one
+seat_kept rules ds played facts seat one known is at =
+    subst (λ (f : SeatFacts). Keeps (hand played.deeds) seat f) (sym at) (subst (λ (p : Play). Keeps (hand p.deeds) seat (of_any facts.seats seat)) is (known.seats seat))
 
 -- What is kept of the newest hand, of the deeds that a table stands for.
 pub known_of : (rules : Rules) (ds : List Deed) (played : Play) (facts : HandFacts) → Knows (hand ds) facts → record { rules = rules; deeds = ds } ≡ played → Knows (hand played.deeds) facts
@@ -118,23 +252,12 @@ live_known ds facts live known e = e ∙ (λ i. 70 - known.drawn i - known.kans 
 pub few_known : (red : Bool) (ds : List Deed) (facts : HandFacts) → all_fit red [] ds ≡ true → Knows (hand ds) facts → facts.kans ≤ 4
 few_known red ds facts fit known = subst (λ (n : ℕ). n ≤ 4) (sym known.kans) (four_kans red ds fit)
 
-pub facts_more : (ds kept given : List Deed) (d : Deed) (facts after : HandFacts) → kept ≡ hand ds → given ≡ hand_with kept d →
-    ((before : List Deed) → given ≡ hand_with before d → Knows before facts → Knows given after) → Knows (hand ds) facts → Knows (hand (ds ++ d ∷ [])) after
-facts_more ds kept given d facts after e is step was =
-    subst (λ (xs : List Deed). Knows xs after) (is ∙ hand_is_with ds kept d e) (step kept is (subst (λ (xs : List Deed). Knows xs facts) (sym e) was))
-
--- With the deed at most 70 live tiles were drawn, at most four kans were made, and a seat has at most four melds.
-few_with : (P : List Deed → Type 0) (red : Bool) (ds kept given : List Deed) (d : Deed) → ((xs : List Deed) → all_fit red [] xs ≡ true → P (hand xs)) → all_fit red [] ds ≡ true → fits red ds d ≡ true →
-    kept ≡ hand ds → given ≡ hand_with kept d → P given
-few_with P red ds kept given d each fit one e is = subst P (sym (is ∙ hand_is_with ds kept d e)) (each (ds ++ d ∷ []) (all_fit-append red [] ds d fit one))
-
-pub drawn_few : (red : Bool) (ds kept given : List Deed) (d : Deed) → all_fit red [] ds ≡ true → fits red ds d ≡ true → kept ≡ hand ds → given ≡ hand_with kept d → live_draws given ≤ 70
-drawn_few red ds kept given d fit one e is = few_with (λ xs. live_draws xs ≤ 70) red ds kept given d (few_drawn red) fit one e is
-
-pub kans_few : (red : Bool) (ds kept given : List Deed) (d : Deed) → all_fit red [] ds ≡ true → fits red ds d ≡ true → kept ≡ hand ds → given ≡ hand_with kept d → kans given ≤ 4
-kans_few red ds kept given d fit one e is = few_with (λ xs. kans xs ≤ 4) red ds kept given d (four_kans red) fit one e is
-
-pub melds_few : (red : Bool) (ds kept given : List Deed) (d : Deed) (seat : ℕ) → all_fit red [] ds ≡ true → fits red ds d ≡ true → kept ≡ hand ds → given ≡ hand_with kept d →
-    length (seat_melds given seat) ≤ 4
-melds_few red ds kept given d seat fit one e is =
-    few_with (λ (xs : List Deed). length (seat_melds xs seat) ≤ 4) red ds kept given d (λ xs all. four_melds red xs seat all) fit one e is
+-- What is kept of the newest hand with a deed more that fits.
+pub facts_more : (red : Bool) (ds : List Deed) (d : Deed) (facts after : HandFacts) → all_fit red [] ds ≡ true → fits red ds d ≡ true →
+    ((before : List Deed) → has_seats d ≡ true → Few (hand_with before d) → Knows before facts → Knows (hand_with before d) after) → Knows (hand ds) facts → Knows (hand (ds ++ d ∷ [])) after
+facts_more red ds d facts after fit one step was =
+    subst (λ (xs : List Deed). Knows xs after) is
+    (step (hand ds) (parts_of red ds d one).inside.seats (subst Few (sym is) (few_in_hand red (ds ++ d ∷ []) (all_fit-append red [] ds d fit one))) was)
+  where
+    is : hand_with (hand ds) d ≡ hand (ds ++ d ∷ [])
+    is = hand_is_with ds (hand ds) d refl

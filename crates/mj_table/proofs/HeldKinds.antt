@@ -131,3 +131,14 @@ pub order_whole : (number : ℕ → ℕ) (numbers : List ℕ) (i : ℕ) → 37 �
 order_whole number numbers i h k was =
     let end : i ≡ 37 = omega (arith, h, k) in
     was ∙ ap (λ j. kind_counts (copies_of number (take j tile_order))) end ∙ ap (λ (xs : List ℕ). kind_counts (copies_of number xs)) all_taken
+
+-- The tiles themselves, a face further.
+pub copies_step : (number : ℕ → ℕ) (tiles now : List ℕ) (i face n : ℕ) → i < 37 → face ≡ get_or tile_order i 0 → n ≡ number face → tiles ≡ copies_of number (take i tile_order) → now ≡ tiles ++ replicate n face →
+    now ≡ copies_of number (take (i + 1) tile_order)
+copies_step number tiles now i face n h is what was added =
+    added ∙ (λ k. was k ++ replicate (what k) face) ∙ sym (copies_more number tile_order i face (omega (arith, h, all_faces)) is)
+
+pub copies_whole : (number : ℕ → ℕ) (tiles : List ℕ) (i : ℕ) → 37 ≤ i → i ≤ 37 → tiles ≡ copies_of number (take i tile_order) → tiles ≡ copies_of number tile_order
+copies_whole number tiles i h k was =
+    let end : i ≡ 37 = omega (arith, h, k) in
+    was ∙ ap (λ j. copies_of number (take j tile_order)) end ∙ ap (copies_of number) all_taken

@@ -98,7 +98,7 @@ wins_in_hand ds x xs e = from_start (λ ds. newest (before_wins ds)) wins_before
 
 -- What the newest deed has, of those before it, as the newest hand has it: a start has the same of all, a deed before the
 -- first hand what no deed has, and every other deed the same of its hand.
-hand_none : hand [] ≡ []
+pub hand_none : hand [] ≡ []
 unfolding hand
 hand_none = refl
 

@@ -59,19 +59,6 @@ offered_more (x ∷ xs) d seat =
     step true false xs ys zs = refl
     step false false xs ys zs = sym (append_assoc xs ys zs)
 
-pub offered_step : (xs : List Deed) (i : ℕ) (d : Deed) (seat : ℕ) → i < length xs → d ≡ get_or xs i d →
-    cond (is_discard_by seat d) [] (offered_tiles (take i xs) seat ++ offers_to seat d) ≡ offered_tiles (take (i + 1) xs) seat
-offered_step xs i d seat h is =
-    sym (ap (λ (ys : List Deed). offered_tiles ys seat) (take_more xs i d h ∙ ap (λ (x : Deed). take i xs ++ x ∷ []) (sym is)) ∙ offered_more (take i xs) d seat)
-
--- No deed, or an own discard.
-pub passed_none : (newest : Option Deed) (before : List Deed) (seat : ℕ) → newest ≡ None → no_kinds ≡ kinds_among (passed_before before seat newest)
-passed_none newest before seat h = none_among ∙ ap (λ (o : Option Deed). kinds_among (passed_before before seat o)) (sym h)
-
-pub passed_own : (newest : Option Deed) (d : Deed) (before : List Deed) (seat : ℕ) → newest ≡ Some d → is_discard_by seat d ≡ true → no_kinds ≡ kinds_among (passed_before before seat newest)
-passed_own newest d before seat h own =
-    none_among ∙ ap (λ b. kinds_among (cond b [] (offered_tiles before seat))) (sym own) ∙ ap (λ (o : Option Deed). kinds_among (passed_before before seat o)) (sym h)
-
 pub tile_more : (kinds : ℕ) (tiles : List ℕ) (given : Option ℕ) (tile kind result : ℕ) → given ≡ Some tile → kind ≡ kind_of tile → kind < 34 →
     result ≡ with_kind kinds kind → kinds ≡ kinds_among tiles → result ≡ kinds_among (tiles ++ option_to_list given)
 tile_more kinds tiles given tile kind result h is small what was =

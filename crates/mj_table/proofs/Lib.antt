@@ -1,11 +1,18 @@
+mod AlikeSeats
+mod Brought
+mod CourseKept
 mod FacesHeld
-mod FewItems
+mod FewKept
+mod FitsKept
 mod Gathered
 mod HandsKept
 mod HeldKinds
 pub mod InHand
 mod KindsAmong
+mod LatestKept
+mod LatestTold
 mod MarksKept
+mod MeldsKept
 mod Readers
 pub mod OneLess
 mod RoomSteps

@@ -1,8 +1,7 @@
 -- What a table of deeds that fit holds, and what none of the deeds so far changes.
-use Rattle.std.proofs.Common.{◌≡◌, ℕ, zero, suc, ◌+◌, ◌<◌, ◌≤◌, ◌-◌, ◌==◌, ◌||◌, ◌⊎◌, inl, inr, List, [], ◌∷◌, ◌++◌, length, cond, eqb, get_or, true, false, Bool, refl, sym, ap, ◌∙◌, subst, arith}
+use Rattle.std.proofs.Common.{◌≡◌, ℕ, zero, suc, ◌+◌, ◌<◌, ◌≤◌, ◌-◌, ◌==◌, ◌||◌, ◌⊎◌, inl, inr, not, List, [], ◌∷◌, ◌++◌, length, cond, eqb, get_or, true, false, Bool, refl, sym, ap, ◌∙◌, subst, arith}
 use Rattle.std.specs.Prelude.{flat_map, filter, Option, Some, None, ℤ, pos}
 use Rattle.std.specs.List.{list_any}
-use Rattle.std.specs.Option.{option_or}
 use Rattle.std.proofs.lemmas.Bool.{cases_lt, ne_eqb}
 use Rattle.std.proofs.lemmas.List.{get_or_past}
 use Rattle.std.proofs.lemmas.List.Concat.{flat_map-cons}
@@ -14,8 +13,8 @@ use Rattle.mj_wall.proofs.TileOrder.{count_by-less}
 use Rattle.mj_deeds.specs.declared.deed.Deed.{Deed}
 use Rattle.mj_deeds.specs.declared.deed.Deed.TheVariants.{StartHand, Draw}
 use Rattle.mj_deeds.specs.Facts.{gains_by, tiles_gained, tiles_lost, concealed_tiles}
-use Rattle.mj_deeds.specs.Fits.{Ground, ground_of, fits, fits_behind, all_fit, brought_by, has_points}
-use Rattle.mj_deeds.specs.Hand.{is_hand_start, from_last, hand, starts}
+use Rattle.mj_deeds.specs.Fits.{ground_of, fits, fits_in, is_in_place, all_fit, brought_by, has_points}
+use Rattle.mj_deeds.specs.Hand.{is_hand_start, from_last, hand, before_in, starts}
 use Rattle.mj_deeds.specs.Facts.{newest}
 use Rattle.mj_deeds.specs.Points.{points, deposits, changed, is_win, is_deposit}
 use Rattle.mj_deeds.specs.Standings.{standing, standing_by}
@@ -26,14 +25,16 @@ use Rattle.mj_deeds.proofs.Newest.{newest_more}
 use Rattle.mj_deeds.proofs.PointLaws.{all_points_more, deposits_more}
 use Rattle.mj_deeds.proofs.Deposits.{few_deposits}
 use Rattle.mj_deeds.proofs.Standings.{few_hands}
-use Rattle.mj_table.proofs.InHand.{newest_in_hand, has_start}
+use Rattle.mj_table.proofs.InHand.{has_start}
+use Rattle.mj_table.proofs.LatestKept.{previous_is_with}
 use Rattle.mj_wall.specs.declared.setting.Rules.{Rules}
 use Rattle.mj_table.specs.Plays.{Play}
-use Rattle.mj_deeds.specs.Four.{at_seat}
-use Rattle.mj_deeds.specs.declared.four.Four.{Four}
+use Rattle.mj_table.specs.declared.seats.Seats.{Seats}
+use Rattle.mj_table.specs.Inner.Any.{of_any}
 use Rattle.mj_table.specs.declared.hand_facts.HandFacts.{HandFacts}
 use Rattle.mj_table.specs.Inner.Hands.{Knows}
-use Rattle.mj_table.specs.Inner.Kept.{Stands, Holds, opening, hand_with, opening_with}
+use Rattle.mj_table.specs.Inner.Kept.{Stands, Holds, beside, hand_with}
+use Rattle.mj_table.specs.Inner.Latest.{previous_with}
 use Rattle.mj_deeds.proofs.FitSteps.{number_of_four}
 use Rattle.mj_deeds.proofs.Fitted.{all_fit-append, four_of_kind, parts_of}
 
@@ -99,27 +100,6 @@ holds_few red ds seat fit kind = by_kind (cases_lt kind 34)
 not_empty : (n : ℕ) → (suc n == 0) ≡ false
 not_empty n = ne_eqb (suc n) 0 (λ e. omega (arith, e))
 
--- The newest deed of the newest hand, or the one before any hand, is the newest of all.
-pub newest_is : (ds kept : List Deed) (first : Option Deed) → kept ≡ hand ds → first ≡ opening ds → option_or (newest kept) first ≡ newest ds
-newest_is ds kept first e before = ap (λ (h : List Deed). option_or (newest h) first) e ∙ ap (option_or (newest (hand ds))) before ∙ by_hand (hand ds) refl
-  where
-    some : (x : Deed) (xs : List Deed) → option_or (newest (x ∷ xs)) None ≡ newest (x ∷ xs)
-    some x xs = or_none (newest (x ∷ xs))
-      where
-        or_none : (o : Option Deed) → option_or o None ≡ o
-        or_none None = refl
-        or_none (Some d) = refl
-
-    by_hand : (h : List Deed) → hand ds ≡ h → option_or (newest h) (cond (length h == 0) (newest ds) None) ≡ newest ds
-    by_hand [] e = refl
-    by_hand (x ∷ xs) e = ap (λ b. option_or (newest (x ∷ xs)) (cond b (newest ds) None)) (not_empty (length xs)) ∙ some x xs ∙ newest_in_hand ds x xs e
-
--- Where there is a newest deed in the hand, it is the newest of what the table stands for.
-pub newest_some : (rules : Rules) (ds kept told : List Deed) (first : Option Deed) (now : Standing) (held : List ℤ) (lying : ℕ) (tiles : Four (List ℕ)) (facts : HandFacts) (played : Play) (d : Deed) → Stands rules ds kept first now held lying tiles facts →
-    record { rules = rules; deeds = ds } ≡ played → told ≡ kept → Some d ≡ newest told → Some d ≡ newest played.deeds
-newest_some rules ds kept told first now held lying tiles facts played d s is same e =
-    ap (λ (o : Option Deed). option_or o first) (e ∙ ap newest same) ∙ newest_is ds kept first s.hand s.opening ∙ ap (λ (p : Play). newest p.deeds) is
-
 -- one deed more
 
 -- The newest hand with a deed more, by what is kept of it.
@@ -131,11 +111,6 @@ hand_is_with ds kept d e = ap (λ (h : List Deed). hand_with h d) e ∙ by_hand 
     by_hand false [] = refl
     by_hand false (x ∷ xs) = ap (λ b. cond b [] (x ∷ (xs ++ d ∷ []))) (not_empty (length xs))
 
-opening_is_with : (ds kept : List Deed) (d : Deed) → kept ≡ hand ds → opening_with kept d ≡ opening (ds ++ d ∷ [])
-opening_is_with ds kept d e =
-    ap (λ (h : List Deed). cond (length h == 0) (Some d) None) (hand_is_with ds kept d e)
-    ∙ ap (λ (o : Option Deed). cond (length (hand (ds ++ d ∷ [])) == 0) o None) (sym (newest_more ds d))
-
 standing_is_with : (ds : List Deed) (d : Deed) (number : ℕ) → number ≡ length (starts ds) → cond (is_hand_start d) (standing_by number (Some d)) (standing ds) ≡ standing (ds ++ d ∷ [])
 standing_is_with ds d number is = by_start (is_hand_start d) refl
   where
@@ -146,22 +121,21 @@ standing_is_with ds d number is = by_start (is_hand_start d) refl
 deposits_are_with : (ds : List Deed) (d : Deed) (lying : ℕ) → lying ≡ deposits ds → cond (is_win d) 0 (lying + cond (is_deposit d) 1 0) ≡ deposits (ds ++ d ∷ [])
 deposits_are_with ds d lying is = ap (λ (n : ℕ). cond (is_win d) 0 (n + cond (is_deposit d) 1 0)) is ∙ sym (deposits_more ds d)
 
-pub stands_at_first : (rules : Rules) (ds kept : List Deed) (tiles : Four (List ℕ)) (facts : HandFacts) → ds ≡ [] → kept ≡ [] → ((seat : ℕ) → Holds [] seat (at_seat tiles seat)) →
-    Knows [] facts → Stands rules ds kept None first_standing (pos 30000 ∷ pos 30000 ∷ pos 30000 ∷ pos 30000 ∷ []) 0 tiles facts
+pub stands_at_first : (rules : Rules) (ds : List Deed) (tiles : Seats (List ℕ)) (facts : HandFacts) → ds ≡ [] → ((seat : ℕ) → Holds [] seat (of_any tiles seat)) →
+    Knows [] facts → Stands rules ds None None first_standing (pos 30000 ∷ pos 30000 ∷ pos 30000 ∷ pos 30000 ∷ []) 0 tiles facts
 unfolding hand
-stands_at_first rules ds kept tiles facts e h none kept_of =
-    subst (λ (xs : List Deed). Stands rules xs kept None first_standing (pos 30000 ∷ pos 30000 ∷ pos 30000 ∷ pos 30000 ∷ []) 0 tiles facts) (sym e)
-    (subst (λ (xs : List Deed). Stands rules [] xs None first_standing (pos 30000 ∷ pos 30000 ∷ pos 30000 ∷ pos 30000 ∷ []) 0 tiles facts) (sym h)
-    (record { fit = refl; hand = refl; opening = refl; standing = refl; points = refl; deposits = refl; concealed = λ seat low. none seat; facts = kept_of }))
+stands_at_first rules ds tiles facts e none kept_of =
+    subst (λ (xs : List Deed). Stands rules xs None None first_standing (pos 30000 ∷ pos 30000 ∷ pos 30000 ∷ pos 30000 ∷ []) 0 tiles facts) (sym e)
+    (record { fit = refl; latest = refl; previous = refl; standing = refl; points = refl; deposits = refl; concealed = none; facts = kept_of })
 
-pub stands_more : (rules : Rules) (ds kept : List Deed) (first : Option Deed) (now : Standing) (held : List ℤ) (lying number : ℕ) (tiles more : Four (List ℕ)) (facts after : HandFacts) (d : Deed) → Stands rules ds kept first now held lying tiles facts →
-    fits rules.red ds d ≡ true → number ≡ length (starts ds) → ((seat : ℕ) → seat ≤ 3 → Holds (hand (ds ++ d ∷ [])) seat (at_seat more seat)) → Knows (hand (ds ++ d ∷ [])) after →
-    Stands rules (ds ++ d ∷ []) (hand_with kept d) (opening_with kept d) (cond (is_hand_start d) (standing_by number (Some d)) now) (changed held d)
+pub stands_more : (rules : Rules) (ds : List Deed) (last before : Option Deed) (now : Standing) (held : List ℤ) (lying number : ℕ) (tiles more : Seats (List ℕ)) (facts after : HandFacts) (d : Deed) → Stands rules ds last before now held lying tiles facts →
+    fits rules.red ds d ≡ true → number ≡ length (starts ds) → ((seat : ℕ) → Holds (hand (ds ++ d ∷ [])) seat (of_any more seat)) → Knows (hand (ds ++ d ∷ [])) after →
+    Stands rules (ds ++ d ∷ []) (Some d) (previous_with facts.begun before last d) (cond (is_hand_start d) (standing_by number (Some d)) now) (changed held d)
     (cond (is_win d) 0 (lying + cond (is_deposit d) 1 0)) more after
-stands_more rules ds kept first now held lying number tiles more facts after d s one is moved seats = record {
+stands_more rules ds last before now held lying number tiles more facts after d s one is moved seats = record {
   fit = all_fit-append rules.red [] ds d s.fit one;
-  hand = hand_is_with ds kept d s.hand;
-  opening = opening_is_with ds kept d s.hand;
+  latest = sym (newest_more ds d);
+  previous = previous_is_with ds before last d facts.begun s.facts.begun s.latest s.previous;
   standing = ap (λ (n : Standing). cond (is_hand_start d) (standing_by number (Some d)) n) s.standing ∙ standing_is_with ds d number is;
   points = ap (λ (p : List ℤ). changed p d) s.points ∙ sym (all_points_more ds d);
   deposits = deposits_are_with ds d lying s.deposits;
@@ -170,16 +144,16 @@ stands_more rules ds kept first now held lying number tiles more facts after d s
 }
 
 -- What stands for deeds stands for the same ones in other words.
-pub stands_for : (rules : Rules) (ds xs kept hs : List Deed) (first o : Option Deed) (now n : Standing) (held p : List ℤ) (lying l : ℕ) (tiles : Four (List ℕ)) (facts : HandFacts) → Stands rules ds kept first now held lying tiles facts →
-    xs ≡ ds → hs ≡ kept → o ≡ first → n ≡ now → p ≡ held → l ≡ lying → Stands rules xs hs o n p l tiles facts
-stands_for rules ds xs kept hs first o now n held p lying l tiles facts s e h k f g m = record {
+pub stands_for : (rules : Rules) (ds xs : List Deed) (last l before b : Option Deed) (now n : Standing) (held p : List ℤ) (lying m : ℕ) (tiles : Seats (List ℕ)) (facts : HandFacts) → Stands rules ds last before now held lying tiles facts →
+    xs ≡ ds → l ≡ last → b ≡ before → n ≡ now → p ≡ held → m ≡ lying → Stands rules xs l b n p m tiles facts
+stands_for rules ds xs last l before b now n held p lying m tiles facts s e h k f g o = record {
   fit = subst (λ (ys : List Deed). all_fit rules.red [] ys ≡ true) (sym e) s.fit;
-  hand = h ∙ s.hand ∙ ap hand (sym e);
-  opening = k ∙ s.opening ∙ ap opening (sym e);
+  latest = h ∙ s.latest ∙ ap newest (sym e);
+  previous = k ∙ s.previous ∙ ap beside (sym e);
   standing = f ∙ s.standing ∙ ap standing (sym e);
   points = g ∙ s.points ∙ ap points (sym e);
-  deposits = m ∙ s.deposits ∙ ap deposits (sym e);
-  concealed = λ seat low. subst (λ (ys : List Deed). Holds (hand ys) seat (at_seat tiles seat)) (sym e) (s.concealed seat low);
+  deposits = o ∙ s.deposits ∙ ap deposits (sym e);
+  concealed = λ seat. subst (λ (ys : List Deed). Holds (hand ys) seat (of_any tiles seat)) (sym e) (s.concealed seat);
   facts = subst (λ (ys : List Deed). Knows (hand ys) facts) (sym e) s.facts;
 }
 
@@ -213,10 +187,6 @@ some_from {A = A} p (x ∷ xs) h e = by_tests (list_any p xs) (p x) refl h e (so
     by_tests false true t h e others = cc
     by_tests false false t h e others = cc
 
-pub some_items : (n : ℕ) → (n == 0) ≡ false → 0 < n
-some_items zero h = cc
-some_items (suc n) h = omega arith
-
 -- No hand was started where the newest one is empty, and as many as its number says with it where it is not.
 pub none_started : (ds kept : List Deed) → kept ≡ hand ds → length kept ≡ 0 → 0 ≡ length (starts ds)
 unfolding hand
@@ -241,6 +211,24 @@ next_started ds kept now is at some = by_hand kept is some
     by_hand [] e k = absurd (omega (arith, k))
     by_hand (x ∷ xs) e k = plus _ _ _ (ap (λ (n : Standing). n.hand) at) (standing_hand ds) (some_kept is_hand_start ds (has_start ds x xs (sym e)))
 
+-- The same by whether the newest hand has begun.
+empty_hand : (n : ℕ) → false ≡ not (n == 0) → n ≡ 0
+empty_hand zero h = refl
+empty_hand (suc n) h = absurd (both (h ∙ ap not (ne_eqb (suc n) 0 (λ e. omega (arith, e)))))
+  where
+    both : false ≡ true → ⊥
+    both p = cc
+
+some_hand_items : (n : ℕ) → true ≡ not (n == 0) → 0 < n
+some_hand_items zero h = cc
+some_hand_items (suc n) h = omega arith
+
+pub none_numbered : (ds : List Deed) (begun : Bool) → begun ≡ not (length (hand ds) == 0) → begun ≡ false → 0 ≡ length (starts ds)
+none_numbered ds begun is h = none_started ds (hand ds) refl (empty_hand (length (hand ds)) (sym h ∙ is))
+
+pub next_numbered : (ds : List Deed) (begun : Bool) (now : Standing) → begun ≡ not (length (hand ds) == 0) → begun ≡ true → now ≡ standing ds → now.hand + 1 ≡ length (starts ds)
+next_numbered ds begun now is h at = next_started ds (hand ds) now refl at (some_hand_items (length (hand ds)) (sym h ∙ is))
+
 -- A game has at most 200 hands, and at most 800 deposits lie on its table.
 pub few_numbers : (red : Bool) (ds : List Deed) (now : Standing) → all_fit red [] ds ≡ true → now ≡ standing ds → now.hand ≤ 200
 few_numbers red ds now fit at = few _ _ _ (ap (λ (n : Standing). n.hand) at) (standing_hand ds) (few_hands red ds fit)
@@ -255,20 +243,17 @@ few_lie red ds lying fit e = subst (λ (n : ℕ). n ≤ 800) (sym e) (few_deposi
 pub points_fit : (red : Bool) (ds : List Deed) (held : List ℤ) (d : Deed) → fits red ds d ≡ true → held ≡ points ds → has_points held d ≡ true
 points_fit red ds held d one e = ap (λ (p : List ℤ). has_points p d) e ∙ (parts_of red ds d one).pointed
 
--- What a deed is held against, as a table keeps it.
-ground_is : (ds : List Deed) (n : Option Deed) (h : List Deed) (s : Standing) (p : List ℤ) (l : ℕ) → n ≡ newest ds → h ≡ hand ds → s ≡ standing ds → p ≡ points ds → l ≡ deposits ds →
-    ◌≡◌ {A = Ground} (record { newest = n; hand = h; standing = s; points = p; deposits = l }) (ground_of ds)
+-- What a deed is held against.
+pub ground_told : (ds : List Deed) (last : Option Deed) (now : Standing) (held : List ℤ) (lying : ℕ) (d : Deed) (result : Bool) → last ≡ newest ds → now ≡ standing ds → held ≡ points ds → lying ≡ deposits ds →
+    result ≡ is_in_place (record { newest = last; hand = hand ds; standing = now; points = held; deposits = lying }) d → result ≡ is_in_place (ground_of ds) d
 unfolding ground_of
-ground_is ds n h s p l a b c e f = λ i. record { newest = a i; hand = b i; standing = c i; points = e i; deposits = f i }
+ground_told ds last now held lying d result a b c e is = is ∙ (λ i. is_in_place (record { newest = a i; hand = hand ds; standing = b i; points = c i; deposits = e i }) d)
 
-pub fits_told : (rules : Rules) (ds kept : List Deed) (first : Option Deed) (now : Standing) (held : List ℤ) (lying : ℕ) (tiles : Four (List ℕ)) (facts : HandFacts) (played : Play) (d : Deed) (n : Option Deed) (h : List Deed) (result : Bool) →
-    Stands rules ds kept first now held lying tiles facts → record { rules = rules; deeds = ds } ≡ played → n ≡ newest played.deeds → h ≡ hand played.deeds →
-    result ≡ fits_behind rules.red (record { newest = n; hand = h; standing = now; points = held; deposits = lying }) d → result ≡ fits played.rules.red played.deeds d
-fits_told rules ds kept first now held lying tiles facts played d n h result s is a b e =
-    e
-    ∙ ap (λ (g : Ground). fits_behind rules.red g d)
-    (ground_is ds n h now held lying (a ∙ ap (λ (p : Play). newest p.deeds) (sym is)) (b ∙ ap (λ (p : Play). hand p.deeds) (sym is)) s.standing s.points s.deposits)
-    ∙ ap (λ (p : Play). fits p.rules.red p.deeds d) is
+-- A deed fits in its hand: a start is alone in it.
+pub inside_told : (rules : Rules) (ds : List Deed) (played : Play) (d : Deed) (start result : Bool) (h : List Deed) → record { rules = rules; deeds = ds } ≡ played → start ≡ is_hand_start d → h ≡ cond start [] (hand ds) →
+    result ≡ fits_in rules.red h d → result ≡ fits_in played.rules.red (before_in (hand played.deeds) d) d
+inside_told rules ds played d start result h is at e told =
+    told ∙ ap (λ (xs : List Deed). fits_in rules.red xs d) (e ∙ ap (λ b. cond b [] (hand ds)) at) ∙ ap (λ (p : Play). fits_in p.rules.red (before_in (hand p.deeds) d) d) is
 
 -- What a table stands for, by its parts.
 pub fit_within : (rules : Rules) (ds : List Deed) (played : Play) (d : Deed) → record { rules = rules; deeds = ds } ≡ played → fits played.rules.red played.deeds d ≡ true →

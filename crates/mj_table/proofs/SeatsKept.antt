@@ -1,34 +1,49 @@
 -- What is kept of a seat, a deed further.
-use Rattle.std.proofs.Common.{◌≡◌, ℕ, ◌-◌, ◌≤◌, eqb, Bool, true, false, List, [], ◌∷◌, ◌++◌, length, take, cond, refl, sym, ap, ◌∙◌, subst, arith, append-nil}
-use Rattle.std.specs.Prelude.{flat_map, map, Option, Some}
-use Rattle.std.proofs.lemmas.Bool.{eqb-true}
+use Rattle.std.proofs.Common.{◌≡◌, ℕ, ◌+◌, ◌-◌, ◌<◌, ◌≤◌, ◌==◌, ◌||◌, ◌⊎◌, inl, inr, eqb, ltb, Bool, true, false, List, [], ◌∷◌, ◌++◌, length, take, cond, refl, sym, ap, ◌∙◌, subst, arith}
+use Rattle.std.specs.Prelude.{flat_map, Option, Some, option_to_list}
+use Rattle.std.specs.List.{list_any}
+use Rattle.std.proofs.lemmas.Bool.{eqb-true, cases_lt, lt-ltb, le-ltb}
 use Rattle.std.proofs.lemmas.Bool.Decides.{nat_tests}
+use Rattle.std.proofs.lemmas.List.{length-append}
+use Rattle.std.proofs.lemmas.List.Folds.{list_any-append}
 use Rattle.mj_tiles.specs.Kinds.{no_kinds}
 use Rattle.mj_tiles.specs.declared.meld.Meld.{Meld}
 use Rattle.mj_deeds.specs.declared.deed.Deed.{Deed}
-use Rattle.mj_deeds.specs.Facts.{discards_by, river_tiles, is_discard_by, makes_by, adds_by, with_added, seat_melds}
+use Rattle.mj_deeds.specs.Ends.{winners_by, winners, dealer_won}
+use Rattle.mj_deeds.specs.Facts.{discards_by, river_tiles, is_discard_by, adds_by}
 use Rattle.mj_deeds.specs.Four.{at_seat}
 use Rattle.mj_deeds.specs.Passed.{kinds_among, own_kinds, offers_to, offered_tiles, passed_before, passed_kinds}
 use Rattle.mj_deeds.specs.Riichi.{is_reach_by, has_reached, behind_first}
 use Rattle.mj_deeds.proofs.Newest.{newest_more, before_more}
 use Rattle.mj_deeds.proofs.RiichiLaws.{offered_since}
-use Rattle.mj_table.proofs.KindsAmong.{none_among}
+use Rattle.mj_table.proofs.CourseKept.{given_more}
+use Rattle.mj_table.proofs.FewKept.{lists_same}
+use Rattle.mj_table.proofs.KindsAmong.{none_among, offered_more}
 use Rattle.mj_table.proofs.Spare.{one_more}
+use Rattle.mj_table.specs.declared.few_tiles.FewTiles.{FewTiles}
 use Rattle.mj_table.specs.declared.mark_facts.MarkFacts.{MarkFacts}
-use Rattle.mj_table.specs.declared.seat_facts.SeatFacts.{SeatFacts}
+use Rattle.mj_table.specs.Inner.Alike.{Alike}
+use Rattle.mj_table.specs.Inner.Any.{of_any}
+use Rattle.mj_table.specs.Inner.Few.{Lists}
 use Rattle.mj_table.specs.Inner.Seats.{Keeps, KeepsMarks}
 
 -- the kinds
 
 -- The kinds of a seat's discards with one deed more.
-pub own_more : (ds : List Deed) (d : Deed) (seat : ℕ) (piece : List ℕ) → piece ≡ discards_by seat d → kinds_among (river_tiles ds seat ++ piece) ≡ own_kinds (ds ++ d ∷ []) seat
-own_more ds d seat piece is = ap (λ (xs : List ℕ). kinds_among (river_tiles ds seat ++ xs)) is ∙ ap kinds_among (sym (one_more (discards_by seat) ds d))
+pub own_more : (ds : List Deed) (d : Deed) (one seat : ℕ) (piece : List ℕ) → Alike d one seat → piece ≡ discards_by one d → kinds_among (river_tiles ds seat ++ piece) ≡ own_kinds (ds ++ d ∷ []) seat
+own_more ds d one seat piece a is = ap (λ (xs : List ℕ). kinds_among (river_tiles ds seat ++ xs)) (is ∙ a.discards) ∙ ap kinds_among (sym (one_more (discards_by seat) ds d))
+
+-- Those of the tiles that were offered to it since its last discard.
+pub offers_more : (ds : List Deed) (d : Deed) (one seat result : ℕ) → Alike d one seat →
+    result ≡ kinds_among (cond (is_discard_by one d) [] (offered_tiles ds seat ++ offers_to one d)) → result ≡ kinds_among (offered_tiles (ds ++ d ∷ []) seat)
+offers_more ds d one seat result a what =
+    what ∙ (λ i. kinds_among (cond (a.discarded i) [] (offered_tiles ds seat ++ a.offers i))) ∙ ap kinds_among (sym (offered_more ds d seat))
 
 -- The kinds that a seat let pass with one deed more: those that were offered to it before, unless it discards.
-pub passed_more : (ds : List Deed) (d : Deed) (seat offered result : ℕ) → offered ≡ kinds_among (offered_tiles ds seat) → result ≡ cond (is_discard_by seat d) no_kinds offered →
-    result ≡ passed_kinds (ds ++ d ∷ []) seat
-passed_more ds d seat offered result was what =
-    what ∙ ap (cond (is_discard_by seat d) no_kinds) was ∙ by_test (is_discard_by seat d) (offered_tiles ds seat)
+pub passed_more : (ds : List Deed) (d : Deed) (one seat offered result : ℕ) → Alike d one seat → offered ≡ kinds_among (offered_tiles ds seat) →
+    result ≡ cond (is_discard_by one d) no_kinds offered → result ≡ passed_kinds (ds ++ d ∷ []) seat
+passed_more ds d one seat offered result a was what =
+    what ∙ (λ i. cond (a.discarded i) no_kinds (was i)) ∙ by_test (is_discard_by seat d) (offered_tiles ds seat)
     ∙ sym
     (ap (λ (o : Option Deed). kinds_among (passed_before (take (length (ds ++ d ∷ []) - 1) (ds ++ d ∷ [])) seat o)) (newest_more ds d)
     ∙ ap (λ (xs : List Deed). kinds_among (passed_before xs seat (Some d))) (before_more ds d))
@@ -38,67 +53,72 @@ passed_more ds d seat offered result was what =
     by_test false tiles = refl
 
 -- The kinds that were offered to it since its reach with one deed more.
-pub since_more : (ds : List Deed) (d : Deed) (seat result : ℕ) (reached : Bool) → reached ≡ has_reached ds seat →
-    result ≡ kinds_among (cond reached (flat_map (offers_to seat) (behind_first (is_reach_by seat) ds) ++ offers_to seat d) []) →
+pub since_more : (ds : List Deed) (d : Deed) (one seat result : ℕ) (reached : Bool) → Alike d one seat → reached ≡ has_reached ds seat →
+    result ≡ kinds_among (cond reached (flat_map (offers_to seat) (behind_first (is_reach_by seat) ds) ++ offers_to one d) []) →
     result ≡ kinds_among (flat_map (offers_to seat) (behind_first (is_reach_by seat) (ds ++ d ∷ [])))
-since_more ds d seat result reached is what =
+since_more ds d one seat result reached a is what =
     what
-    ∙ ap (λ b. kinds_among (cond b (flat_map (offers_to seat) (behind_first (is_reach_by seat) ds) ++ offers_to seat d) [])) is
+    ∙ (λ i. kinds_among (cond (is i) (flat_map (offers_to seat) (behind_first (is_reach_by seat) ds) ++ a.offers i) []))
     ∙ ap kinds_among (sym (offered_since ds d seat))
 
 pub none_since : (result : ℕ) (reached : Bool) (tiles : List ℕ) → result ≡ no_kinds → reached ≡ false → result ≡ kinds_among (cond reached tiles [])
 none_since result reached tiles e h = e ∙ none_among ∙ ap (λ b. kinds_among (cond b tiles [])) (sym h)
 
--- the melds
+-- the tiles that it added, and whether it has won
 
--- The melds of a seat stay as they are by a deed with which it makes none and adds to none.
-pub melds_stay : (all ds : List Deed) (d : Deed) (seat : ℕ) (melds : List Meld) → all ≡ ds ++ d ∷ [] → makes_by seat d ≡ [] → adds_by seat d ≡ [] → melds ≡ seat_melds ds seat →
-    melds ≡ seat_melds all seat
-melds_stay all ds d seat melds e makes adds was =
-    was ∙ sym (both same_added same_made) ∙ ap (λ (xs : List Deed). seat_melds xs seat) (sym e)
+pub few_added : (ds : List Deed) (d : Deed) (one seat : ℕ) (more : Option ℕ) → Alike d one seat → option_to_list more ≡ adds_by one d → length (flat_map (adds_by seat) (ds ++ d ∷ [])) ≤ 5 →
+    length (flat_map (adds_by seat) ds ++ option_to_list more) ≤ 5
+few_added ds d one seat more a e few = subst (λ (xs : List ℕ). length xs ≤ 5) (given_more (adds_by seat) ds d more (e ∙ a.adds)) few
+
+pub fewer_added : (ds : List Deed) (d : Deed) (seat : ℕ) → length (flat_map (adds_by seat) (ds ++ d ∷ [])) ≤ 5 → length (flat_map (adds_by seat) ds) ≤ 5
+fewer_added ds d seat few = less _ _ _ (ap length (one_more (adds_by seat) ds d) ∙ length-append (flat_map (adds_by seat) ds) (adds_by seat d)) few
   where
-    both : {xs ys : List ℕ} {ms ns : List Meld} → xs ≡ ys → ms ≡ ns → map (λ meld. with_added meld xs) ms ≡ map (λ meld. with_added meld ys) ns
-    both a b = λ i. map (λ meld. with_added meld (a i)) (b i)
+    less : (n m k : ℕ) → n ≡ m + k → n ≤ 5 → m ≤ 5
+    less n m k e h = omega (arith, e, h)
 
-    same_made : flat_map (makes_by seat) (ds ++ d ∷ []) ≡ flat_map (makes_by seat) ds
-    same_made = melds_more ds
-      where
-        melds_more : (xs : List Deed) → flat_map (makes_by seat) (xs ++ d ∷ []) ≡ flat_map (makes_by seat) xs
-        melds_more [] = append-nil (makes_by seat d) ∙ makes
-        melds_more (x ∷ xs) = ap (λ (ys : List Meld). makes_by seat x ++ ys) (melds_more xs)
+pub added_more : (few : FewTiles) (ds : List Deed) (d : Deed) (one seat : ℕ) (more : Option ℕ) → Alike d one seat → option_to_list more ≡ adds_by one d →
+    Lists few (flat_map (adds_by seat) ds ++ option_to_list more) → Lists few (flat_map (adds_by seat) (ds ++ d ∷ []))
+added_more few ds d one seat more a e k = lists_same few _ _ (sym (given_more (adds_by seat) ds d more (e ∙ a.adds))) k
 
-    same_added : flat_map (adds_by seat) (ds ++ d ∷ []) ≡ flat_map (adds_by seat) ds
-    same_added = one_more (adds_by seat) ds d ∙ ap (λ (ys : List ℕ). flat_map (adds_by seat) ds ++ ys) adds ∙ append-nil (flat_map (adds_by seat) ds)
+pub won_with : (ds : List Deed) (d : Deed) (one seat : ℕ) (before result : Bool) → Alike d one seat → before ≡ dealer_won ds seat →
+    result ≡ (before || list_any (λ who. who == one) (winners_by d)) → result ≡ dealer_won (ds ++ d ∷ []) seat
+won_with ds d one seat before result a was what =
+    what ∙ (λ i. was i || a.wins i) ∙ sym (list_any-append (λ who. who == seat) (winners ds) (winners_by d)) ∙ ap (list_any (λ who. who == seat)) (sym (one_more winners_by ds d))
 
 -- the start
 
 -- Of a hand without a deed nothing is kept.
-pub nothing_kept : (seat n : ℕ) (melds : List Meld) (marks : MarkFacts) → n ≡ no_kinds → melds ≡ [] → KeepsMarks [] seat marks →
-    Keeps [] seat (record { own = n; offered = n; passed = n; offered_in_riichi = n; passed_in_riichi = n; melds = melds; marks = marks })
-nothing_kept seat n melds marks e h k = record {
+pub nothing_kept : (seat n : ℕ) (melds : List Meld) (few : FewTiles) (marks : MarkFacts) → n ≡ no_kinds → melds ≡ [] → Lists few [] → KeepsMarks [] seat marks →
+    Keeps [] seat (record { own = n; offered = n; passed = n; offered_in_riichi = n; passed_in_riichi = n; melds = melds; added = few; marks = marks; won = false })
+nothing_kept seat n melds few marks e h l k = record {
   own = e ∙ none_among;
   offered = e ∙ none_among;
   passed = e ∙ none_among;
   offered_in_riichi = e ∙ none_among;
   passed_in_riichi = e ∙ none_among;
   melds = h;
+  added = l;
   marks = k;
+  won = refl;
 }
 
--- What is kept of a seat of the same deeds in other words.
-pub of_whole : (all deeds : List Deed) (seat : ℕ) (facts : SeatFacts) → all ≡ deeds → Keeps deeds seat facts → Keeps all seat facts
-of_whole all deeds seat facts e k = subst (λ (xs : List Deed). Keeps xs seat facts) (sym e) k
-
--- What holds of each of the four holds of each seat.
-pub each_seat : (P : ℕ → SeatFacts → Type 0) (a b c d : SeatFacts) → P 0 a → P 1 b → P 2 c → P 3 d → (seat : ℕ) → seat ≤ 3 →
-    P seat (at_seat (record { first = a; second = b; third = c; fourth = d }) seat)
-each_seat P a b c d pa pb pc pd seat low = by_tests (eqb seat 0) (eqb seat 1) (eqb seat 2) refl refl refl
+-- What holds of each of the four seats and of all numbers above holds of each seat.
+pub each_seat : {A : Type 0} (P : ℕ → A → Type 0) (a b c d o : A) → P 0 a → P 1 b → P 2 c → P 3 d → ((seat : ℕ) → 4 ≤ seat → P seat o) → (seat : ℕ) →
+    P seat (of_any (record { four = record { first = a; second = b; third = c; fourth = d }; others = o }) seat)
+each_seat {A = A} P a b c d o pa pb pc pd po seat = by_place (cases_lt seat 4)
   where
-    last : eqb seat 0 ≡ false → eqb seat 1 ≡ false → eqb seat 2 ≡ false → seat ≡ 3
-    last e f g = grind (arith, nat_tests, e, f, g, low)
+    last : seat < 4 → eqb seat 0 ≡ false → eqb seat 1 ≡ false → eqb seat 2 ≡ false → seat ≡ 3
+    last low e f g = grind (arith, nat_tests, e, f, g, low)
 
-    by_tests : (p q r : Bool) → eqb seat 0 ≡ p → eqb seat 1 ≡ q → eqb seat 2 ≡ r → P seat (cond p a (cond q b (cond r c d)))
-    by_tests true q r e f g = subst (λ s. P s a) (sym (eqb-true seat 0 e)) pa
-    by_tests false true r e f g = subst (λ s. P s b) (sym (eqb-true seat 1 f)) pb
-    by_tests false false true e f g = subst (λ s. P s c) (sym (eqb-true seat 2 g)) pc
-    by_tests false false false e f g = subst (λ s. P s d) (sym (last e f g)) pd
+    by_tests : seat < 4 → (p q r : Bool) → eqb seat 0 ≡ p → eqb seat 1 ≡ q → eqb seat 2 ≡ r → P seat (cond p a (cond q b (cond r c d)))
+    by_tests low true q r e f g = subst (λ s. P s a) (sym (eqb-true seat 0 e)) pa
+    by_tests low false true r e f g = subst (λ s. P s b) (sym (eqb-true seat 1 f)) pb
+    by_tests low false false true e f g = subst (λ s. P s c) (sym (eqb-true seat 2 g)) pc
+    by_tests low false false false e f g = subst (λ s. P s d) (sym (last low e f g)) pd
+
+    four : A
+    four = at_seat (record { first = a; second = b; third = c; fourth = d }) seat
+
+    by_place : (seat < 4) ⊎ (4 ≤ seat) → P seat (cond (ltb seat 4) four o)
+    by_place (inl low) = subst (λ t. P seat (cond t four o)) (sym (lt-ltb seat 4 low)) (by_tests low (eqb seat 0) (eqb seat 1) (eqb seat 2) refl refl refl)
+    by_place (inr high) = subst (λ t. P seat (cond t four o)) (sym (le-ltb seat 4 high)) (po seat high)

@@ -1,10 +1,10 @@
-ghost use Rattle.std.specs.Prelude.{◌≡◌};
+ghost use Rattle.std.specs.Prelude.{◌≡◌, IfOk};
 ghost use Rattle.mj_tiles.specs.Counts.{NoFifth, kind_counts};
-ghost use Rattle.mj_deeds.specs.Facts.{concealed_tiles};
 ghost use Rattle.mj_table.specs.Inner.Kept.{tiles_held};
 
-use mj_deeds::{Deed, held_count, ordered};
+use mj_deeds::{Tiles, ordered, put_copies};
 use mj_tiles::Counts;
+use std::alloc::{AllocError, Global};
 
 // How often each kind stands among tiles, of which there are so many of each face, and no kind more than four times.
 pub(crate) fn kinds_held(held: &[u8; 37]) -> Counts
@@ -22,19 +22,15 @@ pub(crate) fn kinds_held(held: &[u8; 37]) -> Counts
     }
 }
 
-// How often each kind stands among the concealed tiles of a seat in one hand, of which it has no kind more than four
-// times.
-pub(crate) fn held_counts(deeds: &[Deed], seat: u8) -> Counts
-    requires { NoFifth (kind_counts (concealed_tiles deeds.now seat)) }
-    ensures { result ≡ kind_counts (concealed_tiles deeds.now seat) }
+// The tiles, in tile order, of which there are so many of each face.
+pub(crate) fn tiles_held(alloc: Global, held: &[u8; 37]) -> Result<Tiles, AllocError>
+    ensures { IfOk result (λ tiles. tiles ≡ tiles_held held.now) }
 {
-    let mut numbers = [0; 34];
+    let mut tiles = Vec::new(alloc);
     for place in 0..37 {
         let tile = ordered(place);
-        numbers[tile.kind().number() as usize] += held_count(deeds, seat, tile) as u8;
+        let number = usize::from(held[usize::from(tile.face())]);
+        put_copies(&mut tiles, tile, number)?;
     }
-    match Counts::of(numbers) {
-        Some(counts) => counts,
-        None => unreachable!(),
-    }
+    Ok(Tiles::from_vec(tiles))
 }

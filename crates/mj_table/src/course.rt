@@ -1,65 +1,43 @@
-ghost use Rattle.std.specs.Prelude.{◌≡◌, ◌≤◌, ◌-◌, length, option_and_then, option_copied, option_to_list, slice_get};
-ghost use Rattle.mj_deeds.specs.Course.{cause, comes_of, only_if, is_reach, is_offer, before_wins};
-ghost use Rattle.mj_deeds.specs.Facts.{kan_seats, indicators, indicators_by, drawn_tile, drawn_by, newest};
+ghost use Rattle.std.specs.Prelude.{◌≡◌, Some, option_copied, option_to_list};
+ghost use Rattle.mj_deeds.specs.Course.{only_if, is_reach, is_offer};
+ghost use Rattle.mj_deeds.specs.Facts.{indicators_by, drawn_by};
+ghost use Rattle.mj_table.specs.Inner.Latest.{cause_by, drawn_of, before_wins_of, taken_of, drawn_before};
 
-use crate::winning::is_win;
-use mj_deeds::{Deed, seat_of_kan};
+use crate::latest::is_after_win;
+use mj_deeds::Deed;
 use mj_tiles::Tile;
 
-// The deed that the newest one comes of: before an indicator the kan. None after every other deed.
-pub(crate) fn cause(deeds: &[Deed]) -> Option<&Deed>
-    ensures { option_copied result ≡ cause deeds.now }
+// What the newest deed comes of, of the two that are kept.
+pub(crate) fn cause<'a>(newest: Option<&Deed>, previous: Option<&'a Deed>) -> Option<&'a Deed>
+    ensures { option_copied result
+        ≡ cause_by (option_copied newest.entry) (option_copied previous.entry) }
 {
-    match deeds.split_last() {
-        Some((newest, before)) => comes_of(before, newest),
-        None => None,
-    }
-}
-
-// Of the deeds before a deed the one that it comes of.
-fn comes_of<'a>(before: &'a [Deed], deed: &Deed) -> Option<&'a Deed>
-    ensures { option_copied result ≡ comes_of before.now deed.now }
-{
-    match deed {
-        Deed::Discard { .. } => reach_at_end(before),
-        Deed::ReachAccepted { .. } => before.last(),
-        Deed::Win { .. } => offer_before_wins(before),
-        Deed::Dora { .. } => before.last(),
-        Deed::EndHand => before.last(),
+    match newest {
+        Some(Deed::Discard { .. }) => reach_of(previous),
+        Some(Deed::ReachAccepted { .. }) => previous,
+        Some(Deed::Win { .. }) => offer_of(previous),
+        Some(Deed::Dora { .. }) => previous,
+        Some(Deed::EndHand) => previous,
         _ => None,
     }
 }
 
-// The newest deed, where it is a reach.
-fn reach_at_end(deeds: &[Deed]) -> Option<&Deed>
-    ensures { option_copied result ≡ only_if is_reach (newest deeds.now) }
+// A deed, where it is a reach.
+fn reach_of(deed: Option<&Deed>) -> Option<&Deed>
+    ensures { option_copied result ≡ only_if is_reach (option_copied deed.entry) }
 {
-    match deeds.last() {
+    match deed {
         Some(deed) => if is_reach(deed) { Some(deed) } else { None },
         None => None,
     }
 }
 
-// The newest deed that is no win, where it gives a tile that may be won on.
-fn offer_before_wins(deeds: &[Deed]) -> Option<&Deed>
-    ensures { option_copied result ≡ only_if is_offer (newest (before_wins deeds.now)) }
+// A deed, where it gives a tile that may be won on.
+fn offer_of(deed: Option<&Deed>) -> Option<&Deed>
+    ensures { option_copied result ≡ only_if is_offer (option_copied deed.entry) }
 {
-    match before_wins(deeds) {
+    match deed {
         Some(deed) => if is_offer(deed) { Some(deed) } else { None },
-        None => None,
-    }
-}
-
-// The newest deed that is no win.
-pub(crate) fn before_wins(deeds: &[Deed]) -> Option<&Deed>
-    ensures { option_copied result ≡ newest (before_wins deeds.now) }
-{
-    match deeds.split_last() {
-        Some((newest, before)) => if is_win(newest) {
-            before_wins(before)
-        } else {
-            Some(newest)
-        },
         None => None,
     }
 }
@@ -76,24 +54,54 @@ fn is_offer(deed: &Deed) -> bool
     matches!(deed, Deed::Discard { .. } | Deed::AddedKan { .. })
 }
 
+// The newest deed of a hand that is no win, where it has begun.
+pub(crate) fn before_wins<'a>(
+    begun: bool,
+    newest: Option<&'a Deed>,
+    previous: Option<&'a Deed>,
+) -> Option<&'a Deed>
+    ensures { option_copied result
+        ≡ before_wins_of begun (option_copied newest.entry) (option_copied previous.entry) }
+{
+    if !begun {
+        return None;
+    }
+    if is_after_win(newest) {
+        return previous;
+    }
+    newest
+}
+
+// The discard that may be taken: the newest deed, or the one before it where the newest is a reach that was accepted.
+pub(crate) fn taken<'a>(newest: Option<&'a Deed>, previous: Option<&'a Deed>) -> Option<&'a Deed>
+    ensures { option_copied result
+        ≡ taken_of (option_copied newest.entry) (option_copied previous.entry) }
+{
+    match newest {
+        Some(Deed::ReachAccepted { .. }) => previous,
+        _ => newest,
+    }
+}
+
 // The tile that a seat has drawn and holds as drawn: that of the newest deed, where it is the seat's draw, or its reach
 // after it.
-pub(crate) fn drawn(deeds: &[Deed], seat: u8) -> Option<Tile>
-    ensures { result ≡ drawn_tile deeds.now seat }
+pub(crate) fn drawn(newest: Option<&Deed>, previous: Option<&Deed>, seat: u8) -> Option<Tile>
+    ensures { result
+        ≡ drawn_of seat (option_copied newest.entry) (option_copied previous.entry) }
 {
-    match deeds.split_last() {
-        Some((Deed::Reach { seat: who }, before)) if *who == seat => drawn_last(before, seat),
-        Some((newest, _)) => drawn_by(newest, seat),
+    match newest {
+        Some(Deed::Reach { seat: who }) if *who == seat => drawn_before(previous, seat),
+        Some(deed) => drawn_by(deed, seat),
         None => None,
     }
 }
 
-// The tile of a seat's draw, where it is the newest deed.
-fn drawn_last(deeds: &[Deed], seat: u8) -> Option<Tile>
-    ensures { result ≡ option_and_then (drawn_by seat) (newest deeds.now) }
+// The tile of a seat's draw, where the deed is one.
+fn drawn_before(deed: Option<&Deed>, seat: u8) -> Option<Tile>
+    ensures { result ≡ drawn_before seat (option_copied deed.entry) }
 {
-    match deeds.last() {
-        Some(newest) => drawn_by(newest, seat),
+    match deed {
+        Some(deed) => drawn_by(deed, seat),
         None => None,
     }
 }
@@ -112,49 +120,8 @@ fn drawn_by(deed: &Deed, seat: u8) -> Option<Tile>
     }
 }
 
-// The seat of the newest kan of one hand.
-pub(crate) fn kan_seat(deeds: &[Deed]) -> Option<u8>
-    ensures { result ≡ slice_get (kan_seats deeds.now) (length (kan_seats deeds.now) - 1) }
-{
-    let mut newest = None;
-    for deed in deeds {
-        newest = seat_of_kan(deed).or(newest);
-    }
-    newest
-}
-
-// How many indicators are shown in one hand.
-pub(crate) fn shown(deeds: &[Deed]) -> usize
-    ensures value { result ≡ length (indicators deeds.now) }
-    ensures within { result ≤ length deeds.now }
-{
-    let mut number = 0;
-    for deed in deeds {
-        if shown_by(deed).is_some() {
-            number += 1;
-        }
-    }
-    number
-}
-
-// The indicator at a place of those that are shown in one hand, the first one at 0; none where no more are shown.
-pub(crate) fn indicator(deeds: &[Deed], place: usize) -> Option<Tile>
-    ensures { result ≡ slice_get (indicators deeds.now) place }
-{
-    let mut left = place;
-    for deed in deeds {
-        if let Some(tile) = shown_by(deed) {
-            if left == 0 {
-                return Some(tile);
-            }
-            left -= 1;
-        }
-    }
-    None
-}
-
 // The indicator that a deed shows.
-fn shown_by(deed: &Deed) -> Option<Tile>
+pub(crate) fn shown_by(deed: &Deed) -> Option<Tile>
     ensures { option_to_list result ≡ indicators_by deed.now }
 {
     match deed {

@@ -1,20 +1,29 @@
-ghost use Rattle.std.specs.Prelude.{◌≡◌, ◌≤◌, ◌++◌, ◌∷◌, [], ◌+◌, ◌-◌, ℕ, List, if◌then◌else◌, length};
+ghost use Rattle.std.specs.Prelude.{◌≡◌, ◌≤◌, ◌++◌, ◌∷◌, [], ◌-◌, List, true};
 ghost use Rattle.mj_deeds.specs.declared.deed.Deed.{Deed};
-ghost use Rattle.mj_deeds.specs.Facts.{seat_melds, is_live_draw, live_draws, is_kan, kans};
-ghost use Rattle.mj_deeds.specs.Hand.{before_in};
+ghost use Rattle.mj_deeds.specs.Facts.{is_live_draw, is_kan};
+ghost use Rattle.mj_deeds.specs.Fits.{has_seats};
 ghost use Rattle.mj_table.specs.Inner.Kept.{hand_with};
-ghost use Rattle.mj_table.specs.Inner.Hands.{Knows};
+ghost use Rattle.mj_table.specs.Inner.Hands.{Knows, Few};
 
+use crate::bringing::brought_after;
+use crate::counted::counted;
+use crate::course_facts::{CourseFacts, course_after, no_course};
 use crate::seat_facts::{SeatFacts, each_after, no_seats};
-use mj_deeds::{Deed, Four, is_hand_start};
+use crate::seats::Seats;
+use mj_deeds::{Deed, is_hand_start};
 
 // What is kept of the deeds of one hand.
 #[derive(Clone, Copy)]
 pub(crate) struct HandFacts {
+    // whether it has begun
+    pub begun: bool,
     // how many live tiles were drawn, and how many kans were made
     pub drawn: u8,
     pub kans: u8,
-    pub seats: Four<SeatFacts>,
+    // how many tiles of each kind were brought in
+    pub brought: [u8; 34],
+    pub course: CourseFacts,
+    pub seats: Seats<SeatFacts>,
 }
 
 impl HandFacts {
@@ -32,64 +41,47 @@ pub(crate) fn no_facts() -> HandFacts
     ensures { Knows [] result }
 {
     HandFacts {
+        begun: false,
         drawn: 0,
         kans: 0,
+        brought: [0; 34],
+        course: no_course(),
         seats: no_seats(),
     }
 }
 
-// What is kept of the newest hand with a deed more: `hand` are its deeds with it.
-pub(crate) fn facts_after(facts: &HandFacts, hand: &[Deed], deed: &Deed) -> HandFacts
-    requires drawn { live_draws hand.now ≤ 70 }
-    requires kans { kans hand.now ≤ 4 }
-    requires melds { (seat : ℕ) → length (seat_melds hand.now seat) ≤ 4 }
-    ensures { (before : List Deed) → hand.now ≡ hand_with before deed.now → Knows before facts.now
-        → Knows hand.now result }
-{
-    if hand.is_empty() {
-        return no_facts();
-    }
-    facts_with(&facts_before(facts, deed), hand, deed)
-}
-
-// What is kept of the hand of a deed before it: nothing before a start.
-#[tactic(auto, using(crate::proofs::HandsKept::at_start, crate::proofs::HandsKept::past_start))]
-fn facts_before(facts: &HandFacts, deed: &Deed) -> HandFacts
-    ensures { (before : List Deed) → Knows before facts.now
-        → Knows (before_in before deed.now) result }
+// What is kept of the newest hand with a deed more.
+pub(crate) fn facts_after(facts: &HandFacts, deed: &Deed) -> HandFacts
+    ensures { (before : List Deed) → has_seats deed.now ≡ true
+        → Few (hand_with before deed.now) → Knows before facts.now
+        → Knows (hand_with before deed.now) result }
 {
     if is_hand_start(deed) {
-        no_facts()
-    } else {
-        *facts
+        return facts_with(&no_facts(), deed);
     }
+    if facts.begun {
+        return facts_with(facts, deed);
+    }
+    *facts
 }
 
 // What is kept with a deed of the same hand more.
-fn facts_with(facts: &HandFacts, hand: &[Deed], deed: &Deed) -> HandFacts
-    requires drawn { live_draws hand.now ≤ 70 }
-    requires kans { kans hand.now ≤ 4 }
-    requires melds { (seat : ℕ) → length (seat_melds hand.now seat) ≤ 4 }
-    ensures { (before : List Deed) → hand.now ≡ before ++ deed.now ∷ [] → Knows before facts.now
-        → Knows hand.now result }
+fn facts_with(facts: &HandFacts, deed: &Deed) -> HandFacts
+    ensures { (before : List Deed) → has_seats deed.now ≡ true → Few (before ++ deed.now ∷ [])
+        → Knows before facts.now → Knows (before ++ deed.now ∷ []) result }
 {
     let drawn = counted(facts.drawn, is_live_draw(deed));
     let kans = counted(facts.kans, is_kan(deed));
+    let brought = brought_after(&facts.brought, deed);
+    let course = course_after(&facts.course, deed);
+    let seats = each_after(&facts.seats, deed);
     HandFacts {
+        begun: true,
         drawn,
         kans,
-        seats: each_after(&facts.seats, hand, deed),
-    }
-}
-
-// A number, and one more where there is one more; 255 at most.
-fn counted(number: u8, more: bool) -> u8
-    ensures { number + (if more then 1 else 0) ≤ 255 → result ≡ number + (if more then 1 else 0) }
-{
-    if more {
-        number.saturating_add(1)
-    } else {
-        number
+        brought,
+        course,
+        seats,
     }
 }
 
@@ -104,7 +96,7 @@ fn is_live_draw(deed: &Deed) -> bool
 }
 
 // Whether a deed is a kan.
-fn is_kan(deed: &Deed) -> bool
+pub(crate) fn is_kan(deed: &Deed) -> bool
     ensures { result ≡ is_kan deed.now }
 {
     matches!(

@@ -1,9 +1,3 @@
-ghost use Rattle.std.specs.Prelude.{◌≡◌};
-ghost use Rattle.mj_table.specs.Marks.{marks};
-
-use crate::riichi::{has_reached, is_double, is_first, is_ippatsu};
-use mj_deeds::{Deed, is_in_riichi};
-
 /// What stands of a seat's riichi and of its first turn in a hand.
 #[derive(Clone, Copy, Debug, PartialEq, Eq)]
 pub struct Marks {
@@ -19,17 +13,4 @@ pub struct Marks {
     /// It is in its first turn: a hand has begun, the seat has not discarded in it, and no seat made a chi, pon or
     /// kan.
     pub first: bool,
-}
-
-// The marks of a seat.
-pub(crate) fn marks_of(deeds: &[Deed], seat: u8) -> Marks
-    ensures { result ≡ marks deeds.now seat }
-{
-    Marks {
-        reached: has_reached(deeds, seat),
-        accepted: is_in_riichi(deeds, seat),
-        double: is_double(deeds, seat),
-        ippatsu: is_ippatsu(deeds, seat),
-        first: is_first(deeds, seat),
-    }
 }

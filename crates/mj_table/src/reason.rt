@@ -1,102 +1,81 @@
-ghost use Rattle.std.specs.Prelude.{◌≡◌};
-ghost use Rattle.mj_deeds.specs.Facts.{kan_seats};
-ghost use Rattle.mj_deeds.specs.Reasons.{reason, are_four_winds, are_four_riichis, are_four_kans, is_turn, discarded_kind, kind_at, differ};
+ghost use Rattle.std.specs.Prelude.{◌≡◌, ◌&&◌, ◌==◌, List};
+ghost use Rattle.mj_deeds.specs.declared.deed.Deed.{Deed};
+ghost use Rattle.mj_deeds.specs.Facts.{kans};
+ghost use Rattle.mj_deeds.specs.Reasons.{reason, is_one_wind, is_turn, discarded_kind};
+ghost use Rattle.mj_table.specs.Inner.Courses.{Follows, reason_by};
 
-use mj_deeds::{Deed, Reason, is_call, kans, riichis, seat_of_kan};
+use crate::course_facts::CourseFacts;
+use mj_deeds::{Deed, Four, Reason, is_call};
 use mj_tiles::Kind;
 
-// The first draw reason that holds in one hand; none where the game has no such draws.
-pub(crate) fn reason(draws: bool, deeds: &[Deed]) -> Option<Reason>
-    ensures { result ≡ reason draws deeds.now }
+// The first draw reason that holds in one hand of so many kans; none where the game has no such draws.
+pub(crate) fn reason(draws: bool, made: u8, course: &CourseFacts) -> Option<Reason>
+    ensures { (deeds : List Deed) → made ≡ kans deeds → Follows deeds course.now → result
+        ≡ reason draws deeds }
+{
+    first_reason(
+        draws,
+        are_one_wind(&course.kinds),
+        course.riichis == 4,
+        are_both(made == 4, course.several),
+    )
+}
+
+// The first reason that holds, where the game has such draws.
+fn first_reason(draws: bool, winds: bool, riichis: bool, kans: bool) -> Option<Reason>
+    ensures { result ≡ reason_by draws winds riichis kans }
 {
     if !draws {
         return None;
     }
-    if are_four_winds(deeds) {
+    if winds {
         return Some(Reason::Suufonrenta);
     }
-    if are_four_riichis(deeds) {
+    if riichis {
         return Some(Reason::Suuchareach);
     }
-    if are_four_kans(deeds) {
+    if kans {
         return Some(Reason::Suukaikan);
     }
     None
 }
 
-// The first four discards and calls are discards of one wind.
-fn are_four_winds(deeds: &[Deed]) -> bool
-    ensures { result ≡ are_four_winds deeds.now }
+// Four discards of one wind.
+fn are_one_wind(kinds: &Four<Option<Kind>>) -> bool
+    ensures { result ≡ is_one_wind kinds.now.first kinds.now.second kinds.now.third
+        kinds.now.fourth }
 {
-    let Some(a) = kind_at(deeds, 0) else {
+    let Some(a) = kinds.first else {
         return false;
     };
-    let Some(b) = kind_at(deeds, 1) else {
+    let Some(b) = kinds.second else {
         return false;
     };
-    let Some(c) = kind_at(deeds, 2) else {
+    let Some(c) = kinds.third else {
         return false;
     };
-    let Some(d) = kind_at(deeds, 3) else {
+    let Some(d) = kinds.fourth else {
         return false;
     };
     (27..=30).contains(&a.number()) && b == a && c == a && d == a
 }
 
-// Four reaches were accepted.
-fn are_four_riichis(deeds: &[Deed]) -> bool
-    ensures { result ≡ are_four_riichis deeds.now }
+// The first is so, and the second.
+fn are_both(first: bool, second: bool) -> bool
+    ensures { result ≡ (first && second) }
 {
-    riichis(deeds) == 4
-}
-
-// Four kans were made, and not all by one seat.
-fn are_four_kans(deeds: &[Deed]) -> bool
-    ensures { result ≡ are_four_kans deeds.now }
-{
-    kans(deeds) == 4 && are_of_several(deeds)
-}
-
-// Not all kans are one seat's.
-fn are_of_several(deeds: &[Deed]) -> bool
-    ensures { result ≡ differ (kan_seats deeds.now) }
-{
-    let mut first = None;
-    for deed in deeds {
-        if let Some(seat) = seat_of_kan(deed) {
-            if seat != *first.get_or_insert(seat) {
-                return true;
-            }
-        }
-    }
-    false
-}
-
-// The kind that is discarded at a place of the discards and calls of one hand.
-fn kind_at(deeds: &[Deed], place: usize) -> Option<Kind>
-    ensures { result ≡ kind_at deeds.now place }
-{
-    let mut left = place;
-    for deed in deeds {
-        if is_turn(deed) {
-            if left == 0 {
-                return discarded_kind(deed);
-            }
-            left -= 1;
-        }
-    }
-    None
+    first && second
 }
 
 // Whether a deed is a discard or a call.
-fn is_turn(deed: &Deed) -> bool
+pub(crate) fn is_turn(deed: &Deed) -> bool
     ensures { result ≡ is_turn deed.now }
 {
     matches!(deed, Deed::Discard { .. }) || is_call(deed)
 }
 
 // The kind that a deed discards.
-fn discarded_kind(deed: &Deed) -> Option<Kind>
+pub(crate) fn discarded_kind(deed: &Deed) -> Option<Kind>
     ensures { result ≡ discarded_kind deed.now }
 {
     match deed {

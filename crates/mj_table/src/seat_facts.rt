@@ -1,14 +1,21 @@
-ghost use Rattle.std.specs.Prelude.{◌≡◌, ◌≤◌, ◌++◌, ◌∷◌, [], ℕ, List, false, if◌then◌else◌, length};
+ghost use Rattle.std.specs.Prelude.{◌≡◌, ◌==◌, ◌||◌, ◌++◌, ◌∷◌, [], ℕ, List, true, if◌then◌else◌};
+ghost use Rattle.std.specs.List.{list_any};
 ghost use Rattle.mj_tiles.specs.Kinds.{no_kinds};
 ghost use Rattle.mj_deeds.specs.declared.deed.Deed.{Deed};
-ghost use Rattle.mj_deeds.specs.Facts.{is_discard_by, makes_by, adds_by, seat_melds};
+ghost use Rattle.mj_deeds.specs.Ends.{winners_by};
+ghost use Rattle.mj_deeds.specs.Facts.{is_discard_by};
+ghost use Rattle.mj_deeds.specs.Fits.{has_seats};
 ghost use Rattle.mj_deeds.specs.Passed.{kinds_among, offers_to};
+ghost use Rattle.mj_table.specs.Inner.Alike.{Alike};
+ghost use Rattle.mj_table.specs.Inner.Hands.{Few};
 ghost use Rattle.mj_table.specs.Inner.Seats.{Keeps, AllKeep};
 
+use crate::few_tiles::{FewTiles, no_tiles};
 use crate::mark_facts::{MarkFacts, marks_after, no_marks};
-use crate::melds::held_melds;
+use crate::meld_steps::melds_after;
 use crate::passed::{is_discard_by, offered_by, with_offer, with_tile};
-use mj_deeds::{Deed, Four, discarded_by};
+use crate::seats::Seats;
+use mj_deeds::{Deed, Four, added, discarded_by};
 use mj_tiles::{Kinds, Melds};
 
 // What is kept of one seat of the deeds of one hand.
@@ -22,33 +29,47 @@ pub(crate) struct SeatFacts {
     // those that were offered to it since its reach, with and without the tile of the newest deed
     pub offered_in_riichi: Kinds,
     pub passed_in_riichi: Kinds,
+    // its melds, and the tiles that it added to them
     pub melds: Melds,
+    pub added: FewTiles,
     pub marks: MarkFacts,
+    // it has won
+    pub won: bool,
 }
 
-// What is kept of the four seats of a hand without a deed.
-pub(crate) fn no_seats() -> Four<SeatFacts>
+// What is kept of the seats of a hand without a deed.
+pub(crate) fn no_seats() -> Seats<SeatFacts>
     ensures { AllKeep [] result }
 {
-    Four {
-        first: nothing(),
-        second: nothing(),
-        third: nothing(),
-        fourth: nothing(),
+    Seats {
+        four: Four {
+            first: nothing(),
+            second: nothing(),
+            third: nothing(),
+            fourth: nothing(),
+        },
+        others: nothing(),
     }
 }
 
-// What is kept of each seat, with a deed of the same hand more: `hand` are the deeds of the hand with it.
-pub(crate) fn each_after(facts: &Four<SeatFacts>, hand: &[Deed], deed: &Deed) -> Four<SeatFacts>
-    requires { (seat : ℕ) → length (seat_melds hand.now seat) ≤ 4 }
-    ensures { (before : List Deed) → hand.now ≡ before ++ deed.now ∷ []
-        → AllKeep before facts.now → AllKeep hand.now result }
+// What is kept of each seat, with a deed of the same hand more.
+pub(crate) fn each_after(facts: &Seats<SeatFacts>, deed: &Deed) -> Seats<SeatFacts>
+    ensures { (before : List Deed) → has_seats deed.now ≡ true → Few (before ++ deed.now ∷ [])
+        → AllKeep before facts.now → AllKeep (before ++ deed.now ∷ []) result }
 {
-    Four {
-        first: seat_after(&facts.first, 0, hand, deed),
-        second: seat_after(&facts.second, 1, hand, deed),
-        third: seat_after(&facts.third, 2, hand, deed),
-        fourth: seat_after(&facts.fourth, 3, hand, deed),
+    let first = seat_after(&facts.four.first, 0, deed);
+    let second = seat_after(&facts.four.second, 1, deed);
+    let third = seat_after(&facts.four.third, 2, deed);
+    let fourth = seat_after(&facts.four.fourth, 3, deed);
+    let others = seat_after(&facts.others, 4, deed);
+    Seats {
+        four: Four {
+            first,
+            second,
+            third,
+            fourth,
+        },
+        others,
     }
 }
 
@@ -64,15 +85,17 @@ fn nothing() -> SeatFacts
         offered_in_riichi: none,
         passed_in_riichi: none,
         melds: Melds::of(&[]),
+        added: no_tiles(),
         marks: no_marks(),
+        won: false,
     }
 }
 
-// What is kept of a seat, with a deed of the same hand more.
-fn seat_after(facts: &SeatFacts, seat: u8, hand: &[Deed], deed: &Deed) -> SeatFacts
-    requires { (seat : ℕ) → length (seat_melds hand.now seat) ≤ 4 }
-    ensures { (before : List Deed) → hand.now ≡ before ++ deed.now ∷ [] → Keeps before seat facts.now
-        → Keeps hand.now seat result }
+// What is kept of a seat, with a deed of the same hand more, and of each other number that the deed treats alike.
+fn seat_after(facts: &SeatFacts, seat: u8, deed: &Deed) -> SeatFacts
+    ensures { (before : List Deed) → (who : ℕ) → Alike deed.now seat who
+        → Few (before ++ deed.now ∷ []) → Keeps before who facts.now
+        → Keeps (before ++ deed.now ∷ []) who result }
 {
     SeatFacts {
         own: with_tile(facts.own, discarded_by(deed, seat)),
@@ -80,8 +103,27 @@ fn seat_after(facts: &SeatFacts, seat: u8, hand: &[Deed], deed: &Deed) -> SeatFa
         passed: unless_discard(facts.offered, deed, seat),
         offered_in_riichi: since_reach(facts.offered_in_riichi, facts.marks.reached, deed, seat),
         passed_in_riichi: facts.offered_in_riichi,
-        melds: melds_after(facts.melds, seat, hand, deed),
+        melds: melds_after(facts.melds, &facts.added, seat, deed),
+        added: facts.added.with(added(deed, seat)),
         marks: marks_after(&facts.marks, deed, seat),
+        won: has_won(facts.won, deed, seat),
+    }
+}
+
+// Whether a seat has won, a deed further.
+fn has_won(won: bool, deed: &Deed, seat: u8) -> bool
+    ensures { result ≡ (won || list_any (λ who. who == seat) (winners_by deed.now)) }
+{
+    won || wins_by(deed, seat)
+}
+
+// Whether a seat wins by a deed.
+fn wins_by(deed: &Deed, seat: u8) -> bool
+    ensures { result ≡ list_any (λ who. who == seat) (winners_by deed.now) }
+{
+    match deed {
+        Deed::Win { seat: who, .. } => *who == seat,
+        _ => false,
     }
 }
 
@@ -105,31 +147,4 @@ fn since_reach(offered: Kinds, reached: bool, deed: &Deed, seat: u8) -> Kinds
         return with_tile(offered, offered_by(deed, seat));
     }
     Kinds::none()
-}
-
-// The melds of a seat, a deed further: taken anew where the seat makes one or adds to one.
-fn melds_after(melds: Melds, seat: u8, hand: &[Deed], deed: &Deed) -> Melds
-    requires { (seat : ℕ) → length (seat_melds hand.now seat) ≤ 4 }
-    ensures { (before : List Deed) → hand.now ≡ before ++ deed.now ∷ []
-        → melds ≡ seat_melds before seat → result ≡ seat_melds hand.now seat }
-{
-    if is_call_by(deed, seat) {
-        return held_melds(hand, seat);
-    }
-    melds
-}
-
-// Whether a deed is a chi, a pon or a kan of a seat; by any other it makes no meld, and adds to none.
-fn is_call_by(deed: &Deed, seat: u8) -> bool
-    ensures makes { result ≡ false → makes_by seat deed.now ≡ [] }
-    ensures adds { result ≡ false → adds_by seat deed.now ≡ [] }
-{
-    match deed {
-        Deed::Chi { seat: who, .. } => *who == seat,
-        Deed::Pon { seat: who, .. } => *who == seat,
-        Deed::OpenKan { seat: who, .. } => *who == seat,
-        Deed::ClosedKan { seat: who, .. } => *who == seat,
-        Deed::AddedKan { seat: who, .. } => *who == seat,
-        _ => false,
-    }
 }

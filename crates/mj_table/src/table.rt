@@ -5,7 +5,7 @@ ghost use Rattle.mj_tiles.specs.Counts.{kind_counts, room_beside};
 ghost use Rattle.mj_tiles.specs.Melds.{tiles_of_meld};
 ghost use Rattle.mj_deeds.specs.Facts.{newest, concealed_tiles, tiles_gained, tiles_lost, drawn_tile, seat_melds, kans, kan_seats, indicators, live_draws, live_tiles};
 ghost use Rattle.mj_deeds.specs.Firsts.{is_first};
-ghost use Rattle.mj_deeds.specs.Fits.{fits, all_fit, is_triplet_of};
+ghost use Rattle.mj_deeds.specs.Fits.{fits, fits_in, ground_of, has_points, is_in_place, is_triplet_of};
 ghost use Rattle.mj_deeds.specs.Course.{cause, before_wins};
 ghost use Rattle.mj_deeds.specs.Ends.{dealer_won, winners, end_of};
 ghost use Rattle.mj_deeds.specs.Passed.{own_kinds, passed_kinds, passed_in_riichi};
@@ -14,25 +14,27 @@ ghost use Rattle.mj_deeds.specs.Riichi.{is_in_riichi, is_ippatsu};
 ghost use Rattle.mj_deeds.specs.Reasons.{reason};
 ghost use Rattle.mj_table.specs.Marks.{marks};
 ghost use Rattle.mj_table.specs.Offers.{offered_tile};
-ghost use Rattle.mj_table.specs.Inner.Kept.{hand_with, opening_with};
 ghost use Rattle.mj_table.specs.Inner.Seats.{Keeps};
-ghost use Rattle.mj_deeds.specs.Hand.{hand, starts};
+ghost use Rattle.mj_deeds.specs.Hand.{before_in, hand, starts};
 ghost use Rattle.mj_deeds.specs.Standings.{standing};
 
-use crate::counting::{held_counts, kinds_held};
-use crate::course::{before_wins, cause, drawn, indicator, kan_seat, shown};
+use crate::counting::{kinds_held, tiles_held};
+use crate::course::{before_wins, cause, drawn, taken};
+use crate::ending::hand_end;
+use crate::fitting::fits_in;
 use crate::hand_facts::{HandFacts, facts_after, no_facts};
-use crate::held::held_after;
-use crate::marks::{Marks, marks_of};
-use crate::melds::held_melds;
-use crate::passed::{own_kinds, passed_in_riichi, passed_kinds};
+use crate::held::{held_after, nothing_held};
+use crate::latest::{add, copy_of};
+use crate::marks::Marks;
+use crate::meld_steps::has_triplet;
 use crate::reason::reason;
-use crate::riichi::is_first;
 use crate::room::room_beside;
 use crate::seat_facts::SeatFacts;
+use crate::seats::Seats;
 use crate::standing::standing_with;
-use crate::winning::{has_winner, is_ippatsu_before_wins};
-use mj_deeds::{Deed, Four, Reason, Tiles, deposits_after, is_hand_start, points_after};
+use mj_deeds::{
+    Deed, Reason, Tiles, deposits_after, has_points, is_hand_start, is_in_place, points_after,
+};
 use mj_past::Past;
 use mj_rounds::{HandEnd, Standing, first};
 use mj_tiles::{Counts, Kinds, Melds, Tile};
@@ -41,20 +43,19 @@ use std::alloc::{AllocError, Global};
 use std::marker::Model;
 
 /// A game as far as it was played: its rules, and its deeds so far, each of which fits behind those before it. It
-/// says each fact of these deeds. No call but `new`, `push`, `copy` and `concealed` takes memory. Seats are 0 to 3.
+/// says each fact of these deeds. No call but `push`, `copy` and `concealed` takes memory. Seats are 0 to 3.
 #[derive(Drop)]
 pub struct Table {
     rules: Rules,
-    // the deeds of the newest hand
-    hand: Vec<Deed>,
-    // the newest deed as long as no hand has begun
-    opening: Option<Deed>,
+    // the newest deed, and the one before it in its hand, before wins the newest that is none
+    newest: Option<Deed>,
+    previous: Option<Deed>,
     standing: Standing,
     // the points of the seats and the deposits on the table
     points: [i32; 4],
     deposits: u32,
     // how many concealed tiles of each face the seats hold
-    held: Four<[u8; 37]>,
+    held: Seats<[u8; 37]>,
     // the facts of the newest hand
     facts: HandFacts,
     // all deeds, which are not kept
@@ -69,28 +70,23 @@ impl Model for Table {
 
     ghost view = { λ t. record { rules = t.rules; deeds = t.past.items } };
 
-    ghost invariant = { λ t. Stands t.rules t.past.items t.hand.items t.opening t.standing t.points
+    ghost invariant = { λ t. Stands t.rules t.past.items t.newest t.previous t.standing t.points
         t.deposits t.held t.facts };
 }
 
 impl Table {
     /// The table of a game without a deed.
-    pub fn new(alloc: Global, rules: Rules) -> Result<Table, AllocError>
+    pub fn new(_alloc: Global, rules: Rules) -> Result<Table, AllocError>
         ensures { IfOk result (λ table. table ≡ record { rules = rules; deeds = [] }) }
     {
         Ok(Table {
             rules,
-            hand: Vec::new(alloc),
-            opening: None,
+            newest: None,
+            previous: None,
             standing: first(),
             points: [30_000; 4],
             deposits: 0,
-            held: Four {
-                first: [0; 37],
-                second: [0; 37],
-                third: [0; 37],
-                fourth: [0; 37],
-            },
+            held: nothing_held(),
             facts: no_facts(),
             past: Past::new(),
         })
@@ -105,26 +101,26 @@ impl Table {
         ensures err { OnErr result (self.new ≡ self.old) }
     {
         let number = self.next_number();
-        add(&mut self.hand, &mut self.opening, deed)?;
+        add(&mut self.newest, &mut self.previous, self.facts.begun, deed)?;
         self.standing = standing_with(self.standing, number, deed);
         self.points = points_after(self.points, deed);
         self.deposits = deposits_after(self.deposits, deed);
         self.held = held_after(&self.held, deed);
-        self.facts = facts_after(&self.facts, self.hand.as_slice(), deed);
+        self.facts = facts_after(&self.facts, deed);
         self.past = self.past.and(deed);
         Ok(())
     }
 
     /// A table of the same rules and the same deeds.
-    pub fn copy(&self, alloc: Global) -> Result<Table, AllocError>
+    pub fn copy(&self, _alloc: Global) -> Result<Table, AllocError>
         ensures { IfOk result (λ table. table ≡ self.now) }
     {
-        let hand = copies(alloc, self.hand.as_slice())?;
-        let opening = copy_of(self.opening.as_ref())?;
+        let newest = copy_of(self.newest.as_ref())?;
+        let previous = copy_of(self.previous.as_ref())?;
         Ok(Table {
             rules: self.rules,
-            hand,
-            opening,
+            newest,
+            previous,
             standing: self.standing,
             points: self.points,
             deposits: self.deposits,
@@ -138,41 +134,58 @@ impl Table {
     fn next_number(&self) -> u32
         ensures { result ≡ length (starts self.now.deeds) }
     {
-        if self.hand().is_empty() {
-            return 0;
+        if self.facts.begun {
+            return self.standing.hand + 1;
         }
-        self.standing.hand + 1
+        0
     }
 
-    // The deeds of the newest hand.
-    fn hand(&self) -> &[Deed]
-        ensures value { result.now ≡ hand self.now.deeds }
-        ensures fit { IsTrue (all_fit self.now.rules.red [] self.now.deeds) }
-    {
-        self.hand.as_slice()
-    }
-
-    // What is kept of a seat, 0 to 3.
+    // What is kept of a seat.
     fn kept(&self, seat: u8) -> &SeatFacts
-        requires { seat < 4 }
         ensures { Keeps (hand self.now.deeds) seat result.now }
     {
-        self.facts.seats.at(seat)
+        self.facts.seats.of(seat)
     }
 
     /// Whether a deed fits behind the deeds so far: it stands in its place, its seats are 0 to 3, tiles that are put
     /// down are held, a tile is added to an own pon, there is no red five in a game without them, no fifth tile of a
     /// kind, no fifth meld of a seat, no fifth kan, a live tile is left for a live draw or a kan, a seat's reach is
     /// accepted once, and the points that it says are those before it, changed as it says.
+    #[tactic(auto, unfolding(mj_deeds::specs::Fits::fits_behind, mj_deeds::specs::Fits::ground_of))]
     pub fn fits(&self, deed: &Deed) -> bool
         ensures { result ≡ fits self.now.rules.red self.now.deeds deed.now }
     {
-        mj_deeds::fits(
-            self.rules.red,
-            self.newest(),
-            self.hand(),
+        self.is_in_place(deed) && self.fits_in(deed) && self.has_points(deed)
+    }
+
+    // Whether a deed fits behind the deeds before it in its own hand.
+    fn fits_in(&self, deed: &Deed) -> bool
+        ensures { result ≡ fits_in self.now.rules.red
+            (before_in (hand self.now.deeds) deed.now) deed.now }
+    {
+        if is_hand_start(deed) {
+            return fits_in(self.rules.red, &nothing_held(), &no_facts(), deed);
+        }
+        fits_in(self.rules.red, &self.held, &self.facts, deed)
+    }
+
+    // Whether a deed says the points that stand after it.
+    fn has_points(&self, deed: &Deed) -> bool
+        ensures { result ≡ has_points (points self.now.deeds) deed.now }
+    {
+        has_points(self.points, deed)
+    }
+
+    // Whether a deed stands in its place behind the deeds so far.
+    fn is_in_place(&self, deed: &Deed) -> bool
+        ensures { result ≡ is_in_place (ground_of self.now.deeds) deed.now }
+    {
+        let newest = self.newest.as_ref();
+        is_in_place(
+            newest,
+            taken(newest, self.previous.as_ref()),
+            self.hand_end(),
             &self.standing,
-            self.points,
             self.deposits,
             deed,
         )
@@ -189,10 +202,7 @@ impl Table {
     pub fn newest(&self) -> Option<&Deed>
         ensures { option_copied result ≡ newest self.now.deeds }
     {
-        match self.hand.as_slice().last() {
-            Some(deed) => Some(deed),
-            None => self.opening.as_ref(),
-        }
+        self.newest.as_ref()
     }
 
     /// The deed that the newest one comes of: the reach before a discard, the discard before an accepted reach, the
@@ -201,7 +211,7 @@ impl Table {
     pub fn cause(&self) -> Option<&Deed>
         ensures { option_copied result ≡ cause self.now.deeds }
     {
-        cause(self.hand())
+        cause(self.newest.as_ref(), self.previous.as_ref())
     }
 
     /// The points of the four seats: 30,000 each at the start.
@@ -247,7 +257,7 @@ impl Table {
         ensures { result ≡ slice_get (kan_seats (hand self.now.deeds))
             (length (kan_seats (hand self.now.deeds)) - 1) }
     {
-        kan_seat(self.hand())
+        self.facts.course.newest_kan
     }
 
     /// The standing of the newest hand; before the first hand that of hand 0: round east, dealer 0, no honba.
@@ -262,14 +272,14 @@ impl Table {
     pub fn indicator(&self, k: u8) -> Option<Tile>
         ensures { result ≡ slice_get (indicators (hand self.now.deeds)) k }
     {
-        indicator(self.hand(), usize::from(k))
+        self.facts.course.shown.at(k)
     }
 
     /// How many indicators are shown.
     pub fn shown(&self) -> usize
         ensures { result ≡ length (indicators (hand self.now.deeds)) }
     {
-        shown(self.hand())
+        usize::from(self.facts.course.shown.number)
     }
 
     /// How often each kind stands among the concealed tiles of a seat: the kind of a tile that the newest deed offers
@@ -279,10 +289,7 @@ impl Table {
         ensures spare { (tile : ℕ) → offered_tile self.now.deeds ≡ Some tile → seat < 4
             → slice_index result (kind_of tile) < 4 }
     {
-        if seat < 4 {
-            return kinds_held(self.held.at(seat));
-        }
-        held_counts(self.hand(), seat)
+        kinds_held(self.held.of(seat))
     }
 
     /// How many concealed tiles of the face of a tile a seat holds, four at most.
@@ -290,10 +297,7 @@ impl Table {
         ensures { result ≡ min (number_in (tiles_gained (hand self.now.deeds) seat) tile - number_in
             (tiles_lost (hand self.now.deeds) seat) tile) 4 }
     {
-        if seat < 4 {
-            return usize::from(self.held.at(seat)[tile.face() as usize]);
-        }
-        mj_deeds::held_count(self.hand(), seat, tile)
+        usize::from(self.held.of(seat)[tile.face() as usize])
     }
 
     /// The tile that a seat has drawn and holds as drawn; none exactly where the newest deed isn't its draw, or its
@@ -301,17 +305,14 @@ impl Table {
     pub fn drawn(&self, seat: u8) -> Option<Tile>
         ensures { result ≡ drawn_tile self.now.deeds seat }
     {
-        drawn(self.hand(), seat)
+        drawn(self.newest.as_ref(), self.previous.as_ref(), seat)
     }
 
     /// The melds of a seat, in the order in which they were made; a pon that a tile was added to is an added kan.
     pub fn melds(&self, seat: u8) -> Melds
         ensures { result ≡ seat_melds (hand self.now.deeds) seat }
     {
-        if seat < 4 {
-            return self.kept(seat).melds;
-        }
-        held_melds(self.hand(), seat)
+        self.kept(seat).melds
     }
 
     /// The room that the melds of a seat leave of four tiles of each kind.
@@ -328,17 +329,14 @@ impl Table {
         ensures { result ≡ list_any (is_triplet_of tile a b c)
             (seat_melds (hand self.now.deeds) seat) }
     {
-        mj_deeds::has_triplet(self.hand(), seat, tile, a, b, c)
+        has_triplet(&self.melds(seat), tile, a, b, c)
     }
 
     /// The kinds of the discards of a seat, called ones included.
     pub fn own(&self, seat: u8) -> Kinds
         ensures { result ≡ own_kinds (hand self.now.deeds) seat }
     {
-        if seat < 4 {
-            return self.kept(seat).own;
-        }
-        own_kinds(self.hand(), seat)
+        self.kept(seat).own
     }
 
     /// The kinds that a seat let pass: those of the tiles that others discarded, or added to a triplet, since its own
@@ -346,10 +344,7 @@ impl Table {
     pub fn passed(&self, seat: u8) -> Kinds
         ensures { result ≡ passed_kinds (hand self.now.deeds) seat }
     {
-        if seat < 4 {
-            return self.kept(seat).passed;
-        }
-        passed_kinds(self.hand(), seat)
+        self.kept(seat).passed
     }
 
     /// The kinds that a seat let pass since its reach: those of the tiles that others discarded, or added to a
@@ -357,31 +352,29 @@ impl Table {
     pub fn passed_in_riichi(&self, seat: u8) -> Kinds
         ensures { result ≡ passed_in_riichi (hand self.now.deeds) seat }
     {
-        if seat < 4 {
-            return self.kept(seat).passed_in_riichi;
-        }
-        passed_in_riichi(self.hand(), seat)
+        self.kept(seat).passed_in_riichi
     }
 
     /// How the newest hand ended, as far as the next one depends on it: by its draw, or else by its wins.
     pub fn hand_end(&self) -> HandEnd
         ensures { result ≡ end_of (hand self.now.deeds) (standing self.now.deeds).dealer }
     {
-        mj_deeds::hand_end(self.hand(), self.standing.dealer)
+        let dealer = self.standing.dealer;
+        hand_end(self.facts.course.draw, dealer, self.kept(dealer).won)
     }
 
     /// Whether the dealer is among the winners of the hand.
     pub fn dealer_won(&self) -> bool
         ensures { result ≡ dealer_won (hand self.now.deeds) (standing self.now.deeds).dealer }
     {
-        mj_deeds::dealer_won(self.hand(), self.standing.dealer)
+        self.kept(self.standing.dealer).won
     }
 
     /// Whether a seat has won in the hand.
     pub fn has_winner(&self) -> bool
         ensures { result ≡ not (length (winners (hand self.now.deeds)) == 0) }
     {
-        has_winner(self.hand())
+        self.facts.course.won
     }
 
     /// The newest deed of the hand that is no win: where there are winners, the one that gave the tile that was won
@@ -389,7 +382,11 @@ impl Table {
     pub fn before_wins(&self) -> Option<&Deed>
         ensures { option_copied result ≡ newest (before_wins (hand self.now.deeds)) }
     {
-        before_wins(self.hand())
+        before_wins(
+            self.facts.begun,
+            self.newest.as_ref(),
+            self.previous.as_ref(),
+        )
     }
 
     /// Whether a seat was within one turn of its riichi when the tile was given that `before_wins` gives: an added
@@ -397,10 +394,7 @@ impl Table {
     pub fn ippatsu_before_wins(&self, seat: u8) -> bool
         ensures { result ≡ is_ippatsu (before_wins (hand self.now.deeds)) seat }
     {
-        if seat < 4 {
-            return self.kept(seat).marks.given;
-        }
-        is_ippatsu_before_wins(self.hand(), seat)
+        self.kept(seat).marks.given
     }
 
     /// The first reason for a drawn hand before its live tiles are drawn, in a game whose rules have such draws: the
@@ -409,7 +403,7 @@ impl Table {
     pub fn reason(&self) -> Option<Reason>
         ensures { result ≡ reason self.now.rules.draws (hand self.now.deeds) }
     {
-        reason(self.rules.draws, self.hand())
+        reason(self.rules.draws, self.facts.kans, &self.facts.course)
     }
 
     /// Whether a seat is in its first turn: a hand has begun, the seat has not discarded in it, and no seat made a
@@ -417,82 +411,27 @@ impl Table {
     pub fn is_first(&self, seat: u8) -> bool
         ensures { result ≡ is_first (hand self.now.deeds) seat }
     {
-        if seat < 4 {
-            return self.kept(seat).marks.is_first();
-        }
-        is_first(self.hand(), seat)
+        self.kept(seat).marks.is_first()
     }
 
     /// Whether a seat is in riichi: its reach in the hand was accepted.
     pub fn is_in_riichi(&self, seat: u8) -> bool
         ensures { result ≡ is_in_riichi (hand self.now.deeds) seat }
     {
-        if seat < 4 {
-            return self.kept(seat).marks.accepted;
-        }
-        mj_deeds::is_in_riichi(self.hand(), seat)
+        self.kept(seat).marks.accepted
     }
 
     /// The concealed tiles of a seat, in tile order.
     pub fn concealed(&self, alloc: Global, seat: u8) -> Result<Tiles, AllocError>
         ensures { IfOk result (λ t. t ≡ concealed_tiles (hand self.now.deeds) seat) }
     {
-        mj_deeds::concealed(alloc, self.hand(), seat)
+        tiles_held(alloc, self.held.of(seat))
     }
 
     /// The marks of a seat in its hand, all false before a hand has begun.
     pub fn marks(&self, seat: u8) -> Marks
         ensures { result ≡ marks (hand self.now.deeds) seat }
     {
-        if seat < 4 {
-            return self.kept(seat).marks.told();
-        }
-        marks_of(self.hand(), seat)
-    }
-}
-
-// Adds a deed to the newest hand; as long as no hand has begun, it is the newest deed. Where memory is wanting nothing
-// changes.
-fn add(hand: &mut Vec<Deed>, opening: &mut Option<Deed>, deed: &Deed) -> Result<(), AllocError>
-    ensures in_hand { OnOk result (hand.new.items ≡ hand_with hand.old.items deed.now) }
-    ensures before { OnOk result (opening.new ≡ opening_with hand.old.items deed.now) }
-    ensures err { OnErr result ((hand.new.items ≡ hand.old.items) × (opening.new ≡ opening.old)) }
-{
-    let copy = deed.copy()?;
-    if is_hand_start(deed) {
-        let mut begun = Vec::with_capacity(*hand.allocator(), 1)?;
-        begun.push_reserved(copy);
-        *hand = begun;
-        *opening = None;
-        return Ok(());
-    }
-    if hand.is_empty() {
-        *opening = Some(copy);
-        return Ok(());
-    }
-    hand.reserve(1)?;
-    hand.push_reserved(copy);
-    *opening = None;
-    Ok(())
-}
-
-// The same deeds once more.
-fn copies(alloc: Global, deeds: &[Deed]) -> Result<Vec<Deed>, AllocError>
-    ensures { IfOk result (λ copies. copies.items ≡ deeds.now) }
-{
-    let mut copies = Vec::new(alloc);
-    for deed in deeds {
-        copies.push(deed.copy()?)?;
-    }
-    Ok(copies)
-}
-
-// The same deed once more, where there is one.
-fn copy_of(deed: Option<&Deed>) -> Result<Option<Deed>, AllocError>
-    ensures { IfOk result (λ copy. copy ≡ option_copied deed.entry) }
-{
-    match deed {
-        Some(deed) => Ok(Some(deed.copy()?)),
-        None => Ok(None),
+        self.kept(seat).marks.told()
     }
 }

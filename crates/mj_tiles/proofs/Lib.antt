@@ -4,3 +4,4 @@ pub mod Faces
 pub mod KindSets
 pub mod Bits
 pub mod EachKind
+mod Spelled

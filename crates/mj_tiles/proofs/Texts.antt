@@ -10,11 +10,11 @@ use Rattle.mj_lists.proofs.Ranges.{passes}
 use Rattle.mj_tiles.specs.Faces.{texts, text_of, face_of}
 
 -- The place that is read is this one.
-is_at : Option ℕ → ℕ → Bool
+unfoldable pub is_at : Option ℕ → ℕ → Bool
 is_at None face = false
 is_at (Some other) face = eqb other face
 
-is_at_says : (o : Option ℕ) (face : ℕ) → is_at o face ≡ true → o ≡ Some face
+pub is_at_says : (o : Option ℕ) (face : ℕ) → is_at o face ≡ true → o ≡ Some face
 unfolding is_at
 is_at_says None face h = absurd (false≢true h)
 is_at_says (Some other) face h = ap Some ((Decides-eqb other face).0 h)

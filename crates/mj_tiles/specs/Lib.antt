@@ -1,5 +1,6 @@
 pub mod Faces
 pub mod Counts
+pub mod Inner
 pub mod Kinds
 pub mod Melds
 pub mod Terminals

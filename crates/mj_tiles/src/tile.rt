@@ -1,6 +1,7 @@
-ghost use Rattle.std.specs.Prelude.{◌≡◌, ℕ, ◌<◌};
+ghost use Rattle.std.specs.Prelude.{◌≡◌, ℕ, ◌<◌, IfSome};
 ghost use Rattle.std.specs.Option.{SomeIff};
 ghost use Rattle.mj_tiles.specs.Faces.{kind_of, text_of, face_of, number_in};
+ghost use Rattle.mj_tiles.specs.Inner.Spelled.{suit_of, honour_of, plain_of, red_of};
 
 use crate::kind::Kind;
 use std::marker::Model;
@@ -61,17 +62,17 @@ impl Tile {
     }
 
     /// The tile that the text names, as `1m`, `E` or `5pr`; none exactly where the text is none of the 37.
-    #[tactic(auto, unfolding(crate::specs::Faces::face_of))]
+    #[tactic(auto, using(crate::proofs::Spelled::spelled))]
     pub fn read(text: &[u8]) -> Option<Tile>
         ensures { result ≡ face_of text.now }
     {
-        for face in 0..37 {
-            let tile = Tile { face };
-            if tile.text() == text {
-                return Some(tile);
-            }
+        match text {
+            [] => None,
+            [letter] => honour(*letter),
+            [digit, letter] => plain(*digit, *letter),
+            [digit, letter, mark] => red(*digit, *letter, *mark),
+            [_, _, _, _, ..] => None,
         }
-        None
     }
 
     /// The text of the tile in mjai: a number and the letter of its suit with `r` for a red five, or the letter of an
@@ -120,6 +121,60 @@ impl Tile {
             _ => b"5sr",
         }
     }
+}
+
+// The suit of a letter: 0 for characters, 1 for circles, 2 for bamboo.
+fn suit(letter: u8) -> Option<u8>
+    ensures value { result ≡ suit_of letter }
+    ensures within { IfSome result (λ suit. suit < 3) }
+{
+    match letter {
+        b'm' => Some(0),
+        b'p' => Some(1),
+        b's' => Some(2),
+        _ => None,
+    }
+}
+
+// The honour of a letter.
+fn honour(letter: u8) -> Option<Tile>
+    ensures { result ≡ honour_of letter }
+{
+    let face = match letter {
+        b'E' => 27,
+        b'S' => 28,
+        b'W' => 29,
+        b'N' => 30,
+        b'P' => 31,
+        b'F' => 32,
+        b'C' => 33,
+        _ => return None,
+    };
+    Some(Tile { face })
+}
+
+// The tile of a digit and the letter of a suit.
+fn plain(digit: u8, letter: u8) -> Option<Tile>
+    ensures { result ≡ plain_of digit letter }
+{
+    if digit < b'1' || digit > b'9' {
+        return None;
+    }
+    let suit = suit(letter)?;
+    Some(Tile {
+        face: 9 * suit + (digit - b'1'),
+    })
+}
+
+// The red five of the letter of a suit, after a 5 and before an `r`.
+fn red(digit: u8, letter: u8, mark: u8) -> Option<Tile>
+    ensures { result ≡ red_of digit letter mark }
+{
+    if digit != b'5' || mark != b'r' {
+        return None;
+    }
+    let suit = suit(letter)?;
+    Some(Tile { face: 34 + suit })
 }
 
 /// How often the face of a tile stands among tiles.

@@ -1,8 +1,7 @@
 ghost use Rattle.std.specs.Prelude.{◌≡◌, [], ◌≤◌, ◌*◌, ◌+◌, true, false, length, Some, None, IfOk, IfErr, OnOk, OnErr, SomeIff, slice_index, option_map, take, drop};
-ghost use Rattle.mj_tiles.specs.Faces.{number_in};
 ghost use Rattle.mj_wall.specs.Places.{dealt_tile, live_tile, replacement_tile, indicator_tile, under_tile, number_in_wall, first_extra, bad_place, is_wall};
 
-use mj_tiles::{Tile, number_among};
+use mj_tiles::Tile;
 use std::marker::Model;
 use thiserror::Error;
 
@@ -105,12 +104,12 @@ impl Wall {
 }
 
 // How often a wall has the face of a tile.
-fn copies(tile: Tile, red: bool) -> usize
+fn copies(tile: Tile, red: bool) -> u8
     ensures { result ≡ number_in_wall red tile }
 {
     match tile.face() {
         4 | 13 | 22 if red => 3,
-        34 | 35 | 36 => usize::from(red),
+        34 | 35 | 36 => u8::from(red),
         _ => 4,
     }
 }
@@ -119,10 +118,13 @@ fn copies(tile: Tile, red: bool) -> usize
 fn extra_tile(tiles: &[Tile], red: bool) -> Option<u32>
     ensures value { result ≡ first_extra red [] tiles.now }
 {
+    let mut numbers = [0; 37];
     for (i, tile) in tiles.iter().enumerate() {
-        if copies(*tile, red) <= number_among(&tiles[..i], *tile) {
+        let face = usize::from(tile.face());
+        if copies(*tile, red) <= numbers[face] {
             return Some(i as u32);
         }
+        numbers[face] += 1;
     }
     None
 }

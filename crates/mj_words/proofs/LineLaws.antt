@@ -1,26 +1,32 @@
 -- What clap reads in words, by its own definitions.
-use Rattle.std.proofs.Common.{◌≡◌, ℕ, List, [], ◌∷◌, true, false, refl, ap, ap₂, sym, subst, ◌∙◌, inl, inr}
+use Rattle.std.proofs.Common.{◌≡◌, ℕ, Bor, List, [], ◌∷◌, true, false, refl, ap, ap₂, sym, subst, ◌∙◌, inl, inr}
 use Rattle.std.specs.Prelude.{Option, Some, None, is_some, option_map, MatchOption, IsSomeAnd}
 use Rattle.std.proofs.lemmas.Bool.{and_parts}
 use Rattle.clap.specs.Lexer.{usize_max}
 use Rattle.clap.specs.Words.{AddsArg, App, HasKind, HasMatchesOf, Kinds, Rule, all_of, app_of, fault_of, first_of, first_value, found_of, is_simple, is_simple_and_free, kind_of, matched_of, new_app, raw_values, rule_of, with_rule}
 use Rattle.clap.specs.Simple.{built}
 use Rattle.clap.specs.Faults.{is_free_app}
+use Rattle.clap.specs.declared.builder.action.ArgAction.{ArgAction}
 use Rattle.clap.specs.declared.builder.arg.Arg.{Arg}
 use Rattle.clap.specs.declared.builder.command.Command.{Command}
 use Rattle.clap.specs.declared.builder.range.ValueRange.{ValueRange}
+use Rattle.clap.specs.declared.builder.texts.Texts.TheVariants.{One}
 use Rattle.clap.specs.declared.error.Error.{Error}
 use Rattle.clap.specs.declared.error.kind.ErrorKind.TheVariants.{OutOfMemory}
 use Rattle.clap.specs.declared.parser.matches.ArgMatches.{ArgMatches}
 use Rattle.clap.proofs.OnLiterals.{clap_on_literals}
 use Rattle.clap.proofs.WalkLemmas.{first_value-rows, raw_values-rows}
-use Rattle.mj_words.specs.Lines.{wanted, wanted_often, referee_line, replay_line, hand_line, self_play_line, are_none, is_taken, value_in, values_in}
+use Rattle.mj_words.specs.Lines.{wanted, wanted_often, referee_line, serve_line, replay_line, hand_line, self_play_line, are_none, is_taken, value_in, values_in}
 use Rattle.mj_words.specs.Inner.Parsing.{IsParse}
 
 -- Each line is simple: clap's definitions tell its matches and its faults.
 pub referee_is_simple : is_simple_and_free referee_line ≡ true
 unfolding clap_on_literals referee_line
 referee_is_simple = refl
+
+pub serve_is_simple : is_simple_and_free serve_line ≡ true
+unfolding clap_on_literals serve_line
+serve_is_simple = refl
 
 pub replay_is_simple : is_simple_and_free replay_line ≡ true
 unfolding clap_on_literals replay_line
@@ -34,9 +40,28 @@ pub self_play_is_simple : is_simple_and_free self_play_line ≡ true
 unfolding clap_on_literals self_play_line
 self_play_is_simple = refl
 
--- A command to which one argument is added.
+-- A command to which one argument more is added, and one to which the first is.
+pub with_more : (start command : Command) (arg : Arg) (line : App) (rule : Rule) → app_of start ≡ line → rule_of arg ≡ rule → arg.global ≡ false → AddsArg start arg command → app_of command ≡ with_rule line rule
+with_more start command arg line rule s r g added = added.shape g ∙ ap₂ with_rule s r
+
 pub with_one : (start command : Command) (arg : Arg) (name : List ℕ) (rule : Rule) → app_of start ≡ new_app name → rule_of arg ≡ rule → arg.global ≡ false → AddsArg start arg command → app_of command ≡ with_rule (new_app name) rule
-with_one start command arg name rule s r g added = added.shape g ∙ ap₂ with_rule s r
+with_one start command arg name rule s r g added = with_more start command arg (new_app name) rule s r g added
+
+-- An argument of one command, by what clap reads of it; and what a setting changes of that.
+abbrev pub Reads : Arg → Rule → Type 0
+Reads arg rule = (rule_of arg ≡ rule) × (arg.global ≡ false)
+
+pub named : (old arg : Arg) (name : Bor (List ℕ)) (rule : Rule) → Reads old rule → arg ≡ record old { long = Some name } → Reads arg (record rule { long = Some name.now })
+named old arg name rule r is = (ap rule_of is ∙ ap (λ (x : Rule). record x { long = Some name.now }) r.0, ap (λ (a : Arg). a.global) is ∙ r.1)
+
+pub needed : (old arg : Arg) (rule : Rule) → Reads old rule → arg ≡ record old { required = true } → Reads arg (record rule { required = true })
+needed old arg rule r is = (ap rule_of is ∙ ap (λ (x : Rule). record x { required = true }) r.0, ap (λ (a : Arg). a.global) is ∙ r.1)
+
+pub defaulting : (old arg : Arg) (value : Bor (List ℕ)) (rule : Rule) → Reads old rule → arg ≡ record old { default_vals = One value } → Reads arg (record rule { defaults = value.now ∷ [] })
+defaulting old arg value rule r is = (ap rule_of is ∙ ap (λ (x : Rule). record x { defaults = value.now ∷ [] }) r.0, ap (λ (a : Arg). a.global) is ∙ r.1)
+
+pub acting : (old arg : Arg) (action : ArgAction) (rule : Rule) → Reads old rule → arg ≡ record old { action = Some action } → Reads arg (record rule { action = Some action })
+acting old arg action rule r is = (ap rule_of is ∙ ap (λ (x : Rule). record x { action = Some action }) r.0, ap (λ (a : Arg). a.global) is ∙ r.1)
 
 -- An argument of one value or more.
 some_range : (o : Option ValueRange) (range : ValueRange) → IsSomeAnd o (λ r. r ≡ range) → o ≡ Some range

@@ -1,12 +1,22 @@
 -- What words ask for.
-use Rattle.std.specs.Prelude.{ℕ, Bool, true, false, if◌then◌else◌, List, [], ◌∷◌, codes, bytes_eq, Option, Some, None, option_and_then}
+use Rattle.std.specs.Prelude.{ℕ, ◌&&◌, nat_le, Bool, true, false, if◌then◌else◌, List, [], ◌∷◌, codes, bytes_eq, Option, Some, None, Result, Ok, Err, option_and_then}
+use Rattle.hex.specs.Hex.{decode_sized}
 use Rattle.mj_bytes.specs.Numbers.{decimal_of}
-use Rattle.mj_words.specs.Lines.{referee_line, replay_line, hand_line, self_play_line, is_taken, value_in, values_in}
+use Rattle.mj_words.specs.Lines.{referee_line, serve_line, replay_line, hand_line, self_play_line, is_taken, value_in, values_in}
 
--- The referee of a seat, the summary of a record, the lines of the hand that further words name, the self-played game of a
--- number, or nothing that there is.
+-- What a game is served with: the 32 bytes of its seed, the limit of a window in milliseconds, the port, and whether the draw
+-- reasons are in force.
+pub record ServedWith : Type 0 where
+  pub seed : List ℕ
+  pub limit : ℕ
+  pub port : ℕ
+  pub draws : Bool
+
+-- The referee of a seat, a game that is served, the summary of a record, the lines of the hand that further words name, the
+-- self-played game of a number, or nothing that there is.
 pub data Asked : Type 0 where
   RefereeOf : (seat : ℕ) → Asked
+  ServingOf : (with : ServedWith) → Asked
   SummaryOfRecord : Asked
   HandOf : (words : List (List ℕ)) → Asked
   SelfPlayOf : (number : ℕ) → Asked
@@ -27,6 +37,39 @@ referee_by (Some seat) = RefereeOf seat
 
 abbrev pub referee_asked : List (List ℕ) → Asked
 referee_asked words = referee_by (option_and_then seat_named (value_in referee_line (codes "seat") words))
+
+-- The bytes that a word writes as 64 hex digits of either case, two a byte.
+abbrev pub bytes_by : {E : Type 0} → Result (List ℕ) E → Option (List ℕ)
+bytes_by (Ok bytes) = Some bytes
+bytes_by (Err error) = None
+
+abbrev pub seed_named : List ℕ → Option (List ℕ)
+seed_named word = bytes_by (decode_sized word 32)
+
+-- The number that a word writes in decimal digits without a leading zero, where it lies between two others.
+abbrev pub within : ℕ → ℕ → ℕ → Option ℕ
+within least most number = if (nat_le least number && nat_le number most) then Some number else None
+
+abbrev pub number_named : ℕ → ℕ → List ℕ → Option ℕ
+number_named least most word = option_and_then (within least most) (decimal_of word)
+
+-- Those whose first is `serve` ask for the game of the seed, the limit and the port that their values name.
+abbrev pub serving_by : Option (List ℕ) → Option ℕ → Option ℕ → Bool → Asked
+serving_by None limit port draws = Nothing
+serving_by (Some seed) None port draws = Nothing
+serving_by (Some seed) (Some limit) None draws = Nothing
+serving_by (Some seed) (Some limit) (Some port) draws = ServingOf (record { seed = seed; limit = limit; port = port; draws = draws })
+
+abbrev pub is_on : Option (List ℕ) → Bool
+is_on None = false
+is_on (Some word) = bytes_eq word (codes "true")
+
+abbrev pub serve_asked : List (List ℕ) → Asked
+serve_asked words =
+    serving_by (option_and_then seed_named (value_in serve_line (codes "seed") words))
+    (option_and_then (number_named 1 3600000) (value_in serve_line (codes "limit") words))
+    (option_and_then (number_named 1 65535) (value_in serve_line (codes "port") words))
+    (is_on (value_in serve_line (codes "draws") words))
 
 -- Those whose first is `replay` ask for the summary of a record.
 abbrev pub replay_by : Bool → Asked
@@ -58,6 +101,7 @@ abbrev pub asked_by : List (List ℕ) → Asked
 asked_by [] = Nothing
 asked_by (command ∷ words) =
     if bytes_eq command (codes "referee") then referee_asked (command ∷ words) else
+    (if bytes_eq command (codes "serve") then serve_asked (command ∷ words) else
     (if bytes_eq command (codes "replay") then replay_asked (command ∷ words) else
     (if bytes_eq command (codes "hand") then hand_asked (command ∷ words) else
-    (if bytes_eq command (codes "selfplay") then self_play_asked (command ∷ words) else Nothing)))
+    (if bytes_eq command (codes "selfplay") then self_play_asked (command ∷ words) else Nothing))))

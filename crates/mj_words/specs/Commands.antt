@@ -1,13 +1,24 @@
 -- The command that words were read as.
-use Rattle.std.specs.Prelude.{map}
+use Rattle.std.specs.Prelude.{map, Option, Some, None}
 use Rattle.std.specs.String.{string_bytes}
 use Rattle.mj_words.specs.declared.command.Command.{Command}
 use Rattle.mj_words.specs.declared.command.Command.TheVariants as commands
-use Rattle.mj_words.specs.Asked.{Asked, RefereeOf, SummaryOfRecord, HandOf, SelfPlayOf, Nothing}
+use Rattle.mj_words.specs.declared.serving.Serving.{Serving}
+use Rattle.mj_words.specs.Asked.{Asked, ServedWith, RefereeOf, ServingOf, SummaryOfRecord, HandOf, SelfPlayOf, Nothing}
+
+-- What a game is served with.
+abbrev pub served_with : Serving → ServedWith
+served_with s = record { seed = s.seed; limit = s.limit; port = s.port; draws = s.draws }
+
+-- It asks for the game, where there is what it is served with.
+abbrev pub asked_by_serving : Option Serving → Asked
+asked_by_serving None = Nothing
+asked_by_serving (Some serving) = ServingOf (served_with serving)
 
 -- What it asks for.
 abbrev pub asked_by_command : Command → Asked
 asked_by_command (commands.Referee seat) = RefereeOf seat
+asked_by_command (commands.Serve serving) = ServingOf (served_with serving)
 asked_by_command commands.Replay = SummaryOfRecord
 asked_by_command (commands.Hand words) = HandOf (map string_bytes words.items)
 asked_by_command (commands.SelfPlay number) = SelfPlayOf number

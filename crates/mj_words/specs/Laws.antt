@@ -1,7 +1,14 @@
 -- Some words, and what they ask for.
-use Rattle.std.specs.Prelude.{◌≡◌, ℕ, ◌==◌, Bool, true, not, List, [], ◌∷◌, codes, Some}
+use Rattle.std.specs.Prelude.{◌≡◌, ℕ, ◌==◌, Bool, true, false, not, List, [], ◌∷◌, ◌++◌, replicate, codes, Some}
 use Rattle.mj_words.specs.Lines.{referee_line, self_play_line, value_in}
-use Rattle.mj_words.specs.Asked.{asked_by, RefereeOf, SummaryOfRecord, HandOf, SelfPlayOf, Nothing}
+use Rattle.mj_words.specs.Asked.{asked_by, RefereeOf, ServingOf, SummaryOfRecord, HandOf, SelfPlayOf, Nothing}
+
+-- A seed of 32 bytes, of which the last two are 170 and 255, and the word that names it.
+abbrev pub some_hex : List ℕ
+some_hex = codes "000000000000000000000000000000000000000000000000000000000000aaFf"
+
+abbrev pub some_seed : List ℕ
+some_seed = replicate 30 0 ++ 170 ∷ 255 ∷ []
 
 -- Each command has its words and no others; a word that begins with a hyphen is a value behind `--` alone.
 pub record WordsAreRead : Type 0 where
@@ -13,6 +20,19 @@ pub record WordsAreRead : Type 0 where
   pub referee_of_two : asked_by (codes "referee" ∷ codes "0" ∷ codes "1" ∷ []) ≡ Nothing
   pub referee_of_the_fifth : asked_by (codes "referee" ∷ codes "4" ∷ []) ≡ Nothing
   pub referee_with_help : asked_by (codes "referee" ∷ codes "0" ∷ codes "--help" ∷ []) ≡ Nothing
+  pub serve : asked_by (codes "serve" ∷ codes "--seed" ∷ some_hex ∷ []) ≡ ServingOf (record { seed = some_seed; limit = 10000; port = 11600; draws = false })
+  pub serve_with_all :
+      asked_by (codes "serve" ∷ codes "--draws" ∷ codes "--port=65535" ∷ codes "--limit" ∷ codes "3600000" ∷ codes "--seed" ∷ some_hex ∷ [])
+      ≡ ServingOf (record { seed = some_seed; limit = 3600000; port = 65535; draws = true })
+  pub serve_of_none : asked_by (codes "serve" ∷ []) ≡ Nothing
+  pub serve_of_a_shorter_seed : asked_by (codes "serve" ∷ codes "--seed" ∷ codes "07" ∷ []) ≡ Nothing
+  pub serve_without_a_limit : asked_by (codes "serve" ∷ codes "--seed" ∷ some_hex ∷ codes "--limit" ∷ codes "0" ∷ []) ≡ Nothing
+  pub serve_with_a_longer_limit : asked_by (codes "serve" ∷ codes "--seed" ∷ some_hex ∷ codes "--limit" ∷ codes "3600001" ∷ []) ≡ Nothing
+  pub serve_at_no_port : asked_by (codes "serve" ∷ codes "--seed" ∷ some_hex ∷ codes "--port" ∷ codes "0" ∷ []) ≡ Nothing
+  pub serve_at_a_higher_port : asked_by (codes "serve" ∷ codes "--seed" ∷ some_hex ∷ codes "--port" ∷ codes "65536" ∷ []) ≡ Nothing
+  pub serve_twice : asked_by (codes "serve" ∷ codes "--seed" ∷ some_hex ∷ codes "--draws" ∷ codes "--draws" ∷ []) ≡ Nothing
+  pub serve_with_a_value : asked_by (codes "serve" ∷ codes "--seed" ∷ some_hex ∷ codes "--draws=true" ∷ []) ≡ Nothing
+  pub serve_of_a_word : asked_by (codes "serve" ∷ codes "--seed" ∷ some_hex ∷ codes "0" ∷ []) ≡ Nothing
   pub replay : asked_by (codes "replay" ∷ []) ≡ SummaryOfRecord
   pub replay_of_a_word : asked_by (codes "replay" ∷ codes "0" ∷ []) ≡ Nothing
   pub replay_with_help : asked_by (codes "replay" ∷ codes "-h" ∷ []) ≡ Nothing

@@ -2,6 +2,7 @@
 -- exactly the arguments that stand here, and each value is text.
 use Rattle.std.specs.Prelude.{ℕ, Bool, true, false, if◌then◌else◌, List, [], ◌∷◌, codes, Option, Some, None}
 use Rattle.clap.specs.Lexer.{usize_max}
+use Rattle.clap.specs.declared.builder.action.ArgAction.TheVariants.{SetTrue}
 use Rattle.clap.specs.Words.{App, Kinds, Rule, all_of, fault_of, first_of, matches_of, new_app, new_rule, with_rule}
 
 -- An argument without a name before it, which must be there.
@@ -11,6 +12,17 @@ wanted name = record (new_rule name) { required = true }
 -- It has one value or more.
 abbrev pub wanted_often : List ℕ → Rule
 wanted_often name = record (wanted name) { range = Some (record { start_inclusive = 1; end_inclusive = usize_max }) }
+
+-- An option with one value behind its name, which must be there; or which has a value of its own where it is left out.
+abbrev pub option_wanted : List ℕ → Rule
+option_wanted name = record (wanted name) { long = Some name }
+
+abbrev pub option_or : List ℕ → List ℕ → Rule
+option_or name value = record (new_rule name) { long = Some name; defaults = value ∷ [] }
+
+-- A name that has no value behind it; where it is there its value is `true`, else `false`.
+abbrev pub flag : List ℕ → Rule
+flag name = record (new_rule name) { long = Some name; action = Some SetTrue }
 
 -- One seat.
 unfoldable pub referee_line : App
@@ -27,6 +39,12 @@ hand_line = with_rule (new_app (codes "hand")) (wanted_often (codes "words"))
 -- One number.
 unfoldable pub self_play_line : App
 self_play_line = with_rule (new_app (codes "selfplay")) (wanted (codes "n"))
+
+-- A seed, the limit of a window, a port, and whether the draw reasons are in force.
+unfoldable pub serve_line : App
+serve_line =
+    with_rule (with_rule (with_rule (with_rule (new_app (codes "serve"))
+    (option_wanted (codes "seed"))) (option_or (codes "limit") (codes "10000"))) (option_or (codes "port") (codes "11600"))) (flag (codes "draws"))
 
 -- Clap finds no fault in words; a request for help is one.
 abbrev pub are_none : Kinds → Bool

@@ -2,10 +2,12 @@
 
 ghost use Rattle.std.specs.Prelude.{◌≡◌, map, IfOk};
 ghost use Rattle.std.specs.String.{string_bytes};
-ghost use Rattle.mj_words.specs.Asked.{asked_by, seat_named, referee_asked, replay_asked, hand_asked, self_play_asked};
+ghost use Rattle.mj_words.specs.Asked.{asked_by, seat_named, referee_asked, serve_asked, replay_asked, hand_asked, self_play_asked};
 ghost use Rattle.mj_words.specs.Commands.{asked_by_command};
 
+use crate::options::serving_of;
 use crate::parsing::{hand_words, number_word, seat_word, takes_replay};
+use crate::serving::Serving;
 use mj_bytes::read_number;
 use std::alloc::{AllocError, Global};
 
@@ -14,6 +16,8 @@ use std::alloc::{AllocError, Global};
 pub enum Command {
     /// The referee of a seat, 0 to 3.
     Referee(u8),
+    /// A game that is served.
+    Serve(Serving),
     /// The summary of a record.
     Replay,
     /// The lines of the hand that these words name.
@@ -25,8 +29,8 @@ pub enum Command {
 }
 
 /// The command that words ask for, which leave out the program's name. The first is the command, and the others are read by
-/// clap: a seat behind `referee`, nothing behind `replay`, one word or more behind `hand`, and a number behind `selfplay`. The
-/// only error is want of memory.
+/// clap: a seat behind `referee`, options behind `serve`, nothing behind `replay`, one word or more behind `hand`, and a number
+/// behind `selfplay`. The only error is want of memory.
 pub fn command_of(alloc: Global, words: &[String]) -> Result<Command, AllocError>
     ensures { IfOk result (λ command. asked_by_command command
         ≡ asked_by (map string_bytes words.now)) }
@@ -37,6 +41,9 @@ pub fn command_of(alloc: Global, words: &[String]) -> Result<Command, AllocError
     let name = first.as_str();
     if name == "referee" {
         return referee_of(alloc, words);
+    }
+    if name == "serve" {
+        return serve_of(alloc, words);
     }
     if name == "replay" {
         return replay_of(alloc, words);
@@ -60,6 +67,17 @@ fn referee_of(alloc: Global, words: &[String]) -> Result<Command, AllocError>
     };
     match named_seat(word) {
         Some(seat) => Ok(Command::Referee(seat)),
+        None => Ok(Command::Unknown),
+    }
+}
+
+// The game that is served with what the words behind the first say.
+fn serve_of(alloc: Global, words: &[String]) -> Result<Command, AllocError>
+    ensures { IfOk result (λ command. asked_by_command command
+        ≡ serve_asked (map string_bytes words.now)) }
+{
+    match serving_of(alloc, words)? {
+        Some(serving) => Ok(Command::Serve(serving)),
         None => Ok(Command::Unknown),
     }
 }

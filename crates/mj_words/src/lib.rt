@@ -3,7 +3,11 @@
 
 mod command;
 mod laws;
+mod options;
 mod parsing;
+mod serving;
 
 pub use command::{Command, command_of};
 pub use laws::{plain_words_are_values, words_are_read};
+pub use options::serving_of;
+pub use serving::Serving;

@@ -4,11 +4,11 @@
 ghost use Rattle.std.specs.Prelude.{◌≡◌, true, false, map, codes, option_map, IfOk, MatchOption};
 ghost use Rattle.std.specs.String.{string_bytes};
 ghost use Rattle.clap.specs.Words.{app_of, found_of, is_simple_and_free, matched_of, raw_values};
-ghost use Rattle.mj_words.specs.Lines.{referee_line, replay_line, hand_line, self_play_line, is_taken, value_in, values_in};
-ghost use Rattle.mj_words.specs.Inner.Parsing.{IsParse};
+ghost use Rattle.mj_words.specs.Lines.{referee_line, serve_line, replay_line, hand_line, self_play_line, is_taken, value_in, values_in};
+ghost use Rattle.mj_words.specs.Inner.Parsing.{IsParse, HasServeWords};
 
 use clap::error::ErrorKind;
-use clap::{Arg, ArgMatches, Command};
+use clap::{Arg, ArgAction, ArgMatches, Command};
 use std::alloc::{AllocError, Global};
 
 /// The word of the seat behind `referee`; none where clap refuses the words.
@@ -25,6 +25,57 @@ pub(crate) fn seat_word<'a>(
         Some(matches) => Ok(matches.get_str("seat")),
         None => Ok(None),
     }
+}
+
+/// The words of the options behind `serve`, and of its flag, each where clap takes the words.
+#[derive(Clone, Copy)]
+pub(crate) struct ServeWords<'a> {
+    pub seed: Option<&'a str>,
+    pub limit: Option<&'a str>,
+    pub port: Option<&'a str>,
+    pub draws: Option<&'a str>,
+}
+
+/// The words of the options and of the flag behind `serve`.
+pub(crate) fn serve_words<'a>(
+    alloc: Global,
+    words: &'a [String],
+) -> Result<ServeWords<'a>, AllocError>
+    ensures { IfOk result (λ found. HasServeWords found (map string_bytes words.now)) }
+{
+    match parse(serve_command(alloc)?, words)? {
+        Some(matches) => Ok(ServeWords {
+            seed: matches.get_str("seed"),
+            limit: matches.get_str("limit"),
+            port: matches.get_str("port"),
+            draws: matches.get_str("draws"),
+        }),
+        None => Ok(ServeWords {
+            seed: None,
+            limit: None,
+            port: None,
+            draws: None,
+        }),
+    }
+}
+
+// The command `serve` with its options.
+fn serve_command<'a>(alloc: Global) -> Result<Command<'a>, AllocError>
+    ensures { IfOk result (λ command. app_of command ≡ serve_line) }
+{
+    let seed = Arg::new(alloc, "seed").long("seed").required(true);
+    let limit = Arg::new(alloc, "limit")
+        .long("limit")
+        .default_value("10000");
+    let port = Arg::new(alloc, "port").long("port").default_value("11600");
+    let draws = Arg::new(alloc, "draws")
+        .long("draws")
+        .action(ArgAction::SetTrue);
+    Command::new(alloc, "serve")
+        .arg(seed)?
+        .arg(limit)?
+        .arg(port)?
+        .arg(draws)
 }
 
 /// Whether clap takes the words behind `replay`.

@@ -3,5 +3,5 @@ mod RowSets
 mod RowLists
 mod RowMembers
 mod Lists
-mod SomeHan
+pub mod SomeHan
 mod SomeReading

@@ -88,14 +88,14 @@ impl Job {
         match self {
             Job::EarlyLine => lines_asked(alloc, hands, times, EARLY),
             Job::LateLine => lines_asked(alloc, hands, times, LATE),
+            Job::Judge => discards_judged(alloc, hands, times),
+            Job::JudgeWin => wins_judged(alloc, hands, times),
             _ => self.asked(alloc, hands, times),
         }
     }
 
     // The same for the jobs that ask of hands.
     fn asked(self, alloc: Global, hands: &mut Hands, times: u32) -> Result<u64, AllocError> {
-        let table = half_played(alloc)?;
-        let won = awaited(alloc)?;
         let kinds = all_kinds();
         let mut sum = 0u64;
         for _ in 0..times {
@@ -108,17 +108,37 @@ impl Job {
                 Job::Shanten => shanten_of(&hands.numbers(13)),
                 Job::Number => number_of(&hands.numbers(13)),
                 Job::BestDiscard => best_discard_of(&hands.numbers(14), kinds),
-                Job::Judge => judged(&table, &hands.numbers(1)),
-                Job::JudgeWin => u64::from(hands.numbers(1)[0]).wrapping_add(may_win(&won)),
                 Job::WaitsOfOpen => waits_of_open(&hands.open_hand()),
                 Job::ReadingsOfOpen => readings_of_open(alloc, &hands.open_hand())?,
                 Job::WorthOfOpen => worth_of_open(alloc, &hands.open_hand())?,
-                Job::EarlyLine | Job::LateLine => 0,
+                Job::Judge | Job::JudgeWin | Job::EarlyLine | Job::LateLine => 0,
             };
             sum = sum.wrapping_mul(31).wrapping_add(part);
         }
         Ok(sum)
     }
+}
+
+// Judges so many discards in the middle of a hand.
+fn discards_judged(alloc: Global, hands: &mut Hands, times: u32) -> Result<u64, AllocError> {
+    let table = half_played(alloc)?;
+    let mut sum = 0u64;
+    for _ in 0..times {
+        let part = judged(&table, &hands.numbers(1));
+        sum = sum.wrapping_mul(31).wrapping_add(part);
+    }
+    Ok(sum)
+}
+
+// Judges a win in the middle of a hand so many times.
+fn wins_judged(alloc: Global, hands: &mut Hands, times: u32) -> Result<u64, AllocError> {
+    let won = awaited(alloc)?;
+    let mut sum = 0u64;
+    for _ in 0..times {
+        let part = u64::from(hands.numbers(1)[0]).wrapping_add(may_win(&won));
+        sum = sum.wrapping_mul(31).wrapping_add(part);
+    }
+    Ok(sum)
 }
 
 // Asks so many times for the line of a seat at one place, of as many as the latest place wants.

@@ -1,6 +1,6 @@
 //! A stored game, refereed.
 
-use mj_front::{Status, run_alone};
+use mj_front::{Status, is_for_waiting, run_alone};
 use mj_links::{MemSink, MemSource};
 use std::alloc::{AllocError, Global};
 
@@ -15,6 +15,9 @@ pub struct Refereed {
 pub fn referee(alloc: Global, game: &[u8]) -> Result<Refereed, AllocError> {
     let command = String::from_str(alloc, "referee")?;
     let words = vec![in alloc; command, String::from_str(alloc, "3")?]?;
+    if is_for_waiting(words.as_slice()) {
+        return Ok(told_in(&[]));
+    }
     let mut source = MemSource::new(Vec::from_slice(alloc, game)?, Vec::new(alloc));
     let mut sink = MemSink::new(Vec::new(alloc));
     match run_alone(alloc, words.as_slice(), &mut source, &mut sink) {

@@ -1,7 +1,7 @@
 //! What a run comes to.
 
 use mj_bytes::push_number;
-use mj_front::{Status, exit_code, run_alone, status_text};
+use mj_front::{Status, exit_code, is_for_waiting, run_alone, status_text};
 use mj_links::{MemSink, MemSource};
 use std::alloc::{AllocError, Global};
 
@@ -12,12 +12,17 @@ pub struct Outcome {
     pub ending: Vec<u8>,
 }
 
-/// What a run on these words, which white space parts, and on this input comes to.
+/// What a run on these words, which white space parts, and on this input comes to. Words of a command that waits for others
+/// are refused.
 pub fn outcome_of(alloc: Global, words: &[u8], input: Vec<u8>) -> Result<Outcome, AllocError> {
     let words = words_of(alloc, words)?;
     let mut source = MemSource::new(input, Vec::new(alloc));
     let mut sink = MemSink::new(Vec::new(alloc));
-    let status = run_alone(alloc, words.as_slice(), &mut source, &mut sink);
+    let status = if is_for_waiting(words.as_slice()) {
+        Status::Words
+    } else {
+        run_alone(alloc, words.as_slice(), &mut source, &mut sink)
+    };
     Ok(Outcome {
         bytes: Vec::from_slice(alloc, sink.written())?,
         ending: ending_of(alloc, status)?,

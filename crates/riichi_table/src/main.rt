@@ -1,12 +1,13 @@
-//! A referee for four-player riichi mahjong over mjai: `riichi_table referee SEAT` reads the arrivals of a game from
-//! standard input and writes what the game tells the connection of that seat; `riichi_table replay` reads a record from
+//! A table and a referee for four-player riichi mahjong over mjai: `riichi_table referee SEAT` reads the arrivals of a game from
+//! standard input and writes what the game tells the connection of that seat; `riichi_table serve --seed HEX` plays a game with
+//! whoever connects to a port of this machine, and writes its record; `riichi_table replay` reads a record from
 //! standard input and writes what it comes to; `riichi_table hand WORDS` writes the shanten,
 //! the target and the waits of the hand that the words name; `riichi_table selfplay N` writes what the game of four built-in
 //! players with the walls of a number comes to.
 #![tactic(auto)]
 
-use mj_front::{Status, exit_code, run_alone, status_text};
-use mj_links::{ReaderSource, WriterSink};
+use mj_front::{Status, exit_code, run, status_text};
+use mj_links::{MachineClock, ReaderSource, TcpHost, WriterSink};
 use std::alloc::AllocError;
 use std::env;
 use std::io::{ErrorKind, Write};
@@ -15,11 +16,14 @@ use std::process::ExitCode;
 fn main(rt: HostRuntime) -> ExitCode {
     let alloc = rt.alloc();
     let status = match words(&rt) {
-        Ok(words) => run_alone(
+        Ok(words) => run(
+            &rt,
             alloc,
             words.as_slice(),
             &mut ReaderSource::new(rt.stdin()),
             &mut WriterSink::new(rt.stdout()),
+            &mut TcpHost::new(&rt),
+            &mut MachineClock::new(&rt),
         ),
         Err(_) => Status::NoMemory,
     };

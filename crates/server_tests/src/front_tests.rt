@@ -1,5 +1,5 @@
 use crate::slow::{SlowSink, SlowSource};
-use mj_front::{Cause, Status, exit_code, run_alone, status_text};
+use mj_front::{Cause, Status, exit_code, is_for_waiting, run_alone, status_text};
 use mj_links::{MemSink, MemSource, Sink, Source};
 use std::alloc::{AllocError, Global};
 use std::test::Fail;
@@ -28,6 +28,9 @@ fn ends<S: Source, K: Sink>(
     let mut words = Vec::new(alloc);
     for word in line.split_whitespace() {
         words.push(String::from_str(alloc, word)?)?;
+    }
+    if is_for_waiting(words.as_slice()) {
+        return Ok(Status::Words);
     }
     Ok(run_alone(alloc, words.as_slice(), source, sink))
 }

@@ -1,42 +1,42 @@
 -- What a table keeps of the deeds that it stands for, and what a deed more makes of it.
-use Rattle.std.specs.Prelude.{◌≡◌, ◌≤◌, ◌<◌, ◌+◌, ◌-◌, ◌==◌, IsTrue, if◌then◌else◌, List, [], ◌∷◌, ◌++◌, length, flat_map, replicate, slice_index, Option, Some, None, ℕ, ℤ}
+use Rattle.std.specs.Prelude.{◌≡◌, ◌≤◌, ◌<◌, ◌+◌, ◌-◌, ◌==◌, IsTrue, if◌then◌else◌, List, [], ◌∷◌, ◌++◌, length, flat_map, replicate, slice_index, Option, ℕ, ℤ}
 use Rattle.mj_tiles.specs.Faces.{number_in, tile_order}
 use Rattle.mj_rounds.specs.declared.rounds.Standing.{Standing}
 use Rattle.mj_deeds.specs.declared.deed.Deed.{Deed}
-use Rattle.mj_deeds.specs.declared.four.Four.{Four}
 use Rattle.mj_deeds.specs.Facts.{newest, gains_by, losses_by, tiles_gained, tiles_lost}
 use Rattle.mj_deeds.specs.Fits.{all_fit}
-use Rattle.mj_deeds.specs.Four.{at_seat}
 use Rattle.mj_deeds.specs.Hand.{is_hand_start, hand}
 use Rattle.mj_deeds.specs.Points.{points, deposits}
 use Rattle.mj_deeds.specs.Standings.{standing}
 use Rattle.mj_wall.specs.declared.setting.Rules.{Rules}
 use Rattle.mj_table.specs.declared.hand_facts.HandFacts.{HandFacts}
+use Rattle.mj_table.specs.declared.seats.Seats.{Seats}
+use Rattle.mj_table.specs.Inner.Any.{of_any}
 use Rattle.mj_table.specs.Inner.Hands.{Knows}
-
--- The newest deed as long as no hand has begun; none from then on.
-abbrev pub opening : List Deed → Option Deed
-opening deeds = if length (hand deeds) == 0 then newest deeds else None
+use Rattle.mj_table.specs.Inner.Latest.{previous}
 
 -- A seat holds so many tiles of each face in one hand: those that it holds and those that it put down are those given to it.
 abbrev pub Holds : List Deed → ℕ → List ℕ → Type 0
 Holds deeds seat held = (face : ℕ) → face < 37 → slice_index held face + number_in (tiles_lost deeds seat) face ≡ number_in (tiles_gained deeds seat) face
 
--- The same of each of the four seats in the newest hand.
-abbrev pub AllHold : List Deed → Four (List ℕ) → Type 0
-AllHold deeds tiles = (seat : ℕ) → seat ≤ 3 → Holds (hand deeds) seat (at_seat tiles seat)
+-- The same of each seat in the newest hand, and of every number that is no seat.
+abbrev pub AllHold : List Deed → Seats (List ℕ) → Type 0
+AllHold deeds tiles = (seat : ℕ) → Holds (hand deeds) seat (of_any tiles seat)
+
+-- The deed that stands beside the newest one, which is of the newest hand.
+abbrev pub beside : List Deed → Option Deed
+beside deeds = previous (hand deeds)
 
 -- What is kept of the newest hand says its facts.
 abbrev pub KnowsNewest : List Deed → HandFacts → Type 0
 KnowsNewest deeds facts = Knows (hand deeds) facts
 
--- What is kept stands for the deeds: each of them fits behind those before it, and kept are those of the newest hand, the
--- newest one where no hand has begun, the standing, the points, the deposits, how many tiles of each face each seat holds,
--- and the facts of the newest hand.
-pub record Stands (rules : Rules) (deeds : List Deed) (in_hand : List Deed) (first : Option Deed) (now : Standing) (held : List ℤ) (lying : ℕ) (tiles : Four (List ℕ)) (known : HandFacts) : Type 0 where
+-- What is kept stands for the deeds: each of them fits behind those before it, and kept are the newest one and the one beside
+-- it, the standing, the points, the deposits, how many tiles of each face each seat holds, and the facts of the newest hand.
+pub record Stands (rules : Rules) (deeds : List Deed) (last before : Option Deed) (now : Standing) (held : List ℤ) (lying : ℕ) (tiles : Seats (List ℕ)) (known : HandFacts) : Type 0 where
   pub fit : IsTrue (all_fit rules.red [] deeds)
-  pub hand : in_hand ≡ hand deeds
-  pub opening : first ≡ opening deeds
+  pub latest : last ≡ newest deeds
+  pub previous : before ≡ beside deeds
   pub standing : now ≡ standing deeds
   pub points : held ≡ points deeds
   pub deposits : lying ≡ deposits deeds
@@ -46,10 +46,6 @@ pub record Stands (rules : Rules) (deeds : List Deed) (in_hand : List Deed) (fir
 -- The newest hand with a deed more: a start begins one, and another deed belongs to the one that has begun.
 abbrev pub hand_with : List Deed → Deed → List Deed
 hand_with in_hand deed = if is_hand_start deed then deed ∷ [] else (if length in_hand == 0 then [] else in_hand ++ deed ∷ [])
-
--- With a deed more, the newest deed as long as no hand has begun.
-abbrev pub opening_with : List Deed → Deed → Option Deed
-opening_with in_hand deed = if length (hand_with in_hand deed) == 0 then Some deed else None
 
 -- The tiles of which there are so many of each face, in tile order.
 abbrev pub tiles_held : List ℕ → List ℕ

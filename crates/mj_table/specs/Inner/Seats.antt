@@ -1,17 +1,19 @@
 -- What a table keeps of each seat of the deeds of the newest hand.
-use Rattle.std.specs.Prelude.{◌≡◌, ◌≤◌, List, flat_map, ℕ}
+use Rattle.std.specs.Prelude.{◌≡◌, List, flat_map, ℕ}
 use Rattle.std.specs.List.{list_any}
 use Rattle.mj_deeds.specs.declared.deed.Deed.{Deed}
-use Rattle.mj_deeds.specs.declared.four.Four.{Four}
 use Rattle.mj_deeds.specs.Course.{before_wins}
-use Rattle.mj_deeds.specs.Facts.{is_discard_by, seat_melds}
+use Rattle.mj_deeds.specs.Ends.{dealer_won}
+use Rattle.mj_deeds.specs.Facts.{is_discard_by, adds_by, seat_melds}
 use Rattle.mj_deeds.specs.Firsts.{ends_first}
-use Rattle.mj_deeds.specs.Four.{at_seat}
 use Rattle.mj_deeds.specs.Hand.{is_hand_start}
 use Rattle.mj_deeds.specs.Passed.{kinds_among, own_kinds, offers_to, offered_tiles, passed_kinds, passed_in_riichi}
 use Rattle.mj_deeds.specs.Riichi.{is_reach_by, has_reached, is_in_riichi, is_double, is_ippatsu, behind_first, behind_reach}
 use Rattle.mj_table.specs.declared.mark_facts.MarkFacts.{MarkFacts}
 use Rattle.mj_table.specs.declared.seat_facts.SeatFacts.{SeatFacts}
+use Rattle.mj_table.specs.declared.seats.Seats.{Seats}
+use Rattle.mj_table.specs.Inner.Any.{of_any}
+use Rattle.mj_table.specs.Inner.Few.{Lists}
 
 -- What is kept of a seat's riichi says these facts of the deeds of one hand: whether it has begun, and the seat's first turn
 -- has ended; whether the seat has reached, its reach was accepted and is a double one; whether it has discarded behind its
@@ -28,7 +30,8 @@ pub record KeepsMarks (deeds : List Deed) (seat : ℕ) (marks : MarkFacts) : Typ
   pub given : marks.given ≡ is_ippatsu (before_wins deeds) seat
 
 -- What is kept of a seat says these facts of the deeds of one hand: the kinds of its discards, those of the tiles that were
--- offered to it since its last one and since its reach, those of them that it let pass, its melds, and its riichi.
+-- offered to it since its last one and since its reach, those of them that it let pass, its melds, the tiles that it added
+-- to them, its riichi, and whether it has won.
 pub record Keeps (deeds : List Deed) (seat : ℕ) (facts : SeatFacts) : Type 0 where
   pub own : facts.own ≡ own_kinds deeds seat
   pub offered : facts.offered ≡ kinds_among (offered_tiles deeds seat)
@@ -36,8 +39,10 @@ pub record Keeps (deeds : List Deed) (seat : ℕ) (facts : SeatFacts) : Type 0 w
   pub offered_in_riichi : facts.offered_in_riichi ≡ kinds_among (flat_map (offers_to seat) (behind_first (is_reach_by seat) deeds))
   pub passed_in_riichi : facts.passed_in_riichi ≡ passed_in_riichi deeds seat
   pub melds : facts.melds ≡ seat_melds deeds seat
+  pub added : Lists facts.added (flat_map (adds_by seat) deeds)
   pub marks : KeepsMarks deeds seat facts.marks
+  pub won : facts.won ≡ dealer_won deeds seat
 
--- The same of each of the four seats.
-abbrev pub AllKeep : List Deed → Four SeatFacts → Type 0
-AllKeep deeds facts = (seat : ℕ) → seat ≤ 3 → Keeps deeds seat (at_seat facts seat)
+-- The same of each seat, and of every number that is no seat.
+abbrev pub AllKeep : List Deed → Seats SeatFacts → Type 0
+AllKeep deeds facts = (seat : ℕ) → Keeps deeds seat (of_any facts seat)

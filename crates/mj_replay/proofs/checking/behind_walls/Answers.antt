@@ -1,6 +1,9 @@
 use Rattle.std.proofs.Common.{rules, ◌≡◌, true, false, refl, arith}
-use Rattle.mj_replay.proofs.CheckLaws.{Walled, few_played, bad_deed, play_goes_on, cut, good}
+use Rattle.mj_replay.proofs.CheckLaws.{Walled, few_played, play_begins, bad_deed, play_goes_on, cut, good}
 use Rattle.mj_replay.proofs.checking.behind_walls.Goals as goal
+
+pub loop-line-init : goal.loop-line-init
+loop-line-init c = play_begins _ _ _ _ c.in_ok-table.ensures c.requires.other
 
 pub overflow_add-result : goal.overflow_add-result
 overflow_add-result c = let small = few_played _ _ _ _ _ _ c.requires.some c.requires.whole c.loop-line.invariant in omega (arith, small, c.requires.few)

@@ -1,21 +1,21 @@
 -- What is chosen at a number, by the parts of the choice.
-use Rattle.std.proofs.Common.{rules, refl, subst, ap, ◌+◌, ◌-◌, arith, inl, inr, set}
+use Rattle.std.proofs.Common.{rules, None, refl, subst, ap, ◌+◌, ◌-◌, arith, inl, inr, set}
 use Rattle.std.proofs.lemmas.Bool.{cases_eq}
 use Rattle.mj_suits.specs.Choosing.{ByTiles}
-use Rattle.mj_suits.proofs.Choices.{past_end, next_is, none_begins, begins_greatest, choice_alone, choice_both, most_tiles, some_tiles, too_many}
+use Rattle.mj_suits.proofs.Choices.{past_end, next_is, begins_leave, pair_begins, greater_none, begins_greatest, choice_alone, choice_both, most_tiles, some_tiles, too_many}
 use Rattle.mj_suits.proofs.choosing.+choosing.Goals as goal
 
-pub choose_begin-returns-then-left-plan : goal.choose_begin-returns-then-left-plan
-choose_begin-returns-then-left-plan t c = none_begins _ _ _ _ _ _ _ c.requires.plan c.requires.few c.if-not-may_begin.ensures c.at.ensures c.at-left.ensures (λ e. c.if-left-plan.true (omega arith))
+pub choose_begin-returns-then-not-leaves_as_many : goal.choose_begin-returns-then-not-leaves_as_many
+choose_begin-returns-then-not-leaves_as_many t c = λ rest sets pairs by. c.if-not-leaves_as_many.ensures (begins_leave _ _ _ _ _ c.requires.plan c.requires.few rest sets pairs by)
 
-pub choose_begin-choose_from-requires : goal.choose_begin-choose_from-requires
-choose_begin-choose_from-requires t c = (
+pub choose_next-choose_from-requires : goal.choose_next-choose_from-requires
+choose_next-choose_from-requires t c = (
   search rules,
-  next_is _ _ _ _ _ c.args.begin _ c.requires.plan c.requires.few c.if-not-may_begin.ensures c.at.ensures refl refl refl refl refl c.at-left.ensures (omega arith),
+  next_is _ _ _ _ _ c.args.begin _ c.requires.plan c.requires.few c.requires.leaves.may refl refl refl refl refl refl (let l = c.requires.leaves.left_is in omega arith) (omega arith),
 )
 
-pub choose_begin-returns : goal.choose_begin-returns
-choose_begin-returns t c = begins_greatest _ _ _ _ _ _ _ (omega arith) c.requires.plan c.if-not-may_begin.ensures
+pub choose_next-returns : goal.choose_next-returns
+choose_next-returns t c = begins_greatest _ _ _ _ _ _ _ (omega arith) c.requires.plan c.requires.leaves.may
     (ap (λ n. set c.args.plan.now.target c.args.plan.now.number (c.args.plan.now.before + c.args.plan.now.earlier + n)) c.tiles_of.ensures) refl refl refl refl refl (omega arith) c.choose_from.ensures
 
 pub choose_from-returns-in_default : goal.choose_from-returns-in_default
@@ -44,7 +44,11 @@ pub choose_at-unreachable-requires : goal.choose_at-unreachable-requires
 choose_at-unreachable-requires t c = some_tiles _ _ _ _ c.requires (λ more above. c.loop-tiles.invariant.1 more (omega arith))
 
 pub choose_tiles-returns-then-tiles-lt2 : goal.choose_tiles-returns-then-tiles-lt2
-choose_tiles-returns-then-tiles-lt2 t c = choice_alone _ _ _ _ _ _ _ c.if-tiles-lt2.true refl c.choose_begin-first.ensures
+choose_tiles-returns-then-tiles-lt2 t c = choice_alone _ _ _ _ _ _ _ c.if-tiles-lt2.true refl c.choose_begin.ensures
+
+pub choose_tiles-returns-then-not-leaves_as_many : goal.choose_tiles-returns-then-not-leaves_as_many
+choose_tiles-returns-then-not-leaves_as_many t c = choice_both _ _ _ _ _ _ None _ c.if-tiles-lt2.false c.choose_begin-then-not-leaves_as_many.ensures
+    (λ rest sets pairs by. c.if-not-leaves_as_many.ensures (begins_leave _ _ _ _ _ c.requires.plan (pair_begins c.args.tiles c.if-tiles-lt2.false c.requires.few) rest sets pairs by)) (greater_none _)
 
 pub choose_tiles-returns : goal.choose_tiles-returns
-choose_tiles-returns t c = choice_both _ _ _ _ _ _ _ _ c.if-tiles-lt2.false c.choose_begin-first.ensures c.choose_begin-second.ensures c.greater_of.ensures
+choose_tiles-returns t c = choice_both _ _ _ _ _ _ _ _ c.if-tiles-lt2.false c.choose_begin-first.ensures c.choose_next-second.ensures c.greater_of.ensures

@@ -1,5 +1,5 @@
 use Rattle.std.proofs.Common.{refl, arith}
-use Rattle.mj_suits.proofs.Choices.{first_plan, suit_chosen}
+use Rattle.mj_suits.proofs.Choices.{first_plan, suit_chosen, no_tiles_chosen}
 use Rattle.mj_suits.proofs.choosing.choose.Goals as goal
 
 pub choose_from-requires : goal.choose_from-requires
@@ -13,3 +13,6 @@ choose_from-requires-2 c = first_plan _ _ _ _ _ _ (omega arith) (omega arith) c.
 
 pub returns : goal.returns
 returns c = (omega arith, suit_chosen _ _ _ _ _ _ _ (omega arith) c.requires.row c.levels_of_honours.ensures refl refl refl c.requires.sets c.requires.pairs c.at-left.ensures c.choose_from-2.ensures)
+
+pub returns-then-sets-pairs-eq0 : goal.returns-then-sets-pairs-eq0
+returns-then-sets-pairs-eq0 c = (omega arith, no_tiles_chosen _ _ _ _ _ _ _ _ _ _ c.requires.row (omega arith) (omega arith) refl refl refl)

@@ -1,9 +1,14 @@
-use Rattle.std.proofs.Common.{arith}
+use Rattle.std.proofs.Common.{◌++◌, ◌∷◌, [], subst}
+use Rattle.mj_table.proofs.AlikeSeats.{alike_self, alike_above, above}
 use Rattle.mj_table.proofs.SeatsKept.{each_seat}
+use Rattle.mj_table.specs.declared.seat_facts.SeatFacts.{SeatFacts}
 use Rattle.mj_table.specs.Inner.Seats.{Keeps}
 use Rattle.mj_table.proofs.seat_facts.each_after.Goals as goal
 
 pub returns : goal.returns
-returns c before e k =
-    each_seat (λ seat facts. Keeps c.args.hand.now seat facts) c.seat_after.result c.seat_after-2.result c.seat_after-3.result c.seat_after-4.result (c.seat_after.ensures before e (k 0 (omega arith)))
-    (c.seat_after-2.ensures before e (k 1 (omega arith))) (c.seat_after-3.ensures before e (k 2 (omega arith))) (c.seat_after-4.ensures before e (k 3 (omega arith)))
+returns c before seats few k =
+    each_seat (λ seat facts. Keeps (before ++ c.args.deed.now ∷ []) seat facts) _ _ _ _ _
+    (c.seat_after-first.ensures before 0 (alike_self c.args.deed.now 0) few (k 0)) (c.seat_after-second.ensures before 1 (alike_self c.args.deed.now 1) few (k 1))
+    (c.seat_after-third.ensures before 2 (alike_self c.args.deed.now 2) few (k 2)) (c.seat_after-fourth.ensures before 3 (alike_self c.args.deed.now 3) few (k 3))
+    (λ seat high.
+    c.seat_after-others.ensures before seat (alike_above c.args.deed.now seat seats high) few (subst (λ (facts : SeatFacts). Keeps before seat facts) (above c.args.facts.now seat high) (k seat)))

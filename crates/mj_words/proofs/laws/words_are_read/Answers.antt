@@ -1,10 +1,11 @@
 use Rattle.std.proofs.Common.{refl}
 use Rattle.clap.proofs.OnLiterals.{clap_on_literals}
-use Rattle.mj_words.specs.Lines.{referee_line, replay_line, hand_line, self_play_line, is_taken, value_in, values_in}
+use Rattle.hex.proofs.OnLiterals.{hex_on_literals}
+use Rattle.mj_words.specs.Lines.{referee_line, serve_line, replay_line, hand_line, self_play_line, is_taken, value_in, values_in}
 use Rattle.mj_words.proofs.laws.words_are_read.Goals as goal
 
 pub returns : goal.returns
-unfolding clap_on_literals referee_line replay_line hand_line self_play_line is_taken value_in values_in
+unfolding clap_on_literals hex_on_literals referee_line serve_line replay_line hand_line self_play_line is_taken value_in values_in
 returns c = record {
   none = refl;
   no_command = refl;
@@ -14,6 +15,17 @@ returns c = record {
   referee_of_two = refl;
   referee_of_the_fifth = refl;
   referee_with_help = refl;
+  serve = refl;
+  serve_with_all = refl;
+  serve_of_none = refl;
+  serve_of_a_shorter_seed = refl;
+  serve_without_a_limit = refl;
+  serve_with_a_longer_limit = refl;
+  serve_at_no_port = refl;
+  serve_at_a_higher_port = refl;
+  serve_twice = refl;
+  serve_with_a_value = refl;
+  serve_of_a_word = refl;
   replay = refl;
   replay_of_a_word = refl;
   replay_with_help = refl;

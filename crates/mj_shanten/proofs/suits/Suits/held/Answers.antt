@@ -3,7 +3,7 @@ use Rattle.mj_shanten.proofs.suits.Suits.held.Goals as goal
 
 pub returns : goal.returns
 returns c = record {
-  held = held_of _ _ _ c.self.view_is c.self.invariant.held_is;
-  size = (sizes_of _ _ _ c.self.view_is c.self.invariant.held_size c.self.invariant.room_size).0;
-  room_size = (sizes_of _ _ _ c.self.view_is c.self.invariant.held_size c.self.invariant.room_size).1;
+  held = held_of _ _ _ c.self.view_is c.self.invariant.wide.held_is;
+  size = (sizes_of _ _ _ c.self.view_is c.self.invariant.wide.held_size c.self.invariant.wide.room_size).0;
+  room_size = (sizes_of _ _ _ c.self.view_is c.self.invariant.wide.held_size c.self.invariant.wide.room_size).1;
 }

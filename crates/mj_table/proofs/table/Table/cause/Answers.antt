@@ -1,7 +1,8 @@
-use Rattle.std.proofs.Common.{ap, ◌∙◌}
-use Rattle.mj_deeds.specs.Course.{cause}
-use Rattle.mj_table.proofs.InHand.{cause_in_hand}
+use Rattle.std.specs.Prelude.{option_copied}
+use Rattle.mj_table.proofs.LatestTold.{cause_told}
 use Rattle.mj_table.proofs.table.Table.cause.Goals as goal
 
 pub returns : goal.returns
-returns c = c.cause.ensures ∙ ap cause c.hand.ensures.value ∙ cause_in_hand c.args.self.now.rules.red c.args.self.now.deeds c.hand.ensures.fit
+returns c =
+    cause_told c.self.inside.rules c.self.inside.past.items c.args.self.now c.self.inside.newest c.self.inside.previous (option_copied c.as_ref.result) (option_copied c.as_ref-2.result) (option_copied c.cause.result)
+    c.self.invariant.fit c.self.invariant.latest c.self.invariant.previous c.self.view_is c.as_ref.ensures.value c.as_ref-2.ensures.value c.cause.ensures

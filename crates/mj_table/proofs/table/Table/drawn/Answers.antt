@@ -1,8 +1,8 @@
-use Rattle.std.proofs.Common.{List, ap, ◌∙◌}
-use Rattle.mj_deeds.specs.declared.deed.Deed.{Deed}
-use Rattle.mj_deeds.specs.Facts.{drawn_tile}
-use Rattle.mj_table.proofs.InHand.{drawn_in_hand}
+use Rattle.std.specs.Prelude.{option_copied}
+use Rattle.mj_table.proofs.LatestTold.{drawn_told}
 use Rattle.mj_table.proofs.table.Table.drawn.Goals as goal
 
 pub returns : goal.returns
-returns c = c.drawn.ensures ∙ ap (λ (ds : List Deed). drawn_tile ds c.args.seat) c.hand.ensures.value ∙ drawn_in_hand c.args.self.now.rules.red c.args.self.now.deeds c.args.seat c.hand.ensures.fit
+returns c =
+    drawn_told c.self.inside.rules c.self.inside.past.items c.args.self.now c.args.seat c.self.inside.newest c.self.inside.previous (option_copied c.as_ref.result) (option_copied c.as_ref-2.result) c.drawn.result
+    c.self.invariant.fit c.self.invariant.latest c.self.invariant.previous c.self.view_is c.as_ref.ensures.value c.as_ref-2.ensures.value c.drawn.ensures

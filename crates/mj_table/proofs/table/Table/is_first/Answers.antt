@@ -2,5 +2,5 @@ use Rattle.mj_deeds.specs.Hand.{hand}
 use Rattle.mj_table.proofs.MarksKept.{first_told}
 use Rattle.mj_table.proofs.table.Table.is_first.Goals as goal
 
-pub returns-then-seat-lt4 : goal.returns-then-seat-lt4
-returns-then-seat-lt4 c = first_told (hand c.args.self.now.deeds) c.args.seat c.kept.result.now.marks _ c.kept.ensures.marks c.is_first.ensures
+pub returns : goal.returns
+returns c = first_told (hand c.args.self.now.deeds) c.args.seat c.kept.result.now.marks _ c.kept.ensures.marks c.is_first.ensures

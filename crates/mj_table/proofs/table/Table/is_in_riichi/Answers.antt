@@ -1,4 +1,4 @@
 use Rattle.mj_table.proofs.table.Table.is_in_riichi.Goals as goal
 
-pub returns-then-seat-lt4 : goal.returns-then-seat-lt4
-returns-then-seat-lt4 c = c.kept.ensures.marks.accepted
+pub returns : goal.returns
+returns c = c.kept.ensures.marks.accepted

@@ -1,4 +1,4 @@
 use Rattle.mj_table.proofs.table.Table.own.Goals as goal
 
-pub returns-then-seat-lt4 : goal.returns-then-seat-lt4
-returns-then-seat-lt4 c = c.kept.ensures.own
+pub returns : goal.returns
+returns c = c.kept.ensures.own

@@ -1,9 +1,10 @@
 use Rattle.std.proofs.Common.{length, sym, ap, ◌∙◌}
 use Rattle.mj_deeds.specs.Hand.{starts}
+use Rattle.mj_deeds.proofs.Fitted.{parts_of}
 use Rattle.mj_table.specs.Plays.{Play}
-use Rattle.mj_deeds.specs.Four.{at_seat}
+use Rattle.mj_table.specs.Inner.Any.{of_any}
 use Rattle.mj_table.proofs.FacesHeld.{holds_more}
-use Rattle.mj_table.proofs.HandsKept.{facts_more, drawn_few, kans_few, melds_few}
+use Rattle.mj_table.proofs.HandsKept.{facts_more}
 use Rattle.mj_table.proofs.Readers.{stands_more, stands_for, fit_within, few_lie, points_fit}
 use Rattle.mj_table.proofs.table.Table.push.Goals as goal
 
@@ -17,32 +18,16 @@ deposits_after-self-inside-requires c = few_lie c.self.inside.rules.red c.self.i
 
 pub invariant_of-self-2 : goal.invariant_of-self-2
 invariant_of-self-2 c =
-    stands_for c.self.inside.rules _ c.and-self-inside.result.items _ c.add.new.hand.items _ c.add.new.opening _ c.standing_with-self-inside.result
+    let one = fit_within c.self.inside.rules c.self.inside.past.items c.args.self.now c.args.deed.now c.self.view_is c.requires in
+    stands_for c.self.inside.rules _ c.and-self-inside.result.items _ c.add.new.newest _ c.add.new.previous _ c.standing_with-self-inside.result
     _ c.points_after-self-inside.result _ c.deposits_after-self-inside.result c.held_after-self-inside.result c.facts_after-self-inside.result
-    (stands_more c.self.inside.rules c.self.inside.past.items c.self.inside.hand.items c.self.inside.opening c.self.inside.standing c.self.inside.points c.self.inside.deposits
+    (stands_more c.self.inside.rules c.self.inside.past.items c.self.inside.newest c.self.inside.previous c.self.inside.standing c.self.inside.points c.self.inside.deposits
     c.next_number-number.result c.self.inside.held c.held_after-self-inside.result c.self.inside.facts c.facts_after-self-inside.result c.args.deed.now c.self.invariant
-    (fit_within c.self.inside.rules c.self.inside.past.items c.args.self.now c.args.deed.now c.self.view_is c.requires)
+    one
     (c.next_number-number.ensures ∙ ap (λ (p : Play). length (starts p.deeds)) (sym c.self.view_is))
-    (λ seat low.
-    holds_more c.self.inside.rules.red c.self.inside.past.items c.args.deed.now seat (at_seat c.self.inside.held seat) (at_seat c.held_after-self-inside.result seat) low c.self.invariant.fit
-    (fit_within c.self.inside.rules c.self.inside.past.items c.args.self.now c.args.deed.now c.self.view_is c.requires) (c.self.invariant.concealed seat low)
-    (c.held_after-self-inside.ensures seat low))
-    (facts_more c.self.inside.past.items c.self.inside.hand.items c.as_slice.result.now c.args.deed.now c.self.inside.facts c.facts_after-self-inside.result c.self.invariant.hand
-    (c.as_slice.ensures.value ∙ c.in_ok-add.ensures.in_hand) c.facts_after-self-inside.ensures c.self.invariant.facts))
-    c.and-self-inside.ensures c.in_ok-add.ensures.in_hand c.in_ok-add.ensures.before c.standing_with-self-inside.ensures c.points_after-self-inside.ensures
+    (λ seat.
+    holds_more c.self.inside.rules.red c.self.inside.past.items c.args.deed.now seat (of_any c.self.inside.held seat) (of_any c.held_after-self-inside.result seat) c.self.invariant.fit one (c.self.invariant.concealed seat)
+    (c.held_after-self-inside.ensures seat (parts_of c.self.inside.rules.red c.self.inside.past.items c.args.deed.now one).inside.seats))
+    (facts_more c.self.inside.rules.red c.self.inside.past.items c.args.deed.now c.self.inside.facts c.facts_after-self-inside.result c.self.invariant.fit one c.facts_after-self-inside.ensures c.self.invariant.facts))
+    c.and-self-inside.ensures c.in_ok-add.ensures.last c.in_ok-add.ensures.beside c.standing_with-self-inside.ensures c.points_after-self-inside.ensures
     c.deposits_after-self-inside.ensures
-
-pub facts_after-self-inside-requires-clause-drawn : goal.facts_after-self-inside-requires-clause-drawn
-facts_after-self-inside-requires-clause-drawn c =
-    drawn_few c.self.inside.rules.red c.self.inside.past.items c.self.inside.hand.items c.as_slice.result.now c.args.deed.now c.self.invariant.fit
-    (fit_within c.self.inside.rules c.self.inside.past.items c.args.self.now c.args.deed.now c.self.view_is c.requires) c.self.invariant.hand (c.as_slice.ensures.value ∙ c.in_ok-add.ensures.in_hand)
-
-pub facts_after-self-inside-requires-clause-kans : goal.facts_after-self-inside-requires-clause-kans
-facts_after-self-inside-requires-clause-kans c =
-    kans_few c.self.inside.rules.red c.self.inside.past.items c.self.inside.hand.items c.as_slice.result.now c.args.deed.now c.self.invariant.fit
-    (fit_within c.self.inside.rules c.self.inside.past.items c.args.self.now c.args.deed.now c.self.view_is c.requires) c.self.invariant.hand (c.as_slice.ensures.value ∙ c.in_ok-add.ensures.in_hand)
-
-pub facts_after-self-inside-requires-clause-melds : goal.facts_after-self-inside-requires-clause-melds
-facts_after-self-inside-requires-clause-melds c seat =
-    melds_few c.self.inside.rules.red c.self.inside.past.items c.self.inside.hand.items c.as_slice.result.now c.args.deed.now seat c.self.invariant.fit
-    (fit_within c.self.inside.rules c.self.inside.past.items c.args.self.now c.args.deed.now c.self.view_is c.requires) c.self.invariant.hand (c.as_slice.ensures.value ∙ c.in_ok-add.ensures.in_hand)

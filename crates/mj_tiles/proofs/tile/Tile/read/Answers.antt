@@ -1,14 +1,24 @@
-use Rattle.std.proofs.Common.{sym, ◌∙◌, ap, arith}
-use Rattle.std.proofs.lemmas.Slice.Eq.{slice_eq-Decides}
-use Rattle.std.proofs.lemmas.Bool.Decides.{Decides-eqb}
+use Rattle.std.proofs.Common.{◌≡◌, ℕ, ◌<◌, ◌≤◌, length, List, [], ◌∷◌, ◌∙◌, arith, sym}
 use Rattle.mj_tiles.specs.Faces.{face_of}
-use Rattle.mj_tiles.proofs.Texts.{face_of-text_of, face_of-none}
+use Rattle.mj_tiles.proofs.Spelled.{one_read, two_read, three_read, none_read}
 use Rattle.mj_tiles.proofs.tile.Tile.read.Goals as goal
 
-pub returns-then-eq : goal.returns-then-eq
-returns-then-eq c =
-    sym (face_of-text_of _ c.loop-face-test.true)
-    ∙ ap face_of (sym c.text.ensures ∙ (slice_eq-Decides Decides-eqb _ _ c.eq.result c.eq.ensures).0 c.if-eq.true)
+-- src/tile.rt:65:5
+pub returns-in-len1 : goal.returns-in-len1
+returns-in-len1 c = c.honour.ensures ∙ one_read _ (omega arith)
 
-pub returns : goal.returns
-returns c = sym (face_of-none _ (λ face within named. c.loop-face.invariant face (omega arith) named))
+-- src/tile.rt:65:5
+pub returns-in-len2 : goal.returns-in-len2
+returns-in-len2 c = c.plain.ensures ∙ two_read _ (omega arith)
+
+-- src/tile.rt:65:5
+pub returns-in-len3 : goal.returns-in-len3
+returns-in-len3 c = c.red.ensures ∙ three_read _ (omega arith)
+
+-- src/tile.rt:65:5
+pub returns-in-empty : goal.returns-in-empty
+returns-in-empty c = sym (none_read _ (λ h. omega (arith, c.in-empty.len_below, h)) (λ h. omega (arith, c.in-empty.len_below, h)) (λ h. omega (arith, c.in-empty.len_below, h)))
+
+-- src/tile.rt:65:5
+pub returns-in-len4-up : goal.returns-in-len4-up
+returns-in-len4-up c = sym (none_read _ (λ h. omega (arith, c.in-len4-up.len_at_least, h)) (λ h. omega (arith, c.in-len4-up.len_at_least, h)) (λ h. omega (arith, c.in-len4-up.len_at_least, h)))

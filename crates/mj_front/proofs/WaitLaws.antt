@@ -1,0 +1,116 @@
+-- Words of a command that waits, and of one that doesn't.
+use Rattle.std.proofs.Common.{◌≡◌, ℕ, Bool, true, false, not, List, [], ◌∷◌, refl, sym, subst, ◌∙◌, arith, codes, true≢false}
+use Rattle.std.specs.Prelude.{Option, Some, None, bytes_eq, if◌then◌else◌}
+use Rattle.std.proofs.KnownBytes.{Keeps-refl}
+use Rattle.std.proofs.lemmas.Slice.Eq.{bytes_eq-Decides}
+use Rattle.mj_words.specs.declared.serving.Serving.{Serving}
+use Rattle.mj_words.specs.Asked.{Asked, ServedWith, RefereeOf, ServingOf, SummaryOfRecord, HandOf, SelfPlayOf, Nothing, asked_by, referee_by, referee_asked, serve_asked, replay_by, replay_asked, hand_by, hand_asked, self_play_by, self_play_asked, serving_by}
+use Rattle.mj_words.specs.Commands.{served_with, asked_by_serving}
+use Rattle.mj_front.specs.declared.serve.ServeEnd.{ServeEnd}
+use Rattle.mj_front.specs.declared.serve.ServeEnd.TheVariants as ends
+use Rattle.mj_front.specs.declared.status.Status.{Status}
+use Rattle.mj_front.specs.declared.status.Status.TheVariants as statuses
+use Rattle.mj_front.specs.Statuses.{serve_status}
+use Rattle.mj_front.specs.Faults.{CountsReadFaults}
+use Rattle.mj_front.specs.Run.{Runs, RunsAny, IsAlone, LeavesAlone, is_waiting}
+
+referee_alone : (o : Option ℕ) → IsAlone (referee_by o)
+referee_alone None = tt
+referee_alone (Some seat) = tt
+
+replay_alone : (b : Bool) → IsAlone (replay_by b)
+replay_alone false = tt
+replay_alone true = tt
+
+hand_alone : (o : Option (List (List ℕ))) → IsAlone (hand_by o)
+hand_alone None = tt
+hand_alone (Some words) = tt
+
+self_play_alone : (o : Option ℕ) → IsAlone (self_play_by o)
+self_play_alone None = tt
+self_play_alone (Some number) = tt
+
+one_alone : (r s p h g : Bool) (words : List (List ℕ)) → s ≡ false → IsAlone (if r then referee_asked words else (if s then serve_asked words else (if p then replay_asked words else (if h then hand_asked words else (if g then self_play_asked words else Nothing)))))
+one_alone true s p h g words isnt = referee_alone _
+one_alone false true p h g words isnt = absurd (not_so isnt)
+  where
+    not_so : true ≡ false → ⊥
+    not_so e = cc
+one_alone false false true h g words isnt = replay_alone _
+one_alone false false false true g words isnt = hand_alone _
+one_alone false false false false true words isnt = self_play_alone _
+one_alone false false false false false words isnt = tt
+
+-- Words whose first is of no command that waits ask for no game that is served.
+pub alone_of : (words : List (List ℕ)) → is_waiting words ≡ false → IsAlone (asked_by words)
+alone_of [] isnt = tt
+alone_of (first ∷ words) isnt = one_alone (bytes_eq first (codes "referee")) (bytes_eq first (codes "serve")) (bytes_eq first (codes "replay")) (bytes_eq first (codes "hand")) (bytes_eq first (codes "selfplay")) (first ∷ words) isnt
+
+pub alone_as : (asked other : Asked) → asked ≡ other → IsAlone other → IsAlone asked
+alone_as asked other e h = subst IsAlone (sym e) h
+
+same_bytes : (xs ys : List ℕ) → bytes_eq xs ys ≡ true → xs ≡ ys
+same_bytes xs ys is = (bytes_eq-Decides xs ys).0 is
+
+pub waits_by : (found waits : Bool) → found ≡ waits → not found ≡ false → waits ≡ true
+waits_by true waits e h = sym e
+waits_by false waits e h = absurd (true≢false h)
+
+-- Words whose first is `serve` ask as the words of that command do.
+pub serve_of : (words : List (List ℕ)) → is_waiting words ≡ true → asked_by words ≡ serve_asked words
+serve_of [] is = absurd (not_so is)
+  where
+    not_so : false ≡ true → ⊥
+    not_so e = cc
+serve_of (first ∷ words) is = subst (λ (w : List ℕ). asked_by (w ∷ words) ≡ serve_asked (w ∷ words)) (sym (same_bytes first (codes "serve") is)) refl
+
+pub asked_serving : (words : List (List ℕ)) (serving : Option Serving) → is_waiting words ≡ true → asked_by_serving serving ≡ serve_asked words → asked_by words ≡ asked_by_serving serving
+asked_serving words serving is e = serve_of words is ∙ sym e
+
+-- What a run does without waiting it does as any run.
+pub any_of : (Does : ServeEnd → ServedWith → Type 0) (asked : Asked) (status : Status) (old_left new_left old_written new_written : Option (List ℕ)) → Runs asked status old_left new_left old_written new_written → RunsAny Does asked status old_left new_left old_written new_written
+any_of Does (RefereeOf seat) status ol nl ow nw h = h
+any_of Does (ServingOf s) status ol nl ow nw h = absurd h
+any_of Does SummaryOfRecord status ol nl ow nw h = h
+any_of Does (HandOf words) status ol nl ow nw h = h
+any_of Does (SelfPlayOf number) status ol nl ow nw h = h
+any_of Does Nothing status ol nl ow nw h = h
+
+pub left_alone : (asked : Asked) (Same : Type 0) → Same → LeavesAlone asked Same
+left_alone (RefereeOf seat) Same h = h
+left_alone (ServingOf s) Same h = tt
+left_alone SummaryOfRecord Same h = h
+left_alone (HandOf words) Same h = h
+left_alone (SelfPlayOf number) Same h = h
+left_alone Nothing Same h = h
+
+-- A run that serves a game.
+pub runs_serve : (Does : ServeEnd → ServedWith → Type 0) (asked : Asked) (serving : Serving) (status : Status) (end : ServeEnd) (left old_written new_written : Option (List ℕ)) → asked ≡ asked_by_serving (Some serving) → status ≡ serve_status end → Does end (served_with serving) → RunsAny Does asked status left left old_written new_written
+runs_serve Does asked serving status end left ow nw e gives does = subst (λ (a : Asked). RunsAny Does a status left left ow nw) (sym e) (record { end = end; gives = gives; unread = Keeps-refl left; does = does })
+
+pub serve_alone : (asked : Asked) (serving : Serving) (Same : Type 0) → asked ≡ asked_by_serving (Some serving) → LeavesAlone asked Same
+serve_alone asked serving Same e = subst (λ (a : Asked). LeavesAlone a Same) (sym e) tt
+
+pub serve_unread : (status : Status) (end : ServeEnd) (count : ℕ) → status ≡ serve_status end → CountsReadFaults status count count
+serve_unread status end count e = subst (λ (s : Status). CountsReadFaults s count count) (sym e) (none end)
+  where
+    none : (e : ServeEnd) → CountsReadFaults (serve_status e) count count
+    none ends.Over = omega arith
+    none ends.HostLost = refl
+    none ends.NotOpened = refl
+    none ends.WriteFault = omega arith
+    none ends.NoMemory = omega arith
+
+-- A run whose words are refused.
+pub runs_words : (Does : ServeEnd → ServedWith → Type 0) (asked : Asked) (left written : Option (List ℕ)) → asked ≡ asked_by_serving None → RunsAny Does asked statuses.Words left left written written
+runs_words Does asked left written e = subst (λ (a : Asked). RunsAny Does a statuses.Words left left written written) (sym e) (record { words = tt; unread = Keeps-refl left; unwritten = Keeps-refl written })
+
+-- A run that finds no memory for its words.
+pub runs_none : (Does : ServeEnd → ServedWith → Type 0) → ((s : ServedWith) → Does ends.NoMemory s) → (words : List (List ℕ)) (left written : Option (List ℕ)) → is_waiting words ≡ true → RunsAny Does (asked_by words) statuses.NoMemory left left written written
+runs_none Does none words left written is = subst (λ (a : Asked). RunsAny Does a statuses.NoMemory left left written written) (sym (serve_of words is)) (by _ _ _ _)
+  where
+    by : (seed : Option (List ℕ)) (limit port : Option ℕ) (draws : Bool) → RunsAny Does (serving_by seed limit port draws) statuses.NoMemory left left written written
+    by None limit port draws = record { words = tt; unread = Keeps-refl left; unwritten = Keeps-refl written }
+    by (Some seed) None port draws = record { words = tt; unread = Keeps-refl left; unwritten = Keeps-refl written }
+    by (Some seed) (Some limit) None draws = record { words = tt; unread = Keeps-refl left; unwritten = Keeps-refl written }
+    by (Some seed) (Some limit) (Some port) draws = record { end = ends.NoMemory; gives = refl; unread = Keeps-refl left; does = none _ }

@@ -1,0 +1,58 @@
+-- What the command `serve` does: a game of 200 shuffled walls is played over a host by whoever connects, and its record is
+-- written.
+use Rattle.std.specs.Prelude.{◌≡◌, ◌⊎◌, ℕ, ◌<◌, false, List, [], ◌∷◌, ◌++◌, Option, None, Some}
+use Rattle.std.specs.Io.KnownBytes.{Appends, Keeps}
+use Rattle.mj_words.specs.Asked.{ServedWith}
+use Rattle.mj_links.specs.Sinks.{WritesPrefix}
+use Rattle.mj_protocol.specs.After.{after}
+use Rattle.mj_protocol.specs.Trace.{Game, is_over}
+use Rattle.mj_served.specs.Served.{IsServed, record_of_game, has_ended}
+use Rattle.mj_front.specs.declared.serve.ServeEnd.{ServeEnd}
+use Rattle.mj_front.specs.declared.serve.ServeEnd.TheVariants as ends
+
+-- Links and places were put behind those that were returned before, where these are known.
+abbrev pub AppendsLinks : {X : Type 0} → Option (List X) → Option (List X) → List X → Type 0
+AppendsLinks None new links = Unit {0}
+AppendsLinks (Some xs) None links = ⊥
+AppendsLinks (Some xs) (Some ys) links = ys ≡ xs ++ links
+
+-- For each number from 0 to 7 the host made a fault with it.
+abbrev pub HasLostAll : {F : Type 0} → (F → Type 0) → (F → ℕ) → Type 0
+HasLostAll {F} made number = (k : ℕ) → k < 8 → (fault : F) × made fault × (number fault ≡ k)
+
+-- The host was not opened, and nothing else was done.
+pub record NotOpened {F X : Type 0} (made : F → Type 0) (number : F → ℕ) (port : ℕ) (old_ports new_ports : Option (List ℕ)) (old_returned new_returned : Option (List X)) (old_written new_written : Option (List ℕ)) : Type 0 where
+  pub fault : F
+  pub made_it : made fault
+  pub of_opening : number fault ≡ 255
+  pub tried : Appends old_ports new_ports (port ∷ []) ⊎ Keeps old_ports new_ports
+  pub none_back : new_returned ≡ old_returned
+  pub unwritten : Keeps old_written new_written
+
+module _ {L F : Type 0} (read left written : L → Option (List ℕ)) (read_faults write_faults : L → ℕ) (made : F → Type 0) (number : F → ℕ) where
+  -- A game was played to an end, its links were given back to the host with the places of their connections, and its record was
+  -- written, whole or in part, as `IsWritten` says.
+  pub record PlaysGame (IsWritten : List ℕ → Type 0) (Ends : Game → Type 0) (s : ServedWith) (old_ports new_ports : Option (List ℕ)) (old_returned new_returned : Option (List (L × ℕ))) (old_readings new_readings : Option (List ℕ)) : Type 0 where
+    pub game : Game
+    pub links : List (L × ℕ)
+    pub opened : Appends old_ports new_ports (s.port ∷ [])
+    pub served : IsServed read left written read_faults write_faults s game links old_readings new_readings
+    pub back : AppendsLinks old_returned new_returned links
+    pub record_is : IsWritten (record_of_game game)
+    pub ends : Ends game
+
+  -- The game goes on, and the host failed each handler.
+  abbrev pub IsAbandoned : Game → Type 0
+  IsAbandoned game = (is_over (after game.setting game.entries).deeds ≡ false) × HasLostAll made number
+
+  -- What the command does, by its end. Want of memory writes nothing.
+  abbrev pub Serves : ServeEnd → ServedWith → Option (List ℕ) → Option (List ℕ) → Option (List (L × ℕ)) → Option (List (L × ℕ)) → Option (List ℕ) → Option (List ℕ) → Option (List ℕ) → Option (List ℕ) → Type 0
+  Serves ends.Over s old_ports new_ports old_returned new_returned old_readings new_readings old_written new_written =
+      PlaysGame (Appends old_written new_written) has_ended s old_ports new_ports old_returned new_returned old_readings new_readings
+  Serves ends.HostLost s old_ports new_ports old_returned new_returned old_readings new_readings old_written new_written =
+      PlaysGame (Appends old_written new_written) IsAbandoned s old_ports new_ports old_returned new_returned old_readings new_readings
+  Serves ends.WriteFault s old_ports new_ports old_returned new_returned old_readings new_readings old_written new_written =
+      PlaysGame (WritesPrefix old_written new_written) (λ game. has_ended game ⊎ IsAbandoned game) s old_ports new_ports old_returned new_returned old_readings new_readings
+  Serves ends.NotOpened s old_ports new_ports old_returned new_returned old_readings new_readings old_written new_written =
+      NotOpened made number s.port old_ports new_ports old_returned new_returned old_written new_written
+  Serves ends.NoMemory s old_ports new_ports old_returned new_returned old_readings new_readings old_written new_written = Keeps old_written new_written

@@ -1,0 +1,91 @@
+-- What is left of handlers that were joined, and of the ticker.
+use Rattle.std.specs.Prelude.{◌≡◌, ◌<◌, ℕ, zero, suc, All, IsPermutation, List, [], ◌∷◌, ◌++◌, map, Option}
+use Rattle.turn_lock.specs.Passes.{TurnState, PassState}
+use Rattle.turn_lock.specs.Turns.{IsIdle, new_pass}
+use Rattle.mj_ports.specs.declared.entry.Entry.{Entry}
+use Rattle.mj_ports.specs.declared.sitting.JoinLine.{JoinLine}
+use Rattle.mj_ports.specs.declared.answers.SitAnswer.{SitAnswer}
+use Rattle.mj_ports.specs.declared.answers.Heard.{Heard}
+use Rattle.mj_ports.specs.declared.answers.Control.{Control}
+use Rattle.mj_ports.specs.Entries.{author_of}
+use Rattle.mj_ports.specs.Seats.{After}
+use Rattle.mj_seats.specs.declared.handle.HandlerEnd.{HandlerEnd}
+use Rattle.mj_seats.specs.declared.handle.Session.{Session}
+use Rattle.mj_seats.specs.declared.worker.Done.{Done}
+use Rattle.mj_seats.specs.Histories.{places_of}
+use Rattle.mj_seats.specs.Handlers.{Handled, HandlerEnds, WantsMemory}
+use Rattle.mj_seats.specs.Ticks.{Ticks}
+use Rattle.mj_seats.specs.Workers.{AllServe, AllEnd, ExpiresBy, begun}
+use Rattle.mj_seats.specs.Wires.{WireState}
+
+abbrev pub Two : Type 0 → Type 0
+Two X = X × X
+
+abbrev pub Four : Type 0 → Type 0
+Four X = Two X × Two X
+
+abbrev pub Eight : Type 0 → Type 0
+Eight X = Four X × Four X
+
+module _ {T S N : Type 0} (setting : T → S) (turn : TurnState T) where
+  -- A new pass of the turn.
+  abbrev pub IsNewPass : PassState S N → Type 0
+  IsNewPass p = p ≡ new_pass turn.id (setting turn.opening) p.number
+
+  abbrev pub TwoNew : Two (PassState S N) → Type 0
+  TwoNew ps = IsNewPass ps.0 × IsNewPass ps.1
+
+  abbrev pub FourNew : Four (PassState S N) → Type 0
+  FourNew ps = TwoNew ps.0 × TwoNew ps.1
+
+  abbrev pub EightNew : Eight (PassState S N) → Type 0
+  EightNew ps = FourNew ps.0 × FourNew ps.1
+
+-- A pass of a turn that is not busy, with this number.
+pub record IsBack {T S N : Type 0} (setting : T → S) (turn : TurnState T) (number : ℕ) (p : PassState S N) : Type 0 where
+  pub idle : IsIdle setting turn p
+  pub number_is : p.number ≡ number
+
+module _ {T A R L F S : Type 0} (after : List (Entry A) → After) (reads : List ℕ → A) (joins : List ℕ → Option JoinLine) (sits : List (Entry A) → List ℕ → SitAnswer) (hears : List (Entry A) → ℕ → ℕ → A → Heard R) (says : Control R → List ℕ) (at : List ℕ → L → WireState) (made : F → Type 0) (number : F → ℕ) (setting : T → S) (turn : TurnState T) where
+  -- What is left of the handler with this number: its pass, its sessions and how it ended.
+  pub record IsLeft (by : ℕ) (p : PassState S (Entry A)) (sessions : List (Session L)) (end : HandlerEnd F) : Type 0 where
+    pub back : IsBack setting turn by p
+    pub handled : Handled after reads joins sits hears says at (WantsMemory end) by [] p.seen sessions
+    pub places : places_of by p.seen ≡ map (λ s. s.place) sessions
+    pub ended : HandlerEnds after made number end by p.seen
+
+  -- The same of what a handler with this pass has handed back.
+  abbrev pub IsDone : PassState S (Entry A) → Done (PassState S (Entry A)) L F → Type 0
+  IsDone p d = IsLeft p.number d.pass d.sessions.items d.end
+
+  -- The same of two, four and eight handlers, each with its pass.
+  abbrev pub TwoDone : Two (PassState S (Entry A)) → Two (Done (PassState S (Entry A)) L F) → Type 0
+  TwoDone ps ds = IsDone ps.0 ds.0 × IsDone ps.1 ds.1
+
+  abbrev pub FourDone : Four (PassState S (Entry A)) → Four (Done (PassState S (Entry A)) L F) → Type 0
+  FourDone ps ds = TwoDone ps.0 ds.0 × TwoDone ps.1 ds.1
+
+  abbrev pub EightDone : Eight (PassState S (Entry A)) → Eight (Done (PassState S (Entry A)) L F) → Type 0
+  EightDone ps ds = FourDone ps.0 ds.0 × FourDone ps.1 ds.1
+
+  -- The same of so many handlers, numbered from 0, in this order.
+  abbrev pub AllDone : ℕ → List (Done (PassState S (Entry A)) L F) → Type 0
+  AllDone zero ds = ds ≡ []
+  AllDone (suc by) ds = (before : List (Done (PassState S (Entry A)) L F)) × (d : Done (PassState S (Entry A)) L F) × (ds ≡ before ++ d ∷ []) × AllDone by before × IsLeft by d.pass d.sessions.items d.end
+
+  -- What is left of so many handlers, numbered from 0, none of which wants memory.
+  abbrev pub AllLeft : ℕ → List (PassState S (Entry A)) → List (Session L) → List (HandlerEnd F) → Type 0
+  AllLeft zero passes sessions ends = (passes ≡ []) × (sessions ≡ []) × (ends ≡ [])
+  AllLeft (suc by) passes sessions ends =
+      (ps : List (PassState S (Entry A))) × (p : PassState S (Entry A)) × (before : List (Session L)) × (own : List (Session L)) × (es : List (HandlerEnd F)) × (end : HandlerEnd F)
+      × (passes ≡ ps ++ p ∷ []) × (sessions ≡ before ++ own) × (ends ≡ es ++ end ∷ []) × AllLeft by ps before es × IsLeft by p own end × (WantsMemory end → ⊥)
+
+module _ {A R L F : Type 0} (after : List (Entry A) → After) (reads : List ℕ → A) (joins : List ℕ → Option JoinLine) (sits : List (Entry A) → List ℕ → SitAnswer) (hears : List (Entry A) → ℕ → ℕ → A → Heard R) (says : Control R → List ℕ) (at : List ℕ → L → WireState) (made : F → Type 0) (number : F → ℕ) where
+  -- What eight handlers and a ticker with the number 8 leave behind with these entries, where the clock's readings grew so.
+  pub record IsPlayed (entries : List (Entry A)) (sessions : List (Session L)) (ends : List (HandlerEnd F)) (was_read read : Option (List ℕ)) : Type 0 where
+    pub authors : All (λ e. author_of e < 9) entries
+    pub sessions_are : AllServe after reads joins sits hears says at 8 entries sessions
+    pub places : IsPermutation (begun entries) (map (λ s. s.place) sessions)
+    pub ticks : Ticks 8 [] entries was_read read
+    pub expiries : All (ExpiresBy 8) entries
+    pub ends_are : AllEnd after made number 8 entries ends

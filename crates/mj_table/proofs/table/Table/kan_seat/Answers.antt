@@ -1,0 +1,5 @@
+use Rattle.mj_table.proofs.HandsKept.{known_of}
+use Rattle.mj_table.proofs.table.Table.kan_seat.Goals as goal
+
+pub returns : goal.returns
+returns c = (known_of c.self.inside.rules c.self.inside.past.items c.args.self.now c.self.inside.facts c.self.invariant.facts c.self.view_is).course.newest_kan

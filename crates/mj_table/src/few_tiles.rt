@@ -1,0 +1,75 @@
+ghost use Rattle.std.specs.Prelude.{◌≡◌, ◌≤◌, ◌++◌, [], ℕ, List, if◌then◌else◌, length, option_to_list};
+ghost use Rattle.std.specs.Option.{option_or};
+ghost use Rattle.mj_table.specs.Inner.Few.{tile_at, Lists};
+
+use crate::counted::counted;
+use mj_tiles::Tile;
+
+// Up to five tiles in order, and how many they are.
+#[derive(Clone, Copy)]
+pub(crate) struct FewTiles {
+    pub number: u8,
+    pub first: Option<Tile>,
+    pub second: Option<Tile>,
+    pub third: Option<Tile>,
+    pub fourth: Option<Tile>,
+    pub fifth: Option<Tile>,
+}
+
+impl FewTiles {
+    // The tile at a place, the first one at 0.
+    pub(crate) fn at(&self, place: u8) -> Option<Tile>
+        ensures { result ≡ tile_at self.now place }
+    {
+        match place {
+            0 => self.first,
+            1 => self.second,
+            2 => self.third,
+            3 => self.fourth,
+            4 => self.fifth,
+            _ => None,
+        }
+    }
+
+    // These tiles, and one more, where there is one.
+    pub(crate) fn with(&self, tile: Option<Tile>) -> FewTiles
+        ensures { (tiles : List ℕ) → length (tiles ++ option_to_list tile) ≤ 5
+            → Lists self.now tiles → Lists result (tiles ++ option_to_list tile) }
+    {
+        let number = counted(self.number, tile.is_some());
+        let first = placed(self.first, self.number == 0, tile);
+        let second = placed(self.second, self.number == 1, tile);
+        let third = placed(self.third, self.number == 2, tile);
+        let fourth = placed(self.fourth, self.number == 3, tile);
+        let fifth = placed(self.fifth, self.number == 4, tile);
+        FewTiles {
+            number,
+            first,
+            second,
+            third,
+            fourth,
+            fifth,
+        }
+    }
+}
+
+// No tile.
+pub(crate) fn no_tiles() -> FewTiles
+    ensures { Lists result [] }
+{
+    FewTiles {
+        number: 0,
+        first: None,
+        second: None,
+        third: None,
+        fourth: None,
+        fifth: None,
+    }
+}
+
+// What stands in a place, into which a further tile comes where it is the next one.
+fn placed(kept: Option<Tile>, is_next: bool, tile: Option<Tile>) -> Option<Tile>
+    ensures { result ≡ (if is_next then option_or tile kept else kept) }
+{
+    if is_next { tile.or(kept) } else { kept }
+}

@@ -1,0 +1,67 @@
+//! What the words behind `serve` say.
+
+ghost use Rattle.std.specs.Prelude.{◌≡◌, ◌≤◌, map, IfOk, IfSome, option_map};
+ghost use Rattle.std.specs.String.{string_bytes};
+ghost use Rattle.mj_words.specs.Asked.{serve_asked, seed_named, number_named, is_on};
+ghost use Rattle.mj_words.specs.Commands.{asked_by_serving};
+ghost use Rattle.mj_words.specs.Inner.Parsing.{serving_of_words};
+
+use crate::parsing::{ServeWords, serve_words};
+use crate::serving::Serving;
+use hex::FromHex;
+use mj_bytes::read_number;
+use std::alloc::{AllocError, Global};
+
+const LONGEST_LIMIT: u64 = 3_600_000;
+
+/// What words say whose first is `serve`; None where they are refused. The only error is want of memory.
+pub fn serving_of(alloc: Global, words: &[String]) -> Result<Option<Serving>, AllocError>
+    ensures { IfOk result (λ serving. asked_by_serving serving
+        ≡ serve_asked (map string_bytes words.now)) }
+{
+    let found = serve_words(alloc, words)?;
+    Ok(read_words(&found))
+}
+
+// What the words of the options and of the flag say.
+fn read_words(words: &ServeWords<'_>) -> Option<Serving>
+    ensures { asked_by_serving result ≡ serving_of_words words.now }
+{
+    Some(Serving {
+        seed: seed_of(words.seed?)?,
+        limit: number_of(words.limit?, 1, LONGEST_LIMIT)?,
+        port: number_of(words.port?, 1, u64::from(u16::MAX))? as u16,
+        draws: is_true(words.draws),
+    })
+}
+
+// The bytes that 64 hex digits write.
+fn seed_of(word: &str) -> Option<[u8; 32]>
+    ensures { result ≡ seed_named word.now }
+{
+    match <[u8; 32] as FromHex>::from_hex(word) {
+        Ok(seed) => Some(seed),
+        Err(_) => None,
+    }
+}
+
+// The number that a word writes, where it lies between two others.
+fn number_of(word: &str, least: u64, most: u64) -> Option<u64>
+    ensures value { result ≡ number_named least most word.now }
+    ensures within { IfSome result (λ number. (least ≤ number) × (number ≤ most)) }
+{
+    match read_number(word.as_bytes()) {
+        Some(number) if least <= number && number <= most => Some(number),
+        _ => None,
+    }
+}
+
+// Whether a flag is there.
+fn is_true(word: Option<&str>) -> bool
+    ensures { result ≡ is_on (option_map (λ w. w.now) word.entry) }
+{
+    match word {
+        Some(word) => word == "true",
+        None => false,
+    }
+}

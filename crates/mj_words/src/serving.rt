@@ -1,0 +1,15 @@
+ghost use Rattle.std.specs.Prelude.{◌≤◌};
+
+/// What a game is served with.
+#[derive(Clone, Copy, Debug, PartialEq, Eq)]
+pub struct Serving {
+    /// What its walls are shuffled by.
+    pub seed: [u8; 32],
+    /// The limit of a window, 1 to 3,600,000 milliseconds.
+    pub limit: u64,
+    /// Where the table listens, 1 to 65535.
+    pub port: u16,
+    /// Whether the four draw reasons and the draw of nine kinds are in force.
+    pub draws: bool,
+    ghost within: { (1 ≤ limit) × (limit ≤ 3600000) },
+}

@@ -1,0 +1,55 @@
+#!/usr/bin/env bash
+# A player for riichi_table in shell: it discards each tile that it draws and passes otherwise.
+#
+# usage: player.sh NAME [KEY [PORT]]
+name=${1:?usage: player.sh NAME [KEY [PORT]]}
+key=$2
+port=${3:-11600}
+
+exec 3<>"/dev/tcp/127.0.0.1/$port" || exit 1
+
+seat=
+told_before=0
+while IFS= read -r line <&3; do
+    case $line in
+        '{"type":"hello",'*)
+            if [ -n "$key" ]; then
+                echo "{\"type\":\"join\",\"name\":\"$name\",\"key\":\"$key\"}" >&3
+            else
+                echo "{\"type\":\"join\",\"name\":\"$name\"}" >&3
+            fi
+            continue ;;
+        '{"type":"replay",'*)
+            # so many lines were told before; they want no answer
+            told_before=${line//[^0-9]/}
+            continue ;;
+        '{"type":"error","sit":'*)
+            echo "$name: no seat: $line"
+            exit 1 ;;
+        '{"type":"error",'*)
+            # the last answer was refused, and the same event is to be answered again
+            echo '{"type":"none"}' >&3
+            continue ;;
+        '{"type":"start_game","id":'*)
+            seat=${line#*\"id\":}
+            seat=${seat%%,*} ;;
+    esac
+    if [ "$told_before" -gt 0 ]; then
+        told_before=$((told_before - 1))
+        continue
+    fi
+    case $line in
+        "{\"type\":\"tsumo\",\"actor\":$seat,"*)
+            tile=${line#*\"pai\":\"}
+            tile=${tile%%\"*}
+            echo "{\"type\":\"dahai\",\"actor\":$seat,\"pai\":\"$tile\",\"tsumogiri\":true}" >&3 ;;
+        *)
+            echo '{"type":"none"}' >&3 ;;
+    esac
+    case $line in
+        '{"type":"end_game",'*)
+            echo "$name: $line"
+            exit 0 ;;
+    esac
+done
+echo "$name: the connection ended"
