@@ -1,5 +1,5 @@
 #!/usr/bin/env bash
-# Plays a whole game over TCP on this machine: the server, three players in Python and one in shell. One of them is killed
+# Plays a whole game over TCP on this machine: the server, three players in Python and one in shell. One of them leaves
 # in the middle of the game and comes back to its seat by its key. The record goes to record.txt and is checked again.
 #
 # usage: play.sh PROGRAM [SEED [PORT]], with the built program, 64 hex digits and a port
@@ -16,12 +16,7 @@ sleep 1
 python3 "$here/player.py" anna "" "$port" &
 python3 "$here/player.py" bert "" "$port" &
 bash "$here/player.sh" carl "" "$port" &
-python3 "$here/player.py" dora secret "$port" &
-leaves=$!
-sleep 0.7
-kill $leaves
-echo "dora is gone"
-sleep 0.3
+python3 "$here/player.py" dora secret "$port" 300
 python3 "$here/player.py" dora secret "$port" &
 
 wait $server

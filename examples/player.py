@@ -2,9 +2,9 @@
 """A player for riichi_table in Python, without any library.
 
 It discards each tile that it draws and passes otherwise. With a key it comes back to its seat: start it again with the
-same name and key.
+same name and key. With a number of events it leaves after so many.
 
-usage: player.py NAME [KEY [PORT]]
+usage: player.py NAME [KEY [PORT [EVENTS]]]
 """
 import json
 import socket
@@ -18,8 +18,8 @@ def answer(event, seat):
     return {"type": "none"}
 
 
-def play(name, key, port):
-    """Plays one game, from the join to its end; says how it ended."""
+def play(name, key, port, events):
+    """Plays one game, from the join to its end or for so many events; says how it ended."""
     link = socket.create_connection(("127.0.0.1", port))
     lines = link.makefile("r", encoding="utf-8", newline="\n")
 
@@ -51,6 +51,9 @@ def play(name, key, port):
         if told_before > 0:
             told_before -= 1
             continue
+        if events == 0:
+            return "left"
+        events -= 1
         send(answer(event, seat))
         if event["type"] == "end_game":
             return "scores " + " ".join(str(score) for score in event["scores"])
@@ -59,8 +62,9 @@ def play(name, key, port):
 
 if __name__ == "__main__":
     words = sys.argv[1:]
-    if not 1 <= len(words) <= 3:
+    if not 1 <= len(words) <= 4:
         sys.exit(__doc__)
     key = words[1] if len(words) > 1 else ""
     port = int(words[2]) if len(words) > 2 else 11600
-    print(words[0] + ": " + play(words[0], key, port))
+    events = int(words[3]) if len(words) > 3 else -1
+    print(words[0] + ": " + play(words[0], key, port, events))
