@@ -1,12 +1,12 @@
 -- Which discards are lawful: their kinds, the last of them, and the best.
-use Rattle.std.proofs.Common.{◌≡◌, ℕ, zero, suc, ◌+◌, ◌-◌, ◌<◌, ◌≤◌, ◌==◌, ◌&&◌, ◌||◌, not, Bool, true, false, cond, eqb, ltb, List, [], ◌∷◌, length, drop, get_or, Option, Some, None, refl, sym, ap, ◌∙◌, subst, arith}
+use Rattle.std.proofs.Common.{◌≡◌, ℕ, zero, suc, ◌+◌, ◌-◌, ◌<◌, ◌≤◌, ◌==◌, ◌&&◌, ◌||◌, not, Bool, true, false, cond, eqb, ltb, List, [], ◌∷◌, length, drop, get_or, min, Option, Some, None, refl, sym, ap, ◌∙◌, subst, arith}
 use Rattle.std.specs.Prelude.{nat_lt, is_none, filter, map, slice_get, slice_index, MatchOption, MatchBool}
 use Rattle.std.specs.List.{list_all}
 use Rattle.std.proofs.lemmas.Bool.{and_parts, and_from, ltb-true, true≢false, false≢true, eqb-true, eq-eqb}
 use Rattle.std.proofs.lemmas.Bool.Decides.{nat_tests}
 use Rattle.std.proofs.lemmas.List.{drop_more, drop_all}
 use Rattle.std.proofs.lemmas.Option.{slice_get-get_or}
-use Rattle.mj_tiles.specs.Faces.{kind_of, number_in, tile_order}
+use Rattle.mj_tiles.specs.Faces.{is_red, kind_of, number_in, tile_order}
 use Rattle.mj_tiles.specs.Counts.{kind_counts}
 use Rattle.mj_tiles.specs.Kinds.{has_kind, no_kinds, with_kind, set_of}
 use Rattle.mj_tiles.proofs.Faces.{all_faces, either_way}
@@ -21,13 +21,13 @@ use Rattle.mj_deeds.specs.declared.answer.Answer.TheVariants.{Discard}
 use Rattle.mj_deeds.specs.declared.rule.Rule.{Rule}
 use Rattle.mj_wall.specs.declared.setting.Rules.{Rules}
 use Rattle.mj_table.proofs.OneLess.{count_without, some_left}
-use Rattle.mj_rules.specs.Broken.{is_open, is_that, questions, broken_by}
+use Rattle.mj_rules.specs.Broken.{is_open, is_that, is_wrongly_marked, is_banned_tile, banned_in, discards_unready, questions, broken_by}
 use Rattle.mj_rules.specs.View.{SeatView, WindowTurn, Drew, Discarded, Added, Reached, Called, Nobodys, held_count, concealed, room}
 use Rattle.mj_rules.specs.Default.{discard_of, lawful_faces, last_face}
-use Rattle.mj_rules.proofs.Questions.{all_no}
+use Rattle.mj_rules.proofs.Questions.{all_no, none_broken}
 use Rattle.mj_judge.proofs.Swaps.{swap_of}
 use Rattle.mj_bot.specs.Choice.{lawful_of, is_measured, IsBestLawful, IsBest}
-use Rattle.mj_bot.specs.Inner.Turns.{is_own_turn, is_among}
+use Rattle.mj_bot.specs.Inner.Turns.{is_own_turn, is_own_draw, is_free, is_among}
 
 -- The discard of a face breaks no rule.
 abbrev pub passes : Rules → ℕ → SeatView → ℕ → Bool
@@ -37,6 +37,10 @@ none_is : (o : Option Rule) → is_none o ≡ true → o ≡ None
 none_is None h = refl
 none_is (Some rule) h = cc
 
+-- A tile is one.
+one_of : (tile : ℕ) → number_in (tile ∷ []) tile ≡ 1
+one_of tile = rw (eq-eqb tile tile refl) refl
+
 -- A lawful discard is held.
 pub held_of_lawful : (rules : Rules) (seat : ℕ) (view : SeatView) (face : ℕ) → passes rules seat view face ≡ true → 0 < held_count view face
 unfolding broken_by
@@ -44,9 +48,6 @@ held_of_lawful rules seat view face h =
     let each = all_no (questions rules seat view (discard_of seat view face)) (none_is (broken_by rules seat view (discard_of seat view face)) h) in
     enough (held_count view face) (number_in (face ∷ []) face) (one_of face) each.1.1.1.1.1.1.0
   where
-    one_of : (tile : ℕ) → number_in (tile ∷ []) tile ≡ 1
-    one_of tile = rw (eq-eqb tile tile refl) refl
-
     enough : (held n : ℕ) → n ≡ 1 → (ltb held n || false) ≡ false → 0 < held
     enough zero n e k = absurd (false≢true (sym k ∙ ap (λ m. ltb 0 m || false) e))
     enough (suc m) n e k = omega arith
@@ -75,17 +76,63 @@ counted_of_lawful rules seat view face small h =
     positive : (a b c d : ℕ) → a ≡ b → b ≡ c + d → d ≡ 1 → 0 < a
     positive a b c d e f g = omega (arith, e, f, g)
 
--- A tile of a kind that isn't held may not go.
-pub none_counted : (rules : Rules) (seat : ℕ) (view : SeatView) (counts : List ℕ) (face kind count : ℕ) → face < 37 → counts ≡ kind_counts (concealed view) → kind ≡ kind_of face → count ≡ get_or counts kind 0 → count ≡ 0 →
-    false ≡ passes rules seat view face
-none_counted rules seat view counts face kind count small is at told none = by_test (passes rules seat view face) refl
+-- A tile that isn't held may not go.
+pub none_held : (rules : Rules) (seat : ℕ) (view : SeatView) (face held : ℕ) → held ≡ min (held_count view face) 4 → held ≡ 0 → false ≡ passes rules seat view face
+none_held rules seat view face held much none = by_test (passes rules seat view face) refl
   where
-    zero_of : (a b : ℕ) → a ≡ 0 → a ≡ b → 0 < b → ⊥
-    zero_of a b e f g = omega (arith, e, f, g)
+    none_of : (n m : ℕ) → m ≡ min n 4 → m ≡ 0 → 0 < n → ⊥
+    none_of n m e h k = omega (arith, e, h, k)
 
     by_test : (b : Bool) → passes rules seat view face ≡ b → false ≡ b
-    by_test true h = absurd (zero_of count _ none (told ∙ (λ i. get_or (is i) (at i) 0)) (counted_of_lawful rules seat view face small h))
+    by_test true h = absurd (none_of (held_count view face) held much none (held_of_lawful rules seat view face h))
     by_test false h = refl
+
+-- each held tile may go
+
+drew : (seat : ℕ) (turn : WindowTurn) → is_own_draw seat turn ≡ true → turn ≡ Drew seat
+drew seat (Drew who) h = ap Drew (eqb-true who seat h)
+drew seat (Discarded who tile) h = absurd (false≢true h)
+drew seat (Added who tile) h = absurd (false≢true h)
+drew seat (Reached who) h = absurd (false≢true h)
+drew seat (Called who banned) h = absurd (false≢true h)
+drew seat Nobodys h = absurd (false≢true h)
+
+-- A seat that has drawn and isn't in riichi may discard what it holds, where the game has such a tile.
+pub free_passes : (rules : Rules) (seat : ℕ) (view : SeatView) (face held : ℕ) → is_free view.accepted seat view.turn ≡ true → not (is_red face && not rules.red) ≡ true → held ≡ min (held_count view face) 4 → (held ≡ 0 → ⊥) → true ≡ passes rules seat view face
+unfolding broken_by
+free_passes rules seat view face held free there much some =
+    sym (ap is_none (none_broken (questions rules seat view (discard_of seat view face)) (refl, (ap not itself, (ap (λ t. not (is_open rules seat t view.accepted (discard_of seat view face))) at ∙ ap (λ b. not (cond b true false)) itself, (neither (is_red face && not rules.red) there, (refl, (refl, (enough, (marked_right (is_that view.drawn face) refl, (ap (λ a. a && not (is_that view.drawn face)) (off view.accepted both.0), (refl, (refl, (ap (λ t. is_banned_tile (banned_in t) (Known face)) at, (refl, (refl, (refl, (refl, (refl, (refl, (refl, (ap (λ t. discards_unready view t (Known face)) at, (refl, (refl, (refl, (refl, tt))))))))))))))))))))))))))
+  where
+    both : (not view.accepted ≡ true) × (is_own_draw seat view.turn ≡ true)
+    both = and_parts (not view.accepted) (is_own_draw seat view.turn) free
+
+    at : view.turn ≡ Drew seat
+    at = drew seat view.turn both.1
+
+    itself : eqb seat seat ≡ true
+    itself = eq-eqb seat seat refl
+
+    neither : (b : Bool) → not b ≡ true → (b || false) ≡ false
+    neither true h = absurd (false≢true h)
+    neither false h = refl
+
+    off : (b : Bool) → not b ≡ true → b ≡ false
+    off true h = absurd (false≢true h)
+    off false h = refl
+
+    few : (n m : ℕ) → m ≡ min n 4 → (m ≡ 0 → ⊥) → n < 1 → ⊥
+    few n m e h k = h (omega (arith, e, k))
+
+    enough : (ltb (held_count view face) (number_in (face ∷ []) face) || false) ≡ false
+    enough = ap (λ (n : ℕ). ltb (held_count view face) n || false) (one_of face) ∙ by_test (ltb (held_count view face) 1) refl
+      where
+        by_test : (b : Bool) → ltb (held_count view face) 1 ≡ b → (b || false) ≡ false
+        by_test true e = absurd (few (held_count view face) held much some (ltb-true (held_count view face) 1 e))
+        by_test false e = refl
+
+    marked_right : (b : Bool) → is_that view.drawn face ≡ b → is_wrongly_marked view (Known face) (is_that view.drawn face) ≡ false
+    marked_right true e = ap (is_wrongly_marked view (Known face)) e ∙ ap not e
+    marked_right false e = ap (is_wrongly_marked view (Known face)) e ∙ ap (λ b. b && eqb (held_count view face) 1) e
 
 -- whose turn it is
 

@@ -1,6 +1,6 @@
 ghost use Rattle.std.specs.Prelude.{◌≡◌, ◌≤◌, ◌==◌, ◌&&◌, [], not, IsTrue, MatchOption, filter, is_none, length, map, option_map, slice_index};
 ghost use Rattle.std.specs.Option.{option_map_or};
-ghost use Rattle.mj_tiles.specs.Faces.{kind_of};
+ghost use Rattle.mj_tiles.specs.Faces.{is_red, kind_of};
 ghost use Rattle.mj_tiles.specs.Counts.{kind_counts};
 ghost use Rattle.mj_tiles.specs.Kinds.{set_of};
 ghost use Rattle.mj_rules.specs.Broken.{broken_by};
@@ -10,7 +10,7 @@ ghost use Rattle.mj_shanten.specs.Exchanges.{one_less};
 ghost use Rattle.mj_rules.specs.View.{view_of, concealed, room};
 ghost use Rattle.mj_rules.specs.Default.{discard_of, lawful_faces, last_face};
 ghost use Rattle.mj_bot.specs.Choice.{is_measured, IsBest};
-ghost use Rattle.mj_bot.specs.Inner.Turns.{is_own_turn, is_among, is_out_or_among, are_all_among, IsNeverReady};
+ghost use Rattle.mj_bot.specs.Inner.Turns.{is_own_turn, is_own_draw, is_free, is_among, is_out_or_among, are_all_among, IsNeverReady};
 
 use crate::measure::is_measured;
 use mj_deeds::{Deed, ordered};
@@ -46,10 +46,10 @@ pub(crate) fn best_discard(table: &Table, seat: u8) -> Best
     let room = table.room(seat);
     let melds = table.melds(seat);
     let melds = melds.as_slice();
-    let kinds = lawful_kinds(table, seat, &counts);
+    let kinds = lawful_kinds(table, seat);
     if !is_measured(&counts, &room, melds) {
         return Best {
-            tile: last_lawful(table, seat, &counts, kinds),
+            tile: last_lawful(table, seat, kinds),
             unready: false,
         };
     }
@@ -81,7 +81,7 @@ fn measured_discard(
     let number = melds.len() as u8;
     match Suits::new(counts, left).best_discard(kinds, number) {
         Some(kind) => Best {
-            tile: last_lawful(table, seat, counts, Kinds::none().with(kind)),
+            tile: last_lawful(table, seat, Kinds::none().with(kind)),
             unready: is_unready(counts, left, number, kinds, kind),
         },
         None => Best {
@@ -145,20 +145,40 @@ fn has_turn(table: &Table, seat: u8) -> bool
     }
 }
 
+// The seat has drawn and isn't in riichi: each tile that it holds may go.
+#[tactic(auto, unfolding(mj_rules::specs::View::view_of))]
+fn is_free(table: &Table, seat: u8) -> bool
+    ensures { let view = view_of table.now.deeds seat in
+        result ≡ is_free view.accepted seat view.turn }
+{
+    !table.is_in_riichi(seat) && has_drawn(table, seat)
+}
+
+// The newest deed is the seat's own draw.
+#[tactic(auto, unfolding(mj_rules::specs::View::view_of))]
+fn has_drawn(table: &Table, seat: u8) -> bool
+    ensures { result ≡ is_own_draw seat (view_of table.now.deeds seat).turn }
+{
+    match table.newest() {
+        Some(Deed::Draw { seat: who, .. }) => *who == seat,
+        _ => false,
+    }
+}
+
 // The kinds of the tiles whose discard breaks no rule.
 #[tactic(auto, unfolding(mj_rules::specs::Default::lawful_faces))]
-fn lawful_kinds(table: &Table, seat: u8, counts: &Counts) -> Kinds
-    requires seat { seat ≤ 3 }
-    requires counts { counts.now ≡ kind_counts (concealed (view_of table.now.deeds seat)) }
+fn lawful_kinds(table: &Table, seat: u8) -> Kinds
+    requires { seat ≤ 3 }
     ensures { result ≡ set_of (map kind_of (lawful_faces table.now.rules seat
         (view_of table.now.deeds seat))) }
 {
+    let free = is_free(table, seat);
     let mut kinds = Kinds::none();
     let mut place = 37;
     while place > 0 {
         place -= 1;
         let tile = ordered(place);
-        if is_lawful(table, seat, counts, tile) {
+        if is_lawful(table, seat, free, tile) {
             kinds = kinds.with(tile.kind());
         }
     }
@@ -167,16 +187,16 @@ fn lawful_kinds(table: &Table, seat: u8, counts: &Counts) -> Kinds
 
 // The last tile in tile order, of these kinds, whose discard breaks no rule.
 #[tactic(auto, unfolding(mj_rules::specs::Default::lawful_faces))]
-fn last_lawful(table: &Table, seat: u8, counts: &Counts, kinds: Kinds) -> Option<Tile>
-    requires seat { seat ≤ 3 }
-    requires counts { counts.now ≡ kind_counts (concealed (view_of table.now.deeds seat)) }
+fn last_lawful(table: &Table, seat: u8, kinds: Kinds) -> Option<Tile>
+    requires { seat ≤ 3 }
     ensures { result ≡ last_face (filter (is_among kinds) (lawful_faces table.now.rules seat
         (view_of table.now.deeds seat))) }
 {
+    let free = is_free(table, seat);
     let mut last = None;
     for place in 0..37 {
         let tile = ordered(place);
-        if is_wanted(table, seat, counts, kinds, tile) {
+        if is_wanted(table, seat, free, kinds, tile) {
             last = Some(tile);
         }
     }
@@ -184,25 +204,37 @@ fn last_lawful(table: &Table, seat: u8, counts: &Counts, kinds: Kinds) -> Option
 }
 
 // The tile is of one of these kinds, and its discard breaks no rule.
-fn is_wanted(table: &Table, seat: u8, counts: &Counts, kinds: Kinds, tile: Tile) -> bool
+fn is_wanted(table: &Table, seat: u8, free: bool, kinds: Kinds, tile: Tile) -> bool
     requires seat { seat ≤ 3 }
-    requires counts { counts.now ≡ kind_counts (concealed (view_of table.now.deeds seat)) }
+    requires free { let view = view_of table.now.deeds seat in
+        IsTrue free → IsTrue (is_free view.accepted seat view.turn) }
     ensures { let view = view_of table.now.deeds seat in
         result ≡ (is_among kinds tile && is_none (broken_by table.now.rules seat view
         (discard_of seat view tile))) }
 {
-    kinds.has(tile.kind()) && is_lawful(table, seat, counts, tile)
+    kinds.has(tile.kind()) && is_lawful(table, seat, free, tile)
 }
 
-// The discard of the tile breaks no rule.
-fn is_lawful(table: &Table, seat: u8, counts: &Counts, tile: Tile) -> bool
+// The discard of the tile breaks no rule: it is held, and where not each tile may go it is judged.
+fn is_lawful(table: &Table, seat: u8, free: bool, tile: Tile) -> bool
     requires seat { seat ≤ 3 }
-    requires counts { counts.now ≡ kind_counts (concealed (view_of table.now.deeds seat)) }
+    requires free { let view = view_of table.now.deeds seat in
+        IsTrue free → IsTrue (is_free view.accepted seat view.turn) }
     ensures { let view = view_of table.now.deeds seat in
         result ≡ is_none (broken_by table.now.rules seat view (discard_of seat view tile)) }
 {
-    if counts.get(tile.kind()) == 0 {
+    if table.held_count(seat, tile) == 0 {
         return false;
     }
+    if free && is_in_game(table.rules().red, tile) {
+        return true;
+    }
     judge(table, seat, &discard(table, seat, tile)).is_ok()
+}
+
+// The game has such a tile: a red five only where it has red fives.
+fn is_in_game(red: bool, tile: Tile) -> bool
+    ensures { result ≡ not (is_red tile && not red) }
+{
+    red || tile.face() < 34
 }

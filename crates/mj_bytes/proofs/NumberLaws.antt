@@ -1,5 +1,5 @@
 -- A number's text and the number that a text writes are inverse to each other, below 2 ^ 64.
-use Rattle.std.proofs.Common.{◌≡◌, ℕ, ◌^◌, ◌<◌, List, [], ◌∷◌, length, Bool, true, false, refl, ap, sym, ◌∙◌, arith, cond, get_or, rules, zero, suc, lit<}
+use Rattle.std.proofs.Common.{◌≡◌, ℕ, ◌+◌, ◌^◌, ◌<◌, List, [], ◌∷◌, length, Bool, true, false, refl, ap, sym, ◌∙◌, arith, cond, get_or, rules, zero, suc, lit<}
 use Rattle.std.specs.Prelude.{Some, None, nat_lt}
 use Rattle.std.specs.Fmt.{decimal}
 use Rattle.std.proofs.lemmas.Str.Parse.{IsNumeralModel, numerals_by_weight}
@@ -30,6 +30,10 @@ decimal_of-number_text n h =
     let worth : digits_value (decimal n) ≡ n = digits_value-decimal own n h in
     let small : digits_value (decimal n) < 2 ^ 64 = omega arith in
     decimal_of-bounded (decimal n) (decimal_nonempty n h) (has_leading_zero-decimal n h) ∙ (bounded_value-whole (decimal n) (digits_decimal own n h) small ∙ ap Some worth)
+
+-- a number below ten is its one digit
+pub one_digit : (n : ℕ) → n < 10 → number_text n ≡ (48 + n) ∷ []
+one_digit n h = decimal_digit n h
 
 -- what the tests of `decimal_of` say where there is a number
 pub record Read (zeros digits small : Bool) (worth n : ℕ) : Type 0 where

@@ -1,13 +1,15 @@
 -- A text that is parted at the first place of a byte.
-use Rattle.std.proofs.Common.{◌≡◌, ℕ, ◌+◌, ◌<◌, List, [], ◌∷◌, ◌++◌, length, Bool, true, false, refl, ap, ◌∙◌, arith, cond, take, drop, get_or}
+use Rattle.std.proofs.Common.{◌≡◌, ℕ, zero, suc, ◌+◌, ◌<◌, List, [], ◌∷◌, ◌++◌, length, Bool, true, false, refl, ap, subst, ◌∙◌, arith, cond, take, drop, get_or}
 use Rattle.std.proofs.lemmas.List.{take_more}
-use Rattle.std.proofs.Math.Seq.{split_at}
+use Rattle.std.proofs.Math.Seq.{split_at, take-length}
+use Rattle.std.proofs.lemmas.Bool.{eqb-true}
 use Rattle.std.proofs.Common.{add-one}
 use Rattle.std.specs.Prelude.{◌==◌}
 use Rattle.std.proofs.lemmas.Grind.{common_steps}
 use Rattle.std.specs.Prelude.{Option, Some, None}
 use Rattle.std.specs.Prelude.{bytes_eq, ◌&&◌, if◌then◌else◌}
 use Rattle.std.proofs.lemmas.Bool.Decides.{nat_tests}
+use Rattle.memchr.specs.Find.{Nowhere, NoneBefore, Passes, is_byte}
 use Rattle.mj_bytes.specs.Parts.{has_byte, onto_first, parts_by, all_but_last, last_of, whole_lines, unfinished, PartsAtFirst, BeginsWithPart, IsOnePart, BeginsWithLine, HasNoLine, parted, behind}
 
 neither : (t v : Bool) → cond t true v ≡ false → (t ≡ false) × (v ≡ false)
@@ -107,6 +109,25 @@ parts_at c text at h before this =
     record { parts = cut; plain = before }
 
 pub ruleset search_steps = (has_byte-step, parts_at)
+
+-- a search for a byte whose answer is its first place
+is_no : (t : Bool) → (t ≡ true → ⊥) → t ≡ false
+is_no true h = absurd (h refl)
+is_no false h = refl
+
+none_before : (c : ℕ) (text : List ℕ) (at : ℕ) → ((k : ℕ) → k < at → k < length text → (get_or text k 0 == c) ≡ true → ⊥) → has_byte c (take at text) ≡ false
+none_before c text zero h = refl
+none_before c [] (suc at) h = refl
+none_before c (b ∷ bs) (suc at) h = rw (is_no (b == c) (h 0 (omega arith) (omega arith)), none_before c bs at (λ k l m e. h (suc k) (omega (arith, l)) (omega (arith, m)) e)) refl
+
+pub found_first : (c : ℕ) (text : List ℕ) (at : ℕ) → NoneBefore (Passes (is_byte c) text) 0 (length text) at × Passes (is_byte c) text at → PartsAtFirst c text (take at text) (drop (at + 1) text)
+found_first c text at h =
+    parts_at c text at h.0.high (none_before c text at (λ k l m e. h.0.before k (omega arith) l e)) (eqb-true (get_or text at 0) c h.1)
+
+pub found_nowhere : (c : ℕ) (text : List ℕ) → Nowhere (Passes (is_byte c) text) 0 (length text) → has_byte c text ≡ false
+found_nowhere c text h = subst (λ (xs : List ℕ). has_byte c xs ≡ false) (take-length text) (none_before c text (length text) (λ k l m e. h k (omega arith) l e))
+
+pub ruleset searches = (found_first, found_nowhere)
 
 -- the parts round the first space
 parted-at : (first rest : List ℕ) → has_byte 32 first ≡ false → parted (first ++ 32 ∷ rest) ≡ Some (first, rest)

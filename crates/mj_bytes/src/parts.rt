@@ -1,8 +1,10 @@
 //! Parts of a text by a byte: lines, which each end with a newline, and fields, which single spaces part.
 
-ghost use Rattle.std.specs.Prelude.{◌≡◌, false, MatchOption, option_map};
+ghost use Rattle.std.specs.Prelude.{◌≡◌, ◌<◌, ◌+◌, false, length, take, drop, IfSome, MatchOption, option_map};
 ghost use Rattle.std.specs.Option.{option_copied};
 ghost use Rattle.mj_bytes.specs.Parts.{has_byte, PartsAtFirst, BeginsWithPart, IsOnePart, BeginsWithLine, HasNoLine, BeginsWithField, IsOneField, parted, behind};
+
+use memchr::memchr;
 
 /// The first part of a text by a byte, without the byte, and all that follows the byte; none where the text doesn't have the
 /// byte, and so is one part.
@@ -21,7 +23,7 @@ pub fn split_line(text: &[u8]) -> Option<(&[u8], &[u8])>
     ensures { MatchOption result (HasNoLine text.now)
         (λ x. BeginsWithLine text.now x.0.now x.1.now) }
 {
-    cut_at_first(text, b'\n')
+    cut_at_newline(text)
 }
 
 /// The first field of a text, without the space behind it, and all that follows the space; none where
@@ -49,6 +51,7 @@ pub fn strip<'a>(text: &'a [u8], beginning: &[u8]) -> Option<&'a [u8]>
     Some(rest)
 }
 
+// The search goes byte by byte: a part is mostly short.
 #[tactic(auto, using(crate::proofs::PartLaws::search_steps))]
 fn cut_at_first(text: &[u8], byte: u8) -> Option<(&[u8], &[u8])>
     ensures { MatchOption result (has_byte byte text.now ≡ false)
@@ -60,4 +63,25 @@ fn cut_at_first(text: &[u8], byte: u8) -> Option<(&[u8], &[u8])>
         }
     }
     None
+}
+
+// A line is mostly long, so its newline is searched for by vectors.
+fn cut_at_newline(text: &[u8]) -> Option<(&[u8], &[u8])>
+    ensures { MatchOption result (has_byte 10 text.now ≡ false)
+        (λ x. PartsAtFirst 10 text.now x.0.now x.1.now) }
+{
+    match line_end(text) {
+        Some(end) => Some((&text[..end], &text[end + 1..])),
+        None => None,
+    }
+}
+
+// The place of the first newline of a text.
+#[tactic(auto, using(crate::proofs::PartLaws::searches))]
+fn line_end(text: &[u8]) -> Option<usize>
+    ensures within { IfSome result (λ end. end < length text.now) }
+    ensures first { MatchOption result (has_byte 10 text.now ≡ false)
+        (λ end. PartsAtFirst 10 text.now (take end text.now) (drop (end + 1) text.now)) }
+{
+    memchr(b'\n', text)
 }

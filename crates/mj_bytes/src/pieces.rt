@@ -17,10 +17,14 @@ pub fn push_all(into: &mut Vec<u8>, piece: &[u8]) -> Result<(), AllocError>
 
 /// Writes a number behind a text, in decimal digits without a leading zero. Where memory is
 /// wanting, the text stays as it was.
+#[tactic(auto, using(crate::proofs::NumberLaws::one_digit))]
 pub fn push_number(into: &mut Vec<u8>, number: u64) -> Result<(), AllocError>
     ensures ok { OnOk result (Adds into.old.items into.new.items (number_text number)) }
     ensures err { OnErr result (into.new.items ≡ into.old.items) }
 {
+    if number < 10 {
+        return push_all(into, &[b'0' + number as u8]);
+    }
     push_all(into, Buffer::new().format(number).as_bytes())
 }
 

@@ -1,4 +1,4 @@
-ghost use Rattle.std.specs.Prelude.{◌≡◌, ◌≤◌, nat_lt, length, flat_map};
+ghost use Rattle.std.specs.Prelude.{◌≡◌, ◌≤◌, option_copied, option_to_list, nat_lt, length, flat_map};
 ghost use Rattle.std.specs.List.{list_any};
 ghost use Rattle.mj_tiles.specs.Faces.{number_in};
 ghost use Rattle.mj_deeds.specs.Facts.{drawn_tile};
@@ -55,11 +55,18 @@ fn names_tile_outside(red: bool, answer: &Answer) -> bool
         Answer::OpenKan { tile, a, b, c, .. } => has_no_tile(red, &[*tile, *a, *b, *c]),
         Answer::ClosedKan { a, b, c, d, .. } => has_no_tile(red, &[*a, *b, *c, *d]),
         Answer::AddedKan { tile, a, b, c, .. } => has_no_tile(red, &[*tile, *a, *b, *c]),
-        Answer::Win { tile, .. } => match tile {
-            Some(tile) => is_no_tile(red, tile),
-            None => false,
-        },
+        Answer::Win { tile, .. } => names_no_tile(red, tile.as_ref()),
         _ => false,
+    }
+}
+
+// A tile is named, and it is one that the game doesn't have.
+pub(crate) fn names_no_tile(red: bool, tile: Option<&Pai>) -> bool
+    ensures { result ≡ list_any (is_no_tile red) (option_to_list (option_copied tile.entry)) }
+{
+    match tile {
+        Some(tile) => is_no_tile(red, tile),
+        None => false,
     }
 }
 
@@ -75,7 +82,7 @@ fn has_no_tile(red: bool, tiles: &[Pai]) -> bool
     false
 }
 
-fn is_no_tile(red: bool, tile: &Pai) -> bool
+pub(crate) fn is_no_tile(red: bool, tile: &Pai) -> bool
     ensures { result ≡ is_no_tile red tile.now }
 {
     match tile {
@@ -117,7 +124,7 @@ pub(crate) fn number_among(tiles: &[Pai], tile: Tile) -> usize
 }
 
 #[tactic(auto, unfolding(mj_rules::specs::View::view_of))]
-fn is_wrongly_marked(table: &Table, seat: u8, tile: &Pai, marked: bool) -> bool
+pub(crate) fn is_wrongly_marked(table: &Table, seat: u8, tile: &Pai, marked: bool) -> bool
     ensures { result ≡ is_wrongly_marked (view_of table.now.deeds seat) tile.now marked }
 {
     match tile {

@@ -4,6 +4,7 @@
 
 mod case;
 mod counting;
+mod discarding;
 mod holding;
 mod nine;
 mod questions;

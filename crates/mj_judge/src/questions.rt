@@ -210,7 +210,7 @@ fn misses_discard(table: &Table, target: u8, tile: &Pai) -> bool
 
 // A win in the window on the newest deed names another than the seat that gave the tile, at its own draw another than
 // itself, or another tile.
-fn misses_winning(table: &Table, seat: u8, target: u8, tile: Option<&Pai>) -> bool
+pub(crate) fn misses_winning(table: &Table, seat: u8, target: u8, tile: Option<&Pai>) -> bool
     ensures { result ≡ misses_winning seat (view_of table.now.deeds seat) target
         (option_copied tile.entry) (turn_in (option_map turn_by (newest table.now.deeds))) }
 {

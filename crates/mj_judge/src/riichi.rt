@@ -136,7 +136,7 @@ fn leaves_ready(counts: &Counts, room: &Counts, melds: u8, kind: Kind) -> bool
 
 // The tile is discarded by a reach, and leaves the hand unready.
 #[tactic(auto, unfolding(mj_rules::specs::View::view_of))]
-fn discards_unready(table: &Table, seat: u8, tile: &Pai) -> bool
+pub(crate) fn discards_unready(table: &Table, seat: u8, tile: &Pai) -> bool
     ensures { result ≡ discards_unready (view_of table.now.deeds seat)
         (turn_in (option_map turn_by (newest table.now.deeds))) tile.now }
 {

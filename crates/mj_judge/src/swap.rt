@@ -4,7 +4,7 @@ ghost use Rattle.mj_tiles.specs.Faces.{tile_order};
 ghost use Rattle.mj_tiles.specs.Kinds.{set_of};
 ghost use Rattle.mj_deeds.specs.Facts.{newest, tiles_gained, tiles_lost};
 ghost use Rattle.mj_deeds.specs.Pais.{face_in};
-ghost use Rattle.mj_rules.specs.Broken.{banned_in, is_swap_call, bans_of_chi, bans_of_pon, is_stuck_call};
+ghost use Rattle.mj_rules.specs.Broken.{banned_in, is_banned_tile, is_swap_call, bans_of_chi, bans_of_pon, is_stuck_call};
 ghost use Rattle.mj_rules.specs.View.{view_of, turn_by, turn_in};
 ghost use Rattle.mj_deeds.specs.Hand.{hand};
 ghost use Rattle.mj_judge.specs.Inner.Free.{is_used_up};
@@ -16,17 +16,25 @@ use mj_table::Table;
 use mj_tiles::{Kinds, Tile};
 
 // The discard is of a kind that is banned right after the call that is the newest deed.
-#[tactic(auto, using(crate::proofs::Swaps::swap_of), unfolding(mj_rules::specs::View::view_of))]
+#[tactic(auto, unfolding(mj_rules::specs::View::view_of))]
 pub(crate) fn is_swap_call(table: &Table, seat: u8, answer: &Answer) -> bool
     ensures { result ≡ is_swap_call (view_of table.now.deeds seat).turn answer.now }
 {
-    let Answer::Discard { tile, .. } = answer else {
-        return false;
-    };
-    let Pai::Known(tile) = tile else {
-        return false;
-    };
-    newest_bans(table).has(tile.kind())
+    match answer {
+        Answer::Discard { tile, .. } => is_banned_tile(table, tile),
+        _ => false,
+    }
+}
+
+// The tile is of a kind that is banned right after the newest deed.
+#[tactic(auto, using(crate::proofs::Swaps::swap_of))]
+pub(crate) fn is_banned_tile(table: &Table, tile: &Pai) -> bool
+    ensures { result ≡ is_banned_tile (banned_in (turn_in (option_map turn_by (newest table.now.deeds)))) tile.now }
+{
+    match tile {
+        Pai::Known(tile) => newest_bans(table).has(tile.kind()),
+        Pai::Hidden => false,
+    }
 }
 
 // The kinds that are banned right after the newest deed.

@@ -1,9 +1,10 @@
-ghost use Rattle.std.specs.Prelude.{◌≡◌, ◌≤◌, ◌∷◌, [], if◌then◌else◌, Some, None};
+ghost use Rattle.std.specs.Prelude.{◌≡◌, ◌≤◌, ◌∷◌, [], ℕ, drop, take, if◌then◌else◌, Some, None};
 ghost use Rattle.std.specs.Result.{result_err};
 ghost use Rattle.mj_deeds.specs.declared.rule.Rule.TheVariants as refusal;
-ghost use Rattle.mj_rules.specs.Broken.{broken_rule, first_broken, is_not_complete, is_furiten_win, is_no_yaku, is_not_nine};
+ghost use Rattle.mj_rules.specs.Broken.{broken_rule, questions, first_broken, is_not_complete, is_furiten_win, is_no_yaku, is_not_nine};
 ghost use Rattle.mj_rules.specs.View.{view_of};
 
+use crate::discarding::judge_discard;
 use crate::holding::{is_no_such_tile, is_not_drawn, is_not_held};
 use crate::nine::is_not_nine;
 use crate::questions::{
@@ -15,7 +16,7 @@ use crate::riichi::{
 };
 use crate::sets::is_bad_set;
 use crate::swap::{is_stuck_call, is_swap_call};
-use crate::winning::judge_win;
+use crate::winning::{judge_win, judge_winning};
 use mj_deeds::{Answer, Rule};
 use mj_table::Table;
 
@@ -29,6 +30,30 @@ pub fn judge(table: &Table, seat: u8, answer: &Answer) -> Result<(), Rule>
     refuse_if(is_unreadable(answer), Rule::Unreadable)?;
     refuse_if(is_not_yours(seat, answer), Rule::NotYours)?;
     refuse_if(is_not_now(table, seat, answer), Rule::NotNow)?;
+    judge_open(table, seat, answer)
+}
+
+// Refuses an answer that is open to the seat by the first rule that it breaks: a pass breaks none, and a discard and a
+// win only rules of their own.
+fn judge_open(table: &Table, seat: u8, answer: &Answer) -> Result<(), Rule>
+    requires { seat ≤ 3 }
+    ensures { result_err result ≡ first_broken (drop 3 (questions table.now.rules seat
+        (view_of table.now.deeds seat) answer.now)) }
+{
+    match answer {
+        Answer::Pass { .. } => Ok(()),
+        Answer::Discard { tile, drawn, .. } => judge_discard(table, seat, tile, *drawn),
+        Answer::Win { target, tile, .. } => judge_winning(table, seat, *target, tile.as_ref()),
+        _ => judge_act(table, seat, answer),
+    }
+}
+
+// The same by all rules, whatever the answer.
+fn judge_act(table: &Table, seat: u8, answer: &Answer) -> Result<(), Rule>
+    requires { seat ≤ 3 }
+    ensures { result_err result ≡ first_broken (drop 3 (questions table.now.rules seat
+        (view_of table.now.deeds seat) answer.now)) }
+{
     refuse_if(is_no_such_tile(table, answer), Rule::NoSuchTile)?;
     refuse_if(is_wrong_target(table, seat, answer), Rule::WrongTarget)?;
     refuse_if(is_last_tile(table, seat, answer), Rule::LastTile)?;

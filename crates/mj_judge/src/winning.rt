@@ -1,22 +1,24 @@
-ghost use Rattle.std.specs.Prelude.{◌≡◌, ◌<◌, ◌≤◌, ◌&&◌, ◌||◌, ◌++◌, ◌∷◌, [], ℕ, true, List, Some, nat_lt, not, option_map, option_to_list, length, slice_index};
+ghost use Rattle.std.specs.Prelude.{◌≡◌, ◌<◌, ◌≤◌, drop, option_copied, ◌&&◌, ◌||◌, ◌++◌, ◌∷◌, [], ℕ, true, List, Some, nat_lt, not, option_map, option_to_list, length, slice_index};
 ghost use Rattle.std.specs.List.{list_all};
 ghost use Rattle.std.specs.Result.{result_err};
 ghost use Rattle.mj_tiles.specs.Faces.{kind_of};
 ghost use Rattle.mj_tiles.specs.Counts.{kind_counts};
 ghost use Rattle.mj_waits.specs.Furiten.{is_furiten};
 ghost use Rattle.mj_deeds.specs.Facts.{newest};
+ghost use Rattle.mj_deeds.specs.declared.answer.Answer.TheVariants as answers;
 ghost use Rattle.mj_deeds.specs.declared.rule.Rule.TheVariants as refusal;
 ghost use Rattle.mj_readings.specs.Tests.{complete};
-ghost use Rattle.mj_rules.specs.Broken.{offered_in, won_tiles, is_not_complete, is_furiten_win, winning_kinds, has_no_yaku, is_no_yaku, first_broken};
+ghost use Rattle.mj_rules.specs.Broken.{questions, offered_in, won_tiles, is_not_complete, is_furiten_win, winning_kinds, has_no_yaku, is_no_yaku, first_broken};
 ghost use Rattle.mj_rules.specs.View.{view_of, turn_by, turn_in, concealed};
 ghost use Rattle.mj_table.specs.Offers.{offered_tile};
 ghost use Rattle.mj_judge.specs.Inner.Missed.{facts_of, is_missing_out};
 
 use crate::case::case_of;
 use crate::counting::with;
-use crate::questions::is_win;
+use crate::holding::names_no_tile;
+use crate::questions::{is_win, misses_winning};
 use crate::verdict::refuse_if;
-use mj_deeds::{Answer, Deed, Rule};
+use mj_deeds::{Answer, Deed, Pai, Rule};
 use mj_readings::{Case, is_complete};
 use mj_table::Table;
 use mj_tiles::{Counts, Kind, Meld, Tile};
@@ -37,6 +39,25 @@ pub(crate) fn judge_win(table: &Table, seat: u8, answer: &Answer) -> Result<(), 
     if !is_win(answer) {
         return Ok(());
     }
+    judge_tiles(table, seat)
+}
+
+// Refuses a win that is open to the seat by the first rule of wins that it breaks: there is no such tile, it names another
+// seat or tile than the ones in question, or the tiles are refused.
+#[tactic(auto, unfolding(mj_rules::specs::View::view_of))]
+pub(crate) fn judge_winning(
+    table: &Table,
+    seat: u8,
+    target: u8,
+    tile: Option<&Pai>,
+) -> Result<(), Rule>
+    requires { seat ≤ 3 }
+    ensures { let view = view_of table.now.deeds seat in
+        (actor : ℕ) → result_err result ≡ first_broken (drop 3 (questions table.now.rules seat view
+        (answers.Win actor target (option_copied tile.entry)))) }
+{
+    refuse_if(names_no_tile(table.rules().red, tile), Rule::NoSuchTile)?;
+    refuse_if(misses_winning(table, seat, target, tile), Rule::WrongTarget)?;
     judge_tiles(table, seat)
 }
 

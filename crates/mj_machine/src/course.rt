@@ -83,7 +83,7 @@ fn follower(
     let wall = wall_now(table, walls);
     match decide(last, answers) {
         Decision::Rons(seats) => ron(alloc, wall, table, last, &seats),
-        Decision::Call(bid) => Ok(Some(after_discard(alloc, wall, table, seat_of(last), bid)?)),
+        Decision::Call(bid) => after_discard(alloc, wall, table, seat_of(last), bid),
         Decision::Act(seat, answer) => own_act(alloc, wall, table, last, seat, &answer),
         Decision::Pass => after_pass(alloc, table, walls, wall, last),
     }
@@ -182,16 +182,14 @@ fn after_pass(
 {
     match last {
         Deed::StartGame { .. } => Ok(Some(hand_start(alloc, &walls[0], &first(), 0)?)),
-        Deed::StartHand { dealer, .. } => Ok(Some(next_draw(alloc, wall, table, *dealer)?)),
-        Deed::Discard { seat, .. } => {
-            Ok(Some(after_discard(alloc, wall, table, *seat, Bid::NoBid)?))
-        }
+        Deed::StartHand { dealer, .. } => next_draw(alloc, wall, table, *dealer),
+        Deed::Discard { seat, .. } => after_discard(alloc, wall, table, *seat, Bid::NoBid),
         Deed::OpenKan { .. } => Ok(Some(next_dora(wall, table))),
         Deed::ClosedKan { .. } => Ok(Some(next_dora(wall, table))),
         Deed::AddedKan { .. } => Ok(Some(next_dora(wall, table))),
         Deed::Dora { .. } => Ok(Some(next_replacement(wall, table))),
         Deed::ReachAccepted { seat, then, .. } => {
-            Ok(Some(after_acceptance(alloc, wall, table, *seat, *then)?))
+            after_acceptance(alloc, wall, table, *seat, *then)
         }
         Deed::Win {
             target,

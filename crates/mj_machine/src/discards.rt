@@ -1,4 +1,4 @@
-ghost use Rattle.std.specs.Prelude.{◌≡◌, true, false, IfOk};
+ghost use Rattle.std.specs.Prelude.{◌≡◌, true, false, IfOk, Some};
 ghost use Rattle.std.specs.Option.{option_map_or};
 ghost use Rattle.mj_deeds.specs.Course.{is_reach};
 ghost use Rattle.mj_deeds.specs.Facts.{newest, before_newest};
@@ -23,14 +23,14 @@ pub(crate) fn after_discard(
     table: &Table,
     seat: u8,
     bid: Bid,
-) -> Result<Deed, AllocError>
+) -> Result<Option<Deed>, AllocError>
     requires small { AreSmall table.now.deeds }
     requires discarded { is_discarded (newest table.now.deeds) ≡ true }
     ensures { IfOk result (λ d. d
-        ≡ behind_discard table.now.rules wall.now table.now.deeds seat bid) }
+        ≡ Some (behind_discard table.now.rules wall.now table.now.deeds seat bid)) }
 {
     if is_of_reach(table) {
-        return Ok(accept(table, seat, bid));
+        return Ok(Some(accept(table, seat, bid)));
     }
     after_acceptance(alloc, wall, table, seat, bid)
 }
@@ -43,13 +43,13 @@ pub(crate) fn after_acceptance(
     table: &Table,
     seat: u8,
     bid: Bid,
-) -> Result<Deed, AllocError>
+) -> Result<Option<Deed>, AllocError>
     requires { AreSmall table.now.deeds }
-    ensures { IfOk result (λ d. d ≡ drawn_or table.now.rules table.now.deeds
-        (called_or_draw wall.now table.now.deeds seat bid)) }
+    ensures { IfOk result (λ d. d ≡ Some (drawn_or table.now.rules table.now.deeds
+        (called_or_draw wall.now table.now.deeds seat bid))) }
 {
     match table.reason() {
-        Some(reason) => drawn_hand(alloc, table, reason),
+        Some(reason) => Ok(Some(drawn_hand(alloc, table, reason)?)),
         None => called_or_draw(alloc, wall, table, seat, bid),
     }
 }
@@ -93,12 +93,12 @@ fn called_or_draw(
     table: &Table,
     seat: u8,
     bid: Bid,
-) -> Result<Deed, AllocError>
+) -> Result<Option<Deed>, AllocError>
     requires { AreSmall table.now.deeds }
-    ensures { IfOk result (λ d. d ≡ called_or_draw wall.now table.now.deeds seat bid) }
+    ensures { IfOk result (λ d. d ≡ Some (called_or_draw wall.now table.now.deeds seat bid)) }
 {
     match bid.deed() {
-        Some(call) => Ok(call),
+        Some(call) => Ok(Some(call)),
         None => next_draw(alloc, wall, table, next_seat(seat)),
     }
 }

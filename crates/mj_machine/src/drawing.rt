@@ -1,4 +1,4 @@
-ghost use Rattle.std.specs.Prelude.{◌≡◌, IfOk};
+ghost use Rattle.std.specs.Prelude.{◌≡◌, IfOk, Some};
 ghost use Rattle.mj_deeds.specs.Hand.{hand};
 ghost use Rattle.mj_rules.specs.Outcome.{next_draw, next_dora, next_replacement};
 ghost use Rattle.mj_machine.specs.Inner.Steps.{AreSmall};
@@ -16,18 +16,18 @@ pub(crate) fn next_draw(
     wall: &Wall,
     table: &Table,
     seat: u8,
-) -> Result<Deed, AllocError>
+) -> Result<Option<Deed>, AllocError>
     requires { AreSmall table.now.deeds }
-    ensures { IfOk result (λ d. d ≡ next_draw wall.now table.now.deeds seat) }
+    ensures { IfOk result (λ d. d ≡ Some (next_draw wall.now table.now.deeds seat)) }
 {
     if table.live() == 0 {
-        return drawn_hand(alloc, table, Reason::Fanpai);
+        return Ok(Some(drawn_hand(alloc, table, Reason::Fanpai)?));
     }
-    Ok(Deed::Draw {
+    Ok(Some(Deed::Draw {
         seat,
         tile: wall.draw(table.live_drawn() as u8),
         replacement: false,
-    })
+    }))
 }
 
 // After a kan the next indicator is shown.

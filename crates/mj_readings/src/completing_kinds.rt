@@ -175,7 +175,11 @@ fn may_be_special(numbers: &[u8], melds: u8) -> bool
 fn single_kinds(numbers: &[u8]) -> usize
     ensures { result ≡ count_by (λ number. number == 1) numbers.now }
 {
-    numbers.iter().filter(|number| **number == 1).count()
+    let mut many = 0;
+    for number in numbers {
+        many += (*number == 1) as usize;
+    }
+    many
 }
 
 /// Whether a character from two to eight is held.

@@ -152,11 +152,13 @@ fn behind_walls(
     ensures { IfOk result (λ answer. Tells (record_text rules walls.now [] ++ text.now) answer) }
 {
     let mut table = Table::new(alloc, rules)?;
+    let mut room = Vec::new(alloc);
     let mut deeds = 0;
     let mut rest = text;
     let first = walls.len() as u32 + 2;
     while let Some((line, others)) = split_line(rest) {
-        if let Some(cause) = follow(alloc, &mut table, walls, &rest[..line.len() + 1])? {
+        let line = &rest[..line.len() + 1];
+        if let Some(cause) = follow(alloc, &mut table, walls, line, &mut room)? {
             return Ok(Checked::Bad(first + deeds, cause));
         }
         deeds += 1;

@@ -20,16 +20,17 @@ use mj_judge::judge;
 use mj_machine::next;
 use mj_table::Table;
 use mj_wall::Wall;
-use mjai_lines::write_alone;
+use mjai_lines::write_over;
 use std::alloc::{AllocError, Global};
 
 /// Puts the deed of a line, which ends with its newline, on the table, where some four lawful answers give it; else says
-/// what is wrong with the line.
+/// what is wrong with the line. The room is for the lines of deeds that are compared with it.
 pub(crate) fn follow(
     alloc: Global,
     table: &mut Table,
     walls: &[Wall],
     line: &[u8],
+    room: &mut Vec<u8>,
 ) -> Result<Option<Cause>, AllocError>
     requires some { 1 ≤ length walls.now }
     requires few { length walls.now ≤ 200 }
@@ -40,22 +41,21 @@ pub(crate) fn follow(
     let Some(deed) = deed_in(alloc, line)? else {
         return Ok(Some(Cause::Line));
     };
-    if follows(alloc, table, walls, &deed, line)? {
+    if follows(alloc, table, walls, &deed, line, room)? {
         return Ok(None);
     }
-    if is_line_of(alloc, &deed, line)? {
+    if is_line_of(room, &deed, line)? {
         return Ok(Some(Cause::Next));
     }
     Ok(Some(Cause::Line))
 }
 
-// Whether a text is the record's line of a deed.
-fn is_line_of(alloc: Global, deed: &Deed, line: &[u8]) -> Result<bool, AllocError>
+// Whether a text is the record's line of a deed, which is written in the room for one.
+fn is_line_of(room: &mut Vec<u8>, deed: &Deed, line: &[u8]) -> Result<bool, AllocError>
     ensures { IfOk result (λ same. same ≡ bytes_eq (line_for Record deed.now) line.now) }
 {
-    let mut written = Vec::new(alloc);
-    write_alone(alloc, Viewer::Record, deed, &mut written)?;
-    Ok(written.as_slice() == line)
+    write_over(room, Viewer::Record, deed)?;
+    Ok(room.as_slice() == line)
 }
 
 // Puts the deed that a line tells on the table, where some four lawful answers give one with this line; says whether they
@@ -67,6 +67,7 @@ fn follows(
     walls: &[Wall],
     deed: &Deed,
     line: &[u8],
+    room: &mut Vec<u8>,
 ) -> Result<bool, AllocError>
     requires some { 1 ≤ length walls.now }
     requires few { length walls.now ≤ 200 }
@@ -76,13 +77,13 @@ fn follows(
     ensures { IfOk result (λ yes. FollowsIf yes walls.now table.old table.new line.now) }
 {
     if table.newest().is_none() {
-        return starts(alloc, table, walls, deed, line);
+        return starts(table, walls, deed, line, room);
     }
     if !can_go_on(table) {
         return Ok(false);
     }
     let answers = told(table.newest(), deed);
-    if follows_by(alloc, table, walls, &answers, line)? {
+    if follows_by(alloc, table, walls, &answers, line, room)? {
         return Ok(true);
     }
     Ok(false)
@@ -107,6 +108,7 @@ fn follows_by(
     walls: &[Wall],
     answers: &Four<Answer>,
     line: &[u8],
+    room: &mut Vec<u8>,
 ) -> Result<bool, AllocError>
     requires some { 1 ≤ length walls.now }
     requires few { length walls.now ≤ 200 }
@@ -118,11 +120,15 @@ fn follows_by(
     if !are_lawful(table, answers) {
         return Ok(false);
     }
-    let followed = next(alloc, table, walls, answers)?;
-    if is_line_of(alloc, &followed, line)? {
-        return Ok(true);
+    match &next(alloc, table, walls, answers) {
+        Ok(followed) => {
+            if is_line_of(room, followed, line)? {
+                return Ok(true);
+            }
+            Ok(false)
+        }
+        Err(error) => Err(*error),
     }
-    Ok(false)
 }
 
 // Whether each of the four answers is lawful.
@@ -178,11 +184,11 @@ fn place_of(pai: Pai) -> u8
 // Puts a start of a game with four different names on the table, which has no deed; says whether the deed that was read of
 // the line is one and has the line.
 fn starts(
-    alloc: Global,
     table: &mut Table,
     walls: &[Wall],
     deed: &Deed,
     line: &[u8],
+    room: &mut Vec<u8>,
 ) -> Result<bool, AllocError>
     requires some { 1 ≤ length walls.now }
     requires whole { IsTrue (list_all (is_wall table.old.rules.red) walls.now) }
@@ -193,7 +199,7 @@ fn starts(
     if !has_different_names(deed) {
         return Ok(false);
     }
-    if !is_line_of(alloc, deed, line)? {
+    if !is_line_of(room, deed, line)? {
         return Ok(false);
     }
     table.push(deed)?;

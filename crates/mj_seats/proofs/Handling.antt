@@ -11,7 +11,7 @@ use Rattle.mj_seats.specs.declared.handle.Session.{Session}
 use Rattle.mj_seats.specs.Histories.{Enters}
 use Rattle.mj_seats.specs.declared.served.Ended.{Ended}
 use Rattle.mj_seats.specs.Sessions.{SeatedSession, SeatlessSession, SessionAt, IsExcused}
-use Rattle.mj_seats.specs.Handlers.{Kept, Handled, IsNew, IsOn, Finds, Asks, at_link}
+use Rattle.mj_seats.specs.Handlers.{Kept, Handled, IsNew, IsOn, at_link}
 use Rattle.mj_seats.specs.Wires.{WireState, at_wire}
 use Rattle.mj_links.specs.Hosts.{IsFresh}
 use Rattle.mj_links.specs.Helds.{wire_held, wire_link}

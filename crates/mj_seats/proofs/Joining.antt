@@ -1,14 +1,12 @@
 -- What is left of handlers that were joined, one handler more at a time.
-use Rattle.std.proofs.Common.{◌≡◌, ℕ, zero, suc, ◌+◌, ◌<◌, Bool, true, false, List, [], ◌∷◌, ◌++◌, length, map, refl, sym, ap, ◌∙◌, subst, arith, append_assoc, append-nil}
-use Rattle.std.specs.Prelude.{All, flat_map, Option, Some}
+use Rattle.std.proofs.Common.{◌≡◌, ℕ, zero, suc, ◌+◌, List, [], ◌∷◌, ◌++◌, length, map, refl, sym, ap, ◌∙◌, subst, arith, append_assoc, append-nil}
+use Rattle.std.specs.Prelude.{All, flat_map, Option, Some, None, MatchOption}
 use Rattle.std.specs.Option.{option_to_list}
 use Rattle.std.proofs.lemmas.List.{length-append, map-append}
-use Rattle.std.proofs.lemmas.List.Elements.{All-nil, All-push, All-append, All-pop}
-use Rattle.turn_lock.specs.Notes.{notes_of}
+use Rattle.std.proofs.lemmas.List.Elements.{All-nil, All-push, All-pop}
 use Rattle.turn_lock.specs.Passes.{TurnState, PassState}
-use Rattle.turn_lock.specs.Turns.{IsIdle, IsSeenIn, new_pass, new_passes}
+use Rattle.turn_lock.specs.Turns.{IsIdle, new_pass, new_passes}
 use Rattle.mj_ports.specs.declared.entry.Entry.{Entry}
-use Rattle.mj_ports.specs.declared.entry.Entry.TheVariants.{Sat, Back, Said, Gone, Expired}
 use Rattle.mj_ports.specs.declared.sitting.JoinLine.{JoinLine}
 use Rattle.mj_ports.specs.declared.answers.SitAnswer.{SitAnswer}
 use Rattle.mj_ports.specs.declared.answers.Heard.{Heard}
@@ -18,7 +16,7 @@ use Rattle.mj_seats.specs.declared.handle.HandlerEnd.{HandlerEnd}
 use Rattle.mj_seats.specs.declared.handle.Session.{Session}
 use Rattle.mj_seats.specs.Handlers.{WantsMemory}
 use Rattle.mj_seats.specs.declared.worker.Done.{Done}
-use Rattle.mj_seats.specs.Joined.{Eight, IsLeft, IsDone, EightDone, AllDone, AllLeft}
+use Rattle.mj_seats.specs.Joined.{IsLeft, IsDone, AllDone, AllLeft}
 use Rattle.mj_seats.specs.Wires.{WireState}
 
 module _ {X : Type 0} where
@@ -39,6 +37,11 @@ module _ {X : Type 0} where
       let rest = same_snoc xs ys x y (same_tail a b (xs ++ x ∷ []) (ys ++ y ∷ []) e) in
       ((λ i. same_head a b (xs ++ x ∷ []) (ys ++ y ∷ []) e i ∷ rest.0 i), rest.1)
 
+-- what comes of a value that is there or not
+pub by_cases : {X : Type 0} (r : Option X) (P : Type 0) (Q : X → Type 0) → (r ≡ None → P) → ((x : X) → r ≡ Some x → Q x) → MatchOption r P Q
+by_cases None P Q none some = none refl
+by_cases (Some x) P Q none some = some x refl
+
 module _ {D X : Type 0} (f : D → List X) where
   pub flat_one : (ds : List D) (d : D) → flat_map f (ds ++ d ∷ []) ≡ flat_map f ds ++ f d
   flat_one [] d = append-nil (f d)
@@ -58,35 +61,39 @@ module _ {D : Type 0} (ds rest : List D) (r : Option D) (d : D) (items : ds ≡ 
   all_popped P h k = subst (λ (l : List D). All P l) (sym was) (All-push P rest d h k)
 
 module _ {T S N : Type 0} (turn : TurnState T) (fixed : S) where
-  -- nine new passes
-  pub record NineNew (ps : Eight (PassState S N)) (last : PassState S N) : Type 0 where
-    pub p0 : ps.0.0.0 ≡ new_pass turn.id fixed 0
-    pub p1 : ps.0.0.1 ≡ new_pass turn.id fixed 1
-    pub p2 : ps.0.1.0 ≡ new_pass turn.id fixed 2
-    pub p3 : ps.0.1.1 ≡ new_pass turn.id fixed 3
-    pub p4 : ps.1.0.0 ≡ new_pass turn.id fixed 4
-    pub p5 : ps.1.0.1 ≡ new_pass turn.id fixed 5
-    pub p6 : ps.1.1.0 ≡ new_pass turn.id fixed 6
-    pub p7 : ps.1.1.1 ≡ new_pass turn.id fixed 7
-    pub p8 : last ≡ new_pass turn.id fixed 8
+  new_count : (passes : List (PassState S N)) (count : ℕ) → passes ≡ new_passes turn.id fixed count → length passes ≡ count
+  new_count passes zero e = ap length e
+  new_count passes (suc count) e =
+      let before : List (PassState S N) = new_passes turn.id fixed count in
+      let long : length passes ≡ length (before ++ new_pass turn.id fixed count ∷ []) = ap length e in
+      let ih = new_count before count refl in
+      omega (arith, long, length-append before (new_pass turn.id fixed count ∷ []), ih)
 
-  pub nine_new : (passes rest less : List (PassState S N)) (ps : Eight (PassState S N)) (last : PassState S N) → passes ≡ new_passes turn.id fixed 9 → passes ≡ less ++ last ∷ []
-      → less ≡ rest ++ ps.0.0.0 ∷ ps.0.0.1 ∷ ps.0.1.0 ∷ ps.0.1.1 ∷ ps.1.0.0 ∷ ps.1.0.1 ∷ ps.1.1.0 ∷ ps.1.1.1 ∷ [] → NineNew ps last
-  nine_new passes rest less ps last all pop is =
-      let s8 = same_snoc less (new_passes turn.id fixed 8) last (new_pass turn.id fixed 8) (sym pop ∙ all) in
-      let e8 : rest ++ ps.0.0.0 ∷ ps.0.0.1 ∷ ps.0.1.0 ∷ ps.0.1.1 ∷ ps.1.0.0 ∷ ps.1.0.1 ∷ ps.1.1.0 ∷ ps.1.1.1 ∷ [] ≡ new_passes turn.id fixed 8 = sym is ∙ s8.0 in
-      let s7 = back (rest ++ ps.0.0.0 ∷ ps.0.0.1 ∷ ps.0.1.0 ∷ ps.0.1.1 ∷ ps.1.0.0 ∷ ps.1.0.1 ∷ ps.1.1.0 ∷ []) 7 ps.1.1.1 (append_assoc rest (ps.0.0.0 ∷ ps.0.0.1 ∷ ps.0.1.0 ∷ ps.0.1.1 ∷ ps.1.0.0 ∷ ps.1.0.1 ∷ ps.1.1.0 ∷ []) (ps.1.1.1 ∷ []) ∙ e8) in
-      let s6 = back (rest ++ ps.0.0.0 ∷ ps.0.0.1 ∷ ps.0.1.0 ∷ ps.0.1.1 ∷ ps.1.0.0 ∷ ps.1.0.1 ∷ []) 6 ps.1.1.0 (append_assoc rest (ps.0.0.0 ∷ ps.0.0.1 ∷ ps.0.1.0 ∷ ps.0.1.1 ∷ ps.1.0.0 ∷ ps.1.0.1 ∷ []) (ps.1.1.0 ∷ []) ∙ s7.0) in
-      let s5 = back (rest ++ ps.0.0.0 ∷ ps.0.0.1 ∷ ps.0.1.0 ∷ ps.0.1.1 ∷ ps.1.0.0 ∷ []) 5 ps.1.0.1 (append_assoc rest (ps.0.0.0 ∷ ps.0.0.1 ∷ ps.0.1.0 ∷ ps.0.1.1 ∷ ps.1.0.0 ∷ []) (ps.1.0.1 ∷ []) ∙ s6.0) in
-      let s4 = back (rest ++ ps.0.0.0 ∷ ps.0.0.1 ∷ ps.0.1.0 ∷ ps.0.1.1 ∷ []) 4 ps.1.0.0 (append_assoc rest (ps.0.0.0 ∷ ps.0.0.1 ∷ ps.0.1.0 ∷ ps.0.1.1 ∷ []) (ps.1.0.0 ∷ []) ∙ s5.0) in
-      let s3 = back (rest ++ ps.0.0.0 ∷ ps.0.0.1 ∷ ps.0.1.0 ∷ []) 3 ps.0.1.1 (append_assoc rest (ps.0.0.0 ∷ ps.0.0.1 ∷ ps.0.1.0 ∷ []) (ps.0.1.1 ∷ []) ∙ s4.0) in
-      let s2 = back (rest ++ ps.0.0.0 ∷ ps.0.0.1 ∷ []) 2 ps.0.1.0 (append_assoc rest (ps.0.0.0 ∷ ps.0.0.1 ∷ []) (ps.0.1.0 ∷ []) ∙ s3.0) in
-      let s1 = back (rest ++ ps.0.0.0 ∷ []) 1 ps.0.0.1 (append_assoc rest (ps.0.0.0 ∷ []) (ps.0.0.1 ∷ []) ∙ s2.0) in
-      let s0 = back rest 0 ps.0.0.0 s1.0 in
-      record { p0 = s0.1; p1 = s1.1; p2 = s2.1; p3 = s3.1; p4 = s4.1; p5 = s5.1; p6 = s6.1; p7 = s7.1; p8 = s8.1 }
-    where
-      back : (xs : List (PassState S N)) (k : ℕ) (p : PassState S N) → xs ++ p ∷ [] ≡ new_passes turn.id fixed (suc k) → (xs ≡ new_passes turn.id fixed k) × (p ≡ new_pass turn.id fixed k)
-      back xs k p e = same_snoc xs (new_passes turn.id fixed k) p (new_pass turn.id fixed k) e
+  -- new passes are as many as their number says
+  pub are_new : (passes : List (PassState S N)) (count : ℕ) → passes ≡ new_passes turn.id fixed count → (length passes ≡ count) × (passes ≡ new_passes turn.id fixed (length passes))
+  are_new passes count e = (new_count passes count e, e ∙ ap (λ (n : ℕ). new_passes turn.id fixed n) (sym (new_count passes count e)))
+
+  -- the last of some new passes, and those before it
+  pub popped_new : (passes rest : List (PassState S N)) (r : Option (PassState S N)) (p : PassState S N) → passes ≡ new_passes turn.id fixed (length passes) → passes ≡ rest ++ option_to_list r → r ≡ Some p
+      → (p ≡ new_pass turn.id fixed (length rest)) × (rest ≡ new_passes turn.id fixed (length rest)) × (length passes ≡ length rest + 1) × (p ≡ new_pass turn.id fixed p.number)
+  popped_new passes rest r p all items this =
+      let pop : passes ≡ rest ++ p ∷ [] = was passes rest r p items this in
+      let long : length passes ≡ length (rest ++ p ∷ []) = ap length pop in
+      let count : length passes ≡ length rest + 1 = omega (arith, long, length-append rest (p ∷ [])) in
+      let next : length rest + 1 ≡ suc (length rest) = omega arith in
+      let both = same_snoc rest (new_passes turn.id fixed (length rest)) p (new_pass turn.id fixed (length rest)) (sym pop ∙ (all ∙ ap (λ (n : ℕ). new_passes turn.id fixed n) (count ∙ next))) in
+      (both.1, both.0, count, both.1 ∙ ap (λ (n : ℕ). new_pass turn.id fixed n) (sym (ap (λ (q : PassState S N). q.number) both.1)))
+
+  -- the last of so many new passes and one, and those before it
+  pub popped_last : (count : ℕ) (passes rest : List (PassState S N)) (r : Option (PassState S N)) (p : PassState S N) → passes ≡ new_passes turn.id fixed (count + 1) → passes ≡ rest ++ option_to_list r → r ≡ Some p
+      → (p.number ≡ count) × (rest ≡ new_passes turn.id fixed (length rest)) × (length rest ≡ count) × (p ≡ new_pass turn.id fixed p.number)
+  popped_last count passes rest r p e items this =
+      let all = are_new passes (count + 1) e in
+      let new = popped_new passes rest r p all.1 items this in
+      let long = all.0 in
+      let less = new.2 in
+      let same : length rest ≡ count = omega (arith, long, less) in
+      (ap (λ (q : PassState S N). q.number) new.0 ∙ same, new.1, same, new.3)
 
 module _ {T A R L F S : Type 0} (after : List (Entry A) → After) (reads : List ℕ → A) (joins : List ℕ → Option JoinLine) (sits : List (Entry A) → List ℕ → SitAnswer) (hears : List (Entry A) → ℕ → ℕ → A → Heard R) (says : Control R → List ℕ) (at : List ℕ → L → WireState) (made : F → Type 0) (number : F → ℕ) (setting : T → S) (turn : TurnState T) where
   pub left_count : (n : ℕ) (ps : List (PassState S (Entry A))) (sessions : List (Session L)) (ends : List (HandlerEnd F)) → AllLeft after reads joins sits hears says at made number setting turn n ps sessions ends → length ps ≡ n
@@ -126,14 +133,10 @@ module _ {T A R L F S : Type 0} (after : List (Entry A) → After) (reads : List
         parted.1,
       )
 
-  -- eight handlers with the first eight passes
-  pub eight_in_order : (ps : Eight (PassState S (Entry A))) (ds : Eight (Done (PassState S (Entry A)) L F)) (last : PassState S (Entry A)) (fixed : S) (start all : List (Done (PassState S (Entry A)) L F)) → start ≡ [] → NineNew turn fixed ps last → EightDone after reads joins sits hears says at made number setting turn ps ds
-      → all ≡ start ++ ds.0.0.0 ∷ ds.0.0.1 ∷ ds.0.1.0 ∷ ds.0.1.1 ∷ ds.1.0.0 ∷ ds.1.0.1 ∷ ds.1.1.0 ∷ ds.1.1.1 ∷ [] → AllDone after reads joins sits hears says at made number setting turn 8 all
-  eight_in_order ps ds last fixed start all none new (((h0, h1), (h2, h3)), ((h4, h5), (h6, h7))) e =
-      subst (λ (l : List (Done (PassState S (Entry A)) L F)). AllDone after reads joins sits hears says at made number setting turn 8 l)
-      (sym (e ∙ ap (λ (l : List (Done (PassState S (Entry A)) L F)). l ++ ds.0.0.0 ∷ ds.0.0.1 ∷ ds.0.1.0 ∷ ds.0.1.1 ∷ ds.1.0.0 ∷ ds.1.0.1 ∷ ds.1.1.0 ∷ ds.1.1.1 ∷ []) none))
-      (_, ds.1.1.1, refl, (_, ds.1.1.0, refl, (_, ds.1.0.1, refl, (_, ds.1.0.0, refl, (_, ds.0.1.1, refl, (_, ds.0.1.0, refl, (_, ds.0.0.1, refl, (_, ds.0.0.0, refl, refl, to ps.0.0.0 ds.0.0.0 0 new.p0 h0), to ps.0.0.1 ds.0.0.1 1 new.p1 h1), to ps.0.1.0 ds.0.1.0 2 new.p2 h2), to ps.0.1.1 ds.0.1.1 3 new.p3 h3), to ps.1.0.0 ds.1.0.0 4 new.p4 h4), to ps.1.0.1 ds.1.0.1 5 new.p5 h5), to ps.1.1.0 ds.1.1.0 6 new.p6 h6), to ps.1.1.1 ds.1.1.1 7 new.p7 h7)
-    where
-      to : (p : PassState S (Entry A)) (d : Done (PassState S (Entry A)) L F) (k : ℕ) → p ≡ new_pass turn.id fixed k → IsDone after reads joins sits hears says at made number setting turn p d
-          → IsLeft after reads joins sits hears says at made number setting turn k d.pass d.sessions.items d.end
-      to p d k is h = subst (λ (n : ℕ). IsLeft after reads joins sits hears says at made number setting turn n d.pass d.sessions.items d.end) (ap (λ (q : PassState S (Entry A)). q.number) is) h
+  -- one handler more
+  pub one_more : (n : ℕ) (p : PassState S (Entry A)) (fixed : S) (before all : List (Done (PassState S (Entry A)) L F)) (d : Done (PassState S (Entry A)) L F) (count : ℕ) → p ≡ new_pass turn.id fixed n → AllDone after reads joins sits hears says at made number setting turn n before
+      → IsDone after reads joins sits hears says at made number setting turn p d → all ≡ before ++ d ∷ [] → count ≡ n + 1 → AllDone after reads joins sits hears says at made number setting turn count all
+  one_more n p fixed before all d count is done one e c =
+      let next : n + 1 ≡ suc n = omega arith in
+      subst (λ (k : ℕ). AllDone after reads joins sits hears says at made number setting turn k all) (sym (c ∙ next))
+      (before, d, e, done, subst (λ (k : ℕ). IsLeft after reads joins sits hears says at made number setting turn k d.pass d.sessions.items d.end) (ap (λ (q : PassState S (Entry A)). q.number) is) one)

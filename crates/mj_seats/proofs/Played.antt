@@ -1,9 +1,10 @@
 -- What nine workers leave behind, from what is left of each.
-use Rattle.std.proofs.Common.{◌≡◌, ℕ, ◌+◌, ◌<◌, List, [], ◌∷◌, ◌++◌, length, map, refl, sym, ap, ◌∙◌, subst}
+use Rattle.std.proofs.Common.{◌≡◌, ℕ, ◌+◌, ◌<◌, List, [], ◌∷◌, ◌++◌, length, map, refl, sym, ap, ◌∙◌, subst, arith}
 use Rattle.std.specs.Prelude.{All, flat_map, Option, Some, None, Result, Ok, Err, IfOk}
-use Rattle.std.proofs.lemmas.List.Elements.{All-pop, All-same}
+use Rattle.std.proofs.lemmas.List.{length-map}
+use Rattle.std.proofs.lemmas.List.Elements.{All-pop}
 use Rattle.turn_lock.specs.Passes.{TurnState, PassState}
-use Rattle.turn_lock.specs.Turns.{IsIdle, IsSeenIn, new_pass}
+use Rattle.turn_lock.specs.Turns.{IsIdle, IsSeenIn}
 use Rattle.mj_ports.specs.declared.entry.Entry.{Entry}
 use Rattle.mj_ports.specs.declared.entry.Entry.TheVariants.{Said, Gone}
 use Rattle.mj_ports.specs.declared.sitting.JoinLine.{JoinLine}
@@ -17,27 +18,23 @@ use Rattle.mj_seats.specs.declared.handle.Session.{Session}
 use Rattle.mj_seats.specs.declared.worker.Done.{Done}
 use Rattle.mj_seats.specs.Histories.{Enters}
 use Rattle.mj_seats.specs.Handlers.{WantsMemory}
-use Rattle.mj_seats.specs.Joined.{Eight, EightNew, AllDone, AllLeft, IsPlayed}
+use Rattle.mj_seats.specs.Joined.{AllDone, AllLeft, IsPlayed}
 use Rattle.mj_seats.specs.Ticks.{Ticks}
 use Rattle.mj_seats.specs.Wires.{WireState}
 use Rattle.mj_seats.proofs.Entering.{enters_seen}
-use Rattle.mj_seats.proofs.Joining.{NineNew, left_of, left_idle}
+use Rattle.mj_seats.proofs.Joining.{left_of, left_idle}
 use Rattle.mj_seats.proofs.Working.{ticks_on, expiries_are, places_are, serve_is, ends_are}
+
+-- the passes of all handlers and one more
+pub and_one : {X D : Type 0} (f : D → X) (passes : List X) (ds : List D) (handlers count : ℕ) → passes ≡ map f ds → length ds ≡ handlers → count ≡ handlers + 1 → length passes + 1 ≡ count
+and_one f passes ds handlers count is long all =
+    let same : length passes ≡ length (map f ds) = ap length is in
+    omega (arith, same, length-map ds f, long, all)
 
 -- five things that are so of a value give a sixth
 pub ok_five : {X E : Type 0} (r : Result X E) (P1 P2 P3 P4 P5 Q : X → Type 0) → ((x : X) → P1 x → P2 x → P3 x → P4 x → P5 x → Q x) → IfOk r P1 → IfOk r P2 → IfOk r P3 → IfOk r P4 → IfOk r P5 → IfOk r Q
 ok_five (Ok x) P1 P2 P3 P4 P5 Q f a b c d e = f x a b c d e
 ok_five (Err y) P1 P2 P3 P4 P5 Q f a b c d e = a
-
-module _ {T S N : Type 0} (setting : T → S) (turn : TurnState T) where
-  pub eight_new : (ps : Eight (PassState S N)) (last : PassState S N) → NineNew turn (setting turn.opening) ps last → EightNew setting turn ps
-  eight_new ps last n = (
-    ((by ps.0.0.0 0 n.p0, by ps.0.0.1 1 n.p1), (by ps.0.1.0 2 n.p2, by ps.0.1.1 3 n.p3)),
-    ((by ps.1.0.0 4 n.p4, by ps.1.0.1 5 n.p5), (by ps.1.1.0 6 n.p6, by ps.1.1.1 7 n.p7)),
-  )
-    where
-      by : (p : PassState S N) (k : ℕ) → p ≡ new_pass turn.id (setting turn.opening) k → p ≡ new_pass turn.id (setting turn.opening) p.number
-      by p k e = e ∙ ap (λ (n : ℕ). new_pass turn.id (setting turn.opening) n) (sym (ap (λ (q : PassState S N). q.number) e))
 
 module _ {T A R L F S : Type 0} (after : List (Entry A) → After) (is_legal : List (Entry A) → Type 0)
     (legal_before : (es fs : List (Entry A)) → is_legal (es ++ fs) → is_legal es)

@@ -1,8 +1,6 @@
 -- What a session wrote stays the script of its connection when others enter more.
-use Rattle.std.proofs.Common.{◌≡◌, ◌≢◌, inl, ℕ, suc, ◌+◌, ◌<◌, ◌≤◌, Bool, true, false, nat_lt, if◌then◌else◌, List, [], ◌∷◌, ◌++◌, ◌==◌, length, Option, Some, None, refl, true≢false, sym, ap, ◌∙◌, subst, arith, append_assoc, append-nil}
-use Rattle.std.specs.Option.{option_map_or}
+use Rattle.std.proofs.Common.{◌≡◌, ℕ, ◌+◌, ◌<◌, ◌≤◌, Bool, true, false, nat_lt, if◌then◌else◌, List, [], ◌∷◌, ◌++◌, length, Option, Some, None, refl, true≢false, sym, ap, ◌∙◌, subst, arith, append_assoc, append-nil}
 use Rattle.std.proofs.lemmas.List.{length-append}
-use Rattle.turn_lock.specs.Notes.{notes_of}
 use Rattle.mj_ports.specs.declared.entry.Entry.{Entry}
 use Rattle.mj_ports.specs.declared.entry.Entry.TheVariants.{Said, Gone}
 use Rattle.mj_ports.specs.declared.sitting.JoinLine.{JoinLine}
@@ -10,7 +8,7 @@ use Rattle.mj_ports.specs.declared.answers.SitAnswer.{SitAnswer}
 use Rattle.mj_ports.specs.declared.answers.Heard.{Heard}
 use Rattle.mj_ports.specs.declared.answers.Heard.TheVariants.{Closing}
 use Rattle.mj_ports.specs.declared.answers.Control.{Control}
-use Rattle.mj_ports.specs.Entries.{author_of, IsAside}
+use Rattle.mj_ports.specs.Entries.{IsAside}
 use Rattle.mj_ports.specs.Seats.{After, Stays, StaysEnded, Unmoved, Answers, Leaves, Adds, pending, script}
 use Rattle.mj_seats.specs.declared.served.Ended.{Ended}
 use Rattle.mj_seats.specs.declared.served.Ended.TheVariants.{GameOver, PeerEnded, LinkFault, LineTooLong, TooManyRefusals, NotSeated, NoMemory}
@@ -20,7 +18,7 @@ use Rattle.mj_seats.specs.declared.handle.Session.{Session}
 use Rattle.mj_seats.specs.Histories.{Enters}
 use Rattle.mj_seats.specs.Sessions.{IsExcused, HistoryEnds, EndsBy, EndsByRefusal}
 use Rattle.mj_seats.specs.Handlers.{Handled, Kept, IsOn, Finds, Asks}
-use Rattle.mj_seats.specs.Workers.{Serves, IsServed}
+use Rattle.mj_seats.specs.Workers.{Serves}
 use Rattle.mj_seats.specs.Wires.{WireState}
 use Rattle.mj_seats.proofs.Entering.{enters_chain}
 use Rattle.mj_seats.proofs.Scripts.{stays_itself, stays_chain, between, script_at, script_ended}

@@ -1,7 +1,7 @@
 -- What is left of handlers that were joined, and of the ticker.
-use Rattle.std.specs.Prelude.{◌≡◌, ◌<◌, ℕ, zero, suc, All, IsPermutation, List, [], ◌∷◌, ◌++◌, map, Option}
+use Rattle.std.specs.Prelude.{◌≡◌, ◌<◌, ℕ, zero, suc, All, IsPermutation, List, [], ◌∷◌, ◌++◌, length, map, Option}
 use Rattle.turn_lock.specs.Passes.{TurnState, PassState}
-use Rattle.turn_lock.specs.Turns.{IsIdle, new_pass}
+use Rattle.turn_lock.specs.Turns.{IsIdle, new_pass, new_passes}
 use Rattle.mj_ports.specs.declared.entry.Entry.{Entry}
 use Rattle.mj_ports.specs.declared.sitting.JoinLine.{JoinLine}
 use Rattle.mj_ports.specs.declared.answers.SitAnswer.{SitAnswer}
@@ -18,28 +18,14 @@ use Rattle.mj_seats.specs.Ticks.{Ticks}
 use Rattle.mj_seats.specs.Workers.{AllServe, AllEnd, ExpiresBy, begun}
 use Rattle.mj_seats.specs.Wires.{WireState}
 
-abbrev pub Two : Type 0 → Type 0
-Two X = X × X
-
-abbrev pub Four : Type 0 → Type 0
-Four X = Two X × Two X
-
-abbrev pub Eight : Type 0 → Type 0
-Eight X = Four X × Four X
-
 module _ {T S N : Type 0} (setting : T → S) (turn : TurnState T) where
   -- A new pass of the turn.
   abbrev pub IsNewPass : PassState S N → Type 0
   IsNewPass p = p ≡ new_pass turn.id (setting turn.opening) p.number
 
-  abbrev pub TwoNew : Two (PassState S N) → Type 0
-  TwoNew ps = IsNewPass ps.0 × IsNewPass ps.1
-
-  abbrev pub FourNew : Four (PassState S N) → Type 0
-  FourNew ps = TwoNew ps.0 × TwoNew ps.1
-
-  abbrev pub EightNew : Eight (PassState S N) → Type 0
-  EightNew ps = FourNew ps.0 × FourNew ps.1
+  -- New passes of the turn, numbered from 0.
+  abbrev pub AreNewPasses : List (PassState S N) → Type 0
+  AreNewPasses ps = ps ≡ new_passes turn.id (setting turn.opening) (length ps)
 
 -- A pass of a turn that is not busy, with this number.
 pub record IsBack {T S N : Type 0} (setting : T → S) (turn : TurnState T) (number : ℕ) (p : PassState S N) : Type 0 where
@@ -57,16 +43,6 @@ module _ {T A R L F S : Type 0} (after : List (Entry A) → After) (reads : List
   -- The same of what a handler with this pass has handed back.
   abbrev pub IsDone : PassState S (Entry A) → Done (PassState S (Entry A)) L F → Type 0
   IsDone p d = IsLeft p.number d.pass d.sessions.items d.end
-
-  -- The same of two, four and eight handlers, each with its pass.
-  abbrev pub TwoDone : Two (PassState S (Entry A)) → Two (Done (PassState S (Entry A)) L F) → Type 0
-  TwoDone ps ds = IsDone ps.0 ds.0 × IsDone ps.1 ds.1
-
-  abbrev pub FourDone : Four (PassState S (Entry A)) → Four (Done (PassState S (Entry A)) L F) → Type 0
-  FourDone ps ds = TwoDone ps.0 ds.0 × TwoDone ps.1 ds.1
-
-  abbrev pub EightDone : Eight (PassState S (Entry A)) → Eight (Done (PassState S (Entry A)) L F) → Type 0
-  EightDone ps ds = FourDone ps.0 ds.0 × FourDone ps.1 ds.1
 
   -- The same of so many handlers, numbered from 0, in this order.
   abbrev pub AllDone : ℕ → List (Done (PassState S (Entry A)) L F) → Type 0

@@ -71,6 +71,7 @@ pub(crate) fn give_up<T: Table, R: Wait>(turn: &Turn<T>, rt: &R, pass: &mut Pass
 fn mark<T: Table>(table: &mut T, wanting: bool)
     ensures setting { T.Seated.setting table.new ≡ T.Seated.setting table.old }
     ensures entries { T.history table.new ≡ T.history table.old }
+    ensures lost { (k : ℕ) → T.lost table.new k ≡ T.lost table.old k }
 {
     if wanting {
         table.run_dry();

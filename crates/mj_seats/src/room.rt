@@ -1,4 +1,4 @@
-ghost use Rattle.std.specs.Prelude.{true};
+ghost use Rattle.std.specs.Prelude.{true, length};
 ghost use Rattle.mj_ports.specs.Entries.{author_of};
 ghost use Rattle.mj_seats.specs.Faults.{holds_fault};
 
@@ -137,6 +137,8 @@ impl<G: Seated, F: Numbered> Table for Room<G, F> {
     type Fault = F;
 
     ghost lost = { λ r k. holds_fault r.lost k };
+
+    ghost places = { λ r. length r.lost };
 
     ghost is_dry = { λ r. r.dry };
 

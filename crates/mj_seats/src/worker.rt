@@ -1,9 +1,10 @@
 // Handlers side by side, and the ticker beside them.
-ghost use Rattle.std.specs.Prelude.{◌≡◌, []};
+ghost use Rattle.std.specs.Prelude.{◌≡◌, ◌≤◌, ◌+◌, [], length, vec_capacity, MatchOption};
 ghost use Rattle.std.specs.Thread.{IsSync};
 ghost use Rattle.mj_seats.specs.Handlers.{at_link};
-ghost use Rattle.mj_seats.specs.Joined.{IsBack, IsNewPass, TwoNew, FourNew, EightNew, IsDone, TwoDone, FourDone, EightDone};
+ghost use Rattle.mj_seats.specs.Joined.{IsBack, IsNewPass, AreNewPasses, IsDone, AllDone};
 ghost use Rattle.mj_seats.specs.Ticks.{Ticks};
+ghost use Rattle.turn_lock.specs.Turns.{new_pass};
 
 use crate::handle::{HandlerEnd, Session, handle_at};
 use crate::table::Table;
@@ -22,17 +23,11 @@ pub(crate) struct Done<P, L, F> {
     pub end: HandlerEnd<F>,
 }
 
-// What two threads are given, or hand back.
-pub(crate) type Two<A> = (A, A);
-
-pub(crate) type Four<A> = (Two<A>, Two<A>);
-
-pub(crate) type Eight<A> = (Four<A>, Four<A>);
-
 // What is left of a handler with a pass of this turn.
 pub(crate) type DoneAt<T, H> = Done<Pass<T>, <H as Host>::Link, <H as Host>::Fault>;
 
-// Handles links with each of eight passes, and tells the time with one more, all side by side.
+// Handles links with each of these passes, and tells the time with one more, all side by side. What is left of the
+// handlers is put into `dones`, which has room for it.
 pub(crate) fn work<
     T: Table,
     H: Host<Fault = <T as Table>::Fault>,
@@ -44,29 +39,36 @@ pub(crate) fn work<
     alloc: Global,
     host: &H,
     clock: &mut C,
-    passes: Eight<Pass<T>>,
+    passes: Vec<Pass<T>>,
+    dones: Vec<DoneAt<T, H>>,
     last: Pass<T>,
-) -> (Eight<DoneAt<T, H>>, Pass<T>)
-    requires passes { EightNew T.Kept.setting turn.now passes }
+) -> (Vec<DoneAt<T, H>>, Pass<T>)
+    requires passes { AreNewPasses T.Kept.setting turn.now passes.items }
+    requires empty { dones.items ≡ [] }
+    requires room { length passes.items ≤ vec_capacity dones }
     requires last { IsNewPass T.Kept.setting turn.now last }
-    ensures done { EightDone (T.after (T.Kept.setting turn.now.opening)) T.reads T.joins
+    ensures done { AllDone (T.after (T.Kept.setting turn.now.opening)) T.reads T.joins
         (T.sits (T.Kept.setting turn.now.opening))
         (T.hears (T.Kept.setting turn.now.opening)) T.says (at_link H.Link.was_read
         H.Link.left H.Link.written H.Link.read_faults H.Link.write_faults)
-        (H.made_by host.now) T.Fault.number T.Kept.setting turn.now passes result.0 }
+        (H.made_by host.now) T.Fault.number T.Kept.setting turn.now (length passes.items)
+        result.0.items }
+    ensures count { length result.0.items ≡ length passes.items }
     ensures last { IsBack T.Kept.setting turn.now last.number result.1 }
     ensures ticks { Ticks last.number [] result.1.seen (C.readings clock.old) (C.readings clock.new) }
 {
-    let (done, (last, clock)) = join(
+    let (dones, (last, clock)) = join(
         rt,
-        move || -> Eight<DoneAt<T, H>>
-            requires { EightNew T.Kept.setting turn.now passes × IsSync R.row }
-            ensures { EightDone (T.after (T.Kept.setting turn.entry.now.opening)) T.reads T.joins
+        move || -> Vec<DoneAt<T, H>>
+            requires { AreNewPasses T.Kept.setting turn.now passes.items × (dones.items ≡ [])
+                × (length passes.items ≤ vec_capacity dones) × IsSync R.row }
+            ensures { AllDone (T.after (T.Kept.setting turn.entry.now.opening)) T.reads T.joins
                 (T.sits (T.Kept.setting turn.entry.now.opening))
                 (T.hears (T.Kept.setting turn.entry.now.opening)) T.says (at_link H.Link.was_read
                 H.Link.left H.Link.written H.Link.read_faults H.Link.write_faults)
-                (H.made_by host.entry.now) T.Fault.number T.Kept.setting turn.entry.now passes result }
-        { handle_eight(turn, rt, alloc, host, passes) },
+                (H.made_by host.entry.now) T.Fault.number T.Kept.setting turn.entry.now
+                (length passes.items) result.items × (length result.items ≡ length passes.items) }
+        { handle_all(turn, rt, alloc, host, passes, dones) },
         move || -> (Pass<T>, &mut C)
             requires { IsNewPass T.Kept.setting turn.now last × IsSync R.row }
             ensures { (result.1.ghost_name ≡ clock.entry.ghost_name)
@@ -76,115 +78,70 @@ pub(crate) fn work<
         { tick_one(turn, rt, alloc, clock, last) },
     );
     take_back(clock);
-    (done, last)
+    (dones, last)
 }
 
-fn handle_eight<T: Table, H: Host<Fault = <T as Table>::Fault>, R: Threads + Wait + Sync>(
+// Handles links with each of these passes, side by side: the last one here, the others in a thread beside it.
+#[cycle(handling)]
+fn handle_all<T: Table, H: Host<Fault = <T as Table>::Fault>, R: Threads + Wait + Sync>(
     turn: &Turn<T>,
     rt: &R,
     alloc: Global,
     host: &H,
-    passes: Eight<Pass<T>>,
-) -> Eight<DoneAt<T, H>>
-    requires { EightNew T.Kept.setting turn.now passes }
-    ensures { EightDone (T.after (T.Kept.setting turn.now.opening)) T.reads T.joins
+    mut passes: Vec<Pass<T>>,
+    dones: Vec<DoneAt<T, H>>,
+) -> Vec<DoneAt<T, H>>
+    requires passes { AreNewPasses T.Kept.setting turn.now passes.items }
+    requires empty { dones.items ≡ [] }
+    requires room { length passes.items ≤ vec_capacity dones }
+    ensures done { AllDone (T.after (T.Kept.setting turn.now.opening)) T.reads T.joins
         (T.sits (T.Kept.setting turn.now.opening))
         (T.hears (T.Kept.setting turn.now.opening)) T.says (at_link H.Link.was_read
         H.Link.left H.Link.written H.Link.read_faults H.Link.write_faults)
-        (H.made_by host.now) T.Fault.number T.Kept.setting turn.now passes result }
+        (H.made_by host.now) T.Fault.number T.Kept.setting turn.now (length passes.items)
+        result.items }
+    ensures count { length result.items ≡ length passes.items }
+    ensures room { vec_capacity result ≡ vec_capacity dones }
 {
-    let (first, second) = passes;
-    join(
+    let Some(pass) = last_new(turn, &mut passes) else {
+        return dones;
+    };
+    let (mut dones, done) = join(
         rt,
-        move || -> Four<DoneAt<T, H>>
-            requires { FourNew T.Kept.setting turn.now first × IsSync R.row }
-            ensures { FourDone (T.after (T.Kept.setting turn.entry.now.opening)) T.reads T.joins
+        move || -> Vec<DoneAt<T, H>>
+            requires { AreNewPasses T.Kept.setting turn.now passes.items × (dones.items ≡ [])
+                × (length passes.items ≤ vec_capacity dones) × IsSync R.row }
+            ensures { AllDone (T.after (T.Kept.setting turn.entry.now.opening)) T.reads T.joins
                 (T.sits (T.Kept.setting turn.entry.now.opening))
                 (T.hears (T.Kept.setting turn.entry.now.opening)) T.says (at_link H.Link.was_read
                 H.Link.left H.Link.written H.Link.read_faults H.Link.write_faults)
-                (H.made_by host.entry.now) T.Fault.number T.Kept.setting turn.entry.now first result }
-        { handle_four(turn, rt, alloc, host, first) },
-        move || -> Four<DoneAt<T, H>>
-            requires { FourNew T.Kept.setting turn.now second × IsSync R.row }
-            ensures { FourDone (T.after (T.Kept.setting turn.entry.now.opening)) T.reads T.joins
-                (T.sits (T.Kept.setting turn.entry.now.opening))
-                (T.hears (T.Kept.setting turn.entry.now.opening)) T.says (at_link H.Link.was_read
-                H.Link.left H.Link.written H.Link.read_faults H.Link.write_faults)
-                (H.made_by host.entry.now) T.Fault.number T.Kept.setting turn.entry.now second result }
-        { handle_four(turn, rt, alloc, host, second) },
-    )
-}
-
-fn handle_four<T: Table, H: Host<Fault = <T as Table>::Fault>, R: Threads + Wait + Sync>(
-    turn: &Turn<T>,
-    rt: &R,
-    alloc: Global,
-    host: &H,
-    passes: Four<Pass<T>>,
-) -> Four<DoneAt<T, H>>
-    requires { FourNew T.Kept.setting turn.now passes }
-    ensures { FourDone (T.after (T.Kept.setting turn.now.opening)) T.reads T.joins
-        (T.sits (T.Kept.setting turn.now.opening))
-        (T.hears (T.Kept.setting turn.now.opening)) T.says (at_link H.Link.was_read
-        H.Link.left H.Link.written H.Link.read_faults H.Link.write_faults)
-        (H.made_by host.now) T.Fault.number T.Kept.setting turn.now passes result }
-{
-    let (first, second) = passes;
-    join(
-        rt,
-        move || -> Two<DoneAt<T, H>>
-            requires { TwoNew T.Kept.setting turn.now first × IsSync R.row }
-            ensures { TwoDone (T.after (T.Kept.setting turn.entry.now.opening)) T.reads T.joins
-                (T.sits (T.Kept.setting turn.entry.now.opening))
-                (T.hears (T.Kept.setting turn.entry.now.opening)) T.says (at_link H.Link.was_read
-                H.Link.left H.Link.written H.Link.read_faults H.Link.write_faults)
-                (H.made_by host.entry.now) T.Fault.number T.Kept.setting turn.entry.now first result }
-        { handle_two(turn, rt, alloc, host, first) },
-        move || -> Two<DoneAt<T, H>>
-            requires { TwoNew T.Kept.setting turn.now second × IsSync R.row }
-            ensures { TwoDone (T.after (T.Kept.setting turn.entry.now.opening)) T.reads T.joins
-                (T.sits (T.Kept.setting turn.entry.now.opening))
-                (T.hears (T.Kept.setting turn.entry.now.opening)) T.says (at_link H.Link.was_read
-                H.Link.left H.Link.written H.Link.read_faults H.Link.write_faults)
-                (H.made_by host.entry.now) T.Fault.number T.Kept.setting turn.entry.now second result }
-        { handle_two(turn, rt, alloc, host, second) },
-    )
-}
-
-fn handle_two<T: Table, H: Host<Fault = <T as Table>::Fault>, R: Threads + Wait + Sync>(
-    turn: &Turn<T>,
-    rt: &R,
-    alloc: Global,
-    host: &H,
-    passes: Two<Pass<T>>,
-) -> Two<DoneAt<T, H>>
-    requires { TwoNew T.Kept.setting turn.now passes }
-    ensures { TwoDone (T.after (T.Kept.setting turn.now.opening)) T.reads T.joins
-        (T.sits (T.Kept.setting turn.now.opening))
-        (T.hears (T.Kept.setting turn.now.opening)) T.says (at_link H.Link.was_read
-        H.Link.left H.Link.written H.Link.read_faults H.Link.write_faults)
-        (H.made_by host.now) T.Fault.number T.Kept.setting turn.now passes result }
-{
-    let (first, second) = passes;
-    join(
-        rt,
+                (H.made_by host.entry.now) T.Fault.number T.Kept.setting turn.entry.now
+                (length passes.items) result.items × (length result.items ≡ length passes.items)
+                × (vec_capacity result ≡ vec_capacity dones) }
+        { handle_all(turn, rt, alloc, host, passes, dones) },
         move || -> DoneAt<T, H>
-            requires { IsNewPass T.Kept.setting turn.now first × IsSync R.row }
+            requires { IsNewPass T.Kept.setting turn.now pass × IsSync R.row }
             ensures { IsDone (T.after (T.Kept.setting turn.entry.now.opening)) T.reads T.joins
                 (T.sits (T.Kept.setting turn.entry.now.opening))
                 (T.hears (T.Kept.setting turn.entry.now.opening)) T.says (at_link H.Link.was_read
                 H.Link.left H.Link.written H.Link.read_faults H.Link.write_faults)
-                (H.made_by host.entry.now) T.Fault.number T.Kept.setting turn.entry.now first result }
-        { handle_one(turn, rt, alloc, host, first) },
-        move || -> DoneAt<T, H>
-            requires { IsNewPass T.Kept.setting turn.now second × IsSync R.row }
-            ensures { IsDone (T.after (T.Kept.setting turn.entry.now.opening)) T.reads T.joins
-                (T.sits (T.Kept.setting turn.entry.now.opening))
-                (T.hears (T.Kept.setting turn.entry.now.opening)) T.says (at_link H.Link.was_read
-                H.Link.left H.Link.written H.Link.read_faults H.Link.write_faults)
-                (H.made_by host.entry.now) T.Fault.number T.Kept.setting turn.entry.now second result }
-        { handle_one(turn, rt, alloc, host, second) },
-    )
+                (H.made_by host.entry.now) T.Fault.number T.Kept.setting turn.entry.now pass result }
+        { handle_one(turn, rt, alloc, host, pass) },
+    );
+    dones.push_reserved(done);
+    dones
+}
+
+// Takes the last of some new passes.
+fn last_new<T: Table>(turn: &Turn<T>, passes: &mut Vec<Pass<T>>) -> Option<Pass<T>>
+    requires { AreNewPasses T.Kept.setting turn.now passes.old.items }
+    ensures { MatchOption result (passes.old.items ≡ []) (λ p.
+        (p ≡ new_pass turn.now.id (T.Kept.setting turn.now.opening) (length passes.new.items))
+        × AreNewPasses T.Kept.setting turn.now passes.new.items
+        × (length passes.old.items ≡ length passes.new.items + 1)
+        × IsNewPass T.Kept.setting turn.now p) }
+{
+    passes.pop()
 }
 
 fn handle_one<T: Table, H: Host<Fault = <T as Table>::Fault>, R: Wait>(

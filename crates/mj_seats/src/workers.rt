@@ -8,7 +8,7 @@ ghost use Rattle.mj_seats.specs.Ticks.{Ticks};
 ghost use Rattle.mj_seats.specs.Workers.{AllServe, AllEnd, ExpiresBy, begun};
 ghost use Rattle.turn_lock.specs.Turns.{IsIdle, IsSeenIn};
 
-use crate::gather::{Left, gather_all, last_eight, push_eight};
+use crate::gather::{Left, gather_all};
 use crate::handle::{HandlerEnd, Session};
 use crate::hold::close;
 use crate::lost::Lost;
@@ -99,14 +99,12 @@ fn run_at<T: Table, H: Host<Fault = <T as Table>::Fault>, C: Clock, R: Threads +
         (H.made_by host.now) T.Fault.number (T.history c.game) c.sessions.items c.ends.items
         (C.readings clock.old) (C.readings clock.new)) }
 {
-    let mut dones = Vec::with_capacity(alloc, 8)?;
+    let room = Vec::with_capacity(alloc, 8)?;
     let Ok((turn, mut passes)) = Turn::new(alloc, table, 9) else {
         return Err(AllocError);
     };
     let last = passes.pop().unwrap();
-    let eight = last_eight(&mut passes);
-    let (done, last) = work(&turn, rt, alloc, host, clock, eight, last);
-    push_eight(&mut dones, done);
+    let (dones, last) = work(&turn, rt, alloc, host, clock, passes, room, last);
     match gather_all(alloc, dones) {
         Ok(left) => finish(turn, left, last),
         Err(_) => Err(AllocError),

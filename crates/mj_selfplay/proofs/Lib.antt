@@ -1,3 +1,4 @@
 pub mod Lawful
 pub mod One
 pub mod Played
+pub mod Walls

@@ -3,7 +3,7 @@ use Rattle.std.proofs.Common.{◌≡◌, ℕ, zero, suc, ◌+◌, ◌-◌, ◌<�
 use Rattle.std.specs.Prelude.{slice_get}
 use Rattle.std.specs.List.{list_all}
 use Rattle.std.proofs.lemmas.List.{length_push}
-use Rattle.std.proofs.lemmas.List.Sums.{count_by-le-length, sum_by_push}
+use Rattle.std.proofs.lemmas.List.Sums.{count_by-le-length, length-filter, sum_by_push}
 use Rattle.mj_deeds.specs.declared.deed.Deed.{Deed}
 use Rattle.mj_deeds.specs.declared.deed.Deed.TheVariants.{StartGame, StartHand, Draw, Discard, Chi, Pon, OpenKan, ClosedKan, AddedKan, Dora, Reach, ReachAccepted, Win, DrawnHand, EndHand, EndGame}
 use Rattle.mj_deeds.specs.Facts.{newest}
@@ -11,7 +11,7 @@ use Rattle.mj_deeds.specs.Fits.{fits, fits_behind, fits_in, ground_of}
 use Rattle.mj_tiles.specs.Counts.{all_kinds, has_no_fifth}
 use Rattle.std.specs.Str.{is_utf8, chars}
 use Rattle.mj_ports.specs.Names.{is_name}
-use Rattle.mj_deeds.specs.Hand.{hand, is_hand_start}
+use Rattle.mj_deeds.specs.Hand.{hand, is_hand_start, hand_number}
 use Rattle.mj_deeds.specs.Points.{is_win}
 use Rattle.mj_table.specs.Plays.{Play}
 use Rattle.mj_wall.specs.declared.setting.Rules.{Rules}
@@ -23,7 +23,9 @@ use Rattle.mj_rules.proofs.Lengths.{few_deeds}
 use Rattle.mj_selfplay.specs.declared.tally.Tally.{Tally}
 use Rattle.mj_selfplay.specs.declared.tally.Summary.{Summary}
 use Rattle.mj_selfplay.specs.SelfGame.{IsChosen, IsChosenBehind, AllChosen, IsWholeGame, IsSummary, is_end, is_drawn_hand, self_rules, self_start, summary_of}
+use Rattle.mj_selfplay.specs.Inner.Supplies.{AreSame, game_walls, AreAtHand, AreEnough}
 use Rattle.mj_selfplay.specs.Inner.Tallies.{tally_of, with_one}
+use Rattle.mj_selfplay.proofs.Walls.{turned, chosen_same, played_same, next_played_same}
 
 -- one deed more
 
@@ -79,15 +81,33 @@ plain_rules rules is = ap (λ (r : Rules). r.red) is
 pub whole_walls : (rules : Rules) (walls : List (List ℕ)) → rules ≡ self_rules → list_all (is_wall false) walls ≡ true → list_all (is_wall rules.red) walls ≡ true
 whole_walls rules walls is whole = ap (λ (b : Bool). list_all (is_wall b) walls) (plain_rules rules is) ∙ whole
 
+-- how many hands and deeds
+
+hands_of : (tally : Tally) (deeds : List Deed) → tally ≡ tally_of deeds → hand_number deeds ≡ tally.hands - 1
+unfolding tally_of
+hands_of tally deeds is = ap (λ n. n - 1) (length-filter is_hand_start deeds) ∙ ap (λ (t : Tally). t.hands - 1) (sym is)
+
+-- The walls at hand and those of the game are the same for the newest hand and the next.
+enough_for : (seed : List ℕ) (walls : List (List ℕ)) (table : Play) (tally : Tally) → AreEnough seed (tally.hands - 1) walls → InPlay (game_walls seed) table tally → AreSame walls (game_walls seed) (hand_number table.deeds + 1)
+enough_for seed walls table tally enough play = subst (λ n. AreEnough seed n walls) (sym (hands_of tally table.deeds play.tally_is)) enough
+
+-- The deeds are played for them too.
+pub played_at_hand : (seed : List ℕ) (walls : List (List ℕ)) (table : Play) (tally : Tally) → AreEnough seed (tally.hands - 1) walls → InPlay (game_walls seed) table tally → IsPlayed table.rules walls table.deeds
+played_at_hand seed walls table tally enough play =
+    played_same table.rules (game_walls seed) walls table.deeds (turned walls (game_walls seed) (hand_number table.deeds + 1) (enough_for seed walls table tally enough play)) play.played
+
 -- A game has few deeds.
-pub in_play_few : (walls : List (List ℕ)) (table : Play) (tally : Tally) → 1 ≤ length walls → list_all (is_wall false) walls ≡ true → InPlay walls table tally → length table.deeds ≤ 60002
-in_play_few walls table tally some whole play =
-    (few_deeds table.rules walls table.deeds (each_is_wall table.rules.red walls some (whole_walls table.rules walls play.rules_are whole)) play.played).1
+pub in_play_few : (seed : List ℕ) (walls : List (List ℕ)) (table : Play) (tally : Tally) → AreAtHand seed walls → AreEnough seed (tally.hands - 1) walls → InPlay (game_walls seed) table tally → length table.deeds ≤ 60002
+in_play_few seed walls table tally at enough play =
+    (few_deeds table.rules walls table.deeds (each_is_wall table.rules.red walls (one (length walls) at.some) (whole_walls table.rules walls play.rules_are at.whole)) (played_at_hand seed walls table tally enough play)).1
+  where
+    one : (n : ℕ) → 2 ≤ n → 1 ≤ n
+    one n h = omega (arith, h)
 
 -- Nor does it count many.
-pub tally_within : (walls : List (List ℕ)) (table : Play) (tally : Tally) → 1 ≤ length walls → list_all (is_wall false) walls ≡ true → InPlay walls table tally → tally.deeds ≤ 60002
-tally_within walls table tally some whole play =
-    let few = in_play_few walls table tally some whole play in
+pub tally_within : (seed : List ℕ) (walls : List (List ℕ)) (table : Play) (tally : Tally) → AreAtHand seed walls → AreEnough seed (tally.hands - 1) walls → InPlay (game_walls seed) table tally → tally.deeds ≤ 60002
+tally_within seed walls table tally at enough play =
+    let few = in_play_few seed walls table tally at enough play in
     let is = tally_deeds tally table.deeds play.tally_is in omega arith
 
 -- A tally of no deed counts none.
@@ -122,24 +142,28 @@ begins walls table before tally deed is none first told = subst (λ (t : Play). 
 
 -- a step
 
-pub goes : (walls : List (List ℕ)) (table next : Play) (tally more : Tally) (deed : Deed) → InPlay walls table tally → IsChosen table.rules walls table.deeds deed → next ≡ record { rules = table.rules; deeds = table.deeds ++ deed ∷ [] } →
-    IsPlayed table.rules walls next.deeds → more ≡ with_one tally deed → InPlay walls next more
-goes walls table next tally more deed play chosen is played told = subst (λ (t : Play). InPlay walls t more) (sym is) (record {
+-- What is chosen and played for the walls at hand is so for those of the game.
+pub goes : (seed : List ℕ) (walls : List (List ℕ)) (table next : Play) (tally more : Tally) (deed : Deed) → AreEnough seed (tally.hands - 1) walls → InPlay (game_walls seed) table tally → IsChosen table.rules walls table.deeds deed →
+    next ≡ record { rules = table.rules; deeds = table.deeds ++ deed ∷ [] } → IsPlayed table.rules walls next.deeds → more ≡ with_one tally deed → InPlay (game_walls seed) next more
+goes seed walls table next tally more deed enough play chosen is played told = subst (λ (t : Play). InPlay (game_walls seed) t more) (sym is) (record {
   rules_are = play.rules_are;
-  played = subst (λ (t : Play). IsPlayed table.rules walls t.deeds) is played;
-  chosen = chosen-append table.rules walls [] table.deeds deed play.chosen (behind_some table.rules walls table.deeds deed play.begun chosen);
+  played = next_played_same table.rules walls (game_walls seed) table.deeds deed same play.played (subst (λ (t : Play). IsPlayed table.rules walls t.deeds) is played);
+  chosen = chosen-append table.rules (game_walls seed) [] table.deeds deed play.chosen (behind_some table.rules (game_walls seed) table.deeds deed play.begun (chosen_same table.rules walls (game_walls seed) table.deeds deed same chosen));
   begun = (let long = length_push table.deeds deed in omega arith);
   tally_is = told ∙ ap (λ t. with_one t deed) play.tally_is ∙ tally_more table.deeds deed;
 })
+  where
+    same : AreSame walls (game_walls seed) (hand_number table.deeds + 1)
+    same = enough_for seed walls table tally enough play
 
 longer : (table next : Play) (deed : Deed) → next ≡ record { rules = table.rules; deeds = table.deeds ++ deed ∷ [] } → length next.deeds ≡ length table.deeds + 1
 longer table next deed is = ap (λ (t : Play). length t.deeds) is ∙ length_push table.deeds deed
 
 -- Fewer deeds are left.
-pub nearer : (walls : List (List ℕ)) (table next : Play) (tally : Tally) (deed : Deed) → 1 ≤ length walls → list_all (is_wall false) walls ≡ true → InPlay walls table tally → next ≡ record { rules = table.rules; deeds = table.deeds ++ deed ∷ [] } →
-    60003 - length next.deeds < 60003 - length table.deeds
-nearer walls table next tally deed some whole play is =
-    let few = in_play_few walls table tally some whole play in
+pub nearer : (seed : List ℕ) (walls : List (List ℕ)) (table next : Play) (tally : Tally) (deed : Deed) → AreAtHand seed walls → AreEnough seed (tally.hands - 1) walls → InPlay (game_walls seed) table tally →
+    next ≡ record { rules = table.rules; deeds = table.deeds ++ deed ∷ [] } → 60003 - length next.deeds < 60003 - length table.deeds
+nearer seed walls table next tally deed at enough play is =
+    let few = in_play_few seed walls table tally at enough play in
     let long = longer table next deed is in omega arith
 
 -- the end

@@ -5,14 +5,16 @@ ghost use Rattle.mj_wall.specs.Places.{is_wall};
 ghost use Rattle.mj_rules.specs.Outcome.{goes_on};
 ghost use Rattle.mj_rules.specs.Played.{IsPlayed};
 ghost use Rattle.mj_selfplay.specs.SelfGame.{AreChoices, IsChosen, IsSummary, IsSelfSummary, self_rules, self_start, seed_of};
+ghost use Rattle.mj_selfplay.specs.Inner.Supplies.{game_walls};
 
+use crate::supply::{enough_walls, first_walls};
 use crate::tally::{Summary, Tally};
 use mj_bot::choose;
 use mj_deeds::{Answer, Deed, Four};
 use mj_machine::next;
 use mj_ports::Name;
 use mj_table::Table;
-use mj_wall::{Rules, Wall, Walls};
+use mj_wall::{Rules, Walls};
 use std::alloc::{AllocError, Global};
 
 /// Plays the whole game of a number and says what it comes to: four built-in players, by the names of a, b, c and d, play
@@ -21,8 +23,7 @@ use std::alloc::{AllocError, Global};
 pub fn self_play(alloc: Global, number: u64) -> Result<Summary, AllocError>
     ensures { IfOk result (λ summary. IsSelfSummary number summary) }
 {
-    let walls = Walls::shuffled(alloc, seed(number), 200, false)?;
-    play(alloc, walls.as_slice())
+    play(alloc, seed(number))
 }
 
 // The seed of a number.
@@ -35,17 +36,16 @@ fn seed(number: u64) -> [u8; 32]
     seed
 }
 
-// What the game with these walls comes to.
-fn play(alloc: Global, walls: &[Wall]) -> Result<Summary, AllocError>
-    requires some { 1 ≤ length walls.now }
-    requires few { length walls.now ≤ 200 }
-    requires whole { IsTrue (list_all (is_wall false) walls.now) }
-    ensures { IfOk result (λ summary. IsSummary self_rules walls.now summary) }
+// What the game with the walls of a seed comes to. More of them are shuffled only where its hands go on.
+fn play(alloc: Global, seed: [u8; 32]) -> Result<Summary, AllocError>
+    ensures { IfOk result (λ summary. IsSummary self_rules (game_walls seed) summary) }
 {
+    let mut walls = first_walls(alloc, seed)?;
     let mut table = started(alloc)?;
     let mut tally = Tally::none().with(&start());
     while goes_on(&table) {
-        let deed = step(alloc, &mut table, walls)?;
+        walls = enough_walls(alloc, seed, walls, tally.hands)?;
+        let deed = step(alloc, &mut table, &walls)?;
         tally = tally.with(&deed);
     }
     Ok(tally.summary(&table))
@@ -63,7 +63,7 @@ fn started(alloc: Global) -> Result<Table, AllocError>
 }
 
 // The deed that the choices of the four seats give, which is pushed on the table.
-fn step(alloc: Global, table: &mut Table, walls: &[Wall]) -> Result<Deed, AllocError>
+fn step(alloc: Global, table: &mut Table, walls: &Walls) -> Result<Deed, AllocError>
     requires plain { table.old.rules.red ≡ false }
     requires some { 1 ≤ length walls.now }
     requires few { length walls.now ≤ 200 }
@@ -76,7 +76,7 @@ fn step(alloc: Global, table: &mut Table, walls: &[Wall]) -> Result<Deed, AllocE
     ensures played { IfOk result (λ d. IsPlayed table.old.rules walls.now table.new.deeds) }
 {
     let answers = choices(table);
-    next(alloc, table, walls, &answers)
+    next(alloc, table, walls.as_slice(), &answers)
 }
 
 // What each of the four seats answers.

@@ -4,6 +4,7 @@
 ghost use Rattle.mj_selfplay.specs.Laws.{WholeGameIsOne};
 
 mod game;
+mod supply;
 mod tally;
 mod text;
 

@@ -22,7 +22,7 @@ pub struct Summary {
 // How many starts of hands, wins, drawn hands and deeds there were so far.
 #[derive(Clone, Copy)]
 pub(crate) struct Tally {
-    hands: u32,
+    pub(crate) hands: u32,
     wins: u32,
     draws: u32,
     deeds: u32,

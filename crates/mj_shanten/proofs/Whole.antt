@@ -10,11 +10,14 @@ use Rattle.mj_shanten.specs.Exchanges.{one_less}
 use Rattle.mj_lists.proofs.Fronts.{zero_at}
 use Rattle.mj_suits.specs.Targets.{missing}
 use Rattle.mj_shanten.specs.declared.suits.Suit.{Suit}
-use Rattle.mj_suits.specs.Rows.{lane}
+use Rattle.mj_suits.specs.Rows.{Holds, lane, start_lane}
+use Rattle.mj_suits.specs.SuitWalks.{Walk}
+use Rattle.mj_suits.specs.declared.choosing.Choice.{Choice}
+use Rattle.mj_suits.proofs.Tables.{start_few}
 use Rattle.mj_suits.specs.Left.{IsChosen}
 use Rattle.mj_suits.specs.Targets.{IsNearest}
 use Rattle.mj_shanten.specs.Suits.{IsSuit, IsJoint, suit_from, suits_of, with_two}
-use Rattle.mj_shanten.specs.Walked.{Tiles, IsRow, IsWide, AreWalked, AreTargetRows, IsLeastOr}
+use Rattle.mj_shanten.specs.Walked.{Tiles, IsRow, IsWide, AreWalked, AreTargetRows, IsWalkOf, IsPart, IsLeastOr}
 use Rattle.mj_shanten.proofs.Turned.{turned}
 use Rattle.mj_shanten.proofs.Joint.{AllSuits, JointMost, counts_in, no_suit, suit_more, none_chosen, suit_chosen, joint_nearest, joint_none, joint_tiles}
 
@@ -94,6 +97,31 @@ held_of tiles held room same held_is = subst (λ (t : Tiles). held ≡ with_two 
 
 pub sizes_of : (tiles : Tiles) (held room : List ℕ) → tiles_of held room ≡ tiles → length held ≡ 36 → length room ≡ 36 → (length tiles.counts ≡ 34) × (length tiles.room ≡ 34)
 sizes_of tiles held room same size room_size = subst (λ (t : Tiles). (length t.counts ≡ 34) × (length t.room ≡ 34)) same (length-take-le 34 held (omega arith), length-take-le 34 room (omega arith))
+
+-- the row of a walked suit
+walk_row : (s : Suit) (held room : List ℕ) (from : ℕ) (runs : Bool) (after before : List ℕ) (walk : Walk) → IsWalkOf s after walk → s ≡ suit_from held room from runs → after ≡ before → IsRow (suit_from held room from runs) before walk.row
+walk_row s held room from runs after before walk is same same_after = subst (λ (u : Suit). IsRow u before walk.row) same (subst (λ a. IsRow s a walk.row) same_after is.row)
+
+-- the walks from the honours to the characters have the rows of a target
+pub target_rows : (held room start h b c : List ℕ) (four three two one : Suit) (honours bamboo circles characters : Walk) → IsWide held room → Holds start start_lane
+    → four ≡ suit_from held room 27 false → three ≡ suit_from held room 18 true → two ≡ suit_from held room 9 true → one ≡ suit_from held room 0 true
+    → IsWalkOf four start honours → h ≡ honours.row → IsWalkOf three h bamboo → b ≡ bamboo.row → IsWalkOf two b circles → c ≡ circles.row → IsWalkOf one c characters
+    → AreTargetRows held room start honours.row bamboo.row circles.row characters.row
+target_rows held room start h b c four three two one honours bamboo circles characters wide start_is four_is three_is two_is one_is honours_are h_is bamboo_is b_is circles_are c_is characters_are = record {
+  wide = wide;
+  start_is = start_is;
+  start_few = start_few start start_is;
+  fourth = walk_row four held room 27 false start start honours honours_are four_is refl;
+  third = walk_row three held room 18 true h honours.row bamboo bamboo_is three_is h_is;
+  second = walk_row two held room 9 true b bamboo.row circles circles_are two_is b_is;
+  first = walk_row one held room 0 true c circles.row characters characters_are one_is c_is;
+}
+
+-- a part is chosen of the suit
+pub part_chosen : (s : Suit) (after before : List ℕ) (walk : Walk) (sets pairs : ℕ) (choice : Choice) → IsWalkOf s after walk → after ≡ before → IsPart walk sets pairs choice → IsChosen s.counts s.room s.runs before sets pairs (lane walk.row sets pairs) choice.target choice.sets choice.pairs
+part_chosen s after before walk sets pairs choice is same part =
+    subst (λ a. IsChosen s.counts s.room s.runs a sets pairs (lane walk.row sets pairs) choice.target choice.sets choice.pairs) (is.after_is ∙ same)
+    (subst (λ u. IsChosen u.counts u.room u.runs walk.after sets pairs (lane walk.row sets pairs) choice.target choice.sets choice.pairs) is.suit_is part)
 
 -- where nothing is left no hand fits
 pub none_joint : (tiles : Tiles) (held room start honours bamboo circles characters : List ℕ) (s : ℕ) → tiles_of held room ≡ tiles → AreTargetRows held room start honours bamboo circles characters → s ≤ 4 → lane characters s 1 ≡ 0

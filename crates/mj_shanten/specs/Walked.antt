@@ -1,8 +1,10 @@
 -- The suits of a hand, walked one after the other.
 use Rattle.std.specs.Prelude.{◌≡◌, ◌⊎◌, ℕ, ◌≤◌, true, false, List, length, take, slice_index, EachIndex}
-use Rattle.mj_suits.specs.Rows.{Holds, IsFew, start_lane}
+use Rattle.mj_suits.specs.Rows.{Holds, IsFew, lane, start_lane}
 use Rattle.mj_suits.specs.Targets.{missing}
-use Rattle.mj_suits.specs.Left.{LeavesMost}
+use Rattle.mj_suits.specs.Left.{LeavesMost, IsChosen}
+use Rattle.mj_suits.specs.SuitWalks.{Walk}
+use Rattle.mj_suits.specs.declared.choosing.Choice.{Choice}
 use Rattle.mj_shanten.specs.declared.suits.Suit.{Suit}
 use Rattle.mj_shanten.specs.Suits.{suit_from, with_two}
 
@@ -43,6 +45,16 @@ pub record AreTargetRows (held room start honours bamboo circles characters : Li
   pub third : IsRow (suit_from held room 18 true) honours bamboo
   pub second : IsRow (suit_from held room 9 true) bamboo circles
   pub first : IsRow (suit_from held room 0 true) circles characters
+
+-- the walk is that of the suit before what is left after it
+pub record IsWalkOf (suit : Suit) (after : List ℕ) (walk : Walk) : Type 0 where
+  pub suit_is : walk.suit ≡ record { counts = suit.counts; room = suit.room; runs = suit.runs }
+  pub after_is : walk.after ≡ after
+  pub row : IsRow suit after walk.row
+
+-- the choice is the target of the walked suit that leaves the most for the suits after it
+abbrev pub IsPart : Walk → ℕ → ℕ → Choice → Type 0
+IsPart walk sets pairs choice = IsChosen walk.suit.counts walk.suit.room walk.suit.runs walk.after sets pairs (lane walk.row sets pairs) choice.target choice.sets choice.pairs
 
 -- the fewest that a list with the property misses, all of which miss at most fourteen, or fifteen where there is none
 pub record IsLeastOr (held : List ℕ) (P : List ℕ → Type 0) (number : ℕ) : Type 0 where

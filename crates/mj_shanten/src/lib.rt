@@ -5,10 +5,10 @@
 mod discards;
 mod exchanges;
 mod nearest_hand;
+mod nearest_sets;
 mod orphans;
 mod seven_pairs;
 mod suits;
-mod target_rows;
 
 pub use exchanges::exchange_path;
 pub use nearest_hand::{Nearest, shanten};

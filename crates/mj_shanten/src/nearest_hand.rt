@@ -8,10 +8,10 @@ ghost use Rattle.mj_shanten.specs.Shanten.{IsGoal, IsShanten};
 ghost use Rattle.mj_shanten.specs.Exchanges.{AreLeastExchanges};
 ghost use Rattle.mj_shanten.specs.Special.{IsSpecial, IsLeastWith};
 
+use crate::nearest_sets::{WideHand, take_sets};
 use crate::orphans::take_orphans;
 use crate::seven_pairs::{kinds_held, take_pairs};
 use crate::suits::{Suits, missing_of_sets, missing_tiles};
-use crate::target_rows::{TargetRows, take_sets};
 use mj_tiles::Counts;
 
 /// Each terminal and honour once.
@@ -45,7 +45,7 @@ pub fn shanten(counts: &Counts, room: &Counts, melds: u8) -> Nearest
     ensures nearest { IsShanten counts.now room.now melds result.number result.target }
     ensures exchanges { AreLeastExchanges counts.now room.now melds result.number result.target }
 {
-    nearest_of(&TargetRows::new(counts, room), melds)
+    nearest_of(&WideHand::new(counts, room), melds)
 }
 
 impl Suits {
@@ -58,20 +58,20 @@ impl Suits {
         ensures exchanges { AreLeastExchanges self.now.counts self.now.room melds result.number
             result.target }
     {
-        nearest_of(&self.target_rows(), melds)
+        nearest_of(&self.hand(), melds)
     }
 }
 
-// The same by the rows of the target.
-fn nearest_of(rows: &TargetRows, melds: u8) -> Nearest
-    requires { IsHand rows.now.counts rows.now.room melds }
-    ensures nearest { IsShanten rows.now.counts rows.now.room melds result.number result.target }
-    ensures exchanges { AreLeastExchanges rows.now.counts rows.now.room melds result.number
+// The same of a hand with two numbers more, which no kind has.
+fn nearest_of(hand: &WideHand, melds: u8) -> Nearest
+    requires { IsHand hand.now.counts hand.now.room melds }
+    ensures nearest { IsShanten hand.now.counts hand.now.room melds result.number result.target }
+    ensures exchanges { AreLeastExchanges hand.now.counts hand.now.room melds result.number
         result.target }
 {
     let mut best = None;
-    take_sets(rows, 4 - melds, &mut best);
-    take_special(rows.held(), melds, &mut best);
+    take_sets(hand, 4 - melds, &mut best);
+    take_special(hand.held(), melds, &mut best);
     match best {
         Some(answer) => Nearest {
             number: (answer.0 - 1) as u8,

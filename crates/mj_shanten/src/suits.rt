@@ -12,7 +12,7 @@ ghost use Rattle.mj_shanten.specs.Room.{IsWithinRoom};
 ghost use Rattle.mj_shanten.specs.Suits.{IsSuit, IsJoint, suit_from, suits_of, with_two};
 ghost use Rattle.mj_shanten.specs.Walked.{Tiles, IsWide, IsRow, IsLeastOr};
 
-use crate::target_rows::{TargetRows, walked};
+use crate::nearest_sets::WideHand;
 use mj_suits::{Row, with_suit};
 use mj_tiles::{Counts, Kind};
 use std::cmp::Ordering;
@@ -79,11 +79,11 @@ impl Suits {
         }
     }
 
-    // What each suit and those after it leave.
-    pub(crate) fn target_rows(&self) -> TargetRows
+    // The hand alone.
+    pub(crate) fn hand(&self) -> WideHand
         ensures { result ≡ record { counts = self.now.counts; room = self.now.room } }
     {
-        walked(self.held, self.room)
+        WideHand::of(self.held, self.room)
     }
 
     // The counts, and two numbers more, which no kind has.

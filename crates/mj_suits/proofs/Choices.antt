@@ -1,10 +1,11 @@
 -- The choice from number to number.
-use Rattle.std.proofs.Common.{◌≡◌, ◌≢◌, ◌⊎◌, ◌&&◌, eqb, cond, ℕ, suc, ◌+◌, ◌-◌, ◌*◌, ◌/◌, ◌%◌, ◌<◌, ◌≤◌, Bool, true, false, Option, None, Some, List, [], ◌∷◌, ◌++◌, take, set, length, get_or, refl, sym, subst, ap, ap₂, ◌∙◌, inl, inr, arith, append_assoc, append-nil, Ordering, Less, Equal, Greater}
+use Rattle.std.proofs.Common.{◌≡◌, ◌≢◌, ◌⊎◌, ◌&&◌, eqb, cond, ℕ, suc, ◌+◌, ◌-◌, ◌*◌, ◌/◌, ◌%◌, ◌<◌, ◌≤◌, Bool, true, false, Option, None, Some, List, [], ◌∷◌, ◌++◌, take, drop, set, length, get_or, refl, sym, subst, ap, ap₂, ◌∙◌, inl, inr, arith, append_assoc, append-nil, Ordering, Less, Equal, Greater}
 use Rattle.std.specs.Prelude.{MatchOption}
 use Rattle.std.specs.Ordering.{nat_cmp, is_gt, ordering_then, ordering_reverse}
 use Rattle.std.specs.Cmp.Lexicographic.{slice_cmp}
 use Rattle.std.proofs.lemmas.Bool.{cases_lt, cases_eq, cases_Bool, cases_order, lt-ltb, and_parts, eqb-true}
 use Rattle.std.proofs.lemmas.Cmp.{upto, tied_itself, nat_cmp_total, nat_list_cmp_total}
+use Rattle.std.proofs.lemmas.List.{length-set}
 use Rattle.std.proofs.Math.Seq.{take-suc-set}
 use Rattle.mj_suits.specs.Rows.{lane, Holds, stepped, walked, IsFew}
 use Rattle.mj_suits.specs.Walked.{row_at, AreRows}
@@ -13,11 +14,12 @@ use Rattle.mj_suits.specs.Targets.{missing, IsTarget}
 use Rattle.mj_suits.specs.Sets.{counts_of, tiles_of_sets, tiles_of_pair}
 use Rattle.mj_suits.specs.declared.sets.SuitSet.{SuitSet}
 use Rattle.mj_suits.specs.Ends.{Goes, Ends}
-use Rattle.mj_suits.specs.Choosing.{rooms, helds, IsState, AreLevels, AreNumbers, Goes_on, By, ByBegin, ByTiles, tiles_at, IsBegin, MayBegin, LeavesAsMany, sets_alone, with_pair, IsTooMany, IsPlan, IsGreatest, GreaterOf}
+use Rattle.mj_suits.specs.Choosing.{rooms, helds, IsState, AreLevels, AreNumbers, Goes_on, By, ByBegin, ByTiles, tiles_at, IsBegin, MayBegin, LeavesAsMany, sets_alone, with_pair, IsTooMany, IsWay, InWays, NoWay, AreWays, AreMostWays, next_of, IsPlan, IsGreatest, GreaterOf}
 use Rattle.mj_suits.specs.declared.choosing.Aim.{Aim}
 use Rattle.mj_suits.specs.declared.choosing.Level.{Level}
 use Rattle.mj_suits.specs.declared.choosing.Plan.{Plan}
 use Rattle.mj_suits.specs.declared.choosing.Begin.{Begin}
+use Rattle.mj_suits.specs.declared.choosing.Ways.{Ways}
 use Rattle.mj_suits.specs.declared.choosing.Choice.{Choice}
 use Rattle.mj_suits.specs.declared.walk.Rows.{Rows}
 use Rattle.mj_suits.specs.declared.row.Row.{Row}
@@ -70,17 +72,17 @@ not_greater-same xs e = (let same : slice_cmp nat_cmp xs xs ≡ Equal = tied_its
 
 -- ---- past the highest number
 
-pub nothing_more : (aim : Aim) (plan : Plan) (choice : Choice) → length plan.target ≡ 9 → IsPlan aim [] plan → choice.target ≡ plan.target → choice.sets ≡ plan.sets → choice.pairs ≡ plan.pairs → IsGreatest (By aim [] plan) plan choice
-nothing_more aim plan choice nine is target sets pairs =
+pub nothing_more : (aim : Aim) (plan : Plan) (chosen : List ℕ) (choice : Choice) → length chosen ≡ 9 → IsPlan aim [] plan → choice.target ≡ chosen → choice.sets ≡ plan.sets → choice.pairs ≡ plan.pairs → IsGreatest (By aim [] plan) (take plan.number chosen) choice
+nothing_more aim plan chosen choice nine is target sets pairs =
     let at_end : plan.number ≡ 9 = (let e = is.number_is in omega arith) in
-    let whole : take plan.number plan.target ≡ plan.target = ap (λ n. take n plan.target) (at_end ∙ sym nine) ∙ take-all plan.target in
+    let whole : take plan.number chosen ≡ chosen = ap (λ n. take n chosen) (at_end ∙ sym nine) ∙ take-all chosen in
     elim (cases_Bool ((eqb plan.before 0) && (eqb plan.earlier 0))) [
       | inl none ↦
           let parts : (eqb plan.before 0 ≡ true) × (eqb plan.earlier 0 ≡ true) = and_parts (eqb plan.before 0) (eqb plan.earlier 0) none in
           let left : lane aim.after.lanes plan.sets plan.pairs ≡ plan.left = sym (walked_past aim.runs (lane aim.after.lanes) [] plan.before plan.earlier plan.sets plan.pairs ∙ ap (λ t. cond t (lane aim.after.lanes plan.sets plan.pairs) 0) none) ∙ is.left_is in
           record {
             rest = [];
-            target_is = target ∙ sym whole ∙ sym (append-nil (take plan.number plan.target));
+            target_is = target ∙ sym whole ∙ sym (append-nil (take plan.number chosen));
             is = record {
               sets_here = 0;
               pairs_here = 0;
@@ -104,7 +106,11 @@ of_four : (aim : Aim) (levels : List Level) → AreLevels aim levels → OfFour 
 of_four aim [] are = tt
 of_four aim (level ∷ levels) are = (are.0, of_four aim levels are.1.1)
 
-same_length : (levels : List Level) → length (rooms levels) ≡ length (helds levels)
+pub same_rooms : (levels : List Level) → length (rooms levels) ≡ length levels
+same_rooms [] = refl
+same_rooms (level ∷ levels) = ap suc (same_rooms levels)
+
+pub same_length : (levels : List Level) → length (rooms levels) ≡ length (helds levels)
 same_length [] = refl
 same_length (level ∷ levels) = ap suc (same_length levels)
 
@@ -166,12 +172,12 @@ begins_leave aim level others plan begin is begins tiles sets pairs by =
     equal left row here here' spare missed whole cost a b c d e f g = omega arith
 
 -- the choice for the numbers after, with the tiles that begin here
-pub begins_greatest : (aim : Aim) (level : Level) (others : List Level) (plan next : Plan) (begin : Begin) (choice : Choice) → length plan.target ≡ 9 → IsPlan aim (level ∷ others) plan → MayBegin aim level plan begin
-    → next.target ≡ set plan.target plan.number (tiles_at plan begin) → next.number ≡ plan.number + 1 → next.before ≡ begin.runs → next.earlier ≡ plan.before → next.sets ≡ plan.sets - (begin.runs + begin.triplets) → next.pairs ≡ plan.pairs - begin.pairs → next.left ≡ plan.left + (tiles_at plan begin - level.held)
-    → IsGreatest (By aim others next) next choice → IsGreatest (ByBegin aim level others plan begin) plan choice
-begins_greatest aim level others plan next begin choice nine is may target number before earlier sets pairs left greatest = record {
+pub begins_greatest : (aim : Aim) (level : Level) (others : List Level) (plan next : Plan) (chosen later : List ℕ) (begin : Begin) (choice : Choice) → length chosen ≡ 9 → IsPlan aim (level ∷ others) plan → MayBegin aim level plan begin
+    → later ≡ set chosen plan.number (tiles_at plan begin) → next.number ≡ plan.number + 1 → next.before ≡ begin.runs → next.earlier ≡ plan.before → next.sets ≡ plan.sets - (begin.runs + begin.triplets) → next.pairs ≡ plan.pairs - begin.pairs → next.left ≡ plan.left + (tiles_at plan begin - level.held)
+    → IsGreatest (By aim others next) (take next.number later) choice → IsGreatest (ByBegin aim level others plan begin) (take plan.number chosen) choice
+begins_greatest aim level others plan next chosen later begin choice nine is may target number before earlier sets pairs left greatest = record {
   rest = tiles_at plan begin ∷ greatest.rest;
-  target_is = greatest.target_is ∙ ap (λ front. front ++ greatest.rest) front_is ∙ append_assoc (take plan.number plan.target) (tiles_at plan begin ∷ []) greatest.rest;
+  target_is = greatest.target_is ∙ ap (λ front. front ++ greatest.rest) front_is ∙ append_assoc (take plan.number chosen) (tiles_at plan begin ∷ []) greatest.rest;
   is = record {
     rest = greatest.rest;
     tiles_are = refl;
@@ -185,8 +191,8 @@ begins_greatest aim level others plan next begin choice nine is may target numbe
     Here : ℕ → ℕ → ℕ → ℕ → ℕ → List ℕ → ℕ → ℕ → Type 0
     Here b e s p l = Goes_on aim others b e s p l
 
-    front_is : take next.number next.target ≡ take plan.number plan.target ++ tiles_at plan begin ∷ []
-    front_is = (let after : next.number ≡ suc plan.number = number ∙ omega arith in ap₂ take after target) ∙ take-suc-set plan.target plan.number (tiles_at plan begin) (let n = is.number_is in omega arith)
+    front_is : take next.number later ≡ take plan.number chosen ++ tiles_at plan begin ∷ []
+    front_is = (let after : next.number ≡ suc plan.number = number ∙ omega arith in ap₂ take after target) ∙ take-suc-set chosen plan.number (tiles_at plan begin) (let n = is.number_is in omega arith)
 
     to : (t : List ℕ) (s p : ℕ) → By aim others next t s p → Goes_on aim others begin.runs plan.before (plan.sets - (begin.runs + begin.triplets)) (plan.pairs - begin.pairs) (plan.left + (tiles_at plan begin - level.held)) t s p
     to t s p by = record {
@@ -214,20 +220,11 @@ begins_greatest aim level others plan next begin choice nine is may target numbe
 pub pair_begins : (tiles : ℕ) → 2 ≤ tiles → tiles ≤ 4 → IsBegin (with_pair tiles)
 pair_begins tiles two four = record { runs_few = omega arith; one = omega arith; four = omega arith }
 
--- of one choice alone it is the greater
-pub greater_none : (first : Option Choice) → GreaterOf first None first
-greater_none None = refl
-greater_none (Some one) = refl
-
--- of two choices with equal fronts the lexicographically greater one
-pub kept_first : (first second : Option Choice) (one other : Choice) → first ≡ Some one → second ≡ Some other → slice_cmp nat_cmp other.target one.target ≢ Greater → GreaterOf first second (Some one)
-kept_first first second one other a b order = subst (λ f. GreaterOf f second (Some one)) (sym a) (subst (λ s. GreaterOf (Some one) s (Some one)) (sym b) (let g : GreaterOf (Some one) (Some other) (Some one) = inl (refl, order) in g))
-
-merged : (P Q R : List ℕ → ℕ → ℕ → Type 0) (plan : Plan) (one other : Choice) → ((t : List ℕ) (s p : ℕ) → P t s p → R t s p) → ((t : List ℕ) (s p : ℕ) → R t s p → P t s p ⊎ Q t s p)
-    → IsGreatest P plan one → IsGreatest Q plan other → slice_cmp nat_cmp other.target one.target ≢ Greater → IsGreatest R plan one
-merged P Q R plan one other to cases first second order =
+merged : (P Q R : List ℕ → ℕ → ℕ → Type 0) (front : List ℕ) (one other : Choice) → ((t : List ℕ) (s p : ℕ) → P t s p → R t s p) → ((t : List ℕ) (s p : ℕ) → R t s p → P t s p ⊎ Q t s p)
+    → IsGreatest P front one → IsGreatest Q front other → slice_cmp nat_cmp other.target one.target ≢ Greater → IsGreatest R front one
+merged P Q R front one other to cases first second order =
     let rests : slice_cmp nat_cmp second.rest first.rest ≢ Greater =
-    subst (λ o. o ≢ Greater) (ap₂ (slice_cmp nat_cmp) second.target_is first.target_is ∙ cmp_after (take plan.number plan.target) second.rest first.rest) order in
+    subst (λ o. o ≢ Greater) (ap₂ (slice_cmp nat_cmp) second.target_is first.target_is ∙ cmp_after (front) second.rest first.rest) order in
     record {
       rest = first.rest;
       target_is = first.target_is;
@@ -239,8 +236,8 @@ merged P Q R plan one other to cases first second order =
     }
 
 -- the same property
-same_greatest : (P R : List ℕ → ℕ → ℕ → Type 0) (plan : Plan) (choice : Choice) → ((t : List ℕ) (s p : ℕ) → P t s p → R t s p) → ((t : List ℕ) (s p : ℕ) → R t s p → P t s p) → IsGreatest P plan choice → IsGreatest R plan choice
-same_greatest P R plan choice to from is = record {
+same_greatest : (P R : List ℕ → ℕ → ℕ → Type 0) (front : List ℕ) (choice : Choice) → ((t : List ℕ) (s p : ℕ) → P t s p → R t s p) → ((t : List ℕ) (s p : ℕ) → R t s p → P t s p) → IsGreatest P front choice → IsGreatest R front choice
+same_greatest P R front choice to from is = record {
   rest = is.rest;
   target_is = is.target_is;
   is = to is.rest choice.sets choice.pairs is.is;
@@ -248,41 +245,72 @@ same_greatest P R plan choice to from is = record {
 }
 
 -- the greater of the choices by two properties
-pub greater_choice : (P Q R : List ℕ → ℕ → ℕ → Type 0) (plan : Plan) (first second result : Option Choice) → ((t : List ℕ) (s p : ℕ) → P t s p → R t s p) → ((t : List ℕ) (s p : ℕ) → Q t s p → R t s p) → ((t : List ℕ) (s p : ℕ) → R t s p → P t s p ⊎ Q t s p)
-    → MatchOption first ((t : List ℕ) (s p : ℕ) → P t s p → ⊥) (IsGreatest P plan) → MatchOption second ((t : List ℕ) (s p : ℕ) → Q t s p → ⊥) (IsGreatest Q plan) → GreaterOf first second result → MatchOption result ((t : List ℕ) (s p : ℕ) → R t s p → ⊥) (IsGreatest R plan)
-greater_choice P Q R plan None None result left right cases a b greater = subst (λ o. MatchOption o ((t : List ℕ) (s p : ℕ) → R t s p → ⊥) (IsGreatest R plan)) (sym greater)
-    (λ t s p r. elim (cases t s p r) [ inl x ↦ a t s p x | inr y ↦ b t s p y ])
-greater_choice P Q R plan None (Some other) result left right cases a b greater = subst (λ o. MatchOption o ((t : List ℕ) (s p : ℕ) → R t s p → ⊥) (IsGreatest R plan)) (sym greater)
-    (same_greatest Q R plan other right (λ t s p r. elim (cases t s p r) [ inl x ↦ absurd (a t s p x) | inr y ↦ y ]) b)
-greater_choice P Q R plan (Some one) None result left right cases a b greater = subst (λ o. MatchOption o ((t : List ℕ) (s p : ℕ) → R t s p → ⊥) (IsGreatest R plan)) (sym greater)
-    (same_greatest P R plan one left (λ t s p r. elim (cases t s p r) [ inl x ↦ x | inr y ↦ absurd (b t s p y) ]) a)
-greater_choice P Q R plan (Some one) (Some other) result left right cases a b (inl kept) = subst (λ o. MatchOption o ((t : List ℕ) (s p : ℕ) → R t s p → ⊥) (IsGreatest R plan)) (sym kept.0)
-    (merged P Q R plan one other left cases a b kept.1)
-greater_choice P Q R plan (Some one) (Some other) result left right cases a b (inr kept) = subst (λ o. MatchOption o ((t : List ℕ) (s p : ℕ) → R t s p → ⊥) (IsGreatest R plan)) (sym kept.0)
-    (merged Q P R plan other one right (λ t s p r. elim (cases t s p r) [ inl x ↦ inr x | inr y ↦ inl y ]) b a kept.1)
+pub greater_choice : (P Q : List ℕ → ℕ → ℕ → Type 0) (front : List ℕ) (one other result : Choice) → IsGreatest P front one → IsGreatest Q front other → GreaterOf one other result → IsGreatest (λ t s p. P t s p ⊎ Q t s p) front result
+greater_choice P Q front one other result a b (inl kept) = subst (λ c. IsGreatest (λ t s p. P t s p ⊎ Q t s p) front c) (sym kept.0)
+    (merged P Q (λ t s p. P t s p ⊎ Q t s p) front one other (λ t s p by. inl by) (λ t s p by. by) a b kept.1)
+greater_choice P Q front one other result a b (inr kept) = subst (λ c. IsGreatest (λ t s p. P t s p ⊎ Q t s p) front c) (sym kept.0)
+    (merged Q P (λ t s p. P t s p ⊎ Q t s p) front other one (λ t s p by. inr by) (λ t s p by. elim by [ inl x ↦ inr x | inr y ↦ inl y ]) b a kept.1)
 
--- with fewer than two tiles there is no pair
-pub choice_alone : (aim : Aim) (level : Level) (others : List Level) (plan : Plan) (tiles : ℕ) (first : Option Choice) (begin : Begin) → tiles < 2 → begin ≡ sets_alone tiles
-    → MatchOption first ((t : List ℕ) (s p : ℕ) → ByBegin aim level others plan begin t s p → ⊥) (IsGreatest (ByBegin aim level others plan begin) plan)
-    → MatchOption first ((t : List ℕ) (s p : ℕ) → ByTiles aim level others plan tiles t s p → ⊥) (IsGreatest (ByTiles aim level others plan tiles) plan)
-choice_alone aim level others plan tiles None begin few is h = λ t s p by. elim by [
-  | inl alone ↦ h t s p (subst (λ b. ByBegin aim level others plan b t s p) (sym is) alone)
-  | inr pair ↦ (let two : 2 ≤ tiles = pair.0 in omega arith)
+-- ---- the ways with so many tiles
+
+pub alone_begins : (tiles : ℕ) → tiles ≤ 4 → IsBegin (sets_alone tiles)
+alone_begins tiles four = record { runs_few = omega arith; one = omega arith; four = omega arith }
+
+-- the sets alone, where a pair does not leave as many or has no room
+pub alone_ways : (aim : Aim) (level : Level) (others : List Level) (plan : Plan) (tiles : ℕ) → tiles ≤ 4 → (2 ≤ tiles → LeavesAsMany aim level plan (with_pair tiles) → ⊥) → IsPlan aim (level ∷ others) plan → LeavesAsMany aim level plan (sets_alone tiles)
+    → AreWays aim level others plan tiles (record { first = sets_alone tiles; second = None })
+alone_ways aim level others plan tiles four no_pair is leaves = record {
+  first = record { is_begin = alone_begins tiles four; leaves = leaves };
+  second = tt;
+  all = λ t s p by. elim by [
+    | inl alone ↦ alone
+    | inr pair ↦ absurd (no_pair pair.0 (begins_leave aim level others plan (with_pair tiles) is (pair_begins tiles pair.0 four) t s p pair.1))
+  ];
+  each = λ t s p by. inl by;
+}
+
+pub pair_ways : (aim : Aim) (level : Level) (others : List Level) (plan : Plan) (tiles : ℕ) → 2 ≤ tiles → tiles ≤ 4 → (LeavesAsMany aim level plan (sets_alone tiles) → ⊥) → IsPlan aim (level ∷ others) plan → LeavesAsMany aim level plan (with_pair tiles)
+    → AreWays aim level others plan tiles (record { first = with_pair tiles; second = None })
+pair_ways aim level others plan tiles two four not_alone is leaves = record {
+  first = record { is_begin = pair_begins tiles two four; leaves = leaves };
+  second = tt;
+  all = λ t s p by. elim by [
+    | inl alone ↦ absurd (not_alone (begins_leave aim level others plan (sets_alone tiles) is (alone_begins tiles four) t s p alone))
+    | inr pair ↦ pair.1
+  ];
+  each = λ t s p by. inr (two, by);
+}
+
+pub both_ways : (aim : Aim) (level : Level) (others : List Level) (plan : Plan) (tiles : ℕ) → 2 ≤ tiles → tiles ≤ 4 → LeavesAsMany aim level plan (sets_alone tiles) → LeavesAsMany aim level plan (with_pair tiles)
+    → AreWays aim level others plan tiles (record { first = sets_alone tiles; second = Some (with_pair tiles) })
+both_ways aim level others plan tiles two four alone_leaves pair_leaves = record {
+  first = record { is_begin = alone_begins tiles four; leaves = alone_leaves };
+  second = record { is_begin = pair_begins tiles two four; leaves = pair_leaves };
+  all = λ t s p by. elim by [ inl alone ↦ inl alone | inr pair ↦ inr pair.1 ];
+  each = λ t s p by. elim by [ inl alone ↦ inl alone | inr pair ↦ inr (two, pair) ];
+}
+
+-- neither leaves as many
+pub no_ways : (aim : Aim) (level : Level) (others : List Level) (plan : Plan) (tiles : ℕ) → tiles ≤ 4 → (2 ≤ tiles → LeavesAsMany aim level plan (with_pair tiles) → ⊥) → (LeavesAsMany aim level plan (sets_alone tiles) → ⊥) → IsPlan aim (level ∷ others) plan → NoWay aim level others plan tiles
+no_ways aim level others plan tiles four no_pair not_alone is t s p by = elim by [
+  | inl alone ↦ not_alone (begins_leave aim level others plan (sets_alone tiles) is (alone_begins tiles four) t s p alone)
+  | inr pair ↦ no_pair pair.0 (begins_leave aim level others plan (with_pair tiles) is (pair_begins tiles pair.0 four) t s p pair.1)
 ]
-choice_alone aim level others plan tiles (Some one) begin few is h = same_greatest (ByBegin aim level others plan begin) (ByTiles aim level others plan tiles) plan one
-    (λ t s p by. inl (subst (λ b. ByBegin aim level others plan b t s p) is by))
-    (λ t s p by. elim by [
-      | inl alone ↦ subst (λ b. ByBegin aim level others plan b t s p) (sym is) alone
-      | inr pair ↦ absurd (let two : 2 ≤ tiles = pair.0 in omega arith)
-    ]) h
 
-pub choice_both : (aim : Aim) (level : Level) (others : List Level) (plan : Plan) (tiles : ℕ) (first second result : Option Choice) → 2 ≤ tiles
-    → MatchOption first ((t : List ℕ) (s p : ℕ) → ByBegin aim level others plan (sets_alone tiles) t s p → ⊥) (IsGreatest (ByBegin aim level others plan (sets_alone tiles)) plan)
-    → MatchOption second ((t : List ℕ) (s p : ℕ) → ByBegin aim level others plan (with_pair tiles) t s p → ⊥) (IsGreatest (ByBegin aim level others plan (with_pair tiles)) plan)
-    → GreaterOf first second result → MatchOption result ((t : List ℕ) (s p : ℕ) → ByTiles aim level others plan tiles t s p → ⊥) (IsGreatest (ByTiles aim level others plan tiles) plan)
-choice_both aim level others plan tiles first second result two =
-    greater_choice (ByBegin aim level others plan (sets_alone tiles)) (ByBegin aim level others plan (with_pair tiles)) (ByTiles aim level others plan tiles) plan first second result
-    (λ t s p by. inl by) (λ t s p by. inr (two, by)) (λ t s p by. elim by [ inl x ↦ inl x | inr y ↦ inr y.1 ])
+-- with so many tiles there is none, and with more there is none
+pub no_more : (P : ℕ → Type 0) (tiles : ℕ) → P (tiles + 1) → ((more : ℕ) → tiles + 2 ≤ more → more ≤ 4 → P more) → (more : ℕ) → tiles + 1 ≤ more → more ≤ 4 → P more
+no_more P tiles here above more least few = elim (cases_eq more (tiles + 1)) [
+  | inl same ↦ subst P (sym same) here
+  | inr other ↦ above more (omega arith) few
+]
+
+-- what is answered where the sets alone are asked last
+pub alone_answer : (aim : Aim) (level : Level) (others : List Level) (plan : Plan) (tiles : ℕ) (begin : Begin) (result : Option Ways) → tiles ≤ 4 → begin ≡ sets_alone tiles → (2 ≤ tiles → LeavesAsMany aim level plan (with_pair tiles) → ⊥) → IsPlan aim (level ∷ others) plan
+    → MatchOption result (LeavesAsMany aim level plan begin → ⊥) (λ ways. (ways ≡ record { first = begin; second = None }) × LeavesAsMany aim level plan begin)
+    → MatchOption result (NoWay aim level others plan tiles) (AreWays aim level others plan tiles)
+alone_answer aim level others plan tiles begin None four begin_is no_pair is none = no_ways aim level others plan tiles four no_pair (subst (λ b. LeavesAsMany aim level plan b → ⊥) begin_is none) is
+alone_answer aim level others plan tiles begin (Some ways) four begin_is no_pair is some = subst (AreWays aim level others plan tiles) (sym (some.0 ∙ ap (λ b. let w : Ways = record { first = b; second = None } in w) begin_is))
+    (alone_ways aim level others plan tiles four no_pair is (subst (LeavesAsMany aim level plan) begin_is some.1))
 
 -- ---- all choices at a number
 
@@ -410,10 +438,10 @@ head_of aim level others plan many tiles sets pairs (inl alone) = record { rest 
 head_of aim level others plan many tiles sets pairs (inr pair) = record { rest = pair.1.rest; is = pair.1.tiles_are ∙ ap (λ n. n ∷ pair.1.rest) (let two : 2 ≤ many = pair.0 in let e : plan.before + plan.earlier + (many - 2 + 3 * 0 + 2 * 1) ≡ plan.before + plan.earlier + many = omega arith in e) }
 
 -- the greatest for so many tiles, where none goes on from the number with more
-pub most_tiles : (aim : Aim) (level : Level) (others : List Level) (plan : Plan) (many : ℕ) (choice : Choice) → IsPlan aim (level ∷ others) plan
+pub most_tiles : (aim : Aim) (level : Level) (others : List Level) (plan : Plan) (many : ℕ) (front : List ℕ) (choice : Choice) → IsPlan aim (level ∷ others) plan
     → ((more : ℕ) → many + 1 ≤ more → more ≤ 4 → (t : List ℕ) (s p : ℕ) → ByTiles aim level others plan more t s p → ⊥)
-    → IsGreatest (ByTiles aim level others plan many) plan choice → IsGreatest (By aim (level ∷ others) plan) plan choice
-most_tiles aim level others plan many choice is none greatest = record {
+    → IsGreatest (ByTiles aim level others plan many) front choice → IsGreatest (By aim (level ∷ others) plan) front choice
+most_tiles aim level others plan many front choice is none greatest = record {
   rest = greatest.rest;
   target_is = greatest.target_is;
   is = tiles_by aim level others plan many greatest.rest choice.sets choice.pairs greatest.is;
@@ -431,9 +459,68 @@ most_tiles aim level others plan many choice is none greatest = record {
       ];
 }
 
+-- the greatest by the ways with the most tiles is the greatest of all
+pub ways_greatest : (aim : Aim) (level : Level) (others : List Level) (plan : Plan) (front : List ℕ) (ways : Ways) (choice : Choice) → IsPlan aim (level ∷ others) plan → AreMostWays aim level others plan ways → IsGreatest (InWays aim level others plan ways.first ways.second) front choice → IsGreatest (By aim (level ∷ others) plan) front choice
+ways_greatest aim level others plan front ways choice is most greatest = most_tiles aim level others plan most.tiles front choice is most.most
+    (same_greatest (InWays aim level others plan ways.first ways.second) (ByTiles aim level others plan most.tiles) front choice most.are.each most.are.all greatest)
+
+-- the plan after a way
+pub next_plan_is : (aim : Aim) (level : Level) (others : List Level) (plan next : Plan) (begin : Begin) → IsPlan aim (level ∷ others) plan → IsWay aim level plan begin → next ≡ next_of level plan begin → IsPlan aim others next
+next_plan_is aim level others plan next begin is way next_is_of = subst (IsPlan aim others) (sym next_is_of)
+    (next_is aim level others plan (next_of level plan begin) begin (row_at level.rows begin.runs plan.before) is way.is_begin way.leaves.may refl refl refl refl refl refl (sym way.leaves.left_is) refl)
+
+-- the greatest choice after a way is the greatest by it
+pub way_greatest : (aim : Aim) (level : Level) (others : List Level) (plan next : Plan) (chosen later : List ℕ) (begin : Begin) (choice : Choice) → length chosen ≡ 9 → IsPlan aim (level ∷ others) plan → IsWay aim level plan begin → next ≡ next_of level plan begin → later ≡ set chosen plan.number (tiles_at plan begin)
+    → IsGreatest (By aim others next) (take next.number later) choice → IsGreatest (ByBegin aim level others plan begin) (take plan.number chosen) choice
+way_greatest aim level others plan next chosen later begin choice nine is way next_is_of later_is greatest = begins_greatest aim level others plan (next_of level plan begin) chosen later begin choice nine is way.leaves.may later_is refl refl refl refl refl refl
+    (subst (λ (n : Plan). IsGreatest (By aim others n) (take n.number later) choice) next_is_of greatest)
+
+-- the greatest choice after the only way is the greatest of all
+only_greatest : (aim : Aim) (level : Level) (others : List Level) (plan next : Plan) (chosen later : List ℕ) (ways : Ways) (choice : Choice) → length chosen ≡ 9 → IsPlan aim (level ∷ others) plan → AreMostWays aim level others plan ways → ways.second ≡ None → next ≡ next_of level plan ways.first → later ≡ set chosen plan.number (tiles_at plan ways.first)
+    → IsGreatest (By aim others next) (take next.number later) choice → IsGreatest (By aim (level ∷ others) plan) (take plan.number chosen) choice
+only_greatest aim level others plan next chosen later ways choice nine is most only next_is_of later_is greatest = ways_greatest aim level others plan (take plan.number chosen) ways choice is most
+    (subst (λ w. IsGreatest (InWays aim level others plan ways.first w) (take plan.number chosen) choice) (sym only) (way_greatest aim level others plan next chosen later ways.first choice nine is most.are.first next_is_of later_is greatest))
+
+-- the first number and those after it
+pub first_and_others : (levels : List Level) (none : Level) → 1 ≤ length levels → get_or levels 0 none ∷ take (length levels - 1) (drop 1 levels) ≡ levels
+first_and_others [] none some = absurd (omega arith)
+first_and_others (level ∷ levels) none some = ap (λ n. level ∷ take n levels) (let e : length (level ∷ levels) - 1 ≡ length levels = omega arith in e) ∙ ap (λ ls. level ∷ ls) (take-all levels)
+  where
+    take-all : (xs : List Level) → take (length xs) xs ≡ xs
+    take-all [] = refl
+    take-all (x ∷ xs) = ap (λ ys. x ∷ ys) (take-all xs)
+
+-- what is chosen from the numbers that are left is what is chosen from the first one on
+abbrev pub GoesOn : Aim → List Level → Plan → List ℕ → List Level → Plan → List ℕ → Type 0
+GoesOn aim left next chosen levels plan target = (choice : Choice) → IsGreatest (By aim left next) (take next.number chosen) choice → IsGreatest (By aim levels plan) (take plan.number target) choice
+
+-- after the only way at the first of them
+pub only_goes_on : (aim : Aim) (level : Level) (others left levels : List Level) (plan next after : Plan) (target chosen later : List ℕ) (ways : Ways) → level ∷ others ≡ left → length chosen ≡ 9 → IsPlan aim left next → AreMostWays aim level others next ways → ways.second ≡ None → after ≡ next_of level next ways.first → later ≡ set chosen next.number (tiles_at next ways.first)
+    → length left ≤ length levels → GoesOn aim left next chosen levels plan target → IsPlan aim others after × ((length later ≡ 9) × ((length others ≤ length levels) × GoesOn aim others after later levels plan target))
+only_goes_on aim level others left levels plan next after target chosen later ways is nine plan_is most only after_is later_is few goes_on = (
+  next_plan_is aim level others next after ways.first here most.are.first after_is,
+  (
+    ap length later_is ∙ length-set chosen next.number (tiles_at next ways.first) ∙ nine,
+    (
+      (let e : length left ≡ suc (length others) = ap length (sym is) in omega arith),
+      λ choice greatest. goes_on choice (subst (λ ls. IsGreatest (By aim ls next) (take next.number chosen) choice) is (only_greatest aim level others next after chosen later ways choice nine here most only after_is later_is greatest)),
+    ),
+  ),
+)
+  where
+    here : IsPlan aim (level ∷ others) next
+    here = subst (λ ls. IsPlan aim ls next) (sym is) plan_is
+
+-- by either of two ways at it
+pub both_go_on : (aim : Aim) (level : Level) (others left levels : List Level) (plan next : Plan) (target chosen : List ℕ) (ways : Ways) (second : Begin) (choice : Choice) → level ∷ others ≡ left → IsPlan aim left next → AreMostWays aim level others next ways → ways.second ≡ Some second
+    → GoesOn aim left next chosen levels plan target → IsGreatest (InWays aim level others next ways.first (Some second)) (take next.number chosen) choice → IsGreatest (By aim levels plan) (take plan.number target) choice
+both_go_on aim level others left levels plan next target chosen ways second choice is plan_is most both goes_on greatest =
+    goes_on choice (subst (λ ls. IsGreatest (By aim ls next) (take next.number chosen) choice) is
+    (ways_greatest aim level others next (take next.number chosen) ways choice (subst (λ ls. IsPlan aim ls next) (sym is) plan_is) most (subst (λ w. IsGreatest (InWays aim level others next ways.first w) (take next.number chosen) choice) (sym both) greatest)))
+
 -- some tiles go on from the number
-pub some_tiles : (aim : Aim) (level : Level) (others : List Level) (plan : Plan) → IsPlan aim (level ∷ others) plan → ((more : ℕ) → 0 ≤ more → more ≤ 4 → (t : List ℕ) (s p : ℕ) → ByTiles aim level others plan more t s p → ⊥) → ⊥
-some_tiles aim level others plan is none = elim (walked_reached aim.runs (lane aim.after.lanes) is.few (rooms (level ∷ others)) (helds (level ∷ others)) plan.before plan.earlier plan.sets plan.pairs is.sets_few is.pairs_few (same_length (level ∷ others)) (of_four aim (level ∷ others) is.levels_are)) [
+pub some_tiles : (aim : Aim) (level : Level) (others : List Level) (plan : Plan) → IsPlan aim (level ∷ others) plan → NoWay aim level others plan 0 → ((more : ℕ) → 1 ≤ more → more ≤ 4 → NoWay aim level others plan more) → ⊥
+some_tiles aim level others plan is here above = elim (walked_reached aim.runs (lane aim.after.lanes) is.few (rooms (level ∷ others)) (helds (level ∷ others)) plan.before plan.earlier plan.sets plan.pairs is.sets_few is.pairs_few (same_length (level ∷ others)) (of_four aim (level ∷ others) is.levels_are)) [
   | inl zero_left ↦ (let l = is.left_is in let s = is.some in omega arith)
   | inr reached ↦
       let some = by_some aim level others plan is reached.tiles reached.sets_left reached.pairs_left record {
@@ -444,13 +531,19 @@ some_tiles aim level others plan is none = elim (walked_reached aim.runs (lane a
         pairs_are = reached.pairs_are;
         left_is = reached.left_is ∙ ap (λ l. l + missing reached.tiles (helds (level ∷ others))) is.left_is;
       } in
-      none some.many (omega arith) some.few reached.tiles reached.sets_left reached.pairs_left some.by
+      none some.many some.few reached.tiles reached.sets_left reached.pairs_left some.by
 ]
+  where
+    none : (more : ℕ) → more ≤ 4 → NoWay aim level others plan more
+    none more few = elim (cases_eq more 0) [
+      | inl same ↦ subst (NoWay aim level others plan) (sym same) here
+      | inr other ↦ above more (omega arith) few
+    ]
 
 -- no number is left
-pub past_end : (aim : Aim) (levels : List Level) (plan : Plan) (choice : Choice) → length levels < 1 → length plan.target ≡ 9 → IsPlan aim levels plan → choice.target ≡ plan.target → choice.sets ≡ plan.sets → choice.pairs ≡ plan.pairs → IsGreatest (By aim levels plan) plan choice
-past_end aim [] plan choice none nine is target sets pairs = nothing_more aim plan choice nine is target sets pairs
-past_end aim (level ∷ levels) plan choice none nine is target sets pairs = absurd (omega arith)
+pub past_end : (aim : Aim) (levels : List Level) (plan : Plan) (chosen : List ℕ) (choice : Choice) → length levels < 1 → length chosen ≡ 9 → IsPlan aim levels plan → choice.target ≡ chosen → choice.sets ≡ plan.sets → choice.pairs ≡ plan.pairs → IsGreatest (By aim levels plan) (take plan.number chosen) choice
+past_end aim [] plan chosen choice none nine is target sets pairs = nothing_more aim plan chosen choice nine is target sets pairs
+past_end aim (level ∷ levels) plan chosen choice none nine is target sets pairs = absurd (omega arith)
 
 -- ---- a whole suit
 
@@ -514,9 +607,9 @@ most_is_walked counts room runs after row s p nine nine_counts each few most few
     omega arith
 
 -- the plan before the lowest number
-pub first_plan : (counts room : List ℕ) (aim : Aim) (row : List ℕ) (levels : List Level) (plan : Plan) → length room ≡ 9 → length counts ≡ 9 → ((n : ℕ) → n < length room → get_or room n 0 ≤ 4) → IsFew aim.after.lanes → LeavesMost counts room aim.runs aim.after.lanes row → AreNumbers aim levels room counts
+pub first_is_plan : (counts room : List ℕ) (aim : Aim) (row : List ℕ) (levels : List Level) (plan : Plan) → length room ≡ 9 → length counts ≡ 9 → ((n : ℕ) → n < length room → get_or room n 0 ≤ 4) → IsFew aim.after.lanes → LeavesMost counts room aim.runs aim.after.lanes row → AreNumbers aim levels room counts
     → plan.number ≡ 0 → plan.before ≡ 0 → plan.earlier ≡ 0 → plan.sets < 8 → plan.pairs < 2 → plan.left ≡ lane row plan.sets plan.pairs → plan.left ≢ 0 → IsPlan aim levels plan
-first_plan counts room aim row levels plan nine nine_counts each few most numbers number before earlier few_sets few_pairs left some =
+first_is_plan counts room aim row levels plan nine nine_counts each few most numbers number before earlier few_sets few_pairs left some =
     let is : walked aim.runs (lane aim.after.lanes) room counts 0 0 plan.sets plan.pairs ≡ lane row plan.sets plan.pairs = most_is_walked counts room aim.runs aim.after.lanes row plan.sets plan.pairs nine nine_counts each few most few_sets few_pairs in
     let bound : lane row plan.sets plan.pairs ≤ 15 = most.few plan.sets plan.pairs few_sets few_pairs in
     record {
@@ -537,10 +630,6 @@ first_plan counts room aim row levels plan nine nine_counts each few most number
     first_state : (runs : Bool) → IsState runs 0 0
     first_state true = (omega arith, omega arith)
     first_state false = (refl, refl)
-
-    same_rooms : (levels : List Level) → length (rooms levels) ≡ length levels
-    same_rooms [] = refl
-    same_rooms (l ∷ ls) = ap suc (same_rooms ls)
 
 leaves_of : (counts room : List ℕ) (aim : Aim) (levels : List Level) (plan : Plan) (target : List ℕ) (s p : ℕ) (row : List ℕ) → length room ≡ 9 → AreNumbers aim levels room counts → plan.before ≡ 0 → plan.earlier ≡ 0 → plan.pairs < 2 → plan.left ≡ lane row plan.sets plan.pairs
     → By aim levels plan target s p → LeavesBy counts room aim.runs aim.after.lanes plan.sets plan.pairs (lane row plan.sets plan.pairs) target s p
@@ -565,11 +654,11 @@ goes_of counts room aim levels plan target s p row nine numbers before earlier l
 }
 
 -- the greatest choice from the lowest number on is the suit's
-pub suit_chosen : (counts room : List ℕ) (aim : Aim) (row : List ℕ) (levels : List Level) (plan : Plan) (choice : Choice) → length room ≡ 9 → LeavesMost counts room aim.runs aim.after.lanes row → AreNumbers aim levels room counts
-    → plan.number ≡ 0 → plan.before ≡ 0 → plan.earlier ≡ 0 → plan.sets < 8 → plan.pairs < 2 → plan.left ≡ lane row plan.sets plan.pairs → IsGreatest (By aim levels plan) plan choice
+pub suit_chosen : (counts room : List ℕ) (aim : Aim) (row : List ℕ) (levels : List Level) (plan : Plan) (chosen : List ℕ) (choice : Choice) → length room ≡ 9 → LeavesMost counts room aim.runs aim.after.lanes row → AreNumbers aim levels room counts
+    → plan.number ≡ 0 → plan.before ≡ 0 → plan.earlier ≡ 0 → plan.sets < 8 → plan.pairs < 2 → plan.left ≡ lane row plan.sets plan.pairs → IsGreatest (By aim levels plan) (take plan.number chosen) choice
     → IsChosen counts room aim.runs aim.after.lanes plan.sets plan.pairs (lane row plan.sets plan.pairs) choice.target choice.sets choice.pairs
-suit_chosen counts room aim row levels plan choice nine most numbers number before earlier few_sets few_pairs left greatest =
-    let whole : choice.target ≡ greatest.rest = greatest.target_is ∙ ap (λ n. take n plan.target ++ greatest.rest) number in
+suit_chosen counts room aim row levels plan chosen choice nine most numbers number before earlier few_sets few_pairs left greatest =
+    let whole : choice.target ≡ greatest.rest = greatest.target_is ∙ ap (λ n. take n chosen ++ greatest.rest) number in
     record {
       is = leaves_of counts room aim levels plan choice.target choice.sets choice.pairs row nine numbers before earlier few_pairs left (subst (λ t. By aim levels plan t choice.sets choice.pairs) (sym whole) greatest.is);
       most = λ more leaves. most.most plan.sets plan.pairs more few_sets few_pairs leaves;

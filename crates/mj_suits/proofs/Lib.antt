@@ -12,3 +12,4 @@ pub mod Made
 pub mod Nine
 pub mod Choices
 pub mod Tables
+pub mod Walks

@@ -1,5 +1,5 @@
 -- What is chosen from a number of a suit on.
-use Rattle.std.specs.Prelude.{◌≡◌, ◌≢◌, ◌⊎◌, ℕ, ◌+◌, ◌-◌, ◌*◌, ◌/◌, ◌%◌, ◌<◌, ◌≤◌, Bool, true, false, Option, None, Some, List, [], ◌∷◌, ◌++◌, length, take}
+use Rattle.std.specs.Prelude.{◌≡◌, ◌≢◌, ◌⊎◌, ℕ, ◌+◌, ◌-◌, ◌*◌, ◌/◌, ◌%◌, ◌<◌, ◌≤◌, Bool, true, false, Option, None, Some, MatchOption, List, [], ◌∷◌, ◌++◌, length}
 use Rattle.std.specs.Ordering.{nat_cmp}
 use Rattle.std.specs.Cmp.Lexicographic.{slice_cmp}
 use Rattle.std.specs.declared.cmp.Ordering.TheVariants.{Greater}
@@ -11,6 +11,7 @@ use Rattle.mj_suits.specs.declared.choosing.Aim.{Aim}
 use Rattle.mj_suits.specs.declared.choosing.Level.{Level}
 use Rattle.mj_suits.specs.declared.choosing.Plan.{Plan}
 use Rattle.mj_suits.specs.declared.choosing.Begin.{Begin}
+use Rattle.mj_suits.specs.declared.choosing.Ways.{Ways}
 use Rattle.mj_suits.specs.declared.choosing.Choice.{Choice}
 
 -- the room and what is held, number by number
@@ -102,6 +103,52 @@ ByTiles aim level others plan tiles rest sets pairs =
 abbrev pub IsTooMany : Level → Plan → ℕ → Type 0
 IsTooMany level plan many = (level.held + 15 < plan.left + (plan.before + plan.earlier + many)) ⊎ (3 * plan.sets + 2 * plan.pairs < many)
 
+-- with more tiles than so many there would be too many
+pub record IsMost (level : Level) (plan : Plan) (most : ℕ) : Type 0 where
+  pub too_many : (many : ℕ) → most < many → many ≤ 4 → IsTooMany level plan many
+
+-- these may begin, and by the rows as many are left
+pub record IsWay (aim : Aim) (level : Level) (plan : Plan) (begin : Begin) : Type 0 where
+  pub is_begin : IsBegin begin
+  pub leaves : LeavesAsMany aim level plan begin
+
+-- one of the ways begins at the plan's number, and the rest leaves as many as the plan says
+abbrev pub InWays : Aim → Level → List Level → Plan → Begin → Option Begin → List ℕ → ℕ → ℕ → Type 0
+InWays aim level others plan first None tiles sets pairs = ByBegin aim level others plan first tiles sets pairs
+InWays aim level others plan first (Some second) tiles sets pairs = ByBegin aim level others plan first tiles sets pairs ⊎ ByBegin aim level others plan second tiles sets pairs
+
+-- nothing with so many tiles at the plan's number leaves as many
+abbrev pub NoWay : Aim → Level → List Level → Plan → ℕ → Type 0
+NoWay aim level others plan tiles = (rest : List ℕ) (sets pairs : ℕ) → ByTiles aim level others plan tiles rest sets pairs → ⊥
+
+-- these are the ways with so many tiles
+pub record AreWays (aim : Aim) (level : Level) (others : List Level) (plan : Plan) (tiles : ℕ) (ways : Ways) : Type 0 where
+  pub first : IsWay aim level plan ways.first
+  pub second : MatchOption ways.second (Unit {0}) (IsWay aim level plan)
+  pub all : (rest : List ℕ) (sets pairs : ℕ) → ByTiles aim level others plan tiles rest sets pairs → InWays aim level others plan ways.first ways.second rest sets pairs
+  pub each : (rest : List ℕ) (sets pairs : ℕ) → InWays aim level others plan ways.first ways.second rest sets pairs → ByTiles aim level others plan tiles rest sets pairs
+
+-- these are the ways with so many tiles, and with more there is none
+pub record AreMostWays (aim : Aim) (level : Level) (others : List Level) (plan : Plan) (ways : Ways) : Type 0 where
+  pub tiles : ℕ
+  pub are : AreWays aim level others plan tiles ways
+  pub most : (more : ℕ) → tiles + 1 ≤ more → more ≤ 4 → NoWay aim level others plan more
+
+-- the plan at the lowest number
+abbrev pub first_plan : ℕ → ℕ → ℕ → Plan
+first_plan sets pairs left = record { number = 0; before = 0; earlier = 0; sets = sets; pairs = pairs; left = left }
+
+-- the plan for the numbers after where these begin
+abbrev pub next_of : Level → Plan → Begin → Plan
+next_of level plan begin = record {
+  number = plan.number + 1;
+  before = begin.runs;
+  earlier = plan.before;
+  sets = plan.sets - (begin.runs + begin.triplets);
+  pairs = plan.pairs - begin.pairs;
+  left = plan.left + (tiles_at plan begin - level.held);
+}
+
 -- the numbers that are still to come have the rows of the walk, by which the most that is left is what the plan says, and it is more than none
 pub record IsPlan (aim : Aim) (levels : List Level) (plan : Plan) : Type 0 where
   pub levels_are : AreLevels aim levels
@@ -116,17 +163,15 @@ pub record IsPlan (aim : Aim) (levels : List Level) (plan : Plan) : Type 0 where
   pub before_few : plan.before < 3
   pub earlier_few : plan.earlier < 3
 
--- the choice goes on from what the plan has chosen with tiles of the property, and they are the lexicographically greatest
-pub record IsGreatest (P : List ℕ → ℕ → ℕ → Type 0) (plan : Plan) (choice : Choice) : Type 0 where
+-- the choice goes on from these tiles with tiles of the property, and they are the lexicographically greatest
+pub record IsGreatest (P : List ℕ → ℕ → ℕ → Type 0) (front : List ℕ) (choice : Choice) : Type 0 where
   pub rest : List ℕ
-  pub target_is : choice.target ≡ take plan.number plan.target ++ rest
+  pub target_is : choice.target ≡ front ++ rest
   pub is : P rest choice.sets choice.pairs
   pub greatest : (other : List ℕ) (sets pairs : ℕ) → P other sets pairs → slice_cmp nat_cmp other rest ≢ Greater
 
--- the choice whose target is lexicographically greater, where there are two
-abbrev pub GreaterOf : Option Choice → Option Choice → Option Choice → Type 0
-GreaterOf None second result = result ≡ second
-GreaterOf (Some one) None result = result ≡ Some one
-GreaterOf (Some one) (Some other) result =
-    ((result ≡ Some one) × (slice_cmp nat_cmp other.target one.target ≢ Greater))
-    ⊎ ((result ≡ Some other) × (slice_cmp nat_cmp one.target other.target ≢ Greater))
+-- the choice whose target is lexicographically greater
+abbrev pub GreaterOf : Choice → Choice → Choice → Type 0
+GreaterOf one other result =
+    ((result ≡ one) × (slice_cmp nat_cmp other.target one.target ≢ Greater))
+    ⊎ ((result ≡ other) × (slice_cmp nat_cmp one.target other.target ≢ Greater))

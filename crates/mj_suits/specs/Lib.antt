@@ -9,3 +9,4 @@ pub mod Ends
 pub mod Choosing
 pub mod Improves
 pub mod Tables
+pub mod SuitWalks

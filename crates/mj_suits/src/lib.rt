@@ -8,12 +8,14 @@ mod choosing;
 mod partitioning;
 mod row;
 mod sets;
+mod suit_walk;
 mod table;
 mod walk;
 
-pub use choosing::{Choice, choose};
+pub use choosing::Choice;
 pub use partitioning::partitions;
 pub use row::Row;
 pub use sets::{Split, SuitSet, SuitSets};
+pub use suit_walk::{SuitWalk, choose};
 pub use table::{SuitTable, nearest};
 pub use walk::with_suit;

@@ -5,8 +5,8 @@ ghost use Rattle.mj_suits.specs.Left.{pairs};
 ghost use Rattle.mj_suits.specs.Targets.{missing, IsTarget, IsNearest};
 ghost use Rattle.mj_suits.specs.Tables.{Suit, IsLeast};
 
-use crate::choosing::choose;
 use crate::row::Row;
+use crate::suit_walk::choose;
 use crate::walk::with_suit;
 use std::marker::Model;
 

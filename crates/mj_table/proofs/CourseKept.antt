@@ -1,5 +1,5 @@
 -- What is kept of the course of a hand, a deed further.
-use Rattle.std.proofs.Common.{◌≡◌, ℕ, ◌+◌, ◌-◌, ◌≤◌, ◌||◌, ◌&&◌, not, Bool, true, false, cond, eqb, min, List, [], ◌∷◌, ◌++◌, length, Option, Some, None, refl, sym, ap, ◌∙◌, subst, arith, append-nil}
+use Rattle.std.proofs.Common.{◌≡◌, ℕ, ◌+◌, ◌-◌, ◌≤◌, ◌||◌, not, Bool, true, false, cond, eqb, min, List, [], ◌∷◌, ◌++◌, length, Option, Some, None, refl, sym, ap, ◌∙◌, subst, arith, append-nil}
 use Rattle.std.specs.Prelude.{flat_map, filter, count_by, slice_get, option_to_list, option_map, option_and_then, unwrap_or}
 use Rattle.std.specs.List.{list_any}
 use Rattle.std.specs.Option.{option_or}
@@ -11,20 +11,20 @@ use Rattle.std.proofs.lemmas.List.Elements.{filter-append}
 use Rattle.std.proofs.lemmas.List.Recursion.{or_push}
 use Rattle.mj_rounds.specs.declared.rounds.HandEnd.{HandEnd}
 use Rattle.mj_deeds.specs.declared.deed.Deed.{Deed}
+use Rattle.mj_deeds.specs.declared.deed.Deed.TheVariants.{Draw, Discard}
 use Rattle.mj_rounds.specs.declared.rounds.HandEnd.TheVariants.{Won}
-use Rattle.mj_deeds.specs.declared.reason.Reason.{Reason}
 use Rattle.mj_deeds.specs.Ends.{dealer_won, draws_by, end_of}
 use Rattle.mj_deeds.specs.Facts.{indicators_by, indicators, kan_seats_by, kan_seats, kans}
 use Rattle.mj_deeds.specs.Four.{at_seat}
 use Rattle.mj_deeds.specs.declared.four.Four.{Four}
 use Rattle.mj_deeds.specs.Points.{is_deposit, is_win}
-use Rattle.mj_deeds.specs.Reasons.{is_turn, discarded_kind, kind_at, differ, is_one_wind, are_four_winds, are_four_kans, reason}
+use Rattle.mj_deeds.specs.Reasons.{is_turn, discarded_kind, kind_at, differ}
 use Rattle.mj_table.proofs.FewKept.{grown, first_grown, lists_same}
 use Rattle.mj_table.proofs.Gathered.{last_more}
 use Rattle.mj_table.specs.declared.course_facts.CourseFacts.{CourseFacts}
 use Rattle.mj_table.specs.declared.course_facts.HandDraw.{HandDraw}
 use Rattle.mj_table.specs.declared.few_tiles.FewTiles.{FewTiles}
-use Rattle.mj_table.specs.Inner.Courses.{end_by, is_another, reason_by, Draws, Follows}
+use Rattle.mj_table.specs.Inner.Courses.{end_by, is_another, Draws, Follows}
 use Rattle.mj_table.specs.Inner.Few.{Lists}
 
 -- What a list gives with one deed more.
@@ -141,6 +141,62 @@ draw_more ds d dealer before more result was e what =
     mapped : (o : Option HandDraw) → option_map (end_by dealer) (option_or o more) ≡ option_or (option_map (end_by dealer) o) (option_map (end_by dealer) more)
     mapped None = refl
     mapped (Some draw) = refl
+
+-- a draw, and a discard
+
+same_number : (n m : ℕ) → n ≡ min m 255 → n ≡ min (n + 0) 255
+same_number n m e = omega (arith, e)
+
+-- A deed that is no start, no kan, no indicator, no win, no accepted reach and no draw of the hand changes at most the turns.
+follows_on : (ds : List Deed) (d : Deed) (f : CourseFacts) (turns : ℕ) (kinds : Four (Option ℕ)) → Follows ds f → [] ≡ indicators_by d → [] ≡ kan_seats_by d → false ≡ is_deposit d → false ≡ is_win d →
+    ((dealer : ℕ) → [] ≡ draws_by dealer d) → turns ≡ min (length (filter is_turn (ds ++ d ∷ []))) 255 → ((place : ℕ) → place ≤ 3 → at_seat kinds place ≡ kind_at (ds ++ d ∷ []) place) →
+    Follows (ds ++ d ∷ []) (record f { turns = turns; kinds = kinds })
+follows_on ds d f turns kinds k shows kans deposits wins draws counted put = record {
+  shown = shown_more f.shown ds d None shows (lists_same f.shown _ _ (sym (append-nil (indicators ds))) k.shown);
+  first_kan = or_nothing f.first_kan ∙ first_kan_more ds d None f.first_kan kans k.first_kan;
+  newest_kan = newest_kan_more ds d None f.newest_kan kans k.newest_kan;
+  several = several_more ds d None f.first_kan f.several false f.several kans k.first_kan k.several (no_other f.first_kan) (or_none f.several);
+  turns = counted;
+  kinds = put;
+  riichis = riichis_more ds d f.riichis f.riichis false deposits k.riichis (same_number f.riichis (count_by is_deposit ds) k.riichis);
+  won = won_more ds d f.won false f.won k.won wins (or_none f.won);
+  draw = λ dealer. draw_more ds d dealer f.draw None f.draw (k.draw dealer) (draws dealer) (or_nothing f.draw);
+}
+  where
+    or_nothing : {A : Type 0} (o : Option A) → o ≡ option_or o None
+    or_nothing None = refl
+    or_nothing (Some x) = refl
+
+    no_other : (o : Option ℕ) → false ≡ is_another o None
+    no_other None = refl
+    no_other (Some x) = refl
+
+pub draw_follows : (ds : List Deed) (d : Deed) (from tile : ℕ) (replacement : Bool) (f : CourseFacts) → d ≡ Draw from tile replacement → Follows ds f → Follows (ds ++ d ∷ []) f
+draw_follows ds d from tile replacement f is k =
+    subst (λ (e : Deed). Follows (ds ++ e ∷ []) f) (sym is)
+    (follows_on ds e f f.turns f.kinds k refl refl refl refl (λ dealer. refl) (turns_more ds e f.turns f.turns false refl k.turns (same_number f.turns (length (filter is_turn ds)) k.turns))
+    (λ place small. kind_more ds e f.turns place (at_seat f.kinds place) (at_seat f.kinds place) small k.turns (k.kinds place small) (either (eqb f.turns place) (at_seat f.kinds place))))
+  where
+    e : Deed
+    e = Draw from tile replacement
+
+    either : (b : Bool) (o : Option ℕ) → o ≡ cond b o o
+    either true o = refl
+    either false o = refl
+
+pub discard_follows : (ds : List Deed) (d : Deed) (from tile : ℕ) (drawn : Bool) (f : CourseFacts) (turns : ℕ) (kinds : Four (Option ℕ)) → d ≡ Discard from tile drawn → Follows ds f →
+    turns ≡ min (f.turns + 1) 255 →
+    ((place : ℕ) → place ≤ 3 → at_seat kinds place ≡ cond (eqb f.turns place) (cond (is_turn d) (discarded_kind d) (at_seat f.kinds place)) (at_seat f.kinds place)) →
+    Follows (ds ++ d ∷ []) (record f { turns = turns; kinds = kinds })
+discard_follows ds d from tile drawn f turns kinds is k counted put =
+    subst (λ (e : Deed). Follows (ds ++ e ∷ []) (record f { turns = turns; kinds = kinds })) (sym is)
+    (follows_on ds e f turns kinds k refl refl refl refl (λ dealer. refl) (turns_more ds e f.turns turns true refl k.turns counted)
+    (λ place small.
+    kind_more ds e f.turns place (at_seat f.kinds place) (at_seat kinds place) small k.turns (k.kinds place small)
+    (put place small ∙ ap (λ (x : Deed). cond (eqb f.turns place) (cond (is_turn x) (discarded_kind x) (at_seat f.kinds place)) (at_seat f.kinds place)) is)))
+  where
+    e : Deed
+    e = Discard from tile drawn
 
 -- Of no deed no kind is kept.
 pub no_kinds_at : (place : ℕ) → place ≤ 3 → at_seat (record { first = None; second = None; third = None; fourth = None }) place ≡ kind_at [] place

@@ -1,5 +1,5 @@
 -- How many tiles of each face a seat holds, a deed further.
-use Rattle.std.proofs.Common.{◌≡◌, ℕ, ◌+◌, ◌-◌, ◌*◌, ◌<◌, ◌≤◌, ◌⊎◌, inl, inr, Bool, true, false, cond, eqb, leb, ltb, min, List, [], ◌∷◌, ◌++◌, length, take, set, get_or, replicate, refl, sym, ap, ◌∙◌, subst, arith, get_or-set_same, get_or-set_other}
+use Rattle.std.proofs.Common.{◌≡◌, ℕ, ◌+◌, ◌-◌, ◌*◌, ◌<◌, ◌≤◌, ◌⊎◌, inl, inr, Bool, true, false, cond, eqb, leb, ltb, min, List, [], ◌∷◌, ◌++◌, length, take, set, get_or, replicate, refl, sym, ap, ◌∙◌, subst, arith}
 use Rattle.std.specs.Prelude.{flat_map}
 use Rattle.std.specs.List.{list_all}
 use Rattle.std.proofs.lemmas.Bool.{and_parts, cases_eq, cases_lt, eq-eqb, ne_eqb, leb-true, ltb-true}
@@ -20,6 +20,7 @@ use Rattle.mj_deeds.specs.Hand.{is_hand_start, hand, before_in}
 use Rattle.mj_deeds.proofs.HandSteps.{hand_with}
 use Rattle.mj_deeds.proofs.Fitted.{Parts, parts_of, past_of, some_hand, of_four, four_of_kind}
 use Rattle.mj_table.proofs.AlikeSeats.{none_lost}
+use Rattle.mj_table.proofs.OneMore.{one_counted}
 use Rattle.mj_table.proofs.OneLess.{number_push}
 use Rattle.mj_table.proofs.Readers.{gained_within, holds_few}
 use Rattle.mj_table.proofs.Spare.{one_more}
@@ -36,49 +37,33 @@ number_next : (tiles : List ℕ) (i tile face : ℕ) → i < length tiles → ti
 number_next tiles i tile face h is =
     ap (λ (xs : List ℕ). number_in xs face) (take_more tiles i tile h ∙ ap (λ x. take i tiles ++ x ∷ []) (sym is)) ∙ number_push (take i tiles) tile face
 
-pub more_at : (held now tiles : List ℕ) (i tile v : ℕ) → i < length tiles → tile ≡ get_or tiles i tile → tile < length now → v ≡ min (get_or now tile 0 + 1) 255 →
-    ((face : ℕ) → get_or held face 0 + number_in (take i tiles) face ≤ 255 → get_or now face 0 ≡ get_or held face 0 + number_in (take i tiles) face) →
-    (face : ℕ) → get_or held face 0 + number_in (take (i + 1) tiles) face ≤ 255 → get_or (set now tile v) face 0 ≡ get_or held face 0 + number_in (take (i + 1) tiles) face
-more_at held now tiles i tile v h is there what was face few = at (cases_eq face tile)
-  where
-    within : (a n m x : ℕ) → m ≡ n + x → a + m ≤ 255 → a + n ≤ 255
-    within a n m x e k = omega (arith, e, k)
-
-    before : get_or now face 0 ≡ get_or held face 0 + number_in (take i tiles) face
-    before = was face (within _ _ _ _ (number_next tiles i tile face h is) few)
-
-    one : (v b a n m x : ℕ) → v ≡ min (b + 1) 255 → b ≡ a + n → m ≡ n + x → x ≡ 1 → a + m ≤ 255 → v ≡ a + m
-    one v b a n m x e f g k l = omega (arith, e, f, g, k, l)
-
-    none : (b a n m x : ℕ) → b ≡ a + n → m ≡ n + x → x ≡ 0 → b ≡ a + m
-    none b a n m x f g k = omega (arith, f, g, k)
-
-    at : (face ≡ tile) ⊎ (face ≡ tile → ⊥) → get_or (set now tile v) face 0 ≡ get_or held face 0 + number_in (take (i + 1) tiles) face
-    at (inl same) =
-        ap (λ f. get_or (set now tile v) f 0) same ∙ get_or-set_same now tile v 0 there
-        ∙ one v (get_or now tile 0) _ _ _ _ what (ap (λ f. get_or now f 0) (sym same) ∙ before) (number_next tiles i tile face h is) (ap (λ b. cond b 1 0) (eq-eqb tile face (sym same))) few
-    at (inr differ) =
-        get_or-set_other now tile face v 0 differ
-        ∙ none _ _ _ _ _ before (number_next tiles i tile face h is) (ap (λ b. cond b 1 0) (ne_eqb tile face (λ e. differ (sym e))))
-
 pub more_there : (held now tiles : List ℕ) (i tile place v : ℕ) → i < length tiles → tile ≡ get_or tiles i tile → place ≡ tile → place < length now → v ≡ min (get_or now place 0 + 1) 255 →
     ((face : ℕ) → get_or held face 0 + number_in (take i tiles) face ≤ 255 → get_or now face 0 ≡ get_or held face 0 + number_in (take i tiles) face) →
     (face : ℕ) → get_or held face 0 + number_in (take (i + 1) tiles) face ≤ 255 → get_or (set now place v) face 0 ≡ get_or held face 0 + number_in (take (i + 1) tiles) face
-more_there held now tiles i tile place v h is at there what was face few =
-    ap (λ p. get_or (set now p v) face 0) at
-    ∙ more_at held now tiles i tile v h is (subst (λ p. p < length now) at there) (what ∙ ap (λ p. min (get_or now p 0 + 1) 255) at) was face few
+more_there held now tiles i tile place v h is at there what was =
+    one_counted held now (λ face. number_in (take i tiles) face) (λ face. number_in (take (i + 1) tiles) face) tile place v (λ face. number_next tiles i tile face h is) at there what was
+
+-- Of no tile a seat holds what is dealt to it.
+pub dealt_alone : (now tiles : List ℕ) →
+    ((face : ℕ) → get_or (replicate 37 0) face 0 + number_in tiles face ≤ 255 → get_or now face 0 ≡ get_or (replicate 37 0) face 0 + number_in tiles face) →
+    (face : ℕ) → number_in tiles face ≤ 255 → get_or now face 0 ≡ number_in tiles face
+dealt_alone now tiles given face few = plain _ _ _ (zero_at 37 face) few (given face)
+  where
+    plain : (z a n : ℕ) → z ≡ 0 → a ≤ 255 → (z + a ≤ 255 → n ≡ z + a) → n ≡ a
+    plain z a n e few g =
+        let told : n ≡ z + a = g (omega (arith, e, few)) in
+        omega (arith, e, told)
 
 -- A start of a hand gives a seat what is dealt to it.
 pub started : (d : Deed) (round number honba deposits dealer indicator : ℕ) (hands : Four (List ℕ)) (seat : ℕ) (held now tiles : List ℕ) → d ≡ StartHand round number honba deposits dealer indicator hands →
-    tiles ≡ at_seat hands seat → ((face : ℕ) → get_or (replicate 37 0) face 0 + number_in tiles face ≤ 255 → get_or now face 0 ≡ get_or (replicate 37 0) face 0 + number_in tiles face) →
-    Moves d seat held now
+    tiles ≡ at_seat hands seat → ((face : ℕ) → number_in tiles face ≤ 255 → get_or now face 0 ≡ number_in tiles face) → Moves d seat held now
 started d round number honba deposits dealer indicator hands seat held now tiles is at given =
-    subst (λ (x : Deed). Moves x seat held now) (sym is) (λ face few. plain _ _ _ _ (zero_at 37 face) (ap (λ (xs : List ℕ). number_in xs face) at) few (given face))
+    subst (λ (x : Deed). Moves x seat held now) (sym is) (λ face few. plain _ _ _ (ap (λ (xs : List ℕ). number_in xs face) at) few (given face))
   where
-    plain : (z a b n : ℕ) → z ≡ 0 → a ≡ b → 0 + b ≤ 255 → (z + a ≤ 255 → n ≡ z + a) → n ≡ 0 + b - 0
-    plain z a b n e f few g =
-        let told : n ≡ z + a = g (omega (arith, e, f, few)) in
-        omega (arith, e, f, told)
+    plain : (a b n : ℕ) → a ≡ b → 0 + b ≤ 255 → (a ≤ 255 → n ≡ a) → n ≡ 0 + b - 0
+    plain a b n f few g =
+        let told : n ≡ a = g (omega (arith, f, few)) in
+        omega (arith, f, told)
 
 -- at most four of a face
 

@@ -106,3 +106,11 @@ lists_none = record { number = refl; at = λ place. none (eqb place 0) (eqb plac
 -- What is listed of other tiles that are the same.
 pub lists_same : (few : FewTiles) (xs ys : List ℕ) → xs ≡ ys → Lists few xs → Lists few ys
 lists_same few xs ys e k = subst (λ (zs : List ℕ). Lists few zs) e k
+
+-- With a tile that is added, and with none.
+pub lists_added : (few : FewTiles) (tiles : List ℕ) (more : Option ℕ) (tile : ℕ) → more ≡ Some tile → length (tiles ++ option_to_list more) ≤ 5 →
+    (length (tiles ++ tile ∷ []) ≤ 5 → Lists few (tiles ++ tile ∷ [])) → Lists few (tiles ++ option_to_list more)
+lists_added few tiles more tile is within step = subst (λ (o : Option ℕ). length (tiles ++ option_to_list o) ≤ 5 → Lists few (tiles ++ option_to_list o)) (sym is) step within
+
+pub lists_stay : (few : FewTiles) (tiles : List ℕ) (more : Option ℕ) → more ≡ None → Lists few tiles → Lists few (tiles ++ option_to_list more)
+lists_stay few tiles more is k = lists_same few _ _ (sym (append-nil tiles) ∙ ap (λ (o : Option ℕ). tiles ++ option_to_list o) (sym is)) k

@@ -1,5 +1,5 @@
 -- Whether a deed fits, by what is kept of the deeds before it.
-use Rattle.std.proofs.Common.{◌≡◌, ℕ, ◌+◌, ◌-◌, ◌<◌, ◌≤◌, ◌&&◌, ◌||◌, not, Bool, true, false, cond, leb, ltb, List, [], ◌∷◌, ◌++◌, length, drop, get_or, refl, sym, ap, ◌∙◌, arith}
+use Rattle.std.proofs.Common.{◌≡◌, ℕ, ◌+◌, ◌-◌, ◌<◌, ◌≤◌, ◌&&◌, ◌||◌, not, Bool, true, false, cond, leb, ltb, List, [], ◌∷◌, ◌++◌, length, drop, get_or, refl, sym, ap, ◌∙◌, subst, arith}
 use Rattle.std.specs.Prelude.{flat_map, nat_lt}
 use Rattle.std.specs.List.{list_any, list_all}
 use Rattle.std.proofs.lemmas.Bool.{and_parts, eq-eqb, le-leb, ltb-true, lt-ltb}
@@ -11,14 +11,16 @@ use Rattle.mj_tiles.specs.declared.meld.Meld.{Meld}
 use Rattle.mj_tiles.proofs.CountSteps.{number_of-append}
 use Rattle.mj_tiles.proofs.EachKind.{all_kinds-pass}
 use Rattle.mj_deeds.specs.declared.deed.Deed.{Deed}
-use Rattle.mj_deeds.specs.declared.deed.Deed.TheVariants.{Draw, AddedKan, ReachAccepted}
-use Rattle.mj_deeds.specs.Facts.{of_seat, losses_by, makes_by, seat_melds, is_kan}
+use Rattle.mj_deeds.specs.declared.deed.Deed.TheVariants.{Draw, Chi, Pon, OpenKan, ClosedKan, AddedKan, ReachAccepted}
+use Rattle.mj_deeds.specs.Facts.{of_seat, losses_by, makes_by, seat_melds, is_call, is_kan}
 use Rattle.mj_deeds.specs.Fits.{are_held, brought_by, fits_in, has_seats, has_held, has_held_by, has_triplet, has_tiles, keeps_kinds, has_room, has_live, is_first_riichi, is_triplet_of}
 use Rattle.mj_table.proofs.Spare.{one_more}
 use Rattle.mj_table.specs.declared.hand_facts.HandFacts.{HandFacts}
+use Rattle.mj_table.specs.declared.seat_facts.SeatFacts.{SeatFacts}
+use Rattle.mj_table.specs.declared.seats.Seats.{Seats}
 use Rattle.mj_table.specs.Inner.Any.{of_any}
-use Rattle.mj_table.specs.Inner.Fitting.{are_four, adds_to_own, keeps_four, has_places, has_tile_left, reaches_first, fits_by}
-use Rattle.mj_table.specs.Inner.Hands.{Knows}
+use Rattle.mj_table.specs.Inner.Fitting.{are_four, adds_to_own, has_places, has_tile_left, reaches_first, fits_by}
+use Rattle.mj_table.specs.Inner.Hands.{Knows, Few}
 
 -- tiles that are held
 
@@ -79,21 +81,47 @@ same_tests f g (x ∷ xs) all same =
     let others = same_tests f g xs parts.1 same in
     λ i. first i && others i
 
-kinds_kept : (hand : List Deed) (facts : HandFacts) (d : Deed) → Knows hand facts → keeps_four facts.brought d ≡ keeps_kinds hand d
+pub kinds_kept : (hand : List Deed) (facts : HandFacts) (d : Deed) (kinds : Bool) → Knows hand facts →
+    kinds ≡ list_all (λ kind. leb (get_or facts.brought kind 0 + number_of (brought_by d) kind) 4) all_kinds → kinds ≡ keeps_kinds hand d
 unfolding has_no_fifth
-kinds_kept hand facts d k =
-    same_tests (λ kind. leb (get_or facts.brought kind 0 + number_of (brought_by d) kind) 4) (λ kind. leb (number_of (flat_map brought_by (hand ++ d ∷ [])) kind) 4) all_kinds
+kinds_kept hand facts d kinds k is =
+    is
+    ∙ same_tests (λ kind. leb (get_or facts.brought kind 0 + number_of (brought_by d) kind) 4) (λ kind. leb (number_of (flat_map brought_by (hand ++ d ∷ [])) kind) 4) all_kinds
     (all_kinds-pass (λ kind. ltb kind 34) (λ kind small. lt-ltb kind 34 small))
     (λ kind small. ap (λ n. leb n 4) (ap (λ n. n + number_of (brought_by d) kind) (k.brought kind small) ∙ sym (number_with kind)))
   where
     number_with : (kind : ℕ) → number_of (flat_map brought_by (hand ++ d ∷ [])) kind ≡ number_of (flat_map brought_by hand) kind + number_of (brought_by d) kind
     number_with kind = ap (λ (xs : List ℕ). number_of xs kind) (one_more brought_by hand d) ∙ number_of-append (flat_map brought_by hand) (brought_by d) kind
 
-places_kept : (hand : List Deed) (facts : HandFacts) (d : Deed) → Knows hand facts → has_places facts.seats d ≡ has_room hand d
-places_kept hand facts d k = λ i. at 0 i && (at 1 i && (at 2 i && (at 3 i && true)))
+-- No kind was brought in more than four times.
+pub few_brought : (hand : List Deed) (facts : HandFacts) → Few hand → Knows hand facts → (kind : ℕ) → kind < 34 → get_or facts.brought kind 0 ≤ 4
+few_brought hand facts few k kind small = subst (λ (n : ℕ). n ≤ 4) (sym (k.brought kind small)) (few.brought kind small)
+
+pub places_kept : (hand : List Deed) (facts : HandFacts) (d : Deed) (places : Bool) → Knows hand facts → places ≡ has_places facts.seats d → places ≡ has_room hand d
+places_kept hand facts d places k is = is ∙ (λ i. at 0 i && (at 1 i && (at 2 i && (at 3 i && true))))
   where
     at : (seat : ℕ) → leb (length (of_any facts.seats seat).melds + length (makes_by seat d)) 4 ≡ leb (length (seat_melds hand seat) + length (makes_by seat d)) 4
     at seat = ap (λ (melds : List Meld). leb (length melds + length (makes_by seat d)) 4) (k.seats seat).melds
+
+-- No seat has more than four melds, and a deed that is no call makes none.
+pub few_melds : (hand : List Deed) (facts : HandFacts) → Few hand → Knows hand facts → (seat : ℕ) → length (of_any facts.seats seat).melds ≤ 4
+few_melds hand facts few k seat = subst (λ (melds : List Meld). length melds ≤ 4) (sym (k.seats seat).melds) (few.melds seat)
+
+none_made : (d : Deed) (seat : ℕ) → is_call d ≡ false → makes_by seat d ≡ []
+none_made (Chi who target tile a b) seat h = cc
+none_made (Pon who target tile a b) seat h = cc
+none_made (OpenKan who target tile a b c) seat h = cc
+none_made (ClosedKan who a b c d) seat h = cc
+none_made other seat h = refl
+
+pub no_call_fits : (seats : Seats SeatFacts) (d : Deed) → is_call d ≡ false → ((seat : ℕ) → length (of_any seats seat).melds ≤ 4) → true ≡ has_places seats d
+no_call_fits seats d none few = λ i. at 0 i && (at 1 i && (at 2 i && (at 3 i && true)))
+  where
+    room : (n m : ℕ) → n ≤ 4 → m ≡ 0 → n + m ≤ 4
+    room n m h e = omega (arith, h, e)
+
+    at : (seat : ℕ) → true ≡ leb (length (of_any seats seat).melds + length (makes_by seat d)) 4
+    at seat = sym (le-leb _ 4 (room (length (of_any seats seat).melds) _ (few seat) (ap length (none_made d seat none))))
 
 live_kept : (hand : List Deed) (facts : HandFacts) (d : Deed) → Knows hand facts → has_tile_left facts d ≡ has_live hand d
 live_kept hand facts (Draw who tile replacement) k = λ i. replacement || nat_lt 0 (70 - k.drawn i - k.kans i)
@@ -104,20 +132,15 @@ first_kept hand facts (ReachAccepted who points bid) k = ap not (k.seats who).ma
 first_kept hand facts other k = refl
 
 -- All parts.
-pub fits_kept : (red held result : Bool) (hand : List Deed) (facts : HandFacts) (d : Deed) → Knows hand facts → held ≡ has_held hand d → result ≡ fits_by red held facts d → result ≡ fits_in red hand d
+pub fits_kept : (red held kinds places result : Bool) (hand : List Deed) (facts : HandFacts) (d : Deed) → Knows hand facts → held ≡ has_held hand d → kinds ≡ keeps_kinds hand d →
+    places ≡ has_room hand d → result ≡ fits_by red held kinds places facts d → result ≡ fits_in red hand d
 unfolding fits_by fits_in
-fits_kept red held result hand facts d k h is =
+fits_kept red held kinds places result hand facts d k h j p is =
     is
-    ∙ (λ i. has_seats d && h i && adds i && has_tiles red d && kinds i && places i && live i && first i)
+    ∙ (λ i. has_seats d && h i && adds i && has_tiles red d && j i && p i && live i && first i)
   where
     adds : adds_to_own facts.seats d ≡ has_triplet hand d
     adds = adds_kept hand facts d k
-
-    kinds : keeps_four facts.brought d ≡ keeps_kinds hand d
-    kinds = kinds_kept hand facts d k
-
-    places : has_places facts.seats d ≡ has_room hand d
-    places = places_kept hand facts d k
 
     live : has_tile_left facts d ≡ has_live hand d
     live = live_kept hand facts d k

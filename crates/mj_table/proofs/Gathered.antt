@@ -1,8 +1,7 @@
 -- What a list gives, item after item.
-use Rattle.std.proofs.Common.{◌≡◌, ℕ, ◌+◌, ◌-◌, ◌<◌, List, ◌++◌, length, take, get_or, Bool, true, false, not, cond, Option, Some, None, refl, sym, ap, ◌∙◌, append-nil}
-use Rattle.std.specs.Prelude.{[], ◌∷◌, slice_get, option_to_list, flat_map, filter}
+use Rattle.std.proofs.Common.{◌≡◌, ℕ, ◌-◌, List, ◌++◌, length, Bool, true, false, not, cond, Option, Some, None, refl, sym, ap, ◌∙◌, append-nil}
+use Rattle.std.specs.Prelude.{[], ◌∷◌, slice_get, option_to_list, filter}
 use Rattle.std.specs.Option.{option_or}
-use Rattle.std.proofs.lemmas.List.{take_more, flat_map_more}
 use Rattle.std.proofs.lemmas.List.Elements.{filter-append}
 use Rattle.mj_deeds.proofs.Newest.{last_added}
 

@@ -59,9 +59,9 @@ kans_with ds d kept result more few was is told = counted_is kept (kans ds) (kan
 
 -- How many tiles of each kind were brought in.
 pub brought_with : (ds : List Deed) (d : Deed) (kept result : List ℕ) → ((kind : ℕ) → kind < 34 → number_of (flat_map brought_by (ds ++ d ∷ [])) kind ≤ 4) → Brings ds kept →
-    ((kind : ℕ) → kind < 34 → get_or kept kind 0 + number_of (brought_by d) kind ≤ 255 → get_or result kind 0 ≡ get_or kept kind 0 + number_of (brought_by d) kind) → Brings (ds ++ d ∷ []) result
+    ((kind : ℕ) → get_or kept kind 0 + number_of (brought_by d) kind ≤ 255 → get_or result kind 0 ≡ get_or kept kind 0 + number_of (brought_by d) kind) → Brings (ds ++ d ∷ []) result
 brought_with ds d kept result few was told kind small =
-    sum _ _ _ _ _ (was kind small) (number_with kind) (few kind small) (told kind small)
+    sum _ _ _ _ _ (was kind small) (number_with kind) (few kind small) (told kind)
   where
     number_with : (kind : ℕ) → number_of (flat_map brought_by (ds ++ d ∷ [])) kind ≡ number_of (flat_map brought_by ds) kind + number_of (brought_by d) kind
     number_with kind = ap (λ (xs : List ℕ). number_of xs kind) (one_more brought_by ds d) ∙ number_of-append (flat_map brought_by ds) (brought_by d) kind
@@ -193,6 +193,10 @@ few_in_hand red ds fit = record {
   where
     chain : (n m : ℕ) → n ≤ m → m ≤ 4 → n ≤ 5
     chain n m h k = omega (arith, h, k)
+
+-- Of no deeds either.
+pub few_none : Few []
+few_none = subst Few hand_none (few_in_hand true [] refl)
 
 -- the hand
 

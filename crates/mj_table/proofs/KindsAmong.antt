@@ -1,9 +1,8 @@
 -- The set of the kinds that stand among tiles, one tile after another.
-use Rattle.std.proofs.Common.{◌≡◌, ℕ, ◌+◌, ◌<◌, ◌||◌, Bool, true, false, cond, eqb, ltb, List, [], ◌∷◌, ◌++◌, length, take, get_or, refl, sym, ap, ◌∙◌, arith, append-nil, append_assoc}
-use Rattle.std.specs.Prelude.{Option, Some, None, option_to_list}
+use Rattle.std.proofs.Common.{◌≡◌, ℕ, ◌+◌, ◌<◌, ◌||◌, Bool, true, false, cond, eqb, ltb, List, [], ◌∷◌, ◌++◌, refl, sym, ap, ◌∙◌, arith, append-nil, append_assoc}
+use Rattle.std.specs.Prelude.{Option, Some, option_to_list}
 use Rattle.std.specs.List.{list_any}
 use Rattle.std.proofs.lemmas.Bool.Decides.{nat_tests}
-use Rattle.std.proofs.lemmas.List.{take_more}
 use Rattle.std.proofs.lemmas.List.Recursion.{or_push}
 use Rattle.mj_tiles.specs.Faces.{kind_of}
 use Rattle.mj_tiles.specs.Counts.{all_kinds, number_of}
@@ -13,7 +12,7 @@ use Rattle.mj_tiles.proofs.KindSets.{with_kind-within, has_kind-with, has_kind-k
 use Rattle.mj_deeds.specs.declared.deed.Deed.{Deed}
 use Rattle.mj_deeds.specs.declared.deed.Deed.TheVariants.{Discard}
 use Rattle.mj_deeds.specs.Facts.{is_discard_by}
-use Rattle.mj_deeds.specs.Passed.{kinds_among, offers_to, offered_tiles, passed_before}
+use Rattle.mj_deeds.specs.Passed.{kinds_among, offers_to, offered_tiles}
 
 -- No tiles have no kinds.
 pub none_among : no_kinds ≡ kinds_among []

@@ -15,7 +15,9 @@ mod MarksKept
 mod MeldsKept
 mod Readers
 pub mod OneLess
+mod OneMore
 mod RoomSteps
 mod SeatsKept
+mod SeatTurns
 mod Spare
 pub mod WinSteps

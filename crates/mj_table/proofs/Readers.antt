@@ -40,7 +40,7 @@ use Rattle.mj_deeds.proofs.Fitted.{all_fit-append, four_of_kind, parts_of}
 
 -- the tiles that are held
 
-number_of-cons : (tile : ℕ) (tiles : List ℕ) (kind : ℕ) → number_of (tile ∷ tiles) kind ≡ cond (eqb (kind_of tile) kind) 1 0 + number_of tiles kind
+pub number_of-cons : (tile : ℕ) (tiles : List ℕ) (kind : ℕ) → number_of (tile ∷ tiles) kind ≡ cond (eqb (kind_of tile) kind) 1 0 + number_of tiles kind
 number_of-cons tile tiles kind = sum_by-cons (λ t. cond (eqb (kind_of t) kind) 1 0) tile tiles
 
 dealt_within : (a b c d : List ℕ) (indicator kind : ℕ) (p q r : Bool) →

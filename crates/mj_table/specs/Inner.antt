@@ -8,4 +8,5 @@ pub mod Fitting
 pub mod Hands
 pub mod Kept
 pub mod Latest
+pub mod Passing
 pub mod Seats

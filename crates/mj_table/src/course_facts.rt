@@ -1,6 +1,7 @@
-ghost use Rattle.std.specs.Prelude.{◌≡◌, ◌≤◌, ◌||◌, ◌==◌, ◌++◌, ◌∷◌, [], ℕ, List, if◌then◌else◌, length, option_map, option_to_list};
+ghost use Rattle.std.specs.Prelude.{◌≡◌, ◌≤◌, ◌||◌, ◌==◌, ◌++◌, ◌∷◌, [], ℕ, Bool, List, if◌then◌else◌, length, option_map, option_to_list};
 ghost use Rattle.std.specs.Option.{option_or};
 ghost use Rattle.mj_deeds.specs.declared.deed.Deed.{Deed};
+ghost use Rattle.mj_deeds.specs.declared.deed.Deed.TheVariants as deeds;
 ghost use Rattle.mj_deeds.specs.Ends.{draws_by};
 ghost use Rattle.mj_deeds.specs.Facts.{indicators};
 ghost use Rattle.mj_deeds.specs.Four.{at_seat};
@@ -64,32 +65,43 @@ pub(crate) fn no_course() -> CourseFacts
     }
 }
 
-// What is kept with a deed of the same hand more.
-pub(crate) fn course_after(course: &CourseFacts, deed: &Deed) -> CourseFacts
+// Follows the course by a deed of the same hand more.
+pub(crate) fn follow(course: &mut CourseFacts, deed: &Deed)
     ensures { (before : List Deed) → length (indicators (before ++ deed.now ∷ [])) ≤ 5
-        → Follows before course.now → Follows (before ++ deed.now ∷ []) result }
+        → Follows before course.old → Follows (before ++ deed.now ∷ []) course.new }
+{
+    match deed {
+        Deed::Draw { .. } => {}
+        Deed::Discard { .. } => take_turn(course, deed),
+        _ => follow_other(course, deed),
+    }
+}
+
+// Follows the course by a deed that is a discard.
+fn take_turn(course: &mut CourseFacts, deed: &Deed)
+    ensures { (before : List Deed) → (from tile : ℕ) → (drawn : Bool)
+        → deed.now ≡ deeds.Discard from tile drawn → Follows before course.old
+        → Follows (before ++ deed.now ∷ []) course.new }
+{
+    put_kind(&mut course.kinds, course.turns, deed);
+    course.turns = counted(course.turns, true);
+}
+
+// Follows the course by a deed that is no draw and no discard.
+fn follow_other(course: &mut CourseFacts, deed: &Deed)
+    ensures { (before : List Deed) → length (indicators (before ++ deed.now ∷ [])) ≤ 5
+        → Follows before course.old → Follows (before ++ deed.now ∷ []) course.new }
 {
     let kan = seat_of_kan(deed);
-    let shown = course.shown.with(shown_by(deed));
-    let several = either(course.several, is_another(course.first_kan, kan));
-    let turns = counted(course.turns, is_turn(deed));
-    let kinds = kinds_after(&course.kinds, course.turns, deed);
-    let riichis = counted(course.riichis, is_deposit(deed));
-    let won = either(course.won, is_win(deed));
-    let first_kan = course.first_kan.or(kan);
-    let newest_kan = kan.or(course.newest_kan);
-    let draw = first_draw(course.draw, draw_by(deed));
-    CourseFacts {
-        shown,
-        first_kan,
-        newest_kan,
-        several,
-        turns,
-        kinds,
-        riichis,
-        won,
-        draw,
-    }
+    course.shown.add(shown_by(deed));
+    course.several = either(course.several, is_another(course.first_kan, kan));
+    course.first_kan = course.first_kan.or(kan);
+    course.newest_kan = kan.or(course.newest_kan);
+    put_kind(&mut course.kinds, course.turns, deed);
+    course.turns = counted(course.turns, is_turn(deed));
+    course.riichis = counted(course.riichis, is_deposit(deed));
+    course.won = either(course.won, is_win(deed));
+    keep_first(&mut course.draw, draw_by(deed));
 }
 
 // The first is so, or the second.
@@ -112,41 +124,40 @@ fn is_another(first: Option<u8>, kan: Option<u8>) -> bool
     }
 }
 
-// The kinds that the first four discards and calls discarded, a deed further, which comes behind so many of them.
-fn kinds_after(kinds: &Four<Option<Kind>>, turns: u8, deed: &Deed) -> Four<Option<Kind>>
-    ensures { (place : ℕ) → place ≤ 3 → at_seat result place
+// Puts the kind that a deed discards to those of the first four discards and calls, where it is one and comes behind so
+// many of them.
+fn put_kind(kinds: &mut Four<Option<Kind>>, turns: u8, deed: &Deed)
+    ensures { (place : ℕ) → place ≤ 3 → at_seat kinds.new place
         ≡ (if turns == place then (if is_turn deed.now then discarded_kind deed.now else
-        at_seat kinds.now place) else at_seat kinds.now place) }
+        at_seat kinds.old place) else at_seat kinds.old place) }
 {
-    Four {
-        first: kind_after(kinds.first, turns == 0, deed),
-        second: kind_after(kinds.second, turns == 1, deed),
-        third: kind_after(kinds.third, turns == 2, deed),
-        fourth: kind_after(kinds.fourth, turns == 3, deed),
-    }
+    put_at(&mut kinds.first, turns == 0, deed);
+    put_at(&mut kinds.second, turns == 1, deed);
+    put_at(&mut kinds.third, turns == 2, deed);
+    put_at(&mut kinds.fourth, turns == 3, deed);
 }
 
-// The kind that was discarded at a place, at which a deed stands where it is the next discard or call.
-fn kind_after(kind: Option<Kind>, is_next: bool, deed: &Deed) -> Option<Kind>
-    ensures { result ≡ (if is_next then (if is_turn deed.now then discarded_kind deed.now else kind)
-        else kind) }
+// Puts the kind that a deed discards to a place, at which it stands where it is the next discard or call.
+fn put_at(kind: &mut Option<Kind>, is_next: bool, deed: &Deed)
+    ensures { kind.new ≡ (if is_next then (if is_turn deed.now then discarded_kind deed.now else
+        kind.old) else kind.old) }
 {
     if is_next {
         if is_turn(deed) {
-            return discarded_kind(deed);
+            *kind = discarded_kind(deed);
+            return;
         }
-        return kind;
+        return;
     }
-    kind
 }
 
-// The draw before, or else the one now.
-fn first_draw(before: Option<HandDraw>, now: Option<HandDraw>) -> Option<HandDraw>
-    ensures { result ≡ option_or before now }
+// Keeps the draw before, or else the one now.
+fn keep_first(draw: &mut Option<HandDraw>, now: Option<HandDraw>)
+    ensures { draw.new ≡ option_or draw.old now }
 {
-    match before {
-        Some(draw) => Some(draw),
-        None => now,
+    match draw {
+        Some(_) => {}
+        None => *draw = now,
     }
 }
 

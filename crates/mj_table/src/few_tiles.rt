@@ -1,5 +1,4 @@
-ghost use Rattle.std.specs.Prelude.{◌≡◌, ◌≤◌, ◌++◌, [], ℕ, List, if◌then◌else◌, length, option_to_list};
-ghost use Rattle.std.specs.Option.{option_or};
+ghost use Rattle.std.specs.Prelude.{◌≡◌, ◌≤◌, ◌++◌, ◌∷◌, [], ℕ, List, Some, if◌then◌else◌, length, option_to_list};
 ghost use Rattle.mj_table.specs.Inner.Few.{tile_at, Lists};
 
 use crate::counted::counted;
@@ -31,25 +30,28 @@ impl FewTiles {
         }
     }
 
-    // These tiles, and one more, where there is one.
-    pub(crate) fn with(&self, tile: Option<Tile>) -> FewTiles
+    // Adds a tile, where there is one.
+    pub(crate) fn add(&mut self, tile: Option<Tile>)
         ensures { (tiles : List ℕ) → length (tiles ++ option_to_list tile) ≤ 5
-            → Lists self.now tiles → Lists result (tiles ++ option_to_list tile) }
+            → Lists self.old tiles → Lists self.new (tiles ++ option_to_list tile) }
     {
-        let number = counted(self.number, tile.is_some());
-        let first = placed(self.first, self.number == 0, tile);
-        let second = placed(self.second, self.number == 1, tile);
-        let third = placed(self.third, self.number == 2, tile);
-        let fourth = placed(self.fourth, self.number == 3, tile);
-        let fifth = placed(self.fifth, self.number == 4, tile);
-        FewTiles {
-            number,
-            first,
-            second,
-            third,
-            fourth,
-            fifth,
+        match tile {
+            Some(tile) => self.push(tile),
+            None => {}
         }
+    }
+
+    // Adds a tile.
+    fn push(&mut self, tile: Tile)
+        ensures { (tiles : List ℕ) → length (tiles ++ tile ∷ []) ≤ 5 → Lists self.old tiles
+            → Lists self.new (tiles ++ tile ∷ []) }
+    {
+        self.first = placed(self.first, self.number == 0, tile);
+        self.second = placed(self.second, self.number == 1, tile);
+        self.third = placed(self.third, self.number == 2, tile);
+        self.fourth = placed(self.fourth, self.number == 3, tile);
+        self.fifth = placed(self.fifth, self.number == 4, tile);
+        self.number = counted(self.number, true);
     }
 }
 
@@ -68,8 +70,8 @@ pub(crate) fn no_tiles() -> FewTiles
 }
 
 // What stands in a place, into which a further tile comes where it is the next one.
-fn placed(kept: Option<Tile>, is_next: bool, tile: Option<Tile>) -> Option<Tile>
-    ensures { result ≡ (if is_next then option_or tile kept else kept) }
+fn placed(kept: Option<Tile>, is_next: bool, tile: Tile) -> Option<Tile>
+    ensures { result ≡ (if is_next then Some tile else kept) }
 {
-    if is_next { tile.or(kept) } else { kept }
+    if is_next { Some(tile) } else { kept }
 }

@@ -5,7 +5,7 @@ ghost use Rattle.mj_deeds.specs.Facts.{losses_by, makes_by};
 ghost use Rattle.mj_deeds.specs.Fits.{are_held, fits_in, has_held};
 ghost use Rattle.mj_table.specs.Inner.Any.{of_any};
 ghost use Rattle.mj_table.specs.Inner.Fitting.{fits_by, adds_to_own, are_four, has_place_for, has_places, has_tile_left, reaches_first};
-ghost use Rattle.mj_table.specs.Inner.Hands.{Knows};
+ghost use Rattle.mj_table.specs.Inner.Hands.{Knows, Few};
 ghost use Rattle.mj_table.specs.Inner.Kept.{Holds};
 
 use crate::bringing::keeps_kinds;
@@ -13,28 +13,32 @@ use crate::hand_facts::{HandFacts, is_kan};
 use crate::meld_steps::has_triplet;
 use crate::seat_facts::SeatFacts;
 use crate::seats::Seats;
-use mj_deeds::{Deed, has_seats, has_tiles, made};
+use mj_deeds::{Deed, has_seats, has_tiles, is_call, made};
 use mj_tiles::{Tile, number_among};
 
 // Whether a deed fits behind the deeds before it in its own hand, of which is kept what the seats hold, and their facts.
 pub(crate) fn fits_in(red: bool, held: &Seats<[u8; 37]>, facts: &HandFacts, deed: &Deed) -> bool
     ensures { (hand : List Deed) → ((seat : ℕ) → Holds hand seat (of_any held.now seat))
-        → Knows hand facts.now → result ≡ fits_in red hand deed.now }
+        → Few hand → Knows hand facts.now → result ≡ fits_in red hand deed.now }
 {
-    fits_by(red, has_held(held, deed), facts, deed)
+    let held = has_held(held, deed);
+    let kinds = keeps_kinds(&facts.brought, deed);
+    let places = has_places(&facts.seats, deed);
+    fits_by(red, held, kinds, places, facts, deed)
 }
 
-// The same, where the seats hold the tiles that they put down, or don't.
+// The same, where the seats hold the tiles that they put down, or don't, no kind is brought in a fifth time, or one is,
+// and no seat has a fifth meld, or one has.
 #[tactic(auto, unfolding(crate::specs::Inner::Fitting::fits_by))]
-fn fits_by(red: bool, held: bool, facts: &HandFacts, deed: &Deed) -> bool
-    ensures { result ≡ fits_by red held facts.now deed.now }
+fn fits_by(red: bool, held: bool, kinds: bool, places: bool, facts: &HandFacts, deed: &Deed) -> bool
+    ensures { result ≡ fits_by red held kinds places facts.now deed.now }
 {
     has_seats(deed)
         && held
         && adds_to_pon(&facts.seats, deed)
         && has_tiles(red, deed)
-        && keeps_kinds(&facts.brought, deed)
-        && has_places(&facts.seats, deed)
+        && kinds
+        && places
         && has_tile_left(facts, deed)
         && reaches_first(&facts.seats, deed)
 }
@@ -135,10 +139,14 @@ fn adds_to_pon(seats: &Seats<SeatFacts>, deed: &Deed) -> bool
     }
 }
 
-// Whether no seat has a fifth meld with a deed.
+// Whether no seat has a fifth meld with a deed, where none has one before it.
 fn has_places(seats: &Seats<SeatFacts>, deed: &Deed) -> bool
-    ensures { result ≡ has_places seats.now deed.now }
+    ensures { ((seat : ℕ) → length (of_any seats.now seat).melds ≤ 4) → result
+        ≡ has_places seats.now deed.now }
 {
+    if !is_call(deed) {
+        return true;
+    }
     has_place_for(seats, deed, 0)
         && has_place_for(seats, deed, 1)
         && has_place_for(seats, deed, 2)

@@ -5,10 +5,10 @@ ghost use Rattle.mj_deeds.specs.Fits.{has_seats};
 ghost use Rattle.mj_table.specs.Inner.Kept.{hand_with};
 ghost use Rattle.mj_table.specs.Inner.Hands.{Knows, Few};
 
-use crate::bringing::brought_after;
+use crate::bringing::bring;
 use crate::counted::counted;
-use crate::course_facts::{CourseFacts, course_after, no_course};
-use crate::seat_facts::{SeatFacts, each_after, no_seats};
+use crate::course_facts::{CourseFacts, follow, no_course};
+use crate::seat_facts::{SeatFacts, keep_each, no_seats};
 use crate::seats::Seats;
 use mj_deeds::{Deed, is_hand_start};
 
@@ -50,39 +50,34 @@ pub(crate) fn no_facts() -> HandFacts
     }
 }
 
-// What is kept of the newest hand with a deed more.
-pub(crate) fn facts_after(facts: &HandFacts, deed: &Deed) -> HandFacts
+// Learns a deed more of the newest hand, or the first one of a hand that it starts.
+pub(crate) fn learn(facts: &mut HandFacts, deed: &Deed)
     ensures { (before : List Deed) → has_seats deed.now ≡ true
-        → Few (hand_with before deed.now) → Knows before facts.now
-        → Knows (hand_with before deed.now) result }
+        → Few (hand_with before deed.now) → Knows before facts.old
+        → Knows (hand_with before deed.now) facts.new }
 {
     if is_hand_start(deed) {
-        return facts_with(&no_facts(), deed);
+        *facts = no_facts();
+        learn_more(facts, deed);
+        return;
     }
     if facts.begun {
-        return facts_with(facts, deed);
+        learn_more(facts, deed);
+        return;
     }
-    *facts
 }
 
-// What is kept with a deed of the same hand more.
-fn facts_with(facts: &HandFacts, deed: &Deed) -> HandFacts
+// Learns a deed of the same hand more.
+fn learn_more(facts: &mut HandFacts, deed: &Deed)
     ensures { (before : List Deed) → has_seats deed.now ≡ true → Few (before ++ deed.now ∷ [])
-        → Knows before facts.now → Knows (before ++ deed.now ∷ []) result }
+        → Knows before facts.old → Knows (before ++ deed.now ∷ []) facts.new }
 {
-    let drawn = counted(facts.drawn, is_live_draw(deed));
-    let kans = counted(facts.kans, is_kan(deed));
-    let brought = brought_after(&facts.brought, deed);
-    let course = course_after(&facts.course, deed);
-    let seats = each_after(&facts.seats, deed);
-    HandFacts {
-        begun: true,
-        drawn,
-        kans,
-        brought,
-        course,
-        seats,
-    }
+    facts.begun = true;
+    facts.drawn = counted(facts.drawn, is_live_draw(deed));
+    facts.kans = counted(facts.kans, is_kan(deed));
+    bring(&mut facts.brought, deed);
+    follow(&mut facts.course, deed);
+    keep_each(&mut facts.seats, deed);
 }
 
 // Whether a deed draws a live tile.

@@ -8,25 +8,16 @@ use crate::seats::Seats;
 use mj_deeds::{Deed, Four};
 use mj_tiles::Tile;
 
-// How many tiles of each face the seats hold after a deed, where they held so many before it.
-pub(crate) fn held_after(held: &Seats<[u8; 37]>, deed: &Deed) -> Seats<[u8; 37]>
+// Moves the tiles of the seats by a deed, of which they hold so many of each face.
+pub(crate) fn move_tiles(held: &mut Seats<[u8; 37]>, deed: &Deed)
     ensures { (seat : ℕ) → has_seats deed.now ≡ true
-        → Moves deed.now seat (of_any held.now seat) (of_any result seat) }
+        → Moves deed.now seat (of_any held.old seat) (of_any held.new seat) }
 {
-    let first = seat_after(held.four.first, 0, deed);
-    let second = seat_after(held.four.second, 1, deed);
-    let third = seat_after(held.four.third, 2, deed);
-    let fourth = seat_after(held.four.fourth, 3, deed);
-    let others = seat_after(held.others, 4, deed);
-    Seats {
-        four: Four {
-            first,
-            second,
-            third,
-            fourth,
-        },
-        others,
-    }
+    move_own(&mut held.four.first, 0, deed);
+    move_own(&mut held.four.second, 1, deed);
+    move_own(&mut held.four.third, 2, deed);
+    move_own(&mut held.four.fourth, 3, deed);
+    move_own(&mut held.others, 4, deed);
 }
 
 // What the seats hold before a hand.
@@ -44,80 +35,84 @@ pub(crate) fn nothing_held() -> Seats<[u8; 37]>
     }
 }
 
-// How many tiles of each face a seat holds after a deed: a start of a hand deals to it, it draws one, or it puts down
-// tiles of its own.
-fn seat_after(held: [u8; 37], seat: u8, deed: &Deed) -> [u8; 37]
-    ensures { Moves deed.now seat held result }
+// Moves the tiles of a seat by a deed: a start of a hand deals to it, it draws one, or it puts down tiles of its own.
+fn move_own(held: &mut [u8; 37], seat: u8, deed: &Deed)
+    ensures { Moves deed.now seat held.old held.new }
 {
     match deed {
-        Deed::StartHand { hands, .. } => with(&[0; 37], hands.at(seat.min(3))),
+        Deed::StartHand { hands, .. } => deal(held, hands.at(seat.min(3))),
         Deed::Draw {
             seat: who,
             tile,
             ..
-        } if *who == seat => with(&held, &[*tile]),
+        } if *who == seat => take_up(held, &[*tile]),
         Deed::Discard {
             seat: who,
             tile,
             ..
-        } if *who == seat => without(held, &[*tile]),
+        } if *who == seat => put_down(held, &[*tile]),
         Deed::Chi {
             seat: who,
             a,
             b,
             ..
-        } if *who == seat => without(held, &[*a, *b]),
+        } if *who == seat => put_down(held, &[*a, *b]),
         Deed::Pon {
             seat: who,
             a,
             b,
             ..
-        } if *who == seat => without(held, &[*a, *b]),
+        } if *who == seat => put_down(held, &[*a, *b]),
         Deed::OpenKan {
             seat: who,
             a,
             b,
             c,
             ..
-        } if *who == seat => without(held, &[*a, *b, *c]),
+        } if *who == seat => put_down(held, &[*a, *b, *c]),
         Deed::ClosedKan {
             seat: who,
             a,
             b,
             c,
             d,
-        } if *who == seat => without(held, &[*a, *b, *c, *d]),
+        } if *who == seat => put_down(held, &[*a, *b, *c, *d]),
         Deed::AddedKan {
             seat: who,
             tile,
             ..
-        } if *who == seat => without(held, &[*tile]),
-        _ => held,
+        } if *who == seat => put_down(held, &[*tile]),
+        _ => {}
     }
+}
+
+// These tiles of each face, and no others; a number above 255 counts as 255.
+fn deal(held: &mut [u8; 37], tiles: &[Tile])
+    ensures { (face : ℕ) → number_in tiles.now face ≤ 255
+        → slice_index held.new face ≡ number_in tiles.now face }
+{
+    *held = [0; 37];
+    take_up(held, tiles);
 }
 
 // So many of each face, and these tiles more; a number above 255 counts as 255.
-fn with(held: &[u8; 37], tiles: &[Tile]) -> [u8; 37]
-    ensures { (face : ℕ) → slice_index held.now face + number_in tiles.now face ≤ 255
-        → slice_index result face ≡ slice_index held.now face + number_in tiles.now face }
+fn take_up(held: &mut [u8; 37], tiles: &[Tile])
+    ensures { (face : ℕ) → slice_index held.old face + number_in tiles.now face ≤ 255
+        → slice_index held.new face ≡ slice_index held.old face + number_in tiles.now face }
 {
-    let mut more = *held;
     for tile in tiles {
         let place = usize::from(tile.face());
-        more[place] = more[place].saturating_add(1);
+        held[place] = held[place].saturating_add(1);
     }
-    more
 }
 
 // So many of each face less these tiles.
-fn without(held: [u8; 37], tiles: &[Tile]) -> [u8; 37]
-    ensures { (face : ℕ) → slice_index result face
-        ≡ slice_index held face - number_in tiles.now face }
+fn put_down(held: &mut [u8; 37], tiles: &[Tile])
+    ensures { (face : ℕ) → slice_index held.new face
+        ≡ slice_index held.old face - number_in tiles.now face }
 {
-    let mut left = held;
     for tile in tiles {
         let place = usize::from(tile.face());
-        left[place] = left[place].saturating_sub(1);
+        held[place] = held[place].saturating_sub(1);
     }
-    left
 }

@@ -1,36 +1,84 @@
-ghost use Rattle.std.specs.Prelude.{◌≡◌, IfOk, OnErr, OnOk, Some, option_copied};
-ghost use Rattle.mj_table.specs.Inner.Latest.{is_after_win, previous_with};
+ghost use Rattle.std.specs.Prelude.{◌≡◌, IfOk, OnErr, OnOk, None, Some, option_copied};
+ghost use Rattle.mj_table.specs.Inner.Latest.{is_after_win, newest_of, previous_of, previous_with};
 
 use crate::winning::is_win;
 use mj_deeds::{Deed, is_hand_start};
 use std::alloc::AllocError;
 
-// Adds a deed: it is the newest one, and the one before it in its hand stands beside it, before wins the newest one that
-// is none. Where memory is wanting nothing changes.
-pub(crate) fn add(
-    newest: &mut Option<Deed>,
-    previous: &mut Option<Deed>,
-    begun: bool,
-    deed: &Deed,
-) -> Result<(), AllocError>
-    ensures last { OnOk result (newest.new ≡ Some deed.now) }
-    ensures beside { OnOk result (previous.new
-        ≡ previous_with begun previous.old newest.old deed.now) }
-    ensures err { OnErr result ((newest.new ≡ newest.old) × (previous.new ≡ previous.old)) }
-{
-    let copy = deed.copy()?;
-    if !begun || is_hand_start(deed) {
-        *previous = None;
-        *newest = Some(copy);
-        return Ok(());
+// The newest deed, and the one before it in its hand, before wins the newest that is none. They stand in two places, and the
+// newest in the second one where these are turned, so that a further deed moves neither.
+#[derive(Drop)]
+pub(crate) struct Latest {
+    pub first: Option<Deed>,
+    pub second: Option<Deed>,
+    pub turned: bool,
+}
+
+impl Latest {
+    // Of no deeds neither.
+    pub(crate) fn none() -> Latest
+        ensures newest { newest_of result ≡ None }
+        ensures previous { previous_of result ≡ None }
+    {
+        Latest {
+            first: None,
+            second: None,
+            turned: false,
+        }
     }
-    if is_win(deed) && is_after_win(newest.as_ref()) {
-        *newest = Some(copy);
-        return Ok(());
+
+    // The newest deed.
+    pub(crate) fn newest(&self) -> Option<&Deed>
+        ensures { option_copied result ≡ newest_of self.now }
+    {
+        if self.turned {
+            return self.second.as_ref();
+        }
+        self.first.as_ref()
     }
-    *previous = newest.take();
-    *newest = Some(copy);
-    Ok(())
+
+    // The one that stands beside it.
+    pub(crate) fn previous(&self) -> Option<&Deed>
+        ensures { option_copied result ≡ previous_of self.now }
+    {
+        if self.turned {
+            return self.first.as_ref();
+        }
+        self.second.as_ref()
+    }
+
+    // Adds a deed: it is the newest one, and the one before it in its hand stands beside it, before wins the newest one
+    // that is none. Where memory is wanting nothing changes.
+    pub(crate) fn add(&mut self, begun: bool, deed: &Deed) -> Result<(), AllocError>
+        ensures last { OnOk result (newest_of self.new ≡ Some deed.now) }
+        ensures beside { OnOk result (previous_of self.new
+            ≡ previous_with begun (previous_of self.old) (newest_of self.old) deed.now) }
+        ensures err { OnErr result (self.new ≡ self.old) }
+    {
+        let copy = once_more(deed)?;
+        if !begun || is_hand_start(deed) {
+            self.first = Some(copy);
+            self.second = None;
+            self.turned = false;
+            return Ok(());
+        }
+        if !is_win(deed) || !is_after_win(self.newest()) {
+            if self.turned {
+                self.first = Some(copy);
+                self.turned = false;
+                return Ok(());
+            }
+            self.second = Some(copy);
+            self.turned = true;
+            return Ok(());
+        }
+        if self.turned {
+            self.second = Some(copy);
+            return Ok(());
+        }
+        self.first = Some(copy);
+        Ok(())
+    }
 }
 
 // Whether the newest deed is a win.
@@ -43,12 +91,35 @@ pub(crate) fn is_after_win(newest: Option<&Deed>) -> bool
     }
 }
 
+// The same deed once more. Draws and discards, nine of ten deeds, are made here: the copy of any deed costs more.
+fn once_more(deed: &Deed) -> Result<Deed, AllocError>
+    ensures { IfOk result (λ copy. copy ≡ deed.now) }
+{
+    match deed {
+        Deed::Draw {
+            seat,
+            tile,
+            replacement,
+        } => Ok(Deed::Draw {
+            seat: *seat,
+            tile: *tile,
+            replacement: *replacement,
+        }),
+        Deed::Discard { seat, tile, drawn } => Ok(Deed::Discard {
+            seat: *seat,
+            tile: *tile,
+            drawn: *drawn,
+        }),
+        _ => deed.copy(),
+    }
+}
+
 // The same deed once more, where there is one.
 pub(crate) fn copy_of(deed: Option<&Deed>) -> Result<Option<Deed>, AllocError>
     ensures { IfOk result (λ copy. copy ≡ option_copied deed.entry) }
 {
     match deed {
-        Some(deed) => Ok(Some(deed.copy()?)),
+        Some(deed) => Ok(Some(once_more(deed)?)),
         None => Ok(None),
     }
 }

@@ -1,7 +1,6 @@
-ghost use Rattle.std.specs.Prelude.{◌≡◌, ◌||◌, ◌&&◌, [], ℕ, List, not, if◌then◌else◌};
+ghost use Rattle.std.specs.Prelude.{◌≡◌, ◌||◌, ◌&&◌, [], ℕ, List, true, not, if◌then◌else◌};
 ghost use Rattle.mj_deeds.specs.declared.deed.Deed.{Deed};
-ghost use Rattle.mj_deeds.specs.Facts.{is_discard_by};
-ghost use Rattle.mj_deeds.specs.Firsts.{ends_first};
+ghost use Rattle.mj_deeds.specs.Facts.{is_call};
 ghost use Rattle.mj_deeds.specs.Hand.{is_hand_start};
 ghost use Rattle.mj_deeds.specs.Points.{is_win};
 ghost use Rattle.mj_deeds.specs.Riichi.{is_reach_by, is_accepted_by};
@@ -10,10 +9,9 @@ ghost use Rattle.mj_table.specs.Marks.{marks};
 ghost use Rattle.mj_table.specs.Inner.Seats.{KeepsMarks};
 
 use crate::marks::Marks;
-use crate::passed::is_discard_by;
-use crate::riichi::{ends_first, is_reach_by};
+use crate::riichi::is_reach_by;
 use crate::winning::is_win;
-use mj_deeds::{Deed, is_hand_start};
+use mj_deeds::{Deed, is_call, is_hand_start};
 
 // What is kept of a seat's riichi and of its first turn in one hand.
 #[derive(Clone, Copy)]
@@ -54,6 +52,34 @@ impl MarkFacts {
     {
         is_first_alone(self.begun, self.ended)
     }
+
+    // Goes on by a deed that ends no turn of the seat, and is no deed of its riichi.
+    pub(crate) fn go_on(&mut self)
+        ensures { self.new ≡ record self.old {
+          ippatsu = self.old.accepted && not self.old.broken;
+          given = self.old.accepted && not self.old.broken;
+        } }
+    {
+        self.ippatsu = is_first_alone(self.accepted, self.broken);
+        self.given = self.ippatsu;
+    }
+
+    // Ends a turn of the seat by its discard.
+    pub(crate) fn discard(&mut self)
+        ensures { self.new ≡ record self.old {
+          ended = true;
+          declared = self.old.reached;
+          broken = self.old.declared;
+          ippatsu = self.old.accepted && not self.old.declared;
+          given = self.old.accepted && not self.old.declared;
+        } }
+    {
+        self.ended = true;
+        self.broken = self.declared;
+        self.declared = self.reached;
+        self.ippatsu = is_first_alone(self.accepted, self.broken);
+        self.given = self.ippatsu;
+    }
 }
 
 // What is kept before any deed.
@@ -73,37 +99,34 @@ pub(crate) fn no_marks() -> MarkFacts
     }
 }
 
-// What is kept with a deed of the same hand more.
-pub(crate) fn marks_after(marks: &MarkFacts, deed: &Deed, seat: u8) -> MarkFacts
-    ensures begun { result.begun ≡ (marks.now.begun || is_hand_start deed.now) }
-    ensures ended { result.ended ≡ (marks.now.ended || ends_first seat deed.now) }
-    ensures reached { result.reached ≡ (marks.now.reached || is_reach_by seat deed.now) }
-    ensures accepted { result.accepted ≡ (marks.now.accepted || is_accepted_by seat deed.now) }
-    ensures double { result.double ≡ (if marks.now.reached then marks.now.double else
-        (is_reach_by seat deed.now && (marks.now.begun && not marks.now.ended))) }
-    ensures declared { result.declared
-        ≡ (marks.now.reached && (marks.now.declared || is_discard_by seat deed.now)) }
-    ensures broken { result.broken
-        ≡ (marks.now.declared && (marks.now.broken || ends_first seat deed.now)) }
-    ensures ippatsu { result.ippatsu
-        ≡ (result.accepted && not (if is_added deed.now then marks.now.broken else result.broken)) }
-    ensures given { result.given
-        ≡ (if is_win deed.now then marks.now.given else result.ippatsu) }
+// Marks a seat by a deed of the same hand more that is no discard.
+pub(crate) fn mark(marks: &mut MarkFacts, deed: &Deed, seat: u8)
+    ensures begun { marks.new.begun ≡ (marks.old.begun || is_hand_start deed.now) }
+    ensures ended { marks.new.ended ≡ (marks.old.ended || is_call deed.now) }
+    ensures reached { marks.new.reached ≡ (marks.old.reached || is_reach_by seat deed.now) }
+    ensures accepted { marks.new.accepted
+        ≡ (marks.old.accepted || is_accepted_by seat deed.now) }
+    ensures double { marks.new.double ≡ (if marks.old.reached then marks.old.double else
+        (is_reach_by seat deed.now && (marks.old.begun && not marks.old.ended))) }
+    ensures declared { marks.new.declared ≡ marks.old.declared }
+    ensures broken { marks.new.broken
+        ≡ (marks.old.declared && (marks.old.broken || is_call deed.now)) }
+    ensures ippatsu { marks.new.ippatsu ≡ (marks.new.accepted && not
+        (if is_added deed.now then marks.old.broken else marks.new.broken)) }
+    ensures given { marks.new.given
+        ≡ (if is_win deed.now then marks.old.given else marks.new.ippatsu) }
 {
     let accepted = has_accepted(marks.accepted, deed, seat);
-    let broken = has_broken(marks, deed, seat);
+    let broken = has_broken(marks, deed);
     let ippatsu = is_first_alone(accepted, last_of(is_added(deed), marks.broken, broken));
-    MarkFacts {
-        begun: has_begun(marks.begun, deed),
-        ended: has_ended(marks.ended, deed, seat),
-        reached: has_reached(marks.reached, deed, seat),
-        accepted,
-        double: is_double(marks, deed, seat),
-        declared: has_declared(marks, deed, seat),
-        broken,
-        ippatsu,
-        given: last_of(is_win(deed), marks.given, ippatsu),
-    }
+    marks.double = is_double(marks, deed, seat);
+    marks.begun = has_begun(marks.begun, deed);
+    marks.ended = has_ended(marks.ended, deed);
+    marks.reached = has_reached(marks.reached, deed, seat);
+    marks.accepted = accepted;
+    marks.broken = broken;
+    marks.ippatsu = ippatsu;
+    marks.given = last_of(is_win(deed), marks.given, ippatsu);
 }
 
 // Whether the hand has begun.
@@ -113,11 +136,11 @@ fn has_begun(begun: bool, deed: &Deed) -> bool
     begun || is_hand_start(deed)
 }
 
-// Whether a deed ended the first turn of a seat.
-fn has_ended(ended: bool, deed: &Deed, seat: u8) -> bool
-    ensures { result ≡ (ended || ends_first seat deed.now) }
+// Whether a deed ended the first turn of a seat: a call ends that of all.
+fn has_ended(ended: bool, deed: &Deed) -> bool
+    ensures { result ≡ (ended || is_call deed.now) }
 {
-    ended || ends_first(deed, seat)
+    ended || is_call(deed)
 }
 
 // Whether a seat has reached.
@@ -145,18 +168,11 @@ fn is_double(marks: &MarkFacts, deed: &Deed, seat: u8) -> bool
     is_reach_by(deed, seat) && marks.is_first()
 }
 
-// Whether a seat has discarded behind its reach.
-fn has_declared(marks: &MarkFacts, deed: &Deed, seat: u8) -> bool
-    ensures { result ≡ (marks.now.reached && (marks.now.declared || is_discard_by seat deed.now)) }
-{
-    marks.reached && (marks.declared || is_discard_by(deed, seat))
-}
-
 // Whether a deed behind the discard of its reach ended the one turn of a seat.
-fn has_broken(marks: &MarkFacts, deed: &Deed, seat: u8) -> bool
-    ensures { result ≡ (marks.now.declared && (marks.now.broken || ends_first seat deed.now)) }
+fn has_broken(marks: &MarkFacts, deed: &Deed) -> bool
+    ensures { result ≡ (marks.now.declared && (marks.now.broken || is_call deed.now)) }
 {
-    marks.declared && (marks.broken || ends_first(deed, seat))
+    marks.declared && (marks.broken || is_call(deed))
 }
 
 // The first is so, and the second isn't.

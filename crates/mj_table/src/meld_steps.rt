@@ -10,19 +10,19 @@ use crate::few_tiles::FewTiles;
 use mj_deeds::{Deed, added, is_triplet_of, made, with_one_added};
 use mj_tiles::{Meld, Melds, Tile};
 
-// The melds of a seat, a deed further, with the tiles that it had added before.
-pub(crate) fn melds_after(melds: Melds, tiles: &FewTiles, seat: u8, deed: &Deed) -> Melds
+// Takes the melds of a seat a deed further, with the tiles that it had added before.
+pub(crate) fn meld(melds: &mut Melds, tiles: &FewTiles, seat: u8, deed: &Deed)
     ensures { (before : List Deed) → (who : ℕ) → Alike deed.now seat who
         → length (seat_melds (before ++ deed.now ∷ []) who) ≤ 4
         → length (flat_map (adds_by who) before) ≤ 5
-        → Lists tiles.now (flat_map (adds_by who) before) → melds ≡ seat_melds before who
-        → result ≡ seat_melds (before ++ deed.now ∷ []) who }
+        → Lists tiles.now (flat_map (adds_by who) before) → melds.old ≡ seat_melds before who
+        → melds.new ≡ seat_melds (before ++ deed.now ∷ []) who }
 {
     match made(deed, seat) {
-        Some(meld) => with_meld(melds, with_added(meld, tiles)),
+        Some(meld) => *melds = with_meld(*melds, with_added(meld, tiles)),
         None => match added(deed, seat) {
-            Some(tile) => each_with(melds, tile),
-            None => melds,
+            Some(tile) => *melds = each_with(*melds, tile),
+            None => {}
         },
     }
 }

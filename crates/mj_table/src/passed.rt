@@ -1,21 +1,9 @@
-ghost use Rattle.std.specs.Prelude.{◌≡◌, ◌++◌, ℕ, List, [], if◌then◌else◌, option_to_list};
-ghost use Rattle.mj_deeds.specs.Facts.{is_discard_by};
+ghost use Rattle.std.specs.Prelude.{◌≡◌, ◌++◌, ℕ, List, false, option_to_list};
 ghost use Rattle.mj_deeds.specs.Passed.{kinds_among, offers_to};
+ghost use Rattle.mj_table.specs.Inner.Passing.{is_discard};
 
 use mj_deeds::Deed;
 use mj_tiles::{Kinds, Tile};
-
-// The kinds that are offered to a seat, one deed further.
-pub(crate) fn with_offer(offered: Kinds, deed: &Deed, seat: u8) -> Kinds
-    ensures { (tiles : List ℕ) → offered ≡ kinds_among tiles → result
-        ≡ kinds_among (if is_discard_by seat deed.now then [] else tiles
-        ++ offers_to seat deed.now) }
-{
-    if is_discard_by(deed, seat) {
-        return Kinds::none();
-    }
-    with_tile(offered, offered_by(deed, seat))
-}
 
 // The kinds of some tiles and of one more, where there is one.
 pub(crate) fn with_tile(kinds: Kinds, tile: Option<Tile>) -> Kinds
@@ -28,26 +16,11 @@ pub(crate) fn with_tile(kinds: Kinds, tile: Option<Tile>) -> Kinds
     }
 }
 
-// Whether a deed is a discard of a seat.
-pub(crate) fn is_discard_by(deed: &Deed, seat: u8) -> bool
-    ensures { result ≡ is_discard_by seat deed.now }
-{
-    match deed {
-        Deed::Discard { seat: who, .. } => *who == seat,
-        _ => false,
-    }
-}
-
-// The tile of a deed that a seat might win on.
+// The tile of a deed other than a discard that a seat might win on: one that another seat adds to a triplet.
 pub(crate) fn offered_by(deed: &Deed, seat: u8) -> Option<Tile>
-    ensures { option_to_list result ≡ offers_to seat deed.now }
+    ensures { is_discard deed.now ≡ false → option_to_list result ≡ offers_to seat deed.now }
 {
     match deed {
-        Deed::Discard {
-            seat: who,
-            tile,
-            ..
-        } if *who != seat => Some(*tile),
         Deed::AddedKan {
             seat: who,
             tile,

@@ -1,22 +1,22 @@
-ghost use Rattle.std.specs.Prelude.{◌≡◌, ◌==◌, ◌||◌, ◌++◌, ◌∷◌, [], ℕ, List, true, if◌then◌else◌};
+ghost use Rattle.std.specs.Prelude.{◌≡◌, ◌<◌, ◌==◌, ◌||◌, ◌++◌, ◌∷◌, [], ℕ, Bool, List, true, false, if◌then◌else◌, option_to_list};
 ghost use Rattle.std.specs.List.{list_any};
-ghost use Rattle.mj_tiles.specs.Kinds.{no_kinds};
 ghost use Rattle.mj_deeds.specs.declared.deed.Deed.{Deed};
+ghost use Rattle.mj_deeds.specs.declared.deed.Deed.TheVariants as deeds;
 ghost use Rattle.mj_deeds.specs.Ends.{winners_by};
-ghost use Rattle.mj_deeds.specs.Facts.{is_discard_by};
 ghost use Rattle.mj_deeds.specs.Fits.{has_seats};
-ghost use Rattle.mj_deeds.specs.Passed.{kinds_among, offers_to};
+ghost use Rattle.mj_deeds.specs.Passed.{kinds_among};
 ghost use Rattle.mj_table.specs.Inner.Alike.{Alike};
 ghost use Rattle.mj_table.specs.Inner.Hands.{Few};
+ghost use Rattle.mj_table.specs.Inner.Passing.{OnlyOffers, is_discard};
 ghost use Rattle.mj_table.specs.Inner.Seats.{Keeps, AllKeep};
 
 use crate::few_tiles::{FewTiles, no_tiles};
-use crate::mark_facts::{MarkFacts, marks_after, no_marks};
-use crate::meld_steps::melds_after;
-use crate::passed::{is_discard_by, offered_by, with_offer, with_tile};
+use crate::mark_facts::{MarkFacts, mark, no_marks};
+use crate::meld_steps::meld;
+use crate::passed::{offered_by, with_tile};
 use crate::seats::Seats;
-use mj_deeds::{Deed, Four, added, discarded_by};
-use mj_tiles::{Kinds, Melds};
+use mj_deeds::{Deed, Four, added};
+use mj_tiles::{Kinds, Melds, Tile};
 
 // What is kept of one seat of the deeds of one hand.
 #[derive(Clone, Copy)]
@@ -52,25 +52,53 @@ pub(crate) fn no_seats() -> Seats<SeatFacts>
     }
 }
 
-// What is kept of each seat, with a deed of the same hand more.
-pub(crate) fn each_after(facts: &Seats<SeatFacts>, deed: &Deed) -> Seats<SeatFacts>
+// Keeps a deed of the same hand more of each seat.
+pub(crate) fn keep_each(facts: &mut Seats<SeatFacts>, deed: &Deed)
     ensures { (before : List Deed) → has_seats deed.now ≡ true → Few (before ++ deed.now ∷ [])
-        → AllKeep before facts.now → AllKeep (before ++ deed.now ∷ []) result }
+        → AllKeep before facts.old → AllKeep (before ++ deed.now ∷ []) facts.new }
 {
-    let first = seat_after(&facts.four.first, 0, deed);
-    let second = seat_after(&facts.four.second, 1, deed);
-    let third = seat_after(&facts.four.third, 2, deed);
-    let fourth = seat_after(&facts.four.fourth, 3, deed);
-    let others = seat_after(&facts.others, 4, deed);
-    Seats {
-        four: Four {
-            first,
-            second,
-            third,
-            fourth,
-        },
-        others,
+    match deed {
+        Deed::Draw { .. } => let_all_pass(facts),
+        Deed::Discard { seat, tile, .. } => discard_among(facts, *seat, *tile),
+        _ => keep_others(facts, deed),
     }
+}
+
+// Lets each seat pass what was offered to it, by a deed that offers nothing.
+fn let_all_pass(facts: &mut Seats<SeatFacts>)
+    ensures { (before : List Deed) → (deed : Deed) → ((seat : ℕ) → OnlyOffers deed seat [])
+        → AllKeep before facts.old → AllKeep (before ++ deed ∷ []) facts.new }
+{
+    facts.four.first.let_pass();
+    facts.four.second.let_pass();
+    facts.four.third.let_pass();
+    facts.four.fourth.let_pass();
+    facts.others.let_pass();
+}
+
+// Keeps a discard of a seat, 0 to 3, which offers its tile to all others.
+fn discard_among(facts: &mut Seats<SeatFacts>, from: u8, tile: Tile)
+    ensures { (before : List Deed) → (drawn : Bool) → from < 4 → AllKeep before facts.old
+        → AllKeep (before ++ deeds.Discard from tile drawn ∷ []) facts.new }
+{
+    facts.four.first.see_discard(from == 0, tile);
+    facts.four.second.see_discard(from == 1, tile);
+    facts.four.third.see_discard(from == 2, tile);
+    facts.four.fourth.see_discard(from == 3, tile);
+    facts.others.see_discard(false, tile);
+}
+
+// Keeps a deed of each seat that is no draw and no discard.
+fn keep_others(facts: &mut Seats<SeatFacts>, deed: &Deed)
+    ensures { (before : List Deed) → is_discard deed.now ≡ false → has_seats deed.now ≡ true
+        → Few (before ++ deed.now ∷ []) → AllKeep before facts.old
+        → AllKeep (before ++ deed.now ∷ []) facts.new }
+{
+    keep(&mut facts.four.first, 0, deed);
+    keep(&mut facts.four.second, 1, deed);
+    keep(&mut facts.four.third, 2, deed);
+    keep(&mut facts.four.fourth, 3, deed);
+    keep(&mut facts.others, 4, deed);
 }
 
 // What is kept of a seat of a hand without a deed.
@@ -91,23 +119,79 @@ fn nothing() -> SeatFacts
     }
 }
 
-// What is kept of a seat, with a deed of the same hand more, and of each other number that the deed treats alike.
-fn seat_after(facts: &SeatFacts, seat: u8, deed: &Deed) -> SeatFacts
-    ensures { (before : List Deed) → (who : ℕ) → Alike deed.now seat who
-        → Few (before ++ deed.now ∷ []) → Keeps before who facts.now
-        → Keeps (before ++ deed.now ∷ []) who result }
-{
-    SeatFacts {
-        own: with_tile(facts.own, discarded_by(deed, seat)),
-        offered: with_offer(facts.offered, deed, seat),
-        passed: unless_discard(facts.offered, deed, seat),
-        offered_in_riichi: since_reach(facts.offered_in_riichi, facts.marks.reached, deed, seat),
-        passed_in_riichi: facts.offered_in_riichi,
-        melds: melds_after(facts.melds, &facts.added, seat, deed),
-        added: facts.added.with(added(deed, seat)),
-        marks: marks_after(&facts.marks, deed, seat),
-        won: has_won(facts.won, deed, seat),
+impl SeatFacts {
+    // Lets pass what was offered to the seat.
+    fn let_pass(&mut self)
+        ensures { (before : List Deed) → (deed : Deed) → (who : ℕ) → OnlyOffers deed who []
+            → Keeps before who self.old → Keeps (before ++ deed ∷ []) who self.new }
+    {
+        self.passed = self.offered;
+        self.passed_in_riichi = self.offered_in_riichi;
+        self.marks.go_on();
     }
+
+    // Offers a tile to the seat, which lets pass what was offered to it before.
+    fn be_offered(&mut self, tile: Tile)
+        ensures { (before : List Deed) → (deed : Deed) → (who : ℕ) → OnlyOffers deed who (tile ∷ [])
+            → Keeps before who self.old → Keeps (before ++ deed ∷ []) who self.new }
+    {
+        self.passed = self.offered;
+        self.passed_in_riichi = self.offered_in_riichi;
+        self.offered = with_tile(self.offered, Some(tile));
+        self.offered_in_riichi = since_reach(
+            self.offered_in_riichi,
+            self.marks.reached,
+            Some(tile),
+        );
+        self.marks.go_on();
+    }
+
+    // Keeps a discard, which is the seat's own, or offers its tile to the seat.
+    fn see_discard(&mut self, own: bool, tile: Tile)
+        ensures { (before : List Deed) → (from who : ℕ) → (drawn : Bool) → (from == who) ≡ own
+            → Keeps before who self.old
+            → Keeps (before ++ deeds.Discard from tile drawn ∷ []) who self.new }
+    {
+        if own {
+            self.discard(tile);
+            return;
+        }
+        self.be_offered(tile);
+    }
+
+    // Discards a tile of the seat, by which its turn ends.
+    fn discard(&mut self, tile: Tile)
+        ensures { (before : List Deed) → (from who : ℕ) → (drawn : Bool) → (from == who) ≡ true
+            → Keeps before who self.old
+            → Keeps (before ++ deeds.Discard from tile drawn ∷ []) who self.new }
+    {
+        self.own = with_tile(self.own, Some(tile));
+        let none = Kinds::none();
+        self.offered = none;
+        self.passed = none;
+        self.passed_in_riichi = self.offered_in_riichi;
+        self.marks.discard();
+    }
+}
+
+// Keeps a deed that is no discard of a seat, and of each other number that the deed treats alike.
+fn keep(facts: &mut SeatFacts, seat: u8, deed: &Deed)
+    ensures { (before : List Deed) → (who : ℕ) → is_discard deed.now ≡ false
+        → Alike deed.now seat who → Few (before ++ deed.now ∷ []) → Keeps before who facts.old
+        → Keeps (before ++ deed.now ∷ []) who facts.new }
+{
+    facts.passed = facts.offered;
+    facts.passed_in_riichi = facts.offered_in_riichi;
+    facts.offered = with_tile(facts.offered, offered_by(deed, seat));
+    facts.offered_in_riichi = since_reach(
+        facts.offered_in_riichi,
+        facts.marks.reached,
+        offered_by(deed, seat),
+    );
+    meld(&mut facts.melds, &facts.added, seat, deed);
+    facts.added.add(added(deed, seat));
+    mark(&mut facts.marks, deed, seat);
+    facts.won = has_won(facts.won, deed, seat);
 }
 
 // Whether a seat has won, a deed further.
@@ -127,24 +211,13 @@ fn wins_by(deed: &Deed, seat: u8) -> bool
     }
 }
 
-// The kinds that were offered to a seat before a deed, unless it discards by that deed.
-fn unless_discard(offered: Kinds, deed: &Deed, seat: u8) -> Kinds
-    ensures { result ≡ (if is_discard_by seat deed.now then no_kinds else offered) }
-{
-    if is_discard_by(deed, seat) {
-        Kinds::none()
-    } else {
-        offered
-    }
-}
-
-// The kinds that were offered to a seat since its reach, a deed further.
-fn since_reach(offered: Kinds, reached: bool, deed: &Deed, seat: u8) -> Kinds
+// The kinds that were offered to a seat since its reach, and that of a tile more, where there is one.
+fn since_reach(offered: Kinds, reached: bool, tile: Option<Tile>) -> Kinds
     ensures { (tiles : List ℕ) → offered ≡ kinds_among tiles → result
-        ≡ kinds_among (if reached then tiles ++ offers_to seat deed.now else []) }
+        ≡ kinds_among (if reached then tiles ++ option_to_list tile else []) }
 {
     if reached {
-        return with_tile(offered, offered_by(deed, seat));
+        return with_tile(offered, tile);
     }
     Kinds::none()
 }

@@ -5,10 +5,10 @@ ghost use Rattle.mj_deeds.specs.Standings.{standing_by};
 use mj_deeds::Deed;
 use mj_rounds::Standing;
 
-// The standing of the newest hand, with a deed more: a start of a hand says it, and has the number of the next hand.
-pub(crate) fn standing_with(before: Standing, number: u32, deed: &Deed) -> Standing
-    ensures { result ≡ (if is_hand_start deed.now then standing_by number (Some deed.now) else
-        before) }
+// Takes the standing of the newest hand a deed further: a start of a hand says it, and has the number of the next hand.
+pub(crate) fn stand(standing: &mut Standing, number: u32, deed: &Deed)
+    ensures { standing.new ≡ (if is_hand_start deed.now then standing_by number (Some deed.now) else
+        standing.old) }
 {
     match deed {
         Deed::StartHand {
@@ -16,12 +16,14 @@ pub(crate) fn standing_with(before: Standing, number: u32, deed: &Deed) -> Stand
             dealer,
             honba,
             ..
-        } => Standing {
-            round: *round,
-            dealer: *dealer,
-            honba: *honba,
-            hand: number,
-        },
-        _ => before,
+        } => {
+            *standing = Standing {
+                round: *round,
+                dealer: *dealer,
+                honba: *honba,
+                hand: number,
+            };
+        }
+        _ => {}
     }
 }

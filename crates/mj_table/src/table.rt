@@ -22,16 +22,16 @@ use crate::counting::{kinds_held, tiles_held};
 use crate::course::{before_wins, cause, drawn, taken};
 use crate::ending::hand_end;
 use crate::fitting::fits_in;
-use crate::hand_facts::{HandFacts, facts_after, no_facts};
-use crate::held::{held_after, nothing_held};
-use crate::latest::{add, copy_of};
+use crate::hand_facts::{HandFacts, learn, no_facts};
+use crate::held::{move_tiles, nothing_held};
+use crate::latest::{Latest, copy_of};
 use crate::marks::Marks;
 use crate::meld_steps::has_triplet;
 use crate::reason::reason;
 use crate::room::room_beside;
 use crate::seat_facts::SeatFacts;
 use crate::seats::Seats;
-use crate::standing::standing_with;
+use crate::standing::stand;
 use mj_deeds::{
     Deed, Reason, Tiles, deposits_after, has_points, is_hand_start, is_in_place, points_after,
 };
@@ -48,8 +48,7 @@ use std::marker::Model;
 pub struct Table {
     rules: Rules,
     // the newest deed, and the one before it in its hand, before wins the newest that is none
-    newest: Option<Deed>,
-    previous: Option<Deed>,
+    latest: Latest,
     standing: Standing,
     // the points of the seats and the deposits on the table
     points: [i32; 4],
@@ -65,13 +64,14 @@ pub struct Table {
 impl Model for Table {
     ghost use Rattle.mj_table.specs.Plays.{Play};
     ghost use Rattle.mj_table.specs.Inner.Kept.{Stands};
+    ghost use Rattle.mj_table.specs.Inner.Latest.{newest_of, previous_of};
 
     ghost Value = { Play };
 
     ghost view = { λ t. record { rules = t.rules; deeds = t.past.items } };
 
-    ghost invariant = { λ t. Stands t.rules t.past.items t.newest t.previous t.standing t.points
-        t.deposits t.held t.facts };
+    ghost invariant = { λ t. Stands t.rules t.past.items (newest_of t.latest)
+        (previous_of t.latest) t.standing t.points t.deposits t.held t.facts };
 }
 
 impl Table {
@@ -81,8 +81,7 @@ impl Table {
     {
         Ok(Table {
             rules,
-            newest: None,
-            previous: None,
+            latest: Latest::none(),
             standing: first(),
             points: [30_000; 4],
             deposits: 0,
@@ -101,12 +100,12 @@ impl Table {
         ensures err { OnErr result (self.new ≡ self.old) }
     {
         let number = self.next_number();
-        add(&mut self.newest, &mut self.previous, self.facts.begun, deed)?;
-        self.standing = standing_with(self.standing, number, deed);
+        self.latest.add(self.facts.begun, deed)?;
+        stand(&mut self.standing, number, deed);
         self.points = points_after(self.points, deed);
         self.deposits = deposits_after(self.deposits, deed);
-        self.held = held_after(&self.held, deed);
-        self.facts = facts_after(&self.facts, deed);
+        move_tiles(&mut self.held, deed);
+        learn(&mut self.facts, deed);
         self.past = self.past.and(deed);
         Ok(())
     }
@@ -115,12 +114,15 @@ impl Table {
     pub fn copy(&self, _alloc: Global) -> Result<Table, AllocError>
         ensures { IfOk result (λ table. table ≡ self.now) }
     {
-        let newest = copy_of(self.newest.as_ref())?;
-        let previous = copy_of(self.previous.as_ref())?;
+        let first = copy_of(self.latest.first.as_ref())?;
+        let second = copy_of(self.latest.second.as_ref())?;
         Ok(Table {
             rules: self.rules,
-            newest,
-            previous,
+            latest: Latest {
+                first,
+                second,
+                turned: self.latest.turned,
+            },
             standing: self.standing,
             points: self.points,
             deposits: self.deposits,
@@ -180,10 +182,10 @@ impl Table {
     fn is_in_place(&self, deed: &Deed) -> bool
         ensures { result ≡ is_in_place (ground_of self.now.deeds) deed.now }
     {
-        let newest = self.newest.as_ref();
+        let newest = self.latest.newest();
         is_in_place(
             newest,
-            taken(newest, self.previous.as_ref()),
+            taken(newest, self.latest.previous()),
             self.hand_end(),
             &self.standing,
             self.deposits,
@@ -202,7 +204,7 @@ impl Table {
     pub fn newest(&self) -> Option<&Deed>
         ensures { option_copied result ≡ newest self.now.deeds }
     {
-        self.newest.as_ref()
+        self.latest.newest()
     }
 
     /// The deed that the newest one comes of: the reach before a discard, the discard before an accepted reach, the
@@ -211,7 +213,7 @@ impl Table {
     pub fn cause(&self) -> Option<&Deed>
         ensures { option_copied result ≡ cause self.now.deeds }
     {
-        cause(self.newest.as_ref(), self.previous.as_ref())
+        cause(self.latest.newest(), self.latest.previous())
     }
 
     /// The points of the four seats: 30,000 each at the start.
@@ -305,7 +307,7 @@ impl Table {
     pub fn drawn(&self, seat: u8) -> Option<Tile>
         ensures { result ≡ drawn_tile self.now.deeds seat }
     {
-        drawn(self.newest.as_ref(), self.previous.as_ref(), seat)
+        drawn(self.latest.newest(), self.latest.previous(), seat)
     }
 
     /// The melds of a seat, in the order in which they were made; a pon that a tile was added to is an added kan.
@@ -384,8 +386,8 @@ impl Table {
     {
         before_wins(
             self.facts.begun,
-            self.newest.as_ref(),
-            self.previous.as_ref(),
+            self.latest.newest(),
+            self.latest.previous(),
         )
     }
 

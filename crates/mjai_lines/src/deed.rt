@@ -50,6 +50,15 @@ pub fn write_alone(
     write_on::<Brand>(alloc, viewer, deed, into, Blank::new(1))
 }
 
+/// Writes the line of a deed, as the viewer sees it, in place of a text, whose memory it takes. The only error is want of
+/// memory, and then the text may be any.
+pub fn write_over(line: &mut Vec<u8>, viewer: Viewer, deed: &Deed) -> Result<(), AllocError>
+    ensures { OnOk result (line.new.items ≡ line_for viewer deed.now) }
+{
+    line.clear();
+    push_deed(line, viewer, deed)
+}
+
 // Writes the line of a deed, counted on a new ledger.
 fn write_on<L: Ledger>(
     alloc: Global,

@@ -21,7 +21,7 @@ mod winning;
 mod yaku;
 
 pub use answer::read_answer;
-pub use deed::{write, write_alone};
+pub use deed::{write, write_alone, write_over};
 pub use error::{error_line, refusal_line};
 pub use join::read_join;
 pub use record::write_record;

@@ -22,8 +22,19 @@ pub(crate) fn push_quoted(line: &mut Vec<u8>, text: &[u8]) -> Result<(), AllocEr
 pub(crate) fn push_tile(line: &mut Vec<u8>, tile: Tile) -> Result<(), AllocError>
     ensures { OnOk result (Adds line.old.items line.new.items (quoted_tile tile)) }
 {
-    push_quoted(line, tile.text())?;
+    push_short(line, tile.text())?;
     Ok(())
+}
+
+// Writes a text between quotation marks, one of a letter or two at once.
+fn push_short(line: &mut Vec<u8>, text: &[u8]) -> Result<(), AllocError>
+    ensures { OnOk result (Adds line.old.items line.new.items (quoted text.now)) }
+{
+    match text {
+        [letter] => push_all(line, &[b'"', *letter, b'"']),
+        [digit, letter] => push_all(line, &[b'"', *digit, *letter, b'"']),
+        _ => push_quoted(line, text),
+    }
 }
 
 // Writes a tile as it is seen: a question mark for a hidden one.

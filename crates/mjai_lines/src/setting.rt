@@ -31,7 +31,7 @@ pub fn read_rules(text: &[u8]) -> Option<Rules>
 pub fn read_tiles(alloc: Global, text: &[u8]) -> Result<Option<Vec<Tile>>, AllocError>
     ensures { IfOk result (λ tiles. option_map (λ t. t.items) tiles ≡ tiles_in (fields text.now)) }
 {
-    let mut tiles = Vec::new(alloc);
+    let mut tiles = Vec::with_capacity(alloc, text.len() / 2 + 1)?;
     let mut rest = text;
     while let Some((field, others)) = split_space(rest) {
         let Some(tile) = Tile::read(field) else {

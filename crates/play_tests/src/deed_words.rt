@@ -54,18 +54,20 @@ fn deed_of_fields(alloc: Global, fields: &[&str; 8]) -> Option<Deed> {
 }
 
 fn win(alloc: Global, fields: &[&str; 8]) -> Option<Deed> {
+    let (seat, target, tile) = (number(fields[1])?, number(fields[2])?, tile(fields[3])?);
+    let (deltas, points) = (points(fields[4])?, points(fields[5])?);
     Some(Deed::Win {
-        seat: number(fields[1])?,
-        target: number(fields[2])?,
-        tile: tile(fields[3])?,
+        seat,
+        target,
+        tile,
         unders: Tiles::from_vec(Vec::new(alloc)),
         hand: Tiles::from_vec(Vec::new(alloc)),
         yaku: YakuList::from_vec(Vec::new(alloc)),
         fu: 30,
         han: 1,
         value: 1000,
-        deltas: points(fields[4])?,
-        points: points(fields[5])?,
+        deltas,
+        points,
         rest: seats(fields[6]),
     })
 }
@@ -89,13 +91,15 @@ fn drawn_hand(alloc: Global, fields: &[&str; 8]) -> Option<Deed> {
         third: Some(13),
         fourth: Some(13),
     };
+    let ready = truths(fields[1])?;
+    let (deltas, points) = (points(fields[2])?, points(fields[3])?);
     let hands = Hands::of(alloc, &[], &[], &[], &[]).ok()?;
     Some(Deed::DrawnHand {
         reason: reason(fields[4]),
         hands: ShownHands::of(hands, hidden),
-        ready: truths(fields[1])?,
-        deltas: points(fields[2])?,
-        points: points(fields[3])?,
+        ready,
+        deltas,
+        points,
     })
 }
 
@@ -136,26 +140,33 @@ fn start_hand(alloc: Global, fields: &[&str; 8]) -> Option<Deed> {
 /// A hand of another standing: its round, the number of its dealer, the honba and the deposits.
 fn start_later(alloc: Global, fields: &[&str; 8]) -> Option<Deed> {
     let [round, dealer, honba, deposits, ..] = words(fields[1]);
-    let dealer = number(dealer)?;
+    let (round, dealer, indicator) = (kind(round)?, number(dealer)?, tile(fields[2])?);
+    let (honba, deposits) = (number(honba)?, number(deposits)?);
     Some(Deed::StartHand {
-        round: kind(round)?,
+        round,
         number: dealer.saturating_add(1),
-        honba: u32::from(number(honba)?),
-        deposits: u32::from(number(deposits)?),
+        honba: u32::from(honba),
+        deposits: u32::from(deposits),
         dealer,
-        indicator: tile(fields[2])?,
+        indicator,
         hands: hands(alloc, [fields[3], fields[4], fields[5], fields[6]])?,
     })
 }
 
 fn hands(alloc: Global, texts: [&str; 4]) -> Option<Hands> {
-    let [first, second, third, fourth] = texts;
+    let mut hands = Vec::new(alloc);
+    for text in texts {
+        hands.push(tiles(alloc, text)?).ok()?;
+    }
+    let [first, second, third, fourth] = hands.as_slice() else {
+        return None;
+    };
     Hands::of(
         alloc,
-        tiles(alloc, first)?.as_slice(),
-        tiles(alloc, second)?.as_slice(),
-        tiles(alloc, third)?.as_slice(),
-        tiles(alloc, fourth)?.as_slice(),
+        first.as_slice(),
+        second.as_slice(),
+        third.as_slice(),
+        fourth.as_slice(),
     )
     .ok()
 }

@@ -78,14 +78,14 @@ fn follow(alloc: Global, deeds: &mut Vec<Deed>, line: &str) -> Option<bool> {
     if let Some((question, told)) = line.split_once('?') {
         return tells(alloc, deeds.as_slice(), question, told.trim());
     }
-    deeds.push(deed(alloc, line)?).ok()?;
-    Some(true)
+    Some(deeds.push(deed(alloc, line)?).is_ok())
 }
 
 /// Whether deeds tell this to a question.
 fn tells(alloc: Global, deeds: &[Deed], question: &str, told: &str) -> Option<bool> {
     if let Some(line) = question.strip_prefix("fits ") {
         let (rules, line) = line.split_once(' ')?;
+        let wanted = yes(told)?;
         let deed = deed(alloc, line)?;
         let fitting = fits(
             rules == "red",
@@ -96,7 +96,7 @@ fn tells(alloc: Global, deeds: &[Deed], question: &str, told: &str) -> Option<bo
             0,
             &deed,
         );
-        return Some(fitting == yes(told)?);
+        return Some(fitting == wanted);
     }
     let words = words(question);
     match words[0] {

@@ -79,7 +79,8 @@ fn draws(alloc: Global, table: &mut Table, times: &str) -> Option<bool> {
 /// Whether a table tells this to a question.
 fn tells(alloc: Global, table: &Table, question: &str, told: &str) -> Option<bool> {
     if let Some(line) = question.strip_prefix("fits ") {
-        return Some(table.fits(&deed(alloc, line)?) == yes(told)?);
+        let wanted = yes(told)?;
+        return Some(table.fits(&deed(alloc, line)?) == wanted);
     }
     if let Some(line) = question.strip_prefix("judge ") {
         return judges(table, line, told);

@@ -22,8 +22,9 @@ const TOKENS: &str = "\
 fn has_token(alloc: Global, line: &str) -> Option<bool> {
     let (told, wanted) = line.split_once('=')?;
     let (seat, told) = told.split_once(' ')?;
+    let seat = number(seat)?;
     let deed = deed(alloc, told)?;
-    match token(alloc, number(seat)?, &deed) {
+    match token(alloc, seat, &deed) {
         Ok(found) => is_token(&found, wanted),
         Err(_) => None,
     }

@@ -1,6 +1,6 @@
 //! A hand that is played half, whose answers are judged.
 
-use mj_deeds::{Answer, Deed, Four, Hands, Pai, Tiles};
+use mj_deeds::{Answer, Deed, Four, Hands, Pai};
 use mj_judge::judge;
 use mj_ports::Name;
 use mj_table::Table;
@@ -19,16 +19,20 @@ pub fn half_played(alloc: Global) -> Result<Table, AllocError> {
         red: false,
     };
     let mut table = Table::new(alloc, rules)?;
-    add(&mut table, &start_of_game())?;
+    play_half(alloc, &mut table)?;
+    Ok(table)
+}
+
+fn play_half(alloc: Global, table: &mut Table) -> Result<(), AllocError> {
+    add(table, start_of_game())?;
     if let Some(round) = Kind::of(27) {
-        add(&mut table, &start_of_hand(alloc, round)?)?;
+        add(table, start_of_hand(alloc, round)?)?;
     }
     for turn in 0..TURNS {
-        add(&mut table, &draw(turn))?;
-        add(&mut table, &discard(turn))?;
+        add(table, draw(turn))?;
+        add(table, discard(turn))?;
     }
-    add(&mut table, &draw(TURNS))?;
-    Ok(table)
+    add(table, draw(TURNS))
 }
 
 /// 1 where seat 0 may discard a tile of a kind that it did not draw, and else 0.
@@ -45,9 +49,9 @@ pub fn may_discard(table: &Table, kind: Kind) -> u64 {
 }
 
 // Adds a deed that fits.
-pub fn add(table: &mut Table, deed: &Deed) -> Result<(), AllocError> {
-    if table.fits(deed) {
-        table.push(deed)?;
+pub fn add(table: &mut Table, deed: Deed) -> Result<(), AllocError> {
+    if table.fits(&deed) {
+        table.push(&deed)?;
     }
     Ok(())
 }
@@ -77,13 +81,7 @@ pub fn start_of_game() -> Deed {
 }
 
 fn start_of_hand(alloc: Global, round: Kind) -> Result<Deed, AllocError> {
-    let hands = Hands::of(
-        alloc,
-        hand(alloc, 0)?.as_slice(),
-        hand(alloc, 13)?.as_slice(),
-        hand(alloc, 26)?.as_slice(),
-        hand(alloc, 39)?.as_slice(),
-    )?;
+    let hands = hands(alloc)?;
     Ok(Deed::StartHand {
         round,
         number: 1,
@@ -95,13 +93,18 @@ fn start_of_hand(alloc: Global, round: Kind) -> Result<Deed, AllocError> {
     })
 }
 
+// The first fifty-two tiles, thirteen for each seat.
+fn hands(alloc: Global) -> Result<Hands, AllocError> {
+    Hands::of(alloc, &hand(0), &hand(13), &hand(26), &hand(39))
+}
+
 // The thirteen tiles from a place on.
-fn hand(alloc: Global, first: u8) -> Result<Tiles, AllocError> {
-    let mut tiles = Vec::new(alloc);
-    for k in 0..13u8 {
-        tiles.push(placed(first.saturating_add(k)))?;
+fn hand(first: u8) -> [Tile; 13] {
+    let mut tiles = [tile(0); 13];
+    for place in 0..13u8 {
+        tiles[usize::from(place)] = placed(first.saturating_add(place));
     }
-    Ok(Tiles::from_vec(tiles))
+    tiles
 }
 
 fn draw(turn: u8) -> Deed {

@@ -32,16 +32,20 @@ pub fn awaited(alloc: Global) -> Result<Table, AllocError> {
         red: false,
     };
     let mut table = Table::new(alloc, rules)?;
-    add(&mut table, &start_of_game())?;
+    play_to_it(alloc, &mut table)?;
+    Ok(table)
+}
+
+fn play_to_it(alloc: Global, table: &mut Table) -> Result<(), AllocError> {
+    add(table, start_of_game())?;
     if let Some(round) = Kind::of(27) {
-        add(&mut table, &start_of_hand(alloc, round)?)?;
+        add(table, start_of_hand(alloc, round)?)?;
     }
     for turn in 0..TURNS {
         let kind = *DRAWN.get(usize::from(turn / 4)).unwrap_or(&1);
-        take_turn(&mut table, turn % 4, kind)?;
+        take_turn(table, turn % 4, kind)?;
     }
-    take_turn(&mut table, 1, 15)?;
-    Ok(table)
+    take_turn(table, 1, 15)
 }
 
 /// 1 where seat 0 may win on the newest discard, and else 0.
@@ -64,7 +68,7 @@ fn take_turn(table: &mut Table, seat: u8, kind: u8) -> Result<(), AllocError> {
     };
     add(
         table,
-        &Deed::Draw {
+        Deed::Draw {
             seat,
             tile,
             replacement: false,
@@ -72,7 +76,7 @@ fn take_turn(table: &mut Table, seat: u8, kind: u8) -> Result<(), AllocError> {
     )?;
     add(
         table,
-        &Deed::Discard {
+        Deed::Discard {
             seat,
             tile,
             drawn: true,
@@ -85,6 +89,13 @@ fn start_of_hand(alloc: Global, round: Kind) -> Result<Deed, AllocError> {
         Some(tile) => tile,
         None => unreachable!(),
     };
+    let hands = Hands::of(
+        alloc,
+        &tiles(&WAITING, indicator),
+        &tiles(&SECOND, indicator),
+        &tiles(&THIRD, indicator),
+        &tiles(&FOURTH, indicator),
+    )?;
     Ok(Deed::StartHand {
         round,
         number: 1,
@@ -92,23 +103,15 @@ fn start_of_hand(alloc: Global, round: Kind) -> Result<Deed, AllocError> {
         deposits: 0,
         dealer: 0,
         indicator,
-        hands: Hands::of(
-            alloc,
-            tiles(alloc, &WAITING)?.as_slice(),
-            tiles(alloc, &SECOND)?.as_slice(),
-            tiles(alloc, &THIRD)?.as_slice(),
-            tiles(alloc, &FOURTH)?.as_slice(),
-        )?,
+        hands,
     })
 }
 
-// The plain tiles of kinds.
-fn tiles(alloc: Global, kinds: &[u8; 13]) -> Result<Vec<Tile>, AllocError> {
-    let mut tiles = Vec::new(alloc);
-    for kind in kinds {
-        if let Some(tile) = Tile::of(*kind) {
-            tiles.push(tile)?;
-        }
+// The plain tiles of kinds, and another one where there is none.
+fn tiles(kinds: &[u8; 13], other: Tile) -> [Tile; 13] {
+    let mut tiles = [other; 13];
+    for (place, kind) in kinds.iter().enumerate() {
+        tiles[place] = Tile::of(*kind).unwrap_or(other);
     }
-    Ok(tiles)
+    tiles
 }

@@ -35,11 +35,21 @@ fn start_of_game() -> Deed {
     }
 }
 
+const HANDS: [&str; 4] = [
+    "1m 1m 1m 1m 2m 2m 2m 2m 3m 3m 3m 3m 4m",
+    "4m 4m 4m 5m 5m 5m 5mr 6m 6m 6m 6m 7m 7m",
+    "7m 7m 8m 8m 8m 8m 9m 9m 9m 9m 1p 1p 1p",
+    "1p 2p 2p 2p 2p 3p 3p 3p 3p 4p 4p 4p 4p",
+];
+
 fn hands(alloc: Global) -> Result<Hands, Fail> {
-    let first = hand(alloc, "1m 1m 1m 1m 2m 2m 2m 2m 3m 3m 3m 3m 4m")?;
-    let second = hand(alloc, "4m 4m 4m 5m 5m 5m 5mr 6m 6m 6m 6m 7m 7m")?;
-    let third = hand(alloc, "7m 7m 8m 8m 8m 8m 9m 9m 9m 9m 1p 1p 1p")?;
-    let fourth = hand(alloc, "1p 2p 2p 2p 2p 3p 3p 3p 3p 4p 4p 4p 4p")?;
+    let mut hands = Vec::new(alloc);
+    for texts in HANDS {
+        hands.push(hand(alloc, texts)?)?;
+    }
+    let [first, second, third, fourth] = hands.as_slice() else {
+        return Err("no four hands".into());
+    };
     Ok(Hands::of(
         alloc,
         first.as_slice(),

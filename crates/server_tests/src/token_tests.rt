@@ -35,17 +35,22 @@ fn dealt(alloc: Global, wall: &Wall, seat: u8) -> Result<Tiles, AllocError> {
 }
 
 fn hands(alloc: Global, wall: &Wall) -> Result<Hands, AllocError> {
-    let first = dealt(alloc, wall, 0)?;
-    let second = dealt(alloc, wall, 1)?;
-    let third = dealt(alloc, wall, 2)?;
-    let fourth = dealt(alloc, wall, 3)?;
-    Hands::of(
-        alloc,
-        first.as_slice(),
-        second.as_slice(),
-        third.as_slice(),
-        fourth.as_slice(),
-    )
+    let mut hands = Vec::new(alloc);
+    for seat in 0..4u8 {
+        hands.push(dealt(alloc, wall, seat)?)?;
+    }
+    match hands.as_slice() {
+        [first, second, third, fourth] => {
+            Hands::of(
+                alloc,
+                first.as_slice(),
+                second.as_slice(),
+                third.as_slice(),
+                fourth.as_slice(),
+            )
+        }
+        _ => Hands::of(alloc, &[], &[], &[], &[]),
+    }
 }
 
 fn start_of_game() -> Deed {
@@ -121,15 +126,30 @@ fn deed(alloc: Global, wall: &Wall, place: u8) -> Option<Deed> {
 }
 
 // Adds a deed, which fits behind those before it, and gives what seat 0 is told of it.
-fn add(alloc: Global, table: &mut Table, deed: &Deed) -> Option<Told> {
-    if !table.fits(deed) {
+fn add(alloc: Global, table: &mut Table, deed: Deed) -> Option<Told> {
+    if !table.fits(&deed) || table.push(&deed).is_err() {
         return None;
     }
-    table.push(deed).ok()?;
+    told_of(alloc, &deed)
+}
+
+fn told_of(alloc: Global, deed: &Deed) -> Option<Told> {
+    let line = line(alloc, deed)?;
+    match token(alloc, 0, deed) {
+        Ok(token) => Some(Told { token, line }),
+        Err(_) => None,
+    }
+}
+
+fn line(alloc: Global, deed: &Deed) -> Option<Vec<u8>> {
     let mut line = Vec::new(alloc);
     write_alone(alloc, Viewer::Seat(0), deed, &mut line).ok()?;
-    let token = token(alloc, 0, deed).ok()?;
-    Some(Told { token, line })
+    Some(line)
+}
+
+// Adds deed `place` of the hand on a wall, and gives what seat 0 is told of it.
+fn next(alloc: Global, table: &mut Table, wall: &Wall, place: u8) -> Option<Told> {
+    add(alloc, table, deed(alloc, wall, place)?)
 }
 
 // What seat 0 is told of the hand on a wall.
@@ -142,8 +162,7 @@ fn game(alloc: Global, wall: &Wall) -> Option<Vec<Told>> {
     let mut table = Table::new(alloc, rules).ok()?;
     let mut game = Vec::new(alloc);
     for place in 0..143u8 {
-        let deed = deed(alloc, wall, place)?;
-        game.push(add(alloc, &mut table, &deed)?).ok()?;
+        game.push(next(alloc, &mut table, wall, place)?).ok()?;
     }
     Some(game)
 }

@@ -1,5 +1,5 @@
 -- Whose turn it is to discard, and of which kinds.
-use Rattle.std.specs.Prelude.{ℕ, ◌≡◌, ◌==◌, ◌||◌, Bool, false, List, slice_index}
+use Rattle.std.specs.Prelude.{ℕ, ◌≡◌, ◌==◌, ◌&&◌, ◌||◌, Bool, false, not, List, slice_index}
 use Rattle.std.specs.List.{list_all, list_any}
 use Rattle.mj_tiles.specs.Counts.{all_kinds}
 use Rattle.mj_tiles.specs.Faces.{kind_of}
@@ -13,6 +13,15 @@ is_own_turn seat (Drew who) = who == seat
 is_own_turn seat (Reached who) = who == seat
 is_own_turn seat (Called who banned) = who == seat
 is_own_turn seat other = false
+
+-- The seat has drawn.
+abbrev pub is_own_draw : ℕ → WindowTurn → Bool
+is_own_draw seat (Drew who) = who == seat
+is_own_draw seat other = false
+
+-- It has drawn and isn't in riichi: each tile that it holds may go.
+abbrev pub is_free : Bool → ℕ → WindowTurn → Bool
+is_free accepted seat turn = not accepted && is_own_draw seat turn
 
 -- The face is of one of these kinds.
 abbrev pub is_among : ℕ → ℕ → Bool

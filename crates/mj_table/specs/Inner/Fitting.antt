@@ -1,11 +1,10 @@
 -- Whether a deed fits in its hand, by what a table keeps of the hand.
-use Rattle.std.specs.Prelude.{ℕ, ◌+◌, ◌-◌, ◌&&◌, ◌||◌, not, Bool, true, nat_lt, nat_le, List, [], ◌∷◌, length, slice_index}
+use Rattle.std.specs.Prelude.{ℕ, ◌+◌, ◌-◌, ◌&&◌, ◌||◌, not, Bool, true, nat_lt, nat_le, [], ◌∷◌, length}
 use Rattle.std.specs.List.{list_any, list_all}
-use Rattle.mj_tiles.specs.Counts.{all_kinds, number_of}
 use Rattle.mj_deeds.specs.declared.deed.Deed.{Deed}
 use Rattle.mj_deeds.specs.declared.deed.Deed.TheVariants.{Draw, AddedKan, ReachAccepted}
 use Rattle.mj_deeds.specs.Facts.{is_kan, makes_by}
-use Rattle.mj_deeds.specs.Fits.{brought_by, has_seats, has_tiles, is_triplet_of}
+use Rattle.mj_deeds.specs.Fits.{has_seats, has_tiles, is_triplet_of}
 use Rattle.mj_table.specs.declared.hand_facts.HandFacts.{HandFacts}
 use Rattle.mj_table.specs.declared.seat_facts.SeatFacts.{SeatFacts}
 use Rattle.mj_table.specs.declared.seats.Seats.{Seats}
@@ -19,10 +18,6 @@ are_four first second third fourth = first && second && third && fourth
 abbrev pub adds_to_own : Seats SeatFacts → Deed → Bool
 adds_to_own seats (AddedKan who tile a b c) = list_any (is_triplet_of tile a b c) (of_any seats who).melds
 adds_to_own seats other = true
-
--- No kind is brought in a fifth time.
-abbrev pub keeps_four : List ℕ → Deed → Bool
-keeps_four brought deed = list_all (λ kind. nat_le (slice_index brought kind + number_of (brought_by deed) kind) 4) all_kinds
 
 -- No seat has a fifth meld.
 abbrev pub has_place_for : Seats SeatFacts → Deed → ℕ → Bool
@@ -41,7 +36,8 @@ abbrev pub reaches_first : Seats SeatFacts → Deed → Bool
 reaches_first seats (ReachAccepted who points bid) = not (of_any seats who).marks.accepted
 reaches_first seats other = true
 
--- A deed fits in its hand, where the seats hold the tiles that they put down, or don't.
-unfoldable pub fits_by : Bool → Bool → HandFacts → Deed → Bool
-fits_by red held facts deed =
-    has_seats deed && held && adds_to_own facts.seats deed && has_tiles red deed && keeps_four facts.brought deed && has_places facts.seats deed && has_tile_left facts deed && reaches_first facts.seats deed
+-- A deed fits in its hand, where the seats hold the tiles that they put down, or don't, no kind is brought in a fifth time, or
+-- one is, and no seat has a fifth meld, or one has.
+unfoldable pub fits_by : Bool → Bool → Bool → Bool → HandFacts → Deed → Bool
+fits_by red held kinds places facts deed =
+    has_seats deed && held && adds_to_own facts.seats deed && has_tiles red deed && kinds && places && has_tile_left facts deed && reaches_first facts.seats deed

@@ -6,6 +6,14 @@ use Rattle.mj_deeds.specs.Course.{only_if, is_reach, is_offer, before_wins}
 use Rattle.mj_deeds.specs.Facts.{newest, drawn_by}
 use Rattle.mj_deeds.specs.Hand.{is_hand_start}
 use Rattle.mj_deeds.specs.Points.{is_win}
+use Rattle.mj_table.specs.declared.latest.Latest.{Latest}
+
+-- The newest deed and the one beside it, as they are kept.
+abbrev pub newest_of : Latest → Option Deed
+newest_of latest = if latest.turned then latest.second else latest.first
+
+abbrev pub previous_of : Latest → Option Deed
+previous_of latest = if latest.turned then latest.first else latest.second
 
 -- Of the deeds of one hand before a deed the one that stands beside it: the newest, and before a win the newest that is no
 -- win.

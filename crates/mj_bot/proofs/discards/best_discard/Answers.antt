@@ -7,14 +7,6 @@ use Rattle.mj_bot.proofs.discards.best_discard.Goals as goal
 pub returns-then-not-has_turn-clause-tile : goal.returns-then-not-has_turn-clause-tile
 returns-then-not-has_turn-clause-tile c = none_lawful c.args.table.now.rules c.args.seat (view_of c.args.table.now.deeds c.args.seat) (sym c.has_turn.ensures ∙ c.if-not-has_turn.true)
 
-pub lawful_kinds-kinds-requires-clause-counts : goal.lawful_kinds-kinds-requires-clause-counts
-unfolding view_of
-lawful_kinds-kinds-requires-clause-counts c = c.holds-counts.ensures.value
-
-pub last_lawful-requires-clause-counts : goal.last_lawful-requires-clause-counts
-unfolding view_of
-last_lawful-requires-clause-counts c = c.holds-counts.ensures.value
-
 pub returns-then-not-is_measured-clause-tile : goal.returns-then-not-is_measured-clause-tile
 unfolding view_of
 returns-then-not-is_measured-clause-tile c =

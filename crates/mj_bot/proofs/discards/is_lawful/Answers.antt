@@ -1,9 +1,18 @@
-use Rattle.std.proofs.Common.{arith}
+use Rattle.std.proofs.Common.{◌∙◌, ◌&&◌, not, ap, sym}
+use Rattle.mj_tiles.specs.Faces.{is_red}
+use Rattle.mj_wall.specs.declared.setting.Rules.{Rules}
 use Rattle.mj_rules.specs.View.{view_of}
-use Rattle.mj_bot.proofs.Lawful.{none_counted}
+use Rattle.mj_bot.proofs.Lawful.{none_held, free_passes}
 use Rattle.mj_bot.proofs.discards.is_lawful.Goals as goal
 
-pub returns-then-get-eq0 : goal.returns-then-get-eq0
-returns-then-get-eq0 c =
-    none_counted c.args.table.now.rules c.args.seat (view_of c.args.table.now.deeds c.args.seat) c.args.counts.now c.args.tile c.kind.result c.get.result
-    (omega arith) c.requires.counts c.kind.ensures c.get.ensures.value c.if-get-eq0.true
+pub returns-then-held_count-eq0 : goal.returns-then-held_count-eq0
+unfolding view_of
+returns-then-held_count-eq0 c =
+    none_held c.args.table.now.rules c.args.seat (view_of c.args.table.now.deeds c.args.seat) c.args.tile c.held_count.result
+    c.held_count.ensures c.if-held_count-eq0.true
+
+pub returns-then-is_in_game : goal.returns-then-is_in_game
+unfolding view_of
+returns-then-is_in_game c =
+    free_passes c.args.table.now.rules c.args.seat (view_of c.args.table.now.deeds c.args.seat) c.args.tile c.held_count.result
+    (c.requires.free c.if-free.true) (ap (λ (rules : Rules). not (is_red c.args.tile && not rules.red)) (sym c.rules.ensures) ∙ sym c.if-is_in_game.ensures) c.held_count.ensures c.if-held_count-eq0.false

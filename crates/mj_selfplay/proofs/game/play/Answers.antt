@@ -1,5 +1,6 @@
 use Rattle.std.proofs.Common.{[]}
-use Rattle.mj_selfplay.proofs.Played.{begins, comes_to, goes, nearer, none_within, plain_rules, tally_few, tally_within, whole_walls}
+use Rattle.mj_selfplay.specs.Inner.Supplies.{game_walls}
+use Rattle.mj_selfplay.proofs.Played.{begins, comes_to, goes, nearer, none_within, plain_rules, played_at_hand, tally_few, tally_within, whole_walls}
 use Rattle.mj_selfplay.proofs.game.play.Goals as goal
 
 pub with-tally-requires-clause-few : goal.with-tally-requires-clause-few
@@ -16,64 +17,68 @@ with-tally-requires-clause-draws c = (tally_few c.none.result [] c.none.ensures)
 
 pub loop-alloc-init : goal.loop-alloc-init
 loop-alloc-init c =
-    begins c.args.walls.now c.in_ok-table.table c.none.result c.with-tally.result c.start.result c.in_ok-table.ensures c.none.ensures c.start.ensures c.with-tally.ensures
+    (c.in_ok-walls.ensures, begins (game_walls c.args.seed) c.in_ok-table.table c.none.result c.with-tally.result c.start.result c.in_ok-table.ensures c.none.ensures c.start.ensures c.with-tally.ensures)
 
 pub step-requires-clause-plain : goal.step-requires-clause-plain
 step-requires-clause-plain c =
-    plain_rules c.loop-alloc.table.rules c.loop-alloc.invariant.rules_are
+    plain_rules c.loop-alloc.table.rules c.loop-alloc.invariant.1.rules_are
+
+pub step-requires-clause-played : goal.step-requires-clause-played
+step-requires-clause-played c =
+    played_at_hand c.args.seed c.in_ok-walls-2.walls c.loop-alloc.table c.loop-alloc.tally c.in_ok-walls-2.ensures.enough c.loop-alloc.invariant.1
 
 pub step-requires-clause-whole : goal.step-requires-clause-whole
 step-requires-clause-whole c =
-    whole_walls c.loop-alloc.table.rules c.args.walls.now c.loop-alloc.invariant.rules_are c.requires.whole
+    whole_walls c.loop-alloc.table.rules c.in_ok-walls-2.walls c.loop-alloc.invariant.1.rules_are c.in_ok-walls-2.ensures.at_hand.whole
 
 pub with-tally-requires-in-loop-alloc-clause-few : goal.with-tally-requires-in-loop-alloc-clause-few
 with-tally-requires-in-loop-alloc-clause-few c =
-    tally_within c.args.walls.now c.loop-alloc.table c.loop-alloc.tally c.requires.some c.requires.whole c.loop-alloc.invariant
+    tally_within c.args.seed c.in_ok-walls-2.walls c.loop-alloc.table c.loop-alloc.tally c.in_ok-walls-2.ensures.at_hand c.in_ok-walls-2.ensures.enough c.loop-alloc.invariant.1
 
 pub with-tally-requires-in-loop-alloc-clause-hands : goal.with-tally-requires-in-loop-alloc-clause-hands
 with-tally-requires-in-loop-alloc-clause-hands c =
-    (tally_few c.loop-alloc.tally c.loop-alloc.table.deeds c.loop-alloc.invariant.tally_is).hands
+    (tally_few c.loop-alloc.tally c.loop-alloc.table.deeds c.loop-alloc.invariant.1.tally_is).hands
 
 pub with-tally-requires-in-loop-alloc-clause-wins : goal.with-tally-requires-in-loop-alloc-clause-wins
 with-tally-requires-in-loop-alloc-clause-wins c =
-    (tally_few c.loop-alloc.tally c.loop-alloc.table.deeds c.loop-alloc.invariant.tally_is).wins
+    (tally_few c.loop-alloc.tally c.loop-alloc.table.deeds c.loop-alloc.invariant.1.tally_is).wins
 
 pub with-tally-requires-in-loop-alloc-clause-draws : goal.with-tally-requires-in-loop-alloc-clause-draws
 with-tally-requires-in-loop-alloc-clause-draws c =
-    (tally_few c.loop-alloc.tally c.loop-alloc.table.deeds c.loop-alloc.invariant.tally_is).draws
+    (tally_few c.loop-alloc.tally c.loop-alloc.table.deeds c.loop-alloc.invariant.1.tally_is).draws
 
 pub loop-alloc-smaller-in_ok-deed : goal.loop-alloc-smaller-in_ok-deed
 loop-alloc-smaller-in_ok-deed c =
-    nearer c.args.walls.now c.loop-alloc.table c.step.new.table c.loop-alloc.tally c.in_ok-deed.deed c.requires.some c.requires.whole c.loop-alloc.invariant c.in_ok-deed.ensures.pushed
+    nearer c.args.seed c.in_ok-walls-2.walls c.loop-alloc.table c.step.new.table c.loop-alloc.tally c.in_ok-deed.deed c.in_ok-walls-2.ensures.at_hand c.in_ok-walls-2.ensures.enough c.loop-alloc.invariant.1 c.in_ok-deed.ensures.pushed
 
 pub loop-alloc-preserved-in_ok-deed : goal.loop-alloc-preserved-in_ok-deed
 loop-alloc-preserved-in_ok-deed c =
-    goes c.args.walls.now c.loop-alloc.table c.step.new.table c.loop-alloc.tally c.with-tally-in-loop-alloc.result c.in_ok-deed.deed c.loop-alloc.invariant c.in_ok-deed.ensures.chosen c.in_ok-deed.ensures.pushed c.in_ok-deed.ensures.played c.with-tally-in-loop-alloc.ensures
+    (c.in_ok-walls-2.ensures.at_hand, goes c.args.seed c.in_ok-walls-2.walls c.loop-alloc.table c.step.new.table c.loop-alloc.tally c.with-tally-in-loop-alloc.result c.in_ok-deed.deed c.in_ok-walls-2.ensures.enough c.loop-alloc.invariant.1 c.in_ok-deed.ensures.chosen c.in_ok-deed.ensures.pushed c.in_ok-deed.ensures.played c.with-tally-in-loop-alloc.ensures)
 
 pub loop-alloc-smaller-in_ok-deed-2 : goal.loop-alloc-smaller-in_ok-deed-2
 loop-alloc-smaller-in_ok-deed-2 c =
-    nearer c.args.walls.now c.loop-alloc.table c.step.new.table c.loop-alloc.tally c.in_ok-deed.deed c.requires.some c.requires.whole c.loop-alloc.invariant c.in_ok-deed.ensures.pushed
+    nearer c.args.seed c.in_ok-walls-2.walls c.loop-alloc.table c.step.new.table c.loop-alloc.tally c.in_ok-deed.deed c.in_ok-walls-2.ensures.at_hand c.in_ok-walls-2.ensures.enough c.loop-alloc.invariant.1 c.in_ok-deed.ensures.pushed
 
 pub loop-alloc-preserved-in_ok-deed-2 : goal.loop-alloc-preserved-in_ok-deed-2
 loop-alloc-preserved-in_ok-deed-2 c =
-    goes c.args.walls.now c.loop-alloc.table c.step.new.table c.loop-alloc.tally c.with-tally-in-loop-alloc.result c.in_ok-deed.deed c.loop-alloc.invariant c.in_ok-deed.ensures.chosen c.in_ok-deed.ensures.pushed c.in_ok-deed.ensures.played c.with-tally-in-loop-alloc.ensures
+    (c.in_ok-walls-2.ensures.at_hand, goes c.args.seed c.in_ok-walls-2.walls c.loop-alloc.table c.step.new.table c.loop-alloc.tally c.with-tally-in-loop-alloc.result c.in_ok-deed.deed c.in_ok-walls-2.ensures.enough c.loop-alloc.invariant.1 c.in_ok-deed.ensures.chosen c.in_ok-deed.ensures.pushed c.in_ok-deed.ensures.played c.with-tally-in-loop-alloc.ensures)
 
 pub loop-alloc-smaller-in_ok-deed-3 : goal.loop-alloc-smaller-in_ok-deed-3
 loop-alloc-smaller-in_ok-deed-3 c =
-    nearer c.args.walls.now c.loop-alloc.table c.step.new.table c.loop-alloc.tally c.in_ok-deed.deed c.requires.some c.requires.whole c.loop-alloc.invariant c.in_ok-deed.ensures.pushed
+    nearer c.args.seed c.in_ok-walls-2.walls c.loop-alloc.table c.step.new.table c.loop-alloc.tally c.in_ok-deed.deed c.in_ok-walls-2.ensures.at_hand c.in_ok-walls-2.ensures.enough c.loop-alloc.invariant.1 c.in_ok-deed.ensures.pushed
 
 pub loop-alloc-preserved-in_ok-deed-3 : goal.loop-alloc-preserved-in_ok-deed-3
 loop-alloc-preserved-in_ok-deed-3 c =
-    goes c.args.walls.now c.loop-alloc.table c.step.new.table c.loop-alloc.tally c.with-tally-in-loop-alloc.result c.in_ok-deed.deed c.loop-alloc.invariant c.in_ok-deed.ensures.chosen c.in_ok-deed.ensures.pushed c.in_ok-deed.ensures.played c.with-tally-in-loop-alloc.ensures
+    (c.in_ok-walls-2.ensures.at_hand, goes c.args.seed c.in_ok-walls-2.walls c.loop-alloc.table c.step.new.table c.loop-alloc.tally c.with-tally-in-loop-alloc.result c.in_ok-deed.deed c.in_ok-walls-2.ensures.enough c.loop-alloc.invariant.1 c.in_ok-deed.ensures.chosen c.in_ok-deed.ensures.pushed c.in_ok-deed.ensures.played c.with-tally-in-loop-alloc.ensures)
 
 pub loop-alloc-smaller : goal.loop-alloc-smaller
 loop-alloc-smaller c =
-    nearer c.args.walls.now c.loop-alloc.table c.step.new.table c.loop-alloc.tally c.in_ok-deed.deed c.requires.some c.requires.whole c.loop-alloc.invariant c.in_ok-deed.ensures.pushed
+    nearer c.args.seed c.in_ok-walls-2.walls c.loop-alloc.table c.step.new.table c.loop-alloc.tally c.in_ok-deed.deed c.in_ok-walls-2.ensures.at_hand c.in_ok-walls-2.ensures.enough c.loop-alloc.invariant.1 c.in_ok-deed.ensures.pushed
 
 pub loop-alloc-preserved : goal.loop-alloc-preserved
 loop-alloc-preserved c =
-    goes c.args.walls.now c.loop-alloc.table c.step.new.table c.loop-alloc.tally c.with-tally-in-loop-alloc.result c.in_ok-deed.deed c.loop-alloc.invariant c.in_ok-deed.ensures.chosen c.in_ok-deed.ensures.pushed c.in_ok-deed.ensures.played c.with-tally-in-loop-alloc.ensures
+    (c.in_ok-walls-2.ensures.at_hand, goes c.args.seed c.in_ok-walls-2.walls c.loop-alloc.table c.step.new.table c.loop-alloc.tally c.with-tally-in-loop-alloc.result c.in_ok-deed.deed c.in_ok-walls-2.ensures.enough c.loop-alloc.invariant.1 c.in_ok-deed.ensures.chosen c.in_ok-deed.ensures.pushed c.in_ok-deed.ensures.played c.with-tally-in-loop-alloc.ensures)
 
 pub returns : goal.returns
 returns c =
-    comes_to c.args.walls.now c.loop-alloc.table c.loop-alloc.tally c.summary.result c.goes_on.result c.loop-alloc.invariant c.goes_on.ensures c.loop-alloc-test.false c.summary.ensures
+    comes_to (game_walls c.args.seed) c.loop-alloc.table c.loop-alloc.tally c.summary.result c.goes_on.result c.loop-alloc.invariant.1 c.goes_on.ensures c.loop-alloc-test.false c.summary.ensures

@@ -19,8 +19,8 @@ unreachable-requires c = never_none _ _ _ _ _ _ c.requires c.held.ensures.room_s
 pub returns : goal.returns
 returns c = record {
   nearest = nearest;
-  exchanges = least_exchanges c.args.rows.now.counts c.args.rows.now.room _ c.args.melds (c.in-Some.answer.0 - 1) c.held.ensures.size c.requires nearest;
+  exchanges = least_exchanges c.args.hand.now.counts c.args.hand.now.room _ c.args.melds (c.in-Some.answer.0 - 1) c.held.ensures.size c.requires nearest;
 }
   where
-    nearest : IsShanten c.args.rows.now.counts c.args.rows.now.room c.args.melds (c.in-Some.answer.0 - 1) c.counts_among.result
-    nearest = (let s = answer_says _ _ _ _ c.in-Some.answer _ _ c.requires c.held.ensures.size c.held.ensures.room_size c.held.ensures.held c.take_sets.ensures c.take_special.ensures c.in-Some.is in subst (λ t. IsShanten c.args.rows.now.counts c.args.rows.now.room c.args.melds (c.in-Some.answer.0 - 1) t) (sym c.counts_among.ensures) s.shanten)
+    nearest : IsShanten c.args.hand.now.counts c.args.hand.now.room c.args.melds (c.in-Some.answer.0 - 1) c.counts_among.result
+    nearest = (let s = answer_says _ _ _ _ c.in-Some.answer _ _ c.requires c.held.ensures.size c.held.ensures.room_size c.held.ensures.held c.take_sets.ensures c.take_special.ensures c.in-Some.is in subst (λ t. IsShanten c.args.hand.now.counts c.args.hand.now.room c.args.melds (c.in-Some.answer.0 - 1) t) (sym c.counts_among.ensures) s.shanten)

@@ -1,11 +1,12 @@
-use Rattle.std.proofs.Common.{arith, ap, ◌∙◌, get_or}
-use Rattle.mj_table.proofs.Brought.{a_fifth_kind, no_fifth_kind}
+use Rattle.std.proofs.Common.{◌∙◌, sym, subst, refl, ◌<◌, ℕ}
+use Rattle.mj_table.proofs.Brought.{one_fits, none_fit}
 use Rattle.mj_table.proofs.bringing.keeps_kinds.Goals as goal
 
-pub returns-then-saturating_add-gt4 : goal.returns-then-saturating_add-gt4
-returns-then-saturating_add-gt4 c =
-    a_fifth_kind c.args.before.now c.args.deed.now c.loop-kind.kind c.from-number.result c.brought.result c.saturating_add.result c.loop-kind-test.true
-    (c.from-number.ensures ∙ ap (λ place. get_or c.args.before.now place 0) c.from.ensures) c.brought.ensures c.saturating_add.ensures c.if-saturating_add-gt4.true
+pub returns-in-Some : goal.returns-in-Some
+returns-in-Some c few =
+    one_fits c.args.before.now c.args.deed.now c.tile_brought.result c.in-Some.tile c.from.result _ few (c.tile_brought.ensures (sym c.is_hand_start.ensures ∙ c.if-is_hand_start.false)) c.in-Some.is
+    (c.from.ensures ∙ c.number.ensures.value ∙ c.kind.ensures) (subst (λ (n : ℕ). n < 34) (sym c.from.ensures) c.number.ensures.within) refl
 
-pub returns : goal.returns
-returns c = no_fifth_kind c.args.before.now c.args.deed.now (λ k small. c.loop-kind.invariant k (omega (arith, small, c.loop-kind-test.false)))
+pub returns-in-None : goal.returns-in-None
+returns-in-None c few =
+    none_fit c.args.before.now c.args.deed.now c.tile_brought.result few (c.tile_brought.ensures (sym c.is_hand_start.ensures ∙ c.if-is_hand_start.false)) c.in-None.is

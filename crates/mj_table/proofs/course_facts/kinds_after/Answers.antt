@@ -1,9 +1,0 @@
-use Rattle.std.proofs.Common.{◌≡◌, cond, eqb}
-use Rattle.mj_deeds.specs.Reasons.{is_turn, discarded_kind}
-use Rattle.mj_table.proofs.CourseKept.{at_each}
-use Rattle.mj_table.proofs.course_facts.kinds_after.Goals as goal
-
-pub returns : goal.returns
-returns c =
-    at_each (λ place old new. new ≡ cond (eqb c.args.turns place) (cond (is_turn c.args.deed.now) (discarded_kind c.args.deed.now) old) old) c.args.kinds.now _ _ _ _ c.kind_after.ensures c.kind_after-2.ensures
-    c.kind_after-3.ensures c.kind_after-4.ensures

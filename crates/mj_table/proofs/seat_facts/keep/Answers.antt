@@ -1,0 +1,30 @@
+use Rattle.std.proofs.Common.{ℕ, List, [], ◌++◌, cond, sym, ap, ◌∙◌}
+use Rattle.std.specs.Prelude.{flat_map}
+use Rattle.mj_deeds.specs.Facts.{adds_by}
+use Rattle.mj_deeds.specs.Passed.{kinds_among, offers_to, offered_tiles}
+use Rattle.mj_deeds.specs.Riichi.{is_reach_by, behind_first}
+use Rattle.mj_deeds.proofs.RiichiLaws.{passed_in_riichi-more}
+use Rattle.mj_table.proofs.SeatsKept.{since_more, few_added, fewer_added, added_more, won_with}
+use Rattle.mj_table.proofs.SeatTurns.{marks_other, own_other, offers_other, passed_other}
+use Rattle.mj_table.proofs.seat_facts.keep.Goals as goal
+
+pub returns : goal.returns
+returns c before who none a few k = record {
+  own = own_other before c.args.deed.now who c.args.facts.now.own none k.own;
+  offered =
+      offers_other before c.args.deed.now c.args.seat who _ c.offered_by.result none a (c.offered_by.ensures none) (c.with_tile-facts.ensures (offered_tiles before who) k.offered);
+  passed = passed_other before c.args.deed.now c.args.seat who c.args.facts.now.offered none a k.offered;
+  offered_in_riichi =
+      since_more before c.args.deed.now c.args.seat who _ c.args.facts.now.marks.reached a k.marks.reached
+      (c.since_reach-facts.ensures (flat_map (offers_to who) (behind_first (is_reach_by who) before)) k.offered_in_riichi
+      ∙ ap (λ (xs : List ℕ). kinds_among (cond c.args.facts.now.marks.reached (flat_map (offers_to who) (behind_first (is_reach_by who) before) ++ xs) [])) (c.offered_by-2.ensures none));
+  passed_in_riichi = k.offered_in_riichi ∙ sym (passed_in_riichi-more before c.args.deed.now who);
+  melds = c.meld.ensures before who a (few.melds who) (fewer_added before c.args.deed.now who (few.added who)) k.added k.melds;
+  added =
+      added_more _ before c.args.deed.now c.args.seat who c.added.result a c.added.ensures
+      (c.add.ensures (flat_map (adds_by who) before) (few_added before c.args.deed.now c.args.seat who c.added.result a c.added.ensures (few.added who)) k.added);
+  marks =
+      marks_other before c.args.deed.now c.args.seat who c.args.facts.now.marks c.mark.new.marks none a k.marks c.mark.ensures.begun c.mark.ensures.ended c.mark.ensures.reached
+      c.mark.ensures.accepted c.mark.ensures.double c.mark.ensures.declared c.mark.ensures.broken c.mark.ensures.ippatsu c.mark.ensures.given;
+  won = won_with before c.args.deed.now c.args.seat who c.args.facts.now.won _ a k.won c.has_won-facts.ensures;
+}

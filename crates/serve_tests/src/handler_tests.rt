@@ -1,0 +1,195 @@
+//! The taking of links from a host.
+
+ghost use Rattle.std.specs.Prelude.{◌≡◌, [], IfOk};
+ghost use Rattle.mj_links.specs.FreshLinks.{IsFreshLink};
+
+use crate::hall::{shuffled_hall, sorted_hall};
+use crate::lines::{HELLO, Part, START, are_made_of};
+use crate::player::{A, D, GONE, KEY, Shown, Step, THREE, act_all, is_lost, look};
+use mj_links::{MemClock, MemFault, MemHost, MemLink, Numbered};
+use mj_ports::Seated;
+use mj_seats::{HandlerEnd, Lost, Room, Session, Ticked, handler, tick};
+use std::alloc::{AllocError, Global};
+use std::sync::Wait;
+use std::test::Fail;
+use turn_lock::Turn;
+
+// A link from which a line is read, and no more.
+fn link(alloc: Global, line: &str) -> Result<MemLink, AllocError>
+    ensures { IfOk result IsFreshLink }
+{
+    let mut bytes = line.as_bytes().to_vec(alloc)?;
+    bytes.push(b'\n')?;
+    Ok(MemLink::new(bytes, Vec::new(alloc), Vec::new(alloc)))
+}
+
+// A host of links from each of which a line is read, whose accept of this number fails.
+pub fn host(alloc: Global, lines: &[&str], fails: u64) -> Result<MemHost, AllocError> {
+    let mut links = Vec::new(alloc);
+    for line in lines {
+        links.push(link(alloc, *line)?)?;
+    }
+    Ok(MemHost::new(links, false, [fails].to_vec(alloc)?))
+}
+
+// How a handler ended, whether its fault is kept, what others see then, and the sessions that it kept.
+#[derive(Drop)]
+struct Handled {
+    end: HandlerEnd<MemFault>,
+    lost: bool,
+    shown: Shown,
+    sessions: Vec<Session<MemLink>>,
+}
+
+// Handles the links of a host by pass 1, once pass 0 has done all this.
+fn handle<G: Seated, R: Wait>(
+    rt: &R,
+    alloc: Global,
+    room: Room<G, MemFault>,
+    before: &[Step],
+    host: MemHost,
+) -> Option<Handled>
+    requires { G.history room.game ≡ [] }
+{
+    let Ok((turn, mut passes)) = Turn::new(alloc, room, 2) else {
+        return None;
+    };
+    let mut pass = passes.pop().unwrap();
+    let mut player = passes.pop().unwrap();
+    if !act_all(&turn, rt, alloc, &mut player, before) {
+        return None;
+    }
+    let mut sessions = Vec::new(alloc);
+    let end = handler(&turn, rt, alloc, &mut pass, &host, &mut sessions);
+    Some(Handled {
+        end,
+        lost: is_lost(&turn, rt, &mut player, 1),
+        shown: look(&turn, rt, &mut player),
+        sessions,
+    })
+}
+
+// Links that come from a host whose accept of this number fails, and the sessions that are kept of them.
+#[derive(Clone, Copy)]
+struct Case {
+    lines: &'static [&'static str],
+    fails: u64,
+    entries: u64,
+    kept: &'static [Kept],
+}
+
+// The place of a session, and what is written on its link.
+#[derive(Clone, Copy)]
+struct Kept(u64, &'static [Part]);
+
+fn are_kept(sessions: &[Session<MemLink>], kept: &[Kept]) -> bool {
+    let mut all = sessions.len() == kept.len();
+    for (session, wanted) in sessions.iter().zip(kept) {
+        let told = are_made_of(session.link.written(), wanted.1);
+        all = all && told && session.place == wanted.0;
+    }
+    all
+}
+
+// Whether a handler has ended with the fault of its host, which is kept, and with the sessions of the case.
+fn is_as_wanted(handled: Handled, case: Case) -> bool {
+    let failed = match &handled.end {
+        HandlerEnd::Host(fault) => fault.by() == 1,
+        HandlerEnd::Over | HandlerEnd::NoMemory => false,
+    };
+    failed
+        && handled.lost
+        && handled.shown.entries == case.entries
+        && are_kept(handled.sessions.as_slice(), case.kept)
+}
+
+fn holds<R: Wait>(rt: &R, alloc: Global, case: Case) -> Result<bool, Fail> {
+    let host = host(alloc, case.lines, case.fails)?;
+    match handle(rt, alloc, sorted_hall(alloc)?, &THREE, host) {
+        Some(handled) => Ok(is_as_wanted(handled, case)),
+        None => Err("no table".into()),
+    }
+}
+
+const TOLD: Kept = Kept(3, &[Part(HELLO, 1), Part(START, 1)]);
+
+const CASES: [Case; 4] = [
+    Case {
+        lines: &[],
+        fails: 1,
+        entries: 3,
+        kept: &[],
+    },
+    Case {
+        lines: &[D, D],
+        fails: 2,
+        entries: 5,
+        kept: &[TOLD],
+    },
+    Case {
+        lines: &[A, "x", D],
+        fails: 5,
+        entries: 5,
+        kept: &[TOLD],
+    },
+    Case {
+        lines: &[KEY, A, KEY],
+        fails: 4,
+        entries: 7,
+        kept: &[
+            TOLD,
+            Kept(5, &[Part(HELLO, 1), Part(NONE_AGAIN, 1), Part(START, 1)]),
+        ],
+    },
+];
+
+const NONE_AGAIN: &str = "{\"type\":\"replay\",\"count\":0}\n";
+
+#[test]
+fn links_that_had_a_seat_are_kept_until_the_host_fails(rt: HostRuntime) -> Result<(), Fail> {
+    for case in CASES {
+        assert!(rt; holds(&rt, rt.alloc(), case)?);
+    }
+    Ok(())
+}
+
+// How a handler ends that comes to a game which is over, at a host whose first accept fails.
+fn handle_late<G: Seated, R: Wait>(
+    rt: &R,
+    alloc: Global,
+    room: Room<G, MemFault>,
+    host: MemHost,
+) -> Option<HandlerEnd<MemFault>>
+    requires { G.history room.game ≡ [] }
+{
+    let Ok((turn, mut passes)) = Turn::new(alloc, room, 2) else {
+        return None;
+    };
+    let mut pass = passes.pop().unwrap();
+    let mut player = passes.pop().unwrap();
+    if !act_all(&turn, rt, alloc, &mut player, &GONE) {
+        return None;
+    }
+    let mut clock = MemClock::new(0, 1000);
+    if tick(&turn, rt, alloc, &mut player, &mut clock) != Ticked::Over {
+        return None;
+    }
+    let mut sessions = Vec::new(alloc);
+    Some(handler(&turn, rt, alloc, &mut pass, &host, &mut sessions))
+}
+
+fn ends_late<R: Wait>(rt: &R, alloc: Global) -> Result<bool, Fail> {
+    let host = host(alloc, &[], 1)?;
+    let hall = shuffled_hall(alloc, Lost::new(alloc, 8)?)?;
+    match handle_late(rt, alloc, hall, host) {
+        Some(HandlerEnd::Over) => Ok(true),
+        Some(HandlerEnd::Host(_) | HandlerEnd::NoMemory) => Ok(false),
+        None => Err("no table".into()),
+    }
+}
+
+#[test]
+fn a_handler_asks_its_host_no_more_once_the_game_is_over(rt: HostRuntime) -> Result<(), Fail> {
+    assert!(rt; ends_late(&rt, rt.alloc())?);
+    Ok(())
+}

@@ -1,0 +1,148 @@
+//! Games that the command `serve` plays.
+
+ghost use Rattle.std.specs.Prelude.{◌≡◌};
+
+use crate::handler_tests::host;
+use crate::lines::HELLO;
+use crate::meeting::{Meeting, MeetingHost, Sign};
+use crate::patient::{PatientClock, PatientHost};
+use crate::player::{A, B, C, D, KEY};
+use mj_front::{Status, is_for_waiting, run, run_alone};
+use mj_links::{Clock, Host, MemClock, MemLink, MemSink, MemSource};
+use std::alloc::{AllocError, Global};
+use std::sync::Wait;
+use std::sync::atomic::AtomicU32;
+use std::test::Fail;
+use std::thread::Threads;
+
+const SERVE: [&str; 5] = [
+    "serve",
+    "--seed",
+    "0707070707070707070707070707070707070707070707070707070707070707",
+    "--limit",
+    "1000",
+];
+
+fn words_of(alloc: Global, texts: &[&str]) -> Result<Vec<String>, AllocError> {
+    let mut words = Vec::new(alloc);
+    for text in texts {
+        words.push(String::from_str(alloc, *text)?)?;
+    }
+    Ok(words)
+}
+
+// Serves one game over a host.
+fn serve<H: Host, K: Clock, R: Threads + Wait + Sync>(
+    rt: &R,
+    alloc: Global,
+    host: &mut H,
+    clock: &mut K,
+    sink: &mut MemSink,
+) -> Result<Status, AllocError> {
+    let words = words_of(alloc, &SERVE)?;
+    let mut source = MemSource::new(Vec::new(alloc), Vec::new(alloc));
+    Ok(run(rt, alloc, words.as_slice(), &mut source, sink, host, clock))
+}
+
+// Whether a record is good.
+fn is_good(alloc: Global, record: &[u8]) -> Result<bool, AllocError> {
+    let words = words_of(alloc, &["replay"])?;
+    let mut source = MemSource::new(record.to_vec(alloc)?, Vec::new(alloc));
+    let mut sink = MemSink::new(Vec::new(alloc));
+    Ok(
+        !is_for_waiting(words.as_slice())
+            && run_alone(alloc, words.as_slice(), &mut source, &mut sink) == Status::Done,
+    )
+}
+
+// What the first deed tells behind the seat, where a link holds the hello line and that of this deed alone.
+fn names_told(link: &MemLink, place: u64) -> Option<&[u8]> {
+    let start = link.written().strip_prefix(HELLO.as_bytes())?;
+    let seat = start.strip_prefix(b"{\"type\":\"start_game\",\"id\":")?;
+    let [digit, names @ ..] = seat else {
+        return None;
+    };
+    let newline = names.iter().position(|byte| *byte == b'\n')?;
+    if u64::from(*digit) == place.saturating_add(48) && newline.saturating_add(1) == names.len() {
+        Some(names)
+    } else {
+        None
+    }
+}
+
+// Whether four links came back, each with the hello line and the first deed of its own seat, with the same names.
+fn are_told(returned: &[(MemLink, u64)]) -> bool {
+    let [(first, place), ..] = returned else {
+        return false;
+    };
+    let Some(names) = names_told(first, *place) else {
+        return false;
+    };
+    let mut all = returned.len() == 4;
+    for (link, place) in returned {
+        all = all && names_told(link, *place) == Some(names);
+    }
+    all
+}
+
+#[test]
+fn four_players_that_leave_are_served_a_game(rt: HostRuntime) -> Result<(), Fail> {
+    let alloc = rt.alloc();
+    let mut host = host(alloc, &[A, B, C, D], 0)?;
+    let mut sink = MemSink::new(Vec::new(alloc));
+    let mut clock = MemClock::new(0, 1000);
+    let status = serve(&rt, alloc, &mut host, &mut clock, &mut sink)?;
+    assert!(rt; status == Status::Done && host.ports() == [11600].as_slice());
+    assert!(rt; are_told(host.returned()));
+    let record = sink.written();
+    assert!(rt; is_good(alloc, record)? && is_ended(record));
+    Ok(())
+}
+
+// Whether the last line of a record is that of the game's end.
+fn is_ended(record: &[u8]) -> bool {
+    match record.strip_suffix(b"\n") {
+        Some(lines) => match lines.rsplit(|byte| *byte == b'\n').next() {
+            Some(last) => last.starts_with(b"{\"type\":\"end_game\","),
+            None => false,
+        },
+        None => false,
+    }
+}
+
+#[test]
+fn four_links_are_served_side_by_side(rt: HostRuntime) -> Result<(), Fail> {
+    let alloc = rt.alloc();
+    let meeting = Meeting::new();
+    let links = host(alloc, &[A, B, C, D], 0)?;
+    let mut host = MeetingHost::new(&rt, &meeting, Sign::AllStarted, links);
+    let mut sink = MemSink::new(Vec::new(alloc));
+    let mut clock = MemClock::new(0, 1000);
+    assert!(rt; serve(&rt, alloc, &mut host, &mut clock, &mut sink)? == Status::Done);
+    Ok(())
+}
+
+// Four players that come, leave, and come again by their keys.
+const TWICE: [&str; 8] = [
+    "{\"type\":\"join\",\"name\":\"a\",\"key\":\"k\"}",
+    "{\"type\":\"join\",\"name\":\"b\",\"key\":\"k\"}",
+    "{\"type\":\"join\",\"name\":\"c\",\"key\":\"k\"}",
+    KEY,
+    "{\"type\":\"join\",\"name\":\"a\",\"key\":\"k\"}",
+    "{\"type\":\"join\",\"name\":\"b\",\"key\":\"k\"}",
+    "{\"type\":\"join\",\"name\":\"c\",\"key\":\"k\"}",
+    KEY,
+];
+
+#[test]
+fn no_link_of_any_worker_is_dropped_and_each_window_runs_out(rt: HostRuntime) -> Result<(), Fail> {
+    let alloc = rt.alloc();
+    let again = AtomicU32::new(0);
+    let links = host(alloc, &TWICE, 0)?;
+    let mut host = PatientHost::new(&rt, &again, links);
+    let mut clock = PatientClock::new(&rt, &again);
+    let mut sink = MemSink::new(Vec::new(alloc));
+    assert!(rt; serve(&rt, alloc, &mut host, &mut clock, &mut sink)? == Status::Done);
+    assert!(rt; host.returned() == 8);
+    Ok(())
+}
