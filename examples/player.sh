@@ -1,10 +1,12 @@
 #!/usr/bin/env bash
-# A player for riichi_table in shell: it discards each tile that it draws and passes otherwise.
+# A player for riichi_table in shell: it discards each tile that it draws and passes otherwise. With a pause, in seconds, it
+# takes its time before it discards.
 #
-# usage: player.sh NAME [KEY [PORT]]
-name=${1:?usage: player.sh NAME [KEY [PORT]]}
+# usage: player.sh NAME [KEY [PORT [PAUSE]]]
+name=${1:?usage: player.sh NAME [KEY [PORT [PAUSE]]]}
 key=$2
 port=${3:-11600}
+pause=$4
 
 exec 3<>"/dev/tcp/127.0.0.1/$port" || exit 1
 
@@ -42,6 +44,7 @@ while IFS= read -r line <&3; do
         "{\"type\":\"tsumo\",\"actor\":$seat,"*)
             tile=${line#*\"pai\":\"}
             tile=${tile%%\"*}
+            [ -n "$pause" ] && sleep "$pause"
             echo "{\"type\":\"dahai\",\"actor\":$seat,\"pai\":\"$tile\",\"tsumogiri\":true}" >&3 ;;
         *)
             echo '{"type":"none"}' >&3 ;;
