@@ -25,12 +25,12 @@ use Rattle.mj_seating.specs.Sitting.{Held, is_named, is_key, back, at_held, plac
 use Rattle.mj_deeds.specs.declared.rule.Rule.{Rule}
 use Rattle.mj_deeds.specs.declared.answer.Answer.{Answer}
 use Rattle.mj_wall.specs.declared.setting.Setting.{Setting}
-use Rattle.mj_protocol.specs.After.{After, Chair, Verdict, after}
-use Rattle.mj_protocol.specs.Trace.{Game, is_present_by, may_say, can_say}
-use Rattle.mj_protocol.specs.Sitting.{placing, held_of, author_at}
-use Rattle.mj_protocol.specs.Shown.{due_at, sit_answer, sits_of, heard_of, hears_of, expires_of}
-use Rattle.mj_protocol.specs.AnswerForms.{join_of}
-use Rattle.mj_protocol.proofs.Entered.{seats-are}
+use Rattle.mj_history.specs.After.{After, Chair, Verdict, after}
+use Rattle.mj_history.specs.Legal.{Game, is_present_by, may_say, can_say}
+use Rattle.mj_history.specs.Sitting.{placing, held_of, author_at}
+use Rattle.mj_history.specs.Shown.{due_at, sit_answer, sits_of, heard_of, hears_of, expires_of}
+use Rattle.mj_forms.specs.AnswerForms.{join_of}
+use Rattle.mj_history.proofs.Entered.{seats-are}
 use Rattle.mj_core.specs.Calls.{after_of, IsSitAnswer, IsHeard, IsLeft, IsExpiry, is_here, may_expire}
 use Rattle.mj_core.proofs.Games.{placing-sat, expire-open}
 

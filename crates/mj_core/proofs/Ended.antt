@@ -1,2 +1,2 @@
 -- Behind the end of a game no deed follows.
-pub use Rattle.mj_protocol.proofs.Ended.{no_outcome}
+pub use Rattle.mj_history.proofs.Ended.{no_outcome}

@@ -22,13 +22,13 @@ use Rattle.mj_deeds.specs.declared.answer.Answer.{Answer}
 use Rattle.mj_deeds.specs.Answers.{is_in_form}
 use Rattle.mj_wall.specs.declared.setting.Setting.{Setting}
 use Rattle.mj_wall.specs.Places.{is_wall}
-use Rattle.mj_protocol.specs.Lines.{line}
-use Rattle.mj_protocol.specs.After.{After, Chair, before_all, after, own_part, is_present, pending, lines_for, verdict_on}
-use Rattle.mj_protocol.specs.Trace.{Game, has_name, can_sit, can_say, may_say, can_return, is_present_by, is_over, is_open, can_expire, is_permitted, all_permitted, has_wall, has_ground, IsLegal}
-use Rattle.mj_protocol.specs.Sitting.{held_of, placing}
-use Rattle.mj_protocol.specs.AnswerForms.{answer_of}
-use Rattle.mj_protocol.specs.Laws.{CanGoOn}
-use Rattle.mj_protocol.proofs.Entries.{after-append, all_permitted-append}
+use Rattle.mj_forms.specs.Lines.{line}
+use Rattle.mj_history.specs.After.{After, Chair, before_all, after, own_part, is_present, pending, lines_for, verdict_on}
+use Rattle.mj_history.specs.Legal.{Game, has_name, can_sit, can_say, may_say, can_return, is_present_by, is_over, is_open, can_expire, is_permitted, all_permitted, has_wall, has_ground, IsLegal}
+use Rattle.mj_history.specs.Sitting.{held_of, placing}
+use Rattle.mj_forms.specs.AnswerForms.{answer_of}
+use Rattle.mj_history.specs.Laws.{CanGoOn}
+use Rattle.mj_history.proofs.Entries.{after-append, all_permitted-append}
 use Rattle.mj_core.specs.Calls.{after_of, IsSitAnswer, Answers, IsHeard, verdict_at, open_window, may_say_at, pending_at, line_of, author_of_seat}
 use Rattle.mj_core.specs.Inner.Untold.{untold_chair, untold}
 use Rattle.mj_core.specs.Inner.Verdicts.{verdict_given, heard_by}
@@ -39,8 +39,8 @@ use Rattle.mj_core.specs.declared.verdict.Verdict.{Verdict as Judged}
 use Rattle.mj_core.specs.declared.verdict.Verdict.TheVariants as judged
 use Rattle.mj_rules.proofs.Lengths.{few_deeds}
 use Rattle.mj_rules.proofs.Playing.{each_is_wall}
-use Rattle.mj_protocol.proofs.Fitting.{own_part_can_go_on, legal_games_are_played}
-use Rattle.mj_protocol.proofs.Forms.{answers_that_are_read_are_in_form}
+use Rattle.mj_history.proofs.Fitting.{own_part_can_go_on, legal_games_are_played}
+use Rattle.mj_forms.proofs.Forms.{answers_that_are_read_are_in_form}
 use Rattle.mj_core.proofs.Laws.{sat-permitted, back-permitted}
 use Rattle.mj_core.proofs.Same.{own_part-same, step-same, can_go_on-same, seat-same, seat_or-same, held-same, length-same}
 use Rattle.mj_core.proofs.Order.{legal-in-order, order-same}

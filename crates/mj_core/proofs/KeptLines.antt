@@ -6,9 +6,9 @@ use Rattle.std.specs.Borrow.{Bor}
 use Rattle.std.proofs.lemmas.Option.{slice_get_within, same_Some}
 use Rattle.mj_deeds.specs.declared.deed.Deed.{Deed}
 use Rattle.mj_deeds.specs.declared.deed.Viewer.TheVariants.{Seat}
-use Rattle.mj_protocol.specs.Lines.{line}
-use Rattle.mj_protocol.specs.Shown.{line_at}
-use Rattle.mj_protocol.proofs.Places.{none_behind}
+use Rattle.mj_forms.specs.Lines.{line}
+use Rattle.mj_history.specs.Shown.{line_at}
+use Rattle.mj_history.proofs.Places.{none_behind}
 use Rattle.mj_bytes.specs.Adds.{Adds}
 use Rattle.mj_streams.specs.Streams.{line_of}
 

@@ -7,11 +7,11 @@ use Rattle.mj_ports.specs.declared.sitting.JoinLine.{JoinLine}
 use Rattle.mj_seating.specs.declared.desk.Placed.{Placed}
 use Rattle.mj_seating.specs.declared.desk.Placed.TheVariants as places
 use Rattle.mj_wall.specs.declared.setting.Setting.{Setting}
-use Rattle.mj_protocol.specs.After.{After}
-use Rattle.mj_protocol.specs.Trace.{is_permitted}
-use Rattle.mj_protocol.specs.Sitting.{placing, entries_of_placing}
-use Rattle.mj_protocol.specs.AnswerForms.{join_of}
-use Rattle.mj_protocol.proofs.Legality.{IsNamed, join_of-named, MayAdd, placing-may}
+use Rattle.mj_history.specs.After.{After}
+use Rattle.mj_history.specs.Legal.{is_permitted}
+use Rattle.mj_history.specs.Sitting.{placing, entries_of_placing}
+use Rattle.mj_forms.specs.AnswerForms.{join_of}
+use Rattle.mj_history.proofs.Legality.{IsNamed, join_of-named, MayAdd, placing-may}
 
 -- The name of a join that is read is good.
 pub named-by : (text : List ℕ) (join : JoinLine) → Some join ≡ join_of text → is_name join.name ≡ true

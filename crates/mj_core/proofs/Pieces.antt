@@ -22,10 +22,10 @@ use Rattle.mj_wall.specs.declared.setting.Rules.{Rules}
 use Rattle.mj_wall.specs.declared.setting.Setting.{Setting}
 use Rattle.mj_window.specs.Slots.{empty_slots, closes}
 use Rattle.mj_rules.specs.Outcome.{outcome}
-use Rattle.mj_protocol.specs.After.{After, Chair, Verdict, verdict_on, progress_after, author_after, slots_after, due_on_return, own_part, names_of, answers_in, is_present, is_expiry, next_deed}
-use Rattle.mj_protocol.specs.Trace.{is_over}
-use Rattle.mj_protocol.specs.Sitting.{held_of}
-use Rattle.mj_protocol.specs.Laws.{CanGoOn}
+use Rattle.mj_history.specs.After.{After, Chair, Verdict, verdict_on, progress_after, author_after, slots_after, due_on_return, own_part, names_of, answers_in, is_present, is_expiry, next_deed}
+use Rattle.mj_history.specs.Legal.{is_over}
+use Rattle.mj_history.specs.Sitting.{held_of}
+use Rattle.mj_history.specs.Laws.{CanGoOn}
 use Rattle.mj_core.specs.Calls.{open_window}
 use Rattle.mj_core.specs.Inner.Untold.{untold}
 use Rattle.mj_core.specs.Inner.States.{Position, presence_at, desk_names, chair_of, chairs_of, player_in, AreSeated, progress_of, player_of, now_of, Steps, HasWalls, MayAdd, changed, desk_after, with_next, Settles, IsStarted, CanSettle, IsInOrder, IsPatient, IsPatientAt, is_due, is_present_in, CanHear, Hears}

@@ -9,13 +9,13 @@ use Rattle.mj_bytes.specs.Adds.{Adds}
 use Rattle.mj_ports.specs.declared.entry.Entry.{Entry}
 use Rattle.mj_ports.specs.declared.sitting.SitRefused.TheVariants.{BadName}
 use Rattle.mj_seating.specs.declared.desk.Placed.TheVariants as places
-use Rattle.mj_protocol.specs.Sitting.{placing}
-use Rattle.mj_protocol.specs.AnswerForms.{join_of}
+use Rattle.mj_history.specs.Sitting.{placing}
+use Rattle.mj_forms.specs.AnswerForms.{join_of}
 use Rattle.mj_deeds.specs.declared.deed.Deed.{Deed}
 use Rattle.mj_deeds.specs.declared.answer.Answer.{Answer}
 use Rattle.mj_wall.specs.declared.setting.Setting.{Setting}
-use Rattle.mj_protocol.specs.After.{After, after}
-use Rattle.mj_protocol.specs.Trace.{Game, is_over, is_open, can_say}
+use Rattle.mj_history.specs.After.{After, after}
+use Rattle.mj_history.specs.Legal.{Game, is_over, is_open, can_say}
 use Rattle.mj_core.specs.Calls.{after_of, open_window, may_say_at, pending_at, author_of_seat}
 use Rattle.mj_core.specs.Inner.States.{Position, now_of, player_in}
 use Rattle.mj_core.specs.Inner.Kept.{IsKept}

@@ -5,8 +5,8 @@ use Rattle.std.specs.Option.{option_map_or}
 use Rattle.std.proofs.lemmas.List.{length-append, length-set, map-append, map-set}
 use Rattle.std.proofs.lemmas.Option.{same_Some, slice_get-map}
 use Rattle.mj_seating.specs.Sitting.{Held, changed_at, gone, is_present_at}
-use Rattle.mj_protocol.specs.After.{Chair, Verdict, Taken, Late, Refused, Closing, author_after, is_present, name_at}
-use Rattle.mj_protocol.specs.Sitting.{held_of}
+use Rattle.mj_history.specs.After.{Chair, Verdict, Taken, Late, Refused, Closing, author_after, is_present, name_at}
+use Rattle.mj_history.specs.Sitting.{held_of}
 use Rattle.mj_core.specs.Inner.States.{chair_of, chairs_of, AreSeated, desk_after}
 use Rattle.mj_core.specs.declared.chair.Chair.{Chair as Player}
 

@@ -13,7 +13,7 @@ use Rattle.mj_wall.specs.declared.setting.Rules.{Rules}
 use Rattle.mj_wall.specs.declared.setting.Setting.{Setting}
 use Rattle.mj_window.specs.Slots.{empty_slots, closes}
 use Rattle.mj_rules.specs.Broken.{broken_rule}
-use Rattle.mj_protocol.specs.After.{Verdict, verdict, progress_after, author_after, slots_after, due_on_return}
+use Rattle.mj_history.specs.After.{Verdict, verdict, progress_after, author_after, slots_after, due_on_return}
 use Rattle.mj_core.specs.Calls.{open_window}
 use Rattle.mj_core.specs.Inner.States.{Position, presence_at, AreSeated, progress_of, player_of, now_of, Steps, Advances, changed, desk_after, Settles, CanSettle, CanTakeSeat, CanTakeBack, CanHear, CanLeave, CanExpire, Hears}
 use Rattle.mj_core.specs.declared.chair.Chair.{Chair as Player}

@@ -15,12 +15,12 @@ use Rattle.mj_ports.specs.declared.answers.Expiry.TheVariants as expiry
 use Rattle.mj_seating.specs.declared.desk.Placed.TheVariants as places
 use Rattle.mj_deeds.specs.declared.rule.Rule.{Rule}
 use Rattle.mj_deeds.specs.declared.answer.Answer.{Answer}
-use Rattle.mj_protocol.specs.After.{After, Chair, Verdict, Taken, Late, Refused, Closing, after, is_present, pending, lines_for}
-use Rattle.mj_protocol.specs.Trace.{Game, is_open, is_present_by, can_expire}
-use Rattle.mj_protocol.specs.Sitting.{placing, author_at}
-use Rattle.mj_protocol.specs.Shown.{verdict_at as verdict_in, due_at, line_at}
-use Rattle.mj_protocol.specs.Records.{record_text}
-pub use Rattle.mj_protocol.specs.Shown.{open_window}
+use Rattle.mj_history.specs.After.{After, Chair, Verdict, Taken, Late, Refused, Closing, after, is_present, pending, lines_for}
+use Rattle.mj_history.specs.Legal.{Game, is_open, is_present_by, can_expire}
+use Rattle.mj_history.specs.Sitting.{placing, author_at}
+use Rattle.mj_history.specs.Shown.{verdict_at as verdict_in, due_at, line_at}
+use Rattle.mj_forms.specs.RecordTexts.{record_text}
+pub use Rattle.mj_history.specs.Shown.{open_window}
 
 -- What the entries of a game come to.
 abbrev pub after_of : Game → After

@@ -1,6 +1,6 @@
 ghost use Rattle.std.specs.Prelude.{◌≡◌, ◌==◌, ◌<◌, ◌≤◌, ℕ, List, Some, None, is_some};
 ghost use Rattle.mj_rules.specs.Broken.{broken_rule};
-ghost use Rattle.mj_protocol.specs.After.{author_after, progress_after, verdict as verdict_for};
+ghost use Rattle.mj_history.specs.After.{author_after, progress_after, verdict as verdict_for};
 ghost use Rattle.mj_core.specs.Inner.States.{progress_of, player_of};
 ghost use Rattle.mj_core.specs.Inner.Verdicts.{verdict_given};
 

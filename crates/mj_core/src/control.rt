@@ -1,7 +1,7 @@
 ghost use Rattle.std.specs.Prelude.{◌≡◌, OnOk, OnErr};
 ghost use Rattle.mj_bytes.specs.Adds.{Adds};
-ghost use Rattle.mj_protocol.specs.Lines.{hello_line, replay_line};
-ghost use Rattle.mj_protocol.specs.Shown.{control_line};
+ghost use Rattle.mj_forms.specs.Lines.{hello_line, replay_line};
+ghost use Rattle.mj_history.specs.Shown.{control_line};
 
 use mj_bytes::{push_all, push_number};
 use mj_deeds::Rule;
@@ -30,7 +30,7 @@ pub fn write_control(
 }
 
 // Writes the hello line.
-#[tactic(auto, unfolding(mj_protocol::specs::Lines::hello_line))]
+#[tactic(auto, unfolding(mj_forms::specs::Lines::hello_line))]
 fn push_hello(into: &mut Vec<u8>) -> Result<(), AllocError>
     ensures ok { OnOk result (Adds into.old.items into.new.items hello_line) }
     ensures err { OnErr result (into.new.items ≡ into.old.items) }

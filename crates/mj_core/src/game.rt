@@ -4,10 +4,10 @@ ghost use Rattle.mj_bytes.specs.Adds.{Adds};
 ghost use Rattle.mj_ports.specs.Names.{is_name};
 ghost use Rattle.mj_wall.specs.Places.{is_wall};
 ghost use Rattle.mj_deeds.specs.Answers.{is_in_form};
-ghost use Rattle.mj_protocol.specs.AnswerForms.{answer_of, join_of};
-ghost use Rattle.mj_protocol.specs.Trace.{IsLegal, can_say, is_over};
-ghost use Rattle.mj_protocol.specs.Sitting.{placing};
-ghost use Rattle.mj_protocol.specs.Shown.{control_line, line_at};
+ghost use Rattle.mj_forms.specs.AnswerForms.{answer_of, join_of};
+ghost use Rattle.mj_history.specs.Legal.{IsLegal, can_say, is_over};
+ghost use Rattle.mj_history.specs.Sitting.{placing};
+ghost use Rattle.mj_history.specs.Shown.{control_line, line_at};
 ghost use Rattle.mj_seating.specs.declared.desk.Placed.TheVariants.{Sat, Back};
 ghost use Rattle.mj_core.specs.Calls.{IsSitAnswer, IsHeard, IsLeft, IsExpiry, after_of, is_here, may_expire, author_of_seat, due_of, open_window, may_say_at, pending_at, line_of, record_of};
 ghost use Rattle.mj_core.specs.Inner.Verdicts.{heard_by};
@@ -35,7 +35,7 @@ pub struct Core {
 }
 
 impl Model for Core {
-    ghost use Rattle.mj_protocol.specs.Trace.{Game};
+    ghost use Rattle.mj_history.specs.Legal.{Game};
     ghost use Rattle.mj_core.specs.Inner.Kept.{IsKept};
 
     ghost Value = { Game };

@@ -1,8 +1,8 @@
-ghost use Rattle.mj_protocol.specs.AnswerForms.{answer_of, join_of};
-ghost use Rattle.mj_protocol.specs.Trace.{IsLegal};
-ghost use Rattle.mj_protocol.specs.Shown.{shown_of, sits_of, hears_of, expires_of, control_line};
-ghost use Rattle.mj_protocol.proofs.Seated.{beginnings_are_legal, lines_stay, ended_connections_stay};
-ghost use Rattle.mj_protocol.proofs.Moves.{others_leave_alone, seats_begin, returns_begin, answers_go_by_verdict, seats_leave};
+ghost use Rattle.mj_forms.specs.AnswerForms.{answer_of, join_of};
+ghost use Rattle.mj_history.specs.Legal.{IsLegal};
+ghost use Rattle.mj_history.specs.Shown.{shown_of, sits_of, hears_of, expires_of, control_line};
+ghost use Rattle.mj_history.proofs.Seated.{beginnings_are_legal, lines_stay, ended_connections_stay};
+ghost use Rattle.mj_history.proofs.Moves.{others_leave_alone, seats_begin, returns_begin, answers_go_by_verdict, seats_leave};
 
 use crate::game::Core;
 use mj_deeds::{Answer, Rule};

@@ -1,7 +1,7 @@
 ghost use Rattle.std.specs.Prelude.{◌≡◌, ◌≤◌, Some, None, unwrap_or};
 ghost use Rattle.mj_deeds.specs.Four.{at_seat};
 ghost use Rattle.mj_rules.specs.Default.{default_answer};
-ghost use Rattle.mj_protocol.specs.After.{slots_after, answers_in, Taken};
+ghost use Rattle.mj_history.specs.After.{slots_after, answers_in, Taken};
 ghost use Rattle.mj_core.specs.Inner.Verdicts.{verdict_given};
 
 use crate::verdict::Verdict;

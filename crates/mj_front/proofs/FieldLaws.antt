@@ -4,7 +4,7 @@ use Rattle.std.specs.Prelude.{Option, Some, None, option_map, option_and_then, n
 use Rattle.std.proofs.Common.{arith}
 use Rattle.std.proofs.lemmas.Bool.Decides.{nat_tests}
 use Rattle.mj_bytes.specs.Numbers.{decimal_of}
-use Rattle.mj_protocol.specs.Arrivals.{NoForm, Expire, expire_form, numbers_in}
+use Rattle.mj_history.specs.Arrivals.{NoForm, Expire, expire_form, numbers_in}
 use Rattle.mjai_lines.specs.Settings.{three_of}
 
 -- other numbers of fields say no end of a window

@@ -7,12 +7,12 @@ use Rattle.mj_ports.specs.declared.sitting.SitRefused.TheVariants.{Full, NameTak
 use Rattle.mj_seating.specs.declared.desk.Placed.{Placed}
 use Rattle.mj_seating.specs.declared.desk.Placed.TheVariants as places
 use Rattle.mj_seating.specs.Sitting.{Held, is_named, is_key, back, at_held, placed_from, placed}
-use Rattle.mj_protocol.specs.AnswerForms.{join_of}
-use Rattle.mj_protocol.specs.After.{After, Chair}
-use Rattle.mj_protocol.specs.Trace.{is_over, can_return}
-use Rattle.mj_protocol.specs.Sitting.{held_of, placing, entries_of_placing}
+use Rattle.mj_forms.specs.AnswerForms.{join_of}
+use Rattle.mj_history.specs.After.{After, Chair}
+use Rattle.mj_history.specs.Legal.{is_over, can_return}
+use Rattle.mj_history.specs.Sitting.{held_of, placing, entries_of_placing}
 use Rattle.mj_wall.specs.declared.setting.Setting.{Setting}
-use Rattle.mj_protocol.proofs.Legality.{MayAdd, placing-may, join_of-named}
+use Rattle.mj_history.proofs.Legality.{MayAdd, placing-may, join_of-named}
 
 -- what a place says of the number of seats behind a number: a new seat is the next one, and there are not four yet
 abbrev IsNext : ℕ → Placed → Type 0

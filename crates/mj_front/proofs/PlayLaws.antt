@@ -15,13 +15,13 @@ use Rattle.mj_seating.specs.declared.desk.Placed.TheVariants as places
 use Rattle.mj_deeds.specs.declared.answer.Answer.{Answer}
 use Rattle.mj_deeds.specs.declared.rule.Rule.{Rule}
 use Rattle.mj_wall.specs.Places.{is_wall}
-use Rattle.mj_protocol.specs.Lines.{error_text}
-use Rattle.mj_protocol.specs.AnswerForms.{answer_of, join_of}
-use Rattle.mj_protocol.specs.After.{After, Chair, Verdict, Taken, Late, Refused, Closing, is_present}
-use Rattle.mj_protocol.specs.Trace.{Game, may_say, can_say, is_open, can_expire}
-use Rattle.mj_protocol.specs.Sitting.{placing, entries_of_placing}
-use Rattle.mj_protocol.specs.Arrivals.{ArrivalForm, WallOf, Arrival, Leads, Bad, with_entries, sit_arrives, say_arrives, gone_arrives, expiry_arrives, wall_arrives, behind_header}
-use Rattle.mj_protocol.proofs.Places.{none_behind}
+use Rattle.mj_forms.specs.Lines.{error_text}
+use Rattle.mj_forms.specs.AnswerForms.{answer_of, join_of}
+use Rattle.mj_history.specs.After.{After, Chair, Verdict, Taken, Late, Refused, Closing, is_present}
+use Rattle.mj_history.specs.Legal.{Game, may_say, can_say, is_open, can_expire}
+use Rattle.mj_history.specs.Sitting.{placing, entries_of_placing}
+use Rattle.mj_history.specs.Arrivals.{ArrivalForm, WallOf, Arrival, Leads, Bad, with_entries, sit_arrives, say_arrives, gone_arrives, expiry_arrives, wall_arrives, behind_header}
+use Rattle.mj_history.proofs.Places.{none_behind}
 use Rattle.mj_core.specs.Calls.{after_of, Enters, TakesSeat, Answers, author_of_seat, may_say_at, may_expire, pending_at}
 use Rattle.mj_front.specs.Inner.Hearing.{intake_of, told_of, told_in, greeting, greeting_again, present_in, last_lines, InPlay}
 use Rattle.mj_front.proofs.Placing.{sat-next, back-held}

@@ -1,8 +1,8 @@
 -- What is written of a record, by the end of the command.
 use Rattle.std.proofs.Common.{ℕ, List}
 use Rattle.std.specs.Prelude.{Option}
-use Rattle.mj_protocol.specs.Told.{Summary}
-use Rattle.mj_protocol.specs.Records.{IsRecord}
+use Rattle.mj_history.specs.Told.{Summary}
+use Rattle.mj_history.specs.Records.{IsRecord}
 use Rattle.mj_front.specs.declared.replay.ReplayEnd.{ReplayEnd}
 use Rattle.mj_front.specs.declared.replay.ReplayEnd.TheVariants as ends
 use Rattle.mj_front.specs.Inputs.{IsRead}

@@ -13,11 +13,11 @@ use Rattle.mj_deeds.specs.declared.answer.Answer.{Answer}
 use Rattle.mj_deeds.specs.declared.deed.Deed.{Deed}
 use Rattle.mj_deeds.specs.declared.deed.Viewer.TheVariants.{Seat}
 use Rattle.mj_wall.specs.declared.setting.Setting.{Setting}
-use Rattle.mj_protocol.specs.Lines.{line, hello_line, replay_line}
-use Rattle.mj_protocol.specs.After.{After, Chair, Connection, lines_for, due_on_return, told_again, after_back, own_part, next_deed, with_deed, step}
-use Rattle.mj_protocol.specs.Shown.{line_at}
-use Rattle.mj_protocol.specs.Trace.{Game}
-use Rattle.mj_protocol.proofs.Places.{slice_get-set_at}
+use Rattle.mj_forms.specs.Lines.{line, hello_line, replay_line}
+use Rattle.mj_history.specs.After.{After, Chair, Connection, lines_for, due_on_return, told_again, after_back, own_part, next_deed, with_deed, step}
+use Rattle.mj_history.specs.Shown.{line_at}
+use Rattle.mj_history.specs.Legal.{Game}
+use Rattle.mj_history.proofs.Places.{slice_get-set_at}
 use Rattle.mj_core.specs.Calls.{after_of, Enters, due_of}
 use Rattle.mj_front.specs.Inner.Hearing.{told_of, told_in, told_again_in}
 use Rattle.mj_front.proofs.Telling.{told_at, set-own, set-other, set-few, after_of-enters, chairs-enters}

@@ -3,10 +3,10 @@ use Rattle.std.proofs.Common.{ℕ, List, sym, subst}
 use Rattle.std.specs.Prelude.{Option}
 use Rattle.std.specs.Io.KnownBytes.{Appends}
 use Rattle.mj_links.specs.Sinks.{WritesPrefix}
-use Rattle.mj_protocol.specs.Arrivals.{input_of, game_of}
-use Rattle.mj_protocol.proofs.OneWorld.{agreeing_scripts}
-use Rattle.mj_protocol.proofs.Legality.{read_game_is_legal}
-use Rattle.mj_protocol.proofs.Fitting.{legal_games_are_played}
+use Rattle.mj_history.specs.Arrivals.{input_of, game_of}
+use Rattle.mj_secrecy.proofs.OneWorld.{agreeing_scripts}
+use Rattle.mj_history.proofs.Legality.{read_game_is_legal}
+use Rattle.mj_history.proofs.Fitting.{legal_games_are_played}
 use Rattle.mj_front.specs.declared.hearing.End.{End}
 use Rattle.mj_front.specs.Inner.Hearing.{Tells}
 use Rattle.mj_front.specs.Referee.{IsTold, TellsAll, ending}

@@ -12,10 +12,10 @@ use Rattle.mj_ports.specs.declared.entry.Entry.{Entry}
 use Rattle.mj_ports.specs.Entries.{author_of}
 use Rattle.mj_ports.specs.Seats.{After}
 use Rattle.mj_wall.specs.declared.setting.Setting.{Setting}
-use Rattle.mj_protocol.specs.After.{after}
-use Rattle.mj_protocol.specs.AnswerForms.{answer_of, join_of}
-use Rattle.mj_protocol.specs.Shown.{shown_of, sits_of, hears_of, control_line}
-use Rattle.mj_protocol.specs.Trace.{Game, IsLegal, is_over}
+use Rattle.mj_history.specs.After.{after}
+use Rattle.mj_forms.specs.AnswerForms.{answer_of, join_of}
+use Rattle.mj_history.specs.Shown.{shown_of, sits_of, hears_of, control_line}
+use Rattle.mj_history.specs.Legal.{Game, IsLegal, is_over}
 use Rattle.mj_seats.specs.declared.handle.HandlerEnd.{HandlerEnd}
 use Rattle.mj_seats.specs.declared.handle.HandlerEnd.TheVariants as handled
 use Rattle.mj_seats.specs.declared.handle.Session.{Session}

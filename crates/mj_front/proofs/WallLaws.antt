@@ -7,9 +7,9 @@ use Rattle.std.proofs.lemmas.List.{length-append}
 use Rattle.mj_bytes.specs.Adds.{Adds}
 use Rattle.mj_wall.specs.declared.setting.Rules.{Rules}
 use Rattle.mj_wall.specs.Places.{is_wall}
-use Rattle.mj_protocol.specs.After.{scripts_in}
-use Rattle.mj_protocol.specs.Trace.{Game}
-use Rattle.mj_protocol.specs.Arrivals.{ArrivalForm, Header, WallOf, Sit, Say, Leave, Expire, NoForm, form_of, Intake, Arrival, Leads, Bad, now_of, sit_arrives, say_arrives, gone_arrives, expiry_arrives, wall_arrives, behind_header, arrives, Input, BadAt, hear_on, hear_from}
+use Rattle.mj_history.specs.After.{scripts_in}
+use Rattle.mj_history.specs.Legal.{Game}
+use Rattle.mj_history.specs.Arrivals.{ArrivalForm, Header, WallOf, Sit, Say, Leave, Expire, NoForm, form_of, Intake, Arrival, Leads, Bad, now_of, sit_arrives, say_arrives, gone_arrives, expiry_arrives, wall_arrives, behind_header, arrives, Input, BadAt, hear_on, hear_from}
 use Rattle.mj_core.specs.Calls.{pending_at}
 use Rattle.mj_front.specs.declared.hearing.End.{End}
 use Rattle.mj_front.specs.Referee.{ending}

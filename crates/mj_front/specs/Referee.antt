@@ -3,9 +3,10 @@ use Rattle.std.specs.Prelude.{◌≡◌, ℕ, List, Option}
 use Rattle.std.specs.Io.KnownBytes.{Appends, Keeps}
 use Rattle.mj_links.specs.Sinks.{WritesPrefix}
 use Rattle.mj_rules.specs.Played.{IsPlayed}
-use Rattle.mj_protocol.specs.After.{after, scripts}
-use Rattle.mj_protocol.specs.Trace.{Game, Agree, IsLegal}
-use Rattle.mj_protocol.specs.Arrivals.{Ending, Whole, BadAt, input_of, game_of}
+use Rattle.mj_history.specs.After.{after, scripts}
+use Rattle.mj_history.specs.Legal.{Game, IsLegal}
+use Rattle.mj_secrecy.specs.Trace.{Agree}
+use Rattle.mj_history.specs.Arrivals.{Ending, Whole, BadAt, input_of, game_of}
 use Rattle.mj_front.specs.declared.hearing.End.{End}
 use Rattle.mj_front.specs.declared.hearing.End.TheVariants as inputs
 use Rattle.mj_front.specs.declared.referee.RefereeEnd.{RefereeEnd}

@@ -2,8 +2,8 @@
 use Rattle.std.specs.Prelude.{ℕ, List, Option}
 use Rattle.std.specs.Io.KnownBytes.{Appends, Keeps}
 use Rattle.mj_links.specs.Sinks.{WritesPrefix}
-use Rattle.mj_protocol.specs.Told.{Summary}
-use Rattle.mj_protocol.specs.Records.{IsRecord, IsNoRecord}
+use Rattle.mj_history.specs.Told.{Summary}
+use Rattle.mj_history.specs.Records.{IsRecord, IsNoRecord}
 use Rattle.mj_selfplay.specs.Text.{result_text}
 use Rattle.mj_replay.specs.Checks.{fault_of}
 use Rattle.mj_replay.specs.declared.checking.Cause.{Cause}

@@ -4,8 +4,8 @@ use Rattle.std.specs.Prelude.{◌≡◌, ◌⊎◌, ℕ, ◌<◌, false, List, [
 use Rattle.std.specs.Io.KnownBytes.{Appends, Keeps}
 use Rattle.mj_words.specs.Asked.{ServedWith}
 use Rattle.mj_links.specs.Sinks.{WritesPrefix}
-use Rattle.mj_protocol.specs.After.{after}
-use Rattle.mj_protocol.specs.Trace.{Game, is_over}
+use Rattle.mj_history.specs.After.{after}
+use Rattle.mj_history.specs.Legal.{Game, is_over}
 use Rattle.mj_served.specs.Served.{IsServed, record_of_game, has_ended}
 use Rattle.mj_front.specs.declared.serve.ServeEnd.{ServeEnd}
 use Rattle.mj_front.specs.declared.serve.ServeEnd.TheVariants as ends

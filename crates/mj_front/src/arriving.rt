@@ -2,9 +2,9 @@
 
 ghost use Rattle.std.specs.Prelude.{◌≡◌, ◌≤◌, ◌<◌, ◌==◌, ℕ, true, false, List, Some, None, length, IfOk, OnOk};
 ghost use Rattle.mj_bytes.specs.Adds.{Adds};
-ghost use Rattle.mj_protocol.specs.Shown.{line_at};
-ghost use Rattle.mj_protocol.specs.Trace.{can_say};
-ghost use Rattle.mj_protocol.specs.Arrivals.{arrives, sit_arrives, say_arrives, gone_arrives, expiry_arrives};
+ghost use Rattle.mj_history.specs.Shown.{line_at};
+ghost use Rattle.mj_history.specs.Legal.{can_say};
+ghost use Rattle.mj_history.specs.Arrivals.{arrives, sit_arrives, say_arrives, gone_arrives, expiry_arrives};
 ghost use Rattle.mj_core.specs.Calls.{author_of_seat, after_of};
 ghost use Rattle.mj_front.specs.Inner.Hearing.{intake_of, greeting, greeting_again, told_again_in, present_in, last_lines, InPlay, Does};
 
@@ -30,7 +30,7 @@ pub(crate) enum Step {
 }
 
 /// Hears one line of a game in play, and writes what it tells the seat behind what the seat was told.
-#[tactic(auto, using(crate::proofs::PlayLaws::late_walls), unfolding(mj_protocol::specs::Arrivals::arrives))]
+#[tactic(auto, using(crate::proofs::PlayLaws::late_walls), unfolding(mj_history::specs::Arrivals::arrives))]
 pub(crate) fn hear_line(
     alloc: Global,
     seat: u8,

@@ -4,8 +4,9 @@ ghost use Rattle.std.specs.Prelude.{◌≡◌, ◌<◌, ◌^◌, IfOk};
 ghost use Rattle.std.specs.Option.{SomeIff, option_map_or};
 ghost use Rattle.mj_bytes.specs.Numbers.{decimal_of};
 ghost use Rattle.mj_bytes.specs.Parts.{fields, parted};
-ghost use Rattle.mj_protocol.specs.Arrivals.{Header, WallOf, Leave, NoForm, form_of, rules_of, tiles_in, numbers_in};
-ghost use Rattle.mj_protocol.specs.Arrivals.{form_by as form_meant, sit_form as sit_meant, say_form as say_meant, expire_form as expire_meant};
+ghost use Rattle.mj_history.specs.Arrivals.{Header, WallOf, Leave, NoForm, form_of, numbers_in};
+ghost use Rattle.mj_forms.specs.Headers.{rules_of, tiles_in};
+ghost use Rattle.mj_history.specs.Arrivals.{form_by as form_meant, sit_form as sit_meant, say_form as say_meant, expire_form as expire_meant};
 ghost use Rattle.mj_front.specs.Inner.Forms.{meaning, expiry_meant, HasLimit};
 
 use mj_bytes::{read_number, split_space};
@@ -37,7 +38,7 @@ pub(crate) enum ArrivalForm<'a> {
 }
 
 /// The form of a line, which stands here without its newline.
-#[tactic(auto, unfolding(mj_protocol::specs::Arrivals::form_of))]
+#[tactic(auto, unfolding(mj_history::specs::Arrivals::form_of))]
 pub(crate) fn read_form(alloc: Global, line: &[u8]) -> Result<ArrivalForm<'_>, AllocError>
     ensures form { IfOk result (λ form. meaning form ≡ form_of line.now) }
     ensures limit { IfOk result (λ form. HasLimit form) }
@@ -49,7 +50,7 @@ pub(crate) fn read_form(alloc: Global, line: &[u8]) -> Result<ArrivalForm<'_>, A
 }
 
 // The form of a line by its first word and what follows it.
-#[tactic(auto, unfolding(mj_protocol::specs::Arrivals::form_by))]
+#[tactic(auto, unfolding(mj_history::specs::Arrivals::form_by))]
 fn form_by<'a>(alloc: Global, word: &[u8], text: &'a [u8]) -> Result<ArrivalForm<'a>, AllocError>
     ensures form { IfOk result (λ form. meaning form ≡ form_meant word.now text.now) }
     ensures limit { IfOk result (λ form. HasLimit form) }

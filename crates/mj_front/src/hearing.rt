@@ -4,7 +4,7 @@ ghost use Rattle.std.specs.Prelude.{◌≡◌, ◌≤◌, ◌==◌, ◌+◌, ◌
 ghost use Rattle.std.specs.List.{list_all};
 ghost use Rattle.mj_bytes.specs.Parts.{whole_lines, unfinished};
 ghost use Rattle.mj_wall.specs.Places.{is_wall};
-ghost use Rattle.mj_protocol.specs.Arrivals.{Intake, hear_from, hear_on, header_arrives, nothing_read, at_end, input_of};
+ghost use Rattle.mj_history.specs.Arrivals.{Intake, hear_from, hear_on, header_arrives, nothing_read, at_end, input_of};
 ghost use Rattle.mj_front.specs.Inputs.{longest};
 ghost use Rattle.mj_front.specs.Referee.{ending};
 ghost use Rattle.mj_front.specs.Inner.Hearing.{intake_of, intake_with_walls, begin_with_wall, InPlay, HearsAll, Tells};
@@ -45,7 +45,7 @@ fn nothing_told(alloc: Global, end: End) -> Told
 }
 
 /// Hears an input, of at most 67,108,864 bytes, for a seat.
-#[tactic(auto, unfolding(mj_protocol::specs::Arrivals::arrives))]
+#[tactic(auto, unfolding(mj_history::specs::Arrivals::arrives))]
 pub(crate) fn hear(alloc: Global, seat: u8, input: &[u8]) -> Result<Told, AllocError>
     requires { length input.now ≤ longest }
     ensures { IfOk result (λ told. Tells (input_of input.now) seat told.end told.bytes.items) }
@@ -60,7 +60,7 @@ pub(crate) fn hear(alloc: Global, seat: u8, input: &[u8]) -> Result<Told, AllocE
 }
 
 // Hears what stands behind a header. Red fives are no part of a game yet.
-#[tactic(auto, unfolding(mj_protocol::specs::Arrivals::header_arrives))]
+#[tactic(auto, unfolding(mj_history::specs::Arrivals::header_arrives))]
 fn hear_header(alloc: Global, seat: u8, rules: Rules, input: &[u8]) -> Result<Told, AllocError>
     requires fits { length input.now ≤ longest }
     requires least { 1 ≤ rules.limit }

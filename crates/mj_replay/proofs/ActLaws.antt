@@ -3,7 +3,7 @@ use Rattle.std.proofs.Common.{◌≡◌, ℕ, ◌<◌, List, ◌++◌, Bool, fal
 use Rattle.std.specs.Prelude.{Some, option_map, option_and_then, codes, decimal}
 use Rattle.mj_deeds.specs.declared.deed.Deed.TheVariants.{Draw, Discard, Dora, Reach, EndHand}
 use Rattle.mj_deeds.specs.declared.deed.Viewer.TheVariants.{Record}
-use Rattle.mj_protocol.specs.Lines.{line, quoted_tile, truth, draw_line, discard_line, dora_line, reach_line, end_hand_line}
+use Rattle.mj_forms.specs.Lines.{line, quoted_tile, truth, draw_line, discard_line, dora_line, reach_line, end_hand_line}
 use Rattle.mj_replay.specs.Inner.Fields.{quoted_at, tile_field, truth_field}
 use Rattle.mj_replay.specs.Inner.Deeds.{deed_in, deed_by, small_by, draw_in, discard_in, dora_in, reach_in}
 use Rattle.mj_replay.specs.Inner.Laws.{ActsAreRead}

@@ -5,8 +5,8 @@ use Rattle.mj_deeds.specs.declared.bid.Bid.TheVariants as bids
 use Rattle.mj_deeds.specs.Bids.{call_of_bid}
 use Rattle.mj_deeds.specs.declared.deed.Deed.TheVariants.{Chi, Pon, OpenKan, ClosedKan, AddedKan, EndGame}
 use Rattle.mj_deeds.specs.declared.deed.Viewer.TheVariants.{Record}
-use Rattle.mj_protocol.specs.Lines.{line, quoted, quoted_tile, bracketed, points_text, call_object, closed_kan_line, added_kan_line, end_game_line}
-use Rattle.mj_protocol.specs.Records.{are_points}
+use Rattle.mj_forms.specs.Lines.{line, quoted, quoted_tile, bracketed, points_text, call_object, closed_kan_line, added_kan_line, end_game_line}
+use Rattle.mj_history.specs.Records.{are_points}
 use Rattle.mj_replay.specs.Inner.Fields.{quoted_at}
 use Rattle.mj_replay.specs.Inner.Deeds.{deed_in, deed_by, small_by, call_in, call_by, closed_kan_in, added_kan_in, end_game_in}
 use Rattle.mj_replay.specs.Inner.Laws.{CallsAreRead}

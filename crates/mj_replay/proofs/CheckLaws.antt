@@ -20,8 +20,10 @@ use Rattle.mj_rules.specs.Played.{IsPlayed}
 use Rattle.mj_rules.proofs.Playing.{each_is_wall}
 use Rattle.mj_rules.proofs.Lengths.{few_deeds}
 use Rattle.mj_table.specs.Plays.{Play}
-use Rattle.mj_protocol.specs.Lines.{line}
-use Rattle.mj_protocol.specs.Records.{header_line, wall_line, record_text, are_rules, are_walls, are_first_walls, Fault, WallFault, CutFault, Before, Nothing, Lines, AreLines, needs_wall, IsNextWall, BreaksByWall, LineBreaks, EndBreaks, Breaks, IsNoRecord}
+use Rattle.mj_forms.specs.Lines.{line}
+use Rattle.mj_forms.specs.Headers.{header_line, wall_line}
+use Rattle.mj_history.specs.Records.{are_rules, are_walls, are_first_walls, Fault, WallFault, CutFault, Before, Nothing, Lines, AreLines, needs_wall, IsNextWall, BreaksByWall, LineBreaks, EndBreaks, Breaks, IsNoRecord}
+use Rattle.mj_forms.specs.RecordTexts.{record_text}
 use Rattle.mj_replay.specs.declared.checking.Cause.{Cause}
 use Rattle.mj_replay.specs.declared.checking.Cause.TheVariants as causes
 use Rattle.mj_replay.specs.declared.checking.Checked.{Checked}

@@ -16,7 +16,7 @@ use Rattle.mj_bytes.proofs.DigitLaws.{all_digits-head, all_digits-step}
 use Rattle.std.proofs.lemmas.List.{take-append-drop}
 use Rattle.mj_tiles.specs.Faces.{text_of, texts, face_of}
 use Rattle.mj_tiles.proofs.Texts.{face_of-text_of}
-use Rattle.mj_protocol.specs.Lines.{quoted, quoted_tile, truth}
+use Rattle.mj_forms.specs.Lines.{quoted, quoted_tile, truth}
 use Rattle.mj_replay.specs.Inner.Fields.{digits_front, behind_digits, below, and_rest, number_at, below_at, until, quoted_at, tile_at, truth_at, byte_field, word_field, tile_field, truth_field}
 use Rattle.mj_replay.specs.Inner.Laws.{is_plain, FieldsAreRead}
 

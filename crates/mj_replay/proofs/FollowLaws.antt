@@ -19,11 +19,11 @@ use Rattle.mj_rules.specs.Outcome.{outcome, goes_on}
 use Rattle.mj_rules.specs.Played.{AllLawful, IsPlayed, IsPlayedBehind, is_game_start}
 use Rattle.mj_rules.proofs.Playing.{each_is_wall, behind_fits}
 use Rattle.mj_table.specs.Plays.{Play}
-use Rattle.mj_protocol.specs.Lines.{line}
-use Rattle.mj_protocol.specs.Told.{told_of, told}
-use Rattle.mj_protocol.specs.Records.{IsLineOf, IsOfNoNext, is_deed}
-use Rattle.mj_protocol.proofs.Ended.{no_outcome}
-use Rattle.mj_protocol.proofs.Told.{told_answers_give}
+use Rattle.mj_forms.specs.Lines.{line}
+use Rattle.mj_history.specs.Told.{told_of, told}
+use Rattle.mj_history.specs.Records.{IsLineOf, IsOfNoNext, is_deed}
+use Rattle.mj_history.proofs.Ended.{no_outcome}
+use Rattle.mj_history.proofs.Told.{told_answers_give}
 use Rattle.mj_replay.specs.Inner.Deeds.{deed_in}
 use Rattle.mj_replay.specs.Inner.Laws.{as_read}
 use Rattle.mj_replay.specs.Inner.Steps.{Follows, has_different_names}

@@ -5,8 +5,8 @@ use Rattle.std.specs.List.{list_all}
 use Rattle.std.proofs.lemmas.Bool.Decides.{nat_tests}
 use Rattle.mj_deeds.specs.declared.deed.Deed.TheVariants.{StartHand}
 use Rattle.mj_deeds.specs.declared.deed.Viewer.TheVariants.{Record}
-use Rattle.mj_protocol.specs.Lines.{line, quoted_tile, bracketed, start_hand_line}
-use Rattle.mj_protocol.specs.Records.{is_tile}
+use Rattle.mj_forms.specs.Lines.{line, quoted_tile, bracketed, start_hand_line}
+use Rattle.mj_history.specs.Records.{is_tile}
 use Rattle.mj_replay.specs.Inner.Fields.{and_rest, below, quoted_at}
 use Rattle.mj_replay.specs.Inner.Deeds.{deed_in, deed_by, hands_at, start_by, kind_field, start_hand_in}
 use Rattle.mj_replay.specs.Inner.Laws.{HandStartsAreRead}

@@ -3,8 +3,8 @@ use Rattle.std.proofs.Common.{◌≡◌, ℕ, ◌<◌, ◌≤◌, List, [], ◌�
 use Rattle.std.specs.Prelude.{Option, Some, option_map, option_and_then, map, flat_map}
 use Rattle.std.specs.List.{list_all}
 use Rattle.std.proofs.lemmas.Bool.{ltb-true}
-use Rattle.mj_protocol.specs.Lines.{bracketed, quoted_tile}
-use Rattle.mj_protocol.specs.Records.{is_tile}
+use Rattle.mj_forms.specs.Lines.{bracketed, quoted_tile}
+use Rattle.mj_history.specs.Records.{is_tile}
 use Rattle.mj_replay.specs.Inner.Fields.{tile_at}
 use Rattle.mj_replay.specs.Inner.Lists.{behind_item, items_from, items_in, list_at, tiles_at, tiles_field}
 use Rattle.mj_replay.proofs.FieldLaws.{behind_key, tile_read}

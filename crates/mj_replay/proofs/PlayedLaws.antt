@@ -56,7 +56,7 @@ use Rattle.mj_rules.proofs.Winning.{Fair, changes_of, changes_few}
 use Rattle.mj_machine.specs.Inner.Steps.{AreSmall, CanWin, NextCanWin, CanWinBy, CanWinAfter, CanFollow}
 use Rattle.mj_machine.proofs.Small.{all_small}
 use Rattle.mj_machine.proofs.Followed.{can_follow}
-use Rattle.mj_protocol.specs.Records.{is_byte, is_word, is_signed_word, is_tile, are_points, is_row, is_deed}
+use Rattle.mj_history.specs.Records.{is_byte, is_word, is_signed_word, is_tile, are_points, is_row, is_deed}
 use Rattle.mj_replay.proofs.WorthLaws.{Small, win_small, FewDora, extra_few, all_few, rows_fit}
 use Rattle.mj_replay.proofs.SizeLaws.{hidden_fits, Fits, value}
 

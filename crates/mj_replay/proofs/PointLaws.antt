@@ -10,8 +10,8 @@ use Rattle.std.proofs.lemmas.Fmt.{digits_decimal, decimal_nonempty}
 use Rattle.mj_bytes.specs.Numbers.{all_digits}
 use Rattle.mj_bytes.specs.Parts.{behind}
 use Rattle.mj_bytes.proofs.DigitLaws.{all_digits-head}
-use Rattle.mj_protocol.specs.Lines.{points_text}
-use Rattle.mj_protocol.specs.Records.{is_signed_word, are_points}
+use Rattle.mj_forms.specs.Lines.{points_text}
+use Rattle.mj_history.specs.Records.{is_signed_word, are_points}
 use Rattle.mj_replay.specs.Inner.Fields.{below, and_rest, negative_of, signed_at, signed_field, points_at, points_field}
 use Rattle.mj_replay.specs.Inner.Laws.{is_plain}
 use Rattle.mj_replay.proofs.FieldLaws.{own, number_read, behind_key}

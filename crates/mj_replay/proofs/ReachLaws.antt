@@ -7,8 +7,8 @@ use Rattle.mj_deeds.specs.declared.bid.Bid.{Bid}
 use Rattle.mj_deeds.specs.declared.bid.Bid.TheVariants as bids
 use Rattle.mj_deeds.specs.declared.deed.Deed.TheVariants.{ReachAccepted}
 use Rattle.mj_deeds.specs.declared.deed.Viewer.TheVariants.{Record}
-use Rattle.mj_protocol.specs.Lines.{line, bid_text, points_text, reach_accepted_line}
-use Rattle.mj_protocol.specs.Records.{is_byte, is_tile, is_bid, are_points, is_signed_word}
+use Rattle.mj_forms.specs.Lines.{line, bid_text, points_text, reach_accepted_line}
+use Rattle.mj_history.specs.Records.{is_byte, is_tile, is_bid, are_points, is_signed_word}
 use Rattle.mj_replay.specs.Inner.Fields.{quoted_at}
 use Rattle.mj_replay.specs.Inner.Deeds.{deed_in, deed_by, small_by, bid_in, reach_accepted_in}
 use Rattle.mj_replay.specs.Inner.Laws.{ReachesAreRead}

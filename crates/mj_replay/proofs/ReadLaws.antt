@@ -11,9 +11,9 @@ use Rattle.mj_deeds.specs.Shown.{Shown, Tiles, Hidden}
 use Rattle.mj_deeds.specs.declared.deed.Deed.{Deed}
 use Rattle.mj_deeds.specs.declared.deed.Deed.TheVariants.{StartGame, StartHand, Draw, Discard, Chi, Pon, OpenKan, ClosedKan, AddedKan, Dora, Reach, ReachAccepted, Win, DrawnHand, EndHand, EndGame}
 use Rattle.mj_deeds.specs.declared.deed.Viewer.TheVariants.{Record}
-use Rattle.mj_protocol.specs.Lines.{line, hand_at_draw, drawn_hand_line}
-use Rattle.mj_protocol.specs.Told.{told_of}
-use Rattle.mj_protocol.specs.Records.{is_byte, is_word, is_tile, is_row, is_shown, is_bid, are_points, are_hands, are_shown, is_deed}
+use Rattle.mj_forms.specs.Lines.{line, hand_at_draw, drawn_hand_line}
+use Rattle.mj_history.specs.Told.{told_of}
+use Rattle.mj_history.specs.Records.{is_byte, is_word, is_tile, is_row, is_shown, is_bid, are_points, are_hands, are_shown, is_deed}
 use Rattle.mj_replay.specs.Inner.Deeds.{deed_in}
 use Rattle.mj_replay.proofs.PointLaws.{and-parts}
 use Rattle.mj_replay.proofs.ActLaws.{acts_are_read}

@@ -15,8 +15,8 @@ use Rattle.mj_bytes.specs.Numbers.{all_digits}
 use Rattle.mj_bytes.specs.Parts.{has_byte, behind}
 use Rattle.mj_bytes.proofs.DigitLaws.{all_digits-head}
 use Rattle.mj_yaku.specs.Han.{Row, table}
-use Rattle.mj_protocol.specs.Lines.{bracketed, quoted, row_name, row_text}
-use Rattle.mj_protocol.specs.Records.{is_byte, is_row}
+use Rattle.mj_forms.specs.Lines.{bracketed, quoted, row_name, row_text}
+use Rattle.mj_history.specs.Records.{is_byte, is_row}
 use Rattle.mj_replay.specs.Inner.Fields.{quoted_at, byte_field, and_rest}
 use Rattle.mj_replay.specs.Inner.Lists.{items_from, items_in, list_at, row_of, row_at, rows_field, seats_by, seats_with, seats_field}
 use Rattle.mj_replay.proofs.FieldLaws.{own, not_true, behind_key, quoted_read, byte_read}

@@ -20,8 +20,9 @@ use Rattle.mj_lists.proofs.Ranges.{passes}
 use Rattle.mj_wall.specs.declared.setting.Rules.{Rules}
 use Rattle.mj_wall.specs.Places.{is_wall}
 use Rattle.mj_replay.proofs.FieldLaws.{own, not_true, behind_key}
-use Rattle.mj_protocol.specs.Arrivals.{limit_of, switch_of, rules_of, tiles_in}
-use Rattle.mj_protocol.specs.Records.{switch_text, header_line, wall_line, are_rules}
+use Rattle.mj_forms.specs.Headers.{limit_of, switch_of, rules_of, tiles_in}
+use Rattle.mj_forms.specs.Headers.{switch_text, header_line, wall_line}
+use Rattle.mj_history.specs.Records.{are_rules}
 use Rattle.mj_replay.specs.Inner.Settings.{IsHeader, IsNoHeader, IsWallLine, IsNoWallLine}
 
 -- a text that begins so

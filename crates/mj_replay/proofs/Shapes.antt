@@ -1,6 +1,6 @@
 -- Pieces of a text that stand one behind the other, and lists in brackets with commas between.
 use Rattle.std.proofs.Common.{◌≡◌, ℕ, List, [], ◌∷◌, ◌++◌, ap, ◌∙◌, append_assoc}
-use Rattle.mj_protocol.specs.Lines.{bracketed}
+use Rattle.mj_forms.specs.Lines.{bracketed}
 
 pub group3 : (a b c : List ℕ) → a ++ b ++ c ≡ a ++ (b ++ c)
 group3 a b c = append_assoc a b c

@@ -12,8 +12,8 @@ use Rattle.mj_deeds.specs.declared.reason.Reason.{Reason}
 use Rattle.mj_deeds.specs.declared.reason.Reason.TheVariants as reasons
 use Rattle.mj_deeds.specs.declared.deed.Deed.TheVariants.{DrawnHand}
 use Rattle.mj_deeds.specs.declared.deed.Viewer.TheVariants.{Record}
-use Rattle.mj_protocol.specs.Lines.{line, quoted, quoted_tile, hidden_tile, bracketed, truth, points_text, hand_at_draw, reason_name, drawn_hand_line}
-use Rattle.mj_protocol.specs.Records.{is_tile, is_shown, are_points}
+use Rattle.mj_forms.specs.Lines.{line, quoted, quoted_tile, hidden_tile, bracketed, truth, points_text, hand_at_draw, reason_name, drawn_hand_line}
+use Rattle.mj_history.specs.Records.{is_tile, is_shown, are_points}
 use Rattle.mj_replay.specs.Inner.Fields.{quoted_at, and_rest}
 use Rattle.mj_replay.specs.Inner.Lists.{marks_from, marks_at, hidden_at}
 use Rattle.mj_replay.specs.Inner.Deeds.{deed_in, deed_by, reason_of, reason_at, shown_at, shown_field, drawn_by, drawn_with, drawn_hand_in}

@@ -13,7 +13,7 @@ use Rattle.mj_deeds.specs.declared.deed.Deed.{Deed}
 use Rattle.mj_deeds.specs.declared.deed.Deed.TheVariants.{StartGame, StartHand, Draw, Discard, Chi, Pon, OpenKan, ClosedKan, AddedKan, Dora, Reach, ReachAccepted, Win, DrawnHand, EndHand, EndGame}
 use Rattle.mj_deeds.specs.Fits.{has_seats, has_tiles}
 use Rattle.mj_deeds.specs.Points.{points, deposits}
-use Rattle.mj_protocol.specs.Records.{is_byte, is_word, is_tile, are_points, is_bid, is_row, is_shown, is_deed}
+use Rattle.mj_history.specs.Records.{is_byte, is_word, is_tile, are_points, is_bid, is_row, is_shown, is_deed}
 
 -- what a deed says beside its seats and tiles
 abbrev pub hidden_fits : Shown → Bool

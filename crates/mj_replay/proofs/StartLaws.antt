@@ -8,7 +8,7 @@ use Rattle.mj_bytes.specs.Parts.{has_byte}
 use Rattle.mj_ports.specs.Names.{is_name}
 use Rattle.mj_deeds.specs.declared.deed.Deed.TheVariants.{StartGame}
 use Rattle.mj_deeds.specs.declared.deed.Viewer.TheVariants.{Record}
-use Rattle.mj_protocol.specs.Lines.{line, quoted, bracketed, start_game_line}
+use Rattle.mj_forms.specs.Lines.{line, quoted, bracketed, start_game_line}
 use Rattle.mj_replay.specs.Inner.Fields.{quoted_at, and_rest}
 use Rattle.mj_replay.specs.Inner.Deeds.{deed_in, deed_by, small_by, name_of, name_field, start_game_in}
 use Rattle.mj_replay.specs.Inner.Laws.{GameStartsAreRead}

@@ -4,8 +4,8 @@ use Rattle.std.specs.Prelude.{Some, ℤ, nat_le, codes, decimal, map}
 use Rattle.std.specs.List.{list_all}
 use Rattle.mj_deeds.specs.declared.deed.Deed.TheVariants.{Win}
 use Rattle.mj_deeds.specs.declared.deed.Viewer.TheVariants.{Record}
-use Rattle.mj_protocol.specs.Lines.{line, quoted_tile, bracketed, row_text, points_text, win_line}
-use Rattle.mj_protocol.specs.Records.{is_byte, is_tile, is_row, are_points}
+use Rattle.mj_forms.specs.Lines.{line, quoted_tile, bracketed, row_text, points_text, win_line}
+use Rattle.mj_history.specs.Records.{is_byte, is_tile, is_row, are_points}
 use Rattle.mj_replay.specs.Inner.Fields.{quoted_at}
 use Rattle.mj_replay.specs.Inner.Deeds.{deed_in, deed_by, win_by, win_with, win_in}
 use Rattle.mj_replay.specs.Inner.Laws.{WinsAreRead}

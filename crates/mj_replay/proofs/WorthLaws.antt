@@ -32,7 +32,7 @@ use Rattle.mj_score.specs.Inner.BestAmong.{better_of, with_reading, best_among}
 use Rattle.mj_rounds.specs.declared.rounds.Standing.{Standing}
 use Rattle.mj_deeds.specs.declared.deed.Deed.{Deed}
 use Rattle.mj_rules.specs.Wins.{dora_by, extra_by, Shows, extra_of, no_score, score_of_win, dora_row, dora_rows, rows_of_win}
-use Rattle.mj_protocol.specs.Records.{is_byte, is_row}
+use Rattle.mj_history.specs.Records.{is_byte, is_row}
 
 -- fu
 set_few : (concealed : Bool) (set : Set) → set_fu concealed set ≤ 32

@@ -1,7 +1,7 @@
 -- What the answer of `check` says of a text.
 use Rattle.std.specs.Prelude.{◌≡◌, ℕ, List}
-use Rattle.mj_protocol.specs.Told.{Summary}
-use Rattle.mj_protocol.specs.Records.{Fault, HeaderFault, WallFault, LineFault, NextFault, CutFault, IsRecord, IsNoRecord}
+use Rattle.mj_history.specs.Told.{Summary}
+use Rattle.mj_history.specs.Records.{Fault, HeaderFault, WallFault, LineFault, NextFault, CutFault, IsRecord, IsNoRecord}
 use Rattle.mj_replay.specs.declared.checking.Cause.{Cause}
 use Rattle.mj_replay.specs.declared.checking.Cause.TheVariants as causes
 use Rattle.mj_replay.specs.declared.checking.Summary.{Summary as Said}

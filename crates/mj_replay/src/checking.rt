@@ -3,7 +3,9 @@
 ghost use Rattle.std.specs.Prelude.{◌≡◌, ◌≤◌, ◌++◌, ◌∷◌, [], length, true, IfOk, IsTrue, MatchOption};
 ghost use Rattle.std.specs.List.{list_all};
 ghost use Rattle.mj_wall.specs.Places.{is_wall};
-ghost use Rattle.mj_protocol.specs.Records.{are_rules, header_line, record_text, needs_wall};
+ghost use Rattle.mj_history.specs.Records.{are_rules, needs_wall};
+ghost use Rattle.mj_forms.specs.RecordTexts.{record_text};
+ghost use Rattle.mj_forms.specs.Headers.{header_line};
 ghost use Rattle.mj_replay.specs.Checks.{Tells};
 ghost use Rattle.mj_replay.specs.Inner.Steps.{cause_at_end, IsNext, IsNoNext, NoneNeeded};
 ghost use Rattle.mj_replay.specs.declared.checking.Checked.TheVariants.{Bad};

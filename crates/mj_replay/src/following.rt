@@ -8,7 +8,7 @@ ghost use Rattle.mj_deeds.specs.Facts.{newest};
 ghost use Rattle.mj_deeds.specs.declared.deed.Viewer.TheVariants.{Record};
 ghost use Rattle.mj_rules.specs.Outcome.{goes_on};
 ghost use Rattle.mj_rules.specs.Played.{IsPlayed, IsLawful, AllLawful};
-ghost use Rattle.mj_protocol.specs.Lines.{line as line_for};
+ghost use Rattle.mj_forms.specs.Lines.{line as line_for};
 ghost use Rattle.mj_replay.specs.Inner.Deeds.{deed_in};
 ghost use Rattle.mj_replay.specs.Inner.Steps.{FollowsOr, FollowsIf, FollowsBy, has_different_names};
 

@@ -6,7 +6,7 @@ ghost use Rattle.std.specs.Option.{option_copied};
 ghost use Rattle.mj_deeds.specs.declared.answer.Pai.TheVariants.{Known};
 ghost use Rattle.mj_deeds.specs.declared.answer.Answer.TheVariants as answers;
 ghost use Rattle.mj_deeds.specs.Four.{for_each_seat};
-ghost use Rattle.mj_protocol.specs.Told.{told_of, only_of, bid_told, call_told, win_told, wins_told, nine_told, drawn_told, own_seat};
+ghost use Rattle.mj_history.specs.Told.{told_of, only_of, bid_told, call_told, win_told, wins_told, nine_told, drawn_told, own_seat};
 
 use mj_deeds::{Answer, Bid, Deed, Four, Pai, Reason, SeatList};
 use mj_tiles::Tile;

@@ -12,7 +12,7 @@ use Rattle.mj_ports.specs.declared.answers.SitAnswer.TheVariants as sit
 use Rattle.mj_ports.specs.Entries.{author_of, is_sat, next_seat}
 use Rattle.mj_ports.specs.SeatCalls.{AnswersSit}
 use Rattle.mj_deeds.specs.declared.answer.Answer.{Answer}
-use Rattle.mj_protocol.specs.Seated.{begins, begun_from, begun_by}
+use Rattle.mj_history.specs.Seated.{begins, begun_from, begun_by}
 use Rattle.mj_seats.specs.Histories.{begins_one}
 use Rattle.mj_seats.specs.Sessions.{GivesSeat, GetsSeat}
 use Rattle.mj_served.specs.Served.{IsEntryFor}

@@ -9,12 +9,12 @@ use Rattle.mj_bytes.specs.Parts.{whole_lines, unfinished}
 use Rattle.mj_ports.specs.declared.entry.Entry.{Entry}
 use Rattle.mj_ports.specs.Seats.{script}
 use Rattle.mj_deeds.specs.declared.answer.Answer.{Answer}
-use Rattle.mj_protocol.specs.AnswerForms.{answer_of, join_of}
-use Rattle.mj_protocol.specs.Seated.{begun_by}
-use Rattle.mj_protocol.specs.Shown.{shown_of, sits_of, hears_of, control_line}
-use Rattle.mj_protocol.specs.Trace.{Game, IsLegal}
-use Rattle.mj_protocol.proofs.OneWorld.{agreeing_connections}
-use Rattle.mj_protocol.proofs.ByPlace.{scripts_by_place}
+use Rattle.mj_forms.specs.AnswerForms.{answer_of, join_of}
+use Rattle.mj_history.specs.Seated.{begun_by}
+use Rattle.mj_history.specs.Shown.{shown_of, sits_of, hears_of, control_line}
+use Rattle.mj_history.specs.Legal.{Game, IsLegal}
+use Rattle.mj_secrecy.proofs.OneWorld.{agreeing_connections}
+use Rattle.mj_history.proofs.ByPlace.{scripts_by_place}
 use Rattle.mj_seats.specs.declared.served.Ended.{Ended}
 use Rattle.mj_seats.specs.declared.served.Ended.TheVariants.{GameOver, PeerEnded, LinkFault, LineTooLong, TooManyRefusals, NotSeated, NoMemory}
 use Rattle.mj_seats.specs.declared.handle.Session.{Session}

@@ -6,9 +6,9 @@ use Rattle.std.proofs.lemmas.List.Elements.{All-append, All-cons, All-nil, All-m
 use Rattle.std.proofs.lemmas.List.Sorted.{IsPermutation-trans, IsPermutation-map, All-permutation}
 use Rattle.mj_ports.specs.declared.entry.Entry.{Entry}
 use Rattle.mj_deeds.specs.declared.answer.Answer.{Answer}
-use Rattle.mj_protocol.specs.AnswerForms.{answer_of, join_of}
-use Rattle.mj_protocol.specs.Shown.{shown_of, sits_of, hears_of, control_line}
-use Rattle.mj_protocol.specs.Trace.{Game, IsLegal}
+use Rattle.mj_forms.specs.AnswerForms.{answer_of, join_of}
+use Rattle.mj_history.specs.Shown.{shown_of, sits_of, hears_of, control_line}
+use Rattle.mj_history.specs.Legal.{Game, IsLegal}
 use Rattle.mj_seats.specs.declared.handle.Session.{Session}
 use Rattle.mj_seats.specs.Handlers.{at_link}
 use Rattle.mj_seats.specs.Workers.{Serves, AllServe}

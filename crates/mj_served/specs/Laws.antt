@@ -2,9 +2,9 @@
 use Rattle.std.specs.Prelude.{◌≡◌, ℕ, ◌<◌, List, [], map, Option, All, IsPermutation}
 use Rattle.mj_words.specs.Asked.{ServedWith}
 use Rattle.mj_ports.specs.Entries.{author_of}
-use Rattle.mj_protocol.specs.AnswerForms.{answer_of, join_of}
-use Rattle.mj_protocol.specs.Shown.{shown_of, sits_of, hears_of, control_line}
-use Rattle.mj_protocol.specs.Trace.{Game, IsLegal}
+use Rattle.mj_forms.specs.AnswerForms.{answer_of, join_of}
+use Rattle.mj_history.specs.Shown.{shown_of, sits_of, hears_of, control_line}
+use Rattle.mj_history.specs.Legal.{Game, IsLegal}
 use Rattle.mj_seats.specs.declared.handle.Session.{Session}
 use Rattle.mj_seats.specs.Handlers.{at_link}
 use Rattle.mj_seats.specs.Ticks.{Ticks}

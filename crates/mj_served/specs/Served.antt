@@ -15,12 +15,13 @@ use Rattle.mj_deeds.specs.declared.rule.Rule.{Rule}
 use Rattle.mj_deeds.specs.declared.answer.Answer.{Answer}
 use Rattle.mj_wall.specs.declared.setting.Setting.{Setting}
 use Rattle.mj_wall.specs.Shuffle.{shuffled_walls}
-use Rattle.mj_protocol.specs.After.{after, connections}
-use Rattle.mj_protocol.specs.AnswerForms.{answer_of, join_of}
-use Rattle.mj_protocol.specs.Records.{record_text}
-use Rattle.mj_protocol.specs.Seated.{begun_by}
-use Rattle.mj_protocol.specs.Shown.{shown_of, sits_of, hears_of}
-use Rattle.mj_protocol.specs.Trace.{Game, Agree, IsLegal, is_over}
+use Rattle.mj_history.specs.After.{after, connections}
+use Rattle.mj_forms.specs.AnswerForms.{answer_of, join_of}
+use Rattle.mj_forms.specs.RecordTexts.{record_text}
+use Rattle.mj_history.specs.Seated.{begun_by}
+use Rattle.mj_history.specs.Shown.{shown_of, sits_of, hears_of}
+use Rattle.mj_history.specs.Legal.{Game, IsLegal, is_over}
+use Rattle.mj_secrecy.specs.Trace.{Agree}
 use Rattle.turn_lock.specs.Notes.{notes_of}
 use Rattle.mj_seats.specs.Histories.{begins_one}
 use Rattle.mj_seats.specs.Ticks.{Ticks}

@@ -5,7 +5,7 @@ use Rattle.std.proofs.lemmas.List.{map-append}
 use Rattle.std.proofs.lemmas.Option.{slice_get-map}
 use Rattle.mj_deeds.specs.declared.deed.Deed.{Deed}
 use Rattle.mj_deeds.specs.declared.deed.Viewer.TheVariants.{Seat}
-use Rattle.mj_protocol.specs.Lines.{line}
+use Rattle.mj_forms.specs.Lines.{line}
 use Rattle.mj_streams.specs.Inner.Tells.{Tells}
 
 -- A line more, of one deed more.

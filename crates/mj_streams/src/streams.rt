@@ -1,6 +1,6 @@
 ghost use Rattle.std.specs.Prelude.{◌≡◌, ◌≤◌, ◌<◌, ◌+◌, ◌∷◌, ◌++◌, [], IfOk, OnOk, OnErr, option_copied};
 ghost use Rattle.mj_deeds.specs.declared.deed.Viewer.TheVariants.{Seat};
-ghost use Rattle.mj_protocol.specs.Lines.{line as line_for};
+ghost use Rattle.mj_forms.specs.Lines.{line as line_for};
 ghost use Rattle.mj_streams.specs.Streams.{line_of};
 
 use crate::pages::Stream;

@@ -4,7 +4,7 @@ use Rattle.std.proofs.lemmas.Grind.{flat_map-append}
 use Rattle.std.proofs.lemmas.List.{replicate-append-replicate}
 use Rattle.std.specs.Prelude.{codes, Some, None}
 use Rattle.mj_deeds.specs.Shown.{Shown, Tiles, Hidden, number_hidden, tiles_shown}
-use Rattle.mj_protocol.specs.Lines.{bracketed, shown_tiles, tile_seen, hidden_tile, hand_at_draw, quoted_tile}
+use Rattle.mj_forms.specs.Lines.{bracketed, shown_tiles, tile_seen, hidden_tile, hand_at_draw, quoted_tile}
 
 -- the tiles of a hand are written each as it is seen
 pub shown_is_map : (seen : Bool) (tiles : List ℕ) → shown_tiles seen tiles ≡ map (tile_seen seen) tiles

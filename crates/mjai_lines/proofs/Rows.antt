@@ -3,7 +3,7 @@ use Rattle.std.proofs.Common.{◌≡◌, ◌≤◌, ℕ, [], ap, sym}
 use Rattle.std.proofs.lemmas.Option.{slice_get_past}
 use Rattle.std.specs.Option.{option_map_or}
 use Rattle.mj_yaku.specs.Han.{table}
-use Rattle.mj_protocol.specs.Lines.{row_name}
+use Rattle.mj_forms.specs.Lines.{row_name}
 
 -- a number above those of the table names no row
 pub no_row : (row : ℕ) → 45 ≤ row → [] ≡ row_name row

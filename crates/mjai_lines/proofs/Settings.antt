@@ -4,7 +4,7 @@ use Rattle.std.specs.Prelude.{Option, Some, None, ◌==◌}
 use Rattle.mj_lists.proofs.Onto.{onto, onto-more, onto-nothing}
 use Rattle.mj_bytes.specs.Parts.{fields, onto_first}
 use Rattle.mj_tiles.specs.Faces.{face_of}
-use Rattle.mj_protocol.specs.Arrivals.{rules_of, tiles_in}
+use Rattle.mj_forms.specs.Headers.{rules_of, tiles_in}
 use Rattle.mjai_lines.specs.Settings.{three_of}
 
 -- a text has at least one field

@@ -25,7 +25,7 @@ use Rattle.mj_deeds.specs.declared.answer.Pai.{Pai}
 use Rattle.mj_deeds.specs.declared.answer.Pai.TheVariants.{Known, Hidden}
 use Rattle.mj_deeds.specs.declared.answer.Answer.{Answer}
 use Rattle.mj_deeds.specs.declared.answer.Answer.TheVariants.{Pass, Discard, Unread}
-use Rattle.mj_protocol.specs.AnswerForms.{value_of, pai_of, seat_as, seat_in, text_in, pai_in, pass_in, discard_in, answer_in, answer_of}
+use Rattle.mj_forms.specs.AnswerForms.{value_of, pai_of, seat_as, seat_in, text_in, pai_in, pass_in, discard_in, answer_in, answer_of}
 use Rattle.mjai_lines.specs.Inner.Spellings.{BeginsWithSeat, pass_front, pass_text, discard_front, tile_front, mark_text, discard_text}
 use Rattle.mjai_lines.proofs.Texts.{value_of_text}
 

@@ -8,7 +8,7 @@ use Rattle.std.proofs.lemmas.List.{take-append-drop}
 use Rattle.std.proofs.lemmas.Slice.Eq.{bytes_eq-Decides}
 use Rattle.serde_json.specs.Read.{read}
 use Rattle.mj_ports.specs.Names.{is_name}
-use Rattle.mj_protocol.specs.AnswerForms.{value_of}
+use Rattle.mj_forms.specs.AnswerForms.{value_of}
 
 -- what is text is read as JSON
 pub value_of_text : (bytes : List ℕ) → IsUtf8 bytes → value_of bytes ≡ read bytes

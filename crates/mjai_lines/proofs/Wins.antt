@@ -2,7 +2,7 @@
 use Rattle.std.proofs.Common.{◌≡◌, ℕ, List, ◌++◌, map, ap, refl, ℤ, ◌∙◌, append_assoc}
 use Rattle.std.specs.Prelude.{codes, decimal}
 use Rattle.mj_deeds.specs.declared.deed.Viewer.{Viewer}
-use Rattle.mj_protocol.specs.Lines.{win_line, bracketed, quoted_tile, row_text, points_text, in_record}
+use Rattle.mj_forms.specs.Lines.{win_line, bracketed, quoted_tile, row_text, points_text, in_record}
 
 -- who wins on which tile of whom, and what it shows
 abbrev pub winner_piece : ℕ → ℕ → ℕ → List ℕ → List ℕ → List ℕ

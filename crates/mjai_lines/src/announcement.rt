@@ -2,7 +2,7 @@
 ghost use Rattle.std.specs.Prelude.{◌≡◌, codes};
 ghost use Rattle.serde_json.specs.View.{view};
 ghost use Rattle.serde_json.specs.Find.{get};
-ghost use Rattle.mj_protocol.specs.AnswerForms.{reach_in as reach_read, win_in as win_read, nine_kinds_in as nine_kinds_read, optional_pai, is_nine_kinds};
+ghost use Rattle.mj_forms.specs.AnswerForms.{reach_in as reach_read, win_in as win_read, nine_kinds_in as nine_kinds_read, optional_pai, is_nine_kinds};
 
 use crate::answer::pai_of;
 use crate::value::seat_in;
@@ -10,7 +10,7 @@ use mj_deeds::{Answer, Pai};
 use serde_json::Value;
 
 // The reach that a value is.
-#[tactic(auto, unfolding(mj_protocol::specs::AnswerForms::reach_in))]
+#[tactic(auto, unfolding(mj_forms::specs::AnswerForms::reach_in))]
 pub(crate) fn reach_in(value: &Value) -> Option<Answer>
     ensures { result ≡ reach_read (view value.now) }
 {
@@ -20,7 +20,7 @@ pub(crate) fn reach_in(value: &Value) -> Option<Answer>
 }
 
 // The win that a value is.
-#[tactic(auto, unfolding(mj_protocol::specs::AnswerForms::win_in))]
+#[tactic(auto, unfolding(mj_forms::specs::AnswerForms::win_in))]
 pub(crate) fn win_in(value: &Value) -> Option<Answer>
     ensures { result ≡ win_read (view value.now) }
 {
@@ -35,7 +35,7 @@ pub(crate) fn win_in(value: &Value) -> Option<Answer>
 }
 
 // The nine kinds that a value is.
-#[tactic(auto, unfolding(mj_protocol::specs::AnswerForms::nine_kinds_in))]
+#[tactic(auto, unfolding(mj_forms::specs::AnswerForms::nine_kinds_in))]
 pub(crate) fn nine_kinds_in(value: &Value) -> Option<Answer>
     ensures { result ≡ nine_kinds_read (view value.now) }
 {

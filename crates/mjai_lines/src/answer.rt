@@ -1,6 +1,6 @@
 ghost use Rattle.std.specs.Prelude.{◌≡◌, IfOk};
 ghost use Rattle.serde_json.specs.View.{view};
-ghost use Rattle.mj_protocol.specs.AnswerForms.{answer_of, answer_in as answer_read, answer_by as answer_of_type, pass_in as pass_read, discard_in as discard_read, call_in as call_read, closed_kan_in as closed_kan_read, added_kan_in as added_kan_read, with_three_tiles, with_four_tiles, pai_in as pai_read, pai_of as pai_of_text};
+ghost use Rattle.mj_forms.specs.AnswerForms.{answer_of, answer_in as answer_read, answer_by as answer_of_type, pass_in as pass_read, discard_in as discard_read, call_in as call_read, closed_kan_in as closed_kan_read, added_kan_in as added_kan_read, with_three_tiles, with_four_tiles, pai_in as pai_read, pai_of as pai_of_text};
 ghost use Rattle.mj_deeds.specs.declared.answer.Answer.TheVariants.{ClosedKan, AddedKan};
 ghost use Rattle.mjai_lines.specs.Inner.Calls.{answer_of_call};
 
@@ -19,7 +19,7 @@ use std::alloc::{AllocError, Global};
 /// type in the right form: a seat is a whole number from 0 to 3, a tile one of the 37 texts or a question mark, and
 /// the consumed tiles are as many as the type takes, in any order; they are read into tile order, hidden ones last.
 /// Other fields are ignored, and of equal keys the last counts. The only error is want of memory.
-#[tactic(auto, unfolding(mj_protocol::specs::AnswerForms::answer_of))]
+#[tactic(auto, unfolding(mj_forms::specs::AnswerForms::answer_of))]
 pub fn read_answer(alloc: Global, line: &[u8]) -> Result<Answer, AllocError>
     ensures { IfOk result (λ a. a ≡ answer_of line.now) }
 {
@@ -36,7 +36,7 @@ pub fn read_answer(alloc: Global, line: &[u8]) -> Result<Answer, AllocError>
 }
 
 // The answer that a value is.
-#[tactic(auto, unfolding(mj_protocol::specs::AnswerForms::answer_in))]
+#[tactic(auto, unfolding(mj_forms::specs::AnswerForms::answer_in))]
 fn answer_in(alloc: Global, value: &Value) -> Result<Option<Answer>, AllocError>
     ensures { IfOk result (λ a. a ≡ answer_read (view value.now)) }
 {
@@ -66,7 +66,7 @@ fn answer_by(alloc: Global, type_name: &str, value: &Value) -> Result<Option<Ans
 }
 
 // The pass that a value is.
-#[tactic(auto, unfolding(mj_protocol::specs::AnswerForms::pass_in))]
+#[tactic(auto, unfolding(mj_forms::specs::AnswerForms::pass_in))]
 fn pass_in(value: &Value) -> Option<Answer>
     ensures { result ≡ pass_read (view value.now) }
 {
@@ -79,7 +79,7 @@ fn pass_in(value: &Value) -> Option<Answer>
 }
 
 // The discard that a value is.
-#[tactic(auto, unfolding(mj_protocol::specs::AnswerForms::discard_in))]
+#[tactic(auto, unfolding(mj_forms::specs::AnswerForms::discard_in))]
 fn discard_in(value: &Value) -> Option<Answer>
     ensures { result ≡ discard_read (view value.now) }
 {
@@ -98,7 +98,7 @@ pub(crate) enum Call {
 }
 
 // The call that a value is.
-#[tactic(auto, unfolding(mj_protocol::specs::AnswerForms::call_in))]
+#[tactic(auto, unfolding(mj_forms::specs::AnswerForms::call_in))]
 fn call_in(alloc: Global, call: Call, value: &Value) -> Result<Option<Answer>, AllocError>
     ensures { IfOk result (λ a. a ≡ call_read (answer_of_call call) (view value.now)) }
 {
@@ -149,7 +149,7 @@ fn call_of(call: Call, actor: u8, target: u8, tile: Pai, own: &[Pai]) -> Option<
 }
 
 // The kan of concealed tiles that a value is.
-#[tactic(auto, unfolding(mj_protocol::specs::AnswerForms::closed_kan_in))]
+#[tactic(auto, unfolding(mj_forms::specs::AnswerForms::closed_kan_in))]
 fn closed_kan_in(alloc: Global, value: &Value) -> Result<Option<Answer>, AllocError>
     ensures { IfOk result (λ a. a ≡ closed_kan_read (view value.now)) }
 {
@@ -179,7 +179,7 @@ fn closed_kan_of(actor: u8, own: &[Pai]) -> Option<Answer>
 }
 
 // The added kan that a value is.
-#[tactic(auto, unfolding(mj_protocol::specs::AnswerForms::added_kan_in))]
+#[tactic(auto, unfolding(mj_forms::specs::AnswerForms::added_kan_in))]
 fn added_kan_in(alloc: Global, value: &Value) -> Result<Option<Answer>, AllocError>
     ensures { IfOk result (λ a. a ≡ added_kan_read (view value.now)) }
 {
@@ -212,7 +212,7 @@ fn added_kan_of(actor: u8, tile: Pai, own: &[Pai]) -> Option<Answer>
 }
 
 // The tile that a field names.
-#[tactic(auto, unfolding(mj_protocol::specs::AnswerForms::pai_in))]
+#[tactic(auto, unfolding(mj_forms::specs::AnswerForms::pai_in))]
 fn pai_in(name: &str, value: &Value) -> Option<Pai>
     ensures { result ≡ pai_read name.now (view value.now) }
 {
@@ -220,7 +220,7 @@ fn pai_in(name: &str, value: &Value) -> Option<Pai>
 }
 
 // The tile that a text names.
-#[tactic(auto, unfolding(mj_protocol::specs::AnswerForms::pai_of))]
+#[tactic(auto, unfolding(mj_forms::specs::AnswerForms::pai_of))]
 pub(crate) fn pai_of(text: &[u8]) -> Option<Pai>
     ensures { result ≡ pai_of_text text.now }
 {

@@ -1,7 +1,7 @@
 ghost use Rattle.std.specs.Prelude.{◌≡◌, ◌+◌, ◌<◌, ◌∷◌, ◌++◌, [], OnOk, OnErr, codes, decimal};
 ghost use Rattle.mj_bytes.specs.Adds.{Adds};
 ghost use Rattle.mj_view.specs.Masks.{sees as is_seen};
-ghost use Rattle.mj_protocol.specs.Lines.{line as line_for, quoted, bracketed, seat_in_line as seat_written, start_game_line, draw_line, discard_line, call_line, call_object, closed_kan_line, added_kan_line, dora_line, hands_seen, quoted_tile, tile_seen};
+ghost use Rattle.mj_forms.specs.Lines.{line as line_for, quoted, bracketed, seat_in_line as seat_written, start_game_line, draw_line, discard_line, call_line, call_object, closed_kan_line, added_kan_line, dora_line, hands_seen, quoted_tile, tile_seen};
 
 use crate::ending::{push_drawn_hand, push_end_game};
 use crate::pieces::{push_quoted, push_tile, push_tile_seen, push_tiles_seen, push_truth};
@@ -190,7 +190,7 @@ fn sees(viewer: Viewer, owner: u8) -> bool
 }
 
 // Writes the start of a game.
-#[tactic(auto, unfolding(mj_protocol::specs::Lines::start_game_line))]
+#[tactic(auto, unfolding(mj_forms::specs::Lines::start_game_line))]
 fn push_start_game(line: &mut Vec<u8>, id: u8, names: &Four<Name>) -> Result<(), AllocError>
     ensures { OnOk result (Adds line.old.items line.new.items (start_game_line id names.now)) }
 {
@@ -323,7 +323,7 @@ fn push_call(
 }
 
 // Writes a call of a discard as an object, under its type.
-#[tactic(auto, unfolding(mj_protocol::specs::Lines::call_object))]
+#[tactic(auto, unfolding(mj_forms::specs::Lines::call_object))]
 pub(crate) fn push_call_object(
     line: &mut Vec<u8>,
     type_name: &[u8],

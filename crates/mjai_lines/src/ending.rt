@@ -2,7 +2,7 @@
 ghost use Rattle.std.specs.Prelude.{◌≡◌, ◌≤◌, ◌∷◌, [], OnOk, map, flat_map, replicate};
 ghost use Rattle.mj_bytes.specs.Adds.{Adds};
 ghost use Rattle.mj_deeds.specs.Four.{at_seat};
-ghost use Rattle.mj_protocol.specs.Lines.{bracketed, truth, reason_name, hand_at_draw, hidden_tile, drawn_hand_line, end_game_line};
+ghost use Rattle.mj_forms.specs.Lines.{bracketed, truth, reason_name, hand_at_draw, hidden_tile, drawn_hand_line, end_game_line};
 
 use crate::pieces::{push_points, push_quoted, push_tiles_seen, push_truth};
 use mj_bytes::{push_all, push_number};
@@ -10,7 +10,7 @@ use mj_deeds::{Reason, ShownHands};
 use std::alloc::AllocError;
 
 // Writes a hand that is drawn.
-#[tactic(auto, unfolding(mj_protocol::specs::Lines::drawn_hand_line))]
+#[tactic(auto, unfolding(mj_forms::specs::Lines::drawn_hand_line))]
 pub(crate) fn push_drawn_hand(
     line: &mut Vec<u8>,
     reason: Reason,
@@ -37,7 +37,7 @@ pub(crate) fn push_drawn_hand(
 }
 
 // Writes the end of a game.
-#[tactic(auto, unfolding(mj_protocol::specs::Lines::end_game_line))]
+#[tactic(auto, unfolding(mj_forms::specs::Lines::end_game_line))]
 pub(crate) fn push_end_game(
     line: &mut Vec<u8>,
     points: [i32; 4],

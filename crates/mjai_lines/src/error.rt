@@ -1,6 +1,6 @@
 ghost use Rattle.std.specs.Prelude.{◌≡◌, OnOk, OnErr};
 ghost use Rattle.mj_bytes.specs.Adds.{Adds};
-ghost use Rattle.mj_protocol.specs.Lines.{error_text, rule_number, rule_name, refusal_line as refusal_of, refusal_number, refusal_name};
+ghost use Rattle.mj_forms.specs.Lines.{error_text, rule_number, rule_name, refusal_line as refusal_of, refusal_number, refusal_name};
 
 use crate::pieces::push_quoted;
 use mj_bytes::{push_all, push_number};

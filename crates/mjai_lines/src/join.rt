@@ -2,7 +2,7 @@ ghost use Rattle.std.specs.Prelude.{◌≡◌, IfOk, codes, nat_le, not, ◌&&�
 ghost use Rattle.std.specs.List.{list_all};
 ghost use Rattle.serde_json.specs.View.{view};
 ghost use Rattle.mj_ports.specs.Names.{is_name as is_name_text};
-ghost use Rattle.mj_protocol.specs.AnswerForms.{join_of, join_in as join_read, name_of as name_in_text, key_of as key_in_text, key_by};
+ghost use Rattle.mj_forms.specs.AnswerForms.{join_of, join_in as join_read, name_of as name_in_text, key_of as key_in_text, key_by};
 ghost use Rattle.serde_json.specs.Find.{get};
 
 use crate::value::{read_value, text_in};
@@ -13,7 +13,7 @@ use std::alloc::{AllocError, Global};
 /// What a line asks that wants a seat; none where it is no join with a name and a key of the right form. A name is a
 /// text in UTF-8 of 1 to 64 bytes, none of them a quotation mark, a backslash or a control character below 32; a key,
 /// where there is one, has at most 64 bytes. Other fields are ignored. The only error is want of memory.
-#[tactic(auto, unfolding(mj_protocol::specs::AnswerForms::join_of))]
+#[tactic(auto, unfolding(mj_forms::specs::AnswerForms::join_of))]
 pub fn read_join(alloc: Global, line: &[u8]) -> Result<Option<JoinLine>, AllocError>
     ensures { IfOk result (λ j. j ≡ join_of line.now) }
 {
@@ -24,7 +24,7 @@ pub fn read_join(alloc: Global, line: &[u8]) -> Result<Option<JoinLine>, AllocEr
 }
 
 // The join that a value is.
-#[tactic(auto, unfolding(mj_protocol::specs::AnswerForms::join_in))]
+#[tactic(auto, unfolding(mj_forms::specs::AnswerForms::join_in))]
 fn join_in(value: &Value) -> Option<JoinLine>
     ensures { result ≡ join_read (view value.now) }
 {

@@ -1,7 +1,7 @@
 // Pieces of a line: quoted texts, tiles, and lists in brackets.
 ghost use Rattle.std.specs.Prelude.{◌∷◌, map, flat_map, OnOk};
 ghost use Rattle.mj_bytes.specs.Adds.{Adds};
-ghost use Rattle.mj_protocol.specs.Lines.{quoted, quoted_tile, tile_seen, joined, bracketed, truth, points_text, shown_tiles};
+ghost use Rattle.mj_forms.specs.Lines.{quoted, quoted_tile, tile_seen, joined, bracketed, truth, points_text, shown_tiles};
 
 use mj_bytes::{push_all, push_signed};
 use mj_tiles::Tile;
@@ -18,7 +18,7 @@ pub(crate) fn push_quoted(line: &mut Vec<u8>, text: &[u8]) -> Result<(), AllocEr
 }
 
 // Writes a tile.
-#[tactic(auto, unfolding(mj_protocol::specs::Lines::quoted_tile))]
+#[tactic(auto, unfolding(mj_forms::specs::Lines::quoted_tile))]
 pub(crate) fn push_tile(line: &mut Vec<u8>, tile: Tile) -> Result<(), AllocError>
     ensures { OnOk result (Adds line.old.items line.new.items (quoted_tile tile)) }
 {
@@ -38,7 +38,7 @@ fn push_short(line: &mut Vec<u8>, text: &[u8]) -> Result<(), AllocError>
 }
 
 // Writes a tile as it is seen: a question mark for a hidden one.
-#[tactic(auto, unfolding(mj_protocol::specs::Lines::hidden_tile))]
+#[tactic(auto, unfolding(mj_forms::specs::Lines::hidden_tile))]
 pub(crate) fn push_tile_seen(line: &mut Vec<u8>, seen: bool, tile: Tile) -> Result<(), AllocError>
     ensures { OnOk result (Adds line.old.items line.new.items (tile_seen seen tile)) }
 {

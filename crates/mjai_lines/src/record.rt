@@ -4,8 +4,9 @@ ghost use Rattle.std.specs.Prelude.{◌≡◌, ◌∷◌, flat_map, OnOk, OnErr}
 ghost use Rattle.mj_bytes.specs.Adds.{Adds};
 ghost use Rattle.mj_tiles.specs.Faces.{text_of};
 ghost use Rattle.mj_deeds.specs.declared.deed.Viewer.TheVariants.{Record};
-ghost use Rattle.mj_protocol.specs.Lines.{line as line_for};
-ghost use Rattle.mj_protocol.specs.Records.{switch_text, header_line, wall_line, record_text};
+ghost use Rattle.mj_forms.specs.Lines.{line as line_for};
+ghost use Rattle.mj_forms.specs.Headers.{switch_text, header_line, wall_line};
+ghost use Rattle.mj_forms.specs.RecordTexts.{record_text};
 
 use crate::deed::write_alone;
 use mj_bytes::{push_all, push_number};
@@ -33,7 +34,7 @@ pub fn write_record(
 }
 
 // Writes the record behind a text that may be spoilt.
-#[tactic(auto, unfolding(mj_protocol::specs::Records::record_text))]
+#[tactic(auto, unfolding(mj_forms::specs::RecordTexts::record_text))]
 fn push_record(
     alloc: Global,
     rules: Rules,
@@ -51,7 +52,7 @@ fn push_record(
 }
 
 // Writes the header.
-#[tactic(auto, unfolding(mj_protocol::specs::Records::header_line))]
+#[tactic(auto, unfolding(mj_forms::specs::Headers::header_line))]
 fn push_header(text: &mut Vec<u8>, rules: Rules) -> Result<(), AllocError>
     ensures { OnOk result (Adds text.old.items text.new.items (header_line rules)) }
 {
@@ -86,7 +87,7 @@ fn push_walls(text: &mut Vec<u8>, walls: &[Wall]) -> Result<(), AllocError>
 }
 
 // Writes the line of a wall.
-#[tactic(auto, unfolding(mj_protocol::specs::Records::wall_line))]
+#[tactic(auto, unfolding(mj_forms::specs::Headers::wall_line))]
 fn push_wall(text: &mut Vec<u8>, wall: &Wall) -> Result<(), AllocError>
     ensures { OnOk result (Adds text.old.items text.new.items (wall_line wall.now)) }
 {

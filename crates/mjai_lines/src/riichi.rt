@@ -1,7 +1,7 @@
 // The lines of a reach and of its acceptance.
 ghost use Rattle.std.specs.Prelude.{◌++◌, OnOk, codes};
 ghost use Rattle.mj_bytes.specs.Adds.{Adds};
-ghost use Rattle.mj_protocol.specs.Lines.{reach_line, reach_accepted_line, in_record, bid_text};
+ghost use Rattle.mj_forms.specs.Lines.{reach_line, reach_accepted_line, in_record, bid_text};
 
 use crate::deed::push_call_object;
 use crate::pieces::push_points;
@@ -11,7 +11,7 @@ use mj_pay::deposit;
 use std::alloc::AllocError;
 
 // Writes a reach.
-#[tactic(auto, unfolding(mj_protocol::specs::Lines::reach_line))]
+#[tactic(auto, unfolding(mj_forms::specs::Lines::reach_line))]
 pub(crate) fn push_reach(line: &mut Vec<u8>, seat: u8) -> Result<(), AllocError>
     ensures { OnOk result (Adds line.old.items line.new.items (reach_line seat)) }
 {
@@ -22,7 +22,7 @@ pub(crate) fn push_reach(line: &mut Vec<u8>, seat: u8) -> Result<(), AllocError>
 }
 
 // Writes an accepted reach, with its deposit and the points after it.
-#[tactic(auto, unfolding(mj_protocol::specs::Lines::reach_accepted_line))]
+#[tactic(auto, unfolding(mj_forms::specs::Lines::reach_accepted_line))]
 pub(crate) fn push_reach_accepted(
     line: &mut Vec<u8>,
     viewer: Viewer,

@@ -3,7 +3,7 @@
 ghost use Rattle.std.specs.Prelude.{◌≡◌, ◌≤◌, IfOk, IfSome, codes, option_and_then, option_map};
 ghost use Rattle.mj_bytes.specs.Numbers.{decimal_of};
 ghost use Rattle.mj_bytes.specs.Parts.{fields, behind};
-ghost use Rattle.mj_protocol.specs.Arrivals.{rules_of, tiles_in, limit_of, switch_of};
+ghost use Rattle.mj_forms.specs.Headers.{rules_of, tiles_in, limit_of, switch_of};
 ghost use Rattle.mjai_lines.specs.Settings.{three_of, IsLimited};
 
 use mj_bytes::{read_number, split_space, strip};
@@ -13,7 +13,7 @@ use std::alloc::{AllocError, Global};
 
 /// The rules that three fields say: the limit of a window in milliseconds, from 1 to 3600000, and the two switches of
 /// draws and of red fives; none where the text says no rules.
-#[tactic(auto, using(crate::proofs::Settings::rules_of_others), unfolding(mj_protocol::specs::Arrivals::rules_of))]
+#[tactic(auto, using(crate::proofs::Settings::rules_of_others), unfolding(mj_forms::specs::Headers::rules_of))]
 pub fn read_rules(text: &[u8]) -> Option<Rules>
     ensures rules { result ≡ rules_of (fields text.now) }
     ensures limit { IfSome result IsLimited }

@@ -1,7 +1,7 @@
 // Answers in their usual spelling, which are read without JSON: a pass, and a discard that names its actor, the tile
 // and the mark in this order, each without spaces.
 ghost use Rattle.std.specs.Prelude.{◌≡◌, ◌++◌, IfSome};
-ghost use Rattle.mj_protocol.specs.AnswerForms.{answer_of};
+ghost use Rattle.mj_forms.specs.AnswerForms.{answer_of};
 ghost use Rattle.mjai_lines.specs.Inner.Spellings.{BeginsWithSeat, mark_text};
 
 use crate::answer::pai_of;

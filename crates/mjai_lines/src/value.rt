@@ -1,7 +1,7 @@
 // The JSON value that a line is, and the fields of such a value.
 ghost use Rattle.std.specs.Prelude.{◌≡◌, IfOk, option_map};
 ghost use Rattle.serde_json.specs.View.{view};
-ghost use Rattle.mj_protocol.specs.AnswerForms.{value_of, text_in as text_read, seat_in as seat_read, seat_as as seat_of_value};
+ghost use Rattle.mj_forms.specs.AnswerForms.{value_of, text_in as text_read, seat_in as seat_read, seat_as as seat_of_value};
 
 use serde_json::Value;
 use std::alloc::{AllocError, Global};
@@ -22,7 +22,7 @@ pub(crate) fn read_value(alloc: Global, line: &[u8]) -> Result<Option<Value>, Al
 }
 
 // The text that a field is.
-#[tactic(auto, unfolding(mj_protocol::specs::AnswerForms::text_in))]
+#[tactic(auto, unfolding(mj_forms::specs::AnswerForms::text_in))]
 pub(crate) fn text_in<'v>(name: &str, value: &'v Value) -> Option<&'v str>
     ensures { option_map (λ s. s.now) result ≡ text_read name.now (view value.now) }
 {
@@ -30,7 +30,7 @@ pub(crate) fn text_in<'v>(name: &str, value: &'v Value) -> Option<&'v str>
 }
 
 // The seat that a field is.
-#[tactic(auto, unfolding(mj_protocol::specs::AnswerForms::seat_in))]
+#[tactic(auto, unfolding(mj_forms::specs::AnswerForms::seat_in))]
 pub(crate) fn seat_in(name: &str, value: &Value) -> Option<u8>
     ensures { result ≡ seat_read name.now (view value.now) }
 {
@@ -38,7 +38,7 @@ pub(crate) fn seat_in(name: &str, value: &Value) -> Option<u8>
 }
 
 // The seat that a value is: a whole number from 0 to 3.
-#[tactic(auto, unfolding(mj_protocol::specs::AnswerForms::seat_as))]
+#[tactic(auto, unfolding(mj_forms::specs::AnswerForms::seat_as))]
 pub(crate) fn seat_as(value: &Value) -> Option<u8>
     ensures { result ≡ seat_of_value (view value.now) }
 {

@@ -1,7 +1,7 @@
 // The line of a win, in four pieces.
 ghost use Rattle.std.specs.Prelude.{◌++◌, ◌∷◌, OnOk, map, flat_map, codes, decimal};
 ghost use Rattle.mj_bytes.specs.Adds.{Adds};
-ghost use Rattle.mj_protocol.specs.Lines.{quoted_tile, bracketed, joined, points_text, in_record, row_text};
+ghost use Rattle.mj_forms.specs.Lines.{quoted_tile, bracketed, joined, points_text, in_record, row_text};
 
 use crate::pieces::{push_points, push_quoted, push_tile, push_tiles_seen};
 use crate::yaku::yaku_name;

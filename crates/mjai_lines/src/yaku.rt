@@ -1,5 +1,5 @@
 ghost use Rattle.std.specs.Prelude.{◌≡◌};
-ghost use Rattle.mj_protocol.specs.Lines.{row_name};
+ghost use Rattle.mj_forms.specs.Lines.{row_name};
 
 /// The name of a row of the table of yaku, 0 to 44; empty for a number above these.
 #[tactic(auto, unfolding(mj_yaku::specs::Han::table))]

@@ -3,8 +3,8 @@ use Rattle.std.specs.Prelude.{◌≡◌, ◌≤◌, List, length}
 use Rattle.mj_ports.specs.declared.entry.Entry.{Entry}
 use Rattle.mj_deeds.specs.declared.answer.Answer.{Answer}
 use Rattle.mj_wall.specs.declared.setting.Setting.{Setting}
-use Rattle.mj_protocol.specs.After.{after}
-use Rattle.mj_protocol.specs.Trace.{IsLegal}
+use Rattle.mj_history.specs.After.{after}
+use Rattle.mj_history.specs.Legal.{IsLegal}
 use Rattle.mj_core.specs.Inner.Untold.{untold}
 use Rattle.mj_core.specs.Inner.States.{Position, now_of}
 

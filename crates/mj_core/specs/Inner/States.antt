@@ -18,9 +18,9 @@ use Rattle.mj_wall.specs.Places.{is_wall}
 use Rattle.mj_window.specs.Slots.{empty_slots}
 use Rattle.mj_rules.specs.Outcome.{outcome}
 use Rattle.mj_rules.specs.Played.{IsPlayed, AllLawful}
-use Rattle.mj_protocol.specs.After.{After, Chair, Progress, Verdict, Closing, is_present, is_expiry, answers_in, verdict_on, own_part, next_deed, step}
-use Rattle.mj_protocol.specs.Laws.{CanGoOn}
-use Rattle.mj_protocol.specs.Sitting.{held_of}
+use Rattle.mj_history.specs.After.{After, Chair, Progress, Verdict, Closing, is_present, is_expiry, answers_in, verdict_on, own_part, next_deed, step}
+use Rattle.mj_history.specs.Laws.{CanGoOn}
+use Rattle.mj_history.specs.Sitting.{held_of}
 use Rattle.mj_core.specs.Calls.{open_window}
 use Rattle.mj_core.specs.Inner.Untold.{untold}
 use Rattle.mj_core.specs.declared.chair.Chair.{Chair as Player}

@@ -1,7 +1,7 @@
 -- What a core keeps of what its entries come to: all but their number and what the connections were told, where they began
 -- and which there were before.
 use Rattle.std.specs.Prelude.{[], map}
-use Rattle.mj_protocol.specs.After.{After, Chair}
+use Rattle.mj_history.specs.After.{After, Chair}
 
 -- A seat that is held, without its connections.
 abbrev pub untold_chair : Chair → Chair

@@ -2,7 +2,7 @@
 use Rattle.mj_ports.specs.declared.answers.Heard.{Heard}
 use Rattle.mj_ports.specs.declared.answers.Heard.TheVariants as heard
 use Rattle.mj_deeds.specs.declared.rule.Rule.{Rule}
-use Rattle.mj_protocol.specs.After.{Verdict, Taken, Late, Refused, Closing}
+use Rattle.mj_history.specs.After.{Verdict, Taken, Late, Refused, Closing}
 use Rattle.mj_core.specs.declared.verdict.Verdict.{Verdict as Judged}
 use Rattle.mj_core.specs.declared.verdict.Verdict.TheVariants as judged
 

@@ -3,8 +3,8 @@ use Rattle.std.specs.Prelude.{ℕ, Option, Some, None}
 use Rattle.mjai_lines.specs.Settings.{IsLimited}
 use Rattle.mj_front.specs.declared.form.ArrivalForm.{ArrivalForm}
 use Rattle.mj_front.specs.declared.form.ArrivalForm.TheVariants as read
-use Rattle.mj_protocol.specs.Arrivals.{ArrivalForm as Meaning}
-use Rattle.mj_protocol.specs.Arrivals as arrivals
+use Rattle.mj_history.specs.Arrivals.{ArrivalForm as Meaning}
+use Rattle.mj_history.specs.Arrivals as arrivals
 
 -- The form of a line, as it was read.
 abbrev pub meaning : ArrivalForm → Meaning

@@ -2,10 +2,10 @@
 use Rattle.std.specs.Prelude.{◌≡◌, ℕ, ◌==◌, ◌≤◌, Bool, true, false, if◌then◌else◌, List, [], ◌∷◌, ◌++◌, length, flat_map, Option, Some, option_map, slice_get}
 use Rattle.std.specs.Option.{option_map_or}
 use Rattle.mj_wall.specs.declared.setting.Rules.{Rules}
-use Rattle.mj_protocol.specs.Lines.{hello_line}
-use Rattle.mj_protocol.specs.After.{After, Chair, Connection, lines_for, told_again, scripts_in}
-use Rattle.mj_protocol.specs.Trace.{Game}
-use Rattle.mj_protocol.specs.Arrivals.{ArrivalForm, Header, WallOf, Sit, Say, Leave, Expire, NoForm, form_of, Intake, Arrival, Leads, Bad, Input, now_of}
+use Rattle.mj_forms.specs.Lines.{hello_line}
+use Rattle.mj_history.specs.After.{After, Chair, Connection, lines_for, told_again, scripts_in}
+use Rattle.mj_history.specs.Legal.{Game}
+use Rattle.mj_history.specs.Arrivals.{ArrivalForm, Header, WallOf, Sit, Say, Leave, Expire, NoForm, form_of, Intake, Arrival, Leads, Bad, Input, now_of}
 use Rattle.mj_core.specs.Calls.{after_of, author_of_seat, due_of, pending_at}
 use Rattle.mj_front.specs.declared.arriving.Step.{Step}
 use Rattle.mj_front.specs.declared.arriving.Step.TheVariants as steps

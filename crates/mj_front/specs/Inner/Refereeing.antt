@@ -2,7 +2,7 @@
 use Rattle.std.specs.Prelude.{ℕ, List, Option}
 use Rattle.std.specs.Io.KnownBytes.{Keeps}
 use Rattle.mj_links.specs.Sinks.{WritesPrefix}
-use Rattle.mj_protocol.specs.Arrivals.{input_of, game_of}
+use Rattle.mj_history.specs.Arrivals.{input_of, game_of}
 use Rattle.mj_front.specs.declared.referee.RefereeEnd.{RefereeEnd}
 use Rattle.mj_front.specs.declared.referee.RefereeEnd.TheVariants as ends
 use Rattle.mj_front.specs.Referee.{IsTold, TellsAll, ending}

@@ -2,7 +2,7 @@
 use Rattle.std.specs.Prelude.{ℕ, List, Option}
 use Rattle.std.specs.Io.KnownBytes.{Appends, Keeps}
 use Rattle.mj_links.specs.Sinks.{WritesPrefix}
-use Rattle.mj_protocol.specs.Told.{Summary}
+use Rattle.mj_history.specs.Told.{Summary}
 use Rattle.mj_front.specs.declared.replay.ReplayEnd.{ReplayEnd}
 use Rattle.mj_front.specs.declared.replay.ReplayEnd.TheVariants as ends
 use Rattle.mj_front.specs.Replay.{replay_text}

@@ -4,8 +4,8 @@ use Rattle.std.specs.Io.KnownBytes.{Appends, Keeps}
 use Rattle.mj_links.specs.declared.host.Given.{Given}
 use Rattle.mj_links.specs.declared.host.Given.TheVariants as given
 use Rattle.mj_links.specs.Sinks.{WritesPrefix}
-use Rattle.mj_protocol.specs.After.{after}
-use Rattle.mj_protocol.specs.Trace.{Game, is_over}
+use Rattle.mj_history.specs.After.{after}
+use Rattle.mj_history.specs.Legal.{Game, is_over}
 use Rattle.mj_seats.specs.declared.handle.Session.{Session}
 use Rattle.mj_front.specs.declared.serve.ServeEnd.{ServeEnd}
 use Rattle.mj_front.specs.declared.serve.ServeEnd.TheVariants as ends

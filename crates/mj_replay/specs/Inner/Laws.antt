@@ -1,17 +1,17 @@
 -- What is written is read again, whatever stands behind it.
 use Rattle.std.specs.Prelude.{◌≡◌, ℕ, ℤ, zero, suc, nat_le, length, ◌<◌, Bool, true, false, not, List, [], ◌∷◌, ◌++◌, decimal, Option, Some}
-use Rattle.mj_protocol.specs.Told.{told_of}
+use Rattle.mj_history.specs.Told.{told_of}
 use Rattle.std.specs.Char.{is_ascii_digit}
 use Rattle.mj_deeds.specs.declared.deed.Deed.{Deed}
 use Rattle.mj_deeds.specs.declared.deed.Deed.TheVariants.{StartGame, StartHand, ReachAccepted, Win, DrawnHand, EndGame, Draw, Discard, Chi, Pon, OpenKan, ClosedKan, AddedKan, Dora, Reach, EndHand}
 use Rattle.mj_deeds.specs.declared.deed.Viewer.TheVariants.{Record}
-use Rattle.mj_protocol.specs.Lines.{quoted_tile, truth, line}
+use Rattle.mj_forms.specs.Lines.{quoted_tile, truth, line}
 use Rattle.std.specs.List.{list_all}
 use Rattle.mj_ports.specs.Names.{is_name}
 use Rattle.mj_deeds.specs.declared.bid.Bid.{Bid}
 use Rattle.mj_deeds.specs.declared.reason.Reason.{Reason}
 use Rattle.mj_deeds.specs.Shown.{Shown, Tiles, Hidden}
-use Rattle.mj_protocol.specs.Records.{is_byte, is_tile, is_row, is_shown, is_bid, is_deed, are_points}
+use Rattle.mj_history.specs.Records.{is_byte, is_tile, is_row, is_shown, is_bid, is_deed, are_points}
 use Rattle.mj_replay.specs.Inner.Fields.{byte_field, word_field, tile_field, truth_field}
 use Rattle.mj_replay.specs.Inner.Deeds.{deed_in}
 

@@ -2,7 +2,8 @@
 use Rattle.std.specs.Prelude.{◌≡◌, ℕ, Bool, true, List, [], ◌∷◌, ◌++◌}
 use Rattle.mj_wall.specs.declared.setting.Rules.{Rules}
 use Rattle.mj_wall.specs.Places.{is_wall}
-use Rattle.mj_protocol.specs.Records.{are_rules, header_line, wall_line}
+use Rattle.mj_history.specs.Records.{are_rules}
+use Rattle.mj_forms.specs.Headers.{header_line, wall_line}
 
 -- The line is the header that says these rules.
 pub record IsHeader (line : List ℕ) (rules : Rules) : Type 0 where

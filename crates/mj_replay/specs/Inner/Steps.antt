@@ -10,8 +10,8 @@ use Rattle.mj_deeds.specs.declared.deed.Deed.TheVariants.{StartGame}
 use Rattle.mj_rules.specs.Outcome.{outcome}
 use Rattle.mj_rules.specs.Played.{AllLawful, IsPlayed, IsPlayedBehind}
 use Rattle.mj_table.specs.Plays.{Play}
-use Rattle.mj_protocol.specs.Lines.{line}
-use Rattle.mj_protocol.specs.Records.{IsLineOf, IsOfNoNext, needs_wall}
+use Rattle.mj_forms.specs.Lines.{line}
+use Rattle.mj_history.specs.Records.{IsLineOf, IsOfNoNext, needs_wall}
 use Rattle.mj_replay.specs.declared.checking.Cause.{Cause}
 use Rattle.mj_replay.specs.declared.checking.Cause.TheVariants as causes
 use Rattle.mj_replay.specs.Inner.Settings.{IsWallLine, IsNoWallLine}

@@ -2,7 +2,7 @@
 use Rattle.std.specs.Prelude.{◌≡◌, ℕ, List, map}
 use Rattle.mj_deeds.specs.declared.deed.Deed.{Deed}
 use Rattle.mj_deeds.specs.declared.deed.Viewer.TheVariants.{Seat}
-use Rattle.mj_protocol.specs.Lines.{line}
+use Rattle.mj_forms.specs.Lines.{line}
 
 -- Each seat's lines are those of the deeds.
 pub record Tells (deeds : List Deed) (first second third fourth : List (List ℕ)) : Type 0 where

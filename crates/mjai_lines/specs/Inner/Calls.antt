@@ -2,7 +2,7 @@
 use Rattle.std.specs.Prelude.{ℕ, List, Option}
 use Rattle.mj_deeds.specs.declared.answer.Pai.{Pai}
 use Rattle.mj_deeds.specs.declared.answer.Answer.{Answer}
-use Rattle.mj_protocol.specs.AnswerForms.{chi_by, pon_by, open_kan_by}
+use Rattle.mj_forms.specs.AnswerForms.{chi_by, pon_by, open_kan_by}
 use Rattle.mjai_lines.specs.declared.answer.Call.{Call}
 use Rattle.mjai_lines.specs.declared.answer.Call.TheVariants.{Chi, Pon, OpenKan}
 

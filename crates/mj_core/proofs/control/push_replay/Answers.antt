@@ -1,4 +1,4 @@
-use Rattle.mj_protocol.specs.Lines.{replay_line}
+use Rattle.mj_forms.specs.Lines.{replay_line}
 use Rattle.mj_bytes.proofs.AddLaws.{adds_more}
 use Rattle.mj_core.proofs.control.push_replay.Goals as goal
 

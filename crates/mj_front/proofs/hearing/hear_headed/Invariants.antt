@@ -2,7 +2,7 @@ use Rattle.std.proofs.Common.{◌≡◌, ◌+◌, ◌≤◌, true, false, [], le
 use Rattle.std.specs.List.{list_all}
 use Rattle.mj_bytes.specs.Parts.{whole_lines, unfinished}
 use Rattle.mj_wall.specs.Places.{is_wall}
-use Rattle.mj_protocol.specs.Arrivals.{hear_from}
+use Rattle.mj_history.specs.Arrivals.{hear_from}
 use Rattle.mj_front.specs.Inner.Hearing.{intake_with_walls}
 use Rattle.mj_front.proofs.hearing.hear_headed.Given as goal
 

@@ -1,6 +1,6 @@
 use Rattle.std.proofs.Common.{◌≡◌, ◌+◌, ◌≤◌, length}
 use Rattle.mj_bytes.specs.Parts.{whole_lines, unfinished}
-use Rattle.mj_protocol.specs.Arrivals.{hear_from}
+use Rattle.mj_history.specs.Arrivals.{hear_from}
 use Rattle.mj_front.specs.Inner.Hearing.{intake_of, InPlay}
 use Rattle.mj_front.proofs.hearing.hear_lines.Given as goal
 

@@ -1,7 +1,8 @@
 use Rattle.std.proofs.Common.{◌≡◌, ◌≤◌, ◌++◌, true, [], length}
 use Rattle.std.specs.List.{list_all}
 use Rattle.mj_wall.specs.Places.{is_wall}
-use Rattle.mj_protocol.specs.Records.{header_line, record_text}
+use Rattle.mj_forms.specs.Headers.{header_line}
+use Rattle.mj_forms.specs.RecordTexts.{record_text}
 use Rattle.mj_replay.proofs.checking.behind_header.Given as goal
 
 abbrev pub invariant-loop-line : goal.invariant-loop-line

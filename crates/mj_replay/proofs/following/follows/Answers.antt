@@ -4,7 +4,7 @@ use Rattle.mj_deeds.specs.declared.deed.Deed.{Deed}
 use Rattle.mj_deeds.specs.Facts.{newest}
 use Rattle.mj_deeds.specs.Four.{for_each_seat}
 use Rattle.mj_rules.specs.Outcome.{goes_on}
-use Rattle.mj_protocol.specs.Told.{told_of}
+use Rattle.mj_history.specs.Told.{told_of}
 use Rattle.mj_replay.proofs.FollowLaws.{none_told}
 use Rattle.mj_replay.proofs.following.follows.Goals as goal
 

@@ -1,5 +1,5 @@
 use Rattle.std.proofs.Common.{ℕ, ◌≡◌, ◌<◌}
-use Rattle.mj_protocol.specs.Lines.{row_name}
+use Rattle.mj_forms.specs.Lines.{row_name}
 use Rattle.mj_replay.proofs.yaku.row_of.Given as goal
 
 abbrev pub invariant-loop-row : goal.invariant-loop-row

@@ -1,6 +1,6 @@
 use Rattle.std.proofs.Common.{ap}
 use Rattle.std.specs.Prelude.{decimal}
-use Rattle.mj_protocol.specs.Lines.{added_kan_line}
+use Rattle.mj_forms.specs.Lines.{added_kan_line}
 use Rattle.mjai_lines.proofs.Chains.{◌▸◌, as_piece}
 use Rattle.mjai_lines.proofs.deed.push_added_kan.Goals as goal
 

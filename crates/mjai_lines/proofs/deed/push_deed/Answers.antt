@@ -1,5 +1,5 @@
 use Rattle.std.proofs.Common.{ap, sym}
-use Rattle.mj_protocol.specs.Lines.{line, start_hand_line, end_hand_line}
+use Rattle.mj_forms.specs.Lines.{line, start_hand_line, end_hand_line}
 use Rattle.mjai_lines.proofs.Chains.{◌▸◌, as_piece}
 use Rattle.mjai_lines.proofs.Wins.{win_in_pieces}
 use Rattle.mjai_lines.proofs.deed.push_deed.Goals as goal

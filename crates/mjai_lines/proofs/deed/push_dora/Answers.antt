@@ -1,4 +1,4 @@
-use Rattle.mj_protocol.specs.Lines.{dora_line}
+use Rattle.mj_forms.specs.Lines.{dora_line}
 use Rattle.mjai_lines.proofs.Chains.{◌▸◌}
 use Rattle.mjai_lines.proofs.deed.push_dora.Goals as goal
 

@@ -1,6 +1,6 @@
 use Rattle.std.proofs.Common.{◌≡◌, ℕ, Bool, List, ap, sym, ◌∙◌}
 use Rattle.mj_bytes.specs.Adds.{Adds}
-use Rattle.mj_protocol.specs.Lines.{bracketed, shown_tiles}
+use Rattle.mj_forms.specs.Lines.{bracketed, shown_tiles}
 use Rattle.mjai_lines.proofs.Chains.{◌▸◌, as_piece}
 use Rattle.mjai_lines.proofs.Lists.{bracketed_four}
 use Rattle.mjai_lines.proofs.deed.push_hands.Goals as goal

@@ -1,5 +1,5 @@
 use Rattle.std.proofs.Common.{ap, sym}
-use Rattle.mj_protocol.specs.Lines.{quoted}
+use Rattle.mj_forms.specs.Lines.{quoted}
 use Rattle.mjai_lines.proofs.Chains.{◌▸◌, as_piece}
 use Rattle.mjai_lines.proofs.Lists.{bracketed_four}
 use Rattle.mjai_lines.proofs.deed.push_names.Goals as goal

@@ -1,5 +1,5 @@
 use Rattle.std.proofs.Common.{ap}
-use Rattle.mj_protocol.specs.Lines.{quoted, drawn_hand_line}
+use Rattle.mj_forms.specs.Lines.{quoted, drawn_hand_line}
 use Rattle.mjai_lines.proofs.Chains.{◌▸◌, as_piece}
 use Rattle.mjai_lines.proofs.ending.push_drawn_hand.Goals as goal
 

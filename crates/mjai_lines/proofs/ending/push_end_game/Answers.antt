@@ -1,6 +1,6 @@
 use Rattle.std.proofs.Common.{ap}
 use Rattle.std.specs.Prelude.{decimal}
-use Rattle.mj_protocol.specs.Lines.{end_game_line}
+use Rattle.mj_forms.specs.Lines.{end_game_line}
 use Rattle.mjai_lines.proofs.Chains.{◌▸◌, as_piece}
 use Rattle.mjai_lines.proofs.ending.push_end_game.Goals as goal
 

@@ -1,5 +1,5 @@
 use Rattle.std.proofs.Common.{◌≤◌, sym, arith}
-use Rattle.mj_protocol.specs.Lines.{bracketed}
+use Rattle.mj_forms.specs.Lines.{bracketed}
 use Rattle.mjai_lines.proofs.Chains.{◌▸◌, as_piece}
 use Rattle.mjai_lines.proofs.Lists.{bracketed_hidden}
 use Rattle.mjai_lines.proofs.ending.push_hidden.Goals as goal

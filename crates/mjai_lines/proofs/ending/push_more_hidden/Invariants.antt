@@ -1,6 +1,6 @@
 use Rattle.std.proofs.Common.{flat_map, replicate, ◌∷◌}
 use Rattle.mj_bytes.specs.Adds.{Adds}
-use Rattle.mj_protocol.specs.Lines.{hidden_tile}
+use Rattle.mj_forms.specs.Lines.{hidden_tile}
 use Rattle.mjai_lines.proofs.ending.push_more_hidden.Given as goal
 
 abbrev pub invariant-loop-copy : goal.invariant-loop-copy

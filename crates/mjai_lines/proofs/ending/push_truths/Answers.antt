@@ -1,6 +1,6 @@
 use Rattle.std.proofs.Common.{◌≡◌, length, rules, sym}
 use Rattle.std.specs.Prelude.{false}
-use Rattle.mj_protocol.specs.Lines.{truth}
+use Rattle.mj_forms.specs.Lines.{truth}
 use Rattle.mjai_lines.proofs.Chains.{◌▸◌, as_piece}
 use Rattle.mjai_lines.proofs.Lists.{bracketed_items}
 use Rattle.mjai_lines.proofs.ending.push_truths.Goals as goal

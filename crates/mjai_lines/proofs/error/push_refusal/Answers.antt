@@ -1,6 +1,6 @@
 use Rattle.std.proofs.Common.{ap}
 use Rattle.std.specs.Prelude.{decimal}
-use Rattle.mj_protocol.specs.Lines.{refusal_line, quoted}
+use Rattle.mj_forms.specs.Lines.{refusal_line, quoted}
 use Rattle.mjai_lines.proofs.Chains.{◌▸◌, as_piece}
 use Rattle.mjai_lines.proofs.error.push_refusal.Goals as goal
 

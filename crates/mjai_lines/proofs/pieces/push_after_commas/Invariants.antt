@@ -1,6 +1,6 @@
 use Rattle.std.proofs.Common.{map, flat_map, take, ◌∷◌}
 use Rattle.mj_bytes.specs.Adds.{Adds}
-use Rattle.mj_protocol.specs.Lines.{tile_seen}
+use Rattle.mj_forms.specs.Lines.{tile_seen}
 use Rattle.mjai_lines.proofs.pieces.push_after_commas.Given as goal
 
 abbrev pub invariant-loop-tile : goal.invariant-loop-tile

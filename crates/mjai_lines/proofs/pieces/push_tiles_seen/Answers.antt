@@ -1,5 +1,5 @@
 use Rattle.std.proofs.Common.{ap, sym}
-use Rattle.mj_protocol.specs.Lines.{bracketed}
+use Rattle.mj_forms.specs.Lines.{bracketed}
 use Rattle.mjai_lines.proofs.Chains.{◌▸◌, as_piece}
 use Rattle.mjai_lines.proofs.Lists.{shown_is_map}
 use Rattle.mjai_lines.proofs.pieces.push_tiles_seen.Goals as goal

@@ -1,4 +1,4 @@
-use Rattle.mj_protocol.specs.Records.{header_line}
+use Rattle.mj_forms.specs.Headers.{header_line}
 use Rattle.mjai_lines.proofs.Chains.{◌▸◌}
 use Rattle.mjai_lines.proofs.record.push_header.Goals as goal
 

@@ -1,6 +1,6 @@
 use Rattle.std.proofs.Common.{flat_map, take}
 use Rattle.mj_bytes.specs.Adds.{Adds}
-use Rattle.mj_protocol.specs.Records.{wall_line}
+use Rattle.mj_forms.specs.Headers.{wall_line}
 use Rattle.mjai_lines.proofs.record.push_walls.Given as goal
 
 abbrev pub invariant-loop-wall : goal.invariant-loop-wall

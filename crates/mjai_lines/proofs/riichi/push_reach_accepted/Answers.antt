@@ -1,6 +1,6 @@
 use Rattle.std.proofs.Common.{ap}
 use Rattle.std.specs.Prelude.{decimal}
-use Rattle.mj_protocol.specs.Lines.{points_text, reach_accepted_line}
+use Rattle.mj_forms.specs.Lines.{points_text, reach_accepted_line}
 use Rattle.mjai_lines.proofs.Chains.{◌▸◌, as_piece}
 use Rattle.mjai_lines.proofs.riichi.push_reach_accepted.Goals as goal
 

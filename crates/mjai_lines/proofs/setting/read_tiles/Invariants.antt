@@ -1,7 +1,7 @@
 use Rattle.std.proofs.Common.{◌≡◌, length}
 use Rattle.mj_bytes.specs.Parts.{fields}
 use Rattle.mj_lists.proofs.Onto.{onto}
-use Rattle.mj_protocol.specs.Arrivals.{tiles_in}
+use Rattle.mj_forms.specs.Headers.{tiles_in}
 use Rattle.mjai_lines.proofs.setting.read_tiles.Given as goal
 
 abbrev pub invariant-loop-field : goal.invariant-loop-field

@@ -2,7 +2,7 @@ use Rattle.std.proofs.Common.{◌≡◌, sym, ap, ◌∙◌}
 use Rattle.std.specs.Prelude.{codes}
 use Rattle.std.proofs.lemmas.Slice.Eq.{slice_eq-Decides}
 use Rattle.std.proofs.lemmas.Bool.Decides.{Decides-eqb}
-use Rattle.mj_protocol.specs.AnswerForms.{answer_of}
+use Rattle.mj_forms.specs.AnswerForms.{answer_of}
 use Rattle.mjai_lines.specs.Inner.Spellings.{pass_front}
 use Rattle.mjai_lines.proofs.Spellings.{pass_read, pass_of_actor_read}
 use Rattle.mjai_lines.proofs.Texts.{begun}

@@ -1,4 +1,4 @@
-use Rattle.mj_protocol.specs.Lines.{bracketed}
+use Rattle.mj_forms.specs.Lines.{bracketed}
 use Rattle.mjai_lines.proofs.Chains.{◌▸◌}
 use Rattle.mjai_lines.proofs.winning.push_seats.Goals as goal
 

@@ -1,6 +1,6 @@
 use Rattle.std.proofs.Common.{ap, map}
 use Rattle.std.specs.Prelude.{decimal}
-use Rattle.mj_protocol.specs.Lines.{bracketed, quoted_tile}
+use Rattle.mj_forms.specs.Lines.{bracketed, quoted_tile}
 use Rattle.mjai_lines.proofs.Chains.{◌▸◌, as_piece}
 use Rattle.mjai_lines.proofs.winning.push_winner.Goals as goal
 

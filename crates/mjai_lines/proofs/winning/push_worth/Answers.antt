@@ -1,6 +1,6 @@
 use Rattle.std.proofs.Common.{ap, map}
 use Rattle.std.specs.Prelude.{decimal}
-use Rattle.mj_protocol.specs.Lines.{bracketed, row_text}
+use Rattle.mj_forms.specs.Lines.{bracketed, row_text}
 use Rattle.mjai_lines.proofs.Chains.{◌▸◌, as_piece}
 use Rattle.mjai_lines.proofs.winning.push_worth.Goals as goal
 

@@ -1,5 +1,5 @@
 use Rattle.std.proofs.Common.{refl, ◌≡◌, true}
-use Rattle.mj_protocol.specs.Trace.{is_open}
+use Rattle.mj_history.specs.Legal.{is_open}
 use Rattle.mj_core.specs.Calls.{after_of}
 use Rattle.mj_core.proofs.Games.{too-early, too-short, run-out}
 use Rattle.mj_core.proofs.Readers.{opened}

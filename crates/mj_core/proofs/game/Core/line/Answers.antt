@@ -1,6 +1,6 @@
 use Rattle.std.proofs.Common.{List, ap, ◌∙◌}
 use Rattle.mj_deeds.specs.declared.deed.Deed.{Deed}
-use Rattle.mj_protocol.specs.After.{after}
+use Rattle.mj_history.specs.After.{after}
 use Rattle.mj_streams.specs.Streams.{line_of}
 use Rattle.mj_core.proofs.Games.{kept-deeds}
 use Rattle.mj_core.proofs.KeptLines.{kept-line}

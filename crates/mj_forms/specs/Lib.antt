@@ -1,0 +1,5 @@
+pub mod Lines
+pub mod AnswerForms
+pub mod Headers
+pub mod RecordTexts
+pub mod Laws

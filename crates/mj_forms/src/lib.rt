@@ -1,0 +1,16 @@
+//! The forms of lines, as definitions: what the line of a deed, a header or a wall says, and what a line of a player reads as.
+//! No rule of play stands here. Nothing here runs: the functions are the places where the laws are stated.
+#![tactic(auto)]
+
+ghost use Rattle.mj_forms.specs.Laws.{AnswersThatAreReadAreInForm, LinesAreOfMasks};
+
+/// Whatever a line says, it reads as an answer in form: the own tiles that it names together stand in tile order, hidden ones
+/// last.
+pub fn answers_that_are_read_are_in_form()
+    ensures { AnswersThatAreReadAreInForm }
+{}
+
+/// The line of a deed for a viewer is a function of the deed as the viewer sees it.
+pub fn lines_are_of_masks()
+    ensures { LinesAreOfMasks }
+{}

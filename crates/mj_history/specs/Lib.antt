@@ -1,0 +1,11 @@
+pub mod After
+pub mod Arrivals
+pub mod Arriving
+pub mod Laws
+pub mod Legal
+pub mod Order
+pub mod Records
+pub mod Seated
+pub mod Shown
+pub mod Sitting
+pub mod Told

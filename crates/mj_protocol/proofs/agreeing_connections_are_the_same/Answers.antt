@@ -1,5 +1,0 @@
-use Rattle.mj_protocol.proofs.OneWorld.{agreeing_connections}
-use Rattle.mj_protocol.proofs.agreeing_connections_are_the_same.Goals as goal
-
-pub returns : goal.returns
-returns c = agreeing_connections

@@ -1,5 +1,0 @@
-use Rattle.mj_protocol.proofs.Moves.{answers_go_by_verdict}
-use Rattle.mj_protocol.proofs.answers_go_by_verdict.Goals as goal
-
-pub returns : goal.returns
-returns c = answers_go_by_verdict

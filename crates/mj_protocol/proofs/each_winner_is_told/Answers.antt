@@ -1,5 +1,0 @@
-use Rattle.mj_protocol.proofs.Told.{each_winner_is_told}
-use Rattle.mj_protocol.proofs.each_winner_is_told.Goals as goal
-
-pub returns : goal.returns
-returns c = each_winner_is_told

@@ -1,5 +1,0 @@
-use Rattle.mj_protocol.proofs.Seated.{ended_connections_stay}
-use Rattle.mj_protocol.proofs.ended_connections_stay.Goals as goal
-
-pub returns : goal.returns
-returns c = ended_connections_stay

@@ -1,5 +1,0 @@
-use Rattle.mj_protocol.proofs.Fitting.{legal_games_are_played}
-use Rattle.mj_protocol.proofs.legal_games_are_played.Goals as goal
-
-pub returns : goal.returns
-returns c = legal_games_are_played

@@ -1,5 +1,0 @@
-use Rattle.mj_protocol.proofs.Follows.{same_lines}
-use Rattle.mj_protocol.proofs.lines_follow.Goals as goal
-
-pub returns : goal.returns
-returns c = same_lines

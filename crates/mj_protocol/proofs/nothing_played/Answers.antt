@@ -1,5 +1,0 @@
-use Rattle.mj_protocol.proofs.Told.{nothing_played}
-use Rattle.mj_protocol.proofs.nothing_played.Goals as goal
-
-pub returns : goal.returns
-returns c = nothing_played

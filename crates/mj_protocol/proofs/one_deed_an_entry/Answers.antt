@@ -1,5 +1,0 @@
-use Rattle.mj_protocol.proofs.Arriving.{one_deed_an_entry}
-use Rattle.mj_protocol.proofs.one_deed_an_entry.Goals as goal
-
-pub returns : goal.returns
-returns c = one_deed_an_entry

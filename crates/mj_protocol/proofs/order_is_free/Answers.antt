@@ -1,5 +1,0 @@
-use Rattle.mj_protocol.proofs.Order.{order_is_free}
-use Rattle.mj_protocol.proofs.order_is_free.Goals as goal
-
-pub returns : goal.returns
-returns c = order_is_free

@@ -1,5 +1,0 @@
-use Rattle.mj_protocol.proofs.Fitting.{own_part_can_go_on}
-use Rattle.mj_protocol.proofs.own_part_can_go_on.Goals as goal
-
-pub returns : goal.returns
-returns c = own_part_can_go_on

@@ -1,5 +1,0 @@
-use Rattle.mj_protocol.proofs.Moves.{returns_begin}
-use Rattle.mj_protocol.proofs.returns_begin.Goals as goal
-
-pub returns : goal.returns
-returns c = returns_begin

@@ -1,5 +1,0 @@
-use Rattle.mj_protocol.proofs.Moves.{seats_leave}
-use Rattle.mj_protocol.proofs.seats_leave.Goals as goal
-
-pub returns : goal.returns
-returns c = seats_leave

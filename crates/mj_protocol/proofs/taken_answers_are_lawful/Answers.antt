@@ -1,5 +1,0 @@
-use Rattle.mj_protocol.proofs.Fitting.{taken_answers_are_lawful}
-use Rattle.mj_protocol.proofs.taken_answers_are_lawful.Goals as goal
-
-pub returns : goal.returns
-returns c = taken_answers_are_lawful

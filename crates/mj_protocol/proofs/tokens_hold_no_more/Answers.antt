@@ -1,5 +1,0 @@
-use Rattle.mj_protocol.proofs.Bare.{token_of_bare}
-use Rattle.mj_protocol.proofs.tokens_hold_no_more.Goals as goal
-
-pub returns : goal.returns
-returns c = token_of_bare

@@ -1,0 +1,9 @@
+pub mod Bare
+pub mod Cuts
+pub mod Follows
+pub mod Heard
+pub mod MaskedLine
+pub mod OneWorld
+pub mod Rebuilt
+pub mod Solo
+pub mod Witness

@@ -1,0 +1,5 @@
+pub mod Bare
+pub mod Follows
+pub mod Laws
+pub mod Trace
+pub mod Witness
