@@ -256,7 +256,7 @@ stale game window t1 t2 h = not-open _ _ _ h
 -- a wall behind the first arrival
 wall-late : (game : Game) (tiles : List ℕ) → wall_arrives (intake_of game) tiles ≡ Bad
 unfolding wall_arrives
-wall-late game tiles = rw (and-false (is_wall false tiles))
+wall-late game tiles = rw (and-false (is_wall (setting_of (intake_of game)).rules.red tiles))
 
 pub walls-late : (game : Game) (form : ArrivalForm) (tiles : List ℕ) → WallOf tiles ≡ form → behind_header (intake_of game) form ≡ Bad
 walls-late game form tiles e = subst (λ (f : ArrivalForm). behind_header (intake_of game) f ≡ Bad) e (wall-late game tiles)

@@ -9,7 +9,7 @@ use Rattle.mj_wall.specs.declared.setting.Rules.{Rules}
 use Rattle.mj_wall.specs.Places.{is_wall}
 use Rattle.mj_history.specs.After.{scripts_in}
 use Rattle.mj_history.specs.Legal.{Game}
-use Rattle.mj_history.specs.Arrivals.{ArrivalForm, Header, WallOf, Sit, Say, Leave, Expire, NoForm, form_of, Intake, Arrival, Leads, Bad, now_of, sit_arrives, say_arrives, gone_arrives, expiry_arrives, wall_arrives, behind_header, arrives, Input, BadAt, hear_on, hear_from}
+use Rattle.mj_history.specs.Arrivals.{ArrivalForm, Header, WallOf, Sit, Say, Leave, Expire, NoForm, form_of, Intake, setting_of, Arrival, Leads, Bad, now_of, sit_arrives, say_arrives, gone_arrives, expiry_arrives, wall_arrives, behind_header, arrives, Input, BadAt, hear_on, hear_from}
 use Rattle.mj_core.specs.Calls.{pending_at}
 use Rattle.mj_front.specs.declared.hearing.End.{End}
 use Rattle.mj_front.specs.Referee.{ending}
@@ -17,7 +17,7 @@ use Rattle.mj_front.specs.Inner.Hearing.{intake_of, intake_with_walls, is_wall_f
 use Rattle.mj_front.proofs.Telling.{script-parts}
 
 -- a wall more, behind a header and walls
-wall-by : (reading : Intake) (tiles : List ℕ) (whole few : Bool) → is_wall false tiles ≡ whole → nat_lt (length reading.walls) 200 ≡ few → reading.begun ≡ false
+wall-by : (reading : Intake) (tiles : List ℕ) (whole few : Bool) → is_wall (setting_of reading).rules.red tiles ≡ whole → nat_lt (length reading.walls) 200 ≡ few → reading.begun ≡ false
     → wall_arrives reading tiles ≡ (if whole && few then Leads (record reading { walls = reading.walls ++ tiles ∷ [] }) else Bad)
 unfolding wall_arrives
 wall-by reading tiles true few p q r = rw (p, q, r)
@@ -30,39 +30,39 @@ arrives-wall rules walls line tiles e = ap (behind_header (intake_with_walls rul
 below-many : (n : ℕ) → nat_lt n 200 ≡ true → n < 200
 below-many n q = grind (arith, nat_tests, q)
 
-pub wall-more : (rules : Rules) (walls : List (List ℕ)) (line tiles wall : List ℕ) → WallOf tiles ≡ form_of line → Some wall ≡ (if is_wall false tiles && nat_lt (length walls) 200 then Some tiles else None)
-    → (arrives (intake_with_walls rules walls) line ≡ Leads (intake_with_walls rules (walls ++ wall ∷ []))) × (is_wall false wall ≡ true) × (length walls < 200)
-wall-more rules walls line tiles wall e h = by_tests (is_wall false tiles) (nat_lt (length walls) 200) refl refl h
+pub wall-more : (rules : Rules) (walls : List (List ℕ)) (line tiles wall : List ℕ) → WallOf tiles ≡ form_of line → Some wall ≡ (if is_wall rules.red tiles && nat_lt (length walls) 200 then Some tiles else None)
+    → (arrives (intake_with_walls rules walls) line ≡ Leads (intake_with_walls rules (walls ++ wall ∷ []))) × (is_wall rules.red wall ≡ true) × (length walls < 200)
+wall-more rules walls line tiles wall e h = by_tests (is_wall rules.red tiles) (nat_lt (length walls) 200) refl refl h
   where
-    by_tests : (whole few : Bool) → is_wall false tiles ≡ whole → nat_lt (length walls) 200 ≡ few → Some wall ≡ (if whole && few then Some tiles else None)
-        → (arrives (intake_with_walls rules walls) line ≡ Leads (intake_with_walls rules (walls ++ wall ∷ []))) × (is_wall false wall ≡ true) × (length walls < 200)
+    by_tests : (whole few : Bool) → is_wall rules.red tiles ≡ whole → nat_lt (length walls) 200 ≡ few → Some wall ≡ (if whole && few then Some tiles else None)
+        → (arrives (intake_with_walls rules walls) line ≡ Leads (intake_with_walls rules (walls ++ wall ∷ []))) × (is_wall rules.red wall ≡ true) × (length walls < 200)
     by_tests true true p q k = let same : wall ≡ tiles = cc k in (
       arrives-wall rules walls line tiles e ∙ wall-by (intake_with_walls rules walls) tiles true true p q refl ∙ ap (λ (given : List ℕ). Leads (intake_with_walls rules (walls ++ given ∷ []))) (sym same),
-      ap (is_wall false) same ∙ p,
+      ap (is_wall rules.red) same ∙ p,
       below-many (length walls) q,
     )
     by_tests true false p q k = cc k
     by_tests false few p q k = cc k
 
-pub wall-none : (rules : Rules) (walls : List (List ℕ)) (line tiles : List ℕ) → WallOf tiles ≡ form_of line → None ≡ (if is_wall false tiles && nat_lt (length walls) 200 then Some tiles else None)
+pub wall-none : (rules : Rules) (walls : List (List ℕ)) (line tiles : List ℕ) → WallOf tiles ≡ form_of line → None ≡ (if is_wall rules.red tiles && nat_lt (length walls) 200 then Some tiles else None)
     → arrives (intake_with_walls rules walls) line ≡ Bad
-wall-none rules walls line tiles e h = by_tests (is_wall false tiles) (nat_lt (length walls) 200) refl refl h
+wall-none rules walls line tiles e h = by_tests (is_wall rules.red tiles) (nat_lt (length walls) 200) refl refl h
   where
-    by_tests : (whole few : Bool) → is_wall false tiles ≡ whole → nat_lt (length walls) 200 ≡ few → None ≡ (if whole && few then Some tiles else None) → arrives (intake_with_walls rules walls) line ≡ Bad
+    by_tests : (whole few : Bool) → is_wall rules.red tiles ≡ whole → nat_lt (length walls) 200 ≡ few → None ≡ (if whole && few then Some tiles else None) → arrives (intake_with_walls rules walls) line ≡ Bad
     by_tests true true p q k = cc k
     by_tests true false p q k = arrives-wall rules walls line tiles e ∙ wall-by (intake_with_walls rules walls) tiles true false p q refl
     by_tests false few p q k = arrives-wall rules walls line tiles e ∙ wall-by (intake_with_walls rules walls) tiles false few p q refl
 
-pub all-walls : (walls : List (List ℕ)) (wall : List ℕ) → list_all (is_wall false) walls ≡ true → is_wall false wall ≡ true → list_all (is_wall false) (walls ++ wall ∷ []) ≡ true
-all-walls [] wall h w = rw w
-all-walls (first ∷ walls) wall h w = by_first (is_wall false first) h (λ k. all-walls walls wall k w)
+pub all-walls : (red : Bool) (walls : List (List ℕ)) (wall : List ℕ) → list_all (is_wall red) walls ≡ true → is_wall red wall ≡ true → list_all (is_wall red) (walls ++ wall ∷ []) ≡ true
+all-walls red [] wall h w = rw w
+all-walls red (first ∷ walls) wall h w = by_first (is_wall red first) h (λ k. all-walls red walls wall k w)
   where
-    by_first : (b : Bool) → (b && list_all (is_wall false) walls) ≡ true → (list_all (is_wall false) walls ≡ true → list_all (is_wall false) (walls ++ wall ∷ []) ≡ true) → (b && list_all (is_wall false) (walls ++ wall ∷ [])) ≡ true
+    by_first : (b : Bool) → (b && list_all (is_wall red) walls) ≡ true → (list_all (is_wall red) walls ≡ true → list_all (is_wall red) (walls ++ wall ∷ []) ≡ true) → (b && list_all (is_wall red) (walls ++ wall ∷ [])) ≡ true
     by_first true k more = more k
     by_first false k more = cc k
 
 -- what was read of a line that is a wall by its form
-pub record IsWallLine (walls : List (List ℕ)) (lines texts : List (List ℕ)) (given : Option (List ℕ)) : Type 0 where
+pub record IsWallLine (red : Bool) (walls : List (List ℕ)) (lines texts : List (List ℕ)) (given : Option (List ℕ)) : Type 0 where
   pub line : List ℕ
   pub tiles : List ℕ
   pub before : ℕ
@@ -71,29 +71,29 @@ pub record IsWallLine (walls : List (List ℕ)) (lines texts : List (List ℕ)) 
   pub form : WallOf tiles ≡ form_of line
   pub many : before ≡ length walls
   pub same : seen ≡ tiles
-  pub read : given ≡ (if is_wall false seen && nat_lt before 200 then Some seen else None)
+  pub read : given ≡ (if is_wall red seen && nat_lt before 200 then Some seen else None)
 
-read-wall : (walls lines texts : List (List ℕ)) (given : Option (List ℕ)) → (w : IsWallLine walls lines texts given) → given ≡ (if is_wall false w.tiles && nat_lt (length walls) 200 then Some w.tiles else None)
-read-wall walls lines texts given w = rw (← w.many, ← w.same) w.read
+read-wall : (red : Bool) (walls lines texts : List (List ℕ)) (given : Option (List ℕ)) → (w : IsWallLine red walls lines texts given) → given ≡ (if is_wall red w.tiles && nat_lt (length walls) 200 then Some w.tiles else None)
+read-wall red walls lines texts given w = rw (← w.many, ← w.same) w.read
 
 -- one wall more
-pub heard-wall : (rules : Rules) (walls after lines texts : List (List ℕ)) (wall rest unread : List ℕ) (number : ℕ) → IsWallLine walls lines texts (Some wall) → unread ≡ rest → after ≡ walls ++ wall ∷ []
+pub heard-wall : (rules : Rules) (walls after lines texts : List (List ℕ)) (wall rest unread : List ℕ) (number : ℕ) → IsWallLine rules.red walls lines texts (Some wall) → unread ≡ rest → after ≡ walls ++ wall ∷ []
     → hear_from (intake_with_walls rules walls) number lines unread ≡ hear_from (intake_with_walls rules after) (number + 1) texts rest
 heard-wall rules walls after lines texts wall rest unread number w u a =
     ap (λ (ls : List (List ℕ)). hear_from (intake_with_walls rules walls) number ls unread) w.lines_are
-    ∙ ap (λ (arrival : Arrival). hear_on arrival (λ next. hear_from next (number + 1) texts unread) (intake_with_walls rules walls) number) (wall-more rules walls w.line w.tiles wall w.form (read-wall walls lines texts (Some wall) w)).0
+    ∙ ap (λ (arrival : Arrival). hear_on arrival (λ next. hear_from next (number + 1) texts unread) (intake_with_walls rules walls) number) (wall-more rules walls w.line w.tiles wall w.form (read-wall rules.red walls lines texts (Some wall) w)).0
     ∙ ap (λ (rs : List ℕ). hear_from (intake_with_walls rules (walls ++ wall ∷ [])) (number + 1) texts rs) u
     ∙ ap (λ (ws : List (List ℕ)). hear_from (intake_with_walls rules ws) (number + 1) texts rest) (sym a)
 
-pub few-more : (rules : Rules) (walls after lines texts : List (List ℕ)) (wall : List ℕ) → IsWallLine walls lines texts (Some wall) → after ≡ walls ++ wall ∷ [] → length after ≤ 200
+pub few-more : (rules : Rules) (walls after lines texts : List (List ℕ)) (wall : List ℕ) → IsWallLine rules.red walls lines texts (Some wall) → after ≡ walls ++ wall ∷ [] → length after ≤ 200
 few-more rules walls after lines texts wall w a =
-    let below : length walls < 200 = (wall-more rules walls w.line w.tiles wall w.form (read-wall walls lines texts (Some wall) w)).2 in
+    let below : length walls < 200 = (wall-more rules walls w.line w.tiles wall w.form (read-wall rules.red walls lines texts (Some wall) w)).2 in
     let long : length after ≡ length walls + 1 = ap length a ∙ length-append walls (wall ∷ []) in
     omega arith
 
-pub whole-more : (rules : Rules) (walls after lines texts : List (List ℕ)) (wall : List ℕ) → IsWallLine walls lines texts (Some wall) → after ≡ walls ++ wall ∷ [] → list_all (is_wall false) walls ≡ true → list_all (is_wall false) after ≡ true
+pub whole-more : (rules : Rules) (walls after lines texts : List (List ℕ)) (wall : List ℕ) → IsWallLine rules.red walls lines texts (Some wall) → after ≡ walls ++ wall ∷ [] → list_all (is_wall rules.red) walls ≡ true → list_all (is_wall rules.red) after ≡ true
 whole-more rules walls after lines texts wall w a h =
-    ap (list_all (is_wall false)) a ∙ all-walls walls wall h (wall-more rules walls w.line w.tiles wall w.form (read-wall walls lines texts (Some wall) w)).1
+    ap (list_all (is_wall rules.red)) a ∙ all-walls rules.red walls wall h (wall-more rules walls w.line w.tiles wall w.form (read-wall rules.red walls lines texts (Some wall) w)).1
 
 -- the lines stay counted
 pub counted : (number rest others all : ℕ) → number + rest ≤ all → others < rest → number + 1 + others ≤ all
@@ -101,11 +101,11 @@ counted number rest others all h k = omega arith
 
 -- tiles that are no wall, or one wall too many
 pub tells-bad_wall : (seat number : ℕ) (end : End) (rules : Rules) (walls lines texts : List (List ℕ)) (unread bytes : List ℕ) (input : Input) → input ≡ hear_from (intake_with_walls rules walls) number lines unread
-    → IsWallLine walls lines texts None → BadAt number ≡ ending end → bytes ≡ [] → Tells input seat end bytes
+    → IsWallLine rules.red walls lines texts None → BadAt number ≡ ending end → bytes ≡ [] → Tells input seat end bytes
 tells-bad_wall seat number end rules walls lines texts unread bytes input h w e b =
     let same : input ≡ record { reading = intake_with_walls rules walls; ending = BadAt number } =
     h ∙ ap (λ (ls : List (List ℕ)). hear_from (intake_with_walls rules walls) number ls unread) w.lines_are
-    ∙ ap (λ (arrival : Arrival). hear_on arrival (λ next. hear_from next (number + 1) texts unread) (intake_with_walls rules walls) number) (wall-none rules walls w.line w.tiles w.form (read-wall walls lines texts None w)) in
+    ∙ ap (λ (arrival : Arrival). hear_on arrival (λ next. hear_from next (number + 1) texts unread) (intake_with_walls rules walls) number) (wall-none rules walls w.line w.tiles w.form (read-wall rules.red walls lines texts None w)) in
     record {
       ends = ap (λ (input : Input). input.ending) same ∙ e;
       told = b ∙ sym (ap (λ (input : Input). scripts_in seat (now_of input.reading)) same);

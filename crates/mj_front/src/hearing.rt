@@ -59,7 +59,7 @@ pub(crate) fn hear(alloc: Global, seat: u8, input: &[u8]) -> Result<Told, AllocE
     }
 }
 
-// Hears what stands behind a header. Red fives are no part of a game yet.
+// Hears what stands behind a header.
 #[tactic(auto, unfolding(mj_history::specs::Arrivals::header_arrives))]
 fn hear_header(alloc: Global, seat: u8, rules: Rules, input: &[u8]) -> Result<Told, AllocError>
     requires fits { length input.now ≤ longest }
@@ -70,9 +70,6 @@ fn hear_header(alloc: Global, seat: u8, rules: Rules, input: &[u8]) -> Result<To
         (λ next. hear_from next 2 (whole_lines input.now) (unfinished input.now)) nothing_read 1)
         seat told.end told.bytes.items) }
 {
-    if rules.red {
-        return Ok(nothing_told(alloc, End::Bad(1)));
-    }
     hear_headed(alloc, seat, rules, input)
 }
 
@@ -81,7 +78,6 @@ fn hear_headed(alloc: Global, seat: u8, rules: Rules, input: &[u8]) -> Result<To
     requires fits { length input.now ≤ longest }
     requires least { 1 ≤ rules.limit }
     requires longest { rules.limit ≤ 3600000 }
-    requires plain { rules.red ≡ false }
     ensures { IfOk result (λ told. Tells
         (hear_from (intake_with_walls rules []) 2 (whole_lines input.now) (unfinished input.now))
         seat told.end told.bytes.items) }
@@ -93,7 +89,7 @@ fn hear_headed(alloc: Global, seat: u8, rules: Rules, input: &[u8]) -> Result<To
         let ArrivalForm::Wall(tiles) = read_form(alloc, line)? else {
             return hear_walled(alloc, seat, rules, walls, rest, number);
         };
-        let Some(wall) = next_wall(walls.len(), tiles.as_slice()) else {
+        let Some(wall) = next_wall(rules.red, walls.len(), tiles.as_slice()) else {
             return Ok(nothing_told(alloc, End::Bad(number)));
         };
         walls.push(wall)?;
@@ -103,15 +99,15 @@ fn hear_headed(alloc: Global, seat: u8, rules: Rules, input: &[u8]) -> Result<To
     Ok(nothing_told(alloc, end_at(rest, number)))
 }
 
-// The wall of these tiles, behind so many others: 200 at most.
-fn next_wall(before: usize, tiles: &[Tile]) -> Option<Wall>
-    ensures { result ≡ (if is_wall false tiles.now && nat_lt before 200 then Some tiles.now else
+// The wall of these tiles, with red fives or without, behind so many others: 200 at most.
+fn next_wall(red: bool, before: usize, tiles: &[Tile]) -> Option<Wall>
+    ensures { result ≡ (if is_wall red tiles.now && nat_lt before 200 then Some tiles.now else
         None) }
 {
     if before >= 200 {
         return None;
     }
-    match Wall::read(tiles, false) {
+    match Wall::read(tiles, red) {
         Ok(wall) => Some(wall),
         Err(_) => None,
     }
@@ -130,9 +126,8 @@ fn hear_walled(
     requires fits { number + length input.now ≤ u32.MAX }
     requires least { 1 ≤ rules.limit }
     requires longest { rules.limit ≤ 3600000 }
-    requires plain { rules.red ≡ false }
     requires few { length walls.items ≤ 200 }
-    requires whole { list_all (is_wall false) walls.items ≡ true }
+    requires whole { list_all (is_wall rules.red) walls.items ≡ true }
     requires line { (length (whole_lines input.now) == 0) ≡ false }
     requires other { begin_with_wall (whole_lines input.now) ≡ false }
     ensures { IfOk result (λ told. Tells

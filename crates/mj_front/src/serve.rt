@@ -71,9 +71,9 @@ fn new_game(alloc: Global, serving: &Serving) -> Result<Core, AllocError>
     let rules = Rules {
         limit: serving.limit,
         draws: serving.draws,
-        red: false,
+        red: serving.red,
     };
-    let walls = Walls::shuffled(alloc, serving.seed, WALLS, false)?;
+    let walls = Walls::shuffled(alloc, serving.seed, WALLS, serving.red)?;
     Core::with_walls(alloc, walls, rules)
 }
 

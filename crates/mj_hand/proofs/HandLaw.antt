@@ -1,5 +1,5 @@
 -- The hand that words name is a hand to be measured.
-use Rattle.std.proofs.Common.{◌≡◌, ℕ, ◌+◌, ◌-◌, ◌*◌, ◌<◌, List, [], ◌∷◌, ◌++◌, length, get_or, sum, Bool, true, false, cond, eqb, leb, ltb, ◌&&◌, refl, ap, ap₂, sym, ◌∙◌, arith, subst, inl, inr}
+use Rattle.std.proofs.Common.{◌≡◌, ℕ, ◌+◌, ◌-◌, ◌*◌, ◌<◌, List, [], ◌∷◌, ◌++◌, length, map, get_or, sum, Bool, true, false, cond, eqb, leb, ltb, ◌&&◌, refl, ap, ap₂, sym, ◌∙◌, arith, subst, inl, inr}
 use Rattle.std.specs.Prelude.{Option, Some, None, option_map, option_and_then, flat_map, count_by, bytes_eq, IfSome}
 use Rattle.std.specs.List.{list_all, list_any}
 use Rattle.std.proofs.lemmas.Bool.{or_cases, and_parts, eqb-true, ltb-true, false≢true}
@@ -9,6 +9,8 @@ use Rattle.std.proofs.lemmas.List.FromFn.{get_or-map-range_with_len}
 use Rattle.std.proofs.lemmas.Slice.Eq.{bytes_eq-Decides}
 use Rattle.mj_tiles.specs.Faces.{kind_of, face_of}
 use Rattle.mj_tiles.specs.Counts.{all_kinds, number_of, kind_counts, has_no_fifth}
+use Rattle.mj_tiles.proofs.Texts.{text_of-face_of}
+use Rattle.std.proofs.lemmas.List.{length-map}
 use Rattle.mj_tiles.proofs.CountSteps.{get_or-kind_counts}
 use Rattle.mj_readings.specs.declared.reading.Set.{Set}
 use Rattle.mj_readings.specs.declared.reading.SetForm.{SetForm}
@@ -19,35 +21,37 @@ use Rattle.mj_shanten.specs.Room as room
 use Rattle.mj_shanten.proofs.Parting.{run_low}
 use Rattle.mj_shanten.proofs.Sums.{all_low, sum_tally}
 use Rattle.mj_hand.specs.declared.hand.Hand.{Hand}
-use Rattle.mj_hand.specs.Words.{Word, Tile, Meld, parts, plain, tile_of, tiles_of, are_tiles_of, make_meld_from, make_meld, word_with, word_of, words_of}
-use Rattle.mj_hand.specs.Hands.{is_meld, held_tiles, melded_tiles, meld_count, room_beside, hand_with, hand_of}
+use Rattle.mj_hand.specs.Words.{Word, Tile, Meld, parts, tiles_of, are_tiles_of, make_meld_from, make_meld, word_with, word_of, words_of}
+use Rattle.mj_hand.specs.Hands.{is_meld, held_tiles, melded_tiles, meld_count, room_beside, has_each_red_once, hand_with, hand_of}
 use Rattle.std.proofs.lemmas.Bool.{and_from}
 use Rattle.mj_hand.proofs.KindLists.{same_map}
 use Rattle.mj_hand.proofs.HandSteps.{four_at}
 
--- ---- the tiles of a word are plain
+-- ---- the tiles of a word are of the 34 kinds
 
-plain-low : (face t : ℕ) (b : Bool) → leb 34 face ≡ b → cond b None (Some face) ≡ Some t → ltb t 34 ≡ true
-plain-low face t true e h = cc
-plain-low face t false e h = (let same : face ≡ t = cc in grind (arith, nat_tests))
+abbrev all_kinded : List ℕ → Bool
+all_kinded tiles = all_low (map kind_of tiles)
 
-tile-low : (o : Option ℕ) (t : ℕ) → option_and_then plain o ≡ Some t → ltb t 34 ≡ true
-tile-low None t h = cc
-tile-low (Some face) t h = plain-low face t (leb 34 face) refl h
+red-low : (t : ℕ) (b : Bool) → ltb t 34 ≡ b → t < 37 → ltb (cond b t (4 + 9 * (t - 34))) 34 ≡ true
+red-low t true e h = e
+red-low t false e h = ltb-true (4 + 9 * (t - 34)) 34 (omega arith)
 
-tiles-join : (o : Option ℕ) (p : Option (List ℕ)) (ts : List ℕ) → ((t : ℕ) → o ≡ Some t → ltb t 34 ≡ true) → ((us : List ℕ) → p ≡ Some us → all_low us ≡ true)
-    → option_and_then (λ tile. option_map (λ tiles. tile ∷ tiles) p) o ≡ Some ts → all_low ts ≡ true
+tile-kinded : (text : List ℕ) (t : ℕ) → face_of text ≡ Some t → ltb (kind_of t) 34 ≡ true
+tile-kinded text t h = red-low t (ltb t 34) refl (text_of-face_of text t h).0
+
+tiles-join : (o : Option ℕ) (p : Option (List ℕ)) (ts : List ℕ) → ((t : ℕ) → o ≡ Some t → ltb (kind_of t) 34 ≡ true) → ((us : List ℕ) → p ≡ Some us → all_kinded us ≡ true)
+    → option_and_then (λ tile. option_map (λ tiles. tile ∷ tiles) p) o ≡ Some ts → all_kinded ts ≡ true
 tiles-join None p ts f g h = cc
 tiles-join (Some t) None ts f g h = cc
-tiles-join (Some t) (Some us) ts f g h = (let e : ts ≡ t ∷ us = cc in ap all_low e ∙ and_from (ltb t 34) (all_low us) (f t refl) (g us refl))
+tiles-join (Some t) (Some us) ts f g h = (let e : ts ≡ t ∷ us = cc in ap all_kinded e ∙ and_from (ltb (kind_of t) 34) (all_kinded us) (f t refl) (g us refl))
 
-tiles-low : (texts : List (List ℕ)) (ts : List ℕ) → tiles_of texts ≡ Some ts → all_low ts ≡ true
-tiles-low [] ts h = (let e : ts ≡ [] = cc in ap all_low e)
-tiles-low (text ∷ texts) ts h = tiles-join (tile_of text) (tiles_of texts) ts (tile-low (face_of text)) (tiles-low texts) h
+tiles-kinded : (texts : List (List ℕ)) (ts : List ℕ) → tiles_of texts ≡ Some ts → all_kinded ts ≡ true
+tiles-kinded [] ts h = (let e : ts ≡ [] = cc in ap all_kinded e)
+tiles-kinded (text ∷ texts) ts h = tiles-join (face_of text) (tiles_of texts) ts (tile-kinded text) (tiles-kinded texts) h
 
--- a plain tile, or tiles that make a meld
+-- a tile of the 34 kinds, or tiles that make a meld
 abbrev Fine : Word → Type 0
-Fine (Tile t) = ltb t 34 ≡ true
+Fine (Tile t) = ltb (kind_of t) 34 ≡ true
 Fine (Meld ts) = make_meld ts ≡ true
 
 meld-fine : (ts : List ℕ) (w : Word) (b : Bool) → make_meld ts ≡ b → cond b (Some (Meld ts)) None ≡ Some w → Fine w
@@ -57,12 +61,12 @@ meld-fine ts w false e h = absurd (never h)
     never : ◌≡◌ {A = Option Word} None (Some w) → ⊥
     never h = cc
 
-with-fine : (ts : List ℕ) (w : Word) → all_low ts ≡ true → word_with ts ≡ Some w → Fine w
+with-fine : (ts : List ℕ) (w : Word) → all_kinded ts ≡ true → word_with ts ≡ Some w → Fine w
 with-fine [] w low h = meld-fine [] w (make_meld []) refl h
-with-fine (t ∷ []) w low h = (let same : w ≡ Tile t = cc in subst Fine (sym same) (and_parts (ltb t 34) true low).0)
+with-fine (t ∷ []) w low h = (let same : w ≡ Tile t = cc in subst Fine (sym same) (and_parts (ltb (kind_of t) 34) true low).0)
 with-fine (t ∷ (u ∷ us)) w low h = meld-fine (t ∷ (u ∷ us)) w (make_meld (t ∷ (u ∷ us))) refl h
 
-word-fine : (o : Option (List ℕ)) (w : Word) → ((ts : List ℕ) → o ≡ Some ts → all_low ts ≡ true) → option_and_then word_with o ≡ Some w → Fine w
+word-fine : (o : Option (List ℕ)) (w : Word) → ((ts : List ℕ) → o ≡ Some ts → all_kinded ts ≡ true) → option_and_then word_with o ≡ Some w → Fine w
 word-fine None w f h = absurd (never h)
   where
     never : ◌≡◌ {A = Option Word} None (Some w) → ⊥
@@ -88,12 +92,25 @@ words-join (Some w) (Some us) ws f g h = (let e : w ∷ us ≡ ws = cc in subst 
 words-fine : (texts : List (List ℕ)) (ws : List Word) → words_of texts ≡ Some ws → AllFine ws
 words-fine [] ws h = (let e : [] ≡ ws = cc in subst AllFine e tt)
 words-fine (text ∷ texts) ws h =
-    words-join (word_of text) (words_of texts) ws (λ w. word-fine (tiles_of (parts text)) w (tiles-low (parts text))) (words-fine texts) h
+    words-join (word_of text) (words_of texts) ws (λ w. word-fine (tiles_of (parts text)) w (tiles-kinded (parts text))) (words-fine texts) h
 
-held-low : (ws : List Word) → AllFine ws → all_low (held_tiles ws) ≡ true
-held-low [] fine = refl
-held-low (Tile t ∷ ws) fine = and_from (ltb t 34) (all_low (held_tiles ws)) fine.0 (held-low ws fine.1)
-held-low (Meld ts ∷ ws) fine = held-low ws fine.1
+held-kinded : (ws : List Word) → AllFine ws → all_kinded (held_tiles ws) ≡ true
+held-kinded [] fine = refl
+held-kinded (Tile t ∷ ws) fine = and_from (ltb (kind_of t) 34) (all_kinded (held_tiles ws)) fine.0 (held-kinded ws fine.1)
+held-kinded (Meld ts ∷ ws) fine = held-kinded ws fine.1
+
+-- ---- tiles are counted by their kinds
+
+number-kinds : (tiles : List ℕ) (kind : ℕ) → number_of tiles kind ≡ count_by (λ tile. eqb tile kind) (map kind_of tiles)
+number-kinds [] kind = refl
+number-kinds (t ∷ ts) kind =
+    sum_by-cons (λ tile. cond (eqb (kind_of tile) kind) 1 0) t ts
+    ∙ ap (λ n. cond (eqb (kind_of t) kind) 1 0 + n) (number-kinds ts kind)
+    ∙ sym (sum_by-cons (λ tile. cond (eqb tile kind) 1 0) (kind_of t) (map kind_of ts))
+
+counts-kinds : (tiles : List ℕ) → kind_counts tiles ≡ tally (map kind_of tiles)
+unfolding kind_counts tally
+counts-kinds tiles = same_map (number_of tiles) (λ kind. count_by (λ tile. eqb tile kind) (map kind_of tiles)) (λ kind inside. number-kinds tiles kind)
 
 -- ---- plain tiles are their kinds
 
@@ -108,10 +125,6 @@ number-low (t ∷ ts) kind low =
     sum_by-cons (λ tile. cond (eqb (kind_of tile) kind) 1 0) t ts
     ∙ ap₂ (λ a b. a + b) (kind-low t kind (ltb t 34) f.0) (number-low ts kind f.1)
     ∙ sym (sum_by-cons (λ tile. cond (eqb tile kind) 1 0) t ts)
-
-counts-low : (tiles : List ℕ) → all_low tiles ≡ true → kind_counts tiles ≡ tally tiles
-unfolding kind_counts tally
-counts-low tiles low = same_map (number_of tiles) (λ kind. count_by (λ tile. eqb tile kind) tiles) (λ kind inside. number-low tiles kind low)
 
 form-low : (form : SetForm) (low : ℕ) → is_meld_form form low ≡ true → all_low (tiles_of_form form low) ≡ true
 form-low Run low formed = (let r = run_low low formed in grind (arith, nat_tests))
@@ -183,7 +196,7 @@ room-at others kind low = get_or-map-range_with_len (λ k. 4 - number_of others 
 
 hand_fine : (ws : List Word) → AllFine ws → length (held_tiles ws) + 3 * meld_count ws ≡ 13 → has_no_fifth (held_tiles ws ++ melded_tiles ws) ≡ true → IsHand (kind_counts (held_tiles ws)) (room_beside (melded_tiles ws)) (meld_count ws)
 hand_fine ws fine thirteen four = (let s = sets_of ws fine in record {
-  thirteen = (let a : sum (kind_counts (held_tiles ws)) ≡ length (held_tiles ws) = ap sum (counts-low (held_tiles ws) (held-low ws fine)) ∙ sum_tally (held_tiles ws) (held-low ws fine) in omega arith);
+  thirteen = (let a : sum (kind_counts (held_tiles ws)) ≡ length (held_tiles ws) = ap sum (counts-kinds (held_tiles ws)) ∙ sum_tally (map kind_of (held_tiles ws)) (held-kinded ws fine) ∙ length-map (held_tiles ws) kind_of in omega arith);
   within = λ kind low.
       (let a = get_or-kind_counts (held_tiles ws) kind low in let b = room-at (melded_tiles ws) kind low in let c = four_at (held_tiles ws) (melded_tiles ws) kind low four in omega arith);
   room_is = record {
@@ -195,17 +208,21 @@ hand_fine ws fine thirteen four = (let s = sets_of ws fine in record {
   };
 })
 
-hand-by : (ws : List Word) (hand : Hand) (a b : Bool) → AllFine ws → eqb (length (held_tiles ws) + 3 * meld_count ws) 13 ≡ a → has_no_fifth (held_tiles ws ++ melded_tiles ws) ≡ b
-    → cond (a && b) (Some (record { counts = kind_counts (held_tiles ws); room = room_beside (melded_tiles ws); melds = meld_count ws })) None ≡ Some hand → IsHand hand.counts hand.room hand.melds
-hand-by ws hand true true fine thirteen four h =
+hand-by : (ws : List Word) (hand : Hand) (a b once : Bool) → AllFine ws → eqb (length (held_tiles ws) + 3 * meld_count ws) 13 ≡ a → has_no_fifth (held_tiles ws ++ melded_tiles ws) ≡ b
+    → cond ((a && b) && once) (Some (record { counts = kind_counts (held_tiles ws); room = room_beside (melded_tiles ws); melds = meld_count ws })) None ≡ Some hand → IsHand hand.counts hand.room hand.melds
+hand-by ws hand true true true fine thirteen four h =
     let made : Hand = record { counts = kind_counts (held_tiles ws); room = room_beside (melded_tiles ws); melds = meld_count ws } in
     let same : made ≡ hand = cc in
     subst (λ (x : Hand). IsHand x.counts x.room x.melds) same (hand_fine ws fine (eqb-true (length (held_tiles ws) + 3 * meld_count ws) 13 thirteen) four)
-hand-by ws hand true false fine thirteen four h = absurd (never h)
+hand-by ws hand true true false fine thirteen four h = absurd (never h)
   where
     never : ◌≡◌ {A = Option Hand} None (Some hand) → ⊥
     never h = cc
-hand-by ws hand false b fine thirteen four h = absurd (never h)
+hand-by ws hand true false once fine thirteen four h = absurd (never h)
+  where
+    never : ◌≡◌ {A = Option Hand} None (Some hand) → ⊥
+    never h = cc
+hand-by ws hand false b once fine thirteen four h = absurd (never h)
   where
     never : ◌≡◌ {A = Option Hand} None (Some hand) → ⊥
     never h = cc
@@ -215,7 +232,7 @@ hand-of None hand f h = absurd (never h)
   where
     never : ◌≡◌ {A = Option Hand} None (Some hand) → ⊥
     never h = cc
-hand-of (Some ws) hand f h = hand-by ws hand (eqb (length (held_tiles ws) + 3 * meld_count ws) 13) (has_no_fifth (held_tiles ws ++ melded_tiles ws)) (f ws refl) refl refl h
+hand-of (Some ws) hand f h = hand-by ws hand (eqb (length (held_tiles ws) + 3 * meld_count ws) 13) (has_no_fifth (held_tiles ws ++ melded_tiles ws)) (has_each_red_once (held_tiles ws ++ melded_tiles ws)) (f ws refl) refl refl h
 
 -- words that name a hand give one
 pub hand_law : (texts : List (List ℕ)) (hand : Hand) → hand_of texts ≡ Some hand → IsHand hand.counts hand.room hand.melds

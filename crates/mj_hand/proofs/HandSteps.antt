@@ -10,7 +10,8 @@ use Rattle.mj_tiles.proofs.CountSteps.{length-kind_counts, get_or-kind_counts, n
 use Rattle.mj_hand.specs.declared.hand.Hand.{Hand}
 use Rattle.mj_hand.specs.declared.hand.Gathered.{Gathered}
 use Rattle.mj_hand.specs.Words.{Word, Tile, Meld, word_of, words_of}
-use Rattle.mj_hand.specs.Hands.{held_in, melded_in, is_meld, held_tiles, melded_tiles, meld_count, room_beside, hand_among, hand_with, hand_of}
+use Rattle.mj_hand.specs.Hands.{held_in, melded_in, is_meld, held_tiles, melded_tiles, meld_count, room_beside, stands_once, has_each_red_once, hand_among, hand_with, hand_of}
+use Rattle.mj_tiles.specs.Faces.{number_in}
 use Rattle.mj_hand.specs.Inner.Gathering.{Gathers, TakesWord, Takes, one_if, are_within_four, room_left}
 use Rattle.std.proofs.lemmas.Bool.{and_from}
 use Rattle.mj_tiles.proofs.EachKind.{each_kind}
@@ -109,11 +110,23 @@ and_none false y h = refl
 
 fifth_none : (tiles others : List ℕ) (number : ℕ) → has_no_fifth (tiles ++ others) ≡ false → None ≡ hand_among tiles others number
 fifth_none tiles others number h =
-    ap (λ b. cond b (Some (made (kind_counts tiles) (room_beside others) number)) None) (sym (and_none (eqb (length tiles + 3 * number) 13) (has_no_fifth (tiles ++ others)) h))
+    ap (λ b. cond (b && has_each_red_once (tiles ++ others)) (Some (made (kind_counts tiles) (room_beside others) number)) None) (sym (and_none (eqb (length tiles + 3 * number) 13) (has_no_fifth (tiles ++ others)) h))
+
+-- a red five stands in two lists as often as in the one and in the other
+pub once_among : (tiles others : List ℕ) (face m n sum : ℕ) (result : Bool) → m ≡ number_in tiles face → n ≡ number_in others face → sum ≡ m + n → result ≡ leb sum 1 → result ≡ stands_once (tiles ++ others) face
+unfolding stands_once
+once_among tiles others face m n sum result a b c h =
+    h ∙ ap (λ k. leb k 1) (c ∙ ap₂ (λ x y. x + y) a b ∙ sym (sum_by-append (λ tile. cond (eqb tile face) 1 0) tiles others))
+
+-- a red five stands twice among both
+pub red_twice : (tiles others slice more : List ℕ) (number : ℕ) (result : Bool) → slice ≡ tiles → more ≡ others → result ≡ has_each_red_once (slice ++ more) → result ≡ false → None ≡ hand_among tiles others number
+red_twice tiles others slice more number result a b is h =
+    ap (λ b. cond b (Some (made (kind_counts tiles) (room_beside others) number)) None)
+    (sym (and_none (eqb (length tiles + 3 * number) 13 && has_no_fifth (tiles ++ others)) (has_each_red_once (tiles ++ others)) (ap₂ (λ x y. has_each_red_once (x ++ y)) (sym a) (sym b) ∙ sym is ∙ h)))
 
 -- too many or too few tiles
 pub not_thirteen : (tiles others : List ℕ) (number : ℕ) → eqb (length tiles + 3 * number) 13 ≡ false → None ≡ hand_among tiles others number
-not_thirteen tiles others number h = ap (λ b. cond (b && has_no_fifth (tiles ++ others)) (Some (made (kind_counts tiles) (room_beside others) number)) None) (sym h)
+not_thirteen tiles others number h = ap (λ b. cond ((b && has_no_fifth (tiles ++ others)) && has_each_red_once (tiles ++ others)) (Some (made (kind_counts tiles) (room_beside others) number)) None) (sym h)
 
 -- a kind stands five times among the concealed tiles
 pub no_counts : (tiles others slice : List ℕ) (number : ℕ) → slice ≡ tiles → (NoFifth (kind_counts slice) → ⊥) → None ≡ hand_among tiles others number
@@ -141,13 +154,16 @@ beside others = same_map (λ k. 4 - get_or (kind_counts others) k 0) (λ k. 4 - 
 
 -- the hand
 pub whole_hand : (tiles others counts numbers room : List ℕ) (number : ℕ) (result : Bool) → length tiles + 3 * number ≡ 13 → counts ≡ kind_counts tiles → numbers ≡ kind_counts others
-    → room ≡ room_left numbers → result ≡ are_within_four counts numbers → result ≡ true → Some (made counts room number) ≡ hand_among tiles others number
-whole_hand tiles others counts numbers room number result thirteen a b r is h =
+    → room ≡ room_left numbers → result ≡ are_within_four counts numbers → result ≡ true → (slice more : List ℕ) (once : Bool) → slice ≡ tiles → more ≡ others → once ≡ has_each_red_once (slice ++ more) → once ≡ true
+    → Some (made counts room number) ≡ hand_among tiles others number
+whole_hand tiles others counts numbers room number result thirteen a b r is h slice more once c d o t =
+    let reds : has_each_red_once (tiles ++ others) ≡ true = ap₂ (λ x y. has_each_red_once (x ++ y)) (sym c) (sym d) ∙ sym o ∙ t in
     let fits : (eqb (length tiles + 3 * number) 13 && has_no_fifth (tiles ++ others)) ≡ true =
     and_from (eqb (length tiles + 3 * number) 13) (has_no_fifth (tiles ++ others)) (eq-eqb (length tiles + 3 * number) 13 thirteen)
     (sym (within_is tiles others) ∙ ap₂ (λ x y. are_within_four x y) (sym a) (sym b) ∙ sym is ∙ h) in
     ap₂ (λ c r. Some (made c r number)) a (r ∙ ap room_left b ∙ beside others)
-    ∙ ap (λ b. cond b (Some (made (kind_counts tiles) (room_beside others) number)) None) (sym fits)
+    ∙ ap (λ b. cond b (Some (made (kind_counts tiles) (room_beside others) number)) None)
+    (sym (and_from (eqb (length tiles + 3 * number) 13 && has_no_fifth (tiles ++ others)) (has_each_red_once (tiles ++ others)) fits reds))
 
 -- what was made of all tiles is the hand of the texts
 pub value_of : (texts : List (List ℕ)) (tiles others : List ℕ) (number : ℕ) (result : Option Hand) → Gathers texts tiles others number → result ≡ hand_among tiles others number → result ≡ hand_of texts

@@ -1,7 +1,7 @@
 -- What a word of a hand stands for: a tile or a meld.
 use Rattle.std.specs.Prelude.{ℕ, Bool, ◌&&◌, ◌||◌, if◌then◌else◌, List, [], ◌∷◌, bytes_eq, Option, Some, None, option_and_then, option_map}
 use Rattle.std.specs.List.{list_any}
-use Rattle.mj_tiles.specs.Faces.{is_red, face_of}
+use Rattle.mj_tiles.specs.Faces.{face_of}
 use Rattle.mj_tiles.specs.Counts.{all_kinds, kind_counts}
 use Rattle.mj_bytes.specs.Parts.{parts_by}
 use Rattle.mj_readings.specs.declared.reading.SetForm.{SetForm}
@@ -13,18 +13,10 @@ use Rattle.mj_shanten.specs.Room.{is_meld_form}
 abbrev pub parts : List ℕ → List (List ℕ)
 parts word = parts_by 43 word
 
--- The game is played without red fives, so a red five is no tile of it.
-abbrev pub plain : ℕ → Option ℕ
-plain face = if is_red face then None else Some face
-
--- The tile that a text names, where it names one.
-abbrev pub tile_of : List ℕ → Option ℕ
-tile_of text = option_and_then plain (face_of text)
-
 -- The tiles that texts name, where each names one.
 abbrev pub tiles_of : List (List ℕ) → Option (List ℕ)
 tiles_of [] = Some []
-tiles_of (text ∷ texts) = option_and_then (λ tile. option_map (λ tiles. tile ∷ tiles) (tiles_of texts)) (tile_of text)
+tiles_of (text ∷ texts) = option_and_then (λ tile. option_map (λ tiles. tile ∷ tiles) (tiles_of texts)) (face_of text)
 
 -- Tiles are those of a run, a triplet or four of a kind with this lowest kind, in any order.
 abbrev pub are_tiles_of : SetForm → ℕ → List ℕ → Bool

@@ -1,15 +1,15 @@
 //! The hand that words name.
 
-ghost use Rattle.std.specs.Prelude.{◌≡◌, ◌+◌, ◌^◌, ◌<◌, None, IfOk, IfSome, MatchOption, map, option_map, length};
+ghost use Rattle.std.specs.Prelude.{◌≡◌, ◌+◌, ◌++◌, ◌^◌, ◌<◌, None, IfOk, IfSome, MatchOption, map, option_map, length};
 ghost use Rattle.std.specs.String.{string_bytes};
 ghost use Rattle.mj_tiles.specs.Counts.{kind_counts};
 ghost use Rattle.mj_shanten.specs.Room.{IsHand};
 ghost use Rattle.mj_hand.specs.Words.{word_of, word_with, words_of};
-ghost use Rattle.mj_hand.specs.Hands.{hand_among, hand_of};
+ghost use Rattle.mj_hand.specs.Hands.{hand_among, hand_of, has_each_red_once, stands_once};
 ghost use Rattle.mj_hand.specs.Inner.Gathering.{Gathers, Takes, are_within_four, room_left};
 
 use crate::words::{is_meld, read_tiles};
-use mj_tiles::{Counts, Kind, Tile, counts_of};
+use mj_tiles::{Counts, Kind, Tile, counts_of, number_among};
 use std::alloc::{AllocError, Global};
 
 /// A hand of thirteen tiles with three for each meld.
@@ -32,7 +32,7 @@ struct Gathered {
 }
 
 /// The hand that words name; none exactly where a word is neither a tile nor a meld, the concealed tiles and three for
-/// each meld aren't thirteen, or a kind stands more than four times.
+/// each meld aren't thirteen, a kind stands more than four times, or a red five twice.
 pub(crate) fn read_hand(alloc: Global, words: &[String]) -> Result<Option<Hand>, AllocError>
     ensures value { IfOk result (λ hand. hand ≡ hand_of (map string_bytes words.now)) }
     ensures law { IfOk result (λ hand. IfSome hand (λ h. IsHand h.counts h.room h.melds)) }
@@ -90,7 +90,7 @@ fn take(gathered: &mut Gathered, tiles: &[Tile]) -> Result<bool, AllocError>
     Ok(true)
 }
 
-// The hand of all tiles, where they are as many as a hand has and no kind stands more than four times.
+// The hand of all tiles, where they are as many as a hand has, no kind stands more than four times and no red five twice.
 fn hand_with(gathered: &Gathered) -> Option<Hand>
     ensures { result ≡ hand_among gathered.now.held.items gathered.now.melded.items
         gathered.now.melds }
@@ -107,11 +107,31 @@ fn hand_with(gathered: &Gathered) -> Option<Hand>
     if !are_within_four(&counts, &melded) {
         return None;
     }
+    if !has_each_red_once(gathered.held.as_slice(), gathered.melded.as_slice()) {
+        return None;
+    }
     Some(Hand {
         counts,
         room: room_left(&melded),
         melds: gathered.melds as u8,
     })
+}
+
+// Whether each red five stands once at most among both.
+fn has_each_red_once(held: &[Tile], melded: &[Tile]) -> bool
+    ensures { result ≡ has_each_red_once (held.now ++ melded.now) }
+{
+    stands_once(held, melded, Tile::at(34))
+        && stands_once(held, melded, Tile::at(35))
+        && stands_once(held, melded, Tile::at(36))
+}
+
+// Whether a tile stands once at most among both.
+#[tactic(auto, using(crate::proofs::HandSteps::once_among))]
+fn stands_once(held: &[Tile], melded: &[Tile], tile: Tile) -> bool
+    ensures { result ≡ stands_once (held.now ++ melded.now) tile }
+{
+    number_among(held, tile).saturating_add(number_among(melded, tile)) <= 1
 }
 
 // Whether no kind stands more than four times among both.

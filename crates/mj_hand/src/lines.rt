@@ -23,8 +23,9 @@ use std::alloc::{AllocError, Global};
 /// none. Tiles and kinds stand in tile order, each after a space.
 ///
 /// A word is a tile, as `1m` or `E`, or a meld as its three or four tiles joined by `+`, as `1m+2m+3m`, which are a run, a
-/// triplet or four of a kind in any order. There are no red fives. The result is None exactly where a word is neither, the
-/// tiles and three for each meld aren't thirteen, or a kind stands more than four times, the tiles of melds included.
+/// triplet or four of a kind in any order. A red five, as `5mr`, counts as a five of its suit, and the target is of plain tiles.
+/// The result is None exactly where a word is neither, the tiles and three for each meld aren't thirteen, a kind stands more
+/// than four times or a red five twice, the tiles of melds included.
 pub fn hand_lines(alloc: Global, words: &[String]) -> Result<Option<Vec<u8>>, AllocError>
     ensures { IfOk result (λ text. MatchOption text (hand_of (map string_bytes words.now) ≡ None)
         (λ t. IsHandText (map string_bytes words.now) t.items)) }

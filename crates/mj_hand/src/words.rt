@@ -4,7 +4,7 @@ ghost use Rattle.std.specs.Prelude.{◌≡◌, ◌<◌, ◌≤◌, IfOk, length,
 ghost use Rattle.mj_tiles.specs.Counts.{kind_counts};
 ghost use Rattle.mj_readings.specs.Sets.{begins_run, tiles_of_form};
 ghost use Rattle.mj_readings.specs.declared.reading.SetForm.TheVariants.{Run, Triplet, Kan};
-ghost use Rattle.mj_hand.specs.Words.{parts, tile_of, tiles_of, are_tiles_of, make_meld_from, make_meld};
+ghost use Rattle.mj_hand.specs.Words.{parts, tiles_of, are_tiles_of, make_meld_from, make_meld};
 
 use mj_bytes::split_at_first;
 use mj_tiles::{Tile, counts_of};
@@ -18,28 +18,17 @@ pub(crate) fn read_tiles(alloc: Global, word: &[u8]) -> Result<Option<Vec<Tile>>
     let mut tiles = Vec::new(alloc);
     let mut rest = word;
     while let Some((part, others)) = split_at_first(rest, b'+') {
-        let Some(tile) = read_plain(part) else {
+        let Some(tile) = Tile::read(part) else {
             return Ok(None);
         };
         tiles.push(tile)?;
         rest = others;
     }
-    let Some(tile) = read_plain(rest) else {
+    let Some(tile) = Tile::read(rest) else {
         return Ok(None);
     };
     tiles.push(tile)?;
     Ok(Some(tiles))
-}
-
-// The tile that a text names; a red five is none.
-fn read_plain(text: &[u8]) -> Option<Tile>
-    ensures { result ≡ tile_of text.now }
-{
-    let tile = Tile::read(text)?;
-    if tile.face() >= 34 {
-        return None;
-    }
-    Some(tile)
 }
 
 /// Whether the tiles are a run, a triplet or four of a kind, in any order.

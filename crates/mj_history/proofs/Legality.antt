@@ -31,11 +31,10 @@ use Rattle.mj_history.proofs.Entries.{all_permitted-append}
 use Rattle.mj_history.proofs.Seats.{legal_seats}
 use Rattle.mj_forms.proofs.Forms.{answers_that_are_read_are_in_form}
 
--- What holds of a reading at each line: its game is legal, there are no red fives, before an arrival there is no entry, and
--- before a header there is nothing.
+-- What holds of a reading at each line: its game is legal, before an arrival there is no entry, and before a header there is
+-- nothing.
 record IsSound (reading : Intake) : Type 0 where
   legal : IsLegal (setting_of reading) reading.entries
-  plain : (setting_of reading).rules.red ≡ false
   fresh : reading.begun ≡ false → (length reading.entries == 0) ≡ true
   bare : is_some reading.rules ≡ false → reading ≡ nothing_read
 
@@ -66,13 +65,11 @@ legal_at_start setting (entry ∷ entries) e few whole = absurd (no_length entry
 
 header-sound : (rules : Rules) → LeadsSoundly (header_arrives nothing_read rules)
 unfolding header_arrives
-header-sound rules =
-    by_test rules.red Bad _ (λ _. tt) (λ red. record {
-      legal = legal_at_start _ [] refl (omega arith) refl;
-      plain = red;
-      fresh = λ h. refl;
-      bare = λ h. cc;
-    })
+header-sound rules = record {
+  legal = legal_at_start _ [] refl (omega arith) refl;
+  fresh = λ h. refl;
+  bare = λ h. cc;
+}
 
 -- One wall more.
 few_more : (walls : List (List ℕ)) (wall : List ℕ) → nat_lt (length walls) 200 ≡ true → length (walls ++ wall ∷ []) ≤ 200
@@ -87,13 +84,13 @@ whole_more red walls wall h k = list_all-append (is_wall red) walls (wall ∷ []
 wall-sound : (reading : Intake) (tiles : List ℕ) → IsSound reading → is_some reading.rules ≡ true → LeadsSoundly (wall_arrives reading tiles)
 unfolding wall_arrives
 wall-sound reading tiles sound headed =
-    by_test (is_wall false tiles && not reading.begun && nat_lt (length reading.walls) 200) _ Bad
-    (λ h. let parts = both (is_wall false tiles && not reading.begun) (nat_lt (length reading.walls) 200) h in
-    let first = both (is_wall false tiles) (not reading.begun) parts.0 in
+    let red = (setting_of reading).rules.red in
+    by_test (is_wall red tiles && not reading.begun && nat_lt (length reading.walls) 200) _ Bad
+    (λ h. let parts = both (is_wall red tiles && not reading.begun) (nat_lt (length reading.walls) 200) h in
+    let first = both (is_wall red tiles) (not reading.begun) parts.0 in
     record {
       legal = legal_at_start _ reading.entries (sound.fresh (not-true reading.begun first.1)) (few_more reading.walls tiles parts.1)
-          (whole_more (setting_of reading).rules.red reading.walls tiles sound.legal.whole (ap (λ red. is_wall red tiles) sound.plain ∙ first.0));
-      plain = sound.plain;
+          (whole_more red reading.walls tiles sound.legal.whole first.0);
       fresh = sound.fresh;
       bare = λ k. cc;
     })
@@ -123,7 +120,6 @@ entries-sound reading more sound headed wall may = record {
     ground = ground-more reading.walls reading.entries more wall;
     permitted = permitted-more (setting_of reading) reading.entries more sound.legal.permitted may;
   };
-  plain = sound.plain;
   fresh = λ k. cc;
   bare = λ k. cc;
 }
@@ -388,7 +384,6 @@ hear_from-sound reading number (text ∷ texts) rest sound =
 nothing-sound : IsSound nothing_read
 nothing-sound = record {
   legal = legal_at_start (setting_of nothing_read) [] refl (omega arith) refl;
-  plain = refl;
   fresh = λ _. refl;
   bare = λ _. refl;
 }

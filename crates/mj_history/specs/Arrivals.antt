@@ -86,14 +86,14 @@ pub data Arrival : Type 0 where
   Leads : Intake → Arrival
   Bad : Arrival
 
--- A header stands first. Red fives are no part of a game yet.
+-- A header stands first.
 unfoldable pub header_arrives : Intake → Rules → Arrival
-header_arrives reading rules = if rules.red then Bad else Leads (record reading { rules = Some rules })
+header_arrives reading rules = Leads (record reading { rules = Some rules })
 
--- Walls stand behind the header and before all else, 200 at most.
+-- Walls stand behind the header and before all else, 200 at most, with red fives exactly where the header has them.
 unfoldable pub wall_arrives : Intake → List ℕ → Arrival
 wall_arrives reading tiles =
-    if is_wall false tiles && not reading.begun && nat_lt (length reading.walls) 200
+    if is_wall (setting_of reading).rules.red tiles && not reading.begun && nat_lt (length reading.walls) 200
     then Leads (record reading { walls = reading.walls ++ tiles ∷ [] })
     else Bad
 

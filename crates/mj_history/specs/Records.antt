@@ -18,9 +18,9 @@ use Rattle.mj_history.specs.Told.{Summary, summary_of}
 use Rattle.mj_forms.specs.Headers.{header_line, wall_line}
 use Rattle.mj_forms.specs.RecordTexts.{record_text}
 
--- Rules of a record have a limit of 1 to 3600000 milliseconds. Red fives are no part of a game yet.
+-- Rules of a record have a limit of 1 to 3600000 milliseconds.
 abbrev pub are_rules : Rules → Bool
-are_rules rules = nat_le 1 rules.limit && nat_le rules.limit 3600000 && not rules.red
+are_rules rules = nat_le 1 rules.limit && nat_le rules.limit 3600000
 
 -- A record has 1 to 200 walls.
 abbrev pub are_walls : Rules → List (List ℕ) → Bool

@@ -252,9 +252,9 @@ walls_compared red (x ∷ one) (y ∷ other) rest more h k e =
     wall_more red x y one other rest more (wall_same red x y p.0 q.0 c.0) (walls_compared red one other rest more p.1 q.1 c.1)
 
 -- the deeds
-deed_same : (rules : Rules) (walls : List (List ℕ)) (before : List Deed) (one other : Deed) → rules.red ≡ false → ((number : ℕ) → is_wall rules.red (wall_of walls number) ≡ true) → IsPlayed rules walls before →
+deed_same : (rules : Rules) (walls : List (List ℕ)) (before : List Deed) (one other : Deed) → ((number : ℕ) → is_wall rules.red (wall_of walls number) ≡ true) → IsPlayed rules walls before →
     IsPlayedBehind rules walls before one → IsPlayedBehind rules walls before other → line Record one ≡ line Record other → one ≡ other
-deed_same rules walls before one other plain whole played p q e = by_before before played p q (played_value rules walls before one plain whole played p) (played_value rules walls before other plain whole played q)
+deed_same rules walls before one other whole played p q e = by_before before played p q (played_value rules walls before one whole played p) (played_value rules walls before other whole played q)
   where
     read : is_deed one ≡ true → is_deed other ≡ true → as_read one ≡ as_read other
     read h k =
@@ -273,7 +273,6 @@ deed_same rules walls before one other plain whole played p q e = by_before befo
         cc (a, b, c)
 
 record Walled (rules : Rules) (walls : List (List ℕ)) : Type 0 where
-  plain : rules.red ≡ false
   some : 1 ≤ length walls
   whole : (number : ℕ) → is_wall rules.red (wall_of walls number) ≡ true
 
@@ -281,14 +280,14 @@ deeds_compared : (rules : Rules) (walls : List (List ℕ)) (before one other : L
     flat_map (line Record) one ++ rest ≡ flat_map (line Record) other ++ more → Compared (Lines rules walls (before ++ one)) rest (Lines rules walls (before ++ other)) more
 deeds_compared rules walls before [] [] rest more w played p q e = Same refl e
 deeds_compared rules walls before [] (y ∷ other) rest more w played p q e =
-    Shorter (ByDeed rules walls before y (flat_map (line Record) other ++ more) (ap (Lines rules walls) (append-nil before)) w.some (played_value rules walls before y w.plain w.whole played q.0) q.0 (e ∙ append_assoc (line Record y) (flat_map (line Record) other) more))
+    Shorter (ByDeed rules walls before y (flat_map (line Record) other ++ more) (ap (Lines rules walls) (append-nil before)) w.some (played_value rules walls before y w.whole played q.0) q.0 (e ∙ append_assoc (line Record y) (flat_map (line Record) other) more))
 deeds_compared rules walls before (x ∷ one) [] rest more w played p q e =
-    Longer (ByDeed rules walls before x (flat_map (line Record) one ++ rest) (ap (Lines rules walls) (append-nil before)) w.some (played_value rules walls before x w.plain w.whole played p.0) p.0 (sym e ∙ append_assoc (line Record x) (flat_map (line Record) one) rest))
+    Longer (ByDeed rules walls before x (flat_map (line Record) one ++ rest) (ap (Lines rules walls) (append-nil before)) w.some (played_value rules walls before x w.whole played p.0) p.0 (sym e ∙ append_assoc (line Record x) (flat_map (line Record) one) rest))
 deeds_compared rules walls before (x ∷ one) (y ∷ other) rest more w played p q e =
     let c = cut (line Record x) (line Record y) (flat_map (line Record) one ++ rest) (flat_map (line Record) other ++ more)
-    (deed_ends x (played_value rules walls before x w.plain w.whole played p.0)) (deed_ends y (played_value rules walls before y w.plain w.whole played q.0))
+    (deed_ends x (played_value rules walls before x w.whole played p.0)) (deed_ends y (played_value rules walls before y w.whole played q.0))
     (sym (append_assoc (line Record x) (flat_map (line Record) one) rest) ∙ e ∙ append_assoc (line Record y) (flat_map (line Record) other) more) in
-    let same : x ≡ y = deed_same rules walls before x y w.plain w.whole played p.0 q.0 c.0 in
+    let same : x ≡ y = deed_same rules walls before x y w.whole played p.0 q.0 c.0 in
     let others = deeds_compared rules walls (before ++ x ∷ []) one other rest more w (played_more rules walls before x played p.0) p.1 (subst (λ (d : Deed). AllPlayed rules walls (before ++ d ∷ []) other) (sym same) q.1) c.1 in
     subst (λ (d : Deed). Compared (Lines rules walls (before ++ x ∷ one)) rest (Lines rules walls (before ++ d ∷ other)) more) same
     (subst (λ (ds : List Deed). Compared (Lines rules walls (before ++ x ∷ one)) rest (Lines rules walls ds) more) (append_assoc before (x ∷ []) other)
@@ -305,20 +304,17 @@ wall_parts rules walls (deed ∷ deeds) h =
     let p = and_parts (nat_le 1 (length walls) && nat_le (length walls) 200) (list_all (is_wall rules.red) walls) h in
     record { few = leb-true (length walls) 200 (and_parts (nat_le 1 (length walls)) (nat_le (length walls) 200) p.0).1; whole = p.1 }
 
-red_is : (rules : Rules) → are_rules rules ≡ true → rules.red ≡ false
-red_is rules h = not-true rules.red (and_parts (nat_le 1 rules.limit && nat_le rules.limit 3600000) (not rules.red) h).1
-
-walled : (rules : Rules) (walls : List (List ℕ)) → are_rules rules ≡ true → are_walls rules walls ≡ true → Walled rules walls
-walled rules walls r h =
+walled : (rules : Rules) (walls : List (List ℕ)) → are_walls rules walls ≡ true → Walled rules walls
+walled rules walls h =
     let p = and_parts (nat_le 1 (length walls) && nat_le (length walls) 200) (list_all (is_wall rules.red) walls) h in
     let some = leb-true 1 (length walls) (and_parts (nat_le 1 (length walls)) (nat_le (length walls) 200) p.0).0 in
-    record { plain = red_is rules r; some = some; whole = each_is_wall rules.red walls some p.1 }
+    record { some = some; whole = each_is_wall rules.red walls some p.1 }
 
 same_walls : (rules : Rules) (walls : List (List ℕ)) (one other : List Deed) (rest more : List ℕ) → AreLines rules walls one → AreLines rules walls other → flat_map (line Record) one ++ rest ≡ flat_map (line Record) other ++ more →
     Compared (Lines rules walls one) rest (Lines rules walls other) more
 same_walls rules walls [] [] rest more s t e = Same refl e
-same_walls rules walls [] (y ∷ other) rest more s t e = deeds_compared rules walls [] [] (y ∷ other) rest more (walled rules walls t.rules_fit t.walls_fit) tt s.played t.played e
-same_walls rules walls (x ∷ one) other rest more s t e = deeds_compared rules walls [] (x ∷ one) other rest more (walled rules walls s.rules_fit s.walls_fit) tt s.played t.played e
+same_walls rules walls [] (y ∷ other) rest more s t e = deeds_compared rules walls [] [] (y ∷ other) rest more (walled rules walls t.walls_fit) tt s.played t.played e
+same_walls rules walls (x ∷ one) other rest more s t e = deeds_compared rules walls [] (x ∷ one) other rest more (walled rules walls s.walls_fit) tt s.played t.played e
 
 room : (one other : List (List ℕ)) (tiles : List ℕ) (later : List (List ℕ)) → other ≡ one ++ tiles ∷ later → length other ≤ 200 → length one < 200
 room one other tiles later e h =

@@ -27,7 +27,7 @@ use Rattle.mj_deeds.specs.Bids.{call_of_bid}
 use Rattle.mj_deeds.specs.Course.{before_wins}
 use Rattle.mj_deeds.specs.Ends.{standing_after, end_of}
 use Rattle.mj_deeds.specs.Facts.{newest, concealed_tiles, indicators, seat_melds}
-use Rattle.mj_deeds.specs.Fits.{has_tiles}
+use Rattle.mj_deeds.specs.Fits.{faces_in}
 use Rattle.mj_deeds.specs.Four.{next_seat}
 use Rattle.mj_deeds.specs.Hand.{hand}
 use Rattle.mj_deeds.specs.Points.{points, deposits}
@@ -58,7 +58,7 @@ use Rattle.mj_machine.proofs.Small.{all_small}
 use Rattle.mj_machine.proofs.Followed.{can_follow}
 use Rattle.mj_history.specs.Records.{is_byte, is_word, is_signed_word, is_tile, are_points, is_row, is_deed}
 use Rattle.mj_replay.proofs.WorthLaws.{Small, win_small, FewDora, extra_few, all_few, rows_fit}
-use Rattle.mj_replay.proofs.SizeLaws.{hidden_fits, Fits, value}
+use Rattle.mj_replay.proofs.SizeLaws.{hidden_fits, Fits, are_real, value}
 
 -- points of four seats
 small_word : (x : ℤ) → nat_abs x ≤ 100000000 → is_signed_word x ≡ true
@@ -390,24 +390,24 @@ few_of other h = tt
 if_some : {A : Type 0} (P : A → Type 0) (o : Option A) (d : A) → IfAny P o → o ≡ Some d → P d
 if_some P o d h e = subst (IfAny P) e h
 
-behind_value : (rules : Rules) (walls : List (List ℕ)) (ds : List Deed) (deed : Deed) → rules.red ≡ false → ((number : ℕ) → is_wall rules.red (wall_of walls number) ≡ true) → IsPlayed rules walls ds → IfAny FewRest (newest ds) → IsPlayedBehind rules walls ds deed → is_deed deed ≡ true
-behind_value rules walls [] deed plain whole played few g = start_value deed g
-behind_value rules walls (first ∷ others) deed plain whole played few g =
+behind_value : (rules : Rules) (walls : List (List ℕ)) (ds : List Deed) (deed : Deed) → ((number : ℕ) → is_wall rules.red (wall_of walls number) ≡ true) → IsPlayed rules walls ds → IfAny FewRest (newest ds) → IsPlayedBehind rules walls ds deed → is_deed deed ≡ true
+behind_value rules walls [] deed whole played few g = start_value deed g
+behind_value rules walls (first ∷ others) deed whole played few g =
     let ds : List Deed = first ∷ others in
     let s = played_sound rules walls ds whole played in
     let k : Known rules.red walls ds = record { fair = s.known.fair; small = all_small rules.red walls (wall_now walls ds) (stage_of ds) ds s.fit s.known.fair s.standing; stands = may_stand rules.red ds s.fit } in
     let next = if_some (IsNext rules.red walls ds) (outcome rules walls ds g.given) deed (outcome_next rules walls ds g.given s.known g.lawful) g.gives in
     value deed
     (if_some Fits (outcome rules walls ds g.given) deed (outcome_fits rules walls ds g.given k few (λ last e. can_follow rules walls ds g.given last whole played g.lawful e)) g.gives)
-    next.seats (subst (λ b. has_tiles b deed ≡ true) plain next.tiles)
+    next.seats (are_real rules.red (faces_in deed) next.tiles)
 
-newest_few : (rules : Rules) (walls : List (List ℕ)) (before ds : List Deed) → rules.red ≡ false → ((number : ℕ) → is_wall rules.red (wall_of walls number) ≡ true) → IsPlayed rules walls before → IfAny FewRest (newest before) → AllPlayed rules walls before ds → IfAny FewRest (newest (before ++ ds))
-newest_few rules walls before [] plain whole played few all = subst (λ (xs : List Deed). IfAny FewRest (newest xs)) (sym (append-nil before)) few
-newest_few rules walls before (d ∷ ds) plain whole played few all =
+newest_few : (rules : Rules) (walls : List (List ℕ)) (before ds : List Deed) → ((number : ℕ) → is_wall rules.red (wall_of walls number) ≡ true) → IsPlayed rules walls before → IfAny FewRest (newest before) → AllPlayed rules walls before ds → IfAny FewRest (newest (before ++ ds))
+newest_few rules walls before [] whole played few all = subst (λ (xs : List Deed). IfAny FewRest (newest xs)) (sym (append-nil before)) few
+newest_few rules walls before (d ∷ ds) whole played few all =
     subst (λ (xs : List Deed). IfAny FewRest (newest xs)) (append_assoc before (d ∷ []) ds)
-    (newest_few rules walls (before ++ d ∷ []) ds plain whole (played_more rules walls before d played all.0)
-    (subst (IfAny FewRest) (sym (newest_more before d)) (few_of d (behind_value rules walls before d plain whole played few all.0))) all.1)
+    (newest_few rules walls (before ++ d ∷ []) ds whole (played_more rules walls before d played all.0)
+    (subst (IfAny FewRest) (sym (newest_more before d)) (few_of d (behind_value rules walls before d whole played few all.0))) all.1)
 
 -- What is played behind played deeds is a value of the type of deeds.
-pub played_value : (rules : Rules) (walls : List (List ℕ)) (ds : List Deed) (deed : Deed) → rules.red ≡ false → ((number : ℕ) → is_wall rules.red (wall_of walls number) ≡ true) → IsPlayed rules walls ds → IsPlayedBehind rules walls ds deed → is_deed deed ≡ true
-played_value rules walls ds deed plain whole played g = behind_value rules walls ds deed plain whole played (newest_few rules walls [] ds plain whole tt tt played) g
+pub played_value : (rules : Rules) (walls : List (List ℕ)) (ds : List Deed) (deed : Deed) → ((number : ℕ) → is_wall rules.red (wall_of walls number) ≡ true) → IsPlayed rules walls ds → IsPlayedBehind rules walls ds deed → is_deed deed ≡ true
+played_value rules walls ds deed whole played g = behind_value rules walls ds deed whole played (newest_few rules walls [] ds whole tt tt played) g

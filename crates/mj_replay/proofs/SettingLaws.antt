@@ -140,15 +140,11 @@ text_says : (text : List ℕ) (rules : Rules) → Says (fields text) rules → t
 unfolding tail_of
 text_says text rules s = ap tail_of (sym (spaced text) ∙ ap (flat_map (λ field. 32 ∷ field)) s.texts_are ∙ header_fields (decimal rules.limit) (switch_text rules.draws) (switch_text rules.red))
 
-both : (a b : Bool) → a ≡ true → b ≡ true → (a && b) ≡ true
-both true b e f = f
-both false b e f = e
-
-pub header_is : (line text : List ℕ) (rules : Rules) → Some text ≡ behind (codes "game ") line → Some rules ≡ rules_of (fields text) → rules.red ≡ false → IsHeader line rules
-header_is line text rules b r plain =
+pub header_is : (line text : List ℕ) (rules : Rules) → Some text ≡ behind (codes "game ") line → Some rules ≡ rules_of (fields text) → IsHeader line rules
+header_is line text rules b r =
     let s = fields_say (fields text) rules r in
     record {
-      fits = both (nat_le 1 rules.limit && nat_le rules.limit 3600000) (not rules.red) s.bounds (ap not plain);
+      fits = s.bounds;
       is = line_is rules ∙ ap (λ xs. xs ++ 10 ∷ []) (body_is (decimal rules.limit) (switch_text rules.draws) (switch_text rules.red) ∙ ap (λ xs. codes "game " ++ xs) (sym (text_says text rules s)) ∙ sym (behind-is (codes "game ") line text b));
     }
 
@@ -204,13 +200,8 @@ fields_are limit draws red l d r =
     parts_by-at 32 (codes "limit=" ++ limit) (codes "draws=" ++ (draws ++ (codes " red=" ++ red))) l
     ∙ ap (λ ys. (codes "limit=" ++ limit) ∷ ys) (parts_by-at 32 (codes "draws=" ++ draws) (codes "red=" ++ red) d ∙ ap (λ ys. (codes "draws=" ++ draws) ∷ ys) (parts_by-none 32 (codes "red=" ++ red) r))
 
-parts : (a b : Bool) → (a && b) ≡ true → (a ≡ true) × (b ≡ true)
-parts true b h = (refl, h)
-parts false b h = absurd (false≢true h)
-
 header_reads : (line : List ℕ) (rules : Rules) → are_rules rules ≡ true → header_line rules ≡ line ++ 10 ∷ [] → Reads line rules
 header_reads line rules h e =
-    let p = parts (nat_le 1 rules.limit && nat_le rules.limit 3600000) (not rules.red) h in
     let small : rules.limit < 2 ^ 64 = grind (arith, nat_tests) in
     let limit = decimal rules.limit in
     let draws = switch_text rules.draws in
@@ -219,7 +210,7 @@ header_reads line rules h e =
     record {
       text = header_text limit draws red;
       key = ap (behind (codes "game ")) is ∙ behind_key (codes "game ") (header_text limit draws red);
-      says = ap rules_of (fields_are limit draws red (digits-no-space limit (digits_decimal own rules.limit small)) (switch-no-space rules.draws) (switch-no-space rules.red)) ∙ three_read rules p.0;
+      says = ap rules_of (fields_are limit draws red (digits-no-space limit (digits_decimal own rules.limit small)) (switch-no-space rules.draws) (switch-no-space rules.red)) ∙ three_read rules h;
     }
 
 -- so a line without them is no header
@@ -239,13 +230,6 @@ one_header line rules other h k e f =
     let s = same_text line r.text other (sym r.key) (header_reads line other k f) in
     let t = r.says in
     cc (t, s)
-
-pub red_rules : (line text : List ℕ) (rules : Rules) → Some text ≡ behind (codes "game ") line → Some rules ≡ rules_of (fields text) → rules.red ≡ true → IsNoHeader line
-red_rules line text rules b r red other h e =
-    let s = same_text line text other b (header_reads line other h e) in
-    let is : rules ≡ other = cc (r, s) in
-    let p = parts (nat_le 1 other.limit && nat_le other.limit 3600000) (not other.red) h in
-    absurd (false≢true (ap not (sym (ap (λ (x : Rules). x.red) (sym is) ∙ red)) ∙ p.1))
 
 -- the tiles of a wall
 named : (texts : List (List ℕ)) (tiles : List ℕ) → Some tiles ≡ tiles_in texts → flat_map (λ tile. 32 ∷ text_of tile) tiles ≡ flat_map (λ field. 32 ∷ field) texts
@@ -331,6 +315,6 @@ other_tiles red line text tiles b t broken other whole e =
     let is : tiles ≡ other = cc (t, s) in
     absurd (false≢true (sym broken ∙ ap (is_wall red) is ∙ whole))
 
-pub ruleset headers = (header_is, no_header, no_rules, red_rules)
+pub ruleset headers = (header_is, no_header, no_rules)
 
 pub ruleset walls = (wall_is, no_wall, no_tiles, other_tiles)

@@ -10,18 +10,13 @@ use mj_wall::{Rules, Wall};
 use mjai_lines::{read_rules, read_tiles};
 use std::alloc::{AllocError, Global};
 
-/// The rules that a header line says, which stands here without its newline; none where it is no header, or the rules have
-/// red fives.
+/// The rules that a header line says, which stands here without its newline; none where it is no header.
 #[tactic(auto, using(crate::proofs::SettingLaws::headers))]
 pub(crate) fn header_of(line: &[u8]) -> Option<Rules>
     ensures { MatchOption result (IsNoHeader line.now) (λ rules. IsHeader line.now rules) }
 {
     let text = strip(line, b"game ")?;
-    let rules = read_rules(text)?;
-    if rules.red {
-        return None;
-    }
-    Some(rules)
+    read_rules(text)
 }
 
 /// The wall that a line says, which stands here without its newline; none where it is no wall.

@@ -27,9 +27,9 @@ use Rattle.mj_seats.specs.Histories.{begins_one}
 use Rattle.mj_seats.specs.Ticks.{Ticks}
 use Rattle.mj_seats.specs.Workers.{begun, ExpiresBy}
 
--- What a served game is played with: the first 200 walls of its seed, without red fives.
+-- What a served game is played with: the first 200 walls of its seed, with red fives where it is asked for with them.
 abbrev pub served_setting : ServedWith → Setting
-served_setting s = record { walls = shuffled_walls s.seed false 200; rules = record { limit = s.limit; draws = s.draws; red = false } }
+served_setting s = record { walls = shuffled_walls s.seed s.red 200; rules = record { limit = s.limit; draws = s.draws; red = s.red } }
 
 -- The record of a game.
 abbrev pub record_of_game : Game → List ℕ

@@ -4,13 +4,14 @@ use Rattle.hex.specs.Hex.{decode_sized}
 use Rattle.mj_bytes.specs.Numbers.{decimal_of}
 use Rattle.mj_words.specs.Lines.{referee_line, serve_line, replay_line, hand_line, self_play_line, is_taken, value_in, values_in}
 
--- What a game is served with: the 32 bytes of its seed, the limit of a window in milliseconds, the port, and whether the draw
--- reasons are in force.
+-- What a game is served with: the 32 bytes of its seed, the limit of a window in milliseconds, the port, whether the draw
+-- reasons are in force, and whether one five of each suit is red.
 pub record ServedWith : Type 0 where
   pub seed : List ℕ
   pub limit : ℕ
   pub port : ℕ
   pub draws : Bool
+  pub red : Bool
 
 -- The referee of a seat, a game that is served, the summary of a record, the lines of the hand that further words name, the
 -- self-played game of a number, or nothing that there is.
@@ -54,11 +55,11 @@ abbrev pub number_named : ℕ → ℕ → List ℕ → Option ℕ
 number_named least most word = option_and_then (within least most) (decimal_of word)
 
 -- Those whose first is `serve` ask for the game of the seed, the limit and the port that their values name.
-abbrev pub serving_by : Option (List ℕ) → Option ℕ → Option ℕ → Bool → Asked
-serving_by None limit port draws = Nothing
-serving_by (Some seed) None port draws = Nothing
-serving_by (Some seed) (Some limit) None draws = Nothing
-serving_by (Some seed) (Some limit) (Some port) draws = ServingOf (record { seed = seed; limit = limit; port = port; draws = draws })
+abbrev pub serving_by : Option (List ℕ) → Option ℕ → Option ℕ → Bool → Bool → Asked
+serving_by None limit port draws red = Nothing
+serving_by (Some seed) None port draws red = Nothing
+serving_by (Some seed) (Some limit) None draws red = Nothing
+serving_by (Some seed) (Some limit) (Some port) draws red = ServingOf (record { seed = seed; limit = limit; port = port; draws = draws; red = red })
 
 abbrev pub is_on : Option (List ℕ) → Bool
 is_on None = false
@@ -70,6 +71,7 @@ serve_asked words =
     (option_and_then (number_named 1 3600000) (value_in serve_line (codes "limit") words))
     (option_and_then (number_named 1 65535) (value_in serve_line (codes "port") words))
     (is_on (value_in serve_line (codes "draws") words))
+    (is_on (value_in serve_line (codes "red") words))
 
 -- Those whose first is `replay` ask for the summary of a record.
 abbrev pub replay_by : Bool → Asked

@@ -8,7 +8,7 @@ use Rattle.mj_words.specs.Asked.{Asked, ServedWith, RefereeOf, ServingOf, Summar
 
 -- What a game is served with.
 abbrev pub served_with : Serving → ServedWith
-served_with s = record { seed = s.seed; limit = s.limit; port = s.port; draws = s.draws }
+served_with s = record { seed = s.seed; limit = s.limit; port = s.port; draws = s.draws; red = s.red }
 
 -- It asks for the game, where there is what it is served with.
 abbrev pub asked_by_serving : Option Serving → Asked

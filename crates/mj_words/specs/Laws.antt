@@ -20,10 +20,11 @@ pub record WordsAreRead : Type 0 where
   pub referee_of_two : asked_by (codes "referee" ∷ codes "0" ∷ codes "1" ∷ []) ≡ Nothing
   pub referee_of_the_fifth : asked_by (codes "referee" ∷ codes "4" ∷ []) ≡ Nothing
   pub referee_with_help : asked_by (codes "referee" ∷ codes "0" ∷ codes "--help" ∷ []) ≡ Nothing
-  pub serve : asked_by (codes "serve" ∷ codes "--seed" ∷ some_hex ∷ []) ≡ ServingOf (record { seed = some_seed; limit = 10000; port = 11600; draws = false })
+  pub serve : asked_by (codes "serve" ∷ codes "--seed" ∷ some_hex ∷ []) ≡ ServingOf (record { seed = some_seed; limit = 10000; port = 11600; draws = false; red = false })
   pub serve_with_all :
-      asked_by (codes "serve" ∷ codes "--draws" ∷ codes "--port=65535" ∷ codes "--limit" ∷ codes "3600000" ∷ codes "--seed" ∷ some_hex ∷ [])
-      ≡ ServingOf (record { seed = some_seed; limit = 3600000; port = 65535; draws = true })
+      asked_by (codes "serve" ∷ codes "--draws" ∷ codes "--red" ∷ codes "--port=65535" ∷ codes "--limit" ∷ codes "3600000" ∷ codes "--seed" ∷ some_hex ∷ [])
+      ≡ ServingOf (record { seed = some_seed; limit = 3600000; port = 65535; draws = true; red = true })
+  pub serve_with_red_fives : asked_by (codes "serve" ∷ codes "--seed" ∷ some_hex ∷ codes "--red" ∷ []) ≡ ServingOf (record { seed = some_seed; limit = 10000; port = 11600; draws = false; red = true })
   pub serve_of_none : asked_by (codes "serve" ∷ []) ≡ Nothing
   pub serve_of_a_shorter_seed : asked_by (codes "serve" ∷ codes "--seed" ∷ codes "07" ∷ []) ≡ Nothing
   pub serve_without_a_limit : asked_by (codes "serve" ∷ codes "--seed" ∷ some_hex ∷ codes "--limit" ∷ codes "0" ∷ []) ≡ Nothing

@@ -40,11 +40,11 @@ hand_line = with_rule (new_app (codes "hand")) (wanted_often (codes "words"))
 unfoldable pub self_play_line : App
 self_play_line = with_rule (new_app (codes "selfplay")) (wanted (codes "n"))
 
--- A seed, the limit of a window, a port, and whether the draw reasons are in force.
+-- A seed, the limit of a window, a port, whether the draw reasons are in force, and whether there are red fives.
 unfoldable pub serve_line : App
 serve_line =
-    with_rule (with_rule (with_rule (with_rule (new_app (codes "serve"))
-    (option_wanted (codes "seed"))) (option_or (codes "limit") (codes "10000"))) (option_or (codes "port") (codes "11600"))) (flag (codes "draws"))
+    with_rule (with_rule (with_rule (with_rule (with_rule (new_app (codes "serve"))
+    (option_wanted (codes "seed"))) (option_or (codes "limit") (codes "10000"))) (option_or (codes "port") (codes "11600"))) (flag (codes "draws"))) (flag (codes "red"))
 
 -- Clap finds no fault in words; a request for help is one.
 abbrev pub are_none : Kinds → Bool

@@ -23,7 +23,7 @@ pub fn serving_of(alloc: Global, words: &[String]) -> Result<Option<Serving>, Al
     Ok(read_words(&found))
 }
 
-// What the words of the options and of the flag say.
+// What the words of the options and of the flags say.
 fn read_words(words: &ServeWords<'_>) -> Option<Serving>
     ensures { asked_by_serving result ≡ serving_of_words words.now }
 {
@@ -32,6 +32,7 @@ fn read_words(words: &ServeWords<'_>) -> Option<Serving>
         limit: number_of(words.limit?, 1, LONGEST_LIMIT)?,
         port: number_of(words.port?, 1, u64::from(u16::MAX))? as u16,
         draws: is_true(words.draws),
+        red: is_true(words.red),
     })
 }
 

@@ -27,16 +27,17 @@ pub(crate) fn seat_word<'a>(
     }
 }
 
-/// The words of the options behind `serve`, and of its flag, each where clap takes the words.
+/// The words of the options behind `serve`, and of its flags, each where clap takes the words.
 #[derive(Clone, Copy)]
 pub(crate) struct ServeWords<'a> {
     pub seed: Option<&'a str>,
     pub limit: Option<&'a str>,
     pub port: Option<&'a str>,
     pub draws: Option<&'a str>,
+    pub red: Option<&'a str>,
 }
 
-/// The words of the options and of the flag behind `serve`.
+/// The words of the options and of the flags behind `serve`.
 pub(crate) fn serve_words<'a>(
     alloc: Global,
     words: &'a [String],
@@ -49,12 +50,14 @@ pub(crate) fn serve_words<'a>(
             limit: matches.get_str("limit"),
             port: matches.get_str("port"),
             draws: matches.get_str("draws"),
+            red: matches.get_str("red"),
         }),
         None => Ok(ServeWords {
             seed: None,
             limit: None,
             port: None,
             draws: None,
+            red: None,
         }),
     }
 }
@@ -71,11 +74,15 @@ fn serve_command<'a>(alloc: Global) -> Result<Command<'a>, AllocError>
     let draws = Arg::new(alloc, "draws")
         .long("draws")
         .action(ArgAction::SetTrue);
+    let red = Arg::new(alloc, "red")
+        .long("red")
+        .action(ArgAction::SetTrue);
     Command::new(alloc, "serve")
         .arg(seed)?
         .arg(limit)?
         .arg(port)?
-        .arg(draws)
+        .arg(draws)?
+        .arg(red)
 }
 
 /// Whether clap takes the words behind `replay`.

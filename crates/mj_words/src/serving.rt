@@ -11,5 +11,7 @@ pub struct Serving {
     pub port: u16,
     /// Whether the four draw reasons and the draw of nine kinds are in force.
     pub draws: bool,
+    /// Whether one five of each suit is red.
+    pub red: bool,
     ghost within: { (1 ≤ limit) × (limit ≤ 3600000) },
 }

@@ -22,7 +22,7 @@ returns-in_default-next_wall c =
 
 pub loop-line-preserved : goal.loop-line-preserved
 loop-line-preserved c =
-    let read : IsWallLine c.loop-line.walls.items (whole_lines c.loop-line.rest.now) (whole_lines c.in-Some.others.now) (Some c.in-Some-next_wall.wall) = record {
+    let read : IsWallLine c.args.rules.red c.loop-line.walls.items (whole_lines c.loop-line.rest.now) (whole_lines c.in-Some.others.now) (Some c.in-Some-next_wall.wall) = record {
       line = c.in-Some.line.now;
       tiles = c.in-Wall.tiles.items;
       before = c.len.result;

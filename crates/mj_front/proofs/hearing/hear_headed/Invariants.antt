@@ -10,7 +10,7 @@ abbrev pub invariant-loop-line : goal.invariant-loop-line
 invariant-loop-line l = record {
   same : hear_from (intake_with_walls l.rules []) 2 (whole_lines l.input) (unfinished l.input) ≡ hear_from (intake_with_walls l.rules l.walls.items) l.number (whole_lines l.rest) (unfinished l.rest);
   few : length l.walls.items ≤ 200;
-  whole : list_all (is_wall false) l.walls.items ≡ true;
+  whole : list_all (is_wall l.rules.red) l.walls.items ≡ true;
   count : l.number + length l.rest ≤ length l.input + 2;
 }
 

@@ -17,6 +17,7 @@ returns c = record {
   referee_with_help = refl;
   serve = refl;
   serve_with_all = refl;
+  serve_with_red_fives = refl;
   serve_of_none = refl;
   serve_of_a_shorter_seed = refl;
   serve_without_a_limit = refl;

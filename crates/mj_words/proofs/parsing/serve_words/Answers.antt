@@ -13,6 +13,7 @@ returns-in-Some c = record {
   limit = value_found serve_line _ (codes "limit") _ _ c.in-Some.matches _ c.in_ok-serve_command.ensures c.in_ok-matches.ensures c.in-Some.is c.get_str-in-Some.ensures;
   port = value_found serve_line _ (codes "port") _ _ c.in-Some.matches _ c.in_ok-serve_command.ensures c.in_ok-matches.ensures c.in-Some.is c.get_str-in-Some-2.ensures;
   draws = value_found serve_line _ (codes "draws") _ _ c.in-Some.matches _ c.in_ok-serve_command.ensures c.in_ok-matches.ensures c.in-Some.is c.get_str-in-Some-3.ensures;
+  red = value_found serve_line _ (codes "red") _ _ c.in-Some.matches _ c.in_ok-serve_command.ensures c.in_ok-matches.ensures c.in-Some.is c.get_str-in-Some-4.ensures;
 }
 
 pub returns-in-None : goal.returns-in-None
@@ -21,4 +22,5 @@ returns-in-None c = record {
   limit = value_refused serve_line _ (codes "limit") _ _ c.in_ok-serve_command.ensures c.in_ok-matches.ensures c.in-None.is;
   port = value_refused serve_line _ (codes "port") _ _ c.in_ok-serve_command.ensures c.in_ok-matches.ensures c.in-None.is;
   draws = value_refused serve_line _ (codes "draws") _ _ c.in_ok-serve_command.ensures c.in_ok-matches.ensures c.in-None.is;
+  red = value_refused serve_line _ (codes "red") _ _ c.in_ok-serve_command.ensures c.in_ok-matches.ensures c.in-None.is;
 }
