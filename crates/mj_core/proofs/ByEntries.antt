@@ -21,7 +21,7 @@ use Rattle.mj_ports.specs.Entries.{next_seat}
 use Rattle.mj_ports.specs.SeatCalls.{AnswersSit, AnswersSaid, AnswersGone, AnswersExpiry}
 use Rattle.mj_seating.specs.declared.desk.Placed.{Placed}
 use Rattle.mj_seating.specs.declared.desk.Placed.TheVariants as places
-use Rattle.mj_seating.specs.Sitting.{Held, is_named, is_key, back, at_held, placed_from, placed}
+use Rattle.mj_seating.specs.Sitting.{Occupant, is_named, is_key, back, at_held, placed_from, placed}
 use Rattle.mj_deeds.specs.declared.rule.Rule.{Rule}
 use Rattle.mj_deeds.specs.declared.answer.Answer.{Answer}
 use Rattle.mj_wall.specs.declared.setting.Setting.{Setting}
@@ -35,7 +35,7 @@ use Rattle.mj_core.specs.Calls.{after_of, IsSitAnswer, IsHeard, IsLeft, IsExpiry
 use Rattle.mj_core.proofs.Games.{placing-sat, expire-open}
 
 -- A held seat is never the next one.
-not-next : {A : Type 0} (seat : ℕ) (held : Held) (said : Option (List ℕ)) (given : ℕ) → at_held seat held said ≡ places.Sat given → A
+not-next : {A : Type 0} (seat : ℕ) (held : Occupant) (said : Option (List ℕ)) (given : ℕ) → at_held seat held said ≡ places.Sat given → A
 not-next {A} seat held said given h = by held.present held.key h
   where
     by_key : (wrong often : Bool) → (if wrong then places.Refused WrongKey else (if often then places.Refused TooOften else places.Back seat)) ≡ places.Sat given → A
@@ -48,7 +48,7 @@ not-next {A} seat held said given h = by held.present held.key h
     by false None h = cc
     by false (Some key) h = by_key (not (is_key key said)) (nat_le 64 held.returns) h
 
-next-from : (number : ℕ) (held : List Held) (join : JoinLine) (seat : ℕ) → placed_from number held join ≡ places.Sat seat → seat ≡ number + length held
+next-from : (number : ℕ) (held : List Occupant) (join : JoinLine) (seat : ℕ) → placed_from number held join ≡ places.Sat seat → seat ≡ number + length held
 next-from number [] join seat h = by (number == 4) h
   where
     same : (a b : ℕ) → places.Sat a ≡ places.Sat b → b ≡ a + 0

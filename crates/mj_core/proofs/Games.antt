@@ -14,7 +14,7 @@ use Rattle.mj_ports.specs.declared.sitting.SitRefused.TheVariants.{Over, BadName
 use Rattle.mj_ports.specs.declared.answers.SitAnswer.TheVariants as sits
 use Rattle.mj_seating.specs.declared.desk.Placed.{Placed}
 use Rattle.mj_seating.specs.declared.desk.Placed.TheVariants as places
-use Rattle.mj_seating.specs.Sitting.{Held, placed}
+use Rattle.mj_seating.specs.Sitting.{Occupant, placed}
 use Rattle.mj_deeds.specs.declared.four.Four.{Four}
 use Rattle.mj_deeds.specs.declared.deed.Deed.{Deed}
 use Rattle.mj_deeds.specs.declared.deed.Viewer.TheVariants.{Seat}
@@ -145,7 +145,7 @@ placing-back now join seat h = by (is_over now.deeds) h
     by false h = h
 
 kept-placed : (setting : Setting) (entries : List (Entry Answer)) (state : Position) (join : JoinLine) → IsKept setting entries state → placed_in (now_of state) join ≡ placed (map held_of (after setting entries).chairs) join
-kept-placed setting entries state join k = ap (λ (hs : List Held). placed hs join) (held-same (now_of state).chairs (after setting entries).chairs (kept-chairs setting entries state k))
+kept-placed setting entries state join k = ap (λ (hs : List Occupant). placed hs join) (held-same (now_of state).chairs (after setting entries).chairs (kept-chairs setting entries state k))
 
 pub bad-name : (now : After) → placing now None ≡ places.Refused BadName
 unfolding placing

@@ -17,7 +17,7 @@ use Rattle.mj_rules.specs.Outcome.{outcome}
 use Rattle.mj_history.specs.After.{After, Chair, Verdict, Taken, Late, Refused, Closing, verdict_on, progress_after, author_after, slots_after, lines_for, after_said, after_gone, after_back, new_chair, own_part, name_at, names_of, answers_in, is_present, is_expiry, next_deed, with_deed, step}
 use Rattle.mj_history.specs.Laws.{CanGoOn}
 use Rattle.mj_history.specs.Sitting.{held_of}
-use Rattle.mj_seating.specs.Sitting.{Held}
+use Rattle.mj_seating.specs.Sitting.{Occupant}
 use Rattle.mj_core.specs.Inner.Untold.{untold_chair, untold}
 
 abbrev pub pieces : List Deed → List Chair → Four (Option Answer) → After
@@ -186,7 +186,7 @@ seat-same f h chairs others seat e =
 -- So is the desk.
 held-untold : (chairs : List Chair) → map held_of (map untold_chair chairs) ≡ map held_of chairs
 held-untold [] = refl
-held-untold (chair ∷ chairs) = ap (λ (hs : List Held). held_of chair ∷ hs) (held-untold chairs)
+held-untold (chair ∷ chairs) = ap (λ (hs : List Occupant). held_of chair ∷ hs) (held-untold chairs)
 
 pub held-same : (chairs others : List Chair) → map untold_chair chairs ≡ map untold_chair others → map held_of chairs ≡ map held_of others
 held-same chairs others e = sym (held-untold chairs) ∙ ap (map held_of) e ∙ held-untold others

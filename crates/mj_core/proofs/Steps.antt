@@ -6,7 +6,7 @@ use Rattle.std.proofs.lemmas.List.{map-append, map-set}
 use Rattle.mj_ports.specs.declared.entry.Entry.{Entry}
 use Rattle.mj_ports.specs.declared.entry.Entry.TheVariants.{Sat, Back, Said, Gone}
 use Rattle.mj_ports.specs.declared.sitting.JoinLine.{JoinLine}
-use Rattle.mj_seating.specs.Sitting.{Held, changed_at, new_held, came_back, gone}
+use Rattle.mj_seating.specs.Sitting.{Occupant, changed_at, new_held, came_back, gone}
 use Rattle.mj_deeds.specs.declared.four.Four.{Four}
 use Rattle.mj_deeds.specs.declared.deed.Deed.{Deed}
 use Rattle.mj_deeds.specs.declared.deed.Deed.TheVariants.{StartGame}
@@ -47,15 +47,15 @@ untold-set : (chairs : List Chair) (seat : ℕ) (chair other : Chair) → untold
 untold-set chairs seat chair other e =
     map-set untold_chair chairs seat chair ∙ ap (λ (c : Chair). slice_set (map untold_chair chairs) seat c) e ∙ sym (map-set untold_chair chairs seat other)
 
-put-untold : (desk after_desk : List Held) (players : List Player) (seat : ℕ) (h : Held) (p : Player) (other : Chair) → after_desk ≡ slice_set desk seat h → untold_chair (chair_of h p) ≡ untold_chair other
+put-untold : (desk after_desk : List Occupant) (players : List Player) (seat : ℕ) (h : Occupant) (p : Player) (other : Chair) → after_desk ≡ slice_set desk seat h → untold_chair (chair_of h p) ≡ untold_chair other
     → map untold_chair (chairs_of after_desk (slice_set players seat p)) ≡ map untold_chair (slice_set (chairs_of desk players) seat other)
 put-untold desk after_desk players seat h p other d e =
-    ap (λ (ds : List Held). map untold_chair (chairs_of ds (slice_set players seat p))) d
+    ap (λ (ds : List Occupant). map untold_chair (chairs_of ds (slice_set players seat p))) d
     ∙ ap (map untold_chair) (chairs_of-set desk players seat h p)
     ∙ untold-set (chairs_of desk players) seat (chair_of h p) other e
 
 -- A seat says something.
-said-chair : (lines : List (List ℕ)) (v : Verdict) (h : Held) (p : Player) →
+said-chair : (lines : List (List ℕ)) (v : Verdict) (h : Occupant) (p : Player) →
     untold_chair (chair_of (held_after v h) (player_of (author_after v p.author) (progress_after lines v (progress_of p))))
     ≡ untold_chair (record (chair_of h p) { author = author_after v p.author; progress = progress_after lines v (progress_of p) })
 said-chair lines Taken h p = refl
@@ -77,7 +77,7 @@ said-is rules now seat answer chair v e =
     (map untold_chair (slice_set now.chairs seat (record chair { author = author_after w chair.author; progress = progress_after (lines_for seat now.deeds) w chair.progress })))
     (slots_after w now.slots seat answer)) (sym e)
 
-pub said-own : (setting : Setting) (old : Position) (author seat : ℕ) (answer : Answer) (h : Held) (p next : Player) (v : Verdict) (slots : Four (Option Answer))
+pub said-own : (setting : Setting) (old : Position) (author seat : ℕ) (answer : Answer) (h : Occupant) (p next : Player) (v : Verdict) (slots : Four (Option Answer))
     → slice_get old.desk seat ≡ Some h → slice_get old.players seat ≡ Some p → v ≡ verdict_on setting.rules old.deeds seat answer (progress_of p)
     → ((lines : List (List ℕ)) → next ≡ player_of (author_after v p.author) (progress_after lines v (progress_of p))) → slots ≡ slots_after v old.slots seat answer
     → untold (now_of (changed old (desk_after v old.desk seat) (slice_set old.players seat next) slots)) ≡ untold (own_part setting (now_of old) (Said author seat answer))
@@ -99,7 +99,7 @@ gone-is : (now : After) (seat : ℕ) (chair : Chair) → untold (after_gone now 
 unfolding after_gone
 gone-is now seat chair = ap (λ (cs : List Chair). pieces now.deeds cs now.slots) (untold-set now.chairs seat _ _ refl)
 
-pub gone-own : (setting : Setting) (old : Position) (author seat : ℕ) (h : Held) (p : Player) → slice_get old.desk seat ≡ Some h → slice_get old.players seat ≡ Some p
+pub gone-own : (setting : Setting) (old : Position) (author seat : ℕ) (h : Occupant) (p : Player) → slice_get old.desk seat ≡ Some h → slice_get old.players seat ≡ Some p
     → untold (now_of (changed old (changed_at old.desk seat gone) (slice_set old.players seat (record { author = None; due = p.due; refused = p.refused })) old.slots))
     ≡ untold (own_part setting (now_of old) (Gone author seat))
 gone-own setting old author seat h p d c =
@@ -129,7 +129,7 @@ back-is : (now : After) (author seat : ℕ) (chair : Chair) → untold (after_ba
 unfolding after_back
 back-is now author seat chair = ap (λ (cs : List Chair). pieces now.deeds cs now.slots) (untold-set now.chairs seat _ _ refl)
 
-pub back-own : (setting : Setting) (old : Position) (author seat : ℕ) (h : Held) (p : Player) → slice_get old.desk seat ≡ Some h → slice_get old.players seat ≡ Some p
+pub back-own : (setting : Setting) (old : Position) (author seat : ℕ) (h : Occupant) (p : Player) → slice_get old.desk seat ≡ Some h → slice_get old.players seat ≡ Some p
     → untold (now_of (changed old (changed_at old.desk seat came_back) (slice_set old.players seat (record { author = Some author; due = due_on_return (now_of old) seat; refused = 0 })) old.slots))
     ≡ untold (own_part setting (now_of old) (Back author seat))
 back-own setting old author seat h p d c =

@@ -9,7 +9,7 @@ use std::marker::Model;
 // What is kept of an entry. A join and the readings of an expiry lie in memory of their own, since a game has few of
 // them beside all its answers.
 #[derive(Drop)]
-enum Kept {
+enum CompactEntry {
     Sat {
         author: u8,
         join: Box<JoinLine>,
@@ -44,7 +44,7 @@ struct Spent {
 // An entry as a core keeps it.
 #[derive(Drop)]
 pub struct Entered {
-    kept: Kept,
+    kept: CompactEntry,
 }
 
 impl Model for Entered {
@@ -64,7 +64,7 @@ impl Entered {
     {
         let join = Box::new(alloc, *join)?;
         Ok(Entered {
-            kept: Kept::Sat { author, join },
+            kept: CompactEntry::Sat { author, join },
         })
     }
 
@@ -73,7 +73,7 @@ impl Entered {
         ensures { result ≡ Back author seat }
     {
         Entered {
-            kept: Kept::Back { author, seat },
+            kept: CompactEntry::Back { author, seat },
         }
     }
 
@@ -82,7 +82,7 @@ impl Entered {
         ensures { result ≡ Said author seat answer.now }
     {
         Entered {
-            kept: Kept::Said {
+            kept: CompactEntry::Said {
                 author,
                 seat,
                 answer: *answer,
@@ -95,7 +95,7 @@ impl Entered {
         ensures { result ≡ Gone author seat }
     {
         Entered {
-            kept: Kept::Gone { author, seat },
+            kept: CompactEntry::Gone { author, seat },
         }
     }
 
@@ -111,7 +111,7 @@ impl Entered {
     {
         let spent = Box::new(alloc, Spent { window, t1, t2 })?;
         Ok(Entered {
-            kept: Kept::Expired { author, spent },
+            kept: CompactEntry::Expired { author, spent },
         })
     }
 }

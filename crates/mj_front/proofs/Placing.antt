@@ -6,7 +6,7 @@ use Rattle.mj_ports.specs.declared.sitting.JoinLine.{JoinLine}
 use Rattle.mj_ports.specs.declared.sitting.SitRefused.TheVariants.{Full, NameTaken, WrongKey, TooOften, Over}
 use Rattle.mj_seating.specs.declared.desk.Placed.{Placed}
 use Rattle.mj_seating.specs.declared.desk.Placed.TheVariants as places
-use Rattle.mj_seating.specs.Sitting.{Held, is_named, is_key, back, at_held, placed_from, placed}
+use Rattle.mj_seating.specs.Sitting.{Occupant, is_named, is_key, back, at_held, placed_from, placed}
 use Rattle.mj_forms.specs.AnswerForms.{join_of}
 use Rattle.mj_history.specs.After.{After, Chair}
 use Rattle.mj_history.specs.Legal.{is_over, can_return}
@@ -20,7 +20,7 @@ IsNext n (places.Sat seat) = (seat ≡ n) × ((n == 4) ≡ false)
 IsNext n (places.Back seat) = Unit {0}
 IsNext n (places.Refused why) = Unit {0}
 
-held-next : (n number : ℕ) (held : Held) (said : Option (List ℕ)) → IsNext n (at_held number held said)
+held-next : (n number : ℕ) (held : Occupant) (said : Option (List ℕ)) → IsNext n (at_held number held said)
 held-next n number held said = by_present held.present held.key
   where
     by_tests : (other_key often : Bool) → IsNext n (if other_key then places.Refused WrongKey else (if often then places.Refused TooOften else places.Back number))
@@ -33,7 +33,7 @@ held-next n number held said = by_present held.present held.key
     by_present false None = tt
     by_present false (Some key) = by_tests (not (is_key key said)) (nat_le 64 held.returns)
 
-next-from : (number : ℕ) (held : List Held) (join : JoinLine) → IsNext (number + length held) (placed_from number held join)
+next-from : (number : ℕ) (held : List Occupant) (join : JoinLine) → IsNext (number + length held) (placed_from number held join)
 next-from number [] join = by_count (number == 4) refl
   where
     none_more : (n : ℕ) → n ≡ n + 0
@@ -52,7 +52,7 @@ next-from number (one ∷ others) join = by_name (is_named join.name one) (next-
     by_name true h = held-next (number + suc (length others)) number one join.key
     by_name false h = subst (λ (n : ℕ). IsNext n (placed_from (number + 1) others join)) (longer number (length others)) h
 
-next-placed : (held : List Held) (join : JoinLine) → IsNext (length held) (placed held join)
+next-placed : (held : List Occupant) (join : JoinLine) → IsNext (length held) (placed held join)
 unfolding placed
 next-placed held join = subst (λ (n : ℕ). IsNext n (placed_from 0 held join)) (none_before (length held)) (next-from 0 held join)
   where

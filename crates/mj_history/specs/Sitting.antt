@@ -7,13 +7,13 @@ use Rattle.mj_ports.specs.declared.sitting.JoinLine.{JoinLine}
 use Rattle.mj_ports.specs.declared.sitting.SitRefused.TheVariants.{Over, BadName}
 use Rattle.mj_seating.specs.declared.desk.Placed.{Placed}
 use Rattle.mj_seating.specs.declared.desk.Placed.TheVariants as places
-use Rattle.mj_seating.specs.Sitting.{Held, placed}
+use Rattle.mj_seating.specs.Sitting.{Occupant, placed}
 use Rattle.mj_deeds.specs.declared.answer.Answer.{Answer}
 use Rattle.mj_history.specs.After.{After, Chair, is_present}
 use Rattle.mj_history.specs.Legal.{is_over}
 
 -- What the table of sitting asks of a seat.
-abbrev pub held_of : Chair → Held
+abbrev pub held_of : Chair → Occupant
 held_of chair = record { present = is_present chair; name = chair.name; key = chair.key; returns = chair.returns }
 
 -- A line that is no join gets no seat, nor does any once the game is over; else the table of sitting answers.

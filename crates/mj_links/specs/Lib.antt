@@ -4,7 +4,7 @@ pub mod Sources
 pub mod Sinks
 pub mod Links
 pub mod MemLinks
-pub mod Helds
+pub mod LineBuffers
 pub mod Fills
 pub mod Clocks
 pub mod Hosts

@@ -4,7 +4,7 @@
 
 mod clock;
 mod faults;
-mod held;
+mod line_buffer;
 mod host;
 mod link;
 mod machine_clock;

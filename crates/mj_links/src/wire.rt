@@ -1,12 +1,12 @@
 //! A link that is read line by line.
 
 ghost use Rattle.std.specs.Prelude.{◌≡◌, ℕ, [], ◌++◌, length, ◌<◌};
-ghost use Rattle.mj_links.specs.Helds.{held_bytes, wire_held, wire_link};
+ghost use Rattle.mj_links.specs.LineBuffers.{held_bytes, wire_held, wire_link};
 ghost use Rattle.mj_links.specs.Links.{ReadsLine, CountsFaultOfLine, ReadingStays, WritingStays, ReadsOn, Sends, CountsFaultOfSending};
 ghost use Rattle.mj_links.specs.Fills.{Fills};
 ghost use Rattle.mj_links.specs.Sources.{CountsReadFault};
 
-use crate::held::Held;
+use crate::line_buffer::LineBuffer;
 use crate::link::Link;
 use crate::sink::Put;
 use crate::source::Got;
@@ -39,7 +39,7 @@ pub enum Sent {
 #[derive(Drop)]
 pub struct Wire<L> {
     link: L,
-    held: Held,
+    held: LineBuffer,
 }
 
 impl<L: Link> Wire<L> {
@@ -50,7 +50,7 @@ impl<L: Link> Wire<L> {
     {
         Wire {
             link,
-            held: Held::new(),
+            held: LineBuffer::new(),
         }
     }
 
@@ -115,7 +115,7 @@ impl<L: Link> Wire<L> {
 }
 
 // One read from a link behind what is held.
-fn pull<L: Link>(link: &mut L, held: &mut Held) -> Got
+fn pull<L: Link>(link: &mut L, held: &mut LineBuffer) -> Got
     requires { length (held_bytes held.old) < 4096 }
     ensures bytes { Fills result (L.left link.old) (L.left link.new)
         (λ into. ReadsOn result into (L.was_read link.old) (L.was_read link.new))

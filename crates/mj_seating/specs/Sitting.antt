@@ -8,14 +8,14 @@ use Rattle.mj_seating.specs.declared.desk.Placed.{Placed}
 use Rattle.mj_seating.specs.declared.desk.Placed.TheVariants.{Sat, Back, Refused}
 
 -- A seat that is held: whether its player is present, the name and the key of its join, and how often it was taken back.
-pub record Held : Type 0 where
+pub record Occupant : Type 0 where
   pub present : Bool
   pub name : List ℕ
   pub key : Option (List ℕ)
   pub returns : ℕ
 
 -- A seat has this name.
-abbrev pub is_named : List ℕ → Held → Bool
+abbrev pub is_named : List ℕ → Occupant → Bool
 is_named name held = bytes_eq held.name name
 
 -- The key of a join is that with which the seat was taken.
@@ -34,39 +34,39 @@ back seat returns None said = Refused NoKey
 back seat returns (Some key) said = back_by_key seat returns key said
 
 -- A seat that has the name of the join: while it is present the name is taken.
-abbrev pub at_held : ℕ → Held → Option (List ℕ) → Placed
+abbrev pub at_held : ℕ → Occupant → Option (List ℕ) → Placed
 at_held seat held said = if held.present then Refused NameTaken else back seat held.returns held.key said
 
 -- The join goes to the first of the seats, counted from a number on, that has its name; where none has, the next seat is
 -- taken, as long as fewer than four are held.
-abbrev pub placed_from : ℕ → List Held → JoinLine → Placed
+abbrev pub placed_from : ℕ → List Occupant → JoinLine → Placed
 placed_from seat [] join = if seat == 4 then Refused Full else Sat seat
 placed_from seat (held ∷ others) join = if is_named join.name held then at_held seat held join.key else placed_from (seat + 1) others join
 
-unfoldable pub placed : List Held → JoinLine → Placed
+unfoldable pub placed : List Occupant → JoinLine → Placed
 placed held join = placed_from 0 held join
 
 -- A seat that has just been taken.
-abbrev pub new_held : JoinLine → Held
+abbrev pub new_held : JoinLine → Occupant
 new_held join = record { present = true; name = join.name; key = join.key; returns = 0 }
 
 -- A seat that is taken back, and one that leaves.
-abbrev pub came_back : Held → Held
+abbrev pub came_back : Occupant → Occupant
 came_back held = record held { present = true; returns = held.returns + 1 }
 
-abbrev pub gone : Held → Held
+abbrev pub gone : Occupant → Occupant
 gone held = record held { present = false }
 
 -- One of the seats changes.
-abbrev pub changed_at : List Held → ℕ → (Held → Held) → List Held
+abbrev pub changed_at : List Occupant → ℕ → (Occupant → Occupant) → List Occupant
 changed_at held seat change = option_map_or (λ one. slice_set held seat (change one)) (slice_get held seat) held
 
 -- The seats behind a join.
-abbrev pub seated : List Held → JoinLine → Placed → List Held
+abbrev pub seated : List Occupant → JoinLine → Placed → List Occupant
 seated held join (Sat seat) = held ++ new_held join ∷ []
 seated held join (Back seat) = changed_at held seat came_back
 seated held join (Refused why) = held
 
 -- A seat is held and its player is present.
-abbrev pub is_present_at : List Held → ℕ → Bool
+abbrev pub is_present_at : List Occupant → ℕ → Bool
 is_present_at held seat = option_map_or (λ one. one.present) (slice_get held seat) false

@@ -19,7 +19,7 @@ pub enum Placed {
 /// The seats of a game that are held, four at most, in the order in which they were taken.
 #[derive(Clone, Copy, Debug)]
 pub struct Desk {
-    places: [Held; 4],
+    places: [Occupant; 4],
     len: u8,
 }
 
@@ -27,10 +27,10 @@ impl Model for Desk {
     ghost use Rattle.std.specs.Prelude.{List, length, take};
     ghost use Rattle.std.proofs.Common.{arith, length-take-le};
     ghost use Rattle.mj_lists.specs.Padded.{padded, IsPadded};
-    ghost use Rattle.mj_seating.specs.Sitting.{Held as Seated};
+    ghost use Rattle.mj_seating.specs.Sitting.{Occupant as Occupied};
     ghost use Rattle.mj_seating.specs.Inner.Places.{free};
 
-    ghost Value = { List Seated };
+    ghost Value = { List Occupied };
 
     ghost view = { λ d. take d.len d.places };
 
@@ -46,17 +46,17 @@ impl Model for Desk {
 
 // A seat that is held.
 #[derive(Clone, Copy, Debug)]
-struct Held {
+struct Occupant {
     present: bool,
     name: Name,
     key: Option<Key>,
     returns: u8,
 }
 
-impl Model for Held {
-    ghost use Rattle.mj_seating.specs.Sitting.{Held as Seated};
+impl Model for Occupant {
+    ghost use Rattle.mj_seating.specs.Sitting.{Occupant as Occupied};
 
-    ghost Value = { Seated };
+    ghost Value = { Occupied };
 
     ghost view = { λ h. record { present = h.present; name = h.name; key = h.key; returns = h.returns } };
 
@@ -129,7 +129,7 @@ impl Desk {
     }
 
     // The seats that are held, in order.
-    fn taken(&self) -> &[Held]
+    fn taken(&self) -> &[Occupant]
         ensures items { result.now ≡ self.now }
         ensures within { length self.now ≤ 4 }
     {
@@ -137,14 +137,14 @@ impl Desk {
     }
 
     // A seat, where it is held.
-    fn at(&self, seat: u8) -> Option<Held>
+    fn at(&self, seat: u8) -> Option<Occupant>
         ensures { result ≡ slice_get self.now seat }
     {
         self.taken().get(usize::from(seat)).copied()
     }
 
     // The next seat is held.
-    fn push(&mut self, held: Held)
+    fn push(&mut self, held: Occupant)
         requires { length self.old < 4 }
         ensures { self.new ≡ self.old ++ held ∷ [] }
     {
@@ -153,7 +153,7 @@ impl Desk {
     }
 
     // Puts another in place of a seat that is held.
-    fn put(&mut self, seat: u8, held: Held)
+    fn put(&mut self, seat: u8, held: Occupant)
         requires { seat < length self.old }
         ensures { self.new ≡ slice_set self.old seat held }
     {
@@ -173,7 +173,7 @@ impl Desk {
 
 // What becomes of a join.
 #[tactic(auto, unfolding(crate::specs::Sitting::placed))]
-fn place_of(taken: &[Held], join: &JoinLine) -> Placed
+fn place_of(taken: &[Occupant], join: &JoinLine) -> Placed
     requires { length taken.now ≤ 4 }
     ensures answer { result ≡ placed taken.now join.now }
     ensures room { CanTake taken.now result }
@@ -193,7 +193,7 @@ fn place_of(taken: &[Held], join: &JoinLine) -> Placed
 }
 
 // What becomes of a join whose name a seat has.
-fn at_held(seat: u8, held: &Held, join: &JoinLine) -> Placed
+fn at_held(seat: u8, held: &Occupant, join: &JoinLine) -> Placed
     ensures { result ≡ at_held seat held.now join.now.key }
 {
     if held.present {
@@ -215,10 +215,10 @@ fn at_held(seat: u8, held: &Held, join: &JoinLine) -> Placed
 }
 
 // What stands in the place of a seat that isn't held.
-fn free() -> Held
+fn free() -> Occupant
     ensures { result ≡ free }
 {
-    Held {
+    Occupant {
         present: false,
         name: Name::of(&[]),
         key: None,
@@ -227,10 +227,10 @@ fn free() -> Held
 }
 
 // A seat that has just been taken.
-fn new_held(join: &JoinLine) -> Held
+fn new_held(join: &JoinLine) -> Occupant
     ensures { result ≡ new_held join.now }
 {
-    Held {
+    Occupant {
         present: true,
         name: join.name,
         key: join.key,
@@ -239,11 +239,11 @@ fn new_held(join: &JoinLine) -> Held
 }
 
 // A seat that is taken back.
-fn came_back(held: &Held) -> Held
+fn came_back(held: &Occupant) -> Occupant
     requires { held.now.returns < 64 }
     ensures { result ≡ came_back held.now }
 {
-    Held {
+    Occupant {
         present: true,
         name: held.name,
         key: held.key,
@@ -252,10 +252,10 @@ fn came_back(held: &Held) -> Held
 }
 
 // A seat that leaves.
-fn gone(held: &Held) -> Held
+fn gone(held: &Occupant) -> Occupant
     ensures { result ≡ gone held.now }
 {
-    Held {
+    Occupant {
         present: false,
         name: held.name,
         key: held.key,

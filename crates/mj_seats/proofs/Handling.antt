@@ -11,17 +11,17 @@ use Rattle.mj_seats.specs.declared.handle.Session.{Session}
 use Rattle.mj_seats.specs.Histories.{Enters}
 use Rattle.mj_seats.specs.declared.served.Ended.{Ended}
 use Rattle.mj_seats.specs.Sessions.{SeatedSession, SeatlessSession, SessionAt, IsExcused}
-use Rattle.mj_seats.specs.Handlers.{Kept, Handled, IsNew, IsOn, at_link}
+use Rattle.mj_seats.specs.Handlers.{Noted, Handled, IsNew, IsOn, at_link}
 use Rattle.mj_seats.specs.Wires.{WireState, at_wire}
 use Rattle.mj_links.specs.Hosts.{IsFresh}
-use Rattle.mj_links.specs.Helds.{wire_held, wire_link}
+use Rattle.mj_links.specs.LineBuffers.{wire_held, wire_link}
 use Rattle.mj_links.specs.Links.{ReadingStays, WritingStays}
 use Rattle.mj_links.specs.declared.wire.Wire.{Wire}
 use Rattle.mj_seats.proofs.Entering.{enters_chain, enters_nothing}
 
 module _ {A R L : Type 0} (after : List (Entry A) → After) (reads : List ℕ → A) (joins : List ℕ → Option JoinLine) (sits : List (Entry A) → List ℕ → SitAnswer) (hears : List (Entry A) → ℕ → ℕ → A → Heard R) (says : Control R → List ℕ) (at : List ℕ → L → WireState) where
   -- what excuses more excuses as well
-  pub kept_excused : (less more : Type 0) → (less → more) → (author : ℕ) (old new : List (Entry A)) (s : Session L) → Kept after reads joins sits hears says at less author old new s → Kept after reads joins sits hears says at more author old new s
+  pub kept_excused : (less more : Type 0) → (less → more) → (author : ℕ) (old new : List (Entry A)) (s : Session L) → Noted after reads joins sits hears says at less author old new s → Noted after reads joins sits hears says at more author old new s
   kept_excused less more f author old new s k = record { start = k.start; is_new = k.is_new; held = k.held; ended = k.ended; seated = k.seated; excused = λ h. f (k.excused h) }
 
   pub handled_excused : (less more : Type 0) → (less → more) → (author : ℕ) (old new : List (Entry A)) (ss : List (Session L)) → Handled after reads joins sits hears says at less author old new ss → Handled after reads joins sits hears says at more author old new ss
@@ -33,7 +33,7 @@ module _ {A R L : Type 0} (after : List (Entry A) → After) (reads : List ℕ �
   handled_on excuse author old mid new [] h e = enters_chain author old mid new [] [] h e
   handled_on excuse author old mid new (s ∷ ss) (next, k, o, h) e = (next, k, o, handled_on excuse author next mid new ss h e)
 
-  kept_from : (excuse : Type 0) (author : ℕ) (old mid new : List (Entry A)) (s : Session L) → Enters author old mid [] → Kept after reads joins sits hears says at excuse author mid new s → Kept after reads joins sits hears says at excuse author old new s
+  kept_from : (excuse : Type 0) (author : ℕ) (old mid new : List (Entry A)) (s : Session L) → Enters author old mid [] → Noted after reads joins sits hears says at excuse author mid new s → Noted after reads joins sits hears says at excuse author old new s
   kept_from excuse author old mid new s e k = record {
     start = k.start;
     is_new = k.is_new;
@@ -60,7 +60,7 @@ module _ {A R L : Type 0} (after : List (Entry A) → After) (reads : List ℕ �
     };
   }
 
-  kept_grown : (excuse : Type 0) (author : ℕ) (old new : List (Entry A)) (s : Session L) → Kept after reads joins sits hears says at excuse author old new s → (since : List (Entry A)) × (new ≡ old ++ since)
+  kept_grown : (excuse : Type 0) (author : ℕ) (old new : List (Entry A)) (s : Session L) → Noted after reads joins sits hears says at excuse author old new s → (since : List (Entry A)) × (new ≡ old ++ since)
   kept_grown excuse author old new s k =
       let b = k.seated.nothing_before in
       let e = k.seated.entered in (
@@ -81,7 +81,7 @@ module _ {A R L : Type 0} (after : List (Entry A) → After) (reads : List ℕ �
   not_over b f t = absurd (true≢false (sym t ∙ f))
 
   -- one more session, where the game was not over before it
-  pub handled_push : (excuse : Type 0) (author : ℕ) (old mid new : List (Entry A)) (ss : List (Session L)) (s : Session L) → IsOn after mid → Handled after reads joins sits hears says at excuse author old mid ss → Kept after reads joins sits hears says at excuse author mid new s
+  pub handled_push : (excuse : Type 0) (author : ℕ) (old mid new : List (Entry A)) (ss : List (Session L)) (s : Session L) → IsOn after mid → Handled after reads joins sits hears says at excuse author old mid ss → Noted after reads joins sits hears says at excuse author mid new s
       → Handled after reads joins sits hears says at excuse author old new (ss ++ s ∷ [])
   handled_push excuse author old mid new [] s on h k = (new, kept_from excuse author old mid new s h k, (λ over. refl), enters_nothing author new)
   handled_push excuse author old mid new (t ∷ ss) s on (next, k0, o, h) k =
@@ -91,13 +91,13 @@ module _ {A R L : Type 0} (after : List (Entry A) → After) (reads : List ℕ �
   pub handled_items : (excuse : Type 0) (author : ℕ) (old new : List (Entry A)) (ss all : List (Session L)) → all ≡ ss → Handled after reads joins sits hears says at excuse author old new ss → Handled after reads joins sits hears says at excuse author old new all
   handled_items excuse author old new ss all e h = subst (λ (l : List (Session L)). Handled after reads joins sits hears says at excuse author old new l) (sym e) h
 
-  pub handled_pushed : (excuse : Type 0) (author : ℕ) (old mid new : List (Entry A)) (ss all : List (Session L)) (s : Session L) → all ≡ ss ++ s ∷ [] → IsOn after mid → Handled after reads joins sits hears says at excuse author old mid ss → Kept after reads joins sits hears says at excuse author mid new s
+  pub handled_pushed : (excuse : Type 0) (author : ℕ) (old mid new : List (Entry A)) (ss all : List (Session L)) (s : Session L) → all ≡ ss ++ s ∷ [] → IsOn after mid → Handled after reads joins sits hears says at excuse author old mid ss → Noted after reads joins sits hears says at excuse author mid new s
       → Handled after reads joins sits hears says at excuse author old new all
   handled_pushed excuse author old mid new ss all s e on h k = handled_items excuse author old new (ss ++ s ∷ []) all e (handled_push excuse author old mid new ss s on h k)
 
   -- a link that was shut with the session of its wire
   pub kept_link : (excuse : Type 0) (author : ℕ) (old new : List (Entry A)) (s : Session L) (start : L) (x y : WireState) (ended : Ended) (place : ℕ)
-      → SeatedSession after reads joins sits hears says author old new x y ended place → x ≡ at [] start → IsNew x → y ≡ at y.held s.link → place ≡ s.place → (IsExcused ended → excuse) → Kept after reads joins sits hears says at excuse author old new s
+      → SeatedSession after reads joins sits hears says author old new x y ended place → x ≡ at [] start → IsNew x → y ≡ at y.held s.link → place ≡ s.place → (IsExcused ended → excuse) → Noted after reads joins sits hears says at excuse author old new s
   kept_link excuse author old new s start x y ended place seated same_x new_x same_y same_place f = record {
     start = start;
     is_new = subst (λ (w : WireState). IsNew w) same_x new_x;

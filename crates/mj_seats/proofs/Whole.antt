@@ -17,7 +17,7 @@ use Rattle.mj_seats.specs.declared.handle.Call.TheVariants as call
 use Rattle.mj_seats.specs.declared.handle.Session.{Session}
 use Rattle.mj_seats.specs.Histories.{Enters}
 use Rattle.mj_seats.specs.Sessions.{IsExcused, HistoryEnds, EndsBy, EndsByRefusal}
-use Rattle.mj_seats.specs.Handlers.{Handled, Kept, IsOn, Finds, Asks}
+use Rattle.mj_seats.specs.Handlers.{Handled, Noted, IsOn, Finds, Asks}
 use Rattle.mj_seats.specs.Workers.{Serves}
 use Rattle.mj_seats.specs.Wires.{WireState}
 use Rattle.mj_seats.proofs.Entering.{enters_chain}
@@ -125,7 +125,7 @@ module _ {A : Type 0} (after : List (Entry A) → After) (is_legal : List (Entry
       script_stays NoMemory author seat place new all gap legal e near h excused alone = absurd (excused tt)
 
       module _ {L : Type 0} (reads : List ℕ → A) (joins : List ℕ → Option JoinLine) (sits : List (Entry A) → List ℕ → SitAnswer) (at : List ℕ → L → WireState) where
-        place_near : (excuse : Type 0) (author : ℕ) (old new : List (Entry A)) (s : Session L) → Kept after reads joins sits hears says at excuse author old new s → s.place < length new
+        place_near : (excuse : Type 0) (author : ℕ) (old new : List (Entry A)) (s : Session L) → Noted after reads joins sits hears says at excuse author old new s → s.place < length new
         place_near excuse author old new s k =
             let e = k.seated.entered in
             let long : length new ≡ (length k.seated.before + 1) + length e.since = ap length e.grown ∙ (length-append (k.seated.before ++ k.seated.first ∷ []) e.since ∙ ap (λ (n : ℕ). n + length e.since) (length-append k.seated.before (k.seated.first ∷ []))) in

@@ -40,7 +40,7 @@ Excuses (Some end) = WantsMemory end
 
 module _ {A R L : Type 0} (after : List (Entry A) → After) (reads : List ℕ → A) (joins : List ℕ → Option JoinLine) (sits : List (Entry A) → List ℕ → SitAnswer) (hears : List (Entry A) → ℕ → ℕ → A → Heard R) (says : Control R → List ℕ) (at : List ℕ → L → WireState) where
   -- A link that is kept had a session with a seat, from when it came on, at the place that is kept with it.
-  pub record Kept (excuse : Type 0) (author : ℕ) (old new : List (Entry A)) (session : Session L) : Type 0 where
+  pub record Noted (excuse : Type 0) (author : ℕ) (old new : List (Entry A)) (session : Session L) : Type 0 where
     pub start : L
     pub is_new : IsNew (at [] start)
     pub held : List ℕ
@@ -53,7 +53,7 @@ module _ {A R L : Type 0} (after : List (Entry A) → After) (reads : List ℕ �
   abbrev pub Handled : Type 0 → ℕ → List (Entry A) → List (Entry A) → List (Session L) → Type 0
   Handled excuse author old new [] = Enters author old new []
   Handled excuse author old new (session ∷ sessions) =
-      (mid : List (Entry A)) × Kept excuse author old mid session × ((after mid).over ≡ true → sessions ≡ []) × Handled excuse author mid new sessions
+      (mid : List (Entry A)) × Noted excuse author old mid session × ((after mid).over ≡ true → sessions ≡ []) × Handled excuse author mid new sessions
 
 -- The game is over in the history seen, or the host made a fault with the handler's number.
 abbrev pub HandlerEnds : {A F : Type 0} → (List (Entry A) → After) → (F → Type 0) → (F → ℕ) → HandlerEnd F → ℕ → List (Entry A) → Type 0

@@ -2,7 +2,7 @@
 use Rattle.std.specs.Prelude.{◌≡◌, ◌⊎◌, ℕ, ◌<◌, ◌≤◌, false, List, [], ◌∷◌, ◌++◌, All, Option}
 use Rattle.std.specs.Io.KnownBytes.{Appends}
 use Rattle.mj_links.specs.declared.wire.Wire.{Wire}
-use Rattle.mj_links.specs.Helds.{wire_held, wire_link}
+use Rattle.mj_links.specs.LineBuffers.{wire_held, wire_link}
 use Rattle.mj_links.specs.Links.{Passes, has_newline}
 
 -- Of its link what was read, what is left and what is written, where these are known, and how many reads and writes

@@ -13,7 +13,7 @@ use Rattle.mj_seats.specs.declared.handle.HandlerEnd.{HandlerEnd}
 use Rattle.mj_seats.specs.declared.handle.HandlerEnd.TheVariants.{Over, Host, NoMemory}
 use Rattle.mj_seats.specs.declared.handle.Session.{Session}
 use Rattle.mj_seats.specs.Histories.{Enters, begins_one}
-use Rattle.mj_seats.specs.Handlers.{Kept}
+use Rattle.mj_seats.specs.Handlers.{Noted}
 use Rattle.mj_seats.specs.Wires.{WireState}
 
 module _ {A : Type 0} where
@@ -37,7 +37,7 @@ module _ {A R L : Type 0} (after : List (Entry A) → After) (reads : List ℕ �
   -- A session in the whole history: it saw a beginning of it, from the old entries up to the new ones, without want of memory,
   -- and the script of its connection in the whole history is that in what it saw.
   pub record IsServed (author : ℕ) (old new all : List (Entry A)) (session : Session L) : Type 0 where
-    pub kept : Kept after reads joins sits hears says at ⊥ author old new session
+    pub kept : Noted after reads joins sits hears says at ⊥ author old new session
     pub begins : IsPrefix new all
     pub script_is : script (after all) session.place ≡ script (after new) session.place
 

@@ -7,14 +7,14 @@ ghost use Rattle.turn_lock.specs.Turns.{IsIdle};
 use crate::hold;
 use crate::served::Ended;
 use crate::step::{Connection, Due, Step};
-use crate::table::Table;
+use crate::shared_game::SharedGame;
 use mj_links::{Link, Sent, Wire};
 use std::alloc::Global;
 use std::sync::Wait;
 use turn_lock::{Pass, Turn};
 
 // Waits until the due deed of the seat exists, and writes its line.
-pub(crate) fn next_line<T: Table, L: Link, R: Wait>(
+pub(crate) fn next_line<T: SharedGame, L: Link, R: Wait>(
     turn: &Turn<T>,
     rt: &R,
     alloc: Global,
@@ -22,18 +22,18 @@ pub(crate) fn next_line<T: Table, L: Link, R: Wait>(
     wire: &mut Wire<L>,
     at: Connection,
 ) -> Step
-    requires idle { IsIdle T.Kept.setting turn.now pass.old }
+    requires idle { IsIdle T.Noted.setting turn.now pass.old }
     requires seat { at.seat < 4 }
-    requires stands { Stands (T.after (T.Kept.setting turn.now.opening) pass.old.seen)
+    requires stands { Stands (T.after (T.Noted.setting turn.now.opening) pass.old.seen)
         pass.old.number at.seat at.place }
-    requires told { (T.after (T.Kept.setting turn.now.opening) pass.old.seen).is_told at.seat ≡ false }
-    ensures idle { IsIdle T.Kept.setting turn.now pass.new × (pass.new.number ≡ pass.old.number) }
-    ensures moves { Moves (T.after (T.Kept.setting turn.now.opening)) T.reads
-        (T.hears (T.Kept.setting turn.now.opening)) pass.old.number at.seat at.place result []
+    requires told { (T.after (T.Noted.setting turn.now.opening) pass.old.seen).is_told at.seat ≡ false }
+    ensures idle { IsIdle T.Noted.setting turn.now pass.new × (pass.new.number ≡ pass.old.number) }
+    ensures moves { Moves (T.after (T.Noted.setting turn.now.opening)) T.reads
+        (T.hears (T.Noted.setting turn.now.opening)) pass.old.number at.seat at.place result []
         pass.old.seen pass.new.seen
         (at_wire L.was_read L.left L.written L.read_faults L.write_faults wire.old)
         (at_wire L.was_read L.left L.written L.read_faults L.write_faults wire.new)
-        ((T.after (T.Kept.setting turn.now.opening) pass.old.seen).told at.place) }
+        ((T.after (T.Noted.setting turn.now.opening) pass.old.seen).told at.place) }
 {
     let mut line = Vec::new(alloc);
     match await_due(turn, rt, pass, at.seat, &mut line) {
@@ -47,22 +47,22 @@ pub(crate) fn next_line<T: Table, L: Link, R: Wait>(
 }
 
 // Waits until the due deed of the seat exists, or the game is over.
-fn await_due<T: Table, R: Wait>(
+fn await_due<T: SharedGame, R: Wait>(
     turn: &Turn<T>,
     rt: &R,
     pass: &mut Pass<T>,
     seat: u8,
     line: &mut Vec<u8>,
 ) -> Due
-    requires idle { IsIdle T.Kept.setting turn.now pass.old }
+    requires idle { IsIdle T.Noted.setting turn.now pass.old }
     requires seat { seat < 4 }
-    requires present { (T.after (T.Kept.setting turn.now.opening) pass.old.seen).present seat
+    requires present { (T.after (T.Noted.setting turn.now.opening) pass.old.seen).present seat
         ≡ Some pass.old.number }
-    ensures idle { IsIdle T.Kept.setting turn.now pass.new × (pass.new.number ≡ pass.old.number) }
-    ensures watches { Watches (T.after (T.Kept.setting turn.now.opening)) pass.old.number seat
+    ensures idle { IsIdle T.Noted.setting turn.now pass.new × (pass.new.number ≡ pass.old.number) }
+    ensures watches { Watches (T.after (T.Noted.setting turn.now.opening)) pass.old.number seat
         pass.old.seen pass.new.seen }
     ensures found { FindsDue (Some result)
-        (T.after (T.Kept.setting turn.now.opening) pass.new.seen) seat line.old.items
+        (T.after (T.Noted.setting turn.now.opening) pass.new.seen) seat line.old.items
         line.new.items }
 {
     for _ in rt.forever() {
@@ -75,21 +75,21 @@ fn await_due<T: Table, R: Wait>(
 }
 
 // Looks once for the due deed of the seat.
-fn look<T: Table, R: Wait>(
+fn look<T: SharedGame, R: Wait>(
     turn: &Turn<T>,
     rt: &R,
     pass: &mut Pass<T>,
     seat: u8,
     line: &mut Vec<u8>,
 ) -> Option<Due>
-    requires idle { IsIdle T.Kept.setting turn.now pass.old }
+    requires idle { IsIdle T.Noted.setting turn.now pass.old }
     requires seat { seat < 4 }
-    requires present { (T.after (T.Kept.setting turn.now.opening) pass.old.seen).present seat
+    requires present { (T.after (T.Noted.setting turn.now.opening) pass.old.seen).present seat
         ≡ Some pass.old.number }
-    ensures idle { IsIdle T.Kept.setting turn.now pass.new × (pass.new.number ≡ pass.old.number) }
-    ensures watches { Watches (T.after (T.Kept.setting turn.now.opening)) pass.old.number seat
+    ensures idle { IsIdle T.Noted.setting turn.now pass.new × (pass.new.number ≡ pass.old.number) }
+    ensures watches { Watches (T.after (T.Noted.setting turn.now.opening)) pass.old.number seat
         pass.old.seen pass.new.seen }
-    ensures found { FindsDue result (T.after (T.Kept.setting turn.now.opening) pass.new.seen) seat
+    ensures found { FindsDue result (T.after (T.Noted.setting turn.now.opening) pass.new.seen) seat
         line.old.items line.new.items }
 {
     let mut held = hold::take(turn, rt, pass);
@@ -99,7 +99,7 @@ fn look<T: Table, R: Wait>(
 }
 
 // The line of the due deed of the seat behind what stands in `line`; None where there is no such deed yet.
-fn find_due<T: Table>(table: &mut T, seat: u8, line: &mut Vec<u8>) -> Option<Due>
+fn find_due<T: SharedGame>(table: &mut T, seat: u8, line: &mut Vec<u8>) -> Option<Due>
     requires { seat < 4 }
     ensures setting { T.Seated.setting table.new ≡ T.Seated.setting table.old }
     ensures entries { T.history table.new ≡ T.history table.old }

@@ -12,12 +12,12 @@ use crate::hold;
 use crate::room::Room;
 use crate::serve::serve_at;
 use crate::served::Ended;
-use crate::table::Table;
+use crate::shared_game::SharedGame;
 use mj_links::{Came, Host, Link, Wire};
 use mj_ports::Seated;
 use std::alloc::Global;
 use std::sync::Wait;
-use turn_lock::{Kept, Pass, Turn};
+use turn_lock::{Noted, Pass, Turn};
 
 /// A link whose session with a seat is over, and the place of its Sat or Back among the entries.
 #[derive(Drop)]
@@ -55,9 +55,9 @@ pub fn handler<G: Seated, H: Host, R: Wait>(
     host: &H,
     sessions: &mut Vec<Session<H::Link>>,
 ) -> HandlerEnd<H::Fault>
-    requires idle { IsIdle ⟦<Room<G, H::Fault> as Kept>⟧.setting turn.now pass.old }
+    requires idle { IsIdle ⟦<Room<G, H::Fault> as Noted>⟧.setting turn.now pass.old }
     requires empty { sessions.old.items ≡ [] }
-    ensures idle { IsIdle ⟦<Room<G, H::Fault> as Kept>⟧.setting turn.now pass.new
+    ensures idle { IsIdle ⟦<Room<G, H::Fault> as Noted>⟧.setting turn.now pass.new
         × (pass.new.number ≡ pass.old.number) }
     ensures handled { Handled (G.after (G.setting turn.now.opening.game)) G.reads G.joins
         (G.sits (G.setting turn.now.opening.game)) (G.hears (G.setting turn.now.opening.game))
@@ -73,7 +73,7 @@ pub fn handler<G: Seated, H: Host, R: Wait>(
 }
 
 // The same at any table.
-pub(crate) fn handle_at<T: Table, H: Host<Fault = <T as Table>::Fault>, R: Wait>(
+pub(crate) fn handle_at<T: SharedGame, H: Host<Fault = <T as SharedGame>::Fault>, R: Wait>(
     turn: &Turn<T>,
     rt: &R,
     alloc: Global,
@@ -81,17 +81,17 @@ pub(crate) fn handle_at<T: Table, H: Host<Fault = <T as Table>::Fault>, R: Wait>
     host: &H,
     sessions: &mut Vec<Session<H::Link>>,
 ) -> HandlerEnd<H::Fault>
-    requires idle { IsIdle T.Kept.setting turn.now pass.old }
+    requires idle { IsIdle T.Noted.setting turn.now pass.old }
     requires empty { sessions.old.items ≡ [] }
-    ensures idle { IsIdle T.Kept.setting turn.now pass.new × (pass.new.number ≡ pass.old.number) }
-    ensures handled { Handled (T.after (T.Kept.setting turn.now.opening)) T.reads T.joins
-        (T.sits (T.Kept.setting turn.now.opening)) (T.hears (T.Kept.setting turn.now.opening))
+    ensures idle { IsIdle T.Noted.setting turn.now pass.new × (pass.new.number ≡ pass.old.number) }
+    ensures handled { Handled (T.after (T.Noted.setting turn.now.opening)) T.reads T.joins
+        (T.sits (T.Noted.setting turn.now.opening)) (T.hears (T.Noted.setting turn.now.opening))
         T.says (at_link H.Link.was_read H.Link.left H.Link.written H.Link.read_faults
         H.Link.write_faults) (WantsMemory result) pass.old.number pass.old.seen pass.new.seen
         sessions.new.items }
     ensures places { places_of pass.old.number pass.new.seen
         ≡ places_of pass.old.number pass.old.seen ++ map (λ s. s.place) sessions.new.items }
-    ensures ended { HandlerEnds (T.after (T.Kept.setting turn.now.opening)) (H.made_by host.now)
+    ensures ended { HandlerEnds (T.after (T.Noted.setting turn.now.opening)) (H.made_by host.now)
         T.Fault.number result pass.old.number pass.new.seen }
 {
     for _ in rt.forever() {
@@ -103,7 +103,7 @@ pub(crate) fn handle_at<T: Table, H: Host<Fault = <T as Table>::Fault>, R: Wait>
 }
 
 // Takes one link, and serves it.
-fn handle_once<T: Table, H: Host<Fault = <T as Table>::Fault>, R: Wait>(
+fn handle_once<T: SharedGame, H: Host<Fault = <T as SharedGame>::Fault>, R: Wait>(
     turn: &Turn<T>,
     rt: &R,
     alloc: Global,
@@ -111,18 +111,18 @@ fn handle_once<T: Table, H: Host<Fault = <T as Table>::Fault>, R: Wait>(
     host: &H,
     sessions: &mut Vec<Session<H::Link>>,
 ) -> Option<HandlerEnd<H::Fault>>
-    requires idle { IsIdle T.Kept.setting turn.now pass.old }
-    ensures idle { IsIdle T.Kept.setting turn.now pass.new × (pass.new.number ≡ pass.old.number) }
+    requires idle { IsIdle T.Noted.setting turn.now pass.old }
+    ensures idle { IsIdle T.Noted.setting turn.now pass.new × (pass.new.number ≡ pass.old.number) }
     ensures handled { (first : List (Entry T.Answer))
-        → Handled (T.after (T.Kept.setting turn.now.opening)) T.reads T.joins
-        (T.sits (T.Kept.setting turn.now.opening)) (T.hears (T.Kept.setting turn.now.opening))
+        → Handled (T.after (T.Noted.setting turn.now.opening)) T.reads T.joins
+        (T.sits (T.Noted.setting turn.now.opening)) (T.hears (T.Noted.setting turn.now.opening))
         T.says (at_link H.Link.was_read H.Link.left H.Link.written H.Link.read_faults
         H.Link.write_faults) ⊥ pass.old.number first pass.old.seen sessions.old.items
-        → Handled (T.after (T.Kept.setting turn.now.opening)) T.reads T.joins
-        (T.sits (T.Kept.setting turn.now.opening)) (T.hears (T.Kept.setting turn.now.opening))
+        → Handled (T.after (T.Noted.setting turn.now.opening)) T.reads T.joins
+        (T.sits (T.Noted.setting turn.now.opening)) (T.hears (T.Noted.setting turn.now.opening))
         T.says (at_link H.Link.was_read H.Link.left H.Link.written H.Link.read_faults
         H.Link.write_faults) (Excuses result) pass.old.number first pass.new.seen sessions.new.items }
-    ensures ended { HandlerEndsTo (T.after (T.Kept.setting turn.now.opening)) (H.made_by host.now)
+    ensures ended { HandlerEndsTo (T.after (T.Noted.setting turn.now.opening)) (H.made_by host.now)
         T.Fault.number result pass.old.number pass.new.seen }
 {
     match ask(turn, rt, pass) {
@@ -139,7 +139,7 @@ fn handle_once<T: Table, H: Host<Fault = <T as Table>::Fault>, R: Wait>(
 }
 
 // Takes a link, for which there is room, and serves it.
-fn take_link<T: Table, H: Host<Fault = <T as Table>::Fault>, R: Wait>(
+fn take_link<T: SharedGame, H: Host<Fault = <T as SharedGame>::Fault>, R: Wait>(
     turn: &Turn<T>,
     rt: &R,
     alloc: Global,
@@ -147,20 +147,20 @@ fn take_link<T: Table, H: Host<Fault = <T as Table>::Fault>, R: Wait>(
     host: &H,
     sessions: &mut Vec<Session<H::Link>>,
 ) -> Option<HandlerEnd<H::Fault>>
-    requires idle { IsIdle T.Kept.setting turn.now pass.old }
-    requires on { IsOn (T.after (T.Kept.setting turn.now.opening)) pass.old.seen }
+    requires idle { IsIdle T.Noted.setting turn.now pass.old }
+    requires on { IsOn (T.after (T.Noted.setting turn.now.opening)) pass.old.seen }
     requires room { vec_len sessions.old + 1 ≤ vec_capacity sessions.old }
-    ensures idle { IsIdle T.Kept.setting turn.now pass.new × (pass.new.number ≡ pass.old.number) }
+    ensures idle { IsIdle T.Noted.setting turn.now pass.new × (pass.new.number ≡ pass.old.number) }
     ensures handled { (first : List (Entry T.Answer))
-        → Handled (T.after (T.Kept.setting turn.now.opening)) T.reads T.joins
-        (T.sits (T.Kept.setting turn.now.opening)) (T.hears (T.Kept.setting turn.now.opening))
+        → Handled (T.after (T.Noted.setting turn.now.opening)) T.reads T.joins
+        (T.sits (T.Noted.setting turn.now.opening)) (T.hears (T.Noted.setting turn.now.opening))
         T.says (at_link H.Link.was_read H.Link.left H.Link.written H.Link.read_faults
         H.Link.write_faults) ⊥ pass.old.number first pass.old.seen sessions.old.items
-        → Handled (T.after (T.Kept.setting turn.now.opening)) T.reads T.joins
-        (T.sits (T.Kept.setting turn.now.opening)) (T.hears (T.Kept.setting turn.now.opening))
+        → Handled (T.after (T.Noted.setting turn.now.opening)) T.reads T.joins
+        (T.sits (T.Noted.setting turn.now.opening)) (T.hears (T.Noted.setting turn.now.opening))
         T.says (at_link H.Link.was_read H.Link.left H.Link.written H.Link.read_faults
         H.Link.write_faults) (Excuses result) pass.old.number first pass.new.seen sessions.new.items }
-    ensures ended { HandlerEndsTo (T.after (T.Kept.setting turn.now.opening)) (H.made_by host.now)
+    ensures ended { HandlerEndsTo (T.after (T.Noted.setting turn.now.opening)) (H.made_by host.now)
         T.Fault.number result pass.old.number pass.new.seen }
 {
     match host.accept(pass.number()) {
@@ -174,7 +174,7 @@ fn take_link<T: Table, H: Host<Fault = <T as Table>::Fault>, R: Wait>(
 }
 
 // Serves a link to the end of its session, shuts it, and keeps it where its session had a seat.
-fn serve_link<T: Table, L: Link + Drop, F, R: Wait>(
+fn serve_link<T: SharedGame, L: Link + Drop, F, R: Wait>(
     turn: &Turn<T>,
     rt: &R,
     alloc: Global,
@@ -182,19 +182,19 @@ fn serve_link<T: Table, L: Link + Drop, F, R: Wait>(
     link: L,
     sessions: &mut Vec<Session<L>>,
 ) -> Option<HandlerEnd<F>>
-    requires idle { IsIdle T.Kept.setting turn.now pass.old }
-    requires on { IsOn (T.after (T.Kept.setting turn.now.opening)) pass.old.seen }
+    requires idle { IsIdle T.Noted.setting turn.now pass.old }
+    requires on { IsOn (T.after (T.Noted.setting turn.now.opening)) pass.old.seen }
     requires fresh { IsFresh (L.was_read link) (L.written link) (L.read_faults link)
         (L.write_faults link) }
     requires room { vec_len sessions.old + 1 ≤ vec_capacity sessions.old }
-    ensures idle { IsIdle T.Kept.setting turn.now pass.new × (pass.new.number ≡ pass.old.number) }
+    ensures idle { IsIdle T.Noted.setting turn.now pass.new × (pass.new.number ≡ pass.old.number) }
     ensures handled { (first : List (Entry T.Answer))
-        → Handled (T.after (T.Kept.setting turn.now.opening)) T.reads T.joins
-        (T.sits (T.Kept.setting turn.now.opening)) (T.hears (T.Kept.setting turn.now.opening))
+        → Handled (T.after (T.Noted.setting turn.now.opening)) T.reads T.joins
+        (T.sits (T.Noted.setting turn.now.opening)) (T.hears (T.Noted.setting turn.now.opening))
         T.says (at_link L.was_read L.left L.written L.read_faults
         L.write_faults) ⊥ pass.old.number first pass.old.seen sessions.old.items
-        → Handled (T.after (T.Kept.setting turn.now.opening)) T.reads T.joins
-        (T.sits (T.Kept.setting turn.now.opening)) (T.hears (T.Kept.setting turn.now.opening))
+        → Handled (T.after (T.Noted.setting turn.now.opening)) T.reads T.joins
+        (T.sits (T.Noted.setting turn.now.opening)) (T.hears (T.Noted.setting turn.now.opening))
         T.says (at_link L.was_read L.left L.written L.read_faults
         L.write_faults) (Excuses result) pass.old.number first pass.new.seen sessions.new.items }
     ensures ended { IfSome result WantsMemory }
@@ -229,11 +229,11 @@ fn end_after<F>(ended: Ended) -> Option<HandlerEnd<F>>
 }
 
 // Whether the game is over, or memory was wanting.
-fn ask<T: Table, R: Wait>(turn: &Turn<T>, rt: &R, pass: &mut Pass<T>) -> Call
-    requires { IsIdle T.Kept.setting turn.now pass.old }
-    ensures idle { IsIdle T.Kept.setting turn.now pass.new × (pass.new.number ≡ pass.old.number) }
+fn ask<T: SharedGame, R: Wait>(turn: &Turn<T>, rt: &R, pass: &mut Pass<T>) -> Call
+    requires { IsIdle T.Noted.setting turn.now pass.old }
+    ensures idle { IsIdle T.Noted.setting turn.now pass.new × (pass.new.number ≡ pass.old.number) }
     ensures nothing { Enters pass.old.number pass.old.seen pass.new.seen [] }
-    ensures asks { Asks result (T.after (T.Kept.setting turn.now.opening)) pass.new.seen }
+    ensures asks { Asks result (T.after (T.Noted.setting turn.now.opening)) pass.new.seen }
 {
     let mut held = hold::take(turn, rt, pass);
     let call = call_of(held.value());
@@ -241,7 +241,7 @@ fn ask<T: Table, R: Wait>(turn: &Turn<T>, rt: &R, pass: &mut Pass<T>) -> Call
     call
 }
 
-fn call_of<T: Table>(table: &mut T) -> Call
+fn call_of<T: SharedGame>(table: &mut T) -> Call
     ensures same { table.new ≡ table.old }
     ensures finds { Finds result (T.after (T.Seated.setting table.old) (T.history table.old)) }
 {
@@ -255,9 +255,9 @@ fn call_of<T: Table>(table: &mut T) -> Call
 }
 
 // Keeps the fault by which the host failed the handler.
-fn lose<T: Table, R: Wait>(turn: &Turn<T>, rt: &R, pass: &mut Pass<T>, fault: T::Fault)
-    requires { IsIdle T.Kept.setting turn.now pass.old }
-    ensures idle { IsIdle T.Kept.setting turn.now pass.new × (pass.new.number ≡ pass.old.number) }
+fn lose<T: SharedGame, R: Wait>(turn: &Turn<T>, rt: &R, pass: &mut Pass<T>, fault: T::Fault)
+    requires { IsIdle T.Noted.setting turn.now pass.old }
+    ensures idle { IsIdle T.Noted.setting turn.now pass.new × (pass.new.number ≡ pass.old.number) }
     ensures nothing { Enters pass.old.number pass.old.seen pass.new.seen [] }
 {
     let mut held = hold::take(turn, rt, pass);

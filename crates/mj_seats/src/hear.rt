@@ -8,7 +8,7 @@ ghost use Rattle.turn_lock.specs.Turns.{IsIdle};
 use crate::hold;
 use crate::served::Ended;
 use crate::step::{Connection, Step, Verdict};
-use crate::table::Table;
+use crate::shared_game::SharedGame;
 use mj_links::{LineRead, Link, Sent, Wire};
 use mj_ports::{Control, Heard};
 use std::alloc::Global;
@@ -16,7 +16,7 @@ use std::sync::Wait;
 use turn_lock::{Pass, Turn};
 
 // Reads a line of a seat whose due line is written, and answers it.
-pub(crate) fn hear_line<T: Table, L: Link, R: Wait>(
+pub(crate) fn hear_line<T: SharedGame, L: Link, R: Wait>(
     turn: &Turn<T>,
     rt: &R,
     alloc: Global,
@@ -24,19 +24,19 @@ pub(crate) fn hear_line<T: Table, L: Link, R: Wait>(
     wire: &mut Wire<L>,
     at: Connection,
 ) -> Step
-    requires idle { IsIdle T.Kept.setting turn.now pass.old }
+    requires idle { IsIdle T.Noted.setting turn.now pass.old }
     requires seat { at.seat < 4 }
-    requires stands { Stands (T.after (T.Kept.setting turn.now.opening) pass.old.seen)
+    requires stands { Stands (T.after (T.Noted.setting turn.now.opening) pass.old.seen)
         pass.old.number at.seat at.place }
-    requires due { (T.after (T.Kept.setting turn.now.opening) pass.old.seen).due at.seat
-        < (T.after (T.Kept.setting turn.now.opening) pass.old.seen).deeds }
-    ensures idle { IsIdle T.Kept.setting turn.now pass.new × (pass.new.number ≡ pass.old.number) }
-    ensures moves { Moves (T.after (T.Kept.setting turn.now.opening)) T.reads
-        (T.hears (T.Kept.setting turn.now.opening)) pass.old.number at.seat at.place result []
+    requires due { (T.after (T.Noted.setting turn.now.opening) pass.old.seen).due at.seat
+        < (T.after (T.Noted.setting turn.now.opening) pass.old.seen).deeds }
+    ensures idle { IsIdle T.Noted.setting turn.now pass.new × (pass.new.number ≡ pass.old.number) }
+    ensures moves { Moves (T.after (T.Noted.setting turn.now.opening)) T.reads
+        (T.hears (T.Noted.setting turn.now.opening)) pass.old.number at.seat at.place result []
         pass.old.seen pass.new.seen
         (at_wire L.was_read L.left L.written L.read_faults L.write_faults wire.old)
         (at_wire L.was_read L.left L.written L.read_faults L.write_faults wire.new)
-        (script (T.after (T.Kept.setting turn.now.opening) pass.old.seen) at.place) }
+        (script (T.after (T.Noted.setting turn.now.opening) pass.old.seen) at.place) }
 {
     let mut line = Vec::new(alloc);
     match wire.read_line(&mut line) {
@@ -52,7 +52,7 @@ pub(crate) fn hear_line<T: Table, L: Link, R: Wait>(
 }
 
 // Enters what a line says, and writes the error line where it is refused.
-fn answer<T: Table, L: Link, R: Wait>(
+fn answer<T: SharedGame, L: Link, R: Wait>(
     turn: &Turn<T>,
     rt: &R,
     alloc: Global,
@@ -61,19 +61,19 @@ fn answer<T: Table, L: Link, R: Wait>(
     at: Connection,
     line: &[u8],
 ) -> Step
-    requires idle { IsIdle T.Kept.setting turn.now pass.old }
+    requires idle { IsIdle T.Noted.setting turn.now pass.old }
     requires seat { at.seat < 4 }
-    requires stands { Stands (T.after (T.Kept.setting turn.now.opening) pass.old.seen)
+    requires stands { Stands (T.after (T.Noted.setting turn.now.opening) pass.old.seen)
         pass.old.number at.seat at.place }
-    requires due { (T.after (T.Kept.setting turn.now.opening) pass.old.seen).due at.seat
-        < (T.after (T.Kept.setting turn.now.opening) pass.old.seen).deeds }
-    ensures idle { IsIdle T.Kept.setting turn.now pass.new × (pass.new.number ≡ pass.old.number) }
-    ensures moves { Moves (T.after (T.Kept.setting turn.now.opening)) T.reads
-        (T.hears (T.Kept.setting turn.now.opening)) pass.old.number at.seat at.place result
+    requires due { (T.after (T.Noted.setting turn.now.opening) pass.old.seen).due at.seat
+        < (T.after (T.Noted.setting turn.now.opening) pass.old.seen).deeds }
+    ensures idle { IsIdle T.Noted.setting turn.now pass.new × (pass.new.number ≡ pass.old.number) }
+    ensures moves { Moves (T.after (T.Noted.setting turn.now.opening)) T.reads
+        (T.hears (T.Noted.setting turn.now.opening)) pass.old.number at.seat at.place result
         (line.now ∷ []) pass.old.seen pass.new.seen
         (at_wire L.was_read L.left L.written L.read_faults L.write_faults wire.old)
         (at_wire L.was_read L.left L.written L.read_faults L.write_faults wire.new)
-        (script (T.after (T.Kept.setting turn.now.opening) pass.old.seen) at.place) }
+        (script (T.after (T.Noted.setting turn.now.opening) pass.old.seen) at.place) }
 {
     let mut reply = Vec::new(alloc);
     match say(turn, rt, alloc, pass, at, line, &mut reply) {
@@ -91,7 +91,7 @@ fn answer<T: Table, L: Link, R: Wait>(
 }
 
 // Enters what a line says, in its turn.
-fn say<T: Table, R: Wait>(
+fn say<T: SharedGame, R: Wait>(
     turn: &Turn<T>,
     rt: &R,
     alloc: Global,
@@ -100,16 +100,16 @@ fn say<T: Table, R: Wait>(
     line: &[u8],
     reply: &mut Vec<u8>,
 ) -> Verdict
-    requires idle { IsIdle T.Kept.setting turn.now pass.old }
+    requires idle { IsIdle T.Noted.setting turn.now pass.old }
     requires seat { at.seat < 4 }
-    requires stands { Stands (T.after (T.Kept.setting turn.now.opening) pass.old.seen)
+    requires stands { Stands (T.after (T.Noted.setting turn.now.opening) pass.old.seen)
         pass.old.number at.seat at.place }
-    requires due { (T.after (T.Kept.setting turn.now.opening) pass.old.seen).due at.seat
-        < (T.after (T.Kept.setting turn.now.opening) pass.old.seen).deeds }
+    requires due { (T.after (T.Noted.setting turn.now.opening) pass.old.seen).due at.seat
+        < (T.after (T.Noted.setting turn.now.opening) pass.old.seen).deeds }
     requires empty { reply.old.items ≡ [] }
-    ensures idle { IsIdle T.Kept.setting turn.now pass.new × (pass.new.number ≡ pass.old.number) }
-    ensures spoke { SpeaksAt (T.after (T.Kept.setting turn.now.opening))
-        (T.hears (T.Kept.setting turn.now.opening)) result pass.old.number at.seat
+    ensures idle { IsIdle T.Noted.setting turn.now pass.new × (pass.new.number ≡ pass.old.number) }
+    ensures spoke { SpeaksAt (T.after (T.Noted.setting turn.now.opening))
+        (T.hears (T.Noted.setting turn.now.opening)) result pass.old.number at.seat
         at.place pass.old.seen pass.new.seen (T.reads line.now) reply.new.items }
 {
     let number = pass.number();
@@ -120,7 +120,7 @@ fn say<T: Table, R: Wait>(
 }
 
 // Enters what a line says, and writes the error line where it is refused into `reply`.
-fn speak<T: Table>(
+fn speak<T: SharedGame>(
     table: &mut T,
     alloc: Global,
     author: u8,

@@ -6,21 +6,21 @@ ghost use Rattle.mj_seats.specs.Steps.{Watches};
 ghost use Rattle.turn_lock.specs.Notes.{Follows};
 ghost use Rattle.turn_lock.specs.Turns.{IsIdle, IsBusy, IsSeenIn, taken, given};
 
-use crate::table::Table;
+use crate::shared_game::SharedGame;
 use std::sync::Wait;
 use turn_lock::{Held, Pass, Turn};
 
 // Takes the table in its turn. Since the pass gave it back, others entered what they entered.
-pub(crate) fn take<T: Table, R: Wait>(turn: &Turn<T>, rt: &R, pass: &mut Pass<T>) -> Held<T>
-    requires { IsIdle T.Kept.setting turn.now pass.old }
+pub(crate) fn take<T: SharedGame, R: Wait>(turn: &Turn<T>, rt: &R, pass: &mut Pass<T>) -> Held<T>
+    requires { IsIdle T.Noted.setting turn.now pass.old }
     ensures pass { pass.new ≡ taken pass.old (T.history result) }
-    ensures setting { T.Seated.setting result ≡ T.Kept.setting turn.now.opening }
-    ensures legal { T.is_legal (T.Kept.setting turn.now.opening) (T.history result) }
+    ensures setting { T.Seated.setting result ≡ T.Noted.setting turn.now.opening }
+    ensures legal { T.is_legal (T.Noted.setting turn.now.opening) (T.history result) }
     ensures nothing { Enters pass.old.number pass.old.seen (T.history result) [] }
     ensures watches { (seat : ℕ)
-        → (T.after (T.Kept.setting turn.now.opening) pass.old.seen).present seat
+        → (T.after (T.Noted.setting turn.now.opening) pass.old.seen).present seat
         ≡ Some pass.old.number
-        → Watches (T.after (T.Kept.setting turn.now.opening)) pass.old.number seat pass.old.seen
+        → Watches (T.after (T.Noted.setting turn.now.opening)) pass.old.number seat pass.old.seen
         (T.history result) }
 {
     let mut held = turn.take(rt, pass);
@@ -29,9 +29,9 @@ pub(crate) fn take<T: Table, R: Wait>(turn: &Turn<T>, rt: &R, pass: &mut Pass<T>
 }
 
 // Gives the table back, with at most one entry more, of the pass's number, and marks it where memory was wanting.
-pub(crate) fn give<T: Table>(turn: &Turn<T>, pass: &mut Pass<T>, mut held: Held<T>, wanting: bool)
-    requires busy { IsBusy T.Kept.setting turn.now pass.old }
-    requires setting { T.Seated.setting held ≡ T.Kept.setting turn.now.opening }
+pub(crate) fn give<T: SharedGame>(turn: &Turn<T>, pass: &mut Pass<T>, mut held: Held<T>, wanting: bool)
+    requires busy { IsBusy T.Noted.setting turn.now pass.old }
+    requires setting { T.Seated.setting held ≡ T.Noted.setting turn.now.opening }
     requires entries { Follows author_of pass.old.number pass.old.seen (T.history held) }
     ensures { pass.new ≡ given pass.old (T.history held) }
 {
@@ -40,11 +40,11 @@ pub(crate) fn give<T: Table>(turn: &Turn<T>, pass: &mut Pass<T>, mut held: Held<
 }
 
 // Ends the turn of a table, with all of its passes.
-pub(crate) fn close<T: Table>(turn: Turn<T>, passes: Vec<Pass<T>>) -> T
+pub(crate) fn close<T: SharedGame>(turn: Turn<T>, passes: Vec<Pass<T>>) -> T
     requires all { length passes.items ≡ turn.passes }
-    requires idle { All (IsIdle T.Kept.setting turn) passes.items }
-    ensures setting { T.Seated.setting result ≡ T.Kept.setting turn.opening }
-    ensures legal { T.is_legal (T.Kept.setting turn.opening) (T.history result) }
+    requires idle { All (IsIdle T.Noted.setting turn) passes.items }
+    ensures setting { T.Seated.setting result ≡ T.Noted.setting turn.opening }
+    ensures legal { T.is_legal (T.Noted.setting turn.opening) (T.history result) }
     ensures seen { All (IsSeenIn author_of (T.history result)) passes.items }
     ensures below { All (λ e. author_of e < turn.passes) (T.history result) }
 {
@@ -54,21 +54,21 @@ pub(crate) fn close<T: Table>(turn: Turn<T>, passes: Vec<Pass<T>>) -> T
 }
 
 // Marks that memory was wanting, and enters nothing.
-pub(crate) fn give_up<T: Table, R: Wait>(turn: &Turn<T>, rt: &R, pass: &mut Pass<T>)
-    requires { IsIdle T.Kept.setting turn.now pass.old }
-    ensures idle { IsIdle T.Kept.setting turn.now pass.new × (pass.new.number ≡ pass.old.number) }
+pub(crate) fn give_up<T: SharedGame, R: Wait>(turn: &Turn<T>, rt: &R, pass: &mut Pass<T>)
+    requires { IsIdle T.Noted.setting turn.now pass.old }
+    ensures idle { IsIdle T.Noted.setting turn.now pass.new × (pass.new.number ≡ pass.old.number) }
     ensures nothing { Enters pass.old.number pass.old.seen pass.new.seen [] }
     ensures watches { (seat : ℕ)
-        → (T.after (T.Kept.setting turn.now.opening) pass.old.seen).present seat
+        → (T.after (T.Noted.setting turn.now.opening) pass.old.seen).present seat
         ≡ Some pass.old.number
-        → Watches (T.after (T.Kept.setting turn.now.opening)) pass.old.number seat pass.old.seen
+        → Watches (T.after (T.Noted.setting turn.now.opening)) pass.old.number seat pass.old.seen
         pass.new.seen }
 {
     let held = take(turn, rt, pass);
     give(turn, pass, held, true);
 }
 
-fn mark<T: Table>(table: &mut T, wanting: bool)
+fn mark<T: SharedGame>(table: &mut T, wanting: bool)
     ensures setting { T.Seated.setting table.new ≡ T.Seated.setting table.old }
     ensures entries { T.history table.new ≡ T.history table.old }
     ensures lost { (k : ℕ) → T.lost table.new k ≡ T.lost table.old k }

@@ -6,14 +6,14 @@ ghost use Rattle.turn_lock.specs.Turns.{IsIdle};
 use crate::hold;
 use crate::served::Ended;
 use crate::step::Connection;
-use crate::table::Table;
+use crate::shared_game::SharedGame;
 use mj_ports::Left;
 use std::alloc::Global;
 use std::sync::Wait;
 use turn_lock::{Pass, Turn};
 
 // Enters that the seat is gone where its link ended the session.
-pub(crate) fn finish<T: Table, R: Wait>(
+pub(crate) fn finish<T: SharedGame, R: Wait>(
     turn: &Turn<T>,
     rt: &R,
     alloc: Global,
@@ -21,13 +21,13 @@ pub(crate) fn finish<T: Table, R: Wait>(
     at: Connection,
     ended: Ended,
 ) -> Ended
-    requires idle { IsIdle T.Kept.setting turn.now pass.old }
+    requires idle { IsIdle T.Noted.setting turn.now pass.old }
     requires seat { at.seat < 4 }
-    requires stands { StandsAt (T.after (T.Kept.setting turn.now.opening))
-        (T.hears (T.Kept.setting turn.now.opening)) ended pass.old.number at.seat at.place
+    requires stands { StandsAt (T.after (T.Noted.setting turn.now.opening))
+        (T.hears (T.Noted.setting turn.now.opening)) ended pass.old.number at.seat at.place
         pass.old.seen }
-    ensures idle { IsIdle T.Kept.setting turn.now pass.new × (pass.new.number ≡ pass.old.number) }
-    ensures finishes { FinishesAs (T.after (T.Kept.setting turn.now.opening)) ended result
+    ensures idle { IsIdle T.Noted.setting turn.now pass.new × (pass.new.number ≡ pass.old.number) }
+    ensures finishes { FinishesAs (T.after (T.Noted.setting turn.now.opening)) ended result
         pass.old.number at.seat at.place pass.old.seen pass.new.seen }
 {
     match ended {
@@ -42,7 +42,7 @@ pub(crate) fn finish<T: Table, R: Wait>(
 }
 
 // Enters that the seat is gone, in its turn, and answers how its session ended, or want of memory.
-pub(crate) fn leave<T: Table, R: Wait>(
+pub(crate) fn leave<T: SharedGame, R: Wait>(
     turn: &Turn<T>,
     rt: &R,
     alloc: Global,
@@ -50,12 +50,12 @@ pub(crate) fn leave<T: Table, R: Wait>(
     at: Connection,
     ended: Ended,
 ) -> Ended
-    requires idle { IsIdle T.Kept.setting turn.now pass.old }
+    requires idle { IsIdle T.Noted.setting turn.now pass.old }
     requires seat { at.seat < 4 }
-    requires stands { Stands (T.after (T.Kept.setting turn.now.opening) pass.old.seen)
+    requires stands { Stands (T.after (T.Noted.setting turn.now.opening) pass.old.seen)
         pass.old.number at.seat at.place }
-    ensures idle { IsIdle T.Kept.setting turn.now pass.new × (pass.new.number ≡ pass.old.number) }
-    ensures leaves { LeavesAs (T.after (T.Kept.setting turn.now.opening)) ended result
+    ensures idle { IsIdle T.Noted.setting turn.now pass.new × (pass.new.number ≡ pass.old.number) }
+    ensures leaves { LeavesAs (T.after (T.Noted.setting turn.now.opening)) ended result
         pass.old.number at.seat at.place pass.old.seen pass.new.seen }
 {
     let number = pass.number();
@@ -69,7 +69,7 @@ pub(crate) fn leave<T: Table, R: Wait>(
 }
 
 // Enters that the seat is gone.
-fn part<T: Table>(table: &mut T, alloc: Global, author: u8, at: Connection) -> Left
+fn part<T: SharedGame>(table: &mut T, alloc: Global, author: u8, at: Connection) -> Left
     requires seat { at.seat < 4 }
     requires stands { Stands (T.after (T.Seated.setting table.old) (T.history table.old)) author
         at.seat at.place }

@@ -9,14 +9,14 @@ use crate::due::next_line;
 use crate::hear::hear_line;
 use crate::served::Ended;
 use crate::step::{Connection, Step};
-use crate::table::Table;
+use crate::shared_game::SharedGame;
 use mj_links::{Link, Wire};
 use std::alloc::Global;
 use std::sync::Wait;
 use turn_lock::{Pass, Turn};
 
 // Plays a seat that was told what it is told first, until its session ends.
-pub(crate) fn play<T: Table, L: Link, R: Wait>(
+pub(crate) fn play<T: SharedGame, L: Link, R: Wait>(
     turn: &Turn<T>,
     rt: &R,
     alloc: Global,
@@ -24,18 +24,18 @@ pub(crate) fn play<T: Table, L: Link, R: Wait>(
     wire: &mut Wire<L>,
     at: Connection,
 ) -> Ended
-    requires idle { IsIdle T.Kept.setting turn.now pass.old }
+    requires idle { IsIdle T.Noted.setting turn.now pass.old }
     requires seat { at.seat < 4 }
-    requires stands { Stands (T.after (T.Kept.setting turn.now.opening) pass.old.seen)
+    requires stands { Stands (T.after (T.Noted.setting turn.now.opening) pass.old.seen)
         pass.old.number at.seat at.place }
-    requires told { (T.after (T.Kept.setting turn.now.opening) pass.old.seen).is_told at.seat ≡ false }
-    ensures idle { IsIdle T.Kept.setting turn.now pass.new × (pass.new.number ≡ pass.old.number) }
-    ensures moves { Moves (T.after (T.Kept.setting turn.now.opening)) T.reads
-        (T.hears (T.Kept.setting turn.now.opening)) pass.old.number at.seat at.place (Ends result)
+    requires told { (T.after (T.Noted.setting turn.now.opening) pass.old.seen).is_told at.seat ≡ false }
+    ensures idle { IsIdle T.Noted.setting turn.now pass.new × (pass.new.number ≡ pass.old.number) }
+    ensures moves { Moves (T.after (T.Noted.setting turn.now.opening)) T.reads
+        (T.hears (T.Noted.setting turn.now.opening)) pass.old.number at.seat at.place (Ends result)
         [] pass.old.seen pass.new.seen
         (at_wire L.was_read L.left L.written L.read_faults L.write_faults wire.old)
         (at_wire L.was_read L.left L.written L.read_faults L.write_faults wire.new)
-        ((T.after (T.Kept.setting turn.now.opening) pass.old.seen).told at.place) }
+        ((T.after (T.Noted.setting turn.now.opening) pass.old.seen).told at.place) }
 {
     let mut step = Step::Free;
     for _ in rt.forever() {

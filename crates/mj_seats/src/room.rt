@@ -3,11 +3,11 @@ ghost use Rattle.mj_ports.specs.Entries.{author_of};
 ghost use Rattle.mj_seats.specs.Faults.{holds_fault};
 
 use crate::lost::{Lost, is_kept, keep};
-use crate::table::Table;
+use crate::shared_game::SharedGame;
 use mj_links::Numbered;
 use mj_ports::{Control, Entry, Expiry, Heard, Left, Seated, SitAnswer};
 use std::alloc::{AllocError, Global};
-use turn_lock::Kept;
+use turn_lock::Noted;
 
 /// A game that workers share, with the faults that their host made, and whether memory was wanting of one of them.
 #[derive(Drop)]
@@ -17,7 +17,7 @@ pub struct Room<G, F: Numbered> {
     pub dry: bool,
 }
 
-impl<G: Seated, F: Numbered> Kept for Room<G, F> {
+impl<G: Seated, F: Numbered> Noted for Room<G, F> {
     type Setting = G::Setting;
 
     type Note = Entry<G::Answer>;
@@ -131,7 +131,7 @@ impl<G: Seated, F: Numbered> Seated for Room<G, F> {
     ghost leaves = { G.leaves };
 }
 
-impl<G: Seated, F: Numbered> Table for Room<G, F> {
+impl<G: Seated, F: Numbered> SharedGame for Room<G, F> {
     ghost use Rattle.std.specs.Prelude.{refl};
 
     type Fault = F;

@@ -16,12 +16,12 @@ use crate::room::Room;
 use crate::served::{Ended, Served};
 use crate::sit::sit;
 use crate::step::{Connection, Sitting};
-use crate::table::Table;
+use crate::shared_game::SharedGame;
 use mj_links::{LineRead, Link, Numbered, Sent, Wire};
 use mj_ports::{Control, Seated};
 use std::alloc::Global;
 use std::sync::Wait;
-use turn_lock::{Kept, Pass, Turn};
+use turn_lock::{Noted, Pass, Turn};
 
 /// Serves a link until its session ends. It writes the hello line, reads the line that wants a seat, and plays the seat:
 /// it writes each line of it once its deed is due and exists, and then reads the answer. A seat whose link ended the
@@ -33,8 +33,8 @@ pub fn serve_seat<G: Seated, F: Numbered, L: Link, R: Wait>(
     pass: &mut Pass<Room<G, F>>,
     wire: &mut Wire<L>,
 ) -> Served
-    requires { IsIdle ⟦<Room<G, F> as Kept>⟧.setting turn.now pass.old }
-    ensures idle { IsIdle ⟦<Room<G, F> as Kept>⟧.setting turn.now pass.new
+    requires { IsIdle ⟦<Room<G, F> as Noted>⟧.setting turn.now pass.old }
+    ensures idle { IsIdle ⟦<Room<G, F> as Noted>⟧.setting turn.now pass.new
         × (pass.new.number ≡ pass.old.number) }
     ensures session { Session (G.after (G.setting turn.now.opening.game)) G.reads G.joins
         (G.sits (G.setting turn.now.opening.game)) (G.hears (G.setting turn.now.opening.game))
@@ -46,17 +46,17 @@ pub fn serve_seat<G: Seated, F: Numbered, L: Link, R: Wait>(
 }
 
 // The same at any table.
-pub(crate) fn serve_at<T: Table, L: Link, R: Wait>(
+pub(crate) fn serve_at<T: SharedGame, L: Link, R: Wait>(
     turn: &Turn<T>,
     rt: &R,
     alloc: Global,
     pass: &mut Pass<T>,
     wire: &mut Wire<L>,
 ) -> Served
-    requires { IsIdle T.Kept.setting turn.now pass.old }
-    ensures idle { IsIdle T.Kept.setting turn.now pass.new × (pass.new.number ≡ pass.old.number) }
-    ensures session { Session (T.after (T.Kept.setting turn.now.opening)) T.reads T.joins
-        (T.sits (T.Kept.setting turn.now.opening)) (T.hears (T.Kept.setting turn.now.opening))
+    requires { IsIdle T.Noted.setting turn.now pass.old }
+    ensures idle { IsIdle T.Noted.setting turn.now pass.new × (pass.new.number ≡ pass.old.number) }
+    ensures session { Session (T.after (T.Noted.setting turn.now.opening)) T.reads T.joins
+        (T.sits (T.Noted.setting turn.now.opening)) (T.hears (T.Noted.setting turn.now.opening))
         T.says pass.old.number pass.old.seen pass.new.seen
         (at_wire L.was_read L.left L.written L.read_faults L.write_faults wire.old)
         (at_wire L.was_read L.left L.written L.read_faults L.write_faults wire.new) result }
@@ -69,7 +69,7 @@ pub(crate) fn serve_at<T: Table, L: Link, R: Wait>(
 }
 
 // Writes the hello line, and reads the first line.
-fn first_line<T: Table, L: Link, R: Wait>(
+fn first_line<T: SharedGame, L: Link, R: Wait>(
     turn: &Turn<T>,
     rt: &R,
     alloc: Global,
@@ -77,9 +77,9 @@ fn first_line<T: Table, L: Link, R: Wait>(
     wire: &mut Wire<L>,
     line: &mut Vec<u8>,
 ) -> Option<Ended>
-    requires { IsIdle T.Kept.setting turn.now pass.old }
-    ensures idle { IsIdle T.Kept.setting turn.now pass.new × (pass.new.number ≡ pass.old.number) }
-    ensures greets { Greets (T.sits (T.Kept.setting turn.now.opening)) T.says (line.new.items ∷ [])
+    requires { IsIdle T.Noted.setting turn.now pass.old }
+    ensures idle { IsIdle T.Noted.setting turn.now pass.new × (pass.new.number ≡ pass.old.number) }
+    ensures greets { Greets (T.sits (T.Noted.setting turn.now.opening)) T.says (line.new.items ∷ [])
         result pass.old.number pass.old.seen pass.new.seen
         (at_wire L.was_read L.left L.written L.read_faults L.write_faults wire.old)
         (at_wire L.was_read L.left L.written L.read_faults L.write_faults wire.new) }
@@ -91,21 +91,21 @@ fn first_line<T: Table, L: Link, R: Wait>(
 }
 
 // Reads the first line.
-fn read_first<T: Table, L: Link, R: Wait>(
+fn read_first<T: SharedGame, L: Link, R: Wait>(
     turn: &Turn<T>,
     rt: &R,
     pass: &mut Pass<T>,
     wire: &mut Wire<L>,
     line: &mut Vec<u8>,
 ) -> Option<Ended>
-    requires { IsIdle T.Kept.setting turn.now pass.old }
-    ensures idle { IsIdle T.Kept.setting turn.now pass.new × (pass.new.number ≡ pass.old.number) }
+    requires { IsIdle T.Noted.setting turn.now pass.old }
+    ensures idle { IsIdle T.Noted.setting turn.now pass.new × (pass.new.number ≡ pass.old.number) }
     ensures greets { (first : List (Entry T.Answer)) → (x : WireState)
         → Enters pass.old.number first pass.old.seen []
         → Took x (at_wire L.was_read L.left L.written L.read_faults L.write_faults wire.old) [] []
         → Told x (at_wire L.was_read L.left L.written L.read_faults L.write_faults wire.old) []
         (T.says Hello)
-        → Greets (T.sits (T.Kept.setting turn.now.opening)) T.says (line.new.items ∷ [])
+        → Greets (T.sits (T.Noted.setting turn.now.opening)) T.says (line.new.items ∷ [])
         result pass.old.number first pass.new.seen x
         (at_wire L.was_read L.left L.written L.read_faults L.write_faults wire.new) }
 {
@@ -122,16 +122,16 @@ fn read_first<T: Table, L: Link, R: Wait>(
 }
 
 // Writes the hello line.
-fn greet<T: Table, L: Link, R: Wait>(
+fn greet<T: SharedGame, L: Link, R: Wait>(
     turn: &Turn<T>,
     rt: &R,
     alloc: Global,
     pass: &mut Pass<T>,
     wire: &mut Wire<L>,
 ) -> Option<Ended>
-    requires { IsIdle T.Kept.setting turn.now pass.old }
-    ensures idle { IsIdle T.Kept.setting turn.now pass.new × (pass.new.number ≡ pass.old.number) }
-    ensures greets { Greets (T.sits (T.Kept.setting turn.now.opening)) T.says [] result
+    requires { IsIdle T.Noted.setting turn.now pass.old }
+    ensures idle { IsIdle T.Noted.setting turn.now pass.new × (pass.new.number ≡ pass.old.number) }
+    ensures greets { Greets (T.sits (T.Noted.setting turn.now.opening)) T.says [] result
         pass.old.number pass.old.seen pass.new.seen
         (at_wire L.was_read L.left L.written L.read_faults L.write_faults wire.old)
         (at_wire L.was_read L.left L.written L.read_faults L.write_faults wire.new) }
@@ -147,16 +147,16 @@ fn greet<T: Table, L: Link, R: Wait>(
 }
 
 // The hello line into `hello`; false where memory was wanting.
-fn write_hello<T: Table, R: Wait>(
+fn write_hello<T: SharedGame, R: Wait>(
     turn: &Turn<T>,
     rt: &R,
     alloc: Global,
     pass: &mut Pass<T>,
     hello: &mut Vec<u8>,
 ) -> bool
-    requires idle { IsIdle T.Kept.setting turn.now pass.old }
+    requires idle { IsIdle T.Noted.setting turn.now pass.old }
     requires empty { hello.old.items ≡ [] }
-    ensures idle { IsIdle T.Kept.setting turn.now pass.new × (pass.new.number ≡ pass.old.number) }
+    ensures idle { IsIdle T.Noted.setting turn.now pass.new × (pass.new.number ≡ pass.old.number) }
     ensures nothing { Enters pass.old.number pass.old.seen pass.new.seen [] }
     ensures hello { result ≡ true → hello.new.items ≡ T.says Hello }
 {
@@ -166,7 +166,7 @@ fn write_hello<T: Table, R: Wait>(
     written
 }
 
-fn hello_of<T: Table>(table: &mut T, alloc: Global, hello: &mut Vec<u8>) -> bool
+fn hello_of<T: SharedGame>(table: &mut T, alloc: Global, hello: &mut Vec<u8>) -> bool
     requires { hello.old.items ≡ [] }
     ensures setting { T.Seated.setting table.new ≡ T.Seated.setting table.old }
     ensures entries { T.history table.new ≡ T.history table.old }
@@ -176,7 +176,7 @@ fn hello_of<T: Table>(table: &mut T, alloc: Global, hello: &mut Vec<u8>) -> bool
 }
 
 // Gives the first line a seat, and plays it.
-fn seat_line<T: Table, L: Link, R: Wait>(
+fn seat_line<T: SharedGame, L: Link, R: Wait>(
     turn: &Turn<T>,
     rt: &R,
     alloc: Global,
@@ -184,16 +184,16 @@ fn seat_line<T: Table, L: Link, R: Wait>(
     wire: &mut Wire<L>,
     line: &[u8],
 ) -> Served
-    requires { IsIdle T.Kept.setting turn.now pass.old }
-    ensures idle { IsIdle T.Kept.setting turn.now pass.new × (pass.new.number ≡ pass.old.number) }
+    requires { IsIdle T.Noted.setting turn.now pass.old }
+    ensures idle { IsIdle T.Noted.setting turn.now pass.new × (pass.new.number ≡ pass.old.number) }
     ensures session { (first : List (Entry T.Answer)) → (x : WireState)
         → Enters pass.old.number first pass.old.seen []
         → Took x (at_wire L.was_read L.left L.written L.read_faults L.write_faults wire.old)
         (line.now ∷ []) []
         → Told x (at_wire L.was_read L.left L.written L.read_faults L.write_faults wire.old) []
         (T.says Hello)
-        → Session (T.after (T.Kept.setting turn.now.opening)) T.reads T.joins
-        (T.sits (T.Kept.setting turn.now.opening)) (T.hears (T.Kept.setting turn.now.opening))
+        → Session (T.after (T.Noted.setting turn.now.opening)) T.reads T.joins
+        (T.sits (T.Noted.setting turn.now.opening)) (T.hears (T.Noted.setting turn.now.opening))
         T.says pass.old.number first pass.new.seen x
         (at_wire L.was_read L.left L.written L.read_faults L.write_faults wire.new) result }
 {
@@ -222,7 +222,7 @@ fn seat_line<T: Table, L: Link, R: Wait>(
 }
 
 // Writes what a seat is told first behind the hello line, and plays it to the end.
-fn play_out<T: Table, L: Link, R: Wait>(
+fn play_out<T: SharedGame, L: Link, R: Wait>(
     turn: &Turn<T>,
     rt: &R,
     alloc: Global,
@@ -231,16 +231,16 @@ fn play_out<T: Table, L: Link, R: Wait>(
     at: Connection,
     told: &[u8],
 ) -> Ended
-    requires idle { IsIdle T.Kept.setting turn.now pass.old }
+    requires idle { IsIdle T.Noted.setting turn.now pass.old }
     requires seat { at.seat < 4 }
-    requires stands { Stands (T.after (T.Kept.setting turn.now.opening) pass.old.seen)
+    requires stands { Stands (T.after (T.Noted.setting turn.now.opening) pass.old.seen)
         pass.old.number at.seat at.place }
-    requires free { (T.after (T.Kept.setting turn.now.opening) pass.old.seen).is_told at.seat ≡ false }
-    requires told { (T.after (T.Kept.setting turn.now.opening) pass.old.seen).told at.place
+    requires free { (T.after (T.Noted.setting turn.now.opening) pass.old.seen).is_told at.seat ≡ false }
+    requires told { (T.after (T.Noted.setting turn.now.opening) pass.old.seen).told at.place
         ≡ T.says Hello ++ told.now }
-    ensures idle { IsIdle T.Kept.setting turn.now pass.new × (pass.new.number ≡ pass.old.number) }
-    ensures finished { Finished (T.after (T.Kept.setting turn.now.opening)) T.reads
-        (T.hears (T.Kept.setting turn.now.opening)) pass.old.number at.seat at.place result
+    ensures idle { IsIdle T.Noted.setting turn.now pass.new × (pass.new.number ≡ pass.old.number) }
+    ensures finished { Finished (T.after (T.Noted.setting turn.now.opening)) T.reads
+        (T.hears (T.Noted.setting turn.now.opening)) pass.old.number at.seat at.place result
         pass.old.seen pass.new.seen
         (at_wire L.was_read L.left L.written L.read_faults L.write_faults wire.old)
         (at_wire L.was_read L.left L.written L.read_faults L.write_faults wire.new)

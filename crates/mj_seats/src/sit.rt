@@ -7,14 +7,14 @@ ghost use Rattle.turn_lock.specs.Turns.{IsIdle};
 
 use crate::hold;
 use crate::step::{Connection, Sitting};
-use crate::table::Table;
+use crate::shared_game::SharedGame;
 use mj_ports::{Control, SitAnswer};
 use std::alloc::{AllocError, Global};
 use std::sync::Wait;
 use turn_lock::{Pass, Turn};
 
 // Gives the line a seat, in its turn, with what is told to it behind the hello line, or the line of its refusal.
-pub(crate) fn sit<T: Table, R: Wait>(
+pub(crate) fn sit<T: SharedGame, R: Wait>(
     turn: &Turn<T>,
     rt: &R,
     alloc: Global,
@@ -22,11 +22,11 @@ pub(crate) fn sit<T: Table, R: Wait>(
     line: &[u8],
     told: &mut Vec<u8>,
 ) -> Sitting
-    requires idle { IsIdle T.Kept.setting turn.now pass.old }
+    requires idle { IsIdle T.Noted.setting turn.now pass.old }
     requires empty { told.old.items ≡ [] }
-    ensures idle { IsIdle T.Kept.setting turn.now pass.new × (pass.new.number ≡ pass.old.number) }
-    ensures sits { SitsAt (T.after (T.Kept.setting turn.now.opening))
-        (T.sits (T.Kept.setting turn.now.opening)) T.joins T.says result line.now
+    ensures idle { IsIdle T.Noted.setting turn.now pass.new × (pass.new.number ≡ pass.old.number) }
+    ensures sits { SitsAt (T.after (T.Noted.setting turn.now.opening))
+        (T.sits (T.Noted.setting turn.now.opening)) T.joins T.says result line.now
         pass.old.number pass.old.seen pass.new.seen told.new.items }
 {
     let number = pass.number();
@@ -42,7 +42,7 @@ pub(crate) fn sit<T: Table, R: Wait>(
 }
 
 // Gives the line a seat, and writes what it is told behind the hello line, or the line of its refusal, into `told`.
-fn sit_down<T: Table>(
+fn sit_down<T: SharedGame>(
     table: &mut T,
     alloc: Global,
     author: u8,
@@ -81,7 +81,7 @@ fn sit_down<T: Table>(
 
 // The replay head and the lines before the due deed of the seat, behind what stands in `told`.
 #[tactic(auto, using(crate::proofs::Seating::replay_start, crate::proofs::Seating::replay_more))]
-fn replay<T: Table>(
+fn replay<T: SharedGame>(
     table: &T,
     alloc: Global,
     seat: u8,

@@ -8,12 +8,12 @@ ghost use Rattle.turn_lock.specs.Turns.{IsIdle};
 
 use crate::hold;
 use crate::room::Room;
-use crate::table::Table;
+use crate::shared_game::SharedGame;
 use mj_links::{Clock, Numbered};
 use mj_ports::{Expiry, Seated};
 use std::alloc::Global;
 use std::sync::Wait;
-use turn_lock::{Kept, Pass, Turn};
+use turn_lock::{Noted, Pass, Turn};
 
 /// How the telling of the time ended.
 #[derive(Clone, Copy, PartialEq, Eq, Debug)]
@@ -66,30 +66,30 @@ pub fn tick<G: Seated, F: Numbered, C: Clock, R: Wait>(
     pass: &mut Pass<Room<G, F>>,
     clock: &mut C,
 ) -> Ticked
-    requires { IsIdle ⟦<Room<G, F> as Kept>⟧.setting turn.now pass.old }
-    ensures idle { IsIdle ⟦<Room<G, F> as Kept>⟧.setting turn.now pass.new
+    requires { IsIdle ⟦<Room<G, F> as Noted>⟧.setting turn.now pass.old }
+    ensures idle { IsIdle ⟦<Room<G, F> as Noted>⟧.setting turn.now pass.new
         × (pass.new.number ≡ pass.old.number) }
     ensures ticks { Ticks pass.old.number pass.old.seen pass.new.seen (C.readings clock.old)
         (C.readings clock.new) }
-    ensures ended { TicksAs ⟦<Room<G, F> as Seated>⟧.history ⟦<Room<G, F> as Table>⟧.lost
+    ensures ended { TicksAs ⟦<Room<G, F> as Seated>⟧.history ⟦<Room<G, F> as SharedGame>⟧.lost
         (G.after (G.setting turn.now.opening.game)) result pass.new.seen }
 {
     tick_at(turn, rt, alloc, pass, clock)
 }
 
 // The same at any table.
-pub(crate) fn tick_at<T: Table, C: Clock, R: Wait>(
+pub(crate) fn tick_at<T: SharedGame, C: Clock, R: Wait>(
     turn: &Turn<T>,
     rt: &R,
     alloc: Global,
     pass: &mut Pass<T>,
     clock: &mut C,
 ) -> Ticked
-    requires { IsIdle T.Kept.setting turn.now pass.old }
-    ensures idle { IsIdle T.Kept.setting turn.now pass.new × (pass.new.number ≡ pass.old.number) }
+    requires { IsIdle T.Noted.setting turn.now pass.old }
+    ensures idle { IsIdle T.Noted.setting turn.now pass.new × (pass.new.number ≡ pass.old.number) }
     ensures ticks { Ticks pass.old.number pass.old.seen pass.new.seen (C.readings clock.old)
         (C.readings clock.new) }
-    ensures ended { TicksAs T.history T.lost (T.after (T.Kept.setting turn.now.opening)) result
+    ensures ended { TicksAs T.history T.lost (T.after (T.Noted.setting turn.now.opening)) result
         pass.new.seen }
 {
     let mut watch = None;
@@ -103,7 +103,7 @@ pub(crate) fn tick_at<T: Table, C: Clock, R: Wait>(
 }
 
 // One step of the ticker.
-fn tick_once<T: Table, C: Clock, R: Wait>(
+fn tick_once<T: SharedGame, C: Clock, R: Wait>(
     turn: &Turn<T>,
     rt: &R,
     alloc: Global,
@@ -111,11 +111,11 @@ fn tick_once<T: Table, C: Clock, R: Wait>(
     clock: &mut C,
     watch: Option<Watch>,
 ) -> Beat
-    requires { IsIdle T.Kept.setting turn.now pass.old }
-    ensures idle { IsIdle T.Kept.setting turn.now pass.new × (pass.new.number ≡ pass.old.number) }
+    requires { IsIdle T.Noted.setting turn.now pass.old }
+    ensures idle { IsIdle T.Noted.setting turn.now pass.new × (pass.new.number ≡ pass.old.number) }
     ensures ticks { (first : List (Entry T.Answer)) → (start : Option (List ℕ))
         → Ticking pass.old.number first pass.old.seen start (C.readings clock.old) watch
-        → TicksTo T.history T.lost (T.after (T.Kept.setting turn.now.opening)) result
+        → TicksTo T.history T.lost (T.after (T.Noted.setting turn.now.opening)) result
         pass.old.number first pass.new.seen start (C.readings clock.new) }
 {
     match watch {
@@ -125,17 +125,17 @@ fn tick_once<T: Table, C: Clock, R: Wait>(
 }
 
 // Looks for an open window, and reads the clock once one is seen.
-fn open_watch<T: Table, C: Clock, R: Wait>(
+fn open_watch<T: SharedGame, C: Clock, R: Wait>(
     turn: &Turn<T>,
     rt: &R,
     pass: &mut Pass<T>,
     clock: &mut C,
 ) -> Beat
-    requires { IsIdle T.Kept.setting turn.now pass.old }
-    ensures idle { IsIdle T.Kept.setting turn.now pass.new × (pass.new.number ≡ pass.old.number) }
+    requires { IsIdle T.Noted.setting turn.now pass.old }
+    ensures idle { IsIdle T.Noted.setting turn.now pass.new × (pass.new.number ≡ pass.old.number) }
     ensures ticks { (first : List (Entry T.Answer)) → (start : Option (List ℕ))
         → Ticking pass.old.number first pass.old.seen start (C.readings clock.old) None
-        → TicksTo T.history T.lost (T.after (T.Kept.setting turn.now.opening)) result
+        → TicksTo T.history T.lost (T.after (T.Noted.setting turn.now.opening)) result
         pass.old.number first pass.new.seen start (C.readings clock.new) }
 {
     match look(turn, rt, pass) {
@@ -152,7 +152,7 @@ fn open_watch<T: Table, C: Clock, R: Wait>(
 }
 
 // Reads the clock again, and tries to close the window that is watched.
-fn try_close<T: Table, C: Clock, R: Wait>(
+fn try_close<T: SharedGame, C: Clock, R: Wait>(
     turn: &Turn<T>,
     rt: &R,
     alloc: Global,
@@ -160,11 +160,11 @@ fn try_close<T: Table, C: Clock, R: Wait>(
     clock: &mut C,
     watch: Watch,
 ) -> Beat
-    requires { IsIdle T.Kept.setting turn.now pass.old }
-    ensures idle { IsIdle T.Kept.setting turn.now pass.new × (pass.new.number ≡ pass.old.number) }
+    requires { IsIdle T.Noted.setting turn.now pass.old }
+    ensures idle { IsIdle T.Noted.setting turn.now pass.new × (pass.new.number ≡ pass.old.number) }
     ensures ticks { (first : List (Entry T.Answer)) → (start : Option (List ℕ))
         → Ticking pass.old.number first pass.old.seen start (C.readings clock.old) (Some watch)
-        → TicksTo T.history T.lost (T.after (T.Kept.setting turn.now.opening)) result
+        → TicksTo T.history T.lost (T.after (T.Noted.setting turn.now.opening)) result
         pass.old.number first pass.new.seen start (C.readings clock.new) }
 {
     let now = clock.now();
@@ -177,11 +177,11 @@ fn try_close<T: Table, C: Clock, R: Wait>(
 }
 
 // Looks at the table, in its turn.
-fn look<T: Table, R: Wait>(turn: &Turn<T>, rt: &R, pass: &mut Pass<T>) -> Seen
-    requires { IsIdle T.Kept.setting turn.now pass.old }
-    ensures idle { IsIdle T.Kept.setting turn.now pass.new × (pass.new.number ≡ pass.old.number) }
+fn look<T: SharedGame, R: Wait>(turn: &Turn<T>, rt: &R, pass: &mut Pass<T>) -> Seen
+    requires { IsIdle T.Noted.setting turn.now pass.old }
+    ensures idle { IsIdle T.Noted.setting turn.now pass.new × (pass.new.number ≡ pass.old.number) }
     ensures nothing { Enters pass.old.number pass.old.seen pass.new.seen [] }
-    ensures sees { Sees T.history T.lost (T.after (T.Kept.setting turn.now.opening)) result
+    ensures sees { Sees T.history T.lost (T.after (T.Noted.setting turn.now.opening)) result
         pass.new.seen }
 {
     let mut held = hold::take(turn, rt, pass);
@@ -190,7 +190,7 @@ fn look<T: Table, R: Wait>(turn: &Turn<T>, rt: &R, pass: &mut Pass<T>) -> Seen
     seen
 }
 
-fn see<T: Table>(table: &mut T) -> Seen
+fn see<T: SharedGame>(table: &mut T) -> Seen
     ensures same { table.new ≡ table.old }
     ensures sees { Sees T.history T.lost (T.after (T.Seated.setting table.old)) result
         (T.history table.old) }
@@ -205,7 +205,7 @@ fn see<T: Table>(table: &mut T) -> Seen
 }
 
 // Tries to close a window, in its turn.
-fn close<T: Table, R: Wait>(
+fn close<T: SharedGame, R: Wait>(
     turn: &Turn<T>,
     rt: &R,
     alloc: Global,
@@ -213,9 +213,9 @@ fn close<T: Table, R: Wait>(
     watch: Watch,
     now: u64,
 ) -> Closing
-    requires { IsIdle T.Kept.setting turn.now pass.old }
-    ensures idle { IsIdle T.Kept.setting turn.now pass.new × (pass.new.number ≡ pass.old.number) }
-    ensures closes { ClosesAt T.history T.lost (T.after (T.Kept.setting turn.now.opening)) result
+    requires { IsIdle T.Noted.setting turn.now pass.old }
+    ensures idle { IsIdle T.Noted.setting turn.now pass.new × (pass.new.number ≡ pass.old.number) }
+    ensures closes { ClosesAt T.history T.lost (T.after (T.Noted.setting turn.now.opening)) result
         pass.old.number watch.window watch.since now pass.old.seen pass.new.seen }
 {
     let number = pass.number();
@@ -230,7 +230,7 @@ fn close<T: Table, R: Wait>(
     closing
 }
 
-fn expire<T: Table>(table: &mut T, alloc: Global, author: u8, watch: Watch, now: u64) -> Closing
+fn expire<T: SharedGame>(table: &mut T, alloc: Global, author: u8, watch: Watch, now: u64) -> Closing
     ensures setting { T.Seated.setting table.new ≡ T.Seated.setting table.old }
     ensures closes { Closes T.history T.lost (T.after (T.Seated.setting table.old)) result author
         watch.window watch.since now (T.history table.old) (T.history table.new) }
@@ -247,7 +247,7 @@ fn expire<T: Table>(table: &mut T, alloc: Global, author: u8, watch: Watch, now:
 }
 
 // Whether the ticker has come to its end.
-fn survey<T: Table>(table: &T) -> Option<Ticked>
+fn survey<T: SharedGame>(table: &T) -> Option<Ticked>
     ensures { IfSome result (λ ticked.
         TicksAs T.history T.lost (T.after (T.Seated.setting table.now)) ticked
         (T.history table.now)) }
@@ -265,7 +265,7 @@ fn survey<T: Table>(table: &T) -> Option<Ticked>
 }
 
 // Whether all eight handlers have lost their host.
-fn has_lost_all<T: Table>(table: &T) -> bool
+fn has_lost_all<T: SharedGame>(table: &T) -> bool
     ensures { result ≡ true → (k : ℕ) → k < 8 → T.lost table.now k ≡ true }
 {
     for k in 0..8u8 {

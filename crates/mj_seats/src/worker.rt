@@ -7,13 +7,13 @@ ghost use Rattle.mj_seats.specs.Ticks.{Ticks};
 ghost use Rattle.turn_lock.specs.Turns.{new_pass};
 
 use crate::handle::{HandlerEnd, Session, handle_at};
-use crate::table::Table;
+use crate::shared_game::SharedGame;
 use crate::ticker::tick_at;
 use mj_links::{Clock, Host};
 use std::alloc::Global;
 use std::sync::Wait;
 use std::thread::{Threads, join};
-use turn_lock::{Kept, Pass, Turn};
+use turn_lock::{Noted, Pass, Turn};
 
 // What is left of a handler.
 #[derive(Drop)]
@@ -29,8 +29,8 @@ pub(crate) type DoneAt<T, H> = Done<Pass<T>, <H as Host>::Link, <H as Host>::Fau
 // Handles links with each of these passes, and tells the time with one more, all side by side. What is left of the
 // handlers is put into `dones`, which has room for it.
 pub(crate) fn work<
-    T: Table,
-    H: Host<Fault = <T as Table>::Fault>,
+    T: SharedGame,
+    H: Host<Fault = <T as SharedGame>::Fault>,
     C: Clock,
     R: Threads + Wait + Sync,
 >(
@@ -43,36 +43,36 @@ pub(crate) fn work<
     dones: Vec<DoneAt<T, H>>,
     last: Pass<T>,
 ) -> (Vec<DoneAt<T, H>>, Pass<T>)
-    requires passes { AreNewPasses T.Kept.setting turn.now passes.items }
+    requires passes { AreNewPasses T.Noted.setting turn.now passes.items }
     requires empty { dones.items ≡ [] }
     requires room { length passes.items ≤ vec_capacity dones }
-    requires last { IsNewPass T.Kept.setting turn.now last }
-    ensures done { AllDone (T.after (T.Kept.setting turn.now.opening)) T.reads T.joins
-        (T.sits (T.Kept.setting turn.now.opening))
-        (T.hears (T.Kept.setting turn.now.opening)) T.says (at_link H.Link.was_read
+    requires last { IsNewPass T.Noted.setting turn.now last }
+    ensures done { AllDone (T.after (T.Noted.setting turn.now.opening)) T.reads T.joins
+        (T.sits (T.Noted.setting turn.now.opening))
+        (T.hears (T.Noted.setting turn.now.opening)) T.says (at_link H.Link.was_read
         H.Link.left H.Link.written H.Link.read_faults H.Link.write_faults)
-        (H.made_by host.now) T.Fault.number T.Kept.setting turn.now (length passes.items)
+        (H.made_by host.now) T.Fault.number T.Noted.setting turn.now (length passes.items)
         result.0.items }
     ensures count { length result.0.items ≡ length passes.items }
-    ensures last { IsBack T.Kept.setting turn.now last.number result.1 }
+    ensures last { IsBack T.Noted.setting turn.now last.number result.1 }
     ensures ticks { Ticks last.number [] result.1.seen (C.readings clock.old) (C.readings clock.new) }
 {
     let (dones, (last, clock)) = join(
         rt,
         move || -> Vec<DoneAt<T, H>>
-            requires { AreNewPasses T.Kept.setting turn.now passes.items × (dones.items ≡ [])
+            requires { AreNewPasses T.Noted.setting turn.now passes.items × (dones.items ≡ [])
                 × (length passes.items ≤ vec_capacity dones) × IsSync R.row }
-            ensures { AllDone (T.after (T.Kept.setting turn.entry.now.opening)) T.reads T.joins
-                (T.sits (T.Kept.setting turn.entry.now.opening))
-                (T.hears (T.Kept.setting turn.entry.now.opening)) T.says (at_link H.Link.was_read
+            ensures { AllDone (T.after (T.Noted.setting turn.entry.now.opening)) T.reads T.joins
+                (T.sits (T.Noted.setting turn.entry.now.opening))
+                (T.hears (T.Noted.setting turn.entry.now.opening)) T.says (at_link H.Link.was_read
                 H.Link.left H.Link.written H.Link.read_faults H.Link.write_faults)
-                (H.made_by host.entry.now) T.Fault.number T.Kept.setting turn.entry.now
+                (H.made_by host.entry.now) T.Fault.number T.Noted.setting turn.entry.now
                 (length passes.items) result.items × (length result.items ≡ length passes.items) }
         { handle_all(turn, rt, alloc, host, passes, dones) },
         move || -> (Pass<T>, &mut C)
-            requires { IsNewPass T.Kept.setting turn.now last × IsSync R.row }
+            requires { IsNewPass T.Noted.setting turn.now last × IsSync R.row }
             ensures { (result.1.ghost_name ≡ clock.entry.ghost_name)
-                × IsBack T.Kept.setting turn.entry.now last.number result.0
+                × IsBack T.Noted.setting turn.entry.now last.number result.0
                 × Ticks last.number [] result.0.seen (C.readings clock.entry.now)
                 (C.readings result.1.now) }
         { tick_one(turn, rt, alloc, clock, last) },
@@ -83,7 +83,7 @@ pub(crate) fn work<
 
 // Handles links with each of these passes, side by side: the last one here, the others in a thread beside it.
 #[cycle(handling)]
-fn handle_all<T: Table, H: Host<Fault = <T as Table>::Fault>, R: Threads + Wait + Sync>(
+fn handle_all<T: SharedGame, H: Host<Fault = <T as SharedGame>::Fault>, R: Threads + Wait + Sync>(
     turn: &Turn<T>,
     rt: &R,
     alloc: Global,
@@ -91,14 +91,14 @@ fn handle_all<T: Table, H: Host<Fault = <T as Table>::Fault>, R: Threads + Wait 
     mut passes: Vec<Pass<T>>,
     dones: Vec<DoneAt<T, H>>,
 ) -> Vec<DoneAt<T, H>>
-    requires passes { AreNewPasses T.Kept.setting turn.now passes.items }
+    requires passes { AreNewPasses T.Noted.setting turn.now passes.items }
     requires empty { dones.items ≡ [] }
     requires room { length passes.items ≤ vec_capacity dones }
-    ensures done { AllDone (T.after (T.Kept.setting turn.now.opening)) T.reads T.joins
-        (T.sits (T.Kept.setting turn.now.opening))
-        (T.hears (T.Kept.setting turn.now.opening)) T.says (at_link H.Link.was_read
+    ensures done { AllDone (T.after (T.Noted.setting turn.now.opening)) T.reads T.joins
+        (T.sits (T.Noted.setting turn.now.opening))
+        (T.hears (T.Noted.setting turn.now.opening)) T.says (at_link H.Link.was_read
         H.Link.left H.Link.written H.Link.read_faults H.Link.write_faults)
-        (H.made_by host.now) T.Fault.number T.Kept.setting turn.now (length passes.items)
+        (H.made_by host.now) T.Fault.number T.Noted.setting turn.now (length passes.items)
         result.items }
     ensures count { length result.items ≡ length passes.items }
     ensures room { vec_capacity result ≡ vec_capacity dones }
@@ -109,23 +109,23 @@ fn handle_all<T: Table, H: Host<Fault = <T as Table>::Fault>, R: Threads + Wait 
     let (mut dones, done) = join(
         rt,
         move || -> Vec<DoneAt<T, H>>
-            requires { AreNewPasses T.Kept.setting turn.now passes.items × (dones.items ≡ [])
+            requires { AreNewPasses T.Noted.setting turn.now passes.items × (dones.items ≡ [])
                 × (length passes.items ≤ vec_capacity dones) × IsSync R.row }
-            ensures { AllDone (T.after (T.Kept.setting turn.entry.now.opening)) T.reads T.joins
-                (T.sits (T.Kept.setting turn.entry.now.opening))
-                (T.hears (T.Kept.setting turn.entry.now.opening)) T.says (at_link H.Link.was_read
+            ensures { AllDone (T.after (T.Noted.setting turn.entry.now.opening)) T.reads T.joins
+                (T.sits (T.Noted.setting turn.entry.now.opening))
+                (T.hears (T.Noted.setting turn.entry.now.opening)) T.says (at_link H.Link.was_read
                 H.Link.left H.Link.written H.Link.read_faults H.Link.write_faults)
-                (H.made_by host.entry.now) T.Fault.number T.Kept.setting turn.entry.now
+                (H.made_by host.entry.now) T.Fault.number T.Noted.setting turn.entry.now
                 (length passes.items) result.items × (length result.items ≡ length passes.items)
                 × (vec_capacity result ≡ vec_capacity dones) }
         { handle_all(turn, rt, alloc, host, passes, dones) },
         move || -> DoneAt<T, H>
-            requires { IsNewPass T.Kept.setting turn.now pass × IsSync R.row }
-            ensures { IsDone (T.after (T.Kept.setting turn.entry.now.opening)) T.reads T.joins
-                (T.sits (T.Kept.setting turn.entry.now.opening))
-                (T.hears (T.Kept.setting turn.entry.now.opening)) T.says (at_link H.Link.was_read
+            requires { IsNewPass T.Noted.setting turn.now pass × IsSync R.row }
+            ensures { IsDone (T.after (T.Noted.setting turn.entry.now.opening)) T.reads T.joins
+                (T.sits (T.Noted.setting turn.entry.now.opening))
+                (T.hears (T.Noted.setting turn.entry.now.opening)) T.says (at_link H.Link.was_read
                 H.Link.left H.Link.written H.Link.read_faults H.Link.write_faults)
-                (H.made_by host.entry.now) T.Fault.number T.Kept.setting turn.entry.now pass result }
+                (H.made_by host.entry.now) T.Fault.number T.Noted.setting turn.entry.now pass result }
         { handle_one(turn, rt, alloc, host, pass) },
     );
     dones.push_reserved(done);
@@ -133,30 +133,30 @@ fn handle_all<T: Table, H: Host<Fault = <T as Table>::Fault>, R: Threads + Wait 
 }
 
 // Takes the last of some new passes.
-fn last_new<T: Table>(turn: &Turn<T>, passes: &mut Vec<Pass<T>>) -> Option<Pass<T>>
-    requires { AreNewPasses T.Kept.setting turn.now passes.old.items }
+fn last_new<T: SharedGame>(turn: &Turn<T>, passes: &mut Vec<Pass<T>>) -> Option<Pass<T>>
+    requires { AreNewPasses T.Noted.setting turn.now passes.old.items }
     ensures { MatchOption result (passes.old.items ≡ []) (λ p.
-        (p ≡ new_pass turn.now.id (T.Kept.setting turn.now.opening) (length passes.new.items))
-        × AreNewPasses T.Kept.setting turn.now passes.new.items
+        (p ≡ new_pass turn.now.id (T.Noted.setting turn.now.opening) (length passes.new.items))
+        × AreNewPasses T.Noted.setting turn.now passes.new.items
         × (length passes.old.items ≡ length passes.new.items + 1)
-        × IsNewPass T.Kept.setting turn.now p) }
+        × IsNewPass T.Noted.setting turn.now p) }
 {
     passes.pop()
 }
 
-fn handle_one<T: Table, H: Host<Fault = <T as Table>::Fault>, R: Wait>(
+fn handle_one<T: SharedGame, H: Host<Fault = <T as SharedGame>::Fault>, R: Wait>(
     turn: &Turn<T>,
     rt: &R,
     alloc: Global,
     host: &H,
     mut pass: Pass<T>,
 ) -> DoneAt<T, H>
-    requires { IsNewPass T.Kept.setting turn.now pass }
-    ensures { IsDone (T.after (T.Kept.setting turn.now.opening)) T.reads T.joins
-        (T.sits (T.Kept.setting turn.now.opening))
-        (T.hears (T.Kept.setting turn.now.opening)) T.says (at_link H.Link.was_read
+    requires { IsNewPass T.Noted.setting turn.now pass }
+    ensures { IsDone (T.after (T.Noted.setting turn.now.opening)) T.reads T.joins
+        (T.sits (T.Noted.setting turn.now.opening))
+        (T.hears (T.Noted.setting turn.now.opening)) T.says (at_link H.Link.was_read
         H.Link.left H.Link.written H.Link.read_faults H.Link.write_faults)
-        (H.made_by host.now) T.Fault.number T.Kept.setting turn.now pass result }
+        (H.made_by host.now) T.Fault.number T.Noted.setting turn.now pass result }
 {
     let mut sessions = Vec::new(alloc);
     let end = handle_at(turn, rt, alloc, &mut pass, host, &mut sessions);
@@ -167,16 +167,16 @@ fn handle_one<T: Table, H: Host<Fault = <T as Table>::Fault>, R: Wait>(
     }
 }
 
-fn tick_one<'a, T: Table, C: Clock, R: Wait>(
+fn tick_one<'a, T: SharedGame, C: Clock, R: Wait>(
     turn: &Turn<T>,
     rt: &R,
     alloc: Global,
     clock: &'a mut C,
     mut pass: Pass<T>,
 ) -> (Pass<T>, &'a mut C)
-    requires { IsNewPass T.Kept.setting turn.now pass }
+    requires { IsNewPass T.Noted.setting turn.now pass }
     ensures { (result.1.ghost_name ≡ clock.entry.ghost_name)
-        × IsBack T.Kept.setting turn.now pass.number result.0
+        × IsBack T.Noted.setting turn.now pass.number result.0
         × Ticks pass.number [] result.0.seen (C.readings clock.entry.now) (C.readings result.1.now) }
 {
     let _ticked = tick_at(turn, rt, alloc, &mut pass, clock);

@@ -13,14 +13,14 @@ use crate::handle::{HandlerEnd, Session};
 use crate::hold::close;
 use crate::lost::Lost;
 use crate::room::Room;
-use crate::table::Table;
+use crate::shared_game::SharedGame;
 use crate::worker::work;
 use mj_links::{Clock, Host};
 use mj_ports::Seated;
 use std::alloc::{AllocError, Global};
 use std::sync::Wait;
 use std::thread::Threads;
-use turn_lock::{Kept, Pass, Turn};
+use turn_lock::{Noted, Pass, Turn};
 
 /// What is left of a game that workers played: the game, the links of all sessions with a seat, and how each handler
 /// ended, in the order of their numbers.
@@ -83,7 +83,7 @@ pub fn run_workers<G: Seated, H: Host, C: Clock, R: Threads + Wait + Sync>(
 }
 
 // The same at any table.
-fn run_at<T: Table, H: Host<Fault = <T as Table>::Fault>, C: Clock, R: Threads + Wait + Sync>(
+fn run_at<T: SharedGame, H: Host<Fault = <T as SharedGame>::Fault>, C: Clock, R: Threads + Wait + Sync>(
     rt: &R,
     alloc: Global,
     table: T,
@@ -112,16 +112,16 @@ fn run_at<T: Table, H: Host<Fault = <T as Table>::Fault>, C: Clock, R: Threads +
 }
 
 // Ends the turn with the passes that came back.
-fn finish<T: Table, L: Drop, F: Drop>(
+fn finish<T: SharedGame, L: Drop, F: Drop>(
     turn: Turn<T>,
     left: Left<Pass<T>, L, F>,
     last: Pass<T>,
 ) -> Result<ClosedGame<T, L, F>, AllocError>
     requires all { length left.passes.items + 1 ≡ turn.passes }
-    requires idle { All (IsIdle T.Kept.setting turn) left.passes.items }
-    requires last { IsIdle T.Kept.setting turn last }
-    ensures setting { IfOk result (λ c. T.Seated.setting c.game ≡ T.Kept.setting turn.opening) }
-    ensures legal { IfOk result (λ c. T.is_legal (T.Kept.setting turn.opening)
+    requires idle { All (IsIdle T.Noted.setting turn) left.passes.items }
+    requires last { IsIdle T.Noted.setting turn last }
+    ensures setting { IfOk result (λ c. T.Seated.setting c.game ≡ T.Noted.setting turn.opening) }
+    ensures legal { IfOk result (λ c. T.is_legal (T.Noted.setting turn.opening)
         (T.history c.game)) }
     ensures seen { IfOk result (λ c. All (IsSeenIn author_of (T.history c.game))
         (left.passes.items ++ last ∷ [])) }

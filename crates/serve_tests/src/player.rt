@@ -10,7 +10,7 @@ use mj_ports::{Heard, Left, Seated, SitAnswer};
 use mj_seats::Room;
 use std::alloc::Global;
 use std::sync::Wait;
-use turn_lock::{Kept, Pass, Turn};
+use turn_lock::{Noted, Pass, Turn};
 
 pub const A: &str = "{\"type\":\"join\",\"name\":\"a\"}";
 
@@ -116,8 +116,8 @@ pub fn act<G: Seated, F: Numbered, R: Wait>(
     pass: &mut Pass<Room<G, F>>,
     step: Step,
 ) -> bool
-    requires { IsIdle ⟦<Room<G, F> as Kept>⟧.setting turn.now pass.old }
-    ensures { IsIdle ⟦<Room<G, F> as Kept>⟧.setting turn.now pass.new }
+    requires { IsIdle ⟦<Room<G, F> as Noted>⟧.setting turn.now pass.old }
+    ensures { IsIdle ⟦<Room<G, F> as Noted>⟧.setting turn.now pass.new }
 {
     let number = pass.number();
     let mut held = turn.take(rt, pass);
@@ -134,8 +134,8 @@ pub fn act_all<G: Seated, F: Numbered, R: Wait>(
     pass: &mut Pass<Room<G, F>>,
     steps: &[Step],
 ) -> bool
-    requires { IsIdle ⟦<Room<G, F> as Kept>⟧.setting turn.now pass.old }
-    ensures { IsIdle ⟦<Room<G, F> as Kept>⟧.setting turn.now pass.new }
+    requires { IsIdle ⟦<Room<G, F> as Noted>⟧.setting turn.now pass.old }
+    ensures { IsIdle ⟦<Room<G, F> as Noted>⟧.setting turn.now pass.new }
 {
     let mut all = true;
     for step in steps {
@@ -164,8 +164,8 @@ pub fn look<G: Seated, F: Numbered, R: Wait>(
     rt: &R,
     pass: &mut Pass<Room<G, F>>,
 ) -> Shown
-    requires { IsIdle ⟦<Room<G, F> as Kept>⟧.setting turn.now pass.old }
-    ensures { IsIdle ⟦<Room<G, F> as Kept>⟧.setting turn.now pass.new }
+    requires { IsIdle ⟦<Room<G, F> as Noted>⟧.setting turn.now pass.old }
+    ensures { IsIdle ⟦<Room<G, F> as Noted>⟧.setting turn.now pass.new }
 {
     let mut held = turn.take(rt, pass);
     let shown = shown_by(held.value());
@@ -180,8 +180,8 @@ pub fn is_lost<G: Seated, F: Numbered, R: Wait>(
     pass: &mut Pass<Room<G, F>>,
     number: u8,
 ) -> bool
-    requires { IsIdle ⟦<Room<G, F> as Kept>⟧.setting turn.now pass.old }
-    ensures { IsIdle ⟦<Room<G, F> as Kept>⟧.setting turn.now pass.new }
+    requires { IsIdle ⟦<Room<G, F> as Noted>⟧.setting turn.now pass.old }
+    ensures { IsIdle ⟦<Room<G, F> as Noted>⟧.setting turn.now pass.new }
 {
     let mut held = turn.take(rt, pass);
     let lost = held.value().lost.has(number);

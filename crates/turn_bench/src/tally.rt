@@ -5,10 +5,10 @@ ghost use Rattle.turn_lock.specs.Notes.{Follows};
 
 use mj_past::Past;
 use std::marker::Model;
-use turn_lock::Kept;
+use turn_lock::Noted;
 
 /// A value on which the passes leave notes by turns.
-pub trait Marked: Kept {
+pub trait Marked: Noted {
     /// Leaves a note of this pass, where it is this pass's note that comes next, and tells whether it did.
     fn mark(&mut self, number: u8) -> bool
         ensures setting { Self.setting self.new ≡ Self.setting self.old }
@@ -47,7 +47,7 @@ impl Tally {
     }
 }
 
-impl Kept for Tally {
+impl Noted for Tally {
     type Setting = ();
 
     type Note = u8;

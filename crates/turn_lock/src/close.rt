@@ -4,12 +4,12 @@ ghost use Rattle.turn_lock.specs.Turns.{IsPassOf, IsIdle, IsSeenIn, numbers_of};
 ghost use Rattle.turn_lock.specs.Views.{view, gathered};
 ghost use Rattle.turn_lock.specs.declared.view.Stage.TheVariants.{Idle};
 
-use crate::kept::Kept;
+use crate::noted::Noted;
 use crate::pass::{Pass, seat_of};
 use crate::plays::Gather;
 use crate::turn::{Board, Place, Turn, VALUE};
 
-impl<T: Kept> Turn<T> {
+impl<T: Noted> Turn<T> {
     /// Ends the turn, with all of its passes, and gives the value out.
     pub fn close(self, passes: Vec<Pass<T>>) -> T
         requires all { vec_len passes ≡ self.passes }
@@ -30,7 +30,7 @@ impl<T: Kept> Turn<T> {
 }
 
 // One seat with the numbers of all passes.
-fn gather<T: Kept>(board: &Board<T>, mut passes: Vec<Pass<T>>) -> Place<T>
+fn gather<T: Noted>(board: &Board<T>, mut passes: Vec<Pass<T>>) -> Place<T>
     requires board { board.now.table_id.words ≡ 2 }
     requires some { 0 < vec_len passes }
     requires idle { All (IsPassOf board.now.table_id (T.setting board.now.key.value.value) false)

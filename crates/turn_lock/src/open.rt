@@ -4,7 +4,7 @@ ghost use Rattle.turn_lock.specs.Turns.{new_passes};
 ghost use Rattle.turn_lock.specs.Views.{view, fresh};
 ghost use Rattle.turn_lock.specs.declared.view.Stage.TheVariants.{Idle};
 
-use crate::kept::Kept;
+use crate::noted::Noted;
 use crate::pass::{Pass, PassOf};
 use crate::plays::Deal;
 use crate::turn::{Board, Place, Turn};
@@ -13,7 +13,7 @@ use atomic_table::{Refused, Table};
 use std::alloc::Global;
 use std::snapshot::Snapshot;
 
-impl<T: Kept> Turn<T> {
+impl<T: Noted> Turn<T> {
     /// A turn with this value, which has no notes yet, and so many passes, at most 16, numbered from 0. Where memory is
     /// wanting, the value comes back.
     pub fn new(alloc: Global, value: T, passes: u8) -> Result<(Turn<T>, Vec<Pass<T>>), T>
@@ -48,7 +48,7 @@ impl<T: Kept> Turn<T> {
 }
 
 // A pass for each number of the seat that has them all.
-fn deal_out<T: Kept>(
+fn deal_out<T: Noted>(
     board: &Board<T>,
     mut dealer: Place<T>,
     start: &Start<T>,

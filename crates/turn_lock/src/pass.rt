@@ -1,7 +1,7 @@
 ghost use Rattle.std.specs.Prelude.{◌≡◌, false, Some};
 ghost use Rattle.turn_lock.specs.Views.{at_rest};
 
-use crate::kept::Kept;
+use crate::noted::Noted;
 use crate::view::View;
 use atomic_table::Seat;
 use std::marker::Model;
@@ -16,7 +16,7 @@ pub struct PassOf<T, S, N> {
 }
 
 /// A pass of a turn with values of this type. The struct has no bound, since what a thread is given may have none.
-pub type Pass<T> = PassOf<T, <T as Kept>::Setting, <T as Kept>::Note>;
+pub type Pass<T> = PassOf<T, <T as Noted>::Setting, <T as Noted>::Note>;
 
 impl<T, S, N> Model for PassOf<T, S, N> {
     ghost use Rattle.turn_lock.specs.Passes.{PassState};

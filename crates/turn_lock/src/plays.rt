@@ -3,7 +3,7 @@ ghost use Rattle.turn_lock.specs.Plays.{Drew, Looked, Served};
 ghost use Rattle.turn_lock.specs.Views.{view, others, first_own};
 ghost use Rattle.turn_lock.specs.declared.view.Stage.TheVariants.{Idle};
 
-use crate::kept::Kept;
+use crate::noted::Noted;
 use crate::view::View;
 use atomic_table::{Join, Play, Split};
 
@@ -17,14 +17,14 @@ impl<T, S, N> Play<Option<T>, View<S, N>> for Draw {
 // The look whether the own ticket is served, which takes the value where it is.
 pub struct Look;
 
-impl<T: Kept> Play<Option<T>, View<T::Setting, T::Note>> for Look {
+impl<T: Noted> Play<Option<T>, View<T::Setting, T::Note>> for Look {
     ghost then = { λ s. Looked T.setting T.notes T.author };
 }
 
 // The store that brings the value home and serves the next ticket.
 pub struct Serve;
 
-impl<T: Kept> Play<Option<T>, View<T::Setting, T::Note>> for Serve {
+impl<T: Noted> Play<Option<T>, View<T::Setting, T::Note>> for Serve {
     ghost then = { λ s m n w. Served T.notes m w };
 }
 

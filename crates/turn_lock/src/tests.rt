@@ -3,7 +3,7 @@ ghost use Rattle.std.specs.Thread.{IsSync};
 ghost use Rattle.turn_lock.specs.Notes.{Follows};
 ghost use Rattle.turn_lock.specs.Turns.{IsIdle, new_passes};
 
-use crate::{Kept, Pass, Turn};
+use crate::{Noted, Pass, Turn};
 use std::alloc::{AllocError, Global};
 use std::marker::Model;
 use std::sync::Wait;
@@ -11,7 +11,7 @@ use std::test::Fail;
 use std::thread::{Threads, join};
 
 // A value on which a pass can leave its number.
-trait Marked: Kept {
+trait Marked: Noted {
     fn mark(&mut self, number: u8)
         ensures setting { Self.setting self.new ≡ Self.setting self.old }
         ensures notes { Follows Self.author number (Self.notes self.old) (Self.notes self.new) };
@@ -47,7 +47,7 @@ impl Marks {
     }
 }
 
-impl Kept for Marks {
+impl Noted for Marks {
     type Setting = ();
 
     type Note = u8;

@@ -4,7 +4,7 @@ ghost use Rattle.turn_lock.specs.Plays.{Awaits, Granted};
 ghost use Rattle.turn_lock.specs.Turns.{IsIdle, IsBusy, IsSeenIn, taken, given};
 
 use crate::held::Held;
-use crate::kept::Kept;
+use crate::noted::Noted;
 use crate::pass::Pass;
 use crate::plays::{Draw, Look, Serve};
 use crate::view::{Fair, Start, View};
@@ -25,11 +25,11 @@ pub(crate) const VALUE: usize = 0;
 /// A value that threads take in turn. Contracts see which turn it is, the value that it was made with, and the number of
 /// its passes.
 #[derive(Drop)]
-pub struct Turn<T: Kept> {
+pub struct Turn<T: Noted> {
     pub(crate) table: Table<Option<T>, View<T::Setting, T::Note>, Start<T>, Fair, Global>,
 }
 
-impl<T: Kept> Model for Turn<T> {
+impl<T: Noted> Model for Turn<T> {
     ghost use Rattle.turn_lock.specs.Passes.{TurnState};
     ghost use Rattle.turn_lock.specs.Views.{turn_state, IsTurn};
 
@@ -43,15 +43,15 @@ impl<T: Kept> Model for Turn<T> {
 // The shared part of a turn's table.
 pub(crate) type Board<T> = Shared<
     Option<T>,
-    View<<T as Kept>::Setting, <T as Kept>::Note>,
+    View<<T as Noted>::Setting, <T as Noted>::Note>,
     Start<T>,
     Fair,
 >;
 
 // The seat of a pass.
-pub(crate) type Place<T> = Seat<Option<T>, View<<T as Kept>::Setting, <T as Kept>::Note>>;
+pub(crate) type Place<T> = Seat<Option<T>, View<<T as Noted>::Setting, <T as Noted>::Note>>;
 
-impl<T: Kept> Turn<T> {
+impl<T: Noted> Turn<T> {
     /// Takes the value, which then begins with the notes that the pass has seen, and has no further note of the pass's
     /// number. It waits until all who drew their tickets before have given the value back.
     pub fn take<R: Wait>(&self, rt: &R, pass: &mut Pass<T>) -> Held<T>
@@ -98,7 +98,7 @@ impl<T: Kept> Turn<T> {
 }
 
 // Waits until the ticket is served, and has the value then.
-fn wait_for_turn<T: Kept, R: Wait>(rt: &R, board: &Board<T>, seat: &mut Place<T>, ticket: u64)
+fn wait_for_turn<T: Noted, R: Wait>(rt: &R, board: &Board<T>, seat: &mut Place<T>, ticket: u64)
     requires board { (seat.old.table_id ≡ board.now.table_id) × (board.now.table_id.words ≡ 2) }
     requires waits { (t : _) × (o : _) × Awaits ticket t o seat.old.me }
     ensures board { seat.new.table_id ≡ seat.old.table_id }

@@ -2,7 +2,7 @@ ghost use Rattle.turn_lock.specs.Rule.{Holds};
 ghost use Rattle.turn_lock.specs.Views.{view, fresh};
 ghost use Rattle.turn_lock.specs.declared.view.Stage.TheVariants.{Idle};
 
-use crate::kept::Kept;
+use crate::noted::Noted;
 use atomic_table::TableRule;
 use std::collections::LinkedList;
 use std::snapshot::Snapshot;
@@ -37,7 +37,7 @@ pub struct Start<T> {
 // The rule of the table.
 pub struct Fair;
 
-impl<T: Kept> TableRule<Option<T>, View<T::Setting, T::Note>, Start<T>> for Fair {
+impl<T: Noted> TableRule<Option<T>, View<T::Setting, T::Note>, Start<T>> for Fair {
     ghost holds = { λ k. Holds T.setting T.notes T.author (T.setting k.value.value) k.passes };
 
     ghost first = { λ k. view Idle (fresh (T.setting k.value.value) 0 k.passes) };

@@ -7,7 +7,7 @@ use Rattle.mj_ports.specs.declared.entry.Entry.TheVariants.{Said}
 use Rattle.mj_ports.specs.declared.sitting.JoinLine.{JoinLine}
 use Rattle.mj_seating.specs.declared.desk.Placed.{Placed}
 use Rattle.mj_seating.specs.declared.desk.Placed.TheVariants.{Sat, Back}
-use Rattle.mj_seating.specs.Sitting.{Held, placed, changed_at, gone, is_present_at}
+use Rattle.mj_seating.specs.Sitting.{Occupant, placed, changed_at, gone, is_present_at}
 use Rattle.mj_deeds.specs.declared.four.Four.{Four}
 use Rattle.mj_deeds.specs.Four.{at_seat}
 use Rattle.mj_deeds.specs.declared.answer.Answer.{Answer}
@@ -26,7 +26,7 @@ use Rattle.mj_core.specs.Inner.Untold.{untold}
 use Rattle.mj_core.specs.declared.chair.Chair.{Chair as Player}
 
 -- A seat as the table of sitting and its player's chair have it.
-abbrev pub chair_of : Held → Player → Chair
+abbrev pub chair_of : Occupant → Player → Chair
 chair_of held player = record {
   author = player.author;
   name = held.name;
@@ -38,28 +38,28 @@ chair_of held player = record {
 }
 
 -- All of them, in order.
-abbrev pub chairs_of : List Held → List Player → List Chair
+abbrev pub chairs_of : List Occupant → List Player → List Chair
 chairs_of [] players = []
 chairs_of (held ∷ desk) [] = []
 chairs_of (held ∷ desk) (player ∷ players) = chair_of held player ∷ chairs_of desk players
 
 -- Which of four seats are present at a desk, and their names.
-abbrev pub presence_at : List Held → List Bool
+abbrev pub presence_at : List Occupant → List Bool
 presence_at desk = is_present_at desk 0 ∷ is_present_at desk 1 ∷ is_present_at desk 2 ∷ is_present_at desk 3 ∷ []
 
-abbrev pub desk_name : List Held → ℕ → List ℕ
-desk_name desk seat = option_map_or (λ (held : Held). held.name) (slice_get desk seat) []
+abbrev pub desk_name : List Occupant → ℕ → List ℕ
+desk_name desk seat = option_map_or (λ (held : Occupant). held.name) (slice_get desk seat) []
 
-abbrev pub desk_names : List Held → Four (List ℕ)
+abbrev pub desk_names : List Occupant → Four (List ℕ)
 desk_names desk = record { first = desk_name desk 0; second = desk_name desk 1; third = desk_name desk 2; fourth = desk_name desk 3 }
 
 -- The two agree: they have the same seats, and the desk has those present that are present by an author.
-pub record AreSeated (desk : List Held) (players : List Player) : Type 0 where
+pub record AreSeated (desk : List Occupant) (players : List Player) : Type 0 where
   pub many : length players ≡ length desk
   pub held : map held_of (chairs_of desk players) ≡ desk
 
 -- What a state keeps: its table and its lines have the deeds, and its desk the seats.
-pub record AreKept (told streamed deeds : List Deed) (desk : List Held) (players : List Player) : Type 0 where
+pub record AreKept (told streamed deeds : List Deed) (desk : List Occupant) (players : List Player) : Type 0 where
   pub same : told ≡ deeds
   pub lines : streamed ≡ deeds
   pub seated : AreSeated desk players
@@ -80,7 +80,7 @@ player_in chair = player_of chair.author chair.progress
 pub record Position : Type 0 where
   pub rules : Rules
   pub deeds : List Deed
-  pub desk : List Held
+  pub desk : List Occupant
   pub players : List Player
   pub slots : Four (Option Answer)
 
@@ -120,11 +120,11 @@ pub record Advances (setting : Setting) (old new : Position) (slots : Four (Opti
   pub adds : Adds setting old new slots deed
 
 -- A state of which a seat has changed, and perhaps its slot.
-abbrev pub changed : Position → List Held → List Player → Four (Option Answer) → Position
+abbrev pub changed : Position → List Occupant → List Player → Four (Option Answer) → Position
 changed p desk players slots = record p { desk = desk; players = players; slots = slots }
 
 -- A seat has come so far by an answer with this verdict: one that is refused for good leaves its desk.
-abbrev pub desk_after : Verdict → List Held → ℕ → List Held
+abbrev pub desk_after : Verdict → List Occupant → ℕ → List Occupant
 desk_after (Closing rule) desk seat = changed_at desk seat gone
 desk_after other desk seat = desk
 
@@ -142,7 +142,7 @@ abbrev pub IsStarted : After → Type 0
 IsStarted now = (length now.chairs == 4) ≡ not (length now.deeds == 0)
 
 -- What is true where a seat changes.
-pub record CanSettle (setting : Setting) (old : Position) (seat : ℕ) (desk : List Held) (player : Player) (slots : Four (Option Answer)) : Type 0 where
+pub record CanSettle (setting : Setting) (old : Position) (seat : ℕ) (desk : List Occupant) (player : Player) (slots : Four (Option Answer)) : Type 0 where
   pub ground : HasWalls setting old
   pub held : seat < length old.players
   pub seated : AreSeated desk (slice_set old.players seat player)

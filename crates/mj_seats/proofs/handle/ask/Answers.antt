@@ -6,7 +6,7 @@ use Rattle.mj_seats.proofs.handle.ask.Goals as goal
 pub returns-clause-asks : goal.returns-clause-asks
 returns-clause-asks g c =
     let laws = g.met.T.Seated g.world.𝓛 g.world.𝓜 g.world.𝓡 ((λ s x. x), (λ x. x), (λ x. x), λ x. x) in
-    let s = g.T.Kept.setting c.args.turn.now.opening in
+    let s = g.T.Noted.setting c.args.turn.now.opening in
     let call = c.call_of-call.result in
     let finds = subst (λ t. Finds call (g.T.Seated.after (g.T.Seated.setting t) (g.T.Seated.history t))) c.value.ensures.shows c.call_of-call.ensures.finds in
     let there = subst (λ o. Finds call (g.T.Seated.after o (g.T.Seated.history c.take-held.result))) c.take-held.ensures.setting finds in

@@ -11,4 +11,4 @@ returns-in-Cut-clause-session g c = λ first x nothing took told. session_cut _ 
 
 pub returns-in-Refused-clause-session : goal.returns-in-Refused-clause-session
 returns-in-Refused-clause-session g c = λ first x nothing took told.
-    session_refused _ g.T.Seated.reads _ _ (g.T.Seated.hears (g.T.Kept.setting c.args.turn.now.opening)) _ _ first _ _ x _ _ _ nothing took told c.in-Refused.why _ _ c.send-sent.result c.in-Refused.ensures.sits c.as_slice-in-Refused.ensures.value c.send-sent.ensures.reading c.send-sent.ensures.held c.send-sent.ensures.bytes c.send-sent.ensures.faults
+    session_refused _ g.T.Seated.reads _ _ (g.T.Seated.hears (g.T.Noted.setting c.args.turn.now.opening)) _ _ first _ _ x _ _ _ nothing took told c.in-Refused.why _ _ c.send-sent.result c.in-Refused.ensures.sits c.as_slice-in-Refused.ensures.value c.send-sent.ensures.reading c.send-sent.ensures.held c.send-sent.ensures.bytes c.send-sent.ensures.faults

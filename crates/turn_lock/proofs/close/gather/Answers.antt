@@ -6,7 +6,7 @@ use Rattle.turn_lock.proofs.close.gather.Goals as goal
 
 pub loop-pass-init : goal.loop-pass-init
 loop-pass-init g c =
-    let fixed = g.T.Kept.setting c.args.board.now.key.value.value in
+    let fixed = g.T.Noted.setting c.args.board.now.key.value.value in
     let p = c.unwrap.result in
     let seat = c.seat_of-seat.result in
     let rest = c.pop.new.self.items in
@@ -21,12 +21,12 @@ loop-pass-init g c =
 
 pub seat_of-requires : goal.seat_of-requires
 seat_of-requires g c =
-    let fixed = g.T.Kept.setting c.args.board.now.key.value.value in
+    let fixed = g.T.Noted.setting c.args.board.now.key.value.value in
     (popped c.args.board.now.table_id fixed c.loop-pass.passes.items c.pop-in-loop-pass.new.self.items _ c.in-Some.pass c.pop-in-loop-pass.ensures.items c.in-Some.is c.loop-pass.invariant.idle).this.busy_is
 
 pub join_seat-requires : goal.join_seat-requires
 join_seat-requires g c =
-    let k = g.T.Kept in
+    let k = g.T.Noted in
     let fixed = k.setting c.args.board.now.key.value.value in
     let seat = c.loop-pass.seat in
     let other = c.seat_of.result in
@@ -41,7 +41,7 @@ join_seat-requires g c =
 
 pub loop-pass-preserved : goal.loop-pass-preserved
 loop-pass-preserved g c =
-    let fixed = g.T.Kept.setting c.args.board.now.key.value.value in
+    let fixed = g.T.Noted.setting c.args.board.now.key.value.value in
     let p = c.in-Some.pass in
     let seat = c.loop-pass.seat in
     let rest = c.pop-in-loop-pass.new.self.items in

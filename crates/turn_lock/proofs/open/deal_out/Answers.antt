@@ -7,13 +7,13 @@ use Rattle.turn_lock.proofs.open.deal_out.Goals as goal
 
 pub split_seat-seat-requires : goal.split_seat-seat-requires
 split_seat-seat-requires g c =
-    let k = g.T.Kept in
+    let k = g.T.Noted in
     (search rules, search rules, splits_at k.setting k.notes k.author _ _ _ _ (view_at c.loop-number.dealer.me _ c.loop-number.invariant.me))
 
 pub loop-number-preserved : goal.loop-number-preserved
 loop-number-preserved g c =
     let dealer = c.loop-number.dealer in
-    let fixed = g.T.Kept.setting c.args.start.now.value.value in
+    let fixed = g.T.Noted.setting c.args.start.now.value.value in
     let n = c.loop-number.number in
     let left = c.args.start.now.passes - n in
     let seat = c.split_seat-seat.result in
@@ -32,7 +32,7 @@ loop-number-preserved g c =
 
 pub invariant_of-push_reserved : goal.invariant_of-push_reserved
 invariant_of-push_reserved g c =
-    let fixed = g.T.Kept.setting c.args.start.now.value.value in
+    let fixed = g.T.Noted.setting c.args.start.now.value.value in
     let n = c.loop-number.number in
     let seat = c.split_seat-seat.result in
     let left = c.args.start.now.passes - n in

@@ -7,8 +7,8 @@ use Rattle.turn_lock.proofs.open.deal_out.Given as goal
 abbrev pub invariant-loop-number : goal.invariant-loop-number
 invariant-loop-number g l = record {
   seat : l.dealer.table_id ≡ l.board.table_id;
-  me : l.dealer.me ≡ (view Idle (fresh (g.T.Kept.setting l.start.value.value) l.number (l.start.passes - l.number)), []);
-  items : l.passes.items ≡ new_passes l.board.table_id (g.T.Kept.setting l.start.value.value) l.number;
+  me : l.dealer.me ≡ (view Idle (fresh (g.T.Noted.setting l.start.value.value) l.number (l.start.passes - l.number)), []);
+  items : l.passes.items ≡ new_passes l.board.table_id (g.T.Noted.setting l.start.value.value) l.number;
   len : vec_len l.passes ≡ l.number;
   room : l.start.passes ≤ vec_capacity l.passes;
 }

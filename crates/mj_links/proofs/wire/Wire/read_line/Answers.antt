@@ -1,5 +1,5 @@
 use Rattle.std.proofs.Common.{arith, sym}
-use Rattle.mj_links.specs.Helds.{held_bytes}
+use Rattle.mj_links.specs.LineBuffers.{held_bytes}
 use Rattle.mj_links.proofs.HeldLaws.{found, none_found, held_length, room_left}
 use Rattle.mj_links.proofs.WireLaws.{reading_line-line, reading_line-ended, reading_line-failed, still_no_line}
 use Rattle.mj_links.proofs.wire.Wire.read_line.Goals as goal

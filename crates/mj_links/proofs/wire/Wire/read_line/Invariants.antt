@@ -1,5 +1,5 @@
 use Rattle.std.proofs.Common.{◌-◌, length}
-use Rattle.mj_links.specs.Helds.{wire_held, wire_link}
+use Rattle.mj_links.specs.LineBuffers.{wire_held, wire_link}
 use Rattle.mj_links.proofs.WireLaws.{ReadingLine}
 use Rattle.mj_links.proofs.wire.Wire.read_line.Given as goal
 

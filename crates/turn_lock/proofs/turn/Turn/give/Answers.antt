@@ -7,7 +7,7 @@ use Rattle.turn_lock.proofs.turn.Turn.give.Goals as goal
 
 pub store-requires : goal.store-requires
 store-requires g c =
-    let k = g.T.Kept in
+    let k = g.T.Noted in
     let p = c.pass.inside in
     let fixed = k.setting c.self.inside.table.shared.key.value.value in
     let opening = ap (λ t. k.setting t.opening) (sym c.self.view_is) in

@@ -5,7 +5,7 @@ use Rattle.turn_lock.proofs.turn.Turn.take.Goals as goal
 
 pub fetch_add-pass-inside-requires : goal.fetch_add-pass-inside-requires
 fetch_add-pass-inside-requires g c =
-    let k = g.T.Kept in
+    let k = g.T.Noted in
     let p = c.pass.inside in
     let fixed = k.setting c.self.inside.table.shared.key.value.value in
     let idle : is_serving p.seat.me.0.stage ≡ false = ap (λ q. q.busy) c.pass.view_is ∙ c.requires.busy_is in
@@ -15,7 +15,7 @@ fetch_add-pass-inside-requires g c =
 
 pub wait_for_turn-requires-clause-waits : goal.wait_for_turn-requires-clause-waits
 wait_for_turn-requires-clause-waits g c = λ _ _.
-    let k = g.T.Kept in
+    let k = g.T.Noted in
     let p = c.pass.inside in
     let fixed = k.setting c.self.inside.table.shared.key.value.value in
     let o = own_of p.number fixed (seen_in p.seat.me.0.own) in

@@ -1,10 +1,10 @@
 -- What is held of the bytes that were read, and what a wire holds.
 use Rattle.std.specs.Prelude.{ℕ, List, take}
-use Rattle.mj_links.specs.declared.held.Held.{Held}
+use Rattle.mj_links.specs.declared.line_buffer.LineBuffer.{LineBuffer}
 use Rattle.mj_links.specs.declared.wire.Wire.{Wire}
 
 -- the bytes that are held, oldest first
-abbrev pub held_bytes : Held → List ℕ
+abbrev pub held_bytes : LineBuffer → List ℕ
 held_bytes h = take h.count h.bytes
 
 -- the bytes that a wire read and did not hand out yet

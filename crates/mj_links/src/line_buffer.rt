@@ -9,25 +9,25 @@ pub(crate) const ROOM: usize = 4096;
 
 /// At most 4,096 bytes, oldest first, at the front of the room for them.
 #[derive(Drop)]
-pub(crate) struct Held {
+pub(crate) struct LineBuffer {
     bytes: [u8; ROOM],
     count: usize,
     ghost room: { length bytes ≡ 4096 },
     ghost within: { count ≤ 4096 },
 }
 
-impl Held {
+impl LineBuffer {
     ghost use Rattle.std.specs.Prelude.{◌<◌, ◌+◌, ◌==◌, [], drop, take, OnOk, OnErr};
     ghost use Rattle.std.specs.List.{position};
-    ghost use Rattle.mj_links.specs.Helds.{held_bytes};
+    ghost use Rattle.mj_links.specs.LineBuffers.{held_bytes};
     ghost use Rattle.mj_links.specs.Fills.{Fills};
     ghost use Rattle.mj_links.specs.Sources.{CountsReadFault};
 
     /// Nothing is held.
-    pub(crate) fn new() -> Held
+    pub(crate) fn new() -> LineBuffer
         ensures { held_bytes result ≡ [] }
     {
-        Held {
+        LineBuffer {
             bytes: [0; ROOM],
             count: 0,
         }

@@ -1,6 +1,6 @@
 use Rattle.std.proofs.Common.{arith}
 use Rattle.mj_links.proofs.HeldLaws.{filled}
-use Rattle.mj_links.proofs.held.Held.fill.Goals as goal
+use Rattle.mj_links.proofs.line_buffer.LineBuffer.fill.Goals as goal
 
 pub returns-in-Bytes-clause-bytes : goal.returns-in-Bytes-clause-bytes
 returns-in-Bytes-clause-bytes g c = record {

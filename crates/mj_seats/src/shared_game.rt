@@ -3,12 +3,12 @@ ghost use Rattle.mj_ports.specs.Entries.{author_of};
 
 use mj_links::Numbered;
 use mj_ports::{Entry, Seated};
-use turn_lock::Kept;
+use turn_lock::Noted;
 
 /// A seated game under a turn, whose notes are its entries, with the faults that its host made, and a mark that memory
 /// was wanting.
-pub trait Table: Seated
-    + Kept<Setting = <Self as Seated>::Setting, Note = Entry<<Self as Seated>::Answer>> {
+pub trait SharedGame: Seated
+    + Noted<Setting = <Self as Seated>::Setting, Note = Entry<<Self as Seated>::Answer>> {
     /// What a host fails with.
     type Fault: Numbered;
 
@@ -45,9 +45,9 @@ pub trait Table: Seated
             || (k == Self.Fault.number fault && nat_lt k (places self.old))) };
 
     // The notes are the entries.
-    ghost same_setting: { (t : Self) → Self.Kept.setting t ≡ Self.Seated.setting t };
+    ghost same_setting: { (t : Self) → Self.Noted.setting t ≡ Self.Seated.setting t };
 
-    ghost same_notes: { (t : Self) → Self.Kept.notes t ≡ Self.Seated.history t };
+    ghost same_notes: { (t : Self) → Self.Noted.notes t ≡ Self.Seated.history t };
 
-    ghost same_author: { Self.Kept.author ≡ author_of };
+    ghost same_author: { Self.Noted.author ≡ author_of };
 }
