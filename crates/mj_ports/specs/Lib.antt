@@ -2,5 +2,4 @@ pub mod Names
 pub mod Entries
 pub mod SeatCalls
 pub mod Seats
-pub mod Toy
-pub mod ToyLaws
+pub mod Inner

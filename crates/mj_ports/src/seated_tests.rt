@@ -3,8 +3,8 @@ ghost use Rattle.mj_ports.specs.declared.entry.Entry.TheVariants as entry;
 ghost use Rattle.mj_ports.specs.declared.seated_tests.Toy.TheVariants.{Fresh, Begun, Dealt};
 ghost use Rattle.mj_ports.specs.declared.answers.SitAnswer.TheVariants as sits;
 ghost use Rattle.mj_ports.specs.declared.answers.Expiry.TheVariants.{Closed};
-ghost use Rattle.mj_ports.specs.Toy.{first, shown, played, toy_says, toy_hears, IsLegalFrom};
-ghost use Rattle.mj_ports.specs.ToyLaws as laws;
+ghost use Rattle.mj_ports.specs.Inner.Toy.{first, shown, played, toy_says, toy_hears, IsLegalFrom};
+ghost use Rattle.mj_ports.specs.Inner.ToyLaws as laws;
 
 use crate::{Control, Expiry, Heard, Left, Seated, SitAnswer};
 use std::alloc::{AllocError, Global};

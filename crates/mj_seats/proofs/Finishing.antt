@@ -11,7 +11,7 @@ use Rattle.mj_seats.specs.declared.served.Ended.TheVariants.{GameOver, PeerEnded
 use Rattle.mj_seats.specs.declared.step.Step.TheVariants.{Ends}
 use Rattle.mj_seats.specs.Histories.{Enters}
 use Rattle.mj_seats.specs.Sessions.{IsExcused, HistoryEnds, EndsBy, said_by, last_entry}
-use Rattle.mj_seats.specs.Steps.{Stands, Watches, GoesAway, LeavesAs, FinishesAs, Moves, Finished}
+use Rattle.mj_seats.specs.Inner.Steps.{Stands, Watches, GoesAway, LeavesAs, FinishesAs, Moves, Finished}
 use Rattle.mj_seats.specs.Wires.{WireState, Took, Told, ToldInPart}
 use Rattle.mj_seats.proofs.Wiring.{took_nothing, told_failed}
 use Rattle.mj_seats.proofs.Entering.{enters_nothing, enters_chain, enters_one}

@@ -16,7 +16,7 @@ use Rattle.mj_seats.specs.declared.handle.HandlerEnd.{HandlerEnd}
 use Rattle.mj_seats.specs.declared.handle.Session.{Session}
 use Rattle.mj_seats.specs.Handlers.{WantsMemory}
 use Rattle.mj_seats.specs.declared.worker.Done.{Done}
-use Rattle.mj_seats.specs.Joined.{IsLeft, IsDone, AllDone, AllLeft}
+use Rattle.mj_seats.specs.Inner.Joined.{IsLeft, IsDone, AllDone, AllLeft}
 use Rattle.mj_seats.specs.Wires.{WireState}
 
 module _ {X : Type 0} where

@@ -17,7 +17,7 @@ use Rattle.mj_seats.specs.declared.step.Step.TheVariants.{Free, Asked, Ends}
 use Rattle.std.specs.Prelude.{Some}
 use Rattle.mj_seats.specs.Histories.{Enters}
 use Rattle.mj_seats.specs.Sessions.{IsExcused, WireEnds, said_by}
-use Rattle.mj_seats.specs.Steps.{Stands, FindsDue, Watches, Extends, Speaks, SpeaksAt, Reaches, Moves}
+use Rattle.mj_seats.specs.Inner.Steps.{Stands, FindsDue, Watches, Extends, Speaks, SpeaksAt, Reaches, Moves}
 use Rattle.mj_seats.specs.Wires.{WireState, Took, Told}
 use Rattle.mj_seats.proofs.Wiring.{took_chain, took_nothing, took_itself, took_line, took_end, took_kept, told_nothing, told_itself, told_chain, told_part, told_all, told_excused, told_sent, told_failed, told_any}
 use Rattle.mj_seats.proofs.Entering.{enters_nothing, enters_chain, enters_one, said_append}

@@ -18,7 +18,7 @@ use Rattle.mj_seats.specs.declared.handle.Session.{Session}
 use Rattle.mj_seats.specs.declared.worker.Done.{Done}
 use Rattle.mj_seats.specs.Histories.{Enters}
 use Rattle.mj_seats.specs.Handlers.{WantsMemory}
-use Rattle.mj_seats.specs.Joined.{AllDone, AllLeft, IsPlayed}
+use Rattle.mj_seats.specs.Inner.Joined.{AllDone, AllLeft, IsPlayed}
 use Rattle.mj_seats.specs.Ticks.{Ticks}
 use Rattle.mj_seats.specs.Wires.{WireState}
 use Rattle.mj_seats.proofs.Entering.{enters_seen}

@@ -8,7 +8,7 @@ use Rattle.mj_ports.specs.declared.entry.Entry.{Entry}
 use Rattle.mj_ports.specs.Entries.{author_of, IsAside}
 use Rattle.mj_ports.specs.Seats.{After, Stays, Unmoved, pending, script}
 use Rattle.mj_seats.specs.Histories.{Enters}
-use Rattle.mj_seats.specs.Steps.{Stands, Watches}
+use Rattle.mj_seats.specs.Inner.Steps.{Stands, Watches}
 
 pub unmoved_itself : (seat : ℕ) (w : After) → Unmoved seat w w
 unmoved_itself seat w = record { present = refl; due = refl; is_told = refl; seat_of = λ place s. s; told = λ place s. refl }

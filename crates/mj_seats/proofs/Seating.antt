@@ -19,7 +19,7 @@ use Rattle.mj_seats.specs.declared.step.Sitting.TheVariants as sitting
 use Rattle.mj_seats.specs.declared.step.Connection.{Connection}
 use Rattle.mj_seats.specs.Histories.{Enters}
 use Rattle.mj_seats.specs.Sessions.{IsExcused, SeatedSession, SeatlessSession, said_by, last_entry}
-use Rattle.mj_seats.specs.Steps.{SitsAt, Finished}
+use Rattle.mj_seats.specs.Inner.Steps.{SitsAt, Finished}
 use Rattle.mj_seats.specs.Wires.{WireState, Took, Told}
 use Rattle.mj_seats.proofs.Wiring.{took_chain, took_nothing, took_itself, took_line, took_end, took_kept, told_chain, told_part, told_all, told_sent, told_failed, told_any, told_nothing, told_itself, told_excused}
 use Rattle.mj_seats.proofs.Entering.{enters_chain, enters_same}

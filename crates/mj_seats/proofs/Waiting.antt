@@ -4,7 +4,7 @@ use Rattle.turn_lock.specs.Passes.{PassState}
 use Rattle.mj_ports.specs.declared.entry.Entry.{Entry}
 use Rattle.mj_ports.specs.Seats.{After}
 use Rattle.mj_seats.specs.declared.step.Due.{Due}
-use Rattle.mj_seats.specs.Steps.{FindsDue, Watches}
+use Rattle.mj_seats.specs.Inner.Steps.{FindsDue, Watches}
 use Rattle.mj_seats.proofs.Entering.{enters_chain}
 use Rattle.mj_seats.proofs.Scripts.{unmoved_chain, stays_chain}
 

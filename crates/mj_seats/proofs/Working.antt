@@ -23,7 +23,7 @@ use Rattle.mj_seats.specs.declared.handle.Session.{Session}
 use Rattle.mj_seats.specs.Histories.{Enters, begins_one, places_of}
 use Rattle.mj_seats.specs.Sessions.{said_by, last_entry}
 use Rattle.mj_seats.specs.Handlers.{Handled, HandlerEnds, WantsMemory}
-use Rattle.mj_seats.specs.Joined.{AllLeft}
+use Rattle.mj_seats.specs.Inner.Joined.{AllLeft}
 use Rattle.mj_seats.specs.Ticks.{Ticks, Timed}
 use Rattle.mj_seats.specs.Workers.{AllServe, AllEnd, EndsIn, ExpiresBy, begun}
 use Rattle.mj_seats.specs.Wires.{WireState}

@@ -1,6 +1,6 @@
 // How a seat waits for the deed that its next line answers.
 ghost use Rattle.std.specs.Prelude.{◌≡◌, ◌<◌, false, [], Some};
-ghost use Rattle.mj_seats.specs.Steps.{FindsDue, Watches, Stands, Moves};
+ghost use Rattle.mj_seats.specs.Inner.Steps.{FindsDue, Watches, Stands, Moves};
 ghost use Rattle.mj_seats.specs.Wires.{at_wire};
 ghost use Rattle.turn_lock.specs.Turns.{IsIdle};
 

@@ -1,7 +1,7 @@
 // How a seat's line is read and answered.
 ghost use Rattle.std.specs.Prelude.{◌≡◌, ◌∷◌, ◌<◌, [], Some};
 ghost use Rattle.mj_ports.specs.Seats.{script};
-ghost use Rattle.mj_seats.specs.Steps.{Watches, Speaks, Stands, Moves, SpeaksAt};
+ghost use Rattle.mj_seats.specs.Inner.Steps.{Watches, Speaks, Stands, Moves, SpeaksAt};
 ghost use Rattle.mj_seats.specs.Wires.{at_wire};
 ghost use Rattle.turn_lock.specs.Turns.{IsIdle};
 

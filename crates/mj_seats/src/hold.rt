@@ -2,7 +2,7 @@
 ghost use Rattle.std.specs.Prelude.{◌≡◌, ◌<◌, ℕ, [], Some, All, length};
 ghost use Rattle.mj_ports.specs.Entries.{author_of};
 ghost use Rattle.mj_seats.specs.Histories.{Enters};
-ghost use Rattle.mj_seats.specs.Steps.{Watches};
+ghost use Rattle.mj_seats.specs.Inner.Steps.{Watches};
 ghost use Rattle.turn_lock.specs.Notes.{Follows};
 ghost use Rattle.turn_lock.specs.Turns.{IsIdle, IsBusy, IsSeenIn, taken, given};
 

@@ -1,6 +1,6 @@
 // How a seat leaves whose link ended its session.
 ghost use Rattle.std.specs.Prelude.{◌≡◌, ◌<◌};
-ghost use Rattle.mj_seats.specs.Steps.{Stands, StandsAt, LeavesAs, FinishesAs, Parts};
+ghost use Rattle.mj_seats.specs.Inner.Steps.{Stands, StandsAt, LeavesAs, FinishesAs, Parts};
 ghost use Rattle.turn_lock.specs.Turns.{IsIdle};
 
 use crate::hold;

@@ -1,7 +1,7 @@
 // How a seat is played, from its first deed to the end of its session.
 ghost use Rattle.std.specs.Prelude.{◌≡◌, ◌<◌, false, []};
 ghost use Rattle.mj_seats.specs.declared.step.Step.TheVariants.{Ends};
-ghost use Rattle.mj_seats.specs.Steps.{Stands, Moves};
+ghost use Rattle.mj_seats.specs.Inner.Steps.{Stands, Moves};
 ghost use Rattle.mj_seats.specs.Wires.{at_wire};
 ghost use Rattle.turn_lock.specs.Turns.{IsIdle};
 

@@ -5,7 +5,7 @@ ghost use Rattle.mj_ports.specs.declared.entry.Entry.{Entry};
 ghost use Rattle.mj_ports.specs.declared.answers.Control.TheVariants.{Hello};
 ghost use Rattle.mj_seats.specs.Histories.{Enters};
 ghost use Rattle.mj_seats.specs.Sessions.{Session};
-ghost use Rattle.mj_seats.specs.Steps.{Stands, Finished, Greets};
+ghost use Rattle.mj_seats.specs.Inner.Steps.{Stands, Finished, Greets};
 ghost use Rattle.mj_seats.specs.Wires.{WireState, Took, Told, at_wire};
 ghost use Rattle.turn_lock.specs.Turns.{IsIdle};
 

@@ -2,7 +2,7 @@
 ghost use Rattle.std.specs.Prelude.{◌≡◌, ◌<◌, ◌≤◌, ◌++◌, [], OnOk};
 ghost use Rattle.mj_ports.specs.declared.answers.Control.TheVariants.{Head};
 ghost use Rattle.mj_ports.specs.Seats.{lines_to};
-ghost use Rattle.mj_seats.specs.Steps.{SitsDown, SitsAt};
+ghost use Rattle.mj_seats.specs.Inner.Steps.{SitsDown, SitsAt};
 ghost use Rattle.turn_lock.specs.Turns.{IsIdle};
 
 use crate::hold;

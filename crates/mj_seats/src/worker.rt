@@ -2,7 +2,7 @@
 ghost use Rattle.std.specs.Prelude.{◌≡◌, ◌≤◌, ◌+◌, [], length, vec_capacity, MatchOption};
 ghost use Rattle.std.specs.Thread.{IsSync};
 ghost use Rattle.mj_seats.specs.Handlers.{at_link};
-ghost use Rattle.mj_seats.specs.Joined.{IsBack, IsNewPass, AreNewPasses, IsDone, AllDone};
+ghost use Rattle.mj_seats.specs.Inner.Joined.{IsBack, IsNewPass, AreNewPasses, IsDone, AllDone};
 ghost use Rattle.mj_seats.specs.Ticks.{Ticks};
 ghost use Rattle.turn_lock.specs.Turns.{new_pass};
 

@@ -3,7 +3,7 @@
 ghost use Rattle.std.specs.Prelude.{◌≡◌, ◌+◌, ◌<◌, [], ◌∷◌, ◌++◌, All, IfOk, IsPermutation, length, map};
 ghost use Rattle.mj_ports.specs.Entries.{author_of};
 ghost use Rattle.mj_seats.specs.Handlers.{at_link};
-ghost use Rattle.mj_seats.specs.Joined.{IsPlayed};
+ghost use Rattle.mj_seats.specs.Inner.Joined.{IsPlayed};
 ghost use Rattle.mj_seats.specs.Ticks.{Ticks};
 ghost use Rattle.mj_seats.specs.Workers.{AllServe, AllEnd, ExpiresBy, begun};
 ghost use Rattle.turn_lock.specs.Turns.{IsIdle, IsSeenIn};

@@ -8,7 +8,7 @@ use Rattle.mj_readings.specs.Complete.{orphan_number}
 use Rattle.mj_suits.specs.Improves.{Improves}
 use Rattle.mj_suits.proofs.Near.{Improves-both, Improves-same, Improves-not}
 use Rattle.mj_shanten.specs.Suits.{with_two, Padded}
-use Rattle.mj_shanten.specs.Special.{IsOrphans, IsOrphansWith, IsOrphansBelow}
+use Rattle.mj_shanten.specs.Inner.Special.{IsOrphans, IsOrphansWith, IsOrphansBelow}
 use Rattle.mj_shanten.proofs.Written.{Written, written_all}
 
 pub orphans_size : (double : ℕ) → length (map (orphan_number double) all_kinds) ≡ 34

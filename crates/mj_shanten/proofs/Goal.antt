@@ -20,7 +20,7 @@ use Rattle.mj_suits.proofs.Near.{missing-append}
 use Rattle.mj_shanten.specs.Room.{IsRoom, IsHand, IsWithinRoom}
 use Rattle.mj_shanten.specs.Shanten.{IsGoal, IsShanten}
 use Rattle.mj_shanten.specs.Suits.{Padded, with_two, IsJoint, suits_of}
-use Rattle.mj_shanten.specs.Special.{IsPairs, IsOrphans, IsSpecial}
+use Rattle.mj_shanten.specs.Inner.Special.{IsPairs, IsOrphans, IsSpecial}
 use Rattle.mj_shanten.proofs.Joint.{cmp_before}
 use Rattle.mj_shanten.proofs.Parting.{number_past}
 use Rattle.mj_shanten.proofs.Standard.{joint_of, hand_of, IsMade}

@@ -13,7 +13,7 @@ use Rattle.mj_suits.specs.Targets.{missing}
 use Rattle.mj_suits.specs.Improves.{AsNear}
 use Rattle.mj_readings.specs.Complete.{is_seven_pairs}
 use Rattle.mj_shanten.specs.Suits.{with_two, Padded}
-use Rattle.mj_shanten.specs.Special.{IsPairs, so_often, better, nearest_pairs}
+use Rattle.mj_shanten.specs.Inner.Special.{IsPairs, so_often, better, nearest_pairs}
 use Rattle.mj_shanten.proofs.Hands.{missing_two}
 use Rattle.mj_shanten.proofs.Joint.{cmp_before}
 

@@ -14,7 +14,7 @@ use Rattle.mj_shanten.specs.Room.{IsRoom}
 use Rattle.mj_shanten.specs.Shanten.{IsGoal, IsShanten}
 use Rattle.mj_shanten.specs.Suits.{with_two, Padded, IsJoint, suits_of}
 use Rattle.mj_shanten.specs.Walked.{IsLeastOr}
-use Rattle.mj_shanten.specs.Special.{IsPairs, IsOrphans, IsSpecial, IsLeastWith, so_often}
+use Rattle.mj_shanten.specs.Inner.Special.{IsPairs, IsOrphans, IsSpecial, IsLeastWith, so_often}
 use Rattle.mj_shanten.proofs.Hands.{missing_two}
 use Rattle.mj_shanten.proofs.Pairs.{seven_parts, miss_least, least}
 use Rattle.mj_shanten.proofs.Exists.{some_goal}

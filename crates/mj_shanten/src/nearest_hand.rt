@@ -6,7 +6,7 @@ ghost use Rattle.mj_suits.specs.Improves.{Improves};
 ghost use Rattle.mj_shanten.specs.Room.{IsHand, IsRoom};
 ghost use Rattle.mj_shanten.specs.Shanten.{IsGoal, IsShanten};
 ghost use Rattle.mj_shanten.specs.Exchanges.{AreLeastExchanges};
-ghost use Rattle.mj_shanten.specs.Special.{IsSpecial, IsLeastWith};
+ghost use Rattle.mj_shanten.specs.Inner.Special.{IsSpecial, IsLeastWith};
 
 use crate::nearest_sets::{WideHand, take_sets};
 use crate::orphans::take_orphans;

@@ -6,7 +6,7 @@ ghost use Rattle.mj_tiles.specs.Terminals.{is_terminal_or_honour};
 ghost use Rattle.mj_readings.specs.Complete.{orphan_number};
 ghost use Rattle.mj_suits.specs.Improves.{Improves};
 ghost use Rattle.mj_shanten.specs.Suits.{Padded, with_two};
-ghost use Rattle.mj_shanten.specs.Special.{IsOrphans, IsOrphansWith};
+ghost use Rattle.mj_shanten.specs.Inner.Special.{IsOrphans, IsOrphansWith};
 
 use crate::nearest_hand::{EACH_ORPHAN, is_nearer};
 use crate::suits::{keep_nearer, missing_tiles};

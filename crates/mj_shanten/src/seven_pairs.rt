@@ -3,7 +3,7 @@
 ghost use Rattle.std.specs.Prelude.{◌≡◌, ◌+◌, ◌≤◌, nat_le, nat_lt, take, count_by, slice_index};
 ghost use Rattle.mj_suits.specs.Improves.{Improves};
 ghost use Rattle.mj_shanten.specs.Suits.{Padded, with_two};
-ghost use Rattle.mj_shanten.specs.Special.{IsPairs, so_often, better, nearest_pairs};
+ghost use Rattle.mj_shanten.specs.Inner.Special.{IsPairs, so_often, better, nearest_pairs};
 
 use crate::suits::keep_nearer;
 

@@ -6,7 +6,7 @@ use Rattle.mj_suits.specs.Rows.{price, prices, most_left, begun, begun_by_tiles,
 use Rattle.mj_suits.specs.Targets.{missing}
 use Rattle.mj_suits.proofs.Taken.{taken_in, taken_few_sets, taken_few_pairs}
 use Rattle.mj_suits.proofs.Rows.{walked_at, walked_past, walked_none}
-use Rattle.mj_suits.specs.Ends.{Goes, Ends}
+use Rattle.mj_suits.specs.Inner.Ends.{Goes, Ends}
 use Rattle.mj_suits.proofs.Ends.{fewer_runs}
 
 -- ---- the most that is left

@@ -8,13 +8,13 @@ use Rattle.std.proofs.lemmas.Cmp.{upto, tied_itself, nat_cmp_total, nat_list_cmp
 use Rattle.std.proofs.lemmas.List.{length-set}
 use Rattle.std.proofs.Math.Seq.{take-suc-set}
 use Rattle.mj_suits.specs.Rows.{lane, Holds, stepped, walked, IsFew}
-use Rattle.mj_suits.specs.Walked.{row_at, AreRows}
+use Rattle.mj_suits.specs.Inner.Walked.{row_at, AreRows}
 use Rattle.std.specs.Prelude.{is_some}
 use Rattle.mj_suits.specs.Targets.{missing, IsTarget}
 use Rattle.mj_suits.specs.Sets.{counts_of, tiles_of_sets, tiles_of_pair}
 use Rattle.mj_suits.specs.declared.sets.SuitSet.{SuitSet}
-use Rattle.mj_suits.specs.Ends.{Goes, Ends}
-use Rattle.mj_suits.specs.Choosing.{rooms, helds, IsState, AreLevels, AreNumbers, Goes_on, By, ByBegin, ByTiles, tiles_at, IsBegin, MayBegin, LeavesAsMany, sets_alone, with_pair, IsTooMany, IsWay, InWays, NoWay, AreWays, AreMostWays, next_of, IsPlan, IsGreatest, GreaterOf}
+use Rattle.mj_suits.specs.Inner.Ends.{Goes, Ends}
+use Rattle.mj_suits.specs.Inner.Choosing.{rooms, helds, IsState, AreLevels, AreNumbers, Goes_on, By, ByBegin, ByTiles, tiles_at, IsBegin, MayBegin, LeavesAsMany, sets_alone, with_pair, IsTooMany, IsWay, InWays, NoWay, AreWays, AreMostWays, next_of, IsPlan, IsGreatest, GreaterOf}
 use Rattle.mj_suits.specs.declared.choosing.Aim.{Aim}
 use Rattle.mj_suits.specs.declared.choosing.Level.{Level}
 use Rattle.mj_suits.specs.declared.choosing.Plan.{Plan}

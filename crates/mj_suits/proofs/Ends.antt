@@ -1,6 +1,6 @@
 -- The tiles of the numbers from one on, and how many of fifteen are left when the best of them are paid for.
 use Rattle.std.proofs.Common.{◌≡◌, ℕ, ◌+◌, ◌-◌, ◌≤◌, Bool, List, [], ◌∷◌, subst, ap, ◌∙◌, arith}
-use Rattle.mj_suits.specs.Ends.{Goes, Ends}
+use Rattle.mj_suits.specs.Inner.Ends.{Goes, Ends}
 
 -- ---- three equal runs are three triplets
 

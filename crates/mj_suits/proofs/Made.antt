@@ -8,7 +8,7 @@ use Rattle.mj_suits.specs.Targets.{IsTarget}
 use Rattle.mj_suits.specs.declared.sets.SuitSet.{SuitSet}
 use Rattle.mj_suits.proofs.Tiles.{count_of-append, count_of-below_set, count_of-other_pair}
 use Rattle.mj_suits.proofs.Whole.{get_or-counts_of, length-counts_of, counts_are}
-use Rattle.mj_suits.specs.Ends.{Goes, Ends}
+use Rattle.mj_suits.specs.Inner.Ends.{Goes, Ends}
 
 -- ---- from a target to the tiles from number to number
 

@@ -3,11 +3,11 @@ use Rattle.std.proofs.Common.{◌≡◌, ◌⊎◌, ℕ, zero, suc, ◌+◌, ◌
 use Rattle.mj_suits.specs.Rows.{lane, Holds, taken, price, begun, walked, IsFew}
 use Rattle.mj_suits.specs.Targets.{missing}
 use Rattle.mj_suits.specs.Left.{pairs, LeavesBy, Leaves, LeavesMost}
-use Rattle.mj_suits.specs.Walked.{AreCosts}
+use Rattle.mj_suits.specs.Inner.Walked.{AreCosts}
 use Rattle.mj_suits.specs.declared.walk.Costs.{Costs}
 use Rattle.mj_suits.proofs.Taken.{taken_none, taken_held}
 use Rattle.mj_suits.proofs.Rows.{walked_at}
-use Rattle.mj_suits.specs.Ends.{Ends}
+use Rattle.mj_suits.specs.Inner.Ends.{Ends}
 use Rattle.mj_suits.proofs.Best.{OfFour, walked_bound, walked_few, walked_reached}
 use Rattle.mj_suits.proofs.Made.{target_ends, ends_target}
 

@@ -1,7 +1,7 @@
 -- The rows of the walk, from number to number.
 use Rattle.std.proofs.Common.{◌≡◌, ◌&&◌, eqb, cond, ℕ, zero, suc, ◌+◌, ◌<◌, Bool, true, false, max, List, [], ◌∷◌, drop, refl, sym, ap, ap₂, ◌∙◌, arith}
 use Rattle.mj_suits.specs.Rows.{lane, Holds, prices, most_left, begun, begun_by_tiles, stepped, walked}
-use Rattle.mj_suits.specs.Walked.{AreCosts, AreBegun, begun_lanes, cost_lanes, row_at, AreRows}
+use Rattle.mj_suits.specs.Inner.Walked.{AreCosts, AreBegun, begun_lanes, cost_lanes, row_at, AreRows}
 use Rattle.mj_suits.specs.declared.walk.Costs.{Costs}
 use Rattle.mj_suits.specs.declared.walk.Begun.{Begun}
 use Rattle.mj_suits.specs.declared.walk.Rows.{Rows}

@@ -3,7 +3,7 @@ use Rattle.std.proofs.Common.{◌≡◌, ◌⊎◌, Bool, ℕ, ◌+◌, ◌*◌,
 use Rattle.std.proofs.lemmas.Bool.{cases_lt, cases_eq}
 use Rattle.std.proofs.lemmas.List.{append_cancel_left}
 use Rattle.mj_suits.specs.Sets.{tiles_of_set, tiles_of_sets, tiles_of_pair, count_of}
-use Rattle.mj_suits.specs.Search.{place, SetsFrom, PairFrom, first_pair, Continues, Finds, Fits, IsLess}
+use Rattle.mj_suits.specs.Inner.Search.{place, SetsFrom, PairFrom, first_pair, Continues, Finds, Fits, IsLess}
 use Rattle.mj_suits.specs.declared.sets.SuitSet.{SuitSet}
 use Rattle.mj_suits.specs.declared.sets.Split.{Split}
 use Rattle.mj_suits.proofs.Lists.{AreAll-append, AreAll-same, AreAll-none}

@@ -4,7 +4,7 @@ use Rattle.std.specs.Prelude.{MatchOption}
 use Rattle.std.proofs.lemmas.Bool.{cases_Bool, and_parts, eqb-true}
 use Rattle.mj_suits.specs.Rows.{lane, Holds, IsFew, start_lane}
 use Rattle.mj_suits.specs.Targets.{missing, IsTarget, IsNearest}
-use Rattle.mj_suits.specs.Ends.{Ends}
+use Rattle.mj_suits.specs.Inner.Ends.{Ends}
 use Rattle.mj_suits.specs.Left.{pairs, LeavesBy, IsChosen}
 use Rattle.mj_suits.specs.Tables.{Suit, IsTable, IsLeast}
 use Rattle.mj_suits.proofs.Made.{target_ends}

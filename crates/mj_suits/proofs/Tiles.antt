@@ -3,7 +3,7 @@ use Rattle.std.proofs.Common.{◌≡◌, ◌≢◌, ◌⊎◌, cond, eqb, Bool, 
 use Rattle.std.proofs.lemmas.Bool.{cases_eq, cases_Bool, ne_eqb, eq-eqb}
 use Rattle.std.proofs.lemmas.List.Sums.{sum_by-append}
 use Rattle.mj_suits.specs.Sets.{tiles_of_set, tiles_of_sets, tiles_of_pair, count_of}
-use Rattle.mj_suits.specs.Search.{place, SetsFrom, PairFrom}
+use Rattle.mj_suits.specs.Inner.Search.{place, SetsFrom, PairFrom}
 use Rattle.mj_suits.specs.declared.sets.SuitSet.{SuitSet}
 
 -- the count of a list of two parts

@@ -4,7 +4,7 @@ use Rattle.std.specs.Prelude.{MatchOption}
 use Rattle.mj_suits.specs.Rows.{lane, Holds, walked, IsFew}
 use Rattle.mj_suits.specs.Left.{LeavesMost, IsChosen}
 use Rattle.mj_suits.specs.Tables.{Suit}
-use Rattle.mj_suits.specs.Choosing.{rooms, helds, AreLevels, AreNumbers, By, IsPlan, IsGreatest, first_plan}
+use Rattle.mj_suits.specs.Inner.Choosing.{rooms, helds, AreLevels, AreNumbers, By, IsPlan, IsGreatest, first_plan}
 use Rattle.mj_suits.specs.SuitWalks.{Walk, IsWalk}
 use Rattle.mj_suits.specs.declared.choosing.Aim.{Aim}
 use Rattle.mj_suits.specs.declared.choosing.Level.{Level}

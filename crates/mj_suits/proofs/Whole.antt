@@ -5,7 +5,7 @@ use Rattle.std.proofs.lemmas.Bool.{cases_lt, cases_Bool, false≢true, ltb-true,
 use Rattle.std.proofs.lemmas.List.{get_or-map}
 use Rattle.mj_suits.specs.Each.{AreAll}
 use Rattle.mj_suits.specs.Sets.{tiles_of_sets, tiles_of_pair, count_of, counts_of, numbers, is_well_formed, stands_before, is_in_order, is_pair, IsPartition}
-use Rattle.mj_suits.specs.Search.{place, SetsFrom, PairFrom, first_pair, Continues, Finds}
+use Rattle.mj_suits.specs.Inner.Search.{place, SetsFrom, PairFrom, first_pair, Continues, Finds}
 use Rattle.mj_suits.specs.declared.sets.SuitSet.{SuitSet}
 use Rattle.mj_suits.specs.declared.sets.Split.{Split}
 use Rattle.mj_suits.proofs.Lists.{AreAll-same, AreAll-one}

@@ -1,12 +1,9 @@
 pub mod Each
 pub mod Sets
-pub mod Search
 pub mod Targets
 pub mod Rows
-pub mod Walked
 pub mod Left
-pub mod Ends
-pub mod Choosing
 pub mod Improves
 pub mod Tables
 pub mod SuitWalks
+pub mod Inner

@@ -3,7 +3,7 @@ use Rattle.std.specs.Prelude.{◌≡◌, ℕ, List, length}
 use Rattle.mj_suits.specs.Rows.{IsFew}
 use Rattle.mj_suits.specs.Left.{LeavesMost}
 use Rattle.mj_suits.specs.Tables.{Suit}
-use Rattle.mj_suits.specs.Choosing.{helds, rooms, AreLevels}
+use Rattle.mj_suits.specs.Inner.Choosing.{helds, rooms, AreLevels}
 use Rattle.mj_suits.specs.declared.choosing.Aim.{Aim}
 use Rattle.mj_suits.specs.declared.choosing.Level.{Level}
 

@@ -6,7 +6,7 @@
 ghost use Rattle.std.specs.Prelude.{◌≡◌, ◌≤◌, ◌*◌, ◌+◌, IfOk, OnOk, MatchOption};
 ghost use Rattle.mj_suits.specs.Each.{AreAll};
 ghost use Rattle.mj_suits.specs.Sets.{IsPartition};
-ghost use Rattle.mj_suits.specs.Search.{FoundFrom, Fits, IsLess, place};
+ghost use Rattle.mj_suits.specs.Inner.Search.{FoundFrom, Fits, IsLess, place};
 
 use crate::sets::{Split, SuitSet, SuitSets};
 use std::alloc::{AllocError, Global};

@@ -2,7 +2,7 @@
 
 ghost use Rattle.std.specs.Prelude.{◌≡◌, ◌≤◌, ◌<◌, true, false, MatchOption, slice_index, EachIndex};
 ghost use Rattle.mj_suits.specs.Rows.{Holds, IsFew, lane, walked};
-ghost use Rattle.mj_suits.specs.Choosing.{AreNumbers};
+ghost use Rattle.mj_suits.specs.Inner.Choosing.{AreNumbers};
 ghost use Rattle.mj_suits.specs.Left.{LeavesMost, IsChosen};
 
 use crate::choosing::{Aim, Choice, Level, choose_all};
@@ -25,7 +25,7 @@ struct Numbers {
 }
 
 impl Model for SuitWalk {
-    ghost use Rattle.mj_suits.specs.Choosing.{helds, rooms};
+    ghost use Rattle.mj_suits.specs.Inner.Choosing.{helds, rooms};
     ghost use Rattle.mj_suits.specs.SuitWalks.{Walk, IsWalk};
 
     ghost Value = { Walk };

@@ -4,7 +4,7 @@
 ghost use Rattle.std.specs.Prelude.{◌≡◌, ◌-◌, ◌*◌, ◌<◌, ◌≤◌, ◌∷◌, [], ℕ, List, true, false, max, drop, slice_index, EachIndex};
 ghost use Rattle.mj_suits.specs.Rows.{Holds, lane, most_left, walked, IsFew};
 ghost use Rattle.mj_suits.specs.Left.{LeavesMost};
-ghost use Rattle.mj_suits.specs.Walked.{AreCosts, AreBegun, begun_lanes, cost_lanes, row_at, AreRows};
+ghost use Rattle.mj_suits.specs.Inner.Walked.{AreCosts, AreBegun, begun_lanes, cost_lanes, row_at, AreRows};
 
 use crate::row::Row;
 

@@ -11,8 +11,8 @@ use Rattle.turn_lock.specs.declared.view.Own.{Own}
 use Rattle.turn_lock.specs.declared.view.View.{View}
 use Rattle.turn_lock.specs.Passes.{PassState}
 use Rattle.turn_lock.specs.Turns.{IsSeenIn, numbers_of}
-use Rattle.turn_lock.specs.Views.{view, own_of, one_if, times_of, gathered}
-use Rattle.turn_lock.specs.Rule.{Knows, Holds}
+use Rattle.turn_lock.specs.Inner.Views.{view, own_of, one_if, times_of, gathered}
+use Rattle.turn_lock.specs.Inner.Rule.{Knows, Holds}
 use Rattle.turn_lock.proofs.Known.{times_append, one_miss, one_below_count}
 use Rattle.turn_lock.proofs.Gathered.{length_gathered}
 use Rattle.turn_lock.proofs.Steps.{Closes, closes}

@@ -6,7 +6,7 @@ use Rattle.atomic_table.specs.Seated.{TableId}
 use Rattle.turn_lock.specs.declared.view.Own.{Own}
 use Rattle.turn_lock.specs.Passes.{PassState}
 use Rattle.turn_lock.specs.Turns.{new_pass, new_passes, IsPassOf}
-use Rattle.turn_lock.specs.Views.{own_of, fresh, gathered}
+use Rattle.turn_lock.specs.Inner.Views.{own_of, fresh, gathered}
 
 module _ {S : Type 0} (N : Type 0) where
   pub fresh_next : (fixed : S) (from count : ℕ) → 0 < count → fresh {N = N} fixed from count ≡ own_of from fixed [] ∷ fresh fixed (from + 1) (count - 1)

@@ -6,8 +6,8 @@ use mathlib.Core.Logic.{dite}
 use native.Mathlib.Decide.{ℕ_discrete, dec_lt}
 use Rattle.turn_lock.specs.declared.view.Own.{Own}
 use Rattle.turn_lock.specs.Notes.{notes_of, Follows}
-use Rattle.turn_lock.specs.Views.{fresh, others, first_own, one_if, times_of}
-use Rattle.turn_lock.specs.Rule.{Knows}
+use Rattle.turn_lock.specs.Inner.Views.{fresh, others, first_own, one_if, times_of}
+use Rattle.turn_lock.specs.Inner.Rule.{Knows}
 use Rattle.turn_lock.proofs.Sums.{prefix_more}
 
 one_hit : (n k : ℕ) → n ≡ k → one_if (n == k) ≡ 1

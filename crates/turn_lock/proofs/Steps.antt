@@ -15,9 +15,9 @@ use Rattle.turn_lock.specs.declared.view.Stage.TheVariants.{Idle, Waits, Serves}
 use Rattle.turn_lock.specs.declared.view.Own.{Own}
 use Rattle.turn_lock.specs.declared.view.View.{View}
 use Rattle.turn_lock.specs.Notes.{notes_of, Follows}
-use Rattle.turn_lock.specs.Views.{view, own_of, fresh, others, first_own, one_if, times_of, out, HasTicket, is_serving}
-use Rattle.turn_lock.specs.Rule.{total, IsFree, At, Knows, Holds}
-use Rattle.turn_lock.specs.Plays.{Drew, Granted, Looked, Served}
+use Rattle.turn_lock.specs.Inner.Views.{view, own_of, fresh, others, first_own, one_if, times_of, out, HasTicket, is_serving}
+use Rattle.turn_lock.specs.Inner.Rule.{total, IsFree, At, Knows, Holds}
+use Rattle.turn_lock.specs.Inner.Plays.{Drew, Granted, Looked, Served}
 use Rattle.turn_lock.proofs.Sums.{total_set, total_snoc, total_le, one_below, two_below, total_alone, each_set, each_snoc, one_there, prefix_self}
 use Rattle.turn_lock.proofs.Views.{apart_set, apart_snoc, frees, frees_snoc, at_later, not_next, at_served, not_serving, none_serves, out_own}
 use Rattle.turn_lock.proofs.Known.{own_times, below_one, below_count, below_follows, knows_follows, knows_append, knows_others, knows_first, knows_fresh, times_append, times_cut, length_cut, no_times, length_fresh, times_fresh}

@@ -8,9 +8,9 @@ use Rattle.turn_lock.specs.declared.view.Stage.TheVariants.{Idle, Waits, Serves}
 use Rattle.turn_lock.specs.declared.view.Own.{Own}
 use Rattle.turn_lock.specs.declared.view.View.{View}
 use Rattle.turn_lock.specs.Notes.{Follows}
-use Rattle.turn_lock.specs.Views.{view, own_of, fresh, others, first_own, seen_in, setting_in, is_serving, StandsAt, HasOne, IsPass}
-use Rattle.turn_lock.specs.Rule.{Holds}
-use Rattle.turn_lock.specs.Plays.{Drew, Granted, Looked, Served}
+use Rattle.turn_lock.specs.Inner.Views.{view, own_of, fresh, others, first_own, seen_in, setting_in, is_serving, StandsAt, HasOne, IsPass}
+use Rattle.turn_lock.specs.Inner.Rule.{Holds}
+use Rattle.turn_lock.specs.Inner.Plays.{Drew, Granted, Looked, Served}
 use Rattle.turn_lock.specs.Turns.{new_pass}
 use Rattle.turn_lock.proofs.Gathered.{fresh_next}
 use Rattle.turn_lock.proofs.Steps.{draws, looks, serves, splits, joins}

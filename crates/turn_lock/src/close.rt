@@ -1,7 +1,7 @@
 // How a turn ends.
 ghost use Rattle.std.specs.Prelude.{◌≡◌, ◌<◌, false, [], All, Contains, vec_len};
 ghost use Rattle.turn_lock.specs.Turns.{IsPassOf, IsIdle, IsSeenIn, numbers_of};
-ghost use Rattle.turn_lock.specs.Views.{view, gathered};
+ghost use Rattle.turn_lock.specs.Inner.Views.{view, gathered};
 ghost use Rattle.turn_lock.specs.declared.view.Stage.TheVariants.{Idle};
 
 use crate::noted::Noted;

@@ -1,7 +1,7 @@
 // How a turn is made.
 ghost use Rattle.std.specs.Prelude.{◌≡◌, ◌+◌, ◌-◌, ◌<◌, ◌≤◌, [], ◌∷◌, IfOk, IfErr, vec_len, vec_capacity};
 ghost use Rattle.turn_lock.specs.Turns.{new_passes};
-ghost use Rattle.turn_lock.specs.Views.{view, fresh};
+ghost use Rattle.turn_lock.specs.Inner.Views.{view, fresh};
 ghost use Rattle.turn_lock.specs.declared.view.Stage.TheVariants.{Idle};
 
 use crate::noted::Noted;

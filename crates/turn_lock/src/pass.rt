@@ -1,5 +1,5 @@
 ghost use Rattle.std.specs.Prelude.{◌≡◌, false, Some};
-ghost use Rattle.turn_lock.specs.Views.{at_rest};
+ghost use Rattle.turn_lock.specs.Inner.Views.{at_rest};
 
 use crate::noted::Noted;
 use crate::view::View;
@@ -20,7 +20,7 @@ pub type Pass<T> = PassOf<T, <T as Noted>::Setting, <T as Noted>::Note>;
 
 impl<T, S, N> Model for PassOf<T, S, N> {
     ghost use Rattle.turn_lock.specs.Passes.{PassState};
-    ghost use Rattle.turn_lock.specs.Views.{IsPass, pass_state};
+    ghost use Rattle.turn_lock.specs.Inner.Views.{IsPass, pass_state};
 
     ghost Value = { PassState S N };
 

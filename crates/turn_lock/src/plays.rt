@@ -1,6 +1,6 @@
 ghost use Rattle.std.specs.Prelude.{[], ◌++◌};
-ghost use Rattle.turn_lock.specs.Plays.{Drew, Looked, Served};
-ghost use Rattle.turn_lock.specs.Views.{view, others, first_own};
+ghost use Rattle.turn_lock.specs.Inner.Plays.{Drew, Looked, Served};
+ghost use Rattle.turn_lock.specs.Inner.Views.{view, others, first_own};
 ghost use Rattle.turn_lock.specs.declared.view.Stage.TheVariants.{Idle};
 
 use crate::noted::Noted;

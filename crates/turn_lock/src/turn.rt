@@ -1,6 +1,6 @@
 ghost use Rattle.std.specs.Prelude.{◌≡◌};
 ghost use Rattle.turn_lock.specs.Notes.{Follows};
-ghost use Rattle.turn_lock.specs.Plays.{Awaits, Granted};
+ghost use Rattle.turn_lock.specs.Inner.Plays.{Awaits, Granted};
 ghost use Rattle.turn_lock.specs.Turns.{IsIdle, IsBusy, IsSeenIn, taken, given};
 
 use crate::held::Held;
@@ -31,7 +31,7 @@ pub struct Turn<T: Noted> {
 
 impl<T: Noted> Model for Turn<T> {
     ghost use Rattle.turn_lock.specs.Passes.{TurnState};
-    ghost use Rattle.turn_lock.specs.Views.{turn_state, IsTurn};
+    ghost use Rattle.turn_lock.specs.Inner.Views.{turn_state, IsTurn};
 
     ghost Value = { TurnState T };
 

@@ -1,5 +1,5 @@
-ghost use Rattle.turn_lock.specs.Rule.{Holds};
-ghost use Rattle.turn_lock.specs.Views.{view, fresh};
+ghost use Rattle.turn_lock.specs.Inner.Rule.{Holds};
+ghost use Rattle.turn_lock.specs.Inner.Views.{view, fresh};
 ghost use Rattle.turn_lock.specs.declared.view.Stage.TheVariants.{Idle};
 
 use crate::noted::Noted;

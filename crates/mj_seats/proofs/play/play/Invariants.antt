@@ -1,6 +1,6 @@
 use Rattle.std.proofs.Common.{◌≡◌, []}
 use Rattle.turn_lock.specs.Turns.{IsIdle}
-use Rattle.mj_seats.specs.Steps.{Moves}
+use Rattle.mj_seats.specs.Inner.Steps.{Moves}
 use Rattle.mj_seats.specs.Wires.{at_wire}
 use Rattle.mj_seats.proofs.play.play.Given as goal
 

@@ -3,7 +3,7 @@ use Rattle.std.specs.Prelude.{Some}
 use Rattle.std.proofs.lemmas.Result.{IfOk-weaker}
 use Rattle.turn_lock.specs.Turns.{new_passes}
 use Rattle.mj_seats.specs.Handlers.{at_link}
-use Rattle.mj_seats.specs.Joined.{AllDone, IsPlayed}
+use Rattle.mj_seats.specs.Inner.Joined.{AllDone, IsPlayed}
 use Rattle.mj_seats.proofs.Joining.{popped_last}
 use Rattle.mj_seats.proofs.Played.{and_one, ok_five, are_idle, is_played}
 use Rattle.mj_seats.proofs.workers.run_at.Goals as goal

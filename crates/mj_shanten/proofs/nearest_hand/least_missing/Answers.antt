@@ -1,5 +1,5 @@
 use Rattle.std.proofs.Common.{arith, subst, sym, ◌≡◌}
-use Rattle.mj_shanten.specs.Special.{IsSpecial, IsLeastWith}
+use Rattle.mj_shanten.specs.Inner.Special.{IsSpecial, IsLeastWith}
 use Rattle.mj_shanten.proofs.Special.{least_goal, special_melds}
 use Rattle.mj_shanten.proofs.nearest_hand.least_missing.Goals as goal
 

@@ -1,6 +1,6 @@
 -- The kinds looked at so far.
 use Rattle.mj_suits.specs.Improves.{Improves}
-use Rattle.mj_shanten.specs.Special.{IsOrphansBelow}
+use Rattle.mj_shanten.specs.Inner.Special.{IsOrphansBelow}
 use Rattle.mj_shanten.proofs.orphans.take_orphans.Given as goal
 
 abbrev pub invariant-loop-double : goal.invariant-loop-double

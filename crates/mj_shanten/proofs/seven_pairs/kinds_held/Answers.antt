@@ -1,5 +1,5 @@
 use Rattle.std.proofs.Common.{◌≡◌, ◌∙◌, ap, take, arith}
-use Rattle.mj_shanten.specs.Special.{so_often}
+use Rattle.mj_shanten.specs.Inner.Special.{so_often}
 use Rattle.mj_shanten.proofs.seven_pairs.kinds_held.Goals as goal
 
 pub returns : goal.returns

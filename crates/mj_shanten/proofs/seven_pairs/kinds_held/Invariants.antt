@@ -1,6 +1,6 @@
 -- The kinds gone through.
 use Rattle.std.proofs.Common.{◌≡◌, take}
-use Rattle.mj_shanten.specs.Special.{so_often}
+use Rattle.mj_shanten.specs.Inner.Special.{so_often}
 use Rattle.mj_shanten.proofs.seven_pairs.kinds_held.Given as goal
 
 abbrev pub invariant-loop-kind : goal.invariant-loop-kind

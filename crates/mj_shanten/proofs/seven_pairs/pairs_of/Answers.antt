@@ -1,7 +1,7 @@
 use Rattle.std.proofs.Common.{refl, arith, leb, ◌-◌, ◌+◌, ◌≡◌, ◌∙◌, drop, take, get_or}
 use mir.Val.{bool_byte}
 use Rattle.std.proofs.lemmas.List.{length-set}
-use Rattle.mj_shanten.specs.Special.{so_often}
+use Rattle.mj_shanten.specs.Inner.Special.{so_often}
 use Rattle.mj_shanten.proofs.Pairs.{often_here, whole_kept, later_kept, pairs_end}
 use Rattle.mj_lists.proofs.Fronts.{zero_at}
 use Rattle.mj_shanten.proofs.seven_pairs.pairs_of.Goals as goal

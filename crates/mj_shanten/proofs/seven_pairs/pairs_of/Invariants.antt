@@ -1,6 +1,6 @@
 -- The kinds gone through, and what the others add.
 use Rattle.std.proofs.Common.{◌≡◌, ◌++◌, ◌≤◌, ℕ, get_or, length, take, drop}
-use Rattle.mj_shanten.specs.Special.{so_often, nearest_pairs}
+use Rattle.mj_shanten.specs.Inner.Special.{so_often, nearest_pairs}
 use Rattle.mj_shanten.proofs.seven_pairs.pairs_of.Given as goal
 
 abbrev pub invariant-loop-kind : goal.invariant-loop-kind

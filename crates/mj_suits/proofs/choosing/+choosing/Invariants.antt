@@ -1,6 +1,6 @@
 -- Each call goes on to fewer numbers. What is chosen from the plan that was come to is what is chosen from the first one.
 use Rattle.std.proofs.Common.{◌≡◌, ◌+◌, ◌*◌, ◌≤◌, length}
-use Rattle.mj_suits.specs.Choosing.{IsPlan}
+use Rattle.mj_suits.specs.Inner.Choosing.{IsPlan}
 use Rattle.mj_suits.proofs.Choices.{GoesOn}
 use Rattle.mj_suits.proofs.choosing.+choosing.Given as goal
 

@@ -1,5 +1,5 @@
 use Rattle.std.proofs.Common.{arith}
-use Rattle.mj_suits.specs.Choosing.{NoWay}
+use Rattle.mj_suits.specs.Inner.Choosing.{NoWay}
 use Rattle.mj_suits.proofs.Choices.{no_more, some_tiles}
 use Rattle.mj_suits.proofs.choosing.most_ways.Goals as goal
 

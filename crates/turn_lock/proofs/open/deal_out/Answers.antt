@@ -1,5 +1,5 @@
 use Rattle.std.proofs.Common.{◌≡◌, ◌+◌, ◌-◌, ◌<◌, [], ap, ◌∙◌, arith, rules}
-use Rattle.turn_lock.specs.Views.{view, fresh}
+use Rattle.turn_lock.specs.Inner.Views.{view, fresh}
 use Rattle.turn_lock.specs.declared.view.Stage.TheVariants.{Idle}
 use Rattle.turn_lock.proofs.Gathered.{pushed_pass}
 use Rattle.turn_lock.proofs.Uses.{splits_at, view_at, dealt_left, dealt_right, dealt_is_pass, dealt_state}

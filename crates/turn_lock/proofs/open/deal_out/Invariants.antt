@@ -1,6 +1,6 @@
 use Rattle.std.proofs.Common.{◌≡◌, ◌-◌, ◌≤◌, [], vec_len, vec_capacity}
 use Rattle.turn_lock.specs.Turns.{new_passes}
-use Rattle.turn_lock.specs.Views.{view, fresh}
+use Rattle.turn_lock.specs.Inner.Views.{view, fresh}
 use Rattle.turn_lock.specs.declared.view.Stage.TheVariants.{Idle}
 use Rattle.turn_lock.proofs.open.deal_out.Given as goal
 

@@ -1,7 +1,7 @@
 use Rattle.std.proofs.Common.{◌≡◌, ◌+◌, ◌%◌, ◌^◌, true, Some, None, ap, sym, subst₂, ◌∙◌, rules}
 use Rattle.std.proofs.Math.Nat.{mod-add-mod}
 use Rattle.turn_lock.specs.Notes.{Follows}
-use Rattle.turn_lock.specs.Views.{is_serving, own_of, seen_in, setting_in}
+use Rattle.turn_lock.specs.Inner.Views.{is_serving, own_of, seen_in, setting_in}
 use Rattle.turn_lock.proofs.Uses.{serves_at, filled_at, busy_me}
 use Rattle.turn_lock.proofs.turn.Turn.give.Goals as goal
 

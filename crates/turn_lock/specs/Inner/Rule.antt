@@ -10,7 +10,7 @@ use Rattle.turn_lock.specs.declared.view.Stage.TheVariants.{Idle, Waits, Serves}
 use Rattle.turn_lock.specs.declared.view.Own.{Own}
 use Rattle.turn_lock.specs.declared.view.View.{View}
 use Rattle.turn_lock.specs.Notes.{notes_of}
-use Rattle.turn_lock.specs.Views.{out, HasTicket, is_serving, times_of, one_if}
+use Rattle.turn_lock.specs.Inner.Views.{out, HasTicket, is_serving, times_of, one_if}
 
 abbrev pub total : {V : Type 0} → (V → ℕ) → List V → ℕ
 total f [] = 0

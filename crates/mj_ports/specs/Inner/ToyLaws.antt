@@ -7,7 +7,7 @@ use Rattle.mj_ports.specs.declared.answers.Heard.{Heard}
 use Rattle.mj_ports.specs.declared.answers.Heard.TheVariants.{Taken, Late, Refused, Closing, NoMemory}
 use Rattle.mj_ports.specs.Entries.{next_seat, IsAside}
 use Rattle.mj_ports.specs.Seats.{After, pending, script, Stays, StaysEnded, Unmoved, Begins, Answers, Adds, Leaves, hello, replay}
-use Rattle.mj_ports.specs.Toy.{Toy, first, zero_if, shown, toy_says, told_all, toy_hears, answered, toy_step, played, IsPermitted, IsLegalFrom}
+use Rattle.mj_ports.specs.Inner.Toy.{Toy, first, zero_if, shown, toy_says, told_all, toy_hears, answered, toy_step, played, IsPermitted, IsLegalFrom}
 
 abbrev pub after_toy : List (Entry ℕ) → After
 after_toy es = shown (played first es)

@@ -4,9 +4,9 @@ use Rattle.std.specs.Ordering.{nat_cmp}
 use Rattle.std.specs.Cmp.Lexicographic.{slice_cmp}
 use Rattle.std.specs.declared.cmp.Ordering.TheVariants.{Greater}
 use Rattle.mj_suits.specs.Rows.{lane, Holds, walked, IsFew}
-use Rattle.mj_suits.specs.Walked.{row_at}
+use Rattle.mj_suits.specs.Inner.Walked.{row_at}
 use Rattle.mj_suits.specs.Targets.{missing}
-use Rattle.mj_suits.specs.Ends.{Ends}
+use Rattle.mj_suits.specs.Inner.Ends.{Ends}
 use Rattle.mj_suits.specs.declared.choosing.Aim.{Aim}
 use Rattle.mj_suits.specs.declared.choosing.Level.{Level}
 use Rattle.mj_suits.specs.declared.choosing.Plan.{Plan}

@@ -7,7 +7,7 @@ use Rattle.turn_lock.specs.declared.view.Stage.TheVariants.{Idle, Waits, Serves}
 use Rattle.turn_lock.specs.declared.view.Own.{Own}
 use Rattle.turn_lock.specs.declared.view.View.{View}
 use Rattle.turn_lock.specs.Notes.{notes_of}
-use Rattle.turn_lock.specs.Views.{view, own_of}
+use Rattle.turn_lock.specs.Inner.Views.{view, own_of}
 
 -- The ticket was drawn that the word told.
 abbrev pub Drew : {T S N : Type 0} → Me (Option T) (View S N) → ℕ → Me (Option T) (View S N) → Type 0
