@@ -6,6 +6,7 @@ pub mod Mapped
 pub mod Masked
 pub mod Newest
 pub mod PointLaws
+pub mod RealTiles
 pub mod RiichiLaws
 pub mod Standings
 pub mod TileOrder

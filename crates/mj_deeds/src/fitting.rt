@@ -1,9 +1,8 @@
-ghost use Rattle.std.specs.Prelude.{◌≡◌, ◌≤◌, ◌-◌, ◌++◌, not, length, option_copied, nat_lt};
+ghost use Rattle.std.specs.Prelude.{◌≡◌, ◌≤◌, ◌-◌, ◌++◌, length, option_copied, nat_lt};
 ghost use Rattle.std.specs.List.{list_all};
-ghost use Rattle.mj_tiles.specs.Faces.{is_red};
 ghost use Rattle.mj_deeds.specs.Shown.{tiles_shown};
 ghost use Rattle.mj_deeds.specs.Facts.{of_seat, makes_by, seat_melds, tiles_gained, tiles_lost};
-ghost use Rattle.mj_deeds.specs.Fits.{fits_behind, fits_in, seats_in, seats_in_bid, faces_in, faces_in_bid, has_seats, has_held, has_held_by, are_held, has_triplet, has_tiles, has_room, has_room_for, has_live, is_first_riichi};
+ghost use Rattle.mj_deeds.specs.Fits.{fits_behind, fits_in, seats_in, seats_in_bid, is_face, faces_in, faces_in_bid, has_seats, has_held, has_held_by, are_held, has_triplet, has_tiles, has_room, has_room_for, has_live, is_first_riichi};
 
 use crate::bid::Bid;
 use crate::bringing::keeps_kinds;
@@ -24,7 +23,7 @@ use mj_tiles::{Tile, number_among};
 /// Whether a deed fits behind the deeds of a game with red fives or without, of which the newest is given, the deeds of
 /// the newest hand, which are none before the first, the standing of that hand, the points of the four seats and the
 /// deposits on the table: it stands in its place, seats are 0 to 3, tiles that are put down are held, a tile is added to an
-/// own pon, there is no red five in a game without them, no fifth tile of a kind, no fifth meld of a seat, no fifth kan,
+/// own pon, each tile is one that the game has, there is no fifth tile of a kind, no fifth meld of a seat, no fifth kan,
 /// a live tile is left for a live draw or a kan, a reach is accepted once, and the points are those before the deed,
 /// changed as it says, and at most 100,000,000 above or below zero.
 #[tactic(auto, unfolding(crate::specs::Fits::fits_behind))]
@@ -211,79 +210,87 @@ fn adds_to_pon(deeds: &[Deed], deed: &Deed) -> bool
     }
 }
 
-/// Whether no red five stands in a deed of a game without them.
+/// Whether each tile that is named in a deed is one that the game has: a plain one, and in a game with red fives also one of
+/// these.
 pub fn has_tiles(red: bool, deed: &Deed) -> bool
     ensures { result ≡ has_tiles red deed.now }
 {
-    if red {
-        return true;
-    }
     match deed {
         Deed::StartGame { .. } => true,
         Deed::StartHand {
             indicator,
             hands,
             ..
-        } => are_plain(&[*indicator]) && are_plain_hands(hands),
-        Deed::Draw { tile, .. } => are_plain(&[*tile]),
-        Deed::Discard { tile, .. } => are_plain(&[*tile]),
-        Deed::Chi { tile, a, b, .. } => are_plain(&[*tile, *a, *b]),
-        Deed::Pon { tile, a, b, .. } => are_plain(&[*tile, *a, *b]),
-        Deed::OpenKan { tile, a, b, c, .. } => are_plain(&[*tile, *a, *b, *c]),
-        Deed::ClosedKan { a, b, c, d, .. } => are_plain(&[*a, *b, *c, *d]),
-        Deed::AddedKan { tile, a, b, c, .. } => are_plain(&[*tile, *a, *b, *c]),
-        Deed::Dora { tile } => are_plain(&[*tile]),
+        } => are_faces(red, &[*indicator]) && are_dealt_faces(red, hands),
+        Deed::Draw { tile, .. } => are_faces(red, &[*tile]),
+        Deed::Discard { tile, .. } => are_faces(red, &[*tile]),
+        Deed::Chi { tile, a, b, .. } => are_faces(red, &[*tile, *a, *b]),
+        Deed::Pon { tile, a, b, .. } => are_faces(red, &[*tile, *a, *b]),
+        Deed::OpenKan { tile, a, b, c, .. } => are_faces(red, &[*tile, *a, *b, *c]),
+        Deed::ClosedKan { a, b, c, d, .. } => are_faces(red, &[*a, *b, *c, *d]),
+        Deed::AddedKan { tile, a, b, c, .. } => are_faces(red, &[*tile, *a, *b, *c]),
+        Deed::Dora { tile } => are_faces(red, &[*tile]),
         Deed::Reach { .. } => true,
-        Deed::ReachAccepted { then, .. } => is_plain_bid(*then),
+        Deed::ReachAccepted { then, .. } => are_faces_of_bid(red, *then),
         Deed::Win {
             tile,
             unders,
             hand,
             ..
-        } => { are_plain(&[*tile]) && are_plain(unders.as_slice()) && are_plain(hand.as_slice()) }
-        Deed::DrawnHand { hands, .. } => are_plain_shown(hands),
+        } => {
+            are_faces(red, &[*tile])
+                && are_faces(red, unders.as_slice())
+                && are_faces(red, hand.as_slice())
+        }
+        Deed::DrawnHand { hands, .. } => are_shown_faces(red, hands),
         Deed::EndHand => true,
         Deed::EndGame { .. } => true,
     }
 }
 
-fn is_plain_bid(bid: Bid) -> bool
-    ensures { result ≡ list_all (λ face. not (is_red face)) (faces_in_bid bid) }
+fn are_faces_of_bid(red: bool, bid: Bid) -> bool
+    ensures { result ≡ list_all (is_face red) (faces_in_bid bid) }
 {
     match bid {
         Bid::NoBid => true,
-        Bid::Chi { tile, a, b, .. } => are_plain(&[tile, a, b]),
-        Bid::Pon { tile, a, b, .. } => are_plain(&[tile, a, b]),
-        Bid::OpenKan { tile, a, b, c, .. } => are_plain(&[tile, a, b, c]),
+        Bid::Chi { tile, a, b, .. } => are_faces(red, &[tile, a, b]),
+        Bid::Pon { tile, a, b, .. } => are_faces(red, &[tile, a, b]),
+        Bid::OpenKan { tile, a, b, c, .. } => are_faces(red, &[tile, a, b, c]),
     }
 }
 
-fn are_plain_shown(hands: &ShownHands) -> bool
-    ensures { result ≡ list_all (λ face. not (is_red face))
+fn are_shown_faces(red: bool, hands: &ShownHands) -> bool
+    ensures { result ≡ list_all (is_face red)
         (tiles_shown hands.now.first ++ tiles_shown hands.now.second ++ tiles_shown hands.now.third
         ++ tiles_shown hands.now.fourth) }
 {
-    are_plain(hands.at(0))
-        && are_plain(hands.at(1))
-        && are_plain(hands.at(2))
-        && are_plain(hands.at(3))
+    are_faces(red, hands.at(0))
+        && are_faces(red, hands.at(1))
+        && are_faces(red, hands.at(2))
+        && are_faces(red, hands.at(3))
 }
 
-fn are_plain_hands(hands: &Hands) -> bool
-    ensures { result ≡ list_all (λ face. not (is_red face))
+fn are_dealt_faces(red: bool, hands: &Hands) -> bool
+    ensures { result ≡ list_all (is_face red)
         (hands.now.first ++ hands.now.second ++ hands.now.third ++ hands.now.fourth) }
 {
-    are_plain(hands.at(0))
-        && are_plain(hands.at(1))
-        && are_plain(hands.at(2))
-        && are_plain(hands.at(3))
+    are_faces(red, hands.at(0))
+        && are_faces(red, hands.at(1))
+        && are_faces(red, hands.at(2))
+        && are_faces(red, hands.at(3))
 }
 
-// Whether there is no red five among the tiles.
-fn are_plain(tiles: &[Tile]) -> bool
-    ensures { result ≡ list_all (λ face. not (is_red face)) tiles.now }
+// Whether each tile is one that the game has.
+fn are_faces(red: bool, tiles: &[Tile]) -> bool
+    ensures { result ≡ list_all (is_face red) tiles.now }
 {
-    tiles.iter().all(|tile| tile.face() < 34)
+    tiles.iter().all(|tile| is_face(red, *tile))
+}
+
+fn is_face(red: bool, tile: Tile) -> bool
+    ensures { result ≡ is_face red tile }
+{
+    tile.face() < if red { 37 } else { 34 }
 }
 
 // Whether no seat has a fifth meld with a deed.

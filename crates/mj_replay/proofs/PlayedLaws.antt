@@ -27,7 +27,6 @@ use Rattle.mj_deeds.specs.Bids.{call_of_bid}
 use Rattle.mj_deeds.specs.Course.{before_wins}
 use Rattle.mj_deeds.specs.Ends.{standing_after, end_of}
 use Rattle.mj_deeds.specs.Facts.{newest, concealed_tiles, indicators, seat_melds}
-use Rattle.mj_deeds.specs.Fits.{has_tiles}
 use Rattle.mj_deeds.specs.Four.{next_seat}
 use Rattle.mj_deeds.specs.Hand.{hand}
 use Rattle.mj_deeds.specs.Points.{points, deposits}
@@ -397,9 +396,9 @@ behind_value rules walls (first ∷ others) deed plain whole played few g =
     let s = played_sound rules walls ds whole played in
     let k : Known rules.red walls ds = record { fair = s.known.fair; small = all_small rules.red walls (wall_now walls ds) (stage_of ds) ds s.fit s.known.fair s.standing; stands = may_stand rules.red ds s.fit } in
     let next = if_some (IsNext rules.red walls ds) (outcome rules walls ds g.given) deed (outcome_next rules walls ds g.given s.known g.lawful) g.gives in
-    value deed
+    value rules.red deed
     (if_some Fits (outcome rules walls ds g.given) deed (outcome_fits rules walls ds g.given k few (λ last e. can_follow rules walls ds g.given last whole played g.lawful e)) g.gives)
-    next.seats (subst (λ b. has_tiles b deed ≡ true) plain next.tiles)
+    next.seats next.tiles
 
 newest_few : (rules : Rules) (walls : List (List ℕ)) (before ds : List Deed) → rules.red ≡ false → ((number : ℕ) → is_wall rules.red (wall_of walls number) ≡ true) → IsPlayed rules walls before → IfAny FewRest (newest before) → AllPlayed rules walls before ds → IfAny FewRest (newest (before ++ ds))
 newest_few rules walls before [] plain whole played few all = subst (λ (xs : List Deed). IfAny FewRest (newest xs)) (sym (append-nil before)) few

@@ -5,13 +5,12 @@ use Rattle.std.specs.List.{list_all}
 use Rattle.std.proofs.lemmas.Bool.{and_from, and_parts}
 use Rattle.std.proofs.lemmas.Bool.Decides.{nat_tests}
 use Rattle.std.proofs.lemmas.List.Folds.{list_all-append}
-use Rattle.mj_tiles.specs.Faces.{is_red}
 use Rattle.mj_deeds.specs.declared.bid.Bid.{Bid}
 use Rattle.mj_deeds.specs.declared.bid.Bid.TheVariants as bids
 use Rattle.mj_deeds.specs.Shown.{Shown, Tiles, Hidden, tiles_shown}
 use Rattle.mj_deeds.specs.declared.deed.Deed.{Deed}
 use Rattle.mj_deeds.specs.declared.deed.Deed.TheVariants.{StartGame, StartHand, Draw, Discard, Chi, Pon, OpenKan, ClosedKan, AddedKan, Dora, Reach, ReachAccepted, Win, DrawnHand, EndHand, EndGame}
-use Rattle.mj_deeds.specs.Fits.{has_seats, has_tiles}
+use Rattle.mj_deeds.specs.Fits.{has_seats, is_face, has_tiles}
 use Rattle.mj_deeds.specs.Points.{points, deposits}
 use Rattle.mj_protocol.specs.Records.{is_byte, is_word, is_tile, are_points, is_bid, is_row, is_shown, is_deed}
 
@@ -46,8 +45,9 @@ Fits deed = numbers_fit deed ≡ true
 seat_byte : (seat : ℕ) → nat_lt seat 4 ≡ true → is_byte seat ≡ true
 seat_byte seat h = grind (arith, nat_tests)
 
-real_tile : (tile : ℕ) → not (is_red tile) ≡ true → is_tile tile ≡ true
-real_tile tile h = grind (arith, nat_tests)
+real_tile : (red : Bool) (tile : ℕ) → is_face red tile ≡ true → is_tile tile ≡ true
+real_tile true tile h = h
+real_tile false tile h = grind (arith, nat_tests)
 
 pass_on : (p q : ℕ → Bool) → ((x : ℕ) → p x ≡ true → q x ≡ true) → (xs : List ℕ) → list_all p xs ≡ true → list_all q xs ≡ true
 pass_on p q f [] h = refl
@@ -56,83 +56,83 @@ pass_on p q f (x ∷ xs) h = let k = and_parts (p x) (list_all p xs) h in and_fr
 abbrev AreSeats : List ℕ → Type 0
 AreSeats seats = list_all (λ seat. nat_lt seat 4) seats ≡ true
 
-abbrev AreReal : List ℕ → Type 0
-AreReal tiles = list_all (λ face. not (is_red face)) tiles ≡ true
+abbrev AreReal : Bool → List ℕ → Type 0
+AreReal red tiles = list_all (is_face red) tiles ≡ true
 
 seat_bytes : (seats : List ℕ) → AreSeats seats → list_all is_byte seats ≡ true
 seat_bytes seats h = pass_on (λ seat. nat_lt seat 4) is_byte seat_byte seats h
 
-real_tiles : (tiles : List ℕ) → AreReal tiles → list_all is_tile tiles ≡ true
-real_tiles tiles h = pass_on (λ face. not (is_red face)) is_tile real_tile tiles h
+real_tiles : (red : Bool) (tiles : List ℕ) → AreReal red tiles → list_all is_tile tiles ≡ true
+real_tiles red tiles h = pass_on (is_face red) is_tile (real_tile red) tiles h
 
-real_parts : (xs ys : List ℕ) → AreReal (xs ++ ys) → (AreReal xs) × (AreReal ys)
-real_parts xs ys h = and_parts (list_all (λ face. not (is_red face)) xs) (list_all (λ face. not (is_red face)) ys) (sym (list_all-append (λ face. not (is_red face)) xs ys) ∙ h)
+real_parts : (red : Bool) (xs ys : List ℕ) → AreReal red (xs ++ ys) → (AreReal red xs) × (AreReal red ys)
+real_parts red xs ys h = and_parts (list_all (is_face red) xs) (list_all (is_face red) ys) (sym (list_all-append (is_face red) xs ys) ∙ h)
 
-three_fit : (who target tile a b : ℕ) → AreSeats (who ∷ target ∷ []) → AreReal (tile ∷ a ∷ b ∷ []) → (is_byte who && is_byte target && is_tile tile && is_tile a && is_tile b) ≡ true
-three_fit who target tile a b s x =
+three_fit : (red : Bool) (who target tile a b : ℕ) → AreSeats (who ∷ target ∷ []) → AreReal red (tile ∷ a ∷ b ∷ []) → (is_byte who && is_byte target && is_tile tile && is_tile a && is_tile b) ≡ true
+three_fit red who target tile a b s x =
     let s1 = and_parts (is_byte who) (list_all is_byte (target ∷ [])) (seat_bytes (who ∷ target ∷ []) s) in
     let s2 = and_parts (is_byte target) true s1.1 in
-    let x1 = and_parts (is_tile tile) (list_all is_tile (a ∷ b ∷ [])) (real_tiles (tile ∷ a ∷ b ∷ []) x) in
+    let x1 = and_parts (is_tile tile) (list_all is_tile (a ∷ b ∷ [])) (real_tiles red (tile ∷ a ∷ b ∷ []) x) in
     let x2 = and_parts (is_tile a) (list_all is_tile (b ∷ [])) x1.1 in
     let x3 = and_parts (is_tile b) true x2.1 in
     and_from (is_byte who && is_byte target && is_tile tile && is_tile a) (is_tile b) (and_from (is_byte who && is_byte target && is_tile tile) (is_tile a) (and_from (is_byte who && is_byte target) (is_tile tile) (and_from (is_byte who) (is_byte target) s1.0 s2.0) x1.0) x2.0) x3.0
 
-four_fit : (who target tile a b c : ℕ) → AreSeats (who ∷ target ∷ []) → AreReal (tile ∷ a ∷ b ∷ c ∷ []) → (is_byte who && is_byte target && is_tile tile && is_tile a && is_tile b && is_tile c) ≡ true
-four_fit who target tile a b c s x =
-    let x1 = and_parts (not (is_red tile)) (list_all (λ face. not (is_red face)) (a ∷ b ∷ c ∷ [])) x in
-    let x2 = and_parts (not (is_red a)) (list_all (λ face. not (is_red face)) (b ∷ c ∷ [])) x1.1 in
-    let x3 = and_parts (not (is_red b)) (list_all (λ face. not (is_red face)) (c ∷ [])) x2.1 in
-    let x4 = and_parts (not (is_red c)) true x3.1 in
+four_fit : (red : Bool) (who target tile a b c : ℕ) → AreSeats (who ∷ target ∷ []) → AreReal red (tile ∷ a ∷ b ∷ c ∷ []) → (is_byte who && is_byte target && is_tile tile && is_tile a && is_tile b && is_tile c) ≡ true
+four_fit red who target tile a b c s x =
+    let x1 = and_parts (is_face red tile) (list_all (is_face red) (a ∷ b ∷ c ∷ [])) x in
+    let x2 = and_parts (is_face red a) (list_all (is_face red) (b ∷ c ∷ [])) x1.1 in
+    let x3 = and_parts (is_face red b) (list_all (is_face red) (c ∷ [])) x2.1 in
+    let x4 = and_parts (is_face red c) true x3.1 in
     and_from (is_byte who && is_byte target && is_tile tile && is_tile a && is_tile b) (is_tile c)
-    (three_fit who target tile a b s (and_from (not (is_red tile)) _ x1.0 (and_from (not (is_red a)) _ x2.0 (and_from (not (is_red b)) true x3.0 refl)))) (real_tile c x4.0)
+    (three_fit red who target tile a b s (and_from (is_face red tile) _ x1.0 (and_from (is_face red a) _ x2.0 (and_from (is_face red b) true x3.0 refl)))) (real_tile red c x4.0)
 
-bid_fits : (who : ℕ) (said : List ℤ) (bid : Bid) → has_seats (ReachAccepted who said bid) ≡ true → has_tiles false (ReachAccepted who said bid) ≡ true → is_bid bid ≡ true
-bid_fits who said bids.NoBid s x = refl
-bid_fits who said (bids.Chi seat target tile a b) s x = three_fit seat target tile a b (and_parts (nat_lt who 4) (list_all (λ n. nat_lt n 4) (seat ∷ target ∷ [])) s).1 x
-bid_fits who said (bids.Pon seat target tile a b) s x = three_fit seat target tile a b (and_parts (nat_lt who 4) (list_all (λ n. nat_lt n 4) (seat ∷ target ∷ [])) s).1 x
-bid_fits who said (bids.OpenKan seat target tile a b c) s x = four_fit seat target tile a b c (and_parts (nat_lt who 4) (list_all (λ n. nat_lt n 4) (seat ∷ target ∷ [])) s).1 x
+bid_fits : (red : Bool) (who : ℕ) (said : List ℤ) (bid : Bid) → has_seats (ReachAccepted who said bid) ≡ true → has_tiles red (ReachAccepted who said bid) ≡ true → is_bid bid ≡ true
+bid_fits red who said bids.NoBid s x = refl
+bid_fits red who said (bids.Chi seat target tile a b) s x = three_fit red seat target tile a b (and_parts (nat_lt who 4) (list_all (λ n. nat_lt n 4) (seat ∷ target ∷ [])) s).1 x
+bid_fits red who said (bids.Pon seat target tile a b) s x = three_fit red seat target tile a b (and_parts (nat_lt who 4) (list_all (λ n. nat_lt n 4) (seat ∷ target ∷ [])) s).1 x
+bid_fits red who said (bids.OpenKan seat target tile a b c) s x = four_fit red seat target tile a b c (and_parts (nat_lt who 4) (list_all (λ n. nat_lt n 4) (seat ∷ target ∷ [])) s).1 x
 
-shown_fits : (seen : Shown) → hidden_fits seen ≡ true → AreReal (tiles_shown seen) → is_shown seen ≡ true
-shown_fits (Tiles tiles) h x = real_tiles tiles x
-shown_fits (Hidden number) h x = h
+shown_fits : (red : Bool) (seen : Shown) → hidden_fits seen ≡ true → AreReal red (tiles_shown seen) → is_shown seen ≡ true
+shown_fits red (Tiles tiles) h x = real_tiles red tiles x
+shown_fits red (Hidden number) h x = h
 
--- So a deed of four seats, without red fives, is a value of its type where its numbers fit.
-pub value : (deed : Deed) → Fits deed → has_seats deed ≡ true → has_tiles false deed ≡ true → is_deed deed ≡ true
-value (StartGame names) h s x = cc h
-value (StartHand round number honba lying dealer indicator hands) h s x =
-    let t = and_parts (not (is_red indicator)) (list_all (λ face. not (is_red face)) (hands.first ++ hands.second ++ hands.third ++ hands.fourth)) x in
-    let q3 = real_parts (hands.first ++ hands.second ++ hands.third) hands.fourth t.1 in
-    let q2 = real_parts (hands.first ++ hands.second) hands.third q3.0 in
-    let q1 = real_parts hands.first hands.second q2.0 in
+-- So a deed of four seats, of which each tile is one of the game, is a value of its type where its numbers fit.
+pub value : (red : Bool) (deed : Deed) → Fits deed → has_seats deed ≡ true → has_tiles red deed ≡ true → is_deed deed ≡ true
+value red (StartGame names) h s x = cc h
+value red (StartHand round number honba lying dealer indicator hands) h s x =
+    let t = and_parts (is_face red indicator) (list_all (is_face red) (hands.first ++ hands.second ++ hands.third ++ hands.fourth)) x in
+    let q3 = real_parts red (hands.first ++ hands.second ++ hands.third) hands.fourth t.1 in
+    let q2 = real_parts red (hands.first ++ hands.second) hands.third q3.0 in
+    let q1 = real_parts red hands.first hands.second q2.0 in
     let numbers = nat_lt round 34 && is_byte number && is_word honba && is_word lying in
     and_from (numbers && is_byte dealer && is_tile indicator) (list_all is_tile hands.first && list_all is_tile hands.second && list_all is_tile hands.third && list_all is_tile hands.fourth)
-    (and_from (numbers && is_byte dealer) (is_tile indicator) (and_from numbers (is_byte dealer) h (seat_byte dealer (and_parts (nat_lt dealer 4) true s).0)) (real_tile indicator t.0))
+    (and_from (numbers && is_byte dealer) (is_tile indicator) (and_from numbers (is_byte dealer) h (seat_byte dealer (and_parts (nat_lt dealer 4) true s).0)) (real_tile red indicator t.0))
     (and_from (list_all is_tile hands.first && list_all is_tile hands.second && list_all is_tile hands.third) (list_all is_tile hands.fourth)
-    (and_from (list_all is_tile hands.first && list_all is_tile hands.second) (list_all is_tile hands.third) (and_from (list_all is_tile hands.first) (list_all is_tile hands.second) (real_tiles hands.first q1.0) (real_tiles hands.second q1.1)) (real_tiles hands.third q2.1)) (real_tiles hands.fourth q3.1))
-value (Draw who tile replacement) h s x = and_from (is_byte who) (is_tile tile) (seat_byte who (and_parts (nat_lt who 4) true s).0) (real_tile tile (and_parts (not (is_red tile)) true x).0)
-value (Discard who tile drawn) h s x = and_from (is_byte who) (is_tile tile) (seat_byte who (and_parts (nat_lt who 4) true s).0) (real_tile tile (and_parts (not (is_red tile)) true x).0)
-value (Chi who target tile a b) h s x = three_fit who target tile a b s x
-value (Pon who target tile a b) h s x = three_fit who target tile a b s x
-value (OpenKan who target tile a b c) h s x = four_fit who target tile a b c s x
-value (ClosedKan who a b c d) h s x =
+    (and_from (list_all is_tile hands.first && list_all is_tile hands.second) (list_all is_tile hands.third) (and_from (list_all is_tile hands.first) (list_all is_tile hands.second) (real_tiles red hands.first q1.0) (real_tiles red hands.second q1.1)) (real_tiles red hands.third q2.1)) (real_tiles red hands.fourth q3.1))
+value red (Draw who tile replacement) h s x = and_from (is_byte who) (is_tile tile) (seat_byte who (and_parts (nat_lt who 4) true s).0) (real_tile red tile (and_parts (is_face red tile) true x).0)
+value red (Discard who tile drawn) h s x = and_from (is_byte who) (is_tile tile) (seat_byte who (and_parts (nat_lt who 4) true s).0) (real_tile red tile (and_parts (is_face red tile) true x).0)
+value red (Chi who target tile a b) h s x = three_fit red who target tile a b s x
+value red (Pon who target tile a b) h s x = three_fit red who target tile a b s x
+value red (OpenKan who target tile a b c) h s x = four_fit red who target tile a b c s x
+value red (ClosedKan who a b c d) h s x =
     let seat = seat_byte who (and_parts (nat_lt who 4) true s).0 in
-    let x1 = and_parts (is_tile a) (list_all is_tile (b ∷ c ∷ d ∷ [])) (real_tiles (a ∷ b ∷ c ∷ d ∷ []) x) in
+    let x1 = and_parts (is_tile a) (list_all is_tile (b ∷ c ∷ d ∷ [])) (real_tiles red (a ∷ b ∷ c ∷ d ∷ []) x) in
     let x2 = and_parts (is_tile b) (list_all is_tile (c ∷ d ∷ [])) x1.1 in
     let x3 = and_parts (is_tile c) (list_all is_tile (d ∷ [])) x2.1 in
     let x4 = and_parts (is_tile d) true x3.1 in
     and_from (is_byte who && is_tile a && is_tile b && is_tile c) (is_tile d) (and_from (is_byte who && is_tile a && is_tile b) (is_tile c) (and_from (is_byte who && is_tile a) (is_tile b) (and_from (is_byte who) (is_tile a) seat x1.0) x2.0) x3.0) x4.0
-value (AddedKan who tile a b c) h s x =
+value red (AddedKan who tile a b c) h s x =
     let seat = seat_byte who (and_parts (nat_lt who 4) true s).0 in
-    let x1 = and_parts (is_tile tile) (list_all is_tile (a ∷ b ∷ c ∷ [])) (real_tiles (tile ∷ a ∷ b ∷ c ∷ []) x) in
+    let x1 = and_parts (is_tile tile) (list_all is_tile (a ∷ b ∷ c ∷ [])) (real_tiles red (tile ∷ a ∷ b ∷ c ∷ []) x) in
     let x2 = and_parts (is_tile a) (list_all is_tile (b ∷ c ∷ [])) x1.1 in
     let x3 = and_parts (is_tile b) (list_all is_tile (c ∷ [])) x2.1 in
     let x4 = and_parts (is_tile c) true x3.1 in
     and_from (is_byte who && is_tile tile && is_tile a && is_tile b) (is_tile c) (and_from (is_byte who && is_tile tile && is_tile a) (is_tile b) (and_from (is_byte who && is_tile tile) (is_tile a) (and_from (is_byte who) (is_tile tile) seat x1.0) x2.0) x3.0) x4.0
-value (Dora tile) h s x = real_tile tile (and_parts (not (is_red tile)) true x).0
-value (Reach who) h s x = seat_byte who (and_parts (nat_lt who 4) true s).0
-value (ReachAccepted who said bid) h s x =
-    and_from (is_byte who && are_points said) (is_bid bid) (and_from (is_byte who) (are_points said) (seat_byte who (and_parts (nat_lt who 4) _ s).0) h) (bid_fits who said bid s x)
-value (Win who target tile unders own yaku fu han worth deltas said rest) h s x =
+value red (Dora tile) h s x = real_tile red tile (and_parts (is_face red tile) true x).0
+value red (Reach who) h s x = seat_byte who (and_parts (nat_lt who 4) true s).0
+value red (ReachAccepted who said bid) h s x =
+    and_from (is_byte who && are_points said) (is_bid bid) (and_from (is_byte who) (are_points said) (seat_byte who (and_parts (nat_lt who 4) _ s).0) h) (bid_fits red who said bid s x)
+value red (Win who target tile unders own yaku fu han worth deltas said rest) h s x =
     let h6 = and_parts (list_all is_row yaku && is_byte fu && is_byte han && is_word worth && are_points deltas && are_points said) (nat_le (length rest) 2) h in
     let h5 = and_parts (list_all is_row yaku && is_byte fu && is_byte han && is_word worth && are_points deltas) (are_points said) h6.0 in
     let h4 = and_parts (list_all is_row yaku && is_byte fu && is_byte han && is_word worth) (are_points deltas) h5.0 in
@@ -141,8 +141,8 @@ value (Win who target tile unders own yaku fu han worth deltas said rest) h s x 
     let h1 = and_parts (list_all is_row yaku) (is_byte fu) h2.0 in
     let s1 = and_parts (is_byte who) (list_all is_byte (target ∷ rest)) (seat_bytes (who ∷ target ∷ rest) s) in
     let s2 = and_parts (is_byte target) (list_all is_byte rest) s1.1 in
-    let x1 = and_parts (not (is_red tile)) (list_all (λ face. not (is_red face)) (unders ++ own)) x in
-    let x2 = real_parts unders own x1.1 in
+    let x1 = and_parts (is_face red tile) (list_all (is_face red) (unders ++ own)) x in
+    let x2 = real_parts red unders own x1.1 in
     let a1 = is_byte who && is_byte target in
     let a2 = a1 && is_tile tile in
     let a3 = a2 && list_all is_tile unders in
@@ -155,20 +155,20 @@ value (Win who target tile unders own yaku fu han worth deltas said rest) h s x 
     let a10 = a9 && are_points said in
     let a11 = a10 && nat_le (length rest) 2 in
     and_from a11 (list_all is_byte rest) (and_from a10 (nat_le (length rest) 2) (and_from a9 (are_points said) (and_from a8 (are_points deltas) (and_from a7 (is_word worth) (and_from a6 (is_byte han) (and_from a5 (is_byte fu) (and_from a4 (list_all is_row yaku)
-    (and_from a3 (list_all is_tile own) (and_from a2 (list_all is_tile unders) (and_from a1 (is_tile tile) (and_from (is_byte who) (is_byte target) s1.0 s2.0) (real_tile tile x1.0)) (real_tiles unders x2.0)) (real_tiles own x2.1)) h1.0) h1.1) h2.1) h3.1) h4.1) h5.1) h6.1) s2.1
-value (DrawnHand reason hands ready deltas said) h s x =
+    (and_from a3 (list_all is_tile own) (and_from a2 (list_all is_tile unders) (and_from a1 (is_tile tile) (and_from (is_byte who) (is_byte target) s1.0 s2.0) (real_tile red tile x1.0)) (real_tiles red unders x2.0)) (real_tiles red own x2.1)) h1.0) h1.1) h2.1) h3.1) h4.1) h5.1) h6.1) s2.1
+value red (DrawnHand reason hands ready deltas said) h s x =
     let h6 = and_parts (hidden_fits hands.first && hidden_fits hands.second && hidden_fits hands.third && hidden_fits hands.fourth && length ready == 4 && are_points deltas) (are_points said) h in
     let h5 = and_parts (hidden_fits hands.first && hidden_fits hands.second && hidden_fits hands.third && hidden_fits hands.fourth && length ready == 4) (are_points deltas) h6.0 in
     let h4 = and_parts (hidden_fits hands.first && hidden_fits hands.second && hidden_fits hands.third && hidden_fits hands.fourth) (length ready == 4) h5.0 in
     let h3 = and_parts (hidden_fits hands.first && hidden_fits hands.second && hidden_fits hands.third) (hidden_fits hands.fourth) h4.0 in
     let h2 = and_parts (hidden_fits hands.first && hidden_fits hands.second) (hidden_fits hands.third) h3.0 in
     let h1 = and_parts (hidden_fits hands.first) (hidden_fits hands.second) h2.0 in
-    let x3 = real_parts (tiles_shown hands.first ++ tiles_shown hands.second ++ tiles_shown hands.third) (tiles_shown hands.fourth) x in
-    let x2 = real_parts (tiles_shown hands.first ++ tiles_shown hands.second) (tiles_shown hands.third) x3.0 in
-    let x1 = real_parts (tiles_shown hands.first) (tiles_shown hands.second) x2.0 in
+    let x3 = real_parts red (tiles_shown hands.first ++ tiles_shown hands.second ++ tiles_shown hands.third) (tiles_shown hands.fourth) x in
+    let x2 = real_parts red (tiles_shown hands.first ++ tiles_shown hands.second) (tiles_shown hands.third) x3.0 in
+    let x1 = real_parts red (tiles_shown hands.first) (tiles_shown hands.second) x2.0 in
     let four = is_shown hands.first && is_shown hands.second && is_shown hands.third && is_shown hands.fourth in
     and_from (four && length ready == 4 && are_points deltas) (are_points said) (and_from (four && length ready == 4) (are_points deltas) (and_from four (length ready == 4)
     (and_from (is_shown hands.first && is_shown hands.second && is_shown hands.third) (is_shown hands.fourth) (and_from (is_shown hands.first && is_shown hands.second) (is_shown hands.third)
-    (and_from (is_shown hands.first) (is_shown hands.second) (shown_fits hands.first h1.0 x1.0) (shown_fits hands.second h1.1 x1.1)) (shown_fits hands.third h2.1 x2.1)) (shown_fits hands.fourth h3.1 x3.1)) h4.1) h5.1) h6.1
-value EndHand h s x = refl
-value (EndGame said lying) h s x = h
+    (and_from (is_shown hands.first) (is_shown hands.second) (shown_fits red hands.first h1.0 x1.0) (shown_fits red hands.second h1.1 x1.1)) (shown_fits red hands.third h2.1 x2.1)) (shown_fits red hands.fourth h3.1 x3.1)) h4.1) h5.1) h6.1
+value red EndHand h s x = refl
+value red (EndGame said lying) h s x = h

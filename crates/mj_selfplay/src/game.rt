@@ -64,7 +64,6 @@ fn started(alloc: Global) -> Result<Table, AllocError>
 
 // The deed that the choices of the four seats give, which is pushed on the table.
 fn step(alloc: Global, table: &mut Table, walls: &Walls) -> Result<Deed, AllocError>
-    requires plain { table.old.rules.red ≡ false }
     requires some { 1 ≤ length walls.now }
     requires few { length walls.now ≤ 200 }
     requires whole { IsTrue (list_all (is_wall table.old.rules.red) walls.now) }

@@ -150,9 +150,9 @@ impl Table {
     }
 
     /// Whether a deed fits behind the deeds so far: it stands in its place, its seats are 0 to 3, tiles that are put
-    /// down are held, a tile is added to an own pon, there is no red five in a game without them, no fifth tile of a
-    /// kind, no fifth meld of a seat, no fifth kan, a live tile is left for a live draw or a kan, a seat's reach is
-    /// accepted once, and the points that it says are those before it, changed as it says.
+    /// down are held, a tile is added to an own pon, each tile is one that the game has, a red five only in a game with
+    /// them, there is no fifth tile of a kind, no fifth meld of a seat, no fifth kan, a live tile is left for a live draw
+    /// or a kan, a seat's reach is accepted once, and the points that it says are those before it, changed as it says.
     #[tactic(auto, unfolding(mj_deeds::specs::Fits::fits_behind, mj_deeds::specs::Fits::ground_of))]
     pub fn fits(&self, deed: &Deed) -> bool
         ensures { result ≡ fits self.now.rules.red self.now.deeds deed.now }
