@@ -9,11 +9,11 @@ ghost use Rattle.mj_table.specs.Inner.Hands.{Knows, Few};
 ghost use Rattle.mj_table.specs.Inner.Kept.{Holds};
 
 use crate::bringing::keeps_kinds;
-use crate::hand_facts::{HandFacts, is_kan};
+use crate::hand_facts::HandFacts;
 use crate::meld_steps::has_triplet;
 use crate::seat_facts::SeatFacts;
 use crate::seats::Seats;
-use mj_deeds::{Deed, has_seats, has_tiles, is_call, made};
+use mj_deeds::{Deed, has_seats, has_tiles, is_call, is_kan, made};
 use mj_tiles::{Tile, number_among};
 
 // Whether a deed fits behind the deeds before it in its own hand, of which is kept what the seats hold, and their facts.

@@ -1,6 +1,6 @@
 ghost use Rattle.std.specs.Prelude.{◌≡◌, ◌≤◌, ◌++◌, ◌∷◌, [], ◌-◌, List, true};
 ghost use Rattle.mj_deeds.specs.declared.deed.Deed.{Deed};
-ghost use Rattle.mj_deeds.specs.Facts.{is_live_draw, is_kan};
+ghost use Rattle.mj_deeds.specs.Facts.{is_live_draw};
 ghost use Rattle.mj_deeds.specs.Fits.{has_seats};
 ghost use Rattle.mj_table.specs.Inner.Kept.{hand_with};
 ghost use Rattle.mj_table.specs.Inner.Hands.{Knows, Few};
@@ -10,7 +10,7 @@ use crate::counted::counted;
 use crate::course_facts::{CourseFacts, follow, no_course};
 use crate::seat_facts::{SeatFacts, keep_each, no_seats};
 use crate::seats::Seats;
-use mj_deeds::{Deed, is_hand_start};
+use mj_deeds::{Deed, is_hand_start, is_kan};
 
 // What is kept of the deeds of one hand.
 #[derive(Clone, Copy)]
@@ -88,14 +88,4 @@ fn is_live_draw(deed: &Deed) -> bool
         Deed::Draw { replacement, .. } => !*replacement,
         _ => false,
     }
-}
-
-// Whether a deed is a kan.
-pub(crate) fn is_kan(deed: &Deed) -> bool
-    ensures { result ≡ is_kan deed.now }
-{
-    matches!(
-        deed,
-        Deed::OpenKan { .. } | Deed::ClosedKan { .. } | Deed::AddedKan { .. }
-    )
 }
