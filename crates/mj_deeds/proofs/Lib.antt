@@ -1,6 +1,7 @@
 pub mod Deposits
 pub mod FitSteps
 pub mod Fitted
+pub mod Gained
 pub mod HandSteps
 pub mod Mapped
 pub mod Masked

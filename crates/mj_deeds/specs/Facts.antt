@@ -49,6 +49,11 @@ abbrev pub discards_by : ℕ → Deed → List ℕ
 discards_by seat (Discard who tile drawn) = of_seat seat who (tile ∷ [])
 discards_by seat other = []
 
+-- A deed is a discard.
+abbrev pub is_discard : Deed → Bool
+is_discard (Discard who tile drawn) = true
+is_discard other = false
+
 -- A deed is a discard of a seat.
 abbrev pub is_discard_by : ℕ → Deed → Bool
 is_discard_by seat (Discard who tile drawn) = who == seat

@@ -132,7 +132,8 @@ fn are_faces(red: bool, tiles: &[Tile]) -> bool
     tiles.iter().all(|tile| is_face(red, *tile))
 }
 
-fn is_face(red: bool, tile: Tile) -> bool
+/// Whether a tile is one that the game has: a plain one, and in a game with red fives also one of these.
+pub fn is_face(red: bool, tile: Tile) -> bool
     ensures { result ≡ is_face red tile }
 {
     tile.face() < if red { 37 } else { 34 }

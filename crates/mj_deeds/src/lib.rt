@@ -30,7 +30,7 @@ pub use course::{is_call, is_kan, seat_of_kan};
 pub use deed::{Deed, Viewer};
 pub use ending::end_by_draw;
 pub use facts::{concealed, river};
-pub use fitting::{has_seats, has_tiles};
+pub use fitting::{has_seats, has_tiles, is_face};
 pub use four::{Four, next_seat};
 pub use hand::is_hand_start;
 pub use hands::Hands;

@@ -18,7 +18,7 @@ use std::alloc::Global;
 /// The first line of a game that is no deed which fits, and no question with the right answer; empty where there is
 /// none.
 pub(crate) fn wrong_line<'a>(alloc: Global, game: &'a str) -> &'a str {
-    let Ok(mut table) = Table::new(alloc, rules(game)) else {
+    let Ok(mut table) = Table::new(rules(game)) else {
         return "no memory";
     };
     for line in game.lines() {
@@ -44,7 +44,7 @@ fn follow(alloc: Global, table: &mut Table, line: &str) -> Option<bool> {
         return tells(alloc, table, question, told.trim());
     }
     if let Some(number) = line.strip_prefix("draws ") {
-        return draws(alloc, table, number);
+        return draws(table, number);
     }
     add(table, deed(alloc, line)?)
 }
@@ -58,7 +58,7 @@ pub(crate) fn add(table: &mut Table, deed: Deed) -> Option<bool> {
 }
 
 /// Seat 3 draws so many tiles: each of the circles and bamboos four times.
-fn draws(alloc: Global, table: &mut Table, times: &str) -> Option<bool> {
+fn draws(table: &mut Table, times: &str) -> Option<bool> {
     for k in 0..number(times)? {
         let tile = Tile::of((k / 4).saturating_add(9))?;
         let drawn = add(
@@ -99,7 +99,7 @@ fn tells(alloc: Global, table: &Table, question: &str, told: &str) -> Option<boo
         "dealer_won" => Some(table.dealer_won() == yes(told)?),
         "before_wins" => Some(name(table.before_wins()) == told),
         "concealed" => Some(are(
-            table.concealed(alloc, number(words[1])?).ok()?.as_slice(),
+            table.concealed(alloc, seat_of(words[1])?).ok()?.as_slice(),
             told,
         )),
         "standing" => Some(table.standing() == standing(told)?),
@@ -114,7 +114,7 @@ fn tells(alloc: Global, table: &Table, question: &str, told: &str) -> Option<boo
 /// Whether a table tells this to a question about a seat.
 fn tells_of_seat(table: &Table, words: &[&str; 8], told: &str) -> Option<bool> {
     let [word, seat, a, b, c, d, ..] = *words;
-    let seat = number(seat)?;
+    let seat = seat_of(seat)?;
     match word {
         "drawn" => Some(table.drawn(seat) == tile_or_none(told)?),
         "holds" => Some(table.holds(seat) == counts(told)?),
@@ -194,7 +194,9 @@ pub(crate) fn reason(table: &Table) -> &'static str {
 }
 
 /// Whether a seat has just these marks of riichi.
-fn has_marks(table: &Table, seat: u8, told: &str) -> bool {
+fn has_marks(table: &Table, seat: u8, told: &str) -> bool
+    requires { seat ≤ 3 }
+{
     let marks = table.marks(seat);
     marks.reached == has_word(told, "reached")
         && marks.accepted == has_word(told, "accepted")
@@ -207,7 +209,9 @@ fn has_word(text: &str, word: &str) -> bool {
 }
 
 /// Whether a win of a seat would have these circumstances: its wind, that of the round, and what else holds.
-fn has_case(table: &Table, seat: u8, told: &str) -> Option<bool> {
+fn has_case(table: &Table, seat: u8, told: &str) -> Option<bool>
+    requires { seat ≤ 3 }
+{
     let case = case_of(table, seat);
     let [seat_wind, round_wind, ..] = words(told);
     let winds = case.seat_wind == kind(seat_wind)? && case.round_wind == kind(round_wind)?;
@@ -225,13 +229,17 @@ fn has_case(table: &Table, seat: u8, told: &str) -> Option<bool> {
     Some(winds && riichi && way && time && case.closed == has_word(told, "closed"))
 }
 
-fn has_triplet(table: &Table, seat: u8, texts: [&str; 4]) -> Option<bool> {
+fn has_triplet(table: &Table, seat: u8, texts: [&str; 4]) -> Option<bool>
+    requires { seat ≤ 3 }
+{
     let [added, a, b, c] = texts;
     let (added, a, b, c) = (tile(added)?, tile(a)?, tile(b)?, tile(c)?);
     Some(table.has_triplet(seat, added, a, b, c))
 }
 
-fn meld_at(table: &Table, seat: u8, place: &str) -> Option<Meld> {
+fn meld_at(table: &Table, seat: u8, place: &str) -> Option<Meld>
+    requires { seat ≤ 3 }
+{
     let place = usize::from(number(place)?);
     table.melds(seat).as_slice().get(place).copied()
 }

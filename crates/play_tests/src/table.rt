@@ -422,7 +422,7 @@ game draws|F F F F|none";
 
 fn ends_so(alloc: Global, line: &str) -> Option<bool> {
     let [game, tiles, told, ..] = fields(line);
-    let mut table = Table::new(alloc, rules(game)).ok()?;
+    let mut table = Table::new(rules(game)).ok()?;
     let discarded = deal(alloc, &mut table) == Some(true)
         && discard(&mut table, tiles) == Some(true);
     Some(discarded && reason(&table) == told)
@@ -468,9 +468,9 @@ fn four_first_discards_of_one_wind_end_the_hand(rt: HostRuntime) {
 
 /// The points and rules of an empty table, and how many kans it and its copy have once one was made on the copy.
 fn copied(alloc: Global) -> Option<(bool, u8, u8)> {
-    let table = Table::new(alloc, rules("game red")).ok()?;
+    let table = Table::new(rules("game red")).ok()?;
     let first = deed(alloc, "game")?;
-    let mut copy = table.copy(alloc).ok()?;
+    let mut copy = table.copy().ok()?;
     let added = add(&mut copy, first)?;
     let same = copy.rules() == table.rules() && table.rules().red && added;
     Some((

@@ -159,7 +159,7 @@ fn game(alloc: Global, wall: &Wall) -> Option<Vec<Told>> {
         draws: false,
         red: false,
     };
-    let mut table = Table::new(alloc, rules).ok()?;
+    let mut table = Table::new(rules).ok()?;
     let mut game = Vec::new(alloc);
     for place in 0..143u8 {
         game.push(next(alloc, &mut table, wall, place)?).ok()?;
