@@ -2,7 +2,7 @@
 use Rattle.std.proofs.Common.{◌≡◌, ℕ, ◌+◌, ◌-◌, ◌*◌, ◌<◌, ◌≤◌, ◌⊎◌, inl, inr, Bool, true, false, cond, eqb, leb, ltb, min, List, [], ◌∷◌, ◌++◌, length, take, set, get_or, replicate, refl, sym, ap, ◌∙◌, subst, arith}
 use Rattle.std.specs.Prelude.{flat_map}
 use Rattle.std.specs.List.{list_all}
-use Rattle.std.proofs.lemmas.Bool.{and_parts, cases_eq, cases_lt, eq-eqb, ne_eqb, leb-true, ltb-true}
+use Rattle.std.proofs.lemmas.Bool.{and_parts, cases_eq, cases_lt, eq-eqb, ne_eqb, leb-true, ltb-true, lt-ltb, le-ltb}
 use Rattle.std.proofs.lemmas.List.{take_more}
 use Rattle.std.proofs.lemmas.List.Sums.{sum_by-cons}
 use Rattle.mj_lists.proofs.Fronts.{zero_at}
@@ -22,6 +22,7 @@ use Rattle.mj_deeds.proofs.Totals.{number_more}
 use Rattle.mj_deeds.proofs.Fitted.{Parts, parts_of, past_of, some_hand, of_four, four_of_kind}
 use Rattle.mj_table.proofs.OneMore.{one_counted}
 use Rattle.mj_table.proofs.OneLess.{number_push}
+use Rattle.mj_table.proofs.OneLess.{none_left, some_left}
 use Rattle.mj_table.proofs.Readers.{gained_within, holds_few}
 use Rattle.mj_table.specs.Plays.{Play}
 use Rattle.mj_wall.specs.declared.setting.Rules.{Rules}
@@ -183,6 +184,24 @@ unfolding less
 tiles_are ds seat held holds =
     same_copies (λ face. get_or held face 0) (λ face. number_in (tiles_gained ds seat) face - number_in (tiles_lost ds seat) face) tile_order order_small
     (λ face small. left _ _ _ (holds face small))
+
+-- A face stands among the concealed tiles of a seat exactly where it holds one of it.
+pub has_one : (ds : List Deed) (seat face : ℕ) (held : List ℕ) → Holds ds seat held → face < 37 → ltb 0 (get_or held face 0) ≡ ltb 0 (number_in (concealed_tiles ds seat) face)
+has_one ds seat face held holds small = by_held (cases_lt 0 (get_or held face 0))
+  where
+    is : get_or held face 0 ≡ number_in (tiles_gained ds seat) face - number_in (tiles_lost ds seat) face
+    is = left _ _ _ (holds face small)
+
+    nothing : (n m : ℕ) → n ≡ m → n ≤ 0 → m ≡ 0
+    nothing n m e h = omega (arith, e, h)
+
+    by_held : (0 < get_or held face 0) ⊎ (get_or held face 0 ≤ 0) → ltb 0 (get_or held face 0) ≡ ltb 0 (number_in (concealed_tiles ds seat) face)
+    by_held (inl some) =
+        lt-ltb 0 (get_or held face 0) some
+        ∙ sym (lt-ltb 0 (number_in (concealed_tiles ds seat) face) (some_left (tiles_gained ds seat) (tiles_lost ds seat) face (subst (λ n. 0 < n) is some) small))
+    by_held (inr none) =
+        le-ltb 0 (get_or held face 0) none
+        ∙ sym (ap (λ n. ltb 0 n) (none_left (tiles_gained ds seat) (tiles_lost ds seat) face (nothing _ _ is none)))
 
 -- So many of a face.
 pub held_is : (red : Bool) (ds : List Deed) (seat face n : ℕ) (held : List ℕ) → all_fit red [] ds ≡ true → Holds (hand ds) seat held → face < 37 → n ≡ get_or held face 0 →

@@ -3,7 +3,7 @@ ghost use Rattle.std.specs.List.{list_any};
 ghost use Rattle.mj_tiles.specs.Faces.{number_in, kind_of};
 ghost use Rattle.mj_tiles.specs.Counts.{kind_counts, room_beside};
 ghost use Rattle.mj_tiles.specs.Melds.{tiles_of_meld};
-ghost use Rattle.mj_deeds.specs.Facts.{newest, concealed_tiles, tiles_gained, tiles_lost, drawn_tile, seat_melds, kans, kan_seats, indicators, live_draws, live_tiles};
+ghost use Rattle.mj_deeds.specs.Facts.{newest, concealed_tiles, reds, tiles_gained, tiles_lost, drawn_tile, seat_melds, kans, kan_seats, indicators, live_draws, live_tiles};
 ghost use Rattle.mj_deeds.specs.Firsts.{is_first};
 ghost use Rattle.mj_deeds.specs.Fits.{fits, fits_in, ground_of, has_points, is_in_place, is_triplet_of};
 ghost use Rattle.mj_deeds.specs.Course.{cause, before_wins};
@@ -302,6 +302,15 @@ impl Table {
             (tiles_lost (hand self.now.deeds) seat) tile) 4 }
     {
         usize::from(self.held.at(seat)[tile.face() as usize])
+    }
+
+    /// Whether a seat has a red five among its concealed tiles: of characters, of circles and of bamboo.
+    pub fn reds(&self, seat: u8) -> [bool; 3]
+        requires { seat ≤ 3 }
+        ensures { result ≡ reds (hand self.now.deeds) seat }
+    {
+        let held = self.held.at(seat);
+        [held[34] > 0, held[35] > 0, held[36] > 0]
     }
 
     /// The tile that a seat has drawn and holds as drawn; none exactly where the newest deed isn't its draw, or its

@@ -118,6 +118,7 @@ fn tells_of_seat(table: &Table, words: &[&str; 8], told: &str) -> Option<bool> {
     match word {
         "drawn" => Some(table.drawn(seat) == tile_or_none(told)?),
         "holds" => Some(table.holds(seat) == counts(told)?),
+        "reds" => Some(has_reds(table, seat, told)),
         "held" => Some(table.held_count(seat, tile(a)?) == usize::from(number(told)?)),
         "own" => Some(table.own(seat) == kinds(told)),
         "passed" => Some(table.passed(seat) == kinds(told)),
@@ -191,6 +192,18 @@ pub(crate) fn reason(table: &Table) -> &'static str {
         Some(Reason::Suuchareach) => "suuchareach",
         Some(Reason::Suukaikan) => "suukaikan",
     }
+}
+
+/// Whether a seat has red fives of just these suits, of `m`, `p` and `s`.
+fn has_reds(table: &Table, seat: u8, told: &str) -> bool
+    requires { seat ≤ 3 }
+{
+    table.reds(seat)
+        == [
+            has_word(told, "m"),
+            has_word(told, "p"),
+            has_word(told, "s"),
+        ]
 }
 
 /// Whether a seat has just these marks of riichi.

@@ -126,9 +126,18 @@ riichi 3? no";
 const RED: &str = "\
 game red
 hand|F|1125m|1p||
+reds 0?
 draw 0 5mr
+reds 0? m
 discard 0 1m
-holds 0? 1255m";
+holds 0? 1255m
+draw 1 5pr
+reds 1? p
+reds 0? m
+draw 0 5sr
+reds 0? m s
+discard 0 5mr
+reds 0? s";
 
 /// Any call ends the first turn of each seat: a chi, a pon, a kan; a draw and an indicator don't.
 const CHI: &str = "\
