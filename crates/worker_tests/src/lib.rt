@@ -3,6 +3,8 @@
 #![tactic(auto)]
 
 #[cfg(test)]
+mod game_tests;
+#[cfg(test)]
 mod hall;
 #[cfg(test)]
 mod handler_tests;
@@ -22,5 +24,3 @@ mod seat_tests;
 mod serving_tests;
 #[cfg(test)]
 mod tick_tests;
-#[cfg(test)]
-mod worker_tests;
