@@ -18,11 +18,15 @@ use std::alloc::Global;
 /// The first line of a game that is no deed which fits, and no question with the right answer; empty where there is
 /// none.
 pub(crate) fn wrong_line<'a>(alloc: Global, game: &'a str) -> &'a str {
-    let Ok(mut table) = Table::new(alloc, rules(game)) else {
-        return "no memory";
-    };
+    match Table::new(alloc, rules(game)) {
+        Ok(mut table) => first_wrong(alloc, &mut table, game),
+        Err(_) => "no memory",
+    }
+}
+
+fn first_wrong<'a>(alloc: Global, table: &mut Table, game: &'a str) -> &'a str {
     for line in game.lines() {
-        if follow(alloc, &mut table, line) != Some(true) {
+        if follow(alloc, table, line) != Some(true) {
             return line;
         }
     }
@@ -39,7 +43,7 @@ pub(crate) fn rules(game: &str) -> Rules {
 }
 
 /// Adds the deed of a line, or asks its question.
-fn follow(alloc: Global, table: &mut Table, line: &str) -> Option<bool> {
+pub(crate) fn follow(alloc: Global, table: &mut Table, line: &str) -> Option<bool> {
     if let Some((question, told)) = line.split_once('?') {
         return tells(alloc, table, question, told.trim());
     }
@@ -79,8 +83,7 @@ fn draws(alloc: Global, table: &mut Table, times: &str) -> Option<bool> {
 /// Whether a table tells this to a question.
 fn tells(alloc: Global, table: &Table, question: &str, told: &str) -> Option<bool> {
     if let Some(line) = question.strip_prefix("fits ") {
-        let wanted = yes(told)?;
-        return Some(table.fits(&deed(alloc, line)?) == wanted);
+        return Some(fits(alloc, table, line)? == yes(told)?);
     }
     if let Some(line) = question.strip_prefix("judge ") {
         return judges(table, line, told);
@@ -98,16 +101,26 @@ fn tells(alloc: Global, table: &Table, question: &str, told: &str) -> Option<boo
         "ended" => Some(table.hand_end() == end(told)?),
         "dealer_won" => Some(table.dealer_won() == yes(told)?),
         "before_wins" => Some(name(table.before_wins()) == told),
-        "concealed" => Some(are(
-            table.concealed(alloc, number(words[1])?).ok()?.as_slice(),
-            told,
-        )),
+        "concealed" => Some(has_concealed(alloc, table, number(words[1])?, told)),
         "standing" => Some(table.standing() == standing(told)?),
         "kan_seat" => Some(table.kan_seat() == number(told)),
         "default" => Some(default_is(table, seat_of(words[1])?, told)),
         "choose" => Some(choice_is(table, seat_of(words[1])?, told)),
         "indicator" => Some(table.indicator(number(words[1])?) == tile_or_none(told)?),
         _ => tells_of_seat(table, &words, told),
+    }
+}
+
+/// Whether the deed of a line fits.
+fn fits(alloc: Global, table: &Table, line: &str) -> Option<bool> {
+    let deed = deed(alloc, line)?;
+    Some(table.fits(&deed))
+}
+
+fn has_concealed(alloc: Global, table: &Table, seat: u8, told: &str) -> bool {
+    match table.concealed(alloc, seat) {
+        Ok(tiles) => are(tiles.as_slice(), told),
+        Err(_) => false,
     }
 }
 

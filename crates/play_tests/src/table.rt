@@ -1,5 +1,5 @@
 use crate::deed_words::deed;
-use crate::play::{add, reason, rules, wrong_line};
+use crate::play::{add, follow, reason, rules, wrong_line};
 use crate::words::{fields, tile};
 use mj_deeds::{Deed, next_seat};
 use mj_table::Table;
@@ -466,18 +466,28 @@ fn four_first_discards_of_one_wind_end_the_hand(rt: HostRuntime) {
     }
 }
 
-/// The points and rules of an empty table, and how many kans it and its copy have once one was made on the copy.
+/// Whether a copy of an empty table has its rules and its points, and how many deeds each has once one was added to the
+/// copy.
 fn copied(alloc: Global) -> Option<(bool, u8, u8)> {
-    let table = Table::new(alloc, rules("game red")).ok()?;
-    let first = deed(alloc, "game")?;
-    let mut copy = table.copy(alloc).ok()?;
-    let added = add(&mut copy, first)?;
-    let same = copy.rules() == table.rules() && table.rules().red && added;
-    Some((
-        same && table.points() == [30_000; 4],
-        number(&table),
-        number(&copy),
-    ))
+    match Table::new(alloc, rules("game red")) {
+        Ok(table) => copied_from(alloc, &table),
+        Err(_) => None,
+    }
+}
+
+fn copied_from(alloc: Global, table: &Table) -> Option<(bool, u8, u8)> {
+    match table.copy(alloc) {
+        Ok(mut copy) => {
+            let added = follow(alloc, &mut copy, "game") == Some(true);
+            let same = copy.rules() == table.rules() && table.rules().red && added;
+            Some((
+                same && table.points() == [30_000; 4],
+                number(table),
+                number(&copy),
+            ))
+        }
+        Err(_) => None,
+    }
 }
 
 fn number(table: &Table) -> u8 {
