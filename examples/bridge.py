@@ -176,15 +176,14 @@ class Player:
         self.log.write(f"bridge: {text}\n".encode())
         self.log.flush()
 
-    def hear(self, line):
+    def hear(self, line, event):
         """Takes an event that wants no answer."""
         self.events.append(line)
-        self.hand.hear(json.loads(line))
+        self.hand.hear(event)
 
-    def answer(self, line):
+    def answer(self, line, event):
         """The answer to a new event, as a line."""
-        self.hear(line)
-        event = json.loads(line)
+        self.hear(line, event)
         self.answers = [json.dumps(it, separators=(",", ":")) for it in self.hand.stand_ins(event)]
         if self.words.style == "line" or event["type"] == "end_game" or may_act(event, self.hand.seat):
             answer = self.ask(event["type"] == "end_game")
@@ -325,9 +324,9 @@ def seated(table, player):
             if past > 0:
                 past -= 1
                 if heard > len(player.events):
-                    player.hear(line)
+                    player.hear(line, event)
                 continue
-            answer = player.answers[0] if heard == len(player.events) and player.answers else player.answer(line)
+            answer = player.answers[0] if heard == len(player.events) and player.answers else player.answer(line, event)
             player.counts["expired"] += time.monotonic() - since >= table.words.limit / 1000
             table.send(answer)
             if kind == "start_game":

@@ -27,9 +27,9 @@ def main():
     fault, at, more = [*words, None, None][:3] if words else (None, 0, None)
     at = int(at)
     seat = None
+    copy = open(path, "a", buffering=1, encoding="utf-8")
     for number, line in enumerate(sys.stdin, 1):
-        with open(path, "a", encoding="utf-8") as file:
-            file.write(line)
+        copy.write(line)
         events = json.loads(line) if style == "batch" else [json.loads(line)]
         for event in events:
             if event["type"] == "start_game":
