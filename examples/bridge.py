@@ -25,6 +25,8 @@ import time
 HOST = "127.0.0.1"
 LONGEST = 4095  # bytes of a line that the server reads
 NONE = '{"type":"none"}'
+LIBC = ctypes.CDLL(None)
+PARENT = os.getpid()
 
 
 class Lost(Exception):
@@ -55,7 +57,9 @@ class Lines:
 def end_with_parent():
     """Asks Linux to end this process when its parent ends, however that comes about (PR_SET_PDEATHSIG)."""
     if sys.platform == "linux":
-        ctypes.CDLL(None).prctl(1, signal.SIGKILL)
+        LIBC.prctl(1, signal.SIGKILL)
+        if os.getppid() != PARENT:  # it ended before it could be asked
+            os._exit(1)
 
 
 class Program:

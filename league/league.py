@@ -35,6 +35,7 @@ sys.path.insert(0, str(HERE.parent / "viewer"))
 import page
 
 LIBC = ctypes.CDLL(None)
+PARENT = os.getpid()
 TIMES = {"think": 5000, "start": 30000}  # milliseconds for an answer, and for the first one after a start
 
 
@@ -50,6 +51,8 @@ def end_with_parent():
     """Asks Linux to end this process when the league ends, however that comes about (PR_SET_PDEATHSIG)."""
     if sys.platform == "linux":
         LIBC.prctl(1, signal.SIGKILL)
+        if os.getppid() != PARENT:  # it ended before it could be asked
+            os._exit(1)
 
 
 def write_whole(path, text):

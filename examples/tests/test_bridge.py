@@ -70,7 +70,7 @@ class Bridge(unittest.TestCase):
     def test_a_silent_program_is_stood_in_for_and_its_late_answer_dropped(self):
         game = [START_GAME, START_HAND, draw(1, "N"), discard(1, "N"), draw(1, "P"), END_GAME]
         table = Table(lambda it: it.ask(*game))
-        ended = self.bridge(table, "slow", "3", "0.6", words=["--think", "300", "--limit", "250"])
+        ended = self.bridge(table, "slow", "3", "0.6", words=["--think", "300", "--limit", "250", "--patience", "99"])
         self.assertEqual(ended.returncode, 0)
         self.assertEqual(table.answers, [NONE, NONE, discard(1, "N"), NONE, discard(1, "P"), NONE])
         self.assertIn('no answer in time to {"type":"tsumo","actor":1,"pai":"N"}', self.log())

@@ -14,6 +14,9 @@ import time
 import unittest
 
 HERE = pathlib.Path(__file__).parent
+sys.path.insert(0, str(HERE.parent))
+import walls
+
 LEAGUE = HERE.parent / "league.py"
 EXAMPLES = HERE.parent.parent / "examples"
 BOT = EXAMPLES / "tests" / "bot.py"
@@ -23,15 +26,15 @@ SEED = "5e" * 32
 GAMES = 8
 
 
-def processes_with(word):
-    """The command lines of running processes that have a word in them."""
+def processes_with(*words):
+    """The command lines of running processes that have one of these words in them."""
     found = []
     for path in pathlib.Path("/proc").glob("[0-9]*/cmdline"):
         try:
             line = path.read_bytes().replace(b"\0", b" ").decode("utf-8", "replace")
         except OSError:
             continue
-        if word in line:
+        if any(word in line for word in words):
             found.append(line)
     return found
 
@@ -70,10 +73,11 @@ class League(unittest.TestCase):
             first.wait()
             output.seek(0)
             told = output.read()
-        deadline = time.monotonic() + 10
-        while processes_with(str(cls.folder)) and time.monotonic() < deadline:
+        words = [str(cls.folder), *(walls.seed_of(SEED, block) for block in range(GAMES // 4))]
+        deadline = time.monotonic() + 20
+        while processes_with(*words) and time.monotonic() < deadline:
             time.sleep(0.05)
-        cls.left_behind = processes_with(str(cls.folder))
+        cls.left_behind = processes_with(*words)
         cls.before = {path.name: path.read_bytes() for path in cls.out.glob("games/*.json")}
         cls.settings = json.loads((cls.out / "league.json").read_text())
         second = subprocess.run(cls.command("--publish", "--pages"), capture_output=True, text=True, timeout=280)
@@ -113,13 +117,13 @@ class League(unittest.TestCase):
         self.assertEqual({game[name]["problem"] for game in games for name in game}, {None})
 
     def test_each_program_has_each_seat_on_each_wall(self):
-        walls = {}
+        orders_of = {}
         for number, path in enumerate(sorted(self.out.glob("games/*.record"))):
             lines = path.read_text().split("\n")
             names = json.loads(next(line for line in lines if line.startswith("{")))["names"]
-            walls.setdefault(tuple(lines[1:201]), []).append(names)
-        self.assertEqual(len(walls), 2)
-        for orders in walls.values():
+            orders_of.setdefault(tuple(lines[1:201]), []).append(names)
+        self.assertEqual(len(orders_of), 2)
+        for orders in orders_of.values():
             for seats in zip(*orders):
                 self.assertEqual(sorted(seats), ["anna", "bert", "carl", "dora"])
 

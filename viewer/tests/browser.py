@@ -20,7 +20,7 @@ def chromium():
 class Browser:
     """One page in a headless Chromium; no call waits longer than `seconds`."""
 
-    def __init__(self, seconds=60):
+    def __init__(self, seconds=120):
         self.seconds = seconds
         self.count = 0
         self.session = None
