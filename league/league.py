@@ -34,6 +34,7 @@ BRIDGE = HERE.parent / "examples" / "bridge.py"
 sys.path.insert(0, str(HERE.parent / "viewer"))
 import page
 
+REPORTED = ("answers", "refusals", "silences", "expired", "starts", "returns")
 LIBC = ctypes.CDLL(None)
 PARENT = os.getpid()
 TIMES = {"think": 5000, "start": 30000}  # milliseconds for an answer, and for the first one after a start
@@ -231,12 +232,16 @@ class Game:
         problem = await asyncio.to_thread(replayed, self.words.program, record)
         if problem:
             raise Broken(f"the record is refused: {problem}")
-        reports = {}
-        for name in order:
-            path = self.league.file(self.number, f".{self.league.names.index(name) + 1}.report")
-            reports[name] = json.loads(path.read_text(encoding="utf-8"))
-            path.unlink()
-        return record.decode(), reports
+        return record.decode(), {name: self.report(name) for name in order}
+
+    def report(self, name):
+        """What a program's bridge counted; a bridge that was ended has nothing to tell."""
+        path = self.league.file(self.number, f".{self.league.names.index(name) + 1}.report")
+        if not path.exists():
+            return {**dict.fromkeys(REPORTED, 0), "problem": "the bridge ended without a report"}
+        report = json.loads(path.read_text(encoding="utf-8"))
+        path.unlink()
+        return report
 
 
 def replayed(program, record):
@@ -260,7 +265,7 @@ async def play_one(league, number, seed, words):
         raise Wrong(f"game {number + 1} broke {words.tries} times")
     programs = results.counted(record)
     for name, row in programs.items():
-        row.update({key: reports[name][key] for key in ("refusals", "expired", "silences", "starts", "returns", "problem")})
+        row.update({key: reports[name][key] for key in (*REPORTED, "problem")})
     os.replace(league.file(number, ".part"), league.file(number, ".record"))
     if words.pages:
         write_whole(league.file(number, ".html"), page.page_of(record))
