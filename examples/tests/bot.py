@@ -1,11 +1,13 @@
 #!/usr/bin/env python3
 """A program for the tests: it discards the tile that it draws, and fails as its words say.
 
-usage: bot.py STYLE FILE [crash N GAME | hang N | slow N SECONDS | wrong N]
+usage: bot.py STYLE FILE [crash N START | hang N | slow N SECONDS | wrong N]
 
-It speaks style line or batch, appends each line that it reads to FILE, and fails at the N-th of them: it ends, where that
-is the GAME-th game in the file, stays silent for good, answers late once, or answers with a tile that it doesn't hold.
+It speaks style line or batch, appends each line that it reads to FILE, and fails at the N-th of them: it ends, where it is
+the START-th that was started with the file, stays silent for good, answers late once, or answers with a tile that it doesn't
+hold.
 """
+import itertools
 import json
 import sys
 import time
@@ -17,9 +19,14 @@ def answer(event, seat):
     return {"type": "none"}
 
 
-def games_in(path):
-    with open(path, encoding="utf-8") as file:
-        return file.read().count('"start_game"')
+def start_of(path):
+    """Which of the programs that are started with a file this is, from 1; no two are the same."""
+    for number in itertools.count(1):
+        try:
+            open(f"{path}.{number}", "x").close()
+            return number
+        except FileExistsError:
+            continue
 
 
 def main():
@@ -27,6 +34,7 @@ def main():
     fault, at, more = [*words, None, None][:3] if words else (None, 0, None)
     at = int(at)
     seat = None
+    start = start_of(path)
     copy = open(path, "a", buffering=1, encoding="utf-8")
     for number, line in enumerate(sys.stdin, 1):
         copy.write(line)
@@ -35,7 +43,7 @@ def main():
             if event["type"] == "start_game":
                 seat = event["id"]
         told = answer(events[-1], seat)
-        if number == at and fault == "crash" and games_in(path) == int(more):
+        if number == at and fault == "crash" and start == int(more):
             sys.exit("I fall")
         if fault == "hang" and number >= at:
             continue

@@ -92,7 +92,8 @@ class Bridge(unittest.TestCase):
         faults = [("line", "3", [*game[:3], *game]), ("batch", "2", [game[:3], game[3:5], game[:5], game[5:]])]
         for style, at, told in faults:
             with self.subTest(style):
-                (self.folder / "read").unlink(missing_ok=True)
+                for path in self.folder.glob("read*"):
+                    path.unlink()
                 table = Table(lambda it: it.ask(*game))
                 self.assertEqual(self.bridge(table, "crash", at, "1", style=style).returncode, 0)
                 self.assertEqual(table.answers, [NONE, NONE, discard(1, "N"), NONE, NONE, NONE])

@@ -47,10 +47,11 @@ class League(unittest.TestCase):
         cls.addClassCleanup(folder.cleanup)
         cls.folder = pathlib.Path(folder.name)
         cls.out = cls.folder / "out"
+        # carl's ninth start is always in the run after the kill: up to seven come before it, and at least five with it or behind it
         bots = [
             {"name": "anna", "command": [sys.executable, str(CALLER), "--stdio"]},
             {"name": "bert", "command": [sys.executable, str(BOT), "batch", "bert.read"], "style": "batch"},
-            {"name": "carl", "command": [sys.executable, str(BOT), "line", "carl.read", "crash", "60", "2"]},
+            {"name": "carl", "command": [sys.executable, str(BOT), "line", "carl.read", "crash", "60", "9"]},
             {"name": "dora", "command": [sys.executable, str(BOT), "line", "dora.read", "hang", "300"], "think": 200, "start": 1000},
         ]
         (cls.folder / "bots.json").write_text(json.dumps(bots))

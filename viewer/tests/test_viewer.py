@@ -137,6 +137,15 @@ class Page(unittest.TestCase):
         self.assertEqual(tables[0]["hands"], [["?"] * 13] * 4)
         self.assertEqual(tables, list(model.tables_of(hidden)))
 
+    def test_the_lines_of_a_seat_that_came_back(self):
+        text = RECORDS["each_call"]
+        deeds = [line for line in text.split("\n") if line.startswith("{")]
+        hello, error = '{"type":"hello","protocol":"mjsonp","protocol_version":3}', '{"type":"error","rule":1,"message":"Unreadable"}'
+        lines = [hello, *deeds[:6], error, deeds[6], hello, '{"type":"replay","count":9}', *deeds]
+        self.drop("\n".join(lines) + "\n")
+        self.assertEqual(self.text("problem"), "")
+        self.assertEqual(self.tables(), list(model.tables_of(text)))
+
     def test_results_are_those_of_the_record(self):
         for name in ["whole_game", "double_ron", "robbed_kan", "red_fives", "four_winds"]:
             text = RECORDS[name]
