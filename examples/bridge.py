@@ -264,7 +264,8 @@ class Player:
         self.program.end()
         self.program = None
         left = self.words.restarts + 1 - self.counts["starts"]
-        self.say(f"the program is stopped, since {why}; " + (f"it may be started {left} more times" if left else "that was the last time"))
+        rest = f"it may be started {left} more times" if left else "that was the last time"
+        self.say(f"the program is stopped, since {why}; {rest}")
 
     def close(self):
         if self.program:
@@ -297,7 +298,8 @@ class Table:
         self.link.sendall(line.encode() + b"\n")
 
     def join(self):
-        self.send(json.dumps({"type": "join", "name": self.words.name, "key": self.words.key, "room": "default"}, ensure_ascii=False))
+        join = {"type": "join", "name": self.words.name, "key": self.words.key, "room": "default"}
+        self.send(json.dumps(join, ensure_ascii=False))
 
     def close(self):
         if self.link:
@@ -362,18 +364,23 @@ def play(table, player):
 
 def read_words():
     parser = argparse.ArgumentParser(
-        description=__doc__, formatter_class=argparse.RawDescriptionHelpFormatter, usage="%(prog)s --name NAME [OPTIONS] -- COMMAND .."
+        description=__doc__, formatter_class=argparse.RawDescriptionHelpFormatter,
+        usage="%(prog)s --name NAME [OPTIONS] -- COMMAND ..",
     )
     parser.add_argument("--name", required=True, help="the player's name, 1 to 64 bytes")
     parser.add_argument("--key", default=secrets.token_hex(16), help="the key by which it comes back (default: a fresh one)")
     parser.add_argument("--port", type=int, default=11600, help="the server's port on this machine (default: %(default)s)")
     parser.add_argument("--style", choices=["line", "batch"], default="line", help="how the program speaks (default: %(default)s)")
-    parser.add_argument("--think", type=int, default=5000, metavar="MS", help="milliseconds for each answer (default: %(default)s)")
-    parser.add_argument("--start", type=int, default=30000, metavar="MS", help="for the first answer after a start (default: %(default)s)")
-    parser.add_argument("--patience", type=int, default=3, metavar="N", help="silences in a row until it is started again (default: %(default)s)")
-    parser.add_argument("--restarts", type=int, default=3, metavar="N", help="how often it is started again (default: %(default)s)")
-    parser.add_argument("--wait", type=float, default=60, metavar="S", help="seconds to wait for the port (default: %(default)s)")
-    parser.add_argument("--limit", type=int, default=10000, metavar="MS", help="the server's limit, by which run-out windows are counted (default: %(default)s)")
+    numbers = [
+        ("--think", "MS", 5000, "milliseconds for each answer"),
+        ("--start", "MS", 30000, "milliseconds for the first answer after a start"),
+        ("--patience", "N", 3, "silences in a row until it is started again"),
+        ("--restarts", "N", 3, "how often it is started again"),
+        ("--wait", "S", 60, "seconds to wait for the port"),
+        ("--limit", "MS", 10000, "the server's limit, by which run-out windows are counted"),
+    ]
+    for name, unit, usual, purpose in numbers:
+        parser.add_argument(name, type=int, default=usual, metavar=unit, help=purpose + " (default: %(default)s)")
     parser.add_argument("--log", metavar="FILE", help="where the program's standard error goes (default: NAME.log)")
     parser.add_argument("--report", metavar="FILE", help="where the counts go, as JSON")
     parser.add_argument("command", nargs="+", metavar="COMMAND", help="the program and its words, after --")

@@ -8,8 +8,8 @@ The file of the programs is a JSON list of four objects:
   [{"name": "anna", "command": ["python3", "anna.py"], "style": "line", "think": 5000}, ..]
 
 with a name of 1 to 64 bytes, the command as it is run in the file's folder, the style, line or batch (default: line), the
-milliseconds for an answer (default: 5000), and, as start, those for the first answer after a start (default: 30000). What was played stands in the folder of --out: started again with the same
-words, a league goes on where it stopped.
+milliseconds for an answer (default: 5000), and, as start, those for the first answer after a start (default: 30000). What
+was played stands in the folder of --out: started again with the same words, a league goes on where it stopped.
 """
 import argparse
 import asyncio
@@ -136,7 +136,9 @@ class League:
         """Makes the table anew from all games that were played; returns it as text."""
         games = {number: game["programs"] for number, game in self.played().items()}
         table = results.table_of(self.names, games)
-        links = {number: f"games/{self.file(number, '.html' if self.file(number, '.html').exists() else '.record').name}" for number in games}
+        pages = {number: self.file(number, ".html") for number in games}
+        files = {number: page if page.exists() else self.file(number, ".record") for number, page in pages.items()}
+        links = {number: f"games/{file.name}" for number, file in files.items()}
         text = results.text_of(table)
         write_whole(self.folder / "table.json", json.dumps(table, indent=1) + "\n")
         write_whole(self.folder / "table.txt", text)
@@ -149,12 +151,13 @@ def begin(words):
     folder = words.out
     programs = read_programs(words.bots)
     if words.games < 4 or words.games % 4:
-        raise Wrong(f"--games {words.games}: a league has 4 games, 8 or another multiple of 4, since each program plays each wall from each seat")
+        raise Wrong(f"--games {words.games}: a league has a multiple of 4 games, since each program plays each wall from each seat")
     (folder / "games").mkdir(parents=True, exist_ok=True)
     kept = folder / "seed.secret"
     seed = words.seed.lower() if words.seed else kept.read_text().strip() if kept.exists() else secrets.token_hex(32)
     settings = {
-        "games": words.games, "limit": words.limit, "draws": words.draws, "commitment": walls.commitment_of(seed), "programs": programs,
+        "games": words.games, "limit": words.limit, "draws": words.draws, "commitment": walls.commitment_of(seed),
+        "programs": programs,
     }
     if (folder / "league.json").exists():
         stands = League.open(folder).settings
@@ -191,8 +194,8 @@ class Game:
         name = program["name"]
         log = self.league.file(self.number, f".{self.league.names.index(name) + 1}.log").resolve()
         command = [sys.executable, BRIDGE, "--name", name, "--port", str(self.port), "--style", program["style"]]
-        command += ["--think", str(program["think"]), "--start", str(program["start"])]
-        command += ["--limit", str(self.words.limit), "--log", log, "--report", log.with_suffix(".report"), "--", *program["command"]]
+        command += ["--think", str(program["think"]), "--start", str(program["start"]), "--limit", str(self.words.limit)]
+        command += ["--log", log, "--report", log.with_suffix(".report"), "--", *program["command"]]
         log.unlink(missing_ok=True)
         log.with_suffix(".report").unlink(missing_ok=True)
         bridge = await self.run(*command, stdout=subprocess.PIPE, stderr=subprocess.PIPE, cwd=self.words.bots.resolve().parent)
@@ -379,7 +382,7 @@ def read_words():
     parser.add_argument("--limit", type=int, default=10000, metavar="MS", help="the server's limit for an answer (default: %(default)s)")
     parser.add_argument("--draws", action="store_true", help="with the draw reasons in force")
     parser.add_argument("--tries", type=int, default=4, metavar="N", help="how often a game is tried (default: %(default)s)")
-    parser.add_argument("--minutes", type=float, default=120, metavar="M", help="minutes until a game counts as broken (default: %(default)s)")
+    parser.add_argument("--minutes", type=int, default=120, metavar="M", help="minutes until a game is broken (default: %(default)s)")
     parser.add_argument("--pages", action="store_true", help="make an HTML page of each game, with the viewer in it")
     parser.add_argument("--publish", action="store_true", help="tell the seeds after the end, so that anyone can check the league")
     parser.add_argument("--check", type=pathlib.Path, metavar="DIR", help="check a published league instead of playing one")

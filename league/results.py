@@ -5,15 +5,19 @@ import math
 import statistics
 
 # Two-sided 95% points of Student's t for 1 to 30 degrees of freedom.
-T95 = [12.706, 4.303, 3.182, 2.776, 2.571, 2.447, 2.365, 2.306, 2.262, 2.228, 2.201, 2.179, 2.160, 2.145, 2.131, 2.120, 2.110, 2.101,
-       2.093, 2.086, 2.080, 2.074, 2.069, 2.064, 2.060, 2.056, 2.052, 2.048, 2.045, 2.042]
+T95 = [
+    12.706, 4.303, 3.182, 2.776, 2.571, 2.447, 2.365, 2.306, 2.262, 2.228, 2.201, 2.179, 2.160, 2.145, 2.131,
+    2.120, 2.110, 2.101, 2.093, 2.086, 2.080, 2.074, 2.069, 2.064, 2.060, 2.056, 2.052, 2.048, 2.045, 2.042,
+]
 # Each column of the table: its name, its title, and how many digits it has.
 COLUMNS = [
-    ("points", "points", 0), ("place", "place", 2), ("wins", "wins", 2), ("deal_ins", "deal-ins", 2), ("riichis", "riichis", 2),
-    ("refusals", "refusals", 2), ("expired", "expired", 2),
+    ("points", "points", 0), ("place", "place", 2), ("wins", "wins", 2), ("deal_ins", "deal-ins", 2),
+    ("riichis", "riichis", 2), ("refusals", "refusals", 2), ("expired", "run-out windows", 2),
 ]
-NOTE = ("Each number is the mean of a game, with its 95% interval. Four games on the same walls, in which each program has each seat once, "
-        "are one block; the intervals are Student's over the means of the blocks, of which there are {blocks}.")
+NOTE = (
+    "Each number is the mean of a game, with its 95% interval. Four games on the same walls, in which each program has each seat "
+    "once, are one block; the intervals are Student's over the means of the blocks, of which there are {blocks}."
+)
 
 
 def t95(freedom):
@@ -88,7 +92,10 @@ def text_of(table):
     lines = [["", *(title for _, title, _ in COLUMNS)]]
     lines += [[row["name"], *(cell(row, column, digits) for column, _, digits in COLUMNS)] for row in table["rows"]]
     widths = [max(len(line[place]) for line in lines) for place in range(len(lines[0]))]
-    shown = ["  ".join([line[0].ljust(widths[0]), *(it.rjust(width) for it, width in zip(line[1:], widths[1:]))]).rstrip() for line in lines]
+    shown = []
+    for first, *others in lines:
+        cells = [first.ljust(widths[0]), *(it.rjust(width) for it, width in zip(others, widths[1:]))]
+        shown.append("  ".join(cells).rstrip())
     return "\n".join([f"{table['games']} games", *shown, NOTE.format(blocks=table["blocks"])]) + "\n"
 
 
@@ -119,10 +126,10 @@ th:first-child {{ text-align: left; }}
 def page_of(table, games, links):
     """The table and the list of games as one HTML page; `links` has each game's file."""
     titles = "".join(f'<th scope="col">{title}</th>' for _, title, _ in COLUMNS)
-    rows = [
-        f'<tr><th scope="row">{html.escape(row["name"])}</th>' + "".join(f"<td>{cell(row, column, digits)}</td>" for column, _, digits in COLUMNS) + "</tr>"
-        for row in table["rows"]
-    ]
+    rows = []
+    for row in table["rows"]:
+        cells = "".join(f"<td>{cell(row, column, digits)}</td>" for column, _, digits in COLUMNS)
+        rows.append(f'<tr><th scope="row">{html.escape(row["name"])}</th>{cells}</tr>')
     listed = []
     for number, game in sorted(games.items()):
         by_seat = sorted(game, key=lambda name: game[name]["seat"])

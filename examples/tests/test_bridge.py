@@ -164,12 +164,13 @@ class Bridge(unittest.TestCase):
         table = Table(lambda it: it.send({"type": "error", "sit": 3, "message": "WrongKey"}))
         ended = self.bridge(table)
         self.assertEqual((ended.returncode, ended.stderr), (1, "anna: no seat: WrongKey\n"))
-        ended = self.bridge(None, words=["--wait", "0.3"], port=9)
+        ended = self.bridge(None, words=["--wait", "1"], port=9)
         self.assertEqual(ended.returncode, 1)
         self.assertIn("anna: nobody listens on port 9", ended.stderr)
-        ended = subprocess.run([sys.executable, BRIDGE, "--name", "anna", "--log", self.folder / "log", "--", "no-such-program"], capture_output=True, text=True, timeout=60)
+        command = [sys.executable, BRIDGE, "--name", "anna", "--log", self.folder / "log", "--", "no-such-program"]
+        ended = subprocess.run(command, capture_output=True, text=True, timeout=60)
         self.assertEqual((ended.returncode, ended.stderr), (1, "anna: no-such-program: No such file or directory\n"))
-        ended = subprocess.run([sys.executable, BRIDGE, "--name", "anna"], capture_output=True, text=True, timeout=60)
+        ended = subprocess.run(command[:4], capture_output=True, text=True, timeout=60)
         self.assertEqual(ended.returncode, 2)
 
 

@@ -168,7 +168,7 @@ class League(unittest.TestCase):
             self.assertEqual(told.returncode, 1)
             self.assertIn(problem, told.stderr)
         told = subprocess.run(self.command("--games", "6"), capture_output=True, text=True, timeout=60)
-        self.assertIn("another multiple of 4", told.stderr)
+        self.assertIn("a multiple of 4", told.stderr)
 
 
 if __name__ == "__main__":

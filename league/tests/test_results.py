@@ -87,7 +87,8 @@ class Intervals(unittest.TestCase):
         self.assertAlmostEqual(held / 2000, 0.95, delta=0.02)
 
     def test_text_and_page(self):
-        game = {name: {"seat": seat, **{column: 30000.0 for column, _, _ in results.COLUMNS}} for seat, name in enumerate(["<a>", "b", "c", "d"])}
+        row = {column: 30000.0 for column, _, _ in results.COLUMNS}
+        game = {name: {"seat": seat, **row} for seat, name in enumerate(["<a>", "b", "c", "d"])}
         games = dict.fromkeys(range(8), game)
         table = results.table_of(["<a>", "b", "c", "d"], games)
         self.assertIn("30,000 ± 0", results.text_of(table))

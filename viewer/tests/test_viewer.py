@@ -163,7 +163,7 @@ class Page(unittest.TestCase):
                                 self.assertIn(f"\t{change:+,}", shown)
 
     def test_a_bad_line_is_named_and_nothing_is_drawn_past_it(self):
-        lines = RECORDS["whole_game"].split("\n")
+        lines = RECORDS["four_riichis"].split("\n")
         first = next(place for place, line in enumerate(lines) if '"tsumo"' in line)
         reach = next(place for place, line in enumerate(lines) if '"reach_accepted"' in line)
         faults = [
@@ -175,7 +175,7 @@ class Page(unittest.TestCase):
             (first, '{"type":"tsumo","actor":0,"pai":"0m"}', '"pai"'),
             (first + 1, '{"type":"dahai","actor":0,"pai":"5mr","tsumogiri":false}', "holds no 5mr"),
             (first + 2, '{"type":"chi","actor":1,"target":0,"pai":"5mr","consumed":["6m","7m"]}', "discarded last"),
-            (reach, lines[reach].replace("29000", "28000"), "scores"),
+            (reach, lines[reach].replace("29000", "28000", 1), "scores"),
             (first, lines[first] + lines[first], "no JSON"),
         ]
         for place, line, why in faults:
@@ -188,7 +188,7 @@ class Page(unittest.TestCase):
                 if deeds <= 0:
                     self.assertTrue(self.browser.run("document.getElementById('game').hidden"))
                 else:
-                    self.assertEqual(self.tables(), list(model.tables_of(RECORDS["whole_game"]))[:deeds])
+                    self.assertEqual(self.tables(), list(model.tables_of(RECORDS["four_riichis"]))[:deeds])
 
     def test_keys_wheel_buttons_strip_and_links(self):
         self.drop(RECORDS["whole_game"], "#hand=3&deed=41")
