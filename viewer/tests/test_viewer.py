@@ -132,6 +132,9 @@ class Page(unittest.TestCase):
         self.assertEqual(ended, record)
         self.assertEqual(begun, {**last, "hands": [["?"] * 13] * 4})
         hidden = text.split('{"type":"hand_shown"')[0]
+        for fault in ['{"type":"hand_shown","count":3}', '{"type":"hand_shown"}']:
+            self.drop(hidden + fault)
+            self.assertTrue(self.text("problem").startswith(f"Line {len(hidden.splitlines()) + 1}: "))
         self.drop(hidden)
         tables = self.tables()
         self.assertEqual(tables[0]["hands"], [["?"] * 13] * 4)
