@@ -5,7 +5,7 @@ import math
 import statistics
 
 # Two-sided 95% points of Student's t for 1 to 30 degrees of freedom.
-T95 = [
+STUDENT = [
     12.706, 4.303, 3.182, 2.776, 2.571, 2.447, 2.365, 2.306, 2.262, 2.228, 2.201, 2.179, 2.160, 2.145, 2.131,
     2.120, 2.110, 2.101, 2.093, 2.086, 2.080, 2.074, 2.069, 2.064, 2.060, 2.056, 2.052, 2.048, 2.045, 2.042,
 ]
@@ -22,8 +22,8 @@ NOTE = (
 
 def t95(freedom):
     """The two-sided 95% point of Student's t."""
-    if freedom <= len(T95):
-        return T95[freedom - 1]
+    if freedom <= len(STUDENT):
+        return STUDENT[freedom - 1]
     z = statistics.NormalDist().inv_cdf(0.975)
     return z + (z**3 + z) / (4 * freedom) + (5 * z**5 + 16 * z**3 + 3 * z) / (96 * freedom**2)
 
