@@ -27,6 +27,7 @@ class Table:
         self.melds = [[], [], [], []]
         self.rivers = [[], [], [], []]
         self.points = list(points)
+        self.honba = start["honba"]
         self.deposits = start["kyotaku"]
         self.indicators = [start["dora_marker"]]
         self.left = 70
@@ -50,14 +51,16 @@ class Table:
         elif kind in ("chi", "pon", "daiminkan"):
             self.lay(seat, event["consumed"])
             self.rivers[event["target"]][-1][2] = True
-            self.melds[seat].append([kind, sorted([*event["consumed"], event["pai"]])])
+            # the called tile lies where the seat that discarded it sits: to the left, across or to the right
+            place = {3: 0, 2: 1, 1: len(event["consumed"])}[(event["target"] - seat) % 4]
+            self.melds[seat].append([kind, sorted([*event["consumed"], event["pai"]]), place])
         elif kind == "ankan":
             self.lay(seat, event["consumed"])
-            self.melds[seat].append([kind, sorted(event["consumed"])])
+            self.melds[seat].append([kind, sorted(event["consumed"]), -1])
         elif kind == "kakan":
             self.lay(seat, [event["pai"]])
             pon = next(meld for meld in self.melds[seat] if meld[0] == "pon" and meld[1][0][:2] == event["pai"][:2])
-            pon[:] = [kind, sorted([*pon[1], event["pai"]])]
+            pon[:2] = [kind, sorted([*pon[1], event["pai"]])]
         elif kind == "dora":
             self.indicators.append(event["dora_marker"])
         elif kind == "hora":
@@ -73,9 +76,9 @@ class Table:
             "melds": [[list(meld) for meld in melds] for melds in self.melds],
             "rivers": [[list(tile) for tile in river] for river in self.rivers],
             "points": list(self.points),
-            "deposits": self.deposits,
+            "state": f"honba {self.honba} · deposits {self.deposits}",
             "indicators": list(self.indicators),
-            "left": self.left,
+            "left": f"{self.left} tiles left",
         }
 
 

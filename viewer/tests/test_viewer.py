@@ -27,16 +27,19 @@ const tiles = (node, kind) => [...node.querySelectorAll(kind + ' [data-tile]')];
 const seen = () => {
   const seats = [0, 1, 2, 3].map(seat => document.querySelector(`#table [data-seat="${seat}"]`));
   const centre = document.getElementById('centre');
+  const [, state, left] = [...centre.querySelectorAll('text')].map(it => it.textContent);
   return {
     hands: seats.map(seat => tiles(seat, '.hand').map(tile => tile.dataset.tile).sort()),
-    melds: seats.map(seat => [...seat.querySelectorAll('.meld')].map(meld =>
-      [meld.dataset.type, [...meld.querySelectorAll('[data-tile]')].map(tile => tile.dataset.tile).sort()])),
+    melds: seats.map(seat => [...seat.querySelectorAll('.meld')].map(meld => {
+      const all = tiles(meld, '');
+      return [meld.dataset.type, all.map(tile => tile.dataset.tile).sort(), all.findIndex(tile => 'called' in tile.dataset)];
+    })),
     rivers: seats.map(seat => tiles(seat, '.river').map(tile =>
       [tile.dataset.tile, 'side' in tile.dataset && 'riichi' in tile.dataset, 'called' in tile.dataset])),
-    points: seats.map(seat => +seat.querySelector('.plate').dataset.points),
-    deposits: +centre.dataset.deposits,
+    points: seats.map(seat => +seat.querySelectorAll('.plate text')[2].textContent.replace(',', '')),
+    state,
     indicators: tiles(centre, '.indicators').map(tile => tile.dataset.tile).filter(tile => tile !== '?'),
-    left: +centre.dataset.left,
+    left,
   };
 };
 const press = key => document.body.dispatchEvent(new KeyboardEvent('keydown', {key, bubbles: true, cancelable: true}));
