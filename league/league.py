@@ -189,6 +189,25 @@ class Game:
         self.running.append(process)
         return process
 
+    async def wait_for_port(self, server):
+        """Waits until the server listens."""
+        while server.returncode is None:
+            try:
+                _, link = await asyncio.open_connection("127.0.0.1", self.port)
+            except OSError:
+                await asyncio.sleep(0.05)
+            else:
+                link.close()
+                return
+        await self.wait_for_end(server)
+        raise Broken("the server ended before its port was open")
+
+    async def wait_for_end(self, server):
+        """Waits until the server ends, and raises Broken where it didn't end well."""
+        _, said = await server.communicate()
+        if server.returncode:
+            raise Broken(f"the server ended with {server.returncode}: {said.decode('utf-8', 'replace').strip()}")
+
     async def seat(self, program):
         """Starts a program's bridge, and waits until it has asked for its seat."""
         name = program["name"]
@@ -216,6 +235,7 @@ class Game:
             with open(part, "wb") as file:
                 command = [self.words.program, "serve", "--seed", self.seed, "--port", str(self.port), "--limit", str(settings["limit"])]
                 server = await self.run(*command, *["--draws"] * settings["draws"], stdout=file, stderr=subprocess.PIPE)
+            await self.wait_for_port(server)
             bridges = [await self.seat(programs[name]) for name in order]
             for seat, (name, bridge) in enumerate(zip(order, bridges)):
                 line = (await bridge.stdout.readline()).decode()
@@ -223,14 +243,12 @@ class Game:
                     raise Broken(f"{name} was to have seat {seat}, and was told: {line.strip() or 'nothing'}")
             for bridge in bridges:
                 await bridge.communicate()
-            _, said = await server.communicate()
+            await self.wait_for_end(server)
         finally:
             for process in self.running:
                 if process.returncode is None:
                     process.kill()
                     await process.wait()
-        if server.returncode:
-            raise Broken(f"the server ended with {server.returncode}: {said.decode('utf-8', 'replace').strip()}")
         record = part.read_bytes()
         problem = await asyncio.to_thread(replayed, self.words.program, record)
         if problem:
@@ -263,7 +281,7 @@ async def play_one(league, number, seed, words):
             break
         except (Broken, OSError, subprocess.TimeoutExpired, asyncio.TimeoutError) as why:
             breaks.append(str(why) or f"it took more than {words.minutes} minutes")
-            print(f"game {number + 1} is broken and played again: {breaks[-1]}", file=sys.stderr, flush=True)
+            print(f"game {number + 1} broke, try {turn + 1} of {words.tries}: {breaks[-1]}", file=sys.stderr, flush=True)
     else:
         raise Wrong(f"game {number + 1} broke {words.tries} times")
     programs = results.counted(record)

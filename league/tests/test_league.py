@@ -156,6 +156,13 @@ class League(unittest.TestCase):
                 self.assertEqual(told.returncode, 1)
                 self.assertIn(problem, told.stderr)
 
+    def test_a_server_that_fails_is_said_and_tried_again(self):
+        command = self.command("--program", "/bin/false", "--out", self.folder / "failed", "--tries", "2")
+        told = subprocess.run(command, capture_output=True, text=True, timeout=60)
+        self.assertEqual(told.returncode, 1)
+        self.assertIn("game 1 broke, try 2 of 2: the server ended with 1: \n", told.stderr)
+        self.assertIn(" broke 2 times\n", told.stderr)
+
     def test_other_words_are_refused(self):
         told = subprocess.run(self.command("--limit", "9000"), capture_output=True, text=True, timeout=60)
         self.assertEqual(told.returncode, 1)
