@@ -1,0 +1,10 @@
+pub mod Appends
+pub mod FreshLaws
+pub mod Moments
+pub mod Notes
+pub mod Opened
+pub mod Records
+pub mod Steps
+pub mod Tears
+pub mod Walks
+pub mod AtPlace

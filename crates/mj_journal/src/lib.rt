@@ -1,0 +1,19 @@
+//! A journal that outlives a stop: the entries of a game on a disk, each acknowledged once it is there.
+#![tactic(auto)]
+
+mod appending;
+mod beginning;
+mod disk;
+mod file_disk;
+mod head;
+mod mem_call;
+mod mem_disk;
+mod mem_write;
+mod reading;
+mod record;
+mod through;
+
+pub use disk::{Disk, Filled, Size, Synced, Wrote};
+pub use file_disk::FileDisk;
+pub use mem_call::{CallMade, DiskCall};
+pub use mem_disk::MemDisk;
