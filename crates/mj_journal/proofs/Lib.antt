@@ -8,3 +8,5 @@ pub mod Steps
 pub mod Tears
 pub mod Walks
 pub mod AtPlace
+pub mod CallTexts
+pub mod Enterings

@@ -5,3 +5,7 @@ pub mod MemDisks
 pub mod MemNotes
 pub mod Openings
 pub mod Readings
+pub mod Calls
+pub mod Meant
+pub mod Playing
+pub mod Outcomes

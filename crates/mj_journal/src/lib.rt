@@ -3,12 +3,15 @@
 
 mod appending;
 mod beginning;
+mod call;
 mod disk;
+mod entering;
 mod file_disk;
 mod head;
 mod mem_call;
 mod mem_disk;
 mod mem_write;
+mod outcome;
 mod reading;
 mod record;
 mod through;
