@@ -72,11 +72,11 @@ present_by now author seat is =
     let less = halves.0 in
     record { within = grind (arith, nat_tests); present = by_author (now.present seat) author halves.1 }
 
-pub asked_by : (now : After) (author seat : ℕ) → is_by now author seat ≡ true → now.due seat < now.deeds → is_asked now author seat ≡ true
-asked_by now author seat is less = rw is (grind (arith, nat_tests))
+by_itself : (o : Option ℕ) (author : ℕ) → o ≡ Some author → option_map_or (λ by. by == author) o false ≡ true
+by_itself o author is = rw is (grind (arith, nat_tests))
 
-pub not_by : (now : After) (author seat : ℕ) → is_by now author seat ≡ false → is_asked now author seat ≡ false
-not_by now author seat is = rw is refl
+pub by_of : (now : After) (author seat : ℕ) → seat < 4 → now.present seat ≡ Some author → is_by now author seat ≡ true
+by_of now author seat within here = let by = by_itself (now.present seat) author here in grind (arith, nat_tests)
 
-pub not_due : (now : After) (author seat : ℕ) → is_by now author seat ≡ true → now.deeds ≤ now.due seat → is_asked now author seat ≡ false
-not_due now author seat is more = rw is (grind (arith, nat_tests))
+pub asked_of : (now : After) (author seat : ℕ) → seat < 4 → now.present seat ≡ Some author → now.due seat < now.deeds → is_asked now author seat ≡ true
+asked_of now author seat within here less = rw (by_of now author seat within here) (grind (arith, nat_tests))

@@ -10,3 +10,4 @@ pub mod Walks
 pub mod AtPlace
 pub mod CallTexts
 pub mod Enterings
+pub mod Outliving

@@ -9,3 +9,5 @@ pub mod Calls
 pub mod Meant
 pub mod Playing
 pub mod Outcomes
+pub mod Keeping
+pub mod Finishing

@@ -16,6 +16,7 @@ use std::alloc::{AllocError, Global};
 const LINE_LIMIT: usize = 4095;
 
 /// A call on a game, and its author. A seat is 0 to 3, and times are in milliseconds.
+#[derive(Drop)]
 pub(crate) enum Call<'a> {
     /// Somebody wants a seat.
     Sit { author: u8, line: &'a [u8] },

@@ -1,6 +1,7 @@
 //! A journal that outlives a stop: the entries of a game on a disk, each acknowledged once it is there.
 #![tactic(auto)]
 
+mod answered;
 mod appending;
 mod beginning;
 mod call;
@@ -8,6 +9,7 @@ mod disk;
 mod entering;
 mod file_disk;
 mod head;
+mod kept;
 mod mem_call;
 mod mem_disk;
 mod mem_write;
@@ -16,7 +18,9 @@ mod reading;
 mod record;
 mod through;
 
+pub use answered::Answered;
 pub use disk::{Disk, Filled, Size, Synced, Wrote};
 pub use file_disk::FileDisk;
+pub use kept::Kept;
 pub use mem_call::{CallMade, DiskCall};
 pub use mem_disk::MemDisk;

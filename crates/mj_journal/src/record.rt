@@ -41,4 +41,12 @@ impl Record {
     {
         &self.piece
     }
+
+    /// How many bytes its payload has.
+    pub(crate) fn payload_len(&self) -> u64
+        ensures length { result ≡ length self.now }
+        ensures short { result < 2 ^ 32 }
+    {
+        self.piece.len() as u64 - 5
+    }
 }
