@@ -11,3 +11,7 @@ pub mod AtPlace
 pub mod CallTexts
 pub mod Enterings
 pub mod Outliving
+pub mod Looks
+pub mod Replayed
+pub mod Firsts
+pub mod Reopened

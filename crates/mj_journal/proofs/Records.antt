@@ -1,5 +1,5 @@
 -- What disks of records stand for.
-use Rattle.std.proofs.Common.{◌≡◌, inl, inr, ℕ, zero, suc, ◌+◌, ◌-◌, ◌^◌, ◌<◌, ◌≤◌, List, [], ◌∷◌, ◌++◌, length, take, drop, Option, Some, None, refl, sym, ◌∙◌, ap, arith, append_assoc, length-append, take-append-drop}
+use Rattle.std.proofs.Common.{◌≡◌, inl, inr, ℕ, zero, suc, ◌+◌, ◌-◌, ◌^◌, ◌<◌, ◌≤◌, List, [], ◌∷◌, ◌++◌, length, take, drop, Option, Some, None, refl, sym, ◌∙◌, ap, arith, append_assoc, length-append, length-drop, take-append-drop}
 use Rattle.std.proofs.lemmas.Bool.{cases_eq, cases_lt}
 use Rattle.std.proofs.lemmas.Bool.Decides.{nat_tests}
 use Rattle.std.proofs.lemmas.List.{append-nil, take_at, drop_at, length-take-le}
@@ -34,10 +34,11 @@ payload_found count behind found e = elim (cases_lt count (length behind)) [
 pub record Whole (image : List ℕ) (found : Found) : Type 0 where
   pub head : List ℕ
   pub split : image ≡ head ++ found.1
-  pub long : 0 < length head
+  pub long : length head ≡ 5 + length found.0
+  pub some : 0 < length found.1
   pub again : (x : List ℕ) → 0 < length x → first_record (head ++ x) ≡ Some (found.0, x)
 
-whole : (image : List ℕ) (found : Found) → first_record image ≡ Some found → Whole image found
+pub whole : (image : List ℕ) (found : Found) → first_record image ≡ Some found → Whole image found
 whole [] found e = absurd (cc e)
 whole (g ∷ []) found e = absurd (cc e)
 whole (g ∷ a ∷ []) found e = absurd (cc e)
@@ -54,6 +55,7 @@ whole (g ∷ a ∷ b ∷ c ∷ d ∷ behind) found e = elim (cases_eq g 1) [
         head = g ∷ a ∷ b ∷ c ∷ d ∷ found.0;
         split = ap (λ (l : List ℕ). g ∷ a ∷ b ∷ c ∷ d ∷ l) (sym (take-append-drop count behind) ∙ ap (λ (l : List ℕ). l ++ drop count behind) taken ∙ ap (λ (l : List ℕ). found.0 ++ l) left);
         long = omega arith;
+        some = omega (arith, is.fits, ap length (sym left), length-drop count behind);
         again = λ x some. ap (λ y. first_record (y ∷ a ∷ b ∷ c ∷ d ∷ found.0 ++ x)) opened ∙ payload_whole count found.0 x (ap length (sym taken) ∙ length-take-le count behind (omega (arith, is.fits))) some;
       }
   | inr shut ↦ let none : first_record (g ∷ a ∷ b ∷ c ∷ d ∷ behind) ≡ None = grind (arith, nat_tests) in absurd (cc (none, e))

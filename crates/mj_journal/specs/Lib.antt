@@ -11,3 +11,7 @@ pub mod Playing
 pub mod Outcomes
 pub mod Keeping
 pub mod Finishing
+pub mod Looking
+pub mod Replays
+pub mod Founding
+pub mod Settling

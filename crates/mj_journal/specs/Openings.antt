@@ -1,6 +1,6 @@
 -- How the opening of a disk ends.
-use Rattle.std.specs.Prelude.{ℕ, ◌+◌, ◌==◌, nat_lt, Bool, true, false, List, [], ◌∷◌, length, Option, Some, None, if◌then◌else◌}
-use Rattle.mj_journal.specs.Journals.{journal, behind_journal}
+use Rattle.std.specs.Prelude.{◌≡◌, ◌⊎◌, ℕ, ◌+◌, ◌==◌, nat_lt, Bool, true, false, List, [], ◌∷◌, length, Option, Some, None, if◌then◌else◌}
+use Rattle.mj_journal.specs.Journals.{journal, behind_journal, IsJournalOf}
 
 -- a new journal, the journal of another game, a bad gate at a place, or the game as the entries leave it with the closed gate's place
 pub data Opening (S : Type 0) : Type 0 where
@@ -31,3 +31,7 @@ opening_of taken game is_tag (first ∷ more) behind = if is_tag first then entr
 -- the opening of a disk
 abbrev pub opening : {S : Type 0} → (S → List ℕ → Option S) → S → (List ℕ → Bool) → List ℕ → Opening S
 opening taken game is_tag image = if is_fresh image then Fresh else opening_of taken game is_tag (journal image) (behind_journal image)
+
+-- a new journal, or one of the tag alone
+abbrev pub IsNewOrTag : List ℕ → List ℕ → Type 0
+IsNewOrTag tag image = (is_fresh image ≡ true) ⊎ IsJournalOf (tag ∷ []) image

@@ -19,13 +19,28 @@ const LINE_LIMIT: usize = 4095;
 #[derive(Drop)]
 pub(crate) enum Call<'a> {
     /// Somebody wants a seat.
-    Sit { author: u8, line: &'a [u8] },
+    Sit {
+        author: u8,
+        line: &'a [u8],
+    },
     /// A seat says a line.
-    Say { author: u8, seat: u8, line: &'a [u8] },
+    Say {
+        author: u8,
+        seat: u8,
+        line: &'a [u8],
+    },
     /// A seat leaves.
-    Leave { author: u8, seat: u8 },
+    Leave {
+        author: u8,
+        seat: u8,
+    },
     /// The time of a window may have run out between two readings of a clock.
-    Expire { author: u8, window: u32, t1: u64, t2: u64 },
+    Expire {
+        author: u8,
+        window: u32,
+        t1: u64,
+        t2: u64,
+    },
 }
 
 impl Call<'_> {
@@ -150,7 +165,12 @@ fn read_times<'a>(author: u8, window: u32, text: &[u8]) -> Option<Call<'a>>
     let (t1, t2) = split_space(text)?;
     let t1 = read_number(t1)?;
     let t2 = read_number(t2)?;
-    Some(Call::Expire { author, window, t1, t2 })
+    Some(Call::Expire {
+        author,
+        window,
+        t1,
+        t2,
+    })
 }
 
 /// The record of a call, as a journal keeps it.

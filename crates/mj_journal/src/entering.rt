@@ -22,9 +22,12 @@ pub(crate) fn enter<G: Seated>(game: &mut G, alloc: Global, call: &Call<'_>) -> 
         Call::Sit { author, line } => enter_sit(game, alloc, *author, line),
         Call::Say { author, seat, line } => enter_said(game, alloc, *author, *seat, line),
         Call::Leave { author, seat } => enter_gone(game, alloc, *author, *seat),
-        Call::Expire { author, window, t1, t2 } => {
-            enter_expiry(game, alloc, *author, *window, (*t1, *t2))
-        }
+        Call::Expire {
+            author,
+            window,
+            t1,
+            t2,
+        } => { enter_expiry(game, alloc, *author, *window, (*t1, *t2)) }
     }
 }
 
@@ -39,13 +42,7 @@ fn enter_sit<G: Seated>(game: &mut G, alloc: Global, author: u8, line: &[u8]) ->
 }
 
 #[tactic(auto, using(crate::proofs::Enterings::said_enters, crate::proofs::Enterings::present_by))]
-fn enter_said<G: Seated>(
-    game: &mut G,
-    alloc: Global,
-    author: u8,
-    seat: u8,
-    line: &[u8],
-) -> Outcome
+fn enter_said<G: Seated>(game: &mut G, alloc: Global, author: u8, seat: u8, line: &[u8]) -> Outcome
     ensures setting { G.setting game.new ≡ G.setting game.old }
     ensures entries { Enters result
         (entered (play G.after G.sits G.hears G.expires G.reads G.joins (G.setting game.old))

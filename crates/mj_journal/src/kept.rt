@@ -32,18 +32,12 @@ pub struct Kept<G> {
 
 impl<G: Seated> Kept<G> {
     /// The game; None exactly where it is stopped, by a fault of the disk.
-    pub fn game(&self) -> Option<&G>
-    {
+    pub fn game(&self) -> Option<&G> {
         self.game.as_ref()
     }
 
     /// Gives a seat for the line, or says why not.
-    pub fn sit<D: Disk>(
-        &mut self,
-        disk: &mut D,
-        author: u8,
-        line: &[u8],
-    ) -> Answered<SitAnswer>
+    pub fn sit<D: Disk>(&mut self, disk: &mut D, author: u8, line: &[u8]) -> Answered<SitAnswer>
         requires line { IsLine line.now }
         requires rest { IfKept (game_of self.old) (λ g.
             IsAtRest (D.told disk.old) (D.may_leave disk.old) (end_of self.old)) }
@@ -140,12 +134,7 @@ impl<G: Seated> Kept<G> {
     }
 
     /// Enters that the seat, which is present by this author, is gone.
-    pub fn gone<D: Disk>(
-        &mut self,
-        disk: &mut D,
-        author: u8,
-        seat: u8,
-    ) -> Answered<Left>
+    pub fn gone<D: Disk>(&mut self, disk: &mut D, author: u8, seat: u8) -> Answered<Left>
         requires seat { seat < 4 }
         requires present { IfKept (game_of self.old) (λ g.
             (G.after (G.setting g) (G.history g)).present seat ≡ Some author) }
@@ -229,7 +218,15 @@ impl<G: Seated> Kept<G> {
         let Some(game) = &mut self.game else {
             return Answered::Stopped;
         };
-        let Ok(entry) = call_record(self.alloc, &Call::Expire { author, window, t1, t2 }) else {
+        let Ok(entry) = call_record(
+            self.alloc,
+            &Call::Expire {
+                author,
+                window,
+                t1,
+                t2,
+            },
+        ) else {
             return Answered::NoMemory;
         };
         let answer = game.expire(self.alloc, author, window, t1, t2);
