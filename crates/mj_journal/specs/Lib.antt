@@ -15,3 +15,4 @@ pub mod Looking
 pub mod Replays
 pub mod Founding
 pub mod Settling
+pub mod MemPlans

@@ -1,6 +1,6 @@
 //! A game whose entries stand on a disk.
 
-ghost use Rattle.std.specs.Prelude.{◌≡◌, ◌<◌, ◌≤◌, ◌++◌, ◌∷◌, [], None, Some, IsSome, List, length, ℕ};
+ghost use Rattle.std.specs.Prelude.{◌≡◌, ◌<◌, ◌≤◌, ◌++◌, ◌∷◌, [], None, Some, IsSome, List, MatchOption, length, ℕ};
 ghost use Rattle.mj_ports.specs.SeatCalls.{AnswersSit, AnswersSaid, AnswersGone, AnswersExpiry};
 ghost use Rattle.mj_ports.specs.declared.entry.Entry.{Entry};
 ghost use Rattle.mj_journal.specs.Journals.{IsAtRest};
@@ -32,7 +32,9 @@ pub struct Kept<G> {
 
 impl<G: Seated> Kept<G> {
     /// The game; None exactly where it is stopped, by a fault of the disk.
-    pub fn game(&self) -> Option<&G> {
+    pub fn game(&self) -> Option<&G>
+        ensures { MatchOption result (game_of self.now ≡ None) (λ g. game_of self.now ≡ Some g.now) }
+    {
         self.game.as_ref()
     }
 

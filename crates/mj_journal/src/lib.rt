@@ -11,7 +11,10 @@ mod file_disk;
 mod founding;
 mod head;
 mod kept;
+#[cfg(test)]
+mod kept_tests;
 mod mem_call;
+mod mem_calls;
 mod mem_disk;
 mod mem_write;
 mod not_opened;
@@ -21,6 +24,8 @@ mod reading;
 mod record;
 mod replaying;
 mod through;
+#[cfg(test)]
+mod toy;
 
 pub use answered::Answered;
 pub use disk::{Disk, Filled, Size, Synced, Wrote};
