@@ -1,5 +1,5 @@
 -- The record that is read at a place.
-use Rattle.std.proofs.Common.{◌≡◌, ℕ, ◌+◌, List, ◌∷◌, length, take, drop, Option, Some, sym, ◌∙◌, ap, arith}
+use Rattle.std.proofs.Common.{◌≡◌, ℕ, ◌+◌, List, length, take, drop, Option, Some, sym, ◌∙◌, ap, arith}
 use Rattle.std.proofs.lemmas.List.{drop-drop}
 use Rattle.mj_journal.specs.Heads.{IsHead}
 use Rattle.mj_journal.specs.Readings.{IsReading, IsPayload}

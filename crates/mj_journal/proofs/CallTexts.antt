@@ -1,13 +1,13 @@
 -- The text of a call tells that call.
-use Rattle.std.proofs.Common.{◌≡◌, ℕ, ◌+◌, ◌^◌, ◌<◌, ◌≤◌, ◌==◌, List, [], ◌∷◌, ◌++◌, length, Bool, true, false, refl, ap, sym, ◌∙◌, arith, cond, rules, codes, append_assoc, length-append}
-use Rattle.std.specs.Prelude.{Option, Some, None, option_map, option_and_then, nat_lt, nat_le, if◌then◌else◌}
+use Rattle.std.proofs.Common.{◌≡◌, ℕ, ◌+◌, ◌^◌, ◌<◌, ◌≤◌, ◌==◌, List, [], ◌∷◌, ◌++◌, length, true, false, refl, ap, sym, ◌∙◌, arith, rules, codes, length-append}
+use Rattle.std.specs.Prelude.{Some, nat_le, if◌then◌else◌}
 use Rattle.std.specs.Fmt.{decimal}
 use Rattle.std.specs.Char.{is_ascii_digit}
 use Rattle.std.proofs.lemmas.Str.Parse.{IsNumeralModel, numerals_by_weight}
 use Rattle.std.proofs.lemmas.Fmt.{digits_decimal, length-decimal-le}
 use Rattle.std.proofs.lemmas.Bool.Decides.{nat_tests}
-use Rattle.mj_bytes.specs.Numbers.{number_text, decimal_of, all_digits, digits_value}
-use Rattle.mj_bytes.specs.Parts.{has_byte, parted, PartsAtFirst}
+use Rattle.mj_bytes.specs.Numbers.{number_text, all_digits, digits_value}
+use Rattle.mj_bytes.specs.Parts.{has_byte, parted}
 use Rattle.mj_bytes.proofs.DigitLaws.{all_digits-head}
 use Rattle.mj_bytes.proofs.NumberLaws.{decimal_of-number_text}
 use Rattle.mj_bytes.proofs.PartLaws.{has_byte-head, has_byte-at, parted-some}

@@ -1,5 +1,5 @@
 -- What the calls of a game enter is what is right.
-use Rattle.std.proofs.Common.{◌≡◌, ℕ, ◌<◌, ◌≤◌, ◌==◌, Bool, true, false, List, Option, Some, None, refl, sym, ◌∙◌, ap, subst, arith}
+use Rattle.std.proofs.Common.{◌≡◌, ℕ, ◌<◌, ◌==◌, Bool, true, false, List, Option, Some, None, refl, sym, ap, subst, arith}
 use Rattle.std.specs.Prelude.{nat_lt, if◌then◌else◌, ◌&&◌}
 use Rattle.std.specs.Option.{option_map_or}
 use Rattle.std.proofs.lemmas.Bool.Decides.{nat_tests}
@@ -16,8 +16,7 @@ use Rattle.mj_ports.specs.declared.answers.Expiry.{Expiry}
 use Rattle.mj_ports.specs.declared.answers.Expiry.TheVariants as expiry
 use Rattle.mj_ports.specs.SeatCalls.{AnswersSit, AnswersSaid, AnswersGone, AnswersExpiry}
 use Rattle.mj_ports.specs.Seats.{After}
-use Rattle.mj_journal.specs.declared.outcome.Outcome.{Outcome}
-use Rattle.mj_journal.specs.declared.outcome.Outcome.TheVariants.{Entered, Nothing, NoMemory}
+use Rattle.mj_journal.specs.declared.outcome.Outcome.TheVariants.{Entered, Nothing}
 use Rattle.mj_journal.specs.Playing.{sat, said, expired, is_by, is_asked}
 use Rattle.mj_journal.specs.Outcomes.{Enters, of_sit, of_said, of_gone, of_expiry}
 

@@ -1,22 +1,20 @@
 -- What the first record of a disk tells of its opening.
-use Rattle.std.proofs.Common.{◌≡◌, ◌⊎◌, inl, inr, ⊎_elim, ℕ, ◌+◌, ◌<◌, ◌≤◌, Bool, true, false, List, [], ◌∷◌, ◌++◌, length, drop, Option, Some, None, refl, sym, ◌∙◌, ap, subst, arith, if◌then◌else◌}
+use Rattle.std.proofs.Common.{◌≡◌, inl, inr, ⊎_elim, ℕ, ◌+◌, ◌≤◌, Bool, true, false, List, [], ◌∷◌, ◌++◌, length, drop, Option, Some, None, refl, ◌∙◌, ap, subst, arith, if◌then◌else◌}
 use Rattle.std.specs.Prelude.{nat_lt, bytes_eq, option_map}
 use Rattle.std.proofs.lemmas.Slice.Eq.{bytes_eq-Decides}
 use Rattle.std.proofs.lemmas.Bool.Decides.{nat_tests}
-use Rattle.mj_journal.specs.Disks.{LeavesOnly, Only}
-use Rattle.mj_journal.specs.Journals.{first_record, journal, behind_journal, IsJournalOf, IsAtRest, EndsAt, IsBeforeOrAfter}
-use Rattle.mj_journal.specs.Openings.{Opening, Fresh, Other, Bad, Open, begins_open, is_fresh, entries_from, opening_of, IsNewOrTag}
+use Rattle.mj_journal.specs.Journals.{first_record, journal, behind_journal, IsJournalOf, IsBeforeOrAfter}
+use Rattle.mj_journal.specs.Openings.{Fresh, Other, Bad, Open, begins_open, is_fresh, entries_from, opening_of, IsNewOrTag}
 use Rattle.mj_journal.specs.Playing.{Play, taken, opens}
 use Rattle.mj_journal.specs.Readings.{IsReadingOf}
-use Rattle.mj_journal.specs.Replays.{entries_at, ReplaysAs}
-use Rattle.mj_journal.specs.Founding.{IsFirst, EndsAs}
+use Rattle.mj_journal.specs.Replays.{entries_at}
+use Rattle.mj_journal.specs.Founding.{IsFirst}
 use Rattle.mj_journal.specs.declared.reading.Reading.{Reading}
 use Rattle.mj_journal.specs.declared.reading.Reading.TheVariants.{Payload, Shut, Torn, Failed, NoMemory}
 use Rattle.mj_journal.proofs.Opened.{opens_as}
 use Rattle.mj_journal.proofs.Records.{payloads_none}
 use Rattle.mj_journal.proofs.Replayed.{onward, shut_of}
 use Rattle.mj_journal.proofs.FreshLaws.{fresh_none}
-use Rattle.mj_journal.proofs.Outliving.{told_before}
 
 abbrev Bytes : Type 0
 Bytes = List ℕ

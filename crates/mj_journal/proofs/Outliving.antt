@@ -2,18 +2,17 @@
 use Rattle.std.proofs.Common.{◌≡◌, ◌⊎◌, inl, inr, ⊎_elim, ℕ, ◌+◌, Bool, true, false, List, [], ◌∷◌, ◌++◌, length, Option, Some, None, refl, sym, ◌∙◌, ap, subst, arith, if◌then◌else◌}
 use Rattle.std.specs.Prelude.{option_map, bytes_eq}
 use Rattle.mj_ports.specs.declared.entry.Entry.{Entry}
-use Rattle.mj_journal.specs.Disks.{LeavesOnly}
 use Rattle.mj_journal.specs.Journals.{journal, behind_journal, IsShut, IsJournalOf, IsAtRest, IsBeforeOrAfter}
-use Rattle.mj_journal.specs.Openings.{Opening, Fresh, Other, Bad, Open, is_fresh, entries_from, opening_of}
-use Rattle.mj_journal.specs.Calls.{Call, IsSized, text_of, call_of}
+use Rattle.mj_journal.specs.Openings.{Fresh, Other, Open, is_fresh, entries_from, opening_of}
+use Rattle.mj_journal.specs.Calls.{Call, IsSized, text_of}
 use Rattle.mj_journal.specs.Playing.{Play, entered, taken, opens}
-use Rattle.mj_journal.specs.Keeping.{OpensTo, OpensWith, TellsGame, AnyMoment, After, IfKept, IfBoth}
+use Rattle.mj_journal.specs.Keeping.{OpensTo, OpensWith, AnyMoment, After, IfKept, IfBoth}
 use Rattle.mj_journal.specs.Finishing.{Finishes, IsAnswered}
 use Rattle.mj_journal.specs.declared.answered.Answered.{Answered}
 use Rattle.mj_journal.specs.declared.answered.Answered.TheVariants.{Done, DiskFault, Stopped, NoMemory as AnsweredNoMemory}
 use Rattle.mj_journal.specs.declared.outcome.Outcome.{Outcome}
 use Rattle.mj_journal.specs.Outcomes.{Enters}
-use Rattle.mj_journal.specs.declared.outcome.Outcome.TheVariants.{Entered, Nothing, NoMemory}
+use Rattle.mj_journal.specs.declared.outcome.Outcome.TheVariants.{Entered, Nothing}
 use Rattle.mj_journal.proofs.CallTexts.{call_told}
 use Rattle.mj_journal.proofs.Opened.{opens_as, any_shut}
 use Rattle.mj_journal.proofs.Walks.{opens_one}

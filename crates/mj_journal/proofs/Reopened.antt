@@ -1,10 +1,10 @@
 -- A journal that is opened again.
-use Rattle.std.proofs.Common.{◌≡◌, ℕ, ◌+◌, ◌^◌, ◌<◌, ◌≤◌, false, true, List, [], ◌∷◌, length, drop, Option, Some, None, Result, Ok, Err, IfOk, OnOk, refl, sym, ◌∙◌, ap, subst, arith, length-drop}
+use Rattle.std.proofs.Common.{◌≡◌, ℕ, ◌+◌, ◌^◌, ◌<◌, ◌≤◌, false, true, List, [], ◌∷◌, length, drop, Option, Some, Result, Ok, Err, IfOk, OnOk, refl, sym, ◌∙◌, ap, subst, arith, length-drop}
 use Rattle.std.specs.Prelude.{bytes_eq}
 use Rattle.std.proofs.lemmas.Bool.Decides.{nat_tests}
 use Rattle.mj_ports.specs.declared.entry.Entry.{Entry}
 use Rattle.mj_journal.specs.Disks.{Only}
-use Rattle.mj_journal.specs.Journals.{first_record, journal, behind_journal, IsShut, IsJournalOf, EndsAt, IsAtRest}
+use Rattle.mj_journal.specs.Journals.{first_record, behind_journal, IsShut, EndsAt, IsAtRest}
 use Rattle.mj_journal.specs.Openings.{Opening, Open, begins_open, is_fresh}
 use Rattle.mj_journal.specs.Looking.{OnlyLooks}
 use Rattle.mj_journal.specs.Playing.{Play, taken, opens}

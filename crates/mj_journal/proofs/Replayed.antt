@@ -1,10 +1,10 @@
 -- The records from a place on, one by one.
-use Rattle.std.proofs.Common.{◌≡◌, inl, inr, ℕ, zero, suc, ◌+◌, ◌<◌, ◌≤◌, ◌==◌, Bool, true, false, List, [], ◌∷◌, ◌++◌, length, drop, Option, Some, None, refl, sym, ◌∙◌, ap, subst, arith, length-append, if◌then◌else◌}
+use Rattle.std.proofs.Common.{◌≡◌, ℕ, zero, suc, ◌+◌, ◌<◌, ◌≤◌, Bool, true, false, List, [], ◌∷◌, ◌++◌, length, drop, Option, Some, None, refl, sym, ◌∙◌, ap, subst, arith, length-append, if◌then◌else◌}
 use Rattle.std.specs.Prelude.{option_map, option_and_then}
 use Rattle.std.proofs.lemmas.List.{drop-drop}
 use Rattle.std.proofs.lemmas.Bool.Decides.{nat_tests}
 use Rattle.mj_ports.specs.declared.entry.Entry.{Entry}
-use Rattle.mj_journal.specs.Journals.{first_record, payloads_within, behind_within, journal, behind_journal, IsShut}
+use Rattle.mj_journal.specs.Journals.{first_record, payloads_within, behind_within, journal, behind_journal}
 use Rattle.mj_journal.specs.Openings.{Opening, Bad, Open, begins_open, entries_from}
 use Rattle.mj_journal.specs.Calls.{Call, call_of}
 use Rattle.mj_journal.specs.Playing.{Play, entered, taken}

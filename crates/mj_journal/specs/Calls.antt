@@ -1,5 +1,5 @@
 -- The calls on a game that a journal keeps, and their texts.
-use Rattle.std.specs.Prelude.{ℕ, ◌+◌, ◌^◌, ◌<◌, ◌≤◌, ◌≡◌, Bool, true, false, nat_lt, nat_le, if◌then◌else◌, List, [], ◌∷◌, ◌++◌, length, codes, bytes_eq, Option, Some, None, option_and_then, option_map}
+use Rattle.std.specs.Prelude.{ℕ, ◌^◌, ◌<◌, ◌≤◌, ◌≡◌, false, nat_lt, nat_le, if◌then◌else◌, List, ◌∷◌, ◌++◌, length, codes, bytes_eq, Option, Some, None, option_and_then, option_map}
 use Rattle.mj_bytes.specs.Numbers.{number_text, decimal_of}
 use Rattle.mj_bytes.specs.Parts.{has_byte, parted}
 

@@ -1,6 +1,6 @@
 -- How a journal is opened.
-use Rattle.std.specs.Prelude.{◌≡◌, ◌⊎◌, ℕ, ◌+◌, ◌<◌, ◌≤◌, true, false, List, [], ◌∷◌, length, drop, Option, Some, None, Result, Ok, Err}
-use Rattle.mj_journal.specs.Journals.{first_record, IsJournalOf}
+use Rattle.std.specs.Prelude.{◌≡◌, ℕ, ◌+◌, true, false, List, [], length, drop, Option, Some, None, Result, Ok, Err}
+use Rattle.mj_journal.specs.Journals.{first_record}
 use Rattle.mj_journal.specs.Openings.{Opening, Fresh, Other, Bad, Open, is_fresh}
 use Rattle.mj_journal.specs.Keeping.{game_of, end_of}
 use Rattle.mj_journal.specs.declared.kept.Kept.{Kept}

@@ -1,8 +1,7 @@
 -- What the calls on a kept game answer, and what becomes of its journal.
-use Rattle.std.specs.Prelude.{◌≡◌, ◌⊎◌, ℕ, ◌<◌, ◌≤◌, Bool, true, List, [], ◌∷◌, ◌++◌, Option, Some, None}
+use Rattle.std.specs.Prelude.{◌≡◌, ◌⊎◌, ℕ, ◌<◌, ◌≤◌, List, [], ◌∷◌, ◌++◌, Option, Some, None}
 use Rattle.mj_ports.specs.declared.entry.Entry.{Entry}
 use Rattle.mj_journal.specs.Disks.{LeavesOnly}
-use Rattle.mj_journal.specs.Journals.{IsAtRest}
 use Rattle.mj_journal.specs.Openings.{Opening, Open}
 use Rattle.mj_journal.specs.Calls.{Call}
 use Rattle.mj_journal.specs.Playing.{Play, entered, opens}

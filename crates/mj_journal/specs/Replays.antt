@@ -1,7 +1,7 @@
 -- How the records of a journal are called on a game, one after the other.
-use Rattle.std.specs.Prelude.{◌≡◌, ℕ, ◌+◌, ◌<◌, ◌≤◌, List, drop, Option, Some, None, Result, Ok, Err}
+use Rattle.std.specs.Prelude.{◌≡◌, ℕ, ◌<◌, ◌≤◌, List, drop, Option, Some, None, Result, Ok, Err}
 use Rattle.mj_journal.specs.Journals.{journal, behind_journal}
-use Rattle.mj_journal.specs.Openings.{Opening, Fresh, Other, Bad, Open, entries_from}
+use Rattle.mj_journal.specs.Openings.{Opening, Bad, Open, entries_from}
 use Rattle.mj_journal.specs.declared.outcome.Outcome.{Outcome}
 use Rattle.mj_journal.specs.declared.outcome.Outcome.TheVariants as outcome
 use Rattle.mj_journal.specs.declared.replaying.Step.{Step}
