@@ -18,8 +18,8 @@ def answer(event, seat):
     return {"type": "none"}
 
 
-def play(name, key, port, events):
-    """Plays one game, from the join to its end or for so many events; says how it ended."""
+def play(name, key, port, events=-1, answer=answer):
+    """Plays one game, from the join to its end or for so many events, by a function that answers; says how it ended."""
     link = socket.create_connection(("127.0.0.1", port))
     lines = link.makefile("r", encoding="utf-8", newline="\n")
 

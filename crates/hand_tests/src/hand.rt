@@ -3,12 +3,14 @@ use mj_hand::hand_lines;
 use std::alloc::{AllocError, Global};
 
 /// Words, and the shanten, the target and the waits that are written of their hand: hands that are ready, one of them with its
-/// tiles in another order, hands that are not, and hands with melds, whose tiles are not written.
+/// tiles in another order, hands that are not, one of them with a red five, and hands with melds, whose tiles are not
+/// written.
 const WRITTEN: &str = "\
 1m 2m 3m 4p 5p 6p 7s 8s 9s E E S S|0|1m 2m 3m 4p 5p 6p 7s 8s 9s E E E S S|E S
 1m 9m 1p 9p 1s 9s E S W N P F C|0|1m 1m 9m 1p 9p 1s 9s E S W N P F C|1m 9m 1p 9p 1s 9s E S W N P F C
 E 9s E 7s 8s S 5p 6p S 3m 4p 1m 2m|0|1m 2m 3m 4p 5p 6p 7s 8s 9s E E E S S|E S
 1p 2p 3p 4p 5p 6p 7p 8p 9p 1s 1s 1s 1s|1|1m 1m 1p 2p 3p 4p 5p 6p 7p 8p 9p 1s 1s 1s|-
+5mr 2m 3m 4p 5p 6p 7s 8s 9s E E S S|1|1m 2m 3m 4p 5p 6p 7s 8s 9s E E E S S|-
 1m 1m 1m 1m 2p 2p 2p 2p 3s 3s 3s 3s E|2|1m 1m 1m 1m 2m 3m 2p 2p 2p 3s 3s 3s E E|-
 1m+2m+3m 4p 5p 6p 7s 8s 9s E E S S|0|4p 5p 6p 7s 8s 9s E E E S S|E S
 4p 5p 6p 3m+1m+2m 7s 8s 9s E E S S|0|4p 5p 6p 7s 8s 9s E E E S S|E S
@@ -17,13 +19,13 @@ E 9s E 7s 8s S 5p 6p S 3m 4p 1m 2m|0|1m 2m 3m 4p 5p 6p 7s 8s 9s E E E S S|E S
 E+E+E+E 1m+1m+1m 7s+9s+8s 5p+5p+5p+5p C|0|C C|C
 E+E+E 2m+2m+2m 7s+9s+8s 5p+5p+5p+5p 2m|1|1m 1m|-";
 
-/// Words that are no hand: too few or too many tiles, a fifth one, a red five, texts that are no tiles, words that are no melds, and
-/// melds beside too few tiles, with a fifth tile, or five of them.
+/// Words that are no hand: too few or too many tiles, a fifth one, a second red five of a suit, texts that are no tiles, words
+/// that are no melds, and melds beside too few tiles, with a fifth tile, or five of them.
 const NO_HAND: &str = "\
 1m
 
 1m 1m 1m 1m 1m 2p 3p 4p 5p 6p 7p 8p 9p
-5mr 2m 3m 4p 5p 6p 7s 8s 9s E E S S
+5mr 5mr 3m 4p 5p 6p 7s 8s 9s E E S S
 2m 3m 4p 5p 6p 7s 8s 9s E E S S
 1m 2m 3m 4p 5p 6p 7s 8s 9s E E S S S
 1z 2m 3m 4p 5p 6p 7s 8s 9s E E S S

@@ -2,7 +2,7 @@
 use Rattle.std.proofs.Common.{◌≡◌, ℕ, zero, suc, ◌+◌, ◌-◌, ◌<◌, ◌≤◌, ◌==◌, ◌&&◌, ◌||◌, not, Bool, true, false, cond, eqb, ltb, List, [], ◌∷◌, length, drop, get_or, min, Option, Some, None, refl, sym, ap, ◌∙◌, subst, arith}
 use Rattle.std.specs.Prelude.{nat_lt, is_none, filter, map, slice_get, slice_index, MatchOption, MatchBool}
 use Rattle.std.specs.List.{list_all}
-use Rattle.std.proofs.lemmas.Bool.{and_parts, and_from, ltb-true, true≢false, false≢true, eqb-true, eq-eqb}
+use Rattle.std.proofs.lemmas.Bool.{and_parts, and_from, ltb-true, lt-leb, true≢false, false≢true, eqb-true, eq-eqb}
 use Rattle.std.proofs.lemmas.Bool.Decides.{nat_tests}
 use Rattle.std.proofs.lemmas.List.{drop_more, drop_all}
 use Rattle.std.proofs.lemmas.Option.{slice_get-get_or}
@@ -19,6 +19,7 @@ use Rattle.mj_deeds.specs.declared.answer.Pai.{Pai}
 use Rattle.mj_deeds.specs.declared.answer.Pai.TheVariants.{Known}
 use Rattle.mj_deeds.specs.declared.answer.Answer.TheVariants.{Discard}
 use Rattle.mj_deeds.specs.declared.rule.Rule.{Rule}
+use Rattle.mj_deeds.specs.Fits.{is_face}
 use Rattle.mj_wall.specs.declared.setting.Rules.{Rules}
 use Rattle.mj_table.proofs.OneLess.{count_without, some_left}
 use Rattle.mj_rules.specs.Broken.{is_open, is_that, is_wrongly_marked, is_banned_tile, banned_in, discards_unready, questions, broken_by}
@@ -98,11 +99,19 @@ drew seat (Called who banned) h = absurd (false≢true h)
 drew seat Nobodys h = absurd (false≢true h)
 
 -- A seat that has drawn and isn't in riichi may discard what it holds, where the game has such a tile.
-pub free_passes : (rules : Rules) (seat : ℕ) (view : SeatView) (face held : ℕ) → is_free view.accepted seat view.turn ≡ true → not (is_red face && not rules.red) ≡ true → held ≡ min (held_count view face) 4 → (held ≡ 0 → ⊥) → true ≡ passes rules seat view face
+pub free_passes : (rules : Rules) (seat : ℕ) (view : SeatView) (face held : ℕ) → is_free view.accepted seat view.turn ≡ true → is_face rules.red face ≡ true → held ≡ min (held_count view face) 4 → (held ≡ 0 → ⊥) → true ≡ passes rules seat view face
 unfolding broken_by
-free_passes rules seat view face held free there much some =
-    sym (ap is_none (none_broken (questions rules seat view (discard_of seat view face)) (refl, (ap not itself, (ap (λ t. not (is_open rules seat t view.accepted (discard_of seat view face))) at ∙ ap (λ b. not (cond b true false)) itself, (neither (is_red face && not rules.red) there, (refl, (refl, (enough, (marked_right (is_that view.drawn face) refl, (ap (λ a. a && not (is_that view.drawn face)) (off view.accepted both.0), (refl, (refl, (ap (λ t. is_banned_tile (banned_in t) (Known face)) at, (refl, (refl, (refl, (refl, (refl, (refl, (refl, (ap (λ t. discards_unready view t (Known face)) at, (refl, (refl, (refl, (refl, tt))))))))))))))))))))))))))
+free_passes rules seat view face held free game much some =
+    sym (ap is_none (none_broken (questions rules seat view (discard_of seat view face)) (refl, (ap not itself, (ap (λ t. not (is_open rules seat t view.accepted (discard_of seat view face))) at ∙ ap (λ b. not (cond b true false)) itself, (neither (is_red face && not rules.red) (there rules.red game), (refl, (refl, (enough, (marked_right (is_that view.drawn face) refl, (ap (λ a. a && not (is_that view.drawn face)) (off view.accepted both.0), (refl, (refl, (ap (λ t. is_banned_tile (banned_in t) (Known face)) at, (refl, (refl, (refl, (refl, (refl, (refl, (refl, (ap (λ t. discards_unready view t (Known face)) at, (refl, (refl, (refl, (refl, tt))))))))))))))))))))))))))
   where
+    none_with : (b : Bool) → not (b && false) ≡ true
+    none_with true = refl
+    none_with false = refl
+
+    there : (red : Bool) → is_face red face ≡ true → not (is_red face && not red) ≡ true
+    there true h = none_with (is_red face)
+    there false h = ap (λ b. not (b && true)) (lt-leb 34 face (ltb-true face 34 h))
+
     both : (not view.accepted ≡ true) × (is_own_draw seat view.turn ≡ true)
     both = and_parts (not view.accepted) (is_own_draw seat view.turn) free
 

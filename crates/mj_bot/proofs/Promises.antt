@@ -18,6 +18,7 @@ use Rattle.mj_rules.specs.View.{SeatView, view_of, WindowTurn, Drew, Discarded, 
 use Rattle.mj_rules.specs.Default.{discard_of, lawful_faces, last_face, discard_or_pass, default_in, default_by}
 use Rattle.mj_rules.specs.Played.{IsLawful}
 use Rattle.mj_rules.proofs.Defaults.{fitting_default_is_lawful}
+use Rattle.mj_rules.proofs.Given.{drawn_small}
 use Rattle.mj_bot.specs.Choice.{win_in, pon_in, first_lawful, wanted, IsBest}
 use Rattle.mj_bot.specs.Laws.{ChoiceIsLawful}
 use Rattle.mj_bot.proofs.Chosen.{found_before, none_before}
@@ -162,7 +163,7 @@ pass_or_drawn rules seat view Nobodys none small h = h
 -- The law.
 pub choice_is_lawful : ChoiceIsLawful
 unfolding default_by view_of
-choice_is_lawful rules ds seat answer small fit tiles can choice = by_found (first_lawful rules seat (view_of ds seat) (wanted seat (view_of ds seat) choice.best)) refl
+choice_is_lawful rules ds seat answer small fit can choice = by_found (first_lawful rules seat (view_of ds seat) (wanted seat (view_of ds seat) choice.best)) refl
   where
     by_found : (o : Option Answer) → first_lawful rules seat (view_of ds seat) (wanted seat (view_of ds seat) choice.best) ≡ o → IsLawful rules ds seat answer
     by_found (Some found) e =
@@ -175,6 +176,6 @@ choice_is_lawful rules ds seat answer small fit tiles can choice = by_found (fir
         let is : answer ≡ Pass None = choice.chosen_is ∙ ap (λ o. unwrap_or o (Pass None)) e in
         record {
           form = ap is_in_form is;
-          clean = ap (broken_by rules seat (view_of ds seat)) is ∙ pass_or_drawn rules seat (view_of ds seat) (view_of ds seat).turn (none_best rules seat (view_of ds seat) choice.best e choice.best_is) tiles
+          clean = ap (broken_by rules seat (view_of ds seat)) is ∙ pass_or_drawn rules seat (view_of ds seat) (view_of ds seat).turn (none_best rules seat (view_of ds seat) choice.best e choice.best_is) (λ tile. drawn_small rules.red ds seat tile small fit)
               (fitting_default_is_lawful rules ds seat small fit can).clean;
         }

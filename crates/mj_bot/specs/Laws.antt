@@ -1,19 +1,18 @@
 -- The laws over choices.
-use Rattle.std.specs.Prelude.{ℕ, ◌≡◌, ◌<◌, true, List, [], Some}
+use Rattle.std.specs.Prelude.{ℕ, ◌≡◌, ◌<◌, true, List, []}
 use Rattle.mj_deeds.specs.declared.answer.Answer.{Answer}
 use Rattle.mj_deeds.specs.declared.deed.Deed.{Deed}
 use Rattle.mj_wall.specs.declared.setting.Rules.{Rules}
 use Rattle.mj_rules.specs.Default.{can_discard}
-use Rattle.mj_deeds.specs.Facts.{drawn_tile}
 use Rattle.mj_deeds.specs.Fits.{all_fit}
 use Rattle.mj_rules.specs.Played.{IsLawful}
 use Rattle.mj_bot.specs.Choice.{IsChoice}
 
--- A choice is lawful in deeds each of which fits behind those before it, as long as the drawn tile is one of the game and some
--- discard right after the seat's own reach or call breaks no rule.
+-- A choice is lawful in deeds each of which fits behind those before it, as long as some discard right after the seat's own
+-- reach or call breaks no rule.
 abbrev pub ChoiceIsLawful : Type 0
 ChoiceIsLawful =
-    (rules : Rules) (deeds : List Deed) (seat : ℕ) (answer : Answer) → seat < 4 → all_fit rules.red [] deeds ≡ true → ((tile : ℕ) → drawn_tile deeds seat ≡ Some tile → tile < 37) →
+    (rules : Rules) (deeds : List Deed) (seat : ℕ) (answer : Answer) → seat < 4 → all_fit rules.red [] deeds ≡ true →
     can_discard rules deeds seat ≡ true → IsChoice rules deeds seat answer → IsLawful rules deeds seat answer
 
 -- There is one choice: two choices of a seat in the window on the same deeds are the same answer.

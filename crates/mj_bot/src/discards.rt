@@ -1,6 +1,6 @@
 ghost use Rattle.std.specs.Prelude.{◌≡◌, ◌≤◌, ◌==◌, ◌&&◌, [], not, IsTrue, MatchOption, filter, is_none, length, map, option_map, slice_index};
 ghost use Rattle.std.specs.Option.{option_map_or};
-ghost use Rattle.mj_tiles.specs.Faces.{is_red, kind_of};
+ghost use Rattle.mj_tiles.specs.Faces.{kind_of};
 ghost use Rattle.mj_tiles.specs.Counts.{kind_counts};
 ghost use Rattle.mj_tiles.specs.Kinds.{set_of};
 ghost use Rattle.mj_rules.specs.Broken.{broken_by};
@@ -13,7 +13,7 @@ ghost use Rattle.mj_bot.specs.Choice.{is_measured, IsBest};
 ghost use Rattle.mj_bot.specs.Inner.Turns.{is_own_turn, is_own_draw, is_free, is_among, is_out_or_among, are_all_among, IsNeverReady};
 
 use crate::measure::is_measured;
-use mj_deeds::{Deed, ordered};
+use mj_deeds::{Deed, is_face, ordered};
 use mj_judge::{discard, judge};
 use mj_shanten::Suits;
 use mj_table::Table;
@@ -148,6 +148,7 @@ fn has_turn(table: &Table, seat: u8) -> bool
 // The seat has drawn and isn't in riichi: each tile that it holds may go.
 #[tactic(auto, unfolding(mj_rules::specs::View::view_of))]
 fn is_free(table: &Table, seat: u8) -> bool
+    requires { seat ≤ 3 }
     ensures { let view = view_of table.now.deeds seat in
         result ≡ is_free view.accepted seat view.turn }
 {
@@ -226,15 +227,8 @@ fn is_lawful(table: &Table, seat: u8, free: bool, tile: Tile) -> bool
     if table.held_count(seat, tile) == 0 {
         return false;
     }
-    if free && is_in_game(table.rules().red, tile) {
+    if free && is_face(table.rules().red, tile) {
         return true;
     }
     judge(table, seat, &discard(table, seat, tile)).is_ok()
-}
-
-// The game has such a tile: a red five only where it has red fives.
-fn is_in_game(red: bool, tile: Tile) -> bool
-    ensures { result ≡ not (is_red tile && not red) }
-{
-    red || tile.face() < 34
 }

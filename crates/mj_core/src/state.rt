@@ -62,7 +62,7 @@ impl State {
         ensures { IfOk result (λ state. state ≡ nobody rules) }
     {
         Ok(State {
-            table: Table::new(alloc, rules)?,
+            table: Table::new(rules)?,
             deeds: Vec::new(alloc),
             streams: Streams::new(alloc)?,
             desk: Desk::new(),
@@ -147,7 +147,7 @@ impl State {
             let deed = Deed::StartGame {
                 names: names(&desk),
             };
-            let mut table = self.table.copy(alloc)?;
+            let mut table = self.table.copy()?;
             table.push(&deed)?;
             self.streams.push_alone(alloc, &deed)?;
             self.table = table;
@@ -296,7 +296,7 @@ impl State {
     {
         self.deeds.reserve(1)?;
         let answers = answers_in(&self.table, window);
-        let mut table = self.table.copy(alloc)?;
+        let mut table = self.table.copy()?;
         let deed = next(alloc, &mut table, setting.walls.as_slice(), &answers)?;
         self.streams.push_alone(alloc, &deed)?;
         self.table = table;

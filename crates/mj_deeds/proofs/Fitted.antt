@@ -1,10 +1,11 @@
 -- What is true of deeds each of which fits behind those before it.
-use Rattle.std.proofs.Common.{◌≡◌, ℕ, zero, suc, ◌+◌, ◌<◌, ◌≤◌, ◌⊎◌, inl, inr, List, [], ◌∷◌, ◌++◌, length, cond, leb, true, false, Bool, ◌&&◌, not, refl, sym, ap, ◌∙◌, subst, arith, append-nil, append_assoc}
+use Rattle.std.proofs.Common.{◌≡◌, ℕ, zero, suc, ◌+◌, ◌<◌, ◌≤◌, ◌⊎◌, inl, inr, List, [], ◌∷◌, ◌++◌, length, cond, leb, true, false, Bool, not, refl, sym, ap, ◌∙◌, subst, arith, append-nil, append_assoc}
 use Rattle.std.specs.Prelude.{Option, Some, None, flat_map, nat_lt}
 use Rattle.std.specs.List.{list_all}
 use Rattle.std.proofs.lemmas.Bool.{and_parts, and_from, ltb-true, leb-true, cases_lt, ne_eqb}
 use Rattle.std.proofs.lemmas.List.{length-append, length-map}
 use Rattle.std.proofs.lemmas.List.Concat.{flat_map-append}
+use Rattle.std.proofs.lemmas.List.Folds.{list_all-append}
 use Rattle.std.proofs.lemmas.Grind.{common_steps}
 use Rattle.mj_tiles.specs.Counts.{number_of, has_no_fifth}
 use Rattle.mj_tiles.proofs.EachKind.{each_kind}
@@ -78,6 +79,15 @@ kept_in_hand P red ds step none fit = kept (λ xs. P (hand xs)) red [] ds more n
   where
     more : (xs : List Deed) (d : Deed) → P (hand xs) → fits red xs d ≡ true → P (hand (xs ++ d ∷ []))
     more xs d h f = hand_with P xs d (λ _ _. none) (step (before_in (hand xs) d) d (hand_before P (hand xs) d none h) (parts_of red xs d f).inside)
+
+-- the tiles of the game
+
+-- Each tile that is named in a hand of deeds that fit is one that the game has.
+pub hand_real : (red : Bool) (ds : List Deed) → all_fit red [] ds ≡ true → list_all (has_tiles red) (hand ds) ≡ true
+hand_real red ds fit = kept_in_hand (λ xs. list_all (has_tiles red) xs ≡ true) red ds step refl fit
+  where
+    step : (xs : List Deed) (d : Deed) → list_all (has_tiles red) xs ≡ true → Parts red xs d → list_all (has_tiles red) (xs ++ d ∷ []) ≡ true
+    step xs d h p = list_all-append (has_tiles red) xs (d ∷ []) ∙ and_from (list_all (has_tiles red) xs) _ h (and_from (has_tiles red d) true p.tiles refl)
 
 -- no fifth kan
 

@@ -1,11 +1,13 @@
 pub mod Deposits
 pub mod FitSteps
 pub mod Fitted
+pub mod Gained
 pub mod HandSteps
 pub mod Mapped
 pub mod Masked
 pub mod Newest
 pub mod PointLaws
+pub mod RealTiles
 pub mod RiichiLaws
 pub mod Standings
 pub mod TileOrder

@@ -1,25 +1,24 @@
 -- A deed as a seat sees it, and that each fact which the seat may know is the same of deeds so seen.
-use Rattle.std.proofs.Common.{◌≡◌, ℕ, zero, suc, ◌+◌, ◌-◌, Bool, true, false, not, cond, ◌&&◌, ◌||◌, List, [], ◌∷◌, ◌++◌, length, map, refl, ap, sym, ◌∙◌}
-use Rattle.std.specs.Prelude.{Option, Some, None, option_map, option_and_then, fold, flat_map, filter, count_by, take, slice_get, replicate, unwrap_or, if◌then◌else◌, ◌==◌, nat_lt, ℤ, pos, ◌+ℤ◌}
+use Rattle.std.proofs.Common.{◌≡◌, ℕ, ◌-◌, Bool, true, false, not, cond, ◌&&◌, List, [], ◌∷◌, ◌++◌, length, map, refl, ap, sym, ◌∙◌}
+use Rattle.std.specs.Prelude.{Option, Some, None, option_map, option_and_then, flat_map, count_by, take, slice_get, replicate, unwrap_or, if◌then◌else◌, ◌==◌, ℤ, pos, ◌+ℤ◌}
 use Rattle.std.specs.List.{list_any}
 use Rattle.std.proofs.lemmas.List.{length-map}
 use Rattle.mj_rounds.specs.declared.rounds.Standing.{Standing}
 use Rattle.mj_rounds.specs.declared.rounds.HandEnd.TheVariants.{Won}
 use Rattle.mj_rounds.specs.Rounds.{next_standing}
-use Rattle.mj_tiles.specs.declared.meld.Meld.{Meld}
 use Rattle.mj_deeds.specs.declared.four.Four.{Four}
 use Rattle.mj_deeds.specs.declared.bid.Bid.TheVariants.{NoBid}
 use Rattle.mj_deeds.specs.declared.deed.Deed.{Deed}
 use Rattle.mj_deeds.specs.declared.deed.Deed.TheVariants as deeds
 use Rattle.mj_deeds.specs.Four.{at_seat}
-use Rattle.mj_deeds.specs.Facts.{newest, before_newest, of_seat, gains_by, losses_by, tiles_gained, tiles_lost, discards_by, is_discard_by, river_tiles, makes_by, adds_by, with_added, seat_melds, is_kan, is_call, kans, kan_seats_by, kan_seats, indicators_by, indicators, is_live_draw, live_draws, live_tiles, drawn_by, holds_drawn, drawn_tile}
-use Rattle.mj_deeds.specs.Hand.{is_hand_start, from_last, hand, starts, hand_number}
+use Rattle.mj_deeds.specs.Facts.{newest, before_newest, gains_by, losses_by, tiles_gained, tiles_lost, discards_by, is_discard_by, river_tiles, makes_by, adds_by, with_added, seat_melds, is_kan, kans, kan_seats_by, kan_seats, indicators_by, indicators, is_live_draw, live_draws, live_tiles, drawn_by, holds_drawn, drawn_tile}
+use Rattle.mj_deeds.specs.Hand.{is_hand_start, hand, starts, hand_number}
 use Rattle.mj_deeds.specs.Firsts.{ends_first, is_first}
 use Rattle.mj_deeds.specs.Riichi.{is_reach_by, is_accepted_by, has_reached, is_in_riichi, before_first, behind_first, is_double, behind_reach, without_robbed, is_ippatsu}
-use Rattle.mj_deeds.specs.Passed.{kinds_among, own_kinds, offers_to, offered_tiles, passed_before, passed_tiles, passed_kinds, passed_since_reach, passed_in_riichi}
+use Rattle.mj_deeds.specs.Passed.{kinds_among, own_kinds, offers_to, offered_tiles, passed_before, passed_kinds, passed_in_riichi}
 use Rattle.mj_deeds.specs.Points.{change_by, points_of, points, is_deposit, is_win, behind_last, deposits}
 use Rattle.mj_deeds.specs.Course.{is_reach, before_wins}
-use Rattle.mj_deeds.specs.Ends.{winners_by, winners, dealer_won, draws_by, end_of, standing_after}
+use Rattle.mj_deeds.specs.Ends.{winners_by, winners, draws_by, end_of, standing_after}
 use Rattle.mj_deeds.specs.Standings.{standing_by, standing}
 use Rattle.mj_deeds.proofs.HandSteps.{from_last-map}
 use Rattle.mj_deeds.proofs.Mapped.{flat_map-kept, fold-kept, count-kept, any-kept, option-kept, filter-mapped, before_first-mapped, behind_first-mapped, behind_last-mapped, front-mapped, last-mapped}

@@ -1,6 +1,6 @@
 -- Facts that are read off a list of deeds of one hand, the oldest first.
-use Rattle.std.specs.Prelude.{ℕ, ◌-◌, ◌==◌, ◌&&◌, Bool, true, false, not, if◌then◌else◌, List, [], ◌∷◌, length, map, take, Option, Some, None, slice_get, slice_index, count_by, flat_map, option_and_then}
-use Rattle.mj_tiles.specs.Faces.{less, in_tile_order, kind_of}
+use Rattle.std.specs.Prelude.{ℕ, ◌-◌, ◌==◌, ◌&&◌, Bool, true, false, not, nat_lt, if◌then◌else◌, List, [], ◌∷◌, length, map, take, Option, Some, None, slice_get, slice_index, count_by, flat_map, option_and_then}
+use Rattle.mj_tiles.specs.Faces.{number_in, less, in_tile_order, kind_of}
 use Rattle.mj_tiles.specs.declared.meld.Meld.{Meld}
 use Rattle.mj_tiles.specs.declared.meld.Form.{Form}
 use Rattle.mj_tiles.specs.declared.meld.Form.TheVariants as forms
@@ -44,10 +44,19 @@ tiles_lost deeds seat = flat_map (losses_by seat) deeds
 abbrev pub concealed_tiles : List Deed → ℕ → List ℕ
 concealed_tiles deeds seat = less (tiles_gained deeds seat) (tiles_lost deeds seat)
 
+-- Whether a seat has the red five of characters, of circles and of bamboo among its concealed tiles.
+abbrev pub reds : List Deed → ℕ → List Bool
+reds deeds seat = map (λ face. nat_lt 0 (number_in (concealed_tiles deeds seat) face)) (34 ∷ 35 ∷ 36 ∷ [])
+
 -- What a deed adds to the river of a seat: its discard.
 abbrev pub discards_by : ℕ → Deed → List ℕ
 discards_by seat (Discard who tile drawn) = of_seat seat who (tile ∷ [])
 discards_by seat other = []
+
+-- A deed is a discard.
+abbrev pub is_discard : Deed → Bool
+is_discard (Discard who tile drawn) = true
+is_discard other = false
 
 -- A deed is a discard of a seat.
 abbrev pub is_discard_by : ℕ → Deed → Bool

@@ -2,7 +2,7 @@
 use Rattle.std.specs.Prelude.{ℕ, ◌+◌, ◌-◌, ◌==◌, ◌&&◌, ◌||◌, not, Bool, true, false, nat_lt, nat_le, if◌then◌else◌, List, [], ◌∷◌, ◌++◌, length, Option, Some, None, is_none, flat_map, ℤ, pos, neg_ℤ, ◌+ℤ◌, int_le}
 use Rattle.std.specs.Option.{option_map_or}
 use Rattle.std.specs.List.{list_any, list_all, slice_index_or}
-use Rattle.mj_tiles.specs.Faces.{kind_of, is_red, number_in}
+use Rattle.mj_tiles.specs.Faces.{kind_of, number_in}
 use Rattle.mj_tiles.specs.Counts.{has_no_fifth}
 use Rattle.mj_tiles.specs.declared.meld.Meld.{Meld}
 use Rattle.mj_rounds.specs.declared.rounds.Standing.{Standing}
@@ -189,9 +189,13 @@ faces_in (DrawnHand reason hands ready deltas points) = tiles_shown hands.first 
 faces_in EndHand = []
 faces_in (EndGame points deposits) = []
 
--- There is no red five in a game without them.
+-- A face that the game has: a plain one, and with red fives also one of these.
+abbrev pub is_face : Bool → ℕ → Bool
+is_face red face = nat_lt face (if red then 37 else 34)
+
+-- Each tile that is named is one that the game has.
 abbrev pub has_tiles : Bool → Deed → Bool
-has_tiles red deed = red || list_all (λ face. not (is_red face)) (faces_in deed)
+has_tiles red deed = list_all (is_face red) (faces_in deed)
 
 -- No kind stands more than four times among the tiles that were brought in.
 abbrev pub keeps_kinds : List Deed → Deed → Bool

@@ -1,42 +1,10 @@
-ghost use Rattle.std.specs.Prelude.{◌≡◌, ◌^◌, ◌-◌, ◌++◌, [], ◌∷◌, min, flat_map};
+ghost use Rattle.std.specs.Prelude.{◌≡◌, ◌^◌, ◌-◌, ◌++◌, min};
 ghost use Rattle.mj_tiles.specs.Counts.{number_of};
-ghost use Rattle.mj_deeds.specs.Fits.{keeps_kinds, brought_by};
+ghost use Rattle.mj_deeds.specs.Fits.{brought_by};
 
 use crate::deed::Deed;
 use crate::hands::Hands;
 use mj_tiles::Tile;
-
-// Whether no kind is brought in a fifth time.
-pub(crate) fn keeps_kinds(deeds: &[Deed], deed: &Deed) -> bool
-    ensures { result ≡ keeps_kinds deeds.now deed.now }
-{
-    for kind in 0..34 {
-        if number_brought_with(deeds, deed, kind) > 4 {
-            return false;
-        }
-    }
-    true
-}
-
-// How many tiles of a kind are brought into a hand, a further deed included; a number too large for a usize counts as the
-// largest.
-fn number_brought_with(deeds: &[Deed], deed: &Deed, kind: u8) -> usize
-    ensures { result ≡ min (number_of (flat_map brought_by (deeds.now ++ deed.now ∷ [])) kind)
-        (2 ^ 64 - 1) }
-{
-    number_brought(deeds, kind).saturating_add(brought(deed, kind))
-}
-
-// How many tiles of a kind are brought into a hand; a number too large for a usize counts as the largest.
-fn number_brought(deeds: &[Deed], kind: u8) -> usize
-    ensures { result ≡ min (number_of (flat_map brought_by deeds.now) kind) (2 ^ 64 - 1) }
-{
-    let mut number: usize = 0;
-    for deed in deeds {
-        number = number.saturating_add(brought(deed, kind));
-    }
-    number
-}
 
 /// How many tiles of a kind a deed brings into a hand: those that are dealt and drawn, and the indicators. A number too
 /// large for a usize counts as the largest.

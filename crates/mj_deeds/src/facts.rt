@@ -1,12 +1,11 @@
-ghost use Rattle.std.specs.Prelude.{◌≡◌, ◌-◌, ◌*◌, ◌^◌, ◌++◌, ◌≤◌, IfOk, OnOk, min, length, option_to_list, option_and_then};
-ghost use Rattle.mj_tiles.specs.Faces.{number_in};
+ghost use Rattle.std.specs.Prelude.{◌≡◌, ◌++◌, IfOk, OnOk, option_to_list};
 ghost use Rattle.mj_deeds.specs.Facts.{concealed_tiles, river_tiles, tiles_gained, tiles_lost, gains_by, losses_by, discards_by};
 ghost use Rattle.mj_deeds.specs.Four.{at_seat};
 
 use crate::deed::Deed;
 use crate::hands::Hands;
 use crate::tiles::{Tiles, less};
-use mj_tiles::{Tile, number_among};
+use mj_tiles::Tile;
 use std::alloc::{AllocError, Global};
 
 /// The concealed tiles of a seat in one hand, in tile order: those given to it, less those that it put down.
@@ -32,18 +31,8 @@ pub fn river(alloc: Global, deeds: &[Deed], seat: u8) -> Result<Tiles, AllocErro
     Ok(Tiles::from_vec(tiles))
 }
 
-/// How many concealed tiles of the face of a tile a seat holds in one hand, four at most.
-pub fn held_count(deeds: &[Deed], seat: u8, tile: Tile) -> usize
-    ensures { result ≡ min (number_in (tiles_gained deeds.now seat) tile - number_in
-        (tiles_lost deeds.now seat) tile) 4 }
-{
-    let given = number_gained(deeds, seat, tile);
-    let put_down = number_lost(deeds, seat, tile);
-    given.saturating_sub(put_down).min(4)
-}
-
-/// The tile that a seat discards by a deed; none where the deed is no discard of the seat.
-pub fn discarded_by(deed: &Deed, seat: u8) -> Option<Tile>
+// The tile that a seat discards by a deed; none where the deed is no discard of the seat.
+fn discarded_by(deed: &Deed, seat: u8) -> Option<Tile>
     ensures { option_to_list result ≡ discards_by seat deed.now }
 {
     match deed {
@@ -146,88 +135,4 @@ fn all_lost(alloc: Global, deeds: &[Deed], seat: u8) -> Result<Vec<Tile>, AllocE
         lose(&mut tiles, deed, seat)?;
     }
     Ok(tiles)
-}
-
-// How many tiles of a face a deed gives to a seat.
-fn gains(deed: &Deed, seat: u8, tile: Tile) -> usize
-    ensures { result ≡ number_in (gains_by seat deed.now) tile }
-{
-    match deed {
-        Deed::StartHand { hands, .. } => number_among(dealt(hands, seat), tile),
-        Deed::Draw {
-            seat: who,
-            tile: drawn,
-            ..
-        } if *who == seat => number_among(&[*drawn], tile),
-        _ => 0,
-    }
-}
-
-// How many tiles of a face a seat was given; a number too large for a usize counts as the largest.
-fn number_gained(deeds: &[Deed], seat: u8, tile: Tile) -> usize
-    ensures { result ≡ min (number_in (tiles_gained deeds.now seat) tile) (2 ^ 64 - 1) }
-{
-    let mut number: usize = 0;
-    for deed in deeds {
-        number = number.saturating_add(gains(deed, seat, tile));
-    }
-    number
-}
-
-// How many tiles of a face a seat puts down by a deed.
-fn losses(deed: &Deed, seat: u8, tile: Tile) -> usize
-    ensures value { result ≡ number_in (losses_by seat deed.now) tile }
-    ensures within { result ≤ 4 }
-{
-    match deed {
-        Deed::Discard {
-            seat: who,
-            tile: other,
-            ..
-        } if *who == seat => number_among(&[*other], tile),
-        Deed::Chi {
-            seat: who,
-            a,
-            b,
-            ..
-        } if *who == seat => number_among(&[*a, *b], tile),
-        Deed::Pon {
-            seat: who,
-            a,
-            b,
-            ..
-        } if *who == seat => number_among(&[*a, *b], tile),
-        Deed::OpenKan {
-            seat: who,
-            a,
-            b,
-            c,
-            ..
-        } if *who == seat => number_among(&[*a, *b, *c], tile),
-        Deed::ClosedKan {
-            seat: who,
-            a,
-            b,
-            c,
-            d,
-        } if *who == seat => number_among(&[*a, *b, *c, *d], tile),
-        Deed::AddedKan {
-            seat: who,
-            tile: other,
-            ..
-        } if *who == seat => number_among(&[*other], tile),
-        _ => 0,
-    }
-}
-
-// How many tiles of a face a seat put down: at most four by each deed.
-fn number_lost(deeds: &[Deed], seat: u8, tile: Tile) -> usize
-    ensures value { result ≡ number_in (tiles_lost deeds.now seat) tile }
-    ensures within { result ≤ 4 * length deeds.now }
-{
-    let mut number = 0;
-    for deed in deeds {
-        number += losses(deed, seat, tile);
-    }
-    number
 }

@@ -1,5 +1,4 @@
-ghost use Rattle.std.specs.Prelude.{◌≡◌, ◌∷◌, [], IfOk, option_to_list, flat_map, slice_get};
-ghost use Rattle.std.specs.List.{list_any};
+ghost use Rattle.std.specs.Prelude.{◌≡◌, ◌∷◌, [], IfOk, option_to_list, flat_map};
 ghost use Rattle.mj_deeds.specs.Facts.{seat_melds, makes_by, adds_by, with_added, is_pon, meld_of_three, meld_of_four};
 ghost use Rattle.mj_deeds.specs.Fits.{is_triplet_of};
 
@@ -19,37 +18,6 @@ pub fn melds(alloc: Global, deeds: &[Deed], seat: u8) -> Result<Vec<Meld>, Alloc
         }
     }
     Ok(melds)
-}
-
-/// The meld of a seat in one hand at a place of its melds, the first one at 0; none where it has no more.
-pub fn meld_at(deeds: &[Deed], seat: u8, place: usize) -> Option<Meld>
-    ensures { result ≡ slice_get (seat_melds deeds.now seat) place }
-{
-    let mut left = place;
-    for deed in deeds {
-        if let Some(meld) = made(deed, seat) {
-            if left == 0 {
-                return Some(with_added(deeds, seat, meld));
-            }
-            left -= 1;
-        }
-    }
-    None
-}
-
-/// Whether a seat has a pon in one hand that no tile was added to, of the tiles `a`, `b` and `c` in tile order, and of
-/// the kind of the tile.
-pub fn has_triplet(deeds: &[Deed], seat: u8, tile: Tile, a: Tile, b: Tile, c: Tile) -> bool
-    ensures { result ≡ list_any (is_triplet_of tile a b c) (seat_melds deeds.now seat) }
-{
-    for deed in deeds {
-        if let Some(meld) = made(deed, seat) {
-            if is_triplet_of(with_added(deeds, seat, meld), tile, a, b, c) {
-                return true;
-            }
-        }
-    }
-    false
 }
 
 /// Whether a meld is a pon that no tile was added to, of the tiles `a`, `b` and `c` in tile order, and of the kind of the

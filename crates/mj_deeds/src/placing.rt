@@ -2,7 +2,6 @@ ghost use Rattle.std.specs.Prelude.{◌≡◌, if◌then◌else◌, false, List,
 ghost use Rattle.std.specs.Option.{option_map_or};
 ghost use Rattle.mj_deeds.specs.declared.deed.Deed.{Deed};
 ghost use Rattle.mj_deeds.specs.Ends.{standing_after, end_of};
-ghost use Rattle.mj_deeds.specs.Facts.{before_newest};
 ghost use Rattle.mj_deeds.specs.Fits.{is_in_place, is_in_hand, is_after_start, is_after_dora, is_after_kan, is_after_result, is_after_hand, is_discard_of, taken_from, starts_hand, starts_with};
 ghost use Rattle.mj_rounds.specs.Rounds.{first_standing, next_standing, stays, is_draw, honba_after, dealer_after, is_last, round_is_over};
 
@@ -236,26 +235,6 @@ fn is_after_hand(newest: Option<&Deed>) -> bool
     ensures { result ≡ is_after_hand (option_copied newest.entry) }
 {
     matches!(newest, Some(Deed::EndHand))
-}
-
-// The discard that may be taken: the newest deed, or the one before it where the newest is a reach that was accepted.
-pub(crate) fn taken_from<'a>(hand: &'a [Deed], newest: Option<&'a Deed>) -> Option<&'a Deed>
-    ensures { option_copied result ≡ taken_from hand.now (option_copied newest.entry) }
-{
-    match newest {
-        Some(Deed::ReachAccepted { .. }) => before_newest(hand),
-        _ => newest,
-    }
-}
-
-// The deed before the newest one.
-fn before_newest(deeds: &[Deed]) -> Option<&Deed>
-    ensures { option_copied result ≡ before_newest deeds.now }
-{
-    match deeds.split_last() {
-        Some((_, before)) => before.last(),
-        None => None,
-    }
 }
 
 // Whether a deed is the discard of that tile by the target.

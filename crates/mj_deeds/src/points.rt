@@ -1,4 +1,4 @@
-ghost use Rattle.std.specs.Prelude.{ℕ, ◌≡◌, ◌≤◌, ◌+◌, ◌&&◌, ◌+ℤ◌, pos, true, if◌then◌else◌, length, count_by};
+ghost use Rattle.std.specs.Prelude.{ℕ, ◌≡◌, ◌≤◌, ◌+◌, ◌&&◌, ◌+ℤ◌, pos, true, if◌then◌else◌};
 ghost use Rattle.std.specs.List.{slice_index_or};
 ghost use Rattle.mj_deeds.specs.Points.{change_by, changed, is_deposit, is_win};
 ghost use Rattle.mj_deeds.specs.Fits.{is_same, is_small, are_points, are_points_of, has_points};
@@ -116,30 +116,9 @@ pub fn deposits_after(before: u32, deed: &Deed) -> u32
     }
 }
 
-/// How many reaches were accepted in one hand.
-pub fn riichis(deeds: &[Deed]) -> usize
-    ensures value { result ≡ count_by is_deposit deeds.now }
-    ensures within { result ≤ length deeds.now }
-{
-    let mut number = 0;
-    for deed in deeds {
-        if is_deposit(deed) {
-            number += 1;
-        }
-    }
-    number
-}
-
-// Whether a deed lays a deposit on the table.
-fn is_deposit(deed: &Deed) -> bool
-    ensures { result ≡ is_deposit deed.now }
-{
-    matches!(deed, Deed::ReachAccepted { .. })
-}
-
-/// What a seat, 0 to 3, gains by a deed in points, or pays where it is negative: 1,000 points are laid down where a reach
-/// is accepted, and a win and a hand that is drawn say what each seat gains.
-pub fn change_by(deed: &Deed, seat: u8) -> i32
+// What a seat, 0 to 3, gains by a deed in points, or pays where it is negative: 1,000 points are laid down where a reach
+// is accepted, and a win and a hand that is drawn say what each seat gains.
+fn change_by(deed: &Deed, seat: u8) -> i32
     requires { seat ≤ 3 }
     ensures { result ≡ change_by seat deed.now }
 {

@@ -5,8 +5,9 @@ use Rattle.mj_deeds.specs.declared.deed.Viewer.{Viewer}
 use Rattle.mj_deeds.specs.declared.deed.Viewer.TheVariants.{Seat, Record}
 use Rattle.mj_deeds.specs.declared.deed.Deed.{Deed}
 use Rattle.mj_deeds.specs.declared.deed.Deed.TheVariants as deeds
-use Rattle.mj_view.specs.Tokens.{own_tile}
-use Rattle.mj_view.specs.Masks.{sees, hand_seen, deal_seen, mask}
+use Rattle.mj_view.specs.Seen.{own_tile}
+use Rattle.mj_view.specs.Masks.{hand_seen, deal_seen, mask}
+use Rattle.mj_view.specs.Seen.{sees}
 use Rattle.mj_forms.specs.Lines.{line, masked_line, hands_seen, shown_tiles, hand_at_draw, hands_or_hidden, tile_seen, tile_or_hidden, start_hand_line, draw_line, reach_accepted_line, win_line}
 
 hand_told : (seen : Bool) (tiles : List ℕ) → shown_tiles seen tiles ≡ hand_at_draw (hand_seen seen tiles)

@@ -20,7 +20,7 @@ use Rattle.mj_deeds.specs.declared.deed.Viewer.TheVariants.{Seat, Record}
 use Rattle.mj_deeds.specs.declared.deed.Deed.{Deed}
 use Rattle.mj_view.specs.declared.masked.Masked.{Masked}
 use Rattle.mj_view.specs.declared.masked.Masked.TheVariants as masks
-use Rattle.mj_view.specs.Masks.{sees}
+use Rattle.mj_view.specs.Seen.{sees}
 use Rattle.mj_deeds.specs.declared.deed.Deed.TheVariants.{StartGame, StartHand, Draw, Discard, Chi, Pon, OpenKan, ClosedKan, AddedKan, Dora, Reach, ReachAccepted, Win, DrawnHand, EndHand, EndGame}
 
 -- A text between quotation marks.

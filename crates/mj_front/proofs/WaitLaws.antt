@@ -107,7 +107,7 @@ runs_words Does asked left written e = subst (λ (a : Asked). RunsAny Does a sta
 
 -- A run that finds no memory for its words.
 pub runs_none : (Does : ServeEnd → ServedWith → Type 0) → ((s : ServedWith) → Does ends.NoMemory s) → (words : List (List ℕ)) (left written : Option (List ℕ)) → is_waiting words ≡ true → RunsAny Does (asked_by words) statuses.NoMemory left left written written
-runs_none Does none words left written is = subst (λ (a : Asked). RunsAny Does a statuses.NoMemory left left written written) (sym (serve_of words is)) (by _ _ _ _)
+runs_none Does none words left written is = subst (λ (a : Asked). RunsAny Does a statuses.NoMemory left left written written) (sym (serve_of words is)) (by _ _ _ _ _)
   where
     by : (seed : Option (List ℕ)) (limit port : Option ℕ) (draws red : Bool) → RunsAny Does (serving_by seed limit port draws red) statuses.NoMemory left left written written
     by None limit port draws red = record { words = tt; unread = Keeps-refl left; unwritten = Keeps-refl written }

@@ -2,7 +2,7 @@
 use Rattle.std.proofs.Common.{ℕ, List, refl, arith}
 use Rattle.std.specs.Prelude.{Option}
 use Rattle.std.proofs.KnownBytes.{Keeps-refl}
-use Rattle.mj_front.specs.declared.hand.HandEnd.TheVariants as hands
+use Rattle.mj_front.specs.declared.hand.HandLinesEnd.TheVariants as hands
 use Rattle.mj_front.specs.declared.referee.RefereeEnd.TheVariants as referees
 use Rattle.mj_front.specs.declared.replay.ReplayEnd.TheVariants as replays
 use Rattle.mj_front.specs.declared.self_game.SelfPlayEnd.TheVariants as games

@@ -2,7 +2,7 @@
 use Rattle.std.specs.Prelude.{◌≡◌, ℕ, ◌≤◌, Bool, false, List, [], ◌∷◌, codes, bytes_eq, Option}
 use Rattle.std.specs.Io.KnownBytes.{Keeps}
 pub use Rattle.mj_words.specs.Asked.{Asked, ServedWith, RefereeOf, ServingOf, SummaryOfRecord, HandOf, SelfPlayOf, Nothing, asked_by}
-use Rattle.mj_front.specs.declared.hand.HandEnd.{HandEnd}
+use Rattle.mj_front.specs.declared.hand.HandLinesEnd.{HandLinesEnd}
 use Rattle.mj_front.specs.declared.referee.RefereeEnd.{RefereeEnd}
 use Rattle.mj_front.specs.declared.replay.ReplayEnd.{ReplayEnd}
 use Rattle.mj_front.specs.declared.self_game.SelfPlayEnd.{SelfPlayEnd}
@@ -41,7 +41,7 @@ pub record RunsReplay (status : Status) (old_left new_left old_written new_writt
 
 -- The hand that words name was written, its end gives the status, and nothing is read.
 pub record RunsHand (status : Status) (words : List (List ℕ)) (old_left new_left old_written new_written : Option (List ℕ)) : Type 0 where
-  pub end : HandEnd
+  pub end : HandLinesEnd
   pub gives : status ≡ hand_status end
   pub unread : Keeps old_left new_left
   pub does : WritesHand end words old_written new_written

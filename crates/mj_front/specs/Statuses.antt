@@ -4,8 +4,8 @@ use Rattle.std.specs.Prelude.{ℕ, List, [], ◌++◌, codes}
 use Rattle.mj_bytes.specs.Numbers.{number_text}
 use Rattle.mj_replay.specs.declared.checking.Cause.{Cause}
 use Rattle.mj_replay.specs.declared.checking.Cause.TheVariants as causes
-use Rattle.mj_front.specs.declared.hand.HandEnd.{HandEnd}
-use Rattle.mj_front.specs.declared.hand.HandEnd.TheVariants as hands
+use Rattle.mj_front.specs.declared.hand.HandLinesEnd.{HandLinesEnd}
+use Rattle.mj_front.specs.declared.hand.HandLinesEnd.TheVariants as hands
 use Rattle.mj_front.specs.declared.hearing.End.TheVariants as ends
 use Rattle.mj_front.specs.declared.referee.RefereeEnd.{RefereeEnd}
 use Rattle.mj_front.specs.declared.referee.RefereeEnd.TheVariants as referees
@@ -37,7 +37,7 @@ replay_status replays.TooLong = statuses.TooLong
 replay_status replays.NoMemory = statuses.NoMemory
 
 -- The status that the end of the command `hand` gives.
-abbrev pub hand_status : HandEnd → Status
+abbrev pub hand_status : HandLinesEnd → Status
 hand_status hands.Written = statuses.Done
 hand_status hands.NoHand = statuses.Words
 hand_status hands.WriteFault = statuses.WriteFault

@@ -22,7 +22,7 @@ const CLOCK: u8 = 0;
 
 /// What a line does.
 #[derive(Clone, Copy)]
-pub(crate) enum Step {
+pub(crate) enum Arrived {
     /// It is an arrival in its place.
     Leads,
     /// It is no arrival in its place.
@@ -37,19 +37,19 @@ pub(crate) fn hear_line(
     core: &mut Core,
     told: &mut Vec<u8>,
     line: &[u8],
-) -> Result<Step, AllocError>
+) -> Result<Arrived, AllocError>
     requires { InPlay seat core.old told.old.items }
     ensures { IfOk result (λ step. Does step seat core.old core.new told.old.items told.new.items
         (arrives (intake_of core.old) line.now)) }
 {
     match read_form(alloc, line)? {
-        ArrivalForm::Header(_) => Ok(Step::Bad),
-        ArrivalForm::Wall(_) => Ok(Step::Bad),
+        ArrivalForm::Header(_) => Ok(Arrived::Bad),
+        ArrivalForm::Wall(_) => Ok(Arrived::Bad),
         ArrivalForm::Sit(line) => sit(alloc, seat, core, told, line),
         ArrivalForm::Say { seat: who, line } => say(alloc, seat, core, told, who, line),
         ArrivalForm::Leave(who) => leave(alloc, seat, core, told, who),
         ArrivalForm::Expire { window, t1, t2 } => expire(alloc, core, window, t1, t2),
-        ArrivalForm::NoForm => Ok(Step::Bad),
+        ArrivalForm::NoForm => Ok(Arrived::Bad),
     }
 }
 
@@ -61,7 +61,7 @@ fn sit(
     core: &mut Core,
     told: &mut Vec<u8>,
     line: &[u8],
-) -> Result<Step, AllocError>
+) -> Result<Arrived, AllocError>
     requires { InPlay seat core.old told.old.items }
     ensures { IfOk result (λ step. Does step seat core.old core.new told.old.items told.new.items
         (sit_arrives (intake_of core.old) line.now)) }
@@ -69,13 +69,13 @@ fn sit(
     match core.sit(alloc, JOINER, line) {
         SitAnswer::Sat(taken) => {
             greet(alloc, core, told, taken, seat)?;
-            Ok(Step::Leads)
+            Ok(Arrived::Leads)
         }
         SitAnswer::Back(taken) => {
             greet_again(alloc, core, told, taken, seat)?;
-            Ok(Step::Leads)
+            Ok(Arrived::Leads)
         }
-        SitAnswer::Refused(_) => Ok(Step::Leads),
+        SitAnswer::Refused(_) => Ok(Arrived::Leads),
         SitAnswer::NoMemory => Err(AllocError),
     }
 }
@@ -150,16 +150,16 @@ fn say(
     told: &mut Vec<u8>,
     who: u64,
     line: &[u8],
-) -> Result<Step, AllocError>
+) -> Result<Arrived, AllocError>
     requires { InPlay seat core.old told.old.items }
     ensures { IfOk result (λ step. Does step seat core.old core.new told.old.items told.new.items
         (say_arrives (intake_of core.old) who line.now)) }
 {
     let Some((speaker, author)) = present(core, who) else {
-        return Ok(Step::Bad);
+        return Ok(Arrived::Bad);
     };
     if !core.may_say(speaker) {
-        return Ok(Step::Bad);
+        return Ok(Arrived::Bad);
     }
     if speaker == seat {
         return own_line(alloc, seat, core, told, author, line);
@@ -187,7 +187,7 @@ fn own_line(
     told: &mut Vec<u8>,
     author: u8,
     line: &[u8],
-) -> Result<Step, AllocError>
+) -> Result<Arrived, AllocError>
     requires play { InPlay seat core.old told.old.items }
     requires present { author_of_seat core.old seat ≡ Some author }
     requires asked { can_say (after_of core.old) author seat ≡ true }
@@ -196,15 +196,15 @@ fn own_line(
 {
     core.pending(seat, told)?;
     match core.said(alloc, author, seat, line) {
-        Heard::Taken => Ok(Step::Leads),
-        Heard::Late => Ok(Step::Leads),
+        Heard::Taken => Ok(Arrived::Leads),
+        Heard::Late => Ok(Arrived::Leads),
         Heard::Refused(rule) => {
             core.control(alloc, &Control::Refused(rule), told)?;
-            Ok(Step::Leads)
+            Ok(Arrived::Leads)
         }
         Heard::Closing(rule) => {
             core.control(alloc, &Control::Refused(rule), told)?;
-            Ok(Step::Leads)
+            Ok(Arrived::Leads)
         }
         Heard::NoMemory => Err(AllocError),
     }
@@ -217,7 +217,7 @@ fn others_line(
     author: u8,
     who: u8,
     line: &[u8],
-) -> Result<Step, AllocError>
+) -> Result<Arrived, AllocError>
     requires present { author_of_seat core.old who ≡ Some author }
     requires asked { can_say (after_of core.old) author who ≡ true }
     ensures { IfOk result (λ step. (seat : ℕ) (told : List ℕ) → (who == seat) ≡ false
@@ -225,10 +225,10 @@ fn others_line(
         (say_arrives (intake_of core.old) who line.now)) }
 {
     match core.said(alloc, author, who, line) {
-        Heard::Taken => Ok(Step::Leads),
-        Heard::Late => Ok(Step::Leads),
-        Heard::Refused(_) => Ok(Step::Leads),
-        Heard::Closing(_) => Ok(Step::Leads),
+        Heard::Taken => Ok(Arrived::Leads),
+        Heard::Late => Ok(Arrived::Leads),
+        Heard::Refused(_) => Ok(Arrived::Leads),
+        Heard::Closing(_) => Ok(Arrived::Leads),
         Heard::NoMemory => Err(AllocError),
     }
 }
@@ -241,17 +241,17 @@ fn leave(
     core: &mut Core,
     told: &mut Vec<u8>,
     who: u64,
-) -> Result<Step, AllocError>
+) -> Result<Arrived, AllocError>
     requires { InPlay seat core.old told.old.items }
     ensures { IfOk result (λ step. Does step seat core.old core.new told.old.items told.new.items
         (gone_arrives (intake_of core.old) who)) }
 {
     let Some((leaver, author)) = present(core, who) else {
-        return Ok(Step::Bad);
+        return Ok(Arrived::Bad);
     };
     tell_last(core, told, leaver, seat)?;
     match core.gone(alloc, author, leaver) {
-        Left::Gone => Ok(Step::Leads),
+        Left::Gone => Ok(Arrived::Leads),
         Left::NoMemory => Err(AllocError),
     }
 }
@@ -267,15 +267,21 @@ fn tell_last(core: &Core, told: &mut Vec<u8>, leaver: u8, seat: u8) -> Result<()
 }
 
 // The time of a window may have run out, which tells no seat anything.
-fn expire(alloc: Global, core: &mut Core, window: u32, t1: u64, t2: u64) -> Result<Step, AllocError>
+fn expire(
+    alloc: Global,
+    core: &mut Core,
+    window: u32,
+    t1: u64,
+    t2: u64,
+) -> Result<Arrived, AllocError>
     ensures { IfOk result (λ step. (seat : ℕ) (told : List ℕ) → InPlay seat core.old told
         → Does step seat core.old core.new told told
         (expiry_arrives (intake_of core.old) window t1 t2)) }
 {
     match core.expire(alloc, CLOCK, window, t1, t2) {
-        Expiry::Closed => Ok(Step::Leads),
-        Expiry::Stale => Ok(Step::Leads),
-        Expiry::Early => Ok(Step::Leads),
+        Expiry::Closed => Ok(Arrived::Leads),
+        Expiry::Stale => Ok(Arrived::Leads),
+        Expiry::Early => Ok(Arrived::Leads),
         Expiry::NoMemory => Err(AllocError),
     }
 }

@@ -12,7 +12,7 @@ use std::alloc::Global;
 
 /// How the command `hand` ends.
 #[derive(Clone, Copy)]
-pub(crate) enum HandEnd {
+pub(crate) enum HandLinesEnd {
     /// The lines of the hand are written.
     Written,
     /// The words name no hand. Nothing is written.
@@ -24,7 +24,7 @@ pub(crate) enum HandEnd {
 }
 
 /// Writes the lines of the hand that the words name.
-pub(crate) fn write_hand<K: Sink>(alloc: Global, words: &[String], sink: &mut K) -> HandEnd
+pub(crate) fn write_hand<K: Sink>(alloc: Global, words: &[String], sink: &mut K) -> HandLinesEnd
     ensures tells { WritesHand result (map string_bytes words.now) (K.written sink.old)
         (K.written sink.new) }
     ensures writes { CountsWriteFaults (hand_status result) (K.write_faults sink.old)
@@ -32,10 +32,10 @@ pub(crate) fn write_hand<K: Sink>(alloc: Global, words: &[String], sink: &mut K)
 {
     match hand_lines(alloc, words) {
         Ok(Some(text)) => match write_all(sink, text.as_slice()) {
-            WriteAll::Whole => HandEnd::Written,
-            WriteAll::Failed => HandEnd::WriteFault,
+            WriteAll::Whole => HandLinesEnd::Written,
+            WriteAll::Failed => HandLinesEnd::WriteFault,
         },
-        Ok(None) => HandEnd::NoHand,
-        Err(_) => HandEnd::NoMemory,
+        Ok(None) => HandLinesEnd::NoHand,
+        Err(_) => HandLinesEnd::NoMemory,
     }
 }

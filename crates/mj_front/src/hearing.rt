@@ -9,7 +9,7 @@ ghost use Rattle.mj_front.specs.Inputs.{longest};
 ghost use Rattle.mj_front.specs.Referee.{ending};
 ghost use Rattle.mj_front.specs.Inner.Hearing.{intake_of, intake_with_walls, begin_with_wall, InPlay, HearsAll, Tells};
 
-use crate::arriving::{Step, hear_line};
+use crate::arriving::{Arrived, hear_line};
 use crate::form::{ArrivalForm, read_form};
 use mj_bytes::split_line;
 use mj_core::Core;
@@ -174,8 +174,8 @@ fn hear_lines(
     let mut number = first;
     while let Some((line, others)) = split_line(rest) {
         match hear_line(alloc, seat, core, told, line)? {
-            Step::Leads => {}
-            Step::Bad => return Ok(End::Bad(number)),
+            Arrived::Leads => {}
+            Arrived::Bad => return Ok(End::Bad(number)),
         }
         rest = others;
         number += 1;

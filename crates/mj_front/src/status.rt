@@ -4,7 +4,7 @@ ghost use Rattle.std.specs.Prelude.{◌≡◌, IfOk, OnOk, OnErr, codes};
 ghost use Rattle.mj_bytes.specs.Adds.{Adds};
 ghost use Rattle.mj_front.specs.Statuses.{referee_status, serve_status, replay_status, hand_status, self_play_status, code_of, cause_number, status_words, at_line, bad_record, usage};
 
-use crate::hand::HandEnd;
+use crate::hand::HandLinesEnd;
 use crate::hearing::End;
 use crate::referee::RefereeEnd;
 use crate::replay::ReplayEnd;
@@ -71,14 +71,14 @@ pub(crate) fn status_of_replay(end: ReplayEnd) -> Status
 }
 
 /// The status that the end of the command `hand` gives.
-pub(crate) fn status_of_hand(end: HandEnd) -> Status
+pub(crate) fn status_of_hand(end: HandLinesEnd) -> Status
     ensures { result ≡ hand_status end }
 {
     match end {
-        HandEnd::Written => Status::Done,
-        HandEnd::NoHand => Status::Words,
-        HandEnd::WriteFault => Status::WriteFault,
-        HandEnd::NoMemory => Status::NoMemory,
+        HandLinesEnd::Written => Status::Done,
+        HandLinesEnd::NoHand => Status::Words,
+        HandLinesEnd::WriteFault => Status::WriteFault,
+        HandLinesEnd::NoMemory => Status::NoMemory,
     }
 }
 

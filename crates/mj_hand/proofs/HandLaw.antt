@@ -2,7 +2,7 @@
 use Rattle.std.proofs.Common.{◌≡◌, ℕ, ◌+◌, ◌-◌, ◌*◌, ◌<◌, List, [], ◌∷◌, ◌++◌, length, map, get_or, sum, Bool, true, false, cond, eqb, leb, ltb, ◌&&◌, refl, ap, ap₂, sym, ◌∙◌, arith, subst, inl, inr}
 use Rattle.std.specs.Prelude.{Option, Some, None, option_map, option_and_then, flat_map, count_by, bytes_eq, IfSome}
 use Rattle.std.specs.List.{list_all, list_any}
-use Rattle.std.proofs.lemmas.Bool.{or_cases, and_parts, eqb-true, ltb-true, false≢true}
+use Rattle.std.proofs.lemmas.Bool.{or_cases, and_parts, eqb-true, ltb-true, lt-ltb, false≢true}
 use Rattle.std.proofs.lemmas.Bool.Decides.{nat_tests}
 use Rattle.std.proofs.lemmas.List.Sums.{sum_by-append, sum_by-cons}
 use Rattle.std.proofs.lemmas.List.FromFn.{get_or-map-range_with_len}
@@ -34,7 +34,7 @@ all_kinded tiles = all_low (map kind_of tiles)
 
 red-low : (t : ℕ) (b : Bool) → ltb t 34 ≡ b → t < 37 → ltb (cond b t (4 + 9 * (t - 34))) 34 ≡ true
 red-low t true e h = e
-red-low t false e h = ltb-true (4 + 9 * (t - 34)) 34 (omega arith)
+red-low t false e h = lt-ltb (4 + 9 * (t - 34)) 34 (omega arith)
 
 tile-kinded : (text : List ℕ) (t : ℕ) → face_of text ≡ Some t → ltb (kind_of t) 34 ≡ true
 tile-kinded text t h = red-low t (ltb t 34) refl (text_of-face_of text t h).0

@@ -1,4 +1,4 @@
-ghost use Rattle.std.specs.Prelude.{◌≡◌, option_copied};
+ghost use Rattle.std.specs.Prelude.{◌≡◌, ◌≤◌, option_copied};
 ghost use Rattle.mj_deeds.specs.Course.{before_wins};
 ghost use Rattle.mj_deeds.specs.Hand.{hand};
 ghost use Rattle.mj_deeds.specs.Standings.{standing};
@@ -15,6 +15,7 @@ use mj_yaku::is_closed;
 /// is closed, the seat's riichi, and whether no live tile is left and the seat is in its first turn.
 #[tactic(auto, unfolding(mj_rules::specs::Wins::case_of))]
 pub fn case_of(table: &Table, seat: u8) -> Case
+    requires { seat ≤ 3 }
     ensures { result ≡ case_of (standing table.now.deeds) (before_wins (hand table.now.deeds))
         seat }
 {
@@ -44,6 +45,7 @@ pub fn seat_wind(dealer: u8, seat: u8) -> Kind
 
 // The riichi of a seat.
 fn riichi_of(table: &Table, seat: u8) -> Riichi
+    requires { seat ≤ 3 }
     ensures { result ≡ riichi_of (hand table.now.deeds) seat }
 {
     if !table.is_in_riichi(seat) {

@@ -1,4 +1,4 @@
-ghost use Rattle.std.specs.Prelude.{◌≡◌, ◌<◌, ◌∷◌, [], slice_index};
+ghost use Rattle.std.specs.Prelude.{◌≡◌, ◌≤◌, ◌<◌, ◌∷◌, [], slice_index};
 ghost use Rattle.mj_tiles.specs.Faces.{less};
 ghost use Rattle.mj_tiles.specs.Counts.{kind_counts};
 ghost use Rattle.mj_calls.specs.RiichiKans.{fewer};
@@ -11,6 +11,7 @@ use mj_tiles::{Counts, Kind, Tile};
 
 // How often each kind stands among the concealed tiles of a seat less a tile, where that is among them.
 pub(crate) fn counts_without(table: &Table, seat: u8, tile: Tile) -> Counts
+    requires { seat ≤ 3 }
     ensures { result ≡ kind_counts (less (concealed_tiles (hand table.now.deeds) seat)
         (tile ∷ [])) }
 {

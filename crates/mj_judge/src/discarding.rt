@@ -1,4 +1,4 @@
-ghost use Rattle.std.specs.Prelude.{◌≡◌, ℕ, drop, not, nat_lt, ◌&&◌};
+ghost use Rattle.std.specs.Prelude.{◌≡◌, ◌≤◌, ℕ, drop, not, nat_lt, ◌&&◌};
 ghost use Rattle.std.specs.List.{list_any};
 ghost use Rattle.std.specs.Result.{result_err};
 ghost use Rattle.mj_tiles.specs.Faces.{number_in};
@@ -18,6 +18,7 @@ use mj_table::Table;
 // not held, it is marked wrongly, the hand is locked, its kind is banned, or it leaves the hand unready after a reach.
 #[tactic(auto, unfolding(mj_rules::specs::View::view_of))]
 pub(crate) fn judge_discard(table: &Table, seat: u8, tile: &Pai, marked: bool) -> Result<(), Rule>
+    requires { seat ≤ 3 }
     ensures { let view = view_of table.now.deeds seat in
         (actor : ℕ) → result_err result ≡ first_broken (drop 3 (questions table.now.rules seat view
         (answers.Discard actor tile.now marked))) }
@@ -33,6 +34,7 @@ pub(crate) fn judge_discard(table: &Table, seat: u8, tile: &Pai, marked: bool) -
 // The tile is not among the concealed ones of the seat.
 #[tactic(auto, unfolding(mj_rules::specs::View::view_of))]
 fn is_unheld(table: &Table, seat: u8, tile: &Pai) -> bool
+    requires { seat ≤ 3 }
     ensures { let faces = face_in tile.now in
         result ≡ list_any (λ face. nat_lt (held_count (view_of table.now.deeds seat) face)
         (number_in faces face)) faces }

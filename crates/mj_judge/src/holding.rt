@@ -20,6 +20,7 @@ pub(crate) fn is_no_such_tile(table: &Table, answer: &Answer) -> bool
 
 // The named own tiles aren't all among the concealed ones: of some face more are named than are held.
 pub(crate) fn is_not_held(table: &Table, seat: u8, answer: &Answer) -> bool
+    requires { seat ≤ 3 }
     ensures { result ≡ is_not_held (view_of table.now.deeds seat) answer.now }
 {
     match answer {
@@ -36,6 +37,7 @@ pub(crate) fn is_not_held(table: &Table, seat: u8, answer: &Answer) -> bool
 // The discard is marked as the drawn tile and isn't that one; or it isn't marked so, and the drawn tile is the only
 // one held of its face.
 pub(crate) fn is_not_drawn(table: &Table, seat: u8, answer: &Answer) -> bool
+    requires { seat ≤ 3 }
     ensures { result ≡ is_not_drawn (view_of table.now.deeds seat) answer.now }
 {
     match answer {
@@ -94,7 +96,8 @@ pub(crate) fn is_no_tile(red: bool, tile: &Pai) -> bool
 // Of some face of these tiles there are more than the seat holds.
 #[tactic(auto, unfolding(mj_rules::specs::View::view_of))]
 fn has_unheld(table: &Table, seat: u8, tiles: &[Pai]) -> bool
-    requires { length tiles.now ≤ 4 }
+    requires seat { seat ≤ 3 }
+    requires few { length tiles.now ≤ 4 }
     ensures { let faces = flat_map face_in tiles.now in
         result ≡ list_any (λ face. nat_lt (held_count (view_of table.now.deeds seat) face)
         (number_in faces face)) faces }
@@ -125,6 +128,7 @@ pub(crate) fn number_among(tiles: &[Pai], tile: Tile) -> usize
 
 #[tactic(auto, unfolding(mj_rules::specs::View::view_of))]
 pub(crate) fn is_wrongly_marked(table: &Table, seat: u8, tile: &Pai, marked: bool) -> bool
+    requires { seat ≤ 3 }
     ensures { result ≡ is_wrongly_marked (view_of table.now.deeds seat) tile.now marked }
 {
     match tile {

@@ -10,6 +10,7 @@ use mj_tiles::{Counts, Kind};
 // Nine kinds are shown otherwise than in one's first turn while no chi, pon or kan stands, or they are fewer.
 #[tactic(auto, unfolding(mj_rules::specs::View::view_of, mj_rules::specs::Wins::case_of))]
 pub(crate) fn is_not_nine(table: &Table, seat: u8, answer: &Answer) -> bool
+    requires { seat ≤ 3 }
     ensures { result ≡ is_not_nine (view_of table.now.deeds seat) answer.now }
 {
     is_nine(answer) && !(table.is_first(seat) && outer_kinds(table, seat) >= 9)
@@ -23,6 +24,7 @@ fn is_nine(answer: &Answer) -> bool
 
 // How many kinds of terminals and honours a seat holds.
 fn outer_kinds(table: &Table, seat: u8) -> u8
+    requires { seat ≤ 3 }
     ensures value { result ≡ outer_kinds (view_of table.now.deeds seat) }
     ensures within { result ≤ 34 }
 {

@@ -1,4 +1,4 @@
-ghost use Rattle.std.specs.Prelude.{◌≡◌, ◌||◌, true, not, option_map, option_copied};
+ghost use Rattle.std.specs.Prelude.{◌≡◌, ◌≤◌, ◌||◌, true, not, option_map, option_copied};
 ghost use Rattle.std.specs.Option.{option_map_or};
 ghost use Rattle.mj_deeds.specs.Facts.{newest, drawn_tile};
 ghost use Rattle.mj_deeds.specs.Hand.{hand};
@@ -30,6 +30,7 @@ pub(crate) fn is_not_yours(seat: u8, answer: &Answer) -> bool
 // Such an answer is not open to the seat in this window.
 #[tactic(auto, unfolding(mj_rules::specs::View::view_of))]
 pub(crate) fn is_not_now(table: &Table, seat: u8, answer: &Answer) -> bool
+    requires { seat ≤ 3 }
     ensures { result ≡ is_not_now table.now.rules seat (view_of table.now.deeds seat) answer.now }
 {
     match table.newest() {
@@ -125,6 +126,7 @@ fn actor_of(answer: &Answer) -> Option<u8>
 // Who drew may discard, reach unless it is in riichi already, make a kan, win, and where the rules have draw reasons
 // show nine kinds.
 fn is_own_act(table: &Table, seat: u8, answer: &Answer) -> bool
+    requires { seat ≤ 3 }
     ensures { result ≡ is_own_act table.now.rules (is_in_riichi (hand table.now.deeds) seat)
         answer.now }
 {

@@ -17,6 +17,7 @@ use mj_yaku::is_closed;
 // A seat in riichi discards another than the drawn tile, or calls a discard.
 #[tactic(auto, unfolding(mj_rules::specs::View::view_of))]
 pub(crate) fn is_locked(table: &Table, seat: u8, answer: &Answer) -> bool
+    requires { seat ≤ 3 }
     ensures { result ≡ is_locked (view_of table.now.deeds seat) answer.now }
 {
     is_locked_answer(answer) && table.is_in_riichi(seat)
@@ -25,6 +26,7 @@ pub(crate) fn is_locked(table: &Table, seat: u8, answer: &Answer) -> bool
 // A seat in riichi makes a concealed kan that would change its hand.
 #[tactic(auto, unfolding(mj_rules::specs::View::view_of))]
 pub(crate) fn is_riichi_kan_broken(table: &Table, seat: u8, answer: &Answer) -> bool
+    requires { seat ≤ 3 }
     ensures { result ≡ is_riichi_kan_broken (view_of table.now.deeds seat) answer.now }
 {
     match answer {
@@ -38,6 +40,7 @@ pub(crate) fn is_riichi_kan_broken(table: &Table, seat: u8, answer: &Answer) -> 
 // A reach with a meld other than a concealed kan.
 #[tactic(auto, unfolding(mj_rules::specs::View::view_of))]
 pub(crate) fn is_reach_open(table: &Table, seat: u8, answer: &Answer) -> bool
+    requires { seat ≤ 3 }
     ensures { result ≡ is_reach_open (view_of table.now.deeds seat) answer.now }
 {
     is_reach(answer) && !is_closed(table.melds(seat).as_slice())
@@ -63,6 +66,7 @@ pub(crate) fn is_reach_late(table: &Table, seat: u8, answer: &Answer) -> bool
 // No discard leaves the hand ready; and of the discard of a reach, that one does not.
 #[tactic(auto, unfolding(mj_rules::specs::View::view_of))]
 pub(crate) fn is_reach_unready(table: &Table, seat: u8, answer: &Answer) -> bool
+    requires { seat ≤ 3 }
     ensures { result ≡ is_reach_unready (view_of table.now.deeds seat) answer.now }
 {
     match answer {
@@ -84,6 +88,7 @@ fn is_locked_answer(answer: &Answer) -> bool
 // The kan of the tile would change the hand.
 #[tactic(auto, unfolding(mj_rules::specs::View::view_of))]
 fn is_changing_kan(table: &Table, seat: u8, tile: &Pai) -> bool
+    requires { seat ≤ 3 }
     ensures { result ≡ is_changing_kan (view_of table.now.deeds seat) tile.now }
 {
     let Pai::Known(tile) = tile else {
@@ -112,6 +117,7 @@ fn is_reach(answer: &Answer) -> bool
 // Some discard leaves the hand ready.
 #[tactic(auto, unfolding(mj_rules::specs::View::view_of))]
 fn has_ready_discard(table: &Table, seat: u8) -> bool
+    requires { seat ≤ 3 }
     ensures { let view = view_of table.now.deeds seat in
         result ≡ list_any (is_ready_without view) (concealed view) }
 {
@@ -137,6 +143,7 @@ fn leaves_ready(counts: &Counts, room: &Counts, melds: u8, kind: Kind) -> bool
 // The tile is discarded by a reach, and leaves the hand unready.
 #[tactic(auto, unfolding(mj_rules::specs::View::view_of))]
 pub(crate) fn discards_unready(table: &Table, seat: u8, tile: &Pai) -> bool
+    requires { seat ≤ 3 }
     ensures { result ≡ discards_unready (view_of table.now.deeds seat)
         (turn_in (option_map turn_by (newest table.now.deeds))) tile.now }
 {
@@ -152,6 +159,7 @@ pub(crate) fn discards_unready(table: &Table, seat: u8, tile: &Pai) -> bool
 // The hand is ready once the tile is discarded.
 #[tactic(auto, unfolding(mj_rules::specs::Broken::is_ready_without, mj_rules::specs::View::view_of))]
 fn is_ready_without(table: &Table, seat: u8, tile: Tile) -> bool
+    requires { seat ≤ 3 }
     ensures { result ≡ is_ready_without (view_of table.now.deeds seat) tile }
 {
     let left = counts_without(table, seat, tile);

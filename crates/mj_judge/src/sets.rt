@@ -1,4 +1,4 @@
-ghost use Rattle.std.specs.Prelude.{◌≡◌};
+ghost use Rattle.std.specs.Prelude.{◌≡◌, ◌≤◌};
 ghost use Rattle.std.specs.List.{list_any};
 ghost use Rattle.mj_deeds.specs.Facts.{seat_melds};
 ghost use Rattle.mj_deeds.specs.Hand.{hand};
@@ -12,6 +12,7 @@ use mj_table::Table;
 // The tiles make no such meld; a tile is added to no own pon.
 #[tactic(auto, unfolding(mj_rules::specs::View::view_of))]
 pub(crate) fn is_bad_set(table: &Table, seat: u8, answer: &Answer) -> bool
+    requires { seat ≤ 3 }
     ensures { result ≡ is_bad_set (view_of table.now.deeds seat) answer.now }
 {
     match answer {
@@ -51,6 +52,7 @@ fn is_alike(a: &Pai, b: &Pai) -> bool
 // The seat has a pon of just these tiles, and the tile is of its kind.
 #[tactic(auto, using(mj_rules::proofs::Answered::shown_pon, crate::proofs::Pons::hidden_added, crate::proofs::Pons::hidden_first, crate::proofs::Pons::hidden_second, crate::proofs::Pons::hidden_third))]
 fn has_own_pon(table: &Table, seat: u8, tile: &Pai, a: &Pai, b: &Pai, c: &Pai) -> bool
+    requires { seat ≤ 3 }
     ensures { result ≡ list_any (is_own_pon tile.now a.now b.now c.now)
         (seat_melds (hand table.now.deeds) seat) }
 {

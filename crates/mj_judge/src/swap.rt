@@ -51,6 +51,7 @@ fn newest_bans(table: &Table) -> Kinds
 // Every discard after the call would be of a banned kind.
 #[tactic(auto, unfolding(mj_rules::specs::View::view_of))]
 pub(crate) fn is_stuck_call(table: &Table, seat: u8, answer: &Answer) -> bool
+    requires { seat ≤ 3 }
     ensures { result ≡ is_stuck_call (view_of table.now.deeds seat) answer.now }
 {
     match answer {
@@ -92,7 +93,8 @@ fn banned_by_pon(tile: &Pai) -> Kinds
 
 // Every tile that is held besides these is of a banned kind.
 fn has_nothing_else(table: &Table, seat: u8, used: &[Pai], bans: Kinds) -> bool
-    requires { length used.now ≤ 2 }
+    requires seat { seat ≤ 3 }
+    requires few { length used.now ≤ 2 }
     ensures { result ≡ list_all (is_used_up (tiles_gained (hand table.now.deeds) seat)
         (tiles_lost (hand table.now.deeds) seat) (flat_map face_in used.now) bans) tile_order }
 {
@@ -107,7 +109,8 @@ fn has_nothing_else(table: &Table, seat: u8, used: &[Pai], bans: Kinds) -> bool
 
 // The seat holds no more tiles of the face than are used, or they are of a banned kind.
 fn is_used_up(table: &Table, seat: u8, used: &[Pai], bans: Kinds, tile: Tile) -> bool
-    requires { length used.now ≤ 2 }
+    requires seat { seat ≤ 3 }
+    requires few { length used.now ≤ 2 }
     ensures { result ≡ is_used_up (tiles_gained (hand table.now.deeds) seat)
         (tiles_lost (hand table.now.deeds) seat) (flat_map face_in used.now) bans tile }
 {

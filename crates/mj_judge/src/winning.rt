@@ -109,6 +109,7 @@ fn won_counts(held: &Counts, offered: Option<Tile>) -> Counts
 // The tile of another seat is offered, and the seat may not win on it.
 #[tactic(auto, unfolding(mj_rules::specs::View::view_of))]
 fn is_missing_out(table: &Table, seat: u8, held: &Counts, melds: &[Meld]) -> bool
+    requires seat { seat ≤ 3 }
     requires few { length melds.now ≤ 4 }
     requires held { held.now ≡ kind_counts (concealed (view_of table.now.deeds seat)) }
     requires melds { melds.now ≡ (view_of table.now.deeds seat).melds }
@@ -119,6 +120,7 @@ fn is_missing_out(table: &Table, seat: u8, held: &Counts, melds: &[Meld]) -> boo
 
 // The seat may not win on the tile of another: a wait is among its own discards or was let pass.
 fn is_furiten(table: &Table, seat: u8, held: &Counts, melds: &[Meld]) -> bool
+    requires seat { seat ≤ 3 }
     requires few { length melds.now ≤ 4 }
     requires held { held.now ≡ kind_counts (concealed (view_of table.now.deeds seat)) }
     requires melds { melds.now ≡ (view_of table.now.deeds seat).melds }
@@ -136,6 +138,7 @@ fn is_furiten(table: &Table, seat: u8, held: &Counts, melds: &[Meld]) -> bool
 // No reading of the hand, won on the tile in question, has a yaku.
 #[tactic(auto, unfolding(mj_rules::specs::Broken::has_no_yaku))]
 fn has_no_yaku(table: &Table, seat: u8, won: &Counts, melds: &[Meld]) -> bool
+    requires seat { seat ≤ 3 }
     requires won { won.now ≡ kind_counts (won_tiles (view_of table.now.deeds seat)) }
     requires melds { melds.now ≡ (view_of table.now.deeds seat).melds }
     ensures { let view = view_of table.now.deeds seat in
@@ -149,7 +152,8 @@ fn has_no_yaku(table: &Table, seat: u8, won: &Counts, melds: &[Meld]) -> bool
 
 // The circumstances of the win where there is a tile to be won on: the newest deed gives it, and is no win.
 fn case_now(table: &Table, seat: u8) -> Case
-    requires { nat_lt 0 (length (winning_kinds (view_of table.now.deeds seat))) ≡ true }
+    requires seat { seat ≤ 3 }
+    requires wins { nat_lt 0 (length (winning_kinds (view_of table.now.deeds seat))) ≡ true }
     ensures { result ≡ (view_of table.now.deeds seat).case }
 {
     case_of(table, seat)

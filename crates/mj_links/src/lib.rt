@@ -4,8 +4,8 @@
 
 mod clock;
 mod faults;
-mod line_buffer;
 mod host;
+mod line_buffer;
 mod link;
 mod machine_clock;
 mod mem_fault;

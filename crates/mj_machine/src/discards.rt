@@ -1,10 +1,10 @@
 ghost use Rattle.std.specs.Prelude.{◌≡◌, true, false, IfOk, Some};
 ghost use Rattle.std.specs.Option.{option_map_or};
 ghost use Rattle.mj_deeds.specs.Course.{is_reach};
-ghost use Rattle.mj_deeds.specs.Facts.{newest, before_newest};
+ghost use Rattle.mj_deeds.specs.Facts.{newest, before_newest, is_discard};
 ghost use Rattle.mj_deeds.specs.Hand.{hand};
 ghost use Rattle.mj_rules.specs.Outcome.{behind_discard, accept, drawn_or, called_or_draw};
-ghost use Rattle.mj_machine.specs.Inner.Steps.{AreSmall, is_discarded};
+ghost use Rattle.mj_machine.specs.Inner.Steps.{AreSmall};
 
 use crate::drawing::next_draw;
 use crate::draws::drawn_hand;
@@ -25,7 +25,7 @@ pub(crate) fn after_discard(
     bid: Bid,
 ) -> Result<Option<Deed>, AllocError>
     requires small { AreSmall table.now.deeds }
-    requires discarded { is_discarded (newest table.now.deeds) ≡ true }
+    requires discarded { option_map_or is_discard (newest table.now.deeds) false ≡ true }
     ensures { IfOk result (λ d. d
         ≡ Some (behind_discard table.now.rules wall.now table.now.deeds seat bid)) }
 {
@@ -57,7 +57,7 @@ pub(crate) fn after_acceptance(
 // Whether the newest deed, a discard, is that of a reach.
 fn is_of_reach(table: &Table) -> bool
     requires small { AreSmall table.now.deeds }
-    requires discarded { is_discarded (newest table.now.deeds) ≡ true }
+    requires discarded { option_map_or is_discard (newest table.now.deeds) false ≡ true }
     ensures { result ≡ option_map_or is_reach (before_newest (hand table.now.deeds)) false }
 {
     match table.cause() {

@@ -51,7 +51,8 @@ fn shown_by(table: &Table, reason: Reason) -> [bool; 4]
 // Whether the hand of a seat is shown: a ready one at an exhaustive draw, that of the seat which has nine kinds, and
 // none at any other draw.
 fn is_hand_shown(table: &Table, reason: Reason, seat: u8) -> bool
-    requires { AreSmall table.now.deeds }
+    requires seat { seat ≤ 3 }
+    requires small { AreSmall table.now.deeds }
     ensures { result ≡ is_hand_shown reason (hand table.now.deeds) seat }
 {
     match reason {
@@ -64,6 +65,7 @@ fn is_hand_shown(table: &Table, reason: Reason, seat: u8) -> bool
 // Whether the hand of a seat has a wait.
 #[tactic(auto, unfolding(mj_rules::specs::Draws::is_ready_in))]
 fn is_ready_in(table: &Table, seat: u8) -> bool
+    requires { seat ≤ 3 }
     ensures { result ≡ is_ready_in (hand table.now.deeds) seat }
 {
     let held = table.holds(seat);

@@ -112,6 +112,7 @@ fn found(
     tile: Tile,
     unders: &[Tile],
 ) -> Result<(Score, YakuList), AllocError>
+    requires seat { seat ≤ 3 }
     requires few { AreFew own.now tile (seat_melds (before_wins (hand table.now.deeds)) seat) }
     requires shown { length (indicators (hand table.now.deeds)) ≤ 5 }
     requires unders { length unders.now ≤ 5 }
@@ -213,6 +214,7 @@ fn own_tiles(
     tile: Tile,
     by_draw: bool,
 ) -> Result<Tiles, AllocError>
+    requires { seat ≤ 3 }
     ensures { IfOk result (λ t. let held = concealed_tiles (hand table.now.deeds) seat in
         t ≡ (if by_draw then less held (tile ∷ []) else held)) }
 {
@@ -225,7 +227,8 @@ fn own_tiles(
 
 // The hidden indicators under those that are shown, for a winner in riichi; none for another.
 fn unders(alloc: Global, wall: &Wall, table: &Table, seat: u8) -> Result<Tiles, AllocError>
-    requires { length (indicators (hand table.now.deeds)) ≤ 5 }
+    requires seat { seat ≤ 3 }
+    requires shown { length (indicators (hand table.now.deeds)) ≤ 5 }
     ensures value { IfOk result (λ t. t
         ≡ unders_of wall.now (before_wins (hand table.now.deeds)) seat) }
     ensures few { IfOk result (λ t. length t ≤ 5) }

@@ -392,7 +392,7 @@ not_both text summary number fault a b =
   where
     by : Compared (Lines a.rules a.walls a.deeds) [] b.before b.rest → ⊥
     by (Same e f) =
-        no_end_breaks a.rules a.walls a.deeds fault (walled a.rules a.walls a.rules_fit a.walls_fit).some
+        no_end_breaks a.rules a.walls a.deeds fault (walled a.rules a.walls a.walls_fit).some
         (subst (λ (x : Before). Breaks x [] [] fault) (sym e) (subst (λ (xs : List ℕ). Breaks b.before (whole_lines xs) (unfinished xs) fault) (sym f) b.breaks))
     by (Shorter n) = next_ends (Lines a.rules a.walls a.deeds) n
     by (Longer n) = next_holds b.before b.rest fault n b.breaks

@@ -1,6 +1,6 @@
 -- The header and the walls: what is read of their lines has just these lines.
 use Rattle.std.proofs.Common.{◌≡◌, ℕ, ◌<◌, ◌^◌, List, [], ◌∷◌, ◌++◌, Bool, true, false, refl, ap, sym, ◌∙◌, arith, cond, append_assoc, rules}
-use Rattle.std.specs.Prelude.{Option, Some, None, ◌==◌, ◌&&◌, not, nat_le, bytes_eq, codes, decimal, flat_map, map, option_map, option_and_then}
+use Rattle.std.specs.Prelude.{Option, Some, None, MatchOption, ◌==◌, ◌&&◌, not, nat_le, bytes_eq, codes, decimal, flat_map, map, option_map, option_and_then}
 use Rattle.std.proofs.lemmas.Bool.{false≢true}
 use Rattle.std.proofs.lemmas.Bool.Decides.{nat_tests, Decides-eqb}
 use Rattle.std.proofs.lemmas.Fmt.{digits_decimal}
@@ -222,6 +222,11 @@ same_text line text rules b r = let e : text ≡ r.text = cc (b, r.key) in ap (�
 
 pub no_rules : (line text : List ℕ) → Some text ≡ behind (codes "game ") line → None ≡ rules_of (fields text) → IsNoHeader line
 no_rules line text b n rules h e = let s = same_text line text rules b (header_reads line rules h e) in cc (n, s)
+
+-- The rules of the fields behind the word are just what a header line says.
+pub header_says : (line text : List ℕ) (answer : Option Rules) → Some text ≡ behind (codes "game ") line → answer ≡ rules_of (fields text) → MatchOption answer (IsNoHeader line) (λ rules. IsHeader line rules)
+header_says line text None b r = no_rules line text b r
+header_says line text (Some rules) b r = header_is line text rules b r
 
 -- A header says one list of rules.
 pub one_header : (line : List ℕ) (rules other : Rules) → are_rules rules ≡ true → are_rules other ≡ true → header_line rules ≡ line ++ 10 ∷ [] → header_line other ≡ line ++ 10 ∷ [] → rules ≡ other

@@ -153,7 +153,7 @@ fn behind_walls(
     requires other { NoneNeeded walls.now [] text.now }
     ensures { IfOk result (λ answer. Tells (record_text rules walls.now [] ++ text.now) answer) }
 {
-    let mut table = Table::new(alloc, rules)?;
+    let mut table = Table::new(rules)?;
     let mut room = Vec::new(alloc);
     let mut deeds = 0;
     let mut rest = text;

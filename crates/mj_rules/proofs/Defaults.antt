@@ -1,10 +1,9 @@
 -- The default answer is lawful.
-use Rattle.std.proofs.Common.{◌≡◌, ℕ, zero, suc, ◌+◌, ◌-◌, ◌<◌, ◌==◌, ◌&&◌, ◌||◌, not, Bool, true, false, cond, eqb, List, [], ◌∷◌, length, get_or, inl, inr, Option, Some, None, refl, sym, ap, ◌∙◌, subst, arith}
+use Rattle.std.proofs.Common.{◌≡◌, ℕ, zero, suc, ◌-◌, ◌<◌, ◌==◌, ◌&&◌, ◌||◌, not, Bool, true, false, cond, eqb, List, [], ◌∷◌, length, get_or, inl, inr, Option, Some, None, refl, sym, ap, ◌∙◌, arith}
 use Rattle.std.specs.Prelude.{nat_lt, is_none, slice_get, option_map, option_and_then, filter}
 use Rattle.std.specs.List.{list_all}
-use Rattle.std.proofs.lemmas.Bool.{cases_eq, ne_eqb, eq-eqb, and_parts, ltb-true, lt-ltb, not-true, true≢false}
+use Rattle.std.proofs.lemmas.Bool.{cases_eq, ne_eqb, eq-eqb, and_parts, ltb-true, lt-ltb, lt-leb, not-true, true≢false}
 use Rattle.std.proofs.lemmas.Option.{slice_get-get_or}
-use Rattle.std.proofs.lemmas.List.Sums.{sum_by-cons}
 use Rattle.mj_tiles.specs.Faces.{kind_of, number_in, is_red, tile_order}
 use Rattle.mj_calls.specs.Bans.{is_banned, banned_kinds}
 use Rattle.mj_deeds.specs.declared.answer.Pai.TheVariants.{Known}
@@ -15,6 +14,8 @@ use Rattle.mj_deeds.specs.declared.deed.Deed.{Deed}
 use Rattle.mj_deeds.specs.declared.deed.Deed.TheVariants as deeds
 use Rattle.mj_deeds.specs.Facts.{newest, before_newest, tiles_gained, tiles_lost, holds_drawn, drawn_tile}
 use Rattle.mj_deeds.specs.Hand.{hand}
+use Rattle.mj_deeds.specs.Fits.{is_face}
+use Rattle.mj_deeds.proofs.RealTiles.{member_passes}
 use Rattle.mj_wall.specs.declared.setting.Rules.{Rules}
 use Rattle.mj_rules.specs.Broken.{is_ready_without, discards_unready, is_open, is_no_tile, is_wrongly_marked, is_banned_tile, banned_in, is_that, broken_by}
 use Rattle.mj_rules.specs.View.{SeatView, view_of, WindowTurn, Drew, Discarded, Added, Reached, Called, Nobodys, turn_by, turn_in, held_count}
@@ -51,33 +52,14 @@ record Good (red : Bool) (view : SeatView) (tile : ℕ) (drawn : Bool) : Type 0 
   unlocked : (view.accepted && not drawn) ≡ false
   ready : discards_unready view view.turn (Known tile) ≡ false
 
--- A tile that stands among plain ones is plain.
-plain : (xs : List ℕ) (tile : ℕ) → list_all (λ face. not (is_red face)) xs ≡ true → 0 < number_in xs tile → is_red tile ≡ false
-plain [] tile h k = absurd (none k)
-  where
-    none : 0 < 0 → ⊥
-    none k = omega arith
-plain (x ∷ xs) tile h k =
-    let parts = and_parts (not (is_red x)) (list_all (λ face. not (is_red face)) xs) h in
-    elim (cases_eq x tile) [
-      | inl e ↦ subst (λ t. is_red t ≡ false) e (not-true (is_red x) parts.0)
-      | inr ne ↦ plain xs tile parts.1 (rest ne k)
-    ]
-  where
-    rest : (x ≡ tile → ⊥) → 0 < number_in (x ∷ xs) tile → 0 < number_in xs tile
-    rest ne k =
-        let other : cond (eqb x tile) 1 0 ≡ 0 = ap {B = ℕ} (λ b. cond b 1 0) (ne_eqb x tile ne) in
-        let more : number_in (x ∷ xs) tile ≡ cond (eqb x tile) 1 0 + number_in xs tile = sum_by-cons (λ y. cond (eqb y tile) 1 0) x xs in
-        omega (arith, other, more, k)
-
 not_both : (b : Bool) → (b && false) ≡ false
 not_both true = refl
 not_both false = refl
 
 -- A tile that is given is none that the game doesn't have.
-given_real : (red : Bool) (tiles : List ℕ) (tile : ℕ) → (red || list_all (λ face. not (is_red face)) tiles) ≡ true → 0 < number_in tiles tile → is_no_tile red (Known tile) ≡ false
+given_real : (red : Bool) (tiles : List ℕ) (tile : ℕ) → list_all (is_face red) tiles ≡ true → 0 < number_in tiles tile → is_no_tile red (Known tile) ≡ false
 given_real true tiles tile h k = not_both (is_red tile)
-given_real false tiles tile h k = ap (λ b. b && true) (plain tiles tile h k)
+given_real false tiles tile h k = ap (λ b. b && true) (lt-leb 34 tile (ltb-true tile 34 (member_passes (is_face false) tiles tile h k)))
 
 -- by the turn
 

@@ -1,73 +1,27 @@
--- What a seat is given in a hand whose deeds fit: it puts down no more than that, no red five where there are none, and it
--- holds the tile that it drew last.
-use Rattle.std.proofs.Common.{◌≡◌, ℕ, ◌+◌, ◌<◌, ◌≤◌, inl, inr, ◌&&◌, ◌||◌, not, Bool, true, false, cond, eqb, List, [], ◌∷◌, ◌++◌, Option, Some, None, refl, sym, ap, ◌∙◌, subst, arith, append-nil, append_assoc}
+-- What a seat is given in a hand whose deeds fit: it puts down no more than that, all of it are tiles of the game, and it holds
+-- the tile that it drew last.
+use Rattle.std.proofs.Common.{◌≡◌, ℕ, ◌+◌, ◌<◌, ◌≤◌, inl, inr, not, Bool, true, false, cond, eqb, List, [], ◌∷◌, ◌++◌, Option, Some, None, refl, sym, ap, ◌∙◌, subst, arith, append-nil, append_assoc}
 use Rattle.std.specs.Prelude.{option_and_then}
 use Rattle.std.specs.List.{list_all}
-use Rattle.std.proofs.lemmas.Bool.{cases_eq, ne_eqb, eq-eqb, and_parts, and_from}
-use Rattle.std.proofs.lemmas.List.Concat.{flat_map-append}
-use Rattle.std.proofs.lemmas.List.Folds.{list_all-append}
-use Rattle.mj_tiles.specs.Faces.{number_in, is_red}
+use Rattle.std.proofs.lemmas.Bool.{cases_eq, ne_eqb, eq-eqb, and_parts, ltb-true}
+use Rattle.mj_tiles.specs.Faces.{number_in}
 use Rattle.mj_deeds.specs.declared.deed.Deed.{Deed}
 use Rattle.mj_deeds.specs.declared.deed.Deed.TheVariants.{StartGame, StartHand, Draw, Discard, Chi, Pon, OpenKan, ClosedKan, AddedKan, Dora, Reach}
 use Rattle.mj_deeds.specs.Facts.{newest, tiles_gained, gains_by, tiles_lost, losses_by, drawn_tile, drawn_by, before_newest, holds_drawn}
 use Rattle.mj_deeds.proofs.Totals.{number_more}
 use Rattle.mj_deeds.proofs.Newest.{newest_more, before_more}
 use Rattle.mj_deeds.proofs.HandSteps.{hand_with, hand_before, hand_is}
-use Rattle.mj_deeds.proofs.Fitted.{all_fit-append, hand_begun, parts_of, of_four}
+use Rattle.mj_deeds.proofs.Fitted.{all_fit-append, hand_begun, hand_real, parts_of, of_four}
+use Rattle.mj_deeds.proofs.RealTiles.{member_passes, gained_real}
 use Rattle.mj_deeds.specs.Hand.{hand, before_in}
-use Rattle.mj_deeds.specs.Fits.{Ground, ground_of, fits, all_fit, is_in_place, is_in_hand, is_after_dora, has_held_by, are_held, has_tiles, faces_in}
+use Rattle.mj_deeds.specs.Fits.{Ground, ground_of, fits, all_fit, is_in_place, is_in_hand, is_after_dora, has_held_by, are_held, is_face}
 use Rattle.mj_rules.proofs.Kept.{held_step}
 
 -- What is true of a seat behind some deeds.
 pub record Owns (red : Bool) (ds : List Deed) (seat : ℕ) : Type 0 where
   pub within : (face : ℕ) → number_in (tiles_lost (hand ds) seat) face ≤ number_in (tiles_gained (hand ds) seat) face
-  pub real : (red || list_all (λ face. not (is_red face)) (tiles_gained (hand ds) seat)) ≡ true
+  pub real : list_all (is_face red) (tiles_gained (hand ds) seat) ≡ true
   pub drawn : (tile : ℕ) → drawn_tile ds seat ≡ Some tile → number_in (tiles_lost (hand ds) seat) tile < number_in (tiles_gained (hand ds) seat) tile
-
--- red fives
-
-of_hand : (p : ℕ → Bool) (a b c d : List ℕ) (seat : ℕ) → list_all p (a ++ b ++ c ++ d) ≡ true →
-    list_all p (cond (eqb seat 0) a (cond (eqb seat 1) b (cond (eqb seat 2) c d))) ≡ true
-of_hand p a b c d seat h =
-    let x = and_parts (list_all p (a ++ b ++ c)) (list_all p d) (sym (list_all-append p (a ++ b ++ c) d) ∙ h) in
-    let y = and_parts (list_all p (a ++ b)) (list_all p c) (sym (list_all-append p (a ++ b) c) ∙ x.0) in
-    let z = and_parts (list_all p a) (list_all p b) (sym (list_all-append p a b) ∙ y.0) in
-    pick (eqb seat 0) a _ z.0 (pick (eqb seat 1) b _ z.1 (pick (eqb seat 2) c d y.1 x.1))
-  where
-    pick : (b : Bool) (xs ys : List ℕ) → list_all p xs ≡ true → list_all p ys ≡ true → list_all p (cond b xs ys) ≡ true
-    pick true xs ys h k = h
-    pick false xs ys h k = k
-
-at_one : (p : ℕ → Bool) (b : Bool) (tile : ℕ) → (p tile && true) ≡ true → list_all p (cond b (tile ∷ []) []) ≡ true
-at_one p true tile h = h
-at_one p false tile h = refl
-
-gains_real : (p : ℕ → Bool) (seat : ℕ) (d : Deed) → list_all p (faces_in d) ≡ true → list_all p (gains_by seat d) ≡ true
-gains_real p seat (StartGame names) h = refl
-gains_real p seat (StartHand round number honba deposits dealer indicator hands) h =
-    of_hand p hands.first hands.second hands.third hands.fourth seat
-    (tail indicator (hands.first ++ hands.second ++ hands.third ++ hands.fourth) h)
-  where
-    tail : (x : ℕ) (xs : List ℕ) → list_all p (x ∷ xs) ≡ true → list_all p xs ≡ true
-    tail x xs k = (and_parts (p x) (list_all p xs) k).1
-gains_real p seat (Draw who tile replacement) h = at_one p (eqb who seat) tile h
-gains_real p seat (Discard who tile drawn) h = refl
-gains_real p seat (Chi who target tile a b) h = refl
-gains_real p seat (Pon who target tile a b) h = refl
-gains_real p seat (OpenKan who target tile a b c) h = refl
-gains_real p seat (ClosedKan who a b c d) h = refl
-gains_real p seat (AddedKan who tile a b c) h = refl
-gains_real p seat (Dora tile) h = refl
-gains_real p seat other h = refl
-
-real_step : (red : Bool) (ds : List Deed) (d : Deed) (seat : ℕ) → has_tiles red d ≡ true → (red || list_all (λ face. not (is_red face)) (tiles_gained ds seat)) ≡ true →
-    (red || list_all (λ face. not (is_red face)) (tiles_gained (ds ++ d ∷ []) seat)) ≡ true
-real_step true ds d seat h k = refl
-real_step false ds d seat h k =
-    let p : ℕ → Bool = λ face. not (is_red face) in
-    ap (list_all p) (flat_map-append (gains_by seat) ds (d ∷ []))
-    ∙ list_all-append p (tiles_gained ds seat) (gains_by seat d ++ [])
-    ∙ and_from (list_all p (tiles_gained ds seat)) _ k (ap (list_all p) (append-nil (gains_by seat d)) ∙ gains_real p seat d h)
 
 -- the drawn tile
 
@@ -133,10 +87,6 @@ drawn_more h d seat tile drawn within =
 none_held : (seat face : ℕ) → number_in (tiles_lost [] seat) face ≤ number_in (tiles_gained [] seat) face
 none_held seat face = omega arith
 
-none_red : (red : Bool) (seat : ℕ) → (red || list_all (λ face. not (is_red face)) (tiles_gained [] seat)) ≡ true
-none_red true seat = refl
-none_red false seat = refl
-
 in_hand_of : (ds : List Deed) (seat tile : ℕ) (d : Deed) → drawn_by seat d ≡ Some tile → is_in_place (ground_of ds) d ≡ true → is_in_hand (newest ds) ≡ true
 unfolding ground_of
 in_hand_of ds seat tile d h k = drawn_in_hand seat tile (ground_of ds) d h k
@@ -182,11 +132,9 @@ owns_more red ds d seat small old fit owns =
     let held : are_held (tiles_gained h seat) (tiles_lost h seat) (losses_by seat d) ≡ true = of_four (has_held_by h d) seat small parts.inside.held in
     let within : (face : ℕ) → number_in (tiles_lost h seat) face ≤ number_in (tiles_gained h seat) face =
     hand_before (λ xs. (face : ℕ) → number_in (tiles_lost xs seat) face ≤ number_in (tiles_gained xs seat) face) (hand ds) d (none_held seat) owns.within in
-    let real : (red || list_all (λ face. not (is_red face)) (tiles_gained h seat)) ≡ true =
-    hand_before (λ xs. (red || list_all (λ face. not (is_red face)) (tiles_gained xs seat)) ≡ true) (hand ds) d (none_red red seat) owns.real in
     record {
       within = hand_with (λ xs. (face : ℕ) → number_in (tiles_lost xs seat) face ≤ number_in (tiles_gained xs seat) face) ds d (λ _ _. none_held seat) (λ face. held_step h d seat face held (within face));
-      real = hand_with (λ xs. (red || list_all (λ face. not (is_red face)) (tiles_gained xs seat)) ≡ true) ds d (λ _ _. none_red red seat) (real_step red h d seat parts.inside.tiles real);
+      real = gained_real red (hand (ds ++ d ∷ [])) seat (hand_real red (ds ++ d ∷ []) (all_fit-append red [] ds d old fit));
       drawn = λ tile k. holds_now d refl parts.place within tile (sym (drawn_is ds d seat) ∙ k);
     }
   where
@@ -218,10 +166,23 @@ owns_all red before (d ∷ ds) seat small old h owns =
 
 owns_nothing : (red : Bool) (seat : ℕ) → Owns red [] seat
 unfolding hand
-owns_nothing red seat = record { within = none_held seat; real = none_red red seat; drawn = λ tile h. no_draw tile h }
+owns_nothing red seat = record { within = none_held seat; real = refl; drawn = λ tile h. no_draw tile h }
   where
     no_draw : (tile : ℕ) → None ≡ Some tile → 0 < 0
     no_draw tile h = cc
 
 pub owns : (red : Bool) (ds : List Deed) (seat : ℕ) → seat < 4 → all_fit red [] ds ≡ true → Owns red ds seat
 owns red ds seat small h = owns_all red [] ds seat small refl h (owns_nothing red seat)
+
+small_face : (red : Bool) (tile : ℕ) → is_face red tile ≡ true → tile < 37
+small_face true tile h = ltb-true tile 37 h
+small_face false tile h = omega (arith, ltb-true tile 34 h)
+
+-- A drawn tile is one of the game.
+pub drawn_small : (red : Bool) (ds : List Deed) (seat tile : ℕ) → seat < 4 → all_fit red [] ds ≡ true → drawn_tile ds seat ≡ Some tile → tile < 37
+drawn_small red ds seat tile small fit drawn =
+    let own = owns red ds seat small fit in
+    small_face red tile (member_passes (is_face red) (tiles_gained (hand ds) seat) tile own.real (some _ _ (own.drawn tile drawn)))
+  where
+    some : (gone got : ℕ) → gone < got → 0 < got
+    some gone got h = omega arith

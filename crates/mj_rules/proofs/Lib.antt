@@ -14,7 +14,6 @@ pub mod Riches
 pub mod Promises
 pub mod BeforeWins
 pub mod TilesLess
-pub mod Gained
 pub mod MaskedView
 pub mod Playing
 pub mod Balance

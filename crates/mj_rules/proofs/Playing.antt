@@ -2,7 +2,6 @@
 use Rattle.std.proofs.Common.{◌≡◌, ℕ, zero, suc, ◌+◌, ◌-◌, ◌%◌, ◌<◌, ◌≤◌, Bool, true, false, cond, List, [], ◌∷◌, ◌++◌, length, refl, ap, sym, ◌∙◌, subst, arith, append-nil, append_assoc}
 use Rattle.std.specs.Prelude.{Option, Some, None, IsTrue, is_none}
 use Rattle.std.specs.List.{list_all, slice_index_or}
-use Rattle.std.proofs.Math.Bool.{or-true}
 use Rattle.std.proofs.lemmas.Bool.{and_parts}
 use Rattle.std.proofs.lemmas.Option.{slice_get-get_or}
 use Rattle.std.proofs.lemmas.List.Elements.{All-nil}
@@ -12,7 +11,7 @@ use Rattle.mj_deeds.specs.declared.deed.Deed.{Deed}
 use Rattle.mj_deeds.specs.declared.deed.Deed.TheVariants.{StartGame, StartHand, Draw, Discard, Chi, Pon, OpenKan, ClosedKan, AddedKan, Dora, Reach, ReachAccepted, Win, DrawnHand, EndHand, EndGame}
 use Rattle.mj_deeds.specs.Facts.{newest}
 use Rattle.mj_deeds.specs.Fits.{ground_of, fits, all_fit, is_in_place, is_after_start, has_seats, has_tiles}
-use Rattle.mj_deeds.proofs.Fitted.{all_fit-append}
+use Rattle.mj_deeds.proofs.Fitted.{all_fit-append, hand_real}
 use Rattle.mj_deeds.proofs.HandSteps.{hand_with, starts_more}
 use Rattle.mj_deeds.proofs.Newest.{newest_more}
 use Rattle.mj_deeds.proofs.Standings.{may_stand}
@@ -27,7 +26,6 @@ use Rattle.mj_rules.proofs.Stages.{Stage, NoGame, NoHand, Waits, Acts, MadeKan, 
 use Rattle.mj_rules.proofs.Kept.{wall_for, stage_for, IsNext, inside, keeps}
 use Rattle.mj_rules.proofs.Room.{deals_well, next_fits}
 use Rattle.mj_rules.proofs.Answered.{IfAny}
-use Rattle.mj_rules.proofs.Given.{owns}
 use Rattle.mj_rules.proofs.Winning.{Fair}
 use Rattle.mj_rules.proofs.Starting.{next_stands}
 use Rattle.mj_rules.proofs.Turns.{Known, outcome_next}
@@ -69,7 +67,7 @@ fair_of red walls ds h fit rich = record {
   whole = h;
   honba = (may_stand red ds fit).honba;
   rich = rich_few red ds fit rich;
-  real = λ seat small. (owns red ds seat small fit).real;
+  real = hand_real red ds fit;
 }
 
 -- one deed more
@@ -209,7 +207,7 @@ sound_more red walls ds d h s adds = record {
 
 start_next : (red : Bool) (walls : List (List ℕ)) (d : Deed) → IsTrue (is_game_start d) → IsNext red walls [] d
 unfolding hand ground_of
-start_next red walls (StartGame names) h = record { place = refl; seats = refl; held = λ seat. refl; triplet = refl; tiles = or-true red; live = refl; once = refl; pointed = refl; stage = refl; brings = tt }
+start_next red walls (StartGame names) h = record { place = refl; seats = refl; held = λ seat. refl; triplet = refl; tiles = refl; live = refl; once = refl; pointed = refl; stage = refl; brings = tt }
 start_next red walls (StartHand round number honba deposits dealer indicator hands) h = cc
 start_next red walls (Draw who tile replacement) h = cc
 start_next red walls (Discard who tile drawn) h = cc
@@ -233,7 +231,7 @@ given_adds : (rules : Rules) (walls : List (List ℕ)) (ds : List Deed) (given :
     Adds rules.red walls ds d
 given_adds rules walls ds given d s lawful e = record {
   next = if_some (IsNext rules.red walls ds) (outcome rules walls ds given) d (outcome_next rules walls ds given s.known lawful) e;
-  promise = if_some (Promise rules.red walls ds) (outcome rules walls ds given) d (outcome_owes rules walls ds given s.seated lawful) e;
+  promise = if_some (Promise rules.red walls ds) (outcome rules walls ds given) d (outcome_owes rules walls ds given s.known lawful) e;
   rich = if_some (λ x. Rich (ds ++ x ∷ [])) (outcome rules walls ds given) d (rich_next rules walls ds given s.known s.rich s.fit lawful) e;
 }
 

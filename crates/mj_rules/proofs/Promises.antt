@@ -3,7 +3,8 @@
 use Rattle.std.proofs.Common.{◌≡◌, ℕ, ◌+◌, ◌-◌, ◌&&◌, ◌||◌, Bool, true, false, cond, List, [], ◌∷◌, ◌++◌, length, take, refl, ap, sym, ◌∙◌, subst, arith, append-nil}
 use Rattle.std.specs.Prelude.{ℤ, Option, Some, None, IsTrue, nat_lt, option_and_then}
 use Rattle.std.specs.Option.{option_map_or}
-use Rattle.std.proofs.lemmas.Bool.{not-true}
+use Rattle.std.specs.List.{list_all}
+use Rattle.std.proofs.lemmas.Bool.{and_parts, not-true}
 use Rattle.std.proofs.lemmas.List.Concat.{flat_map-append}
 use Rattle.std.proofs.lemmas.List.Sums.{sum_by_push}
 use Rattle.mj_deeds.specs.declared.four.Four.{Four}
@@ -20,7 +21,7 @@ use Rattle.mj_deeds.specs.Bids.{call_of_bid}
 use Rattle.mj_deeds.specs.Four.{at_seat}
 use Rattle.mj_deeds.specs.Course.{is_reach}
 use Rattle.mj_deeds.specs.Facts.{newest, before_newest, gains_by, losses_by, tiles_gained, tiles_lost, is_kan, kans, is_live_draw, live_draws, live_tiles}
-use Rattle.mj_deeds.specs.Fits.{ground_of, all_fit, is_in_hand, taken_from, is_discard_of, are_held, has_seats}
+use Rattle.mj_deeds.specs.Fits.{ground_of, all_fit, is_in_hand, taken_from, is_discard_of, are_held, has_seats, is_face, has_tiles}
 use Rattle.mj_deeds.specs.Hand.{is_hand_start, hand}
 use Rattle.mj_deeds.specs.Riichi.{is_in_riichi}
 use Rattle.mj_deeds.proofs.HandSteps.{behind, hand_more, hand_is}
@@ -44,7 +45,7 @@ use Rattle.mj_rules.specs.Played.{AllLawful, is_game_start}
 use Rattle.mj_rules.proofs.Stages.{Waits, Acts, stage_of, newest_behind, stage_is}
 use Rattle.mj_rules.proofs.Kept.{first_seat, IsNext}
 use Rattle.mj_rules.proofs.Answered.{IfAny, Clean, clean_at, call_next}
-use Rattle.mj_rules.proofs.Turns.{kept_call, won_or_acts, discards_only, called_opens, reached_opens, drew_opens, rons_seated, won_or, draw_or, called_or, unless, behind_or, called_or_on, start_or_end}
+use Rattle.mj_rules.proofs.Turns.{Known as KnownBefore, kept_call, won_or_acts, discards_only, called_opens, reached_opens, drew_opens, rons_seated, won_or, draw_or, called_or, unless, behind_or, called_or_on, start_or_end}
 
 -- What a deed of its kind owes so.
 abbrev pub Promise : Bool → List (List ℕ) → List Deed → Deed → Type 0
@@ -120,57 +121,57 @@ unfolding accept
 accept_owes red walls ds who tile drawn bid e call = (call, ap (taken_from (hand ds)) e ∙ sym e)
 
 -- What follows the newest deed owes so.
-follower_owes : (rules : Rules) (walls : List (List ℕ)) (ds : List Deed) (given : Four Answer) (n : Deed) → newest ds ≡ Some n → has_seats n ≡ true → AllLawful rules ds given →
+follower_owes : (rules : Rules) (walls : List (List ℕ)) (ds : List Deed) (given : Four Answer) (n : Deed) → newest ds ≡ Some n → has_seats n ≡ true → list_all (has_tiles rules.red) (hand ds) ≡ true → has_tiles rules.red n ≡ true → AllLawful rules ds given →
     IfAny (Promise rules.red walls ds) (follows rules walls ds n (decision_by n given))
-follower_owes rules walls ds given (StartGame names) e seats c = start_owes_nothing rules.red walls ds _ first_standing 0
-follower_owes rules walls ds given (StartHand round number honba deposits dealer indicator hands) e seats c = draw_owes_nothing rules.red walls ds (wall_now walls ds) dealer
-follower_owes rules walls ds given (Draw who tile replacement) e seats c =
+follower_owes rules walls ds given (StartGame names) e seats real named c = start_owes_nothing rules.red walls ds _ first_standing 0
+follower_owes rules walls ds given (StartHand round number honba deposits dealer indicator hands) e seats real named c = draw_owes_nothing rules.red walls ds (wall_now walls ds) dealer
+follower_owes rules walls ds given (Draw who tile replacement) e seats real named c =
     won_or_acts (Promise rules.red walls ds) (wall_now walls ds) ds (Draw who tile replacement) who (at_seat given who)
     (win_owes_nothing rules.red walls ds (wall_now walls ds) who who tile [])
     (drawn_owes_nothing rules.red walls ds reasons.Kyushukyuhai)
     (act_owes rules walls ds (Draw who tile replacement) who (at_seat given who) e refl (clean_at rules ds given who (first_seat who _ seats) c))
-follower_owes rules walls ds given (Discard who tile drawn) e seats c =
+follower_owes rules walls ds given (Discard who tile drawn) e seats real named c =
     won_or (Promise rules.red walls ds) rules walls ds (Discard who tile drawn) (rons_on who given) (call_or_pass (best_bid given)) (rons_seated who given)
     (λ seat rest low others. win_owes_nothing rules.red walls ds (wall_now walls ds) seat who tile rest)
     (called_or_on (Promise rules.red walls ds) rules walls ds who tile drawn (best_bid given)
     (behind_or (Promise rules.red walls ds) rules (wall_now walls ds) ds who (best_bid given)
-    (λ reached. accept_owes rules.red walls ds who tile drawn (best_bid given) e (call_next rules walls ds who tile drawn given e (first_seat who _ seats) c))
+    (λ reached. accept_owes rules.red walls ds who tile drawn (best_bid given) e (call_next rules walls ds who tile drawn given e (first_seat who _ seats) real (and_parts (is_face rules.red tile) true named).0 c))
     (drawn_owes_nothing rules.red walls ds)
     (call_owes_nothing rules.red walls ds (best_bid given))
     (draw_owes_nothing rules.red walls ds (wall_now walls ds) _)))
-follower_owes rules walls ds given (Chi who target tile a b) e seats c =
+follower_owes rules walls ds given (Chi who target tile a b) e seats real named c =
     let opens = called_opens rules ds (Chi who target tile a b) who _ (at_seat given who) e refl (clean_at rules ds given who (first_seat who _ seats) c) in
     discards_only (Promise rules.red walls ds) (wall_now walls ds) ds (Chi who target tile a b) who (at_seat given who) opens (discard_owes_nothing rules.red walls ds who (at_seat given who) opens)
-follower_owes rules walls ds given (Pon who target tile a b) e seats c =
+follower_owes rules walls ds given (Pon who target tile a b) e seats real named c =
     let opens = called_opens rules ds (Pon who target tile a b) who _ (at_seat given who) e refl (clean_at rules ds given who (first_seat who _ seats) c) in
     discards_only (Promise rules.red walls ds) (wall_now walls ds) ds (Pon who target tile a b) who (at_seat given who) opens (discard_owes_nothing rules.red walls ds who (at_seat given who) opens)
-follower_owes rules walls ds given (OpenKan who target tile a b d) e seats c = dora_owes_nothing rules.red walls ds (wall_now walls ds) (hand ds)
-follower_owes rules walls ds given (ClosedKan who a b d x) e seats c = dora_owes_nothing rules.red walls ds (wall_now walls ds) (hand ds)
-follower_owes rules walls ds given (AddedKan who tile a b d) e seats c =
+follower_owes rules walls ds given (OpenKan who target tile a b d) e seats real named c = dora_owes_nothing rules.red walls ds (wall_now walls ds) (hand ds)
+follower_owes rules walls ds given (ClosedKan who a b d x) e seats real named c = dora_owes_nothing rules.red walls ds (wall_now walls ds) (hand ds)
+follower_owes rules walls ds given (AddedKan who tile a b d) e seats real named c =
     won_or (Promise rules.red walls ds) rules walls ds (AddedKan who tile a b d) (rons_on who given) Pass (rons_seated who given)
     (λ seat rest low others. win_owes_nothing rules.red walls ds (wall_now walls ds) seat who tile rest) (dora_owes_nothing rules.red walls ds (wall_now walls ds) (hand ds))
-follower_owes rules walls ds given (Dora tile) e seats c = replacement_owes_nothing rules.red walls ds (wall_now walls ds) (hand ds)
-follower_owes rules walls ds given (Reach who) e seats c =
+follower_owes rules walls ds given (Dora tile) e seats real named c = replacement_owes_nothing rules.red walls ds (wall_now walls ds) (hand ds)
+follower_owes rules walls ds given (Reach who) e seats real named c =
     let opens = reached_opens rules ds (Reach who) who (at_seat given who) e refl (clean_at rules ds given who (first_seat who _ seats) c) in
     discards_only (Promise rules.red walls ds) (wall_now walls ds) ds (Reach who) who (at_seat given who) opens (discard_owes_nothing rules.red walls ds who (at_seat given who) opens)
-follower_owes rules walls ds given (ReachAccepted who points bid) e seats c =
+follower_owes rules walls ds given (ReachAccepted who points bid) e seats real named c =
     unless (Promise rules.red walls ds) rules ds (called_or_draw (wall_now walls ds) ds who bid)
     (drawn_owes_nothing rules.red walls ds)
     (called_or (Promise rules.red walls ds) (wall_now walls ds) ds who bid (call_owes_nothing rules.red walls ds bid) (draw_owes_nothing rules.red walls ds (wall_now walls ds) _))
-follower_owes rules walls ds given (Win who target tile unders own yaku fu han value deltas points rest) e seats c = winner_owes_nothing rules.red walls ds (wall_now walls ds) target tile rest
-follower_owes rules walls ds given (DrawnHand reason hands ready deltas points) e seats c = tt
-follower_owes rules walls ds given EndHand e seats c =
+follower_owes rules walls ds given (Win who target tile unders own yaku fu han value deltas points rest) e seats real named c = winner_owes_nothing rules.red walls ds (wall_now walls ds) target tile rest
+follower_owes rules walls ds given (DrawnHand reason hands ready deltas points) e seats real named c = tt
+follower_owes rules walls ds given EndHand e seats real named c =
     start_or_end (Promise rules.red walls ds) walls ds (standing_after (standing ds) (hand ds)) (λ next after. start_owes_nothing rules.red walls ds (wall_of walls next.hand) next (deposits ds)) tt
-follower_owes rules walls ds given (EndGame points deposits) e seats c = tt
+follower_owes rules walls ds given (EndGame points deposits) e seats real named c = tt
 
-pub outcome_owes : (rules : Rules) (walls : List (List ℕ)) (ds : List Deed) (given : Four Answer) → IfAny (λ d. has_seats d ≡ true) (newest ds) → AllLawful rules ds given →
+pub outcome_owes : (rules : Rules) (walls : List (List ℕ)) (ds : List Deed) (given : Four Answer) → KnownBefore rules.red walls ds → AllLawful rules ds given →
     IfAny (Promise rules.red walls ds) (outcome rules walls ds given)
 unfolding outcome
-outcome_owes rules walls ds given seated c = by_newest (newest ds) refl seated
+outcome_owes rules walls ds given k c = by_newest (newest ds) refl k.seated k.real
   where
-    by_newest : (o : Option Deed) → newest ds ≡ o → IfAny (λ d. has_seats d ≡ true) o → IfAny (Promise rules.red walls ds) (option_and_then (λ last. follows rules walls ds last (decision_by last given)) o)
-    by_newest None e f = tt
-    by_newest (Some n) e f = follower_owes rules walls ds given n e f c
+    by_newest : (o : Option Deed) → newest ds ≡ o → IfAny (λ d. has_seats d ≡ true) o → IfAny (λ d. has_tiles rules.red d ≡ true) o → IfAny (Promise rules.red walls ds) (option_and_then (λ last. follows rules walls ds last (decision_by last given)) o)
+    by_newest None e f g = tt
+    by_newest (Some n) e f g = follower_owes rules walls ds given n e f k.fair.real g c
 
 pub game_owes_nothing : (red : Bool) (walls : List (List ℕ)) (d : Deed) → IsTrue (is_game_start d) → Promise red walls [] d
 game_owes_nothing red walls (StartGame names) h = tt

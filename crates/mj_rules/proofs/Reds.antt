@@ -1,21 +1,30 @@
--- Tiles below the red fives.
-use Rattle.std.proofs.Common.{◌≡◌, ℕ, zero, suc, ◌<◌, ◌&&◌, ◌||◌, not, Bool, true, false, List, [], ◌∷◌, get_or, refl, ap, arith}
-use Rattle.std.specs.Prelude.{All}
-use Rattle.std.proofs.lemmas.Bool.{and_from, lt-leb}
-use Rattle.std.proofs.lemmas.List.Elements.{All-head, All-tail}
-use Rattle.mj_tiles.specs.Faces.{is_red}
-use Rattle.mj_wall.specs.Places.{is_wall}
-use Rattle.mj_wall.proofs.WallFaces.{wall_plain_faces}
-
-pub plain_at : (wall : List ℕ) (i : ℕ) → All (λ t. t < 34) wall → get_or wall i 0 < 34
-plain_at [] i h = omega arith
-plain_at (t ∷ ts) zero h = All-head (λ x. x < 34) t ts h
-plain_at (t ∷ ts) (suc i) h = plain_at ts i (All-tail (λ x. x < 34) t ts h)
-
-pub not_red : (t : ℕ) → t < 34 → not (is_red t) ≡ true
-not_red t h = ap not (lt-leb 34 t h)
-
 -- The tiles of a wall are of the game.
-pub place_is_real : (red : Bool) (wall : List ℕ) (i : ℕ) → is_wall red wall ≡ true → (red || (not (is_red (get_or wall i 0)) && true)) ≡ true
-place_is_real true wall i h = refl
-place_is_real false wall i h = and_from (not (is_red (get_or wall i 0))) true (not_red (get_or wall i 0) (plain_at wall i (wall_plain_faces wall h))) refl
+use Rattle.std.proofs.Common.{◌≡◌, ℕ, ◌<◌, ◌&&◌, Bool, true, false, cond, List, [], ◌∷◌, get_or, refl}
+use Rattle.std.specs.Prelude.{All, nat_lt}
+use Rattle.std.specs.List.{list_all}
+use Rattle.std.proofs.lemmas.Bool.{and_from, lt-ltb}
+use Rattle.std.proofs.lemmas.List.Elements.{All-head, All-tail}
+use Rattle.mj_wall.specs.Places.{is_wall}
+use Rattle.mj_wall.proofs.WallFaces.{wall_faces, wall_plain_faces}
+use Rattle.mj_deeds.specs.Fits.{is_face}
+use Rattle.mj_deeds.proofs.RealTiles.{at_passes}
+
+-- The tiles of a wall are below 37, and without red fives below 34.
+pub wall_below : (red : Bool) (wall : List ℕ) → is_wall red wall ≡ true → All (λ t. t < cond red 37 34) wall
+wall_below true wall h = wall_faces true wall h
+wall_below false wall h = wall_plain_faces wall h
+
+pub below_passes : (n : ℕ) (tiles : List ℕ) → All (λ t. t < n) tiles → list_all (λ t. nat_lt t n) tiles ≡ true
+below_passes n [] h = refl
+below_passes n (t ∷ ts) h = and_from (nat_lt t n) _ (lt-ltb t n (All-head (λ x. x < n) t ts h)) (below_passes n ts (All-tail (λ x. x < n) t ts h))
+
+zero_passes : (red : Bool) → is_face red 0 ≡ true
+zero_passes true = refl
+zero_passes false = refl
+
+-- A tile of a wall is of the game.
+pub place_passes : (red : Bool) (wall : List ℕ) (i : ℕ) → is_wall red wall ≡ true → is_face red (get_or wall i 0) ≡ true
+place_passes red wall i h = at_passes (is_face red) wall i (zero_passes red) (below_passes (cond red 37 34) wall (wall_below red wall h))
+
+pub place_is_real : (red : Bool) (wall : List ℕ) (i : ℕ) → is_wall red wall ≡ true → (is_face red (get_or wall i 0) && true) ≡ true
+place_is_real red wall i h = and_from (is_face red (get_or wall i 0)) true (place_passes red wall i h) refl

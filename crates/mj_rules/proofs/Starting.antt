@@ -1,14 +1,10 @@
 -- A hand starts in its turn, and a hand and a game end in theirs.
-use Rattle.std.proofs.Common.{◌≡◌, ℕ, ◌+◌, ◌-◌, ◌*◌, ◌%◌, ◌<◌, ◌≤◌, ◌==◌, ◌&&◌, ◌||◌, not, Bool, true, false, cond, List, [], ◌∷◌, ◌++◌, length, drop, refl, ap, sym, ◌∙◌, subst, arith}
-use Rattle.std.specs.Prelude.{Some, None, All, count_by, nat_lt}
+use Rattle.std.proofs.Common.{◌≡◌, ℕ, ◌+◌, ◌-◌, ◌*◌, ◌%◌, ◌<◌, ◌≤◌, ◌==◌, ◌&&◌, ◌||◌, Bool, true, false, cond, List, [], length, drop, refl, ap, sym, ◌∙◌, subst, arith}
+use Rattle.std.specs.Prelude.{Some, None, nat_lt}
 use Rattle.std.specs.Option.{option_map_or}
 use Rattle.std.specs.List.{list_all}
-use Rattle.std.proofs.Math.Bool.{or-true}
-use Rattle.std.proofs.lemmas.Bool.{and_from, lt-ltb, lt-leb, eq-eqb}
-use Rattle.std.proofs.lemmas.List.Folds.{list_all-append}
-use Rattle.std.proofs.lemmas.List.Sums.{sum_by-cons}
-use Rattle.std.proofs.lemmas.List.Elements.{All-head, All-tail, All-take, All-drop}
-use Rattle.mj_tiles.specs.Faces.{is_red}
+use Rattle.std.proofs.lemmas.Bool.{and_from, lt-ltb, eq-eqb}
+use Rattle.std.proofs.lemmas.List.Elements.{All-take, All-drop}
 use Rattle.mj_deeds.specs.declared.four.Four.{Four}
 use Rattle.mj_deeds.specs.declared.deed.Deed.{Deed}
 use Rattle.mj_deeds.specs.declared.deed.Deed.TheVariants.{StartGame, EndHand, EndGame}
@@ -18,69 +14,36 @@ use Rattle.mj_deeds.specs.Hand.{hand, starts}
 use Rattle.mj_deeds.specs.Points.{points, deposits}
 use Rattle.mj_deeds.specs.Standings.{standing}
 use Rattle.mj_deeds.specs.Ends.{end_of, standing_after}
-use Rattle.mj_deeds.specs.Fits.{ground_of, all_fit, is_after_start, is_after_hand, is_after_result, starts_with, has_tiles}
+use Rattle.mj_deeds.specs.Fits.{ground_of, all_fit, is_after_start, is_after_hand, is_after_result, starts_with, is_face, has_tiles}
 use Rattle.mj_deeds.proofs.Fitted.{after_past}
 use Rattle.mj_deeds.proofs.HandSteps.{standing_hand}
+use Rattle.mj_deeds.proofs.RealTiles.{order_passes, four_pass}
 use Rattle.mj_deeds.proofs.Standings.{may_stand, some_starts}
 use Rattle.mj_wall.specs.Places.{is_wall, dealt_tiles, indicator_tile}
-use Rattle.mj_wall.proofs.TileOrder.{count_by-in_tile_order}
-use Rattle.mj_wall.proofs.WallFaces.{wall_faces, wall_plain_faces}
 use Rattle.mj_rounds.specs.declared.rounds.Standing.{Standing}
 use Rattle.mj_rounds.specs.declared.rounds.HandEnd.{HandEnd}
 use Rattle.mj_rounds.specs.Rounds.{first_standing, next_standing, is_last, stays, round_is_over, dealer_after, honba_after}
 use Rattle.mj_rules.specs.Outcome.{hand_dealt, hand_start, wall_of}
 use Rattle.mj_rules.proofs.Kept.{IsNext}
 use Rattle.mj_rules.proofs.Purses.{points_same}
-use Rattle.mj_rules.proofs.Reds.{plain_at, not_red}
+use Rattle.mj_rules.proofs.Reds.{wall_below, below_passes, place_passes}
 use Rattle.mj_rules.proofs.Winning.{Fair}
 
 -- the tiles that are dealt are of the game
 
-none_counted : (p : ℕ → Bool) (tiles : List ℕ) → count_by p tiles ≡ 0 → list_all (λ t. not (p t)) tiles ≡ true
-none_counted p [] h = refl
-none_counted p (t ∷ ts) h =
-    let parts = sum_by-cons (λ x. cond (p x) 1 0) t ts in
-    and_from (not (p t)) _ (left (p t) (count_by p ts) (sym parts ∙ h)) (none_counted p ts (right (p t) (count_by p ts) (sym parts ∙ h)))
-  where
-    left : (b : Bool) (n : ℕ) → cond b 1 0 + n ≡ 0 → not b ≡ true
-    left true n h = absurd (omega arith)
-    left false n h = refl
-
-    right : (b : Bool) (n : ℕ) → cond b 1 0 + n ≡ 0 → n ≡ 0
-    right true n h = omega arith
-    right false n h = omega arith
-
-none_red : (tiles : List ℕ) → All (λ t. t < 34) tiles → count_by is_red tiles ≡ 0
-none_red [] h = refl
-none_red (t ∷ ts) h =
-    both _ _ _ (sum_by-cons (λ x. cond (is_red x) 1 0) t ts) (ap (λ b. cond b 1 0) (lt-leb 34 t (All-head (λ x. x < 34) t ts h))) (none_red ts (All-tail (λ x. x < 34) t ts h))
-  where
-    both : (n a b : ℕ) → n ≡ a + b → a ≡ 0 → b ≡ 0 → n ≡ 0
-    both n a b e f g = omega arith
-
-hand_is_plain : (wall : List ℕ) (dealer seat : ℕ) → is_wall false wall ≡ true → list_all (λ t. not (is_red t)) (hand_dealt wall dealer seat) ≡ true
-hand_is_plain wall dealer seat h =
+hand_is_real : (red : Bool) (wall : List ℕ) (dealer seat : ℕ) → is_wall red wall ≡ true → list_all (is_face red) (hand_dealt wall dealer seat) ≡ true
+hand_is_real red wall dealer seat h =
     let n = (seat + 4 - dealer) % 4 in
-    none_counted is_red (hand_dealt wall dealer seat)
-    (count_by-in_tile_order is_red (dealt_tiles wall n) (All-take (λ t. t < 37) 13 (drop (13 * n) wall) (All-drop (λ t. t < 37) (13 * n) wall (wall_faces false wall h)))
-    ∙ none_red (dealt_tiles wall n) (All-take (λ t. t < 34) 13 (drop (13 * n) wall) (All-drop (λ t. t < 34) (13 * n) wall (wall_plain_faces wall h))))
+    let most : ℕ = cond red 37 34 in
+    order_passes (is_face red) (dealt_tiles wall n)
+    (below_passes most (dealt_tiles wall n) (All-take (λ t. t < most) 13 (drop (13 * n) wall) (All-drop (λ t. t < most) (13 * n) wall (wall_below red wall h))))
 
 start_is_real : (red : Bool) (wall : List ℕ) (now : Standing) (deposits : ℕ) → is_wall red wall ≡ true → has_tiles red (hand_start wall now deposits) ≡ true
 unfolding hand_start
-start_is_real true wall now deposits h = refl
-start_is_real false wall now deposits h =
-    let a = hand_dealt wall now.dealer 0 in
-    let b = hand_dealt wall now.dealer 1 in
-    let c = hand_dealt wall now.dealer 2 in
-    let d = hand_dealt wall now.dealer 3 in
-    let p : ℕ → Bool = λ t. not (is_red t) in
-    and_from (not (is_red (indicator_tile wall 0))) _ (not_red (indicator_tile wall 0) (plain_at wall 131 (wall_plain_faces wall h)))
-    (list_all-append p (a ++ b ++ c) d
-    ∙ and_from (list_all p (a ++ b ++ c)) (list_all p d)
-    (list_all-append p (a ++ b) c ∙ and_from (list_all p (a ++ b)) (list_all p c)
-    (list_all-append p a b ∙ and_from (list_all p a) (list_all p b) (hand_is_plain wall now.dealer 0 h) (hand_is_plain wall now.dealer 1 h))
-    (hand_is_plain wall now.dealer 2 h))
-    (hand_is_plain wall now.dealer 3 h))
+start_is_real red wall now deposits h =
+    and_from (is_face red (indicator_tile wall 0)) _ (place_passes red wall 131 h)
+    (four_pass (is_face red) (hand_dealt wall now.dealer 0) (hand_dealt wall now.dealer 1) (hand_dealt wall now.dealer 2) (hand_dealt wall now.dealer 3)
+    (hand_is_real red wall now.dealer 0 h) (hand_is_real red wall now.dealer 1 h) (hand_is_real red wall now.dealer 2 h) (hand_is_real red wall now.dealer 3 h))
 
 -- the first hand
 
@@ -171,7 +134,7 @@ hand_next red walls ds next h e after stands = record {
 
 pub end_next : (red : Bool) (walls : List (List ℕ)) (ds : List Deed) → is_after_result (newest ds) ≡ true → IsNext red walls ds EndHand
 unfolding ground_of
-end_next red walls ds h = record { place = h; seats = refl; held = λ seat. refl; triplet = refl; tiles = or-true red; live = refl; once = refl; pointed = refl; stage = refl; brings = tt }
+end_next red walls ds h = record { place = h; seats = refl; held = λ seat. refl; triplet = refl; tiles = refl; live = refl; once = refl; pointed = refl; stage = refl; brings = tt }
 
 -- The game ends with the points as they stand.
 pub game_end_next : (red : Bool) (walls : List (List ℕ)) (ds : List Deed) → Fair red walls ds → is_after_hand (newest ds) ≡ true → IsNext red walls ds (EndGame (points ds) (deposits ds))
@@ -181,7 +144,7 @@ game_end_next red walls ds fair over = record {
   seats = refl;
   held = λ seat. refl;
   triplet = refl;
-  tiles = or-true red;
+  tiles = refl;
   live = refl;
   once = refl;
   pointed = points_same (points ds) (EndGame (points ds) (deposits ds)) (λ seat. refl) (λ seat. within _ _ (fair.rich seat));

@@ -1,11 +1,10 @@
 -- Whatever follows a deed comes in its turn.
-use Rattle.std.proofs.Common.{◌≡◌, ℕ, zero, suc, ◌+◌, ◌-◌, ◌*◌, ◌%◌, ◌<◌, ◌≤◌, ◌==◌, ◌&&◌, ◌||◌, not, Bool, true, false, cond, eqb, ltb, List, [], ◌∷◌, ◌++◌, length, refl, ap, sym, ◌∙◌, arith}
+use Rattle.std.proofs.Common.{◌≡◌, ℕ, zero, suc, ◌+◌, ◌-◌, ◌*◌, ◌%◌, ◌<◌, ◌≤◌, ◌==◌, ◌&&◌, not, Bool, true, false, cond, eqb, ltb, List, [], ◌∷◌, ◌++◌, length, refl, ap, sym, ◌∙◌, arith}
 use Rattle.std.specs.Prelude.{Option, Some, None, All, option_and_then, option_map, nat_lt, filter, unwrap_or, slice_get}
 use Rattle.std.specs.Option.{option_map_or}
 use Rattle.std.specs.List.{list_all}
 use Rattle.std.proofs.lemmas.Bool.{and_from, and_parts, ltb-true, lt-ltb, eqb-false, eq-eqb, not-false}
 use Rattle.std.proofs.lemmas.List.Elements.{All-head, All-tail}
-use Rattle.mj_tiles.specs.Faces.{is_red}
 use Rattle.mj_deeds.specs.declared.four.Four.{Four}
 use Rattle.mj_deeds.specs.declared.answer.Answer.{Answer}
 use Rattle.mj_deeds.specs.declared.answer.Answer.TheVariants as answers
@@ -13,7 +12,7 @@ use Rattle.mj_deeds.specs.declared.deed.Deed.{Deed}
 use Rattle.mj_deeds.specs.declared.deed.Deed.TheVariants.{StartGame, StartHand, Draw, Discard, Chi, Pon, OpenKan, ClosedKan, AddedKan, Dora, Reach, ReachAccepted, Win, DrawnHand, EndHand, EndGame}
 use Rattle.mj_deeds.specs.Four.{at_seat, next_seat}
 use Rattle.mj_deeds.specs.Facts.{newest, before_newest, kans, kan_seats, indicators, live_draws, live_tiles}
-use Rattle.mj_deeds.specs.Fits.{ground_of, is_in_hand, is_after_start, is_after_hand, is_after_result, is_after_dora, is_after_kan, has_seats, has_tiles}
+use Rattle.mj_deeds.specs.Fits.{ground_of, is_in_hand, is_after_start, is_after_hand, is_after_result, is_after_dora, is_after_kan, has_seats, is_face, has_tiles}
 use Rattle.mj_wall.specs.Places.{is_wall, live_tile}
 use Rattle.mj_rounds.specs.declared.rounds.Standing.{Standing}
 use Rattle.mj_deeds.specs.declared.bid.Bid.{Bid}
@@ -142,9 +141,8 @@ pub record Known (red : Bool) (walls : List (List ℕ)) (ds : List Deed) : Type 
   pub free : (who tile : ℕ) (drawn : Bool) → newest ds ≡ Some (Discard who tile drawn) → option_map_or is_reach (before_newest (hand ds)) false ≡ true → is_in_riichi (hand ds) who ≡ false
 
 -- The first tile of a deed is of the game.
-first_real : (red : Bool) (tile : ℕ) (tiles : List ℕ) → (red || list_all (λ t. not (is_red t)) (tile ∷ tiles)) ≡ true → (red || (not (is_red tile) && true)) ≡ true
-first_real true tile tiles h = refl
-first_real false tile tiles h = and_from (not (is_red tile)) true (and_parts (not (is_red tile)) (list_all (λ t. not (is_red t)) tiles) h).0 refl
+first_real : (red : Bool) (tile : ℕ) (tiles : List ℕ) → list_all (is_face red) (tile ∷ tiles) ≡ true → (is_face red tile && true) ≡ true
+first_real red tile tiles h = and_from (is_face red tile) true (and_parts (is_face red tile) (list_all (is_face red) tiles) h).0 refl
 
 -- a win, or what a seat does
 
@@ -280,7 +278,7 @@ start_or_end P walls ds None starts ends = ends
 start_or_end P walls ds (Some next) starts ends = starts next refl
 
 winner_next : (red : Bool) (walls : List (List ℕ)) (ds : List Deed) (target tile : ℕ) (rest : List ℕ) → Fair red walls ds → is_after_result (newest ds) ≡ true → is_in_hand (newest ds) ≡ true → target < 4 →
-    list_all (λ seat. nat_lt seat 4) rest ≡ true → (red || (not (is_red tile) && true)) ≡ true → IsNext red walls ds (next_winner (wall_now walls ds) ds target tile rest)
+    list_all (λ seat. nat_lt seat 4) rest ≡ true → (is_face red tile && true) ≡ true → IsNext red walls ds (next_winner (wall_now walls ds) ds target tile rest)
 winner_next red walls ds target tile [] fair over begun there low real = end_next red walls ds over
 winner_next red walls ds target tile (seat ∷ rest) fair over begun there low real =
     win_next red walls ds seat target tile rest fair begun (first_seat seat _ low) there (and_parts (ltb seat 4) (list_all (λ s. nat_lt s 4) rest) low).1 real
@@ -297,7 +295,7 @@ follower_next rules walls ds given (Draw who tile replacement) k e seats real no
     (win_next rules.red walls ds who who tile [] k.fair (ap is_in_hand e) (first_seat who _ seats) (first_seat who _ seats) refl real)
     (drawn_next rules.red walls ds reasons.Kyushukyuhai k.fair (ap is_in_hand e))
     (act_next rules walls ds (Draw who tile replacement) who (at_seat given who) e (stage_is ds (Draw who tile replacement) (Acts who) e (λ before. refl)) refl (first_seat who _ seats)
-    (clean_at rules ds given who (first_seat who _ seats) c))
+    k.fair.real (clean_at rules ds given who (first_seat who _ seats) c))
 follower_next rules walls ds given (Discard who tile drawn) k e seats real none kept c =
     let waits = stage_is ds (Discard who tile drawn) Waits e (λ before. refl) in
     won_or (IsNext rules.red walls ds) rules walls ds (Discard who tile drawn) (rons_on who given) (call_or_pass (best_bid given)) (rons_seated who given)
@@ -305,20 +303,20 @@ follower_next rules walls ds given (Discard who tile drawn) k e seats real none 
     (called_or_on (IsNext rules.red walls ds) rules walls ds who tile drawn (best_bid given)
     (behind_or (IsNext rules.red walls ds) rules (wall_now walls ds) ds who (best_bid given)
     (λ reached. accept_next rules.red walls ds who (best_bid given) k.fair (ap is_in_hand e) (first_seat who _ seats) (k.free who tile drawn e reached) waits
-    (call_next rules walls ds who tile drawn given e (first_seat who _ seats) c))
+    (call_next rules walls ds who tile drawn given e (first_seat who _ seats) k.fair.real (and_parts (is_face rules.red tile) true real).0 c))
     (λ why. drawn_next rules.red walls ds why k.fair (ap is_in_hand e))
-    (call_next rules walls ds who tile drawn given e (first_seat who _ seats) c)
+    (call_next rules walls ds who tile drawn given e (first_seat who _ seats) k.fair.real (and_parts (is_face rules.red tile) true real).0 c)
     (draw_next rules.red walls ds (Discard who tile drawn) (next_seat who) k.fair e waits refl (seat_below who))))
 follower_next rules walls ds given (Chi who target tile a b) k e seats real none kept c =
     let clean = clean_at rules ds given who (first_seat who _ seats) c in
     discards_only (IsNext rules.red walls ds) (wall_now walls ds) ds (Chi who target tile a b) who (at_seat given who)
     (called_opens rules ds (Chi who target tile a b) who _ (at_seat given who) e refl clean)
-    (act_next rules walls ds (Chi who target tile a b) who (at_seat given who) e (stage_is ds (Chi who target tile a b) (Acts who) e (λ before. refl)) refl (first_seat who _ seats) clean)
+    (act_next rules walls ds (Chi who target tile a b) who (at_seat given who) e (stage_is ds (Chi who target tile a b) (Acts who) e (λ before. refl)) refl (first_seat who _ seats) k.fair.real clean)
 follower_next rules walls ds given (Pon who target tile a b) k e seats real none kept c =
     let clean = clean_at rules ds given who (first_seat who _ seats) c in
     discards_only (IsNext rules.red walls ds) (wall_now walls ds) ds (Pon who target tile a b) who (at_seat given who)
     (called_opens rules ds (Pon who target tile a b) who _ (at_seat given who) e refl clean)
-    (act_next rules walls ds (Pon who target tile a b) who (at_seat given who) e (stage_is ds (Pon who target tile a b) (Acts who) e (λ before. refl)) refl (first_seat who _ seats) clean)
+    (act_next rules walls ds (Pon who target tile a b) who (at_seat given who) e (stage_is ds (Pon who target tile a b) (Acts who) e (λ before. refl)) refl (first_seat who _ seats) k.fair.real clean)
 follower_next rules walls ds given (OpenKan who target tile a b d) k e seats real none kept c =
     dora_next rules.red walls ds (OpenKan who target tile a b d) k.fair.whole e (stage_is ds (OpenKan who target tile a b d) MadeKan e (λ before. refl)) refl
 follower_next rules walls ds given (ClosedKan who a b d x) k e seats real none kept c =
@@ -332,7 +330,7 @@ follower_next rules walls ds given (Reach who) k e seats real none kept c =
     let clean = clean_at rules ds given who (first_seat who _ seats) c in
     discards_only (IsNext rules.red walls ds) (wall_now walls ds) ds (Reach who) who (at_seat given who)
     (reached_opens rules ds (Reach who) who (at_seat given who) e refl clean)
-    (act_next rules walls ds (Reach who) who (at_seat given who) e (stage_is ds (Reach who) (Acts who) e (λ before. refl)) refl (first_seat who _ seats) clean)
+    (act_next rules walls ds (Reach who) who (at_seat given who) e (stage_is ds (Reach who) (Acts who) e (λ before. refl)) refl (first_seat who _ seats) k.fair.real clean)
 follower_next rules walls ds given (ReachAccepted who points bid) k e seats real none kept c =
     unless (IsNext rules.red walls ds) rules ds (called_or_draw (wall_now walls ds) ds who bid)
     (λ why. drawn_next rules.red walls ds why k.fair (ap is_in_hand e))

@@ -22,7 +22,7 @@ use Rattle.mj_deeds.specs.Hand.{hand}
 use Rattle.mj_deeds.specs.Points.{is_win}
 use Rattle.mj_deeds.proofs.Totals.{number_more}
 use Rattle.mj_deeds.proofs.Fitted.{Parts, kept_in_hand, four_melds, of_four, four_of_kind}
-use Rattle.mj_rules.proofs.Gained.{two_gained}
+use Rattle.mj_deeds.proofs.Gained.{two_gained}
 use Rattle.mj_rules.specs.Outcome.{won_tile, seat_of, wall_of, wall_now}
 use Rattle.mj_rules.specs.Played.{IsPlayed}
 use Rattle.mj_rules.specs.Wins.{is_draw, own_tiles_of}

@@ -1,12 +1,9 @@
 -- A win and an accepted reach come in their turn.
-use Rattle.std.proofs.Common.{◌≡◌, ℕ, zero, suc, ◌+◌, ◌-◌, ◌*◌, ◌<◌, ◌≤◌, ◌==◌, inl, inr, ◌&&◌, ◌||◌, not, Bool, true, false, cond, eqb, ltb, List, [], ◌∷◌, ◌++◌, length, map, replicate, refl, ap, ◌∙◌, subst, arith}
-use Rattle.std.specs.Prelude.{ℤ, pos, neg_ℤ, nat_abs, nat_lt, flat_map}
+use Rattle.std.proofs.Common.{◌≡◌, ℕ, zero, suc, ◌+◌, ◌-◌, ◌*◌, ◌<◌, ◌≤◌, ◌==◌, ◌&&◌, not, Bool, true, false, cond, ltb, List, [], ◌∷◌, ◌++◌, length, map, refl, ap, ◌∙◌, arith}
+use Rattle.std.specs.Prelude.{ℤ, pos, neg_ℤ, nat_abs, nat_lt}
 use Rattle.std.specs.List.{list_all, slice_index_or, range_with_len}
-use Rattle.std.proofs.Math.Bool.{or-true}
-use Rattle.std.proofs.lemmas.Bool.{cases_eq, ne_eqb, and_from, and_parts, lt-ltb}
+use Rattle.std.proofs.lemmas.Bool.{and_from, and_parts, lt-ltb}
 use Rattle.std.proofs.lemmas.List.Folds.{list_all-append}
-use Rattle.std.proofs.lemmas.List.Sums.{sum_by-cons}
-use Rattle.mj_tiles.specs.Faces.{number_in, is_red, less, tile_order}
 use Rattle.mj_tiles.proofs.Faces.{either_way}
 use Rattle.mj_deeds.specs.declared.bid.Bid.{Bid}
 use Rattle.mj_deeds.specs.declared.bid.Bid.TheVariants as bids
@@ -20,58 +17,18 @@ use Rattle.mj_deeds.specs.Riichi.{is_in_riichi}
 use Rattle.mj_deeds.specs.Course.{before_wins}
 use Rattle.mj_deeds.specs.Standings.{standing}
 use Rattle.mj_deeds.specs.Ends.{winners}
-use Rattle.mj_deeds.specs.Fits.{ground_of, is_in_hand, seats_in_bid, faces_in_bid}
+use Rattle.mj_deeds.specs.Fits.{ground_of, is_in_hand, seats_in_bid, faces_in_bid, is_face, has_tiles}
+use Rattle.mj_deeds.proofs.RealTiles.{less_passes, gained_real}
 use Rattle.mj_pay.specs.Payments.{deposit_changes}
 use Rattle.mj_wall.specs.Places.{is_wall, under_tile}
-use Rattle.mj_wall.proofs.WallFaces.{wall_plain_faces}
 use Rattle.mj_rounds.specs.declared.rounds.Standing.{Standing}
 use Rattle.mj_rules.specs.Wins.{is_draw, case_of, own_tiles_of, unders_of, Shows, score_of_win, win_changes, for_first, points_with, win_shown, win_deed}
 use Rattle.mj_rules.specs.Outcome.{wall_of, wall_now, accept}
 use Rattle.mj_rules.proofs.Stages.{Waits, stage_of}
 use Rattle.mj_rules.proofs.Kept.{IsNext}
 use Rattle.mj_rules.proofs.Answered.{IfAny}
-use Rattle.mj_rules.proofs.Reds.{plain_at, not_red}
+use Rattle.mj_rules.proofs.Reds.{place_passes}
 use Rattle.mj_rules.proofs.Purses.{points_right, worth_few, win_size, deposit_size}
-
--- tiles that pass
-
--- What stands in a list of which all pass does.
-member_passes : (p : ℕ → Bool) (xs : List ℕ) (face : ℕ) → list_all p xs ≡ true → 0 < number_in xs face → p face ≡ true
-member_passes p [] face h k = absurd (none k)
-  where
-    none : 0 < 0 → ⊥
-    none k = omega arith
-member_passes p (x ∷ xs) face h k =
-    let parts = and_parts (p x) (list_all p xs) h in
-    elim (cases_eq x face) [
-      | inl e ↦ subst (λ t. p t ≡ true) e parts.0
-      | inr ne ↦ member_passes p xs face parts.1 (rest _ _ _ (sum_by-cons (λ y. cond (eqb y face) 1 0) x xs) (ap {B = ℕ} (λ b. cond b 1 0) (ne_eqb x face ne)) k)
-    ]
-  where
-    rest : (n b m : ℕ) → n ≡ b + m → b ≡ 0 → 0 < n → 0 < m
-    rest n b m e f h = omega arith
-
-all_of : (p : ℕ → Bool) (face n : ℕ) → (0 < n → p face ≡ true) → list_all p (replicate n face) ≡ true
-all_of p face zero h = refl
-all_of p face (suc n) h = and_from (p face) _ (h (omega arith)) (all_of p face n (λ some. h (omega arith)))
-
--- What is left of tiles of which all pass does.
-pub less_passes : (p : ℕ → Bool) (xs ys : List ℕ) → list_all p xs ≡ true → list_all p (less xs ys) ≡ true
-unfolding less
-less_passes p xs ys h = go tile_order
-  where
-    some : (a b : ℕ) → 0 < a - b → 0 < a
-    some a b h = omega arith
-
-    go : (faces : List ℕ) → list_all p (flat_map (λ face. replicate (number_in xs face - number_in ys face) face) faces) ≡ true
-    go [] = refl
-    go (face ∷ faces) =
-        list_all-append p (replicate (number_in xs face - number_in ys face) face) (flat_map (λ face. replicate (number_in xs face - number_in ys face) face) faces)
-        ∙ and_from (list_all p (replicate (number_in xs face - number_in ys face) face)) _
-        (all_of p face (number_in xs face - number_in ys face) (λ k. member_passes p xs face h (some (number_in xs face) (number_in ys face) k))) (go faces)
-
-abbrev pub plain : ℕ → Bool
-plain face = not (is_red face)
 
 -- Wins give no tiles.
 pub gained_before_wins : (hs : List Deed) (seat : ℕ) → tiles_gained (before_wins hs) seat ≡ tiles_gained hs seat
@@ -79,40 +36,39 @@ gained_before_wins [] seat = refl
 gained_before_wins (Win who target tile unders own yaku fu han value deltas said rest ∷ hs) seat = gained_before_wins hs seat
 gained_before_wins (other ∷ hs) seat = ap (λ (xs : List ℕ). gains_by seat other ++ xs) (gained_before_wins hs seat)
 
-own_real : (deeds : List Deed) (seat tile : ℕ) → list_all plain (tiles_gained deeds seat) ≡ true → list_all plain (own_tiles_of deeds seat tile) ≡ true
-own_real deeds seat tile h =
-    either (is_draw (newest deeds)) _ _
-    (less_passes plain (concealed_tiles deeds seat) (tile ∷ []) (less_passes plain (tiles_gained deeds seat) (tiles_lost deeds seat) h)) (less_passes plain (tiles_gained deeds seat) (tiles_lost deeds seat) h)
+own_real : (red : Bool) (deeds : List Deed) (seat tile : ℕ) → list_all (is_face red) (tiles_gained deeds seat) ≡ true → list_all (is_face red) (own_tiles_of deeds seat tile) ≡ true
+own_real red deeds seat tile h =
+    let held = less_passes (is_face red) (tiles_gained deeds seat) (tiles_lost deeds seat) h in
+    either (is_draw (newest deeds)) _ _ (less_passes (is_face red) (concealed_tiles deeds seat) (tile ∷ []) held) held
   where
-    either : (b : Bool) (xs ys : List ℕ) → list_all plain xs ≡ true → list_all plain ys ≡ true → list_all plain (cond b xs ys) ≡ true
+    either : (b : Bool) (xs ys : List ℕ) → list_all (is_face red) xs ≡ true → list_all (is_face red) ys ≡ true → list_all (is_face red) (cond b xs ys) ≡ true
     either true xs ys h k = h
     either false xs ys h k = k
 
-unders_real : (wall : List ℕ) (deeds : List Deed) (seat : ℕ) → is_wall false wall ≡ true → list_all plain (unders_of wall deeds seat) ≡ true
-unders_real wall deeds seat h = either (is_in_riichi deeds seat) (range_with_len 0 (length (indicators deeds)))
+unders_real : (red : Bool) (wall : List ℕ) (deeds : List Deed) (seat : ℕ) → is_wall red wall ≡ true → list_all (is_face red) (unders_of wall deeds seat) ≡ true
+unders_real red wall deeds seat h = either (is_in_riichi deeds seat) (range_with_len 0 (length (indicators deeds)))
   where
-    each : (places : List ℕ) → list_all plain (map (under_tile wall) places) ≡ true
+    each : (places : List ℕ) → list_all (is_face red) (map (under_tile wall) places) ≡ true
     each [] = refl
-    each (place ∷ places) = and_from (plain (under_tile wall place)) _ (not_red (under_tile wall place) (plain_at wall (130 - 2 * place) (wall_plain_faces wall h))) (each places)
+    each (place ∷ places) = and_from (is_face red (under_tile wall place)) _ (place_passes red wall (130 - 2 * place) h) (each places)
 
-    either : (b : Bool) (places : List ℕ) → list_all plain (cond b (map (under_tile wall) places) []) ≡ true
+    either : (b : Bool) (places : List ℕ) → list_all (is_face red) (cond b (map (under_tile wall) places) []) ≡ true
     either true places = each places
     either false places = refl
 
-shown_real : (red : Bool) (wall : List ℕ) (deeds : List Deed) (seat tile : ℕ) → is_wall red wall ≡ true → (red || list_all plain (tiles_gained deeds seat)) ≡ true → (red || (plain tile && true)) ≡ true →
-    (red || list_all plain (tile ∷ unders_of wall deeds seat ++ own_tiles_of deeds seat tile)) ≡ true
-shown_real true wall deeds seat tile whole h k = refl
-shown_real false wall deeds seat tile whole h k =
-    and_from (plain tile) _ (and_parts (plain tile) true k).0
-    (list_all-append plain (unders_of wall deeds seat) (own_tiles_of deeds seat tile)
-    ∙ and_from (list_all plain (unders_of wall deeds seat)) _ (unders_real wall deeds seat whole) (own_real deeds seat tile h))
+shown_real : (red : Bool) (wall : List ℕ) (deeds : List Deed) (seat tile : ℕ) → is_wall red wall ≡ true → list_all (is_face red) (tiles_gained deeds seat) ≡ true → (is_face red tile && true) ≡ true →
+    list_all (is_face red) (tile ∷ unders_of wall deeds seat ++ own_tiles_of deeds seat tile) ≡ true
+shown_real red wall deeds seat tile whole h k =
+    and_from (is_face red tile) _ (and_parts (is_face red tile) true k).0
+    (list_all-append (is_face red) (unders_of wall deeds seat) (own_tiles_of deeds seat tile)
+    ∙ and_from (list_all (is_face red) (unders_of wall deeds seat)) _ (unders_real red wall deeds seat whole) (own_real red deeds seat tile h))
 
 -- What is known of the deeds before a win, and before a hand that is drawn.
 pub record Fair (red : Bool) (walls : List (List ℕ)) (ds : List Deed) : Type 0 where
   pub whole : (number : ℕ) → is_wall red (wall_of walls number) ≡ true
   pub honba : (standing ds).honba ≤ 199
   pub rich : (seat : ℕ) → nat_abs (slice_index_or (points ds) seat (pos 0)) + 1000 * deposits ds ≤ 90000000
-  pub real : (seat : ℕ) → seat < 4 → (red || list_all plain (tiles_gained (hand ds) seat)) ≡ true
+  pub real : list_all (has_tiles red) (hand ds) ≡ true
 
 base_few : (now : Standing) (deeds : List Deed) (seat : ℕ) (shows : Shows) → (score_of_win now deeds seat shows).base ≤ 8000
 unfolding score_of_win
@@ -145,7 +101,7 @@ changes_few ds seat target shows h other =
 
 -- A win comes in its turn.
 pub win_next : (red : Bool) (walls : List (List ℕ)) (ds : List Deed) (seat target tile : ℕ) (rest : List ℕ) → Fair red walls ds → is_in_hand (newest ds) ≡ true → seat < 4 → target < 4 →
-    list_all (λ other. nat_lt other 4) rest ≡ true → (red || (plain tile && true)) ≡ true → IsNext red walls ds (win_deed (wall_now walls ds) ds seat target tile rest)
+    list_all (λ other. nat_lt other 4) rest ≡ true → (is_face red tile && true) ≡ true → IsNext red walls ds (win_deed (wall_now walls ds) ds seat target tile rest)
 unfolding win_shown ground_of
 win_next red walls ds seat target tile rest fair begun small there others real = record {
   place = begun;
@@ -153,7 +109,7 @@ win_next red walls ds seat target tile rest fair begun small there others real =
   held = λ other. refl;
   triplet = refl;
   tiles = shown_real red (wall_now walls ds) (before_wins (hand ds)) seat tile (fair.whole _)
-      (ap (λ (tiles : List ℕ). red || list_all plain tiles) (gained_before_wins (hand ds) seat) ∙ fair.real seat small) real;
+      (ap (λ (tiles : List ℕ). list_all (is_face red) tiles) (gained_before_wins (hand ds) seat) ∙ gained_real red (hand ds) seat fair.real) real;
   live = refl;
   once = refl;
   pointed = points_right (points ds) (changes_of ds seat target (shows_of ds)) (win_deed (wall_now walls ds) ds seat target tile rest) (λ other low. refl)
@@ -176,8 +132,8 @@ bid_seats red walls ds (bids.Chi seat target tile a b) h = h.seats
 bid_seats red walls ds (bids.Pon seat target tile a b) h = h.seats
 bid_seats red walls ds (bids.OpenKan seat target tile a b c) h = h.seats
 
-bid_tiles : (red : Bool) (walls : List (List ℕ)) (ds : List Deed) (bid : Bid) → IfAny (IsNext red walls ds) (call_of_bid bid) → (red || list_all plain (faces_in_bid bid)) ≡ true
-bid_tiles red walls ds bids.NoBid h = or-true red
+bid_tiles : (red : Bool) (walls : List (List ℕ)) (ds : List Deed) (bid : Bid) → IfAny (IsNext red walls ds) (call_of_bid bid) → list_all (is_face red) (faces_in_bid bid) ≡ true
+bid_tiles red walls ds bids.NoBid h = refl
 bid_tiles red walls ds (bids.Chi seat target tile a b) h = h.tiles
 bid_tiles red walls ds (bids.Pon seat target tile a b) h = h.tiles
 bid_tiles red walls ds (bids.OpenKan seat target tile a b c) h = h.tiles

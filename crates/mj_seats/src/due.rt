@@ -6,8 +6,8 @@ ghost use Rattle.turn_lock.specs.Turns.{IsIdle};
 
 use crate::hold;
 use crate::served::Ended;
-use crate::step::{Connection, Due, Step};
 use crate::shared_game::SharedGame;
+use crate::step::{Connection, Due, Step};
 use mj_links::{Link, Sent, Wire};
 use std::alloc::Global;
 use std::sync::Wait;

@@ -7,8 +7,8 @@ ghost use Rattle.turn_lock.specs.Turns.{IsIdle};
 
 use crate::hold;
 use crate::served::Ended;
-use crate::step::{Connection, Step, Verdict};
 use crate::shared_game::SharedGame;
+use crate::step::{Connection, Step, Verdict};
 use mj_links::{LineRead, Link, Sent, Wire};
 use mj_ports::{Control, Heard};
 use std::alloc::Global;

@@ -29,7 +29,12 @@ pub(crate) fn take<T: SharedGame, R: Wait>(turn: &Turn<T>, rt: &R, pass: &mut Pa
 }
 
 // Gives the table back, with at most one entry more, of the pass's number, and marks it where memory was wanting.
-pub(crate) fn give<T: SharedGame>(turn: &Turn<T>, pass: &mut Pass<T>, mut held: Held<T>, wanting: bool)
+pub(crate) fn give<T: SharedGame>(
+    turn: &Turn<T>,
+    pass: &mut Pass<T>,
+    mut held: Held<T>,
+    wanting: bool,
+)
     requires busy { IsBusy T.Noted.setting turn.now pass.old }
     requires setting { T.Seated.setting held ≡ T.Noted.setting turn.now.opening }
     requires entries { Follows author_of pass.old.number pass.old.seen (T.history held) }

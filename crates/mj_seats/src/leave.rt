@@ -5,8 +5,8 @@ ghost use Rattle.turn_lock.specs.Turns.{IsIdle};
 
 use crate::hold;
 use crate::served::Ended;
-use crate::step::Connection;
 use crate::shared_game::SharedGame;
+use crate::step::Connection;
 use mj_ports::Left;
 use std::alloc::Global;
 use std::sync::Wait;

@@ -6,8 +6,8 @@ ghost use Rattle.mj_seats.specs.Inner.Steps.{SitsDown, SitsAt};
 ghost use Rattle.turn_lock.specs.Turns.{IsIdle};
 
 use crate::hold;
-use crate::step::{Connection, Sitting};
 use crate::shared_game::SharedGame;
+use crate::step::{Connection, Sitting};
 use mj_ports::{Control, SitAnswer};
 use std::alloc::{AllocError, Global};
 use std::sync::Wait;

@@ -230,7 +230,13 @@ fn close<T: SharedGame, R: Wait>(
     closing
 }
 
-fn expire<T: SharedGame>(table: &mut T, alloc: Global, author: u8, watch: Watch, now: u64) -> Closing
+fn expire<T: SharedGame>(
+    table: &mut T,
+    alloc: Global,
+    author: u8,
+    watch: Watch,
+    now: u64,
+) -> Closing
     ensures setting { T.Seated.setting table.new ≡ T.Seated.setting table.old }
     ensures closes { Closes T.history T.lost (T.after (T.Seated.setting table.old)) result author
         watch.window watch.since now (T.history table.old) (T.history table.new) }

@@ -83,7 +83,12 @@ pub fn run_workers<G: Seated, H: Host, C: Clock, R: Threads + Wait + Sync>(
 }
 
 // The same at any table.
-fn run_at<T: SharedGame, H: Host<Fault = <T as SharedGame>::Fault>, C: Clock, R: Threads + Wait + Sync>(
+fn run_at<
+    T: SharedGame,
+    H: Host<Fault = <T as SharedGame>::Fault>,
+    C: Clock,
+    R: Threads + Wait + Sync,
+>(
     rt: &R,
     alloc: Global,
     table: T,

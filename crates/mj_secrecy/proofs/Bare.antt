@@ -5,7 +5,7 @@ use Rattle.mj_deeds.specs.declared.four.Four.{Four}
 use Rattle.mj_deeds.specs.declared.deed.Deed.TheVariants.{StartHand, Draw}
 use Rattle.mj_deeds.specs.declared.token.Token.TheVariants as tokens
 use Rattle.mj_deeds.specs.Four.{at_seat}
-use Rattle.mj_view.specs.Tokens.{own_tile}
+use Rattle.mj_view.specs.Seen.{own_tile}
 use Rattle.mj_secrecy.specs.Bare.{where_own, own_alone, TokensHoldNoMore}
 
 own_hand : (seat : ℕ) (hands : Four (List ℕ)) → at_seat hands seat ≡ at_seat (own_alone seat hands) seat

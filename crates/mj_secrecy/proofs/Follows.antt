@@ -22,7 +22,8 @@ use Rattle.mj_deeds.specs.Ends.{winners}
 use Rattle.mj_deeds.specs.Standings.{standing}
 use Rattle.mj_deeds.proofs.Masked.{masked, all_masked, gains-masked, tiles_gained-masked, tiles_lost-masked, drawn_tile-masked, river-masked, seat_melds-masked, has_reached-masked, is_in_riichi-masked, is_double-masked, is_ippatsu-masked, kans-masked, live_tiles-masked, indicators_all-masked, winners-masked, standing-masked, points-masked, deposits-masked}
 use Rattle.mj_wall.specs.declared.setting.Rules.{Rules}
-use Rattle.mj_view.specs.Tokens.{token, own_tile}
+use Rattle.mj_view.specs.Tokens.{token}
+use Rattle.mj_view.specs.Seen.{own_tile}
 use Rattle.mj_rules.specs.View.{SeatView, view_of}
 use Rattle.mj_rules.specs.Broken.{questions, broken_by, broken_rule}
 use Rattle.mj_rules.specs.Default.{lawful_faces, default_by}

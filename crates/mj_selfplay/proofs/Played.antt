@@ -74,7 +74,7 @@ unfolding tally_of
 tally_deeds tally deeds is = ap (λ (t : Tally). t.deeds) is
 
 -- The rules have no red fives.
-pub plain_rules : (rules : Rules) → rules ≡ self_rules → rules.red ≡ false
+plain_rules : (rules : Rules) → rules ≡ self_rules → rules.red ≡ false
 unfolding self_rules
 plain_rules rules is = ap (λ (r : Rules). r.red) is
 

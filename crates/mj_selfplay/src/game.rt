@@ -41,7 +41,7 @@ fn play(alloc: Global, seed: [u8; 32]) -> Result<Summary, AllocError>
     ensures { IfOk result (λ summary. IsSummary self_rules (game_walls seed) summary) }
 {
     let mut walls = first_walls(alloc, seed)?;
-    let mut table = started(alloc)?;
+    let mut table = started()?;
     let mut tally = Tally::none().with(&start());
     while goes_on(&table) {
         walls = enough_walls(alloc, seed, walls, tally.hands)?;
@@ -53,18 +53,17 @@ fn play(alloc: Global, seed: [u8; 32]) -> Result<Summary, AllocError>
 
 // A table on which the game has started.
 #[tactic(auto, unfolding(crate::specs::SelfGame::self_rules))]
-fn started(alloc: Global) -> Result<Table, AllocError>
+fn started() -> Result<Table, AllocError>
     ensures { IfOk result (λ table. table
         ≡ record { rules = self_rules; deeds = self_start ∷ [] }) }
 {
-    let mut table = Table::new(alloc, rules())?;
+    let mut table = Table::new(rules())?;
     table.push(&start())?;
     Ok(table)
 }
 
 // The deed that the choices of the four seats give, which is pushed on the table.
 fn step(alloc: Global, table: &mut Table, walls: &Walls) -> Result<Deed, AllocError>
-    requires plain { table.old.rules.red ≡ false }
     requires some { 1 ≤ length walls.now }
     requires few { length walls.now ≤ 200 }
     requires whole { IsTrue (list_all (is_wall table.old.rules.red) walls.now) }

@@ -2,9 +2,9 @@
 use Rattle.std.proofs.Common.{◌≡◌, ℕ, ◌+◌, ◌-◌, ◌*◌, ◌<◌, ◌≤◌, ◌⊎◌, inl, inr, Bool, true, false, cond, eqb, leb, ltb, min, List, [], ◌∷◌, ◌++◌, length, take, set, get_or, replicate, refl, sym, ap, ◌∙◌, subst, arith}
 use Rattle.std.specs.Prelude.{flat_map}
 use Rattle.std.specs.List.{list_all}
-use Rattle.std.proofs.lemmas.Bool.{and_parts, cases_eq, cases_lt, eq-eqb, ne_eqb, leb-true, ltb-true}
+use Rattle.std.proofs.lemmas.Bool.{and_parts, cases_eq, cases_lt, eq-eqb, ne_eqb, leb-true, ltb-true, lt-ltb, le-ltb}
 use Rattle.std.proofs.lemmas.List.{take_more}
-use Rattle.std.proofs.lemmas.List.Sums.{sum_by-append, sum_by-cons}
+use Rattle.std.proofs.lemmas.List.Sums.{sum_by-cons}
 use Rattle.mj_lists.proofs.Fronts.{zero_at}
 use Rattle.mj_tiles.specs.Faces.{kind_of, number_in, less, tile_order}
 use Rattle.mj_tiles.specs.Counts.{number_of, has_no_fifth, kind_counts, NoFifth}
@@ -14,21 +14,18 @@ use Rattle.mj_deeds.specs.declared.deed.Deed.{Deed}
 use Rattle.mj_deeds.specs.declared.deed.Deed.TheVariants.{StartGame, StartHand}
 use Rattle.mj_deeds.specs.declared.four.Four.{Four}
 use Rattle.mj_deeds.specs.Facts.{gains_by, losses_by, tiles_gained, tiles_lost, concealed_tiles}
-use Rattle.mj_deeds.specs.Fits.{fits, all_fit, has_seats, has_held, has_held_by, brought_by, keeps_kinds}
+use Rattle.mj_deeds.specs.Fits.{fits, all_fit, has_held, has_held_by, brought_by, keeps_kinds}
 use Rattle.mj_deeds.specs.Four.{at_seat}
 use Rattle.mj_deeds.specs.Hand.{is_hand_start, hand, before_in}
 use Rattle.mj_deeds.proofs.HandSteps.{hand_with}
+use Rattle.mj_deeds.proofs.Totals.{number_more}
 use Rattle.mj_deeds.proofs.Fitted.{Parts, parts_of, past_of, some_hand, of_four, four_of_kind}
-use Rattle.mj_table.proofs.AlikeSeats.{none_lost}
 use Rattle.mj_table.proofs.OneMore.{one_counted}
 use Rattle.mj_table.proofs.OneLess.{number_push}
+use Rattle.mj_table.proofs.OneLess.{none_left, some_left}
 use Rattle.mj_table.proofs.Readers.{gained_within, holds_few}
-use Rattle.mj_table.proofs.Spare.{one_more}
 use Rattle.mj_table.specs.Plays.{Play}
 use Rattle.mj_wall.specs.declared.setting.Rules.{Rules}
-use Rattle.mj_table.specs.declared.seats.Seats.{Seats}
-use Rattle.mj_table.specs.Inner.Alike.{Alike}
-use Rattle.mj_table.specs.Inner.Any.{of_any}
 use Rattle.mj_table.specs.Inner.Kept.{Holds, Moves, tiles_held, held_before}
 
 -- one tile further
@@ -109,36 +106,26 @@ kept_few hs d kind small h =
 
 -- one deed further
 
-lost_held : (hs : List Deed) (d : Deed) (seat face : ℕ) → has_seats d ≡ true → has_held hs d ≡ true →
+lost_held : (hs : List Deed) (d : Deed) (seat face : ℕ) → seat ≤ 3 → has_held hs d ≡ true →
     number_in (losses_by seat d) face ≤ number_in (tiles_gained hs seat) face - number_in (tiles_lost hs seat) face
-lost_held hs d seat face seats h = by_place (cases_lt seat 4)
+lost_held hs d seat face low h = by_some (cases_lt 0 (number_in (losses_by seat d) face))
   where
     none : (n m : ℕ) → n ≤ 0 → n ≤ m
     none n m e = omega (arith, e)
 
-    by_some : seat < 4 → (0 < number_in (losses_by seat d) face) ⊎ (number_in (losses_by seat d) face ≤ 0) →
+    by_some : (0 < number_in (losses_by seat d) face) ⊎ (number_in (losses_by seat d) face ≤ 0) →
         number_in (losses_by seat d) face ≤ number_in (tiles_gained hs seat) face - number_in (tiles_lost hs seat) face
-    by_some low (inl some) =
+    by_some (inl some) =
         leb-true _ _
         (passes_each (λ f. leb (number_in (losses_by seat d) f) (number_in (tiles_gained hs seat) f - number_in (tiles_lost hs seat) f)) (losses_by seat d) face
-        (of_four (has_held_by hs d) seat low h) some)
-    by_some low (inr e) = none _ _ e
+        (of_four (has_held_by hs d) seat (omega (arith, low)) h) some)
+    by_some (inr e) = none _ _ e
 
-    nothing : (n m : ℕ) → n ≡ 0 → n ≤ m
-    nothing n m e = omega (arith, e)
-
-    by_place : (seat < 4) ⊎ (4 ≤ seat) → number_in (losses_by seat d) face ≤ number_in (tiles_gained hs seat) face - number_in (tiles_lost hs seat) face
-    by_place (inl low) = by_some low (cases_lt 0 (number_in (losses_by seat d) face))
-    by_place (inr high) = nothing _ _ (ap (λ (xs : List ℕ). number_in xs face) (none_lost d seat seats high))
-
-number_more : (f : Deed → List ℕ) (hs : List Deed) (d : Deed) (face : ℕ) → number_in (flat_map f (hs ++ d ∷ [])) face ≡ number_in (flat_map f hs) face + number_in (f d) face
-number_more f hs d face = ap (λ (xs : List ℕ). number_in xs face) (one_more f hs d) ∙ sum_by-append (λ t. cond (eqb t face) 1 0) (flat_map f hs) (f d)
-
-holds_step : (red : Bool) (hs : List Deed) (d : Deed) (seat : ℕ) (held new : List ℕ) → Parts red hs d →
+holds_step : (red : Bool) (hs : List Deed) (d : Deed) (seat : ℕ) (held new : List ℕ) → seat ≤ 3 → Parts red hs d →
     ((face : ℕ) → face < 37 → held_before d held face + number_in (tiles_lost hs seat) face ≡ number_in (tiles_gained hs seat) face) → Moves d seat held new → Holds (hs ++ d ∷ []) seat new
-holds_step red hs d seat held new p was moves face small =
+holds_step red hs d seat held new low p was moves face small =
     sum _ _ _ _ _ _ _ _ (was face small) (number_more (gains_by seat) hs d face) (number_more (losses_by seat) hs d face)
-    (given_few (hs ++ d ∷ []) seat face 4 (kept_few hs d (kind_of face) (kind_small face small) p.kinds)) (lost_held hs d seat face p.seats p.held) (moves face)
+    (given_few (hs ++ d ∷ []) seat face 4 (kept_few hs d (kind_of face) (kind_small face small) p.kinds)) (lost_held hs d seat face low p.held) (moves face)
   where
     sum : (n b l g a x k m : ℕ) → b + l ≡ g → k ≡ g + a → m ≡ l + x → k ≤ 4 → x ≤ g - l → (b + a ≤ 255 → n ≡ b + a - x) → n + m ≡ k
     sum n b l g a x k m e f h few held now =
@@ -156,12 +143,12 @@ none_begun red ds (StartGame names) seat held new fit one h none was moves face 
         omega (arith, e, moved)
 none_begun red ds other seat held new fit one h none was moves face small = absurd (some_hand red ds fit (past_of ds other (parts_of red ds other one).place h refl) none)
 
-pub holds_more : (red : Bool) (ds : List Deed) (d : Deed) (seat : ℕ) (held new : List ℕ) → all_fit red [] ds ≡ true → fits red ds d ≡ true → Holds (hand ds) seat held →
+pub holds_more : (red : Bool) (ds : List Deed) (d : Deed) (seat : ℕ) (held new : List ℕ) → seat ≤ 3 → all_fit red [] ds ≡ true → fits red ds d ≡ true → Holds (hand ds) seat held →
     Moves d seat held new → Holds (hand (ds ++ d ∷ [])) seat new
-holds_more red ds d seat held new fit one was moves =
+holds_more red ds d seat held new low fit one was moves =
     hand_with (λ (xs : List Deed). Holds xs seat new) ds d
     (λ h none. none_begun red ds d seat held new fit one h none (subst (λ (xs : List Deed). Holds xs seat held) none was) moves)
-    (holds_step red (before_in (hand ds) d) d seat held new (parts_of red ds d one).inside before moves)
+    (holds_step red (before_in (hand ds) d) d seat held new low (parts_of red ds d one).inside before moves)
   where
     by_test : (b : Bool) → (face : ℕ) → face < 37 → cond b 0 (get_or held face 0) + number_in (tiles_lost (cond b [] (hand ds)) seat) face ≡ number_in (tiles_gained (cond b [] (hand ds)) seat) face
     by_test true face small = refl
@@ -173,11 +160,6 @@ holds_more red ds d seat held new fit one was moves =
 -- A seat that was given nothing holds nothing.
 pub holds_nothing : (seat : ℕ) → Holds [] seat (replicate 37 0)
 holds_nothing seat face small = ap (λ n. n + 0) (zero_at 37 face)
-
--- Two numbers that a deed treats alike hold the same.
-pub moves_alike : (d : Deed) (one seat : ℕ) (held now : List ℕ) → Alike d one seat → Moves d one held now → Moves d seat held now
-moves_alike d one seat held now a moves face few =
-    moves face (subst (λ (xs : List ℕ). held_before d held face + number_in xs face ≤ 255) (sym a.gains) few) ∙ (λ i. held_before d held face + number_in (a.gains i) face - number_in (a.losses i) face)
 
 -- what is read
 
@@ -203,6 +185,24 @@ tiles_are ds seat held holds =
     same_copies (λ face. get_or held face 0) (λ face. number_in (tiles_gained ds seat) face - number_in (tiles_lost ds seat) face) tile_order order_small
     (λ face small. left _ _ _ (holds face small))
 
+-- A face stands among the concealed tiles of a seat exactly where it holds one of it.
+pub has_one : (ds : List Deed) (seat face : ℕ) (held : List ℕ) → Holds ds seat held → face < 37 → ltb 0 (get_or held face 0) ≡ ltb 0 (number_in (concealed_tiles ds seat) face)
+has_one ds seat face held holds small = by_held (cases_lt 0 (get_or held face 0))
+  where
+    is : get_or held face 0 ≡ number_in (tiles_gained ds seat) face - number_in (tiles_lost ds seat) face
+    is = left _ _ _ (holds face small)
+
+    nothing : (n m : ℕ) → n ≡ m → n ≤ 0 → m ≡ 0
+    nothing n m e h = omega (arith, e, h)
+
+    by_held : (0 < get_or held face 0) ⊎ (get_or held face 0 ≤ 0) → ltb 0 (get_or held face 0) ≡ ltb 0 (number_in (concealed_tiles ds seat) face)
+    by_held (inl some) =
+        lt-ltb 0 (get_or held face 0) some
+        ∙ sym (lt-ltb 0 (number_in (concealed_tiles ds seat) face) (some_left (tiles_gained ds seat) (tiles_lost ds seat) face (subst (λ n. 0 < n) is some) small))
+    by_held (inr none) =
+        le-ltb 0 (get_or held face 0) none
+        ∙ sym (ap (λ n. ltb 0 n) (none_left (tiles_gained ds seat) (tiles_lost ds seat) face (nothing _ _ is none)))
+
 -- So many of a face.
 pub held_is : (red : Bool) (ds : List Deed) (seat face n : ℕ) (held : List ℕ) → all_fit red [] ds ≡ true → Holds (hand ds) seat held → face < 37 → n ≡ get_or held face 0 →
     n ≡ min (number_in (tiles_gained (hand ds) seat) face - number_in (tiles_lost (hand ds) seat) face) 4
@@ -213,12 +213,12 @@ held_is red ds seat face n held fit holds small is =
     few n m l g e f h = omega (arith, e, f, h)
 
 -- What is kept of a seat, of the deeds that a table stands for.
-pub told : (rules : Rules) (ds : List Deed) (played : Play) (tiles : Seats (List ℕ)) (seat : ℕ) (held : List ℕ) → all_fit rules.red [] ds ≡ true →
-    ((s : ℕ) → Holds (hand ds) s (of_any tiles s)) → record { rules = rules; deeds = ds } ≡ played → held ≡ of_any tiles seat →
+pub told : (rules : Rules) (ds : List Deed) (played : Play) (tiles : Four (List ℕ)) (seat : ℕ) (held : List ℕ) → seat ≤ 3 → all_fit rules.red [] ds ≡ true →
+    ((s : ℕ) → s ≤ 3 → Holds (hand ds) s (at_seat tiles s)) → record { rules = rules; deeds = ds } ≡ played → held ≡ at_seat tiles seat →
     (all_fit played.rules.red [] played.deeds ≡ true) × Holds (hand played.deeds) seat held
-told rules ds played tiles seat held fit each is at = (
+told rules ds played tiles seat held low fit each is at = (
   subst (λ (p : Play). all_fit p.rules.red [] p.deeds ≡ true) is fit,
-  subst (λ (row : List ℕ). Holds (hand played.deeds) seat row) (sym at) (subst (λ (p : Play). Holds (hand p.deeds) seat (of_any tiles seat)) is (each seat)),
+  subst (λ (row : List ℕ). Holds (hand played.deeds) seat row) (sym at) (subst (λ (p : Play). Holds (hand p.deeds) seat (at_seat tiles seat)) is (each seat low)),
 )
 
 -- Of no kind a seat holds more than four.

@@ -17,8 +17,8 @@ use Rattle.mj_deeds.specs.Fits.{are_held, brought_by, fits_in, has_seats, has_he
 use Rattle.mj_table.proofs.Spare.{one_more}
 use Rattle.mj_table.specs.declared.hand_facts.HandFacts.{HandFacts}
 use Rattle.mj_table.specs.declared.seat_facts.SeatFacts.{SeatFacts}
-use Rattle.mj_table.specs.declared.seats.Seats.{Seats}
-use Rattle.mj_table.specs.Inner.Any.{of_any}
+use Rattle.mj_deeds.specs.declared.four.Four.{Four}
+use Rattle.mj_deeds.specs.Four.{at_seat}
 use Rattle.mj_table.specs.Inner.Fitting.{are_four, adds_to_own, has_places, has_tile_left, reaches_first, fits_by}
 use Rattle.mj_table.specs.Inner.Hands.{Knows, Few}
 
@@ -69,9 +69,12 @@ all_held hand d a b c e result p q r s is = is ∙ (λ i. p i && q i && r i && s
 
 -- the other parts
 
-adds_kept : (hand : List Deed) (facts : HandFacts) (d : Deed) → Knows hand facts → adds_to_own facts.seats d ≡ has_triplet hand d
-adds_kept hand facts (AddedKan who tile a b c) k = ap (λ (melds : List Meld). list_any (is_triplet_of tile a b c) melds) (k.seats who).melds
-adds_kept hand facts other k = refl
+below : (who : ℕ) (rest : Bool) → (nat_lt who 4 && rest) ≡ true → who ≤ 3
+below who rest h = let low : who < 4 = ltb-true who 4 (and_parts (nat_lt who 4) rest h).0 in omega (arith, low)
+
+adds_kept : (hand : List Deed) (facts : HandFacts) (d : Deed) → has_seats d ≡ true → Knows hand facts → adds_to_own facts.seats d ≡ has_triplet hand d
+adds_kept hand facts (AddedKan who tile a b c) seats k = ap (λ (melds : List Meld). list_any (is_triplet_of tile a b c) melds) (k.seats who (below who true seats)).melds
+adds_kept hand facts other seats k = refl
 
 same_tests : (f g : ℕ → Bool) (kinds : List ℕ) → list_all (λ kind. ltb kind 34) kinds ≡ true → ((kind : ℕ) → kind < 34 → f kind ≡ g kind) → list_all f kinds ≡ list_all g kinds
 same_tests f g [] all same = refl
@@ -98,14 +101,14 @@ pub few_brought : (hand : List Deed) (facts : HandFacts) → Few hand → Knows 
 few_brought hand facts few k kind small = subst (λ (n : ℕ). n ≤ 4) (sym (k.brought kind small)) (few.brought kind small)
 
 pub places_kept : (hand : List Deed) (facts : HandFacts) (d : Deed) (places : Bool) → Knows hand facts → places ≡ has_places facts.seats d → places ≡ has_room hand d
-places_kept hand facts d places k is = is ∙ (λ i. at 0 i && (at 1 i && (at 2 i && (at 3 i && true))))
+places_kept hand facts d places k is = is ∙ (λ i. at 0 (omega arith) i && (at 1 (omega arith) i && (at 2 (omega arith) i && (at 3 (omega arith) i && true))))
   where
-    at : (seat : ℕ) → leb (length (of_any facts.seats seat).melds + length (makes_by seat d)) 4 ≡ leb (length (seat_melds hand seat) + length (makes_by seat d)) 4
-    at seat = ap (λ (melds : List Meld). leb (length melds + length (makes_by seat d)) 4) (k.seats seat).melds
+    at : (seat : ℕ) → seat ≤ 3 → leb (length (at_seat facts.seats seat).melds + length (makes_by seat d)) 4 ≡ leb (length (seat_melds hand seat) + length (makes_by seat d)) 4
+    at seat low = ap (λ (melds : List Meld). leb (length melds + length (makes_by seat d)) 4) (k.seats seat low).melds
 
 -- No seat has more than four melds, and a deed that is no call makes none.
-pub few_melds : (hand : List Deed) (facts : HandFacts) → Few hand → Knows hand facts → (seat : ℕ) → length (of_any facts.seats seat).melds ≤ 4
-few_melds hand facts few k seat = subst (λ (melds : List Meld). length melds ≤ 4) (sym (k.seats seat).melds) (few.melds seat)
+pub few_melds : (hand : List Deed) (facts : HandFacts) → Few hand → Knows hand facts → (seat : ℕ) → seat ≤ 3 → length (at_seat facts.seats seat).melds ≤ 4
+few_melds hand facts few k seat low = subst (λ (melds : List Meld). length melds ≤ 4) (sym (k.seats seat low).melds) (few.melds seat)
 
 none_made : (d : Deed) (seat : ℕ) → is_call d ≡ false → makes_by seat d ≡ []
 none_made (Chi who target tile a b) seat h = cc
@@ -114,36 +117,37 @@ none_made (OpenKan who target tile a b c) seat h = cc
 none_made (ClosedKan who a b c d) seat h = cc
 none_made other seat h = refl
 
-pub no_call_fits : (seats : Seats SeatFacts) (d : Deed) → is_call d ≡ false → ((seat : ℕ) → length (of_any seats seat).melds ≤ 4) → true ≡ has_places seats d
-no_call_fits seats d none few = λ i. at 0 i && (at 1 i && (at 2 i && (at 3 i && true)))
+pub no_call_fits : (seats : Four SeatFacts) (d : Deed) → is_call d ≡ false → ((seat : ℕ) → seat ≤ 3 → length (at_seat seats seat).melds ≤ 4) → true ≡ has_places seats d
+no_call_fits seats d none few = λ i. at 0 (omega arith) i && (at 1 (omega arith) i && (at 2 (omega arith) i && (at 3 (omega arith) i && true)))
   where
     room : (n m : ℕ) → n ≤ 4 → m ≡ 0 → n + m ≤ 4
     room n m h e = omega (arith, h, e)
 
-    at : (seat : ℕ) → true ≡ leb (length (of_any seats seat).melds + length (makes_by seat d)) 4
-    at seat = sym (le-leb _ 4 (room (length (of_any seats seat).melds) _ (few seat) (ap length (none_made d seat none))))
+    at : (seat : ℕ) → seat ≤ 3 → true ≡ leb (length (at_seat seats seat).melds + length (makes_by seat d)) 4
+    at seat low = sym (le-leb _ 4 (room (length (at_seat seats seat).melds) _ (few seat low) (ap length (none_made d seat none))))
 
 live_kept : (hand : List Deed) (facts : HandFacts) (d : Deed) → Knows hand facts → has_tile_left facts d ≡ has_live hand d
 live_kept hand facts (Draw who tile replacement) k = λ i. replacement || nat_lt 0 (70 - k.drawn i - k.kans i)
 live_kept hand facts other k = λ i. not (is_kan other) || (nat_lt (k.kans i) 4 && nat_lt 0 (70 - k.drawn i - k.kans i))
 
-first_kept : (hand : List Deed) (facts : HandFacts) (d : Deed) → Knows hand facts → reaches_first facts.seats d ≡ is_first_riichi hand d
-first_kept hand facts (ReachAccepted who points bid) k = ap not (k.seats who).marks.accepted
-first_kept hand facts other k = refl
+first_kept : (hand : List Deed) (facts : HandFacts) (d : Deed) → has_seats d ≡ true → Knows hand facts → reaches_first facts.seats d ≡ is_first_riichi hand d
+first_kept hand facts (ReachAccepted who points bid) seats k = ap not (k.seats who (below who _ seats)).marks.accepted
+first_kept hand facts other seats k = refl
 
 -- All parts.
 pub fits_kept : (red held kinds places result : Bool) (hand : List Deed) (facts : HandFacts) (d : Deed) → Knows hand facts → held ≡ has_held hand d → kinds ≡ keeps_kinds hand d →
     places ≡ has_room hand d → result ≡ fits_by red held kinds places facts d → result ≡ fits_in red hand d
 unfolding fits_by fits_in
-fits_kept red held kinds places result hand facts d k h j p is =
-    is
-    ∙ (λ i. has_seats d && h i && adds i && has_tiles red d && j i && p i && live i && first i)
+fits_kept red held kinds places result hand facts d k h j p is = is ∙ by_seats (has_seats d) refl
   where
-    adds : adds_to_own facts.seats d ≡ has_triplet hand d
-    adds = adds_kept hand facts d k
-
     live : has_tile_left facts d ≡ has_live hand d
     live = live_kept hand facts d k
 
-    first : reaches_first facts.seats d ≡ is_first_riichi hand d
-    first = first_kept hand facts d k
+    -- The other parts are looked at where each seat is one.
+    by_seats : (b : Bool) → has_seats d ≡ b →
+        (has_seats d && held && adds_to_own facts.seats d && has_tiles red d && kinds && places && has_tile_left facts d && reaches_first facts.seats d)
+        ≡ (has_seats d && has_held hand d && has_triplet hand d && has_tiles red d && keeps_kinds hand d && has_room hand d && has_live hand d && is_first_riichi hand d)
+    by_seats true e = λ i. has_seats d && h i && adds_kept hand facts d e k i && has_tiles red d && j i && p i && live i && first_kept hand facts d e k i
+    by_seats false e =
+        (λ i. e i && held && adds_to_own facts.seats d && has_tiles red d && kinds && places && has_tile_left facts d && reaches_first facts.seats d)
+        ∙ sym (λ i. e i && has_held hand d && has_triplet hand d && has_tiles red d && keeps_kinds hand d && has_room hand d && has_live hand d && is_first_riichi hand d)

@@ -10,7 +10,7 @@ use Rattle.mj_tiles.proofs.CountSteps.{number_of-append}
 use Rattle.mj_deeds.specs.declared.deed.Deed.{Deed}
 use Rattle.mj_deeds.specs.declared.deed.Deed.TheVariants.{StartHand, Draw, OpenKan, ClosedKan, AddedKan, Dora}
 use Rattle.mj_deeds.specs.Facts.{newest, indicators_by, indicators, adds_by, is_kan, kans, is_live_draw, live_draws, live_tiles}
-use Rattle.mj_deeds.specs.Fits.{ground_of, is_in_place, is_after_kan, fits, all_fit, has_live, has_seats, brought_by}
+use Rattle.mj_deeds.specs.Fits.{ground_of, is_in_place, is_after_kan, fits, all_fit, has_live, brought_by}
 use Rattle.mj_deeds.specs.Hand.{is_hand_start, hand}
 use Rattle.mj_deeds.proofs.Fitted.{Parts, all_fit-append, kept, kept_in_hand, parts_of, four_kans, four_melds, four_of_kind}
 use Rattle.mj_deeds.proofs.HandSteps.{behind, hand_more}
@@ -21,7 +21,7 @@ use Rattle.mj_table.proofs.Spare.{one_more}
 use Rattle.mj_table.specs.Plays.{Play}
 use Rattle.mj_table.specs.declared.hand_facts.HandFacts.{HandFacts}
 use Rattle.mj_table.specs.declared.seat_facts.SeatFacts.{SeatFacts}
-use Rattle.mj_table.specs.Inner.Any.{of_any}
+use Rattle.mj_deeds.specs.Four.{at_seat}
 use Rattle.mj_table.specs.Inner.Kept.{hand_with}
 use Rattle.mj_table.specs.Inner.Hands.{Brings, Knows, Few}
 use Rattle.mj_table.specs.Inner.Seats.{Keeps}
@@ -241,10 +241,10 @@ some_deeds [] d = refl
 some_deeds (x ∷ ds) d = sym (ap not (ne_eqb (suc (length (ds ++ d ∷ []))) 0 (λ e. omega (arith, e))))
 
 -- What is kept of a seat, of the deeds that a table stands for.
-pub seat_kept : (rules : Rules) (ds : List Deed) (played : Play) (facts : HandFacts) (seat : ℕ) (one : SeatFacts) → Knows (hand ds) facts → record { rules = rules; deeds = ds } ≡ played →
-    one ≡ of_any facts.seats seat → Keeps (hand played.deeds) seat one
-seat_kept rules ds played facts seat one known is at =
-    subst (λ (f : SeatFacts). Keeps (hand played.deeds) seat f) (sym at) (subst (λ (p : Play). Keeps (hand p.deeds) seat (of_any facts.seats seat)) is (known.seats seat))
+pub seat_kept : (rules : Rules) (ds : List Deed) (played : Play) (facts : HandFacts) (seat : ℕ) (one : SeatFacts) → seat ≤ 3 → Knows (hand ds) facts → record { rules = rules; deeds = ds } ≡ played →
+    one ≡ at_seat facts.seats seat → Keeps (hand played.deeds) seat one
+seat_kept rules ds played facts seat one low known is at =
+    subst (λ (f : SeatFacts). Keeps (hand played.deeds) seat f) (sym at) (subst (λ (p : Play). Keeps (hand p.deeds) seat (at_seat facts.seats seat)) is (known.seats seat low))
 
 -- What is kept of the newest hand, of the deeds that a table stands for.
 pub known_of : (rules : Rules) (ds : List Deed) (played : Play) (facts : HandFacts) → Knows (hand ds) facts → record { rules = rules; deeds = ds } ≡ played → Knows (hand played.deeds) facts
@@ -258,10 +258,10 @@ few_known red ds facts fit known = subst (λ (n : ℕ). n ≤ 4) (sym known.kans
 
 -- What is kept of the newest hand with a deed more that fits.
 pub facts_more : (red : Bool) (ds : List Deed) (d : Deed) (facts after : HandFacts) → all_fit red [] ds ≡ true → fits red ds d ≡ true →
-    ((before : List Deed) → has_seats d ≡ true → Few (hand_with before d) → Knows before facts → Knows (hand_with before d) after) → Knows (hand ds) facts → Knows (hand (ds ++ d ∷ [])) after
+    ((before : List Deed) → Few (hand_with before d) → Knows before facts → Knows (hand_with before d) after) → Knows (hand ds) facts → Knows (hand (ds ++ d ∷ [])) after
 facts_more red ds d facts after fit one step was =
     subst (λ (xs : List Deed). Knows xs after) is
-    (step (hand ds) (parts_of red ds d one).inside.seats (subst Few (sym is) (few_in_hand red (ds ++ d ∷ []) (all_fit-append red [] ds d fit one))) was)
+    (step (hand ds) (subst Few (sym is) (few_in_hand red (ds ++ d ∷ []) (all_fit-append red [] ds d fit one))) was)
   where
     is : hand_with (hand ds) d ≡ hand (ds ++ d ∷ [])
     is = hand_is_with ds (hand ds) d refl

@@ -15,7 +15,7 @@ use Rattle.mj_table.proofs.LatestKept.{cause_kept, drawn_kept, wins_kept, taken_
 use Rattle.mj_table.proofs.Readers.{ground_told}
 use Rattle.mj_table.specs.Plays.{Play}
 use Rattle.mj_table.specs.declared.hand_facts.HandFacts.{HandFacts}
-use Rattle.mj_table.specs.declared.seats.Seats.{Seats}
+use Rattle.mj_deeds.specs.declared.four.Four.{Four}
 use Rattle.mj_table.specs.Inner.Kept.{Stands, beside}
 use Rattle.mj_table.specs.Inner.Latest.{cause_by, drawn_of, before_wins_of, taken_of}
 
@@ -34,7 +34,7 @@ wins_told rules ds played begun last before n p result some e f is a b what =
     wins_kept ds begun n p result some (a ∙ e) (b ∙ f) what ∙ ap (λ (play : Play). newest (before_wins (hand play.deeds))) is
 
 -- Whether a deed stands in its place.
-pub place_told : (rules : Rules) (ds : List Deed) (played : Play) (d : Deed) (last before n p t : Option Deed) (now : Standing) (held : List ℤ) (lying : ℕ) (tiles : Seats (List ℕ)) (facts : HandFacts) (end : HandEnd) (result : Bool) →
+pub place_told : (rules : Rules) (ds : List Deed) (played : Play) (d : Deed) (last before n p t : Option Deed) (now : Standing) (held : List ℤ) (lying : ℕ) (tiles : Four (List ℕ)) (facts : HandFacts) (end : HandEnd) (result : Bool) →
     Stands rules ds last before now held lying tiles facts → record { rules = rules; deeds = ds } ≡ played → n ≡ last → p ≡ before → t ≡ taken_of n p → end ≡ end_of (hand played.deeds) (standing played.deeds).dealer →
     ((h : List Deed) (points : List ℤ) → t ≡ taken_from h n → end ≡ end_of h now.dealer → result ≡ is_in_place (record { newest = n; hand = h; standing = now; points = points; deposits = lying }) d) →
     result ≡ is_in_place (ground_of played.deeds) d

@@ -1,4 +1,3 @@
-mod AlikeSeats
 mod Brought
 mod CourseKept
 mod FacesHeld

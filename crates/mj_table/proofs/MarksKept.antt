@@ -14,7 +14,6 @@ use Rattle.mj_table.proofs.WinSteps.{behind_win, ippatsu_without}
 use Rattle.mj_table.specs.declared.mark_facts.MarkFacts.{MarkFacts}
 use Rattle.mj_table.specs.declared.marks.Marks.{Marks}
 use Rattle.mj_table.specs.Marks.{marks}
-use Rattle.mj_table.specs.Inner.Alike.{Alike}
 use Rattle.mj_table.specs.Inner.Seats.{KeepsMarks}
 
 any_more : (p : Deed → Bool) (xs : List Deed) (d : Deed) → list_any p (xs ++ d ∷ []) ≡ (list_any p xs || p d)
@@ -41,29 +40,29 @@ given_more ds d seat before now result was is what = by_test (is_win d) refl wha
     by_test true h e = e ∙ was ∙ ap (λ (xs : List Deed). is_ippatsu xs seat) (sym (behind_win (ds ++ d ∷ []) ds d refl h))
     by_test false h e = e ∙ is ∙ ippatsu_without (ds ++ d ∷ []) ds d seat refl h
 
--- All that is kept of it, with one deed more that treats the seat as another.
-pub marks_more : (ds : List Deed) (d : Deed) (one seat : ℕ) (m n : MarkFacts) → Alike d one seat → KeepsMarks ds seat m →
-    n.begun ≡ (m.begun || is_hand_start d) → n.ended ≡ (m.ended || ends_first one d) → n.reached ≡ (m.reached || is_reach_by one d) →
-    n.accepted ≡ (m.accepted || is_accepted_by one d) → n.double ≡ cond m.reached m.double (is_reach_by one d && (m.begun && not m.ended)) →
-    n.declared ≡ (m.reached && (m.declared || is_discard_by one d)) → n.broken ≡ (m.declared && (m.broken || ends_first one d)) →
+-- All that is kept of it, with one deed more.
+pub marks_more : (ds : List Deed) (d : Deed) (seat : ℕ) (m n : MarkFacts) → KeepsMarks ds seat m →
+    n.begun ≡ (m.begun || is_hand_start d) → n.ended ≡ (m.ended || ends_first seat d) → n.reached ≡ (m.reached || is_reach_by seat d) →
+    n.accepted ≡ (m.accepted || is_accepted_by seat d) → n.double ≡ cond m.reached m.double (is_reach_by seat d && (m.begun && not m.ended)) →
+    n.declared ≡ (m.reached && (m.declared || is_discard_by seat d)) → n.broken ≡ (m.declared && (m.broken || ends_first seat d)) →
     n.ippatsu ≡ (n.accepted && not (cond (is_added d) m.broken n.broken)) → n.given ≡ cond (is_win d) m.given n.ippatsu → KeepsMarks (ds ++ d ∷ []) seat n
-marks_more ds d one seat m n a k begun ended reached accepted double declared broken ippatsu given = record {
+marks_more ds d seat m n k begun ended reached accepted double declared broken ippatsu given = record {
   begun = begun ∙ ap (λ b. b || is_hand_start d) k.begun ∙ sym (any_more is_hand_start ds d);
-  ended = ended ∙ (λ i. k.ended i || a.ends i) ∙ sym (any_more (ends_first seat) ds d);
-  reached = reached ∙ (λ i. k.reached i || a.reaches i) ∙ sym (reached_more ds d seat);
+  ended = ended ∙ (λ i. k.ended i || ends_first seat d) ∙ sym (any_more (ends_first seat) ds d);
+  reached = reached ∙ (λ i. k.reached i || is_reach_by seat d) ∙ sym (reached_more ds d seat);
   accepted = is_accepted ∙ sym (accepted_more ds d seat);
-  double = double ∙ (λ i. cond (k.reached i) (k.double i) (a.reaches i && (k.begun i && not (k.ended i)))) ∙ sym (double_more ds d seat);
-  declared = declared ∙ (λ i. k.reached i && (k.declared i || a.discarded i)) ∙ sym (declared_more ds d seat);
+  double = double ∙ (λ i. cond (k.reached i) (k.double i) (is_reach_by seat d && (k.begun i && not (k.ended i)))) ∙ sym (double_more ds d seat);
+  declared = declared ∙ (λ i. k.reached i && (k.declared i || is_discard_by seat d)) ∙ sym (declared_more ds d seat);
   broken = is_broken_now;
   ippatsu = is_within;
   given = given_more ds d seat m.given n.ippatsu n.given k.given is_within given;
 }
   where
     is_accepted : n.accepted ≡ (is_in_riichi ds seat || is_accepted_by seat d)
-    is_accepted = accepted ∙ (λ i. k.accepted i || a.accepts i)
+    is_accepted = accepted ∙ (λ i. k.accepted i || is_accepted_by seat d)
 
     is_broken_now : n.broken ≡ is_broken (ds ++ d ∷ []) seat
-    is_broken_now = broken ∙ (λ i. k.declared i && (k.broken i || a.ends i)) ∙ sym (broken_more ds d seat)
+    is_broken_now = broken ∙ (λ i. k.declared i && (k.broken i || ends_first seat d)) ∙ sym (broken_more ds d seat)
 
     is_within : n.ippatsu ≡ is_ippatsu (ds ++ d ∷ []) seat
     is_within = ippatsu ∙ (λ i. is_accepted i && not (cond (is_added d) (k.broken i) (is_broken_now i))) ∙ sym (ippatsu_more ds d seat)

@@ -29,8 +29,8 @@ use Rattle.mj_table.proofs.InHand.{has_start}
 use Rattle.mj_table.proofs.LatestKept.{previous_is_with}
 use Rattle.mj_wall.specs.declared.setting.Rules.{Rules}
 use Rattle.mj_table.specs.Plays.{Play}
-use Rattle.mj_table.specs.declared.seats.Seats.{Seats}
-use Rattle.mj_table.specs.Inner.Any.{of_any}
+use Rattle.mj_deeds.specs.declared.four.Four.{Four}
+use Rattle.mj_deeds.specs.Four.{at_seat}
 use Rattle.mj_table.specs.declared.hand_facts.HandFacts.{HandFacts}
 use Rattle.mj_table.specs.Inner.Hands.{Knows}
 use Rattle.mj_table.specs.Inner.Kept.{Stands, Holds, beside, hand_with}
@@ -121,15 +121,15 @@ standing_is_with ds d number is = by_start (is_hand_start d) refl
 deposits_are_with : (ds : List Deed) (d : Deed) (lying : ℕ) → lying ≡ deposits ds → cond (is_win d) 0 (lying + cond (is_deposit d) 1 0) ≡ deposits (ds ++ d ∷ [])
 deposits_are_with ds d lying is = ap (λ (n : ℕ). cond (is_win d) 0 (n + cond (is_deposit d) 1 0)) is ∙ sym (deposits_more ds d)
 
-pub stands_at_first : (rules : Rules) (ds : List Deed) (tiles : Seats (List ℕ)) (facts : HandFacts) → ds ≡ [] → ((seat : ℕ) → Holds [] seat (of_any tiles seat)) →
+pub stands_at_first : (rules : Rules) (ds : List Deed) (tiles : Four (List ℕ)) (facts : HandFacts) → ds ≡ [] → ((seat : ℕ) → seat ≤ 3 → Holds [] seat (at_seat tiles seat)) →
     Knows [] facts → Stands rules ds None None first_standing (pos 30000 ∷ pos 30000 ∷ pos 30000 ∷ pos 30000 ∷ []) 0 tiles facts
 unfolding hand
 stands_at_first rules ds tiles facts e none kept_of =
     subst (λ (xs : List Deed). Stands rules xs None None first_standing (pos 30000 ∷ pos 30000 ∷ pos 30000 ∷ pos 30000 ∷ []) 0 tiles facts) (sym e)
     (record { fit = refl; latest = refl; previous = refl; standing = refl; points = refl; deposits = refl; concealed = none; facts = kept_of })
 
-pub stands_more : (rules : Rules) (ds : List Deed) (last before : Option Deed) (now : Standing) (held : List ℤ) (lying number : ℕ) (tiles more : Seats (List ℕ)) (facts after : HandFacts) (d : Deed) → Stands rules ds last before now held lying tiles facts →
-    fits rules.red ds d ≡ true → number ≡ length (starts ds) → ((seat : ℕ) → Holds (hand (ds ++ d ∷ [])) seat (of_any more seat)) → Knows (hand (ds ++ d ∷ [])) after →
+pub stands_more : (rules : Rules) (ds : List Deed) (last before : Option Deed) (now : Standing) (held : List ℤ) (lying number : ℕ) (tiles more : Four (List ℕ)) (facts after : HandFacts) (d : Deed) → Stands rules ds last before now held lying tiles facts →
+    fits rules.red ds d ≡ true → number ≡ length (starts ds) → ((seat : ℕ) → seat ≤ 3 → Holds (hand (ds ++ d ∷ [])) seat (at_seat more seat)) → Knows (hand (ds ++ d ∷ [])) after →
     Stands rules (ds ++ d ∷ []) (Some d) (previous_with facts.begun before last d) (cond (is_hand_start d) (standing_by number (Some d)) now) (changed held d)
     (cond (is_win d) 0 (lying + cond (is_deposit d) 1 0)) more after
 stands_more rules ds last before now held lying number tiles more facts after d s one is moved seats = record {
@@ -144,7 +144,7 @@ stands_more rules ds last before now held lying number tiles more facts after d 
 }
 
 -- What stands for deeds stands for the same ones in other words.
-pub stands_for : (rules : Rules) (ds xs : List Deed) (last l before b : Option Deed) (now n : Standing) (held p : List ℤ) (lying m : ℕ) (tiles : Seats (List ℕ)) (facts : HandFacts) → Stands rules ds last before now held lying tiles facts →
+pub stands_for : (rules : Rules) (ds xs : List Deed) (last l before b : Option Deed) (now n : Standing) (held p : List ℤ) (lying m : ℕ) (tiles : Four (List ℕ)) (facts : HandFacts) → Stands rules ds last before now held lying tiles facts →
     xs ≡ ds → l ≡ last → b ≡ before → n ≡ now → p ≡ held → m ≡ lying → Stands rules xs l b n p m tiles facts
 stands_for rules ds xs last l before b now n held p lying m tiles facts s e h k f g o = record {
   fit = subst (λ (ys : List Deed). all_fit rules.red [] ys ≡ true) (sym e) s.fit;
@@ -153,7 +153,7 @@ stands_for rules ds xs last l before b now n held p lying m tiles facts s e h k 
   standing = f ∙ s.standing ∙ ap standing (sym e);
   points = g ∙ s.points ∙ ap points (sym e);
   deposits = o ∙ s.deposits ∙ ap deposits (sym e);
-  concealed = λ seat. subst (λ (ys : List Deed). Holds (hand ys) seat (of_any tiles seat)) (sym e) (s.concealed seat);
+  concealed = λ seat low. subst (λ (ys : List Deed). Holds (hand ys) seat (at_seat tiles seat)) (sym e) (s.concealed seat low);
   facts = subst (λ (ys : List Deed). Knows (hand ys) facts) (sym e) s.facts;
 }
 

@@ -1,9 +1,7 @@
 -- What is kept of a seat, a deed further.
-use Rattle.std.proofs.Common.{◌≡◌, ℕ, ◌+◌, ◌-◌, ◌<◌, ◌≤◌, ◌==◌, ◌||◌, ◌⊎◌, inl, inr, eqb, ltb, Bool, true, false, List, [], ◌∷◌, ◌++◌, length, take, cond, refl, sym, ap, ◌∙◌, subst, arith}
+use Rattle.std.proofs.Common.{◌≡◌, ℕ, zero, suc, ◌+◌, ◌-◌, ◌≤◌, ◌==◌, ◌||◌, Bool, true, false, List, [], ◌∷◌, ◌++◌, length, take, cond, refl, sym, ap, ◌∙◌, subst, arith}
 use Rattle.std.specs.Prelude.{flat_map, Option, Some, option_to_list}
 use Rattle.std.specs.List.{list_any}
-use Rattle.std.proofs.lemmas.Bool.{eqb-true, cases_lt, lt-ltb, le-ltb}
-use Rattle.std.proofs.lemmas.Bool.Decides.{nat_tests}
 use Rattle.std.proofs.lemmas.List.{length-append}
 use Rattle.std.proofs.lemmas.List.Folds.{list_any-append}
 use Rattle.mj_tiles.specs.Kinds.{no_kinds}
@@ -22,28 +20,25 @@ use Rattle.mj_table.proofs.KindsAmong.{none_among, offered_more}
 use Rattle.mj_table.proofs.Spare.{one_more}
 use Rattle.mj_table.specs.declared.few_tiles.FewTiles.{FewTiles}
 use Rattle.mj_table.specs.declared.mark_facts.MarkFacts.{MarkFacts}
-use Rattle.mj_table.specs.Inner.Alike.{Alike}
-use Rattle.mj_table.specs.Inner.Any.{of_any}
 use Rattle.mj_table.specs.Inner.Few.{Lists}
 use Rattle.mj_table.specs.Inner.Seats.{Keeps, KeepsMarks}
 
 -- the kinds
 
 -- The kinds of a seat's discards with one deed more.
-pub own_more : (ds : List Deed) (d : Deed) (one seat : ℕ) (piece : List ℕ) → Alike d one seat → piece ≡ discards_by one d → kinds_among (river_tiles ds seat ++ piece) ≡ own_kinds (ds ++ d ∷ []) seat
-own_more ds d one seat piece a is = ap (λ (xs : List ℕ). kinds_among (river_tiles ds seat ++ xs)) (is ∙ a.discards) ∙ ap kinds_among (sym (one_more (discards_by seat) ds d))
+pub own_more : (ds : List Deed) (d : Deed) (seat : ℕ) (piece : List ℕ) → piece ≡ discards_by seat d → kinds_among (river_tiles ds seat ++ piece) ≡ own_kinds (ds ++ d ∷ []) seat
+own_more ds d seat piece is = ap (λ (xs : List ℕ). kinds_among (river_tiles ds seat ++ xs)) is ∙ ap kinds_among (sym (one_more (discards_by seat) ds d))
 
 -- Those of the tiles that were offered to it since its last discard.
-pub offers_more : (ds : List Deed) (d : Deed) (one seat result : ℕ) → Alike d one seat →
-    result ≡ kinds_among (cond (is_discard_by one d) [] (offered_tiles ds seat ++ offers_to one d)) → result ≡ kinds_among (offered_tiles (ds ++ d ∷ []) seat)
-offers_more ds d one seat result a what =
-    what ∙ (λ i. kinds_among (cond (a.discarded i) [] (offered_tiles ds seat ++ a.offers i))) ∙ ap kinds_among (sym (offered_more ds d seat))
+pub offers_more : (ds : List Deed) (d : Deed) (seat result : ℕ) →
+    result ≡ kinds_among (cond (is_discard_by seat d) [] (offered_tiles ds seat ++ offers_to seat d)) → result ≡ kinds_among (offered_tiles (ds ++ d ∷ []) seat)
+offers_more ds d seat result what = what ∙ ap kinds_among (sym (offered_more ds d seat))
 
 -- The kinds that a seat let pass with one deed more: those that were offered to it before, unless it discards.
-pub passed_more : (ds : List Deed) (d : Deed) (one seat offered result : ℕ) → Alike d one seat → offered ≡ kinds_among (offered_tiles ds seat) →
-    result ≡ cond (is_discard_by one d) no_kinds offered → result ≡ passed_kinds (ds ++ d ∷ []) seat
-passed_more ds d one seat offered result a was what =
-    what ∙ (λ i. cond (a.discarded i) no_kinds (was i)) ∙ by_test (is_discard_by seat d) (offered_tiles ds seat)
+pub passed_more : (ds : List Deed) (d : Deed) (seat offered result : ℕ) → offered ≡ kinds_among (offered_tiles ds seat) →
+    result ≡ cond (is_discard_by seat d) no_kinds offered → result ≡ passed_kinds (ds ++ d ∷ []) seat
+passed_more ds d seat offered result was what =
+    what ∙ ap (λ n. cond (is_discard_by seat d) no_kinds n) was ∙ by_test (is_discard_by seat d) (offered_tiles ds seat)
     ∙ sym
     (ap (λ (o : Option Deed). kinds_among (passed_before (take (length (ds ++ d ∷ []) - 1) (ds ++ d ∷ [])) seat o)) (newest_more ds d)
     ∙ ap (λ (xs : List Deed). kinds_among (passed_before xs seat (Some d))) (before_more ds d))
@@ -53,12 +48,12 @@ passed_more ds d one seat offered result a was what =
     by_test false tiles = refl
 
 -- The kinds that were offered to it since its reach with one deed more.
-pub since_more : (ds : List Deed) (d : Deed) (one seat result : ℕ) (reached : Bool) → Alike d one seat → reached ≡ has_reached ds seat →
-    result ≡ kinds_among (cond reached (flat_map (offers_to seat) (behind_first (is_reach_by seat) ds) ++ offers_to one d) []) →
+pub since_more : (ds : List Deed) (d : Deed) (seat result : ℕ) (reached : Bool) → reached ≡ has_reached ds seat →
+    result ≡ kinds_among (cond reached (flat_map (offers_to seat) (behind_first (is_reach_by seat) ds) ++ offers_to seat d) []) →
     result ≡ kinds_among (flat_map (offers_to seat) (behind_first (is_reach_by seat) (ds ++ d ∷ [])))
-since_more ds d one seat result reached a is what =
+since_more ds d seat result reached is what =
     what
-    ∙ (λ i. kinds_among (cond (is i) (flat_map (offers_to seat) (behind_first (is_reach_by seat) ds) ++ a.offers i) []))
+    ∙ ap (λ b. kinds_among (cond b (flat_map (offers_to seat) (behind_first (is_reach_by seat) ds) ++ offers_to seat d) [])) is
     ∙ ap kinds_among (sym (offered_since ds d seat))
 
 pub none_since : (result : ℕ) (reached : Bool) (tiles : List ℕ) → result ≡ no_kinds → reached ≡ false → result ≡ kinds_among (cond reached tiles [])
@@ -66,9 +61,9 @@ none_since result reached tiles e h = e ∙ none_among ∙ ap (λ b. kinds_among
 
 -- the tiles that it added, and whether it has won
 
-pub few_added : (ds : List Deed) (d : Deed) (one seat : ℕ) (more : Option ℕ) → Alike d one seat → option_to_list more ≡ adds_by one d → length (flat_map (adds_by seat) (ds ++ d ∷ [])) ≤ 5 →
+pub few_added : (ds : List Deed) (d : Deed) (seat : ℕ) (more : Option ℕ) → option_to_list more ≡ adds_by seat d → length (flat_map (adds_by seat) (ds ++ d ∷ [])) ≤ 5 →
     length (flat_map (adds_by seat) ds ++ option_to_list more) ≤ 5
-few_added ds d one seat more a e few = subst (λ (xs : List ℕ). length xs ≤ 5) (given_more (adds_by seat) ds d more (e ∙ a.adds)) few
+few_added ds d seat more e few = subst (λ (xs : List ℕ). length xs ≤ 5) (given_more (adds_by seat) ds d more e) few
 
 pub fewer_added : (ds : List Deed) (d : Deed) (seat : ℕ) → length (flat_map (adds_by seat) (ds ++ d ∷ [])) ≤ 5 → length (flat_map (adds_by seat) ds) ≤ 5
 fewer_added ds d seat few = less _ _ _ (ap length (one_more (adds_by seat) ds d) ∙ length-append (flat_map (adds_by seat) ds) (adds_by seat d)) few
@@ -76,14 +71,15 @@ fewer_added ds d seat few = less _ _ _ (ap length (one_more (adds_by seat) ds d)
     less : (n m k : ℕ) → n ≡ m + k → n ≤ 5 → m ≤ 5
     less n m k e h = omega (arith, e, h)
 
-pub added_more : (few : FewTiles) (ds : List Deed) (d : Deed) (one seat : ℕ) (more : Option ℕ) → Alike d one seat → option_to_list more ≡ adds_by one d →
+pub added_more : (few : FewTiles) (ds : List Deed) (d : Deed) (seat : ℕ) (more : Option ℕ) → option_to_list more ≡ adds_by seat d →
     Lists few (flat_map (adds_by seat) ds ++ option_to_list more) → Lists few (flat_map (adds_by seat) (ds ++ d ∷ []))
-added_more few ds d one seat more a e k = lists_same few _ _ (sym (given_more (adds_by seat) ds d more (e ∙ a.adds))) k
+added_more few ds d seat more e k = lists_same few _ _ (sym (given_more (adds_by seat) ds d more e)) k
 
-pub won_with : (ds : List Deed) (d : Deed) (one seat : ℕ) (before result : Bool) → Alike d one seat → before ≡ dealer_won ds seat →
-    result ≡ (before || list_any (λ who. who == one) (winners_by d)) → result ≡ dealer_won (ds ++ d ∷ []) seat
-won_with ds d one seat before result a was what =
-    what ∙ (λ i. was i || a.wins i) ∙ sym (list_any-append (λ who. who == seat) (winners ds) (winners_by d)) ∙ ap (list_any (λ who. who == seat)) (sym (one_more winners_by ds d))
+pub won_with : (ds : List Deed) (d : Deed) (seat : ℕ) (before result : Bool) → before ≡ dealer_won ds seat →
+    result ≡ (before || list_any (λ who. who == seat) (winners_by d)) → result ≡ dealer_won (ds ++ d ∷ []) seat
+won_with ds d seat before result was what =
+    what ∙ ap (λ b. b || list_any (λ who. who == seat) (winners_by d)) was
+    ∙ sym (list_any-append (λ who. who == seat) (winners ds) (winners_by d)) ∙ ap (list_any (λ who. who == seat)) (sym (one_more winners_by ds d))
 
 -- the start
 
@@ -102,23 +98,11 @@ nothing_kept seat n melds few marks e h l k = record {
   won = refl;
 }
 
--- What holds of each of the four seats and of all numbers above holds of each seat.
-pub each_seat : {A : Type 0} (P : ℕ → A → Type 0) (a b c d o : A) → P 0 a → P 1 b → P 2 c → P 3 d → ((seat : ℕ) → 4 ≤ seat → P seat o) → (seat : ℕ) →
-    P seat (of_any (record { four = record { first = a; second = b; third = c; fourth = d }; others = o }) seat)
-each_seat {A = A} P a b c d o pa pb pc pd po seat = by_place (cases_lt seat 4)
-  where
-    last : seat < 4 → eqb seat 0 ≡ false → eqb seat 1 ≡ false → eqb seat 2 ≡ false → seat ≡ 3
-    last low e f g = grind (arith, nat_tests, e, f, g, low)
-
-    by_tests : seat < 4 → (p q r : Bool) → eqb seat 0 ≡ p → eqb seat 1 ≡ q → eqb seat 2 ≡ r → P seat (cond p a (cond q b (cond r c d)))
-    by_tests low true q r e f g = subst (λ s. P s a) (sym (eqb-true seat 0 e)) pa
-    by_tests low false true r e f g = subst (λ s. P s b) (sym (eqb-true seat 1 f)) pb
-    by_tests low false false true e f g = subst (λ s. P s c) (sym (eqb-true seat 2 g)) pc
-    by_tests low false false false e f g = subst (λ s. P s d) (sym (last low e f g)) pd
-
-    four : A
-    four = at_seat (record { first = a; second = b; third = c; fourth = d }) seat
-
-    by_place : (seat < 4) ⊎ (4 ≤ seat) → P seat (cond (ltb seat 4) four o)
-    by_place (inl low) = subst (λ t. P seat (cond t four o)) (sym (lt-ltb seat 4 low)) (by_tests low (eqb seat 0) (eqb seat 1) (eqb seat 2) refl refl refl)
-    by_place (inr high) = subst (λ t. P seat (cond t four o)) (sym (le-ltb seat 4 high)) (po seat high)
+-- What holds of each of the four seats holds of every seat.
+pub each_seat : {A : Type 0} (P : ℕ → A → Type 0) (a b c d : A) → P 0 a → P 1 b → P 2 c → P 3 d → (seat : ℕ) → seat ≤ 3 →
+    P seat (at_seat (record { first = a; second = b; third = c; fourth = d }) seat)
+each_seat P a b c d pa pb pc pd zero low = pa
+each_seat P a b c d pa pb pc pd (suc zero) low = pb
+each_seat P a b c d pa pb pc pd (suc (suc zero)) low = pc
+each_seat P a b c d pa pb pc pd (suc (suc (suc zero))) low = pd
+each_seat P a b c d pa pb pc pd (suc (suc (suc (suc n)))) low = absurd (omega (arith, low))

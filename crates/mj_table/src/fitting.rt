@@ -1,25 +1,25 @@
-ghost use Rattle.std.specs.Prelude.{◌≡◌, ◌≤◌, ◌<◌, ◌+◌, ℕ, List, length, slice_index};
+ghost use Rattle.std.specs.Prelude.{◌≡◌, ◌≤◌, ◌<◌, ◌+◌, ℕ, IsTrue, List, length, slice_index};
 ghost use Rattle.mj_tiles.specs.Faces.{number_in};
 ghost use Rattle.mj_deeds.specs.declared.deed.Deed.{Deed};
 ghost use Rattle.mj_deeds.specs.Facts.{losses_by, makes_by};
-ghost use Rattle.mj_deeds.specs.Fits.{are_held, fits_in, has_held};
-ghost use Rattle.mj_table.specs.Inner.Any.{of_any};
+ghost use Rattle.mj_deeds.specs.Fits.{are_held, fits_in, has_held, has_seats};
+ghost use Rattle.mj_deeds.specs.Four.{at_seat};
 ghost use Rattle.mj_table.specs.Inner.Fitting.{fits_by, adds_to_own, are_four, has_place_for, has_places, has_tile_left, reaches_first};
 ghost use Rattle.mj_table.specs.Inner.Hands.{Knows, Few};
 ghost use Rattle.mj_table.specs.Inner.Kept.{Holds};
 
 use crate::bringing::keeps_kinds;
-use crate::hand_facts::{HandFacts, is_kan};
+use crate::hand_facts::HandFacts;
 use crate::meld_steps::has_triplet;
 use crate::seat_facts::SeatFacts;
-use crate::seats::Seats;
-use mj_deeds::{Deed, has_seats, has_tiles, is_call, made};
+use mj_deeds::{Deed, Four, has_seats, has_tiles, is_call, is_kan, made};
 use mj_tiles::{Tile, number_among};
 
 // Whether a deed fits behind the deeds before it in its own hand, of which is kept what the seats hold, and their facts.
-pub(crate) fn fits_in(red: bool, held: &Seats<[u8; 37]>, facts: &HandFacts, deed: &Deed) -> bool
-    ensures { (hand : List Deed) → ((seat : ℕ) → Holds hand seat (of_any held.now seat))
-        → Few hand → Knows hand facts.now → result ≡ fits_in red hand deed.now }
+pub(crate) fn fits_in(red: bool, held: &Four<[u8; 37]>, facts: &HandFacts, deed: &Deed) -> bool
+    ensures { (hand : List Deed)
+        → ((seat : ℕ) → seat ≤ 3 → Holds hand seat (at_seat held.now seat)) → Few hand
+        → Knows hand facts.now → result ≡ fits_in red hand deed.now }
 {
     let held = has_held(held, deed);
     let kinds = keeps_kinds(&facts.brought, deed);
@@ -44,14 +44,15 @@ fn fits_by(red: bool, held: bool, kinds: bool, places: bool, facts: &HandFacts, 
 }
 
 // Whether each seat holds the tiles that it puts down.
-fn has_held(held: &Seats<[u8; 37]>, deed: &Deed) -> bool
-    ensures { (hand : List Deed) → ((seat : ℕ) → Holds hand seat (of_any held.now seat)) → result
+fn has_held(held: &Four<[u8; 37]>, deed: &Deed) -> bool
+    ensures { (hand : List Deed)
+        → ((seat : ℕ) → seat ≤ 3 → Holds hand seat (at_seat held.now seat)) → result
         ≡ has_held hand deed.now }
 {
-    let first = holds_own(&held.four.first, 0, deed);
-    let second = holds_own(&held.four.second, 1, deed);
-    let third = holds_own(&held.four.third, 2, deed);
-    let fourth = holds_own(&held.four.fourth, 3, deed);
+    let first = holds_own(&held.first, 0, deed);
+    let second = holds_own(&held.second, 1, deed);
+    let third = holds_own(&held.third, 2, deed);
+    let fourth = holds_own(&held.fourth, 3, deed);
     are_four(first, second, third, fourth)
 }
 
@@ -124,7 +125,8 @@ fn are_held(held: &[u8; 37], tiles: &[Tile]) -> bool
 }
 
 // Whether a tile that is added goes to an own pon of its kind.
-fn adds_to_pon(seats: &Seats<SeatFacts>, deed: &Deed) -> bool
+fn adds_to_pon(seats: &Four<SeatFacts>, deed: &Deed) -> bool
+    requires { IsTrue (has_seats deed.now) }
     ensures { result ≡ adds_to_own seats.now deed.now }
 {
     match deed {
@@ -134,14 +136,14 @@ fn adds_to_pon(seats: &Seats<SeatFacts>, deed: &Deed) -> bool
             a,
             b,
             c,
-        } => has_triplet(&seats.of(*seat).melds, *tile, *a, *b, *c),
+        } => has_triplet(&seats.at(*seat).melds, *tile, *a, *b, *c),
         _ => true,
     }
 }
 
 // Whether no seat has a fifth meld with a deed, where none has one before it.
-fn has_places(seats: &Seats<SeatFacts>, deed: &Deed) -> bool
-    ensures { ((seat : ℕ) → length (of_any seats.now seat).melds ≤ 4) → result
+fn has_places(seats: &Four<SeatFacts>, deed: &Deed) -> bool
+    ensures { ((seat : ℕ) → seat ≤ 3 → length (at_seat seats.now seat).melds ≤ 4) → result
         ≡ has_places seats.now deed.now }
 {
     if !is_call(deed) {
@@ -153,10 +155,11 @@ fn has_places(seats: &Seats<SeatFacts>, deed: &Deed) -> bool
         && has_place_for(seats, deed, 3)
 }
 
-fn has_place_for(seats: &Seats<SeatFacts>, deed: &Deed, seat: u8) -> bool
+fn has_place_for(seats: &Four<SeatFacts>, deed: &Deed, seat: u8) -> bool
+    requires { seat ≤ 3 }
     ensures { result ≡ has_place_for seats.now deed.now seat }
 {
-    seats.of(seat).melds.as_slice().len() + number_made(deed, seat) <= 4
+    seats.at(seat).melds.as_slice().len() + number_made(deed, seat) <= 4
 }
 
 // How many melds a seat makes by a deed.
@@ -181,11 +184,12 @@ fn has_tile_left(facts: &HandFacts, deed: &Deed) -> bool
 }
 
 // Whether an accepted reach is the first one of its seat.
-fn reaches_first(seats: &Seats<SeatFacts>, deed: &Deed) -> bool
+fn reaches_first(seats: &Four<SeatFacts>, deed: &Deed) -> bool
+    requires { IsTrue (has_seats deed.now) }
     ensures { result ≡ reaches_first seats.now deed.now }
 {
     match deed {
-        Deed::ReachAccepted { seat, .. } => !seats.of(*seat).marks.accepted,
+        Deed::ReachAccepted { seat, .. } => !seats.at(*seat).marks.accepted,
         _ => true,
     }
 }

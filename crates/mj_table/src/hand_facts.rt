@@ -1,7 +1,6 @@
-ghost use Rattle.std.specs.Prelude.{◌≡◌, ◌≤◌, ◌++◌, ◌∷◌, [], ◌-◌, List, true};
+ghost use Rattle.std.specs.Prelude.{◌≡◌, ◌≤◌, ◌++◌, ◌∷◌, [], ◌-◌, List};
 ghost use Rattle.mj_deeds.specs.declared.deed.Deed.{Deed};
-ghost use Rattle.mj_deeds.specs.Facts.{is_live_draw, is_kan};
-ghost use Rattle.mj_deeds.specs.Fits.{has_seats};
+ghost use Rattle.mj_deeds.specs.Facts.{is_live_draw};
 ghost use Rattle.mj_table.specs.Inner.Kept.{hand_with};
 ghost use Rattle.mj_table.specs.Inner.Hands.{Knows, Few};
 
@@ -9,8 +8,7 @@ use crate::bringing::bring;
 use crate::counted::counted;
 use crate::course_facts::{CourseFacts, follow, no_course};
 use crate::seat_facts::{SeatFacts, keep_each, no_seats};
-use crate::seats::Seats;
-use mj_deeds::{Deed, is_hand_start};
+use mj_deeds::{Deed, Four, is_hand_start, is_kan};
 
 // What is kept of the deeds of one hand.
 #[derive(Clone, Copy)]
@@ -23,7 +21,7 @@ pub(crate) struct HandFacts {
     // how many tiles of each kind were brought in
     pub brought: [u8; 34],
     pub course: CourseFacts,
-    pub seats: Seats<SeatFacts>,
+    pub seats: Four<SeatFacts>,
 }
 
 impl HandFacts {
@@ -52,8 +50,7 @@ pub(crate) fn no_facts() -> HandFacts
 
 // Learns a deed more of the newest hand, or the first one of a hand that it starts.
 pub(crate) fn learn(facts: &mut HandFacts, deed: &Deed)
-    ensures { (before : List Deed) → has_seats deed.now ≡ true
-        → Few (hand_with before deed.now) → Knows before facts.old
+    ensures { (before : List Deed) → Few (hand_with before deed.now) → Knows before facts.old
         → Knows (hand_with before deed.now) facts.new }
 {
     if is_hand_start(deed) {
@@ -69,8 +66,7 @@ pub(crate) fn learn(facts: &mut HandFacts, deed: &Deed)
 
 // Learns a deed of the same hand more.
 fn learn_more(facts: &mut HandFacts, deed: &Deed)
-    ensures { (before : List Deed) → has_seats deed.now ≡ true → Few (before ++ deed.now ∷ [])
-        → Knows before facts.old → Knows (before ++ deed.now ∷ []) facts.new }
+    ensures { (before : List Deed) → Few (before ++ deed.now ∷ []) → Knows before facts.old → Knows (before ++ deed.now ∷ []) facts.new }
 {
     facts.begun = true;
     facts.drawn = counted(facts.drawn, is_live_draw(deed));
@@ -88,14 +84,4 @@ fn is_live_draw(deed: &Deed) -> bool
         Deed::Draw { replacement, .. } => !*replacement,
         _ => false,
     }
-}
-
-// Whether a deed is a kan.
-pub(crate) fn is_kan(deed: &Deed) -> bool
-    ensures { result ≡ is_kan deed.now }
-{
-    matches!(
-        deed,
-        Deed::OpenKan { .. } | Deed::ClosedKan { .. } | Deed::AddedKan { .. }
-    )
 }

@@ -1,46 +1,40 @@
-ghost use Rattle.std.specs.Prelude.{◌≡◌, ◌≤◌, ◌+◌, ◌-◌, [], ℕ, true, slice_index};
+ghost use Rattle.std.specs.Prelude.{◌≡◌, ◌≤◌, ◌+◌, ◌-◌, [], ℕ, slice_index};
 ghost use Rattle.mj_tiles.specs.Faces.{number_in};
-ghost use Rattle.mj_deeds.specs.Fits.{has_seats};
-ghost use Rattle.mj_table.specs.Inner.Any.{of_any};
+ghost use Rattle.mj_deeds.specs.Four.{at_seat};
 ghost use Rattle.mj_table.specs.Inner.Kept.{Holds, Moves};
 
-use crate::seats::Seats;
 use mj_deeds::{Deed, Four};
 use mj_tiles::Tile;
 
 // Moves the tiles of the seats by a deed, of which they hold so many of each face.
-pub(crate) fn move_tiles(held: &mut Seats<[u8; 37]>, deed: &Deed)
-    ensures { (seat : ℕ) → has_seats deed.now ≡ true
-        → Moves deed.now seat (of_any held.old seat) (of_any held.new seat) }
+pub(crate) fn move_tiles(held: &mut Four<[u8; 37]>, deed: &Deed)
+    ensures { (seat : ℕ) → seat ≤ 3 → Moves deed.now seat (at_seat held.old seat) (at_seat held.new seat) }
 {
-    move_own(&mut held.four.first, 0, deed);
-    move_own(&mut held.four.second, 1, deed);
-    move_own(&mut held.four.third, 2, deed);
-    move_own(&mut held.four.fourth, 3, deed);
-    move_own(&mut held.others, 4, deed);
+    move_own(&mut held.first, 0, deed);
+    move_own(&mut held.second, 1, deed);
+    move_own(&mut held.third, 2, deed);
+    move_own(&mut held.fourth, 3, deed);
 }
 
 // What the seats hold before a hand.
-pub(crate) fn nothing_held() -> Seats<[u8; 37]>
-    ensures { (seat : ℕ) → Holds [] seat (of_any result seat) }
+pub(crate) fn nothing_held() -> Four<[u8; 37]>
+    ensures { (seat : ℕ) → seat ≤ 3 → Holds [] seat (at_seat result seat) }
 {
-    Seats {
-        four: Four {
-            first: [0; 37],
-            second: [0; 37],
-            third: [0; 37],
-            fourth: [0; 37],
-        },
-        others: [0; 37],
+    Four {
+        first: [0; 37],
+        second: [0; 37],
+        third: [0; 37],
+        fourth: [0; 37],
     }
 }
 
-// Moves the tiles of a seat by a deed: a start of a hand deals to it, it draws one, or it puts down tiles of its own.
+// Moves the tiles of a seat, 0 to 3, by a deed: a start of a hand deals to it, it draws one, or it puts down tiles of its own.
 fn move_own(held: &mut [u8; 37], seat: u8, deed: &Deed)
+    requires { seat ≤ 3 }
     ensures { Moves deed.now seat held.old held.new }
 {
     match deed {
-        Deed::StartHand { hands, .. } => deal(held, hands.at(seat.min(3))),
+        Deed::StartHand { hands, .. } => deal(held, hands.at(seat)),
         Deed::Draw {
             seat: who,
             tile,

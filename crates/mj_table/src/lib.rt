@@ -20,7 +20,6 @@ mod reason;
 mod riichi;
 mod room;
 mod seat_facts;
-mod seats;
 mod standing;
 mod table;
 mod winning;

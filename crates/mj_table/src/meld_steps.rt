@@ -3,7 +3,6 @@ ghost use Rattle.std.specs.List.{list_any};
 ghost use Rattle.mj_deeds.specs.declared.deed.Deed.{Deed};
 ghost use Rattle.mj_deeds.specs.Facts.{adds_by, with_added, seat_melds};
 ghost use Rattle.mj_deeds.specs.Fits.{is_triplet_of};
-ghost use Rattle.mj_table.specs.Inner.Alike.{Alike};
 ghost use Rattle.mj_table.specs.Inner.Few.{Lists};
 
 use crate::few_tiles::FewTiles;
@@ -12,11 +11,10 @@ use mj_tiles::{Meld, Melds, Tile};
 
 // Takes the melds of a seat a deed further, with the tiles that it had added before.
 pub(crate) fn meld(melds: &mut Melds, tiles: &FewTiles, seat: u8, deed: &Deed)
-    ensures { (before : List Deed) → (who : ℕ) → Alike deed.now seat who
-        → length (seat_melds (before ++ deed.now ∷ []) who) ≤ 4
-        → length (flat_map (adds_by who) before) ≤ 5
-        → Lists tiles.now (flat_map (adds_by who) before) → melds.old ≡ seat_melds before who
-        → melds.new ≡ seat_melds (before ++ deed.now ∷ []) who }
+    ensures { (before : List Deed) → length (seat_melds (before ++ deed.now ∷ []) seat) ≤ 4
+        → length (flat_map (adds_by seat) before) ≤ 5
+        → Lists tiles.now (flat_map (adds_by seat) before) → melds.old ≡ seat_melds before seat
+        → melds.new ≡ seat_melds (before ++ deed.now ∷ []) seat }
 {
     match made(deed, seat) {
         Some(meld) => *melds = with_meld(*melds, with_added(meld, tiles)),

@@ -1,6 +1,6 @@
 ghost use Rattle.std.specs.Prelude.{◌≡◌, ◌++◌, ℕ, List, false, option_to_list};
 ghost use Rattle.mj_deeds.specs.Passed.{kinds_among, offers_to};
-ghost use Rattle.mj_table.specs.Inner.Passing.{is_discard};
+ghost use Rattle.mj_deeds.specs.Facts.{is_discard};
 
 use mj_deeds::Deed;
 use mj_tiles::{Kinds, Tile};

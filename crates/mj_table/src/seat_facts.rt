@@ -1,20 +1,18 @@
-ghost use Rattle.std.specs.Prelude.{◌≡◌, ◌<◌, ◌==◌, ◌||◌, ◌++◌, ◌∷◌, [], ℕ, Bool, List, true, false, if◌then◌else◌, option_to_list};
+ghost use Rattle.std.specs.Prelude.{◌≡◌, ◌==◌, ◌||◌, ◌++◌, ◌∷◌, [], ℕ, Bool, List, true, false, if◌then◌else◌, option_to_list};
 ghost use Rattle.std.specs.List.{list_any};
 ghost use Rattle.mj_deeds.specs.declared.deed.Deed.{Deed};
 ghost use Rattle.mj_deeds.specs.declared.deed.Deed.TheVariants as deeds;
 ghost use Rattle.mj_deeds.specs.Ends.{winners_by};
-ghost use Rattle.mj_deeds.specs.Fits.{has_seats};
 ghost use Rattle.mj_deeds.specs.Passed.{kinds_among};
-ghost use Rattle.mj_table.specs.Inner.Alike.{Alike};
 ghost use Rattle.mj_table.specs.Inner.Hands.{Few};
-ghost use Rattle.mj_table.specs.Inner.Passing.{OnlyOffers, is_discard};
+ghost use Rattle.mj_deeds.specs.Facts.{is_discard};
+ghost use Rattle.mj_table.specs.Inner.Passing.{OnlyOffers};
 ghost use Rattle.mj_table.specs.Inner.Seats.{Keeps, AllKeep};
 
 use crate::few_tiles::{FewTiles, no_tiles};
 use crate::mark_facts::{MarkFacts, mark, no_marks};
 use crate::meld_steps::meld;
 use crate::passed::{offered_by, with_tile};
-use crate::seats::Seats;
 use mj_deeds::{Deed, Four, added};
 use mj_tiles::{Kinds, Melds, Tile};
 
@@ -38,24 +36,21 @@ pub(crate) struct SeatFacts {
 }
 
 // What is kept of the seats of a hand without a deed.
-pub(crate) fn no_seats() -> Seats<SeatFacts>
+pub(crate) fn no_seats() -> Four<SeatFacts>
     ensures { AllKeep [] result }
 {
-    Seats {
-        four: Four {
-            first: nothing(),
-            second: nothing(),
-            third: nothing(),
-            fourth: nothing(),
-        },
-        others: nothing(),
+    Four {
+        first: nothing(),
+        second: nothing(),
+        third: nothing(),
+        fourth: nothing(),
     }
 }
 
 // Keeps a deed of the same hand more of each seat.
-pub(crate) fn keep_each(facts: &mut Seats<SeatFacts>, deed: &Deed)
-    ensures { (before : List Deed) → has_seats deed.now ≡ true → Few (before ++ deed.now ∷ [])
-        → AllKeep before facts.old → AllKeep (before ++ deed.now ∷ []) facts.new }
+pub(crate) fn keep_each(facts: &mut Four<SeatFacts>, deed: &Deed)
+    ensures { (before : List Deed) → Few (before ++ deed.now ∷ []) → AllKeep before facts.old
+        → AllKeep (before ++ deed.now ∷ []) facts.new }
 {
     match deed {
         Deed::Draw { .. } => let_all_pass(facts),
@@ -65,40 +60,37 @@ pub(crate) fn keep_each(facts: &mut Seats<SeatFacts>, deed: &Deed)
 }
 
 // Lets each seat pass what was offered to it, by a deed that offers nothing.
-fn let_all_pass(facts: &mut Seats<SeatFacts>)
+fn let_all_pass(facts: &mut Four<SeatFacts>)
     ensures { (before : List Deed) → (deed : Deed) → ((seat : ℕ) → OnlyOffers deed seat [])
         → AllKeep before facts.old → AllKeep (before ++ deed ∷ []) facts.new }
 {
-    facts.four.first.let_pass();
-    facts.four.second.let_pass();
-    facts.four.third.let_pass();
-    facts.four.fourth.let_pass();
-    facts.others.let_pass();
+    facts.first.let_pass();
+    facts.second.let_pass();
+    facts.third.let_pass();
+    facts.fourth.let_pass();
 }
 
-// Keeps a discard of a seat, 0 to 3, which offers its tile to all others.
-fn discard_among(facts: &mut Seats<SeatFacts>, from: u8, tile: Tile)
-    ensures { (before : List Deed) → (drawn : Bool) → from < 4 → AllKeep before facts.old
+// Keeps a discard of a seat, which offers its tile to all others.
+fn discard_among(facts: &mut Four<SeatFacts>, from: u8, tile: Tile)
+    ensures { (before : List Deed) → (drawn : Bool) → AllKeep before facts.old
         → AllKeep (before ++ deeds.Discard from tile drawn ∷ []) facts.new }
 {
-    facts.four.first.see_discard(from == 0, tile);
-    facts.four.second.see_discard(from == 1, tile);
-    facts.four.third.see_discard(from == 2, tile);
-    facts.four.fourth.see_discard(from == 3, tile);
-    facts.others.see_discard(false, tile);
+    facts.first.see_discard(from == 0, tile);
+    facts.second.see_discard(from == 1, tile);
+    facts.third.see_discard(from == 2, tile);
+    facts.fourth.see_discard(from == 3, tile);
 }
 
 // Keeps a deed of each seat that is no draw and no discard.
-fn keep_others(facts: &mut Seats<SeatFacts>, deed: &Deed)
-    ensures { (before : List Deed) → is_discard deed.now ≡ false → has_seats deed.now ≡ true
+fn keep_others(facts: &mut Four<SeatFacts>, deed: &Deed)
+    ensures { (before : List Deed) → is_discard deed.now ≡ false
         → Few (before ++ deed.now ∷ []) → AllKeep before facts.old
         → AllKeep (before ++ deed.now ∷ []) facts.new }
 {
-    keep(&mut facts.four.first, 0, deed);
-    keep(&mut facts.four.second, 1, deed);
-    keep(&mut facts.four.third, 2, deed);
-    keep(&mut facts.four.fourth, 3, deed);
-    keep(&mut facts.others, 4, deed);
+    keep(&mut facts.first, 0, deed);
+    keep(&mut facts.second, 1, deed);
+    keep(&mut facts.third, 2, deed);
+    keep(&mut facts.fourth, 3, deed);
 }
 
 // What is kept of a seat of a hand without a deed.
@@ -174,11 +166,10 @@ impl SeatFacts {
     }
 }
 
-// Keeps a deed that is no discard of a seat, and of each other number that the deed treats alike.
+// Keeps a deed of a seat that is no discard.
 fn keep(facts: &mut SeatFacts, seat: u8, deed: &Deed)
-    ensures { (before : List Deed) → (who : ℕ) → is_discard deed.now ≡ false
-        → Alike deed.now seat who → Few (before ++ deed.now ∷ []) → Keeps before who facts.old
-        → Keeps (before ++ deed.now ∷ []) who facts.new }
+    ensures { (before : List Deed) → is_discard deed.now ≡ false → Few (before ++ deed.now ∷ [])
+        → Keeps before seat facts.old → Keeps (before ++ deed.now ∷ []) seat facts.new }
 {
     facts.passed = facts.offered;
     facts.passed_in_riichi = facts.offered_in_riichi;

@@ -3,7 +3,7 @@ ghost use Rattle.std.specs.List.{list_any};
 ghost use Rattle.mj_tiles.specs.Faces.{number_in, kind_of};
 ghost use Rattle.mj_tiles.specs.Counts.{kind_counts, room_beside};
 ghost use Rattle.mj_tiles.specs.Melds.{tiles_of_meld};
-ghost use Rattle.mj_deeds.specs.Facts.{newest, concealed_tiles, tiles_gained, tiles_lost, drawn_tile, seat_melds, kans, kan_seats, indicators, live_draws, live_tiles};
+ghost use Rattle.mj_deeds.specs.Facts.{newest, concealed_tiles, reds, tiles_gained, tiles_lost, drawn_tile, seat_melds, kans, kan_seats, indicators, live_draws, live_tiles};
 ghost use Rattle.mj_deeds.specs.Firsts.{is_first};
 ghost use Rattle.mj_deeds.specs.Fits.{fits, fits_in, ground_of, has_points, is_in_place, is_triplet_of};
 ghost use Rattle.mj_deeds.specs.Course.{cause, before_wins};
@@ -30,10 +30,9 @@ use crate::meld_steps::has_triplet;
 use crate::reason::reason;
 use crate::room::room_beside;
 use crate::seat_facts::SeatFacts;
-use crate::seats::Seats;
 use crate::standing::stand;
 use mj_deeds::{
-    Deed, Reason, Tiles, deposits_after, has_points, is_hand_start, is_in_place, points_after,
+    Deed, Four, Reason, Tiles, deposits_after, has_points, is_hand_start, is_in_place, points_after,
 };
 use mj_past::Past;
 use mj_rounds::{HandEnd, Standing, first};
@@ -43,7 +42,7 @@ use std::alloc::{AllocError, Global};
 use std::marker::Model;
 
 /// A game as far as it was played: its rules, and its deeds so far, each of which fits behind those before it. It
-/// says each fact of these deeds. No call but `push`, `copy` and `concealed` takes memory. Seats are 0 to 3.
+/// says each fact of these deeds. No call but `push`, `copy` and `concealed` takes memory. Condition wherever a seat is asked for: it is 0 to 3.
 #[derive(Drop)]
 pub struct Table {
     rules: Rules,
@@ -54,7 +53,7 @@ pub struct Table {
     points: [i32; 4],
     deposits: u32,
     // how many concealed tiles of each face the seats hold
-    held: Seats<[u8; 37]>,
+    held: Four<[u8; 37]>,
     // the facts of the newest hand
     facts: HandFacts,
     // all deeds, which are not kept
@@ -76,7 +75,7 @@ impl Model for Table {
 
 impl Table {
     /// The table of a game without a deed.
-    pub fn new(_alloc: Global, rules: Rules) -> Result<Table, AllocError>
+    pub fn new(rules: Rules) -> Result<Table, AllocError>
         ensures { IfOk result (λ table. table ≡ record { rules = rules; deeds = [] }) }
     {
         Ok(Table {
@@ -111,7 +110,7 @@ impl Table {
     }
 
     /// A table of the same rules and the same deeds.
-    pub fn copy(&self, _alloc: Global) -> Result<Table, AllocError>
+    pub fn copy(&self) -> Result<Table, AllocError>
         ensures { IfOk result (λ table. table ≡ self.now) }
     {
         let first = copy_of(self.latest.first.as_ref())?;
@@ -144,15 +143,16 @@ impl Table {
 
     // What is kept of a seat.
     fn kept(&self, seat: u8) -> &SeatFacts
+        requires { seat ≤ 3 }
         ensures { Keeps (hand self.now.deeds) seat result.now }
     {
-        self.facts.seats.of(seat)
+        self.facts.seats.at(seat)
     }
 
     /// Whether a deed fits behind the deeds so far: it stands in its place, its seats are 0 to 3, tiles that are put
-    /// down are held, a tile is added to an own pon, there is no red five in a game without them, no fifth tile of a
-    /// kind, no fifth meld of a seat, no fifth kan, a live tile is left for a live draw or a kan, a seat's reach is
-    /// accepted once, and the points that it says are those before it, changed as it says.
+    /// down are held, a tile is added to an own pon, each tile is one that the game has, a red five only in a game with
+    /// them, there is no fifth tile of a kind, no fifth meld of a seat, no fifth kan, a live tile is left for a live draw
+    /// or a kan, a seat's reach is accepted once, and the points that it says are those before it, changed as it says.
     #[tactic(auto, unfolding(mj_deeds::specs::Fits::fits_behind, mj_deeds::specs::Fits::ground_of))]
     pub fn fits(&self, deed: &Deed) -> bool
         ensures { result ≡ fits self.now.rules.red self.now.deeds deed.now }
@@ -287,19 +287,30 @@ impl Table {
     /// How often each kind stands among the concealed tiles of a seat: the kind of a tile that the newest deed offers
     /// to be won on at most three times.
     pub fn holds(&self, seat: u8) -> Counts
+        requires { seat ≤ 3 }
         ensures value { result ≡ kind_counts (concealed_tiles (hand self.now.deeds) seat) }
-        ensures spare { (tile : ℕ) → offered_tile self.now.deeds ≡ Some tile → seat < 4
+        ensures spare { (tile : ℕ) → offered_tile self.now.deeds ≡ Some tile
             → slice_index result (kind_of tile) < 4 }
     {
-        kinds_held(self.held.of(seat))
+        kinds_held(self.held.at(seat))
     }
 
     /// How many concealed tiles of the face of a tile a seat holds, four at most.
     pub fn held_count(&self, seat: u8, tile: Tile) -> usize
+        requires { seat ≤ 3 }
         ensures { result ≡ min (number_in (tiles_gained (hand self.now.deeds) seat) tile - number_in
             (tiles_lost (hand self.now.deeds) seat) tile) 4 }
     {
-        usize::from(self.held.of(seat)[tile.face() as usize])
+        usize::from(self.held.at(seat)[tile.face() as usize])
+    }
+
+    /// Whether a seat has a red five among its concealed tiles: of characters, of circles and of bamboo.
+    pub fn reds(&self, seat: u8) -> [bool; 3]
+        requires { seat ≤ 3 }
+        ensures { result ≡ reds (hand self.now.deeds) seat }
+    {
+        let held = self.held.at(seat);
+        [held[34] > 0, held[35] > 0, held[36] > 0]
     }
 
     /// The tile that a seat has drawn and holds as drawn; none exactly where the newest deed isn't its draw, or its
@@ -312,6 +323,7 @@ impl Table {
 
     /// The melds of a seat, in the order in which they were made; a pon that a tile was added to is an added kan.
     pub fn melds(&self, seat: u8) -> Melds
+        requires { seat ≤ 3 }
         ensures { result ≡ seat_melds (hand self.now.deeds) seat }
     {
         self.kept(seat).melds
@@ -319,6 +331,7 @@ impl Table {
 
     /// The room that the melds of a seat leave of four tiles of each kind.
     pub fn room(&self, seat: u8) -> Counts
+        requires { seat ≤ 3 }
         ensures { result ≡ room_beside
             (flat_map tiles_of_meld (seat_melds (hand self.now.deeds) seat)) }
     {
@@ -328,6 +341,7 @@ impl Table {
     /// Whether a seat has a pon that no tile was added to, of the tiles `a`, `b` and `c` in tile order, and of the
     /// kind of the tile.
     pub fn has_triplet(&self, seat: u8, tile: Tile, a: Tile, b: Tile, c: Tile) -> bool
+        requires { seat ≤ 3 }
         ensures { result ≡ list_any (is_triplet_of tile a b c)
             (seat_melds (hand self.now.deeds) seat) }
     {
@@ -336,6 +350,7 @@ impl Table {
 
     /// The kinds of the discards of a seat, called ones included.
     pub fn own(&self, seat: u8) -> Kinds
+        requires { seat ≤ 3 }
         ensures { result ≡ own_kinds (hand self.now.deeds) seat }
     {
         self.kept(seat).own
@@ -344,6 +359,7 @@ impl Table {
     /// The kinds that a seat let pass: those of the tiles that others discarded, or added to a triplet, since its own
     /// last discard, or since the start of the hand where it has none. The tile of the newest deed isn't counted.
     pub fn passed(&self, seat: u8) -> Kinds
+        requires { seat ≤ 3 }
         ensures { result ≡ passed_kinds (hand self.now.deeds) seat }
     {
         self.kept(seat).passed
@@ -352,6 +368,7 @@ impl Table {
     /// The kinds that a seat let pass since its reach: those of the tiles that others discarded, or added to a
     /// triplet, since then; none of a seat that has not reached. The tile of the newest deed isn't counted.
     pub fn passed_in_riichi(&self, seat: u8) -> Kinds
+        requires { seat ≤ 3 }
         ensures { result ≡ passed_in_riichi (hand self.now.deeds) seat }
     {
         self.kept(seat).passed_in_riichi
@@ -394,6 +411,7 @@ impl Table {
     /// Whether a seat was within one turn of its riichi when the tile was given that `before_wins` gives: an added
     /// kan that gives it doesn't count.
     pub fn ippatsu_before_wins(&self, seat: u8) -> bool
+        requires { seat ≤ 3 }
         ensures { result ≡ is_ippatsu (before_wins (hand self.now.deeds)) seat }
     {
         self.kept(seat).marks.given
@@ -411,6 +429,7 @@ impl Table {
     /// Whether a seat is in its first turn: a hand has begun, the seat has not discarded in it, and no seat made a
     /// chi, pon or kan.
     pub fn is_first(&self, seat: u8) -> bool
+        requires { seat ≤ 3 }
         ensures { result ≡ is_first (hand self.now.deeds) seat }
     {
         self.kept(seat).marks.is_first()
@@ -418,6 +437,7 @@ impl Table {
 
     /// Whether a seat is in riichi: its reach in the hand was accepted.
     pub fn is_in_riichi(&self, seat: u8) -> bool
+        requires { seat ≤ 3 }
         ensures { result ≡ is_in_riichi (hand self.now.deeds) seat }
     {
         self.kept(seat).marks.accepted
@@ -425,13 +445,15 @@ impl Table {
 
     /// The concealed tiles of a seat, in tile order.
     pub fn concealed(&self, alloc: Global, seat: u8) -> Result<Tiles, AllocError>
+        requires { seat ≤ 3 }
         ensures { IfOk result (λ t. t ≡ concealed_tiles (hand self.now.deeds) seat) }
     {
-        tiles_held(alloc, self.held.of(seat))
+        tiles_held(alloc, self.held.at(seat))
     }
 
     /// The marks of a seat in its hand, all false before a hand has begun.
     pub fn marks(&self, seat: u8) -> Marks
+        requires { seat ≤ 3 }
         ensures { result ≡ marks (hand self.now.deeds) seat }
     {
         self.kept(seat).marks.told()

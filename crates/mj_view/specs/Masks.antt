@@ -1,5 +1,5 @@
 -- A deed as a viewer sees it: each hidden tile, and what the record alone is told, is replaced by none.
-use Rattle.std.specs.Prelude.{ℕ, ◌==◌, Bool, true, false, List, length, Option, Some, None}
+use Rattle.std.specs.Prelude.{ℕ, Bool, true, false, List, length, Option, Some, None}
 use Rattle.mj_deeds.specs.declared.four.Four.{Four}
 use Rattle.mj_deeds.specs.Shown.{Shown, Tiles, Hidden}
 use Rattle.mj_deeds.specs.declared.deed.Viewer.{Viewer}
@@ -8,12 +8,8 @@ use Rattle.mj_deeds.specs.declared.deed.Deed.{Deed}
 use Rattle.mj_deeds.specs.declared.deed.Deed.TheVariants as deeds
 use Rattle.mj_view.specs.declared.masked.Masked.{Masked}
 use Rattle.mj_view.specs.declared.masked.Masked.TheVariants as masks
-use Rattle.mj_view.specs.Tokens.{own_tile}
-
--- Whether a viewer sees what a seat holds: the record sees all, a seat its own.
-abbrev pub sees : Viewer → ℕ → Bool
-sees (Seat seat) owner = owner == seat
-sees Record owner = true
+use Rattle.mj_view.specs.Seen.{own_tile}
+pub use Rattle.mj_view.specs.Seen.{sees}
 
 -- What the record alone is told.
 abbrev pub for_record : {A : Type 0} → Viewer → A → Option A

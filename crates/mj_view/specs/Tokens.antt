@@ -1,21 +1,19 @@
 -- What one seat learns of a deed.
-use Rattle.std.specs.Prelude.{ℕ, ◌==◌, Bool, true, false, Option, Some, None}
+use Rattle.std.specs.Prelude.{ℕ}
+use Rattle.mj_deeds.specs.declared.deed.Viewer.TheVariants.{Seat}
 use Rattle.mj_deeds.specs.declared.deed.Deed.{Deed}
 use Rattle.mj_deeds.specs.declared.deed.Deed.TheVariants as deeds
 use Rattle.mj_deeds.specs.declared.token.Token.{Token}
 use Rattle.mj_deeds.specs.declared.token.Token.TheVariants as tokens
 use Rattle.mj_deeds.specs.Four.{at_seat}
-
--- The tile of a draw, where the seat drew it itself.
-abbrev pub own_tile : Bool → ℕ → Option ℕ
-own_tile true tile = Some tile
-own_tile false tile = None
+use Rattle.mj_view.specs.Seen.{sees}
+pub use Rattle.mj_view.specs.Seen.{own_tile}
 
 -- What a seat sees of a deed.
 abbrev pub token : ℕ → Deed → Token
 token seat (deeds.StartGame names) = tokens.StartGame names
 token seat (deeds.StartHand round number honba deposits dealer indicator hands) = tokens.StartHand indicator (at_seat hands seat)
-token seat (deeds.Draw who tile replacement) = tokens.Draw who (own_tile (who == seat) tile)
+token seat (deeds.Draw who tile replacement) = tokens.Draw who (own_tile (sees (Seat seat) who) tile)
 token seat (deeds.Discard who tile drawn) = tokens.Discard who tile drawn
 token seat (deeds.Chi who target tile a b) = tokens.Chi who target tile a b
 token seat (deeds.Pon who target tile a b) = tokens.Pon who target tile a b

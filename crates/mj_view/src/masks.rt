@@ -2,11 +2,12 @@ ghost use Rattle.std.specs.Prelude.{◌≡◌, ◌≤◌, IfOk};
 ghost use Rattle.mj_deeds.specs.Four.{at_seat};
 ghost use Rattle.mj_deeds.specs.Shown.{tiles_shown, number_hidden};
 ghost use Rattle.mj_view.specs.declared.masked.Masked.TheVariants as masks;
-ghost use Rattle.mj_view.specs.Masks.{sees, for_record, hand_seen, deal_seen, mask};
+ghost use Rattle.mj_view.specs.Masks.{for_record, hand_seen, deal_seen, mask};
+ghost use Rattle.mj_view.specs.Seen.{sees};
 
 use crate::masked::Masked;
+use crate::seen::{own_tile, sees};
 use crate::seen_hands::SeenHands;
-use crate::tokens::own_tile;
 use mj_deeds::{Deed, Four, Hands, Reason, SeatList, ShownHands, Tiles, Viewer, YakuList};
 use mj_tiles::{Kind, Tile};
 use std::alloc::{AllocError, Global};
@@ -156,16 +157,6 @@ pub fn mask(alloc: Global, viewer: Viewer, deed: &Deed) -> Result<Masked, AllocE
             points: *points,
             deposits: *deposits,
         }),
-    }
-}
-
-// Whether a viewer sees the tiles of a seat.
-fn sees(viewer: Viewer, owner: u8) -> bool
-    ensures { result ≡ sees viewer owner }
-{
-    match viewer {
-        Viewer::Seat(seat) => owner == seat,
-        Viewer::Record => true,
     }
 }
 

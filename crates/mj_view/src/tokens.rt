@@ -1,9 +1,10 @@
 ghost use Rattle.std.specs.Prelude.{◌≡◌, IfOk};
 ghost use Rattle.mj_deeds.specs.Four.{at_seat};
 ghost use Rattle.mj_deeds.specs.declared.token.Token.TheVariants as tokens;
-ghost use Rattle.mj_view.specs.Tokens.{own_tile, token};
+ghost use Rattle.mj_view.specs.Tokens.{token};
 
-use mj_deeds::{Deed, Hands, Reason, ShownHands, Tiles, Token};
+use crate::seen::{own_tile, sees};
+use mj_deeds::{Deed, Hands, Reason, ShownHands, Tiles, Token, Viewer};
 use mj_tiles::Tile;
 use std::alloc::{AllocError, Global};
 
@@ -25,7 +26,7 @@ pub fn token(alloc: Global, seat: u8, deed: &Deed) -> Result<Token, AllocError>
             ..
         } => Ok(Token::Draw {
             seat: *who,
-            tile: own_tile(*who == seat, *tile),
+            tile: own_tile(sees(Viewer::Seat(seat), *who), *tile),
         }),
         Deed::Discard {
             seat: who,
@@ -118,13 +119,6 @@ pub fn token(alloc: Global, seat: u8, deed: &Deed) -> Result<Token, AllocError>
         Deed::EndHand => Ok(Token::EndHand),
         Deed::EndGame { .. } => Ok(Token::EndGame),
     }
-}
-
-// The tile of a draw, where the seat drew it itself.
-pub(crate) fn own_tile(is_own: bool, tile: Tile) -> Option<Tile>
-    ensures { result ≡ own_tile is_own tile }
-{
-    if is_own { Some(tile) } else { None }
 }
 
 // The hand that a seat is dealt.

@@ -53,9 +53,9 @@ fn answer_by(alloc: Global, type_name: &str, value: &Value) -> Result<Option<Ans
     match type_name {
         "none" => Ok(pass_in(value)),
         "dahai" => Ok(discard_in(value)),
-        "chi" => call_in(alloc, Call::Chi, value),
-        "pon" => call_in(alloc, Call::Pon, value),
-        "daiminkan" => call_in(alloc, Call::OpenKan, value),
+        "chi" => call_in(alloc, CallKind::Chi, value),
+        "pon" => call_in(alloc, CallKind::Pon, value),
+        "daiminkan" => call_in(alloc, CallKind::OpenKan, value),
         "ankan" => closed_kan_in(alloc, value),
         "kakan" => added_kan_in(alloc, value),
         "reach" => Ok(reach_in(value)),
@@ -91,7 +91,7 @@ fn discard_in(value: &Value) -> Option<Answer>
 
 // A call of a discard.
 #[derive(Clone, Copy)]
-pub(crate) enum Call {
+pub(crate) enum CallKind {
     Chi,
     Pon,
     OpenKan,
@@ -99,7 +99,7 @@ pub(crate) enum Call {
 
 // The call that a value is.
 #[tactic(auto, unfolding(mj_forms::specs::AnswerForms::call_in))]
-fn call_in(alloc: Global, call: Call, value: &Value) -> Result<Option<Answer>, AllocError>
+fn call_in(alloc: Global, call: CallKind, value: &Value) -> Result<Option<Answer>, AllocError>
     ensures { IfOk result (λ a. a ≡ call_read (answer_of_call call) (view value.now)) }
 {
     let Some(actor) = seat_in("actor", value) else {
@@ -118,25 +118,25 @@ fn call_in(alloc: Global, call: Call, value: &Value) -> Result<Option<Answer>, A
 }
 
 // The call with these own tiles, where they are as many as it takes: two for a chi or a pon, three for an open kan.
-fn call_of(call: Call, actor: u8, target: u8, tile: Pai, own: &[Pai]) -> Option<Answer>
+fn call_of(call: CallKind, actor: u8, target: u8, tile: Pai, own: &[Pai]) -> Option<Answer>
     ensures { result ≡ answer_of_call call actor target tile own.now }
 {
     match (call, own) {
-        (Call::Chi, [a, b]) => Some(Answer::Chi {
+        (CallKind::Chi, [a, b]) => Some(Answer::Chi {
             actor,
             target,
             tile,
             a: *a,
             b: *b,
         }),
-        (Call::Pon, [a, b]) => Some(Answer::Pon {
+        (CallKind::Pon, [a, b]) => Some(Answer::Pon {
             actor,
             target,
             tile,
             a: *a,
             b: *b,
         }),
-        (Call::OpenKan, [a, b, c]) => Some(Answer::OpenKan {
+        (CallKind::OpenKan, [a, b, c]) => Some(Answer::OpenKan {
             actor,
             target,
             tile,

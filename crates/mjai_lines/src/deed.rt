@@ -1,6 +1,5 @@
 ghost use Rattle.std.specs.Prelude.{◌≡◌, ◌+◌, ◌<◌, ◌∷◌, ◌++◌, [], OnOk, OnErr, codes, decimal};
 ghost use Rattle.mj_bytes.specs.Adds.{Adds};
-ghost use Rattle.mj_view.specs.Masks.{sees as is_seen};
 ghost use Rattle.mj_forms.specs.Lines.{line as line_for, quoted, bracketed, seat_in_line as seat_written, start_game_line, draw_line, discard_line, call_line, call_object, closed_kan_line, added_kan_line, dora_line, hands_seen, quoted_tile, tile_seen};
 
 use crate::ending::{push_drawn_hand, push_end_game};
@@ -12,6 +11,7 @@ use mj_bytes::{push_all, push_number};
 use mj_deeds::{Deed, Four, Hands, Viewer};
 use mj_ports::Name;
 use mj_tiles::{Kind, Tile};
+use mj_view::sees;
 use std::alloc::{AllocError, Global};
 use std::marker::Brand;
 use std::sync::ledger::{Blank, Ledger};
@@ -176,16 +176,6 @@ fn seat_in_line(viewer: Viewer) -> u8
     match viewer {
         Viewer::Seat(seat) => seat,
         Viewer::Record => 0,
-    }
-}
-
-// Whether a viewer sees the tiles of a seat.
-fn sees(viewer: Viewer, owner: u8) -> bool
-    ensures { result ≡ is_seen viewer owner }
-{
-    match viewer {
-        Viewer::Seat(seat) => seat == owner,
-        Viewer::Record => true,
     }
 }
 

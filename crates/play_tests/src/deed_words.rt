@@ -2,9 +2,10 @@
 //! of the four seats; `draw 0 1m` and `replace 0 1m`; `discard 0 1m`, and `cut 0 1m` for a drawn tile; `chi 1 0 3m 4m
 //! 5m` by seat 1 of the tile of seat 0; `pon` and `open` likewise; `closed 0 1m 1m 1m 1m`; `added 0 E E E E`; `dora
 //! 9p`; `reach 0`; `accepted|0|29000 30000 30000 30000`, with the call that is kept behind it; `win|1|0|5p|-1000 1000
-//! 0 0|29000 31000 30000 30000|2`, with what each gains, the points, and the winners that follow; `drawn|yes no no
-//! no|3000 -1000 -1000 -1000|33000 29000 29000 29000` at the last tile, with the reason behind it where there is another;
-//! `end`; `over|30000 30000 30000 30000|0`.
+//! 0 0|29000 31000 30000 30000|2`, with what each gains, the points, and the winners that follow, and behind it the hand
+//! where it is shown; `drawn|yes no no no|3000 -1000 -1000 -1000|33000 29000 29000 29000` at the last tile, with the reason
+//! behind it where there is another, the tiles of the dealer, and of how many tiles the other hands are; `end`;
+//! `over|30000 30000 30000 30000|0`.
 
 use crate::words::{fields, kind, number, points, tile, tiles, truths, words};
 use mj_deeds::{
@@ -56,20 +57,40 @@ fn deed_of_fields(alloc: Global, fields: &[&str; 8]) -> Option<Deed> {
 fn win(alloc: Global, fields: &[&str; 8]) -> Option<Deed> {
     let (seat, target, tile) = (number(fields[1])?, number(fields[2])?, tile(fields[3])?);
     let (deltas, points) = (points(fields[4])?, points(fields[5])?);
+    let (fu, han, value) = worth(fields[7]);
+    let yaku = yaku(alloc, fields[7])?;
     Some(Deed::Win {
         seat,
         target,
         tile,
         unders: Tiles::from_vec(Vec::new(alloc)),
-        hand: Tiles::from_vec(Vec::new(alloc)),
-        yaku: YakuList::from_vec(Vec::new(alloc)),
-        fu: 30,
-        han: 1,
-        value: 1000,
+        hand: tiles(alloc, fields[7])?,
+        yaku,
+        fu,
+        han,
+        value,
         deltas,
         points,
         rest: seats(fields[6]),
     })
+}
+
+/// The fu, the han and the value of a hand that is shown, or of one that isn't.
+fn worth(hand: &str) -> (u8, u8, u32) {
+    if hand.is_empty() {
+        (30, 1, 1000)
+    } else {
+        (20, 3, 2700)
+    }
+}
+
+/// A hand that is shown was drawn and has pinfu and tanyao.
+fn yaku(alloc: Global, hand: &str) -> Option<YakuList> {
+    if hand.is_empty() {
+        return Some(YakuList::from_vec(Vec::new(alloc)));
+    }
+    let rows = [(3, 1), (4, 1), (6, 1)].to_vec(alloc).ok()?;
+    Some(YakuList::from_vec(rows))
 }
 
 /// At most two seats.
@@ -83,27 +104,46 @@ pub(crate) fn seats(text: &str) -> SeatList {
     }
 }
 
-/// No hand of the four is shown.
 fn drawn_hand(alloc: Global, fields: &[&str; 8]) -> Option<Deed> {
-    let hidden = Four {
-        first: Some(13),
-        second: Some(13),
-        third: Some(13),
-        fourth: Some(13),
-    };
     let ready = truths(fields[1])?;
     let (deltas, points) = (points(fields[2])?, points(fields[3])?);
-    let hands = Hands::of(alloc, &[], &[], &[], &[]).ok()?;
+    let hands = first_hand(alloc, fields[5])?;
     Some(Deed::DrawnHand {
         reason: reason(fields[4]),
-        hands: ShownHands::of(hands, hidden),
+        hands: ShownHands::of(hands, hidden(fields[6])),
         ready,
         deltas,
         points,
     })
 }
 
-fn reason(text: &str) -> Reason {
+/// The tiles of the first seat alone.
+fn first_hand(alloc: Global, text: &str) -> Option<Hands> {
+    let first = tiles(alloc, text)?;
+    Hands::of(alloc, first.as_slice(), &[], &[], &[]).ok()
+}
+
+/// Of how many tiles the hands are that aren't shown: those of all seats where there is no text.
+fn hidden(text: &str) -> Four<Option<u8>> {
+    let [second, third, fourth, ..] = words(text);
+    if text.is_empty() {
+        return Four {
+            first: Some(13),
+            second: Some(13),
+            third: Some(13),
+            fourth: Some(13),
+        };
+    }
+    Four {
+        first: None,
+        second: number(second),
+        third: number(third),
+        fourth: number(fourth),
+    }
+}
+
+/// The reason for a drawn hand.
+pub(crate) fn reason(text: &str) -> Reason {
     match text {
         "kyushukyuhai" => Reason::Kyushukyuhai,
         "suufonrenta" => Reason::Suufonrenta,

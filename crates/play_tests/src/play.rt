@@ -18,11 +18,15 @@ use std::alloc::Global;
 /// The first line of a game that is no deed which fits, and no question with the right answer; empty where there is
 /// none.
 pub(crate) fn wrong_line<'a>(alloc: Global, game: &'a str) -> &'a str {
-    let Ok(mut table) = Table::new(alloc, rules(game)) else {
-        return "no memory";
-    };
+    match Table::new(rules(game)) {
+        Ok(mut table) => first_wrong(alloc, &mut table, game),
+        Err(_) => "no memory",
+    }
+}
+
+fn first_wrong<'a>(alloc: Global, table: &mut Table, game: &'a str) -> &'a str {
     for line in game.lines() {
-        if follow(alloc, &mut table, line) != Some(true) {
+        if follow(alloc, table, line) != Some(true) {
             return line;
         }
     }
@@ -39,12 +43,12 @@ pub(crate) fn rules(game: &str) -> Rules {
 }
 
 /// Adds the deed of a line, or asks its question.
-fn follow(alloc: Global, table: &mut Table, line: &str) -> Option<bool> {
+pub(crate) fn follow(alloc: Global, table: &mut Table, line: &str) -> Option<bool> {
     if let Some((question, told)) = line.split_once('?') {
         return tells(alloc, table, question, told.trim());
     }
     if let Some(number) = line.strip_prefix("draws ") {
-        return draws(alloc, table, number);
+        return draws(table, number);
     }
     add(table, deed(alloc, line)?)
 }
@@ -58,7 +62,7 @@ pub(crate) fn add(table: &mut Table, deed: Deed) -> Option<bool> {
 }
 
 /// Seat 3 draws so many tiles: each of the circles and bamboos four times.
-fn draws(alloc: Global, table: &mut Table, times: &str) -> Option<bool> {
+fn draws(table: &mut Table, times: &str) -> Option<bool> {
     for k in 0..number(times)? {
         let tile = Tile::of((k / 4).saturating_add(9))?;
         let drawn = add(
@@ -79,8 +83,7 @@ fn draws(alloc: Global, table: &mut Table, times: &str) -> Option<bool> {
 /// Whether a table tells this to a question.
 fn tells(alloc: Global, table: &Table, question: &str, told: &str) -> Option<bool> {
     if let Some(line) = question.strip_prefix("fits ") {
-        let wanted = yes(told)?;
-        return Some(table.fits(&deed(alloc, line)?) == wanted);
+        return Some(fits(alloc, table, line)? == yes(told)?);
     }
     if let Some(line) = question.strip_prefix("judge ") {
         return judges(table, line, told);
@@ -98,10 +101,7 @@ fn tells(alloc: Global, table: &Table, question: &str, told: &str) -> Option<boo
         "ended" => Some(table.hand_end() == end(told)?),
         "dealer_won" => Some(table.dealer_won() == yes(told)?),
         "before_wins" => Some(name(table.before_wins()) == told),
-        "concealed" => Some(are(
-            table.concealed(alloc, number(words[1])?).ok()?.as_slice(),
-            told,
-        )),
+        "concealed" => Some(has_concealed(alloc, table, seat_of(words[1])?, told)),
         "standing" => Some(table.standing() == standing(told)?),
         "kan_seat" => Some(table.kan_seat() == number(told)),
         "default" => Some(default_is(table, seat_of(words[1])?, told)),
@@ -111,13 +111,29 @@ fn tells(alloc: Global, table: &Table, question: &str, told: &str) -> Option<boo
     }
 }
 
+/// Whether the deed of a line fits.
+fn fits(alloc: Global, table: &Table, line: &str) -> Option<bool> {
+    let deed = deed(alloc, line)?;
+    Some(table.fits(&deed))
+}
+
+fn has_concealed(alloc: Global, table: &Table, seat: u8, told: &str) -> bool
+    requires { seat ≤ 3 }
+{
+    match table.concealed(alloc, seat) {
+        Ok(tiles) => are(tiles.as_slice(), told),
+        Err(_) => false,
+    }
+}
+
 /// Whether a table tells this to a question about a seat.
 fn tells_of_seat(table: &Table, words: &[&str; 8], told: &str) -> Option<bool> {
     let [word, seat, a, b, c, d, ..] = *words;
-    let seat = number(seat)?;
+    let seat = seat_of(seat)?;
     match word {
         "drawn" => Some(table.drawn(seat) == tile_or_none(told)?),
         "holds" => Some(table.holds(seat) == counts(told)?),
+        "reds" => Some(has_reds(table, seat, told)),
         "held" => Some(table.held_count(seat, tile(a)?) == usize::from(number(told)?)),
         "own" => Some(table.own(seat) == kinds(told)),
         "passed" => Some(table.passed(seat) == kinds(told)),
@@ -193,8 +209,22 @@ pub(crate) fn reason(table: &Table) -> &'static str {
     }
 }
 
+/// Whether a seat has red fives of just these suits, of `m`, `p` and `s`.
+fn has_reds(table: &Table, seat: u8, told: &str) -> bool
+    requires { seat ≤ 3 }
+{
+    table.reds(seat)
+        == [
+            has_word(told, "m"),
+            has_word(told, "p"),
+            has_word(told, "s"),
+        ]
+}
+
 /// Whether a seat has just these marks of riichi.
-fn has_marks(table: &Table, seat: u8, told: &str) -> bool {
+fn has_marks(table: &Table, seat: u8, told: &str) -> bool
+    requires { seat ≤ 3 }
+{
     let marks = table.marks(seat);
     marks.reached == has_word(told, "reached")
         && marks.accepted == has_word(told, "accepted")
@@ -207,7 +237,9 @@ fn has_word(text: &str, word: &str) -> bool {
 }
 
 /// Whether a win of a seat would have these circumstances: its wind, that of the round, and what else holds.
-fn has_case(table: &Table, seat: u8, told: &str) -> Option<bool> {
+fn has_case(table: &Table, seat: u8, told: &str) -> Option<bool>
+    requires { seat ≤ 3 }
+{
     let case = case_of(table, seat);
     let [seat_wind, round_wind, ..] = words(told);
     let winds = case.seat_wind == kind(seat_wind)? && case.round_wind == kind(round_wind)?;
@@ -225,13 +257,17 @@ fn has_case(table: &Table, seat: u8, told: &str) -> Option<bool> {
     Some(winds && riichi && way && time && case.closed == has_word(told, "closed"))
 }
 
-fn has_triplet(table: &Table, seat: u8, texts: [&str; 4]) -> Option<bool> {
+fn has_triplet(table: &Table, seat: u8, texts: [&str; 4]) -> Option<bool>
+    requires { seat ≤ 3 }
+{
     let [added, a, b, c] = texts;
     let (added, a, b, c) = (tile(added)?, tile(a)?, tile(b)?, tile(c)?);
     Some(table.has_triplet(seat, added, a, b, c))
 }
 
-fn meld_at(table: &Table, seat: u8, place: &str) -> Option<Meld> {
+fn meld_at(table: &Table, seat: u8, place: &str) -> Option<Meld>
+    requires { seat ≤ 3 }
+{
     let place = usize::from(number(place)?);
     table.melds(seat).as_slice().get(place).copied()
 }

@@ -1,5 +1,5 @@
 use crate::deed_words::deed;
-use crate::play::{add, reason, rules, wrong_line};
+use crate::play::{add, follow, reason, rules, wrong_line};
 use crate::words::{fields, tile};
 use mj_deeds::{Deed, next_seat};
 use mj_table::Table;
@@ -126,9 +126,18 @@ riichi 3? no";
 const RED: &str = "\
 game red
 hand|F|1125m|1p||
+reds 0?
 draw 0 5mr
+reds 0? m
 discard 0 1m
-holds 0? 1255m";
+holds 0? 1255m
+draw 1 5pr
+reds 1? p
+reds 0? m
+draw 0 5sr
+reds 0? m s
+discard 0 5mr
+reds 0? s";
 
 /// Any call ends the first turn of each seat: a chi, a pon, a kan; a draw and an indicator don't.
 const CHI: &str = "\
@@ -422,7 +431,7 @@ game draws|F F F F|none";
 
 fn ends_so(alloc: Global, line: &str) -> Option<bool> {
     let [game, tiles, told, ..] = fields(line);
-    let mut table = Table::new(alloc, rules(game)).ok()?;
+    let mut table = Table::new(rules(game)).ok()?;
     let discarded = deal(alloc, &mut table) == Some(true)
         && discard(&mut table, tiles) == Some(true);
     Some(discarded && reason(&table) == told)
@@ -466,18 +475,28 @@ fn four_first_discards_of_one_wind_end_the_hand(rt: HostRuntime) {
     }
 }
 
-/// The points and rules of an empty table, and how many kans it and its copy have once one was made on the copy.
+/// Whether a copy of an empty table has its rules and its points, and how many deeds each has once one was added to the
+/// copy.
 fn copied(alloc: Global) -> Option<(bool, u8, u8)> {
-    let table = Table::new(alloc, rules("game red")).ok()?;
-    let first = deed(alloc, "game")?;
-    let mut copy = table.copy(alloc).ok()?;
-    let added = add(&mut copy, first)?;
-    let same = copy.rules() == table.rules() && table.rules().red && added;
-    Some((
-        same && table.points() == [30_000; 4],
-        number(&table),
-        number(&copy),
-    ))
+    match Table::new(rules("game red")) {
+        Ok(table) => copied_from(alloc, &table),
+        Err(_) => None,
+    }
+}
+
+fn copied_from(alloc: Global, table: &Table) -> Option<(bool, u8, u8)> {
+    match table.copy() {
+        Ok(mut copy) => {
+            let added = follow(alloc, &mut copy, "game") == Some(true);
+            let same = copy.rules() == table.rules() && table.rules().red && added;
+            Some((
+                same && table.points() == [30_000; 4],
+                number(table),
+                number(&copy),
+            ))
+        }
+        Err(_) => None,
+    }
 }
 
 fn number(table: &Table) -> u8 {

@@ -1,12 +1,15 @@
 use crate::deed_words::{bid, deed, seats};
-use crate::words::{are, fields, number, tile, tile_or_none, words};
-use mj_deeds::{Tiles, Token, Viewer};
+use crate::words::{are, fields, number, tile, tile_or_none, words, yes};
+use mj_deeds::{Four, Reason, ShownHands, Tiles, Token, Viewer};
+use mj_ports::Name;
 use mj_tiles::Tile;
 use mj_view::{Masked, SeenHands, mask, token};
 use std::alloc::Global;
 
-/// A seat, a deed, and what the token of it says: a draw its seat and its tile or `none`; a start of a hand the
-/// indicator and the own tiles; a win its seat, its target and its tile.
+/// A seat, a deed, and what the token of it says: a start of a game the names; a draw its seat and its tile or
+/// `none`; a discard its seat and its tile, and whether it was drawn; a start of a hand the indicator and the own tiles; a win
+/// its seat, its target and its tile; a drawn hand the tiles of the dealer, and of how many tiles the other hands are. Two
+/// hands are told alike until the others' tiles are shown.
 const TOKENS: &str = "\
 0 draw 0 1m=0 1m
 1 draw 0 1m=0 none
@@ -16,6 +19,16 @@ const TOKENS: &str = "\
 1 hand|C|13m|2p 5s|EE|=C|2p 5s
 2 hand|C|13m|2p 5s|EE|=C|E E
 3 hand|C|13m|2p 5s|EE|=C|
+0 game=a b c d
+0 hand|F|1111222233334m|4445555666677m|7788889999m 111p|1222233334444p=F|1m 1m 1m 1m 2m 2m 2m 2m 3m 3m 3m 3m 4m
+0 hand|F|1111222233334m|4455556666777m|4788889999m 111p|1222233334444p=F|1m 1m 1m 1m 2m 2m 2m 2m 3m 3m 3m 3m 4m
+1 hand|F|1111222233334m|4445555666677m|7788889999m 111p|1222233334444p=F|4m 4m 4m 5m 5m 5m 5m 6m 6m 6m 6m 7m 7m
+1 hand|F|1111222233334m|4455556666777m|4788889999m 111p|1222233334444p=F|4m 4m 5m 5m 5m 5m 6m 6m 6m 6m 7m 7m 7m
+0 draw 1 5p=1 none
+0 draw 1 6p=1 none
+0 cut 1 5p=1 5p yes
+0 drawn|yes no no no|3000 -1000 -1000 -1000|33000 29000 29000 29000|fanpai|12m E|0 1 3=1m 2m E|0 1 3
+0 drawn|yes no no no|3000 -1000 -1000 -1000|33000 29000 29000 29000|fanpai|13m E|0 1 3=1m 3m E|0 1 3
 0 win|1|0|5p|-1000 1000 0 0|29000 31000 30000 30000|2=1 0 5p
 1 win|1|0|5p|-1000 1000 0 0|29000 31000 30000 30000|=1 0 5p";
 
@@ -32,7 +45,10 @@ fn has_token(alloc: Global, line: &str) -> Option<bool> {
 
 fn is_token(found: &Token, wanted: &str) -> Option<bool> {
     match found {
+        Token::StartGame { names } => Some(are_names(names, wanted)),
         Token::Draw { seat, tile } => is_draw(*seat, *tile, wanted),
+        Token::Discard { seat, tile, drawn } => is_discard(*seat, *tile, *drawn, wanted),
+        Token::DrawnHand { reason, hands } => Some(is_drawn_hand(*reason, hands, wanted)),
         Token::StartHand { indicator, hand } => is_start(*indicator, hand, wanted),
         Token::Win {
             seat,
@@ -53,6 +69,30 @@ fn is_draw(seat: u8, drawn: Option<Tile>, wanted: &str) -> Option<bool> {
 fn is_start(indicator: Tile, hand: &Tiles, wanted: &str) -> Option<bool> {
     let [shown, own, ..] = fields(wanted);
     Some(indicator == tile(shown)? && are(hand.as_slice(), own))
+}
+
+fn are_names(names: &Four<Name>, wanted: &str) -> bool {
+    let [first, second, third, fourth, ..] = words(wanted);
+    names.first.as_slice() == first.as_bytes()
+        && names.second.as_slice() == second.as_bytes()
+        && names.third.as_slice() == third.as_bytes()
+        && names.fourth.as_slice() == fourth.as_bytes()
+}
+
+fn is_discard(seat: u8, discarded: Tile, drawn: bool, wanted: &str) -> Option<bool> {
+    let [_, _, by_draw, ..] = words(wanted);
+    Some(is_draw(seat, Some(discarded), wanted)? && drawn == yes(by_draw)?)
+}
+
+fn is_drawn_hand(reason: Reason, hands: &ShownHands, wanted: &str) -> bool {
+    let [shown, numbers, ..] = fields(wanted);
+    let [second, third, fourth, ..] = words(numbers);
+    reason == Reason::Fanpai
+        && hands.hidden(0).is_none()
+        && are(hands.at(0), shown)
+        && hands.hidden(1) == number(second)
+        && hands.hidden(2) == number(third)
+        && hands.hidden(3) == number(fourth)
 }
 
 fn is_win(seat: u8, target: u8, won: Tile, wanted: &str) -> Option<bool> {
@@ -97,7 +137,7 @@ fn has_mask(alloc: Global, line: &str) -> Option<bool> {
 }
 
 /// The seat of a number, or the record.
-fn viewer_of(text: &str) -> Viewer {
+pub(crate) fn viewer_of(text: &str) -> Viewer {
     match number(text) {
         Some(seat) => Viewer::Seat(seat),
         None => Viewer::Record,

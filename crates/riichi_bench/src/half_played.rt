@@ -18,7 +18,7 @@ pub fn half_played(alloc: Global) -> Result<Table, AllocError> {
         draws: false,
         red: false,
     };
-    let mut table = Table::new(alloc, rules)?;
+    let mut table = Table::new(rules)?;
     play_half(alloc, &mut table)?;
     Ok(table)
 }

@@ -31,7 +31,7 @@ pub fn awaited(alloc: Global) -> Result<Table, AllocError> {
         draws: false,
         red: false,
     };
-    let mut table = Table::new(alloc, rules)?;
+    let mut table = Table::new(rules)?;
     play_to_it(alloc, &mut table)?;
     Ok(table)
 }

@@ -1,10 +1,10 @@
+use crate::record_tests::{all_refused, number_of_lines};
 use mj_core::{Core, Expiry, Heard, Left, SitAnswer};
 use mj_deeds::Rule;
 use mj_ports::SitRefused;
 use mj_tiles::Tile;
 use mj_wall::{Rules, Wall};
 use std::alloc::Global;
-use std::test::Fail;
 
 const PASS: &str = "{\"type\":\"none\"}";
 
@@ -21,12 +21,16 @@ enum Step {
     Leaves(u8, Left),
     // The time of a window may have run out between two readings of the clock.
     Expires(u32, u64, u64, Expiry),
+    // The time of so many windows runs out, from the first on.
+    RunOut(u32),
     // This is pending for a seat.
     IsTold(u8, &'static str),
     // This is the line of a seat with this number.
     HasLine(u8, u32, &'static str),
     // The record of the game is this behind its header and its wall.
     IsRecorded(&'static str),
+    // The record of the game has so many lines, and is refused once any of them is spoilt.
+    IsGuarded(u32),
     // So many seats are held, all of them present, and the seats of these marks may say a line.
     Asks(u8, [bool; 4]),
     // A seat is gone.
@@ -38,42 +42,41 @@ enum Step {
 }
 
 // A game on the wall in tile order, before its first entry.
-pub(crate) fn before_all(alloc: Global) -> Result<Core, Fail> {
-    let mut tiles = [Tile::of(0).ok_or("no tile")?; 136];
+fn before_all(alloc: Global) -> Option<Core> {
+    let mut tiles = [Tile::of(0)?; 136];
     for place in 0..136u8 {
-        tiles[usize::from(place)] = Tile::of(place / 4).ok_or("no tile")?;
+        tiles[usize::from(place)] = Tile::of(place / 4)?;
     }
     let Ok(wall) = Wall::read(&tiles, false) else {
-        return Err("no wall".into());
+        return None;
     };
     let rules = Rules {
         limit: 1000,
         draws: false,
         red: false,
     };
-    Ok(Core::new(alloc, vec![in alloc; wall]?, rules)?)
+    Core::new(alloc, vec![in alloc; wall].ok()?, rules).ok()
 }
 
 // What a seat is answered that may say a line.
-fn said(core: &mut Core, alloc: Global, seat: u8, line: &str) -> Result<Heard, Fail> {
+fn said(core: &mut Core, alloc: Global, seat: u8, line: &str) -> Option<Heard> {
     if core.author(seat) == Some(1) && core.may_say(seat) {
-        return Ok(core.said(alloc, 1, seat, line.as_bytes()));
+        return Some(core.said(alloc, 1, seat, line.as_bytes()));
     }
-    Err("the seat is not asked".into())
+    None
 }
 
-fn all_pass(core: &mut Core, alloc: Global) -> Result<bool, Fail> {
+fn all_pass(core: &mut Core, alloc: Global) -> bool {
     let mut taken = true;
     for seat in 0..4 {
-        taken = taken && said(core, alloc, seat, PASS)? == Heard::Taken;
+        taken = taken && said(core, alloc, seat, PASS) == Some(Heard::Taken);
     }
-    Ok(taken)
+    taken
 }
 
-fn is_told(core: &Core, alloc: Global, seat: u8, line: &str) -> Result<bool, Fail> {
+fn is_told(core: &Core, alloc: Global, seat: u8, line: &str) -> bool {
     let mut told = Vec::new(alloc);
-    core.pending(seat, &mut told)?;
-    Ok(told.as_slice() == line.as_bytes())
+    core.pending(seat, &mut told).is_ok() && told.as_slice() == line.as_bytes()
 }
 
 // Whether this is line `k` of a seat; an empty text where there is no such deed yet.
@@ -87,22 +90,40 @@ fn has_line(core: &Core, seat: u8, k: u32, line: &str) -> bool {
     }
 }
 
-// Whether the record of the game is the header, the wall, and this.
-fn is_recorded(core: &Core, alloc: Global, deeds: &str) -> Result<bool, Fail> {
+// The record of a game; empty where memory is wanting.
+fn record(core: &Core, alloc: Global) -> Vec<u8> {
     let mut text = Vec::new(alloc);
-    core.record(alloc, &mut text)?;
-    match text.as_slice().strip_prefix(HEAD.as_bytes()) {
-        Some(rest) => Ok(rest == deeds.as_bytes()),
-        None => Ok(false),
-    }
+    let _written = core.record(alloc, &mut text);
+    text
+}
+
+// Whether the record of the game is the header, the wall, and this.
+fn is_recorded(core: &Core, alloc: Global, deeds: &str) -> bool {
+    let text = record(core, alloc);
+    text.as_slice().strip_prefix(HEAD.as_bytes()) == Some(deeds.as_bytes())
+}
+
+// Whether the record of so many lines is one, and is none once any of its lines is spoilt.
+fn is_guarded(core: &Core, alloc: Global, lines: u32) -> bool {
+    let text = record(core, alloc);
+    number_of_lines(text.as_slice()) == lines && all_refused(alloc, text.as_slice(), lines)
 }
 
 // What comes of a present seat that leaves.
-fn left(core: &mut Core, alloc: Global, seat: u8) -> Result<Left, Fail> {
+fn left(core: &mut Core, alloc: Global, seat: u8) -> Option<Left> {
     if core.author(seat) == Some(1) {
-        return Ok(core.gone(alloc, 1, seat));
+        return Some(core.gone(alloc, 1, seat));
     }
-    Err("the seat is not present".into())
+    None
+}
+
+// Whether the time of so many windows runs out, one after the other.
+fn run_out(core: &mut Core, alloc: Global, windows: u32) -> bool {
+    let mut closed = true;
+    for window in 0..windows {
+        closed = closed && core.expire(alloc, 0, window, 0, 1000) == Expiry::Closed;
+    }
+    closed
 }
 
 fn counts(core: &Core, deeds: u32, open: Option<u32>, entries: u64) -> bool {
@@ -119,34 +140,39 @@ fn asks(core: &Core, held: u8, asked: [bool; 4]) -> bool {
     right
 }
 
-fn holds(core: &mut Core, alloc: Global, step: Step) -> Result<bool, Fail> {
+fn holds(core: &mut Core, alloc: Global, step: Step) -> bool {
     match step {
-        Step::Sits(line, answer) => Ok(core.sit(alloc, 1, line.as_bytes()) == answer),
-        Step::Says(seat, line, heard) => Ok(said(core, alloc, seat, line)? == heard),
+        Step::Sits(line, answer) => core.sit(alloc, 1, line.as_bytes()) == answer,
+        Step::Says(seat, line, heard) => said(core, alloc, seat, line) == Some(heard),
         Step::AllPass => all_pass(core, alloc),
-        Step::Leaves(seat, answer) => Ok(left(core, alloc, seat)? == answer),
-        Step::Expires(window, t1, t2, answer) => {
-            Ok(core.expire(alloc, 0, window, t1, t2) == answer)
-        }
+        Step::Leaves(seat, answer) => left(core, alloc, seat) == Some(answer),
+        Step::Expires(window, t1, t2, answer) => core.expire(alloc, 0, window, t1, t2) == answer,
+        Step::RunOut(windows) => run_out(core, alloc, windows),
         Step::IsTold(seat, line) => is_told(core, alloc, seat, line),
-        Step::HasLine(seat, k, line) => Ok(has_line(core, seat, k, line)),
+        Step::HasLine(seat, k, line) => has_line(core, seat, k, line),
         Step::IsRecorded(deeds) => is_recorded(core, alloc, deeds),
-        Step::Asks(held, asked) => Ok(asks(core, held, asked)),
-        Step::IsGone(seat) => Ok(!core.present(seat) && !core.may_say(seat)),
-        Step::IsDue(seat, due) => Ok(core.due(seat) == due),
-        Step::Counts(deeds, open, entries) => Ok(counts(core, deeds, open, entries)),
+        Step::IsGuarded(lines) => is_guarded(core, alloc, lines),
+        Step::Asks(held, asked) => asks(core, held, asked),
+        Step::IsGone(seat) => !core.present(seat) && !core.may_say(seat),
+        Step::IsDue(seat, due) => core.due(seat) == due,
+        Step::Counts(deeds, open, entries) => counts(core, deeds, open, entries),
     }
 }
 
-// Whether all steps come as they say.
-fn all_hold(alloc: Global, steps: &[Step]) -> Result<bool, Fail> {
-    let mut core = before_all(alloc)?;
+fn follows(core: &mut Core, alloc: Global, steps: &[Step]) -> bool {
+    let mut right = true;
     for step in steps {
-        if !holds(&mut core, alloc, *step)? {
-            return Ok(false);
-        }
+        right = right && holds(core, alloc, *step);
     }
-    Ok(true)
+    right
+}
+
+// Whether all steps come as they say.
+fn all_hold(alloc: Global, steps: &[Step]) -> bool {
+    match before_all(alloc) {
+        Some(mut core) => follows(&mut core, alloc, steps),
+        None => false,
+    }
 }
 
 const A: &str = "{\"type\":\"join\",\"name\":\"a\",\"key\":\"k\"}";
@@ -267,43 +293,68 @@ const A_RETURN: [Step; 33] = [
     Step::IsTold(3, ""),
 ];
 
-// The start of a game, and then so many lines of seat 0 that are refused, and one more.
-fn refused(alloc: Global, times: u8) -> Result<bool, Fail> {
-    let mut core = before_all(alloc)?;
-    for line in [A, B, C, D] {
-        core.sit(alloc, 1, line.as_bytes());
-    }
-    let nine = "{\"type\":\"ryukyoku\",\"actor\":0}";
-    let mut hold = said(&mut core, alloc, 0, nine)? == Heard::Refused(Rule::NotNow);
-    for _ in 1..times {
-        hold = hold && said(&mut core, alloc, 0, "x")? == Heard::Refused(Rule::Unreadable);
-    }
-    hold = hold && said(&mut core, alloc, 0, "x")? == Heard::Closing(Rule::Unreadable);
-    Ok(hold && !core.present(0) && core.sit(alloc, 1, A.as_bytes()) == SitAnswer::Back(0))
+const UNREADABLE: Step = Step::Says(0, "x", Heard::Refused(Rule::Unreadable));
+
+const SIXTEEN_REFUSALS: [Step; 22] = [
+    Step::Sits(A, SitAnswer::Sat(0)),
+    Step::Sits(B, SitAnswer::Sat(1)),
+    Step::Sits(C, SitAnswer::Sat(2)),
+    Step::Sits(D, SitAnswer::Sat(3)),
+    Step::Says(
+        0,
+        "{\"type\":\"ryukyoku\",\"actor\":0}",
+        Heard::Refused(Rule::NotNow),
+    ),
+    UNREADABLE,
+    UNREADABLE,
+    UNREADABLE,
+    UNREADABLE,
+    UNREADABLE,
+    UNREADABLE,
+    UNREADABLE,
+    UNREADABLE,
+    UNREADABLE,
+    UNREADABLE,
+    UNREADABLE,
+    UNREADABLE,
+    UNREADABLE,
+    UNREADABLE,
+    Step::Says(0, "x", Heard::Closing(Rule::Unreadable)),
+    Step::IsGone(0),
+    Step::Sits(A, SitAnswer::Back(0)),
+];
+
+// The record of two hands.
+const RECORDED: [Step; 6] = [
+    Step::Sits(A, SitAnswer::Sat(0)),
+    Step::Sits(B, SitAnswer::Sat(1)),
+    Step::Sits(C, SitAnswer::Sat(2)),
+    Step::Sits(D, SitAnswer::Sat(3)),
+    Step::RunOut(290),
+    Step::IsGuarded(293),
+];
+
+#[test]
+fn four_seats_are_given_and_no_name_twice(rt: HostRuntime) {
+    assert!(rt; all_hold(rt.alloc(), &FOUR_SEATS));
 }
 
 #[test]
-fn four_seats_are_given_and_no_name_twice(rt: HostRuntime) -> Result<(), Fail> {
-    assert!(rt; all_hold(rt.alloc(), &FOUR_SEATS)?);
-    Ok(())
+fn a_deed_comes_once_all_four_have_answered_it_lawfully(rt: HostRuntime) {
+    assert!(rt; all_hold(rt.alloc(), &FIRST_DISCARD));
 }
 
 #[test]
-fn a_deed_comes_once_all_four_have_answered_it_lawfully(rt: HostRuntime) -> Result<(), Fail> {
-    assert!(rt; all_hold(rt.alloc(), &FIRST_DISCARD)?);
-    Ok(())
+fn a_seat_that_is_gone_comes_back_by_its_key_and_windows_run_out(rt: HostRuntime) {
+    assert!(rt; all_hold(rt.alloc(), &A_RETURN));
 }
 
 #[test]
-fn a_seat_that_is_gone_comes_back_by_its_key_and_windows_run_out(
-    rt: HostRuntime,
-) -> Result<(), Fail> {
-    assert!(rt; all_hold(rt.alloc(), &A_RETURN)?);
-    Ok(())
+fn the_sixteenth_answer_that_is_refused_makes_the_seat_gone(rt: HostRuntime) {
+    assert!(rt; all_hold(rt.alloc(), &SIXTEEN_REFUSALS));
 }
 
 #[test]
-fn the_sixteenth_answer_that_is_refused_makes_the_seat_gone(rt: HostRuntime) -> Result<(), Fail> {
-    assert!(rt; refused(rt.alloc(), 15)?);
-    Ok(())
+fn each_spoilt_line_of_a_record_is_refused_where_it_stands(rt: HostRuntime) {
+    assert!(rt; all_hold(rt.alloc(), &RECORDED));
 }

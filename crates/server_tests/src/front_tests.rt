@@ -18,21 +18,25 @@ const ONE_SEAT: &[u8] =
 
 const HELLO: &[u8] = b"{\"type\":\"hello\",\"protocol\":\"mjsonp\",\"protocol_version\":3}\n";
 
-// How a run on the words of a line ends.
-fn ends<S: Source, K: Sink>(
-    alloc: Global,
-    line: &str,
-    source: &mut S,
-    sink: &mut K,
-) -> Result<Status, AllocError> {
+fn words_of(alloc: Global, line: &str) -> Result<Vec<String>, AllocError> {
     let mut words = Vec::new(alloc);
     for word in line.split_whitespace() {
         words.push(String::from_str(alloc, word)?)?;
     }
-    if is_for_waiting(words.as_slice()) {
-        return Ok(Status::Words);
+    Ok(words)
+}
+
+// How a run on some words ends.
+fn end<S: Source, K: Sink>(
+    alloc: Global,
+    words: &[String],
+    source: &mut S,
+    sink: &mut K,
+) -> Status {
+    if is_for_waiting(words) {
+        return Status::Words;
     }
-    Ok(run_alone(alloc, words.as_slice(), source, sink))
+    run_alone(alloc, words, source, sink)
 }
 
 // A source one of whose reads fails.
@@ -46,123 +50,180 @@ fn slow_sink(alloc: Global, fails: u64) -> Result<SlowSink, AllocError> {
     Ok(SlowSink(MemSink::new([fails].to_vec(alloc)?)))
 }
 
+// How the input is read, with the number of the read that fails.
+#[derive(Clone, Copy)]
+enum Reads {
+    Whole(u64),
+    AByteEach(u64),
+}
+
+// The words of a run, how the input is read, the number of the byte whose write fails, how the run ends, and what is then
+// written.
+#[derive(Clone, Copy)]
+struct Run(&'static str, Reads, u64, Status, &'static [u8]);
+
+fn ends_so(alloc: Global, run: Run) -> Result<bool, AllocError> {
+    let words = words_of(alloc, run.0)?;
+    ends_on_words(alloc, run, words.as_slice())
+}
+
+fn ends_on_words(alloc: Global, run: Run, words: &[String]) -> Result<bool, AllocError> {
+    match run.1 {
+        Reads::Whole(fails) => writes(alloc, run, words, source_of(alloc, ONE_SEAT, fails)?),
+        Reads::AByteEach(fails) => {
+            let source = source_of(alloc, ONE_SEAT, fails)?;
+            writes(alloc, run, words, SlowSource(source))
+        }
+    }
+}
+
+fn writes<S: Source + Drop>(
+    alloc: Global,
+    run: Run,
+    words: &[String],
+    mut source: S,
+) -> Result<bool, AllocError> {
+    let mut sink = slow_sink(alloc, run.2)?;
+    let status = end(alloc, words, &mut source, &mut sink);
+    Ok(status == run.3 && sink.0.written() == run.4)
+}
+
+const NOTHING: &[u8] = b"";
+
+const RUNS: [Run; 15] = [
+    Run("referee 0", Reads::Whole(0), 0, Status::Done, HELLO),
+    Run("referee 0", Reads::AByteEach(0), 0, Status::Done, HELLO),
+    Run("referee 0", Reads::Whole(1), 0, Status::ReadFault, NOTHING),
+    Run("referee 0", Reads::Whole(2), 0, Status::ReadFault, NOTHING),
+    Run("referee 0", Reads::Whole(3), 0, Status::Done, HELLO),
+    Run("replay", Reads::Whole(1), 0, Status::ReadFault, NOTHING),
+    Run(
+        "replay",
+        Reads::Whole(3),
+        0,
+        Status::BadRecord(3, Cause::Line),
+        NOTHING,
+    ),
+    Run(READY, Reads::Whole(1), 0, Status::Done, LINES_OF_READY),
+    Run(
+        "selfplay 7",
+        Reads::Whole(1),
+        0,
+        Status::Done,
+        LINES_OF_SEVEN,
+    ),
+    Run("referee 0", Reads::Whole(0), 1, Status::WriteFault, NOTHING),
+    Run("referee 0", Reads::Whole(0), 2, Status::WriteFault, b"{"),
+    Run(READY, Reads::Whole(0), 0, Status::Done, LINES_OF_READY),
+    Run(READY, Reads::Whole(0), 1, Status::WriteFault, NOTHING),
+    Run(
+        READY,
+        Reads::Whole(0),
+        11,
+        Status::WriteFault,
+        b"shanten 0\n",
+    ),
+    Run(
+        "selfplay 7",
+        Reads::Whole(0),
+        8,
+        Status::WriteFault,
+        b"hands 9",
+    ),
+];
+
 #[test]
-fn the_command_hand_leaves_the_source_as_it_was(rt: HostRuntime) -> Result<(), Fail> {
-    let alloc = rt.alloc();
-    let mut source = source_of(alloc, b"game limit=1000 draws=0 red=0\nwall", 0)?;
+fn a_fault_of_a_read_tells_nothing_and_one_of_a_write_leaves_a_prefix(
+    rt: HostRuntime,
+) -> Result<(), Fail> {
+    for run in RUNS {
+        assert!(rt; ends_so(rt.alloc(), run)?, "{0}", run.0);
+    }
+    Ok(())
+}
+
+// Runs on one source and one sink, one after the other, and how each ends.
+const ON_ONE_SOURCE: [(&str, Status); 5] = [
+    (READY, Status::Done),
+    ("hand 1m", Status::Words),
+    ("", Status::Words),
+    ("referee 0", Status::BadArrival(2)),
+    ("referee 0", Status::Done),
+];
+
+const SELFPLAY: [(&str, Status); 6] = [
+    ("selfplay 7", Status::Done),
+    ("selfplay", Status::Words),
+    ("selfplay 7 7", Status::Words),
+    ("selfplay 07", Status::Words),
+    ("selfplay -7", Status::Words),
+    ("selfplay 18446744073709551616", Status::Words),
+];
+
+fn came<S: Source, K: Sink>(
+    alloc: Global,
+    line: &str,
+    source: &mut S,
+    sink: &mut K,
+) -> Result<Status, AllocError> {
+    let words = words_of(alloc, line)?;
+    Ok(end(alloc, words.as_slice(), source, sink))
+}
+
+// Whether runs on one source end so, and this is then written.
+fn end_so(alloc: Global, mut source: MemSource, runs: &[(&str, Status)], text: &[u8]) -> bool {
     let mut sink = MemSink::new(Vec::new(alloc));
-    for (line, status) in [
-        (READY, Status::Done),
-        ("hand 1m", Status::Words),
-        ("", Status::Words),
-        ("referee 0", Status::BadArrival(2)),
-        ("referee 0", Status::Done),
-    ] {
-        assert!(rt; ends(alloc, line, &mut source, &mut sink)? == status);
+    let mut right = true;
+    for (line, status) in runs {
+        right = right && came(alloc, *line, &mut source, &mut sink) == Ok(*status);
     }
-    assert!(rt; sink.written() == LINES_OF_READY);
-    Ok(())
+    right && sink.written() == text
 }
 
 #[test]
-fn the_command_selfplay_has_one_number(rt: HostRuntime) -> Result<(), Fail> {
+fn commands_that_read_nothing_leave_the_source_as_it_was(rt: HostRuntime) -> Result<(), Fail> {
     let alloc = rt.alloc();
-    let mut source = source_of(alloc, ONE_SEAT, 1)?;
-    let mut sink = MemSink::new(Vec::new(alloc));
-    for (line, status) in [
-        ("selfplay 7", Status::Done),
-        ("selfplay", Status::Words),
-        ("selfplay 7 7", Status::Words),
-        ("selfplay 07", Status::Words),
-        ("selfplay -7", Status::Words),
-        ("selfplay 18446744073709551616", Status::Words),
-    ] {
-        assert!(rt; ends(alloc, line, &mut source, &mut sink)? == status);
-    }
-    assert!(rt; sink.written() == LINES_OF_SEVEN);
+    let source = source_of(alloc, b"game limit=1000 draws=0 red=0\nwall", 0)?;
+    assert!(rt; end_so(alloc, source, &ON_ONE_SOURCE, LINES_OF_READY));
+    let source = source_of(alloc, ONE_SEAT, 1)?;
+    assert!(rt; end_so(alloc, source, &SELFPLAY, LINES_OF_SEVEN));
     Ok(())
 }
 
-#[test]
-fn a_failed_read_ends_the_commands_that_read(rt: HostRuntime) -> Result<(), Fail> {
-    let alloc = rt.alloc();
-    for (line, fails, status, text) in [
-        ("referee 0", 1, Status::ReadFault, b"".as_slice()),
-        ("referee 0", 2, Status::ReadFault, b"".as_slice()),
-        ("referee 0", 3, Status::Done, HELLO),
-        ("replay", 1, Status::ReadFault, b"".as_slice()),
-        (
-            "replay",
-            3,
-            Status::BadRecord(3, Cause::Line),
-            b"".as_slice(),
-        ),
-        (READY, 1, Status::Done, LINES_OF_READY),
-    ] {
-        let mut source = source_of(alloc, ONE_SEAT, fails)?;
-        let mut sink = MemSink::new(Vec::new(alloc));
-        assert!(rt; ends(alloc, line, &mut source, &mut sink)? == status && sink.written() == text);
+// A status, its code and its text.
+const STATUSES: [(Status, u8, &str); 8] = [
+    (Status::Done, 0, ""),
+    (Status::ReadFault, 3, "read fault\n"),
+    (Status::WriteFault, 4, "write fault\n"),
+    (Status::NoMemory, 5, "no memory\n"),
+    (
+        Status::BadArrival(u32::MAX),
+        6,
+        "bad arrival at line 4294967295\n",
+    ),
+    (
+        Status::BadRecord(u32::MAX, Cause::Next),
+        7,
+        "bad record at line 4294967295: 4\n",
+    ),
+    (Status::TooLong, 9, "input too long\n"),
+    (
+        Status::Words,
+        2,
+        "usage: riichi_table referee SEAT | serve --seed HEX [--limit MS] [--port N] [--draws] [--red] | replay | hand WORDS | selfplay N\n",
+    ),
+];
+
+fn has_text(alloc: Global, status: &Status, text: &str) -> bool {
+    match status_text(alloc, status) {
+        Ok(found) => found.as_slice() == text.as_bytes(),
+        Err(_) => false,
     }
-    Ok(())
 }
 
 #[test]
-fn a_source_that_gives_a_byte_a_read_is_read_whole(rt: HostRuntime) -> Result<(), Fail> {
-    let alloc = rt.alloc();
-    let mut source = SlowSource(source_of(alloc, ONE_SEAT, 0)?);
-    let mut sink = MemSink::new(Vec::new(alloc));
-    assert!(rt; ends(alloc, "referee 0", &mut source, &mut sink)? == Status::Done);
-    assert!(rt; sink.written() == HELLO);
-    Ok(())
-}
-
-#[test]
-fn a_failed_write_leaves_a_prefix(rt: HostRuntime) -> Result<(), Fail> {
-    let alloc = rt.alloc();
-    for (line, fails, status, text) in [
-        ("referee 0", 0, Status::Done, HELLO),
-        ("referee 0", 1, Status::WriteFault, b"".as_slice()),
-        ("referee 0", 2, Status::WriteFault, b"{".as_slice()),
-        (READY, 0, Status::Done, LINES_OF_READY),
-        (READY, 1, Status::WriteFault, b"".as_slice()),
-        (READY, 11, Status::WriteFault, b"shanten 0\n".as_slice()),
-        ("selfplay 7", 8, Status::WriteFault, b"hands 9".as_slice()),
-    ] {
-        let mut source = source_of(alloc, ONE_SEAT, 0)?;
-        let mut sink = slow_sink(alloc, fails)?;
-        assert!(rt; ends(alloc, line, &mut source, &mut sink)? == status);
-        assert!(rt; sink.0.written() == text);
+fn each_status_has_its_code_and_its_text(rt: HostRuntime) {
+    for (status, code, text) in STATUSES {
+        assert!(rt; exit_code(&status) == code && has_text(rt.alloc(), &status, text));
     }
-    Ok(())
-}
-
-#[test]
-fn each_status_has_its_code_and_its_text(rt: HostRuntime) -> Result<(), Fail> {
-    let alloc = rt.alloc();
-    for (status, code, text) in [
-        (Status::Done, 0, ""),
-        (Status::ReadFault, 3, "read fault\n"),
-        (Status::WriteFault, 4, "write fault\n"),
-        (Status::NoMemory, 5, "no memory\n"),
-        (
-            Status::BadArrival(u32::MAX),
-            6,
-            "bad arrival at line 4294967295\n",
-        ),
-        (
-            Status::BadRecord(u32::MAX, Cause::Next),
-            7,
-            "bad record at line 4294967295: 4\n",
-        ),
-        (Status::TooLong, 9, "input too long\n"),
-        (
-            Status::Words,
-            2,
-            "usage: riichi_table referee SEAT | serve --seed HEX [--limit MS] [--port N] [--draws] [--red] | replay | hand WORDS | selfplay N\n",
-        ),
-    ] {
-        assert!(rt; exit_code(&status) == code);
-        assert!(rt; status_text(alloc, &status)?.as_slice() == text.as_bytes());
-    }
-    Ok(())
 }

@@ -34,18 +34,29 @@ enum Seen {
     Failed(u8),
 }
 
+fn first_byte(mut link: MemLink) -> Seen {
+    let mut byte = [0];
+    match link.read(&mut byte) {
+        Got::Bytes(_) => Seen::Link(byte[0]),
+        Got::End | Got::Failed => Seen::Nothing,
+    }
+}
+
 fn what_came(came: Came<MemLink, MemFault>) -> Seen {
     match came {
-        Came::Link(mut link) => {
-            let mut byte = [0];
-            match link.read(&mut byte) {
-                Got::Bytes(_) => Seen::Link(byte[0]),
-                Got::End | Got::Failed => Seen::Nothing,
-            }
-        }
+        Came::Link(link) => first_byte(link),
         Came::Nothing => Seen::Nothing,
         Came::Failed(fault) => Seen::Failed(fault.by()),
     }
+}
+
+// Whether this comes to the workers 0 to 3, one after the other.
+fn comes_so(host: &MemHost, wanted: [Seen; 4]) -> bool {
+    let mut right = true;
+    for (by, wanted) in (0..4).zip(wanted) {
+        right = right && what_came(host.accept(by)) == wanted;
+    }
+    right
 }
 
 #[test]
@@ -80,10 +91,7 @@ fn links_come_in_their_order_and_planned_accepts_fail(rt: HostRuntime) -> Result
             ],
         ),
     ] {
-        let host = host(alloc, false, accepts)?;
-        for (by, wanted) in (0..4).zip(wanted) {
-            assert!(rt; what_came(host.accept(by)) == wanted);
-        }
+        assert!(rt; comes_so(&host(alloc, false, accepts)?, wanted));
     }
     Ok(())
 }
@@ -105,24 +113,28 @@ fn open_two(host: &mut MemHost, fails: bool) -> bool {
 fn ports_are_opened_or_not_as_planned(rt: HostRuntime) -> Result<(), Fail> {
     let alloc = rt.alloc();
     for fails in [false, true] {
-        let mut host = host(alloc, fails, &[])?;
-        assert!(rt; open_two(&mut host, fails));
+        assert!(rt; open_two(&mut host(alloc, fails, &[])?, fails));
     }
     Ok(())
 }
 
+// Whether a link comes, and is kept once it is given back with this place.
+fn gives_back(host: &mut MemHost, place: u64) -> bool {
+    match host.accept(0) {
+        Came::Link(link) => host.give_back(link, place) == Given::Kept,
+        Came::Nothing | Came::Failed(_) => false,
+    }
+}
+
+fn keeps_places(host: &mut MemHost) -> bool {
+    let are_kept = gives_back(host, 7) && gives_back(host, 2);
+    let returned = host.returned();
+    are_kept && returned.len() == 2 && returned[0].1 == 7 && returned[1].1 == 2
+}
+
 #[test]
 fn links_given_back_keep_their_places(rt: HostRuntime) -> Result<(), Fail> {
-    let alloc = rt.alloc();
-    let mut host = host(alloc, false, &[])?;
-    for place in [7, 2] {
-        let Came::Link(link) = host.accept(0) else {
-            return Err("no link".into());
-        };
-        assert!(rt; host.give_back(link, place) == Given::Kept);
-    }
-    let returned = host.returned();
-    assert!(rt; returned.len() == 2 && returned[0].1 == 7 && returned[1].1 == 2);
+    assert!(rt; keeps_places(&mut host(rt.alloc(), false, &[])?));
     Ok(())
 }
 

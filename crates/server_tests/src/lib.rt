@@ -1,11 +1,9 @@
-//! Tests of the server layer by its public calls: links, lines, tokens beside lines, the core of a game, and the commands. A game
+//! Tests of the server layer by its public calls: links, the lines that are kept, the core of a game, and the commands. A game
 //! that can be told as arrivals is a case of `riichi_cases`.
 #![tactic(auto)]
 
 #[cfg(test)]
 mod core_tests;
-#[cfg(test)]
-mod deed_tests;
 #[cfg(test)]
 mod front_tests;
 #[cfg(test)]
@@ -13,18 +11,12 @@ mod host_tests;
 #[cfg(test)]
 mod links_tests;
 #[cfg(test)]
-mod reading_tests;
-#[cfg(test)]
 mod record_tests;
-#[cfg(test)]
-mod result_tests;
 #[cfg(test)]
 mod slow;
 #[cfg(test)]
 mod streams_tests;
 #[cfg(test)]
 mod tcp_tests;
-#[cfg(test)]
-mod token_tests;
 #[cfg(test)]
 mod wire_tests;

@@ -26,6 +26,25 @@ fn reads<S: Source>(
     Ok(read_all(source, limit, &mut read) == end && read.as_slice() == text)
 }
 
+// Whether reads of two bytes each come so, and the bytes are then these.
+fn come_so(source: &mut MemSource, reads: &[(Got, [u8; 2])]) -> bool {
+    let mut two = [0; 2];
+    let mut right = true;
+    for (got, bytes) in reads {
+        right = right && source.read(&mut two) == *got && two == *bytes;
+    }
+    right
+}
+
+// Whether writes of a piece come so, and this is then written.
+fn go_so(sink: &mut MemSink, writes: &[(Put, &[u8])]) -> bool {
+    let mut right = true;
+    for (put, text) in writes {
+        right = right && sink.write(b"chi") == *put && sink.written() == *text;
+    }
+    right
+}
+
 #[test]
 fn a_source_is_read_to_its_end_or_a_fault_or_past_the_limit(rt: HostRuntime) -> Result<(), Fail> {
     let alloc = rt.alloc();
@@ -71,36 +90,33 @@ fn a_piece_is_written_whole_or_up_to_a_fault(rt: HostRuntime) -> Result<(), Fail
     Ok(())
 }
 
+const READS: [(Got, [u8; 2]); 5] = [
+    (Got::Failed, [0, 0]),
+    (Got::Bytes(2), *b"po"),
+    (Got::Failed, *b"po"),
+    (Got::Bytes(1), *b"no"),
+    (Got::End, *b"no"),
+];
+
 #[test]
 fn a_read_of_a_planned_number_fails(rt: HostRuntime) -> Result<(), Fail> {
     let alloc = rt.alloc();
     let reads = [1, 3].to_vec(alloc)?;
     let mut source = MemSource::new(b"pon".to_vec(alloc)?, reads);
-    let mut two = [0; 2];
-    for (got, bytes) in [
-        (Got::Failed, [0, 0]),
-        (Got::Bytes(2), *b"po"),
-        (Got::Failed, *b"po"),
-        (Got::Bytes(1), *b"no"),
-        (Got::End, *b"no"),
-    ] {
-        assert!(rt; source.read(&mut two) == got && two == bytes);
-    }
+    assert!(rt; come_so(&mut source, &READS));
     Ok(())
 }
 
+const WRITES: [(Put, &[u8]); 3] = [
+    (Put::Took(3), b"chi"),
+    (Put::Failed, b"chi"),
+    (Put::Took(3), b"chichi"),
+];
+
 #[test]
 fn a_write_of_a_planned_number_fails(rt: HostRuntime) -> Result<(), Fail> {
-    let alloc = rt.alloc();
-    let writes = [2].to_vec(alloc)?;
-    let mut sink = MemSink::new(writes);
-    for (put, text) in [
-        (Put::Took(3), b"chi".as_slice()),
-        (Put::Failed, b"chi".as_slice()),
-        (Put::Took(3), b"chichi".as_slice()),
-    ] {
-        assert!(rt; sink.write(b"chi") == put && sink.written() == text);
-    }
+    let mut sink = MemSink::new([2].to_vec(rt.alloc())?);
+    assert!(rt; go_so(&mut sink, &WRITES));
     Ok(())
 }
 

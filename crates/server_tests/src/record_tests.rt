@@ -1,11 +1,8 @@
-use crate::core_tests::before_all;
-use mj_bytes::split_line;
-use mj_core::Expiry;
-use mj_replay::{Cause, Checked, check};
-use std::alloc::Global;
-use std::test::Fail;
+//! Records that are checked once a line of theirs is spoilt.
 
-const NAMES: [&str; 4] = ["a", "b", "c", "d"];
+use mj_bytes::split_line;
+use mj_replay::{Cause, Checked, check};
+use std::alloc::{AllocError, Global};
 
 // What is done to a line of a record.
 #[derive(Clone, Copy)]
@@ -20,23 +17,6 @@ enum Spoilt {
 
 const WAYS: [Spoilt; 3] = [Spoilt::Deleted, Spoilt::Doubled, Spoilt::Swapped];
 
-// The record of a game on the wall in tile order in which the time of so many windows runs out.
-fn recorded(alloc: Global, windows: u32) -> Result<Vec<u8>, Fail> {
-    let mut core = before_all(alloc)?;
-    for name in NAMES {
-        let join = format!(in alloc; "{{\"type\":\"join\",\"name\":\"{name}\"}}")?;
-        core.sit(alloc, 1, join.as_bytes());
-    }
-    for window in 0..windows {
-        if core.expire(alloc, 0, window, 0, 1000) != Expiry::Closed {
-            return Err("the window is not open".into());
-        }
-    }
-    let mut text = Vec::new(alloc);
-    core.record(alloc, &mut text)?;
-    Ok(text)
-}
-
 // The lines of a text before a place, counted from 0, the one at the place, and those behind it.
 fn cut(text: &[u8], place: usize) -> Option<(&[u8], &[u8], &[u8])> {
     let mut rest = text;
@@ -49,34 +29,48 @@ fn cut(text: &[u8], place: usize) -> Option<(&[u8], &[u8], &[u8])> {
     Some((before, line, behind))
 }
 
-// The text whose line at a place is spoilt; none where there is no such line, or no next one to stand before it.
-fn with_spoilt_line(
-    alloc: Global,
-    text: &[u8],
-    place: usize,
-    how: Spoilt,
-) -> Result<Option<Vec<u8>>, Fail> {
-    let Some((before, line, behind)) = cut(text, place) else {
-        return Ok(None);
-    };
-    let mut changed = Vec::from_slice(alloc, before)?;
+// Four pieces of a text, one behind the other.
+#[derive(Clone, Copy)]
+struct FourPieces<'a> {
+    first: &'a [u8],
+    second: &'a [u8],
+    third: &'a [u8],
+    last: &'a [u8],
+}
+
+// The pieces of a text whose line at a place is spoilt; none where there is no such line, or no next one to stand before it.
+fn spoilt_pieces(text: &[u8], place: usize, how: Spoilt) -> Option<FourPieces<'_>> {
+    let (before, line, behind) = cut(text, place)?;
     match how {
-        Spoilt::Deleted => changed.extend_from_slice(behind)?,
-        Spoilt::Doubled => {
-            changed.extend_from_slice(line)?;
-            changed.extend_from_slice(line)?;
-            changed.extend_from_slice(behind)?;
-        }
+        Spoilt::Deleted => Some(pieces(before, b"", b"", behind)),
+        Spoilt::Doubled => Some(pieces(before, line, line, behind)),
         Spoilt::Swapped => {
-            let Some((_, next, others)) = cut(behind, 0) else {
-                return Ok(None);
-            };
-            changed.extend_from_slice(next)?;
-            changed.extend_from_slice(line)?;
-            changed.extend_from_slice(others)?;
+            let (_, next, others) = cut(behind, 0)?;
+            Some(pieces(before, next, line, others))
         }
     }
-    Ok(Some(changed))
+}
+
+fn pieces<'a>(
+    first: &'a [u8],
+    second: &'a [u8],
+    third: &'a [u8],
+    last: &'a [u8],
+) -> FourPieces<'a> {
+    FourPieces {
+        first,
+        second,
+        third,
+        last,
+    }
+}
+
+fn joined(alloc: Global, pieces: FourPieces<'_>) -> Result<Vec<u8>, AllocError> {
+    let mut text = Vec::from_slice(alloc, pieces.first)?;
+    text.extend_from_slice(pieces.second)?;
+    text.extend_from_slice(pieces.third)?;
+    text.extend_from_slice(pieces.last)?;
+    Ok(text)
 }
 
 // The first line, counted from 1, that breaks the form of a record of so many lines once the one at a place, counted from
@@ -103,20 +97,26 @@ fn is_checked(alloc: Global, text: &[u8], broken: Option<(u32, Cause)>) -> bool 
     }
 }
 
-// Whether a record of so many lines is refused where the line at a place is spoilt in each way.
-fn is_refused(alloc: Global, text: &[u8], place: u32, lines: u32) -> Result<bool, Fail> {
-    let mut right = true;
-    for how in WAYS {
-        if let Some(changed) = with_spoilt_line(alloc, text, place as usize, how)? {
-            let broken = first_broken(place, lines, how);
-            right = right && is_checked(alloc, changed.as_slice(), broken);
-        }
+fn is_spoilt_so(alloc: Global, pieces: FourPieces<'_>, broken: Option<(u32, Cause)>) -> bool {
+    match joined(alloc, pieces) {
+        Ok(text) => is_checked(alloc, text.as_slice(), broken),
+        Err(_) => false,
     }
-    Ok(right)
 }
 
-// How many lines a text has.
-fn number_of_lines(text: &[u8]) -> u32 {
+// Whether a record of so many lines is refused where the line at a place is spoilt in each way.
+fn is_refused(alloc: Global, text: &[u8], place: u32, lines: u32) -> bool {
+    let mut right = true;
+    for how in WAYS {
+        if let Some(pieces) = spoilt_pieces(text, place as usize, how) {
+            right = right && is_spoilt_so(alloc, pieces, first_broken(place, lines, how));
+        }
+    }
+    right
+}
+
+/// How many lines a text has.
+pub fn number_of_lines(text: &[u8]) -> u32 {
     let mut lines = 0u32;
     for byte in text {
         if *byte == b'\n' {
@@ -126,19 +126,11 @@ fn number_of_lines(text: &[u8]) -> u32 {
     lines
 }
 
-// Whether the record of two hands is one, and is none once any of its lines is spoilt.
-fn all_refused(alloc: Global) -> Result<bool, Fail> {
-    let text = recorded(alloc, 290)?;
-    let lines = number_of_lines(text.as_slice());
-    let mut right = lines > 290 && is_checked(alloc, text.as_slice(), None);
+/// Whether a record of so many lines is one, and is none once any of its lines is spoilt.
+pub fn all_refused(alloc: Global, text: &[u8], lines: u32) -> bool {
+    let mut right = is_checked(alloc, text, None);
     for place in 0..lines {
-        right = right && is_refused(alloc, text.as_slice(), place, lines)?;
+        right = right && is_refused(alloc, text, place, lines);
     }
-    Ok(right)
-}
-
-#[test]
-fn each_spoilt_line_of_a_record_is_refused_where_it_stands(rt: HostRuntime) -> Result<(), Fail> {
-    assert!(rt; all_refused(rt.alloc())?);
-    Ok(())
+    right
 }

@@ -1,20 +1,69 @@
+//! Lines that are kept.
+
 use mj_deeds::{Deed, SeatList, Tiles, YakuList};
 use mj_streams::Streams;
 use mj_tiles::Tile;
 use std::alloc::{AllocError, Global};
 use std::test::Fail;
 
-// What is kept of a draw and a reach of seat 2.
-fn kept(alloc: Global, tile: Tile) -> Result<Streams, AllocError> {
-    let mut streams = Streams::new(alloc)?;
-    let draw = Deed::Draw {
+fn draw(tile: Tile) -> Deed {
+    Deed::Draw {
         seat: 2,
         tile,
         replacement: false,
-    };
-    streams.push_alone(alloc, &draw)?;
-    streams.push_alone(alloc, &Deed::Reach { seat: 2 })?;
-    Ok(streams)
+    }
+}
+
+fn push(alloc: Global, streams: &mut Streams, deed: Deed) -> bool {
+    streams.push_alone(alloc, &deed).is_ok()
+}
+
+// Whether a reach of each seat in turn is added so many times.
+fn push_reaches(alloc: Global, streams: &mut Streams, rounds: u16) -> bool {
+    let mut added = true;
+    for _ in 0..rounds {
+        for seat in 0..4u8 {
+            added = push(alloc, streams, Deed::Reach { seat }) && added;
+        }
+    }
+    added
+}
+
+// A seat, the number of a deed, and the line of it; none where there are no more deeds.
+#[derive(Clone, Copy)]
+struct Line(u8, u32, Option<&'static str>);
+
+fn have(streams: &Streams, lines: &[Line]) -> bool {
+    let mut right = true;
+    for line in lines {
+        let Line(seat, k, text) = *line;
+        right = right && streams.line(seat % 4, k) == text.map(str::as_bytes);
+    }
+    right
+}
+
+const HIDDEN: &str = "{\"type\":\"tsumo\",\"actor\":2,\"pai\":\"?\"}\n";
+
+const DRAWN: &str = "{\"type\":\"tsumo\",\"actor\":2,\"pai\":\"5p\"}\n";
+
+const REACH: &str = "{\"type\":\"reach\",\"actor\":2}\n";
+
+const FEW: [Line; 8] = [
+    Line(0, 0, Some(HIDDEN)),
+    Line(1, 0, Some(HIDDEN)),
+    Line(2, 0, Some(DRAWN)),
+    Line(3, 0, Some(HIDDEN)),
+    Line(1, 1, Some(REACH)),
+    Line(2, 1, Some(REACH)),
+    Line(0, 2, None),
+    Line(2, 2, None),
+];
+
+// Whether a draw and a reach of seat 2 are kept so.
+fn few_are_kept(alloc: Global, mut streams: Streams, tile: Tile) -> bool {
+    push(alloc, &mut streams, draw(tile))
+        && push(alloc, &mut streams, Deed::Reach { seat: 2 })
+        && have(&streams, &FEW)
 }
 
 #[test]
@@ -22,22 +71,7 @@ fn each_seat_has_its_line_of_each_deed_and_none_behind_the_last(
     rt: HostRuntime,
 ) -> Result<(), Fail> {
     let tile = Tile::read(b"5p").ok_or("no tile")?;
-    let streams = kept(rt.alloc(), tile)?;
-    let hidden = "{\"type\":\"tsumo\",\"actor\":2,\"pai\":\"?\"}\n";
-    let drawn = "{\"type\":\"tsumo\",\"actor\":2,\"pai\":\"5p\"}\n";
-    let reach = "{\"type\":\"reach\",\"actor\":2}\n";
-    for (seat, k, line) in [
-        (0, 0, Some(hidden)),
-        (1, 0, Some(hidden)),
-        (2, 0, Some(drawn)),
-        (3, 0, Some(hidden)),
-        (1, 1, Some(reach)),
-        (2, 1, Some(reach)),
-        (0, 2, None),
-        (2, 2, None),
-    ] {
-        assert!(rt; streams.line(seat, k) == line.map(|line| line.as_bytes()));
-    }
+    assert!(rt; few_are_kept(rt.alloc(), Streams::new(rt.alloc())?, tile));
     Ok(())
 }
 
@@ -61,17 +95,33 @@ fn win(alloc: Global, tile: Tile, shown: usize) -> Result<Deed, AllocError> {
     })
 }
 
-// What is kept of 2,800 reaches of the seats in turn, a win that shows 20,000 tiles, and a reach of seat 3.
-fn long(alloc: Global, tile: Tile) -> Result<Streams, AllocError> {
-    let mut streams = Streams::new(alloc)?;
-    for round in 0..700u16 {
-        for seat in 0..4u8 {
-            streams.push_alone(alloc, &Deed::Reach { seat })?;
+const LONG: [Line; 5] = [
+    Line(0, 0, Some("{\"type\":\"reach\",\"actor\":0}\n")),
+    Line(0, 2426, Some("{\"type\":\"reach\",\"actor\":2}\n")),
+    Line(3, 2427, Some("{\"type\":\"reach\",\"actor\":3}\n")),
+    Line(1, 2799, Some("{\"type\":\"reach\",\"actor\":3}\n")),
+    Line(2, 2801, Some("{\"type\":\"reach\",\"actor\":3}\n")),
+];
+
+// Whether this is the line of the win: 20,000 quoted tiles with commas between, and what stands before and behind them.
+fn is_win(line: &[u8]) -> bool {
+    line.len() == 83 + 99_999 + 87
+        && line.starts_with(
+            b"{\"type\":\"hora\",\"actor\":0,\"target\":0,\"pai\":\"5p\",\"uradora_markers\":[],\"hora_tehais\":[\"5p\",\"5p\",",
+        )
+        && line.ends_with(b"\"hora_points\":1000,\"deltas\":[0,0,0,0],\"scores\":[0,0,0,0]}\n")
+}
+
+// Whether 2,800 reaches of the seats in turn, a win that shows 20,000 tiles, and a reach of seat 3 are kept so.
+fn many_are_kept(alloc: Global, mut streams: Streams, win: Deed) -> bool {
+    push_reaches(alloc, &mut streams, 700)
+        && push(alloc, &mut streams, win)
+        && push(alloc, &mut streams, Deed::Reach { seat: 3 })
+        && have(&streams, &LONG)
+        && match streams.line(1, 2800) {
+            Some(line) => is_win(line),
+            None => false,
         }
-    }
-    streams.push_alone(alloc, &win(alloc, tile, 20_000)?)?;
-    streams.push_alone(alloc, &Deed::Reach { seat: 3 })?;
-    Ok(streams)
 }
 
 // A page has 65,536 bytes, so it takes 2,427 lines of a reach, and the win has a page of its own.
@@ -80,26 +130,7 @@ fn lines_stay_as_they_are_at_the_end_of_a_page_and_beside_one_longer_than_a_page
     rt: HostRuntime,
 ) -> Result<(), Fail> {
     let tile = Tile::read(b"5p").ok_or("no tile")?;
-    let streams = long(rt.alloc(), tile)?;
-    for (seat, k, line) in [
-        (0, 0, "{\"type\":\"reach\",\"actor\":0}\n"),
-        (0, 2426, "{\"type\":\"reach\",\"actor\":2}\n"),
-        (3, 2427, "{\"type\":\"reach\",\"actor\":3}\n"),
-        (1, 2799, "{\"type\":\"reach\",\"actor\":3}\n"),
-        (2, 2801, "{\"type\":\"reach\",\"actor\":3}\n"),
-    ] {
-        assert!(rt; streams.line(seat, k) == Some(line.as_bytes()));
-    }
-    let win = streams.line(1, 2800).ok_or("no line")?;
-    // 20,000 quoted tiles with commas between, and what stands before and behind them
-    assert!(rt; win.len() == 83 + 99_999 + 87);
-    assert!(rt;
-        win.starts_with(
-            b"{\"type\":\"hora\",\"actor\":0,\"target\":0,\"pai\":\"5p\",\"uradora_markers\":[],\"hora_tehais\":[\"5p\",\"5p\","
-        )
-    );
-    assert!(rt;
-        win.ends_with(b"\"hora_points\":1000,\"deltas\":[0,0,0,0],\"scores\":[0,0,0,0]}\n")
-    );
+    let win = win(rt.alloc(), tile, 20_000)?;
+    assert!(rt; many_are_kept(rt.alloc(), Streams::new(rt.alloc())?, win));
     Ok(())
 }

@@ -67,20 +67,29 @@ fn a_line_and_its_answer_go_over_tcp(rt: HostRuntime) -> Result<(), Fail> {
     Ok(())
 }
 
+fn is_refused<H: Host>(host: &mut H, port: u16) -> bool {
+    match host.open(port) {
+        Opened::Ready => false,
+        Opened::Failed(fault) => fault.by() == 255,
+    }
+}
+
+fn nothing_comes<H: Host>(host: &H) -> bool {
+    matches!(&host.accept(1), Came::Nothing)
+}
+
+// Whether a port that is open to one host is not opened to another, and nothing comes to either.
+fn is_left_out<H: Host>(open: &mut H, late: &mut H) -> bool {
+    match open_some(open) {
+        Some(port) => is_refused(late, port) && nothing_comes(late) && nothing_comes(open),
+        None => false,
+    }
+}
+
 #[test]
-fn nothing_comes_to_a_host_that_is_not_open(rt: HostRuntime) -> Result<(), Fail> {
-    let mut open = TcpHost::new(&rt);
-    let Some(port) = open_some(&mut open) else {
-        return Err("no port is free".into());
-    };
-    let mut late = TcpHost::new(&rt);
-    let number = match late.open(port) {
-        Opened::Ready => None,
-        Opened::Failed(fault) => Some(fault.by()),
-    };
-    assert!(rt; number == Some(255) && matches!(&late.accept(1), Came::Nothing));
-    assert!(rt; matches!(&open.accept(1), Came::Nothing));
-    Ok(())
+fn nothing_comes_to_a_host_that_is_not_open(rt: HostRuntime) {
+    let (mut open, mut late) = (TcpHost::new(&rt), TcpHost::new(&rt));
+    assert!(rt; is_left_out(&mut open, &mut late));
 }
 
 #[test]

@@ -13,14 +13,13 @@ fn link(alloc: Global, bytes: &[u8], fails: u64) -> Result<MemLink, AllocError> 
 
 // Reads lines until one does not come, and puts what the line then is behind a text, with a bar behind each line that came.
 fn read_lines<L: Link>(
-    alloc: Global,
     wire: &mut Wire<L>,
+    line: &mut Vec<u8>,
     text: &mut Vec<u8>,
 ) -> Result<LineRead, AllocError> {
-    let mut line = Vec::new(alloc);
     for _ in 0..9u32 {
-        let read = wire.read_line(&mut line);
-        text.extend_from_slice(&line)?;
+        let read = wire.read_line(line);
+        text.extend_from_slice(line.as_slice())?;
         if read != LineRead::Line {
             return Ok(read);
         }
@@ -30,17 +29,13 @@ fn read_lines<L: Link>(
 }
 
 // Whether the lines of a wire are these, first up to such an end and then to the end of the input.
-fn reads<L: Link + Drop>(
-    alloc: Global,
-    link: L,
-    end: LineRead,
-    wanted: &[u8],
-) -> Result<bool, AllocError> {
+fn reads<L: Link + Drop>(alloc: Global, link: L, end: LineRead, wanted: &[u8]) -> bool {
     let mut wire = Wire::new(link);
+    let (mut line, mut last) = (Vec::new(alloc), Vec::new(alloc));
     let mut text = Vec::new(alloc);
-    let first = read_lines(alloc, &mut wire, &mut text)?;
-    let second = read_lines(alloc, &mut wire, &mut text)?;
-    Ok(first == end && second == LineRead::Ended && text.as_slice() == wanted)
+    let first = read_lines(&mut wire, &mut line, &mut text);
+    let second = read_lines(&mut wire, &mut last, &mut text);
+    first == Ok(end) && second == Ok(LineRead::Ended) && text.as_slice() == wanted
 }
 
 #[test]
@@ -72,7 +67,7 @@ fn a_line_is_the_bytes_before_the_next_newline(rt: HostRuntime) -> Result<(), Fa
             b"chi|pon|pon".as_slice(),
         ),
     ] {
-        assert!(rt; reads(alloc, link(alloc, bytes, fails)?, end, text)?);
+        assert!(rt; reads(alloc, link(alloc, bytes, fails)?, end, text));
     }
     Ok(())
 }
@@ -100,7 +95,7 @@ fn a_line_that_comes_a_byte_a_read_is_read_alike(rt: HostRuntime) -> Result<(), 
             b"chi|chipon|pon".as_slice(),
         ),
     ] {
-        assert!(rt; reads(alloc, SlowLink(link(alloc, bytes, fails)?), end, text)?);
+        assert!(rt; reads(alloc, SlowLink(link(alloc, bytes, fails)?), end, text));
     }
     Ok(())
 }
@@ -155,6 +150,16 @@ fn send_two<L: Link>(link: L) -> (Sent, Sent, L) {
     (first, second, wire.into_link())
 }
 
+fn sends(link: MemLink, first: Sent, second: Sent, text: &[u8]) -> bool {
+    let sent = send_two(link);
+    sent.0 == first && sent.1 == second && sent.2.written() == text
+}
+
+fn sends_slowly(link: SlowLink, first: Sent, second: Sent, text: &[u8]) -> bool {
+    let sent = send_two(link);
+    sent.0 == first && sent.1 == second && sent.2.0.written() == text
+}
+
 #[test]
 fn a_piece_is_sent_whole_or_up_to_a_fault(rt: HostRuntime) -> Result<(), Fail> {
     let alloc = rt.alloc();
@@ -163,8 +168,7 @@ fn a_piece_is_sent_whole_or_up_to_a_fault(rt: HostRuntime) -> Result<(), Fail> {
         (1, Sent::Failed, Sent::Whole, b"ron".as_slice()),
         (2, Sent::Whole, Sent::Failed, b"chi".as_slice()),
     ] {
-        let sent = send_two(mute(alloc, fails)?);
-        assert!(rt; sent.0 == first && sent.1 == second && sent.2.written() == text);
+        assert!(rt; sends(mute(alloc, fails)?, first, second, text));
     }
     Ok(())
 }
@@ -177,8 +181,7 @@ fn a_piece_goes_on_where_the_last_write_ended(rt: HostRuntime) -> Result<(), Fai
         (3, Sent::Failed, Sent::Whole, b"chron".as_slice()),
         (6, Sent::Whole, Sent::Failed, b"chiro".as_slice()),
     ] {
-        let sent = send_two(SlowLink(mute(alloc, fails)?));
-        assert!(rt; sent.0 == first && sent.1 == second && sent.2.0.written() == text);
+        assert!(rt; sends_slowly(SlowLink(mute(alloc, fails)?), first, second, text));
     }
     Ok(())
 }

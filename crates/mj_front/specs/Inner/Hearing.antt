@@ -7,8 +7,8 @@ use Rattle.mj_history.specs.After.{After, Chair, Connection, lines_for, told_aga
 use Rattle.mj_history.specs.Legal.{Game}
 use Rattle.mj_history.specs.Arrivals.{ArrivalForm, Header, WallOf, Sit, Say, Leave, Expire, NoForm, form_of, Intake, Arrival, Leads, Bad, Input, now_of}
 use Rattle.mj_core.specs.Calls.{after_of, author_of_seat, due_of, pending_at}
-use Rattle.mj_front.specs.declared.arriving.Step.{Step}
-use Rattle.mj_front.specs.declared.arriving.Step.TheVariants as steps
+use Rattle.mj_front.specs.declared.arriving.Arrived.{Arrived}
+use Rattle.mj_front.specs.declared.arriving.Arrived.TheVariants as steps
 use Rattle.mj_front.specs.declared.hearing.End.{End}
 use Rattle.mj_front.specs.Referee.{ending}
 
@@ -71,7 +71,7 @@ pub record InPlay (seat : ℕ) (game : Game) (told : List ℕ) : Type 0 where
   pub bytes : told ≡ told_in seat (after_of game)
 
 -- What a line does to a game in play and to what the seat was told.
-abbrev pub Does : Step → ℕ → Game → Game → List ℕ → List ℕ → Arrival → Type 0
+abbrev pub Does : Arrived → ℕ → Game → Game → List ℕ → List ℕ → Arrival → Type 0
 Does steps.Leads seat old new old_told new_told arrival = (arrival ≡ Leads (intake_of new)) × InPlay seat new new_told
 Does steps.Bad seat old new old_told new_told arrival = (arrival ≡ Bad) × (new ≡ old) × (new_told ≡ old_told)
 

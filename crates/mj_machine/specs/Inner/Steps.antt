@@ -1,12 +1,12 @@
 -- What is known of the deeds of a game, and of who wins behind them.
-use Rattle.std.specs.Prelude.{ℕ, ◌≡◌, ◌≢◌, ◌≤◌, Bool, true, false, List, [], ◌∷◌, ◌++◌, length, All, flat_map, Option, Some, unsigned_abs}
+use Rattle.std.specs.Prelude.{ℕ, ◌≡◌, ◌≢◌, ◌≤◌, Bool, true, false, List, [], ◌∷◌, ◌++◌, length, All, flat_map, unsigned_abs}
 use Rattle.mj_tiles.specs.Counts.{NoFifth, kind_counts}
 use Rattle.mj_tiles.specs.Melds.{tiles_of_meld}
 use Rattle.mj_tiles.specs.declared.meld.Meld.{Meld}
 use Rattle.mj_deeds.specs.declared.answer.Answer.{Answer}
 use Rattle.mj_deeds.specs.declared.answer.Answer.TheVariants as answers
 use Rattle.mj_deeds.specs.declared.deed.Deed.{Deed}
-use Rattle.mj_deeds.specs.declared.deed.Deed.TheVariants.{Discard, Win}
+use Rattle.mj_deeds.specs.declared.deed.Deed.TheVariants.{Win}
 use Rattle.mj_deeds.specs.Course.{before_wins}
 use Rattle.mj_deeds.specs.Facts.{newest, concealed_tiles, seat_melds, indicators}
 use Rattle.mj_deeds.specs.Fits.{all_fit}
@@ -30,11 +30,6 @@ all_tiles own tile melds = own ++ tile ∷ flat_map tiles_of_meld melds
 pub record AreFew (own : List ℕ) (tile : ℕ) (melds : List Meld) : Type 0 where
   pub kinds : NoFifth (kind_counts (own ++ tile ∷ []))
   pub all : length (all_tiles own tile melds) ≤ 18
-
--- The newest deed is a discard.
-abbrev pub is_discarded : Option Deed → Bool
-is_discarded (Some (Discard who tile drawn)) = true
-is_discarded other = false
 
 -- The numbers of a game, whose deeds fit, are small.
 pub record AreSmall (deeds : List Deed) : Type 0 where

@@ -3,6 +3,8 @@ use Rattle.std.specs.Prelude.{◌≡◌, ◌≤◌, ◌<◌, ◌+◌, ◌-◌, �
 use Rattle.mj_tiles.specs.Faces.{number_in, tile_order}
 use Rattle.mj_rounds.specs.declared.rounds.Standing.{Standing}
 use Rattle.mj_deeds.specs.declared.deed.Deed.{Deed}
+use Rattle.mj_deeds.specs.declared.four.Four.{Four}
+use Rattle.mj_deeds.specs.Four.{at_seat}
 use Rattle.mj_deeds.specs.Facts.{newest, gains_by, losses_by, tiles_gained, tiles_lost}
 use Rattle.mj_deeds.specs.Fits.{all_fit}
 use Rattle.mj_deeds.specs.Hand.{is_hand_start, hand}
@@ -10,8 +12,6 @@ use Rattle.mj_deeds.specs.Points.{points, deposits}
 use Rattle.mj_deeds.specs.Standings.{standing}
 use Rattle.mj_wall.specs.declared.setting.Rules.{Rules}
 use Rattle.mj_table.specs.declared.hand_facts.HandFacts.{HandFacts}
-use Rattle.mj_table.specs.declared.seats.Seats.{Seats}
-use Rattle.mj_table.specs.Inner.Any.{of_any}
 use Rattle.mj_table.specs.Inner.Hands.{Knows}
 use Rattle.mj_table.specs.Inner.Latest.{previous}
 
@@ -19,9 +19,9 @@ use Rattle.mj_table.specs.Inner.Latest.{previous}
 abbrev pub Holds : List Deed → ℕ → List ℕ → Type 0
 Holds deeds seat held = (face : ℕ) → face < 37 → slice_index held face + number_in (tiles_lost deeds seat) face ≡ number_in (tiles_gained deeds seat) face
 
--- The same of each seat in the newest hand, and of every number that is no seat.
-abbrev pub AllHold : List Deed → Seats (List ℕ) → Type 0
-AllHold deeds tiles = (seat : ℕ) → Holds (hand deeds) seat (of_any tiles seat)
+-- The same of each seat in the newest hand.
+abbrev pub AllHold : List Deed → Four (List ℕ) → Type 0
+AllHold deeds tiles = (seat : ℕ) → seat ≤ 3 → Holds (hand deeds) seat (at_seat tiles seat)
 
 -- The deed that stands beside the newest one, which is of the newest hand.
 abbrev pub beside : List Deed → Option Deed
@@ -33,7 +33,7 @@ KnowsNewest deeds facts = Knows (hand deeds) facts
 
 -- What is kept stands for the deeds: each of them fits behind those before it, and kept are the newest one and the one beside
 -- it, the standing, the points, the deposits, how many tiles of each face each seat holds, and the facts of the newest hand.
-pub record Stands (rules : Rules) (deeds : List Deed) (last before : Option Deed) (now : Standing) (held : List ℤ) (lying : ℕ) (tiles : Seats (List ℕ)) (known : HandFacts) : Type 0 where
+pub record Stands (rules : Rules) (deeds : List Deed) (last before : Option Deed) (now : Standing) (held : List ℤ) (lying : ℕ) (tiles : Four (List ℕ)) (known : HandFacts) : Type 0 where
   pub fit : IsTrue (all_fit rules.red [] deeds)
   pub latest : last ≡ newest deeds
   pub previous : before ≡ beside deeds

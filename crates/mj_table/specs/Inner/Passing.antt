@@ -1,8 +1,7 @@
--- Discards, and deeds that do nothing of a seat but offer it tiles.
-use Rattle.std.specs.Prelude.{◌≡◌, ◌==◌, ℕ, Bool, true, false, List, []}
+-- Deeds that do nothing of a seat but offer it tiles.
+use Rattle.std.specs.Prelude.{◌≡◌, ◌==◌, ℕ, false, List, []}
 use Rattle.std.specs.List.{list_any}
 use Rattle.mj_deeds.specs.declared.deed.Deed.{Deed}
-use Rattle.mj_deeds.specs.declared.deed.Deed.TheVariants.{Discard}
 use Rattle.mj_deeds.specs.Ends.{winners_by}
 use Rattle.mj_deeds.specs.Facts.{discards_by, is_discard_by, makes_by, adds_by}
 use Rattle.mj_deeds.specs.Firsts.{ends_first}
@@ -11,11 +10,6 @@ use Rattle.mj_deeds.specs.Passed.{offers_to}
 use Rattle.mj_deeds.specs.Points.{is_win}
 use Rattle.mj_deeds.specs.Riichi.{is_reach_by, is_accepted_by}
 use Rattle.mj_deeds.proofs.RiichiLaws.{is_added}
-
--- A deed is a discard.
-abbrev pub is_discard : Deed → Bool
-is_discard (Discard who tile drawn) = true
-is_discard other = false
 
 -- A deed offers these tiles to a seat, and else changes nothing of what is kept of the seat: it starts no hand, is no win and
 -- no added kan, and the seat neither discards, makes or adds to a meld, reaches, is in riichi nor wins by it, and its first turn

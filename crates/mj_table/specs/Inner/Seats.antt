@@ -1,18 +1,18 @@
 -- What a table keeps of each seat of the deeds of the newest hand.
-use Rattle.std.specs.Prelude.{◌≡◌, List, flat_map, ℕ}
+use Rattle.std.specs.Prelude.{◌≡◌, ◌≤◌, List, flat_map, ℕ}
 use Rattle.std.specs.List.{list_any}
 use Rattle.mj_deeds.specs.declared.deed.Deed.{Deed}
 use Rattle.mj_deeds.specs.Course.{before_wins}
 use Rattle.mj_deeds.specs.Ends.{dealer_won}
 use Rattle.mj_deeds.specs.Facts.{is_discard_by, adds_by, seat_melds}
 use Rattle.mj_deeds.specs.Firsts.{ends_first}
+use Rattle.mj_deeds.specs.declared.four.Four.{Four}
+use Rattle.mj_deeds.specs.Four.{at_seat}
 use Rattle.mj_deeds.specs.Hand.{is_hand_start}
 use Rattle.mj_deeds.specs.Passed.{kinds_among, own_kinds, offers_to, offered_tiles, passed_kinds, passed_in_riichi}
 use Rattle.mj_deeds.specs.Riichi.{is_reach_by, has_reached, is_in_riichi, is_double, is_ippatsu, behind_first, behind_reach}
 use Rattle.mj_table.specs.declared.mark_facts.MarkFacts.{MarkFacts}
 use Rattle.mj_table.specs.declared.seat_facts.SeatFacts.{SeatFacts}
-use Rattle.mj_table.specs.declared.seats.Seats.{Seats}
-use Rattle.mj_table.specs.Inner.Any.{of_any}
 use Rattle.mj_table.specs.Inner.Few.{Lists}
 
 -- What is kept of a seat's riichi says these facts of the deeds of one hand: whether it has begun, and the seat's first turn
@@ -43,6 +43,6 @@ pub record Keeps (deeds : List Deed) (seat : ℕ) (facts : SeatFacts) : Type 0 w
   pub marks : KeepsMarks deeds seat facts.marks
   pub won : facts.won ≡ dealer_won deeds seat
 
--- The same of each seat, and of every number that is no seat.
-abbrev pub AllKeep : List Deed → Seats SeatFacts → Type 0
-AllKeep deeds facts = (seat : ℕ) → Keeps deeds seat (of_any facts seat)
+-- The same of each seat.
+abbrev pub AllKeep : List Deed → Four SeatFacts → Type 0
+AllKeep deeds facts = (seat : ℕ) → seat ≤ 3 → Keeps deeds seat (at_seat facts seat)

@@ -19,4 +19,4 @@ returns-clause-value c =
 pub returns-clause-few : goal.returns-clause-few
 returns-clause-few c =
     subst (λ (xs : List ℕ). length xs ≤ 5) (sym c.from_vec-2.ensures)
-    (unders_few c.args.wall.now c.loop-place.place c.shown-place-end.result c.loop-place.unders.items c.loop-place.invariant c.loop-place.auto.place-end (subst (λ n. n ≤ 5) (sym c.shown-place-end.ensures) c.requires))
+    (unders_few c.args.wall.now c.loop-place.place c.shown-place-end.result c.loop-place.unders.items c.loop-place.invariant c.loop-place.auto.place-end (subst (λ n. n ≤ 5) (sym c.shown-place-end.ensures) c.requires.shown))

@@ -1,6 +1,6 @@
 use Rattle.std.proofs.Common.{[]}
 use Rattle.mj_selfplay.specs.Inner.Supplies.{game_walls}
-use Rattle.mj_selfplay.proofs.Played.{begins, comes_to, goes, nearer, none_within, plain_rules, played_at_hand, tally_few, tally_within, whole_walls}
+use Rattle.mj_selfplay.proofs.Played.{begins, comes_to, goes, nearer, none_within, played_at_hand, tally_few, tally_within, whole_walls}
 use Rattle.mj_selfplay.proofs.game.play.Goals as goal
 
 pub with-tally-requires-clause-few : goal.with-tally-requires-clause-few
@@ -18,10 +18,6 @@ with-tally-requires-clause-draws c = (tally_few c.none.result [] c.none.ensures)
 pub loop-alloc-init : goal.loop-alloc-init
 loop-alloc-init c =
     (c.in_ok-walls.ensures, begins (game_walls c.args.seed) c.in_ok-table.table c.none.result c.with-tally.result c.start.result c.in_ok-table.ensures c.none.ensures c.start.ensures c.with-tally.ensures)
-
-pub step-requires-clause-plain : goal.step-requires-clause-plain
-step-requires-clause-plain c =
-    plain_rules c.loop-alloc.table.rules c.loop-alloc.invariant.1.rules_are
 
 pub step-requires-clause-played : goal.step-requires-clause-played
 step-requires-clause-played c =

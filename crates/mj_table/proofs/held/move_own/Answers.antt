@@ -1,9 +1,6 @@
-use Rattle.std.proofs.Common.{◌∙◌}
-use Rattle.mj_table.proofs.AlikeSeats.{last_of_four}
 use Rattle.mj_table.proofs.FacesHeld.{started}
 use Rattle.mj_table.proofs.held.move_own.Goals as goal
 
 pub returns-in-StartHand : goal.returns-in-StartHand
 returns-in-StartHand c =
-    started c.args.deed.now _ _ _ _ _ _ c.in-StartHand.hands c.args.seat c.args.held.now c.deal.new.held c.at.result.now c.in-StartHand.is
-    (c.at.ensures ∙ last_of_four c.in-StartHand.hands c.args.seat c.min.result c.min.ensures) c.deal.ensures
+    started c.args.deed.now _ _ _ _ _ _ c.in-StartHand.hands c.args.seat c.args.held.now c.deal.new.held c.at.result.now c.in-StartHand.is c.at.ensures c.deal.ensures

@@ -5,6 +5,4 @@ use Rattle.mj_table.specs.Inner.Kept.{Holds}
 use Rattle.mj_table.proofs.held.nothing_held.Goals as goal
 
 pub returns : goal.returns
-returns c =
-    each_seat (λ s held. Holds [] s held) (replicate 37 0) (replicate 37 0) (replicate 37 0) (replicate 37 0) (replicate 37 0) (holds_nothing 0) (holds_nothing 1) (holds_nothing 2) (holds_nothing 3)
-    (λ s high. holds_nothing s)
+returns c = each_seat (λ s held. Holds [] s held) (replicate 37 0) (replicate 37 0) (replicate 37 0) (replicate 37 0) (holds_nothing 0) (holds_nothing 1) (holds_nothing 2) (holds_nothing 3)

@@ -1,12 +1,10 @@
-use Rattle.std.proofs.Common.{◌++◌, ◌∷◌, [], subst}
-use Rattle.mj_table.proofs.AlikeSeats.{above}
+use Rattle.std.proofs.Common.{◌++◌, ◌∷◌, [], arith}
 use Rattle.mj_table.proofs.SeatsKept.{each_seat}
-use Rattle.mj_table.specs.declared.seat_facts.SeatFacts.{SeatFacts}
 use Rattle.mj_table.specs.Inner.Seats.{Keeps}
 use Rattle.mj_table.proofs.seat_facts.let_all_pass.Goals as goal
 
 pub returns : goal.returns
 returns c before deed o k =
-    each_seat (λ seat facts. Keeps (before ++ deed ∷ []) seat facts) _ _ _ _ _
-    (c.let_pass.ensures before deed 0 (o 0) (k 0)) (c.let_pass-2.ensures before deed 1 (o 1) (k 1)) (c.let_pass-3.ensures before deed 2 (o 2) (k 2)) (c.let_pass-4.ensures before deed 3 (o 3) (k 3))
-    (λ seat high. c.let_pass-5.ensures before deed seat (o seat) (subst (λ (facts : SeatFacts). Keeps before seat facts) (above c.args.facts.now seat high) (k seat)))
+    each_seat (λ seat facts. Keeps (before ++ deed ∷ []) seat facts) _ _ _ _
+    (c.let_pass.ensures before deed 0 (o 0) (k 0 (omega arith))) (c.let_pass-2.ensures before deed 1 (o 1) (k 1 (omega arith)))
+    (c.let_pass-3.ensures before deed 2 (o 2) (k 2 (omega arith))) (c.let_pass-4.ensures before deed 3 (o 3) (k 3 (omega arith)))

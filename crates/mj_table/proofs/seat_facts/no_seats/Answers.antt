@@ -5,5 +5,5 @@ use Rattle.mj_table.proofs.seat_facts.no_seats.Goals as goal
 
 pub returns : goal.returns
 returns c =
-    each_seat (λ seat facts. Keeps [] seat facts) c.nothing.result c.nothing-2.result c.nothing-3.result c.nothing-4.result c.nothing-5.result (c.nothing.ensures 0) (c.nothing-2.ensures 1) (c.nothing-3.ensures 2)
-    (c.nothing-4.ensures 3) (λ seat high. c.nothing-5.ensures seat)
+    each_seat (λ seat facts. Keeps [] seat facts) c.nothing.result c.nothing-2.result c.nothing-3.result c.nothing-4.result (c.nothing.ensures 0) (c.nothing-2.ensures 1) (c.nothing-3.ensures 2)
+    (c.nothing-4.ensures 3)

@@ -1,8 +1,7 @@
 use Rattle.std.proofs.Common.{length, sym, ap, ◌∙◌}
 use Rattle.mj_deeds.specs.Hand.{starts}
-use Rattle.mj_deeds.proofs.Fitted.{parts_of}
 use Rattle.mj_table.specs.Plays.{Play}
-use Rattle.mj_table.specs.Inner.Any.{of_any}
+use Rattle.mj_deeds.specs.Four.{at_seat}
 use Rattle.mj_table.proofs.FacesHeld.{holds_more}
 use Rattle.mj_table.proofs.HandsKept.{facts_more}
 use Rattle.mj_table.proofs.Readers.{stands_more, stands_for, fit_within, few_lie, points_fit}
@@ -26,9 +25,9 @@ invariant_of-self-2 c =
     c.next_number-number.result c.self.inside.held c.move_tiles.new.held c.self.inside.facts c.learn.new.facts c.args.deed.now c.self.invariant
     one
     (c.next_number-number.ensures ∙ ap (λ (p : Play). length (starts p.deeds)) (sym c.self.view_is))
-    (λ seat.
-    holds_more c.self.inside.rules.red c.self.inside.past.items c.args.deed.now seat (of_any c.self.inside.held seat) (of_any c.move_tiles.new.held seat) c.self.invariant.fit one (c.self.invariant.concealed seat)
-    (c.move_tiles.ensures seat (parts_of c.self.inside.rules.red c.self.inside.past.items c.args.deed.now one).inside.seats))
+    (λ seat low.
+    holds_more c.self.inside.rules.red c.self.inside.past.items c.args.deed.now seat (at_seat c.self.inside.held seat) (at_seat c.move_tiles.new.held seat) low c.self.invariant.fit one (c.self.invariant.concealed seat low)
+    (c.move_tiles.ensures seat low))
     (facts_more c.self.inside.rules.red c.self.inside.past.items c.args.deed.now c.self.inside.facts c.learn.new.facts c.self.invariant.fit one c.learn.ensures c.self.invariant.facts))
     c.and-self-inside.ensures c.in_ok-add.ensures.last c.in_ok-add.ensures.beside c.stand.ensures c.points_after-self-inside.ensures
     c.deposits_after-self-inside.ensures

@@ -1,0 +1,17 @@
+pub mod Appends
+pub mod FreshLaws
+pub mod Moments
+pub mod Notes
+pub mod Opened
+pub mod Records
+pub mod Steps
+pub mod Tears
+pub mod Walks
+pub mod AtPlace
+pub mod CallTexts
+pub mod Enterings
+pub mod Outliving
+pub mod Looks
+pub mod Replayed
+pub mod Firsts
+pub mod Reopened

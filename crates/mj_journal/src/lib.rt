@@ -1,0 +1,36 @@
+//! A journal that outlives a stop: the entries of a game on a disk, each acknowledged once it is there.
+#![tactic(auto)]
+
+mod answered;
+mod appending;
+mod beginning;
+mod call;
+mod disk;
+mod entering;
+mod file_disk;
+mod founding;
+mod head;
+mod kept;
+#[cfg(test)]
+mod kept_tests;
+mod mem_call;
+mod mem_calls;
+mod mem_disk;
+mod mem_write;
+mod not_opened;
+mod opening;
+mod outcome;
+mod reading;
+mod record;
+mod replaying;
+mod through;
+#[cfg(test)]
+mod toy;
+
+pub use answered::Answered;
+pub use disk::{Disk, Filled, Size, Synced, Wrote};
+pub use file_disk::FileDisk;
+pub use kept::Kept;
+pub use mem_call::{CallMade, DiskCall};
+pub use mem_disk::MemDisk;
+pub use not_opened::NotOpened;

@@ -1,0 +1,189 @@
+//! Lines of mjai: of deeds as each viewer sees them, of refusals, and what a player's line reads as.
+
+use crate::deed_words::{answer, deed};
+use crate::views::viewer_of;
+use mj_deeds::{Answer, Deed, Rule, Viewer};
+use mj_ports::{JoinLine, SitRefused};
+use mjai_lines::{error_line, read_answer, read_join, refusal_line, write_alone};
+use std::alloc::Global;
+
+/// A viewer, a seat or the record, a deed, and its line. A start of a hand shows a seat its own tiles alone and the record
+/// all, a draw hides its tile from others, and the record alone is told the call that is kept and the winners that follow.
+const DEEDS: &str = "\
+2 game={\"type\":\"start_game\",\"id\":2,\"names\":[\"a\",\"b\",\"c\",\"d\"]}
+record game={\"type\":\"start_game\",\"id\":0,\"names\":[\"a\",\"b\",\"c\",\"d\"]}
+1 deal|S 2 1 2|F|1111222233334m|4445550666677m|7788889999m 111p|1222233334444p={\"type\":\"start_kyoku\",\"bakaze\":\"S\",\"kyoku\":3,\"honba\":1,\"kyotaku\":2,\"oya\":2,\"dora_marker\":\"F\",\"tehais\":[[\"?\",\"?\",\"?\",\"?\",\"?\",\"?\",\"?\",\"?\",\"?\",\"?\",\"?\",\"?\",\"?\"],[\"4m\",\"4m\",\"4m\",\"5m\",\"5m\",\"5m\",\"5mr\",\"6m\",\"6m\",\"6m\",\"6m\",\"7m\",\"7m\"],[\"?\",\"?\",\"?\",\"?\",\"?\",\"?\",\"?\",\"?\",\"?\",\"?\",\"?\",\"?\",\"?\"],[\"?\",\"?\",\"?\",\"?\",\"?\",\"?\",\"?\",\"?\",\"?\",\"?\",\"?\",\"?\",\"?\"]]}
+record deal|S 2 1 2|F|1111222233334m|4445550666677m|7788889999m 111p|1222233334444p={\"type\":\"start_kyoku\",\"bakaze\":\"S\",\"kyoku\":3,\"honba\":1,\"kyotaku\":2,\"oya\":2,\"dora_marker\":\"F\",\"tehais\":[[\"1m\",\"1m\",\"1m\",\"1m\",\"2m\",\"2m\",\"2m\",\"2m\",\"3m\",\"3m\",\"3m\",\"3m\",\"4m\"],[\"4m\",\"4m\",\"4m\",\"5m\",\"5m\",\"5m\",\"5mr\",\"6m\",\"6m\",\"6m\",\"6m\",\"7m\",\"7m\"],[\"7m\",\"7m\",\"8m\",\"8m\",\"8m\",\"8m\",\"9m\",\"9m\",\"9m\",\"9m\",\"1p\",\"1p\",\"1p\"],[\"1p\",\"2p\",\"2p\",\"2p\",\"2p\",\"3p\",\"3p\",\"3p\",\"3p\",\"4p\",\"4p\",\"4p\",\"4p\"]]}
+0 hand|F|1111222233334m|4445555666677m|7788889999m 111p|1222233334444p={\"type\":\"start_kyoku\",\"bakaze\":\"E\",\"kyoku\":1,\"honba\":0,\"kyotaku\":0,\"oya\":0,\"dora_marker\":\"F\",\"tehais\":[[\"1m\",\"1m\",\"1m\",\"1m\",\"2m\",\"2m\",\"2m\",\"2m\",\"3m\",\"3m\",\"3m\",\"3m\",\"4m\"],[\"?\",\"?\",\"?\",\"?\",\"?\",\"?\",\"?\",\"?\",\"?\",\"?\",\"?\",\"?\",\"?\"],[\"?\",\"?\",\"?\",\"?\",\"?\",\"?\",\"?\",\"?\",\"?\",\"?\",\"?\",\"?\",\"?\"],[\"?\",\"?\",\"?\",\"?\",\"?\",\"?\",\"?\",\"?\",\"?\",\"?\",\"?\",\"?\",\"?\"]]}
+0 hand|F|1111222233334m|4455556666777m|4788889999m 111p|1222233334444p={\"type\":\"start_kyoku\",\"bakaze\":\"E\",\"kyoku\":1,\"honba\":0,\"kyotaku\":0,\"oya\":0,\"dora_marker\":\"F\",\"tehais\":[[\"1m\",\"1m\",\"1m\",\"1m\",\"2m\",\"2m\",\"2m\",\"2m\",\"3m\",\"3m\",\"3m\",\"3m\",\"4m\"],[\"?\",\"?\",\"?\",\"?\",\"?\",\"?\",\"?\",\"?\",\"?\",\"?\",\"?\",\"?\",\"?\"],[\"?\",\"?\",\"?\",\"?\",\"?\",\"?\",\"?\",\"?\",\"?\",\"?\",\"?\",\"?\",\"?\"],[\"?\",\"?\",\"?\",\"?\",\"?\",\"?\",\"?\",\"?\",\"?\",\"?\",\"?\",\"?\",\"?\"]]}
+3 replace 3 5p={\"type\":\"tsumo\",\"actor\":3,\"pai\":\"5p\"}
+1 replace 3 5p={\"type\":\"tsumo\",\"actor\":3,\"pai\":\"?\"}
+record replace 3 5p={\"type\":\"tsumo\",\"actor\":3,\"pai\":\"5p\"}
+3 discard 0 5p={\"type\":\"dahai\",\"actor\":0,\"pai\":\"5p\",\"tsumogiri\":false}
+1 discard 0 5p={\"type\":\"dahai\",\"actor\":0,\"pai\":\"5p\",\"tsumogiri\":false}
+record discard 0 5p={\"type\":\"dahai\",\"actor\":0,\"pai\":\"5p\",\"tsumogiri\":false}
+3 chi 1 0 7m 5m 6m={\"type\":\"chi\",\"actor\":1,\"target\":0,\"pai\":\"7m\",\"consumed\":[\"5m\",\"6m\"]}
+record pon 2 0 7m 7m 7m={\"type\":\"pon\",\"actor\":2,\"target\":0,\"pai\":\"7m\",\"consumed\":[\"7m\",\"7m\"]}
+3 open 2 0 7m 7m 7m 7m={\"type\":\"daiminkan\",\"actor\":2,\"target\":0,\"pai\":\"7m\",\"consumed\":[\"7m\",\"7m\",\"7m\"]}
+3 closed 1 N N N N={\"type\":\"ankan\",\"actor\":1,\"consumed\":[\"N\",\"N\",\"N\",\"N\"]}
+3 added 1 6m 6m 6m 6m={\"type\":\"kakan\",\"actor\":1,\"pai\":\"6m\",\"consumed\":[\"6m\",\"6m\",\"6m\"]}
+0 dora 8p={\"type\":\"dora\",\"dora_marker\":\"8p\"}
+0 reach 1={\"type\":\"reach\",\"actor\":1}
+2 accepted|1|30000 29000 30000 -200|pon 2 1 5mr 5m 5m={\"type\":\"reach_accepted\",\"actor\":1,\"deltas\":[0,-1000,0,0],\"scores\":[30000,29000,30000,-200]}
+record accepted|1|30000 29000 30000 -200={\"type\":\"reach_accepted\",\"actor\":1,\"deltas\":[0,-1000,0,0],\"scores\":[30000,29000,30000,-200],\"then\":null}
+record accepted|1|30000 29000 30000 -200|pon 2 1 5mr 5m 5m={\"type\":\"reach_accepted\",\"actor\":1,\"deltas\":[0,-1000,0,0],\"scores\":[30000,29000,30000,-200],\"then\":{\"type\":\"pon\",\"actor\":2,\"target\":1,\"pai\":\"5mr\",\"consumed\":[\"5m\",\"5m\"]}}
+0 win|1|1|7m|-1300 2700 -700 -700|28700 32700 29300 29300|2 0|23456m 456p 33678s={\"type\":\"hora\",\"actor\":1,\"target\":1,\"pai\":\"7m\",\"uradora_markers\":[],\"hora_tehais\":[\"2m\",\"3m\",\"4m\",\"5m\",\"6m\",\"4p\",\"5p\",\"6p\",\"3s\",\"3s\",\"6s\",\"7s\",\"8s\"],\"yakus\":[[\"menzen_tsumo\",1],[\"pinfu\",1],[\"tanyao\",1]],\"fu\":20,\"fan\":3,\"hora_points\":2700,\"deltas\":[-1300,2700,-700,-700],\"scores\":[28700,32700,29300,29300]}
+record win|1|1|7m|-1300 2700 -700 -700|28700 32700 29300 29300||23456m 456p 33678s={\"type\":\"hora\",\"actor\":1,\"target\":1,\"pai\":\"7m\",\"uradora_markers\":[],\"hora_tehais\":[\"2m\",\"3m\",\"4m\",\"5m\",\"6m\",\"4p\",\"5p\",\"6p\",\"3s\",\"3s\",\"6s\",\"7s\",\"8s\"],\"yakus\":[[\"menzen_tsumo\",1],[\"pinfu\",1],[\"tanyao\",1]],\"fu\":20,\"fan\":3,\"hora_points\":2700,\"deltas\":[-1300,2700,-700,-700],\"scores\":[28700,32700,29300,29300],\"rest\":[]}
+record win|1|1|7m|-1300 2700 -700 -700|28700 32700 29300 29300|0|23456m 456p 33678s={\"type\":\"hora\",\"actor\":1,\"target\":1,\"pai\":\"7m\",\"uradora_markers\":[],\"hora_tehais\":[\"2m\",\"3m\",\"4m\",\"5m\",\"6m\",\"4p\",\"5p\",\"6p\",\"3s\",\"3s\",\"6s\",\"7s\",\"8s\"],\"yakus\":[[\"menzen_tsumo\",1],[\"pinfu\",1],[\"tanyao\",1]],\"fu\":20,\"fan\":3,\"hora_points\":2700,\"deltas\":[-1300,2700,-700,-700],\"scores\":[28700,32700,29300,29300],\"rest\":[0]}
+record win|1|1|7m|-1300 2700 -700 -700|28700 32700 29300 29300|2 0|23456m 456p 33678s={\"type\":\"hora\",\"actor\":1,\"target\":1,\"pai\":\"7m\",\"uradora_markers\":[],\"hora_tehais\":[\"2m\",\"3m\",\"4m\",\"5m\",\"6m\",\"4p\",\"5p\",\"6p\",\"3s\",\"3s\",\"6s\",\"7s\",\"8s\"],\"yakus\":[[\"menzen_tsumo\",1],[\"pinfu\",1],[\"tanyao\",1]],\"fu\":20,\"fan\":3,\"hora_points\":2700,\"deltas\":[-1300,2700,-700,-700],\"scores\":[28700,32700,29300,29300],\"rest\":[2,0]}
+3 drawn|yes no no no|3000 -1000 -1000 -1000|33000 29000 29000 29000|fanpai|12m E|0 1 3={\"type\":\"ryukyoku\",\"reason\":\"fanpai\",\"tehais\":[[\"1m\",\"2m\",\"E\"],[],[\"?\"],[\"?\",\"?\",\"?\"]],\"tenpais\":[true,false,false,false],\"deltas\":[3000,-1000,-1000,-1000],\"scores\":[33000,29000,29000,29000]}
+3 end={\"type\":\"end_kyoku\"}
+3 over|30000 30000 31000 28000|1={\"type\":\"end_game\",\"scores\":[30000,30000,31000,28000],\"kyotaku\":1}
+record drawn|yes no no no|3000 -1000 -1000 -1000|33000 29000 29000 29000|fanpai|12m E|0 1 3={\"type\":\"ryukyoku\",\"reason\":\"fanpai\",\"tehais\":[[\"1m\",\"2m\",\"E\"],[],[\"?\"],[\"?\",\"?\",\"?\"]],\"tenpais\":[true,false,false,false],\"deltas\":[3000,-1000,-1000,-1000],\"scores\":[33000,29000,29000,29000]}
+record end={\"type\":\"end_kyoku\"}
+record over|30000 30000 31000 28000|1={\"type\":\"end_game\",\"scores\":[30000,30000,31000,28000],\"kyotaku\":1}";
+
+/// Whether a deed and its copy are written so.
+fn is_written(alloc: Global, row: &str) -> Option<bool> {
+    let (told, line) = row.split_once('=')?;
+    let (viewer, told) = told.split_once(' ')?;
+    Some(both_written(alloc, viewer_of(viewer), deed(alloc, told)?, line))
+}
+
+fn both_written(alloc: Global, viewer: Viewer, deed: Deed, line: &str) -> bool {
+    match deed.copy() {
+        Ok(copy) => writes(alloc, viewer, &deed, line) && writes(alloc, viewer, &copy, line),
+        Err(_) => false,
+    }
+}
+
+fn writes(alloc: Global, viewer: Viewer, deed: &Deed, line: &str) -> bool {
+    let mut written = Vec::new(alloc);
+    write_alone(alloc, viewer, deed, &mut written).is_ok()
+        && written.as_slice().strip_suffix(b"\n") == Some(line.as_bytes())
+}
+
+#[test]
+fn a_deed_has_its_line_for_each_viewer(rt: HostRuntime) {
+    for row in DEEDS.lines() {
+        assert!(rt; is_written(rt.alloc(), row) == Some(true), "{row}");
+    }
+}
+
+const RULES: [Rule; 3] = [Rule::NotHeld, Rule::Unreadable, Rule::NotNine];
+
+const ERRORS: &[u8] =
+    b"{\"type\":\"error\",\"rule\":7,\"message\":\"NotHeld\"}\n{\"type\":\"error\",\"rule\":1,\"message\":\"Unreadable\"}\n{\"type\":\"error\",\"rule\":24,\"message\":\"NotNine\"}\n";
+
+const CAUSES: [SitRefused; 3] = [SitRefused::Full, SitRefused::WrongKey, SitRefused::BadName];
+
+const REFUSALS: &[u8] =
+    b"{\"type\":\"error\",\"sit\":1,\"message\":\"Full\"}\n{\"type\":\"error\",\"sit\":3,\"message\":\"WrongKey\"}\n{\"type\":\"error\",\"sit\":7,\"message\":\"BadName\"}\n";
+
+fn are_errors(alloc: Global, rules: &[Rule], lines: &[u8]) -> bool {
+    let mut written = Vec::new(alloc);
+    let mut all = true;
+    for rule in rules {
+        all = error_line(alloc, *rule, &mut written).is_ok() && all;
+    }
+    all && written.as_slice() == lines
+}
+
+fn are_refusals(alloc: Global, causes: &[SitRefused], lines: &[u8]) -> bool {
+    let mut written = Vec::new(alloc);
+    let mut all = true;
+    for cause in causes {
+        all = refusal_line(alloc, *cause, &mut written).is_ok() && all;
+    }
+    all && written.as_slice() == lines
+}
+
+#[test]
+fn a_refusal_is_told_by_its_number_and_its_name(rt: HostRuntime) {
+    assert!(rt; are_errors(rt.alloc(), &RULES, ERRORS));
+    assert!(rt; are_refusals(rt.alloc(), &CAUSES, REFUSALS));
+}
+
+/// A line of a player, and the answer that it reads as.
+const ANSWERS: &str = "\
+{\"type\":\"none\"}=pass
+{\"type\":\"none\",\"actor\":2}=pass 2
+ {\"type\":\"none\",\"actor\":3}\r=pass 3
+{\"type\":\"dahai\",\"actor\":0,\"pai\":\"5pr\",\"tsumogiri\":true}=cut 0 5pr
+{\"type\":\"dahai\",\"actor\":3,\"pai\":\"?\",\"tsumogiri\":false}=discard 3 *
+{\"actor\":3,\"tsumogiri\":false,\"pai\":\"?\",\"type\":\"dahai\"}=discard 3 *
+{\"type\":\"chi\",\"actor\":1,\"target\":0,\"pai\":\"7m\",\"consumed\":[\"6m\",\"5m\"]}=chi 1 0 7m 5m 6m
+{\"type\":\"pon\",\"actor\":2,\"target\":0,\"pai\":\"?\",\"consumed\":[\"?\",\"5mr\"]}=pon 2 0 * 5mr *
+{\"consumed\":[\"5mr\",\"5m\",\"5m\"],\"pai\":\"5m\",\"target\":3,\"actor\":2,\"type\":\"daiminkan\"}=open 2 3 5m 5m 5m 5mr
+{\"type\":\"ankan\",\"actor\":3,\"consumed\":[\"5m\",\"5mr\",\"?\",\"5m\"],\"pai\":7}=closed 3 5m 5m 5mr *
+{\"type\":\"kakan\",\"actor\":1,\"pai\":\"5m\",\"consumed\":[],\"consumed\":[\"5mr\",\"5m\",\"5m\"]}=added 1 5m 5m 5m 5mr
+{\"type\":\"reach\",\"actor\":2,\"pai\":null}=reach 2
+{\"type\":\"hora\",\"actor\":2,\"target\":0}=ron 2 0
+{\"pai\":\"5sr\",\"target\":2,\"actor\":2,\"type\":\"hora\"}=ron 2 2 5sr
+{\"type\":\"hora\",\"actor\":2,\"target\":0,\"pai\":\"?\"}=ron 2 0 *
+{\"type\":\"ryukyoku\",\"actor\":1}=nine 1
+{\"type\":\"ryukyoku\",\"actor\":1,\"reason\":\"kyushukyuhai\"}=nine 1
+{\"type\":\"reach\"}=unread
+{\"type\":\"hora\",\"actor\":2}=unread
+{\"type\":\"hora\",\"actor\":2,\"target\":0,\"pai\":null}=unread
+{\"type\":\"ryukyoku\",\"actor\":1,\"reason\":\"fanpai\"}=unread
+{\"type\":\"ryukyoku\",\"actor\":1,\"reason\":null}=unread
+{\"type\":\"none\"}\0=unread
+{\"type\":\"none\",\"actor\":4}=unread
+{\"type\":\"dahai\",\"actor\":0,\"pai\":\"0m\",\"tsumogiri\":true}=unread
+{\"type\":\"ankan\",\"consumed\":[\"N\",\"N\",\"N\",\"N\"]}=unread";
+
+fn reads(alloc: Global, row: &str) -> Option<bool> {
+    let (line, told) = row.split_once('=')?;
+    match read_answer(alloc, line.as_bytes()) {
+        Ok(found) => Some(Some(found) == answer(told)),
+        Err(_) => None,
+    }
+}
+
+#[test]
+fn a_line_reads_as_the_answer_that_it_is(rt: HostRuntime) {
+    for row in ANSWERS.lines() {
+        assert!(rt; reads(rt.alloc(), row) == Some(true), "{row}");
+    }
+    let no_text = b"{\"type\":\"none\",\"x\":\"\xff\"}";
+    assert!(rt; matches!(read_answer(rt.alloc(), no_text), Ok(Answer::Unread)));
+}
+
+/// A line, and the name of the join that it is, behind a bar its key if it has one, and nothing where it is none. A name
+/// has 1 to 64 bytes, and a key at most 64.
+const JOINS: &str = "\
+{\"type\":\"join\",\"name\":\"\\u0061é\",\"room\":\"default\"}=aé
+{\"type\":\"join\",\"name\":\"b\",\"key\":\"\"}=b|
+{\"key\":\"k\",\"name\":\"c\",\"type\":\"join\",\"room\":7}=c|k
+{\"type\":\"join\",\"name\":\"n\",\"key\":\"\"}=n|
+{\"type\":\"join\",\"name\":\"nnnnnnnnnnnnnnnnnnnnnnnnnnnnnnnnnnnnnnnnnnnnnnnnnnnnnnnnnnnnnnnn\",\"key\":\"kkkkkkkkkkkkkkkkkkkkkkkkkkkkkkkkkkkkkkkkkkkkkkkkkkkkkkkkkkkkkkkk\"}=nnnnnnnnnnnnnnnnnnnnnnnnnnnnnnnnnnnnnnnnnnnnnnnnnnnnnnnnnnnnnnnn|kkkkkkkkkkkkkkkkkkkkkkkkkkkkkkkkkkkkkkkkkkkkkkkkkkkkkkkkkkkkkkkk
+{\"type\":\"join\",\"name\":\"\",\"key\":\"k\"}=
+{\"type\":\"join\",\"name\":\"nnnnnnnnnnnnnnnnnnnnnnnnnnnnnnnnnnnnnnnnnnnnnnnnnnnnnnnnnnnnnnnnn\",\"key\":\"k\"}=
+{\"type\":\"join\",\"name\":\"n\",\"key\":\"kkkkkkkkkkkkkkkkkkkkkkkkkkkkkkkkkkkkkkkkkkkkkkkkkkkkkkkkkkkkkkkkk\"}=";
+
+fn is_join(alloc: Global, row: &str) -> Option<bool> {
+    let (line, told) = row.split_once('=')?;
+    match read_join(alloc, line.as_bytes()) {
+        Ok(Some(join)) => Some(is_named(&join, told)),
+        Ok(None) => Some(told.is_empty()),
+        Err(_) => None,
+    }
+}
+
+fn is_named(join: &JoinLine, told: &str) -> bool {
+    match (&join.key, told.split_once('|')) {
+        (Some(key), Some((name, text))) => {
+            join.name.as_slice() == name.as_bytes() && key.as_slice() == text.as_bytes()
+        }
+        (None, None) => join.name.as_slice() == told.as_bytes(),
+        _ => false,
+    }
+}
+
+#[test]
+fn a_join_has_a_name_and_perhaps_a_key(rt: HostRuntime) {
+    for row in JOINS.lines() {
+        assert!(rt; is_join(rt.alloc(), row) == Some(true), "{row}");
+    }
+}

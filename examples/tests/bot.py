@@ -1,0 +1,59 @@
+#!/usr/bin/env python3
+"""A program for the tests: it discards the tile that it draws, and fails as its words say.
+
+usage: bot.py STYLE FILE [crash N START | hang N | slow N SECONDS | wrong N]
+
+It speaks style line or batch, appends each line that it reads to FILE, and fails at the N-th of them: it ends, where it is
+the START-th that was started with the file, stays silent for good, answers late once, or answers with a tile that it doesn't
+hold.
+"""
+import itertools
+import json
+import sys
+import time
+
+
+def answer(event, seat):
+    if event["type"] == "tsumo" and event["actor"] == seat:
+        return {"type": "dahai", "actor": seat, "pai": event["pai"], "tsumogiri": True}
+    return {"type": "none"}
+
+
+def start_of(path):
+    """Which of the programs that are started with a file this is, from 1; no two are the same."""
+    for number in itertools.count(1):
+        try:
+            open(f"{path}.{number}", "x").close()
+            return number
+        except FileExistsError:
+            continue
+
+
+def main():
+    style, path, *words = sys.argv[1:]
+    fault, at, more = [*words, None, None][:3] if words else (None, 0, None)
+    at = int(at)
+    seat = None
+    start = start_of(path)
+    copy = open(path, "a", buffering=1, encoding="utf-8")
+    for number, line in enumerate(sys.stdin, 1):
+        copy.write(line)
+        events = json.loads(line) if style == "batch" else [json.loads(line)]
+        for event in events:
+            if event["type"] == "start_game":
+                seat = event["id"]
+        told = answer(events[-1], seat)
+        if number == at and fault == "crash" and start == int(more):
+            sys.exit("I fall")
+        if fault == "hang" and number >= at:
+            continue
+        if number == at and fault == "slow":
+            time.sleep(float(more))
+            told = {"type": "none", "late": True}
+        if number == at and fault == "wrong":
+            told = {"type": "dahai", "actor": seat, "pai": "C", "tsumogiri": False}
+        print(json.dumps(told), flush=True)
+
+
+if __name__ == "__main__":
+    main()

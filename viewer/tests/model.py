@@ -1,0 +1,94 @@
+"""What a record says of the table after each of its deeds, by a model of its own."""
+import json
+from collections import Counter
+
+
+def events_of(text):
+    """The events of a record, without its header and walls."""
+    return [json.loads(line) for line in text.splitlines() if line.startswith("{")]
+
+
+def hands_of(text):
+    """The events of each hand, hand after hand."""
+    hands = []
+    for event in events_of(text):
+        if event["type"] == "start_kyoku":
+            hands.append([])
+        if hands and event["type"] != "end_game":
+            hands[-1].append(event)
+    return hands
+
+
+class Table:
+    """One hand after some of its events."""
+
+    def __init__(self, start, points):
+        self.held = [Counter(hand) for hand in start["tehais"]]
+        self.melds = [[], [], [], []]
+        self.rivers = [[], [], [], []]
+        self.points = list(points)
+        self.honba = start["honba"]
+        self.deposits = start["kyotaku"]
+        self.indicators = [start["dora_marker"]]
+        self.left = 70
+        self.says_riichi = None
+
+    def lay(self, seat, tiles):
+        for tile in tiles:
+            self.held[seat][tile if self.held[seat][tile] else "?"] -= 1
+
+    def apply(self, event):
+        kind, seat = event["type"], event.get("actor")
+        if kind == "tsumo":
+            self.held[seat][event["pai"]] += 1
+            self.left -= 1
+        elif kind == "reach":
+            self.says_riichi = seat
+        elif kind == "dahai":
+            self.lay(seat, [event["pai"]])
+            self.rivers[seat].append([event["pai"], self.says_riichi == seat, False])
+            self.says_riichi = None
+        elif kind in ("chi", "pon", "daiminkan"):
+            self.lay(seat, event["consumed"])
+            self.rivers[event["target"]][-1][2] = True
+            # the called tile lies where the seat that discarded it sits: to the left, across or to the right
+            place = {3: 0, 2: 1, 1: len(event["consumed"])}[(event["target"] - seat) % 4]
+            self.melds[seat].append([kind, sorted([*event["consumed"], event["pai"]]), place])
+        elif kind == "ankan":
+            self.lay(seat, event["consumed"])
+            self.melds[seat].append([kind, sorted(event["consumed"]), -1])
+        elif kind == "kakan":
+            self.lay(seat, [event["pai"]])
+            pon = next(meld for meld in self.melds[seat] if meld[0] == "pon" and meld[1][0][:2] == event["pai"][:2])
+            pon[:2] = [kind, sorted([*pon[1], event["pai"]])]
+        elif kind == "dora":
+            self.indicators.append(event["dora_marker"])
+        elif kind == "hora":
+            self.held[seat] = Counter([*event["hora_tehais"], event["pai"]])
+            self.deposits = 0
+        self.deposits += kind == "reach_accepted"
+        self.points = event.get("scores", self.points)
+
+    def seen(self):
+        """The table as plain lists, which the page's are compared with."""
+        return {
+            "hands": [sorted((+hand).elements()) for hand in self.held],
+            "melds": [[list(meld) for meld in melds] for melds in self.melds],
+            "rivers": [[list(tile) for tile in river] for river in self.rivers],
+            "points": list(self.points),
+            "state": f"honba {self.honba} · deposits {self.deposits}",
+            "indicators": list(self.indicators),
+            "left": f"{self.left} tiles left",
+        }
+
+
+def tables_of(text):
+    """The table after each deed of each hand, in order."""
+    points = [30000] * 4
+    for hand in hands_of(text):
+        table = Table(hand[0], points)
+        yield table.seen()
+        for event in hand[1:]:
+            table.apply(event)
+            yield table.seen()
+        points = table.points
