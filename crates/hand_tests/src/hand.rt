@@ -13,6 +13,7 @@ E 9s E 7s 8s S 5p 6p S 3m 4p 1m 2m|0|1m 2m 3m 4p 5p 6p 7s 8s 9s E E E S S|E S
 5mr 2m 3m 4p 5p 6p 7s 8s 9s E E S S|1|1m 2m 3m 4p 5p 6p 7s 8s 9s E E E S S|-
 1m 1m 1m 1m 2p 2p 2p 2p 3s 3s 3s 3s E|2|1m 1m 1m 1m 2m 3m 2p 2p 2p 3s 3s 3s E E|-
 1m+2m+3m 4p 5p 6p 7s 8s 9s E E S S|0|4p 5p 6p 7s 8s 9s E E E S S|E S
+4m+5mr+6m 4p 5p 6p 7s 8s 9s E E S S|0|4p 5p 6p 7s 8s 9s E E E S S|E S
 4p 5p 6p 3m+1m+2m 7s 8s 9s E E S S|0|4p 5p 6p 7s 8s 9s E E E S S|E S
 1m+2m+3m 1m 1m 1m 2m 3m 4p 5p 6p 7s 8s|0|1m 1m 1m 2m 3m 4p 5p 6p 6s 7s 8s|6s 9s
 1m+2m+3m 1m 4m 7m 1p 4p 7p 1s 4s 7s E|6|1m 1m 1m 2m 3m 4m 5m 6m 7m 1p 1p|-
@@ -38,7 +39,7 @@ E+S+W 4p 5p 6p 7s 8s 9s E E S S
 1m+1m+1m+2m 4p 5p 6p 7s 8s 9s E E S S
 1m+1m+1m+1m+1m 4p 5p 6p 7s 8s 9s E E S S
 1m+2m+3m+4m 4p 5p 6p 7s 8s 9s E E S S
-4m+5mr+6m 4p 5p 6p 7s 8s 9s E E S S
+4m+5mr+6m 5mr 5p 6p 7s 8s 9s E E S S
 1m+2m+3m+ 4p 5p 6p 7s 8s 9s E E S S
 +1m+2m+3m 4p 5p 6p 7s 8s 9s E E S S
 1m++2m+3m 4p 5p 6p 7s 8s 9s E E S S
