@@ -37,7 +37,7 @@ others_slot slots who seat answer (Closing rule) known small ne = refl
 abbrev is_past : ℕ → Option Chair → Bool
 is_past n o = option_map_or (λ (chair : Chair). not (nat_lt chair.progress.due n)) o false
 
-abbrev AreFilledBy : ℕ → List Chair → Four (Option Answer) → Type 0
+abbrev pub AreFilledBy : ℕ → List Chair → Four (Option Answer) → Type 0
 AreFilledBy n chairs slots = (seat : ℕ) → seat < 4 → is_some (at_seat slots seat) ≡ true → is_past n (slice_get chairs seat) ≡ true
 
 abbrev pub AreFilled : After → Type 0
@@ -59,7 +59,7 @@ held_past n (Some chair) h = (chair, refl)
 pub below_four : (n m : ℕ) → n < m → m ≤ 4 → n < 4
 below_four n m h k = omega arith
 
-past_at : (n : ℕ) (chairs : List Chair) (slots : Four (Option Answer)) (seat : ℕ) (chair : Chair) → slice_get chairs seat ≡ Some chair → length chairs ≤ 4 → AreFilledBy n chairs slots → is_some (at_seat slots seat) ≡ true → nat_lt chair.progress.due n ≡ false
+pub past_at : (n : ℕ) (chairs : List Chair) (slots : Four (Option Answer)) (seat : ℕ) (chair : Chair) → slice_get chairs seat ≡ Some chair → length chairs ≤ 4 → AreFilledBy n chairs slots → is_some (at_seat slots seat) ≡ true → nat_lt chair.progress.due n ≡ false
 past_at n chairs slots seat chair e few filled s =
     not-true (nat_lt chair.progress.due n) (sym (ap (is_past n) e) ∙ filled seat (below_four seat (length chairs) (slice_get_within chairs seat chair e) few) s)
 
@@ -122,7 +122,7 @@ back_filled now author seat (Some chair) e filled =
     (λ s. ap (λ (b : Bool). nat_lt (if b then length now.deeds else length now.deeds - 1) (length now.deeds)) s ∙ never_less (length now.deeds))
 
 -- An entry.
-own_filled : (setting : Setting) (now : After) (entry : Entry Answer) → is_permitted setting now entry ≡ true → AreSeats now.chairs → AreFilled now
+pub own_filled : (setting : Setting) (now : After) (entry : Entry Answer) → is_permitted setting now entry ≡ true → AreSeats now.chairs → AreFilled now
     → AreFilledBy (length now.deeds) (own_part setting now entry).chairs (own_part setting now entry).slots
 unfolding own_part
 own_filled setting now (Sat author name key) p seats filled = sat_filled (length now.deeds) now.chairs now.slots (new_chair now.entered author name key) filled
@@ -138,7 +138,10 @@ deed_filled : (now : After) (added : Option Deed) → AreFilled now → AreFille
 deed_filled now None filled = filled
 deed_filled now (Some deed) filled = none_filled (length (now.deeds ++ deed ∷ [])) now.chairs
 
-step_filled : (setting : Setting) (now : After) (entry : Entry Answer) → is_permitted setting now entry ≡ true → AreSeats now.chairs → AreFilled now → AreFilled (step setting now entry)
+pub nothing_filled : AreFilled before_all
+nothing_filled = none_filled 0 []
+
+pub step_filled : (setting : Setting) (now : After) (entry : Entry Answer) → is_permitted setting now entry ≡ true → AreSeats now.chairs → AreFilled now → AreFilled (step setting now entry)
 unfolding step
 step_filled setting now entry p seats filled =
     let own : After = own_part setting now entry in
@@ -153,7 +156,7 @@ game_filled setting now (entry ∷ entries) p seats filled =
     game_filled setting (step setting now entry) entries parts.1 (step_seats setting now entry parts.0 seats) (step_filled setting now entry parts.0 seats filled)
 
 pub legal_filled : (setting : Setting) (entries : List (Entry Answer)) → IsLegal setting entries → AreFilled (after setting entries)
-legal_filled setting entries legal = game_filled setting before_all entries legal.permitted no_seats (none_filled 0 [])
+legal_filled setting entries legal = game_filled setting before_all entries legal.permitted no_seats nothing_filled
 
 -- A present seat whose slot is empty keeps its window open.
 waits : (p s : Bool) → p ≡ true → s ≡ false → (p && not s) ≡ true

@@ -1,3 +1,4 @@
+pub mod AnyOrder
 pub mod Arriving
 pub mod ByPlace
 pub mod Connections
@@ -19,3 +20,4 @@ pub mod ToldCalls
 pub mod ToldPasses
 pub mod ToldRows
 pub mod ToldWins
+pub mod Windows

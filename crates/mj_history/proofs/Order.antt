@@ -115,7 +115,7 @@ slot_by n due seat slots Late answer small t l = ap (λ (b : Bool). if b then at
 slot_by n due seat slots (Refused rule) answer small t l = refl
 slot_by n due seat slots (Closing rule) answer small t l = refl
 
-author_by : (lines : List (List ℕ)) (v : Verdict) (chair : Chair) → is_closing v ≡ false → (said_chair lines v chair).author ≡ chair.author
+pub author_by : (lines : List (List ℕ)) (v : Verdict) (chair : Chair) → is_closing v ≡ false → (said_chair lines v chair).author ≡ chair.author
 author_by lines Taken chair h = refl
 author_by lines Late chair h = refl
 author_by lines (Refused rule) chair h = refl
@@ -222,19 +222,19 @@ answer_permitted setting window now (Gone author seat) h = cc
 answer_permitted setting window now (Expired author window_now t1 t2) h = cc
 
 -- The open window is that of the newest deed.
-opened : (deeds : List Deed) (window : ℕ) → is_open deeds window ≡ true → ((length deeds == 0) ≡ false) × (window + 1 ≡ length deeds)
+pub opened : (deeds : List Deed) (window : ℕ) → is_open deeds window ≡ true → ((length deeds == 0) ≡ false) × (window + 1 ≡ length deeds)
 opened deeds window h =
     let parts = and_parts (not (length deeds == 0) && not (is_over deeds)) (window + 1 == length deeds) h in
     (not-true _ (and_parts (not (length deeds == 0)) (not (is_over deeds)) parts.0).0, eqb-true (window + 1) (length deeds) parts.1)
 
 -- The deed that follows an answer, by the deeds, who is present and the slots.
-abbrev following : Setting → List Deed → List Bool → Four (Option Answer) → Option Deed
+abbrev pub following : Setting → List Deed → List Bool → Four (Option Answer) → Option Deed
 following setting deeds presence slots = if closes slots presence then outcome setting.rules setting.walls deeds (answers_in setting.rules deeds slots) else None
 
-abbrev followed : Setting → After → Option Deed
+abbrev pub followed : Setting → After → Option Deed
 followed setting now = following setting now.deeds (map is_present now.chairs) now.slots
 
-next_follows : (setting : Setting) (window : ℕ) (now next : After) (entry : Entry Answer) → answers_in_window setting window now entry ≡ true → (length next.deeds == 0) ≡ false → next_deed setting next entry ≡ followed setting next
+pub next_follows : (setting : Setting) (window : ℕ) (now next : After) (entry : Entry Answer) → answers_in_window setting window now entry ≡ true → (length next.deeds == 0) ≡ false → next_deed setting next entry ≡ followed setting next
 unfolding next_deed
 next_follows setting window now next (Said author seat answer) h begun =
     ap (λ (b : Bool). if b then (if length next.chairs == 4 then Some (StartGame (names_of next.chairs)) else None) else followed setting next) begun
@@ -244,12 +244,12 @@ next_follows setting window now next (Gone author seat) h begun = cc
 next_follows setting window now next (Expired author window_now t1 t2) h begun = cc
 
 -- A step is its own part and its deed.
-record IsStep (now next : After) (added : Option Deed) : Type 0 where
-  deeds : next.deeds ≡ now.deeds ++ listed added
-  chairs : next.chairs ≡ now.chairs
-  slots : next.slots ≡ (with_deed now added).slots
+pub record IsStep (now next : After) (added : Option Deed) : Type 0 where
+  pub deeds : next.deeds ≡ now.deeds ++ listed added
+  pub chairs : next.chairs ≡ now.chairs
+  pub slots : next.slots ≡ (with_deed now added).slots
 
-step_is : (setting : Setting) (now : After) (entry : Entry Answer) → IsStep (own_part setting now entry) (step setting now entry) (next_deed setting (own_part setting now entry) entry)
+pub step_is : (setting : Setting) (now : After) (entry : Entry Answer) → IsStep (own_part setting now entry) (step setting now entry) (next_deed setting (own_part setting now entry) entry)
 unfolding step
 step_is setting now entry = record {
   deeds = step-deeds setting now entry ∙ ap (λ (ds : List Deed). ds ++ listed (next_deed setting (own_part setting now entry) entry)) (sym (own_deeds setting now entry));

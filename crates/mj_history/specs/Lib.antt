@@ -9,3 +9,4 @@ pub mod Seated
 pub mod Shown
 pub mod Sitting
 pub mod Told
+pub mod Windows

@@ -8,6 +8,7 @@ ghost use Rattle.mj_history.specs.Told.{ToldAnswersGive, EachWinnerIsTold, Nothi
 ghost use Rattle.mj_history.specs.Seated.{BeginningsAreLegal, LinesStay, EndedConnectionsStay, OthersLeaveAlone, SeatsBegin, ReturnsBegin, AnswersGoByVerdict, SeatsLeave, ScriptsByPlace};
 ghost use Rattle.mj_history.specs.Arriving.{OneDeedAnEntry, LawfulAnswersAreTaken, NewNamesAreSeated, ExpiriesClose};
 ghost use Rattle.mj_history.specs.Order.{OrderIsFree};
+ghost use Rattle.mj_history.specs.Windows.{SlotsHoldTheTaken, WindowsDecide, AnyOrderLiesIn, AnyOrderIsFree};
 
 /// Whatever an input holds, the game that is read off it is legal.
 pub fn read_games_are_legal()
@@ -138,4 +139,28 @@ pub fn order_is_free()
 /// back, is what the seat is told in it.
 pub fn scripts_by_place()
     ensures { ScriptsByPlace }
+{}
+
+/// The slot of a seat, 0 to 3, holds exactly the answer of the seat that was taken since the newest deed, and is empty where
+/// there is none.
+pub fn slots_hold_the_taken()
+    ensures { SlotsHoldTheTaken }
+{}
+
+/// Each deed of a legal game but the first is what the answers to its own window come to: those that were taken in it, and the
+/// default of each seat that has given none.
+pub fn windows_decide()
+    ensures { WindowsDecide }
+{}
+
+/// Answers that could be said in the open window, each seat by itself, lie in that window in whatever order they come, and are
+/// accepted as each seat by itself would have them: no answer closes it while another is still to come.
+pub fn any_order_lies_in()
+    ensures { AnyOrderLiesIn }
+{}
+
+/// Of answers that lie in one window any other order lies in it too, with any refused ones between that stay below sixteen at
+/// each prompt, and comes to the same deeds, slots and due prompts.
+pub fn any_order_is_free()
+    ensures { AnyOrderIsFree }
 {}
