@@ -2,6 +2,7 @@ pub mod AnyOrder
 pub mod Arriving
 pub mod ByPlace
 pub mod Connections
+pub mod Edges
 pub mod Ended
 pub mod Entered
 pub mod Entries

@@ -58,11 +58,11 @@ taken_names : (chairs : List Chair) (name : List ℕ) → list_any (has_name nam
 taken_names [] name = refl
 taken_names (chair ∷ chairs) name = ap (λ b. bytes_eq chair.name name || b) (taken_names chairs name)
 
-names_sat : (chairs : List Chair) (chair : Chair) → names_in (chairs ++ chair ∷ []) ≡ names_in chairs ++ chair.name ∷ []
+pub names_sat : (chairs : List Chair) (chair : Chair) → names_in (chairs ++ chair ∷ []) ≡ names_in chairs ++ chair.name ∷ []
 names_sat [] chair = refl
 names_sat (first ∷ chairs) chair = ap (λ (names : List (List ℕ)). first.name ∷ names) (names_sat chairs chair)
 
-names_said : (chairs : List Chair) (seat : ℕ) (chair new : Chair) → slice_get chairs seat ≡ Some chair → new.name ≡ chair.name → names_in (slice_set chairs seat new) ≡ names_in chairs
+pub names_said : (chairs : List Chair) (seat : ℕ) (chair new : Chair) → slice_get chairs seat ≡ Some chair → new.name ≡ chair.name → names_in (slice_set chairs seat new) ≡ names_in chairs
 names_said [] seat chair new e same = refl
 names_said (first ∷ chairs) zero chair new e same = ap (λ (name : List ℕ). name ∷ names_in chairs) (same ∙ ap (λ (c : Chair). c.name) (some_is chair first e))
   where

@@ -1,6 +1,7 @@
 pub mod After
 pub mod Arrivals
 pub mod Arriving
+pub mod Edges
 pub mod Laws
 pub mod Legal
 pub mod Order

@@ -7,6 +7,7 @@ ghost use Rattle.mj_history.specs.Laws.{ReadGamesAreLegal, LegalGamesArePlayed, 
 ghost use Rattle.mj_history.specs.Told.{ToldAnswersGive, EachWinnerIsTold, NothingPlayed};
 ghost use Rattle.mj_history.specs.Seated.{BeginningsAreLegal, LinesStay, EndedConnectionsStay, OthersLeaveAlone, SeatsBegin, ReturnsBegin, AnswersGoByVerdict, SeatsLeave, ScriptsByPlace};
 ghost use Rattle.mj_history.specs.Arriving.{OneDeedAnEntry, LawfulAnswersAreTaken, NewNamesAreSeated, ExpiriesClose};
+ghost use Rattle.mj_history.specs.Edges.{FourStart, TheFourthStarts, ReturnsAreSeated};
 ghost use Rattle.mj_history.specs.Order.{OrderIsFree};
 ghost use Rattle.mj_history.specs.Windows.{SlotsHoldTheTaken, WindowsDecide, AnyOrderLiesIn, AnyOrderIsFree};
 
@@ -163,4 +164,19 @@ pub fn any_order_lies_in()
 /// each prompt, and comes to the same deeds, slots and due prompts.
 pub fn any_order_is_free()
     ensures { AnyOrderIsFree }
+{}
+
+/// A game has a deed exactly where four have sat down.
+pub fn four_start()
+    ensures { FourStart }
+{}
+
+/// Who sits down as the fourth adds the start of the game, with the four names in the order of the seats.
+pub fn the_fourth_starts()
+    ensures { TheFourthStarts }
+{}
+
+/// Every join under the name and the key of a seat that may be taken back is given that seat.
+pub fn returns_are_seated()
+    ensures { ReturnsAreSeated }
 {}
