@@ -7,6 +7,7 @@ use Rattle.mj_history.specs.Arrivals.{input_of, game_of}
 use Rattle.mj_secrecy.proofs.OneWorld.{agreeing_scripts}
 use Rattle.mj_history.proofs.Legality.{read_game_is_legal}
 use Rattle.mj_history.proofs.Fitting.{legal_games_are_played}
+use Rattle.mj_history.proofs.Windows.{windows_decide}
 use Rattle.mj_front.specs.declared.hearing.End.{End}
 use Rattle.mj_front.specs.Inner.Hearing.{Tells}
 use Rattle.mj_front.specs.Referee.{IsTold, TellsAll, ending}
@@ -21,6 +22,7 @@ told IsWritten seat input bytes end tells written =
       same = λ other agree. sym (agreeing_scripts seat game other agree);
       legal = legal;
       played = legal_games_are_played game.setting game.entries legal;
+      decided = windows_decide game.setting game.entries legal;
     }
 
 -- they are written whole

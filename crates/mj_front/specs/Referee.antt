@@ -5,6 +5,7 @@ use Rattle.mj_links.specs.Sinks.{WritesPrefix}
 use Rattle.mj_rules.specs.Played.{IsPlayed}
 use Rattle.mj_history.specs.After.{after, scripts}
 use Rattle.mj_history.specs.Legal.{Game, IsLegal}
+use Rattle.mj_history.specs.Windows.{EachIsDecided}
 use Rattle.mj_secrecy.specs.Trace.{Agree}
 use Rattle.mj_history.specs.Arrivals.{Ending, Whole, BadAt, input_of, game_of}
 use Rattle.mj_front.specs.declared.hearing.End.{End}
@@ -23,6 +24,8 @@ pub record IsTold (IsWritten : List ℕ → Type 0) (seat : ℕ) (game : Game) :
   -- the game goes by the rules: it is legal, and its deeds are played, each given by four lawful answers
   pub legal : IsLegal game.setting game.entries
   pub played : IsPlayed game.setting.rules game.setting.walls (after game.setting game.entries).deeds
+  -- and each window is decided by the answers that were taken in it, with the default of each seat that gave none
+  pub decided : EachIsDecided game.setting game.entries
 
 -- An input ends so, and what its game tells the seat is written whole.
 pub record TellsAll (ends_so : Ending) (seat : ℕ) (input : List ℕ) (old new : Option (List ℕ)) : Type 0 where
