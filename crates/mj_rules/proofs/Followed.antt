@@ -27,15 +27,15 @@ use Rattle.mj_rules.proofs.Answered.{IfAny, clean_at}
 use Rattle.mj_rules.proofs.Playing.{played_sound}
 
 -- The act of a seat with known tiles is a deed.
-hides : (a : Bool) → (a || true) ≡ false → ⊥
+pub hides : (a : Bool) → (a || true) ≡ false → ⊥
 hides true h = cc
 hides false h = cc
 
-hides2 : (a b : Bool) → (a || (b || true)) ≡ false → ⊥
+pub hides2 : (a b : Bool) → (a || (b || true)) ≡ false → ⊥
 hides2 true b h = cc
 hides2 false b h = hides b h
 
-hides3 : (a b c : Bool) → (a || (b || (c || true))) ≡ false → ⊥
+pub hides3 : (a b c : Bool) → (a || (b || (c || true))) ≡ false → ⊥
 hides3 true b c h = cc
 hides3 false b c h = hides2 b c h
 

@@ -174,7 +174,7 @@ owns_nothing red seat = record { within = none_held seat; real = refl; drawn = �
 pub owns : (red : Bool) (ds : List Deed) (seat : ℕ) → seat < 4 → all_fit red [] ds ≡ true → Owns red ds seat
 owns red ds seat small h = owns_all red [] ds seat small refl h (owns_nothing red seat)
 
-small_face : (red : Bool) (tile : ℕ) → is_face red tile ≡ true → tile < 37
+pub small_face : (red : Bool) (tile : ℕ) → is_face red tile ≡ true → tile < 37
 small_face true tile h = ltb-true tile 37 h
 small_face false tile h = omega (arith, ltb-true tile 34 h)
 

@@ -25,3 +25,7 @@ pub mod Lawful
 pub mod Given
 pub mod Defaults
 pub mod Followed
+pub mod Shares
+pub mod Precedence
+pub mod Paid
+pub mod Said

@@ -180,7 +180,7 @@ game_owes_nothing red walls other h = cc
 -- the newest deed of the hand
 
 -- It is the newest one of the game.
-newest_in : (ds : List Deed) → is_in_hand (newest ds) ≡ true → (hand ds ≡ [] → ⊥) → newest (hand ds) ≡ newest ds
+pub newest_in : (ds : List Deed) → is_in_hand (newest ds) ≡ true → (hand ds ≡ [] → ⊥) → newest (hand ds) ≡ newest ds
 newest_in ds begun some = by_newest (newest ds) refl begun
   where
     before : List Deed

@@ -197,7 +197,7 @@ filter_passes p q (x ∷ xs) h =
     by_test true k l = and_from (q x) _ k l
     by_test false k l = l
 
-turn_below : (n : ℕ) → nat_lt (n % 4) 4 ≡ true
+pub turn_below : (n : ℕ) → nat_lt (n % 4) 4 ≡ true
 turn_below n = lt-ltb (n % 4) 4 (omega arith)
 
 pub rons_seated : (who : ℕ) (given : Four Answer) → list_all (λ seat. nat_lt seat 4) (rons_on who given) ≡ true

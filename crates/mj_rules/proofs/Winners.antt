@@ -25,6 +25,7 @@ use Rattle.mj_deeds.proofs.Fitted.{Parts, kept_in_hand, four_melds, of_four, fou
 use Rattle.mj_deeds.proofs.Gained.{two_gained}
 use Rattle.mj_rules.specs.Outcome.{won_tile, seat_of, wall_of, wall_now}
 use Rattle.mj_rules.specs.Played.{IsPlayed}
+use Rattle.mj_rules.specs.Laws.{FewDraws}
 use Rattle.mj_rules.specs.Wins.{is_draw, own_tiles_of}
 use Rattle.mj_rules.proofs.Stages.{Stage, Waits, Acts, MadeKan, stage_of, is_begun, holds_more, StandsAt}
 use Rattle.mj_rules.proofs.Kept.{first_seat, held_step}
@@ -110,16 +111,16 @@ all_few own tile melds h k = sum _ _ _ _ (length-append own (tile ∷ flat_map t
 -- the tile that is won on
 
 -- A seat was given a tile.
-abbrev WasGiven : List Deed → ℕ → ℕ → Type 0
+abbrev pub WasGiven : List Deed → ℕ → ℕ → Type 0
 WasGiven hs seat tile = (seat < 4) × (0 < number_in (tiles_gained hs seat) tile)
 
 -- Up to the winners who drew a tile still holds it, and who offers one was given it.
-record Holds (hs : List Deed) : Type 0 where
+pub record Holds (hs : List Deed) : Type 0 where
   within : (seat face : ℕ) → seat < 4 → number_in (tiles_lost hs seat) face ≤ number_in (tiles_gained hs seat) face
-  drawn : (who tile : ℕ) (replacement : Bool) → newest (before_wins hs) ≡ Some (Draw who tile replacement) → (who < 4) × (number_in (tiles_lost hs who) tile < number_in (tiles_gained hs who) tile)
-  offered : (d : Deed) → newest (before_wins hs) ≡ Some d → is_offer d ≡ true → WasGiven hs (seat_of d) (won_tile d)
+  pub drawn : (who tile : ℕ) (replacement : Bool) → newest (before_wins hs) ≡ Some (Draw who tile replacement) → (who < 4) × (number_in (tiles_lost hs who) tile < number_in (tiles_gained hs who) tile)
+  pub offered : (d : Deed) → newest (before_wins hs) ≡ Some d → is_offer d ≡ true → WasGiven hs (seat_of d) (won_tile d)
 
-holds : (red : Bool) (ds : List Deed) → all_fit red [] ds ≡ true → Holds (hand ds)
+pub holds : (red : Bool) (ds : List Deed) → all_fit red [] ds ≡ true → Holds (hand ds)
 holds red ds fit =
     kept_in_hand Holds red ds step (record { within = λ seat face small. omega arith; drawn = λ who tile replacement e. cc; offered = λ d e h. absurd (nothing d e) }) fit
   where
@@ -223,6 +224,12 @@ pub played_melds : (rules : Rules) (walls : List (List ℕ)) (ds : List Deed) (s
     length (seat_melds (hand ds) seat) ≤ 4
 played_melds rules walls ds seat h played = four_melds rules.red ds seat (played_sound rules walls ds h played).fit
 
+-- And so many draws and kans.
+pub few_draws : FewDraws
+few_draws rules walls ds h played =
+    let standing = (played_sound rules walls ds h played).standing in
+    record { draws = standing.live; kans_four = standing.four; melds = λ seat. played_melds rules walls ds seat h played }
+
 -- And at most five indicators are shown.
 pub played_shown : (rules : Rules) (walls : List (List ℕ)) (ds : List Deed) → ((number : ℕ) → is_wall rules.red (wall_of walls number) ≡ true) → IsPlayed rules walls ds →
     length (indicators (hand ds)) ≤ 5
@@ -243,14 +250,14 @@ offered_tiles rules walls ds d seat h played e offer =
     sum : (c m k o : ℕ) → m ≡ k → c + 3 * k ≤ 13 + o → o ≡ 0 → c + 3 * m ≤ 13
     sum c m k o e h l = omega (arith, e, h, l)
 
-own_offered : (deeds : List Deed) (d : Deed) (seat tile : ℕ) → newest deeds ≡ Some d → is_offer d ≡ true → own_tiles_of deeds seat tile ≡ concealed_tiles deeds seat
+pub own_offered : (deeds : List Deed) (d : Deed) (seat tile : ℕ) → newest deeds ≡ Some d → is_offer d ≡ true → own_tiles_of deeds seat tile ≡ concealed_tiles deeds seat
 own_offered deeds d seat tile e offer = ap (λ (b : Bool). cond b (less (concealed_tiles deeds seat) (tile ∷ [])) (concealed_tiles deeds seat)) (ap is_draw e ∙ no_draw d offer)
   where
     no_draw : (d : Deed) → is_offer d ≡ true → is_draw (Some d) ≡ false
     no_draw (Draw who t replacement) h = cc
     no_draw other h = refl
 
-own_drawn : (deeds : List Deed) (who tile : ℕ) (replacement : Bool) → newest deeds ≡ Some (Draw who tile replacement) → own_tiles_of deeds who tile ≡ less (concealed_tiles deeds who) (tile ∷ [])
+pub own_drawn : (deeds : List Deed) (who tile : ℕ) (replacement : Bool) → newest deeds ≡ Some (Draw who tile replacement) → own_tiles_of deeds who tile ≡ less (concealed_tiles deeds who) (tile ∷ [])
 own_drawn deeds who tile replacement e = ap (λ (b : Bool). cond b (less (concealed_tiles deeds who) (tile ∷ [])) (concealed_tiles deeds who)) (ap is_draw e)
 
 -- A seat that wins on an offer has at most eighteen tiles.

@@ -1,5 +1,5 @@
 -- The laws over played deeds.
-use Rattle.std.specs.Prelude.{◌≡◌, ℕ, ◌*◌, Bool, true, List, [], ◌∷◌, ◌++◌, length, ◌≤◌, ◌<◌, Some, is_some, pos, ◌+ℤ◌}
+use Rattle.std.specs.Prelude.{◌≡◌, ℕ, ◌*◌, ◌+◌, Bool, true, List, [], ◌∷◌, ◌++◌, length, ◌≤◌, ◌<◌, Some, is_some, pos, ◌+ℤ◌}
 use Rattle.std.specs.List.{list_all}
 use Rattle.mj_deeds.specs.declared.four.Four.{Four}
 use Rattle.mj_deeds.specs.declared.answer.Answer.{Answer}
@@ -11,7 +11,7 @@ use Rattle.mj_pay.specs.Payments.{total_change}
 use Rattle.mj_wall.specs.declared.setting.Rules.{Rules}
 use Rattle.mj_wall.specs.Places.{is_wall}
 use Rattle.mj_rules.specs.Default.{default_answer, can_discard}
-use Rattle.mj_deeds.specs.Facts.{newest}
+use Rattle.mj_deeds.specs.Facts.{newest, live_draws, kans, seat_melds}
 use Rattle.mj_rules.specs.Outcome.{wall_of, outcome, goes_on}
 use Rattle.mj_rules.specs.Played.{IsLawful, AllLawful, IsPlayedBehind, IsPlayed}
 
@@ -73,3 +73,13 @@ abbrev pub FewDeeds : Type 0
 FewDeeds =
     (rules : Rules) (walls : List (List ℕ)) (deeds : List Deed) → ((number : ℕ) → is_wall rules.red (wall_of walls number) ≡ true) → IsPlayed rules walls deeds →
     (length (hand deeds) ≤ 300) × (length deeds ≤ 60002)
+
+-- In played deeds the live draws and the kans of a hand are at most 70 together, the kans at most four, and so are the melds of a
+-- seat.
+pub record IsWithin (deeds : List Deed) : Type 0 where
+  pub draws : live_draws (hand deeds) + kans (hand deeds) ≤ 70
+  pub kans_four : kans (hand deeds) ≤ 4
+  pub melds : (seat : ℕ) → length (seat_melds (hand deeds) seat) ≤ 4
+
+abbrev pub FewDraws : Type 0
+FewDraws = (rules : Rules) (walls : List (List ℕ)) (deeds : List Deed) → ((number : ℕ) → is_wall rules.red (wall_of walls number) ≡ true) → IsPlayed rules walls deeds → IsWithin deeds

@@ -6,3 +6,6 @@ pub mod Played
 pub mod View
 pub mod Wins
 pub mod Draws
+pub mod Precedence
+pub mod Paid
+pub mod Said

@@ -2,7 +2,10 @@
 //! played. Nothing here runs: the functions are the places where the laws are stated.
 #![tactic(auto)]
 
-ghost use Rattle.mj_rules.specs.Laws.{EachIsWall, PlayedWithOneMore, PlayedWithoutTheLast, PlayedDeedsFit, NextOfPlayedFits, SomeDeedFollows, SomeDiscardIsLawful, FittingDefaultIsLawful, PlayedDefaultIsLawful, TotalStays, FewDeeds};
+ghost use Rattle.mj_rules.specs.Laws.{EachIsWall, PlayedWithOneMore, PlayedWithoutTheLast, PlayedDeedsFit, NextOfPlayedFits, SomeDeedFollows, SomeDiscardIsLawful, FittingDefaultIsLawful, PlayedDefaultIsLawful, TotalStays, FewDeeds, FewDraws};
+ghost use Rattle.mj_rules.specs.Paid.{LawfulWinsAreWorth, FirstRonIsPaid, FurtherRonsArePaid, OwnWinIsPaid};
+ghost use Rattle.mj_rules.specs.Precedence.{AllWinsCome, OnePonOrKan, OneChi, PonOrKanComes, ChiComes, NothingIsCalled, KeptCallComes};
+ghost use Rattle.mj_rules.specs.Said.{PointsAreRead};
 
 /// Where there is a wall and all walls are whole, the one that each hand is played with is.
 pub fn each_is_wall()
@@ -55,4 +58,48 @@ pub fn points_stay()
 /// discarding tiles, of which there are few, and a game has at most 200 hands.
 pub fn few_deeds()
     ensures { FewDeeds }
+{}
+
+/// All who win on a discard or on the tile of an added kan win, in turn order behind its seat, and nothing else comes.
+pub fn all_wins_come()
+    ensures { AllWinsCome }
+{}
+
+/// Of four lawful answers to a discard at most one is a pon or an open kan, and at most one a chi.
+pub fn one_call_of_a_kind()
+    ensures triplet { OnePonOrKan }
+    ensures run { OneChi }
+{}
+
+/// Where nobody wins on a discard, a pon or an open kan comes before a chi, and a chi before the next draw; where a reason to draw
+/// the hand holds, it comes before all of them, and a reach is accepted first and keeps the call.
+pub fn calls_come_in_order()
+    ensures triplet { PonOrKanComes }
+    ensures run { ChiComes }
+    ensures none { NothingIsCalled }
+    ensures kept { KeptCallComes }
+{}
+
+/// A lawful win is worth something, whatever the dora: its hand, as the seat holds it, has a reading with a yaku.
+pub fn lawful_wins_are_worth()
+    ensures { LawfulWinsAreWorth }
+{}
+
+/// A lawful win is paid by what it is worth by the view by which its answer is judged: the first on a tile and a win on the own
+/// draw with the honba and the deposits, and each further one on a tile without them.
+pub fn wins_are_paid()
+    ensures first { FirstRonIsPaid }
+    ensures further { FurtherRonsArePaid }
+    ensures own { OwnWinIsPaid }
+{}
+
+/// The points that a played deed says of a seat are those that are read off the deeds with it: 30,000 and what each deed changes.
+pub fn points_are_read()
+    ensures { PointsAreRead }
+{}
+
+/// In played deeds the live draws and the kans of a hand are at most 70 together, the kans at most four, and so are the melds of a
+/// seat.
+pub fn few_draws()
+    ensures { FewDraws }
 {}
