@@ -126,7 +126,7 @@ pub start_may : (red : Bool) (rules : Rules) (table : Play) (deed : Deed) → ta
 start_may red rules table deed is told = (λ i. fits red ((ap (λ (t : Play). t.deeds) is) i) (told i)) ∙ start_fits red
 
 -- Its names are good.
-start_is_one : is_game_start self_start ≡ true
+pub start_is_one : is_game_start self_start ≡ true
 unfolding self_start is_name is_utf8 chars lib.Utf8.encode
 start_is_one = refl
 

@@ -1,7 +1,7 @@
 //! A whole game that four built-in players play against each other, and what it comes to.
 #![tactic(auto)]
 
-ghost use Rattle.mj_selfplay.specs.Laws.{WholeGameIsOne};
+ghost use Rattle.mj_selfplay.specs.Laws.{WholeGameIsOne, WholeGamesArePlayed};
 
 mod game;
 mod supply;
@@ -16,4 +16,10 @@ pub use text::{result_lines, summary_lines};
 /// deeds, for each choice is one, and nothing follows the end of the game.
 pub fn whole_game_is_one()
     ensures { WholeGameIsOne }
+{}
+
+/// The deeds of a whole game that four built-in players play are played, each given by four lawful answers, where there are walls
+/// and all of them are whole.
+pub fn whole_games_are_played()
+    ensures { WholeGamesArePlayed }
 {}
