@@ -92,6 +92,7 @@ class Serve(unittest.TestCase):
         self.check_game(self.players())
 
     def test_a_server_that_is_stopped_and_goes_on_loses_nobody(self):
+        self.connect()
         players = self.players()
         for _ in range(3):
             time.sleep(0.2)
@@ -106,7 +107,7 @@ class Serve(unittest.TestCase):
         time.sleep(1)
         before = processor_seconds(self.server)
         time.sleep(10)
-        self.assertLess(processor_seconds(self.server) - before, 0.2)
+        self.assertLess(processor_seconds(self.server) - before, 0.5)
 
 
 if __name__ == "__main__":
