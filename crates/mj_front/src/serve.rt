@@ -17,7 +17,7 @@ use mj_wall::{Rules, Walls};
 use mj_words::Serving;
 use std::alloc::{AllocError, Global};
 use std::sync::Wait;
-use std::thread::Threads;
+use std::thread::{Threads, spawn};
 
 /// How the command `serve` ends.
 #[derive(Clone, Copy)]
@@ -54,12 +54,26 @@ pub(crate) fn serve<K: Sink, H: Host, C: Clock, R: Threads + Wait + Sync>(
     ensures writes { CountsWriteFaults (serve_status result) (K.write_faults sink.old)
         (K.write_faults sink.new) }
 {
+    if !has_thread(rt) {
+        return ServeEnd::NoMemory;
+    }
     let Ok(game) = new_game(alloc, serving) else {
         return ServeEnd::NoMemory;
     };
     match host.open(serving.port) {
         Opened::Ready => play(rt, alloc, game, sink, host, clock),
         Opened::Failed(_) => ServeEnd::NotOpened,
+    }
+}
+
+// Whether the system gives a thread. Without one the workers would come one after another, and no game would begin.
+fn has_thread<R: Threads>(rt: &R) -> bool {
+    match spawn(rt, || {}) {
+        Ok(handle) => {
+            handle.join(rt);
+            true
+        }
+        Err(_) => false,
     }
 }
 

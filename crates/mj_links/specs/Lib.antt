@@ -11,4 +11,3 @@ pub mod Hosts
 pub mod MemFaults
 pub mod FreshLinks
 pub mod MemHosts
-pub mod TcpLinks

@@ -27,9 +27,15 @@ impl<R: time::Clock + Send> Clock for MachineClock<R> {
 
     fn now(&mut self) -> u64 {
         pause(&self.rt);
-        if let Ok(time) = self.rt.monotonic() {
-            self.last = u64::try_from(time.as_millis()).unwrap_or(u64::MAX);
-        }
+        self.last = reading(&self.rt).unwrap_or(self.last);
         self.last
+    }
+}
+
+/// What the machine's clock shows, in milliseconds from some start, where it can be read.
+pub(crate) fn reading<R: time::Clock>(rt: &R) -> Option<u64> {
+    match rt.monotonic() {
+        Ok(time) => Some(u64::try_from(time.as_millis()).unwrap_or(u64::MAX)),
+        Err(_) => None,
     }
 }

@@ -1,14 +1,12 @@
 //! A host that listens on a port of this machine.
 
 ghost use Rattle.std.specs.Prelude.{None};
-ghost use Rattle.mj_links.specs.Hosts.{ComesFresh, CameFault};
 
+use crate::faults::FaultCount;
 use crate::host::{Came, Given, Host, Numbered, Opened};
-use crate::link::Link;
+use crate::machine_clock::reading;
 use crate::pause::pause;
-use crate::sink::Sink;
-use crate::source::Source;
-use crate::tcp_link::TcpLink;
+use crate::tcp_link::{TcpLink, set_up};
 use std::io;
 use std::io::ErrorKind;
 use std::net::{Ipv4Addr, Net, TcpListener, TcpStream};
@@ -32,20 +30,27 @@ impl Numbered for TcpFault {
 /// A host that listens on a port of 127.0.0.1. It tells nothing for proofs, and a link that is given
 /// back is closed.
 #[derive(Drop)]
-pub struct TcpHost<R> {
-    rt: R,
+pub struct TcpHost<'a, R> {
+    rt: &'a R,
+    limit: u64,
     listener: Option<TcpListener>,
 }
 
-impl<R: Net<Listener = TcpListener, Stream = TcpStream> + Clock + Sync> TcpHost<R> {
-    /// A host that does not listen yet, so no connection comes.
-    pub fn new(rt: R) -> TcpHost<R> {
-        TcpHost { rt, listener: None }
+impl<'a, R: Net<Listener = TcpListener, Stream = TcpStream> + Clock + Sync> TcpHost<'a, R> {
+    /// A host that does not listen yet, so no connection comes. Its links are patient with players who have so many
+    /// milliseconds for an answer.
+    pub fn new(rt: &'a R, limit: u64) -> TcpHost<'a, R> {
+        TcpHost {
+            rt,
+            limit,
+            listener: None,
+        }
     }
 }
 
-impl<R: Net<Listener = TcpListener, Stream = TcpStream> + Clock + Sync> Host for TcpHost<R> {
-    type Link = TcpLink;
+impl<'a, R: Net<Listener = TcpListener, Stream = TcpStream> + Clock + Sync> Host
+    for TcpHost<'a, R> {
+    type Link = TcpLink<'a, R>;
 
     type Fault = TcpFault;
 
@@ -57,7 +62,7 @@ impl<R: Net<Listener = TcpListener, Stream = TcpStream> + Clock + Sync> Host for
     ghost made_by = { λ _ _. Unit {0} };
 
     fn open(&mut self, port: u16) -> Opened<TcpFault> {
-        match listen(&self.rt, port) {
+        match listen(self.rt, port) {
             Ok(listener) => {
                 self.listener = Some(listener);
                 Opened::Ready
@@ -66,17 +71,26 @@ impl<R: Net<Listener = TcpListener, Stream = TcpStream> + Clock + Sync> Host for
         }
     }
 
-    fn accept(&self, by: u8) -> Came<TcpLink, TcpFault> {
-        match &self.listener {
-            Some(listener) => ask(&self.rt, listener, by),
-            None => {
-                pause(&self.rt);
+    fn accept(&self, by: u8) -> Came<TcpLink<'a, R>, TcpFault> {
+        match next(&self.listener) {
+            Ok(Some(stream)) => Came::Link(TcpLink {
+                rt: self.rt,
+                stream: Some(stream),
+                limit: self.limit,
+                since: reading(self.rt).unwrap_or(0),
+                joined: false,
+                read_faults: FaultCount::new(),
+                write_faults: FaultCount::new(),
+            }),
+            Ok(None) => {
+                pause(self.rt);
                 Came::Nothing
             }
+            Err(_) => Came::Failed(TcpFault { by }),
         }
     }
 
-    fn give_back(&mut self, _link: TcpLink, _place: u64) -> Given {
+    fn give_back(&mut self, _link: TcpLink<'a, R>, _place: u64) -> Given {
         Given::Kept
     }
 }
@@ -91,20 +105,40 @@ fn listen<R: Net<Listener = TcpListener, Stream = TcpStream>>(
     Ok(listener)
 }
 
-// The next connection of a listener that does not block. One that its peer gave up before is none.
-fn ask<R: Clock>(rt: &R, listener: &TcpListener, by: u8) -> Came<TcpLink, TcpFault>
-    ensures fresh { ComesFresh ⟦<TcpLink as Link>⟧.was_read ⟦<TcpLink as Sink>⟧.written
-        ⟦<TcpLink as Source>⟧.read_faults ⟦<TcpLink as Sink>⟧.write_faults result }
-    ensures fault { CameFault (λ _. Unit {0}) ⟦<TcpFault as Numbered>⟧.number by result }
-{
+// The next connection of a listener that does not block; none where there is no listener, and where the error may pass.
+fn next(listener: &Option<TcpListener>) -> io::Result<Option<TcpStream>> {
+    let Some(listener) = listener else {
+        return Ok(None);
+    };
     match listener.accept() {
-        Ok((stream, _)) => Came::Link(TcpLink::new(stream)),
-        Err(error) => match error.kind() {
-            ErrorKind::WouldBlock | ErrorKind::ConnectionAborted => {
-                pause(rt);
-                Came::Nothing
-            }
-            _ => Came::Failed(TcpFault { by }),
+        Ok((stream, _)) => {
+            set_up(&stream);
+            Ok(Some(stream))
+        }
+        Err(error) if may_pass(&error) => Ok(None),
+        Err(error) => Err(error),
+    }
+}
+
+// Whether an error of `accept` says nothing of later calls: no connection waits, or it was given up or broken before it was
+// taken, or the system has no room for it now.
+fn may_pass(error: &io::Error) -> bool {
+    match error.kind() {
+        ErrorKind::WouldBlock
+        | ErrorKind::Interrupted
+        | ErrorKind::ConnectionAborted
+        | ErrorKind::PermissionDenied
+        | ErrorKind::OutOfMemory
+        | ErrorKind::NetworkDown
+        | ErrorKind::NetworkUnreachable
+        | ErrorKind::HostUnreachable => true,
+        _ => match error.raw_os_error() {
+            Some(code) => PASSING.contains(&code),
+            None => false,
         },
     }
 }
+
+// The codes of such errors that have no kind: the system and the process have no descriptors left (23 and 24), the peer is
+// off the network (64) or broke the protocol (71 and 92), there are no buffers (105), the peer's machine is down (112).
+const PASSING: [i32; 7] = [23, 24, 64, 71, 92, 105, 112];

@@ -1,59 +1,72 @@
 //! A link over TCP.
 
 ghost use Rattle.std.specs.Prelude.{◌≡◌, None};
+ghost use Rattle.std.specs.Io.{ReadsAtMost, WritesAtMost};
+ghost use Rattle.mj_links.specs.Links.{ReadingStays, WritingStays};
 
 use crate::faults::FaultCount;
 use crate::link::Link;
+use crate::machine_clock::reading;
 use crate::sink::{Put, Sink};
 use crate::source::{Got, Source};
-use std::io::{Read, Write};
+use std::io;
+use std::io::{ErrorKind, Read, Write};
 use std::net::{Shutdown, TcpStream};
-use std::time::Duration;
+use std::time::{Clock, Duration};
 
-// The longest limit that a window may have, so no answer in time is cut off.
-const PATIENCE_S: u64 = 3600;
+/// How long a link waits for its first line, and for its peer to take what is written, in milliseconds. For a later line it
+/// waits so much longer than a window lasts.
+const GRACE_MS: u64 = 30_000;
 
-/// A link over a TCP stream. It tells nothing of the bytes, and each error of the system is a fault. A read or a write for
-/// which the peer lets the link wait for an hour fails.
+// How often a call that the system broke off is made in all.
+const TRIES: u32 = 1000;
+
+// How many times 4,096 bytes that nobody wants are read off a stream before it is closed.
+const LEFTOVERS: u32 = 16;
+
+/// A link over a TCP stream, with a clock. It tells nothing of the bytes, and each error of the system is a fault. It has
+/// patience for a line: reading fails 30 seconds after the last write on it where no line has come yet, and later once the
+/// limit of a window and 30 seconds have gone by since then, however many bytes have come. A write fails for which the peer
+/// makes room in none of 30 seconds.
 #[derive(Drop)]
-pub struct TcpLink {
-    stream: TcpStream,
-    read_faults: FaultCount,
-    write_faults: FaultCount,
+pub struct TcpLink<'a, R> {
+    pub(crate) rt: &'a R,
+    // None once the link is shut.
+    pub(crate) stream: Option<TcpStream>,
+    // The limit of a window in milliseconds.
+    pub(crate) limit: u64,
+    // When the last write ended, or the link came.
+    pub(crate) since: u64,
+    // Whether a line has come.
+    pub(crate) joined: bool,
+    pub(crate) read_faults: FaultCount,
+    pub(crate) write_faults: FaultCount,
 }
 
-impl TcpLink {
-    /// A link over a stream whose reads and writes block. Lines are short, so they are sent as they come. A stream that
-    /// refuses one of these settings is taken as it is.
-    pub fn new(stream: TcpStream) -> TcpLink
-        ensures read_faults { ⟦<TcpLink as Source>⟧.read_faults result ≡ 0 }
-        ensures write_faults { ⟦<TcpLink as Sink>⟧.write_faults result ≡ 0 }
-    {
-        let patience = Some(Duration::from_secs(PATIENCE_S));
-        let _ = stream.set_read_timeout(patience);
-        let _ = stream.set_write_timeout(patience);
-        let _ = stream.set_nodelay(true);
-        TcpLink {
-            stream,
-            read_faults: FaultCount::new(),
-            write_faults: FaultCount::new(),
-        }
-    }
+/// Makes a stream one whose reads and writes block, and the latter no longer than the patience for them. Lines are short, so
+/// they are sent as they come. A stream that refuses one of these settings is taken as it is.
+pub(crate) fn set_up(stream: &TcpStream) {
+    let _ = stream.set_write_timeout(Some(Duration::from_millis(GRACE_MS)));
+    let _ = stream.set_nodelay(true);
 }
 
-impl Source for TcpLink {
-    ghost use Rattle.mj_links.specs.TcpLinks.{TcpReadsApart};
-
+impl<'a, R: Clock> Source for TcpLink<'a, R> {
     ghost left = { λ _. None };
 
     ghost read_faults = { λ l. l.read_faults.count };
 
-    ghost also_reads = { TcpReadsApart };
+    ghost also_reads = { λ _ _ old new.
+        WritingStays None None old.write_faults.count new.write_faults.count };
 
     fn read(&mut self, into: &mut [u8]) -> Got {
-        match self.stream.read(into) {
+        let patience = if self.joined { self.limit } else { 0 };
+        let until = self.since.saturating_add(patience).saturating_add(GRACE_MS);
+        match read_until(self.rt, &self.stream, until, into) {
             Ok(0) => Got::End,
-            Ok(count) => Got::Bytes(count),
+            Ok(count) => {
+                self.joined = self.joined | into[..count].contains(&b'\n');
+                Got::Bytes(count)
+            }
             Err(_) => {
                 self.read_faults = self.read_faults.more();
                 Got::Failed
@@ -62,35 +75,113 @@ impl Source for TcpLink {
     }
 }
 
-impl Sink for TcpLink {
-    ghost use Rattle.mj_links.specs.TcpLinks.{TcpWritesApart};
-
+impl<'a, R: Clock> Sink for TcpLink<'a, R> {
     ghost written = { λ _. None };
 
     ghost write_faults = { λ l. l.write_faults.count };
 
-    ghost also_writes = { TcpWritesApart };
+    ghost also_writes = { λ _ _ old new.
+        ReadingStays None None None None old.read_faults.count new.read_faults.count };
 
     fn write(&mut self, piece: &[u8]) -> Put {
-        match self.stream.write(piece) {
+        match write_some(&self.stream, piece) {
             Ok(0) | Err(_) => {
                 self.write_faults = self.write_faults.more();
                 Put::Failed
             }
-            Ok(count) => Put::Took(count),
+            Ok(count) => {
+                self.since = reading(self.rt).unwrap_or(self.since);
+                Put::Took(count)
+            }
         }
     }
 }
 
-impl Link for TcpLink {
+impl<'a, R: Clock> Link for TcpLink<'a, R> {
     ghost was_read = { λ _. None };
 
-    // An error here means that the peer is gone already.
     fn shut(&mut self) {
-        let _ = self.stream.shutdown(Shutdown::Both);
+        close(self.stream.take());
     }
 
     ghost reads_apart = { λ got into old new h. (tt, h) };
 
     ghost writes_apart = { λ put piece old new h. h };
+}
+
+// Reads some bytes off a stream, and waits for them no longer than until the clock shows this. What has come by then is read
+// even later.
+fn read_until<R: Clock>(
+    rt: &R,
+    stream: &Option<TcpStream>,
+    until: u64,
+    into: &mut [u8],
+) -> io::Result<usize>
+    ensures { ReadsAtMost result into.new }
+{
+    let Some(stream) = stream else {
+        return Err(io::Error::from(ErrorKind::NotConnected));
+    };
+    for _ in 1..TRIES {
+        let read = read_once(rt, stream, until, into);
+        if !is_broken_off(&read) {
+            return read;
+        }
+    }
+    read_once(rt, stream, until, into)
+}
+
+fn read_once<R: Clock>(
+    rt: &R,
+    mut stream: &TcpStream,
+    until: u64,
+    into: &mut [u8],
+) -> io::Result<usize>
+    ensures { ReadsAtMost result into.new }
+{
+    let left = until.saturating_sub(reading(rt).unwrap_or(0));
+    let _ = stream.set_read_timeout(Some(Duration::from_millis(left.max(1))));
+    stream.read(into)
+}
+
+// Writes some bytes of a piece.
+fn write_some(stream: &Option<TcpStream>, piece: &[u8]) -> io::Result<usize>
+    ensures { WritesAtMost result piece.now }
+{
+    let Some(stream) = stream else {
+        return Err(io::Error::from(ErrorKind::NotConnected));
+    };
+    let mut stream = stream;
+    for _ in 1..TRIES {
+        let written = stream.write(piece);
+        if !is_broken_off(&written) {
+            return written;
+        }
+    }
+    stream.write(piece)
+}
+
+// Whether the system broke the call off, as it does where a process is stopped and goes on.
+fn is_broken_off(done: &io::Result<usize>) -> bool {
+    match done {
+        Ok(_) => false,
+        Err(error) => error.kind() == ErrorKind::Interrupted,
+    }
+}
+
+// Ends a stream, and lets its descriptor go. Bytes that came and weren't read are read off first, since with them there the
+// system would take back what was written. An error here means that the peer is gone already.
+fn close(stream: Option<TcpStream>) {
+    let Some(mut stream) = stream else {
+        return;
+    };
+    let _ = stream.shutdown(Shutdown::Write);
+    let _ = stream.set_nonblocking(true);
+    let mut rest = [0; 4096];
+    for _ in 0..LEFTOVERS {
+        match stream.read(&mut rest) {
+            Ok(0) | Err(_) => return,
+            Ok(_) => {}
+        }
+    }
 }

@@ -99,8 +99,8 @@ module _ {A : Type 0} (after : List (Entry A) → After) (is_legal : List (Entry
         (others : (es : List (Entry A)) (e : Entry A) (author seat : ℕ) → is_legal (es ++ e ∷ []) → (after es).present seat ≡ Some author → IsAside author seat es e → Unmoved seat (after es) (after (es ++ e ∷ [])))
         (answers : (es : List (Entry A)) (author seat : ℕ) (answer : A) → is_legal (es ++ Said author seat answer ∷ []) → Answers says (hears es author seat answer) seat (after es) (after (es ++ Said author seat answer ∷ [])))
         (leaves : (es : List (Entry A)) (author seat : ℕ) → is_legal (es ++ Gone author seat ∷ []) → Leaves seat (after es) (after (es ++ Gone author seat ∷ [])) × Adds seat [] (after es) (after (es ++ Gone author seat ∷ []))) where
-      gone_none : (author seat place : ℕ) (new : List (Entry A)) → is_legal new → EndsBy after seat place new (Gone author seat) (λ _. Unit {0}) → (after new).seat_of place ≡ None
-      gone_none author seat place new legal e =
+      gone_none : (verdict : List (Entry A) → Type 0) (author seat place : ℕ) (new : List (Entry A)) → is_legal new → EndsBy after seat place new (Gone author seat) verdict → (after new).seat_of place ≡ None
+      gone_none verdict author seat place new legal e =
           ap (λ (fs : List (Entry A)). (after fs).seat_of place) e.last_is ∙ (leaves e.before author seat (subst is_legal e.last_is legal)).0.no_seat place e.was_of
 
       refused_none : (author seat place : ℕ) (new : List (Entry A)) → is_legal new → EndsByRefusal after hears author seat place new → (after new).seat_of place ≡ None
@@ -117,9 +117,9 @@ module _ {A : Type 0} (after : List (Entry A) → After) (is_legal : List (Entry
           let a = alone over in
           let moved = between after is_legal legal_before stays others author seat new a.since (subst is_legal a.grown legal) a.mine_are here in
           subst (λ (fs : List (Entry A)). script (after fs) place ≡ script (after new) place) (sym a.grown) (script_quiet (after new) (after (new ++ a.since)) place seat moved.0 moved.1 over mine none)
-      script_stays PeerEnded author seat place new all gap legal e near h excused alone = script_over place new all gap legal e near (gone_none author seat place new (legal_before new gap (subst is_legal e legal)) h)
-      script_stays LinkFault author seat place new all gap legal e near h excused alone = script_over place new all gap legal e near (gone_none author seat place new (legal_before new gap (subst is_legal e legal)) h)
-      script_stays LineTooLong author seat place new all gap legal e near h excused alone = script_over place new all gap legal e near (gone_none author seat place new (legal_before new gap (subst is_legal e legal)) h)
+      script_stays PeerEnded author seat place new all gap legal e near h excused alone = script_over place new all gap legal e near (gone_none (λ before. (after before).due seat < (after before).deeds) author seat place new (legal_before new gap (subst is_legal e legal)) h)
+      script_stays LinkFault author seat place new all gap legal e near h excused alone = script_over place new all gap legal e near (gone_none (λ _. Unit {0}) author seat place new (legal_before new gap (subst is_legal e legal)) h)
+      script_stays LineTooLong author seat place new all gap legal e near h excused alone = script_over place new all gap legal e near (gone_none (λ before. (after before).due seat < (after before).deeds) author seat place new (legal_before new gap (subst is_legal e legal)) h)
       script_stays TooManyRefusals author seat place new all gap legal e near h excused alone = script_over place new all gap legal e near (refused_none author seat place new (legal_before new gap (subst is_legal e legal)) h)
       script_stays (NotSeated why) author seat place new all gap legal e near h excused alone = absurd h
       script_stays NoMemory author seat place new all gap legal e near h excused alone = absurd (excused tt)

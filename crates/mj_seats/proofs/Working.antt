@@ -127,7 +127,7 @@ module _ {T A R L F S : Type 0} (after : List (Entry A) → After) (is_legal : L
 
   end_in : (by : ℕ) (seen : List (Entry A)) (end : HandlerEnd F) → (WantsMemory end → ⊥) → Stays (after seen) (after all) → HandlerEnds after made number end by seen → EndsIn after made number by all end
   end_in by seen end.Over m s h = s.over h
-  end_in by seen (end.Host f) m s h = h
+  end_in by seen (end.Host f) m s h = (h.0, h.1)
   end_in by seen end.NoMemory m s h = m tt
 
   pub all_end : (n : ℕ) (ps : List (PassState S (Entry A))) (ss : List (Session L)) (es : List (HandlerEnd F)) → AllLeft after reads joins sits hears says at made number setting turn n ps ss es → All (IsSeenIn author_of all) ps → AllEnd after made number n all es

@@ -55,10 +55,10 @@ module _ {A R L : Type 0} (after : List (Entry A) → After) (reads : List ℕ �
   Handled excuse author old new (session ∷ sessions) =
       (mid : List (Entry A)) × Noted excuse author old mid session × ((after mid).over ≡ true → sessions ≡ []) × Handled excuse author mid new sessions
 
--- The game is over in the history seen, or the host made a fault with the handler's number.
+-- The game is over in the history seen; or it is not, and the host made a fault with the handler's number.
 abbrev pub HandlerEnds : {A F : Type 0} → (List (Entry A) → After) → (F → Type 0) → (F → ℕ) → HandlerEnd F → ℕ → List (Entry A) → Type 0
 HandlerEnds after made number Over by new = (after new).over ≡ true
-HandlerEnds after made number (Host fault) by new = made fault × (number fault ≡ by)
+HandlerEnds after made number (Host fault) by new = made fault × (number fault ≡ by) × ((after new).over ≡ false)
 HandlerEnds after made number NoMemory by new = Unit {0}
 
 abbrev pub HandlerEndsTo : {A F : Type 0} → (List (Entry A) → After) → (F → Type 0) → (F → ℕ) → Option (HandlerEnd F) → ℕ → List (Entry A) → Type 0

@@ -93,13 +93,14 @@ pub record EndsByRefusal {A R : Type 0} (after : List (Entry A) → After) (hear
   pub ends : EndsBy after seat place new (Said author seat answer) (λ before. hears before author seat answer ≡ heard.Closing rule)
 
 -- What the history shows of the end of a seat's session. The game is over, the connection goes on, and the seat, which is
--- present by the author, has no deed to answer; or its last entry is that it is gone; or its last entry is an answer with a closing refusal.
+-- present by the author, has no deed to answer; or its last entry is that it is gone, and where its input had ended or its line
+-- was too long, it had a deed to answer before that entry; or its last entry is an answer with a closing refusal.
 abbrev pub HistoryEnds : {A R : Type 0} → (List (Entry A) → After) → (List (Entry A) → ℕ → ℕ → A → Heard R) → Ended → ℕ → ℕ → ℕ → List (Entry A) → Type 0
 HistoryEnds after hears GameOver author seat place new =
     ((after new).over ≡ true) × ((after new).present seat ≡ Some author) × ((after new).seat_of place ≡ Some seat) × ((after new).deeds ≤ (after new).due seat)
-HistoryEnds after hears PeerEnded author seat place new = EndsBy after seat place new (Gone author seat) (λ _. Unit {0})
+HistoryEnds after hears PeerEnded author seat place new = EndsBy after seat place new (Gone author seat) (λ before. (after before).due seat < (after before).deeds)
 HistoryEnds after hears LinkFault author seat place new = EndsBy after seat place new (Gone author seat) (λ _. Unit {0})
-HistoryEnds after hears LineTooLong author seat place new = EndsBy after seat place new (Gone author seat) (λ _. Unit {0})
+HistoryEnds after hears LineTooLong author seat place new = EndsBy after seat place new (Gone author seat) (λ before. (after before).due seat < (after before).deeds)
 HistoryEnds after hears TooManyRefusals author seat place new = EndsByRefusal after hears author seat place new
 HistoryEnds after hears (NotSeated why) author seat place new = ⊥
 HistoryEnds after hears NoMemory author seat place new = Unit {0}

@@ -94,7 +94,7 @@ fn look<T: SharedGame, R: Wait>(
 {
     let mut held = hold::take(turn, rt, pass);
     let found = find_due(held.value(), seat, line);
-    hold::give(turn, pass, held, matches!(found, Some(Due::NoMemory)));
+    hold::give_unchanged(turn, pass, held, matches!(found, Some(Due::NoMemory)));
     found
 }
 

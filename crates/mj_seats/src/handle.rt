@@ -1,7 +1,7 @@
 //! The worker that takes links from a host, and serves them one after the other.
 
 ghost use Rattle.std.specs.Prelude.{◌≡◌, ◌<◌, ◌+◌, ◌++◌, ◌≤◌, map, [], List, IfSome, vec_len, vec_capacity};
-ghost use Rattle.mj_links.specs.Hosts.{IsFresh};
+ghost use Rattle.mj_links.specs.Hosts.{IsFresh, ComesFresh, CameFault};
 ghost use Rattle.mj_ports.specs.declared.entry.Entry.{Entry};
 ghost use Rattle.mj_seats.specs.Handlers.{Handled, HandlerEnds, HandlerEndsTo, Excuses, WantsMemory, IsOn, Finds, Asks, at_link};
 ghost use Rattle.mj_seats.specs.Histories.{Enters, places_of};
@@ -163,14 +163,42 @@ fn take_link<T: SharedGame, H: Host<Fault = <T as SharedGame>::Fault>, R: Wait>(
     ensures ended { HandlerEndsTo (T.after (T.Noted.setting turn.now.opening)) (H.made_by host.now)
         T.Fault.number result pass.old.number pass.new.seen }
 {
-    match host.accept(pass.number()) {
+    match next_link(turn, rt, pass, host) {
         Came::Link(link) => serve_link(turn, rt, alloc, pass, link, sessions),
         Came::Nothing => None,
         Came::Failed(fault) => {
-            lose(turn, rt, pass, fault);
+            if lose(turn, rt, pass, fault) {
+                return Some(HandlerEnd::Over);
+            }
             Some(HandlerEnd::Host(fault))
         }
     }
+}
+
+// Asks the host until it has a link or fails, or until the table has changed since it was seen.
+fn next_link<T: SharedGame, H: Host<Fault = <T as SharedGame>::Fault>, R: Wait>(
+    turn: &Turn<T>,
+    rt: &R,
+    pass: &Pass<T>,
+    host: &H,
+) -> Came<H::Link, H::Fault>
+    requires { IsIdle T.Noted.setting turn.now pass.now }
+    ensures fresh { ComesFresh H.Link.was_read H.Link.written H.Link.read_faults
+        H.Link.write_faults result }
+    ensures fault { CameFault (H.made_by host.now) T.Fault.number pass.now.number result }
+{
+    for _ in rt.forever() {
+        match host.accept(pass.number()) {
+            Came::Link(link) => return Came::Link(link),
+            Came::Failed(fault) => return Came::Failed(fault),
+            Came::Nothing => {
+                if turn.has_changed(pass) {
+                    return Came::Nothing;
+                }
+            }
+        }
+    }
+    unreachable!()
 }
 
 // Serves a link to the end of its session, shuts it, and keeps it where its session had a seat.
@@ -237,7 +265,7 @@ fn ask<T: SharedGame, R: Wait>(turn: &Turn<T>, rt: &R, pass: &mut Pass<T>) -> Ca
 {
     let mut held = hold::take(turn, rt, pass);
     let call = call_of(held.value());
-    hold::give(turn, pass, held, false);
+    hold::give_unchanged(turn, pass, held, false);
     call
 }
 
@@ -254,13 +282,29 @@ fn call_of<T: SharedGame>(table: &mut T) -> Call
     Call::GoesOn
 }
 
-// Keeps the fault by which the host failed the handler.
-fn lose<T: SharedGame, R: Wait>(turn: &Turn<T>, rt: &R, pass: &mut Pass<T>, fault: T::Fault)
+// Keeps the fault by which the host failed the handler, and says whether the game is over.
+fn lose<T: SharedGame, R: Wait>(
+    turn: &Turn<T>,
+    rt: &R,
+    pass: &mut Pass<T>,
+    fault: T::Fault,
+) -> bool
     requires { IsIdle T.Noted.setting turn.now pass.old }
     ensures idle { IsIdle T.Noted.setting turn.now pass.new × (pass.new.number ≡ pass.old.number) }
     ensures nothing { Enters pass.old.number pass.old.seen pass.new.seen [] }
+    ensures over { result ≡ (T.after (T.Noted.setting turn.now.opening) pass.new.seen).over }
 {
     let mut held = hold::take(turn, rt, pass);
-    held.value().lose(fault);
+    let over = mark_lost(held.value(), fault);
     hold::give(turn, pass, held, false);
+    over
+}
+
+fn mark_lost<T: SharedGame>(table: &mut T, fault: T::Fault) -> bool
+    ensures setting { T.Seated.setting table.new ≡ T.Seated.setting table.old }
+    ensures entries { T.history table.new ≡ T.history table.old }
+    ensures over { result ≡ (T.after (T.Seated.setting table.old) (T.history table.old)).over }
+{
+    table.lose(fault);
+    table.over()
 }

@@ -44,6 +44,26 @@ pub(crate) fn give<T: SharedGame>(
     turn.give(pass, held);
 }
 
+// Gives the table back after a look, with the entries that it had, and marks it where memory was wanting. Nobody who waits
+// for a change is woken but by the mark.
+pub(crate) fn give_unchanged<T: SharedGame>(
+    turn: &Turn<T>,
+    pass: &mut Pass<T>,
+    held: Held<T>,
+    wanting: bool,
+)
+    requires busy { IsBusy T.Noted.setting turn.now pass.old }
+    requires setting { T.Seated.setting held ≡ T.Noted.setting turn.now.opening }
+    requires entries { T.history held ≡ pass.old.seen }
+    ensures { pass.new ≡ given pass.old (T.history held) }
+{
+    if wanting {
+        give(turn, pass, held, true);
+        return;
+    }
+    turn.give_unchanged(pass, held);
+}
+
 // Ends the turn of a table, with all of its passes.
 pub(crate) fn close<T: SharedGame>(turn: Turn<T>, passes: Vec<Pass<T>>) -> T
     requires all { length passes.items ≡ turn.passes }

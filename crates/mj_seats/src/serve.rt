@@ -162,7 +162,7 @@ fn write_hello<T: SharedGame, R: Wait>(
 {
     let mut held = hold::take(turn, rt, pass);
     let written = hello_of(held.value(), alloc, hello);
-    hold::give(turn, pass, held, !written);
+    hold::give_unchanged(turn, pass, held, !written);
     written
 }
 

@@ -186,7 +186,7 @@ fn look<T: SharedGame, R: Wait>(turn: &Turn<T>, rt: &R, pass: &mut Pass<T>) -> S
 {
     let mut held = hold::take(turn, rt, pass);
     let seen = see(held.value());
-    hold::give(turn, pass, held, false);
+    hold::give_unchanged(turn, pass, held, false);
     seen
 }
 
@@ -221,6 +221,10 @@ fn close<T: SharedGame, R: Wait>(
     let number = pass.number();
     let mut held = hold::take(turn, rt, pass);
     let closing = expire(held.value(), alloc, number, watch, now);
+    if matches!(closing, Closing::Early | Closing::Stale) {
+        hold::give_unchanged(turn, pass, held, false);
+        return closing;
+    }
     hold::give(
         turn,
         pass,

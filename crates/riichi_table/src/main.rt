@@ -8,7 +8,8 @@
 
 use mj_front::{Status, exit_code, run, status_text};
 use mj_links::{MachineClock, ReaderSource, TcpHost, WriterSink};
-use std::alloc::AllocError;
+use mj_words::serving_of;
+use std::alloc::{AllocError, Global};
 use std::env;
 use std::io::{ErrorKind, Write};
 use std::process::ExitCode;
@@ -22,7 +23,7 @@ fn main(rt: HostRuntime) -> ExitCode {
             words.as_slice(),
             &mut ReaderSource::new(rt.stdin()),
             &mut WriterSink::new(rt.stdout()),
-            &mut TcpHost::new(&rt),
+            &mut TcpHost::new(&rt, limit_of(alloc, words.as_slice())),
             &mut MachineClock::new(&rt),
         ),
         Err(_) => Status::NoMemory,
@@ -31,6 +32,14 @@ fn main(rt: HostRuntime) -> ExitCode {
         let _ = rt.stderr().write_all(text.as_slice());
     }
     ExitCode::from(exit_code(&status))
+}
+
+// How many milliseconds a player of the game that the words ask for has for an answer; 0 where they ask for none.
+fn limit_of(alloc: Global, words: &[String]) -> u64 {
+    match serving_of(alloc, words) {
+        Ok(Some(serving)) => serving.limit,
+        Ok(None) | Err(_) => 0,
+    }
 }
 
 // The words behind the program's name. Where one of them is no text there are none, for no command has such a word.

@@ -57,7 +57,7 @@ fn ask<R: Net<Stream = TcpStream>>(rt: &R, port: u16) -> io::Result<[u8; 4]> {
 #[test]
 fn a_line_and_its_answer_go_over_tcp(rt: HostRuntime) -> Result<(), Fail> {
     let alloc = rt.alloc();
-    let mut host = TcpHost::new(&rt);
+    let mut host = TcpHost::new(&rt, 1000);
     let Some(port) = open_some(&mut host) else {
         return Err("no port is free".into());
     };
@@ -88,7 +88,7 @@ fn is_left_out<H: Host>(open: &mut H, late: &mut H) -> bool {
 
 #[test]
 fn nothing_comes_to_a_host_that_is_not_open(rt: HostRuntime) {
-    let (mut open, mut late) = (TcpHost::new(&rt), TcpHost::new(&rt));
+    let (mut open, mut late) = (TcpHost::new(&rt, 1000), TcpHost::new(&rt, 1000));
     assert!(rt; is_left_out(&mut open, &mut late));
 }
 

@@ -73,10 +73,11 @@ fn leave_note<T: Marked, R: Wait>(rt: &R, turn: &Turn<T>, pass: &mut Pass<T>)
     for _ in rt.forever() {
         let mut held = turn.take(rt, pass);
         let left = held.value().mark(pass.number());
-        turn.give(pass, held);
         if left {
+            turn.give(pass, held);
             return;
         }
+        turn.give_unchanged(pass, held);
         turn.await_change(rt, pass);
     }
     unreachable!()

@@ -1,6 +1,6 @@
 //! The value that the threads hand over.
 
-ghost use Rattle.std.specs.Prelude.{◌≡◌, ℕ, List, []};
+ghost use Rattle.std.specs.Prelude.{◌≡◌, ℕ, List, [], false};
 ghost use Rattle.turn_lock.specs.Notes.{Follows};
 
 use mj_past::Past;
@@ -12,7 +12,8 @@ pub trait Marked: Noted {
     /// Leaves a note of this pass, where it is this pass's note that comes next, and tells whether it did.
     fn mark(&mut self, number: u8) -> bool
         ensures setting { Self.setting self.new ≡ Self.setting self.old }
-        ensures notes { Follows Self.author number (Self.notes self.old) (Self.notes self.new) };
+        ensures notes { Follows Self.author number (Self.notes self.old) (Self.notes self.new) }
+        ensures unmarked { result ≡ false → Self.notes self.new ≡ Self.notes self.old };
 }
 
 /// The numbers of two passes as they come by turns, from 0 on, of which a checksum is kept. Contracts see all of them.

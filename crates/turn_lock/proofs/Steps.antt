@@ -17,7 +17,7 @@ use Rattle.turn_lock.specs.declared.view.View.{View}
 use Rattle.turn_lock.specs.Notes.{notes_of, Follows}
 use Rattle.turn_lock.specs.Inner.Views.{view, own_of, fresh, others, first_own, one_if, times_of, out, HasTicket, is_serving}
 use Rattle.turn_lock.specs.Inner.Rule.{total, IsFree, At, Knows, Holds}
-use Rattle.turn_lock.specs.Inner.Plays.{Drew, Granted, Looked, Served}
+use Rattle.turn_lock.specs.Inner.Plays.{Drew, Granted, Looked, Told, Served}
 use Rattle.turn_lock.proofs.Sums.{total_set, total_snoc, total_le, one_below, two_below, total_alone, each_set, each_snoc, one_there, prefix_self}
 use Rattle.turn_lock.proofs.Views.{apart_set, apart_snoc, frees, frees_snoc, at_later, not_next, at_served, not_serving, none_serves, out_own}
 use Rattle.turn_lock.proofs.Known.{own_times, below_one, below_count, below_follows, knows_follows, knows_append, knows_others, knows_first, knows_fresh, times_append, times_cut, length_cut, no_times, length_fresh, times_fresh}
@@ -41,7 +41,8 @@ module _ {T S N : Type 0} (setting : T → S) (notes : T → List N) (author : N
           log = r.log;
           serving = r.serving;
           next = r.next + 1;
-          words = ap (λ (ws : List ℕ). slice_set ws 1 ((slice_index ws 1 + 1) % 2 ^ 64)) r.words ∙ ap (λ (k : ℕ). r.serving % 2 ^ 64 ∷ k ∷ []) (mod-add-mod r.next (2 ^ 64) 1);
+          changed = r.changed;
+          words = ap (λ (ws : List ℕ). slice_set ws 1 ((slice_index ws 1 + 1) % 2 ^ 64)) r.words ∙ ap (λ (k : ℕ). r.serving % 2 ^ 64 ∷ k ∷ r.changed ∷ []) (mod-add-mod r.next (2 ^ 64) 1);
           few = r.few;
           counted = let c = r.counted in omega (arith, sum, c);
           numbers = let e = total_set (λ (u : View S N). length u.own) s.views id v w at in omega (arith, e, r.numbers);
@@ -80,6 +81,7 @@ module _ {T S N : Type 0} (setting : T → S) (notes : T → List N) (author : N
           log = r.log;
           serving = r.serving;
           next = r.next;
+          changed = r.changed;
           words = ap (λ (ws : List ℕ). slice_set ws 0 (slice_index ws 0)) r.words;
           few = r.few;
           counted = let e = total_set (λ (u : View S N). out u.stage) s.views id v w at in omega (arith, e, r.counted);
@@ -124,6 +126,27 @@ module _ {T S N : Type 0} (setting : T → S) (notes : T → List N) (author : N
       let no : (n == t % 2 ^ 64) ≡ false = grind (arith, nat_tests) in
       (v, keeps, tt, same_state s r id v at, subst (λ (b : Bool). MatchBool b (Granted setting notes author t o m) (m ≡ m)) (sym no) refl))
 
+  -- a change is told
+  pub tells : (slots id new : ℕ) (me : Me (Option T) (View S N)) → Allows H slots id me 2 (λ _. new) (λ _ w. Told me w)
+  tells slots id new me s r wide at small =
+      let views : set s.views id me.0 ≡ s.views = set_again s.views id me.0 at in
+      let kept : H (record { words = slice_set s.words 2 new; homes = s.homes; views = s.views }) = record {
+        log = r.log;
+        serving = r.serving;
+        next = r.next;
+        changed = new;
+        words = ap (λ (ws : List ℕ). slice_set ws 2 new) r.words;
+        few = r.few;
+        counted = r.counted;
+        numbers = r.numbers;
+        once = r.once;
+        apart = r.apart;
+        knows = r.knows;
+        below = r.below;
+        home = r.home;
+      } in
+      (me.0, keeps, tt, subst (λ (vs : List (View S N)). H (record { words = slice_set s.words 2 new; homes = s.homes; views = vs })) (sym views) kept, refl)
+
   -- the value comes home with the notes of its holder, and the next ticket is served
   pub serves : (slots id t new : ℕ) (o : Own S N) (x : T) → 0 < slots → new ≡ (t + 1) % 2 ^ 64 → setting x ≡ o.setting → Follows author o.number o.seen (notes x)
       → Allows H slots id (view (Serves t) (o ∷ []), (0, Some x) ∷ []) 0 (λ _. new) (λ _ w. Served notes (view (Serves t) (o ∷ []), (0, Some x) ∷ []) w)
@@ -147,7 +170,8 @@ module _ {T S N : Type 0} (setting : T → S) (notes : T → List N) (author : N
           log = notes x;
           serving = r.serving + 1;
           next = r.next;
-          words = ap (λ (ws : List ℕ). slice_set ws 0 new) r.words ∙ ap (λ (k : ℕ). k ∷ r.next % 2 ^ 64 ∷ []) (new_is ∙ ap (λ (k : ℕ). (k + 1) % 2 ^ 64) served);
+          changed = r.changed;
+          words = ap (λ (ws : List ℕ). slice_set ws 0 new) r.words ∙ ap (λ (k : ℕ). k ∷ r.next % 2 ^ 64 ∷ r.changed ∷ []) (new_is ∙ ap (λ (k : ℕ). (k + 1) % 2 ^ 64) served);
           few = r.few;
           counted = omega (arith, sum, r.counted);
           numbers = let e = total_set (λ (u : View S N). length u.own) s.views id v w at in omega (arith, e, r.numbers);
@@ -180,6 +204,7 @@ module _ {T S N : Type 0} (setting : T → S) (notes : T → List N) (author : N
         log = r.log;
         serving = r.serving;
         next = r.next;
+        changed = r.changed;
         words = r.words;
         few = r.few;
         counted = let a = total_snoc (λ (z : View S N). out z.stage) vs u in let b = total_set (λ (z : View S N). out z.stage) s.views id v w at in omega (arith, a, b, r.counted);
@@ -205,6 +230,7 @@ module _ {T S N : Type 0} (setting : T → S) (notes : T → List N) (author : N
         log = r.log;
         serving = r.serving;
         next = r.next;
+        changed = r.changed;
         words = r.words;
         few = r.few;
         counted = let e = total_set (λ (y : View S N). out y.stage) vs other u z at_other in let f = total_set (λ (y : View S N). out y.stage) s.views id v w at in omega (arith, e, f, r.counted);
@@ -248,7 +274,7 @@ module _ {T S N : Type 0} (setting : T → S) (notes : T → List N) (author : N
 
 module _ {T S N : Type 0} (setting : T → S) (notes : T → List N) (author : N → ℕ) where
   -- the table of a new turn
-  opens : (x : T) (count : ℕ) → count < 256 → notes x ≡ [] → Holds setting notes author (setting x) count (opened (0 ∷ 0 ∷ []) (Some x ∷ []) (view Idle (fresh (setting x) 0 count)))
+  opens : (x : T) (count : ℕ) → count < 256 → notes x ≡ [] → Holds setting notes author (setting x) count (opened (0 ∷ 0 ∷ 0 ∷ []) (Some x ∷ []) (view Idle (fresh (setting x) 0 count)))
   opens x count few unpublished =
       let v : View S N = view Idle (fresh (setting x) 0 count) in
       let Q : View S N → Type 0 = λ y. Knows author (setting x) [] y.own × At [] 0 0 y.own y.stage in
@@ -256,6 +282,7 @@ module _ {T S N : Type 0} (setting : T → S) (notes : T → List N) (author : N
         log = [];
         serving = 0;
         next = 0;
+        changed = 0;
         words = refl;
         few = few;
         counted = refl;
@@ -267,6 +294,6 @@ module _ {T S N : Type 0} (setting : T → S) (notes : T → List N) (author : N
         home = λ free. (x, refl, refl, unpublished);
       }
 
-  pub opens_at : (x' x : T) (xs : List (Option T)) (count : ℕ) → x' ≡ x → xs ≡ Some x ∷ [] → count < 256 → notes x ≡ [] → Holds setting notes author (setting x') count (opened (0 ∷ 0 ∷ []) xs (view Idle (fresh (setting x') 0 count)))
+  pub opens_at : (x' x : T) (xs : List (Option T)) (count : ℕ) → x' ≡ x → xs ≡ Some x ∷ [] → count < 256 → notes x ≡ [] → Holds setting notes author (setting x') count (opened (0 ∷ 0 ∷ 0 ∷ []) xs (view Idle (fresh (setting x') 0 count)))
   opens_at x' x xs count is items few unpublished =
-      subst₂ (λ (z : T) (zs : List (Option T)). Holds setting notes author (setting z) count (opened (0 ∷ 0 ∷ []) zs (view Idle (fresh (setting z) 0 count)))) (sym is) (sym items) (opens x count few unpublished)
+      subst₂ (λ (z : T) (zs : List (Option T)). Holds setting notes author (setting z) count (opened (0 ∷ 0 ∷ 0 ∷ []) zs (view Idle (fresh (setting z) 0 count)))) (sym is) (sym items) (opens x count few unpublished)

@@ -34,7 +34,7 @@ impl<T: Noted> Turn<T> {
             passes,
         };
         slots.push_reserved(Some(value));
-        match Table::new(alloc, &[0, 0], slots, &start) {
+        match Table::new(alloc, &[0, 0, 0], slots, &start) {
             Ok((table, dealer)) => {
                 let passes = deal_out(&table.shared, dealer, &start, room);
                 Ok((Turn { table }, passes))
@@ -54,7 +54,7 @@ fn deal_out<T: Noted>(
     start: &Start<T>,
     mut passes: Vec<Pass<T>>,
 ) -> Vec<Pass<T>>
-    requires board { (board.now.table_id.words ≡ 2) × (board.now.key ≡ start.now) }
+    requires board { (board.now.table_id.words ≡ 3) × (board.now.key ≡ start.now) }
     requires dealer { dealer.table_id ≡ board.now.table_id }
     requires all { dealer.me ≡ (
       view Idle

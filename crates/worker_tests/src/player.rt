@@ -144,6 +144,25 @@ pub fn act_all<G: Seated, F: Numbered, R: Wait>(
     all
 }
 
+/// Whether a player has done all this so many times.
+pub fn act_often<G: Seated, F: Numbered, R: Wait>(
+    turn: &Turn<Room<G, F>>,
+    rt: &R,
+    alloc: Global,
+    pass: &mut Pass<Room<G, F>>,
+    steps: &[Step],
+    times: u32,
+) -> bool
+    requires { IsIdle ⟦<Room<G, F> as Noted>⟧.setting turn.now pass.old }
+    ensures { IsIdle ⟦<Room<G, F> as Noted>⟧.setting turn.now pass.new }
+{
+    let mut all = true;
+    for _ in 0..times {
+        all = act_all(turn, rt, alloc, pass, steps) && all;
+    }
+    all
+}
+
 fn shown_by<G: Seated>(game: &G) -> Shown {
     Shown {
         entries: game.entries(),

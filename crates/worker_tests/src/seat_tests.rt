@@ -4,7 +4,7 @@ ghost use Rattle.std.specs.Prelude.{◌≡◌, []};
 
 use crate::hall::sorted_hall;
 use crate::lines::{HEAD, HELLO, Part, START, are_made_of, bytes_of};
-use crate::player::{A, B, C, D, KEY, PASS, Shown, Step, THREE, act_all, look};
+use crate::player::{A, B, C, D, KEY, PASS, Shown, Step, THREE, act, act_all, act_often, look};
 use mj_links::{MemLink, Numbered, Wire};
 use mj_ports::{Seated, SitRefused};
 use mj_seats::{Ended, Room, Served, serve_seat};
@@ -25,12 +25,48 @@ const FOUR: [Step; 9] = [
     Step::Leaves(3),
 ];
 
+// Three seats are taken, and one of them is left, which was taken without a key.
+const KEYLESS: [Step; 4] = [Step::Sits(A), Step::Sits(B), Step::Sits(C), Step::Leaves(0)];
+
+// Four seats are taken, and left again.
+const ALONE: [Step; 8] = [
+    Step::Sits(A),
+    Step::Sits(B),
+    Step::Sits(C),
+    Step::Sits(KEY),
+    Step::Leaves(0),
+    Step::Leaves(1),
+    Step::Leaves(2),
+    Step::Leaves(3),
+];
+
+// A seat is taken back by its key, and left.
+const ONCE_MORE: [Step; 2] = [Step::Sits(KEY), Step::Leaves(3)];
+
+const E: &str = "{\"type\":\"join\",\"name\":\"e\"}";
+
+const OTHER_KEY: &str = "{\"type\":\"join\",\"name\":\"d\",\"key\":\"x\"}";
+
+// The beginning of a join.
+const NAMED: &str = "{\"type\":\"join\",\"name\":\"";
+
 const LINE_END: &str = "\n";
+
+// What comes behind the hello line for a seat that came back before the first deed was answered.
+const AGAIN: &str = "{\"type\":\"replay\",\"count\":0}\n";
 
 const DEAL: &str =
     "{\"type\":\"start_kyoku\",\"bakaze\":\"E\",\"kyoku\":1,\"honba\":0,\"kyotaku\":0,\"oya\":0,\"dora_marker\":\"F\",\"tehais\":[[\"?\",\"?\",\"?\",\"?\",\"?\",\"?\",\"?\",\"?\",\"?\",\"?\",\"?\",\"?\",\"?\"],[\"?\",\"?\",\"?\",\"?\",\"?\",\"?\",\"?\",\"?\",\"?\",\"?\",\"?\",\"?\",\"?\"],[\"?\",\"?\",\"?\",\"?\",\"?\",\"?\",\"?\",\"?\",\"?\",\"?\",\"?\",\"?\",\"?\"],[\"1p\",\"2p\",\"2p\",\"2p\",\"2p\",\"3p\",\"3p\",\"3p\",\"3p\",\"4p\",\"4p\",\"4p\",\"4p\"]]}\n";
 
 const UNREADABLE: &str = "{\"type\":\"error\",\"rule\":1,\"message\":\"Unreadable\"}\n";
+
+const FULL: &str = "{\"type\":\"error\",\"sit\":1,\"message\":\"Full\"}\n";
+
+const WRONG_KEY: &str = "{\"type\":\"error\",\"sit\":3,\"message\":\"WrongKey\"}\n";
+
+const NO_KEY: &str = "{\"type\":\"error\",\"sit\":4,\"message\":\"NoKey\"}\n";
+
+const TOO_OFTEN: &str = "{\"type\":\"error\",\"sit\":5,\"message\":\"TooOften\"}\n";
 
 const TAKEN: &str = "{\"type\":\"error\",\"sit\":2,\"message\":\"NameTaken\"}\n";
 
@@ -40,6 +76,8 @@ const NO_NAME: &str = "{\"type\":\"error\",\"sit\":7,\"message\":\"BadName\"}\n"
 #[derive(Clone, Copy)]
 struct Case {
     before: &'static [Step],
+    // How often then seat 3 is taken back by its key and left.
+    returns: u32,
     read: &'static [Part],
     // The numbers of the reads and of the writes that fail.
     reads: &'static [u64],
@@ -56,12 +94,14 @@ fn link(alloc: Global, case: Case) -> Result<MemLink, AllocError> {
     Ok(MemLink::new(bytes, reads, case.writes.to_vec(alloc)?))
 }
 
-// How the session of a link ended, what is written on the link, and what others see then.
+// How the session of a link ended, what is written on the link, what others see then, and whether the seat is taken by its
+// key behind it.
 #[derive(Drop)]
 struct Outcome {
     served: Served,
     link: MemLink,
     shown: Shown,
+    taken: bool,
 }
 
 // Serves a link by one pass, once another one has done all this.
@@ -70,6 +110,7 @@ fn serve<G: Seated, F: Numbered, R: Wait>(
     alloc: Global,
     room: Room<G, F>,
     before: &[Step],
+    returns: u32,
     link: MemLink,
 ) -> Option<Outcome>
     requires { G.history room.game ≡ [] }
@@ -82,12 +123,16 @@ fn serve<G: Seated, F: Numbered, R: Wait>(
     if !act_all(&turn, rt, alloc, &mut player, before) {
         return None;
     }
+    if !act_often(&turn, rt, alloc, &mut player, &ONCE_MORE, returns) {
+        return None;
+    }
     let mut wire = Wire::new(link);
     let served = serve_seat(&turn, rt, alloc, &mut pass, &mut wire);
     Some(Outcome {
         served,
         link: wire.into_link(),
         shown: look(&turn, rt, &mut player),
+        taken: act(&turn, rt, alloc, &mut player, Step::Sits(KEY)),
     })
 }
 
@@ -102,16 +147,101 @@ fn is_as_wanted(outcome: Outcome, case: Case) -> bool {
 
 fn holds<R: Wait>(rt: &R, alloc: Global, case: Case) -> Result<bool, Fail> {
     let link = link(alloc, case)?;
-    match serve(rt, alloc, sorted_hall(alloc)?, case.before, link) {
+    match serve(
+        rt,
+        alloc,
+        sorted_hall(alloc)?,
+        case.before,
+        case.returns,
+        link,
+    ) {
         Some(outcome) => Ok(is_as_wanted(outcome, case)),
         None => Err("no table".into()),
     }
 }
 
 // A session without a seat enters nothing.
-const UNSEATED: [Case; 8] = [
+const UNSEATED: [Case; 15] = [
+    Case {
+        before: &FOUR,
+        returns: 0,
+        read: &[Part(E, 1), Part(LINE_END, 1)],
+        reads: &[],
+        writes: &[],
+        ended: Ended::NotSeated(SitRefused::Full),
+        place: None,
+        written: &[Part(HELLO, 1), Part(FULL, 1)],
+        entries: 9,
+    },
+    Case {
+        before: &FOUR,
+        returns: 0,
+        read: &[Part(OTHER_KEY, 1), Part(LINE_END, 1)],
+        reads: &[],
+        writes: &[],
+        ended: Ended::NotSeated(SitRefused::WrongKey),
+        place: None,
+        written: &[Part(HELLO, 1), Part(WRONG_KEY, 1)],
+        entries: 9,
+    },
+    Case {
+        before: &FOUR,
+        returns: 0,
+        read: &[Part(D, 1), Part(LINE_END, 1)],
+        reads: &[],
+        writes: &[],
+        ended: Ended::NotSeated(SitRefused::WrongKey),
+        place: None,
+        written: &[Part(HELLO, 1), Part(WRONG_KEY, 1)],
+        entries: 9,
+    },
+    Case {
+        before: &KEYLESS,
+        returns: 0,
+        read: &[Part(A, 1), Part(LINE_END, 1)],
+        reads: &[],
+        writes: &[],
+        ended: Ended::NotSeated(SitRefused::NoKey),
+        place: None,
+        written: &[Part(HELLO, 1), Part(NO_KEY, 1)],
+        entries: 4,
+    },
+    Case {
+        before: &FOUR,
+        returns: 64,
+        read: &[Part(KEY, 1), Part(LINE_END, 1)],
+        reads: &[],
+        writes: &[],
+        ended: Ended::NotSeated(SitRefused::TooOften),
+        place: None,
+        written: &[Part(HELLO, 1), Part(TOO_OFTEN, 1)],
+        entries: 137,
+    },
     Case {
         before: &THREE,
+        returns: 0,
+        read: &[Part("{\"type\":\"join\",\"name\":\"\\\"\"}\n", 1)],
+        reads: &[],
+        writes: &[],
+        ended: Ended::NotSeated(SitRefused::BadName),
+        place: None,
+        written: &[Part(HELLO, 1), Part(NO_NAME, 1)],
+        entries: 3,
+    },
+    Case {
+        before: &THREE,
+        returns: 0,
+        read: &[Part(NAMED, 1), Part("n", 65), Part("\"}\n", 1)],
+        reads: &[],
+        writes: &[],
+        ended: Ended::NotSeated(SitRefused::BadName),
+        place: None,
+        written: &[Part(HELLO, 1), Part(NO_NAME, 1)],
+        entries: 3,
+    },
+    Case {
+        before: &THREE,
+        returns: 0,
         read: &[],
         reads: &[],
         writes: &[],
@@ -122,6 +252,7 @@ const UNSEATED: [Case; 8] = [
     },
     Case {
         before: &THREE,
+        returns: 0,
         read: &[Part(D, 1)],
         reads: &[],
         writes: &[],
@@ -132,6 +263,7 @@ const UNSEATED: [Case; 8] = [
     },
     Case {
         before: &THREE,
+        returns: 0,
         read: &[Part(D, 1), Part(LINE_END, 1)],
         reads: &[1],
         writes: &[],
@@ -142,6 +274,7 @@ const UNSEATED: [Case; 8] = [
     },
     Case {
         before: &THREE,
+        returns: 0,
         read: &[Part(D, 1), Part(LINE_END, 1)],
         reads: &[],
         writes: &[1],
@@ -152,6 +285,7 @@ const UNSEATED: [Case; 8] = [
     },
     Case {
         before: &THREE,
+        returns: 0,
         read: &[Part(" ", 4096)],
         reads: &[],
         writes: &[],
@@ -162,6 +296,7 @@ const UNSEATED: [Case; 8] = [
     },
     Case {
         before: &THREE,
+        returns: 0,
         read: &[Part("x\n", 1)],
         reads: &[],
         writes: &[],
@@ -172,6 +307,7 @@ const UNSEATED: [Case; 8] = [
     },
     Case {
         before: &THREE,
+        returns: 0,
         read: &[Part(A, 1), Part(LINE_END, 1)],
         reads: &[],
         writes: &[],
@@ -182,6 +318,7 @@ const UNSEATED: [Case; 8] = [
     },
     Case {
         before: &THREE,
+        returns: 0,
         read: &[Part(A, 1), Part(LINE_END, 1)],
         reads: &[],
         writes: &[2],
@@ -193,9 +330,44 @@ const UNSEATED: [Case; 8] = [
 ];
 
 // A session whose seat is gone at its end.
-const SEATED: [Case; 7] = [
+const SEATED: [Case; 9] = [
+    Case {
+        before: &ALONE,
+        returns: 0,
+        read: &[
+            Part(KEY, 1),
+            Part(LINE_END, 1),
+            Part("x\n", 15),
+            Part(PASS, 1),
+            Part(LINE_END, 1),
+        ],
+        reads: &[],
+        writes: &[],
+        ended: Ended::PeerEnded,
+        place: Some(8),
+        written: &[
+            Part(HELLO, 1),
+            Part(AGAIN, 1),
+            Part(START, 1),
+            Part(UNREADABLE, 15),
+            Part(DEAL, 1),
+        ],
+        entries: 26,
+    },
+    Case {
+        before: &ALONE,
+        returns: 63,
+        read: &[Part(KEY, 1), Part(LINE_END, 1)],
+        reads: &[],
+        writes: &[],
+        ended: Ended::PeerEnded,
+        place: Some(134),
+        written: &[Part(HELLO, 1), Part(AGAIN, 1), Part(START, 1)],
+        entries: 136,
+    },
     Case {
         before: &THREE,
+        returns: 0,
         read: &[Part(D, 1), Part(LINE_END, 1)],
         reads: &[],
         writes: &[],
@@ -206,6 +378,7 @@ const SEATED: [Case; 7] = [
     },
     Case {
         before: &THREE,
+        returns: 0,
         read: &[
             Part(D, 1),
             Part(" ", 4069),
@@ -221,6 +394,7 @@ const SEATED: [Case; 7] = [
     },
     Case {
         before: &THREE,
+        returns: 0,
         read: &[Part(D, 1), Part(LINE_END, 1)],
         reads: &[],
         writes: &[2],
@@ -231,6 +405,7 @@ const SEATED: [Case; 7] = [
     },
     Case {
         before: &THREE,
+        returns: 0,
         read: &[Part(D, 1), Part(LINE_END, 1), Part("x\n", 1)],
         reads: &[],
         writes: &[3],
@@ -241,6 +416,7 @@ const SEATED: [Case; 7] = [
     },
     Case {
         before: &THREE,
+        returns: 0,
         read: &[Part(D, 1), Part(LINE_END, 1), Part("x", 4096)],
         reads: &[],
         writes: &[],
@@ -251,6 +427,7 @@ const SEATED: [Case; 7] = [
     },
     Case {
         before: &THREE,
+        returns: 0,
         read: &[Part(D, 1), Part(LINE_END, 1), Part("x\n", 17)],
         reads: &[],
         writes: &[],
@@ -261,6 +438,7 @@ const SEATED: [Case; 7] = [
     },
     Case {
         before: &FOUR,
+        returns: 0,
         read: &[Part(KEY, 1), Part(LINE_END, 1)],
         reads: &[],
         writes: &[],
@@ -283,6 +461,55 @@ fn a_link_that_is_given_no_seat_enters_nothing(rt: HostRuntime) -> Result<(), Fa
 fn a_seat_is_gone_once_its_link_has_ended_the_session(rt: HostRuntime) -> Result<(), Fail> {
     for case in SEATED {
         assert!(rt; holds(&rt, rt.alloc(), case)?);
+    }
+    Ok(())
+}
+
+// What a link of many reads gives: the first one the join, and each later one a line that is refused.
+fn long_text(alloc: Global) -> Result<Vec<u8>, AllocError> {
+    let mut text = bytes_of(alloc, &[Part(KEY, 1), Part(" ", 4059), Part(LINE_END, 1)])?;
+    for _ in 0..11u32 {
+        let line = bytes_of(alloc, &[Part("x", 4095), Part(LINE_END, 1)])?;
+        text.extend_from_slice(line.as_slice())?;
+    }
+    Ok(text)
+}
+
+// Whether a link of which these reads and writes fail ends its session by that, with a front of what it is told; and whether
+// a seat that it had is taken back by its key.
+fn breaks<R: Wait>(
+    rt: &R,
+    alloc: Global,
+    reads: &[u64],
+    writes: &[u64],
+    seated: bool,
+) -> Result<bool, Fail> {
+    let link = MemLink::new(
+        long_text(alloc)?,
+        reads.to_vec(alloc)?,
+        writes.to_vec(alloc)?,
+    );
+    let whole = bytes_of(
+        alloc,
+        &[Part(HELLO, 1), Part(START, 1), Part(UNREADABLE, 11)],
+    )?;
+    match serve(rt, alloc, sorted_hall(alloc)?, &THREE, 0, link) {
+        Some(outcome) => Ok(
+            outcome.served.ended == Ended::LinkFault
+                && outcome.served.place.is_some() == seated
+                && whole.as_slice().starts_with(outcome.link.written())
+                && outcome.taken,
+        ),
+        None => Err("no table".into()),
+    }
+}
+
+#[test]
+fn a_seat_outlives_the_link_that_fails_at_any_read_or_write(rt: HostRuntime) -> Result<(), Fail> {
+    let alloc = rt.alloc();
+    for k in 1..13u64 {
+        assert!(rt; breaks(&rt, alloc, &[k], &[], k > 1)?);
+        assert!(rt; breaks(&rt, alloc, &[], &[k], k > 1)?);
     }
     Ok(())
 }

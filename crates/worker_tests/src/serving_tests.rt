@@ -7,8 +7,8 @@ use crate::lines::HELLO;
 use crate::meeting::{Meeting, MeetingHost, Sign};
 use crate::patient::{PatientClock, PatientHost};
 use crate::player::{A, B, C, D, KEY};
-use mj_front::{Status, is_for_waiting, run, run_alone};
-use mj_links::{Clock, Host, MemClock, MemLink, MemSink, MemSource};
+use mj_front::{Status, exit_code, is_for_waiting, run, run_alone, status_text};
+use mj_links::{Clock, Host, MemClock, MemHost, MemLink, MemSink, MemSource};
 use std::alloc::{AllocError, Global};
 use std::sync::Wait;
 use std::sync::atomic::AtomicU32;
@@ -85,17 +85,66 @@ fn are_told(returned: &[(MemLink, u64)]) -> bool {
     all
 }
 
-#[test]
-fn four_players_that_leave_are_served_a_game(rt: HostRuntime) -> Result<(), Fail> {
-    let alloc = rt.alloc();
-    let mut host = host(alloc, &[A, B, C, D], 0)?;
+// Whether four players that leave are served a game by a host whose accept of this number fails.
+fn serves_four<R: Threads + Wait + Sync>(rt: &R, alloc: Global, fails: u64) -> Result<bool, Fail> {
+    let mut host = host(alloc, &[A, B, C, D], fails)?;
     let mut sink = MemSink::new(Vec::new(alloc));
     let mut clock = MemClock::new(0, 1000);
-    let status = serve(&rt, alloc, &mut host, &mut clock, &mut sink)?;
-    assert!(rt; status == Status::Done && host.ports() == [11600].as_slice());
-    assert!(rt; are_told(host.returned()));
+    let status = serve(rt, alloc, &mut host, &mut clock, &mut sink)?;
     let record = sink.written();
-    assert!(rt; is_good(alloc, record)? && is_ended(record));
+    Ok(
+        status == Status::Done
+            && host.ports() == [11600].as_slice()
+            && are_told(host.returned())
+            && is_good(alloc, record)?
+            && is_ended(record),
+    )
+}
+
+#[test]
+fn four_players_that_leave_are_served_a_game(rt: HostRuntime) -> Result<(), Fail> {
+    assert!(rt; serves_four(&rt, rt.alloc(), 0)?);
+    Ok(())
+}
+
+#[test]
+fn seven_workers_are_enough(rt: HostRuntime) -> Result<(), Fail> {
+    assert!(rt; serves_four(&rt, rt.alloc(), 3)?);
+    Ok(())
+}
+
+// What is written by a host that serves nobody, whose `open` fails or whose accepts of these numbers do.
+fn written_without_players<R: Threads + Wait + Sync>(
+    rt: &R,
+    alloc: Global,
+    open_fails: bool,
+    accepts: &[u64],
+) -> Result<MemSink, Fail> {
+    let mut host = MemHost::new(Vec::new(alloc), open_fails, accepts.to_vec(alloc)?);
+    let mut sink = MemSink::new(Vec::new(alloc));
+    let mut clock = MemClock::new(0, 1000);
+    let status = serve(rt, alloc, &mut host, &mut clock, &mut sink)?;
+    if exit_code(&status) != 8
+        || status_text(alloc, &status)?.as_slice() != b"host fault\n".as_slice()
+    {
+        return Err("no fault of the host".into());
+    }
+    Ok(sink)
+}
+
+#[test]
+fn a_host_that_fails_everybody_leaves_the_walls(rt: HostRuntime) -> Result<(), Fail> {
+    let alloc = rt.alloc();
+    let sink = written_without_players(&rt, alloc, false, &[1, 2, 3, 4, 5, 6, 7, 8])?;
+    let lines = sink.written().iter().filter(|byte| **byte == b'\n').count();
+    assert!(rt; lines == 201 && is_good(alloc, sink.written())?);
+    Ok(())
+}
+
+#[test]
+fn nothing_is_written_where_the_port_is_not_opened(rt: HostRuntime) -> Result<(), Fail> {
+    let sink = written_without_players(&rt, rt.alloc(), true, &[])?;
+    assert!(rt; sink.written().is_empty());
     Ok(())
 }
 

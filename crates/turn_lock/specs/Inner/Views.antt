@@ -101,6 +101,6 @@ at_rest setting p = (view Idle (own_of p.number setting p.seen ∷ []), [])
 abbrev pub turn_state : {T : Type 0} → TableId → Start T → TurnState T
 turn_state id start = record { id = id; opening = start.value.value; passes = start.passes }
 
--- The table of a turn has two words and a slot, and there are passes.
+-- The table of a turn has three words and a slot, and there are passes.
 abbrev pub IsTurn : {T : Type 0} → TableId → Start T → Type 0
-IsTurn id start = (id.words ≡ 2) × (id.slots ≡ 1) × (0 < start.passes)
+IsTurn id start = (id.words ≡ 3) × (id.slots ≡ 1) × (0 < start.passes)

@@ -10,5 +10,5 @@ returns-clause-asks g c =
     let call = c.call_of-call.result in
     let finds = subst (λ t. Finds call (g.T.Seated.after (g.T.Seated.setting t) (g.T.Seated.history t))) c.value.ensures.shows c.call_of-call.ensures.finds in
     let there = subst (λ o. Finds call (g.T.Seated.after o (g.T.Seated.history c.take-held.result))) c.take-held.ensures.setting finds in
-    subst (λ l. Asks call (g.T.Seated.after s) l) (sym (ap (λ p. p.seen) c.give.ensures ∙ ap g.T.Seated.history (c.call_of-call.ensures.same ∙ c.value.ensures.shows)))
+    subst (λ l. Asks call (g.T.Seated.after s) l) (sym (ap (λ p. p.seen) c.give_unchanged.ensures ∙ ap g.T.Seated.history (c.call_of-call.ensures.same ∙ c.value.ensures.shows)))
     (asks_of (g.T.Seated.after s) (g.T.Seated.is_legal s) (laws.legal_before s) (laws.stays s) call (g.T.Seated.history c.take-held.result) c.take-held.ensures.legal there)
