@@ -116,6 +116,7 @@ module _ {A R D : Type 0} (told : D → Option Bytes) (may_leave : D → Bytes �
 
   pub untouched_after : (fs : List (Entry A)) → fs ≡ es → After told may_leave game disk disk es end fs end
   untouched_after fs same = record {
+    on = λ bytes is. (bytes, is);
     tells = λ tag opened bytes is. opened bytes is ∙ ap (λ (l : List (Entry A)). Open l end) (sym same);
     leaves = λ tag bytes is opened image left. ap (opens game tag) (rest.kept bytes is image left) ∙ opened ∙ ap (λ (l : List (Entry A)). Open l end) (sym same);
   }
@@ -132,6 +133,7 @@ module _ {A R D : Type 0} (told : D → Option Bytes) (may_leave : D → Bytes �
 
     pub added_after : After told may_leave game disk new es end fs place
     added_after = record {
+      on = λ bytes is. told_before (told new) (told disk) _ _ (sym added) bytes is;
       tells = λ tag opened bytes is.
           let was = told_before (told disk) (told new) _ _ added bytes is in
           added_leaves tag was.0 was.1 (opened was.0 was.1) bytes (as_read bytes is);

@@ -83,7 +83,12 @@ AnyMoment told moment left_since game entries end call old new =
     (tag bytes : List ℕ) → told old ≡ Some bytes → opens game tag bytes ≡ Open entries end
     → LeavesOnly moment left_since old new (λ image. OpensTo (opens game tag) entries image ⊎ OpensWith (opens game tag) entries (entered game entries call) image)
 
+-- A disk that told its bytes goes on to tell them.
+abbrev pub TellsOn : Option (List ℕ) → Option (List ℕ) → Type 0
+TellsOn old new = (bytes : List ℕ) → old ≡ Some bytes → (now : List ℕ) × (new ≡ Some now)
+
 -- Once the call is answered, the disk as it reads opens to the entries of the game, and so does each image that a crash may leave.
 pub record After {A R D : Type 0} (told : D → Option (List ℕ)) (may_leave : D → List ℕ → Type 0) (game : Play A R) (old new : D) (before : List (Entry A)) (start : ℕ) (entries : List (Entry A)) (end : ℕ) : Type 0 where
+  pub on : TellsOn (told old) (told new)
   pub tells : (tag : List ℕ) → TellsGame (opens game tag) (told old) before start → TellsGame (opens game tag) (told new) entries end
   pub leaves : (tag bytes : List ℕ) → told old ≡ Some bytes → opens game tag bytes ≡ Open before start → (image : List ℕ) → may_leave new image → opens game tag image ≡ Open entries end

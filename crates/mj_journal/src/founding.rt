@@ -1,11 +1,12 @@
 //! A new journal.
 
-ghost use Rattle.std.specs.Prelude.{◌≡◌, ◌≤◌, ◌<◌, ◌+◌, ◌∷◌, [], true, ℕ, List, length, Some, None, IfOk, IfErr, IfSome, OnOk, option_map};
+ghost use Rattle.std.specs.Prelude.{◌≡◌, ◌≤◌, ◌<◌, ◌^◌, ◌+◌, ◌∷◌, [], true, ℕ, List, length, Some, None, IfOk, IfErr, IfSome, OnOk, option_map};
 ghost use Rattle.mj_journal.specs.Disks.{LeavesOnly, Only, CountsSyncFault};
 ghost use Rattle.mj_journal.specs.Heads.{HasSize};
 ghost use Rattle.mj_journal.specs.Journals.{journal, IsAtRest, IsJournalOf};
 ghost use Rattle.mj_journal.specs.Openings.{is_fresh, IsNewOrTag};
 ghost use Rattle.mj_journal.specs.Founding.{IsFromOutside};
+ghost use Rattle.mj_journal.specs.Keeping.{TellsOn};
 ghost use Rattle.mj_journal.specs.Replays.{CountsOpeningFault};
 ghost use Rattle.mj_journal.specs.declared.disk.Synced.TheVariants.{Done};
 
@@ -24,13 +25,14 @@ pub(crate) fn found<D: Disk>(
     disk: &mut D,
     size: u64,
 ) -> Result<u64, NotOpened>
-    requires short { length tag.now ≤ 1000000 }
+    requires short { length tag.now < 2 ^ 32 }
     requires size { HasSize (D.told disk.old) size }
     requires fresh { (bytes : List ℕ) → D.told disk.old ≡ Some bytes → is_fresh bytes ≡ true }
     requires kept { (bytes : List ℕ) → D.told disk.old ≡ Some bytes
         → Only bytes (D.may_leave disk.old) }
     ensures end { IfOk result (λ end. end ≡ length tag.now + 5) }
     ensures rest { IfOk result (λ end. IsAtRest (D.told disk.new) (D.may_leave disk.new) end) }
+    ensures on { OnOk result (TellsOn (D.told disk.old) (D.told disk.new)) }
     ensures tells { OnOk result ((bytes : List ℕ) → D.told disk.new ≡ Some bytes
         → IsJournalOf (tag.now ∷ []) bytes) }
     ensures leaves { OnOk result ((bytes : List ℕ) → D.told disk.old ≡ Some bytes

@@ -1,10 +1,10 @@
 //! A journal that is opened.
 
-ghost use Rattle.std.specs.Prelude.{◌≡◌, ◌≤◌, ◌<◌, ◌+◌, ◌∷◌, ◌^◌, [], true, false, ℕ, List, length, bytes_eq, Some, None, IfOk, IfSome};
+ghost use Rattle.std.specs.Prelude.{◌≡◌, ◌≤◌, ◌<◌, ◌+◌, ◌∷◌, ◌^◌, [], true, false, ℕ, List, length, bytes_eq, Some, None, IfOk, OnOk, IfSome};
 ghost use Rattle.mj_journal.specs.Disks.{LeavesOnly, Only};
 ghost use Rattle.mj_journal.specs.Heads.{HasSize};
 ghost use Rattle.mj_journal.specs.Journals.{IsAtRest};
-ghost use Rattle.mj_journal.specs.Keeping.{game_of, end_of, IfKept, TellsGame};
+ghost use Rattle.mj_journal.specs.Keeping.{game_of, end_of, IfKept, TellsGame, TellsOn};
 ghost use Rattle.mj_journal.specs.Looking.{OnlyLooks};
 ghost use Rattle.mj_journal.specs.Openings.{Open, is_fresh, IsNewOrTag};
 ghost use Rattle.mj_journal.specs.Playing.{play, opens};
@@ -23,8 +23,8 @@ use mj_ports::Seated;
 use std::alloc::Global;
 
 impl<G: Seated> Kept<G> {
-    /// Opens the journal of a game. A new journal gets the tag, of 1 to 1,000,000 bytes, as its first record, and the game
-    /// has no entries. Any other isn't written to, and the game gets the entries that it keeps. The game that is given has
+    /// Opens the journal of a game. A new journal gets the tag, of at least one byte and fewer than 2^32, as its first record,
+    /// and the game has no entries. Any other isn't written to, and the game gets the entries that it keeps. The game that is given has
     /// none; where the journal isn't opened it is dropped.
     pub fn open<D: Disk>(
         alloc: Global,
@@ -34,7 +34,7 @@ impl<G: Seated> Kept<G> {
     ) -> Result<Kept<G>, NotOpened>
         requires none { G.history game ≡ [] }
         requires some { 0 < length tag.now }
-        requires short { length tag.now ≤ 1000000 }
+        requires short { length tag.now < 2 ^ 32 }
 
         ensures game { IfOk result (λ kept. IsInPlay G.setting (G.setting game) (game_of kept)) }
 
@@ -48,6 +48,7 @@ impl<G: Seated> Kept<G> {
             IsAtRest (D.told disk.new) (D.may_leave disk.new) (end_of kept)) }
 
         // The disk as it reads then opens to the entries of the game, and so does each image that a crash may leave.
+        ensures on { OnOk result (TellsOn (D.told disk.old) (D.told disk.new)) }
         ensures tells { IfOk result (λ kept. IfKept (game_of kept) (λ g. TellsGame
             (opens (play G.after G.sits G.hears G.expires G.reads G.joins (G.setting game)) tag.now)
             (D.told disk.new) (G.history g) (end_of kept))) }
@@ -84,12 +85,13 @@ fn open_entries<G: Seated, D: Disk>(
     disk: &mut D,
 ) -> Result<u64, NotOpened>
     requires none { G.history game.old ≡ [] }
-    requires short { length tag.now ≤ 1000000 }
+    requires short { length tag.now < 2 ^ 32 }
     ensures setting { G.setting game.new ≡ G.setting game.old }
     ensures opened { (bytes : List ℕ) → D.told disk.old ≡ Some bytes → EndsAs result
         (opens (play G.after G.sits G.hears G.expires G.reads G.joins (G.setting game.old)) tag.now bytes)
         (G.history game.new) }
     ensures rest { IfOk result (λ end. IsAtRest (D.told disk.new) (D.may_leave disk.new) end) }
+    ensures on { OnOk result (TellsOn (D.told disk.old) (D.told disk.new)) }
     ensures tells { IfOk result (λ end. TellsGame
         (opens (play G.after G.sits G.hears G.expires G.reads G.joins (G.setting game.old)) tag.now)
         (D.told disk.new) (G.history game.new) end) }
