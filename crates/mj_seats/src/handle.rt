@@ -283,12 +283,7 @@ fn call_of<T: SharedGame>(table: &mut T) -> Call
 }
 
 // Keeps the fault by which the host failed the handler, and says whether the game is over.
-fn lose<T: SharedGame, R: Wait>(
-    turn: &Turn<T>,
-    rt: &R,
-    pass: &mut Pass<T>,
-    fault: T::Fault,
-) -> bool
+fn lose<T: SharedGame, R: Wait>(turn: &Turn<T>, rt: &R, pass: &mut Pass<T>, fault: T::Fault) -> bool
     requires { IsIdle T.Noted.setting turn.now pass.old }
     ensures idle { IsIdle T.Noted.setting turn.now pass.new × (pass.new.number ≡ pass.old.number) }
     ensures nothing { Enters pass.old.number pass.old.seen pass.new.seen [] }
