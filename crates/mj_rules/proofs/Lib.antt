@@ -29,3 +29,4 @@ pub mod Shares
 pub mod Precedence
 pub mod Paid
 pub mod Said
+pub mod Accepted

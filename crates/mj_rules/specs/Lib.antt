@@ -9,3 +9,4 @@ pub mod Draws
 pub mod Precedence
 pub mod Paid
 pub mod Said
+pub mod Accepted

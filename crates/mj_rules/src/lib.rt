@@ -2,6 +2,7 @@
 //! played. Nothing here runs: the functions are the places where the laws are stated.
 #![tactic(auto)]
 
+ghost use Rattle.mj_rules.specs.Accepted.{AcceptedOfDiscard};
 ghost use Rattle.mj_rules.specs.Laws.{EachIsWall, PlayedWithOneMore, PlayedWithoutTheLast, PlayedDeedsFit, NextOfPlayedFits, SomeDeedFollows, SomeDiscardIsLawful, FittingDefaultIsLawful, PlayedDefaultIsLawful, TotalStays, FewDeeds, FewDraws};
 ghost use Rattle.mj_rules.specs.Paid.{LawfulWinsAreWorth, FirstRonIsPaid, FurtherRonsArePaid, OwnWinIsPaid};
 ghost use Rattle.mj_rules.specs.Precedence.{AllWinsCome, OnePonOrKan, OneChi, PonOrKanComes, ChiComes, NothingIsCalled, KeptCallComes};
@@ -102,4 +103,10 @@ pub fn points_are_read()
 /// seat.
 pub fn few_draws()
     ensures { FewDraws }
+{}
+
+/// A reach is accepted right behind a discard of its own seat, which stands right behind its own reach: that discard is what it
+/// comes of.
+pub fn reaches_are_accepted()
+    ensures { AcceptedOfDiscard }
 {}
