@@ -30,3 +30,4 @@ pub mod Precedence
 pub mod Paid
 pub mod Said
 pub mod Accepted
+pub mod Hands

@@ -10,3 +10,4 @@ pub mod Precedence
 pub mod Paid
 pub mod Said
 pub mod Accepted
+pub mod Hands

@@ -3,6 +3,7 @@
 #![tactic(auto)]
 
 ghost use Rattle.mj_rules.specs.Accepted.{AcceptedOfDiscard};
+ghost use Rattle.mj_rules.specs.Hands.{CompleteIsFound, WaitsAreFound, ReadyIsFound, ReadingsAreFound, WorthIsFound};
 ghost use Rattle.mj_rules.specs.Laws.{EachIsWall, PlayedWithOneMore, PlayedWithoutTheLast, PlayedDeedsFit, NextOfPlayedFits, SomeDeedFollows, SomeDiscardIsLawful, FittingDefaultIsLawful, PlayedDefaultIsLawful, TotalStays, FewDeeds, FewDraws};
 ghost use Rattle.mj_rules.specs.Paid.{LawfulWinsAreWorth, FirstRonIsPaid, FurtherRonsArePaid, OwnWinIsPaid};
 ghost use Rattle.mj_rules.specs.Precedence.{AllWinsCome, OnePonOrKan, OneChi, PonOrKanComes, ChiComes, NothingIsCalled, KeptCallComes};
@@ -109,4 +110,15 @@ pub fn few_draws()
 /// comes of.
 pub fn reaches_are_accepted()
     ensures { AcceptedOfDiscard }
+{}
+
+/// For all counts of a hand, what is found by a walk over them is what the sentences on hands say: that the hand is complete, that
+/// a kind is a wait, that the hand is ready, all of its readings and no others, and what it is worth: the greatest score of those
+/// that have a yaku.
+pub fn walks_find_hands()
+    ensures complete { CompleteIsFound }
+    ensures waits { WaitsAreFound }
+    ensures ready { ReadyIsFound }
+    ensures readings { ReadingsAreFound }
+    ensures worth { WorthIsFound }
 {}
