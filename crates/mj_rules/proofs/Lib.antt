@@ -31,3 +31,4 @@ pub mod Paid
 pub mod Said
 pub mod Accepted
 pub mod Hands
+pub mod Greatest

@@ -3,7 +3,7 @@
 #![tactic(auto)]
 
 ghost use Rattle.mj_rules.specs.Accepted.{AcceptedOfDiscard};
-ghost use Rattle.mj_rules.specs.Hands.{CompleteIsFound, WaitsAreFound, ReadyIsFound, ReadingsAreFound, WorthIsFound};
+ghost use Rattle.mj_rules.specs.Hands.{CompleteIsFound, WaitsAreFound, ReadyIsFound, ReadingsAreFound, WorthIsFound, LawfulWinsAreGreatest};
 ghost use Rattle.mj_rules.specs.Laws.{EachIsWall, PlayedWithOneMore, PlayedWithoutTheLast, PlayedDeedsFit, NextOfPlayedFits, SomeDeedFollows, SomeDiscardIsLawful, FittingDefaultIsLawful, PlayedDefaultIsLawful, TotalStays, FewDeeds, FewDraws};
 ghost use Rattle.mj_rules.specs.Paid.{LawfulWinsAreWorth, FirstRonIsPaid, FurtherRonsArePaid, OwnWinIsPaid};
 ghost use Rattle.mj_rules.specs.Precedence.{AllWinsCome, OnePonOrKan, OneChi, PonOrKanComes, ChiComes, NothingIsCalled, KeptCallComes};
@@ -121,4 +121,10 @@ pub fn walks_find_hands()
     ensures ready { ReadyIsFound }
     ensures readings { ReadingsAreFound }
     ensures worth { WorthIsFound }
+{}
+
+/// A lawful win, where nobody has won in the hand yet, is of a complete hand, and worth the greatest score of the readings of its
+/// tiles that have a yaku.
+pub fn lawful_wins_are_greatest()
+    ensures { LawfulWinsAreGreatest }
 {}
