@@ -22,10 +22,10 @@ waits_are_found counts room melds kind are few = (
   λ test.
       let parts = and_parts (ltb (get_or counts kind 0) (get_or room kind 0)) (complete (one_more counts kind) melds) test in
       let held = ltb-true (get_or counts kind 0) (get_or room kind 0) parts.0 in
-      (held, complete-are (one_more counts kind) melds (counts-one_more counts kind are (below (get_or counts kind 0) (get_or room kind 0) held (few kind))) parts.1),
+      (held, complete-are (one_more counts kind) melds (counts-one_more counts kind are (below (get_or counts kind 0) (get_or room kind 0) held few)) parts.1),
   λ wait.
       and_from (ltb (get_or counts kind 0) (get_or room kind 0)) (complete (one_more counts kind) melds) (lt-ltb (get_or counts kind 0) (get_or room kind 0) wait.0)
-      (are-complete (one_more counts kind) melds (counts-one_more counts kind are (below (get_or counts kind 0) (get_or room kind 0) wait.0 (few kind))) wait.1),
+      (are-complete (one_more counts kind) melds (counts-one_more counts kind are (below (get_or counts kind 0) (get_or room kind 0) wait.0 few)) wait.1),
 )
   where
     below : (held room : ℕ) → held < room → room ≤ 4 → held < 4
@@ -54,12 +54,12 @@ pub ready_is_found : ReadyIsFound
 unfolding is_ready Finds
 ready_is_found counts room melds are few = (
   λ test. found test (finds (is_wait counts room melds) 34),
-  λ some. any_kind (is_wait counts room melds) some.0 some.1.0 ((waits_are_found counts room melds some.0 are few).1 some.1.1),
+  λ some. any_kind (is_wait counts room melds) some.0 some.1.0 ((waits_are_found counts room melds some.0 are (few some.0)).1 some.1.1),
 )
   where
     found : list_any (is_wait counts room melds) all_kinds ≡ true → ((k : ℕ) × ((k < 34) × (is_wait counts room melds k ≡ true))) ⊎ ((k : ℕ) → k < 34 → is_wait counts room melds k ≡ false) →
         (kind : ℕ) × ((kind < 34) × IsWait counts room melds kind)
-    found test (inl some) = (some.0, (some.1.0, (waits_are_found counts room melds some.0 are few).0 some.1.1))
+    found test (inl some) = (some.0, (some.1.0, (waits_are_found counts room melds some.0 are (few some.0)).0 some.1.1))
     found test (inr none) = absurd (false≢true (sym (no_kind (is_wait counts room melds) none) ∙ test))
 
 pub readings_are_found : ReadingsAreFound

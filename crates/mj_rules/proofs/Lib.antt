@@ -32,3 +32,4 @@ pub mod Said
 pub mod Accepted
 pub mod Hands
 pub mod Greatest
+pub mod HandRules

@@ -3,7 +3,7 @@
 #![tactic(auto)]
 
 ghost use Rattle.mj_rules.specs.Accepted.{AcceptedOfDiscard};
-ghost use Rattle.mj_rules.specs.Hands.{CompleteIsFound, WaitsAreFound, ReadyIsFound, ReadingsAreFound, WorthIsFound, LawfulWinsAreGreatest};
+ghost use Rattle.mj_rules.specs.Hands.{CompleteIsFound, WaitsAreFound, ReadyIsFound, ReadingsAreFound, WorthIsFound, KansAreFound, SeatWaitsAreFound, NoYakuIsFound, LawfulWinsAreGreatest};
 ghost use Rattle.mj_rules.specs.Laws.{EachIsWall, PlayedWithOneMore, PlayedWithoutTheLast, PlayedDeedsFit, NextOfPlayedFits, SomeDeedFollows, SomeDiscardIsLawful, FittingDefaultIsLawful, PlayedDefaultIsLawful, TotalStays, FewDeeds, FewDraws};
 ghost use Rattle.mj_rules.specs.Paid.{LawfulWinsAreWorth, FirstRonIsPaid, FurtherRonsArePaid, OwnWinIsPaid};
 ghost use Rattle.mj_rules.specs.Precedence.{AllWinsCome, OnePonOrKan, OneChi, PonOrKanComes, ChiComes, NothingIsCalled, KeptCallComes};
@@ -127,4 +127,13 @@ pub fn walks_find_hands()
 /// tiles that have a yaku.
 pub fn lawful_wins_are_greatest()
     ensures { LawfulWinsAreGreatest }
+{}
+
+/// The rules that look at a whole hand, for all counts: a concealed kan in riichi is found lawful exactly where it leaves the waits
+/// and how the hand reads, the kinds that a seat may miss are exactly its waits, and a win is found to have no yaku exactly where no
+/// reading has one.
+pub fn rules_go_by_hands()
+    ensures kan { KansAreFound }
+    ensures waits { SeatWaitsAreFound }
+    ensures yaku { NoYakuIsFound }
 {}
