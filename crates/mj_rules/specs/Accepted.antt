@@ -19,6 +19,7 @@ pub record IsDiscardOfReach (deeds : List Deed) (who tile : ℕ) (drawn : Bool) 
 -- In played deeds an accepted reach comes of a discard, that of its own seat right behind its own reach.
 abbrev pub AcceptedOfDiscard : Type 0
 AcceptedOfDiscard =
-    (rules : Rules) (walls : List (List ℕ)) (deeds : List Deed) (who : ℕ) (points : List ℤ) (bid : Bid) → ((number : ℕ) → is_wall rules.red (wall_of walls number) ≡ true) →
-    IsPlayed rules walls (deeds ++ ReachAccepted who points bid ∷ []) →
-    (tile : ℕ) × (drawn : Bool) × IsDiscardOfReach deeds who tile drawn × (cause (deeds ++ ReachAccepted who points bid ∷ []) ≡ Some (Discard who tile drawn))
+    (rules : Rules) (walls : List (List ℕ)) (deeds : List Deed) (who : ℕ) (points : List ℤ) (bid : Bid) →
+    ((number : ℕ) → is_wall rules.red (wall_of walls number) ≡ true) → IsPlayed rules walls (deeds ++ ReachAccepted who points bid ∷ []) →
+    (tile : ℕ) × (drawn : Bool) × IsDiscardOfReach deeds who tile drawn ×
+    (cause (deeds ++ ReachAccepted who points bid ∷ []) ≡ Some (Discard who tile drawn))
