@@ -11,7 +11,6 @@ use Rattle.mj_ports.specs.Names.{is_name}
 use Rattle.mj_deeds.specs.declared.answer.Answer.{Answer}
 use Rattle.mj_deeds.specs.declared.answer.Answer.TheVariants.{Unread, Pass, Discard, Chi, Pon}
 use Rattle.mj_deeds.specs.declared.answer.Pai.TheVariants.{Known}
-use Rattle.mj_deeds.specs.declared.deed.Deed.{Deed}
 use Rattle.mj_deeds.specs.Facts.{tiles_gained}
 use Rattle.mj_calls.specs.Shapes.{is_run_of}
 use Rattle.mj_calls.specs.Bans.{run_kinds, banned_by_chi}
@@ -163,108 +162,88 @@ second_other = record {
 }
 
 first_permitted : all_permitted first.setting before_all first.entries ≡ true
-unfolding own_part after_said after_gone after_back step next_deed can_sit can_return may_say can_expire default_by broken_by outcome hand_start view_of hand is_name in_tile_order less tile_order next_draw best_bid has_nothing_else banned_by_chi is_run_of run_kinds all_kinds chars is_utf8 lib.Utf8.encode
+unfolding own_part after_said after_gone after_back step next_deed can_sit can_return may_say can_expire default_by broken_by
+    outcome hand_start view_of hand is_name in_tile_order less tile_order next_draw best_bid has_nothing_else banned_by_chi
+    is_run_of run_kinds all_kinds chars is_utf8 lib.Utf8.encode
 first_permitted = refl
 
 first_other_permitted : all_permitted first_other.setting before_all first_other.entries ≡ true
-unfolding own_part after_said after_gone after_back step next_deed can_sit can_return may_say can_expire default_by broken_by outcome hand_start view_of hand is_name in_tile_order less tile_order next_draw best_bid has_nothing_else banned_by_chi is_run_of run_kinds all_kinds chars is_utf8 lib.Utf8.encode
+unfolding own_part after_said after_gone after_back step next_deed can_sit can_return may_say can_expire default_by broken_by
+    outcome hand_start view_of hand is_name in_tile_order less tile_order next_draw best_bid has_nothing_else banned_by_chi
+    is_run_of run_kinds all_kinds chars is_utf8 lib.Utf8.encode
 first_other_permitted = refl
 
 second_permitted : all_permitted second.setting before_all second.entries ≡ true
-unfolding own_part after_said after_gone after_back step next_deed can_sit can_return may_say can_expire default_by broken_by outcome hand_start view_of hand is_name in_tile_order less tile_order next_draw best_bid has_nothing_else banned_by_chi is_run_of run_kinds all_kinds chars is_utf8 lib.Utf8.encode
+unfolding own_part after_said after_gone after_back step next_deed can_sit can_return may_say can_expire default_by broken_by
+    outcome hand_start view_of hand is_name in_tile_order less tile_order next_draw best_bid has_nothing_else banned_by_chi
+    is_run_of run_kinds all_kinds chars is_utf8 lib.Utf8.encode
 second_permitted = refl
 
 second_other_permitted : all_permitted second_other.setting before_all second_other.entries ≡ true
-unfolding own_part after_said after_gone after_back step next_deed can_sit can_return may_say can_expire default_by broken_by outcome hand_start view_of hand is_name in_tile_order less tile_order next_draw best_bid has_nothing_else banned_by_chi is_run_of run_kinds all_kinds chars is_utf8 lib.Utf8.encode
+unfolding own_part after_said after_gone after_back step next_deed can_sit can_return may_say can_expire default_by broken_by
+    outcome hand_start view_of hand is_name in_tile_order less tile_order next_draw best_bid has_nothing_else banned_by_chi
+    is_run_of run_kinds all_kinds chars is_utf8 lib.Utf8.encode
 second_other_permitted = refl
 
 same_trace_0 : trace 0 first.setting first.entries ≡ trace 0 first_other.setting first_other.entries
-unfolding own_part after_said after_gone after_back step next_deed can_sit can_return may_say can_expire default_by broken_by outcome hand_start view_of hand in_tile_order less tile_order next_draw best_bid has_nothing_else banned_by_chi is_run_of run_kinds all_kinds
+unfolding own_part after_said after_gone after_back step next_deed can_sit can_return may_say can_expire default_by broken_by
+    outcome hand_start view_of hand in_tile_order less tile_order next_draw best_bid has_nothing_else banned_by_chi is_run_of
+    run_kinds all_kinds
 same_trace_0 = refl
 
 same_trace_1 : trace 1 second.setting second.entries ≡ trace 1 second_other.setting second_other.entries
-unfolding own_part after_said after_gone after_back step next_deed can_sit can_return may_say can_expire default_by broken_by outcome hand_start view_of hand in_tile_order less tile_order next_draw best_bid has_nothing_else banned_by_chi is_run_of run_kinds all_kinds
+unfolding own_part after_said after_gone after_back step next_deed can_sit can_return may_say can_expire default_by broken_by
+    outcome hand_start view_of hand in_tile_order less tile_order next_draw best_bid has_nothing_else banned_by_chi is_run_of
+    run_kinds all_kinds
 same_trace_1 = refl
 
 same_trace_2 : trace 2 second.setting second.entries ≡ trace 2 second_other.setting second_other.entries
-unfolding own_part after_said after_gone after_back step next_deed can_sit can_return may_say can_expire default_by broken_by outcome hand_start view_of hand in_tile_order less tile_order next_draw best_bid has_nothing_else banned_by_chi is_run_of run_kinds all_kinds
+unfolding own_part after_said after_gone after_back step next_deed can_sit can_return may_say can_expire default_by broken_by
+    outcome hand_start view_of hand in_tile_order less tile_order next_draw best_bid has_nothing_else banned_by_chi is_run_of
+    run_kinds all_kinds
 same_trace_2 = refl
 
 same_trace_3 : trace 3 second.setting second.entries ≡ trace 3 second_other.setting second_other.entries
-unfolding own_part after_said after_gone after_back step next_deed can_sit can_return may_say can_expire default_by broken_by outcome hand_start view_of hand in_tile_order less tile_order next_draw best_bid has_nothing_else banned_by_chi is_run_of run_kinds all_kinds
+unfolding own_part after_said after_gone after_back step next_deed can_sit can_return may_say can_expire default_by broken_by
+    outcome hand_start view_of hand in_tile_order less tile_order next_draw best_bid has_nothing_else banned_by_chi is_run_of
+    run_kinds all_kinds
 same_trace_3 = refl
 
 -- What differs by a test differs.
 differ : {A : Type 0} (test : A → Bool) (a b : A) → test a ≡ true → test b ≡ false → a ≢ b
 differ test a b h k e = true≢false (sym h ∙ ap test e ∙ k)
 
--- How many tiles of a kind a seat is given.
-given_of : ℕ → ℕ → List Deed → ℕ
-given_of seat kind ds = number_in (tiles_gained ds seat) kind
+-- Of a game the tiles that are drawn, the seats of refused answers and those of taken bids, and how many tiles of a kind a seat is
+-- given.
+abbrev Facts : Type 0
+Facts = List ℕ × (List ℕ × (List ℕ × ℕ))
 
-first_given : given_of 1 3 (after first.setting first.entries).deeds ≡ 3
-unfolding given_of own_part after_said after_gone after_back step next_deed can_sit can_return may_say can_expire default_by broken_by outcome hand_start view_of hand in_tile_order less tile_order next_draw best_bid has_nothing_else banned_by_chi is_run_of run_kinds all_kinds
-first_given = refl
+abbrev facts_of : ℕ → ℕ → Game → Facts
+facts_of seat kind game = (tiles_drawn game, (refusals game, (bids game, number_in (tiles_gained (after game.setting game.entries).deeds seat) kind)))
 
-first_other_given : given_of 1 3 (after first_other.setting first_other.entries).deeds ≡ 0
-unfolding given_of own_part after_said after_gone after_back step next_deed can_sit can_return may_say can_expire default_by broken_by outcome hand_start view_of hand in_tile_order less tile_order next_draw best_bid has_nothing_else banned_by_chi is_run_of run_kinds all_kinds
-first_other_given = refl
+first_facts : facts_of 1 3 first ≡ (13 ∷ 13 ∷ [], ([], (3 ∷ [], 3)))
+unfolding own_part after_said after_gone after_back step next_deed can_sit can_return may_say can_expire default_by broken_by
+    outcome hand_start view_of hand in_tile_order less tile_order next_draw best_bid has_nothing_else banned_by_chi is_run_of
+    run_kinds all_kinds
+first_facts = refl
 
-second_given : given_of 0 2 (after second.setting second.entries).deeds ≡ 4
-unfolding given_of own_part after_said after_gone after_back step next_deed can_sit can_return may_say can_expire default_by broken_by outcome hand_start view_of hand in_tile_order less tile_order next_draw best_bid has_nothing_else banned_by_chi is_run_of run_kinds all_kinds
-second_given = refl
+first_other_facts : facts_of 1 3 first_other ≡ (13 ∷ 14 ∷ [], (1 ∷ [], (3 ∷ 2 ∷ [], 0)))
+unfolding own_part after_said after_gone after_back step next_deed can_sit can_return may_say can_expire default_by broken_by
+    outcome hand_start view_of hand in_tile_order less tile_order next_draw best_bid has_nothing_else banned_by_chi is_run_of
+    run_kinds all_kinds
+first_other_facts = refl
 
-second_other_given : given_of 0 2 (after second_other.setting second_other.entries).deeds ≡ 2
-unfolding given_of own_part after_said after_gone after_back step next_deed can_sit can_return may_say can_expire default_by broken_by outcome hand_start view_of hand in_tile_order less tile_order next_draw best_bid has_nothing_else banned_by_chi is_run_of run_kinds all_kinds
-second_other_given = refl
+second_facts : facts_of 0 2 second ≡ (13 ∷ [], ([], (3 ∷ 2 ∷ [], 4)))
+unfolding own_part after_said after_gone after_back step next_deed can_sit can_return may_say can_expire default_by broken_by
+    outcome hand_start view_of hand in_tile_order less tile_order next_draw best_bid has_nothing_else banned_by_chi is_run_of
+    run_kinds all_kinds
+second_facts = refl
 
-first_draws : tiles_drawn first ≡ 13 ∷ 13 ∷ []
-unfolding own_part after_said after_gone after_back step next_deed can_sit can_return may_say can_expire default_by broken_by outcome hand_start view_of hand in_tile_order less tile_order next_draw best_bid has_nothing_else banned_by_chi is_run_of run_kinds all_kinds
-first_draws = refl
-
-first_other_draws : tiles_drawn first_other ≡ 13 ∷ 14 ∷ []
-unfolding own_part after_said after_gone after_back step next_deed can_sit can_return may_say can_expire default_by broken_by outcome hand_start view_of hand in_tile_order less tile_order next_draw best_bid has_nothing_else banned_by_chi is_run_of run_kinds all_kinds
-first_other_draws = refl
-
-second_draws : tiles_drawn second ≡ 13 ∷ []
-unfolding own_part after_said after_gone after_back step next_deed can_sit can_return may_say can_expire default_by broken_by outcome hand_start view_of hand in_tile_order less tile_order next_draw best_bid has_nothing_else banned_by_chi is_run_of run_kinds all_kinds
-second_draws = refl
-
-second_other_draws : tiles_drawn second_other ≡ 14 ∷ []
-unfolding own_part after_said after_gone after_back step next_deed can_sit can_return may_say can_expire default_by broken_by outcome hand_start view_of hand in_tile_order less tile_order next_draw best_bid has_nothing_else banned_by_chi is_run_of run_kinds all_kinds
-second_other_draws = refl
-
-first_refusals : refusals first ≡ []
-unfolding own_part after_said after_gone after_back step next_deed can_sit can_return may_say can_expire default_by broken_by outcome hand_start view_of hand in_tile_order less tile_order next_draw best_bid has_nothing_else banned_by_chi is_run_of run_kinds all_kinds
-first_refusals = refl
-
-first_bids : bids first ≡ 3 ∷ []
-unfolding own_part after_said after_gone after_back step next_deed can_sit can_return may_say can_expire default_by broken_by outcome hand_start view_of hand in_tile_order less tile_order next_draw best_bid has_nothing_else banned_by_chi is_run_of run_kinds all_kinds
-first_bids = refl
-
-first_other_refusals : refusals first_other ≡ 1 ∷ []
-unfolding own_part after_said after_gone after_back step next_deed can_sit can_return may_say can_expire default_by broken_by outcome hand_start view_of hand in_tile_order less tile_order next_draw best_bid has_nothing_else banned_by_chi is_run_of run_kinds all_kinds
-first_other_refusals = refl
-
-first_other_bids : bids first_other ≡ 3 ∷ 2 ∷ []
-unfolding own_part after_said after_gone after_back step next_deed can_sit can_return may_say can_expire default_by broken_by outcome hand_start view_of hand in_tile_order less tile_order next_draw best_bid has_nothing_else banned_by_chi is_run_of run_kinds all_kinds
-first_other_bids = refl
-
-second_refusals : refusals second ≡ []
-unfolding own_part after_said after_gone after_back step next_deed can_sit can_return may_say can_expire default_by broken_by outcome hand_start view_of hand in_tile_order less tile_order next_draw best_bid has_nothing_else banned_by_chi is_run_of run_kinds all_kinds
-second_refusals = refl
-
-second_bids : bids second ≡ 3 ∷ 2 ∷ []
-unfolding own_part after_said after_gone after_back step next_deed can_sit can_return may_say can_expire default_by broken_by outcome hand_start view_of hand in_tile_order less tile_order next_draw best_bid has_nothing_else banned_by_chi is_run_of run_kinds all_kinds
-second_bids = refl
-
-second_other_refusals : refusals second_other ≡ 0 ∷ []
-unfolding own_part after_said after_gone after_back step next_deed can_sit can_return may_say can_expire default_by broken_by outcome hand_start view_of hand in_tile_order less tile_order next_draw best_bid has_nothing_else banned_by_chi is_run_of run_kinds all_kinds
-second_other_refusals = refl
-
-second_other_bids : bids second_other ≡ 3 ∷ 0 ∷ 2 ∷ []
-unfolding own_part after_said after_gone after_back step next_deed can_sit can_return may_say can_expire default_by broken_by outcome hand_start view_of hand in_tile_order less tile_order next_draw best_bid has_nothing_else banned_by_chi is_run_of run_kinds all_kinds
-second_other_bids = refl
+second_other_facts : facts_of 0 2 second_other ≡ (14 ∷ [], (0 ∷ [], (3 ∷ 0 ∷ 2 ∷ [], 2)))
+unfolding own_part after_said after_gone after_back step next_deed can_sit can_return may_say can_expire default_by broken_by
+    outcome hand_start view_of hand in_tile_order less tile_order next_draw best_bid has_nothing_else banned_by_chi is_run_of
+    run_kinds all_kinds
+second_other_facts = refl
 
 few_walls : (walls : List (List ℕ)) (n : ℕ) → length walls ≡ n → n ≤ 200 → length walls ≤ 200
 few_walls walls n e h = omega (arith, e, h)
@@ -299,13 +278,13 @@ first_apart = record {
   agree = record { legal = first_legal; other_legal = first_other_legal; draws = refl; red = refl; same = same_trace_0 };
   walls = differ (λ walls. length walls == 1) _ _ refl refl;
   number = differ (λ n. n == 1) _ _ refl refl;
-  deeds = differ (λ ds. given_of 1 3 ds == 3) _ _ (ap (λ n. n == 3) first_given) (ap (λ n. n == 3) first_other_given);
-  drawn = differ (λ tiles. slice_index_or tiles 1 0 == 13) _ _ (ap (λ (tiles : List ℕ). slice_index_or tiles 1 0 == 13) first_draws) (ap (λ (tiles : List ℕ). slice_index_or tiles 1 0 == 13) first_other_draws);
+  deeds = differ (λ ds. number_in (tiles_gained ds 1) 3 == 3) _ _ (ap (λ (f : Facts). f.1.1.1 == 3) first_facts) (ap (λ (f : Facts). f.1.1.1 == 3) first_other_facts);
+  drawn = differ (λ tiles. slice_index_or tiles 1 0 == 13) _ _ (ap (λ (f : Facts). slice_index_or f.0 1 0 == 13) first_facts) (ap (λ (f : Facts). slice_index_or f.0 1 0 == 13) first_other_facts);
   limits = differ (λ limit. limit == 1000) _ _ refl refl;
   writers = differ (λ authors. slice_index_or authors 1 0 == 1) _ _ refl refl;
   order = differ (λ seats. slice_index_or seats 1 0 == 2) _ _ refl refl;
-  refused = differ (λ n. n == 0) _ _ (ap (λ (seats : List ℕ). length seats == 0) first_refusals) (ap (λ (seats : List ℕ). length seats == 0) first_other_refusals);
-  bidding = differ (λ n. n == 1) _ _ (ap (λ (seats : List ℕ). length seats == 1) first_bids) (ap (λ (seats : List ℕ). length seats == 1) first_other_bids);
+  refused = differ (λ n. n == 0) _ _ (ap (λ (f : Facts). length f.1.0 == 0) first_facts) (ap (λ (f : Facts). length f.1.0 == 0) first_other_facts);
+  bidding = differ (λ n. n == 1) _ _ (ap (λ (f : Facts). length f.1.1.0 == 1) first_facts) (ap (λ (f : Facts). length f.1.1.0 == 1) first_other_facts);
   leaving = differ (λ seats. length seats == 0) _ _ refl refl;
   coming = differ (λ seats. length seats == 0) _ _ refl refl;
   time = differ (λ windows. length windows == 0) _ _ refl refl;
@@ -319,13 +298,13 @@ second_apart seat same order = record {
   agree = record { legal = second_legal; other_legal = second_other_legal; draws = refl; red = refl; same = same };
   walls = differ (λ walls. length walls == 1) _ _ refl refl;
   number = differ (λ n. n == 1) _ _ refl refl;
-  deeds = differ (λ ds. given_of 0 2 ds == 4) _ _ (ap (λ n. n == 4) second_given) (ap (λ n. n == 4) second_other_given);
-  drawn = differ (λ tiles. slice_index_or tiles 0 0 == 13) _ _ (ap (λ (tiles : List ℕ). slice_index_or tiles 0 0 == 13) second_draws) (ap (λ (tiles : List ℕ). slice_index_or tiles 0 0 == 13) second_other_draws);
+  deeds = differ (λ ds. number_in (tiles_gained ds 0) 2 == 4) _ _ (ap (λ (f : Facts). f.1.1.1 == 4) second_facts) (ap (λ (f : Facts). f.1.1.1 == 4) second_other_facts);
+  drawn = differ (λ tiles. slice_index_or tiles 0 0 == 13) _ _ (ap (λ (f : Facts). slice_index_or f.0 0 0 == 13) second_facts) (ap (λ (f : Facts). slice_index_or f.0 0 0 == 13) second_other_facts);
   limits = differ (λ limit. limit == 1000) _ _ refl refl;
   writers = differ (λ authors. slice_index_or authors 1 0 == 1) _ _ refl refl;
   order = order;
-  refused = differ (λ n. n == 0) _ _ (ap (λ (seats : List ℕ). length seats == 0) second_refusals) (ap (λ (seats : List ℕ). length seats == 0) second_other_refusals);
-  bidding = differ (λ n. n == 2) _ _ (ap (λ (seats : List ℕ). length seats == 2) second_bids) (ap (λ (seats : List ℕ). length seats == 2) second_other_bids);
+  refused = differ (λ n. n == 0) _ _ (ap (λ (f : Facts). length f.1.0 == 0) second_facts) (ap (λ (f : Facts). length f.1.0 == 0) second_other_facts);
+  bidding = differ (λ n. n == 2) _ _ (ap (λ (f : Facts). length f.1.1.0 == 2) second_facts) (ap (λ (f : Facts). length f.1.1.0 == 2) second_other_facts);
   leaving = differ (λ seats. length seats == 0) _ _ refl refl;
   coming = differ (λ seats. length seats == 0) _ _ refl refl;
   time = differ (λ windows. length windows == 0) _ _ refl refl;
