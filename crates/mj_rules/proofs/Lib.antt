@@ -29,3 +29,7 @@ pub mod Shares
 pub mod Precedence
 pub mod Paid
 pub mod Said
+pub mod Accepted
+pub mod Hands
+pub mod Greatest
+pub mod HandRules

@@ -43,7 +43,7 @@ use Rattle.mj_deeds.proofs.RealTiles.{less_passes, gained_real}
 use Rattle.mj_wall.specs.Places.{is_wall}
 use Rattle.mj_wall.specs.declared.setting.Rules.{Rules}
 use Rattle.mj_window.specs.Decided.{decision_by}
-use Rattle.mj_rules.specs.Broken.{is_win, is_open, is_no_yaku, has_no_yaku, winning_kinds, won_tiles, offered_in, questions, broken_by}
+use Rattle.mj_rules.specs.Broken.{is_win, is_open, is_not_complete, is_no_yaku, has_no_yaku, winning_kinds, won_tiles, offered_in, questions, broken_by}
 use Rattle.mj_rules.specs.Outcome.{own_act, won_tile, follows, outcome, wall_of, wall_now}
 use Rattle.mj_rules.specs.Paid.{worth_by, LawfulWinsAreWorth, IsPaid, FirstRonIsPaid, FurtherRonsArePaid, OwnWinIsPaid}
 use Rattle.mj_rules.specs.Played.{IsLawful, AllLawful, IsPlayed}
@@ -109,16 +109,18 @@ kinds_at rules seat before other accepted (answers.Win actor target t) w h = cc
 kinds_at rules seat before last accepted other w h = cc
 
 -- What a lawful answer doesn't break.
-record Wins (rules : Rules) (deeds : List Deed) (seat : ℕ) (answer : Answer) : Type 0 where
-  opens : is_open rules seat (view_of deeds seat).turn (view_of deeds seat).accepted answer ≡ true
-  yaku : is_no_yaku (view_of deeds seat) answer ≡ false
+pub record Wins (rules : Rules) (deeds : List Deed) (seat : ℕ) (answer : Answer) : Type 0 where
+  pub opens : is_open rules seat (view_of deeds seat).turn (view_of deeds seat).accepted answer ≡ true
+  pub complete : is_not_complete (view_of deeds seat) answer ≡ false
+  pub yaku : is_no_yaku (view_of deeds seat) answer ≡ false
 
-lawful_wins : (rules : Rules) (deeds : List Deed) (seat : ℕ) (answer : Answer) → IsLawful rules deeds seat answer → Wins rules deeds seat answer
+pub lawful_wins : (rules : Rules) (deeds : List Deed) (seat : ℕ) (answer : Answer) → IsLawful rules deeds seat answer → Wins rules deeds seat answer
 unfolding broken_by
 lawful_wins rules deeds seat answer lawful =
     let u = all_no (questions rules seat (view_of deeds seat) answer) lawful.clean in
     record {
       opens = not-false (is_open rules seat (view_of deeds seat).turn (view_of deeds seat).accepted answer) u.1.1.0;
+      complete = u.1.1.1.1.1.1.1.1.1.1.1.1.1.1.1.1.1.1.1.1.0;
       yaku = u.1.1.1.1.1.1.1.1.1.1.1.1.1.1.1.1.1.1.1.1.1.1.0;
     }
 
@@ -147,7 +149,7 @@ lawful_wins_are_worth rules deeds last seat answer extra e win lawful =
 
 -- the first who wins on a tile
 
-none_won : (hs : List Deed) → winners hs ≡ [] → before_wins hs ≡ hs
+pub none_won : (hs : List Deed) → winners hs ≡ [] → before_wins hs ≡ hs
 none_won [] e = refl
 none_won (Win who target tile unders own yaku fu han value deltas said rest ∷ hs) e = cc
 none_won (other ∷ hs) e = ap (λ (xs : List Deed). other ∷ xs) (none_won hs e)
@@ -179,13 +181,13 @@ lawful_at rules deeds given (suc (suc (suc zero))) h c = c.fourth
 lawful_at rules deeds given (suc (suc (suc (suc n)))) h c = absurd (omega arith)
 
 -- The tile that is offered.
-record Offers (deeds : List Deed) (who tile : ℕ) : Type 0 where
-  last : Deed
-  newest_is : newest deeds ≡ Some last
-  offers : is_offer last ≡ true
-  goes_on : is_in_hand (Some last) ≡ true
-  tile_is : won_tile last ≡ tile
-  offered : offered_in (turn_by last) ≡ tile ∷ []
+pub record Offers (deeds : List Deed) (who tile : ℕ) : Type 0 where
+  pub last : Deed
+  pub newest_is : newest deeds ≡ Some last
+  pub offers : is_offer last ≡ true
+  pub goes_on : is_in_hand (Some last) ≡ true
+  pub tile_is : won_tile last ≡ tile
+  pub offered : offered_in (turn_by last) ≡ tile ∷ []
 
 offers_of : (deeds : List Deed) (who tile : ℕ) → option_and_then offer_of (newest deeds) ≡ Some (who, tile) → Offers deeds who tile
 offers_of deeds who tile e = by_newest (newest deeds) refl e
@@ -205,7 +207,7 @@ offer_no_draw : (d : Deed) → is_offer d ≡ true → is_draw (Some d) ≡ fals
 offer_no_draw (Draw who t replacement) h = cc
 offer_no_draw other h = refl
 
-there_is : {A : Type 0} (o : Option A) → is_some o ≡ true → (x : A) × (o ≡ Some x)
+pub there_is : {A : Type 0} (o : Option A) → is_some o ≡ true → (x : A) × (o ≡ Some x)
 there_is None h = cc
 there_is (Some x) h = (x, refl)
 
@@ -268,7 +270,7 @@ for_first_none : (hs : List Deed) (n : ℕ) → winners hs ≡ [] → for_first 
 for_first_none hs n e = ap (λ (xs : List ℕ). if length xs == 0 then n else 0) e
 
 -- The tiles of a ron are those that are looked at in its window.
-ron_counts : (window deeds : List Deed) (seat who tile : ℕ) → Offers window who tile → newest (hand window) ≡ newest window → before_wins (hand deeds) ≡ hand window →
+pub ron_counts : (window deeds : List Deed) (seat who tile : ℕ) → Offers window who tile → newest (hand window) ≡ newest window → before_wins (hand deeds) ≡ hand window →
     kind_counts (own_tiles_of (before_wins (hand deeds)) seat tile ++ tile ∷ []) ≡ kind_counts (won_tiles (view_of window seat))
 unfolding view_of
 ron_counts window deeds seat who tile offer there before =
@@ -282,7 +284,7 @@ unfolding win_changes
 ron_pays deeds seat who honba sum no_draw h d base = (λ i. win_changes (no_draw i) seat who (standing deeds).dealer base (h i) (d i))
 
 -- What is known of a window in which a tile is offered, behind played deeds.
-newest_there : (rules : Rules) (walls : List (List ℕ)) (deeds : List Deed) → ((number : ℕ) → is_wall rules.red (wall_of walls number) ≡ true) → IsPlayed rules walls deeds → is_in_hand (newest deeds) ≡ true → newest (hand deeds) ≡ newest deeds
+pub newest_there : (rules : Rules) (walls : List (List ℕ)) (deeds : List Deed) → ((number : ℕ) → is_wall rules.red (wall_of walls number) ≡ true) → IsPlayed rules walls deeds → is_in_hand (newest deeds) ≡ true → newest (hand deeds) ≡ newest deeds
 newest_there rules walls deeds whole played begun = newest_in deeds begun (hand_begun rules.red deeds (played_sound rules walls deeds whole played).fit begun)
 
 offer_worth : (rules : Rules) (deeds : List Deed) (seat who tile : ℕ) (answer : Answer) → Offers deeds who tile → is_win answer ≡ true → IsLawful rules deeds seat answer → (extra : Extra) → is_some (worth_by (view_of deeds seat) tile extra) ≡ true
@@ -424,7 +426,7 @@ faces_known red (x ∷ xs) h =
     let parts = and_parts (is_face red x) (list_all (is_face red) xs) h in
     and_from (ltb x 37) _ (lt-ltb x 37 (small_face red x parts.0)) (faces_known red xs parts.1)
 
-drawn_counts : (red : Bool) (deeds : List Deed) (seat tile : ℕ) (replacement : Bool) → all_fit red [] deeds ≡ true → newest deeds ≡ Some (Draw seat tile replacement) → newest (hand deeds) ≡ newest deeds → before_wins (hand deeds) ≡ hand deeds →
+pub drawn_counts : (red : Bool) (deeds : List Deed) (seat tile : ℕ) (replacement : Bool) → all_fit red [] deeds ≡ true → newest deeds ≡ Some (Draw seat tile replacement) → newest (hand deeds) ≡ newest deeds → before_wins (hand deeds) ≡ hand deeds →
     kind_counts (own_tiles_of (before_wins (hand deeds)) seat tile ++ tile ∷ []) ≡ kind_counts (won_tiles (view_of deeds seat))
 unfolding view_of
 drawn_counts red deeds seat tile replacement fit e there before =

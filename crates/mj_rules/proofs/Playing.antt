@@ -56,10 +56,10 @@ pub record Sound (red : Bool) (walls : List (List ℕ)) (ds : List Deed) : Type 
   pub rich : Rich ds
 
 -- What a deed that is played behind them adds to it.
-record Adds (red : Bool) (walls : List (List ℕ)) (ds : List Deed) (d : Deed) : Type 0 where
-  next : IsNext red walls ds d
-  promise : Promise red walls ds d
-  rich : Rich (ds ++ d ∷ [])
+pub record Adds (red : Bool) (walls : List (List ℕ)) (ds : List Deed) (d : Deed) : Type 0 where
+  pub next : IsNext red walls ds d
+  pub promise : Promise red walls ds d
+  pub rich : Rich (ds ++ d ∷ [])
 
 -- What follows from that all fit for a win.
 fair_of : (red : Bool) (walls : List (List ℕ)) (ds : List Deed) → ((number : ℕ) → is_wall red (wall_of walls number) ≡ true) → all_fit red [] ds ≡ true → Rich ds → Fair red walls ds
@@ -235,7 +235,7 @@ given_adds rules walls ds given d s lawful e = record {
   rich = if_some (λ x. Rich (ds ++ x ∷ [])) (outcome rules walls ds given) d (rich_next rules walls ds given s.known s.rich s.fit lawful) e;
 }
 
-behind_adds : (rules : Rules) (walls : List (List ℕ)) (ds : List Deed) (d : Deed) → Sound rules.red walls ds → IsPlayedBehind rules walls ds d → Adds rules.red walls ds d
+pub behind_adds : (rules : Rules) (walls : List (List ℕ)) (ds : List Deed) (d : Deed) → Sound rules.red walls ds → IsPlayedBehind rules walls ds d → Adds rules.red walls ds d
 behind_adds rules walls [] d s played = record { next = start_next rules.red walls d played; promise = game_owes_nothing rules.red walls d played; rich = start_rich d played }
 behind_adds rules walls (first ∷ others) d s played = given_adds rules walls (first ∷ others) played.given d s played.lawful played.gives
 

@@ -1,5 +1,5 @@
--- What the deed that follows owes beside its turn, for what comes after it: who reaches is not in riichi yet, and a call
--- that is kept with an accepted reach takes the newest discard.
+-- What the deed that follows owes beside its turn, for what comes after it: who reaches is not in riichi yet, a reach is
+-- accepted behind its discard, and a call that is kept with it takes that discard.
 use Rattle.std.proofs.Common.{◌≡◌, ℕ, ◌+◌, ◌-◌, ◌&&◌, ◌||◌, Bool, true, false, cond, List, [], ◌∷◌, ◌++◌, length, take, refl, ap, sym, ◌∙◌, subst, arith, append-nil}
 use Rattle.std.specs.Prelude.{ℤ, Option, Some, None, IsTrue, nat_lt, option_and_then}
 use Rattle.std.specs.Option.{option_map_or}
@@ -47,10 +47,14 @@ use Rattle.mj_rules.proofs.Kept.{first_seat, IsNext}
 use Rattle.mj_rules.proofs.Answered.{IfAny, Clean, clean_at, call_next}
 use Rattle.mj_rules.proofs.Turns.{Known as KnownBefore, kept_call, won_or_acts, discards_only, called_opens, reached_opens, drew_opens, rons_seated, won_or, draw_or, called_or, unless, behind_or, called_or_on, start_or_end}
 
+-- The newest deed is a discard of the seat, right behind a reach.
+abbrev pub Discarded : List Deed → ℕ → Type 0
+Discarded ds who = (tile : ℕ) × (drawn : Bool) × (newest ds ≡ Some (Discard who tile drawn)) × (option_map_or is_reach (before_newest (hand ds)) false ≡ true)
+
 -- What a deed of its kind owes so.
 abbrev pub Promise : Bool → List (List ℕ) → List Deed → Deed → Type 0
 Promise red walls ds (Reach who) = is_in_riichi (hand ds) who ≡ false
-Promise red walls ds (ReachAccepted who said bid) = IfAny (IsNext red walls ds) (call_of_bid bid) × (taken_from (hand ds) (newest ds) ≡ newest ds)
+Promise red walls ds (ReachAccepted who said bid) = IfAny (IsNext red walls ds) (call_of_bid bid) × (taken_from (hand ds) (newest ds) ≡ newest ds) × Discarded ds who
 Promise red walls ds other = Unit {0}
 
 -- what owes nothing
@@ -115,10 +119,10 @@ act_owes rules walls ds n who (answers.AddedKan actor (Known t) (Known x) (Known
 act_owes rules walls ds n who other e turn c = tt
 
 -- The reach of a discard is accepted with the call that was bid for it.
-accept_owes : (red : Bool) (walls : List (List ℕ)) (ds : List Deed) (who tile : ℕ) (drawn : Bool) (bid : Bid) → newest ds ≡ Some (Discard who tile drawn) → IfAny (IsNext red walls ds) (call_of_bid bid) →
-    Promise red walls ds (accept ds who bid)
+accept_owes : (red : Bool) (walls : List (List ℕ)) (ds : List Deed) (who tile : ℕ) (drawn : Bool) (bid : Bid) → newest ds ≡ Some (Discard who tile drawn) →
+    option_map_or is_reach (before_newest (hand ds)) false ≡ true → IfAny (IsNext red walls ds) (call_of_bid bid) → Promise red walls ds (accept ds who bid)
 unfolding accept
-accept_owes red walls ds who tile drawn bid e call = (call, ap (taken_from (hand ds)) e ∙ sym e)
+accept_owes red walls ds who tile drawn bid e reached call = (call, ap (taken_from (hand ds)) e ∙ sym e, (tile, drawn, e, reached))
 
 -- What follows the newest deed owes so.
 follower_owes : (rules : Rules) (walls : List (List ℕ)) (ds : List Deed) (given : Four Answer) (n : Deed) → newest ds ≡ Some n → has_seats n ≡ true → list_all (has_tiles rules.red) (hand ds) ≡ true → has_tiles rules.red n ≡ true → AllLawful rules ds given →
@@ -135,7 +139,7 @@ follower_owes rules walls ds given (Discard who tile drawn) e seats real named c
     (λ seat rest low others. win_owes_nothing rules.red walls ds (wall_now walls ds) seat who tile rest)
     (called_or_on (Promise rules.red walls ds) rules walls ds who tile drawn (best_bid given)
     (behind_or (Promise rules.red walls ds) rules (wall_now walls ds) ds who (best_bid given)
-    (λ reached. accept_owes rules.red walls ds who tile drawn (best_bid given) e (call_next rules walls ds who tile drawn given e (first_seat who _ seats) real (and_parts (is_face rules.red tile) true named).0 c))
+    (λ reached. accept_owes rules.red walls ds who tile drawn (best_bid given) e reached (call_next rules walls ds who tile drawn given e (first_seat who _ seats) real (and_parts (is_face rules.red tile) true named).0 c))
     (drawn_owes_nothing rules.red walls ds)
     (call_owes_nothing rules.red walls ds (best_bid given))
     (draw_owes_nothing rules.red walls ds (wall_now walls ds) _)))
@@ -196,7 +200,7 @@ newest_in ds begun some = by_newest (newest ds) refl begun
     by_newest (Some n) e h = by_shape n (is_hand_start n) (hand before) (ap hand (newest_behind ds n e) ∙ hand_more before n)
 
 -- Behind one deed more of the hand that one stands before the newest.
-before_newest_is : (ds : List Deed) (d : Deed) → hand (ds ++ d ∷ []) ≡ hand ds ++ d ∷ [] → newest (hand ds) ≡ newest ds → before_newest (hand (ds ++ d ∷ [])) ≡ newest ds
+pub before_newest_is : (ds : List Deed) (d : Deed) → hand (ds ++ d ∷ []) ≡ hand ds ++ d ∷ [] → newest (hand ds) ≡ newest ds → before_newest (hand (ds ++ d ∷ [])) ≡ newest ds
 before_newest_is ds d e f = ap before_newest e ∙ ap newest (before_more (hand ds) d) ∙ f
 
 -- a reach may be accepted
@@ -225,7 +229,7 @@ unlocked_more red walls ds d fit next promise who e = reached (some_is d (Reach 
         (reach_unlocked red walls ds who fit (subst (IsNext red walls ds) k next) (subst (Promise red walls ds) k promise))
 
 -- The discard behind a reach is one of the seat that reached.
-same_seat : (ds : List Deed) (who : ℕ) → stage_of ds ≡ Acts who → option_map_or is_reach (newest ds) false ≡ true → newest ds ≡ Some (Reach who)
+pub same_seat : (ds : List Deed) (who : ℕ) → stage_of ds ≡ Acts who → option_map_or is_reach (newest ds) false ≡ true → newest ds ≡ Some (Reach who)
 same_seat ds who acts h = by_newest (newest ds) refl h
   where
     seat_is : (a b : ℕ) → Acts a ≡ Acts b → a ≡ b

@@ -9,3 +9,5 @@ pub mod Draws
 pub mod Precedence
 pub mod Paid
 pub mod Said
+pub mod Accepted
+pub mod Hands

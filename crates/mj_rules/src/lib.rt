@@ -2,6 +2,9 @@
 //! played. Nothing here runs: the functions are the places where the laws are stated.
 #![tactic(auto)]
 
+ghost use Rattle.mj_rules.specs.Accepted.{AcceptedOfDiscard};
+ghost use Rattle.mj_rules.specs.Hands.{CompleteIsFound, WaitsAreFound, ReadyIsFound, ReadingsAreFound, WorthIsFound};
+ghost use Rattle.mj_rules.specs.Hands.{KansAreFound, SeatWaitsAreFound, NoYakuIsFound, LawfulWinsAreGreatest};
 ghost use Rattle.mj_rules.specs.Laws.{EachIsWall, PlayedWithOneMore, PlayedWithoutTheLast, PlayedDeedsFit, NextOfPlayedFits, SomeDeedFollows, SomeDiscardIsLawful, FittingDefaultIsLawful, PlayedDefaultIsLawful, TotalStays, FewDeeds, FewDraws};
 ghost use Rattle.mj_rules.specs.Paid.{LawfulWinsAreWorth, FirstRonIsPaid, FurtherRonsArePaid, OwnWinIsPaid};
 ghost use Rattle.mj_rules.specs.Precedence.{AllWinsCome, OnePonOrKan, OneChi, PonOrKanComes, ChiComes, NothingIsCalled, KeptCallComes};
@@ -102,4 +105,36 @@ pub fn points_are_read()
 /// seat.
 pub fn few_draws()
     ensures { FewDraws }
+{}
+
+/// A reach is accepted right behind a discard of its own seat, which stands right behind its own reach: that discard is what it
+/// comes of.
+pub fn reaches_are_accepted()
+    ensures { AcceptedOfDiscard }
+{}
+
+/// For all counts of a hand, what is found by a walk over them is what the sentences on hands say: that the hand is complete, that
+/// a kind is a wait, that the hand is ready, all of its readings and no others, and what it is worth: the greatest score of those
+/// that have a yaku.
+pub fn walks_find_hands()
+    ensures complete { CompleteIsFound }
+    ensures waits { WaitsAreFound }
+    ensures ready { ReadyIsFound }
+    ensures readings { ReadingsAreFound }
+    ensures worth { WorthIsFound }
+{}
+
+/// A lawful win, where nobody has won in the hand yet, is of a complete hand, and worth the greatest score of the readings of its
+/// tiles that have a yaku.
+pub fn lawful_wins_are_greatest()
+    ensures { LawfulWinsAreGreatest }
+{}
+
+/// The rules that look at a whole hand, for all counts: a concealed kan in riichi is found lawful exactly where it leaves the waits
+/// and how the hand reads, the kinds that a seat may miss are exactly its waits, and a win is found to have no yaku exactly where no
+/// reading has one.
+pub fn rules_go_by_hands()
+    ensures kan { KansAreFound }
+    ensures waits { SeatWaitsAreFound }
+    ensures yaku { NoYakuIsFound }
 {}

@@ -1,3 +1,3 @@
 mod RowOrder
 mod ScoreOrder
-mod BestScore
+pub mod BestScore

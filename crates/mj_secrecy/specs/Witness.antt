@@ -1,9 +1,14 @@
 -- Two games that agree for a seat and differ in what the seat is not told.
-use Rattle.std.specs.Prelude.{◌≢◌, ℕ, ◌==◌, if◌then◌else◌, List, [], ◌∷◌, map, flat_map}
+use Rattle.std.specs.Prelude.{◌≢◌, ℕ, ◌<◌, ◌==◌, Bool, true, false, if◌then◌else◌, List, [], ◌∷◌, ◌++◌, length, map, flat_map, Option, Some}
 use Rattle.mj_ports.specs.declared.entry.Entry.{Entry}
 use Rattle.mj_ports.specs.declared.entry.Entry.TheVariants.{Sat, Back, Said, Gone, Expired}
 use Rattle.mj_deeds.specs.declared.answer.Answer.{Answer}
-use Rattle.mj_history.specs.After.{after}
+use Rattle.mj_deeds.specs.declared.deed.Deed.{Deed}
+use Rattle.mj_deeds.specs.declared.deed.Deed.TheVariants.{Draw}
+use Rattle.mj_wall.specs.declared.setting.Setting.{Setting}
+use Rattle.mj_rules.specs.Broken.{is_call_answer}
+use Rattle.mj_history.specs.After.{After, Verdict, Taken, Refused, Closing, before_all, step, after}
+use Rattle.mj_history.specs.Shown.{verdict_at}
 use Rattle.mj_history.specs.Legal.{Game}
 use Rattle.mj_secrecy.specs.Trace.{Agree}
 
@@ -52,18 +57,64 @@ runs_out other = []
 abbrev pub expiries : Game → List ℕ
 expiries game = flat_map runs_out game.entries
 
--- Two games agree for a seat, and differ in the walls, in the deeds that come of them, in the limit of a window, in the
--- authors, in what the other seats said and in which order, in who left, in who came back, and in which
--- windows the time ran out.
+-- The tiles that are drawn, in order.
+abbrev pub draws : Deed → List ℕ
+draws (Draw seat tile replacement) = tile ∷ []
+draws other = []
+
+abbrev pub tiles_drawn : Game → List ℕ
+tiles_drawn game = flat_map draws (after game.setting game.entries).deeds
+
+-- An answer is refused, for good or not.
+abbrev pub is_refused : Answer → Option Verdict → Bool
+is_refused answer (Some (Refused rule)) = true
+is_refused answer (Some (Closing rule)) = true
+is_refused answer other = false
+
+-- It bids for a discard, and is taken.
+abbrev pub is_bid : Answer → Option Verdict → Bool
+is_bid answer (Some Taken) = is_call_answer answer
+is_bid answer other = false
+
+-- The seat of an answer that passes a test by its verdict.
+abbrev pub seat_that : (Answer → Option Verdict → Bool) → Setting → After → Entry Answer → List ℕ
+seat_that test setting now (Said author seat answer) = if test answer (verdict_at setting.rules now seat answer) then seat ∷ [] else []
+seat_that test setting now other = []
+
+-- The seats of such answers from some point on, in order.
+abbrev pub seats_from : (Answer → Option Verdict → Bool) → Setting → After → List (Entry Answer) → List ℕ
+seats_from test setting now [] = []
+seats_from test setting now (entry ∷ entries) = seat_that test setting now entry ++ seats_from test setting (step setting now entry) entries
+
+-- The seats of the answers that were refused, and of those by which a discard was bid for and which were taken, whether the seat was
+-- given it or another was.
+abbrev pub refusals : Game → List ℕ
+refusals game = seats_from is_refused game.setting before_all game.entries
+
+abbrev pub bids : Game → List ℕ
+bids game = seats_from is_bid game.setting before_all game.entries
+
+-- Two games agree for a seat, and differ in the walls and their number, in the deeds that come of them and the tiles that are drawn,
+-- in the limit of a window, in the authors, in what the other seats said and in which order, in how many answers were refused and in
+-- how many bids were taken, in who left, in who came back, and in which windows the time ran out. The seat's own answers have the
+-- same verdicts in both, and both have the same calls, since the seat sees them: so what was refused is another's, and a bid was lost.
 pub record AgreeApart (seat : ℕ) : Type 0 where
   pub one : Game
   pub other : Game
   pub agree : Agree seat one other
   pub walls : one.setting.walls ≢ other.setting.walls
+  pub number : length one.setting.walls ≢ length other.setting.walls
   pub deeds : (after one.setting one.entries).deeds ≢ (after other.setting other.entries).deeds
+  pub drawn : tiles_drawn one ≢ tiles_drawn other
   pub limits : one.setting.rules.limit ≢ other.setting.rules.limit
   pub writers : authors one ≢ authors other
   pub order : answers_of_others seat one ≢ answers_of_others seat other
+  pub refused : length (refusals one) ≢ length (refusals other)
+  pub bidding : length (bids one) ≢ length (bids other)
   pub leaving : departures one ≢ departures other
   pub coming : returns one ≢ returns other
   pub time : expiries one ≢ expiries other
+
+-- For each seat some games do.
+abbrev pub SomeAgreeApart : Type 0
+SomeAgreeApart = (seat : ℕ) → seat < 4 → AgreeApart seat

@@ -3,7 +3,7 @@
 #![tactic(auto)]
 
 ghost use Rattle.mj_secrecy.specs.Laws.{AgreeingGamesTellTheSame, AgreeingConnectionsAreTheSame};
-ghost use Rattle.mj_secrecy.specs.Witness.{AgreeApart};
+ghost use Rattle.mj_secrecy.specs.Witness.{SomeAgreeApart};
 ghost use Rattle.mj_secrecy.specs.Bare.{TokensHoldNoMore};
 ghost use Rattle.mj_secrecy.specs.Follows.{FactsFollow, VerdictsFollow, LinesFollow, BeginningsAgree};
 
@@ -49,12 +49,12 @@ pub fn beginnings_agree()
     ensures { BeginningsAgree }
 {}
 
-/// The law has games to speak of: two games agree for seat 0 that differ in the walls and so in what
-/// the other seats are dealt and draw, in the limit of a window, in the authors, in the order in
-/// which the other seats answer, and in that in one of them an answer of another seat is refused,
-/// another seat leaves and comes back, and the time of a window runs out.
+/// The law has games to speak of: for each seat of the four two games agree that differ in the walls and their number, and so in
+/// what other seats are dealt and draw, in the limit of a window, in the authors, in the order in which the other seats answer, and
+/// in that in one of them an answer of another seat is refused, another seat bids for a discard and isn't given it, another seat
+/// leaves and comes back, and the time of a window runs out.
 pub fn some_games_agree_apart()
-    ensures { AgreeApart 0 }
+    ensures { SomeAgreeApart }
 {}
 
 /// The token of a deed holds nothing but what the seat sees and can't reckon: it is the same whatever the points, the honba,
