@@ -23,7 +23,7 @@ use Rattle.mj_history.specs.Sitting.{placing, entries_of_placing}
 use Rattle.mj_history.specs.Arrivals.{ArrivalForm, WallOf, Arrival, Leads, Bad, setting_of, with_entries, sit_arrives, say_arrives, gone_arrives, expiry_arrives, wall_arrives, behind_header}
 use Rattle.mj_history.proofs.Places.{none_behind}
 use Rattle.mj_core.specs.Calls.{after_of, Enters, TakesSeat, Answers, author_of_seat, may_say_at, may_expire, pending_at}
-use Rattle.mj_front.specs.Inner.Hearing.{intake_of, told_of, told_in, greeting, greeting_again, present_in, last_lines, InPlay}
+use Rattle.mj_front.specs.Inner.Intake.{intake_of, told_of, told_in, greeting, greeting_again, present_in, last_lines, InPlay}
 use Rattle.mj_front.proofs.Placing.{sat-next, back-held}
 use Rattle.mj_front.proofs.Telling.{told-sat, few-sat, told-own, told-other, few-said, told-gone, told-gone_other, few-gone, same-expired, has_chair, error_of}
 use Rattle.mj_front.proofs.Returning.{told-back, told-back_other, few-back}

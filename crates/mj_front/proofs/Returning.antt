@@ -19,7 +19,7 @@ use Rattle.mj_history.specs.Shown.{line_at}
 use Rattle.mj_history.specs.Legal.{Game}
 use Rattle.mj_history.proofs.Places.{slice_get-set_at}
 use Rattle.mj_core.specs.Calls.{after_of, Enters, due_of}
-use Rattle.mj_front.specs.Inner.Hearing.{told_of, told_in, told_again_in}
+use Rattle.mj_front.specs.Inner.Intake.{told_of, told_in, told_again_in}
 use Rattle.mj_front.proofs.Telling.{told_at, set-own, set-other, set-few, after_of-enters, chairs-enters}
 
 -- the chair of a seat that is back

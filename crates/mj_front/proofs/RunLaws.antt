@@ -8,8 +8,8 @@ use Rattle.mj_secrecy.proofs.OneWorld.{agreeing_scripts}
 use Rattle.mj_history.proofs.Legality.{read_game_is_legal}
 use Rattle.mj_history.proofs.Fitting.{legal_games_are_played}
 use Rattle.mj_history.proofs.Windows.{windows_decide}
-use Rattle.mj_front.specs.declared.hearing.End.{End}
-use Rattle.mj_front.specs.Inner.Hearing.{Tells}
+use Rattle.mj_front.specs.declared.intake.End.{End}
+use Rattle.mj_front.specs.Inner.Intake.{Tells}
 use Rattle.mj_front.specs.Referee.{IsTold, TellsAll, ending}
 
 -- the bytes that the seat is told are written, whole or in part

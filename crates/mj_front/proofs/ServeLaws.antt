@@ -10,7 +10,7 @@ use Rattle.mj_links.specs.declared.host.Given.TheVariants as given
 use Rattle.mj_words.specs.Asked.{ServedWith}
 use Rattle.mj_ports.specs.declared.entry.Entry.{Entry}
 use Rattle.mj_ports.specs.Entries.{author_of}
-use Rattle.mj_ports.specs.Seats.{After}
+use Rattle.mj_ports.specs.Seats.{Showing}
 use Rattle.mj_wall.specs.declared.setting.Setting.{Setting}
 use Rattle.mj_history.specs.After.{after}
 use Rattle.mj_forms.specs.AnswerForms.{answer_of, join_of}
@@ -30,7 +30,7 @@ use Rattle.mj_front.specs.declared.serve.ServeEnd.TheVariants as ends
 use Rattle.mj_front.specs.Serve.{Serves, HasLostAll, AppendsLinks}
 use Rattle.mj_front.specs.Inner.Serving.{WritesRecordOf, placed_link, Giving}
 
-module _ {A F : Type 0} (after_all : List (Entry A) → After) (made : F → Type 0) (number : F → ℕ) where
+module _ {A F : Type 0} (after_all : List (Entry A) → Showing) (made : F → Type 0) (number : F → ℕ) where
   lost_by : (by : ℕ) (all : List (Entry A)) (end : HandlerEnd F) → (after_all all).over ≡ false → EndsIn after_all made number by all end → (fault : F) × made fault × (number fault ≡ by)
   lost_by by all handled.Over go h = absurd (no (sym go ∙ h))
     where

@@ -16,7 +16,7 @@ use Rattle.mj_history.specs.Legal.{Game}
 use Rattle.mj_history.proofs.Entries.{after-append}
 use Rattle.mj_history.proofs.Places.{slice_get-append_other, slice_get-set_at, slice_get-set_other}
 use Rattle.mj_core.specs.Calls.{after_of, Enters, verdict_at, pending_at}
-use Rattle.mj_front.specs.Inner.Hearing.{told_of, told_in, greeting}
+use Rattle.mj_front.specs.Inner.Intake.{told_of, told_in, greeting}
 
 -- what a seat was told, among chairs
 abbrev pub told_at : ℕ → List Chair → List ℕ

@@ -9,11 +9,11 @@ use Rattle.mj_wall.specs.declared.setting.Rules.{Rules}
 use Rattle.mj_wall.specs.Places.{is_wall}
 use Rattle.mj_history.specs.After.{scripts_in}
 use Rattle.mj_history.specs.Legal.{Game}
-use Rattle.mj_history.specs.Arrivals.{ArrivalForm, Header, WallOf, Sit, Say, Leave, Expire, NoForm, form_of, Intake, setting_of, Arrival, Leads, Bad, now_of, sit_arrives, say_arrives, gone_arrives, expiry_arrives, wall_arrives, behind_header, arrives, Input, BadAt, hear_on, hear_from}
+use Rattle.mj_history.specs.Arrivals.{ArrivalForm, Header, WallOf, Sit, Say, Leave, Expire, NoForm, form_of, Intake, setting_of, Arrival, Leads, Bad, now_of, sit_arrives, say_arrives, gone_arrives, expiry_arrives, wall_arrives, behind_header, arrives, Input, BadAt, intake_on, intake_from}
 use Rattle.mj_core.specs.Calls.{pending_at}
-use Rattle.mj_front.specs.declared.hearing.End.{End}
+use Rattle.mj_front.specs.declared.intake.End.{End}
 use Rattle.mj_front.specs.Referee.{ending}
-use Rattle.mj_front.specs.Inner.Hearing.{intake_of, intake_with_walls, is_wall_form, begin_with_wall, HearsAll, Tells}
+use Rattle.mj_front.specs.Inner.Intake.{intake_of, intake_with_walls, is_wall_form, begin_with_wall, HearsAll, Tells}
 use Rattle.mj_front.proofs.Telling.{script-parts}
 
 -- a wall more, behind a header and walls
@@ -78,12 +78,12 @@ read-wall red walls lines texts given w = rw (← w.many, ← w.same) w.read
 
 -- one wall more
 pub heard-wall : (rules : Rules) (walls after lines texts : List (List ℕ)) (wall rest unread : List ℕ) (number : ℕ) → IsWallLine rules.red walls lines texts (Some wall) → unread ≡ rest → after ≡ walls ++ wall ∷ []
-    → hear_from (intake_with_walls rules walls) number lines unread ≡ hear_from (intake_with_walls rules after) (number + 1) texts rest
+    → intake_from (intake_with_walls rules walls) number lines unread ≡ intake_from (intake_with_walls rules after) (number + 1) texts rest
 heard-wall rules walls after lines texts wall rest unread number w u a =
-    ap (λ (ls : List (List ℕ)). hear_from (intake_with_walls rules walls) number ls unread) w.lines_are
-    ∙ ap (λ (arrival : Arrival). hear_on arrival (λ next. hear_from next (number + 1) texts unread) (intake_with_walls rules walls) number) (wall-more rules walls w.line w.tiles wall w.form (read-wall rules.red walls lines texts (Some wall) w)).0
-    ∙ ap (λ (rs : List ℕ). hear_from (intake_with_walls rules (walls ++ wall ∷ [])) (number + 1) texts rs) u
-    ∙ ap (λ (ws : List (List ℕ)). hear_from (intake_with_walls rules ws) (number + 1) texts rest) (sym a)
+    ap (λ (ls : List (List ℕ)). intake_from (intake_with_walls rules walls) number ls unread) w.lines_are
+    ∙ ap (λ (arrival : Arrival). intake_on arrival (λ next. intake_from next (number + 1) texts unread) (intake_with_walls rules walls) number) (wall-more rules walls w.line w.tiles wall w.form (read-wall rules.red walls lines texts (Some wall) w)).0
+    ∙ ap (λ (rs : List ℕ). intake_from (intake_with_walls rules (walls ++ wall ∷ [])) (number + 1) texts rs) u
+    ∙ ap (λ (ws : List (List ℕ)). intake_from (intake_with_walls rules ws) (number + 1) texts rest) (sym a)
 
 pub few-more : (rules : Rules) (walls after lines texts : List (List ℕ)) (wall : List ℕ) → IsWallLine rules.red walls lines texts (Some wall) → after ≡ walls ++ wall ∷ [] → length after ≤ 200
 few-more rules walls after lines texts wall w a =
@@ -100,12 +100,12 @@ pub counted : (number rest others all : ℕ) → number + rest ≤ all → other
 counted number rest others all h k = omega arith
 
 -- tiles that are no wall, or one wall too many
-pub tells-bad_wall : (seat number : ℕ) (end : End) (rules : Rules) (walls lines texts : List (List ℕ)) (unread bytes : List ℕ) (input : Input) → input ≡ hear_from (intake_with_walls rules walls) number lines unread
+pub tells-bad_wall : (seat number : ℕ) (end : End) (rules : Rules) (walls lines texts : List (List ℕ)) (unread bytes : List ℕ) (input : Input) → input ≡ intake_from (intake_with_walls rules walls) number lines unread
     → IsWallLine rules.red walls lines texts None → BadAt number ≡ ending end → bytes ≡ [] → Tells input seat end bytes
 tells-bad_wall seat number end rules walls lines texts unread bytes input h w e b =
     let same : input ≡ record { reading = intake_with_walls rules walls; ending = BadAt number } =
-    h ∙ ap (λ (ls : List (List ℕ)). hear_from (intake_with_walls rules walls) number ls unread) w.lines_are
-    ∙ ap (λ (arrival : Arrival). hear_on arrival (λ next. hear_from next (number + 1) texts unread) (intake_with_walls rules walls) number) (wall-none rules walls w.line w.tiles w.form (read-wall rules.red walls lines texts None w)) in
+    h ∙ ap (λ (ls : List (List ℕ)). intake_from (intake_with_walls rules walls) number ls unread) w.lines_are
+    ∙ ap (λ (arrival : Arrival). intake_on arrival (λ next. intake_from next (number + 1) texts unread) (intake_with_walls rules walls) number) (wall-none rules walls w.line w.tiles w.form (read-wall rules.red walls lines texts None w)) in
     record {
       ends = ap (λ (input : Input). input.ending) same ∙ e;
       told = b ∙ sym (ap (λ (input : Input). scripts_in seat (now_of input.reading)) same);
@@ -134,12 +134,12 @@ no-walls (wall ∷ walls) many none e = absurd (some (length walls) e)
     some n k = grind (arith, nat_tests, none, k)
 
 pub tells-no_wall : (seat number : ℕ) (end : End) (rules : Rules) (walls lines : List (List ℕ)) (rest bytes : List ℕ) → walls ≡ [] → (length lines == 0) ≡ false → begin_with_wall lines ≡ false → BadAt number ≡ ending end → bytes ≡ []
-    → Tells (hear_from (intake_with_walls rules walls) number lines rest) seat end bytes
+    → Tells (intake_from (intake_with_walls rules walls) number lines rest) seat end bytes
 tells-no_wall seat number end rules walls [] rest bytes w none other e b = cc
 tells-no_wall seat number end rules walls (line ∷ lines) rest bytes w none other e b =
-    let same : hear_from (intake_with_walls rules walls) number (line ∷ lines) rest ≡ record { reading = intake_with_walls rules []; ending = BadAt number } =
-    ap (λ (given : List (List ℕ)). hear_from (intake_with_walls rules given) number (line ∷ lines) rest) w
-    ∙ ap (λ (arrival : Arrival). hear_on arrival (λ next. hear_from next (number + 1) lines rest) (intake_with_walls rules []) number) (arrives-alone rules line other) in
+    let same : intake_from (intake_with_walls rules walls) number (line ∷ lines) rest ≡ record { reading = intake_with_walls rules []; ending = BadAt number } =
+    ap (λ (given : List (List ℕ)). intake_from (intake_with_walls rules given) number (line ∷ lines) rest) w
+    ∙ ap (λ (arrival : Arrival). intake_on arrival (λ next. intake_from next (number + 1) lines rest) (intake_with_walls rules []) number) (arrives-alone rules line other) in
     record {
       ends = ap (λ (input : Input). input.ending) same ∙ e;
       told = b ∙ sym (ap (λ (input : Input). scripts_in seat (now_of input.reading)) same);
@@ -165,7 +165,7 @@ record Alike (a b : Input) : Type 0 where
   ends : a.ending ≡ b.ending
   now : now_of a.reading ≡ now_of b.reading
 
-alike-on : (rules : Rules) (walls : List (List ℕ)) (number : ℕ) (onwards : Intake → Input) (arrival : Arrival) → Alike (hear_on arrival onwards (intake_with_walls rules walls) number) (hear_on arrival onwards (begun_with rules walls) number)
+alike-on : (rules : Rules) (walls : List (List ℕ)) (number : ℕ) (onwards : Intake → Input) (arrival : Arrival) → Alike (intake_on arrival onwards (intake_with_walls rules walls) number) (intake_on arrival onwards (begun_with rules walls) number)
 unfolding begun_with
 alike-on rules walls number onwards (Leads next) = record { ends = refl; now = refl }
 alike-on rules walls number onwards Bad = record { ends = refl; now = refl }
@@ -175,12 +175,12 @@ unfolding begun_with arrives
 begun-line rules walls line h = begun-form rules walls (form_of line) h
 
 begun-alike : (rules : Rules) (walls : List (List ℕ)) (number : ℕ) (lines : List (List ℕ)) (rest : List ℕ) → (length lines == 0) ≡ false → begin_with_wall lines ≡ false →
-    Alike (hear_from (intake_with_walls rules walls) number lines rest) (hear_from (begun_with rules walls) number lines rest)
+    Alike (intake_from (intake_with_walls rules walls) number lines rest) (intake_from (begun_with rules walls) number lines rest)
 begun-alike rules walls number [] rest some h = cc some
 begun-alike rules walls number (line ∷ lines) rest some h =
-    subst (λ (arrival : Arrival). Alike (hear_on arrival (λ next. hear_from next (number + 1) lines rest) (intake_with_walls rules walls) number) (hear_from (begun_with rules walls) number (line ∷ lines) rest))
+    subst (λ (arrival : Arrival). Alike (intake_on arrival (λ next. intake_from next (number + 1) lines rest) (intake_with_walls rules walls) number) (intake_from (begun_with rules walls) number (line ∷ lines) rest))
     (sym (begun-line rules walls line h))
-    (alike-on rules walls number (λ next. hear_from next (number + 1) lines rest) (arrives (begun_with rules walls) line))
+    (alike-on rules walls number (λ next. intake_from next (number + 1) lines rest) (arrives (begun_with rules walls) line))
 
 -- behind a header and its walls the game is in play
 begun-game : (rules : Rules) (walls : List (List ℕ)) (start : Game) → start ≡ record { setting = record { walls = walls; rules = rules }; entries = [] } → begun_with rules walls ≡ intake_of start
@@ -189,10 +189,10 @@ begun-game rules walls start s = rw s
 
 pub tells-walls : (seat number : ℕ) (end : End) (rules : Rules) (walls : List (List ℕ)) (start game : Game) (lines : List (List ℕ)) (rest told all : List ℕ) →
     start ≡ record { setting = record { walls = walls; rules = rules }; entries = [] } → (length lines == 0) ≡ false → begin_with_wall lines ≡ false →
-    HearsAll (hear_from (intake_of start) number lines rest) seat end game told → Adds told all (pending_at game seat) → Tells (hear_from (intake_with_walls rules walls) number lines rest) seat end all
+    HearsAll (intake_from (intake_of start) number lines rest) seat end game told → Adds told all (pending_at game seat) → Tells (intake_from (intake_with_walls rules walls) number lines rest) seat end all
 tells-walls seat number end rules walls start game lines rest told all s some other h adds =
     let alike = begun-alike rules walls number lines rest some other in
-    let same : hear_from (begun_with rules walls) number lines rest ≡ hear_from (intake_of start) number lines rest = ap (λ (reading : Intake). hear_from reading number lines rest) (begun-game rules walls start s) in
+    let same : intake_from (begun_with rules walls) number lines rest ≡ intake_from (intake_of start) number lines rest = ap (λ (reading : Intake). intake_from reading number lines rest) (begun-game rules walls start s) in
     record {
       ends = alike.ends ∙ ap (λ (input : Input). input.ending) same ∙ h.ends;
       told = adds.is ∙ ap (λ (xs : List ℕ). xs ++ pending_at game seat) h.play.bytes ∙ sym (script-parts seat game)

@@ -8,8 +8,8 @@ use Rattle.mj_history.specs.Legal.{Game, IsLegal}
 use Rattle.mj_history.specs.Windows.{EachIsDecided}
 use Rattle.mj_secrecy.specs.Trace.{Agree}
 use Rattle.mj_history.specs.Arrivals.{Ending, Whole, BadAt, input_of, game_of}
-use Rattle.mj_front.specs.declared.hearing.End.{End}
-use Rattle.mj_front.specs.declared.hearing.End.TheVariants as inputs
+use Rattle.mj_front.specs.declared.intake.End.{End}
+use Rattle.mj_front.specs.declared.intake.End.TheVariants as inputs
 use Rattle.mj_front.specs.declared.referee.RefereeEnd.{RefereeEnd}
 use Rattle.mj_front.specs.declared.referee.RefereeEnd.TheVariants as ends
 use Rattle.mj_front.specs.Inputs.{IsRead, IsTooLong}

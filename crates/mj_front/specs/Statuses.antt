@@ -6,7 +6,7 @@ use Rattle.mj_replay.specs.declared.checking.Cause.{Cause}
 use Rattle.mj_replay.specs.declared.checking.Cause.TheVariants as causes
 use Rattle.mj_front.specs.declared.hand.HandLinesEnd.{HandLinesEnd}
 use Rattle.mj_front.specs.declared.hand.HandLinesEnd.TheVariants as hands
-use Rattle.mj_front.specs.declared.hearing.End.TheVariants as ends
+use Rattle.mj_front.specs.declared.intake.End.TheVariants as ends
 use Rattle.mj_front.specs.declared.referee.RefereeEnd.{RefereeEnd}
 use Rattle.mj_front.specs.declared.referee.RefereeEnd.TheVariants as referees
 use Rattle.mj_front.specs.declared.replay.ReplayEnd.{ReplayEnd}

@@ -6,7 +6,7 @@ ghost use Rattle.mj_history.specs.Shown.{line_at};
 ghost use Rattle.mj_history.specs.Legal.{can_say};
 ghost use Rattle.mj_history.specs.Arrivals.{arrives, sit_arrives, say_arrives, gone_arrives, expiry_arrives};
 ghost use Rattle.mj_core.specs.Calls.{author_of_seat, after_of};
-ghost use Rattle.mj_front.specs.Inner.Hearing.{intake_of, greeting, greeting_again, told_again_in, present_in, last_lines, InPlay, Does};
+ghost use Rattle.mj_front.specs.Inner.Intake.{intake_of, greeting, greeting_again, told_again_in, present_in, last_lines, InPlay, Does};
 
 use crate::form::{ArrivalForm, read_form};
 use mj_bytes::push_all;
@@ -31,7 +31,7 @@ pub(crate) enum Arrived {
 
 /// Hears one line of a game in play, and writes what it tells the seat behind what the seat was told.
 #[tactic(auto, using(crate::proofs::PlayLaws::late_walls), unfolding(mj_history::specs::Arrivals::arrives))]
-pub(crate) fn hear_line(
+pub(crate) fn take_line(
     alloc: Global,
     seat: u8,
     core: &mut Core,

@@ -7,8 +7,8 @@ ghost use Rattle.mj_front.specs.Inner.Refereeing.{RefereesInput};
 ghost use Rattle.mj_front.specs.Statuses.{referee_status};
 ghost use Rattle.mj_front.specs.Faults.{CountsReadFaults, CountsWriteFaults};
 
-use crate::hearing::{End, hear};
 use crate::input::LONGEST;
+use crate::intake::{End, take_in};
 use mj_links::{ReadAll, Sink, Source, WriteAll, read_all, write_all};
 use std::alloc::Global;
 
@@ -57,7 +57,7 @@ fn referee<K: Sink>(alloc: Global, seat: u8, input: &[u8], sink: &mut K) -> Refe
     ensures writes { CountsWriteFaults (referee_status result) (K.write_faults sink.old)
         (K.write_faults sink.new) }
 {
-    let Ok(told) = hear(alloc, seat, input) else {
+    let Ok(told) = take_in(alloc, seat, input) else {
         return RefereeEnd::NoMemory;
     };
     match write_all(sink, told.bytes.as_slice()) {

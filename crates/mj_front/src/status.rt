@@ -5,7 +5,7 @@ ghost use Rattle.mj_bytes.specs.Adds.{Adds};
 ghost use Rattle.mj_front.specs.Statuses.{referee_status, serve_status, replay_status, hand_status, self_play_status, code_of, cause_number, status_words, at_line, bad_record, usage};
 
 use crate::hand::HandLinesEnd;
-use crate::hearing::End;
+use crate::intake::End;
 use crate::referee::RefereeEnd;
 use crate::replay::ReplayEnd;
 use crate::self_game::SelfPlayEnd;

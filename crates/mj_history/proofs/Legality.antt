@@ -25,7 +25,7 @@ use Rattle.mj_forms.specs.AnswerForms.{answer_of, join_of, join_in, name_of, tex
 use Rattle.mj_history.specs.After.{After, Chair, before_all, after, is_present}
 use Rattle.mj_history.specs.Legal.{has_name, is_over, can_sit, can_return, is_present_by, can_say, can_expire, is_permitted, all_permitted, has_wall, has_ground, IsLegal}
 use Rattle.mj_history.specs.Sitting.{held_of, placing, entries_of_placing, author_at}
-use Rattle.mj_history.specs.Arrivals.{ArrivalForm, Header, WallOf, Sit, Say, Leave, Expire, NoForm, form_of, Intake, setting_of, now_of, Arrival, Leads, Bad, header_arrives, wall_arrives, with_entries, sit_arrives, say_arrives, gone_arrives, expiry_arrives, behind_header, first_line, arrives, Input, at_end, hear_on, hear_from, nothing_read, input_of}
+use Rattle.mj_history.specs.Arrivals.{ArrivalForm, Header, WallOf, Sit, Say, Leave, Expire, NoForm, form_of, Intake, setting_of, now_of, Arrival, Leads, Bad, header_arrives, wall_arrives, with_entries, sit_arrives, say_arrives, gone_arrives, expiry_arrives, behind_header, first_line, arrives, Input, at_end, intake_on, intake_from, nothing_read, input_of}
 use Rattle.mj_history.proofs.Places.{no_length}
 use Rattle.mj_history.proofs.Entries.{all_permitted-append}
 use Rattle.mj_history.proofs.Seats.{legal_seats}
@@ -369,16 +369,16 @@ end-sound : (reading : Intake) (number : ℕ) (rest : List ℕ) → IsSound read
 end-sound reading number [] sound = sound
 end-sound reading number (byte ∷ bytes) sound = sound
 
-hear_on-sound : (arrival : Arrival) (onwards : Intake → Input) (reading : Intake) (number : ℕ) → LeadsSoundly arrival → ((next : Intake) → IsSound next → IsSound (onwards next).reading) → IsSound reading → IsSound (hear_on arrival onwards reading number).reading
-hear_on-sound (Leads next) onwards reading number leads go sound = go next leads
-hear_on-sound Bad onwards reading number leads go sound = sound
+intake_on-sound : (arrival : Arrival) (onwards : Intake → Input) (reading : Intake) (number : ℕ) → LeadsSoundly arrival → ((next : Intake) → IsSound next → IsSound (onwards next).reading) → IsSound reading → IsSound (intake_on arrival onwards reading number).reading
+intake_on-sound (Leads next) onwards reading number leads go sound = go next leads
+intake_on-sound Bad onwards reading number leads go sound = sound
 
-hear_from-sound : (reading : Intake) (number : ℕ) (texts : List (List ℕ)) (rest : List ℕ) → IsSound reading → IsSound (hear_from reading number texts rest).reading
-hear_from-sound reading number [] rest sound = end-sound reading number rest sound
-hear_from-sound reading number (text ∷ texts) rest sound =
-    hear_on-sound (arrives reading text) (λ next. hear_from next (number + 1) texts rest) reading number
+intake_from-sound : (reading : Intake) (number : ℕ) (texts : List (List ℕ)) (rest : List ℕ) → IsSound reading → IsSound (intake_from reading number texts rest).reading
+intake_from-sound reading number [] rest sound = end-sound reading number rest sound
+intake_from-sound reading number (text ∷ texts) rest sound =
+    intake_on-sound (arrives reading text) (λ next. intake_from next (number + 1) texts rest) reading number
     (line-sound reading text sound)
-    (λ next next_sound. hear_from-sound next (number + 1) texts rest next_sound)
+    (λ next next_sound. intake_from-sound next (number + 1) texts rest next_sound)
     sound
 
 nothing-sound : IsSound nothing_read
@@ -390,4 +390,4 @@ nothing-sound = record {
 
 -- The game that is read off any input is legal.
 pub read_game_is_legal : (input : List ℕ) → IsLegal (setting_of (input_of input).reading) (input_of input).reading.entries
-read_game_is_legal input = (hear_from-sound nothing_read 1 (whole_lines input) (unfinished input) nothing-sound).legal
+read_game_is_legal input = (intake_from-sound nothing_read 1 (whole_lines input) (unfinished input) nothing-sound).legal

@@ -8,7 +8,7 @@ use Rattle.std.proofs.lemmas.Option.{same_Some, slice_get-map, slice_get_within}
 use Rattle.mj_ports.specs.declared.entry.Entry.{Entry}
 use Rattle.mj_ports.specs.declared.entry.Entry.TheVariants.{Sat, Back, Said, Gone, Expired}
 use Rattle.mj_ports.specs.Entries.{next_seat, IsAside}
-use Rattle.mj_ports.specs.Seats.{After as Seen, Unmoved, Begins, Answers, Adds, Leaves, GoesOn, IsAskedAgain, lines_to, hello, replay}
+use Rattle.mj_ports.specs.Seats.{Showing, Unmoved, Begins, Answers, Adds, Leaves, GoesOn, IsAskedAgain, lines_to, hello, replay}
 use Rattle.mj_ports.specs.declared.answers.Control.TheVariants as control
 use Rattle.mj_ports.specs.Seats.{pending as waiting}
 use Rattle.mj_ports.specs.declared.answers.Heard.{Heard}
@@ -173,7 +173,7 @@ flat_take [] (suc n) = refl
 flat_take (x ∷ xs) zero = append-nil x
 flat_take (x ∷ xs) (suc n) = ap (λ (l : List ℕ). x ++ l) (flat_take xs n) ∙ sym (append_assoc x (flat_map (λ (l : List ℕ). l) (take n xs)) (unwrap_or (slice_get xs n) []))
 
-lines_before : (w : Seen) (seat : ℕ) (deeds : List Deed) (n : ℕ) → ((k : ℕ) → k < length deeds → w.text seat k ≡ line_at deeds seat k) → n ≤ length deeds → flat_map (λ (l : List ℕ). l) (take n (lines_for seat deeds)) ≡ lines_to w seat n
+lines_before : (w : Showing) (seat : ℕ) (deeds : List Deed) (n : ℕ) → ((k : ℕ) → k < length deeds → w.text seat k ≡ line_at deeds seat k) → n ≤ length deeds → flat_map (λ (l : List ℕ). l) (take n (lines_for seat deeds)) ≡ lines_to w seat n
 lines_before w seat deeds zero same h = nothing (lines_for seat deeds)
   where
     nothing : (xs : List (List ℕ)) → flat_map (λ (l : List ℕ). l) (take 0 xs) ≡ []
@@ -214,7 +214,7 @@ returns_begin setting entries author seat l =
     told ∙ ap (λ (n : ℕ). control_line control.Hello ++ control_line (control.Head n) ++ lines_to (shown next) seat n) (sym due) in
     let begins : Begins author seat now.entered (due_on_return now seat) (replay control_line (shown next) seat) (shown next) =
     begins_if next seat now.entered author chair _ (step-placed setting now entry (after-placed setting entries)) (seats_next setting entries entry l) there refl refl (still (due_on_return now seat) (length now.deeds) (length next.deeds) (due_within now seat) (stays_step setting now entry).deeds) refl first in
-    stepped (λ (w : Seen). Begins author seat (length entries) (w.due seat) (replay control_line w seat) w) setting entries entry
+    stepped (λ (w : Showing). Begins author seat (length entries) (w.due seat) (replay control_line w seat) w) setting entries entry
     (subst (λ (n : ℕ). Begins author seat n (due_at next seat) (replay control_line (shown next) seat) (shown next)) (entered-is setting entries)
     (subst (λ (n : ℕ). Begins author seat now.entered n (replay control_line (shown next) seat) (shown next)) (sym due) begins))
   where
@@ -344,7 +344,7 @@ seats_leave setting entries author seat l =
     let chair : Chair = gone_chair (lines_for seat now.deeds) c.0 in
     let set : next.chairs ≡ slice_set now.chairs seat chair = gone-chairs setting now author seat c.0 c.1 in
     let there : slice_get next.chairs seat ≡ Some chair = ap (λ (cs : List Chair). slice_get cs seat) set ∙ slice_get-set_at now.chairs seat chair c.0 c.1 in
-    stepped (λ (w : Seen). Leaves seat (shown now) w × Adds seat [] (shown now) w) setting entries entry (
+    stepped (λ (w : Showing). Leaves seat (shown now) w × Adds seat [] (shown now) w) setting entries entry (
       leaves_if now next seat c.0 chair (after-placed setting entries) c.1 set refl,
       adds_if now next seat c.0 chair [] (after-placed setting entries) (step-placed setting now entry (after-placed setting entries)) c.1 there refl (no_reply c.0.progress.told (pending (lines_for seat now.deeds) c.0.progress)),
     )

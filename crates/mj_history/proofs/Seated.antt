@@ -7,7 +7,7 @@ use Rattle.std.proofs.lemmas.Bool.Decides.{eqb_tells}
 use Rattle.std.proofs.lemmas.List.{length-append}
 use Rattle.mj_ports.specs.declared.entry.Entry.{Entry}
 use Rattle.mj_ports.specs.declared.entry.Entry.TheVariants.{Sat, Back, Said, Gone, Expired}
-use Rattle.mj_ports.specs.Seats.{After as Seen, Stays, StaysEnded}
+use Rattle.mj_ports.specs.Seats.{Showing, Stays, StaysEnded}
 use Rattle.mj_deeds.specs.declared.answer.Answer.{Answer}
 use Rattle.mj_deeds.specs.declared.deed.Deed.{Deed}
 use Rattle.mj_deeds.specs.declared.deed.Viewer.TheVariants.{Seat}
@@ -26,7 +26,7 @@ use Rattle.mj_history.proofs.Ended.{no_more}
 use Rattle.mj_history.proofs.Entered.{step-chairs, step-deeds, listed, entered-is, back_chair}
 
 -- A law of one step, at entries of which the last is the step.
-pub stepped : (P : Seen → Type 0) (setting : Setting) (entries : List (Entry Answer)) (entry : Entry Answer) → P (shown (step setting (after setting entries) entry)) → P (shown_of setting (entries ++ entry ∷ []))
+pub stepped : (P : Showing → Type 0) (setting : Setting) (entries : List (Entry Answer)) (entry : Entry Answer) → P (shown (step setting (after setting entries) entry)) → P (shown_of setting (entries ++ entry ∷ []))
 stepped P setting entries entry p = subst (λ (now : After). P (shown now)) (sym (after-append setting entries entry)) p
 
 -- Beginnings.

@@ -162,18 +162,18 @@ at_end reading number [] = record { reading = reading; ending = Whole }
 at_end reading number (byte ∷ bytes) = record { reading = reading; ending = BadAt number }
 
 -- Where a line leads, and what is heard from there on.
-abbrev pub hear_on : Arrival → (Intake → Input) → Intake → ℕ → Input
-hear_on (Leads next) onwards reading number = onwards next
-hear_on Bad onwards reading number = record { reading = reading; ending = BadAt number }
+abbrev pub intake_on : Arrival → (Intake → Input) → Intake → ℕ → Input
+intake_on (Leads next) onwards reading number = onwards next
+intake_on Bad onwards reading number = record { reading = reading; ending = BadAt number }
 
 -- The lines from some point on: the number of the next, and what stands behind the last newline.
-abbrev pub hear_from : Intake → ℕ → List (List ℕ) → List ℕ → Input
-hear_from reading number [] rest = at_end reading number rest
-hear_from reading number (text ∷ texts) rest = hear_on (arrives reading text) (λ next. hear_from next (number + 1) texts rest) reading number
+abbrev pub intake_from : Intake → ℕ → List (List ℕ) → List ℕ → Input
+intake_from reading number [] rest = at_end reading number rest
+intake_from reading number (text ∷ texts) rest = intake_on (arrives reading text) (λ next. intake_from next (number + 1) texts rest) reading number
 
 abbrev pub nothing_read : Intake
 nothing_read = record { rules = None; walls = []; begun = false; entries = [] }
 
 -- The game that an input gives, and how the input ends.
 abbrev pub input_of : List ℕ → Input
-input_of input = hear_from nothing_read 1 (whole_lines input) (unfinished input)
+input_of input = intake_from nothing_read 1 (whole_lines input) (unfinished input)

@@ -11,7 +11,7 @@ use Rattle.mj_ports.specs.declared.answers.Expiry.{Expiry}
 use Rattle.mj_ports.specs.declared.answers.Expiry.TheVariants as expiry
 use Rattle.mj_ports.specs.declared.answers.Control.{Control}
 use Rattle.mj_ports.specs.declared.answers.Control.TheVariants as control
-use Rattle.mj_ports.specs.Seats.{After as Seen}
+use Rattle.mj_ports.specs.Seats.{Showing}
 use Rattle.mj_seating.specs.declared.desk.Placed.{Placed}
 use Rattle.mj_seating.specs.declared.desk.Placed.TheVariants as places
 use Rattle.mj_deeds.specs.declared.rule.Rule.{Rule}
@@ -63,7 +63,7 @@ abbrev pub told_at : List Chair → ℕ → List ℕ
 told_at chairs place = flat_map (told_in place) chairs
 
 -- What shows of what the entries come to.
-abbrev pub shown : After → Seen
+abbrev pub shown : After → Showing
 shown now = record {
   present = author_at now;
   due = due_at now;
@@ -77,7 +77,7 @@ shown now = record {
 }
 
 -- What shows of a game.
-abbrev pub shown_of : Setting → List (Entry Answer) → Seen
+abbrev pub shown_of : Setting → List (Entry Answer) → Showing
 shown_of setting entries = shown (after setting entries)
 
 -- What a line that wants a seat is answered, by what becomes of its join.

@@ -11,7 +11,7 @@ use Rattle.mj_bytes.specs.Parts.{has_byte, parted}
 use Rattle.mj_bytes.proofs.DigitLaws.{all_digits-head}
 use Rattle.mj_bytes.proofs.NumberLaws.{decimal_of-number_text}
 use Rattle.mj_bytes.proofs.PartLaws.{has_byte-head, has_byte-at, parted-some}
-use Rattle.mj_journal.specs.Calls.{Call, Sit, Say, Leave, Expire, IsLine, IsSized, under, number_below, text_of, arrival_text, times_text, author_of_call, sit_of, say_of, gone_of, times_of, expire_of, call_by, arrival_of, call_of}
+use Rattle.mj_journal.specs.Calls.{GameCall, Sit, Say, Leave, Expire, IsLine, IsSized, under, number_below, text_of, arrival_text, times_text, author_of_call, sit_of, say_of, gone_of, times_of, expire_of, call_by, arrival_of, call_of}
 
 own : IsNumeralModel (λ ds. all_digits ds ≡ true) digits_value
 own = numerals_by_weight _ (search rules) digits_value (search rules)
@@ -73,13 +73,13 @@ expire_told author window t1 t2 small first second =
     rw (parted_number window (times_text t1 t2) (omega (arith, small)), below_read (2 ^ 32) window small (omega (arith, small)))
     (times_told author window t1 t2 first second)
 
-arrival_told : (call : Call) → IsSized call → arrival_of (author_of_call call) (arrival_text call) ≡ Some call
+arrival_told : (call : GameCall) → IsSized call → arrival_of (author_of_call call) (arrival_text call) ≡ Some call
 arrival_told (Sit author line) sized = sit_told author line sized.1
 arrival_told (Say author seat line) sized = say_told author seat line sized.1 sized.2
 arrival_told (Leave author seat) sized = gone_told author seat sized.1
 arrival_told (Expire author window t1 t2) sized = expire_told author window t1 t2 sized.1 sized.2 sized.3
 
-small_author : (call : Call) → IsSized call → author_of_call call < 256
+small_author : (call : GameCall) → IsSized call → author_of_call call < 256
 small_author (Sit author line) sized = omega (arith, sized.0)
 small_author (Say author seat line) sized = omega (arith, sized.0)
 small_author (Leave author seat) sized = omega (arith, sized.0)
@@ -89,7 +89,7 @@ small_author (Expire author window t1 t2) sized = omega (arith, sized.0)
 plain_pair : (n : ℕ) (rest : List ℕ) → n < 2 ^ 64 → has_byte 10 rest ≡ false → has_byte 10 (number_text n ++ 32 ∷ rest) ≡ false
 plain_pair n rest small plain = plain_both 10 (number_text n) (32 ∷ rest) (plain_number 10 n (omega arith) small) plain
 
-arrival_plain : (call : Call) → IsSized call → has_byte 10 (arrival_text call) ≡ false
+arrival_plain : (call : GameCall) → IsSized call → has_byte 10 (arrival_text call) ≡ false
 arrival_plain (Sit author line) sized = plain_both 10 (codes "sit ") line refl sized.1.plain
 arrival_plain (Say author seat line) sized =
     plain_both 10 (codes "say ") (number_text seat ++ 32 ∷ line) refl (plain_pair seat line (omega (arith, sized.1)) sized.2.plain)
@@ -98,7 +98,7 @@ arrival_plain (Expire author window t1 t2) sized =
     plain_both 10 (codes "expire ") (number_text window ++ 32 ∷ times_text t1 t2) refl
     (plain_pair window (times_text t1 t2) (omega (arith, sized.1)) (plain_pair t1 (number_text t2) sized.2 (plain_number 10 t2 (omega arith) sized.3)))
 
-pub call_told : (call : Call) → IsSized call → call_of (text_of call) ≡ Some call
+pub call_told : (call : GameCall) → IsSized call → call_of (text_of call) ≡ Some call
 unfolding call_of
 call_told call sized =
     let author = author_of_call call in
@@ -114,7 +114,7 @@ number_long k n some less small = length-decimal-le k n some less small
 pair_long : (n k m : ℕ) (rest : List ℕ) → length (number_text n) ≤ k → length rest ≤ m → length (number_text n ++ 32 ∷ rest) ≤ k + 1 + m
 pair_long n k m rest first second = omega (arith, first, second, length-append (number_text n) (32 ∷ rest))
 
-arrival_long : (call : Call) → IsSized call → length (arrival_text call) ≤ 5000
+arrival_long : (call : GameCall) → IsSized call → length (arrival_text call) ≤ 5000
 arrival_long (Sit author line) sized = omega (arith, sized.1.short)
 arrival_long (Say author seat line) sized =
     omega (arith, pair_long seat 1 4095 line (number_long 1 seat (omega arith) (omega (arith, sized.1)) (omega (arith, sized.1))) sized.2.short)
@@ -125,7 +125,7 @@ arrival_long (Expire author window t1 t2) sized =
     let third = number_long 20 t2 (omega arith) (omega (arith, sized.3)) sized.3 in
     omega (arith, pair_long window 20 41 (times_text t1 t2) first (pair_long t1 20 20 (number_text t2) second third))
 
-pub text_short : (call : Call) → IsSized call → length (text_of call) < 2 ^ 32
+pub text_short : (call : GameCall) → IsSized call → length (text_of call) < 2 ^ 32
 text_short call sized =
     let author = author_of_call call in
     let small = small_author call sized in

@@ -4,7 +4,7 @@ use Rattle.std.specs.Prelude.{option_map, bytes_eq}
 use Rattle.mj_ports.specs.declared.entry.Entry.{Entry}
 use Rattle.mj_journal.specs.Journals.{journal, behind_journal, IsShut, IsJournalOf, IsAtRest, IsBeforeOrAfter}
 use Rattle.mj_journal.specs.Openings.{Fresh, Other, Open, is_fresh, entries_from, opening_of}
-use Rattle.mj_journal.specs.Calls.{Call, IsSized, text_of}
+use Rattle.mj_journal.specs.Calls.{GameCall, IsSized, text_of}
 use Rattle.mj_journal.specs.Playing.{Play, entered, taken, opens}
 use Rattle.mj_journal.specs.Keeping.{OpensTo, OpensWith, AnyMoment, After, IfKept, IfBoth}
 use Rattle.mj_journal.specs.Finishing.{Finishes, IsAnswered}
@@ -70,11 +70,11 @@ module _ {A R : Type 0} (game : Play A R) (tag : Bytes) where
       ∙ ap (λ (b : Bool). if b then entries_from (taken game) [] (5 + length t.first) (t.more ++ payload ∷ []) (0 ∷ []) else Other) t.tag
       ∙ opens_one (taken game) payload (behind_journal bytes) (0 ∷ []) (omega arith) es next end takes [] (5 + length t.first) t.more t.entries
 
-  taken_call : (call : Call) (es : Entries) (e : Entry A) (payload : Bytes) → IsSized call → payload ≡ text_of call → entered game es call ≡ Some e → taken game es payload ≡ Some (es ++ e ∷ [])
+  taken_call : (call : GameCall) (es : Entries) (e : Entry A) (payload : Bytes) → IsSized call → payload ≡ text_of call → entered game es call ≡ Some e → taken game es payload ≡ Some (es ++ e ∷ [])
   taken_call call es e payload sized text is = rw (text, call_told call sized, is) refl
 
   -- a call that adds an entry
-  module _ (call : Call) (es fs : Entries) (payload : Bytes) (sized : IsSized call) (text : payload ≡ text_of call) (bytes : Bytes) (end : ℕ) (opened : opens game tag bytes ≡ Open es end) where
+  module _ (call : GameCall) (es fs : Entries) (payload : Bytes) (sized : IsSized call) (text : payload ≡ text_of call) (bytes : Bytes) (end : ℕ) (opened : opens game tag bytes ≡ Open es end) where
     added_open : (o : Option (Entry A)) → entered game es call ≡ o → Enters Entered o es fs → (image : Bytes) → IsJournalOf (journal bytes ++ payload ∷ []) image → opens game tag image ≡ Open fs (end + 5 + length payload)
     added_open None is enters image stands = absurd enters
     added_open (Some e) is enters image stands =
@@ -107,7 +107,7 @@ told_before (Some old) after f g same bytes is = (old, refl)
 
 module _ {A R D : Type 0} (told : D → Option Bytes) (may_leave : D → Bytes → Type 0) (moment : D → ℕ) (left_since : D → ℕ → Bytes → Type 0) (game : Play A R) (disk : D) (es : List (Entry A)) (end : ℕ) (rest : IsAtRest (told disk) (may_leave disk) end) where
   -- a disk that isn't touched
-  pub untouched_moment : (call : Call) → ((image : Bytes) → left_since disk (moment disk) image → may_leave disk image) → AnyMoment told moment left_since game es end call disk disk
+  pub untouched_moment : (call : GameCall) → ((image : Bytes) → left_since disk (moment disk) image → may_leave disk image) → AnyMoment told moment left_since game es end call disk disk
   untouched_moment call only_now tag bytes is opened = record {
     later = omega arith;
     each = λ image left. inl (end, ap (opens game tag) (rest.kept bytes is image (only_now image left)) ∙ opened);
@@ -125,7 +125,7 @@ module _ {A R D : Type 0} (told : D → Option Bytes) (may_leave : D → Bytes �
   module _ (new : D) (payload : Bytes) (as_read : (bytes : Bytes) → told new ≡ Some bytes → may_leave new bytes)
       (added : option_map journal (told new) ≡ option_map (λ bytes. journal bytes ++ payload ∷ []) (told disk))
       (kept : (bytes : Bytes) → told disk ≡ Some bytes → (image : Bytes) → may_leave new image → IsJournalOf (journal bytes ++ payload ∷ []) image)
-      (call : Call) (sized : IsSized call) (text : payload ≡ text_of call) (fs : List (Entry A)) (enters : Enters Entered (entered game es call) es fs)
+      (call : GameCall) (sized : IsSized call) (text : payload ≡ text_of call) (fs : List (Entry A)) (enters : Enters Entered (entered game es call) es fs)
       (place : ℕ) (is_place : place ≡ end + 5 + length payload) where
     added_leaves : (tag bytes : Bytes) → told disk ≡ Some bytes → opens game tag bytes ≡ Open es end → (image : Bytes) → may_leave new image → opens game tag image ≡ Open fs place
     added_leaves tag bytes is opened image left =

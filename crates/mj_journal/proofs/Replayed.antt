@@ -6,7 +6,7 @@ use Rattle.std.proofs.lemmas.Bool.Decides.{nat_tests}
 use Rattle.mj_ports.specs.declared.entry.Entry.{Entry}
 use Rattle.mj_journal.specs.Journals.{first_record, payloads_within, behind_within, journal, behind_journal}
 use Rattle.mj_journal.specs.Openings.{Opening, Bad, Open, begins_open, entries_from}
-use Rattle.mj_journal.specs.Calls.{Call, call_of}
+use Rattle.mj_journal.specs.Calls.{GameCall, call_of}
 use Rattle.mj_journal.specs.Playing.{Play, entered, taken}
 use Rattle.mj_journal.specs.Outcomes.{Enters}
 use Rattle.mj_journal.specs.Replays.{entries_at, Takes}
@@ -109,8 +109,8 @@ module _ {S : Type 0} (taken_by : S → Bytes → Option S) (game : S) (place : 
 
 -- the call that a payload tells
 module _ {A R : Type 0} (game : Play A R) (es fs : List (Entry A)) (payload : Bytes) where
-  pub takes_call : (call : Call) (o : Outcome) → Some call ≡ call_of payload → Enters o (entered game es call) es fs → Takes o (taken game es payload) fs
-  takes_call call o is enters = subst (λ (c : Option Call). Takes o (option_and_then (λ call. option_map (λ e. es ++ e ∷ []) (entered game es call)) c) fs) is (by_entry o (entered game es call) enters)
+  pub takes_call : (call : GameCall) (o : Outcome) → Some call ≡ call_of payload → Enters o (entered game es call) es fs → Takes o (taken game es payload) fs
+  takes_call call o is enters = subst (λ (c : Option GameCall). Takes o (option_and_then (λ call. option_map (λ e. es ++ e ∷ []) (entered game es call)) c) fs) is (by_entry o (entered game es call) enters)
     where
       by_entry : (o : Outcome) (right : Option (Entry A)) → Enters o right es fs → Takes o (option_map (λ e. es ++ e ∷ []) right) fs
       by_entry Entered None enters = absurd enters
@@ -120,7 +120,7 @@ module _ {A R : Type 0} (game : Play A R) (es fs : List (Entry A)) (payload : By
       by_entry NoMemory right enters = record {}
 
   pub takes_none : None ≡ call_of payload → taken game es payload ≡ None
-  takes_none is = ap (λ (c : Option Call). option_and_then (λ call. option_map (λ e. es ++ e ∷ []) (entered game es call)) c) (sym is)
+  takes_none is = ap (λ (c : Option GameCall). option_and_then (λ call. option_map (λ e. es ++ e ∷ []) (entered game es call)) c) (sym is)
 
 abbrev place_in : {S : Type 0} → Opening S → ℕ
 place_in (Open last end) = end

@@ -3,7 +3,7 @@ use Rattle.std.specs.Prelude.{◌≡◌, ◌⊎◌, ℕ, ◌<◌, ◌≤◌, Lis
 use Rattle.mj_ports.specs.declared.entry.Entry.{Entry}
 use Rattle.mj_journal.specs.Disks.{LeavesOnly}
 use Rattle.mj_journal.specs.Openings.{Opening, Open}
-use Rattle.mj_journal.specs.Calls.{Call}
+use Rattle.mj_journal.specs.Calls.{GameCall}
 use Rattle.mj_journal.specs.Playing.{Play, entered, opens}
 use Rattle.mj_journal.specs.declared.outcome.Outcome.{Outcome}
 use Rattle.mj_journal.specs.declared.outcome.Outcome.TheVariants as outcome
@@ -78,7 +78,7 @@ TellsGame opens told entries end = (bytes : List ℕ) → told ≡ Some bytes �
 
 -- A call of a game with these entries, whose journal ends at this place. Where the disk at its start opened to the entries, for
 -- some tag, each image that a crash may leave at any moment of the call opens to them, or to them and the entry of the call.
-abbrev pub AnyMoment : {A R D : Type 0} → (D → Option (List ℕ)) → (D → ℕ) → (D → ℕ → List ℕ → Type 0) → Play A R → List (Entry A) → ℕ → Call → D → D → Type 0
+abbrev pub AnyMoment : {A R D : Type 0} → (D → Option (List ℕ)) → (D → ℕ) → (D → ℕ → List ℕ → Type 0) → Play A R → List (Entry A) → ℕ → GameCall → D → D → Type 0
 AnyMoment told moment left_since game entries end call old new =
     (tag bytes : List ℕ) → told old ≡ Some bytes → opens game tag bytes ≡ Open entries end
     → LeavesOnly moment left_since old new (λ image. OpensTo (opens game tag) entries image ⊎ OpensWith (opens game tag) entries (entered game entries call) image)

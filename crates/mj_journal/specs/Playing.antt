@@ -10,13 +10,13 @@ use Rattle.mj_ports.specs.declared.answers.Heard.{Heard}
 use Rattle.mj_ports.specs.declared.answers.Heard.TheVariants as heard
 use Rattle.mj_ports.specs.declared.answers.Expiry.{Expiry}
 use Rattle.mj_ports.specs.declared.answers.Expiry.TheVariants as expiry
-use Rattle.mj_ports.specs.Seats.{After}
-use Rattle.mj_journal.specs.Calls.{Call, Sit, Say, Leave, Expire, call_of}
+use Rattle.mj_ports.specs.Seats.{Showing}
+use Rattle.mj_journal.specs.Calls.{GameCall, Sit, Say, Leave, Expire, call_of}
 use Rattle.mj_journal.specs.Openings.{Opening, opening}
 
 -- A game of one setting: what entries come to, what its calls answer, and what lines read as.
 pub record Play (A R : Type 0) : Type 0 where
-  pub after : List (Entry A) → After
+  pub after : List (Entry A) → Showing
   pub sits : List (Entry A) → List ℕ → SitAnswer
   pub hears : List (Entry A) → ℕ → ℕ → A → Heard R
   pub expires : List (Entry A) → ℕ → ℕ → ℕ → Expiry
@@ -24,7 +24,7 @@ pub record Play (A R : Type 0) : Type 0 where
   pub joins : List ℕ → Option JoinLine
 
 -- The play of a setting.
-abbrev pub play : {S A R : Type 0} → (S → List (Entry A) → After) → (S → List (Entry A) → List ℕ → SitAnswer) → (S → List (Entry A) → ℕ → ℕ → A → Heard R) → (S → List (Entry A) → ℕ → ℕ → ℕ → Expiry) → (List ℕ → A) → (List ℕ → Option JoinLine) → S → Play A R
+abbrev pub play : {S A R : Type 0} → (S → List (Entry A) → Showing) → (S → List (Entry A) → List ℕ → SitAnswer) → (S → List (Entry A) → ℕ → ℕ → A → Heard R) → (S → List (Entry A) → ℕ → ℕ → ℕ → Expiry) → (List ℕ → A) → (List ℕ → Option JoinLine) → S → Play A R
 play after sits hears expires reads joins setting = record { after = after setting; sits = sits setting; hears = hears setting; expires = expires setting; reads = reads; joins = joins }
 
 -- The entry of a seat that is given.
@@ -51,16 +51,16 @@ expired expiry.Early author window t1 t2 = None
 expired expiry.NoMemory author window t1 t2 = None
 
 -- A seat, one of the four, is present by this author.
-abbrev pub is_by : After → ℕ → ℕ → Bool
+abbrev pub is_by : Showing → ℕ → ℕ → Bool
 is_by now author seat = nat_lt seat 4 && option_map_or (λ by. by == author) (now.present seat) false
 
 -- And its due deed exists.
-abbrev pub is_asked : After → ℕ → ℕ → Bool
+abbrev pub is_asked : Showing → ℕ → ℕ → Bool
 is_asked now author seat = is_by now author seat && nat_lt (now.due seat) now.deeds
 
 module _ {A R : Type 0} (game : Play A R) where
   -- The entry that a call adds to these entries: none where its condition doesn't hold, or it adds none.
-  abbrev pub entered : List (Entry A) → Call → Option (Entry A)
+  abbrev pub entered : List (Entry A) → GameCall → Option (Entry A)
   entered entries (Sit author line) = sat (game.sits entries line) author (game.joins line)
   entered entries (Say author seat line) = if is_asked (game.after entries) author seat then said (game.hears entries author seat (game.reads line)) author seat (game.reads line) else None
   entered entries (Leave author seat) = if is_by (game.after entries) author seat then Some (entry.Gone author seat) else None

@@ -4,8 +4,8 @@ use Rattle.mj_journal.specs.Journals.{journal, behind_journal}
 use Rattle.mj_journal.specs.Openings.{Opening, Bad, Open, entries_from}
 use Rattle.mj_journal.specs.declared.outcome.Outcome.{Outcome}
 use Rattle.mj_journal.specs.declared.outcome.Outcome.TheVariants as outcome
-use Rattle.mj_journal.specs.declared.replaying.Step.{Step}
-use Rattle.mj_journal.specs.declared.replaying.Step.TheVariants.{Next, End, Torn, Failed, NoMemory}
+use Rattle.mj_journal.specs.declared.replaying.Replayed.{Replayed}
+use Rattle.mj_journal.specs.declared.replaying.Replayed.TheVariants.{Next, End, Torn, Failed, NoMemory}
 use Rattle.mj_journal.specs.declared.not_opened.NotOpened.{NotOpened}
 use Rattle.mj_journal.specs.declared.not_opened.NotOpened.TheVariants as not_opened
 
@@ -20,7 +20,7 @@ Takes outcome.Nothing right new = right ≡ None
 Takes outcome.NoMemory right new = Unit {0}
 
 -- What the record at a place did, on a disk of these bytes.
-abbrev pub Steps : {S : Type 0} → Step → (S → List ℕ → Option S) → S → S → ℕ → List ℕ → Type 0
+abbrev pub Steps : {S : Type 0} → Replayed → (S → List ℕ → Option S) → S → S → ℕ → List ℕ → Type 0
 Steps (Next next) taken old new place bytes = entries_at taken old place bytes ≡ entries_at taken new next bytes
 Steps End taken old new place bytes = (entries_at taken old place bytes ≡ Open old place) × (new ≡ old)
 Steps Torn taken old new place bytes = entries_at taken old place bytes ≡ Bad place
@@ -28,12 +28,12 @@ Steps Failed taken old new place bytes = Unit {0}
 Steps NoMemory taken old new place bytes = Unit {0}
 
 -- The next record stands further on, within the disk.
-abbrev pub StepsOn : Step → ℕ → ℕ → Type 0
+abbrev pub StepsOn : Replayed → ℕ → ℕ → Type 0
 StepsOn (Next next) place size = (place < next) × (next < size)
 StepsOn step place size = Unit {0}
 
 -- The count of faults never falls, and rises where the disk failed.
-abbrev pub CountsStepFault : Step → ℕ → ℕ → Type 0
+abbrev pub CountsStepFault : Replayed → ℕ → ℕ → Type 0
 CountsStepFault Failed old new = old < new
 CountsStepFault step old new = old ≤ new
 

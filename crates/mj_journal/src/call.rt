@@ -17,7 +17,7 @@ const LINE_LIMIT: usize = 4095;
 
 /// A call on a game, and its author. A seat is 0 to 3, and times are in milliseconds.
 #[derive(Drop)]
-pub(crate) enum Call<'a> {
+pub(crate) enum GameCall<'a> {
     /// Somebody wants a seat.
     Sit {
         author: u8,
@@ -43,22 +43,22 @@ pub(crate) enum Call<'a> {
     },
 }
 
-impl Call<'_> {
+impl GameCall<'_> {
     fn author(&self) -> u8
         ensures { result ≡ author_of_call (meant self.now) }
     {
         match self {
-            Call::Sit { author, .. } => *author,
-            Call::Say { author, .. } => *author,
-            Call::Leave { author, .. } => *author,
-            Call::Expire { author, .. } => *author,
+            GameCall::Sit { author, .. } => *author,
+            GameCall::Say { author, .. } => *author,
+            GameCall::Leave { author, .. } => *author,
+            GameCall::Expire { author, .. } => *author,
         }
     }
 }
 
 /// The call that a payload tells; none where it tells none.
 #[tactic(auto, unfolding(crate::specs::Calls::call_of))]
-pub(crate) fn read_call(payload: &[u8]) -> Option<Call<'_>>
+pub(crate) fn read_call(payload: &[u8]) -> Option<GameCall<'_>>
     ensures { option_map meant result ≡ call_of payload.now }
 {
     if has_newline(payload) {
@@ -93,7 +93,7 @@ fn read_below(text: &[u8], bound: u64) -> Option<u64>
 
 // The call of an author that the line of an arrival tells.
 #[tactic(auto, unfolding(crate::specs::Calls::arrival_of))]
-fn read_arrival(author: u8, text: &[u8]) -> Option<Call<'_>>
+fn read_arrival(author: u8, text: &[u8]) -> Option<GameCall<'_>>
     ensures { option_map meant result ≡ arrival_of author text.now }
 {
     let (word, text) = split_space(text)?;
@@ -101,7 +101,7 @@ fn read_arrival(author: u8, text: &[u8]) -> Option<Call<'_>>
 }
 
 #[tactic(auto, unfolding(crate::specs::Calls::call_by))]
-fn call_named<'a>(author: u8, word: &[u8], text: &'a [u8]) -> Option<Call<'a>>
+fn call_named<'a>(author: u8, word: &[u8], text: &'a [u8]) -> Option<GameCall<'a>>
     ensures { option_map meant result ≡ call_by author word.now text.now }
 {
     if word == b"sit".as_slice() {
@@ -120,17 +120,17 @@ fn call_named<'a>(author: u8, word: &[u8], text: &'a [u8]) -> Option<Call<'a>>
 }
 
 #[tactic(auto, unfolding(crate::specs::Calls::sit_of))]
-fn read_sit(author: u8, line: &[u8]) -> Option<Call<'_>>
+fn read_sit(author: u8, line: &[u8]) -> Option<GameCall<'_>>
     ensures { option_map meant result ≡ sit_of author line.now }
 {
     if line.len() > LINE_LIMIT {
         return None;
     }
-    Some(Call::Sit { author, line })
+    Some(GameCall::Sit { author, line })
 }
 
 #[tactic(auto, unfolding(crate::specs::Calls::say_of))]
-fn read_say(author: u8, text: &[u8]) -> Option<Call<'_>>
+fn read_say(author: u8, text: &[u8]) -> Option<GameCall<'_>>
     ensures { option_map meant result ≡ say_of author text.now }
 {
     let (seat, line) = split_space(text)?;
@@ -138,19 +138,19 @@ fn read_say(author: u8, text: &[u8]) -> Option<Call<'_>>
     if line.len() > LINE_LIMIT {
         return None;
     }
-    Some(Call::Say { author, seat, line })
+    Some(GameCall::Say { author, seat, line })
 }
 
 #[tactic(auto, unfolding(crate::specs::Calls::gone_of))]
-fn read_gone<'a>(author: u8, text: &[u8]) -> Option<Call<'a>>
+fn read_gone<'a>(author: u8, text: &[u8]) -> Option<GameCall<'a>>
     ensures { option_map meant result ≡ gone_of author text.now }
 {
     let seat = read_below(text, 4)? as u8;
-    Some(Call::Leave { author, seat })
+    Some(GameCall::Leave { author, seat })
 }
 
 #[tactic(auto, unfolding(crate::specs::Calls::expire_of))]
-fn read_expire<'a>(author: u8, text: &[u8]) -> Option<Call<'a>>
+fn read_expire<'a>(author: u8, text: &[u8]) -> Option<GameCall<'a>>
     ensures { option_map meant result ≡ expire_of author text.now }
 {
     let (window, times) = split_space(text)?;
@@ -159,13 +159,13 @@ fn read_expire<'a>(author: u8, text: &[u8]) -> Option<Call<'a>>
 }
 
 #[tactic(auto, unfolding(crate::specs::Calls::times_of))]
-fn read_times<'a>(author: u8, window: u32, text: &[u8]) -> Option<Call<'a>>
+fn read_times<'a>(author: u8, window: u32, text: &[u8]) -> Option<GameCall<'a>>
     ensures { option_map meant result ≡ times_of author window text.now }
 {
     let (t1, t2) = split_space(text)?;
     let t1 = read_number(t1)?;
     let t2 = read_number(t2)?;
-    Some(Call::Expire {
+    Some(GameCall::Expire {
         author,
         window,
         t1,
@@ -175,7 +175,7 @@ fn read_times<'a>(author: u8, window: u32, text: &[u8]) -> Option<Call<'a>>
 
 /// The record of a call, as a journal keeps it.
 #[tactic(auto, using(crate::proofs::CallTexts::text_short))]
-pub(crate) fn call_record(alloc: Global, call: &Call<'_>) -> Result<Record, AllocError>
+pub(crate) fn call_record(alloc: Global, call: &GameCall<'_>) -> Result<Record, AllocError>
     requires { IsSized (meant call.now) }
     ensures { IfOk result (λ entry. entry ≡ text_of (meant call.now)) }
 {
@@ -184,7 +184,7 @@ pub(crate) fn call_record(alloc: Global, call: &Call<'_>) -> Result<Record, Allo
     Record::of(alloc, &text)
 }
 
-fn push_call(text: &mut Vec<u8>, call: &Call<'_>) -> Result<(), AllocError>
+fn push_call(text: &mut Vec<u8>, call: &GameCall<'_>) -> Result<(), AllocError>
     ensures { OnOk result (Adds text.old.items text.new.items (text_of (meant call.now))) }
 {
     push_field(text, u64::from(call.author()))?;
@@ -201,14 +201,14 @@ fn push_field(text: &mut Vec<u8>, number: u64) -> Result<(), AllocError>
     Ok(())
 }
 
-fn push_arrival(text: &mut Vec<u8>, call: &Call<'_>) -> Result<(), AllocError>
+fn push_arrival(text: &mut Vec<u8>, call: &GameCall<'_>) -> Result<(), AllocError>
     ensures { OnOk result (Adds text.old.items text.new.items (arrival_text (meant call.now))) }
 {
     match call {
-        Call::Sit { line, .. } => push_sit(text, line),
-        Call::Say { seat, line, .. } => push_say(text, *seat, line),
-        Call::Leave { seat, .. } => push_gone(text, *seat),
-        Call::Expire { window, t1, t2, .. } => push_expire(text, *window, *t1, *t2),
+        GameCall::Sit { line, .. } => push_sit(text, line),
+        GameCall::Say { seat, line, .. } => push_say(text, *seat, line),
+        GameCall::Leave { seat, .. } => push_gone(text, *seat),
+        GameCall::Expire { window, t1, t2, .. } => push_expire(text, *window, *t1, *t2),
     }
 }
 

@@ -4,7 +4,7 @@ ghost use Rattle.std.specs.Prelude.{◌≡◌, ◌<◌, ◌≤◌, ◌++◌, ◌
 ghost use Rattle.mj_ports.specs.SeatCalls.{AnswersSit, AnswersSaid, AnswersGone, AnswersExpiry};
 ghost use Rattle.mj_ports.specs.declared.entry.Entry.{Entry};
 ghost use Rattle.mj_journal.specs.Journals.{IsAtRest};
-ghost use Rattle.mj_journal.specs.Calls.{Call as CallMeant, Sit, Say, Leave, Expire, IsLine, IsSized, text_of};
+ghost use Rattle.mj_journal.specs.Calls.{GameCall as CallMeant, Sit, Say, Leave, Expire, IsLine, IsSized, text_of};
 ghost use Rattle.mj_journal.specs.Outcomes.{Enters, of_sit, of_said, of_gone, of_expiry};
 ghost use Rattle.mj_journal.specs.Playing.{Play, play, entered};
 ghost use Rattle.mj_journal.specs.Keeping.{game_of, end_of, IfKept, IfBoth, Answers, HadMemory, SparedBy, Spares, CountsAnswerFault, AnyMoment, After};
@@ -13,7 +13,7 @@ ghost use Rattle.mj_journal.specs.Finishing.{Finishes, IsAnswered};
 
 use crate::answered::Answered;
 use crate::appending::append;
-use crate::call::{Call, call_record};
+use crate::call::{GameCall, call_record};
 use crate::disk::{Disk, Synced};
 use crate::outcome::{Outcome, expiry_outcome, gone_outcome, said_outcome, sit_outcome};
 use crate::record::Record;
@@ -73,7 +73,7 @@ impl<G: Seated> Kept<G> {
         let Some(game) = &mut self.game else {
             return Answered::Stopped;
         };
-        let Ok(entry) = call_record(self.alloc, &Call::Sit { author, line }) else {
+        let Ok(entry) = call_record(self.alloc, &GameCall::Sit { author, line }) else {
             return Answered::NoMemory;
         };
         let answer = game.sit(self.alloc, author, line);
@@ -128,7 +128,7 @@ impl<G: Seated> Kept<G> {
         let Some(game) = &mut self.game else {
             return Answered::Stopped;
         };
-        let Ok(entry) = call_record(self.alloc, &Call::Say { author, seat, line }) else {
+        let Ok(entry) = call_record(self.alloc, &GameCall::Say { author, seat, line }) else {
             return Answered::NoMemory;
         };
         let answer = game.said(self.alloc, author, seat, line);
@@ -172,7 +172,7 @@ impl<G: Seated> Kept<G> {
         let Some(game) = &mut self.game else {
             return Answered::Stopped;
         };
-        let Ok(entry) = call_record(self.alloc, &Call::Leave { author, seat }) else {
+        let Ok(entry) = call_record(self.alloc, &GameCall::Leave { author, seat }) else {
             return Answered::NoMemory;
         };
         let answer = game.gone(self.alloc, author, seat);
@@ -222,7 +222,7 @@ impl<G: Seated> Kept<G> {
         };
         let Ok(entry) = call_record(
             self.alloc,
-            &Call::Expire {
+            &GameCall::Expire {
                 author,
                 window,
                 t1,

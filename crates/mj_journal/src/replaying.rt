@@ -17,7 +17,7 @@ use std::alloc::Global;
 
 /// What the record at a place did.
 #[derive(Clone, Copy)]
-pub(crate) enum Step {
+pub(crate) enum Replayed {
     /// It added an entry, and the next gate stands at this place.
     Next(u64),
     /// A closed gate stands there.
@@ -54,11 +54,11 @@ pub(crate) fn replay<G: Seated, D: Disk>(
     let mut place = start;
     loop {
         match replay_one(alloc, game, disk, size, place) {
-            Step::Next(next) => place = next,
-            Step::End => return Ok(place),
-            Step::Torn => return Err(NotOpened::BadJournal(place)),
-            Step::Failed => return Err(NotOpened::DiskFault),
-            Step::NoMemory => return Err(NotOpened::NoMemory),
+            Replayed::Next(next) => place = next,
+            Replayed::End => return Ok(place),
+            Replayed::Torn => return Err(NotOpened::BadJournal(place)),
+            Replayed::Failed => return Err(NotOpened::DiskFault),
+            Replayed::NoMemory => return Err(NotOpened::NoMemory),
         }
     }
 }
@@ -70,7 +70,7 @@ fn replay_one<G: Seated, D: Disk>(
     disk: &mut D,
     size: u64,
     place: u64,
-) -> Step
+) -> Replayed
     requires size { HasSize (D.told disk.old) size }
     requires place { place < size }
     requires short { size ≤ 2 ^ 62 }
@@ -84,14 +84,14 @@ fn replay_one<G: Seated, D: Disk>(
 {
     match read_record(alloc, disk, size, place) {
         Reading::Payload(payload) => match enter_payload(game, alloc, &payload) {
-            Outcome::Entered => Step::Next(place + payload.len() as u64 + 5),
-            Outcome::Nothing => Step::Torn,
-            Outcome::NoMemory => Step::NoMemory,
+            Outcome::Entered => Replayed::Next(place + payload.len() as u64 + 5),
+            Outcome::Nothing => Replayed::Torn,
+            Outcome::NoMemory => Replayed::NoMemory,
         },
-        Reading::Shut => Step::End,
-        Reading::Torn => Step::Torn,
-        Reading::Failed => Step::Failed,
-        Reading::NoMemory => Step::NoMemory,
+        Reading::Shut => Replayed::End,
+        Reading::Torn => Replayed::Torn,
+        Reading::Failed => Replayed::Failed,
+        Reading::NoMemory => Replayed::NoMemory,
     }
 }
 

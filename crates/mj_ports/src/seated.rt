@@ -8,7 +8,7 @@ ghost use Rattle.mj_ports.specs.declared.answers.Expiry.{Expiry};
 ghost use Rattle.mj_ports.specs.declared.answers.Control.{Control};
 ghost use Rattle.mj_ports.specs.Entries.{next_seat, IsAside};
 ghost use Rattle.mj_ports.specs.SeatCalls.{AnswersSit, AnswersSaid, AnswersGone, AnswersExpiry};
-ghost use Rattle.mj_ports.specs.Seats.{After, Stays, StaysEnded, Unmoved, Begins, Answers, Leaves, Adds, hello, replay};
+ghost use Rattle.mj_ports.specs.Seats.{Showing, Stays, StaysEnded, Unmoved, Begins, Answers, Leaves, Adds, hello, replay};
 
 use crate::answers::{Control, Expiry, Heard, Left, SitAnswer};
 use std::alloc::{AllocError, Global};
@@ -39,7 +39,7 @@ pub trait Seated: Drop + Send {
     ghost joins: { List ℕ → Option JoinLine };
 
     // What entries come to.
-    ghost after: { Self.Setting → List (Entry Self.Answer) → After };
+    ghost after: { Self.Setting → List (Entry Self.Answer) → Showing };
 
     // Each entry is permitted where it stands.
     ghost is_legal: { Self.Setting → List (Entry Self.Answer) → Type 0 };

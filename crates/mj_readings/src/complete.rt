@@ -41,7 +41,7 @@ fn completes_hand(numbers: &[u8], melds: u8) -> bool
             0,
             0,
             0,
-            Left {
+            StillWanted {
                 sets: 4 - melds,
                 paired: false,
             },
@@ -51,7 +51,7 @@ fn completes_hand(numbers: &[u8], melds: u8) -> bool
 
 /// What is left to make: so many sets, and the pair where it isn't made.
 #[derive(Clone, Copy, Debug)]
-pub(crate) struct Left {
+pub(crate) struct StillWanted {
     pub(crate) sets: u8,
     pub(crate) paired: bool,
 }
@@ -60,7 +60,7 @@ pub(crate) struct Left {
 /// kinds and one kind before.
 #[cycle(completes)]
 #[tactic(auto, unfolding(crate::specs::Inner::Ways::has_way))]
-fn completes(numbers: &[u8], kind: u8, first: u8, second: u8, left: Left) -> bool
+fn completes(numbers: &[u8], kind: u8, first: u8, second: u8, left: StillWanted) -> bool
     requires kinds { kind + length numbers.now ≤ 34 }
     requires first_few { first ≤ 4 }
     requires second_few { second ≤ 4 }
@@ -82,7 +82,7 @@ pub(crate) fn completes_at(
     kind: u8,
     first: u8,
     second: u8,
-    left: Left,
+    left: StillWanted,
 ) -> bool
     requires kinds { kind + length others.now < 34 }
     requires first_few { first ≤ 4 }
@@ -94,7 +94,7 @@ pub(crate) fn completes_at(
         return false;
     }
     let free = count - (first + second);
-    let with_pair = Left {
+    let with_pair = StillWanted {
         sets: left.sets,
         paired: true,
     };
@@ -105,7 +105,7 @@ pub(crate) fn completes_at(
 
 /// The same after a kind at which so many runs and triplets begin.
 #[cycle(completes)]
-fn goes_on(others: &[u8], kind: u8, second: u8, runs: u8, triplets: u8, left: Left) -> bool
+fn goes_on(others: &[u8], kind: u8, second: u8, runs: u8, triplets: u8, left: StillWanted) -> bool
     requires kinds { kind + length others.now < 34 }
     requires second_few { second ≤ 4 }
     requires triplet { triplets ≤ 1 }
@@ -117,7 +117,7 @@ fn goes_on(others: &[u8], kind: u8, second: u8, runs: u8, triplets: u8, left: Le
     if !can_begin(kind, runs, triplets, left.sets) {
         return false;
     }
-    let next = Left {
+    let next = StillWanted {
         sets: left.sets - (runs + triplets),
         paired: left.paired,
     };

@@ -4,7 +4,7 @@ ghost use Rattle.mj_tiles.specs.Kinds.{has_kind, kinds_that};
 ghost use Rattle.mj_readings.specs.Completing.{IsCompleting, is_completing};
 ghost use Rattle.mj_readings.specs.Inner.OneMore.{Adds, AreStandard, NoSpecial, begins_past, completes_past};
 
-use crate::complete::{Left, can_begin, completes_at, is_complete_with};
+use crate::complete::{StillWanted, can_begin, completes_at, is_complete_with};
 use mj_tiles::{Counts, Kind, Kinds};
 
 /// The kinds that complete a hand of concealed tiles with these counts and so many melds: those of which fewer than
@@ -54,7 +54,7 @@ fn standard_kinds(numbers: &[u8], melds: u8) -> Kinds
     if melds > 4 {
         return Kinds::none();
     }
-    let left = Left {
+    let left = StillWanted {
         sets: 4 - melds,
         paired: false,
     };
@@ -69,7 +69,7 @@ fn completing_from(
     kind: u8,
     first: u8,
     second: u8,
-    left: Left,
+    left: StillWanted,
     found: Kinds,
 ) -> Kinds
     requires kinds { kind + length numbers.now ≡ 34 }
@@ -110,7 +110,14 @@ fn with_where(found: Kinds, kind: Kind, holds: bool) -> Kinds
 /// The same past a kind at which the pair and so many runs less two begin, where two tiles are free and there is no
 /// pair.
 #[cycle(completing_from)]
-fn beyond_pair(others: &[u8], kind: u8, second: u8, free: u8, left: Left, found: Kinds) -> Kinds
+fn beyond_pair(
+    others: &[u8],
+    kind: u8,
+    second: u8,
+    free: u8,
+    left: StillWanted,
+    found: Kinds,
+) -> Kinds
     requires kinds { kind + length others.now + 1 ≡ 34 }
     requires held { NoFifth others.now }
     requires second_few { second ≤ 4 }
@@ -123,7 +130,7 @@ fn beyond_pair(others: &[u8], kind: u8, second: u8, free: u8, left: Left, found:
     if free < 2 || left.paired {
         return found;
     }
-    let with_pair = Left {
+    let with_pair = StillWanted {
         sets: left.sets,
         paired: true,
     };
@@ -138,7 +145,7 @@ fn beyond(
     second: u8,
     runs: u8,
     triplets: u8,
-    left: Left,
+    left: StillWanted,
     found: Kinds,
 ) -> Kinds
     requires kinds { kind + length others.now + 1 ≡ 34 }
@@ -153,7 +160,7 @@ fn beyond(
     if !can_begin(kind, runs, triplets, left.sets) {
         return found;
     }
-    let next = Left {
+    let next = StillWanted {
         sets: left.sets - (runs + triplets),
         paired: left.paired,
     };

@@ -5,7 +5,7 @@ use Rattle.mj_links.specs.Links.{ReadingStays, has_newline}
 use Rattle.mj_ports.specs.declared.entry.Entry.{Entry}
 use Rattle.mj_ports.specs.declared.entry.Entry.TheVariants.{Gone}
 use Rattle.mj_ports.specs.declared.answers.Heard.{Heard}
-use Rattle.mj_ports.specs.Seats.{After, script, pending}
+use Rattle.mj_ports.specs.Seats.{Showing, script, pending}
 use Rattle.mj_seats.specs.declared.served.Ended.{Ended}
 use Rattle.mj_seats.specs.declared.served.Ended.TheVariants.{GameOver, PeerEnded, LinkFault, LineTooLong, TooManyRefusals, NotSeated, NoMemory}
 use Rattle.mj_seats.specs.declared.step.Step.TheVariants.{Ends}
@@ -23,7 +23,7 @@ module _ {A : Type 0} (author : ℕ) where
   pub enters_no_more : (a b c m : List (Entry A)) → Enters author a b m → Enters author b c [] → Enters author a c (m ++ [])
   enters_no_more a b c m p q = enters_chain author a b c m [] p q
 
-  pub enters_gone : (after : List (Entry A) → After) (seat place : ℕ) (a b c m : List (Entry A)) → Enters author a b m → GoesAway after author seat place b c → Enters author a c (m ++ Gone author seat ∷ [])
+  pub enters_gone : (after : List (Entry A) → Showing) (seat place : ℕ) (a b c m : List (Entry A)) → Enters author a b m → GoesAway after author seat place b c → Enters author a c (m ++ Gone author seat ∷ [])
   enters_gone after seat place a b c m p g =
       enters_chain author a b c m (Gone author seat ∷ []) p (enters_chain author b g.until c [] (Gone author seat ∷ []) g.watches.nothing (enters_one author g.until c (Gone author seat) refl g.extends.added))
 
@@ -46,7 +46,7 @@ excused_more excuse more x y a b f t = record { piece = t.piece; rest = t.rest; 
     by (inr (inl w)) = inr (inl w)
     by (inr (inr h)) = inr (inr (f h))
 
-module _ {A R : Type 0} (after : List (Entry A) → After) (reads : List ℕ → A) (hears : List (Entry A) → ℕ → ℕ → A → Heard R) (author seat place : ℕ) where
+module _ {A R : Type 0} (after : List (Entry A) → Showing) (reads : List ℕ → A) (hears : List (Entry A) → ℕ → ℕ → A → Heard R) (author seat place : ℕ) where
   -- the script at the end of a seat that was asked is the one before it left
   kept_away : (mid new : List (Entry A)) → Stands (after mid) author seat place → (after mid).due seat < (after mid).deeds → GoesAway after author seat place mid new → script (after new) place ≡ script (after mid) place
   kept_away mid new s near g = g.extends.script_is ∙ (append-nil (script (after g.until) place) ∙ script_kept (after mid) place seat s.mine (after g.until) g.watches.unmoved g.watches.stays near)

@@ -6,7 +6,7 @@ use Rattle.mj_ports.specs.declared.sitting.JoinLine.{JoinLine}
 use Rattle.mj_ports.specs.declared.answers.SitAnswer.{SitAnswer}
 use Rattle.mj_ports.specs.declared.answers.Heard.{Heard}
 use Rattle.mj_ports.specs.declared.answers.Control.{Control}
-use Rattle.mj_ports.specs.Seats.{After}
+use Rattle.mj_ports.specs.Seats.{Showing}
 use Rattle.mj_seats.specs.declared.handle.Session.{Session}
 use Rattle.mj_seats.specs.Histories.{Enters}
 use Rattle.mj_seats.specs.declared.served.Ended.{Ended}
@@ -19,7 +19,7 @@ use Rattle.mj_links.specs.Links.{ReadingStays, WritingStays}
 use Rattle.mj_links.specs.declared.wire.Wire.{Wire}
 use Rattle.mj_seats.proofs.Entering.{enters_chain, enters_nothing}
 
-module _ {A R L : Type 0} (after : List (Entry A) → After) (reads : List ℕ → A) (joins : List ℕ → Option JoinLine) (sits : List (Entry A) → List ℕ → SitAnswer) (hears : List (Entry A) → ℕ → ℕ → A → Heard R) (says : Control R → List ℕ) (at : List ℕ → L → WireState) where
+module _ {A R L : Type 0} (after : List (Entry A) → Showing) (reads : List ℕ → A) (joins : List ℕ → Option JoinLine) (sits : List (Entry A) → List ℕ → SitAnswer) (hears : List (Entry A) → ℕ → ℕ → A → Heard R) (says : Control R → List ℕ) (at : List ℕ → L → WireState) where
   -- what excuses more excuses as well
   pub kept_excused : (less more : Type 0) → (less → more) → (author : ℕ) (old new : List (Entry A)) (s : Session L) → Noted after reads joins sits hears says at less author old new s → Noted after reads joins sits hears says at more author old new s
   kept_excused less more f author old new s k = record { start = k.start; is_new = k.is_new; held = k.held; ended = k.ended; seated = k.seated; excused = λ h. f (k.excused h) }
@@ -109,7 +109,7 @@ module _ {A R L : Type 0} (after : List (Entry A) → After) (reads : List ℕ �
         (subst (λ (w : WireState). SeatedSession after reads joins sits hears says author old new x w ended place) same_y seated));
   }
 
-module _ {A R : Type 0} (after : List (Entry A) → After) (reads : List ℕ → A) (joins : List ℕ → Option JoinLine) (sits : List (Entry A) → List ℕ → SitAnswer) (hears : List (Entry A) → ℕ → ℕ → A → Heard R) (says : Control R → List ℕ) where
+module _ {A R : Type 0} (after : List (Entry A) → Showing) (reads : List ℕ → A) (joins : List ℕ → Option JoinLine) (sits : List (Entry A) → List ℕ → SitAnswer) (hears : List (Entry A) → ℕ → ℕ → A → Heard R) (says : Control R → List ℕ) where
   pub session_some : (author : ℕ) (old new : List (Entry A)) (x y : WireState) (ended : Ended) (place : Option ℕ) (p : ℕ) → place ≡ Some p → SessionAt after reads joins sits hears says author old new x y ended place → SeatedSession after reads joins sits hears says author old new x y ended p
   session_some author old new x y ended place p e h = subst (λ (o : Option ℕ). SessionAt after reads joins sits hears says author old new x y ended o) e h
 

@@ -11,7 +11,7 @@ use Rattle.mj_ports.specs.declared.sitting.JoinLine.{JoinLine}
 use Rattle.mj_ports.specs.declared.answers.SitAnswer.{SitAnswer}
 use Rattle.mj_ports.specs.declared.answers.Heard.{Heard}
 use Rattle.mj_ports.specs.declared.answers.Control.{Control}
-use Rattle.mj_ports.specs.Seats.{After}
+use Rattle.mj_ports.specs.Seats.{Showing}
 use Rattle.mj_seats.specs.declared.handle.HandlerEnd.{HandlerEnd}
 use Rattle.mj_seats.specs.declared.handle.Session.{Session}
 use Rattle.mj_seats.specs.Handlers.{WantsMemory}
@@ -95,7 +95,7 @@ module _ {T S N : Type 0} (turn : TurnState T) (fixed : S) where
       let same : length rest ≡ count = omega (arith, long, less) in
       (ap (λ (q : PassState S N). q.number) new.0 ∙ same, new.1, same, new.3)
 
-module _ {T A R L F S : Type 0} (after : List (Entry A) → After) (reads : List ℕ → A) (joins : List ℕ → Option JoinLine) (sits : List (Entry A) → List ℕ → SitAnswer) (hears : List (Entry A) → ℕ → ℕ → A → Heard R) (says : Control R → List ℕ) (at : List ℕ → L → WireState) (made : F → Type 0) (number : F → ℕ) (setting : T → S) (turn : TurnState T) where
+module _ {T A R L F S : Type 0} (after : List (Entry A) → Showing) (reads : List ℕ → A) (joins : List ℕ → Option JoinLine) (sits : List (Entry A) → List ℕ → SitAnswer) (hears : List (Entry A) → ℕ → ℕ → A → Heard R) (says : Control R → List ℕ) (at : List ℕ → L → WireState) (made : F → Type 0) (number : F → ℕ) (setting : T → S) (turn : TurnState T) where
   pub left_count : (n : ℕ) (ps : List (PassState S (Entry A))) (sessions : List (Session L)) (ends : List (HandlerEnd F)) → AllLeft after reads joins sits hears says at made number setting turn n ps sessions ends → length ps ≡ n
   left_count zero ps sessions ends (a, b, c) = ap length a
   left_count (suc n) all sessions ends (ps, p, before, own, es, end, a, b, c, left, one, memory) =
@@ -108,7 +108,7 @@ module _ {T A R L F S : Type 0} (after : List (Entry A) → After) (reads : List
   left_idle (suc n) all sessions ends (ps, p, before, own, es, end, a, b, c, left, one, memory) =
       subst (λ (l : List (PassState S (Entry A))). All (IsIdle setting turn) l) (sym a) (All-push (IsIdle setting turn) ps p (left_idle n ps before es left) one.back.idle)
 
-module _ {T A R L F S : Type 0} (after : List (Entry A) → After) (reads : List ℕ → A) (joins : List ℕ → Option JoinLine) (sits : List (Entry A) → List ℕ → SitAnswer) (hears : List (Entry A) → ℕ → ℕ → A → Heard R) (says : Control R → List ℕ) (at : List ℕ → L → WireState) (made : F → Type 0) (number : F → ℕ) (setting : T → S) (turn : TurnState T) where
+module _ {T A R L F S : Type 0} (after : List (Entry A) → Showing) (reads : List ℕ → A) (joins : List ℕ → Option JoinLine) (sits : List (Entry A) → List ℕ → SitAnswer) (hears : List (Entry A) → ℕ → ℕ → A → Heard R) (says : Control R → List ℕ) (at : List ℕ → L → WireState) (made : F → Type 0) (number : F → ℕ) (setting : T → S) (turn : TurnState T) where
   -- what is left of all, put together
   pub left_of : (n : ℕ) (ds : List (Done (PassState S (Entry A)) L F)) → AllDone after reads joins sits hears says at made number setting turn n ds → All (λ (d : Done (PassState S (Entry A)) L F). WantsMemory d.end → ⊥) ds
       → AllLeft after reads joins sits hears says at made number setting turn n (map (λ (d : Done (PassState S (Entry A)) L F). d.pass) ds) (flat_map (λ (d : Done (PassState S (Entry A)) L F). d.sessions.items) ds) (map (λ (d : Done (PassState S (Entry A)) L F). d.end) ds)

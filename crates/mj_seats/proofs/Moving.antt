@@ -7,7 +7,7 @@ use Rattle.mj_links.specs.declared.wire.Sent.{Sent}
 use Rattle.mj_ports.specs.declared.entry.Entry.{Entry}
 use Rattle.mj_ports.specs.declared.entry.Entry.TheVariants.{Said}
 use Rattle.mj_ports.specs.declared.answers.Heard.{Heard}
-use Rattle.mj_ports.specs.Seats.{After, script, pending}
+use Rattle.mj_ports.specs.Seats.{Showing, script, pending}
 use Rattle.mj_seats.specs.declared.served.Ended.{Ended}
 use Rattle.mj_seats.specs.declared.served.Ended.TheVariants.{GameOver, PeerEnded, LinkFault, LineTooLong, TooManyRefusals, NotSeated, NoMemory}
 use Rattle.mj_seats.specs.declared.step.Due.TheVariants as due
@@ -33,7 +33,7 @@ ends_from TooManyRefusals x y z rest r w h = h
 ends_from (NotSeated why) x y z rest r w h = h
 ends_from NoMemory x y z rest r w h = h
 
-module _ {A R : Type 0} (after : List (Entry A) → After) (reads : List ℕ → A) (hears : List (Entry A) → ℕ → ℕ → A → Heard R) (author seat place : ℕ) where
+module _ {A R : Type 0} (after : List (Entry A) → Showing) (reads : List ℕ → A) (hears : List (Entry A) → ℕ → ℕ → A → Heard R) (author seat place : ℕ) where
   reaches_from : (step : Step) (new : List (Entry A)) (x y z : WireState) (t0 t : List ℕ) (left_out : List (List ℕ)) (rest : List ℕ) → x.read_faults ≤ y.read_faults → Told x y t0 t
       → Reaches after reads hears author seat place step new y z t left_out rest → Reaches after reads hears author seat place step new x z t0 left_out rest
   reaches_from Free new x y z t0 t left_out rest up told (a, b, c, d, e) = (a, b, c, d, told_chain x y z t0 t ((after new).told place) told e)

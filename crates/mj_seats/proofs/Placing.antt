@@ -14,7 +14,7 @@ use Rattle.mj_ports.specs.declared.answers.SitAnswer.TheVariants as sit
 use Rattle.mj_ports.specs.declared.answers.Heard.{Heard}
 use Rattle.mj_ports.specs.declared.answers.Control.{Control}
 use Rattle.mj_ports.specs.Entries.{author_of}
-use Rattle.mj_ports.specs.Seats.{After}
+use Rattle.mj_ports.specs.Seats.{Showing}
 use Rattle.mj_seats.specs.declared.served.Ended.{Ended}
 use Rattle.mj_seats.specs.declared.served.Ended.TheVariants.{GameOver, PeerEnded, LinkFault, LineTooLong, TooManyRefusals, NotSeated, NoMemory}
 use Rattle.mj_seats.specs.declared.handle.Session.{Session}
@@ -98,7 +98,7 @@ none_last A TooManyRefusals author seat = tt
 none_last A (NotSeated why) author seat = tt
 none_last A NoMemory author seat = tt
 
-module _ {A R L : Type 0} (after : List (Entry A) → After) (reads : List ℕ → A) (joins : List ℕ → Option JoinLine) (sits : List (Entry A) → List ℕ → SitAnswer) (hears : List (Entry A) → ℕ → ℕ → A → Heard R) (says : Control R → List ℕ) (at : List ℕ → L → WireState) where
+module _ {A R L : Type 0} (after : List (Entry A) → Showing) (reads : List ℕ → A) (joins : List ℕ → Option JoinLine) (sits : List (Entry A) → List ℕ → SitAnswer) (hears : List (Entry A) → ℕ → ℕ → A → Heard R) (says : Control R → List ℕ) (at : List ℕ → L → WireState) where
   seated_place : (author : ℕ) (old new : List (Entry A)) (x y : WireState) (ended : Ended) (place : ℕ) → SeatedSession after reads joins sits hears says author old new x y ended place → places_of author new ≡ places_of author old ++ place ∷ []
   seated_place author old new x y ended place s =
       let start = s.before ++ s.first ∷ [] in

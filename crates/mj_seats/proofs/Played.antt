@@ -12,7 +12,7 @@ use Rattle.mj_ports.specs.declared.answers.SitAnswer.{SitAnswer}
 use Rattle.mj_ports.specs.declared.answers.Heard.{Heard}
 use Rattle.mj_ports.specs.declared.answers.Control.{Control}
 use Rattle.mj_ports.specs.Entries.{author_of, IsAside}
-use Rattle.mj_ports.specs.Seats.{After, Stays, StaysEnded, Unmoved, Answers, Leaves, Adds}
+use Rattle.mj_ports.specs.Seats.{Showing, Stays, StaysEnded, Unmoved, Answers, Leaves, Adds}
 use Rattle.mj_seats.specs.declared.handle.HandlerEnd.{HandlerEnd}
 use Rattle.mj_seats.specs.declared.handle.Session.{Session}
 use Rattle.mj_seats.specs.declared.worker.Done.{Done}
@@ -36,7 +36,7 @@ pub ok_five : {X E : Type 0} (r : Result X E) (P1 P2 P3 P4 P5 Q : X → Type 0) 
 ok_five (Ok x) P1 P2 P3 P4 P5 Q f a b c d e = f x a b c d e
 ok_five (Err y) P1 P2 P3 P4 P5 Q f a b c d e = a
 
-module _ {T A R L F S : Type 0} (after : List (Entry A) → After) (is_legal : List (Entry A) → Type 0)
+module _ {T A R L F S : Type 0} (after : List (Entry A) → Showing) (is_legal : List (Entry A) → Type 0)
     (legal_before : (es fs : List (Entry A)) → is_legal (es ++ fs) → is_legal es)
     (stays : (es : List (Entry A)) (e : Entry A) → is_legal (es ++ e ∷ []) → Stays (after es) (after (es ++ e ∷ [])))
     (ended_law : (es : List (Entry A)) (e : Entry A) (place : ℕ) → is_legal (es ++ e ∷ []) → place < length es → (after es).seat_of place ≡ None → StaysEnded place (after es) (after (es ++ e ∷ [])))

@@ -6,14 +6,14 @@ use mathlib.Core.Bool.{cond}
 use Rattle.turn_lock.specs.Notes.{notes_of}
 use Rattle.mj_ports.specs.declared.entry.Entry.{Entry}
 use Rattle.mj_ports.specs.Entries.{author_of, IsAside}
-use Rattle.mj_ports.specs.Seats.{After, Stays, Unmoved, pending, script}
+use Rattle.mj_ports.specs.Seats.{Showing, Stays, Unmoved, pending, script}
 use Rattle.mj_seats.specs.Histories.{Enters}
 use Rattle.mj_seats.specs.Inner.Steps.{Stands, Watches}
 
-pub unmoved_itself : (seat : ℕ) (w : After) → Unmoved seat w w
+pub unmoved_itself : (seat : ℕ) (w : Showing) → Unmoved seat w w
 unmoved_itself seat w = record { present = refl; due = refl; is_told = refl; seat_of = λ place s. s; told = λ place s. refl }
 
-pub unmoved_chain : (seat : ℕ) (u v w : After) → Unmoved seat u v → Unmoved seat v w → Unmoved seat u w
+pub unmoved_chain : (seat : ℕ) (u v w : Showing) → Unmoved seat u v → Unmoved seat v w → Unmoved seat u w
 unmoved_chain seat u v w p q = record {
   present = q.present ∙ p.present;
   due = q.due ∙ p.due;
@@ -22,10 +22,10 @@ unmoved_chain seat u v w p q = record {
   told = λ place s. q.told place (p.seat_of place s) ∙ p.told place s;
 }
 
-pub stays_itself : (w : After) → Stays w w
+pub stays_itself : (w : Showing) → Stays w w
 stays_itself w = record { deeds = omega arith; text = λ seat k lt. refl; over = λ h. h; no_deed = λ h. refl }
 
-pub stays_chain : (u v w : After) → Stays u v → Stays v w → Stays u w
+pub stays_chain : (u v w : Showing) → Stays u v → Stays v w → Stays u w
 stays_chain u v w p q = record {
   deeds = omega (arith, p.deeds, q.deeds);
   text = λ seat k lt. q.text seat k (omega (arith, lt, p.deeds)) ∙ p.text seat k lt;
@@ -50,7 +50,7 @@ module _ {A : Type 0} where
   none_mine : (n : ℕ) (e : Entry A) (gap : List (Entry A)) → notes_of author_of n (e ∷ gap) ≡ [] → notes_of author_of n gap ≡ []
   none_mine n e gap h = rest_apart (author_of e == n) e (notes_of author_of n gap) h
 
-  module _ (after : List (Entry A) → After) (is_legal : List (Entry A) → Type 0)
+  module _ (after : List (Entry A) → Showing) (is_legal : List (Entry A) → Type 0)
       (legal_before : (es fs : List (Entry A)) → is_legal (es ++ fs) → is_legal es)
       (stays : (es : List (Entry A)) (e : Entry A) → is_legal (es ++ e ∷ []) → Stays (after es) (after (es ++ e ∷ [])))
       (others : (es : List (Entry A)) (e : Entry A) (author seat : ℕ) → is_legal (es ++ e ∷ []) → (after es).present seat ≡ Some author → IsAside author seat es e → Unmoved seat (after es) (after (es ++ e ∷ []))) where
@@ -78,13 +78,13 @@ module _ {A : Type 0} where
 abbrev shown : Bool → Bool → List ℕ → List ℕ
 shown told there text = if told then [] else (if there then text else [])
 
-pending_is : (w : After) (seat : ℕ) → pending w seat ≡ shown (w.is_told seat) (nat_lt (w.due seat) w.deeds) (w.text seat (w.due seat))
+pending_is : (w : Showing) (seat : ℕ) → pending w seat ≡ shown (w.is_told seat) (nat_lt (w.due seat) w.deeds) (w.text seat (w.due seat))
 pending_is w seat = refl
 
-pub script_at : (w : After) (place seat : ℕ) → w.seat_of place ≡ Some seat → script w place ≡ w.told place ++ pending w seat
+pub script_at : (w : Showing) (place seat : ℕ) → w.seat_of place ≡ Some seat → script w place ≡ w.told place ++ pending w seat
 script_at w place seat s = ap (λ (o : Option ℕ). w.told place ++ option_map_or (pending w) o []) s
 
-pub script_ended : (w : After) (place : ℕ) → w.seat_of place ≡ None → script w place ≡ w.told place
+pub script_ended : (w : Showing) (place : ℕ) → w.seat_of place ≡ None → script w place ≡ w.told place
 script_ended w place s = ap (λ (o : Option ℕ). w.told place ++ option_map_or (pending w) o []) s ∙ append-nil (w.told place)
 
 there : (k n : ℕ) → k < n → nat_lt k n ≡ true
@@ -93,7 +93,7 @@ there k n h = grind (arith, nat_tests)
 not_there : (k n : ℕ) → n ≤ k → nat_lt k n ≡ false
 not_there k n h = grind (arith, nat_tests)
 
-module _ (w : After) (place seat : ℕ) (mine : w.seat_of place ≡ Some seat) where
+module _ (w : Showing) (place seat : ℕ) (mine : w.seat_of place ≡ Some seat) where
   pub script_told : w.is_told seat ≡ true → script w place ≡ w.told place
   script_told t = script_at w place seat mine ∙ (ap (λ (b : Bool). w.told place ++ shown b (nat_lt (w.due seat) w.deeds) (w.text seat (w.due seat))) t ∙ append-nil (w.told place))
 
@@ -103,7 +103,7 @@ module _ (w : After) (place seat : ℕ) (mine : w.seat_of place ≡ Some seat) w
   pub script_none_due : w.is_told seat ≡ false → w.deeds ≤ w.due seat → script w place ≡ w.told place
   script_none_due t le = script_at w place seat mine ∙ (ap (λ (b : Bool). w.told place ++ shown b (nat_lt (w.due seat) w.deeds) (w.text seat (w.due seat))) t ∙ (ap (λ (b : Bool). w.told place ++ shown false b (w.text seat (w.due seat))) (not_there (w.due seat) w.deeds le) ∙ append-nil (w.told place)))
 
-  pub script_kept : (w' : After) → Unmoved seat w w' → Stays w w' → w.due seat < w.deeds → script w' place ≡ script w place
+  pub script_kept : (w' : Showing) → Unmoved seat w w' → Stays w w' → w.due seat < w.deeds → script w' place ≡ script w place
   script_kept w' u s lt =
       let told : w'.told place ≡ w.told place = u.told place mine in
       let later : w'.due seat < w'.deeds = omega (arith, u.due, s.deeds, lt) in
@@ -116,5 +116,5 @@ module _ (w : After) (place seat : ℕ) (mine : w.seat_of place ≡ Some seat) w
       ∙ (ap (λ (l : List ℕ). w.told place ++ shown (w.is_told seat) (nat_lt (w.due seat) w.deeds) l) text
       ∙ sym (script_at w place seat mine)))))
 
-pub still_stands : (w w' : After) (author seat place : ℕ) → Unmoved seat w w' → Stands w author seat place → Stands w' author seat place
+pub still_stands : (w w' : Showing) (author seat place : ℕ) → Unmoved seat w w' → Stands w author seat place → Stands w' author seat place
 still_stands w w' author seat place u s = record { present = u.present ∙ s.present; mine = u.seat_of place s.mine }

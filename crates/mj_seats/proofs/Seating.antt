@@ -12,7 +12,7 @@ use Rattle.mj_ports.specs.declared.answers.SitAnswer.{SitAnswer}
 use Rattle.mj_ports.specs.declared.answers.Heard.{Heard}
 use Rattle.mj_ports.specs.declared.answers.Control.{Control}
 use Rattle.mj_ports.specs.declared.answers.Control.TheVariants as control
-use Rattle.mj_ports.specs.Seats.{After, script, pending, lines_to}
+use Rattle.mj_ports.specs.Seats.{Showing, script, pending, lines_to}
 use Rattle.mj_seats.specs.declared.served.Ended.{Ended}
 use Rattle.mj_seats.specs.declared.served.Ended.TheVariants.{PeerEnded, LinkFault, LineTooLong, NotSeated, NoMemory}
 use Rattle.mj_seats.specs.declared.step.Sitting.TheVariants as sitting
@@ -27,13 +27,13 @@ use Rattle.mj_seats.proofs.Scripts.{script_at}
 use Rattle.mj_seats.proofs.Moving.{ends_from}
 
 -- one line more of a seat
-pub lines_more : (w : After) (seat k : ℕ) → lines_to w seat (k + 1) ≡ lines_to w seat k ++ w.text seat k
+pub lines_more : (w : Showing) (seat k : ℕ) → lines_to w seat (k + 1) ≡ lines_to w seat k ++ w.text seat k
 lines_more w seat k = let e : k + 1 ≡ suc k = omega arith in ap (lines_to w seat) e
 
-pub replay_start : (w : After) (seat : ℕ) (before head told : List ℕ) → told ≡ before ++ head → told ≡ before ++ (head ++ lines_to w seat 0)
+pub replay_start : (w : Showing) (seat : ℕ) (before head told : List ℕ) → told ≡ before ++ head → told ≡ before ++ (head ++ lines_to w seat 0)
 replay_start w seat before head told e = e ∙ ap (λ (l : List ℕ). before ++ l) (sym (append-nil head))
 
-pub replay_more : (w : After) (seat k : ℕ) (before head told text told' : List ℕ) → told ≡ before ++ (head ++ lines_to w seat k) → text ≡ w.text seat k → told' ≡ told ++ text → told' ≡ before ++ (head ++ lines_to w seat (k + 1))
+pub replay_more : (w : Showing) (seat k : ℕ) (before head told text told' : List ℕ) → told ≡ before ++ (head ++ lines_to w seat k) → text ≡ w.text seat k → told' ≡ told ++ text → told' ≡ before ++ (head ++ lines_to w seat (k + 1))
 replay_more w seat k before head told text told' e t f =
     f
     ∙ (ap (λ (l : List ℕ). l ++ text) e
@@ -127,7 +127,7 @@ module _ {A R : Type 0} (sits : List (Entry A) → List ℕ → SitAnswer) (says
       wire_ends = refl;
     }
 
-module _ {A R : Type 0} (after : List (Entry A) → After) (reads : List ℕ → A) (joins : List ℕ → Option JoinLine) (sits : List (Entry A) → List ℕ → SitAnswer) (hears : List (Entry A) → ℕ → ℕ → A → Heard R) (says : Control R → List ℕ) (author : ℕ) where
+module _ {A R : Type 0} (after : List (Entry A) → Showing) (reads : List ℕ → A) (joins : List ℕ → Option JoinLine) (sits : List (Entry A) → List ℕ → SitAnswer) (hears : List (Entry A) → ℕ → ℕ → A → Heard R) (says : Control R → List ℕ) (author : ℕ) where
   -- what comes of the first line
   module _ (first old new : List (Entry A)) (x y : WireState) (line reply : List ℕ) (nothing : Enters author first old []) (took : Took x y (line ∷ []) []) (told : Told x y [] (says control.Hello)) where
     pub session_played : (at : Connection) (ended : Ended) (mid : List (Entry A)) (z : WireState) → SitsAt after sits joins says (sitting.Seated at) line author old mid reply

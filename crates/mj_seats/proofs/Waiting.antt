@@ -2,13 +2,13 @@
 use Rattle.std.proofs.Common.{◌≡◌, ℕ, List, [], Some, None, sym, ap, ◌∙◌, subst}
 use Rattle.turn_lock.specs.Passes.{PassState}
 use Rattle.mj_ports.specs.declared.entry.Entry.{Entry}
-use Rattle.mj_ports.specs.Seats.{After}
+use Rattle.mj_ports.specs.Seats.{Showing}
 use Rattle.mj_seats.specs.declared.step.Due.{Due}
 use Rattle.mj_seats.specs.Inner.Steps.{FindsDue, Watches}
 use Rattle.mj_seats.proofs.Entering.{enters_chain}
 use Rattle.mj_seats.proofs.Scripts.{unmoved_chain, stays_chain}
 
-module _ {A : Type 0} (after : List (Entry A) → After) (seat : ℕ) where
+module _ {A : Type 0} (after : List (Entry A) → Showing) (seat : ℕ) where
   pub watches_chain : (author : ℕ) (a b c : List (Entry A)) → Watches after author seat a b → Watches after author seat b c → Watches after author seat a c
   watches_chain author a b c p q = record {
     nothing = enters_chain author a b c [] [] p.nothing q.nothing;
@@ -16,7 +16,7 @@ module _ {A : Type 0} (after : List (Entry A) → After) (seat : ℕ) where
     stays = stays_chain (after a) (after b) (after c) p.stays q.stays;
   }
 
-module _ {S A : Type 0} (after : List (Entry A) → After) (seat : ℕ) where
+module _ {S A : Type 0} (after : List (Entry A) → Showing) (seat : ℕ) where
   -- so far no look found anything
   pub record Waiting (first now : PassState S (Entry A)) (start line : List ℕ) : Type 0 where
     pub number : now.number ≡ first.number

@@ -9,11 +9,11 @@ use Rattle.mj_ports.specs.declared.answers.Heard.{Heard}
 use Rattle.mj_ports.specs.declared.answers.Heard.TheVariants.{Closing}
 use Rattle.mj_ports.specs.declared.answers.Control.{Control}
 use Rattle.mj_ports.specs.Entries.{IsAside}
-use Rattle.mj_ports.specs.Seats.{After, Stays, StaysEnded, Unmoved, Answers, Leaves, Adds, pending, script}
+use Rattle.mj_ports.specs.Seats.{Showing, Stays, StaysEnded, Unmoved, Answers, Leaves, Adds, pending, script}
 use Rattle.mj_seats.specs.declared.served.Ended.{Ended}
 use Rattle.mj_seats.specs.declared.served.Ended.TheVariants.{GameOver, PeerEnded, LinkFault, LineTooLong, TooManyRefusals, NotSeated, NoMemory}
-use Rattle.mj_seats.specs.declared.handle.Call.{Call}
-use Rattle.mj_seats.specs.declared.handle.Call.TheVariants as call
+use Rattle.mj_seats.specs.declared.handle.Finding.{Finding}
+use Rattle.mj_seats.specs.declared.handle.Finding.TheVariants as finding
 use Rattle.mj_seats.specs.declared.handle.Session.{Session}
 use Rattle.mj_seats.specs.Histories.{Enters}
 use Rattle.mj_seats.specs.Sessions.{IsExcused, HistoryEnds, EndsBy, EndsByRefusal}
@@ -24,10 +24,10 @@ use Rattle.mj_seats.proofs.Entering.{enters_chain}
 use Rattle.mj_seats.proofs.Scripts.{stays_itself, stays_chain, between, script_at, script_ended}
 use Rattle.mj_seats.proofs.Handling.{handled_grown}
 
-ended_itself : (place : ℕ) (w : After) → w.seat_of place ≡ None → StaysEnded place w w
+ended_itself : (place : ℕ) (w : Showing) → w.seat_of place ≡ None → StaysEnded place w w
 ended_itself place w n = record { no_seat = n; told = refl }
 
-ended_chain : (place : ℕ) (u v w : After) → StaysEnded place u v → StaysEnded place v w → StaysEnded place u w
+ended_chain : (place : ℕ) (u v w : Showing) → StaysEnded place u v → StaysEnded place v w → StaysEnded place u w
 ended_chain place u v w p q = record { no_seat = q.no_seat; told = q.told ∙ p.told }
 
 -- nothing is pending for a seat that has answered all
@@ -38,10 +38,10 @@ no_line : (told : Bool) (near : Bool) (text : List ℕ) → near ≡ false → (
 no_line true near text e = refl
 no_line false near text e = ap (λ (b : Bool). if b then text else []) e
 
-none_pending : (w : After) (seat : ℕ) → w.deeds ≤ w.due seat → pending w seat ≡ []
+none_pending : (w : Showing) (seat : ℕ) → w.deeds ≤ w.due seat → pending w seat ≡ []
 none_pending w seat h = no_line (w.is_told seat) (nat_lt (w.due seat) w.deeds) (w.text seat (w.due seat)) (not_below (w.due seat) w.deeds h)
 
-script_quiet : (w w' : After) (place seat : ℕ) → Unmoved seat w w' → Stays w w' → w.over ≡ true → w.seat_of place ≡ Some seat → w.deeds ≤ w.due seat → script w' place ≡ script w place
+script_quiet : (w w' : Showing) (place seat : ℕ) → Unmoved seat w w' → Stays w w' → w.over ≡ true → w.seat_of place ≡ Some seat → w.deeds ≤ w.due seat → script w' place ≡ script w place
 script_quiet w w' place seat u s over mine none =
     let none' : w'.deeds ≤ w'.due seat = omega (arith, u.due, s.no_deed over, none) in
     script_at w' place seat (u.seat_of place mine)
@@ -50,10 +50,10 @@ script_quiet w w' place seat u s over mine none =
     ∙ (ap (λ (l : List ℕ). w.told place ++ l) (sym (none_pending w seat none))
     ∙ sym (script_at w place seat mine))))
 
-script_closed : (w w' : After) (place : ℕ) → w.seat_of place ≡ None → StaysEnded place w w' → script w' place ≡ script w place
+script_closed : (w w' : Showing) (place : ℕ) → w.seat_of place ≡ None → StaysEnded place w w' → script w' place ≡ script w place
 script_closed w w' place n s = script_ended w' place s.no_seat ∙ (s.told ∙ sym (script_ended w place n))
 
-module _ {A : Type 0} (after : List (Entry A) → After) (is_legal : List (Entry A) → Type 0)
+module _ {A : Type 0} (after : List (Entry A) → Showing) (is_legal : List (Entry A) → Type 0)
     (legal_before : (es fs : List (Entry A)) → is_legal (es ++ fs) → is_legal es)
     (stays : (es : List (Entry A)) (e : Entry A) → is_legal (es ++ e ∷ []) → Stays (after es) (after (es ++ e ∷ []))) where
   pub stays_on : (es gap : List (Entry A)) → is_legal (es ++ gap) → Stays (after es) (after (es ++ gap))
@@ -75,10 +75,10 @@ module _ {A : Type 0} (after : List (Entry A) → After) (is_legal : List (Entry
       by true over = absurd (true≢false (sym ((stays_from es new since legal e).over over) ∙ on))
       by false over = refl
 
-  pub asks_of : (found : Call) (new : List (Entry A)) → is_legal new → Finds found (after new) → Asks found after new
-  asks_of call.GoesOn new legal f = is_on new legal f
-  asks_of call.Over new legal f = f
-  asks_of call.NoMemory new legal f = tt
+  pub asks_of : (found : Finding) (new : List (Entry A)) → is_legal new → Finds found (after new) → Asks found after new
+  asks_of finding.GoesOn new legal f = is_on new legal f
+  asks_of finding.Over new legal f = f
+  asks_of finding.NoMemory new legal f = tt
 
   module _ (ended_law : (es : List (Entry A)) (e : Entry A) (place : ℕ) → is_legal (es ++ e ∷ []) → place < length es → (after es).seat_of place ≡ None → StaysEnded place (after es) (after (es ++ e ∷ []))) where
     ended_on : (place : ℕ) (es gap : List (Entry A)) → is_legal (es ++ gap) → place < length es → (after es).seat_of place ≡ None → StaysEnded place (after es) (after (es ++ gap))

@@ -14,7 +14,7 @@ use Rattle.mj_ports.specs.declared.answers.SitAnswer.{SitAnswer}
 use Rattle.mj_ports.specs.declared.answers.Heard.{Heard}
 use Rattle.mj_ports.specs.declared.answers.Control.{Control}
 use Rattle.mj_ports.specs.Entries.{author_of, IsAside}
-use Rattle.mj_ports.specs.Seats.{After, Stays, StaysEnded, Unmoved, Answers, Leaves, Adds}
+use Rattle.mj_ports.specs.Seats.{Showing, Stays, StaysEnded, Unmoved, Answers, Leaves, Adds}
 use Rattle.mj_seats.specs.declared.served.Ended.{Ended}
 use Rattle.mj_seats.specs.declared.served.Ended.TheVariants.{GameOver, PeerEnded, LinkFault, LineTooLong, TooManyRefusals, NotSeated, NoMemory}
 use Rattle.mj_seats.specs.declared.handle.HandlerEnd.{HandlerEnd}
@@ -81,7 +81,7 @@ none_last A TooManyRefusals author seat = All-nil (NoExpiry {A = A})
 none_last A (NotSeated why) author seat = All-nil (NoExpiry {A = A})
 none_last A NoMemory author seat = All-nil (NoExpiry {A = A})
 
-module _ {A R L : Type 0} (after : List (Entry A) → After) (reads : List ℕ → A) (joins : List ℕ → Option JoinLine) (sits : List (Entry A) → List ℕ → SitAnswer) (hears : List (Entry A) → ℕ → ℕ → A → Heard R) (says : Control R → List ℕ) (at : List ℕ → L → WireState) where
+module _ {A R L : Type 0} (after : List (Entry A) → Showing) (reads : List ℕ → A) (joins : List ℕ → Option JoinLine) (sits : List (Entry A) → List ℕ → SitAnswer) (hears : List (Entry A) → ℕ → ℕ → A → Heard R) (says : Control R → List ℕ) (at : List ℕ → L → WireState) where
   -- a handler enters no expiry
   handled_notes : (excuse : Type 0) (author : ℕ) (old new : List (Entry A)) (ss : List (Session L)) → Handled after reads joins sits hears says at excuse author old new ss → (mine : List (Entry A)) × Enters author old new mine × All NoExpiry mine
   handled_notes excuse author old new [] h = ([], h, All-nil NoExpiry)
@@ -99,7 +99,7 @@ module _ {A R L : Type 0} (after : List (Entry A) → After) (reads : List ℕ �
             rest.2,
       )
 
-module _ {T A R L F S : Type 0} (after : List (Entry A) → After) (is_legal : List (Entry A) → Type 0)
+module _ {T A R L F S : Type 0} (after : List (Entry A) → Showing) (is_legal : List (Entry A) → Type 0)
     (legal_before : (es fs : List (Entry A)) → is_legal (es ++ fs) → is_legal es)
     (stays : (es : List (Entry A)) (e : Entry A) → is_legal (es ++ e ∷ []) → Stays (after es) (after (es ++ e ∷ [])))
     (ended_law : (es : List (Entry A)) (e : Entry A) (place : ℕ) → is_legal (es ++ e ∷ []) → place < length es → (after es).seat_of place ≡ None → StaysEnded place (after es) (after (es ++ e ∷ [])))

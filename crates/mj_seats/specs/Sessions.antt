@@ -12,7 +12,7 @@ use Rattle.mj_ports.specs.declared.answers.Heard.TheVariants as heard
 use Rattle.mj_ports.specs.declared.answers.Control.{Control}
 use Rattle.mj_ports.specs.declared.answers.Control.TheVariants as control
 use Rattle.mj_ports.specs.SeatCalls.{AnswersSit}
-use Rattle.mj_ports.specs.Seats.{After, script}
+use Rattle.mj_ports.specs.Seats.{Showing, script}
 use Rattle.mj_seats.specs.declared.served.Ended.{Ended}
 use Rattle.mj_seats.specs.declared.served.Ended.TheVariants.{GameOver, PeerEnded, LinkFault, LineTooLong, TooManyRefusals, NotSeated, NoMemory}
 use Rattle.mj_seats.specs.declared.served.Served.{Served}
@@ -73,21 +73,21 @@ GivesSeat (sit.Refused why) seat = ⊥
 GivesSeat sit.NoMemory seat = ⊥
 
 module _ {A : Type 0} (sits : List (Entry A) → List ℕ → SitAnswer) (joins : List ℕ → Option JoinLine) where
-  -- After these entries the line was given the seat, which is entered as the first entry of the connection.
+  -- Showing these entries the line was given the seat, which is entered as the first entry of the connection.
   pub record GetsSeat (before : List (Entry A)) (line : List ℕ) (author seat : ℕ) (first : Entry A) : Type 0 where
     pub answer : SitAnswer
     pub given : GivesSeat answer seat
     pub is_right : AnswersSit before (before ++ first ∷ []) answer (sits before line) author (joins line)
 
 -- Before its last entry, which is this one, the connection of the place was that of the seat.
-pub record EndsBy {A : Type 0} (after : List (Entry A) → After) (seat place : ℕ) (new : List (Entry A)) (last : Entry A) (verdict : List (Entry A) → Type 0) : Type 0 where
+pub record EndsBy {A : Type 0} (after : List (Entry A) → Showing) (seat place : ℕ) (new : List (Entry A)) (last : Entry A) (verdict : List (Entry A) → Type 0) : Type 0 where
   pub before : List (Entry A)
   pub last_is : new ≡ before ++ last ∷ []
   pub was_of : (after before).seat_of place ≡ Some seat
   pub right : verdict before
 
 -- A closing refusal ends a connection.
-pub record EndsByRefusal {A R : Type 0} (after : List (Entry A) → After) (hears : List (Entry A) → ℕ → ℕ → A → Heard R) (author seat place : ℕ) (new : List (Entry A)) : Type 0 where
+pub record EndsByRefusal {A R : Type 0} (after : List (Entry A) → Showing) (hears : List (Entry A) → ℕ → ℕ → A → Heard R) (author seat place : ℕ) (new : List (Entry A)) : Type 0 where
   pub answer : A
   pub rule : R
   pub ends : EndsBy after seat place new (Said author seat answer) (λ before. hears before author seat answer ≡ heard.Closing rule)
@@ -95,7 +95,7 @@ pub record EndsByRefusal {A R : Type 0} (after : List (Entry A) → After) (hear
 -- What the history shows of the end of a seat's session. The game is over, the connection goes on, and the seat, which is
 -- present by the author, has no deed to answer; or its last entry is that it is gone, and where its input had ended or its line
 -- was too long, it had a deed to answer before that entry; or its last entry is an answer with a closing refusal.
-abbrev pub HistoryEnds : {A R : Type 0} → (List (Entry A) → After) → (List (Entry A) → ℕ → ℕ → A → Heard R) → Ended → ℕ → ℕ → ℕ → List (Entry A) → Type 0
+abbrev pub HistoryEnds : {A R : Type 0} → (List (Entry A) → Showing) → (List (Entry A) → ℕ → ℕ → A → Heard R) → Ended → ℕ → ℕ → ℕ → List (Entry A) → Type 0
 HistoryEnds after hears GameOver author seat place new =
     ((after new).over ≡ true) × ((after new).present seat ≡ Some author) × ((after new).seat_of place ≡ Some seat) × ((after new).deeds ≤ (after new).due seat)
 HistoryEnds after hears PeerEnded author seat place new = EndsBy after seat place new (Gone author seat) (λ before. (after before).due seat < (after before).deeds)
@@ -136,7 +136,7 @@ module _ {A R : Type 0} (sits : List (Entry A) → List ℕ → SitAnswer) (says
     pub wrote : ToldInPart (IsExcused ended) x y [] (turned_away says ended)
     pub wire_ends : WireEnds ended x y rest
 
-module _ {A R : Type 0} (after : List (Entry A) → After) (reads : List ℕ → A) (joins : List ℕ → Option JoinLine) (sits : List (Entry A) → List ℕ → SitAnswer) (hears : List (Entry A) → ℕ → ℕ → A → Heard R) (says : Control R → List ℕ) where
+module _ {A R : Type 0} (after : List (Entry A) → Showing) (reads : List ℕ → A) (joins : List ℕ → Option JoinLine) (sits : List (Entry A) → List ℕ → SitAnswer) (hears : List (Entry A) → ℕ → ℕ → A → Heard R) (says : Control R → List ℕ) where
   -- A session with a seat. Its first line was given the seat at the place, and each line after it was entered, in order,
   -- once each, with what it reads as; nothing else was entered but, as the last entry, that the seat is gone. What was
   -- written is the script of the connection.

@@ -3,7 +3,7 @@ use Rattle.std.specs.Prelude.{◌≡◌, ℕ, ◌<◌, Bool, true, false, List, 
 use Rattle.std.specs.Io.KnownBytes.{Appends}
 use Rattle.mj_ports.specs.declared.entry.Entry.{Entry}
 use Rattle.mj_ports.specs.declared.entry.Entry.TheVariants.{Expired}
-use Rattle.mj_ports.specs.Seats.{After}
+use Rattle.mj_ports.specs.Seats.{Showing}
 use Rattle.mj_seats.specs.declared.ticker.Ticked.{Ticked}
 use Rattle.mj_seats.specs.declared.ticker.Ticked.TheVariants.{Over, HostGone, NoMemory}
 use Rattle.mj_seats.specs.declared.ticker.Watch.{Watch}
@@ -47,7 +47,7 @@ module _ {A : Type 0} (author : ℕ) where
     pub made : Appends was_read read (used ++ pending)
     pub since : SinceRead watch pending
 
-module _ {T A : Type 0} (history : T → List (Entry A)) (lost : T → ℕ → Bool) (after : List (Entry A) → After) where
+module _ {T A : Type 0} (history : T → List (Entry A)) (lost : T → ℕ → Bool) (after : List (Entry A) → Showing) where
   -- The game is over in the history seen; or it is not, and a table with this history has lost all eight hosts.
   abbrev pub TicksAs : Ticked → List (Entry A) → Type 0
   TicksAs Over new = (after new).over ≡ true

@@ -8,7 +8,7 @@ use Rattle.mj_ports.specs.declared.sitting.JoinLine.{JoinLine}
 use Rattle.mj_ports.specs.declared.answers.SitAnswer.{SitAnswer}
 use Rattle.mj_ports.specs.declared.answers.Heard.{Heard}
 use Rattle.mj_ports.specs.declared.answers.Control.{Control}
-use Rattle.mj_ports.specs.Seats.{After, script}
+use Rattle.mj_ports.specs.Seats.{Showing, script}
 use Rattle.mj_seats.specs.declared.handle.HandlerEnd.{HandlerEnd}
 use Rattle.mj_seats.specs.declared.handle.HandlerEnd.TheVariants.{Over, Host, NoMemory}
 use Rattle.mj_seats.specs.declared.handle.Session.{Session}
@@ -33,7 +33,7 @@ module _ {A : Type 0} where
   ExpiresBy number (Gone author seat) = Unit {0}
   ExpiresBy number (Expired author window t1 t2) = author ≡ number
 
-module _ {A R L : Type 0} (after : List (Entry A) → After) (reads : List ℕ → A) (joins : List ℕ → Option JoinLine) (sits : List (Entry A) → List ℕ → SitAnswer) (hears : List (Entry A) → ℕ → ℕ → A → Heard R) (says : Control R → List ℕ) (at : List ℕ → L → WireState) where
+module _ {A R L : Type 0} (after : List (Entry A) → Showing) (reads : List ℕ → A) (joins : List ℕ → Option JoinLine) (sits : List (Entry A) → List ℕ → SitAnswer) (hears : List (Entry A) → ℕ → ℕ → A → Heard R) (says : Control R → List ℕ) (at : List ℕ → L → WireState) where
   -- A session in the whole history: it saw a beginning of it, from the old entries up to the new ones, without want of memory,
   -- and the script of its connection in the whole history is that in what it saw.
   pub record IsServed (author : ℕ) (old new all : List (Entry A)) (session : Session L) : Type 0 where
@@ -53,13 +53,13 @@ module _ {A R L : Type 0} (after : List (Entry A) → After) (reads : List ℕ �
       (before : List (Session L)) × (own : List (Session L)) × (sessions ≡ before ++ own) × AllServe author all before × Serves author [] all own
 
 -- A handler ended since the game is over, or since the host failed it with its number.
-abbrev pub EndsIn : {A F : Type 0} → (List (Entry A) → After) → (F → Type 0) → (F → ℕ) → ℕ → List (Entry A) → HandlerEnd F → Type 0
+abbrev pub EndsIn : {A F : Type 0} → (List (Entry A) → Showing) → (F → Type 0) → (F → ℕ) → ℕ → List (Entry A) → HandlerEnd F → Type 0
 EndsIn after made number by all Over = (after all).over ≡ true
 EndsIn after made number by all (Host fault) = made fault × (number fault ≡ by)
 EndsIn after made number by all NoMemory = ⊥
 
 -- The ends of so many handlers, numbered from 0, in this order.
-abbrev pub AllEnd : {A F : Type 0} → (List (Entry A) → After) → (F → Type 0) → (F → ℕ) → ℕ → List (Entry A) → List (HandlerEnd F) → Type 0
+abbrev pub AllEnd : {A F : Type 0} → (List (Entry A) → Showing) → (F → Type 0) → (F → ℕ) → ℕ → List (Entry A) → List (HandlerEnd F) → Type 0
 AllEnd {A} {F} after made number zero all ends = ends ≡ []
 AllEnd {A} {F} after made number (suc by) all ends =
     (before : List (HandlerEnd F)) × (end : HandlerEnd F) × (ends ≡ before ++ end ∷ []) × AllEnd after made number by all before × EndsIn after made number by all end

@@ -39,7 +39,7 @@ pub enum HandlerEnd<F> {
 
 // Whether a handler goes on.
 #[derive(Clone, Copy)]
-pub(crate) enum Call {
+pub(crate) enum Finding {
     GoesOn,
     Over,
     NoMemory,
@@ -126,9 +126,9 @@ fn handle_once<T: SharedGame, H: Host<Fault = <T as SharedGame>::Fault>, R: Wait
         T.Fault.number result pass.old.number pass.new.seen }
 {
     match ask(turn, rt, pass) {
-        Call::Over => Some(HandlerEnd::Over),
-        Call::NoMemory => Some(HandlerEnd::NoMemory),
-        Call::GoesOn => match sessions.reserve(1) {
+        Finding::Over => Some(HandlerEnd::Over),
+        Finding::NoMemory => Some(HandlerEnd::NoMemory),
+        Finding::GoesOn => match sessions.reserve(1) {
             Ok(()) => take_link(turn, rt, alloc, pass, host, sessions),
             Err(_) => {
                 hold::give_up(turn, rt, pass);
@@ -257,29 +257,29 @@ fn end_after<F>(ended: Ended) -> Option<HandlerEnd<F>>
 }
 
 // Whether the game is over, or memory was wanting.
-fn ask<T: SharedGame, R: Wait>(turn: &Turn<T>, rt: &R, pass: &mut Pass<T>) -> Call
+fn ask<T: SharedGame, R: Wait>(turn: &Turn<T>, rt: &R, pass: &mut Pass<T>) -> Finding
     requires { IsIdle T.Noted.setting turn.now pass.old }
     ensures idle { IsIdle T.Noted.setting turn.now pass.new × (pass.new.number ≡ pass.old.number) }
     ensures nothing { Enters pass.old.number pass.old.seen pass.new.seen [] }
     ensures asks { Asks result (T.after (T.Noted.setting turn.now.opening)) pass.new.seen }
 {
     let mut held = hold::take(turn, rt, pass);
-    let call = call_of(held.value());
+    let call = finding_of(held.value());
     hold::give_unchanged(turn, pass, held, false);
     call
 }
 
-fn call_of<T: SharedGame>(table: &mut T) -> Call
+fn finding_of<T: SharedGame>(table: &mut T) -> Finding
     ensures same { table.new ≡ table.old }
     ensures finds { Finds result (T.after (T.Seated.setting table.old) (T.history table.old)) }
 {
     if table.dry() {
-        return Call::NoMemory;
+        return Finding::NoMemory;
     }
     if table.over() {
-        return Call::Over;
+        return Finding::Over;
     }
-    Call::GoesOn
+    Finding::GoesOn
 }
 
 // Keeps the fault by which the host failed the handler, and says whether the game is over.

@@ -8,7 +8,7 @@ ghost use Rattle.mj_seats.specs.Ticks.{Ticks};
 ghost use Rattle.mj_seats.specs.Workers.{AllServe, AllEnd, ExpiresBy, begun};
 ghost use Rattle.turn_lock.specs.Turns.{IsIdle, IsSeenIn};
 
-use crate::gather::{Left, gather_all};
+use crate::gather::{Remains, gather_all};
 use crate::handle::{HandlerEnd, Session};
 use crate::hold::close;
 use crate::lost::Lost;
@@ -119,7 +119,7 @@ fn run_at<
 // Ends the turn with the passes that came back.
 fn finish<T: SharedGame, L: Drop, F: Drop>(
     turn: Turn<T>,
-    left: Left<Pass<T>, L, F>,
+    left: Remains<Pass<T>, L, F>,
     last: Pass<T>,
 ) -> Result<ClosedGame<T, L, F>, AllocError>
     requires all { length left.passes.items + 1 ≡ turn.passes }
@@ -134,7 +134,7 @@ fn finish<T: SharedGame, L: Drop, F: Drop>(
     ensures sessions { IfOk result (λ c. c.sessions.items ≡ left.sessions.items) }
     ensures ends { IfOk result (λ c. c.ends.items ≡ left.ends.items) }
 {
-    let Left {
+    let Remains {
         mut passes,
         sessions,
         ends,

@@ -48,16 +48,16 @@ missing_itself [] = refl
 missing_itself (w ∷ t) = (let r = missing_itself t in omega arith)
 
 -- what the exchanges leave
-record Left (room counts : List ℕ) (exchanges : List (ℕ × ℕ)) (t : List ℕ) : Type 0 where
+record Remainder (room counts : List ℕ) (exchanges : List (ℕ × ℕ)) (t : List ℕ) : Type 0 where
   size : length (after_all counts exchanges) ≡ 34
   within : IsWithinRoom (after_all counts exchanges) room
   near : missing t counts ≤ missing t (after_all counts exchanges) + length exchanges
 
-left_after : (room counts : List ℕ) (exchanges : List (ℕ × ℕ)) (t : List ℕ) → length counts ≡ 34 → IsWithinRoom counts room → MayExchangeAll room counts exchanges → Left room counts exchanges t
+left_after : (room counts : List ℕ) (exchanges : List (ℕ × ℕ)) (t : List ℕ) → length counts ≡ 34 → IsWithinRoom counts room → MayExchangeAll room counts exchanges → Remainder room counts exchanges t
 left_after room counts [] t size within may = record { size = size; within = within; near = omega arith }
 left_after room counts (e ∷ es) t size within may =
     let next : length (exchanged counts e) ≡ 34 = exchanged_size counts e.0 e.1 ∙ size in
-    let r : Left room (exchanged counts e) es t = left_after room (exchanged counts e) es t next may.0.within may.1 in
+    let r : Remainder room (exchanged counts e) es t = left_after room (exchanged counts e) es t next may.0.within may.1 in
     let n : missing t counts ≤ missing t (exchanged counts e) + 1 =
     one_nearer e.1 t counts (exchanged counts e) (size ∙ sym next) (λ k inside. (let a = exchanged_at counts e.0 e.1 k (let o = may.0.out_kind in omega arith) (let p = may.0.in_kind in omega arith) in omega arith)) in
     record { size = r.size; within = r.within; near = (let m = r.near in omega arith) }
@@ -65,7 +65,7 @@ left_after room counts (e ∷ es) t size within may =
 no_fewer : (counts room target : List ℕ) (melds number many : ℕ) (exchanges : List (ℕ × ℕ)) → length counts ≡ 34 → IsHand counts room melds → IsShanten counts room melds number target → LeadsToReady counts room melds many exchanges → number ≤ many
 no_fewer counts room target melds number many exchanges size hand is leads = (let l = is.least (one_more (after_all counts exchanges) leads.ready.0) goal in let n = left.near in let m = leads.many in let o = one in omega arith)
   where
-    left : Left room counts exchanges (one_more (after_all counts exchanges) leads.ready.0)
+    left : Remainder room counts exchanges (one_more (after_all counts exchanges) leads.ready.0)
     left = left_after room counts exchanges (one_more (after_all counts exchanges) leads.ready.0) size hand.within leads.each
 
     at : (k : ℕ) → get_or (one_more (after_all counts exchanges) leads.ready.0) k 0 ≡ get_or (after_all counts exchanges) k 0 + cond (eqb leads.ready.0 k) 1 0

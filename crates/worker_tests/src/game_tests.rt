@@ -23,7 +23,7 @@ const D_AND_PASS: &str = "{\"type\":\"join\",\"name\":\"d\"}\n{\"type\":\"none\"
 
 // What is left of a game that workers played.
 #[derive(Clone, Copy)]
-struct Left {
+struct Leftover {
     over: bool,
     sessions: usize,
     deeds: u32,
@@ -35,11 +35,11 @@ fn play<G: Seated, H: Host, K: Clock, R: Threads + Wait + Sync>(
     game: G,
     host: &H,
     clock: &mut K,
-) -> Option<Left>
+) -> Option<Leftover>
     requires { G.history game ≡ [] }
 {
     match run_workers(rt, alloc, game, host, clock) {
-        Ok(closed) => Some(Left {
+        Ok(closed) => Some(Leftover {
             over: closed.game.over(),
             sessions: closed.sessions.len(),
             deeds: closed.game.deeds(),

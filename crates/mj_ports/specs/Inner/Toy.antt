@@ -7,7 +7,7 @@ use Rattle.mj_ports.specs.declared.answers.Heard.{Heard}
 use Rattle.mj_ports.specs.declared.answers.Heard.TheVariants.{Taken, Refused}
 use Rattle.mj_ports.specs.declared.answers.Control.{Control}
 use Rattle.mj_ports.specs.declared.answers.Control.TheVariants as control
-use Rattle.mj_ports.specs.Seats.{After, pending}
+use Rattle.mj_ports.specs.Seats.{Showing, pending}
 
 -- Who sits, whether the game has begun, and how far the seat has come.
 pub record Toy : Type 0 where
@@ -30,7 +30,7 @@ zero_if None = None
 zero_if (Some author) = Some 0
 
 -- What shows of a toy: its seat and its connection have the number 0, and each line is its own number.
-abbrev pub shown : Toy → After
+abbrev pub shown : Toy → Showing
 shown t = record {
   present = at_zero t.author None;
   due = λ _. t.due;

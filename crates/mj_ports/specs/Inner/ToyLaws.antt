@@ -6,10 +6,10 @@ use Rattle.mj_ports.specs.declared.entry.Entry.TheVariants.{Sat, Back, Said, Gon
 use Rattle.mj_ports.specs.declared.answers.Heard.{Heard}
 use Rattle.mj_ports.specs.declared.answers.Heard.TheVariants.{Taken, Late, Refused, Closing, NoMemory}
 use Rattle.mj_ports.specs.Entries.{next_seat, IsAside}
-use Rattle.mj_ports.specs.Seats.{After, pending, script, Stays, StaysEnded, Unmoved, Begins, Answers, Adds, Leaves, hello, replay}
+use Rattle.mj_ports.specs.Seats.{Showing, pending, script, Stays, StaysEnded, Unmoved, Begins, Answers, Adds, Leaves, hello, replay}
 use Rattle.mj_ports.specs.Inner.Toy.{Toy, first, zero_if, shown, toy_says, told_all, toy_hears, answered, toy_step, played, IsPermitted, IsLegalFrom}
 
-abbrev pub after_toy : List (Entry ℕ) → After
+abbrev pub after_toy : List (Entry ℕ) → Showing
 after_toy es = shown (played first es)
 
 pub played_snoc : (t : Toy) (es : List (Entry ℕ)) (e : Entry ℕ) → played t (es ++ e ∷ []) ≡ toy_step (played t es) e
@@ -72,7 +72,7 @@ deeds_step t (Gone author seat) = omega arith
 deeds_step t (Expired author window t1 t2) = omega arith
 
 -- a law of one step, at entries of which the last is the step
-stepped : (P : After → Type 0) (es : List (Entry ℕ)) (e : Entry ℕ) → P (shown (toy_step (played first es) e)) → P (after_toy (es ++ e ∷ []))
+stepped : (P : Showing → Type 0) (es : List (Entry ℕ)) (e : Entry ℕ) → P (shown (toy_step (played first es) e)) → P (after_toy (es ++ e ∷ []))
 stepped P es e p = subst (λ (t : Toy). P (shown t)) (sym (played_snoc first es e)) p
 
 pub stays : (es : List (Entry ℕ)) (e : Entry ℕ) → Stays (after_toy es) (after_toy (es ++ e ∷ []))
@@ -156,5 +156,5 @@ pub leaves : (es : List (Entry ℕ)) (author seat : ℕ) → IsLegalFrom first (
 leaves es author seat h =
     let e : Entry ℕ = Gone author seat in
     let t : Toy = played first es in
-    stepped (λ (w : After). Leaves seat (after_toy es) w × Adds seat [] (after_toy es) w) es e
+    stepped (λ (w : Showing). Leaves seat (after_toy es) w × Adds seat [] (after_toy es) w) es e
     (subst (λ (k : ℕ). Leaves k (shown t) (shown (toy_step t e)) × Adds k [] (shown t) (shown (toy_step t e))) (sym (last_permitted first es e h).0) (leaves_zero author seat t))

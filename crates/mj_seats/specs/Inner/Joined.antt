@@ -8,7 +8,7 @@ use Rattle.mj_ports.specs.declared.answers.SitAnswer.{SitAnswer}
 use Rattle.mj_ports.specs.declared.answers.Heard.{Heard}
 use Rattle.mj_ports.specs.declared.answers.Control.{Control}
 use Rattle.mj_ports.specs.Entries.{author_of}
-use Rattle.mj_ports.specs.Seats.{After}
+use Rattle.mj_ports.specs.Seats.{Showing}
 use Rattle.mj_seats.specs.declared.handle.HandlerEnd.{HandlerEnd}
 use Rattle.mj_seats.specs.declared.handle.Session.{Session}
 use Rattle.mj_seats.specs.declared.worker.Done.{Done}
@@ -32,7 +32,7 @@ pub record IsBack {T S N : Type 0} (setting : T → S) (turn : TurnState T) (num
   pub idle : IsIdle setting turn p
   pub number_is : p.number ≡ number
 
-module _ {T A R L F S : Type 0} (after : List (Entry A) → After) (reads : List ℕ → A) (joins : List ℕ → Option JoinLine) (sits : List (Entry A) → List ℕ → SitAnswer) (hears : List (Entry A) → ℕ → ℕ → A → Heard R) (says : Control R → List ℕ) (at : List ℕ → L → WireState) (made : F → Type 0) (number : F → ℕ) (setting : T → S) (turn : TurnState T) where
+module _ {T A R L F S : Type 0} (after : List (Entry A) → Showing) (reads : List ℕ → A) (joins : List ℕ → Option JoinLine) (sits : List (Entry A) → List ℕ → SitAnswer) (hears : List (Entry A) → ℕ → ℕ → A → Heard R) (says : Control R → List ℕ) (at : List ℕ → L → WireState) (made : F → Type 0) (number : F → ℕ) (setting : T → S) (turn : TurnState T) where
   -- What is left of the handler with this number: its pass, its sessions and how it ended.
   pub record IsLeft (by : ℕ) (p : PassState S (Entry A)) (sessions : List (Session L)) (end : HandlerEnd F) : Type 0 where
     pub back : IsBack setting turn by p
@@ -56,7 +56,7 @@ module _ {T A R L F S : Type 0} (after : List (Entry A) → After) (reads : List
       (ps : List (PassState S (Entry A))) × (p : PassState S (Entry A)) × (before : List (Session L)) × (own : List (Session L)) × (es : List (HandlerEnd F)) × (end : HandlerEnd F)
       × (passes ≡ ps ++ p ∷ []) × (sessions ≡ before ++ own) × (ends ≡ es ++ end ∷ []) × AllLeft by ps before es × IsLeft by p own end × (WantsMemory end → ⊥)
 
-module _ {A R L F : Type 0} (after : List (Entry A) → After) (reads : List ℕ → A) (joins : List ℕ → Option JoinLine) (sits : List (Entry A) → List ℕ → SitAnswer) (hears : List (Entry A) → ℕ → ℕ → A → Heard R) (says : Control R → List ℕ) (at : List ℕ → L → WireState) (made : F → Type 0) (number : F → ℕ) where
+module _ {A R L F : Type 0} (after : List (Entry A) → Showing) (reads : List ℕ → A) (joins : List ℕ → Option JoinLine) (sits : List (Entry A) → List ℕ → SitAnswer) (hears : List (Entry A) → ℕ → ℕ → A → Heard R) (says : Control R → List ℕ) (at : List ℕ → L → WireState) (made : F → Type 0) (number : F → ℕ) where
   -- What eight handlers and a ticker with the number 8 leave behind with these entries, where the clock's readings grew so.
   pub record IsPlayed (entries : List (Entry A)) (sessions : List (Session L)) (ends : List (HandlerEnd F)) (was_read read : Option (List ℕ)) : Type 0 where
     pub authors : All (λ e. author_of e < 9) entries

@@ -11,7 +11,7 @@ use Rattle.mj_ports.specs.declared.answers.Left.{Left}
 use Rattle.mj_ports.specs.declared.answers.Left.TheVariants as left
 use Rattle.mj_ports.specs.declared.answers.Control.{Control}
 use Rattle.mj_ports.specs.declared.answers.Control.TheVariants as control
-use Rattle.mj_ports.specs.Seats.{After, Stays, Unmoved, script}
+use Rattle.mj_ports.specs.Seats.{Showing, Stays, Unmoved, script}
 use Rattle.mj_seats.specs.declared.served.Ended.{Ended}
 use Rattle.mj_seats.specs.declared.served.Ended.TheVariants.{GameOver, PeerEnded, LinkFault, LineTooLong, TooManyRefusals, NotSeated, NoMemory}
 use Rattle.mj_seats.specs.declared.step.Due.{Due}
@@ -28,18 +28,18 @@ use Rattle.mj_seats.specs.Sessions.{IsExcused, WireEnds, LeavesOut, HistoryEnds,
 use Rattle.mj_seats.specs.Wires.{WireState, Took, Told, ToldInPart}
 
 -- The seat is present by the author, and the connection of the place is its own.
-pub record Stands (w : After) (author seat place : ℕ) : Type 0 where
+pub record Stands (w : Showing) (author seat place : ℕ) : Type 0 where
   pub present : w.present seat ≡ Some author
   pub mine : w.seat_of place ≡ Some seat
 
 -- What a look for the due deed finds: none yet, or its line, or that the game is over and there is none.
-abbrev pub FindsDue : Option Due → After → ℕ → List ℕ → List ℕ → Type 0
+abbrev pub FindsDue : Option Due → Showing → ℕ → List ℕ → List ℕ → Type 0
 FindsDue None w seat old new = new ≡ old
 FindsDue (Some due.Line) w seat old new = (w.due seat < w.deeds) × (new ≡ old ++ w.text seat (w.due seat))
 FindsDue (Some due.Over) w seat old new = (w.over ≡ true) × (w.deeds ≤ w.due seat)
 FindsDue (Some due.NoMemory) w seat old new = Unit {0}
 
-module _ {A : Type 0} (after : List (Entry A) → After) where
+module _ {A : Type 0} (after : List (Entry A) → Showing) where
   -- While an author entered nothing, its present seat was left alone.
   pub record Watches (author seat : ℕ) (old new : List (Entry A)) : Type 0 where
     pub nothing : Enters author old new []
@@ -57,7 +57,7 @@ module _ {A : Type 0} (after : List (Entry A) → After) where
     pub watches : Watches author seat old until
     pub extends : Extends place until new (Gone author seat) []
 
-module _ {A R : Type 0} (after : List (Entry A) → After) (hears : List (Entry A) → ℕ → ℕ → A → Heard R) where
+module _ {A R : Type 0} (after : List (Entry A) → Showing) (hears : List (Entry A) → ℕ → ℕ → A → Heard R) where
   -- What an answer comes to: the seat goes on to the next deed, or is asked again, or leaves by a closing refusal.
   abbrev pub Speaks : Verdict → ℕ → ℕ → ℕ → List (Entry A) → List (Entry A) → A → List ℕ → Type 0
   Speaks verdict.GoesOn author seat place old new answer reply =
@@ -75,7 +75,7 @@ module _ {A R : Type 0} (after : List (Entry A) → After) (hears : List (Entry 
     pub watches : Watches after author seat old until
     pub speaks : Speaks verdict author seat place until new answer reply
 
-module _ {A : Type 0} (after : List (Entry A) → After) (sits : List (Entry A) → List ℕ → SitAnswer) (joins : List ℕ → Option JoinLine) where
+module _ {A : Type 0} (after : List (Entry A) → Showing) (sits : List (Entry A) → List ℕ → SitAnswer) (joins : List ℕ → Option JoinLine) where
   -- A line was given a seat, whose connection begins; so much was told, and perhaps more is to be told.
   pub record TakesSeat (line : List ℕ) (author : ℕ) (old new : List (Entry A)) (at : Connection) (told more : List ℕ) : Type 0 where
     pub first : Entry A
@@ -86,7 +86,7 @@ module _ {A : Type 0} (after : List (Entry A) → After) (sits : List (Entry A) 
     pub is_told : (after new).is_told at.seat ≡ false
     pub told_is : (after new).told at.place ≡ told ++ more
 
-module _ {A R : Type 0} (after : List (Entry A) → After) (sits : List (Entry A) → List ℕ → SitAnswer) (joins : List ℕ → Option JoinLine) (says : Control R → List ℕ) where
+module _ {A R : Type 0} (after : List (Entry A) → Showing) (sits : List (Entry A) → List ℕ → SitAnswer) (joins : List ℕ → Option JoinLine) (says : Control R → List ℕ) where
   -- What the first line of a link comes to.
   abbrev pub SitsDown : Sitting → List ℕ → ℕ → List (Entry A) → List (Entry A) → List ℕ → Type 0
   SitsDown (sitting.Seated at) line author old new reply =
@@ -104,7 +104,7 @@ module _ {A R : Type 0} (after : List (Entry A) → After) (sits : List (Entry A
     pub sat : SitsDown sitting line author until new reply
 
 -- How the history stands at the end of a session, before its seat is entered as gone.
-abbrev pub StandsAt : {A R : Type 0} → (List (Entry A) → After) → (List (Entry A) → ℕ → ℕ → A → Heard R) → Ended → ℕ → ℕ → ℕ → List (Entry A) → Type 0
+abbrev pub StandsAt : {A R : Type 0} → (List (Entry A) → Showing) → (List (Entry A) → ℕ → ℕ → A → Heard R) → Ended → ℕ → ℕ → ℕ → List (Entry A) → Type 0
 StandsAt after hears GameOver author seat place new = Stands (after new) author seat place × ((after new).over ≡ true) × ((after new).deeds ≤ (after new).due seat)
 StandsAt after hears PeerEnded author seat place new = Stands (after new) author seat place × ((after new).due seat < (after new).deeds)
 StandsAt after hears LinkFault author seat place new = Stands (after new) author seat place × ((after new).due seat < (after new).deeds)
@@ -113,7 +113,7 @@ StandsAt after hears TooManyRefusals author seat place new = EndsByRefusal after
 StandsAt after hears (NotSeated why) author seat place new = ⊥
 StandsAt after hears NoMemory author seat place new = Unit {0}
 
-module _ {A R : Type 0} (after : List (Entry A) → After) (reads : List ℕ → A) (hears : List (Entry A) → ℕ → ℕ → A → Heard R) (author seat place : ℕ) where
+module _ {A R : Type 0} (after : List (Entry A) → Showing) (reads : List ℕ → A) (hears : List (Entry A) → ℕ → ℕ → A → Heard R) (author seat place : ℕ) where
   -- Where a step has come: all lines that came are entered, and what the connection was told is written, and the line of its
   -- due deed too where the seat is asked; or the session has ended.
   abbrev pub Reaches : Step → List (Entry A) → WireState → WireState → List ℕ → List (List ℕ) → List ℕ → Type 0
@@ -148,11 +148,11 @@ module _ {A R : Type 0} (after : List (Entry A) → After) (reads : List ℕ →
     pub history_ends : HistoryEnds after hears ended author seat place new
 
 -- A seat leaves, unless memory is wanting.
-abbrev pub LeavesAs : {A : Type 0} → (List (Entry A) → After) → Ended → Ended → ℕ → ℕ → ℕ → List (Entry A) → List (Entry A) → Type 0
+abbrev pub LeavesAs : {A : Type 0} → (List (Entry A) → Showing) → Ended → Ended → ℕ → ℕ → ℕ → List (Entry A) → List (Entry A) → Type 0
 LeavesAs after ended result author seat place old new = ((result ≡ ended) × GoesAway after author seat place old new) ⊎ ((result ≡ NoMemory) × Watches after author seat old new)
 
 -- A seat whose link ended its session leaves; after another end nothing is entered.
-abbrev pub FinishesAs : {A : Type 0} → (List (Entry A) → After) → Ended → Ended → ℕ → ℕ → ℕ → List (Entry A) → List (Entry A) → Type 0
+abbrev pub FinishesAs : {A : Type 0} → (List (Entry A) → Showing) → Ended → Ended → ℕ → ℕ → ℕ → List (Entry A) → List (Entry A) → Type 0
 FinishesAs after GameOver result author seat place old new = (result ≡ GameOver) × (new ≡ old)
 FinishesAs after PeerEnded result author seat place old new = LeavesAs after PeerEnded result author seat place old new
 FinishesAs after LinkFault result author seat place old new = LeavesAs after LinkFault result author seat place old new
@@ -162,7 +162,7 @@ FinishesAs after (NotSeated why) result author seat place old new = (result ≡ 
 FinishesAs after NoMemory result author seat place old new = (result ≡ NoMemory) × (new ≡ old)
 
 -- What comes of the leaving of a seat.
-abbrev pub Parts : {A : Type 0} → (List (Entry A) → After) → Left → ℕ → ℕ → ℕ → List (Entry A) → List (Entry A) → Type 0
+abbrev pub Parts : {A : Type 0} → (List (Entry A) → Showing) → Left → ℕ → ℕ → ℕ → List (Entry A) → List (Entry A) → Type 0
 Parts after left.Gone author seat place old new = Extends after place old new (Gone author seat) []
 Parts after left.NoMemory author seat place old new = new ≡ old
 

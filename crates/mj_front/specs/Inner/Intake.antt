@@ -9,7 +9,7 @@ use Rattle.mj_history.specs.Arrivals.{ArrivalForm, Header, WallOf, Sit, Say, Lea
 use Rattle.mj_core.specs.Calls.{after_of, author_of_seat, due_of, pending_at}
 use Rattle.mj_front.specs.declared.arriving.Arrived.{Arrived}
 use Rattle.mj_front.specs.declared.arriving.Arrived.TheVariants as steps
-use Rattle.mj_front.specs.declared.hearing.End.{End}
+use Rattle.mj_front.specs.declared.intake.End.{End}
 use Rattle.mj_front.specs.Referee.{ending}
 
 -- What was read behind a header and walls alone.

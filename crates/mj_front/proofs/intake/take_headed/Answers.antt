@@ -2,7 +2,7 @@ use Rattle.std.proofs.Common.{ap, sym, ◌∙◌, Some}
 use Rattle.mj_bytes.specs.Parts.{whole_lines}
 use Rattle.mj_front.proofs.WallLaws.{IsWallLine, heard-wall, few-more, whole-more, counted, tells-bad_wall}
 use Rattle.mj_front.specs.Referee.{ending}
-use Rattle.mj_front.proofs.hearing.hear_headed.Goals as goal
+use Rattle.mj_front.proofs.intake.take_headed.Goals as goal
 
 pub returns-in_default-next_wall : goal.returns-in_default-next_wall
 returns-in_default-next_wall c =

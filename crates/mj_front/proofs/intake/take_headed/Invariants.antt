@@ -2,13 +2,13 @@ use Rattle.std.proofs.Common.{◌≡◌, ◌+◌, ◌≤◌, true, false, [], le
 use Rattle.std.specs.List.{list_all}
 use Rattle.mj_bytes.specs.Parts.{whole_lines, unfinished}
 use Rattle.mj_wall.specs.Places.{is_wall}
-use Rattle.mj_history.specs.Arrivals.{hear_from}
-use Rattle.mj_front.specs.Inner.Hearing.{intake_with_walls}
-use Rattle.mj_front.proofs.hearing.hear_headed.Given as goal
+use Rattle.mj_history.specs.Arrivals.{intake_from}
+use Rattle.mj_front.specs.Inner.Intake.{intake_with_walls}
+use Rattle.mj_front.proofs.intake.take_headed.Given as goal
 
 abbrev pub invariant-loop-line : goal.invariant-loop-line
 invariant-loop-line l = record {
-  same : hear_from (intake_with_walls l.rules []) 2 (whole_lines l.input) (unfinished l.input) ≡ hear_from (intake_with_walls l.rules l.walls.items) l.number (whole_lines l.rest) (unfinished l.rest);
+  same : intake_from (intake_with_walls l.rules []) 2 (whole_lines l.input) (unfinished l.input) ≡ intake_from (intake_with_walls l.rules l.walls.items) l.number (whole_lines l.rest) (unfinished l.rest);
   few : length l.walls.items ≤ 200;
   whole : list_all (is_wall l.rules.red) l.walls.items ≡ true;
   count : l.number + length l.rest ≤ length l.input + 2;

@@ -1,7 +1,7 @@
 use Rattle.std.proofs.Common.{ap, sym, ◌∙◌}
 use Rattle.mj_front.proofs.WallLaws.{no-walls, tells-no_wall, tells-walls}
 use Rattle.mj_front.specs.Referee.{ending}
-use Rattle.mj_front.proofs.hearing.hear_walled.Goals as goal
+use Rattle.mj_front.proofs.intake.take_walled.Goals as goal
 
 pub returns-then-is_empty : goal.returns-then-is_empty
 returns-then-is_empty c =

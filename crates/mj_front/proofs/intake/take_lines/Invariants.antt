@@ -1,12 +1,12 @@
 use Rattle.std.proofs.Common.{◌≡◌, ◌+◌, ◌≤◌, length}
 use Rattle.mj_bytes.specs.Parts.{whole_lines, unfinished}
-use Rattle.mj_history.specs.Arrivals.{hear_from}
-use Rattle.mj_front.specs.Inner.Hearing.{intake_of, InPlay}
-use Rattle.mj_front.proofs.hearing.hear_lines.Given as goal
+use Rattle.mj_history.specs.Arrivals.{intake_from}
+use Rattle.mj_front.specs.Inner.Intake.{intake_of, InPlay}
+use Rattle.mj_front.proofs.intake.take_lines.Given as goal
 
 abbrev pub invariant-loop-line : goal.invariant-loop-line
 invariant-loop-line l = record {
-  same : hear_from (intake_of l.fn.core) l.first (whole_lines l.input) (unfinished l.input) ≡ hear_from (intake_of l.core) l.number (whole_lines l.rest) (unfinished l.rest);
+  same : intake_from (intake_of l.fn.core) l.first (whole_lines l.input) (unfinished l.input) ≡ intake_from (intake_of l.core) l.number (whole_lines l.rest) (unfinished l.rest);
   play : InPlay l.seat l.core l.told.items;
   count : l.number + length l.rest ≤ length l.input + l.first;
 }

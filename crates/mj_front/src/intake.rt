@@ -4,12 +4,12 @@ ghost use Rattle.std.specs.Prelude.{◌≡◌, ◌≤◌, ◌==◌, ◌+◌, ◌
 ghost use Rattle.std.specs.List.{list_all};
 ghost use Rattle.mj_bytes.specs.Parts.{whole_lines, unfinished};
 ghost use Rattle.mj_wall.specs.Places.{is_wall};
-ghost use Rattle.mj_history.specs.Arrivals.{Intake, hear_from, hear_on, header_arrives, nothing_read, at_end, input_of};
+ghost use Rattle.mj_history.specs.Arrivals.{Intake, intake_from, intake_on, header_arrives, nothing_read, at_end, input_of};
 ghost use Rattle.mj_front.specs.Inputs.{longest};
 ghost use Rattle.mj_front.specs.Referee.{ending};
-ghost use Rattle.mj_front.specs.Inner.Hearing.{intake_of, intake_with_walls, begin_with_wall, InPlay, HearsAll, Tells};
+ghost use Rattle.mj_front.specs.Inner.Intake.{intake_of, intake_with_walls, begin_with_wall, InPlay, HearsAll, Tells};
 
-use crate::arriving::{Arrived, hear_line};
+use crate::arriving::{Arrived, take_line};
 use crate::form::{ArrivalForm, read_form};
 use mj_bytes::split_line;
 use mj_core::Core;
@@ -46,7 +46,7 @@ fn nothing_told(alloc: Global, end: End) -> Told
 
 /// Hears an input, of at most 67,108,864 bytes, for a seat.
 #[tactic(auto, unfolding(mj_history::specs::Arrivals::arrives))]
-pub(crate) fn hear(alloc: Global, seat: u8, input: &[u8]) -> Result<Told, AllocError>
+pub(crate) fn take_in(alloc: Global, seat: u8, input: &[u8]) -> Result<Told, AllocError>
     requires { length input.now ≤ longest }
     ensures { IfOk result (λ told. Tells (input_of input.now) seat told.end told.bytes.items) }
 {
@@ -54,32 +54,32 @@ pub(crate) fn hear(alloc: Global, seat: u8, input: &[u8]) -> Result<Told, AllocE
         return Ok(nothing_told(alloc, end_at(input, 1)));
     };
     match read_form(alloc, line)? {
-        ArrivalForm::Header(rules) => hear_header(alloc, seat, rules, others),
+        ArrivalForm::Header(rules) => take_header(alloc, seat, rules, others),
         _ => Ok(nothing_told(alloc, End::Bad(1))),
     }
 }
 
 // Hears what stands behind a header.
 #[tactic(auto, unfolding(mj_history::specs::Arrivals::header_arrives))]
-fn hear_header(alloc: Global, seat: u8, rules: Rules, input: &[u8]) -> Result<Told, AllocError>
+fn take_header(alloc: Global, seat: u8, rules: Rules, input: &[u8]) -> Result<Told, AllocError>
     requires fits { length input.now ≤ longest }
     requires least { 1 ≤ rules.limit }
     requires longest { rules.limit ≤ 3600000 }
     ensures { IfOk result (λ told. Tells
-        (hear_on (header_arrives nothing_read rules)
-        (λ next. hear_from next 2 (whole_lines input.now) (unfinished input.now)) nothing_read 1)
+        (intake_on (header_arrives nothing_read rules)
+        (λ next. intake_from next 2 (whole_lines input.now) (unfinished input.now)) nothing_read 1)
         seat told.end told.bytes.items) }
 {
-    hear_headed(alloc, seat, rules, input)
+    take_headed(alloc, seat, rules, input)
 }
 
 // Hears all lines behind a header, the first of which is line 2: first its walls stand there.
-fn hear_headed(alloc: Global, seat: u8, rules: Rules, input: &[u8]) -> Result<Told, AllocError>
+fn take_headed(alloc: Global, seat: u8, rules: Rules, input: &[u8]) -> Result<Told, AllocError>
     requires fits { length input.now ≤ longest }
     requires least { 1 ≤ rules.limit }
     requires longest { rules.limit ≤ 3600000 }
     ensures { IfOk result (λ told. Tells
-        (hear_from (intake_with_walls rules []) 2 (whole_lines input.now) (unfinished input.now))
+        (intake_from (intake_with_walls rules []) 2 (whole_lines input.now) (unfinished input.now))
         seat told.end told.bytes.items) }
 {
     let mut walls = Vec::new(alloc);
@@ -87,7 +87,7 @@ fn hear_headed(alloc: Global, seat: u8, rules: Rules, input: &[u8]) -> Result<To
     let mut number = 2;
     while let Some((line, others)) = split_line(rest) {
         let ArrivalForm::Wall(tiles) = read_form(alloc, line)? else {
-            return hear_walled(alloc, seat, rules, walls, rest, number);
+            return take_walled(alloc, seat, rules, walls, rest, number);
         };
         let Some(wall) = next_wall(rules.red, walls.len(), tiles.as_slice()) else {
             return Ok(nothing_told(alloc, End::Bad(number)));
@@ -115,7 +115,7 @@ fn next_wall(red: bool, before: usize, tiles: &[Tile]) -> Option<Wall>
 
 // Hears all lines behind a header and its walls, the first of which is no wall and has this number, and what is pending
 // for the seat at the end.
-fn hear_walled(
+fn take_walled(
     alloc: Global,
     seat: u8,
     rules: Rules,
@@ -131,7 +131,7 @@ fn hear_walled(
     requires line { (length (whole_lines input.now) == 0) ≡ false }
     requires other { begin_with_wall (whole_lines input.now) ≡ false }
     ensures { IfOk result (λ told. Tells
-        (hear_from (intake_with_walls rules walls.items) number (whole_lines input.now)
+        (intake_from (intake_with_walls rules walls.items) number (whole_lines input.now)
         (unfinished input.now)) seat told.end told.bytes.items) }
 {
     if walls.is_empty() {
@@ -139,7 +139,7 @@ fn hear_walled(
     }
     let mut core = Core::new(alloc, walls, rules)?;
     let mut bytes = Vec::new(alloc);
-    let end = hear_lines(alloc, seat, &mut core, &mut bytes, input, number)?;
+    let end = take_lines(alloc, seat, &mut core, &mut bytes, input, number)?;
     core.pending(seat, &mut bytes)?;
     Ok(Told { end, bytes })
 }
@@ -156,7 +156,7 @@ fn end_at(rest: &[u8], number: u32) -> End
 }
 
 // Hears all lines of a game in play, the first of which has this number.
-fn hear_lines(
+fn take_lines(
     alloc: Global,
     seat: u8,
     core: &mut Core,
@@ -167,13 +167,13 @@ fn hear_lines(
     requires play { InPlay seat core.old told.old.items }
     requires fits { first + length input.now ≤ u32.MAX }
     ensures { IfOk result (λ end. HearsAll
-        (hear_from (intake_of core.old) first (whole_lines input.now) (unfinished input.now))
+        (intake_from (intake_of core.old) first (whole_lines input.now) (unfinished input.now))
         seat end core.new told.new.items) }
 {
     let mut rest = input;
     let mut number = first;
     while let Some((line, others)) = split_line(rest) {
-        match hear_line(alloc, seat, core, told, line)? {
+        match take_line(alloc, seat, core, told, line)? {
             Arrived::Leads => {}
             Arrived::Bad => return Ok(End::Bad(number)),
         }
