@@ -17,7 +17,7 @@ use mj_deeds::{Deed, is_face, ordered};
 use mj_judge::{discard, judge};
 use mj_shanten::Suits;
 use mj_table::Table;
-use mj_tiles::{Counts, Kind, Kinds, Meld, Tile};
+use mj_tiles::{Counts, FACES, KINDS, Kind, Kinds, Meld, Tile};
 use mj_waits::ready;
 
 // The best discard of a seat, and whether it is known that a reach would leave the hand unready.
@@ -104,7 +104,7 @@ fn is_unready(counts: &Counts, room: &Counts, melds: u8, kinds: Kinds, best: Kin
 fn are_all_among(counts: &Counts, kinds: Kinds) -> bool
     ensures { result ≡ are_all_among counts.now kinds }
 {
-    for number in 0..34 {
+    for number in 0..KINDS as u8 {
         if !is_out_or_among(counts, kinds, Kind::at(number)) {
             return false;
         }
@@ -195,7 +195,7 @@ fn last_lawful(table: &Table, seat: u8, kinds: Kinds) -> Option<Tile>
 {
     let free = is_free(table, seat);
     let mut last = None;
-    for place in 0..37 {
+    for place in 0..FACES {
         let tile = ordered(place);
         if is_wanted(table, seat, free, kinds, tile) {
             last = Some(tile);

@@ -5,7 +5,7 @@ ghost use Rattle.mj_shanten.specs.Room.{is_meld};
 ghost use Rattle.mj_tiles.specs.Counts.{all_kinds};
 ghost use Rattle.mj_bot.specs.Choice.{is_kind_within, is_measured};
 
-use mj_tiles::{Counts, Form, Kind, Meld};
+use mj_tiles::{Counts, EAST, Form, KINDS, Kind, Meld};
 
 // Whether shanten is said of the hand: its melds are sets, which with the room that they leave are four of each kind, and
 // no kind stands more often than its room.
@@ -34,7 +34,7 @@ fn is_set(meld: &Meld) -> bool
 {
     let low = meld.a.kind().number();
     match meld.form {
-        Form::Chi => low < 27 && low % 9 < 7,
+        Form::Chi => low < EAST && low % 9 < 7,
         _ => true,
     }
 }
@@ -46,7 +46,7 @@ fn all_within(counts: &Counts, room: &Counts, melds: &[Meld]) -> bool
         (is_kind_within counts.now room.now (map set_of_meld melds.now))
         all_kinds }
 {
-    for number in 0..34 {
+    for number in 0..KINDS as u8 {
         if !is_kind_within(counts, room, melds, Kind::at(number)) {
             return false;
         }

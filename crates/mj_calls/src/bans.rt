@@ -4,7 +4,7 @@ ghost use Rattle.mj_calls.specs.Bans.{banned_kinds, run_kinds};
 
 use crate::shapes::is_run;
 use mj_deeds::Deed;
-use mj_tiles::{Kind, Kinds};
+use mj_tiles::{KINDS, Kind, Kinds};
 
 /// The kinds that may not be discarded right after a call: after a chi the called kind, and every kind that makes a
 /// run with the two consumed tiles; after a pon the called kind. Any other deed bans nothing.
@@ -24,7 +24,7 @@ fn run_kinds(a: Kind, b: Kind) -> Kinds
     ensures { result ≡ set_of (run_kinds a b) }
 {
     let mut kinds = Kinds::none();
-    for number in (0..34).rev() {
+    for number in (0..KINDS as u8).rev() {
         let Some(kind) = Kind::of(number) else {
             unreachable!()
         };

@@ -9,7 +9,7 @@ ghost use Rattle.mj_readings.specs.AllReadings.{readings_of};
 ghost use Rattle.mj_calls.specs.RiichiKans.{is_riichi_kan, keeps_wait, reads_as_triplet, fewer, has_own_triplet, is_own_triplet};
 
 use mj_readings::{Reading, Set, SetForm, reading_at};
-use mj_tiles::{Counts, Kind, Kinds, Meld};
+use mj_tiles::{Counts, KINDS, Kind, Kinds, Meld};
 use mj_waits::waits;
 
 /// Whether a seat in riichi may make a concealed kan of a kind, out of its concealed tiles before its draw, the room
@@ -63,7 +63,7 @@ fn read_as_triplets(
     requires { waited ≡ kinds_that (is_wait before.now room.now (length melds.now)) }
     ensures { result ≡ list_all (reads_as_triplet before.now room.now melds.now kind) all_kinds }
 {
-    for number in 0..34 {
+    for number in 0..KINDS as u8 {
         let wait = Kind::at(number);
         if !reads_as_triplet(waited, before, room, melds, wait, kind) {
             return false;

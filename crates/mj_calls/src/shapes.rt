@@ -1,7 +1,7 @@
 ghost use Rattle.std.specs.Prelude.{◌≡◌};
 ghost use Rattle.mj_calls.specs.Shapes.{makes_run, is_run_of, are_alike, is_among};
 
-use mj_tiles::{Kind, Tile};
+use mj_tiles::{EAST, Kind, Tile};
 
 /// Whether three tiles make a run, in any order: three numbers in a row of one suit, a red five as a five.
 pub fn chi_shape(tile: Tile, a: Tile, b: Tile) -> bool
@@ -26,7 +26,7 @@ pub(crate) fn is_run(x: Kind, y: Kind, z: Kind) -> bool
     let y = y.number();
     let z = z.number();
     let low = x.min(y.min(z));
-    low < 27 && low % 9 < 7 && is_among(low + 1, x, y, z) && is_among(low + 2, x, y, z)
+    low < EAST && low % 9 < 7 && is_among(low + 1, x, y, z) && is_among(low + 2, x, y, z)
 }
 
 // The kind is one of the three.

@@ -7,7 +7,7 @@ use crate::bid::Bid;
 use crate::deed::Deed;
 use crate::hands::Hands;
 use crate::shown_hands::ShownHands;
-use mj_tiles::Tile;
+use mj_tiles::{FACES, RED, Tile};
 
 /// Whether every seat that stands in a deed is 0 to 3.
 pub fn has_seats(deed: &Deed) -> bool
@@ -136,5 +136,5 @@ fn are_faces(red: bool, tiles: &[Tile]) -> bool
 pub fn is_face(red: bool, tile: Tile) -> bool
     ensures { result ≡ is_face red tile }
 {
-    tile.face() < if red { 37 } else { 34 }
+    tile.face() < if red { FACES as u8 } else { RED }
 }

@@ -8,8 +8,8 @@ ghost use Rattle.mj_rounds.specs.Rounds.{first_standing, next_standing, stays, i
 use crate::course::is_kan;
 use crate::deed::Deed;
 use crate::four::next_seat;
-use mj_rounds::{HandEnd, Standing, first};
-use mj_tiles::Tile;
+use mj_rounds::{HandEnd, LAST_HAND, Standing, first};
+use mj_tiles::{SOUTH, Tile};
 
 /// Whether a deed stands in its place behind the newest one and the deeds of its hand, of which the discard that may be
 /// taken is given, how the hand ended as far as it has, its standing and the deposits on the table.
@@ -133,7 +133,7 @@ fn starts_after(now: &Standing, end: HandEnd, lying: u32, deed: &Deed) -> bool
 fn is_last(now: &Standing, end: HandEnd) -> bool
     ensures { result ≡ is_last now.now end }
 {
-    now.hand == 199 || (round_is_over(now, end) && now.round.number() == 28)
+    now.hand == LAST_HAND || (round_is_over(now, end) && now.round.number() == SOUTH)
 }
 
 // Whether the last dealer passes.
@@ -148,7 +148,7 @@ fn round_after(now: &Standing, end: HandEnd) -> u8
     ensures { result ≡ if round_is_over now.now end then 28 else now.now.round }
 {
     if round_is_over(now, end) {
-        28
+        SOUTH
     } else {
         now.round.number()
     }

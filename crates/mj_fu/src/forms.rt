@@ -12,13 +12,13 @@ ghost use Rattle.mj_fu.specs.Forms.{
 };
 
 use mj_readings::{Case, Reading, Set, SetForm};
-use mj_tiles::Kind;
+use mj_tiles::{Kind, WHITE};
 
 /// Whether the kind is one of the dragons, `P`, `F` and `C`.
 pub fn is_dragon(kind: Kind) -> bool
     ensures { result ≡ dragon kind }
 {
-    kind.number() >= 31
+    kind.number() >= WHITE
 }
 
 /// Whether the set is a run, and no triplet or kan.

@@ -9,7 +9,7 @@ ghost use Rattle.mj_hand.specs.Hands.{hand_among, hand_of, has_each_red_once, st
 ghost use Rattle.mj_hand.specs.Inner.Gathering.{Gathers, Takes, are_within_four, room_left};
 
 use crate::words::{is_meld, read_tiles};
-use mj_tiles::{Counts, Kind, Tile, counts_of, number_among};
+use mj_tiles::{Counts, KINDS, Kind, RED, Tile, counts_of, number_among};
 use std::alloc::{AllocError, Global};
 
 /// A hand of thirteen tiles with three for each meld.
@@ -121,7 +121,7 @@ fn hand_with(gathered: &Gathered) -> Option<Hand>
 fn has_each_red_once(held: &[Tile], melded: &[Tile]) -> bool
     ensures { result ≡ has_each_red_once (held.now ++ melded.now) }
 {
-    stands_once(held, melded, Tile::at(34))
+    stands_once(held, melded, Tile::at(RED))
         && stands_once(held, melded, Tile::at(35))
         && stands_once(held, melded, Tile::at(36))
 }
@@ -138,7 +138,7 @@ fn stands_once(held: &[Tile], melded: &[Tile], tile: Tile) -> bool
 fn are_within_four(counts: &Counts, melded: &Counts) -> bool
     ensures { result ≡ are_within_four counts.now melded.now }
 {
-    for number in 0..34 {
+    for number in 0..KINDS as u8 {
         let kind = Kind::at(number);
         if counts.get(kind) + melded.get(kind) > 4 {
             return false;
@@ -152,8 +152,8 @@ fn room_left(melded: &Counts) -> Counts
     ensures { result ≡ room_left melded.now }
 {
     let numbers = melded.numbers();
-    let mut room = [0; 34];
-    for kind in 0..34 {
+    let mut room = [0; KINDS];
+    for kind in 0..KINDS {
         room[kind] = 4 - numbers[kind];
     }
     match Counts::of(room) {

@@ -14,7 +14,7 @@ ghost use Rattle.mj_hand.specs.Text.{IsTextOf, IsHandText, kinds_text, number_li
 use crate::hand::{Hand, read_hand};
 use mj_bytes::{push_all, push_number};
 use mj_shanten::shanten;
-use mj_tiles::{Counts, Kind, Kinds, Tile, push_times};
+use mj_tiles::{Counts, KINDS, Kind, Kinds, Tile, push_times};
 use mj_waits::waits;
 use std::alloc::{AllocError, Global};
 
@@ -114,7 +114,7 @@ fn kinds_of(alloc: Global, counts: &Counts) -> Result<Vec<Kind>, AllocError>
     ensures { IfOk result (λ kinds. kinds.items ≡ sorted_kinds counts.now) }
 {
     let mut kinds = Vec::new(alloc);
-    for number in 0..34 {
+    for number in 0..KINDS as u8 {
         let kind = Kind::at(number);
         push_times(&mut kinds, kind, counts.get(kind))?;
     }
@@ -126,7 +126,7 @@ fn kinds_in(alloc: Global, set: Kinds) -> Result<Vec<Kind>, AllocError>
     ensures { IfOk result (λ kinds. kinds.items ≡ filter (has_kind set) all_kinds) }
 {
     let mut kinds = Vec::new(alloc);
-    for number in 0..34 {
+    for number in 0..KINDS as u8 {
         let kind = Kind::at(number);
         push_if(&mut kinds, kind, set.has(kind))?;
     }

@@ -7,7 +7,7 @@ ghost use Rattle.mj_readings.specs.declared.reading.SetForm.TheVariants.{Run, Tr
 ghost use Rattle.mj_hand.specs.Words.{parts, tiles_of, are_tiles_of, make_meld_from, make_meld};
 
 use mj_bytes::split_at_first;
-use mj_tiles::{Tile, counts_of};
+use mj_tiles::{EAST, KINDS, Tile, counts_of};
 use std::alloc::{AllocError, Global};
 
 /// The tiles that the parts of a word name, where each names one; parts stand between plus signs.
@@ -35,7 +35,7 @@ pub(crate) fn read_tiles(alloc: Global, word: &[u8]) -> Result<Option<Vec<Tile>>
 pub(crate) fn is_meld(tiles: &[Tile]) -> bool
     ensures { result ≡ make_meld tiles.now }
 {
-    for low in 0..34 {
+    for low in 0..KINDS as u8 {
         if is_meld_from(tiles, low) {
             return true;
         }
@@ -60,7 +60,7 @@ fn is_run(tiles: &[Tile], low: u8) -> bool
     requires { low < 34 }
     ensures { result ≡ are_tiles_of Run low tiles.now }
 {
-    if low >= 27 {
+    if low >= EAST {
         return false;
     }
     if low % 9 >= 7 {

@@ -7,7 +7,7 @@ ghost use Rattle.mj_rules.specs.Wins.{case_of, seat_wind, riichi_of, is_draw, is
 use mj_deeds::Deed;
 use mj_readings::{Case, Riichi};
 use mj_table::Table;
-use mj_tiles::Kind;
+use mj_tiles::{EAST, Kind};
 use mj_yaku::is_closed;
 
 /// The circumstances of a win of a seat, 0 to 3, by the newest deed of the hand that is no win: it gives the tile.
@@ -40,7 +40,7 @@ pub fn seat_wind(dealer: u8, seat: u8) -> Kind
     ensures { result ≡ seat_wind dealer seat }
 {
     let turns = (u32::from(seat) + 4).saturating_sub(u32::from(dealer)) % 4;
-    Kind::at(27 + turns as u8)
+    Kind::at(EAST + turns as u8)
 }
 
 // The riichi of a seat.

@@ -9,7 +9,7 @@ ghost use Rattle.mj_rules.specs.View.{view_of, held_count};
 use crate::questions::is_tile;
 use mj_deeds::{Answer, Pai};
 use mj_table::Table;
-use mj_tiles::Tile;
+use mj_tiles::{RED, Tile};
 
 // A named tile is one that the game doesn't have: a hidden one, or a red five where there are none.
 pub(crate) fn is_no_such_tile(table: &Table, answer: &Answer) -> bool
@@ -88,7 +88,7 @@ pub(crate) fn is_no_tile(red: bool, tile: &Pai) -> bool
     ensures { result ≡ is_no_tile red tile.now }
 {
     match tile {
-        Pai::Known(tile) => tile.face() >= 34 && !red,
+        Pai::Known(tile) => tile.face() >= RED && !red,
         Pai::Hidden => true,
     }
 }

@@ -5,7 +5,7 @@ ghost use Rattle.mj_rules.specs.View.{view_of};
 
 use mj_deeds::Answer;
 use mj_table::Table;
-use mj_tiles::{Counts, Kind};
+use mj_tiles::{Counts, KINDS, Kind};
 
 // Nine kinds are shown otherwise than in one's first turn while no chi, pon or kan stands, or they are fewer.
 #[tactic(auto, unfolding(mj_rules::specs::View::view_of, mj_rules::specs::Wins::case_of))]
@@ -30,7 +30,7 @@ fn outer_kinds(table: &Table, seat: u8) -> u8
 {
     let counts = table.holds(seat);
     let mut held = 0;
-    for number in 0..34 {
+    for number in 0..KINDS as u8 {
         if holds_outer(&counts, Kind::at(number)) {
             held += 1;
         }

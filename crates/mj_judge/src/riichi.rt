@@ -10,7 +10,7 @@ use crate::questions::is_call_answer;
 use mj_calls::riichi_kan;
 use mj_deeds::{Answer, Deed, Pai};
 use mj_table::Table;
-use mj_tiles::{Counts, Kind, Tile};
+use mj_tiles::{Counts, KINDS, Kind, Tile};
 use mj_waits::ready;
 use mj_yaku::is_closed;
 
@@ -124,7 +124,7 @@ fn has_ready_discard(table: &Table, seat: u8) -> bool
     let counts = table.holds(seat);
     let room = table.room(seat);
     let melds = table.melds(seat).as_slice().len() as u8;
-    for number in 0..34 {
+    for number in 0..KINDS as u8 {
         let kind = Kind::at(number);
         if leaves_ready(&counts, &room, melds, kind) {
             return true;

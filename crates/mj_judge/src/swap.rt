@@ -13,7 +13,7 @@ use crate::holding::number_among;
 use mj_calls::banned;
 use mj_deeds::{Answer, Deed, Pai, ordered};
 use mj_table::Table;
-use mj_tiles::{Kinds, Tile};
+use mj_tiles::{FACES, Kinds, Tile};
 
 // The discard is of a kind that is banned right after the call that is the newest deed.
 #[tactic(auto, unfolding(mj_rules::specs::View::view_of))]
@@ -98,7 +98,7 @@ fn has_nothing_else(table: &Table, seat: u8, used: &[Pai], bans: Kinds) -> bool
     ensures { result ≡ list_all (is_used_up (tiles_gained (hand table.now.deeds) seat)
         (tiles_lost (hand table.now.deeds) seat) (flat_map face_in used.now) bans) tile_order }
 {
-    for place in 0..37 {
+    for place in 0..FACES {
         let tile = ordered(place);
         if !is_used_up(table, seat, used, bans, tile) {
             return false;

@@ -7,7 +7,7 @@ use crate::holding::is_drawn;
 use crate::verdict::judge;
 use mj_deeds::{Answer, Deed, Pai, ordered};
 use mj_table::Table;
-use mj_tiles::Tile;
+use mj_tiles::{FACES, Tile};
 
 /// The answer that stands for a seat, 0 to 3, which gives none in the window on the newest deed: at its own draw the
 /// drawn tile; right after its own reach, chi or pon the last tile in tile order whose discard breaks no rule; a
@@ -45,7 +45,7 @@ fn last_lawful(table: &Table, seat: u8) -> Option<Tile>
         (view_of table.now.deeds seat)) }
 {
     let mut last = None;
-    for place in 0..37 {
+    for place in 0..FACES {
         let tile = ordered(place);
         if is_lawful_discard(table, seat, tile) {
             last = Some(tile);

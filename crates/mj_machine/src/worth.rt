@@ -16,8 +16,8 @@ use mj_deeds::YakuList;
 use mj_readings::Case;
 use mj_score::{Extra, Score, worth};
 use mj_table::Table;
-use mj_tiles::{Meld, Tile, after, counts_of};
-use mj_yaku::{YakuSet, han_of};
+use mj_tiles::{Meld, RED, Tile, after, counts_of};
+use mj_yaku::{DORA, RED_DORA, ROWS, UNDER_DORA, YakuSet, han_of};
 use std::alloc::{AllocError, Global};
 
 // What a winner has and shows: its concealed tiles without the winning one, that one, the hidden indicators, and its
@@ -141,9 +141,9 @@ fn gathered_rows(
     let mut rows = Vec::new(alloc);
     push_rows(&mut rows, score.yaku, closed)?;
     if !score.yaku.is_yakuman() {
-        push_dora(&mut rows, 28, extra.dora)?;
-        push_dora(&mut rows, 29, extra.under)?;
-        push_dora(&mut rows, 30, extra.red)?;
+        push_dora(&mut rows, DORA, extra.dora)?;
+        push_dora(&mut rows, UNDER_DORA, extra.under)?;
+        push_dora(&mut rows, RED_DORA, extra.red)?;
     }
     Ok(rows)
 }
@@ -153,7 +153,7 @@ fn push_rows(rows: &mut Vec<(u8, u8)>, yaku: YakuSet, closed: bool) -> Result<()
     ensures { OnOk result (rows.new.items ≡ rows.old.items
         ++ map (λ row. (row, han row closed)) (rows_of yaku)) }
 {
-    for row in 0..45 {
+    for row in 0..ROWS {
         push_row(rows, yaku, row, closed)?;
     }
     Ok(())
@@ -183,9 +183,9 @@ fn han_in(row: u8, closed: bool) -> u8
     ensures { result ≡ han row closed }
 {
     match row {
-        28 => 0,
-        29 => 0,
-        30 => 0,
+        DORA => 0,
+        UNDER_DORA => 0,
+        RED_DORA => 0,
         _ => han_of(row, closed),
     }
 }
@@ -294,5 +294,5 @@ fn number_red(tiles: &[Tile]) -> u8
     ensures value { result ≡ count_by is_red tiles.now }
     ensures within { result ≤ 18 }
 {
-    tiles.iter().filter(|tile| tile.face() >= 34).count() as u8
+    tiles.iter().filter(|tile| tile.face() >= RED).count() as u8
 }

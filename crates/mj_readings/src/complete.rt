@@ -6,7 +6,7 @@ ghost use Rattle.mj_readings.specs.Complete.{IsComplete, is_seven_pairs};
 ghost use Rattle.mj_readings.specs.Inner.Ways.{begins, has_way};
 ghost use Rattle.mj_readings.specs.Tests.{complete, one_more, orphan_double};
 
-use mj_tiles::{Counts, Kind};
+use mj_tiles::{Counts, EAST, Kind};
 
 /// Whether concealed tiles with these counts and so many melds are a complete hand: four sets and a pair, each meld a
 /// set, or without melds seven different pairs or thirteen orphans. False at any other number of tiles than 14 less 3
@@ -137,7 +137,7 @@ pub(crate) fn can_begin(kind: u8, runs: u8, triplets: u8, left: u8) -> bool
 fn may_begin_run(kind: u8) -> bool
     ensures { result ≡ begins_run kind }
 {
-    kind < 27 && kind % 9 < 7
+    kind < EAST && kind % 9 < 7
 }
 
 /// Whether the counts are seven different kinds, two tiles of each.

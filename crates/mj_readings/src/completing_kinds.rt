@@ -5,7 +5,7 @@ ghost use Rattle.mj_readings.specs.Completing.{IsCompleting, is_completing};
 ghost use Rattle.mj_readings.specs.Inner.OneMore.{Adds, AreStandard, NoSpecial, begins_past, completes_past};
 
 use crate::complete::{StillWanted, can_begin, completes_at, is_complete_with};
-use mj_tiles::{Counts, Kind, Kinds};
+use mj_tiles::{Counts, KINDS, Kind, Kinds};
 
 /// The kinds that complete a hand of concealed tiles with these counts and so many melds: those of which fewer than
 /// four tiles are held and one tile more of which makes the hand complete.
@@ -17,7 +17,7 @@ pub fn completing(counts: &Counts, melds: u8) -> Kinds
     let standard = standard_kinds(counts.numbers(), melds);
     let special = may_be_special(counts.numbers(), melds);
     let mut kinds = Kinds::none();
-    for number in 0..34 {
+    for number in 0..KINDS as u8 {
         let kind = Kind::at(number);
         if completes_with(counts, melds, kind, standard, special) {
             kinds = kinds.with(kind);

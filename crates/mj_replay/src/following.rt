@@ -19,6 +19,7 @@ use mj_deeds::{Answer, Deed, Four, Pai, Viewer};
 use mj_judge::judge;
 use mj_machine::next;
 use mj_table::Table;
+use mj_tiles::RED;
 use mj_wall::Wall;
 use mjai_lines::write_over;
 use std::alloc::{AllocError, Global};
@@ -176,7 +177,7 @@ fn place_of(pai: Pai) -> u8
     ensures { result ≡ place_of pai }
 {
     match pai {
-        Pai::Known(tile) => 2 * tile.kind().number() + u8::from(tile.face() >= 34),
+        Pai::Known(tile) => 2 * tile.kind().number() + u8::from(tile.face() >= RED),
         Pai::Hidden => 68,
     }
 }

@@ -3,4 +3,4 @@
 
 mod rounds;
 
-pub use rounds::{HandEnd, Standing, first, next_hand};
+pub use rounds::{HandEnd, LAST_HAND, Standing, first, next_hand};

@@ -1,7 +1,7 @@
 ghost use Rattle.std.specs.Prelude.{◌≡◌, ◌≤◌, ◌<◌, IfSome};
 ghost use Rattle.mj_rounds.specs.Rounds.{MayStand, Follows, first_standing, stays, honba_after, is_last, next_standing};
 
-use mj_tiles::Kind;
+use mj_tiles::{EAST, Kind, SOUTH};
 
 /// How a game stands in one of its hands: the wind of the round, east or south, the dealer's seat, 0 to 3, the honba on
 /// the table, and the number of the hand, counted from 0 over the game.
@@ -22,12 +22,15 @@ pub enum HandEnd {
     Aborted,
 }
 
+/// The number of the last hand that a game may have, counted from 0.
+pub const LAST_HAND: u32 = 199;
+
 /// The standing of the first hand: round east, dealer 0, no honba.
 pub fn first() -> Standing
     ensures { result ≡ first_standing }
 {
     Standing {
-        round: wind(27),
+        round: wind(EAST),
         dealer: 0,
         honba: 0,
         hand: 0,
@@ -67,7 +70,7 @@ pub fn next_hand(now: &Standing, end: HandEnd) -> Option<Standing>
         });
     }
     Some(Standing {
-        round: wind(28),
+        round: wind(SOUTH),
         dealer: 0,
         honba,
         hand,
@@ -102,7 +105,7 @@ fn honba_after(honba: u32, end: HandEnd) -> u32
 fn is_last(now: &Standing, end: HandEnd) -> bool
     ensures { result ≡ is_last now.now end }
 {
-    now.hand == 199 || (!stays(end) && now.dealer == 3 && now.round.number() == 28)
+    now.hand == LAST_HAND || (!stays(end) && now.dealer == 3 && now.round.number() == SOUTH)
 }
 
 // The kind of that number.

@@ -5,7 +5,7 @@ ghost use Rattle.mj_shanten.specs.Shanten.{IsShanten};
 ghost use Rattle.mj_shanten.specs.Exchanges.{IsNearestOf, LeadsToReady, kinds_over, path_to};
 
 use crate::nearest_hand::Nearest;
-use mj_tiles::{Counts, Kind, push_times};
+use mj_tiles::{Counts, KINDS, Kind, push_times};
 use std::alloc::{AllocError, Global};
 
 /// The exchanges that make the hand ready: the surplus tiles in tile order, each with the missing tile at the same place
@@ -48,7 +48,7 @@ fn kinds_more(alloc: Global, counts: &Counts, others: &Counts) -> Result<Vec<Kin
 {
     let numbers = counts.numbers();
     let mut kinds = Vec::new(alloc);
-    for number in 0..34 {
+    for number in 0..KINDS as u8 {
         let Some(kind) = Kind::of(number) else {
             unreachable!()
         };

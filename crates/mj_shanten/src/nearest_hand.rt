@@ -12,7 +12,7 @@ use crate::nearest_sets::{WideHand, take_sets};
 use crate::orphans::take_orphans;
 use crate::seven_pairs::{kinds_held, take_pairs};
 use crate::suits::{Suits, missing_of_sets, missing_tiles};
-use mj_tiles::Counts;
+use mj_tiles::{Counts, KINDS};
 
 /// Each terminal and honour once.
 pub(crate) const EACH_ORPHAN: [u8; 36] = [
@@ -165,8 +165,8 @@ fn counts_among(wide: &[u8; 36]) -> Counts
     requires { IsCounts (take 34 wide.now) }
     ensures { result ≡ take 34 wide.now }
 {
-    let mut numbers = [0; 34];
-    for kind in 0..34 {
+    let mut numbers = [0; KINDS];
+    for kind in 0..KINDS {
         numbers[kind] = wide[kind];
     }
     match Counts::of(numbers) {

@@ -10,6 +10,7 @@ ghost use Rattle.mj_shanten.specs.Inner.Special.{IsOrphans, IsOrphansWith};
 
 use crate::nearest_hand::{EACH_ORPHAN, is_nearer};
 use crate::suits::{keep_nearer, missing_tiles};
+use mj_tiles::{EAST, KINDS};
 
 /// Takes into the best hand the thirteen orphans that are nearest. None is where the best hand misses fewer tiles than
 /// there are terminals and honours that are not held.
@@ -19,7 +20,7 @@ pub(crate) fn take_orphans(held: &[u8; 36], best: &mut Option<(u16, [u8; 36])>)
     if is_nearer(best, missing_tiles(held, &EACH_ORPHAN)) {
         return;
     }
-    for double in 0..34 {
+    for double in 0..KINDS as u8 {
         take_double(held, double, best);
     }
 }
@@ -40,7 +41,7 @@ fn with_double(double: u8) -> [u8; 36]
     ensures { result ≡ with_two (map (orphan_number double) all_kinds) }
 {
     let mut target = [0; 36];
-    for kind in 0..34 {
+    for kind in 0..KINDS as u8 {
         target[kind as usize] = number_in_orphans(double, kind);
     }
     target
@@ -64,5 +65,5 @@ fn number_in_orphans(double: u8, kind: u8) -> u8
 fn is_terminal_or_honour(kind: u8) -> bool
     ensures { result ≡ is_terminal_or_honour kind }
 {
-    kind >= 27 || kind % 9 == 0 || kind % 9 == 8
+    kind >= EAST || kind % 9 == 0 || kind % 9 == 8
 }

@@ -6,6 +6,7 @@ ghost use Rattle.mj_shanten.specs.Suits.{Padded, with_two};
 ghost use Rattle.mj_shanten.specs.Inner.Special.{IsPairs, so_often, better, nearest_pairs};
 
 use crate::suits::keep_nearer;
+use mj_tiles::KINDS;
 
 /// Takes into the best hand the seven pairs that are nearest. A kind that is held twice or more goes before one that is
 /// held once, and that before one that is not held; of kinds held alike the lowest goes first.
@@ -24,7 +25,7 @@ fn pairs_of(held: &[u8; 36]) -> [u8; 36]
     let mut left: usize = 7;
     let mut twice = kinds_held(held, 2);
     let mut once = kinds_held(held, 1);
-    for kind in 0..34 {
+    for kind in 0..KINDS {
         let number = held[kind];
         twice -= (number >= 2) as usize;
         once -= (number >= 1) as usize;
@@ -53,7 +54,7 @@ pub(crate) fn kinds_held(held: &[u8; 36], times: u8) -> usize
     ensures { result ≡ so_often times (take 34 held.now) }
 {
     let mut many = 0;
-    for kind in 0..34 {
+    for kind in 0..KINDS {
         many += (held[kind] >= times) as u8;
     }
     usize::from(many)

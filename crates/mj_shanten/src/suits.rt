@@ -14,7 +14,7 @@ ghost use Rattle.mj_shanten.specs.Walked.{Tiles, IsWide, IsRow, IsLeastOr};
 
 use crate::nearest_sets::WideHand;
 use mj_suits::{Row, with_suit};
-use mj_tiles::{Counts, Kind};
+use mj_tiles::{Counts, KINDS, Kind};
 use std::cmp::Ordering;
 use std::marker::Model;
 
@@ -217,7 +217,7 @@ pub(crate) fn with_room_for_two(counts: &Counts) -> [u8; 36]
 {
     let numbers = counts.numbers();
     let mut wide = [0; 36];
-    for kind in 0..34 {
+    for kind in 0..KINDS {
         wide[kind] = numbers[kind];
     }
     wide

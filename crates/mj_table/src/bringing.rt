@@ -5,11 +5,11 @@ ghost use Rattle.mj_deeds.specs.Fits.{brought_by};
 ghost use Rattle.mj_deeds.specs.Hand.{is_hand_start};
 
 use mj_deeds::{Deed, Hands, brought, is_hand_start};
-use mj_tiles::Tile;
+use mj_tiles::{KINDS, Tile};
 
 // Brings the tiles of a deed into a hand, of which so many of each kind were brought in; a number above 255 counts as
 // 255.
-pub(crate) fn bring(brought: &mut [u8; 34], deed: &Deed)
+pub(crate) fn bring(brought: &mut [u8; KINDS], deed: &Deed)
     ensures { (kind : ℕ) → slice_index brought.old kind + number_of (brought_by deed.now) kind
         ≤ 255 → slice_index brought.new kind ≡ slice_index brought.old kind
         + number_of (brought_by deed.now) kind }
@@ -27,7 +27,7 @@ pub(crate) fn bring(brought: &mut [u8; 34], deed: &Deed)
 }
 
 // Brings in the first indicator and the tiles of all hands.
-fn bring_start(brought: &mut [u8; 34], indicator: Tile, hands: &Hands)
+fn bring_start(brought: &mut [u8; KINDS], indicator: Tile, hands: &Hands)
     ensures { (kind : ℕ) → slice_index brought.old kind + number_of (indicator
         ∷ hands.now.first ++ hands.now.second ++ hands.now.third ++ hands.now.fourth) kind ≤ 255
         → slice_index brought.new kind ≡ slice_index brought.old kind + number_of (indicator
@@ -41,7 +41,7 @@ fn bring_start(brought: &mut [u8; 34], indicator: Tile, hands: &Hands)
 }
 
 // Brings in some tiles.
-fn bring_tiles(brought: &mut [u8; 34], tiles: &[Tile])
+fn bring_tiles(brought: &mut [u8; KINDS], tiles: &[Tile])
     ensures { (kind : ℕ) → slice_index brought.old kind + number_of tiles.now kind ≤ 255
         → slice_index brought.new kind ≡ slice_index brought.old kind
         + number_of tiles.now kind }
@@ -53,7 +53,7 @@ fn bring_tiles(brought: &mut [u8; 34], tiles: &[Tile])
 }
 
 // Whether no kind is brought in a fifth time by a deed, where so many tiles of each kind were before, four at most.
-pub(crate) fn keeps_kinds(before: &[u8; 34], deed: &Deed) -> bool
+pub(crate) fn keeps_kinds(before: &[u8; KINDS], deed: &Deed) -> bool
     ensures { ((kind : ℕ) → kind < 34 → slice_index before.now kind ≤ 4) → result
         ≡ list_all (λ kind. nat_le
         (slice_index before.now kind + number_of (brought_by deed.now) kind) 4) all_kinds }
@@ -79,11 +79,11 @@ fn tile_brought(deed: &Deed) -> Option<Tile>
 }
 
 // The same, kind after kind.
-fn keeps_each_kind(before: &[u8; 34], deed: &Deed) -> bool
+fn keeps_each_kind(before: &[u8; KINDS], deed: &Deed) -> bool
     ensures { result ≡ list_all (λ kind. nat_le
         (slice_index before.now kind + number_of (brought_by deed.now) kind) 4) all_kinds }
 {
-    for kind in 0..34 {
+    for kind in 0..KINDS as u8 {
         let number = usize::from(before[usize::from(kind)]);
         if number.saturating_add(brought(deed, kind)) > 4 {
             return false;

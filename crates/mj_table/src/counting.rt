@@ -3,16 +3,16 @@ ghost use Rattle.mj_tiles.specs.Counts.{NoFifth, kind_counts};
 ghost use Rattle.mj_table.specs.Inner.Kept.{tiles_held};
 
 use mj_deeds::{Tiles, ordered, put_copies};
-use mj_tiles::Counts;
+use mj_tiles::{Counts, FACES, KINDS};
 use std::alloc::{AllocError, Global};
 
 // How often each kind stands among tiles, of which there are so many of each face, and no kind more than four times.
-pub(crate) fn kinds_held(held: &[u8; 37]) -> Counts
+pub(crate) fn kinds_held(held: &[u8; FACES]) -> Counts
     requires { NoFifth (kind_counts (tiles_held held.now)) }
     ensures { result ≡ kind_counts (tiles_held held.now) }
 {
-    let mut numbers = [0; 34];
-    for place in 0..37 {
+    let mut numbers = [0; KINDS];
+    for place in 0..FACES {
         let tile = ordered(place);
         numbers[tile.kind().number() as usize] += held[tile.face() as usize];
     }
@@ -23,11 +23,11 @@ pub(crate) fn kinds_held(held: &[u8; 37]) -> Counts
 }
 
 // The tiles, in tile order, of which there are so many of each face.
-pub(crate) fn tiles_held(alloc: Global, held: &[u8; 37]) -> Result<Tiles, AllocError>
+pub(crate) fn tiles_held(alloc: Global, held: &[u8; FACES]) -> Result<Tiles, AllocError>
     ensures { IfOk result (λ tiles. tiles ≡ tiles_held held.now) }
 {
     let mut tiles = Vec::new(alloc);
-    for place in 0..37 {
+    for place in 0..FACES {
         let tile = ordered(place);
         let number = usize::from(held[usize::from(tile.face())]);
         put_copies(&mut tiles, tile, number)?;

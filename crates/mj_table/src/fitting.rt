@@ -13,10 +13,10 @@ use crate::hand_facts::HandFacts;
 use crate::meld_steps::has_triplet;
 use crate::seat_facts::SeatFacts;
 use mj_deeds::{Deed, Four, has_seats, has_tiles, is_call, is_kan, made};
-use mj_tiles::{Tile, number_among};
+use mj_tiles::{FACES, Tile, number_among};
 
 // Whether a deed fits behind the deeds before it in its own hand, of which is kept what the seats hold, and their facts.
-pub(crate) fn fits_in(red: bool, held: &Four<[u8; 37]>, facts: &HandFacts, deed: &Deed) -> bool
+pub(crate) fn fits_in(red: bool, held: &Four<[u8; FACES]>, facts: &HandFacts, deed: &Deed) -> bool
     ensures { (hand : List Deed)
         → ((seat : ℕ) → seat ≤ 3 → Holds hand seat (at_seat held.now seat)) → Few hand
         → Knows hand facts.now → result ≡ fits_in red hand deed.now }
@@ -44,7 +44,7 @@ fn fits_by(red: bool, held: bool, kinds: bool, places: bool, facts: &HandFacts, 
 }
 
 // Whether each seat holds the tiles that it puts down.
-fn has_held(held: &Four<[u8; 37]>, deed: &Deed) -> bool
+fn has_held(held: &Four<[u8; FACES]>, deed: &Deed) -> bool
     ensures { (hand : List Deed)
         → ((seat : ℕ) → seat ≤ 3 → Holds hand seat (at_seat held.now seat)) → result
         ≡ has_held hand deed.now }
@@ -64,7 +64,7 @@ fn are_four(first: bool, second: bool, third: bool, fourth: bool) -> bool
 }
 
 // Whether a seat, which holds so many tiles of each face, holds those that it puts down by a deed.
-fn holds_own(held: &[u8; 37], seat: u8, deed: &Deed) -> bool
+fn holds_own(held: &[u8; FACES], seat: u8, deed: &Deed) -> bool
     ensures { (got gone : List ℕ)
         → ((face : ℕ) → face < 37 → slice_index held.now face + number_in gone face
         ≡ number_in got face) → result ≡ are_held got gone (losses_by seat deed.now) }
@@ -111,7 +111,7 @@ fn holds_own(held: &[u8; 37], seat: u8, deed: &Deed) -> bool
 }
 
 // Whether so many tiles of each face are held as stand among these.
-fn are_held(held: &[u8; 37], tiles: &[Tile]) -> bool
+fn are_held(held: &[u8; FACES], tiles: &[Tile]) -> bool
     ensures { (got gone : List ℕ)
         → ((face : ℕ) → face < 37 → slice_index held.now face + number_in gone face
         ≡ number_in got face) → result ≡ are_held got gone tiles.now }

@@ -9,6 +9,7 @@ use crate::counted::counted;
 use crate::course_facts::{CourseFacts, follow, no_course};
 use crate::seat_facts::{SeatFacts, keep_each, no_seats};
 use mj_deeds::{Deed, Four, is_hand_start, is_kan};
+use mj_tiles::KINDS;
 
 // What is kept of the deeds of one hand.
 #[derive(Clone, Copy)]
@@ -19,7 +20,7 @@ pub(crate) struct HandFacts {
     pub drawn: u8,
     pub kans: u8,
     // how many tiles of each kind were brought in
-    pub brought: [u8; 34],
+    pub brought: [u8; KINDS],
     pub course: CourseFacts,
     pub seats: Four<SeatFacts>,
 }
@@ -42,7 +43,7 @@ pub(crate) fn no_facts() -> HandFacts
         begun: false,
         drawn: 0,
         kans: 0,
-        brought: [0; 34],
+        brought: [0; KINDS],
         course: no_course(),
         seats: no_seats(),
     }

@@ -4,10 +4,10 @@ ghost use Rattle.mj_deeds.specs.Four.{at_seat};
 ghost use Rattle.mj_table.specs.Inner.Kept.{Holds, Moves};
 
 use mj_deeds::{Deed, Four};
-use mj_tiles::Tile;
+use mj_tiles::{FACES, Tile};
 
 // Moves the tiles of the seats by a deed, of which they hold so many of each face.
-pub(crate) fn move_tiles(held: &mut Four<[u8; 37]>, deed: &Deed)
+pub(crate) fn move_tiles(held: &mut Four<[u8; FACES]>, deed: &Deed)
     ensures { (seat : ℕ) → seat ≤ 3 → Moves deed.now seat (at_seat held.old seat) (at_seat held.new seat) }
 {
     move_own(&mut held.first, 0, deed);
@@ -17,19 +17,19 @@ pub(crate) fn move_tiles(held: &mut Four<[u8; 37]>, deed: &Deed)
 }
 
 // What the seats hold before a hand.
-pub(crate) fn nothing_held() -> Four<[u8; 37]>
+pub(crate) fn nothing_held() -> Four<[u8; FACES]>
     ensures { (seat : ℕ) → seat ≤ 3 → Holds [] seat (at_seat result seat) }
 {
     Four {
-        first: [0; 37],
-        second: [0; 37],
-        third: [0; 37],
-        fourth: [0; 37],
+        first: [0; FACES],
+        second: [0; FACES],
+        third: [0; FACES],
+        fourth: [0; FACES],
     }
 }
 
 // Moves the tiles of a seat, 0 to 3, by a deed: a start of a hand deals to it, it draws one, or it puts down tiles of its own.
-fn move_own(held: &mut [u8; 37], seat: u8, deed: &Deed)
+fn move_own(held: &mut [u8; FACES], seat: u8, deed: &Deed)
     requires { seat ≤ 3 }
     ensures { Moves deed.now seat held.old held.new }
 {
@@ -81,16 +81,16 @@ fn move_own(held: &mut [u8; 37], seat: u8, deed: &Deed)
 }
 
 // These tiles of each face, and no others; a number above 255 counts as 255.
-fn deal(held: &mut [u8; 37], tiles: &[Tile])
+fn deal(held: &mut [u8; FACES], tiles: &[Tile])
     ensures { (face : ℕ) → number_in tiles.now face ≤ 255
         → slice_index held.new face ≡ number_in tiles.now face }
 {
-    *held = [0; 37];
+    *held = [0; FACES];
     take_up(held, tiles);
 }
 
 // So many of each face, and these tiles more; a number above 255 counts as 255.
-fn take_up(held: &mut [u8; 37], tiles: &[Tile])
+fn take_up(held: &mut [u8; FACES], tiles: &[Tile])
     ensures { (face : ℕ) → slice_index held.old face + number_in tiles.now face ≤ 255
         → slice_index held.new face ≡ slice_index held.old face + number_in tiles.now face }
 {
@@ -101,7 +101,7 @@ fn take_up(held: &mut [u8; 37], tiles: &[Tile])
 }
 
 // So many of each face less these tiles.
-fn put_down(held: &mut [u8; 37], tiles: &[Tile])
+fn put_down(held: &mut [u8; FACES], tiles: &[Tile])
     ensures { (face : ℕ) → slice_index held.new face
         ≡ slice_index held.old face - number_in tiles.now face }
 {

@@ -36,7 +36,7 @@ use mj_deeds::{
 };
 use mj_past::Past;
 use mj_rounds::{HandEnd, Standing, first};
-use mj_tiles::{Counts, Kinds, Melds, Tile};
+use mj_tiles::{Counts, FACES, Kinds, Melds, Tile};
 use mj_wall::Rules;
 use std::alloc::{AllocError, Global};
 use std::marker::Model;
@@ -53,7 +53,7 @@ pub struct Table {
     points: [i32; 4],
     deposits: u32,
     // how many concealed tiles of each face the seats hold
-    held: Four<[u8; 37]>,
+    held: Four<[u8; FACES]>,
     // the facts of the newest hand
     facts: HandFacts,
     // all deeds, which are not kept

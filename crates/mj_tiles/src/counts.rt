@@ -3,13 +3,14 @@ ghost use Rattle.std.specs.Option.{SomeIff};
 ghost use Rattle.mj_tiles.specs.Counts.{NoFifth, kind_counts};
 
 use crate::kind::Kind;
+use crate::numbers::KINDS;
 use crate::tile::Tile;
 use std::marker::Model;
 
 /// How many tiles of each of the 34 kinds there are, none of them more than four times.
 #[derive(Clone, Copy, Debug, PartialEq, Eq)]
 pub struct Counts {
-    numbers: [u8; 34],
+    numbers: [u8; KINDS],
 }
 
 impl Model for Counts {
@@ -27,7 +28,7 @@ impl Model for Counts {
 
 impl Counts {
     /// The counts that have these numbers, by kind; none exactly where one of them is above 4.
-    pub fn of(numbers: [u8; 34]) -> Option<Counts>
+    pub fn of(numbers: [u8; KINDS]) -> Option<Counts>
         ensures { SomeIff result (NoFifth numbers) numbers }
     {
         for number in numbers {
@@ -47,7 +48,7 @@ impl Counts {
     }
 
     /// The 34 numbers by kind, each 0 to 4.
-    pub fn numbers(&self) -> &[u8; 34]
+    pub fn numbers(&self) -> &[u8; KINDS]
         ensures value { result.now ≡ self.now }
         ensures size { length self.now ≡ 34 }
         ensures within { NoFifth self.now }
@@ -61,7 +62,7 @@ impl Counts {
 pub fn counts_of(tiles: &[Tile]) -> Option<Counts>
     ensures { SomeIff result (NoFifth (kind_counts tiles.now)) (kind_counts tiles.now) }
 {
-    let mut numbers = [0; 34];
+    let mut numbers = [0; KINDS];
     for tile in tiles {
         let place = tile.kind().number() as usize;
         if numbers[place] == 4 {

@@ -3,6 +3,7 @@ ghost use Rattle.std.specs.Option.{SomeIff};
 ghost use Rattle.mj_tiles.specs.Faces.{after_kind};
 ghost use Rattle.mj_tiles.specs.Terminals.{is_terminal_or_honour};
 
+use crate::numbers::EAST;
 use std::alloc::AllocError;
 use std::marker::Model;
 
@@ -55,7 +56,7 @@ impl Kind {
     pub fn is_terminal_or_honour(self) -> bool
         ensures { result ≡ is_terminal_or_honour self }
     {
-        self.number >= 27 || self.number % 9 == 0 || self.number % 9 == 8
+        self.number >= EAST || self.number % 9 == 0 || self.number % 9 == 8
     }
 }
 

@@ -1,7 +1,7 @@
 ghost use Rattle.std.specs.Prelude.{◌≡◌};
 ghost use Rattle.mj_waits.specs.Furiten.{is_missed, is_furiten};
 
-use mj_tiles::{Kind, Kinds};
+use mj_tiles::{KINDS, Kind, Kinds};
 
 /// What decides whether a seat is furiten: its waits, the kinds of its own discards in the hand, those that other
 /// seats discarded or added to a kan since its own last discard, and those since its own riichi.
@@ -18,7 +18,7 @@ pub struct Facts {
 pub fn furiten(facts: &Facts) -> bool
     ensures { result ≡ is_furiten facts.now }
 {
-    for number in 0..34 {
+    for number in 0..KINDS as u8 {
         let kind = Kind::at(number);
         if is_missed_kind(facts, kind) {
             return true;

@@ -3,7 +3,7 @@ ghost use Rattle.mj_tiles.specs.Kinds.{has_kind, kinds_that};
 ghost use Rattle.mj_waits.specs.Waits.{IsWait, is_wait, is_ready};
 
 use mj_readings::completing;
-use mj_tiles::{Counts, Kind, Kinds};
+use mj_tiles::{Counts, KINDS, Kind, Kinds};
 
 /// The waits of a hand of concealed tiles with these counts and so many melds: the kinds of which the hand has fewer
 /// than its room, four of each kind less the tiles of its melds, and that complete it. A fifth tile of a kind is no
@@ -15,7 +15,7 @@ pub fn waits(counts: &Counts, room: &Counts, melds: u8) -> Kinds
 {
     let complete = completing(counts, melds);
     let mut kinds = Kinds::none();
-    for number in 0..34 {
+    for number in 0..KINDS as u8 {
         let kind = Kind::at(number);
         if waits_on(counts, room, complete, kind) {
             kinds = kinds.with(kind);
@@ -31,7 +31,7 @@ pub fn ready(counts: &Counts, room: &Counts, melds: u8) -> bool
         × ((kind < 34) × IsWait counts.now room.now melds kind)) }
 {
     let waits = waits(counts, room, melds);
-    for number in 0..34 {
+    for number in 0..KINDS as u8 {
         let kind = Kind::at(number);
         if waits.has(kind) {
             return true;

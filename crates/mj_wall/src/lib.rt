@@ -6,4 +6,4 @@ mod shuffle;
 mod wall;
 
 pub use setting::{Rules, Setting, Walls};
-pub use wall::{BadWall, Wall};
+pub use wall::{BadWall, TILES, Wall};

@@ -3,8 +3,8 @@ ghost use Rattle.rand_chacha.specs.ChaCha.{word_at};
 ghost use Rattle.mj_wall.specs.Places.{is_wall};
 ghost use Rattle.mj_wall.specs.Shuffle.{sorted_wall, shuffled_wall};
 
-use crate::wall::Wall;
-use mj_tiles::Tile;
+use crate::wall::{TILES, Wall};
+use mj_tiles::{RED, Tile};
 use rand_chacha::ChaCha20Rng;
 use rand_core::SeedableRng;
 use rand_core::utils::NextWord;
@@ -45,11 +45,11 @@ fn next_place(stream: &mut ChaCha20Rng, place: usize) -> usize
 }
 
 // The tiles of a wall in tile order.
-fn sorted(red: bool) -> [Tile; 136]
+fn sorted(red: bool) -> [Tile; TILES]
     ensures { result ≡ sorted_wall red }
 {
-    let mut tiles = [Tile::at(0); 136];
-    for place in 0..136 {
+    let mut tiles = [Tile::at(0); TILES];
+    for place in 0..TILES {
         tiles[place] = sorted_tile(place, red);
     }
     tiles
@@ -62,7 +62,7 @@ fn sorted_tile(place: usize, red: bool) -> Tile
 {
     let kind = (place / 4) as u8;
     if is_red_place(place, red) {
-        return Tile::at(34 + kind / 9);
+        return Tile::at(RED + kind / 9);
     }
     Tile::at(kind)
 }

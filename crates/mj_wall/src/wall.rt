@@ -1,14 +1,17 @@
 ghost use Rattle.std.specs.Prelude.{◌≡◌, [], ◌≤◌, ◌*◌, ◌+◌, true, false, length, Some, None, IfOk, IfErr, OnOk, OnErr, SomeIff, slice_index, option_map, take, drop};
 ghost use Rattle.mj_wall.specs.Places.{dealt_tile, live_tile, replacement_tile, indicator_tile, under_tile, number_in_wall, first_extra, bad_place, is_wall};
 
-use mj_tiles::Tile;
+use mj_tiles::{FACES, Tile};
 use std::marker::Model;
 use thiserror::Error;
+
+/// How many tiles a wall has.
+pub const TILES: usize = 136;
 
 /// A wall of 136 tiles.
 #[derive(Drop)]
 pub struct Wall {
-    pub(crate) tiles: [Tile; 136],
+    pub(crate) tiles: [Tile; TILES],
 }
 
 impl Model for Wall {
@@ -40,15 +43,15 @@ impl Wall {
         if let Some(place) = extra_tile(tiles, red) {
             return Err(BadWall { place });
         }
-        if tiles.len() < 136 {
+        if tiles.len() < TILES {
             return Err(BadWall {
                 place: tiles.len() as u32,
             });
         }
-        if tiles.len() > 136 {
+        if tiles.len() > TILES {
             return Err(BadWall { place: 136 });
         }
-        let mut places = [tiles[0]; 136];
+        let mut places = [tiles[0]; TILES];
         places.copy_from_slice(tiles);
         Ok(Wall { tiles: places })
     }
@@ -118,7 +121,7 @@ fn copies(tile: Tile, red: bool) -> u8
 fn extra_tile(tiles: &[Tile], red: bool) -> Option<u32>
     ensures value { result ≡ first_extra red [] tiles.now }
 {
-    let mut numbers = [0; 37];
+    let mut numbers = [0; FACES];
     for (i, tile) in tiles.iter().enumerate() {
         let face = usize::from(tile.face());
         if copies(*tile, red) <= numbers[face] {

@@ -4,6 +4,7 @@
 mod han;
 mod limits;
 mod numbers;
+mod rows;
 mod set_forms;
 mod some_yaku;
 mod table;
@@ -13,6 +14,7 @@ mod wins;
 mod yaku_set;
 
 pub use han::han_of;
+pub use rows::{DORA, RED_DORA, ROWS, UNDER_DORA, YAKUMAN};
 pub use some_yaku::has_yaku;
 pub use table::{is_closed, yaku};
 pub use yaku_set::YakuSet;

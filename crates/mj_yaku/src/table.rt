@@ -11,6 +11,7 @@ use crate::numbers::{
     has_chanta, has_iipeikou, has_ittsu, has_junchan, has_ryanpeikou, has_sanshoku_doujun,
     has_sanshoku_doukou,
 };
+use crate::rows::YAKUMAN;
 use crate::set_forms::{
     has_chiitoitsu, has_daisangen, has_daisuushi, has_sanankou, has_sankantsu, has_shousangen,
     has_shousuushi, has_suuankou, has_suukantsu, has_toitoi, has_triple_of,
@@ -26,7 +27,7 @@ use crate::wins::{
 use crate::yaku_set::YakuSet;
 use mj_fu::is_pinfu;
 use mj_readings::{Case, Reading};
-use mj_tiles::{Form, Meld};
+use mj_tiles::{Form, Meld, WHITE};
 
 /// The yaku of a reading: the first yakuman alone where one holds, and else all rows of the table that hold, dora not
 /// counted. Condition: `closed` of the case is true exactly where all melds are concealed kans, as `is_closed` says.
@@ -76,7 +77,7 @@ fn first_yakuman(reading: &Reading, melds: &[Meld], case: &Case) -> Option<u8>
     ensures within { IfSome result (λ row. row < 45) }
 {
     match first_that_holds(&yakuman_rows(reading, melds, case)) {
-        Some(place) => Some(33 + place as u8),
+        Some(place) => Some(YAKUMAN + place as u8),
         None => None,
     }
 }
@@ -119,9 +120,9 @@ fn ordinary_rows(reading: &Reading, case: &Case) -> [bool; 33]
         has_tanyao(reading),
         has_triple_of(case.seat_wind.number(), reading),
         has_triple_of(case.round_wind.number(), reading),
-        has_triple_of(31, reading),
-        has_triple_of(32, reading),
-        has_triple_of(33, reading),
+        has_triple_of(WHITE, reading),
+        has_triple_of(WHITE + 1, reading),
+        has_triple_of(WHITE + 2, reading),
         has_haitei(case),
         has_houtei(case),
         has_rinshan(case),

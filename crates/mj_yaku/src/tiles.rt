@@ -10,7 +10,7 @@ ghost use Rattle.mj_yaku.specs.Inner.Classes.{in_class};
 
 use mj_fu::is_run;
 use mj_readings::{Reading, Set, SetForm};
-use mj_tiles::{Kind, Kinds};
+use mj_tiles::{EAST, KINDS, Kind, Kinds};
 
 /// A class of kinds that yaku ask about.
 #[derive(Clone, Copy)]
@@ -39,17 +39,17 @@ pub(crate) fn is_in(class: Class, number: u8) -> bool
     ensures { result ≡ in_class class number }
 {
     match class {
-        Class::Simple => number < 27 && number % 9 != 0 && number % 9 != 8,
-        Class::Outside => number >= 27 || number % 9 == 0 || number % 9 == 8,
-        Class::Terminal => number < 27 && (number % 9 == 0 || number % 9 == 8),
-        Class::Honour => number >= 27,
-        Class::Number => number < 27,
+        Class::Simple => number < EAST && number % 9 != 0 && number % 9 != 8,
+        Class::Outside => number >= EAST || number % 9 == 0 || number % 9 == 8,
+        Class::Terminal => number < EAST && (number % 9 == 0 || number % 9 == 8),
+        Class::Honour => number >= EAST,
+        Class::Number => number < EAST,
         Class::Green => match number {
             19 | 20 | 21 | 23 | 25 | 32 => true,
             _ => false,
         },
-        Class::Suit(suit) => number < 27 && number / 9 == suit / 9,
-        Class::SuitOrHonour(suit) => number >= 27 || number / 9 == suit / 9,
+        Class::Suit(suit) => number < EAST && number / 9 == suit / 9,
+        Class::SuitOrHonour(suit) => number >= EAST || number / 9 == suit / 9,
     }
 }
 
@@ -121,7 +121,7 @@ fn all_of_kinds(kinds: Kinds, class: Class) -> bool
     ensures { result ≡ list_all (λ kind. not (has_kind kinds kind) || in_class class kind)
         all_kinds }
 {
-    for number in 0..34 {
+    for number in 0..KINDS as u8 {
         if has_number(kinds, number) && !is_in(class, number) {
             return false;
         }
@@ -134,7 +134,7 @@ fn all_orphans(class: Class) -> bool
     ensures { result ≡ list_all (λ kind. not (is_terminal_or_honour kind) || in_class class kind)
         all_kinds }
 {
-    for number in 0..34 {
+    for number in 0..KINDS as u8 {
         if is_in(Class::Outside, number) && !is_in(class, number) {
             return false;
         }

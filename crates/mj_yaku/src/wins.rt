@@ -2,6 +2,7 @@ ghost use Rattle.std.specs.Prelude.{◌≡◌, ◌==◌};
 ghost use Rattle.mj_yaku.specs.Wins.{reach, double_reach, is_ippatsu, menzen_tsumo, haitei, houtei, is_rinshan, chankan, is_first_draw, tenhou, chiihou};
 
 use mj_readings::{Case, Riichi};
+use mj_tiles::EAST;
 
 /// Reach: a closed hand in riichi.
 #[tactic(auto, unfolding(crate::specs::Wins::reach))]
@@ -100,5 +101,5 @@ fn wins_by_first_draw(case: &Case) -> bool
 fn is_dealer(case: &Case) -> bool
     ensures { result ≡ (case.now.seat_wind == 27) }
 {
-    case.seat_wind.number() == 27
+    case.seat_wind.number() == EAST
 }

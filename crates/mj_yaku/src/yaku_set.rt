@@ -3,6 +3,7 @@ ghost use Rattle.mj_yaku.specs.Rows.{has_row, no_rows, with_row};
 ghost use Rattle.mj_yaku.specs.Han.{has_yakuman, han_of_rows, sum_of_han as han_sum, han_in as han_where};
 
 use crate::han::han_in_table;
+use crate::rows::ROWS;
 use std::marker::Model;
 
 // The rows that add up, and those of the yakuman.
@@ -55,7 +56,7 @@ impl YakuSet {
         ensures { result ≡ has_row self row }
     {
         let mask = self.mask;
-        if row >= 45 {
+        if row >= ROWS {
             return false;
         }
         mask >> row & 1 == 1
