@@ -30,7 +30,7 @@ const NUMBERS: &str = "\
 |-
 1 7|-";
 
-/// Whether the number of a text is the one behind the bar.
+/// Whether the number of a text is the one after the bar.
 fn is_number(line: &str) -> bool {
     let [text, wanted, ..] = fields(line);
     match read_number(text.as_bytes()) {

@@ -63,7 +63,7 @@ fn kinds_complete_a_hand(rt: HostRuntime) {
     }
 }
 
-/// How many readings the hand has, each as it is read at its place, and none behind them.
+/// How many readings the hand has, each as it is read at its place, and none after them.
 fn number_of_readings(alloc: Global, hand: &str, win: &str) -> Result<Option<usize>, AllocError> {
     let (Some(held), Some(win)) = (counts(hand), kind(win)) else {
         return Ok(None);

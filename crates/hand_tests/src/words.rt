@@ -3,7 +3,7 @@
 use mj_readings::{Case, Reading, Riichi, Set, SetForm};
 use mj_tiles::{Counts, Form, Kind, Kinds, Meld, Tile};
 
-/// The fields of a line, at most eight, with empty ones behind them.
+/// The fields of a line, at most eight, with empty ones after them.
 pub(crate) fn fields(line: &str) -> [&str; 8] {
     let mut fields = [""; 8];
     for (place, field) in line.split('|').enumerate() {
@@ -94,7 +94,7 @@ pub(crate) fn kinds(text: &str) -> Option<Kinds> {
 }
 
 /// A reading as its sets, pair, place of the winning tile and winning tile, as its pairs, or as the doubled one of its orphans.
-/// A set is its lowest tile behind `r` for a run, `t` for a triplet and `q` for a kan, in capital letters where it is shown.
+/// A set is its lowest tile after `r` for a run, `t` for a triplet and `q` for a kan, in capital letters where it is shown.
 pub(crate) fn reading(text: &str) -> Option<Reading> {
     let (first, others) = text.split_once(' ')?;
     match first {

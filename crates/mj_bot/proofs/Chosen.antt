@@ -9,7 +9,7 @@ use Rattle.mj_rules.specs.Default.{discard_of}
 use Rattle.mj_rules.specs.View.{SeatView}
 use Rattle.mj_bot.specs.Choice.{win_in, pon_in, first_lawful, chosen}
 
--- one list behind another
+-- one list after another
 
 pub found_before : (rules : Rules) (seat : ℕ) (view : SeatView) (xs ys : List Answer) (answer : Answer) → first_lawful rules seat view xs ≡ Some answer → first_lawful rules seat view (xs ++ ys) ≡ Some answer
 found_before rules seat view [] ys answer h = cc
@@ -43,7 +43,7 @@ reach_chosen rules seat view best reach none h =
     sym (ap (λ o. unwrap_or o (Pass None)) (none_before rules seat view (win_in seat view view.turn) (Reach seat ∷ (map (discard_of seat view) (option_to_list best) ++ pon_in seat view view.turn)) none
     ∙ found_before rules seat view (Reach seat ∷ []) (map (discard_of seat view) (option_to_list best) ++ pon_in seat view view.turn) reach h))
 
--- The lines behind them.
+-- The lines after them.
 later : (rules : Rules) (seat : ℕ) (view : SeatView) (best : Option ℕ) → first_lawful rules seat view (win_in seat view view.turn) ≡ None → first_lawful rules seat view (Reach seat ∷ []) ≡ None →
     chosen rules seat view best ≡ unwrap_or (first_lawful rules seat view (map (discard_of seat view) (option_to_list best) ++ pon_in seat view view.turn)) (Pass None)
 later rules seat view best no_win no_reach =

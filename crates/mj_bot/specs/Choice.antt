@@ -55,7 +55,7 @@ is_kind_within counts room sets kind =
 unfoldable pub is_measured : List ℕ → List ℕ → List Set → Bool
 is_measured counts room sets = list_all is_meld sets && list_all (is_kind_within counts room sets) all_kinds
 
--- The lawful discards of a kind, in tile order: a red five stands behind a plain one.
+-- The lawful discards of a kind, in tile order: a red five stands after a plain one.
 abbrev pub lawful_of : Rules → ℕ → SeatView → ℕ → List ℕ
 lawful_of rules seat view kind = filter (λ face. kind_of face == kind) (lawful_faces rules seat view)
 

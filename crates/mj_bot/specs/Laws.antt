@@ -8,7 +8,7 @@ use Rattle.mj_deeds.specs.Fits.{all_fit}
 use Rattle.mj_rules.specs.Played.{IsLawful}
 use Rattle.mj_bot.specs.Choice.{IsChoice}
 
--- A choice is lawful in deeds each of which fits behind those before it, as long as some discard right after the seat's own
+-- A choice is lawful in deeds each of which fits after those before it, as long as some discard right after the seat's own
 -- reach or call breaks no rule.
 abbrev pub ChoiceIsLawful : Type 0
 ChoiceIsLawful =

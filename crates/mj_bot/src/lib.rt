@@ -10,7 +10,7 @@ mod measure;
 pub use choosing::choose;
 
 /// What the built-in player answers for a seat is lawful: it is in form and breaks no rule. So it is where each deed fits
-/// behind those before it, as long as some discard right after the seat's own reach, chi or pon breaks none.
+/// after those before it, as long as some discard right after the seat's own reach, chi or pon breaks none.
 pub fn choice_is_lawful()
     ensures { ChoiceIsLawful }
 {}

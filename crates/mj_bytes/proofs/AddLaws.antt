@@ -1,4 +1,4 @@
--- Pieces written one behind the other.
+-- Pieces written one after the other.
 use Rattle.std.proofs.Common.{ℕ, List, [], ◌++◌, append_assoc}
 use Rattle.std.proofs.lemmas.Grind.{common_steps}
 use Rattle.mj_bytes.specs.Adds.{Adds}

@@ -11,7 +11,7 @@ abbrev pub onto_first : ℕ → List (List ℕ) → List (List ℕ)
 onto_first b [] = []
 onto_first b (text ∷ texts) = (b ∷ text) ∷ texts
 
--- the parts of a text by a byte: what stands before, between and behind the places of the byte, with an empty part where
+-- the parts of a text by a byte: what stands before, between and after the places of the byte, with an empty part where
 -- two of them meet
 abbrev pub parts_by : ℕ → List ℕ → List (List ℕ)
 parts_by c [] = [] ∷ []
@@ -29,7 +29,7 @@ last_of [] = []
 last_of (text ∷ []) = text
 last_of (text ∷ other ∷ others) = last_of (other ∷ others)
 
--- newlines part a text: the lines are all parts but the last, each with its newline behind it
+-- newlines part a text: the lines are all parts but the last, each with its newline after it
 abbrev pub whole_lines : List ℕ → List (List ℕ)
 whole_lines text = all_but_last (parts_by 10 text)
 
@@ -46,7 +46,7 @@ pub record PartsAtFirst (c : ℕ) (text first rest : List ℕ) : Type 0 where
   pub parts : text ≡ first ++ c ∷ rest
   pub plain : has_byte c first ≡ false
 
--- the text begins with a part, and the rest follows the byte behind it
+-- the text begins with a part, and the rest follows the byte after it
 pub record BeginsWithPart (c : ℕ) (text first rest : List ℕ) : Type 0 where
   pub parts : text ≡ first ++ c ∷ rest
   pub plain : has_byte c first ≡ false
@@ -89,7 +89,7 @@ abbrev pub parted : List ℕ → Option (List ℕ × List ℕ)
 parted [] = None
 parted (b ∷ bs) = if b == 32 then Some ([], bs) else option_map (onto_front b) (parted bs)
 
--- what stands behind a beginning of a text, where the text begins so
+-- what stands after a beginning of a text, where the text begins so
 abbrev pub behind : List ℕ → List ℕ → Option (List ℕ)
 behind [] text = Some text
 behind (p ∷ ps) [] = None

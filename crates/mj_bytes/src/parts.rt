@@ -26,7 +26,7 @@ pub fn split_line(text: &[u8]) -> Option<(&[u8], &[u8])>
     cut_at_newline(text)
 }
 
-/// The first field of a text, without the space behind it, and all that follows the space; none where
+/// The first field of a text, without the space after it, and all that follows the space; none where
 /// the text has no space, and so is one field.
 #[tactic(auto, using(crate::proofs::PartLaws::space_splits))]
 pub fn split_space(text: &[u8]) -> Option<(&[u8], &[u8])>
@@ -40,7 +40,7 @@ pub fn split_space(text: &[u8]) -> Option<(&[u8], &[u8])>
     Some((field, rest))
 }
 
-/// What stands behind a beginning of a text; none where the text doesn't begin so.
+/// What stands after a beginning of a text; none where the text doesn't begin so.
 #[tactic(auto, using(crate::proofs::PartLaws::strips))]
 pub fn strip<'a>(text: &'a [u8], beginning: &[u8]) -> Option<&'a [u8]>
     ensures { option_copied result ≡ behind beginning.now text.now }

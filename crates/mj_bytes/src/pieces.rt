@@ -7,7 +7,7 @@ ghost use Rattle.mj_bytes.specs.Numbers.{number_text, signed_text};
 use itoa::Buffer;
 use std::alloc::AllocError;
 
-/// Writes a piece behind a text. Where memory is wanting, the text stays as it was.
+/// Writes a piece after a text. Where memory is wanting, the text stays as it was.
 pub fn push_all(into: &mut Vec<u8>, piece: &[u8]) -> Result<(), AllocError>
     ensures ok { OnOk result (Adds into.old.items into.new.items piece.now) }
     ensures err { OnErr result (into.new.items ≡ into.old.items) }
@@ -15,7 +15,7 @@ pub fn push_all(into: &mut Vec<u8>, piece: &[u8]) -> Result<(), AllocError>
     into.extend_from_slice(piece)
 }
 
-/// Writes a number behind a text, in decimal digits without a leading zero. Where memory is
+/// Writes a number after a text, in decimal digits without a leading zero. Where memory is
 /// wanting, the text stays as it was.
 #[tactic(auto, using(crate::proofs::NumberLaws::one_digit))]
 pub fn push_number(into: &mut Vec<u8>, number: u64) -> Result<(), AllocError>
@@ -28,7 +28,7 @@ pub fn push_number(into: &mut Vec<u8>, number: u64) -> Result<(), AllocError>
     push_all(into, Buffer::new().format(number).as_bytes())
 }
 
-/// Writes a signed number, as a gain or a loss of points, behind a text, with `-` before a negative one. Where memory is wanting,
+/// Writes a signed number, as a gain or a loss of points, after a text, with `-` before a negative one. Where memory is wanting,
 /// the text stays as it was.
 pub fn push_signed(into: &mut Vec<u8>, amount: i32) -> Result<(), AllocError>
     ensures ok { OnOk result (Adds into.old.items into.new.items (signed_text amount)) }

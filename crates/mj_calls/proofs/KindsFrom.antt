@@ -11,7 +11,7 @@ pub kinds-none : (p : ℕ → Bool) → no_kinds ≡ set_of (filter p (drop 34 a
 unfolding all_kinds
 kinds-none p = refl
 
--- The kinds from one on are that kind and those behind it.
+-- The kinds from one on are that kind and those after it.
 from_kind : (k : ℕ) → k < 34 → drop k all_kinds ≡ k ∷ drop (k + 1) all_kinds
 unfolding all_kinds
 from_kind k h =

@@ -31,6 +31,6 @@ pub kept-line : (deeds : List Deed) (seat k : ℕ) (kept : Option (Bor (List ℕ
 kept-line deeds seat k None e = no-line deeds seat k (slice_get deeds k) refl e
 kept-line deeds seat k (Some text) e = one-line deeds seat k text.now (slice_get deeds k) refl e
 
--- There is no line behind the last deed.
+-- There is no line after the last deed.
 pub no_line : (seat k : ℕ) (deeds : List Deed) (told : List ℕ) → length deeds ≤ k → Adds told told (line_at deeds seat k)
 no_line seat k deeds told behind = record { is = rw (none_behind deeds k behind) (sym (append-nil told)) }

@@ -1,5 +1,5 @@
 -- What is true of every legal game in play: four seats at most, and four once it has begun; the slot of a seat is empty as
--- long as its due deed exists; no seat waits for a deed behind the next one, or had more refused answers than it may.
+-- long as its due deed exists; no seat waits for a deed after the next one, or had more refused answers than it may.
 use Rattle.std.proofs.Common.{◌≡◌, ◌≢◌, ℕ, zero, suc, ◌+◌, ◌-◌, ◌<◌, ◌≤◌, ◌==◌, not, inl, inr, List, [], ◌∷◌, ◌++◌, length, map, Bool, true, false, refl, ap, ◌∙◌, sym, subst, arith}
 use Rattle.std.specs.Prelude.{if◌then◌else◌, Option, Some, None, is_some, option_map, slice_get, slice_set, nat_lt}
 use Rattle.std.specs.Option.{option_map_or}

@@ -48,7 +48,7 @@ player-at (d ∷ desk) (q ∷ players) (suc seat) e = player-at desk players sea
     less : (a b : ℕ) → suc a ≡ suc b → a ≡ b
     less a b e = omega arith
 
--- The desk behind a join.
+-- The desk after a join.
 pub desk-behind : (desk after_desk : List Occupant) (players : List Player) (join : JoinLine) (place right : Placed) → AreSeated desk players → placed (map held_of (chairs_of desk players)) join ≡ right → place ≡ placed desk join
     → after_desk ≡ seated desk join place → after_desk ≡ seated desk join right
 desk-behind desk after_desk players join place right s p e d = d ∙ ap (seated desk join) (e ∙ ap (λ (hs : List Occupant). placed hs join) (sym s.held) ∙ p)

@@ -12,7 +12,7 @@ use std::alloc::{AllocError, Global};
 // The first line of each connection.
 const HELLO: &[u8] = b"{\"type\":\"hello\",\"protocol\":\"mjsonp\",\"protocol_version\":3}\n";
 
-// Writes a line that is no deed's behind a text. The only error is want of memory, and then the text stays as it was.
+// Writes a line that is no deed's after a text. The only error is running out of memory, and then the text stays as it was.
 pub fn write_control(
     alloc: Global,
     control: &Control<Rule>,
@@ -48,7 +48,7 @@ fn write_replay(alloc: Global, count: u32, into: &mut Vec<u8>) -> Result<(), All
     push_all(into, line.as_slice())
 }
 
-// Writes that head behind a text that may be spoilt.
+// Writes that head after a text that may be spoilt.
 fn push_replay(line: &mut Vec<u8>, count: u32) -> Result<(), AllocError>
     ensures { OnOk result (Adds line.old.items line.new.items (replay_line count)) }
 {

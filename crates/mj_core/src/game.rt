@@ -302,7 +302,7 @@ impl Core {
         }
     }
 
-    /// Writes behind what stands in `into` what is still to be told to a seat: the line of its due deed as soon as that
+    /// Writes after what stands in `into` what is still to be told to a seat: the line of its due deed as soon as that
     /// deed exists, unless an answer to it was refused. For a seat that isn't present there is nothing.
     pub fn pending(&self, seat: u8, into: &mut Vec<u8>) -> Result<(), AllocError>
         ensures ok { OnOk result (Adds into.old.items into.new.items (pending_at self.now seat)) }
@@ -330,8 +330,8 @@ impl Core {
         self.state.line(seat, k)
     }
 
-    /// Writes a line that is no deed's behind what stands in `into`: the first line of a connection, the head of the lines
-    /// that are told again after a return, or why an answer or a seat is refused. The only error is want of memory, and
+    /// Writes a line that is no deed's after what stands in `into`: the first line of a connection, the head of the lines
+    /// that are told again after a return, or why an answer or a seat is refused. The only error is running out of memory, and
     /// then the text stays as it was.
     pub fn control(
         &self,
@@ -345,8 +345,8 @@ impl Core {
         write_control(alloc, control, into)
     }
 
-    /// Writes the record of the game behind what stands in `into`: the header with its rules, a line for each of its walls, and
-    /// the record's line of each deed so far, which hides nothing. The only error is want of memory, and then the text stays as
+    /// Writes the record of the game after what stands in `into`: the header with its rules, a line for each of its walls, and
+    /// the record's line of each deed so far, which hides nothing. The only error is running out of memory, and then the text stays as
     /// it was.
     pub fn record(&self, alloc: Global, into: &mut Vec<u8>) -> Result<(), AllocError>
         ensures ok { OnOk result (Adds into.old.items into.new.items (record_of self.now)) }

@@ -1,4 +1,4 @@
--- What is true of deeds each of which fits behind those before it.
+-- What is true of deeds each of which fits after those before it.
 use Rattle.std.proofs.Common.{◌≡◌, ℕ, zero, suc, ◌+◌, ◌<◌, ◌≤◌, ◌⊎◌, inl, inr, List, [], ◌∷◌, ◌++◌, length, cond, leb, true, false, Bool, not, refl, sym, ap, ◌∙◌, subst, arith, append-nil, append_assoc}
 use Rattle.std.specs.Prelude.{Option, Some, None, flat_map, nat_lt}
 use Rattle.std.specs.List.{list_all}
@@ -176,9 +176,9 @@ pub four_of_kind : (red : Bool) (ds : List Deed) (kind : ℕ) → kind < 34 → 
 four_of_kind red ds kind small fit =
     kept_in_hand (λ xs. number_of (flat_map brought_by xs) kind ≤ 4) red ds (λ xs d h p. kind_at (flat_map brought_by (xs ++ d ∷ [])) kind small p.kinds) (omega arith) fit
 
--- behind a start of the game
+-- after a start of the game
 
--- The newest deed stands behind the start of the game.
+-- The newest deed stands after the start of the game.
 abbrev pub is_past_start : Option Deed → Bool
 is_past_start None = false
 is_past_start (Some (StartGame names)) = false
@@ -217,7 +217,7 @@ taken_in_hand hand (Some (Discard who tile drawn)) target called h = refl
 taken_in_hand hand (Some (ReachAccepted who points bid)) target called h = refl
 taken_in_hand hand (Some other) target called h = cc
 
--- Every deed of a hand in its place, other than its start, stands behind one of a hand.
+-- Every deed of a hand in its place, other than its start, stands after one of a hand.
 pub in_hand_before : (past : Ground) (d : Deed) → is_in_place past d ≡ true → is_hand_start d ≡ false → is_in_hand (Some d) ≡ true → is_in_hand past.newest ≡ true
 in_hand_before past (StartGame names) h k l = cc
 in_hand_before past (StartHand round number honba deposits dealer indicator hands) h k l = cc
@@ -237,7 +237,7 @@ in_hand_before past (DrawnHand reason hands ready deltas points) h k l = h
 in_hand_before past EndHand h k l = cc
 in_hand_before past (EndGame points deposits) h k l = cc
 
--- Every deed in its place that starts neither a game nor a hand stands behind a start of the game.
+-- Every deed in its place that starts neither a game nor a hand stands after a start of the game.
 pub past_before : (past : Ground) (d : Deed) → is_in_place past d ≡ true → is_hand_start d ≡ false → is_past_start (Some d) ≡ true → is_past_start past.newest ≡ true
 past_before past (StartGame names) h k l = cc
 past_before past (StartHand round number honba deposits dealer indicator hands) h k l = cc
@@ -250,7 +250,7 @@ pub past_of : (ds : List Deed) (d : Deed) → is_in_place (ground_of ds) d ≡ t
 unfolding ground_of
 past_of ds d h k l = past_before (ground_of ds) d h k l
 
--- Behind the start of the game there are deeds of a hand.
+-- After the start of the game there are deeds of a hand.
 pub some_hand : (red : Bool) (ds : List Deed) → all_fit red [] ds ≡ true → is_past_start (newest ds) ≡ true → hand ds ≡ [] → ⊥
 some_hand red ds fit = kept (λ xs. is_past_start (newest xs) ≡ true → hand xs ≡ [] → ⊥) red [] ds step (λ h k. no h) fit
   where
@@ -270,6 +270,6 @@ some_hand red ds fit = kept (λ xs. is_past_start (newest xs) ≡ true → hand 
         let parts = empty (is_hand_start d) d (hand xs) (sym (hand_more xs d) ∙ e) in
         old (past_of xs d (parts_of red xs d f).place parts.0 (ap is_past_start (sym (newest_more xs d)) ∙ k)) parts.1
 
--- Behind a deed of a hand there are deeds of a hand.
+-- After a deed of a hand there are deeds of a hand.
 pub hand_begun : (red : Bool) (ds : List Deed) → all_fit red [] ds ≡ true → is_in_hand (newest ds) ≡ true → hand ds ≡ [] → ⊥
 hand_begun red ds fit h = some_hand red ds fit (in_hand_past (newest ds) h)

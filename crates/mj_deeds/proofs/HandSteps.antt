@@ -13,7 +13,7 @@ use Rattle.mj_deeds.specs.Facts.{newest}
 use Rattle.mj_deeds.specs.Standings.{standing, standing_by}
 use Rattle.mj_deeds.proofs.Newest.{newest_more}
 
--- Behind some of a list one more; behind nothing nothing.
+-- After some of a list one more; after nothing nothing.
 abbrev pub behind : {A : Type 0} → List A → A → List A
 behind [] y = []
 behind (x ∷ xs) y = x ∷ (xs ++ y ∷ [])

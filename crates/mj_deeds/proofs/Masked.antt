@@ -38,7 +38,7 @@ hands_masked seat hands = record {
 }
 
 -- A deed as a seat sees it: the hands of others and the tile that another draws are blank, the call that is kept at an
--- accepted reach and the winners behind one are left out, and all else stands as it is.
+-- accepted reach and the winners after one are left out, and all else stands as it is.
 abbrev pub masked : ℕ → Deed → Deed
 masked seat (deeds.StartHand round number honba deposits dealer indicator hands) = deeds.StartHand round number honba deposits dealer indicator (hands_masked seat hands)
 masked seat (deeds.Draw who tile replacement) = deeds.Draw who (if who == seat then tile else 0) replacement

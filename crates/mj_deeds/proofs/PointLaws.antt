@@ -13,7 +13,7 @@ use Rattle.mj_deeds.specs.Fits.{is_same, is_small, are_points, are_points_of, ha
 pub points_more : (ds : List Deed) (d : Deed) (seat : ℕ) → points_of (ds ++ d ∷ []) seat ≡ points_of ds seat +ℤ change_by seat d
 points_more ds d seat = fold-append (λ points deed. points +ℤ change_by seat deed) (pos 30000) ds (d ∷ [])
 
--- What stands behind the last one that passes, one further.
+-- What stands after the last one that passes, one further.
 pub behind_last-more : {A : Type 0} (p : A → Bool) (xs : List A) (y : A) → behind_last p (xs ++ y ∷ []) ≡ cond (p y) [] (behind_last p xs ++ y ∷ [])
 behind_last-more p [] y = alone (p y)
   where

@@ -22,7 +22,7 @@ reached_more ds d seat = any_more (is_reach_by seat) ds d
 pub accepted_more : (ds : List Deed) (d : Deed) (seat : ℕ) → is_in_riichi (ds ++ d ∷ []) seat ≡ (is_in_riichi ds seat || is_accepted_by seat d)
 accepted_more ds d seat = any_more (is_accepted_by seat) ds d
 
--- What stands before the first that passes, and behind it, one further.
+-- What stands before the first that passes, and after it, one further.
 pub before_first-more : {A : Type 0} (p : A → Bool) (xs : List A) (y : A) → before_first p (xs ++ y ∷ []) ≡ cond (list_any p xs) (before_first p xs) (xs ++ cond (p y) [] (y ∷ []))
 before_first-more p [] y = refl
 before_first-more {A = A} p (x ∷ xs) y = by_test (p x) (before_first-more p xs y)
@@ -61,7 +61,7 @@ double_more ds d seat =
     by_tests false false xs = refl
     by_tests false true xs = ap (λ (ys : List Deed). is_first ys seat) (append-nil ds)
 
--- What stands behind the discard of a seat's reach, with one deed more.
+-- What stands after the discard of a seat's reach, with one deed more.
 pub behind_reach-more : (ds : List Deed) (d : Deed) (seat : ℕ) → behind_reach (ds ++ d ∷ []) seat ≡ cond (list_any (is_discard_by seat) (behind_first (is_reach_by seat) ds)) (behind_reach ds seat ++ d ∷ []) []
 behind_reach-more ds d seat =
     ap (behind_first (is_discard_by seat)) (behind_first-more (is_reach_by seat) ds d)
@@ -84,7 +84,7 @@ behind_reach-more ds d seat =
 abbrev pub is_broken : List Deed → ℕ → Bool
 is_broken ds seat = list_any (ends_first seat) (behind_reach ds seat)
 
--- It is broken, with one deed more: by a deed behind the discard of the reach.
+-- It is broken, with one deed more: by a deed after the discard of the reach.
 pub broken_more : (ds : List Deed) (d : Deed) (seat : ℕ) →
     is_broken (ds ++ d ∷ []) seat ≡ (list_any (is_discard_by seat) (behind_first (is_reach_by seat) ds) && (is_broken ds seat || ends_first seat d))
 broken_more ds d seat =

@@ -6,7 +6,7 @@ use Rattle.mj_deeds.specs.declared.answer.Pai.TheVariants.{Known, Hidden}
 use Rattle.mj_deeds.specs.declared.answer.Answer.{Answer}
 use Rattle.mj_deeds.specs.declared.answer.Answer.TheVariants.{Chi, Pon, OpenKan, ClosedKan, AddedKan}
 
--- The place of a tile in tile order: by kind, 0 to 33, a plain tile before a red one; a hidden one stands behind all.
+-- The place of a tile in tile order: by kind, 0 to 33, a plain tile before a red one; a hidden one stands after all.
 abbrev pub place_of : Pai → ℕ
 place_of (Known tile) = 2 * kind_of tile + (if is_red tile then 1 else 0)
 place_of Hidden = 68

@@ -1,4 +1,4 @@
--- Which deed fits behind a list of deeds: what each deed of a game owes to those before it.
+-- Which deed fits after a list of deeds: what each deed of a game owes to those before it.
 use Rattle.std.specs.Prelude.{ℕ, ◌+◌, ◌-◌, ◌==◌, ◌&&◌, ◌||◌, not, Bool, true, false, nat_lt, nat_le, if◌then◌else◌, List, [], ◌∷◌, ◌++◌, length, Option, Some, None, is_none, flat_map, ℤ, pos, neg_ℤ, ◌+ℤ◌, int_le}
 use Rattle.std.specs.Option.{option_map_or}
 use Rattle.std.specs.List.{list_any, list_all, slice_index_or}
@@ -88,10 +88,10 @@ starts_hand past deed =
     (is_after_start past.newest && starts_with first_standing 0 deed)
     || (is_after_hand past.newest && option_map_or (λ next. starts_with next past.deposits deed) (standing_after past.standing past.hand) false)
 
--- A deed stands in its place: a start of a game is the first deed; a hand starts behind it or behind the end of a hand,
--- which stands behind a win or the draw of the hand; the end of a game stands behind the end of a hand. Every other deed
+-- A deed stands in its place: a start of a game is the first deed; a hand starts after it or after the end of a hand,
+-- which stands after a win or the draw of the hand; the end of a game stands after the end of a hand. Every other deed
 -- stands within a hand; a replacement is drawn right after an indicator was shown, which is shown right after a kan; a call
--- takes the newest discard, behind which at most its reach was accepted.
+-- takes the newest discard, after which at most its reach was accepted.
 abbrev pub is_in_place : Ground → Deed → Bool
 is_in_place past (StartGame names) = is_none past.newest
 is_in_place past (StartHand round number honba deposits dealer indicator hands) = starts_hand past (StartHand round number honba deposits dealer indicator hands)
@@ -240,7 +240,7 @@ has_points before (DrawnHand reason hands ready deltas points) = are_points befo
 has_points before (EndGame points deposits) = are_points before (EndGame points deposits) points
 has_points before other = true
 
--- A deed fits behind the deeds before it in its own hand.
+-- A deed fits after the deeds before it in its own hand.
 unfoldable pub fits_in : Bool → List Deed → Deed → Bool
 fits_in red hand deed =
     has_seats deed && has_held hand deed && has_triplet hand deed && has_tiles red deed && keeps_kinds hand deed && has_room hand deed && has_live hand deed && is_first_riichi hand deed
@@ -254,11 +254,11 @@ fits_behind red past deed = is_in_place past deed && fits_in red (before_in past
 unfoldable pub ground_of : List Deed → Ground
 ground_of deeds = record { newest = newest deeds; hand = hand deeds; standing = standing deeds; points = points deeds; deposits = deposits deeds }
 
--- A deed fits behind the deeds of a game, with red fives or without.
+-- A deed fits after the deeds of a game, with red fives or without.
 abbrev pub fits : Bool → List Deed → Deed → Bool
 fits red deeds deed = fits_behind red (ground_of deeds) deed
 
--- Each deed fits behind those before it.
+-- Each deed fits after those before it.
 abbrev pub all_fit : Bool → List Deed → List Deed → Bool
 all_fit red before [] = true
 all_fit red before (deed ∷ deeds) = fits red before deed && all_fit red (before ++ deed ∷ []) deeds

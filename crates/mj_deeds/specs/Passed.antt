@@ -22,7 +22,7 @@ offers_to seat (Discard who tile drawn) = if who == seat then [] else tile ∷ [
 offers_to seat (AddedKan who tile a b c) = if who == seat then [] else tile ∷ []
 offers_to seat other = []
 
--- The tiles that were offered to a seat since its own last discard: those behind which no discard of its own stands.
+-- The tiles that were offered to a seat since its own last discard: those after which no discard of its own stands.
 abbrev pub offered_tiles : List Deed → ℕ → List ℕ
 offered_tiles [] seat = []
 offered_tiles (deed ∷ later) seat = (if list_any (is_discard_by seat) later then [] else offers_to seat deed) ++ offered_tiles later seat
@@ -40,7 +40,7 @@ passed_tiles deeds seat = passed_before (take (length deeds - 1) deeds) seat (ne
 abbrev pub passed_kinds : List Deed → ℕ → ℕ
 passed_kinds deeds seat = kinds_among (passed_tiles deeds seat)
 
--- The tiles that a seat let pass since its reach: those that were offered to it behind the reach and before the newest deed.
+-- The tiles that a seat let pass since its reach: those that were offered to it after the reach and before the newest deed.
 abbrev pub passed_since_reach : List Deed → ℕ → List ℕ
 passed_since_reach deeds seat = flat_map (offers_to seat) (behind_first (is_reach_by seat) (take (length deeds - 1) deeds))
 

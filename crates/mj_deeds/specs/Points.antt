@@ -36,7 +36,7 @@ abbrev pub is_win : Deed → Bool
 is_win (Win who target tile unders hand yaku fu han value deltas points rest) = true
 is_win other = false
 
--- Of a list what stands behind the last one that passes a test; all of it where none does.
+-- Of a list what stands after the last one that passes a test; all of it where none does.
 abbrev pub behind_last : {A : Type 0} → (A → Bool) → List A → List A
 behind_last test [] = []
 behind_last test (x ∷ xs) = if list_any test (x ∷ xs) then behind_last test xs else x ∷ xs

@@ -22,7 +22,7 @@ has_reached deeds seat = list_any (is_reach_by seat) deeds
 abbrev pub is_in_riichi : List Deed → ℕ → Bool
 is_in_riichi deeds seat = list_any (is_accepted_by seat) deeds
 
--- Of a list what stands before the first one that passes a test; and what stands behind it, nothing where none does.
+-- Of a list what stands before the first one that passes a test; and what stands after it, nothing where none does.
 abbrev pub before_first : {A : Type 0} → (A → Bool) → List A → List A
 before_first test [] = []
 before_first test (x ∷ xs) = if test x then [] else x ∷ before_first test xs
@@ -35,7 +35,7 @@ behind_first test (x ∷ xs) = if test x then xs else behind_first test xs
 abbrev pub is_double : List Deed → ℕ → Bool
 is_double deeds seat = has_reached deeds seat && is_first (before_first (is_reach_by seat) deeds) seat
 
--- The deeds behind the discard of a seat's reach.
+-- The deeds after the discard of a seat's reach.
 abbrev pub behind_reach : List Deed → ℕ → List Deed
 behind_reach deeds seat = behind_first (is_discard_by seat) (behind_first (is_reach_by seat) deeds)
 

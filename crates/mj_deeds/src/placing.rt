@@ -11,7 +11,7 @@ use crate::four::next_seat;
 use mj_rounds::{HandEnd, LAST_HAND, Standing, first};
 use mj_tiles::{SOUTH, Tile};
 
-/// Whether a deed stands in its place behind the newest one and the deeds of its hand, of which the discard that may be
+/// Whether a deed stands in its place after the newest one and the deeds of its hand, of which the discard that may be
 /// taken is given, how the hand ended as far as it has, its standing and the deposits on the table.
 pub fn is_in_place(
     newest: Option<&Deed>,

@@ -116,7 +116,7 @@ reach_line seat = codes "{\"type\":\"reach\",\"actor\":" ++ decimal seat ++ code
 abbrev pub points_text : List ℤ → List ℕ
 points_text points = bracketed (map signed_decimal points)
 
--- A field that the record alone has, behind all others.
+-- A field that the record alone has, after all others.
 abbrev pub in_record : Viewer → List ℕ → List ℕ
 in_record (Seat seat) text = []
 in_record Record text = text
@@ -332,6 +332,6 @@ refusal_line cause = codes "{\"type\":\"error\",\"sit\":" ++ decimal (refusal_nu
 unfoldable pub hello_line : List ℕ
 hello_line = codes "{\"type\":\"hello\",\"protocol\":\"mjsonp\",\"protocol_version\":3}\n"
 
--- The line behind it after a return: how many lines are told again.
+-- The line after it after a return: how many lines are told again.
 unfoldable pub replay_line : ℕ → List ℕ
 replay_line count = codes "{\"type\":\"replay\",\"count\":" ++ decimal count ++ codes "}\n"

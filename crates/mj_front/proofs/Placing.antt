@@ -14,7 +14,7 @@ use Rattle.mj_history.specs.Sitting.{held_of, placing, entries_of_placing}
 use Rattle.mj_wall.specs.declared.setting.Setting.{Setting}
 use Rattle.mj_history.proofs.Legality.{MayAdd, placing-may, join_of-named}
 
--- what a place says of the number of seats behind a number: a new seat is the next one, and there are not four yet
+-- what a place says of the number of seats after a number: a new seat is the next one, and there are not four yet
 abbrev IsNext : ℕ → Placed → Type 0
 IsNext n (places.Sat seat) = (seat ≡ n) × ((n == 4) ≡ false)
 IsNext n (places.Back seat) = Unit {0}

@@ -253,7 +253,7 @@ pub stale : (game : Game) (window t1 t2 : ℕ) → is_open (after_of game).deeds
 unfolding can_expire
 stale game window t1 t2 h = not-open _ _ _ h
 
--- a wall behind the first arrival
+-- a wall after the first arrival
 wall-late : (game : Game) (tiles : List ℕ) → wall_arrives (intake_of game) tiles ≡ Bad
 unfolding wall_arrives
 wall-late game tiles = rw (and-false (is_wall (setting_of (intake_of game)).rules.red tiles))

@@ -90,7 +90,7 @@ chairs-said : (setting : Setting) (now : After) (author seat : ℕ) (answer : An
 unfolding own_part after_said said
 chairs-said setting now author seat answer chair e = rw e
 
--- what a verdict adds behind what was pending
+-- what a verdict adds after what was pending
 abbrev pub error_of : Verdict → List ℕ
 error_of Taken = []
 error_of Late = []

@@ -1,4 +1,4 @@
--- The lines of walls, and the first line behind them.
+-- The lines of walls, and the first line after them.
 use Rattle.std.proofs.Common.{◌≡◌, ℕ, suc, ◌==◌, ◌&&◌, ◌+◌, ◌<◌, ◌≤◌, Bool, true, false, List, [], ◌∷◌, ◌++◌, length, refl, ap, sym, ◌∙◌, subst, arith}
 use Rattle.std.specs.Prelude.{Option, Some, None, nat_lt, if◌then◌else◌}
 use Rattle.std.specs.List.{list_all}
@@ -16,7 +16,7 @@ use Rattle.mj_front.specs.Referee.{ending}
 use Rattle.mj_front.specs.Inner.Intake.{intake_of, intake_with_walls, is_wall_form, begin_with_wall, HearsAll, Tells}
 use Rattle.mj_front.proofs.Telling.{script-parts}
 
--- a wall more, behind a header and walls
+-- a wall more, after a header and walls
 wall-by : (reading : Intake) (tiles : List ℕ) (whole few : Bool) → is_wall (setting_of reading).rules.red tiles ≡ whole → nat_lt (length reading.walls) 200 ≡ few → reading.begun ≡ false
     → wall_arrives reading tiles ≡ (if whole && few then Leads (record reading { walls = reading.walls ++ tiles ∷ [] }) else Bad)
 unfolding wall_arrives
@@ -111,7 +111,7 @@ tells-bad_wall seat number end rules walls lines texts unread bytes input h w e 
       told = b ∙ sym (ap (λ (input : Input). scripts_in seat (now_of input.reading)) same);
     }
 
--- behind a header without a wall only a wall may stand
+-- after a header without a wall only a wall may stand
 alone : (rules : Rules) (form : ArrivalForm) → is_wall_form form ≡ false → behind_header (intake_with_walls rules []) form ≡ Bad
 unfolding sit_arrives say_arrives gone_arrives expiry_arrives
 alone rules (WallOf tiles) h = cc
@@ -145,7 +145,7 @@ tells-no_wall seat number end rules walls (line ∷ lines) rest bytes w none oth
       told = b ∙ sym (ap (λ (input : Input). scripts_in seat (now_of input.reading)) same);
     }
 
--- Behind a header and its walls it makes no difference to what follows whether an arrival came already, where the next line is
+-- After a header and its walls it makes no difference to what follows whether an arrival came already, where the next line is
 -- no wall.
 begun_with : Rules → List (List ℕ) → Intake
 begun_with rules walls = record (intake_with_walls rules walls) { begun = true }
@@ -182,7 +182,7 @@ begun-alike rules walls number (line ∷ lines) rest some h =
     (sym (begun-line rules walls line h))
     (alike-on rules walls number (λ next. intake_from next (number + 1) lines rest) (arrives (begun_with rules walls) line))
 
--- behind a header and its walls the game is in play
+-- after a header and its walls the game is in play
 begun-game : (rules : Rules) (walls : List (List ℕ)) (start : Game) → start ≡ record { setting = record { walls = walls; rules = rules }; entries = [] } → begun_with rules walls ≡ intake_of start
 unfolding begun_with
 begun-game rules walls start s = rw s

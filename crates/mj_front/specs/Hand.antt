@@ -18,7 +18,7 @@ pub record IsNoHand (words : List (List ℕ)) (old new : Option (List ℕ)) : Ty
   pub none : hand_of words ≡ None
   pub unwritten : Keeps old new
 
--- What is written of the hand that words name, by the end. Want of memory writes nothing.
+-- What is written of the hand that words name, by the end. Running out of memory writes nothing.
 abbrev pub WritesHand : HandLinesEnd → List (List ℕ) → Option (List ℕ) → Option (List ℕ) → Type 0
 WritesHand ends.Written words old new = IsHandWritten (Appends old new) words
 WritesHand ends.NoHand words old new = IsNoHand words old new

@@ -49,7 +49,7 @@ abbrev pub ending : End → Ending
 ending inputs.Whole = Whole
 ending (inputs.Bad line) = BadAt line
 
--- What the referee of a seat does, by its end. A fault of the source and want of memory write nothing.
+-- What the referee of a seat does, by its end. A fault of the source and running out of memory write nothing.
 abbrev pub Referees : RefereeEnd → ℕ → Option (List ℕ) → Option (List ℕ) → Option (List ℕ) → Option (List ℕ) → Type 0
 Referees (ends.Told end) seat old_left new_left old_written new_written = RefereesAll (ending end) seat old_left new_left old_written new_written
 Referees ends.WriteFault seat old_left new_left old_written new_written = RefereesPart seat old_left new_left old_written new_written

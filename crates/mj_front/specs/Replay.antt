@@ -26,7 +26,7 @@ pub record IsRefused (line : ℕ) (cause : Cause) (input : List ℕ) (old new : 
   pub breaks : IsNoRecord input line (fault_of cause)
   pub unwritten : Keeps old new
 
--- What is written once an input was read, by the end. Want of memory writes nothing, and no read can fail any more.
+-- What is written once an input was read, by the end. Running out of memory writes nothing, and no read can fail any more.
 abbrev pub ReplaysInput : ReplayEnd → List ℕ → Option (List ℕ) → Option (List ℕ) → Type 0
 ReplaysInput ends.Written input old new = IsSummed (Appends old new) input
 ReplaysInput (ends.Bad line cause) input old new = IsRefused line cause input old new
@@ -41,7 +41,7 @@ pub record ReplaysAll (end : ReplayEnd) (old_left new_left old_written new_writt
   pub read : IsRead old_left new_left input
   pub written : ReplaysInput end input old_written new_written
 
--- What the command does, by its end. A fault of the source and want of memory write nothing.
+-- What the command does, by its end. A fault of the source and running out of memory write nothing.
 abbrev pub Replays : ReplayEnd → Option (List ℕ) → Option (List ℕ) → Option (List ℕ) → Option (List ℕ) → Type 0
 Replays ends.Written old_left new_left old_written new_written = ReplaysAll ends.Written old_left new_left old_written new_written
 Replays (ends.Bad line cause) old_left new_left old_written new_written = ReplaysAll (ends.Bad line cause) old_left new_left old_written new_written

@@ -20,7 +20,7 @@ pub record IsSelfWritten (IsWritten : List ℕ → Type 0) (number : ℕ) : Type
   pub is : IsSelfText number text
   pub bytes : IsWritten text
 
--- What is written of the game of a number, by the end. Want of memory writes nothing.
+-- What is written of the game of a number, by the end. Running out of memory writes nothing.
 abbrev pub WritesSelfPlay : SelfPlayEnd → ℕ → Option (List ℕ) → Option (List ℕ) → Type 0
 WritesSelfPlay ends.Written number old new = IsSelfWritten (Appends old new) number
 WritesSelfPlay ends.WriteFault number old new = IsSelfWritten (WritesPrefix old new) number

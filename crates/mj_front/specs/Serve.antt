@@ -10,7 +10,7 @@ use Rattle.mj_served.specs.Served.{IsServed, record_of_game, has_ended}
 use Rattle.mj_front.specs.declared.serve.ServeEnd.{ServeEnd}
 use Rattle.mj_front.specs.declared.serve.ServeEnd.TheVariants as ends
 
--- Links and places were put behind those that were returned before, where these are known.
+-- Links and places were put after those that were returned before, where these are known.
 abbrev pub AppendsLinks : {X : Type 0} → Option (List X) → Option (List X) → List X → Type 0
 AppendsLinks None new links = Unit {0}
 AppendsLinks (Some xs) None links = ⊥
@@ -45,7 +45,7 @@ module _ {L F : Type 0} (read left written : L → Option (List ℕ)) (read_faul
   abbrev pub IsAbandoned : Game → Type 0
   IsAbandoned game = (is_over (after game.setting game.entries).deeds ≡ false) × HasLostAll made number
 
-  -- What the command does, by its end. Want of memory writes nothing.
+  -- What the command does, by its end. Running out of memory writes nothing.
   abbrev pub Serves : ServeEnd → ServedWith → Option (List ℕ) → Option (List ℕ) → Option (List (L × ℕ)) → Option (List (L × ℕ)) → Option (List ℕ) → Option (List ℕ) → Option (List ℕ) → Option (List ℕ) → Type 0
   Serves ends.Over s old_ports new_ports old_returned new_returned old_readings new_readings old_written new_written =
       PlaysGame (Appends old_written new_written) has_ended s old_ports new_ports old_returned new_returned old_readings new_readings

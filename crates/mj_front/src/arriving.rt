@@ -29,7 +29,7 @@ pub(crate) enum Arrived {
     Bad,
 }
 
-/// Hears one line of a game in play, and writes what it tells the seat behind what the seat was told.
+/// Hears one line of a game in play, and writes what it tells the seat after what the seat was told.
 #[tactic(auto, using(crate::proofs::PlayLaws::late_walls), unfolding(mj_history::specs::Arrivals::arrives))]
 pub(crate) fn take_line(
     alloc: Global,

@@ -81,7 +81,7 @@ pub fn is_for_waiting(words: &[String]) -> bool
 /// `referee SEAT`, with a seat from `0` to `3`, reads the arrivals of a game to their end and then writes what the game tells
 /// the connection of that seat. Bytes are written only once all was read.
 ///
-/// `replay` reads a record to its end and then writes how many deeds it has, and the points and the deposits behind them, each
+/// `replay` reads a record to its end and then writes how many deeds it has, and the points and the deposits after them, each
 /// on a line. Nothing is written of a text that is no record.
 ///
 /// `hand WORDS`, with words that name a hand of thirteen tiles, writes its shanten, its target and its waits, each on a line.

@@ -59,7 +59,7 @@ pub(crate) fn take_in(alloc: Global, seat: u8, input: &[u8]) -> Result<Told, All
     }
 }
 
-// Hears what stands behind a header.
+// Hears what stands after a header.
 #[tactic(auto, unfolding(mj_history::specs::Arrivals::header_arrives))]
 fn take_header(alloc: Global, seat: u8, rules: Rules, input: &[u8]) -> Result<Told, AllocError>
     requires fits { length input.now ≤ longest }
@@ -73,7 +73,7 @@ fn take_header(alloc: Global, seat: u8, rules: Rules, input: &[u8]) -> Result<To
     take_headed(alloc, seat, rules, input)
 }
 
-// Hears all lines behind a header, the first of which is line 2: first its walls stand there.
+// Hears all lines after a header, the first of which is line 2: first its walls stand there.
 fn take_headed(alloc: Global, seat: u8, rules: Rules, input: &[u8]) -> Result<Told, AllocError>
     requires fits { length input.now ≤ longest }
     requires least { 1 ≤ rules.limit }
@@ -99,7 +99,7 @@ fn take_headed(alloc: Global, seat: u8, rules: Rules, input: &[u8]) -> Result<To
     Ok(nothing_told(alloc, end_at(rest, number)))
 }
 
-// The wall of these tiles, with red fives or without, behind so many others: 200 at most.
+// The wall of these tiles, with red fives or without, after so many others: 200 at most.
 fn next_wall(red: bool, before: usize, tiles: &[Tile]) -> Option<Wall>
     ensures { result ≡ (if is_wall red tiles.now && nat_lt before 200 then Some tiles.now else
         None) }
@@ -113,7 +113,7 @@ fn next_wall(red: bool, before: usize, tiles: &[Tile]) -> Option<Wall>
     }
 }
 
-// Hears all lines behind a header and its walls, the first of which is no wall and has this number, and what is pending
+// Hears all lines after a header and its walls, the first of which is no wall and has this number, and what is pending
 // for the seat at the end.
 fn take_walled(
     alloc: Global,
@@ -144,7 +144,7 @@ fn take_walled(
     Ok(Told { end, bytes })
 }
 
-// How an input ends behind its last whole line: nothing may stand there.
+// How an input ends after its last whole line: nothing may stand there.
 fn end_at(rest: &[u8], number: u32) -> End
     ensures { (reading : Intake) → at_end reading number rest.now
         ≡ record { reading = reading; ending = ending result } }

@@ -22,7 +22,7 @@ abbrev pub words_onto : List Word → Option (List Word) → Option (List Word)
 words_onto words None = None
 words_onto words (Some more) = Some (words ++ more)
 
--- The texts that are left are those behind the words taken so far.
+-- The texts that are left are those after the words taken so far.
 pub record GathersBefore (texts left : List (List ℕ)) (tiles others : List ℕ) (number : ℕ) : Type 0 where
   pub words : List Word
   pub read : words_of texts ≡ words_onto words (words_of left)

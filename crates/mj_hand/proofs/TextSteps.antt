@@ -53,7 +53,7 @@ passing_end test items whole number last before =
     let e : 34 - number ≡ 0 = omega arith in
     sym (append-nil items) ∙ ap (λ n. items ++ filter test (range_with_len number n)) (sym e) ∙ before
 
--- the three lines, one behind the other
+-- the three lines, one after the other
 pub lines_written : (a b c d target waits : List ℕ) (number : ℕ) → a ≡ [] → Adds a b (number_line number) → Adds b c (target_line target)
     → Adds c d (waits_line waits) → d ≡ hand_text number target waits
 lines_written a b c d target waits number none first second third =

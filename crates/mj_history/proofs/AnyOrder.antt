@@ -127,7 +127,7 @@ hears_first setting now who answer answers h =
       rest = sym (by_next (λ (due refused : ℕ). are_heard setting.rules now.deeds who due refused answers) (is_acceptance (verdict_now setting now who answer)) (due_at now who) (refused_at now who)) ∙ outer.1;
     }
 
--- The other entries could be said behind the first.
+-- The other entries could be said after the first.
 said_on : (setting : Setting) (now own : After) (author who : ℕ) (answer : Answer) (more : List (Entry Answer)) → own.deeds ≡ now.deeds → Goes setting now own who answer → HearsFirst setting now who answer (said_by who more)
     → CanBeSaid setting now (Said author who answer ∷ more) → CanBeSaid setting own more
 said_on setting now own author who answer more same goes first can = record {
@@ -193,7 +193,7 @@ still_open setting now (Expired author window t1 t2) more seats filled can = abs
     never : false ≡ true → ⊥
     never e = cc
 
--- the first entry, and those behind it
+-- the first entry, and those after it
 
 own_said : (setting : Setting) (now : After) (author who : ℕ) (answer : Answer) (chair : Chair) → slice_get now.chairs who ≡ Some chair → own_part setting now (Said author who answer) ≡ option_map_or (after_said setting.rules now who answer) (Some chair) now
 unfolding own_part
@@ -257,7 +257,7 @@ starts setting window now author who answer more opens can = record {
     own_accepted : accepted setting who now (Said author who answer) ≡ (if is_acceptance (verdict_now setting now who answer) then answer ∷ [] else [])
     own_accepted = (λ i. if eq-eqb who who refl i && verdict_is setting now who answer is_acceptance there.0 there.1 i then answer ∷ [] else [])
 
--- Behind an answer in the window nothing has come while there is more to say.
+-- After an answer in the window nothing has come while there is more to say.
 record IsIdle (own next : After) : Type 0 where
   deeds : next.deeds ≡ own.deeds
   chairs : next.chairs ≡ own.chairs

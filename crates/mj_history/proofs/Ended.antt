@@ -1,4 +1,4 @@
--- Behind the end of a game no deed follows.
+-- After the end of a game no deed follows.
 use Rattle.std.proofs.Common.{◌≡◌, ℕ, ◌==◌, not, List, length, Bool, true, false, refl}
 use Rattle.std.specs.Prelude.{if◌then◌else◌, Option, Some, None, option_and_then}
 use Rattle.std.proofs.lemmas.Bool.{and_parts, not-true}

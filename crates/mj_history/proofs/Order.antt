@@ -1,4 +1,4 @@
--- The law of order: behind answers in one window, what a seat comes to follows from its own accepted answers.
+-- The law of order: after answers in one window, what a seat comes to follows from its own accepted answers.
 use Rattle.std.proofs.Common.{◌≡◌, ℕ, zero, suc, ◌+◌, ◌<◌, ◌≤◌, ◌==◌, ◌&&◌, not, inl, inr, List, [], ◌∷◌, ◌++◌, length, map, Bool, true, false, refl, ap, ◌∙◌, sym, subst, arith, append-nil}
 use Rattle.std.specs.Prelude.{if◌then◌else◌, Option, Some, None, is_some, unwrap_or, option_map, slice_get, slice_set, nat_lt}
 use Rattle.std.specs.Option.{option_map_or}
@@ -32,7 +32,7 @@ use Rattle.mj_history.proofs.Seats.{AreSeats, step_seats, legal_seats}
 use Rattle.mj_history.proofs.Entries.{after_from-list}
 use Rattle.mj_history.proofs.Filled.{AreFilled, below_four, legal_filled, not_closed}
 
--- What the accepted answers of a seat make of its slot, behind so many deeds and from its due number on.
+-- What the accepted answers of a seat make of its slot, after so many deeds and from its due number on.
 abbrev slot_behind : ℕ → ℕ → Option Answer → List Answer → Option Answer
 slot_behind n due slot [] = slot
 slot_behind n due slot (answer ∷ answers) = slot_behind n (due + 1) (if nat_lt (due + 1) n then slot else Some answer) answers
@@ -276,7 +276,7 @@ idle_step now mid next answers added m s l =
       slot = λ seat small. ap (λ (fs : Four (Option Answer)). at_seat fs seat) slots ∙ m.slot seat small;
     }
 
--- Where entries end that answer in one window: behind the seats' own parts, the deed follows that the last of them adds.
+-- Where entries end that answer in one window: after the seats' own parts, the deed follows that the last of them adds.
 record Ends (setting : Setting) (now : After) (entries : List (Entry Answer)) : Type 0 where
   rest : After
   moves : Moves now rest (λ seat. accepted_from setting seat now entries)

@@ -7,7 +7,7 @@ use Rattle.mj_deeds.specs.declared.answer.Answer.{Answer}
 use Rattle.mj_deeds.specs.Four.{at_seat}
 use Rattle.mj_window.specs.Slots.{empty_slots, put_at}
 
--- every place but the one behind a list has what it had when something is put there
+-- every place but the one after a list has what it had when something is put there
 pub slice_get-append_other : {A : Type 0} (xs : List A) (x : A) (i : ℕ) → i ≢ length xs → slice_get (xs ++ x ∷ []) i ≡ slice_get xs i
 slice_get-append_other [] x zero h = absurd (h refl)
 slice_get-append_other [] x (suc i) h = refl
@@ -35,7 +35,7 @@ no_length x xs h = longer (length xs) h
     longer : (n : ℕ) → ((suc n) == 0) ≡ true → ⊥
     longer n h = grind (arith, h)
 
--- a place behind a list has nothing
+-- a place after a list has nothing
 pub none_behind : {A : Type 0} (xs : List A) (i : ℕ) → length xs ≤ i → slice_get xs i ≡ None
 none_behind xs i h = by_item (slice_get xs i) refl
   where

@@ -24,7 +24,7 @@ use Rattle.mj_history.proofs.ToldWins.{won_tells, discard_offers, added_offers}
 use Rattle.mj_history.proofs.ToldCalls.{called_tells}
 use Rattle.mj_history.proofs.ToldPasses.{game_start_tells, hand_start_tells, open_kan_tells, closed_kan_tells, added_kan_tells, dora_tells, accepted_tells, later_win_tells, drawn_hand_tells, hand_end_tells}
 
--- Behind a discard and an added kan, by who wins on the tile.
+-- After a discard and an added kan, by who wins on the tile.
 discard_tells : (rules : Rules) (walls : List (List ℕ)) (ds : List Deed) (who tile : ℕ) (drawn : Bool) (given : Four Answer) (d : Deed) (winners : List ℕ) → newest ds ≡ Some (Discard who tile drawn) → AllLawful rules ds given →
     rons_on who given ≡ winners → follows rules walls ds (Discard who tile drawn) (decision_by (Discard who tile drawn) given) ≡ Some d → Tells rules walls ds (Discard who tile drawn) d
 discard_tells rules walls ds who tile drawn given d [] e c none gives = called_tells rules walls ds who tile drawn given d e c none gives

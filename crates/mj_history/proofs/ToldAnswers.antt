@@ -22,7 +22,7 @@ use Rattle.mj_rules.proofs.Lawful.{pass_lawful}
 use Rattle.mj_rules.proofs.Turns.{turn_is}
 use Rattle.mj_history.specs.Told.{only_of, told_of}
 
--- What a deed tells behind the newest one: the answers are lawful, and give it.
+-- What a deed tells after the newest one: the answers are lawful, and give it.
 pub record Tells (rules : Rules) (walls : List (List ℕ)) (ds : List Deed) (n d : Deed) : Type 0 where
   pub lawful : (seat : ℕ) → seat < 4 → IsLawful rules ds seat (told_of (Some n) d seat)
   pub gives : follows rules walls ds n (decision_by n (for_each_seat (told_of (Some n) d))) ≡ Some d

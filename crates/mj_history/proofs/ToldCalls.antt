@@ -1,4 +1,4 @@
--- What is told behind a discard that nobody wins on: a reach that is accepted and a call tell of the call that was bid; a drawn
+-- What is told after a discard that nobody wins on: a reach that is accepted and a call tell of the call that was bid; a drawn
 -- hand and a draw tell nothing.
 use Rattle.std.proofs.Common.{◌≡◌, ℕ, zero, suc, ◌<◌, ◌==◌, Bool, true, false, cond, List, [], refl, ap, sym, ◌∙◌, subst, arith}
 use Rattle.std.specs.Prelude.{Option, Some, None}
@@ -41,7 +41,7 @@ unfolding draw_shown
 drawn_is_told last ds reasons.Kyushukyuhai seat h = absurd h
 drawn_is_told last ds other seat h = refl
 
--- So it is for each reason that is looked for behind a discard.
+-- So it is for each reason that is looked for after a discard.
 pub reason_is_nobodys : (draws : Bool) (hs : List Deed) → IfAny IsNobodys (reason draws hs)
 reason_is_nobodys false hs = tt
 reason_is_nobodys true hs = by_tests (are_four_winds hs) (are_four_riichis hs) (are_four_kans hs)
@@ -157,9 +157,9 @@ best_bids rules ds who tile drawn given e c =
         Bids rules ds (or_bid (bid 0 given.first) (or_bid (bid 1 given.second) (or_bid (bid 2 given.third) (bid 3 given.fourth))))
     four bid h = either_bids rules ds _ _ (h 0 (omega arith)) (either_bids rules ds _ _ (h 1 (omega arith)) (either_bids rules ds _ _ (h 2 (omega arith)) (h 3 (omega arith))))
 
--- behind the discard
+-- after the discard
 
--- What a deed behind a discard tells: a bid by which it comes.
+-- What a deed after a discard tells: a bid by which it comes.
 record Behind (rules : Rules) (ds : List Deed) (n : Deed) (by : Bid → Deed) (d : Deed) : Type 0 where
   bid : Bid
   fine : Bids rules ds bid
@@ -201,7 +201,7 @@ bid_gives rules walls ds who tile drawn f bid tells again =
     ∙ ap (λ b. follows rules walls ds (Discard who tile drawn) (call_or_pass b)) again
     ∙ decided rules walls ds who tile drawn bid
 
--- Where a discard is not won on, what comes behind it tells of the call that was bid, if it matters.
+-- Where a discard is not won on, what comes after it tells of the call that was bid, if it matters.
 pub called_tells : (rules : Rules) (walls : List (List ℕ)) (ds : List Deed) (who tile : ℕ) (drawn : Bool) (given : Four Answer) (d : Deed) → newest ds ≡ Some (Discard who tile drawn) → AllLawful rules ds given →
     rons_on who given ≡ [] → follows rules walls ds (Discard who tile drawn) (decision_by (Discard who tile drawn) given) ≡ Some d → Tells rules walls ds (Discard who tile drawn) d
 called_tells rules walls ds who tile drawn given d e c none gives =

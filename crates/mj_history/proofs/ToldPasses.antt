@@ -1,4 +1,4 @@
--- Deeds that tell nothing, since nobody's answer gives them: the start of a hand, what comes behind it, behind an accepted
+-- Deeds that tell nothing, since nobody's answer gives them: the start of a hand, what comes after it, after an accepted
 -- reach, a kan, an indicator and a win, the end of a hand, and the end of a game.
 use Rattle.std.proofs.Common.{◌≡◌, ℕ, true, cond, List, [], ◌∷◌, refl, ap, sym, ◌∙◌, subst}
 use Rattle.std.specs.Prelude.{Option, Some, None, ℤ}
@@ -34,7 +34,7 @@ use Rattle.mj_history.proofs.ToldAnswers.{Tells, some_is, pass_is_lawful}
 use Rattle.mj_history.proofs.ToldWins.{no_rons, added_offers}
 use Rattle.mj_history.proofs.ToldCalls.{IsNobodys, drawn_is_told, reason_is_nobodys, draw_is_told}
 
--- A deed behind this one tells nothing.
+-- A deed after this one tells nothing.
 abbrev Silent : Deed → Deed → Type 0
 Silent n d = (seat : ℕ) → told_of (Some n) d seat ≡ answers.Pass None
 
@@ -122,7 +122,7 @@ accepted_tells rules walls ds who said bid given d e gives =
 
 -- ends
 
--- A later winner, or the end of the hand, behind a win.
+-- A later winner, or the end of the hand, after a win.
 pub later_win_tells : (rules : Rules) (walls : List (List ℕ)) (ds : List Deed) (n : Deed) (target tile : ℕ) (rest : List ℕ) (given : Four Answer) (d : Deed) → newest ds ≡ Some n → deed_facts.is_win n ≡ true → turn_by n ≡ Nobodys →
     ((x : Four Answer) → follows rules walls ds n (decision_by n x) ≡ after_pass rules walls (wall_now walls ds) ds n) →
     after_pass rules walls (wall_now walls ds) ds n ≡ Some (next_winner (wall_now walls ds) ds target tile rest) → follows rules walls ds n (decision_by n given) ≡ Some d → Tells rules walls ds n d

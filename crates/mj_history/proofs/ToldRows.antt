@@ -53,7 +53,7 @@ nine_kinds : told (Draw 0 4 false ∷ []) (drawn reasons.Kyushukyuhai) ≡ four 
 unfolding four nobody drawn
 nine_kinds = refl
 
--- Behind a deed that has no seat nobody shows nine kinds, and any other drawn hand is nobody's answer.
+-- After a deed that has no seat nobody shows nine kinds, and any other drawn hand is nobody's answer.
 nobodys_nine : told (Dora 4 ∷ []) (drawn reasons.Kyushukyuhai) ≡ four nobody nobody nobody nobody
 unfolding four nobody drawn
 nobodys_nine = refl
@@ -63,7 +63,7 @@ unfolding four nobody drawn
 four_winds = refl
 
 -- Seat 3 calls the discard of seat 1: it has bid so in the window on the discard, also where a reach is accepted before, and
--- behind that it answers no more.
+-- after that it answers no more.
 call : told (Discard 1 4 false ∷ []) (Pon 3 1 4 4 34) ≡ four nobody nobody nobody (answers.Pon 3 1 (Known 4) (Known 4) (Known 34))
 unfolding four nobody
 call = refl

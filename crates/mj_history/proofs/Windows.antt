@@ -27,11 +27,11 @@ use Rattle.mj_history.proofs.Fitting.{own_deeds}
 use Rattle.mj_history.proofs.Seats.{AreSeats, step_seats, no_seats}
 use Rattle.mj_history.proofs.Filled.{AreFilled, below_four, others_slot, past_at, step_filled, nothing_filled}
 
--- What was taken of each seat, behind so many deeds.
+-- What was taken of each seat, after so many deeds.
 abbrev Takes : Type 0
 Takes = ℕ → ℕ → List Answer
 
--- What the four answered behind deeds, by what was taken.
+-- What the four answered after deeds, by what was taken.
 abbrev given_by : Rules → Takes → List Deed → Four Answer
 given_by rules takes deeds = for_each_seat (λ seat. unwrap_or (slice_get (takes (length deeds) seat) 0) (default_answer rules deeds seat))
 

@@ -70,7 +70,7 @@ abbrev pub verdict_by : ℕ → Option Rule → Verdict
 verdict_by refused None = Taken
 verdict_by refused (Some rule) = if nat_lt refused 15 then Refused rule else Closing rule
 
--- The verdict on the answer to a due deed, of so many deeds, behind so many refused answers.
+-- The verdict on the answer to a due deed, of so many deeds, after so many refused answers.
 abbrev pub verdict : ℕ → ℕ → ℕ → Option Rule → Verdict
 verdict due refused deeds rule = if nat_lt (due + 1) deeds then Late else verdict_by refused rule
 

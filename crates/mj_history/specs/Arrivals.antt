@@ -59,7 +59,7 @@ form_by word text =
 unfoldable pub form_of : List ℕ → ArrivalForm
 form_of text = option_map_or (λ parts. form_by parts.0 parts.1) (parted text) NoForm
 
--- What was read so far: the header, the walls, whether an arrival came behind these, and the entries.
+-- What was read so far: the header, the walls, whether an arrival came after these, and the entries.
 pub record Intake : Type 0 where
   pub rules : Option Rules
   pub walls : List (List ℕ)
@@ -90,7 +90,7 @@ pub data Arrival : Type 0 where
 unfoldable pub header_arrives : Intake → Rules → Arrival
 header_arrives reading rules = Leads (record reading { rules = Some rules })
 
--- Walls stand behind the header and before all else, 200 at most, with red fives exactly where the header has them.
+-- Walls stand after the header and before all else, 200 at most, with red fives exactly where the header has them.
 unfoldable pub wall_arrives : Intake → List ℕ → Arrival
 wall_arrives reading tiles =
     if is_wall (setting_of reading).rules.red tiles && not reading.begun && nat_lt (length reading.walls) 200
@@ -122,7 +122,7 @@ expiry_arrives reading window t1 t2 =
     if length reading.walls == 0 then Bad
     else Leads (with_entries reading (if can_expire (setting_of reading).rules.limit (now_of reading).deeds window t1 t2 then Expired 0 window t1 t2 ∷ [] else []))
 
--- A line of the arrivals behind the header.
+-- A line of the arrivals after the header.
 abbrev pub behind_header : Intake → ArrivalForm → Arrival
 behind_header reading (Header rules) = Bad
 behind_header reading (WallOf tiles) = wall_arrives reading tiles
@@ -156,7 +156,7 @@ pub record Input : Type 0 where
   pub reading : Intake
   pub ending : Ending
 
--- Behind the last whole line nothing may stand.
+-- After the last whole line nothing may stand.
 abbrev pub at_end : Intake → ℕ → List ℕ → Input
 at_end reading number [] = record { reading = reading; ending = Whole }
 at_end reading number (byte ∷ bytes) = record { reading = reading; ending = BadAt number }
@@ -166,7 +166,7 @@ abbrev pub intake_on : Arrival → (Intake → Input) → Intake → ℕ → Inp
 intake_on (Leads next) onwards reading number = onwards next
 intake_on Bad onwards reading number = record { reading = reading; ending = BadAt number }
 
--- The lines from some point on: the number of the next, and what stands behind the last newline.
+-- The lines from some point on: the number of the next, and what stands after the last newline.
 abbrev pub intake_from : Intake → ℕ → List (List ℕ) → List ℕ → Input
 intake_from reading number [] rest = at_end reading number rest
 intake_from reading number (text ∷ texts) rest = intake_on (arrives reading text) (λ next. intake_from next (number + 1) texts rest) reading number

@@ -41,11 +41,11 @@ abbrev pub NextDeedIsPlayed : Type 0
 NextDeedIsPlayed = (setting : Setting) (entries : List (Entry Answer)) (entry : Entry Answer) (d : Deed) → IsLegal setting entries → is_permitted setting (after setting entries) entry ≡ true →
     next_deed setting (own_part setting (after setting entries) entry) entry ≡ Some d → IsPlayed setting.rules setting.walls ((after setting entries).deeds ++ d ∷ [])
 
--- Every deed of a legal game fits behind those before it.
+-- Every deed of a legal game fits after those before it.
 abbrev pub LegalDeedsFit : Type 0
 LegalDeedsFit = (setting : Setting) (entries : List (Entry Answer)) → IsLegal setting entries → all_fit setting.rules.red [] (after setting entries).deeds ≡ true
 
--- The deed that a permitted entry adds to a legal game fits behind the game's deeds.
+-- The deed that a permitted entry adds to a legal game fits after the game's deeds.
 abbrev pub NextDeedFits : Type 0
 NextDeedFits = (setting : Setting) (entries : List (Entry Answer)) (entry : Entry Answer) (d : Deed) → IsLegal setting entries → is_permitted setting (after setting entries) entry ≡ true →
     next_deed setting (own_part setting (after setting entries) entry) entry ≡ Some d → fits setting.rules.red (after setting entries).deeds d ≡ true

@@ -138,7 +138,7 @@ abbrev pub IsSound : Before → Type 0
 IsSound Nothing = Unit {0}
 IsSound (Lines rules walls deeds) = AreLines rules walls deeds
 
--- A wall must stand behind the header, and each line that begins with `wall` before all deeds must be one.
+-- A wall must stand after the header, and each line that begins with `wall` before all deeds must be one.
 abbrev pub needs_wall : List (List ℕ) → List Deed → List ℕ → Bool
 needs_wall [] deeds text = true
 needs_wall walls [] text = bytes_eq (take 4 text) (codes "wall")

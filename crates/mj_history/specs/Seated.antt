@@ -53,7 +53,7 @@ SeatsLeave = (setting : Setting) (entries : List (Entry Answer)) (author seat : 
 abbrev pub places_at : Chair → List ℕ
 places_at chair = map (λ (c : Connection). c.place) chair.earlier ++ chair.place ∷ []
 
--- The place of an entry by which a seat sits down, behind so many others, or comes back.
+-- The place of an entry by which a seat sits down, after so many others, or comes back.
 abbrev pub begins : ℕ → ℕ → ℕ → Entry Answer → List ℕ
 begins seat place taken (Sat author name key) = if taken == seat then place ∷ [] else []
 begins seat place taken (Back author who) = if who == seat then place ∷ [] else []

@@ -53,7 +53,7 @@ bid_told (bids.Chi who target tile a b) seat = only_of who (answers.Chi who targ
 bid_told (bids.Pon who target tile a b) seat = only_of who (answers.Pon who target (Known tile) (Known a) (Known b)) seat
 bid_told (bids.OpenKan who target tile a b c) seat = only_of who (answers.OpenKan who target (Known tile) (Known a) (Known b) (Known c)) seat
 
--- A call behind an accepted reach was bid before that, and nobody answers by it now.
+-- A call after an accepted reach was bid before that, and nobody answers by it now.
 abbrev pub call_told : Option Deed → Bid → ℕ → Answer
 call_told last bid seat = if is_after_acceptance last then answers.Pass None else bid_told bid seat
 
@@ -61,7 +61,7 @@ call_told last bid seat = if is_after_acceptance last then answers.Pass None els
 abbrev pub wins_told : List ℕ → ℕ → ℕ → Answer
 wins_told winners target seat = if list_any (λ winner. winner == seat) winners then answers.Win seat target None else answers.Pass None
 
--- A win behind another was answered before that, and nobody answers by it now.
+-- A win after another was answered before that, and nobody answers by it now.
 abbrev pub win_told : Option Deed → List ℕ → ℕ → ℕ → Answer
 win_told last winners target seat = if is_after_win last then answers.Pass None else wins_told winners target seat
 
@@ -75,7 +75,7 @@ abbrev pub drawn_told : Option Deed → Reason → ℕ → Answer
 drawn_told last Kyushukyuhai seat = nine_told (option_and_then own_seat last) seat
 drawn_told last other seat = answers.Pass None
 
--- What a deed behind the newest one tells of the answer of a seat. Whose deed it is answered with just its fields; the first of
+-- What a deed after the newest one tells of the answer of a seat. Whose deed it is answered with just its fields; the first of
 -- several winners tells of all of them; where a reach is accepted the kept call was bid. Every other seat passes, without
 -- an actor.
 abbrev pub told_of : Option Deed → Deed → ℕ → Answer
@@ -95,7 +95,7 @@ told_of last other seat = answers.Pass None
 abbrev pub told : List Deed → Deed → Four Answer
 told deeds deed = for_each_seat (told_of (newest deeds) deed)
 
--- What a list of deeds comes to: how many they are, the points of the four seats behind them, and the deposits on the table.
+-- What a list of deeds comes to: how many they are, the points of the four seats after them, and the deposits on the table.
 pub record Summary : Type 0 where
   pub deeds : ℕ
   pub points : List ℤ
@@ -109,13 +109,13 @@ pub record ToldGive (rules : Rules) (walls : List (List ℕ)) (deeds : List Deed
   pub lawful : AllLawful rules deeds (told deeds deed)
   pub gives : outcome rules walls deeds (told deeds deed) ≡ Some deed
 
--- So they are wherever some four lawful answers give the deed behind played deeds.
+-- So they are wherever some four lawful answers give the deed after played deeds.
 abbrev pub ToldAnswersGive : Type 0
 ToldAnswersGive =
     (rules : Rules) (walls : List (List ℕ)) (deeds : List Deed) (deed : Deed) → ((number : ℕ) → is_wall rules.red (wall_of walls number) ≡ true) → IsPlayed rules walls deeds →
     IsGiven rules walls deeds deed → ToldGive rules walls deeds deed
 
--- A win that isn't behind another tells of the winner and of each seat of `rest` that it wins on a tile of the target, and
+-- A win that isn't after another tells of the winner and of each seat of `rest` that it wins on a tile of the target, and
 -- names none.
 abbrev pub EachWinnerIsTold : Type 0
 EachWinnerIsTold =

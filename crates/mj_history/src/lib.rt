@@ -40,24 +40,24 @@ pub fn next_deed_is_played()
     ensures { NextDeedIsPlayed }
 {}
 
-/// Every deed of a legal game fits behind the deeds before it: the tiles of a wall are brought in from different places, so
+/// Every deed of a legal game fits after the deeds before it: the tiles of a wall are brought in from different places, so
 /// no kind has a fifth tile; a seat puts down what it holds, and so has never more than four melds.
 pub fn legal_deeds_fit()
     ensures { LegalDeedsFit }
 {}
 
-/// The deed that a permitted entry adds to a legal game fits behind the deeds of that game.
+/// The deed that a permitted entry adds to a legal game fits after the deeds of that game.
 pub fn next_deed_fits()
     ensures { NextDeedFits }
 {}
 
-/// What a deed tells of the answers that gave it is enough: wherever some four lawful answers give a deed behind played deeds,
+/// What a deed tells of the answers that gave it is enough: wherever some four lawful answers give a deed after played deeds,
 /// the four that are read off the deed are lawful and give it too.
 pub fn told_answers_give()
     ensures { ToldAnswersGive }
 {}
 
-/// A win that isn't behind another tells of the winner and of each seat of `rest` that it wins on a tile of the target; the
+/// A win that isn't after another tells of the winner and of each seat of `rest` that it wins on a tile of the target; the
 /// tile isn't named.
 pub fn each_winner_is_told()
     ensures { EachWinnerIsTold }
@@ -73,7 +73,7 @@ pub fn beginnings_are_legal()
     ensures { BeginningsAreLegal }
 {}
 
-/// Lines stay as they are, and so does the end of a game, behind which no deed comes.
+/// Lines stay as they are, and so does the end of a game, after which no deed comes.
 pub fn lines_stay()
     ensures { LinesStay }
 {}

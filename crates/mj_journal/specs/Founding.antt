@@ -24,14 +24,14 @@ IsFromOutside not_opened.OtherGame = ⊥
 IsFromOutside (not_opened.BadJournal place) = ⊥
 IsFromOutside not_opened.NoMemory = Unit {0}
 
--- An opening gave these entries, and the place of the closed gate behind them: none for a new journal, and else those of the journal.
+-- An opening gave these entries, and the place of the closed gate after them: none for a new journal, and else those of the journal.
 abbrev pub GivesEntries : {E : Type 0} → Opening (List E) → List E → ℕ → Type 0
 GivesEntries Fresh entries end = entries ≡ []
 GivesEntries Other entries end = ⊥
 GivesEntries (Bad place) entries end = ⊥
 GivesEntries (Open last place) entries end = (entries ≡ last) × (end ≡ place)
 
--- Each answer comes exactly where it is right, but for those of a fault of the disk and of want of memory.
+-- Each answer comes exactly where it is right, but for those of a fault of the disk and of running out of memory.
 abbrev pub EndsAs : {E : Type 0} → Result ℕ NotOpened → Opening (List E) → List E → Type 0
 EndsAs (Ok end) opening entries = GivesEntries opening entries end
 EndsAs (Err not_opened.DiskFault) opening entries = Unit {0}

@@ -11,7 +11,7 @@ use Rattle.mj_journal.specs.declared.answered.Answered.{Answered}
 use Rattle.mj_journal.specs.declared.answered.Answered.TheVariants.{Done, DiskFault, Stopped, NoMemory}
 use Rattle.mj_journal.specs.declared.kept.Kept.{Kept}
 
--- The game, where it isn't stopped, and the place of the closed gate behind its journal.
+-- The game, where it isn't stopped, and the place of the closed gate after its journal.
 abbrev pub game_of : {G : Type 0} → Kept G → Option G
 game_of kept = kept.game
 
@@ -72,7 +72,7 @@ abbrev pub OpensWith : {E : Type 0} → (List ℕ → Opening (List E)) → List
 OpensWith opens entries None image = ⊥
 OpensWith opens entries (Some entry) image = OpensTo opens (entries ++ entry ∷ []) image
 
--- Where the disk tells its bytes, they open to these entries, and the closed gate behind the records stands at this place.
+-- Where the disk tells its bytes, they open to these entries, and the closed gate after the records stands at this place.
 abbrev pub TellsGame : {E : Type 0} → (List ℕ → Opening (List E)) → Option (List ℕ) → List E → ℕ → Type 0
 TellsGame opens told entries end = (bytes : List ℕ) → told ≡ Some bytes → opens bytes ≡ Open entries end
 

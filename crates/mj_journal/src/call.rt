@@ -192,7 +192,7 @@ fn push_call(text: &mut Vec<u8>, call: &GameCall<'_>) -> Result<(), AllocError>
     Ok(())
 }
 
-// A number and the space behind it.
+// A number and the space after it.
 fn push_field(text: &mut Vec<u8>, number: u64) -> Result<(), AllocError>
     ensures { OnOk result (Adds text.old.items text.new.items (number_text number ++ 32 ∷ [])) }
 {

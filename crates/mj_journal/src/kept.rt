@@ -26,7 +26,7 @@ pub struct Kept<G> {
     pub(crate) alloc: Global,
     // None once the disk has failed.
     pub(crate) game: Option<G>,
-    // The place of the closed gate behind the journal.
+    // The place of the closed gate after the journal.
     pub(crate) end: u64,
 }
 

@@ -77,7 +77,7 @@ impl<G: Seated> Kept<G> {
     }
 }
 
-// Opens the journal of a game. The answer is the place of the closed gate behind it.
+// Opens the journal of a game. The answer is the place of the closed gate after it.
 fn open_entries<G: Seated, D: Disk>(
     alloc: Global,
     game: &mut G,

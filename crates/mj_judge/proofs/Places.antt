@@ -12,7 +12,7 @@ use Rattle.mj_rules.specs.Default.{last_face}
 all_places : (i : ℕ) → i < 37 → i < length tile_order
 all_places i h = omega (arith, all_faces)
 
--- All from a place on pass a test where the tile at the place does and all behind it do.
+-- All from a place on pass a test where the tile at the place does and all after it do.
 all_step : (p : ℕ → Bool) (i tile : ℕ) (b : Bool) → i < 37 → tile ≡ slice_index tile_order i → p tile ≡ b →
     list_all p (drop i tile_order) ≡ (b && list_all p (drop (i + 1) tile_order))
 all_step p i tile b h is test =
@@ -43,7 +43,7 @@ pub last_stays : (p : ℕ → Bool) (i tile : ℕ) → i < 37 → tile ≡ slice
     last_face (filter p (take i tile_order)) ≡ last_face (filter p (take (i + 1) tile_order))
 last_stays p i tile h is test = sym (ap last_face (filter_step p i tile false h is test ∙ append-nil (filter p (take i tile_order))))
 
--- Behind the last place.
+-- After the last place.
 past : (i : ℕ) → 37 ≤ i → length tile_order ≤ i
 past i h = omega (arith, all_faces)
 

@@ -1,4 +1,4 @@
--- Questions of the rules, one list behind another.
+-- Questions of the rules, one list after another.
 use Rattle.std.proofs.Common.{◌≡◌, Bool, true, false, cond, List, [], ◌∷◌, ◌++◌, Option, Some, None, refl, sym, ap, ◌∙◌}
 use Rattle.mj_deeds.specs.declared.rule.Rule.{Rule}
 use Rattle.mj_rules.specs.Broken.{first_broken}
@@ -22,7 +22,7 @@ one_of_list (rule ∷ list) others broken h = by_test rule.0 h (one_of_list list
     by_test true k later = k
     by_test false k later = later k
 
--- One question more behind a list.
+-- One question more after a list.
 pub broken_before : (list : List (Bool × Rule)) (last : Bool × Rule) (refused : Option Rule) (broken : Rule) → refused ≡ Some broken → Some broken ≡ first_broken list → refused ≡ first_broken (list ++ last ∷ [])
 broken_before list last refused broken is first = is ∙ sym (one_of_list list (last ∷ []) broken (sym first))
 

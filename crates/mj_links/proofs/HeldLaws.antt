@@ -9,7 +9,7 @@ use Rattle.std.proofs.lemmas.List.Edits.{take-paste}
 use Rattle.std.proofs.lemmas.Bool.Decides.{nat_tests}
 use Rattle.mj_links.specs.Links.{has_newline}
 
--- the bytes of a read stand behind those that were held
+-- the bytes of a read stand after those that were held
 pub filled : (bytes into rest : List ℕ) (count n : ℕ) → count ≤ length bytes → n ≤ length into → take (count + n) (take count bytes ++ (into ++ rest)) ≡ take count bytes ++ take n into
 filled bytes into rest count n fits some =
     let long : length (take count bytes) ≡ count = omega (arith, length-take count bytes) in

@@ -9,7 +9,7 @@ use Rattle.mj_links.specs.declared.host.Came.TheVariants.{Failed as CameFailed}
 use Rattle.mj_links.specs.declared.host.Given.{Given}
 use Rattle.mj_links.specs.declared.host.Given.TheVariants.{Kept, NoMemory}
 
--- an opened port stands behind the ports; after a failure it may
+-- an opened port stands after the ports; after a failure it may
 abbrev pub OpensPort : {F : Type 0} → Opened F → Option (List ℕ) → Option (List ℕ) → ℕ → Type 0
 OpensPort Ready old new port = Appends old new (port ∷ [])
 OpensPort (Failed f) old new port = Appends old new (port ∷ []) ⊎ Keeps old new
@@ -43,7 +43,7 @@ CameFault made number by (Link l) = Unit {0}
 CameFault made number by Nothing = Unit {0}
 CameFault made number by (CameFailed f) = made f × (number f ≡ by)
 
--- the link and its place stand behind those that were returned; where memory was wanting these are as before
+-- the link and its place stand after those that were returned; where memory was wanting these are as before
 abbrev pub GivesBack : {L : Type 0} → Given → Option (List (L × ℕ)) → Option (List (L × ℕ)) → L × ℕ → Type 0
 GivesBack Kept None new back = Unit {0}
 GivesBack Kept (Some xs) None back = ⊥

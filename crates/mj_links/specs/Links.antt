@@ -21,7 +21,7 @@ pub record ReadingStays (old_read new_read old_left new_left : Option (List ℕ)
   pub left : new_left ≡ old_left
   pub faults : new_faults ≡ old_faults
 
--- the bytes of a read on a link stand behind what was read
+-- the bytes of a read on a link stand after what was read
 abbrev pub ReadsOn : Got → List ℕ → Option (List ℕ) → Option (List ℕ) → Type 0
 ReadsOn got into old_read new_read = Appends old_read new_read (got_bytes got into)
 

@@ -38,7 +38,7 @@ IsCallThatFails openings accepts (Accept by count) = list_any (λ n. n == count)
 abbrev pub IsMadeBy : MemHost → MemFault → Type 0
 IsMadeBy h f = IsCallThatFails (failed_openings h) (host_accepts h) f.call
 
--- an opening puts its port behind the ports, also where it fails as planned; one for which memory was wanting fails and leaves the ports as they were
+-- an opening puts its port after the ports, also where it fails as planned; one for which memory was wanting fails and leaves the ports as they were
 abbrev pub OpensAsPlanned : {F : Type 0} → Opened F → Bool → List ℕ → List ℕ → ℕ → Type 0
 OpensAsPlanned Ready fails old new port = (fails ≡ false) × (new ≡ old ++ port ∷ [])
 OpensAsPlanned (Failed f) fails old new port = ((fails ≡ true) × (new ≡ old ++ port ∷ [])) ⊎ (new ≡ old)

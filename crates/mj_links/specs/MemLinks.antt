@@ -35,7 +35,7 @@ link_write_faults l = sink_faults l.sink
 abbrev pub link_writes : MemLink → Plan
 link_writes l = write_plan l.sink
 
--- a read puts its bytes behind what was read, and leaves the writing half alone
+-- a read puts its bytes after what was read, and leaves the writing half alone
 abbrev pub MemReadsApart : Got → List ℕ → MemLink → MemLink → Type 0
 MemReadsApart got into old new = ReadsOn got into (Some (link_gone old)) (Some (link_gone new)) × WritingStays (Some (link_written old)) (Some (link_written new)) (link_write_faults old) (link_write_faults new)
 

@@ -7,7 +7,7 @@ use Rattle.mj_links.specs.declared.whole.WriteAll.{WriteAll}
 use Rattle.mj_links.specs.declared.whole.WriteAll.TheVariants.{Whole}
 use Rattle.mj_links.specs.declared.whole.WriteAll.TheVariants.{Failed as CutOff}
 
--- one byte or more of the piece is written behind what stands there, and a failure writes nothing
+-- one byte or more of the piece is written after what stands there, and a failure writes nothing
 abbrev pub Writes : Put → Option (List ℕ) → Option (List ℕ) → List ℕ → Type 0
 Writes (Took n) old new piece = (1 ≤ n) × (n ≤ length piece) × Appends old new (take n piece)
 Writes Failed old new piece = Keeps old new

@@ -24,7 +24,7 @@ CountsReadFault (Bytes n) old new = old ≤ new
 CountsReadFault End old new = old ≤ new
 CountsReadFault Failed old new = old < new
 
--- the bytes that were read stand behind the text, and are gone from what was left
+-- the bytes that were read stand after the text, and are gone from what was left
 pub record TakesOver (old_left new_left : Option (List ℕ)) (old new : List ℕ) : Type 0 where
   pub bytes : List ℕ
   pub added : new ≡ old ++ bytes

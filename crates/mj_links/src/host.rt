@@ -58,7 +58,7 @@ pub trait Host: Sync {
 
     ghost made_by: { Self → Self.Fault → Type 0 };
 
-    /// Opens a port, which is put behind the host's ports.
+    /// Opens a port, which is put after the host's ports.
     fn open(&mut self, port: u16) -> Opened<Self::Fault>
         ensures ports { OpensPort result (ports self.old) (ports self.new) port }
         ensures fault { OpenFault (made_by self.new) Self.Fault.number result }

@@ -88,7 +88,7 @@ impl LineBuffer {
         self.count -= count;
     }
 
-    /// Reads once from a source behind what is held, where there is room.
+    /// Reads once from a source after what is held, where there is room.
     #[tactic(auto, using(crate::proofs::HeldLaws::filled))]
     pub(crate) fn fill<S: Source>(&mut self, source: &mut S) -> Got
         requires { length (held_bytes self.old) < 4096 }

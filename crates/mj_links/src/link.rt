@@ -21,7 +21,7 @@ pub trait Link: Source + Sink {
         ensures writing { WritingStays (Self.written self.old) (Self.written self.new)
             (Self.write_faults self.old) (Self.write_faults self.new) };
 
-    // a read puts its bytes behind what was read, and leaves the writing half alone
+    // a read puts its bytes after what was read, and leaves the writing half alone
     ghost reads_apart: { (got : Got) → (into : List ℕ) → (old new : Self)
         → Self.also_reads got into old new
         → ReadsOn got into (was_read old) (was_read new)

@@ -10,7 +10,7 @@ use crate::source::{Got, Source};
 /// How the reading of a whole source ended.
 #[derive(Clone, Copy, PartialEq, Eq, Debug)]
 pub enum ReadAll {
-    /// The end was reached, and all that was left stands behind the text.
+    /// The end was reached, and all that was left stands after the text.
     Whole,
     /// A read failed.
     Fault,
@@ -31,8 +31,8 @@ pub enum WriteAll {
 
 const ROOM: usize = 4096;
 
-/// Reads a source to its end, or until more than `limit` bytes have come, and puts what it reads behind
-/// a text. After want of memory the bytes read last may be lost.
+/// Reads a source to its end, or until more than `limit` bytes have come, and puts what it reads after
+/// a text. After running out of memory the bytes read last may be lost.
 #[tactic(auto, using(crate::proofs::ReadLaws::reading))]
 pub fn read_all<S: Source>(source: &mut S, limit: u64, into: &mut Vec<u8>) -> ReadAll
     ensures bytes { ReadsAll result limit (S.left source.old) (S.left source.new) into.old.items

@@ -114,7 +114,7 @@ impl<L: Link> Wire<L> {
     }
 }
 
-// One read from a link behind what is held.
+// One read from a link after what is held.
 fn pull<L: Link>(link: &mut L, held: &mut LineBuffer) -> Got
     requires { length (held_bytes held.old) < 4096 }
     ensures bytes { Fills result (L.left link.old) (L.left link.new)

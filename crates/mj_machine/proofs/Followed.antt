@@ -1,4 +1,4 @@
--- Whoever wins by what is decided behind played deeds has what a win asks for.
+-- Whoever wins by what is decided after played deeds has what a win asks for.
 use Rattle.std.proofs.Common.{◌≡◌, ℕ, suc, ◌+◌, ◌-◌, ◌%◌, ◌<◌, ◌≤◌, ◌==◌, not, Bool, true, false, cond, List, [], ◌∷◌, length, refl, ap, sym, ◌∙◌, subst, arith}
 use Rattle.std.specs.Prelude.{ℤ, Some, nat_lt, filter, slice_get}
 use Rattle.std.specs.List.{list_all}
@@ -185,7 +185,7 @@ follower_can rules ds given (Win who target tile unders own yaku fu han value de
     (p.offered who target tile unders own yaku fu han value deltas points next rest e)
 follower_can rules ds given other e s p c = tt
 
--- Behind played deeds whoever wins can.
+-- After played deeds whoever wins can.
 pub can_follow : (rules : Rules) (walls : List (List ℕ)) (ds : List Deed) (given : Four Answer) (last : Deed) → ((number : ℕ) → is_wall rules.red (wall_of walls number) ≡ true) → IsPlayed rules walls ds → AllLawful rules ds given →
     newest ds ≡ Some last → CanFollow ds last (decision_by last given)
 can_follow rules walls ds given last h played lawful e =

@@ -28,7 +28,7 @@ rows_more {A = A} p g n =
     one true = refl
     one false = refl
 
--- Behind others.
+-- After others.
 pub row_pushed : {A : Type 0} (p : ℕ → Bool) (g : ℕ → A) (n : ℕ) (old rows new : List A) → rows ≡ old ++ map g (filter p (range_with_len 0 n)) → new ≡ rows ++ cond (p n) (g n ∷ []) [] →
     new ≡ old ++ map g (filter p (range_with_len 0 (n + 1)))
 row_pushed {A = A} p g n old rows new e k =

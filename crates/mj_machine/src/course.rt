@@ -31,7 +31,7 @@ use std::alloc::{AllocError, Global};
 /// where a reason holds, a pon or a kan of it, else a chi, and else the draw of the next seat, or the drawn hand where
 /// no live tile is left; after a kan the next indicator, and then its seat draws a replacement tile; after a win the
 /// next winner, and after the last one and after a drawn hand the end of the hand; then the next hand, or the end of
-/// the game. On want of memory nothing has changed. There are 1 to 200 walls, with red fives exactly where the rules
+/// the game. On running out of memory nothing has changed. There are 1 to 200 walls, with red fives exactly where the rules
 /// of the table say so, and the hands take them in turn; the table has a deed, its deeds are played for these walls,
 /// the last one isn't the end of the game, and each of the answers is lawful; the deeds that the table then has are
 /// played too.
@@ -117,7 +117,7 @@ fn ron(
     Ok(Some(deed))
 }
 
-// The winners behind the first.
+// The winners after the first.
 fn others_of(seats: &Seats) -> SeatList
     ensures { result ≡ others_of seats.now }
 {

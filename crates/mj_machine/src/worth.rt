@@ -114,7 +114,7 @@ fn no_score() -> Score
     }
 }
 
-// The rows of a win with their han, and behind them the rows of dora with their numbers; beside a yakuman no dora
+// The rows of a win with their han, and after them the rows of dora with their numbers; beside a yakuman no dora
 // counts.
 fn rows_of_win(
     alloc: Global,

@@ -4,7 +4,7 @@ use Rattle.std.proofs.lemmas.List.{drop-replicate, length-replicate}
 use Rattle.std.proofs.Math.Seq.{take-append_seam}
 use Rattle.mj_lists.specs.Padded.{padded, IsPadded}
 
--- A list with zeros behind it lies in its places,
+-- A list with zeros after it lies in its places,
 padded_by : (xs : List ℕ) → length xs ≤ 64 → IsPadded 64 0 (padded 64 0 xs) (length xs)
 padded_by xs h = record {
   size = omega (arith, length-append xs (replicate {A = ℕ} (64 - length xs) 0), length-replicate {A = ℕ} (64 - length xs) 0);

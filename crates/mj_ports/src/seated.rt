@@ -126,7 +126,7 @@ pub trait Seated: Drop + Send {
         ensures number { result ≡ length (history self.now) }
         ensures legal { is_legal (setting self.now) (history self.now) };
 
-    /// Writes a line that is no deed's behind what stands in `into`.
+    /// Writes a line that is no deed's after what stands in `into`.
     fn control(
         &self,
         alloc: Global,

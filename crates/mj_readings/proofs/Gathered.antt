@@ -64,7 +64,7 @@ pair_on others spot free made enough unmade is =
     none_of None h = refl
     none_of (Some pair) h = absurd (false≢true (sym h))
 
--- The readings of a branch are those of the ways after it behind the sets that begin at it.
+-- The readings of a branch are those of the ways after it after the sets that begin at it.
 pub branch_on : (others : List ℕ) (spot : Spot) (old new : List Reading) (melds : List Meld) (sets made : List Set) (winning runs triplets : ℕ) (pair : Option ℕ) (can : Bool) →
     can ≡ ((eqb runs 0 || begins_run spot.kind) && leb (runs + triplets) spot.left) → can ≡ true → made ≡ sets ++ sets_at spot.kind runs triplets →
     new ≡ old ++ readings_past melds winning made (ways others (spot.kind + 1) spot.second runs (spot.left - (runs + triplets)) pair) →

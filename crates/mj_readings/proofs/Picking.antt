@@ -28,7 +28,7 @@ slice_get-right (y ∷ xs) ys rest = ap (slice_get (y ∷ xs ++ ys)) (suc_add (l
     suc_add : (n rest : ℕ) → suc n + rest ≡ suc (n + rest)
     suc_add n rest = omega arith
 
--- Behind one list the other goes on.
+-- After one list the other goes on.
 pub picks-left : {X : Type 0} (xs ys : List X) (place : ℕ) (x : X) → Picks xs place (Ok x) → Picks (xs ++ ys) place (Ok x)
 picks-left xs ys place x is = slice_get-left xs ys place x is
 

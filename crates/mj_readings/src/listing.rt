@@ -15,7 +15,7 @@ use mj_tiles::{Counts, Form, Kind, Kinds, Meld};
 use std::alloc::{AllocError, Global};
 
 /// All readings of a hand: of its concealed tiles, the winning tile among them, its melds, and the kind of the winning
-/// tile; each once. `Err` is want of memory.
+/// tile; each once. `Err` is running out of memory.
 pub fn readings(
     alloc: Global,
     counts: &Counts,
@@ -119,7 +119,7 @@ fn gather_orphans(counts: &Counts, found: &mut Vec<Reading>) -> Result<(), Alloc
     Ok(())
 }
 
-/// The standard reading at this place of their list; behind its end, how far behind.
+/// The standard reading at this place of their list; after its end, how far after.
 fn standard_at(counts: &Counts, melds: &[Meld], win: Kind, index: usize) -> Result<Reading, usize>
     ensures listed { Picks (standard_readings counts.now melds.now win) index result }
     ensures counted { IsCounts counts.now }
@@ -141,7 +141,7 @@ fn standard_at(counts: &Counts, melds: &[Meld], win: Kind, index: usize) -> Resu
     }
 }
 
-/// The reading that these sets, the melds behind them, and the pair are.
+/// The reading that these sets, the melds after them, and the pair are.
 pub(crate) fn as_reading(winning_way: &WinningWay, melds: &[Meld], winning: Kind) -> Reading
     requires { length winning_way.now.sets + length melds.now ≤ 4 }
     ensures { result ≡ standard_of melds.now winning winning_way.now }

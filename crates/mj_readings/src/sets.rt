@@ -63,7 +63,7 @@ impl Sets {
         }
     }
 
-    /// These sets and one more behind them.
+    /// These sets and one more after them.
     pub(crate) fn with(&self, set: &Set) -> Sets
         requires { length self.now < 4 }
         ensures { result ≡ self.now ++ set.now ∷ [] }

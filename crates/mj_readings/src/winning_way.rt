@@ -30,7 +30,7 @@ pub(crate) struct Spot {
     pub(crate) pair: Option<Kind>,
 }
 
-/// The place of the winning tile that stands at this place of their list; behind its end, how far behind.
+/// The place of the winning tile that stands at this place of their list; after its end, how far after.
 fn win_at(sets: &[Set], pair: Kind, winning: Kind, index: usize) -> Result<u8, usize>
     requires { length sets.now ≤ 4 }
     ensures { Picks (win_places sets.now pair winning) index result }
@@ -96,7 +96,7 @@ fn order_of(set: &Set) -> u8
 }
 
 /// Walks the kinds from a spot on, and gives the winning_way at this place of their list, the sets that are made already
-/// before it; behind the end of the list, how far behind.
+/// before it; after the end of the list, how far after.
 #[cycle(winning_way_at)]
 #[tactic(auto, unfolding(crate::specs::Inner::Ways::ways))]
 pub(crate) fn winning_way_at(
@@ -244,7 +244,7 @@ fn end_at(spot: &Spot, sets: &Sets, winning: Kind, index: usize) -> Result<Winni
     }
 }
 
-/// The sets, and behind them so many runs and then triplets that begin at a kind.
+/// The sets, and after them so many runs and then triplets that begin at a kind.
 pub(crate) fn sets_with(sets: &Sets, kind: Kind, runs: u8, triplets: u8) -> Sets
     requires { length sets.now + (runs + triplets) ≤ 4 }
     ensures { result ≡ sets.now ++ sets_at kind runs triplets }
@@ -253,7 +253,7 @@ pub(crate) fn sets_with(sets: &Sets, kind: Kind, runs: u8, triplets: u8) -> Sets
     sets_of_form(&with_runs, SetForm::Triplet, kind, triplets)
 }
 
-/// The sets, and behind them so many equal ones of concealed tiles.
+/// The sets, and after them so many equal ones of concealed tiles.
 fn sets_of_form(sets: &Sets, form: SetForm, low: Kind, number: u8) -> Sets
     requires { length sets.now + number ≤ 4 }
     ensures { result ≡ sets.now ++ replicate number

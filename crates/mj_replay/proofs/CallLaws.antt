@@ -27,7 +27,7 @@ call_fields kind seat target tile a b rest hs hg ht ha hb =
       tile_field_read (codes ",") rest b hb,
     )
 
--- what stands behind the type of a call
+-- what stands after the type of a call
 abbrev behind_type : ℕ → ℕ → ℕ → List ℕ → List ℕ
 behind_type seat target tile own = codes ",\"actor\":" ++ (decimal seat ++ (codes ",\"target\":" ++ (decimal target ++ (codes ",\"pai\":" ++ (quoted_tile tile ++ (codes ",\"consumed\":" ++ own))))))
 

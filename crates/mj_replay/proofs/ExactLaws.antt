@@ -293,7 +293,7 @@ deeds_compared rules walls before (x ∷ one) (y ∷ other) rest more w played p
     (subst (λ (ds : List Deed). Compared (Lines rules walls (before ++ x ∷ one)) rest (Lines rules walls ds) more) (append_assoc before (x ∷ []) other)
     (subst (λ (ds : List Deed). Compared (Lines rules walls ds) rest (Lines rules walls (before ++ x ∷ [] ++ other)) more) (append_assoc before (x ∷ []) one) others))
 
--- the walls and the deeds behind one header
+-- the walls and the deeds after one header
 record WallParts (rules : Rules) (walls : List (List ℕ)) : Type 0 where
   few : length walls ≤ 200
   whole : list_all (is_wall rules.red) walls ≡ true

@@ -1,4 +1,4 @@
--- What is written of a field is read again, whatever stands behind it; and what the steps of reading say.
+-- What is written of a field is read again, whatever stands after it; and what the steps of reading say.
 use Rattle.std.proofs.Common.{◌≡◌, ℕ, ◌^◌, ◌<◌, ◌≤◌, List, [], ◌∷◌, ◌++◌, length, Bool, true, false, refl, ap, sym, ◌∙◌, arith, take, drop, get_or, rules, zero, suc, append_assoc}
 use Rattle.std.specs.Prelude.{Some, None, not, nat_lt, ◌==◌, option_map, option_and_then}
 use Rattle.std.specs.Fmt.{decimal}
@@ -59,7 +59,7 @@ pub below_read : (limit number : ℕ) (rest : List ℕ) → number < limit → l
 unfolding below_at
 below_read limit number rest small bound h = ap (option_and_then (and_rest (below limit))) (number_read number rest (omega arith) h) ∙ within limit number rest small
 
--- what stands behind a beginning
+-- what stands after a beginning
 same : (c : ℕ) → (c == c) ≡ true
 same c = grind arith
 
@@ -100,7 +100,7 @@ unfolding truth_at
 truth_read true rest = refl
 truth_read false rest = refl
 
--- fields behind their keys
+-- fields after their keys
 pub byte_read : (key rest : List ℕ) (number : ℕ) → number < 256 → is_plain rest ≡ true → byte_field key (key ++ (decimal number ++ rest)) ≡ Some (number, rest)
 unfolding byte_field
 byte_read key rest number small h = ap (option_and_then (below_at (2 ^ 8))) (behind_key key (decimal number ++ rest)) ∙ below_read (2 ^ 8) number rest small (omega arith) h

@@ -17,7 +17,7 @@ one_more xs x (Some m) = ap (λ t. Some (t, m.1)) (sym (append_assoc xs (x ∷ [
 left : (n at : ℕ) → at < n → n - at ≡ suc (n - (at + 1))
 left n at h = omega arith
 
--- what stands behind a byte
+-- what stands after a byte
 text_of_some : Option (List ℕ) → List ℕ
 text_of_some None = []
 text_of_some (Some text) = text

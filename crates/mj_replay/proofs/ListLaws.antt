@@ -11,7 +11,7 @@ use Rattle.mj_replay.proofs.FieldLaws.{behind_key, tile_read}
 use Rattle.mj_replay.proofs.PointLaws.{and-parts}
 use Rattle.mj_replay.proofs.Shapes.{list_shape}
 
--- the pieces behind the first, each behind a comma
+-- the pieces after the first, each after a comma
 abbrev pub later : {A : Type 0} → (A → List ℕ) → List A → List ℕ
 later w xs = flat_map (λ other. 44 ∷ other) (map w xs)
 

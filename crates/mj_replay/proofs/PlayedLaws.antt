@@ -318,7 +318,7 @@ discarded_fits : (rules : Rules) (walls : List (List ℕ)) (wall : List ℕ) (ds
 discarded_fits rules walls wall ds seat bid k =
     behind_or Fits rules wall ds seat bid (λ reached. accepted_fits rules.red walls ds seat bid k) (λ why. drawn_fits rules.red walls ds why k) (calls_fit bid) (draw_fits rules.red walls wall ds (next_seat seat) k)
 
--- At most two win behind a winner.
+-- At most two win after a winner.
 abbrev FewRest : Deed → Type 0
 FewRest (Win who target tile unders own yaku fu han value deltas said rest) = length rest ≤ 2
 FewRest other = Unit {0}
@@ -408,6 +408,6 @@ newest_few rules walls before (d ∷ ds) whole played few all =
     (newest_few rules walls (before ++ d ∷ []) ds whole (played_more rules walls before d played all.0)
     (subst (IfAny FewRest) (sym (newest_more before d)) (few_of d (behind_value rules walls before d whole played few all.0))) all.1)
 
--- What is played behind played deeds is a value of the type of deeds.
+-- What is played after played deeds is a value of the type of deeds.
 pub played_value : (rules : Rules) (walls : List (List ℕ)) (ds : List Deed) (deed : Deed) → ((number : ℕ) → is_wall rules.red (wall_of walls number) ≡ true) → IsPlayed rules walls ds → IsPlayedBehind rules walls ds deed → is_deed deed ≡ true
 played_value rules walls ds deed whole played g = behind_value rules walls ds deed whole played (newest_few rules walls [] ds whole tt tt played) g

@@ -223,7 +223,7 @@ same_text line text rules b r = let e : text ≡ r.text = cc (b, r.key) in ap (�
 pub no_rules : (line text : List ℕ) → Some text ≡ behind (codes "game ") line → None ≡ rules_of (fields text) → IsNoHeader line
 no_rules line text b n rules h e = let s = same_text line text rules b (header_reads line rules h e) in cc (n, s)
 
--- The rules of the fields behind the word are just what a header line says.
+-- The rules of the fields after the word are just what a header line says.
 pub header_says : (line text : List ℕ) (answer : Option Rules) → Some text ≡ behind (codes "game ") line → answer ≡ rules_of (fields text) → MatchOption answer (IsNoHeader line) (λ rules. IsHeader line rules)
 header_says line text None b r = no_rules line text b r
 header_says line text (Some rules) b r = header_is line text rules b r

@@ -1,4 +1,4 @@
--- Pieces of a text that stand one behind the other, and lists in brackets with commas between.
+-- Pieces of a text that stand one after the other, and lists in brackets with commas between.
 use Rattle.std.proofs.Common.{◌≡◌, ℕ, List, [], ◌∷◌, ◌++◌, ap, ◌∙◌, append_assoc}
 use Rattle.mj_forms.specs.Lines.{bracketed}
 

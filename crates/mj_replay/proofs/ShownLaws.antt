@@ -23,7 +23,7 @@ use Rattle.mj_replay.proofs.FieldLaws.{not_true, behind_key, truth_field_read}
 use Rattle.mj_replay.proofs.PointLaws.{and-parts, points_field_read}
 use Rattle.mj_replay.proofs.ListLaws.{tiles_read, later}
 
--- question marks behind the first
+-- question marks after the first
 marks : (more before most : ℕ) (rest : List ℕ) → more < most → marks_from most before (flat_map (λ other. 44 ∷ other) (replicate more hidden_tile) ++ (93 ∷ rest)) ≡ Some (before + more, rest)
 unfolding hidden_tile
 marks more before zero rest small = absurd (omega arith)

@@ -20,7 +20,7 @@ fault_of causes.Next = NextFault
 fault_of causes.Cut = CutFault
 
 -- An answer says that a text is the record of deeds that come to these numbers, or that it is none and which line is the first
--- that breaks its form, and how. Want of memory says nothing.
+-- that breaks its form, and how. Running out of memory says nothing.
 abbrev pub Tells : List ℕ → Checked → Type 0
 Tells text (Good said) = IsRecord text (summary_said said)
 Tells text (Bad number cause) = IsNoRecord text number (fault_of cause)

@@ -9,7 +9,7 @@ use crate::reaches::reach_accepted_in;
 use crate::starts::start_game_in;
 use mj_deeds::Deed;
 
-/// The deed of a kind that has no list of tiles, read from the fields behind it.
+/// The deed of a kind that has no list of tiles, read from the fields after it.
 #[tactic(auto, unfolding(crate::specs::Inner::Deeds::small_by))]
 pub(crate) fn small_by(kind: &[u8], fields: &[u8]) -> Option<Deed>
     ensures { result ≡ small_by kind.now fields.now }

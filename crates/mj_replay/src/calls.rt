@@ -7,7 +7,7 @@ use crate::fields::{byte_field, tile_field};
 use mj_deeds::{Bid, Deed};
 use mj_tiles::Tile;
 
-/// The call of a discard of a type, read from the fields behind it.
+/// The call of a discard of a type, read from the fields after it.
 #[tactic(auto, unfolding(crate::specs::Inner::Deeds::call_in))]
 pub(crate) fn call_in(kind: &[u8], fields: &[u8]) -> Option<Bid>
     ensures { result ≡ call_in kind.now fields.now }
@@ -26,7 +26,7 @@ pub(crate) fn call_in(kind: &[u8], fields: &[u8]) -> Option<Bid>
     call_by(kind, seat, target, tile, a, b, rest)
 }
 
-// The call of a type with its first two own tiles, and what stands behind these.
+// The call of a type with its first two own tiles, and what stands after these.
 fn call_by(
     kind: &[u8],
     seat: u8,
@@ -72,7 +72,7 @@ fn call_by(
     None
 }
 
-/// The kan of concealed tiles, read from the fields behind its type.
+/// The kan of concealed tiles, read from the fields after its type.
 #[tactic(auto, unfolding(crate::specs::Inner::Deeds::closed_kan_in))]
 pub(crate) fn closed_kan_in(fields: &[u8]) -> Option<Deed>
     ensures { result ≡ closed_kan_in fields.now }
@@ -93,7 +93,7 @@ pub(crate) fn closed_kan_in(fields: &[u8]) -> Option<Deed>
     Some(Deed::ClosedKan { seat, a, b, c, d })
 }
 
-/// The added kan, read from the fields behind its type.
+/// The added kan, read from the fields after its type.
 #[tactic(auto, unfolding(crate::specs::Inner::Deeds::added_kan_in))]
 pub(crate) fn added_kan_in(fields: &[u8]) -> Option<Deed>
     ensures { result ≡ added_kan_in fields.now }

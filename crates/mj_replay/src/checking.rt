@@ -17,7 +17,7 @@ use mj_table::Table;
 use mj_wall::{Rules, Wall};
 use std::alloc::{AllocError, Global};
 
-/// What a record comes to: how many deeds it has, the points of the four seats behind them, and the deposits on the table.
+/// What a record comes to: how many deeds it has, the points of the four seats after them, and the deposits on the table.
 #[derive(Clone, Copy, Debug, PartialEq, Eq)]
 pub struct Summary {
     pub deeds: u32,
@@ -52,8 +52,8 @@ pub enum Checked {
 }
 
 /// Whether a text is the record of a game: a header, 1 to 200 walls, and the record's line of each deed from the start of the
-/// game on, each of which some four lawful answers give behind those before it. The record may end behind its walls or
-/// behind any deed.
+/// game on, each of which some four lawful answers give after those before it. The record may end after its walls or
+/// after any deed.
 pub fn check(alloc: Global, text: &[u8]) -> Checked
     ensures { Tells text.now result }
 {
@@ -86,7 +86,7 @@ fn ending(rest: &[u8], line: u32, cause: Cause) -> Checked
     Checked::Bad(line, Cause::Cut)
 }
 
-// What a text is behind its header.
+// What a text is after its header.
 fn behind_header(alloc: Global, rules: Rules, text: &[u8]) -> Result<Checked, AllocError>
     requires { are_rules rules ≡ true }
     ensures { IfOk result (λ answer. Tells (header_line rules ++ text.now) answer) }
@@ -109,7 +109,7 @@ fn behind_header(alloc: Global, rules: Rules, text: &[u8]) -> Result<Checked, Al
     behind_walls(alloc, rules, walls.as_slice(), rest)
 }
 
-// Whether a line behind these walls must be a wall: the first one must, and each that begins with `wall`.
+// Whether a line after these walls must be a wall: the first one must, and each that begins with `wall`.
 #[tactic(auto, using(crate::proofs::CheckLaws::wall_needs))]
 fn must_be_wall(walls: &[Wall], line: &[u8]) -> bool
     ensures { result ≡ needs_wall walls.now [] (line.now ++ 10 ∷ []) }
@@ -123,7 +123,7 @@ fn must_be_wall(walls: &[Wall], line: &[u8]) -> bool
     }
 }
 
-// The wall that a line says behind so many others: 200 at most.
+// The wall that a line says after so many others: 200 at most.
 fn next_wall(
     alloc: Global,
     rules: Rules,
@@ -139,7 +139,7 @@ fn next_wall(
     wall_of(alloc, line, rules.red)
 }
 
-// What a text is behind its walls.
+// What a text is after its walls.
 fn behind_walls(
     alloc: Global,
     rules: Rules,

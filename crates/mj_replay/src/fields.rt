@@ -1,4 +1,4 @@
-//! Fields at the front of a text: each gives its value and what stands behind it. What a field is followed by is not looked at.
+//! Fields at the front of a text: each gives its value and what stands after it. What a field is followed by is not looked at.
 
 ghost use Rattle.std.specs.Prelude.{◌≡◌, ◌<◌, ◌≤◌, ◌^◌, length, take, drop, option_map, option_and_then, pos};
 ghost use Rattle.mj_replay.specs.Inner.Fields.{digits_front, behind_digits, below, number_at, signed_at, negative_of, and_rest, points_at, quoted_at, tile_at, truth_at, byte_field, word_field, tile_field, truth_field, points_field, signed_field};
@@ -6,7 +6,7 @@ ghost use Rattle.mj_replay.specs.Inner.Fields.{digits_front, behind_digits, belo
 use mj_bytes::{read_number, split_at_first, strip};
 use mj_tiles::Tile;
 
-/// A number below 2^8 behind a key.
+/// A number below 2^8 after a key.
 #[tactic(auto, unfolding(crate::specs::Inner::Fields::byte_field, crate::specs::Inner::Fields::below_at))]
 pub(crate) fn byte_field<'a>(text: &'a [u8], key: &[u8]) -> Option<(u8, &'a [u8])>
     ensures { option_map (λ x. (x.0, x.1.now)) result ≡ byte_field key.now text.now }
@@ -15,7 +15,7 @@ pub(crate) fn byte_field<'a>(text: &'a [u8], key: &[u8]) -> Option<(u8, &'a [u8]
     Some((byte_of(number)?, rest))
 }
 
-/// A number below 2^32 behind a key.
+/// A number below 2^32 after a key.
 #[tactic(auto, unfolding(crate::specs::Inner::Fields::word_field, crate::specs::Inner::Fields::below_at))]
 pub(crate) fn word_field<'a>(text: &'a [u8], key: &[u8]) -> Option<(u32, &'a [u8])>
     ensures { option_map (λ x. (x.0, x.1.now)) result ≡ word_field key.now text.now }
@@ -24,7 +24,7 @@ pub(crate) fn word_field<'a>(text: &'a [u8], key: &[u8]) -> Option<(u32, &'a [u8
     Some((word_of(number)?, rest))
 }
 
-/// A tile behind a key.
+/// A tile after a key.
 #[tactic(auto, unfolding(crate::specs::Inner::Fields::tile_field))]
 pub(crate) fn tile_field<'a>(text: &'a [u8], key: &[u8]) -> Option<(Tile, &'a [u8])>
     ensures { option_map (λ x. (x.0, x.1.now)) result ≡ tile_field key.now text.now }
@@ -32,7 +32,7 @@ pub(crate) fn tile_field<'a>(text: &'a [u8], key: &[u8]) -> Option<(Tile, &'a [u
     tile_at(strip(text, key)?)
 }
 
-/// `true` or `false` behind a key.
+/// `true` or `false` after a key.
 #[tactic(auto, unfolding(crate::specs::Inner::Fields::truth_field))]
 pub(crate) fn truth_field<'a>(text: &'a [u8], key: &[u8]) -> Option<(bool, &'a [u8])>
     ensures { option_map (λ x. (x.0, x.1.now)) result ≡ truth_field key.now text.now }
@@ -40,7 +40,7 @@ pub(crate) fn truth_field<'a>(text: &'a [u8], key: &[u8]) -> Option<(bool, &'a [
     truth_at(strip(text, key)?)
 }
 
-/// Points of the four seats, in brackets, behind a key.
+/// Points of the four seats, in brackets, after a key.
 #[tactic(auto, unfolding(crate::specs::Inner::Fields::points_field))]
 pub(crate) fn points_field<'a>(text: &'a [u8], key: &[u8]) -> Option<([i32; 4], &'a [u8])>
     ensures { option_map (λ x. (x.0, x.1.now)) result ≡ points_field key.now text.now }
@@ -92,7 +92,7 @@ fn points_at(text: &[u8]) -> Option<([i32; 4], &[u8])>
     Some(([first, second, third, fourth], rest))
 }
 
-// A signed number behind a key.
+// A signed number after a key.
 #[tactic(auto, unfolding(crate::specs::Inner::Fields::signed_field))]
 fn signed_field<'a>(text: &'a [u8], key: &[u8]) -> Option<(i32, &'a [u8])>
     ensures { option_map (λ x. (x.0, x.1.now)) result ≡ signed_field key.now text.now }

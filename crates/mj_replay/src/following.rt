@@ -90,7 +90,7 @@ fn follows(
     Ok(false)
 }
 
-// Whether the game goes on behind the newest deed.
+// Whether the game goes on after the newest deed.
 fn can_go_on(table: &Table) -> bool
     ensures { result ≡ goes_on (newest table.now.deeds) }
 {
@@ -172,7 +172,7 @@ fn is_before(a: Pai, b: Pai) -> bool
     place_of(a) <= place_of(b)
 }
 
-// The place of a tile in tile order, a hidden one behind all.
+// The place of a tile in tile order, a hidden one after all.
 fn place_of(pai: Pai) -> u8
     ensures { result ≡ place_of pai }
 {

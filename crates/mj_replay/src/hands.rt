@@ -10,7 +10,7 @@ use mj_deeds::{Deed, Hands};
 use mj_tiles::Kind;
 use std::alloc::{AllocError, Global};
 
-/// The start of a hand, read from the fields behind its type.
+/// The start of a hand, read from the fields after its type.
 #[tactic(auto, unfolding(crate::specs::Inner::Deeds::start_hand_in))]
 pub(crate) fn start_hand_in(alloc: Global, fields: &[u8]) -> Result<Option<Deed>, AllocError>
     ensures { IfOk result (λ deed. deed ≡ start_hand_in fields.now) }
@@ -30,7 +30,7 @@ pub(crate) fn start_hand_in(alloc: Global, fields: &[u8]) -> Result<Option<Deed>
     start_by(alloc, round, number, honba, deposits, rest)
 }
 
-// The start of a hand with its round, number, honba and deposits, and what stands behind these.
+// The start of a hand with its round, number, honba and deposits, and what stands after these.
 #[tactic(auto, unfolding(crate::specs::Inner::Deeds::start_by))]
 fn start_by(
     alloc: Global,

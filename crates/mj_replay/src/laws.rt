@@ -3,7 +3,7 @@
 ghost use Rattle.mj_replay.specs.Checks.{AnswersAreExact};
 ghost use Rattle.mj_replay.specs.Inner.Laws.{FieldsAreRead, ActsAreRead, CallsAreRead, GameStartsAreRead, ReachesAreRead, HandStartsAreRead, WinsAreRead, DrawnHandsAreRead, ReadDeedsTellTheSame};
 
-/// What is written of a field is read again, whatever stands behind it. The call does nothing.
+/// What is written of a field is read again, whatever stands after it. The call does nothing.
 pub fn fields_are_read()
     ensures { FieldsAreRead }
 {}

@@ -12,7 +12,7 @@ use mj_deeds::SeatList;
 use mj_tiles::Tile;
 use std::alloc::AllocError;
 
-/// The tiles of a list behind a key, and what stands behind the list.
+/// The tiles of a list after a key, and what stands after the list.
 #[tactic(auto, unfolding(crate::specs::Inner::Lists::tiles_field))]
 pub(crate) fn tiles_field<'a>(
     text: &'a [u8],
@@ -29,7 +29,7 @@ pub(crate) fn tiles_field<'a>(
     tiles_at(list, tiles)
 }
 
-/// The tiles of a list, and what stands behind the list.
+/// The tiles of a list, and what stands after the list.
 #[tactic(auto, unfolding(crate::specs::Inner::Lists::tiles_at))]
 pub(crate) fn tiles_at<'a>(
     text: &'a [u8],
@@ -58,7 +58,7 @@ fn tiles_in<'a>(text: &'a [u8], tiles: &mut Vec<Tile>) -> Result<Option<&'a [u8]
     }
 }
 
-// Tiles with commas between, up to the bracket behind them.
+// Tiles with commas between, up to the bracket after them.
 fn tiles_from<'a>(text: &'a [u8], tiles: &mut Vec<Tile>) -> Result<Option<&'a [u8]>, AllocError>
     requires { tiles.old.items ≡ [] }
     ensures { IfOk result (λ rest. option_map (λ r. (tiles.new.items, r.now)) rest
@@ -82,7 +82,7 @@ fn tiles_from<'a>(text: &'a [u8], tiles: &mut Vec<Tile>) -> Result<Option<&'a [u
     Ok(None)
 }
 
-/// The rows of the table of yaku, each with its number, of a list behind a key, and what stands behind the list.
+/// The rows of the table of yaku, each with its number, of a list after a key, and what stands after the list.
 #[tactic(auto, unfolding(crate::specs::Inner::Lists::rows_field))]
 pub(crate) fn rows_field<'a>(
     text: &'a [u8],
@@ -117,7 +117,7 @@ fn rows_in<'a>(text: &'a [u8], rows: &mut Vec<(u8, u8)>) -> Result<Option<&'a [u
     }
 }
 
-// Rows with commas between, up to the bracket behind them.
+// Rows with commas between, up to the bracket after them.
 fn rows_from<'a>(text: &'a [u8], rows: &mut Vec<(u8, u8)>) -> Result<Option<&'a [u8]>, AllocError>
     requires { rows.old.items ≡ [] }
     ensures value { IfOk result (λ rest. option_map (λ r. (rows.new.items, r.now)) rest
@@ -154,7 +154,7 @@ fn row_at(text: &[u8]) -> Option<((u8, u8), &[u8])>
     Some(((row, number), strip(rest, b"]")?))
 }
 
-/// A list of question marks: how many, at most 255, and what stands behind the list.
+/// A list of question marks: how many, at most 255, and what stands after the list.
 #[tactic(auto, unfolding(crate::specs::Inner::Lists::hidden_at))]
 pub(crate) fn hidden_at(text: &[u8]) -> Option<(u8, &[u8])>
     ensures { option_map (λ x. (x.0, x.1.now)) result ≡ hidden_at text.now }
@@ -162,7 +162,7 @@ pub(crate) fn hidden_at(text: &[u8]) -> Option<(u8, &[u8])>
     marks_at(strip(text, b"[\"?\"")?)
 }
 
-// Question marks behind the first, up to the bracket behind them.
+// Question marks after the first, up to the bracket after them.
 fn marks_at(text: &[u8]) -> Option<(u8, &[u8])>
     ensures { option_map (λ x. (x.0, x.1.now)) result ≡ marks_at text.now }
 {
@@ -179,7 +179,7 @@ fn marks_at(text: &[u8]) -> Option<(u8, &[u8])>
     None
 }
 
-/// The list of at most two seats behind a key.
+/// The list of at most two seats after a key.
 #[tactic(auto, unfolding(crate::specs::Inner::Lists::seats_field))]
 pub(crate) fn seats_field(text: &[u8], key: &[u8]) -> Option<SeatList>
     ensures { result ≡ seats_field key.now text.now }

@@ -8,7 +8,7 @@ use crate::fields::{byte_field, points_field, quoted_at};
 use mj_bytes::strip;
 use mj_deeds::{Bid, Deed};
 
-/// The accepted reach, read from the fields behind its type.
+/// The accepted reach, read from the fields after its type.
 #[tactic(auto, unfolding(crate::specs::Inner::Deeds::reach_accepted_in))]
 pub(crate) fn reach_accepted_in(fields: &[u8]) -> Option<Deed>
     ensures { result ≡ reach_accepted_in fields.now }

@@ -26,7 +26,7 @@ pub(crate) fn deed_in(alloc: Global, line: &[u8]) -> Result<Option<Deed>, AllocE
     deed_by(alloc, kind, fields)
 }
 
-// The deed of a kind, read from the fields behind it.
+// The deed of a kind, read from the fields after it.
 #[tactic(auto, unfolding(crate::specs::Inner::Deeds::deed_by))]
 fn deed_by(alloc: Global, kind: &[u8], fields: &[u8]) -> Result<Option<Deed>, AllocError>
     ensures { IfOk result (λ deed. deed ≡ deed_by kind.now fields.now) }

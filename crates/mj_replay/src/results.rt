@@ -11,7 +11,7 @@ use mj_deeds::{Deed, Four, Hands, Reason, ShownHands, Tiles, YakuList};
 use mj_tiles::Tile;
 use std::alloc::{AllocError, Global};
 
-/// The win, read from the fields behind its type.
+/// The win, read from the fields after its type.
 #[tactic(auto, unfolding(crate::specs::Inner::Deeds::win_in))]
 pub(crate) fn win_in(alloc: Global, fields: &[u8]) -> Result<Option<Deed>, AllocError>
     ensures { IfOk result (λ deed. deed ≡ win_in fields.now) }
@@ -28,7 +28,7 @@ pub(crate) fn win_in(alloc: Global, fields: &[u8]) -> Result<Option<Deed>, Alloc
     win_with(alloc, seat, target, tile, rest)
 }
 
-// The win of a seat on a tile of the target, and what stands behind these.
+// The win of a seat on a tile of the target, and what stands after these.
 #[tactic(auto, unfolding(crate::specs::Inner::Deeds::win_with))]
 fn win_with(
     alloc: Global,
@@ -57,7 +57,7 @@ fn win_with(
     Ok(win_by(seat, target, tile, unders, hand, yaku, rest))
 }
 
-// The win of a seat with its tiles and yaku, and what stands behind these.
+// The win of a seat with its tiles and yaku, and what stands after these.
 #[tactic(auto, unfolding(crate::specs::Inner::Deeds::win_by))]
 fn win_by(
     seat: u8,
@@ -92,7 +92,7 @@ fn win_by(
     })
 }
 
-/// The drawn hand, read from the fields behind its type.
+/// The drawn hand, read from the fields after its type.
 #[tactic(auto, unfolding(crate::specs::Inner::Deeds::drawn_hand_in))]
 pub(crate) fn drawn_hand_in(alloc: Global, fields: &[u8]) -> Result<Option<Deed>, AllocError>
     ensures { IfOk result (λ deed. deed ≡ drawn_hand_in fields.now) }
@@ -103,7 +103,7 @@ pub(crate) fn drawn_hand_in(alloc: Global, fields: &[u8]) -> Result<Option<Deed>
     drawn_with(alloc, reason, rest)
 }
 
-// The drawn hand with its reason, and what stands behind this.
+// The drawn hand with its reason, and what stands after this.
 #[tactic(auto, unfolding(crate::specs::Inner::Deeds::drawn_with))]
 fn drawn_with(alloc: Global, reason: Reason, text: &[u8]) -> Result<Option<Deed>, AllocError>
     ensures { IfOk result (λ deed. deed ≡ drawn_with reason text.now) }
@@ -140,7 +140,7 @@ fn drawn_with(alloc: Global, reason: Reason, text: &[u8]) -> Result<Option<Deed>
     Ok(drawn_by(reason, ShownHands::of(tiles, hidden), rest))
 }
 
-// The drawn hand with its reason and what is shown, and what stands behind these.
+// The drawn hand with its reason and what is shown, and what stands after these.
 #[tactic(auto, unfolding(crate::specs::Inner::Deeds::drawn_by))]
 fn drawn_by(reason: Reason, hands: ShownHands, text: &[u8]) -> Option<Deed>
     ensures { result ≡ drawn_by reason hands text.now }
@@ -160,7 +160,7 @@ fn drawn_by(reason: Reason, hands: ShownHands, text: &[u8]) -> Option<Deed>
     })
 }
 
-// A hand at a draw behind a key: its tiles, or how many stay hidden.
+// A hand at a draw after a key: its tiles, or how many stay hidden.
 #[tactic(auto, unfolding(crate::specs::Inner::Deeds::shown_field))]
 fn shown_field<'a>(
     text: &'a [u8],

@@ -13,7 +13,7 @@ use mj_ports::Name;
 use mj_tiles::Kind;
 use std::str;
 
-/// The start of a game, read from the fields behind its type.
+/// The start of a game, read from the fields after its type.
 #[tactic(auto, unfolding(crate::specs::Inner::Deeds::start_game_in))]
 pub(crate) fn start_game_in(fields: &[u8]) -> Option<Deed>
     ensures { result ≡ start_game_in fields.now }
@@ -40,7 +40,7 @@ pub(crate) fn start_game_in(fields: &[u8]) -> Option<Deed>
     })
 }
 
-// The name of a seat behind a key.
+// The name of a seat after a key.
 #[tactic(auto, unfolding(crate::specs::Inner::Deeds::name_field))]
 fn name_field<'a>(text: &'a [u8], key: &[u8]) -> Option<(Name, &'a [u8])>
     ensures { option_map (λ x. (x.0, x.1.now)) result ≡ name_field key.now text.now }
@@ -89,7 +89,7 @@ fn is_text(text: &[u8]) -> bool
     }
 }
 
-/// A kind of tile behind a key.
+/// A kind of tile after a key.
 #[tactic(auto, unfolding(crate::specs::Inner::Deeds::kind_field))]
 pub(crate) fn kind_field<'a>(text: &'a [u8], key: &[u8]) -> Option<(Kind, &'a [u8])>
     ensures { option_map (λ x. (x.0, x.1.now)) result ≡ kind_field key.now text.now }

@@ -11,7 +11,7 @@ ghost use Rattle.mj_history.specs.Told.{told_of, only_of, bid_told, call_told, w
 use mj_deeds::{Answer, Bid, Deed, Four, Pai, Reason, SeatList};
 use mj_tiles::Tile;
 
-/// The four answers that a deed behind the newest one tells of, whether or not they give it.
+/// The four answers that a deed after the newest one tells of, whether or not they give it.
 pub(crate) fn told(last: Option<&Deed>, deed: &Deed) -> Four<Answer>
     ensures { result ≡ for_each_seat (told_of (option_copied last.entry) deed.now) }
 {
@@ -23,7 +23,7 @@ pub(crate) fn told(last: Option<&Deed>, deed: &Deed) -> Four<Answer>
     }
 }
 
-// What a deed behind the newest one tells of the answer of a seat.
+// What a deed after the newest one tells of the answer of a seat.
 fn told_of(last: Option<&Deed>, deed: &Deed, seat: u8) -> Answer
     ensures { result ≡ told_of (option_copied last.entry) deed.now seat }
 {
@@ -233,7 +233,7 @@ fn bid_told(bid: &Bid, seat: u8) -> Answer
     }
 }
 
-// A call behind an accepted reach was bid before that.
+// A call after an accepted reach was bid before that.
 fn call_told(last: Option<&Deed>, bid: &Bid, seat: u8) -> Answer
     ensures { result ≡ call_told (option_copied last.entry) bid.now seat }
 {
@@ -243,7 +243,7 @@ fn call_told(last: Option<&Deed>, bid: &Bid, seat: u8) -> Answer
     }
 }
 
-// A win behind another was answered before that.
+// A win after another was answered before that.
 fn win_told(last: Option<&Deed>, who: u8, rest: SeatList, target: u8, seat: u8) -> Answer
     ensures { result ≡ win_told (option_copied last.entry) (who ∷ rest) target seat }
 {

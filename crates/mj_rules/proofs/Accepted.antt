@@ -1,4 +1,4 @@
--- A reach is accepted right behind its discard.
+-- A reach is accepted right after its discard.
 use Rattle.std.proofs.Common.{◌≡◌, ℕ, ◌-◌, Bool, true, false, List, [], ◌∷◌, ◌++◌, length, take, sym, ap, ◌∙◌, subst}
 use Rattle.std.specs.Prelude.{Some, ℤ, option_and_then}
 use Rattle.std.specs.Option.{option_map_or}
@@ -22,7 +22,7 @@ use Rattle.mj_rules.proofs.Kept.{IsNext}
 use Rattle.mj_rules.proofs.Promises.{Discarded, newest_in, before_newest_is, same_seat}
 use Rattle.mj_rules.proofs.Playing.{played_sound, played_less, behind_adds}
 
--- A discard that comes in its turn right behind a reach is one of the seat that reached.
+-- A discard that comes in its turn right after a reach is one of the seat that reached.
 own_reach : (red : Bool) (walls : List (List ℕ)) (ds : List Deed) (who tile : ℕ) (drawn : Bool) → all_fit red [] ds ≡ true → IsNext red walls ds (Discard who tile drawn) →
     option_map_or is_reach (before_newest (hand (ds ++ Discard who tile drawn ∷ []))) false ≡ true → before_newest (hand (ds ++ Discard who tile drawn ∷ [])) ≡ Some (Reach who)
 unfolding ground_of

@@ -431,7 +431,7 @@ played_balanced rules walls ds h played = all_balanced rules walls [] ds h tt no
 pub total_stays : TotalStays
 total_stays rules walls ds h played = (played_balanced rules walls ds h played).stays
 
--- Behind a win of played deeds each seat that wins after it is another than the one that gave the tile.
+-- After a win of played deeds each seat that wins after it is another than the one that gave the tile.
 pub winners_apart : (rules : Rules) (walls : List (List ℕ)) (ds : List Deed) (who target tile : ℕ) (unders own : List ℕ) (yaku : List (ℕ × ℕ)) (fu han value : ℕ) (deltas said : List ℤ) (rest : List ℕ) →
     ((number : ℕ) → is_wall rules.red (wall_of walls number) ≡ true) → IsPlayed rules walls ds → newest ds ≡ Some (Win who target tile unders own yaku fu han value deltas said rest) →
     list_all (λ seat. not (seat == target)) rest ≡ true

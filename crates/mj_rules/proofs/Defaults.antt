@@ -228,7 +228,7 @@ ready_is_lawful rules ds seat who owns turn free = elim (cases_eq who seat) [
   | inr ne ↦ ap (λ b. not b || nat_lt 0 (length (lawful_faces rules seat (view_of ds seat)))) (ne_eqb who seat ne)
 ]
 
--- What a seat holds as drawn behind a draw.
+-- What a seat holds as drawn after a draw.
 drawn_is : (ds : List Deed) (seat : ℕ) (n : Deed) → newest ds ≡ Some n → drawn_tile ds seat ≡ holds_drawn seat (before_newest ds) n
 drawn_is ds seat n e = ap (option_and_then (holds_drawn seat (before_newest ds))) e
 

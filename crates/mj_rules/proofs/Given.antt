@@ -17,7 +17,7 @@ use Rattle.mj_deeds.specs.Hand.{hand, before_in}
 use Rattle.mj_deeds.specs.Fits.{Ground, ground_of, fits, all_fit, is_in_place, is_in_hand, is_after_dora, has_held_by, are_held, is_face}
 use Rattle.mj_rules.proofs.Kept.{held_step}
 
--- What is true of a seat behind some deeds.
+-- What is true of a seat after some deeds.
 pub record Owns (red : Bool) (ds : List Deed) (seat : ℕ) : Type 0 where
   pub within : (face : ℕ) → number_in (tiles_lost (hand ds) seat) face ≤ number_in (tiles_gained (hand ds) seat) face
   pub real : list_all (is_face red) (tiles_gained (hand ds) seat) ≡ true

@@ -1,4 +1,4 @@
--- A deed that comes in its turn, out of tiles that its seat holds, fits behind the deeds before it, and keeps what is true of them.
+-- A deed that comes in its turn, out of tiles that its seat holds, fits after the deeds before it, and keeps what is true of them.
 use Rattle.std.proofs.Common.{◌≡◌, ℕ, ◌+◌, ◌-◌, ◌*◌, ◌<◌, ◌≤◌, ◌&&◌, Bool, true, false, cond, eqb, ltb, List, [], ◌∷◌, ◌++◌, length, refl, ap, sym, ◌∙◌, subst, arith}
 use Rattle.std.specs.Prelude.{All, count_by, sum_by}
 use Rattle.std.proofs.lemmas.Bool.{and_parts, ltb-true}
@@ -125,7 +125,7 @@ seats_more ds d old new =
 abbrev pub wall_for : List (List ℕ) → List Deed → Deed → List ℕ
 wall_for walls ds d = wall_of walls (cond (is_hand_start d) (length (starts ds)) (hand_number ds))
 
--- The stage that a deed is held against: a start of a hand leaves the hand before it behind.
+-- The stage that a deed is held against: a start of a hand leaves the hand before it after.
 abbrev pub stage_for : Stage → Deed → Stage
 stage_for stage d = cond (is_hand_start d) NoHand stage
 

@@ -90,7 +90,7 @@ rest_by (Some (DrawnHand reason hands ready deltas said)) = 2
 rest_by (Some EndHand) = 1
 rest_by (Some (EndGame said lying)) = 0
 
--- A deed follows another: it starts a hand, or is one of those that may still follow with those behind it.
+-- A deed follows another: it starts a hand, or is one of those that may still follow with those after it.
 abbrev Leads : Deed → Deed → Type 0
 Leads n (StartGame names) = ⊥
 Leads n (StartHand round number honba lying dealer indicator hands) = Unit {0}
@@ -300,7 +300,7 @@ start_brief ds (StartHand round number honba lying dealer indicator hands) h few
     by_starts (suc s) s' n n' k k' e f g h i j = omega (arith, e, f, g, i (omega arith), j)
 start_brief ds other h few b = cc
 
--- Any other deed comes behind those of its hand.
+-- Any other deed comes after those of its hand.
 more_brief : (ds : List Deed) (n d : Deed) → newest ds ≡ Some n → is_hand_start d ≡ false → (hand ds ≡ [] → ⊥) → 0 < length (starts ds) → 1 + rest_by (Some d) ≤ rest_by (Some n) + weight d → Brief ds → BriefWith ds d
 more_brief ds n d e within begun some leads b = record {
   short = sum _ _ _ _ (length (hand ds)) (rest_by (newest ds)) (rest_by (Some n)) (counted (hand ds)) (weight d)

@@ -283,7 +283,7 @@ ron_pays : (deeds : List Deed) (seat who honba sum : ℕ) → (case_of (standing
 unfolding win_changes
 ron_pays deeds seat who honba sum no_draw h d base = (λ i. win_changes (no_draw i) seat who (standing deeds).dealer base (h i) (d i))
 
--- What is known of a window in which a tile is offered, behind played deeds.
+-- What is known of a window in which a tile is offered, after played deeds.
 pub newest_there : (rules : Rules) (walls : List (List ℕ)) (deeds : List Deed) → ((number : ℕ) → is_wall rules.red (wall_of walls number) ≡ true) → IsPlayed rules walls deeds → is_in_hand (newest deeds) ≡ true → newest (hand deeds) ≡ newest deeds
 newest_there rules walls deeds whole played begun = newest_in deeds begun (hand_begun rules.red deeds (played_sound rules walls deeds whole played).fit begun)
 
@@ -311,7 +311,7 @@ first_ron_is_paid rules walls deeds given who tile first others whole played law
       });
     }
 
--- those who win behind it
+-- those who win after it
 
 -- Wins are of the hand of the window, and leave the game where it stands.
 record Behind (window wins : List Deed) : Type 0 where

@@ -1,4 +1,4 @@
--- Played deeds fit, each behind those before it.
+-- Played deeds fit, each after those before it.
 use Rattle.std.proofs.Common.{◌≡◌, ℕ, zero, suc, ◌+◌, ◌-◌, ◌%◌, ◌<◌, ◌≤◌, Bool, true, false, cond, List, [], ◌∷◌, ◌++◌, length, refl, ap, sym, ◌∙◌, subst, arith, append-nil, append_assoc}
 use Rattle.std.specs.Prelude.{Option, Some, None, IsTrue, is_none}
 use Rattle.std.specs.List.{list_all, slice_index_or}
@@ -55,7 +55,7 @@ pub record Sound (red : Bool) (walls : List (List ℕ)) (ds : List Deed) : Type 
   pub unlocked : Unlocked ds
   pub rich : Rich ds
 
--- What a deed that is played behind them adds to it.
+-- What a deed that is played after them adds to it.
 pub record Adds (red : Bool) (walls : List (List ℕ)) (ds : List Deed) (d : Deed) : Type 0 where
   pub next : IsNext red walls ds d
   pub promise : Promise red walls ds d
@@ -113,7 +113,7 @@ before_stands : (red : Bool) (walls : List (List ℕ)) (ds : List Deed) (d : Dee
 before_stands red walls ds (StartHand round number honba deposits dealer indicator hands) s e = no_hand_stands (wall_of walls (length (starts ds)))
 before_stands red walls ds other s e = subst (StandsAt (wall_now walls ds) (hand ds)) e s.standing
 
--- A deed behind nothing of a hand that doesn't start one starts the game.
+-- A deed after nothing of a hand that doesn't start one starts the game.
 no_hand_yet : (wall : List ℕ) (stage : Stage) (d : Deed) → is_hand_start d ≡ false → is_begun (stage_before stage d) ≡ false → StandsAt wall [] (stage_before stage d) → StandsAt wall [] (stage_after stage d)
 no_hand_yet wall stage (StartGame names) h k s = no_hand_stands wall
 no_hand_yet wall stage (StartHand round number honba deposits dealer indicator hands) h k s = cc
@@ -309,7 +309,7 @@ next_of_played_fits rules walls ds given d h played lawful e =
     let s = played_sound rules walls ds h played in
     (deed_fits rules.red walls ds d h s (given_adds rules walls ds given d s lawful e).next, played_more rules walls ds d played (given_behind rules walls ds given d lawful e))
 
--- So does any deed that is played behind them.
+-- So does any deed that is played after them.
 pub behind_fits : (rules : Rules) (walls : List (List ℕ)) (ds : List Deed) (d : Deed) → ((number : ℕ) → is_wall rules.red (wall_of walls number) ≡ true) → IsPlayed rules walls ds → IsPlayedBehind rules walls ds d → fits rules.red ds d ≡ true
 behind_fits rules walls ds d h played behind =
     let s = played_sound rules walls ds h played in

@@ -1,5 +1,5 @@
 -- What the deed that follows owes beside its turn, for what comes after it: who reaches is not in riichi yet, a reach is
--- accepted behind its discard, and a call that is kept with it takes that discard.
+-- accepted after its discard, and a call that is kept with it takes that discard.
 use Rattle.std.proofs.Common.{◌≡◌, ℕ, ◌+◌, ◌-◌, ◌&&◌, ◌||◌, Bool, true, false, cond, List, [], ◌∷◌, ◌++◌, length, take, refl, ap, sym, ◌∙◌, subst, arith, append-nil}
 use Rattle.std.specs.Prelude.{ℤ, Option, Some, None, IsTrue, nat_lt, option_and_then}
 use Rattle.std.specs.Option.{option_map_or}
@@ -47,7 +47,7 @@ use Rattle.mj_rules.proofs.Kept.{first_seat, IsNext}
 use Rattle.mj_rules.proofs.Answered.{IfAny, Clean, clean_at, call_next}
 use Rattle.mj_rules.proofs.Turns.{Known as KnownBefore, kept_call, won_or_acts, discards_only, called_opens, reached_opens, drew_opens, rons_seated, won_or, draw_or, called_or, unless, behind_or, called_or_on, start_or_end}
 
--- The newest deed is a discard of the seat, right behind a reach.
+-- The newest deed is a discard of the seat, right after a reach.
 abbrev pub Discarded : List Deed → ℕ → Type 0
 Discarded ds who = (tile : ℕ) × (drawn : Bool) × (newest ds ≡ Some (Discard who tile drawn)) × (option_map_or is_reach (before_newest (hand ds)) false ≡ true)
 
@@ -199,7 +199,7 @@ newest_in ds begun some = by_newest (newest ds) refl begun
     by_newest None e h = cc
     by_newest (Some n) e h = by_shape n (is_hand_start n) (hand before) (ap hand (newest_behind ds n e) ∙ hand_more before n)
 
--- Behind one deed more of the hand that one stands before the newest.
+-- After one deed more of the hand that one stands before the newest.
 pub before_newest_is : (ds : List Deed) (d : Deed) → hand (ds ++ d ∷ []) ≡ hand ds ++ d ∷ [] → newest (hand ds) ≡ newest ds → before_newest (hand (ds ++ d ∷ [])) ≡ newest ds
 before_newest_is ds d e f = ap before_newest e ∙ ap newest (before_more (hand ds) d) ∙ f
 
@@ -228,7 +228,7 @@ unlocked_more red walls ds d fit next promise who e = reached (some_is d (Reach 
         subst (λ (x : Deed). is_in_riichi (hand (ds ++ x ∷ [])) who ≡ false) (sym k)
         (reach_unlocked red walls ds who fit (subst (IsNext red walls ds) k next) (subst (Promise red walls ds) k promise))
 
--- The discard behind a reach is one of the seat that reached.
+-- The discard after a reach is one of the seat that reached.
 pub same_seat : (ds : List Deed) (who : ℕ) → stage_of ds ≡ Acts who → option_map_or is_reach (newest ds) false ≡ true → newest ds ≡ Some (Reach who)
 same_seat ds who acts h = by_newest (newest ds) refl h
   where
@@ -291,7 +291,7 @@ live_still hs who said bid h = (λ i. nat_lt (made i) 4 && nat_lt 0 (70 - draws 
     draws : live_draws (hs ++ ReachAccepted who said bid ∷ []) ≡ live_draws hs
     draws = plus _ (live_draws hs) (sum_by_push (λ x. cond (is_live_draw x) 1 0) hs (ReachAccepted who said bid))
 
--- Behind the accepted reach of a discard that one may still be taken.
+-- After the accepted reach of a discard that one may still be taken.
 record Lies (ds : List Deed) (d : Deed) : Type 0 where
   within : hand (ds ++ d ∷ []) ≡ hand ds ++ d ∷ []
   taken : taken_from (hand (ds ++ d ∷ [])) (newest (ds ++ d ∷ [])) ≡ taken_from (hand ds) (newest ds)

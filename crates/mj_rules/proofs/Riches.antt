@@ -46,7 +46,7 @@ use Rattle.mj_rules.proofs.Turns.{Known, won_or_acts, won_few, rons_seated, draw
 abbrev pub under_way : ℕ → ℕ
 under_way riichi = 435000 + 2000 * (4 - riichi)
 
--- What the rest of a hand may still move, by its newest deed and how many seats are in riichi: behind a win the wins that follow,
+-- What the rest of a hand may still move, by its newest deed and how many seats are in riichi: after a win the wins that follow,
 -- and nothing where no hand is under way.
 abbrev pub left_by : Option Deed → ℕ → ℕ
 left_by None riichi = 0

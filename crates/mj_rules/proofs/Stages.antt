@@ -73,7 +73,7 @@ stage_of ds = fold stage_after NoGame ds
 pub stage_more : (ds : List Deed) (d : Deed) → stage_of (ds ++ d ∷ []) ≡ stage_after (stage_of ds) d
 stage_more ds d = fold-append stage_after NoGame ds (d ∷ [])
 
--- The newest deed stands behind those before it.
+-- The newest deed stands after those before it.
 pub newest_behind : (ds : List Deed) (d : Deed) → newest ds ≡ Some d → ds ≡ take (length ds - 1) ds ++ d ∷ []
 newest_behind ds d e =
     let i : ℕ = length ds - 1 in
@@ -156,7 +156,7 @@ length-more f ds d =
 
 -- kans, indicators and replacement tiles
 
--- What a deed shows and draws for kans is what is owed before it and what it makes, less what is owed behind it.
+-- What a deed shows and draws for kans is what is owed before it and what it makes, less what is owed after it.
 pays_for_kans : (s : Stage) (d : Deed) →
     (length (indicators_by d) + owes_dora (stage_after s d) + cond (is_begun (stage_before s d)) 1 0 ≡ owes_dora (stage_before s d) + cond (is_kan d) 1 0 + cond (is_begun (stage_after s d)) 1 0)
     × (cond (is_replacement d) 1 0 + owes_tile (stage_after s d) ≡ owes_tile (stage_before s d) + cond (is_kan d) 1 0)

@@ -86,7 +86,7 @@ next_few now next end low e = by_test (is_last now end) e
     by_test true h = cc
     by_test false h = subst (λ (x : Standing). (x.dealer < 4) × (x.hand ≡ now.hand + 1)) (some_is after next h) (dealer_at (stays end), refl)
 
--- Behind deeds that fit its number is how many hands were started.
+-- After deeds that fit its number is how many hands were started.
 pub next_stands : (red : Bool) (ds : List Deed) → all_fit red [] ds ≡ true → (next : Standing) → is_after_hand (newest ds) ≡ true → standing_after (standing ds) (hand ds) ≡ Some next →
     (next.dealer < 4) × (next.hand ≡ length (starts ds))
 next_stands red ds fit next h e =
@@ -110,7 +110,7 @@ starts_so wall next lying =
     same : (n : ℕ) → (n == n) ≡ true
     same n = eq-eqb n n refl
 
--- A later hand starts from the wall of its number, behind the end of the hand before.
+-- A later hand starts from the wall of its number, after the end of the hand before.
 pub hand_next : (red : Bool) (walls : List (List ℕ)) (ds : List Deed) (next : Standing) → ((number : ℕ) → is_wall red (wall_of walls number) ≡ true) → newest ds ≡ Some EndHand →
     standing_after (standing ds) (hand ds) ≡ Some next → (next.dealer < 4) × (next.hand ≡ length (starts ds)) → IsNext red walls ds (hand_start (wall_of walls next.hand) next (deposits ds))
 unfolding hand_start ground_of

@@ -233,7 +233,7 @@ pub won_or : (P : Deed → Type 0) (rules : Rules) (walls : List (List ℕ)) (ds
     IfAny P (follows rules walls ds n (rons_or seats other))
 won_or P rules walls ds n seats other low f g = won_few P rules walls ds n seats other low (λ seat rest there others few. f seat rest there others) g
 
--- behind a discard
+-- after a discard
 
 -- The bid that is taken, or a draw.
 pub called_or : (P : Deed → Type 0) (wall : List ℕ) (ds : List Deed) (seat : ℕ) (bid : Bid) → IfAny P (call_of_bid bid) → P (next_draw wall ds (next_seat seat)) → P (called_or_draw wall ds seat bid)
@@ -250,7 +250,7 @@ unless P rules ds d drawn on = by_reason (reason rules.draws (hand ds))
     by_reason None = on
     by_reason (Some why) = drawn why
 
--- What is behind a discard that nobody wins on.
+-- What is after a discard that nobody wins on.
 pub behind_or : (P : Deed → Type 0) (rules : Rules) (wall : List ℕ) (ds : List Deed) (seat : ℕ) (bid : Bid) → (option_map_or is_reach (before_newest (hand ds)) false ≡ true → P (accept ds seat bid)) →
     ((why : Reason) → P (drawn_hand ds why)) → IfAny P (call_of_bid bid) → P (next_draw wall ds (next_seat seat)) → P (behind_discard rules wall ds seat bid)
 behind_or P rules wall ds seat bid f drawn g h =

@@ -1,4 +1,4 @@
--- What is known of the seats that may win behind played deeds: how many tiles they have, and of each kind.
+-- What is known of the seats that may win after played deeds: how many tiles they have, and of each kind.
 use Rattle.std.proofs.Common.{◌≡◌, ℕ, suc, ◌+◌, ◌*◌, ◌%◌, ◌<◌, ◌≤◌, ◌==◌, inl, inr, ◌⊎◌, Bool, true, false, cond, eqb, List, [], ◌∷◌, ◌++◌, length, get_or, refl, sym, ap, ◌∙◌, subst, arith}
 use Rattle.std.specs.Prelude.{Option, Some, None, flat_map, option_to_list}
 use Rattle.std.proofs.lemmas.Bool.{cases_eq, cases_lt, ne_eqb, eq-eqb}
@@ -38,7 +38,7 @@ use Rattle.mj_rules.proofs.Playing.{played_sound}
 few_made : (n g m l b o : ℕ) → n + l ≤ g → g + 3 * m ≡ l + b + o → b ≤ 13 → n + 3 * m ≤ 13 + o
 few_made n g m l b o h e k = omega (arith, h, e, k)
 
--- Behind deeds that stand so a seat has thirteen tiles, each meld counted as three, and one more in its turn.
+-- After deeds that stand so a seat has thirteen tiles, each meld counted as three, and one more in its turn.
 pub few_tiles : (wall : List ℕ) (hs : List Deed) (stage : Stage) (seat : ℕ) → StandsAt wall hs stage → length (concealed_tiles hs seat) + 3 * length (flat_map (makes_by seat) hs) ≤ 13 + holds_more stage seat
 few_tiles wall hs stage seat s =
     few_made _ _ (length (flat_map (makes_by seat) hs)) _ _ _ (length_less (tiles_gained hs seat) (tiles_lost hs seat) (s.held seat)) (s.hands seat) (most (is_begun stage))
@@ -235,7 +235,7 @@ pub played_shown : (rules : Rules) (walls : List (List ℕ)) (ds : List Deed) �
     length (indicators (hand ds)) ≤ 5
 played_shown rules walls ds h played = few_shown (wall_now walls ds) (hand ds) (stage_of ds) (played_sound rules walls ds h played).standing
 
--- Behind an offer no seat holds a tile more.
+-- After an offer no seat holds a tile more.
 offer_waits : (ds : List Deed) (d : Deed) (seat : ℕ) → newest (before_wins (hand ds)) ≡ Some d → is_offer d ≡ true → holds_more (stage_of ds) seat ≡ 0
 offer_waits ds (Discard who tile drawn) seat e offer = ap (λ (stage : Stage). holds_more stage seat) (stage_led ds (Discard who tile drawn) Waits e (λ before. refl))
 offer_waits ds (AddedKan who tile a b c) seat e offer = ap (λ (stage : Stage). holds_more stage seat) (stage_led ds (AddedKan who tile a b c) MadeKan e (λ before. refl))

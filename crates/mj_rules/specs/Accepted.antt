@@ -11,12 +11,12 @@ use Rattle.mj_wall.specs.declared.setting.Rules.{Rules}
 use Rattle.mj_rules.specs.Outcome.{wall_of}
 use Rattle.mj_rules.specs.Played.{IsPlayed}
 
--- The newest deed is a discard of the seat, of this tile and marked so, right behind the seat's own reach.
+-- The newest deed is a discard of the seat, of this tile and marked so, right after the seat's own reach.
 pub record IsDiscardOfReach (deeds : List Deed) (who tile : ℕ) (drawn : Bool) : Type 0 where
   pub discarded : newest deeds ≡ Some (Discard who tile drawn)
   pub reached : before_newest (hand deeds) ≡ Some (Reach who)
 
--- In played deeds an accepted reach comes of a discard, that of its own seat right behind its own reach.
+-- In played deeds an accepted reach comes of a discard, that of its own seat right after its own reach.
 abbrev pub AcceptedOfDiscard : Type 0
 AcceptedOfDiscard =
     (rules : Rules) (walls : List (List ℕ)) (deeds : List Deed) (who : ℕ) (points : List ℤ) (bid : Bid) →

@@ -91,7 +91,7 @@ pub record IsGreatestWin (view : SeatView) (tile : ℕ) : Type 0 where
   pub greatest : (extra : Extra) → (score : Score) × ((worth_by view tile extra ≡ Some score) ×
       IsGreatest (kind_counts (won_tiles view)) view.melds (kind_of tile) view.case extra score)
 
--- So is every lawful win, behind played deeds and where nobody has won in the hand yet.
+-- So is every lawful win, after played deeds and where nobody has won in the hand yet.
 abbrev pub LawfulWinsAreGreatest : Type 0
 LawfulWinsAreGreatest =
     (rules : Rules) (walls : List (List ℕ)) (deeds : List Deed) (last : Deed) (seat : ℕ) (answer : Answer) →

@@ -19,20 +19,20 @@ use Rattle.mj_rules.specs.Played.{IsLawful, AllLawful, IsPlayedBehind, IsPlayed}
 abbrev pub EachIsWall : Type 0
 EachIsWall = (red : Bool) (walls : List (List ℕ)) → 1 ≤ length walls → list_all (is_wall red) walls ≡ true → (hand : ℕ) → is_wall red (wall_of walls hand) ≡ true
 
--- Deeds are played with one more exactly where they are played and the one is played behind them.
+-- Deeds are played with one more exactly where they are played and the one is played after them.
 abbrev pub PlayedWithOneMore : Type 0
 PlayedWithOneMore = (rules : Rules) (walls : List (List ℕ)) (deeds : List Deed) (deed : Deed) → IsPlayed rules walls deeds → IsPlayedBehind rules walls deeds deed → IsPlayed rules walls (deeds ++ deed ∷ [])
 
 abbrev pub PlayedWithoutTheLast : Type 0
 PlayedWithoutTheLast = (rules : Rules) (walls : List (List ℕ)) (deeds : List Deed) (deed : Deed) → IsPlayed rules walls (deeds ++ deed ∷ []) → IsPlayed rules walls deeds × IsPlayedBehind rules walls deeds deed
 
--- Every played deed fits behind those before it, where the wall of the hand is a wall.
+-- Every played deed fits after those before it, where the wall of the hand is a wall.
 abbrev pub PlayedDeedsFit : Type 0
 PlayedDeedsFit =
     (rules : Rules) (walls : List (List ℕ)) (deeds : List Deed) → ((number : ℕ) → is_wall rules.red (wall_of walls number) ≡ true) → IsPlayed rules walls deeds →
     all_fit rules.red [] deeds ≡ true
 
--- What four lawful answers give behind played deeds fits there, and the deeds are played with it too.
+-- What four lawful answers give after played deeds fits there, and the deeds are played with it too.
 abbrev pub NextOfPlayedFits : Type 0
 NextOfPlayedFits =
     (rules : Rules) (walls : List (List ℕ)) (deeds : List Deed) (given : Four Answer) (deed : Deed) → ((number : ℕ) → is_wall rules.red (wall_of walls number) ≡ true) → IsPlayed rules walls deeds →
@@ -42,7 +42,7 @@ NextOfPlayedFits =
 abbrev pub SomeDiscardIsLawful : Type 0
 SomeDiscardIsLawful = (rules : Rules) (walls : List (List ℕ)) (deeds : List Deed) (seat : ℕ) → seat < 4 → ((number : ℕ) → is_wall rules.red (wall_of walls number) ≡ true) → IsPlayed rules walls deeds → can_discard rules deeds seat ≡ true
 
--- The default answer of a seat is lawful in deeds each of which fits behind those before it, as long as some discard
+-- The default answer of a seat is lawful in deeds each of which fits after those before it, as long as some discard
 -- right after its own reach or call breaks none.
 abbrev pub FittingDefaultIsLawful : Type 0
 FittingDefaultIsLawful =
@@ -55,7 +55,7 @@ PlayedDefaultIsLawful =
     (rules : Rules) (walls : List (List ℕ)) (deeds : List Deed) (seat : ℕ) → seat < 4 → ((number : ℕ) → is_wall rules.red (wall_of walls number) ≡ true) → IsPlayed rules walls deeds →
     IsLawful rules deeds seat (default_answer rules deeds seat)
 
--- Some deed follows: behind played deeds, of which there are some and the last isn't the end of the game, four lawful
+-- Some deed follows: after played deeds, of which there are some and the last isn't the end of the game, four lawful
 -- answers give a deed.
 abbrev pub SomeDeedFollows : Type 0
 SomeDeedFollows =

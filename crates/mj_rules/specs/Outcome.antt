@@ -98,7 +98,7 @@ won_tile (Discard seat tile drawn) = tile
 won_tile (AddedKan seat tile a b c) = tile
 won_tile other = 0
 
--- The first of the winners on a tile, with the others behind.
+-- The first of the winners on a tile, with the others after.
 abbrev pub others_of : Seats → List ℕ
 others_of seats = option_to_list seats.second ++ option_to_list seats.third
 
@@ -127,7 +127,7 @@ drawn_or rules deeds deed = option_map_or (drawn_hand deeds) (reason rules.draws
 abbrev pub called_or_draw : List ℕ → List Deed → ℕ → Bid → Deed
 called_or_draw wall deeds seat bid = unwrap_or (call_of_bid bid) (next_draw wall deeds (next_seat seat))
 
--- Behind a discard that nobody wins on: where it is that of a reach, the reach is accepted; else the hand is drawn where a
+-- After a discard that nobody wins on: where it is that of a reach, the reach is accepted; else the hand is drawn where a
 -- reason holds, the discard is called, or the next seat draws.
 abbrev pub behind_discard : Rules → List ℕ → List Deed → ℕ → Bid → Deed
 behind_discard rules wall deeds seat bid =
@@ -180,12 +180,12 @@ follows rules walls deeds last (Call bid) = Some (behind_discard rules (wall_now
 follows rules walls deeds last (Act seat answer) = own_act (wall_now walls deeds) deeds last seat answer
 follows rules walls deeds last Pass = after_pass rules walls (wall_now walls deeds) deeds last
 
--- The one deed that follows the window on the newest deed, by its four answers; none before the first deed and behind the
+-- The one deed that follows the window on the newest deed, by its four answers; none before the first deed and after the
 -- end of the game.
 unfoldable pub outcome : Rules → List (List ℕ) → List Deed → Four Answer → Option Deed
 outcome rules walls deeds given = option_and_then (λ last. follows rules walls deeds last (decision_by last given)) (newest deeds)
 
--- A game goes on behind its newest deed, unless that is its end.
+-- A game goes on after its newest deed, unless that is its end.
 abbrev pub goes_on : Option Deed → Bool
 goes_on None = false
 goes_on (Some (EndGame points deposits)) = false

@@ -56,7 +56,7 @@ pub record ComesPaid (rules : Rules) (walls : List (List ℕ)) (deeds : List Dee
   pub comes : outcome rules walls deeds given ≡ Some deed
   pub paid : IsPaid window seat target tile payments rest deed
 
--- Of those who win lawfully on a tile, behind played deeds and where nobody has won in the hand yet, the first in turn order takes
+-- Of those who win lawfully on a tile, after played deeds and where nobody has won in the hand yet, the first in turn order takes
 -- what the tile's seat pays, with the honba and the deposits.
 abbrev pub FirstRonIsPaid : Type 0
 FirstRonIsPaid =
@@ -64,7 +64,7 @@ FirstRonIsPaid =
     IsPlayed rules walls deeds → AllLawful rules deeds given → option_and_then offer_of (newest deeds) ≡ Some (who, tile) → winners (hand deeds) ≡ [] → winners_behind who given ≡ first ∷ others →
     ComesPaid rules walls deeds given deeds first who tile (λ base. ron_changes first who (standing deeds).dealer base (standing deeds).honba (deposits deeds)) others
 
--- Each further one of them, behind the wins before it and whatever is answered there, takes what that seat pays, without honba and
+-- Each further one of them, after the wins before it and whatever is answered there, takes what that seat pays, without honba and
 -- deposits.
 abbrev pub FurtherRonsArePaid : Type 0
 FurtherRonsArePaid =

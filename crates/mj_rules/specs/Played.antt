@@ -41,12 +41,12 @@ abbrev pub is_game_start : Deed → Bool
 is_game_start (StartGame names) = are_names names
 is_game_start other = false
 
--- A deed is played behind others: as the first one it is a start of a game, and later some four lawful answers give it.
+-- A deed is played after others: as the first one it is a start of a game, and later some four lawful answers give it.
 abbrev pub IsPlayedBehind : Rules → List (List ℕ) → List Deed → Deed → Type 0
 IsPlayedBehind rules walls [] deed = IsTrue (is_game_start deed)
 IsPlayedBehind rules walls (first ∷ others) deed = IsGiven rules walls (first ∷ others) deed
 
--- Each deed is played behind those before it.
+-- Each deed is played after those before it.
 abbrev pub AllPlayed : Rules → List (List ℕ) → List Deed → List Deed → Type 0
 AllPlayed rules walls before [] = Unit {0}
 AllPlayed rules walls before (deed ∷ deeds) = IsPlayedBehind rules walls before deed × AllPlayed rules walls (before ++ deed ∷ []) deeds

@@ -44,7 +44,7 @@ taking seat (answers.Pon actor target tile a b) = of_three (λ t x y. Pon seat t
 taking seat (answers.OpenKan actor target tile a b c) = of_four (λ t x y z. OpenKan seat target t x y z) tile a b c
 taking seat other = None
 
--- The other seats in turn order behind a seat, and those of them that win.
+-- The other seats in turn order after a seat, and those of them that win.
 abbrev pub behind : ℕ → List ℕ
 behind who = (who + 1) % 4 ∷ (who + 2) % 4 ∷ (who + 3) % 4 ∷ []
 
@@ -57,7 +57,7 @@ offer_of (Discard seat tile drawn) = Some (seat, tile)
 offer_of (AddedKan seat tile a b c) = Some (seat, tile)
 offer_of other = None
 
--- All who win on a tile win: the first of them in turn order behind its seat, with all others behind it, and nothing else comes.
+-- All who win on a tile win: the first of them in turn order after its seat, with all others after it, and nothing else comes.
 abbrev pub AllWinsCome : Type 0
 AllWinsCome =
     (rules : Rules) (walls : List (List ℕ)) (deeds : List Deed) (given : Four Answer) (who tile first : ℕ) (others : List ℕ) → option_and_then offer_of (newest deeds) ≡ Some (who, tile) →
@@ -135,7 +135,7 @@ NothingIsCalled =
     (rules : Rules) (walls : List (List ℕ)) (deeds : List Deed) (given : Four Answer) (who tile : ℕ) → Answered rules walls deeds given who tile → NobodyWins given → NoPonOrKan given →
     ((seat : ℕ) → seat < 4 → is_chi (at_seat given seat) ≡ false) → IsDecided rules walls deeds given who None
 
--- Behind an accepted reach the call that it kept comes, unless a reason holds.
+-- After an accepted reach the call that it kept comes, unless a reason holds.
 abbrev pub KeptCallComes : Type 0
 KeptCallComes =
     (rules : Rules) (walls : List (List ℕ)) (deeds : List Deed) (given : Four Answer) (who : ℕ) (said : List ℤ) (bid : Bid) → newest deeds ≡ Some (ReachAccepted who said bid) →

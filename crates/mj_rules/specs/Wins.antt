@@ -104,7 +104,7 @@ dora_row row number = if nat_lt 0 number then (row, number) ∷ [] else []
 abbrev pub dora_rows : Extra → List (ℕ × ℕ)
 dora_rows extra = dora_row 28 extra.dora ++ dora_row 29 extra.under ++ dora_row 30 extra.red
 
--- The rows of a win with their han, and behind them the rows of dora with their numbers; beside a yakuman no dora counts.
+-- The rows of a win with their han, and after them the rows of dora with their numbers; beside a yakuman no dora counts.
 unfoldable pub rows_of_win : Score → Bool → Extra → List (ℕ × ℕ)
 rows_of_win score closed extra =
     map (λ row. (row, han row closed)) (rows_of score.yaku) ++ (if has_yakuman score.yaku then [] else dora_rows extra)
@@ -127,7 +127,7 @@ abbrev pub points_with : List ℤ → List ℤ → List ℤ
 points_with points changes =
     map (λ seat. slice_index_or points seat (pos 0) +ℤ slice_index_or changes seat (pos 0)) (0 ∷ 1 ∷ 2 ∷ 3 ∷ [])
 
--- The win of a seat on a tile of the target, behind the deeds of the game, by what it shows: all its numbers follow from the
+-- The win of a seat on a tile of the target, after the deeds of the game, by what it shows: all its numbers follow from the
 -- deeds and from that. The other winners on the same tile follow.
 unfoldable pub win_shown : List Deed → ℕ → ℕ → Shows → List ℕ → Deed
 win_shown deeds seat target shows rest =

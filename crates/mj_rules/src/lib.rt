@@ -15,25 +15,25 @@ pub fn each_is_wall()
     ensures { EachIsWall }
 {}
 
-/// Deeds are played with one more exactly where they are played and the one is played behind them: a start of a game behind
+/// Deeds are played with one more exactly where they are played and the one is played after them: a start of a game after
 /// none, and else what some four lawful answers give.
 pub fn played_one_by_one()
     ensures more { PlayedWithOneMore }
     ensures less { PlayedWithoutTheLast }
 {}
 
-/// Every deed of a played game fits behind the deeds before it: the tiles of a wall are brought in from different places, so
+/// Every deed of a played game fits after the deeds before it: the tiles of a wall are brought in from different places, so
 /// no kind has a fifth tile; a seat puts down what it holds, and so has never more than four melds.
 pub fn played_deeds_fit()
     ensures { PlayedDeedsFit }
 {}
 
-/// The deed that four lawful answers give behind played deeds fits there, and the deeds are played with it too.
+/// The deed that four lawful answers give after played deeds fits there, and the deeds are played with it too.
 pub fn next_of_played_fits()
     ensures { NextOfPlayedFits }
 {}
 
-/// Behind played deeds four lawful answers give a deed, until the end of the game: no game is stuck.
+/// After played deeds four lawful answers give a deed, until the end of the game: no game is stuck.
 pub fn some_deed_follows()
     ensures { SomeDeedFollows }
 {}
@@ -45,7 +45,7 @@ pub fn some_discard_is_lawful()
 {}
 
 /// The default answer of a seat, 0 to 3, is lawful in played deeds: it is in form and breaks no rule. So it is where each
-/// deed fits behind those before it, as long as some discard right after its own reach or call breaks none.
+/// deed fits after those before it, as long as some discard right after its own reach or call breaks none.
 pub fn default_is_lawful()
     ensures fitting { FittingDefaultIsLawful }
     ensures played { PlayedDefaultIsLawful }
@@ -63,7 +63,7 @@ pub fn few_deeds()
     ensures { FewDeeds }
 {}
 
-/// All who win on a discard or on the tile of an added kan win, in turn order behind its seat, and nothing else comes.
+/// All who win on a discard or on the tile of an added kan win, in turn order after its seat, and nothing else comes.
 pub fn all_wins_come()
     ensures { AllWinsCome }
 {}
@@ -107,7 +107,7 @@ pub fn few_draws()
     ensures { FewDraws }
 {}
 
-/// A reach is accepted right behind a discard of its own seat, which stands right behind its own reach: that discard is what it
+/// A reach is accepted right after a discard of its own seat, which stands right after its own reach: that discard is what it
 /// comes of.
 pub fn reaches_are_accepted()
     ensures { AcceptedOfDiscard }

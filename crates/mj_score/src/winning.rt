@@ -15,7 +15,7 @@ use std::alloc::{AllocError, Global};
 
 /// The worth of a hand: of its concealed tiles, the winning tile among them, its melds, and the kind of the winning
 /// tile. It is the greatest score of the readings that have a yaku, by base points, then han, then fu, then the
-/// lexicographically least list of rows; none exactly where no reading has a yaku. `Err` is want of memory.
+/// lexicographically least list of rows; none exactly where no reading has a yaku. `Err` is running out of memory.
 ///
 /// Conditions: `closed` of the case is true exactly where all melds are concealed kans, and there are at most 90 dora of
 /// either kind and 18 red fives: more than eighteen tiles with five indicators can have.

@@ -61,7 +61,7 @@ gone held = record held { present = false }
 abbrev pub changed_at : List Occupant → ℕ → (Occupant → Occupant) → List Occupant
 changed_at held seat change = option_map_or (λ one. slice_set held seat (change one)) (slice_get held seat) held
 
--- The seats behind a join.
+-- The seats after a join.
 abbrev pub seated : List Occupant → JoinLine → Placed → List Occupant
 seated held join (Sat seat) = held ++ new_held join ∷ []
 seated held join (Back seat) = changed_at held seat came_back

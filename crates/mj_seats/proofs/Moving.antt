@@ -41,7 +41,7 @@ module _ {A R : Type 0} (after : List (Entry A) → Showing) (reads : List ℕ �
   reaches_from (Ends e) new x y z t0 t left_out rest up told (a, b, c, d) =
       (a, ends_from e x y z rest up told.wrote.risen b, c, told_part (IsExcused e) x y z t0 t (script (after new) place) told d)
 
-  -- a step behind what was read, entered and written before
+  -- a step after what was read, entered and written before
   pub moves_behind : (step : Step) (read0 lines0 said0 read : List (List ℕ)) (old mid new : List (Entry A)) (x y z : WireState) (t0 t : List ℕ)
       → Took x y lines0 [] → Told x y t0 t → Enters author old mid (said_by reads author seat said0) → read0 ++ lines0 ≡ said0 ++ read
       → Moves after reads hears author seat place step read mid new y z t → Moves after reads hears author seat place step read0 old new x z t0

@@ -75,7 +75,7 @@ module _ {A R : Type 0} (sits : List (Entry A) → List ℕ → SitAnswer) (says
       pub hello_sent : Appends x.written y.written piece → x.write_faults ≤ y.write_faults → Enters author old new [] × Took x y [] [] × Told x y [] (says control.Hello)
       hello_sent sent up = (nothing, took_nothing x y reading held, told_sent x y piece [] (says control.Hello) greeting sent up)
 
-  -- the reading of the first line, behind the hello line
+  -- the reading of the first line, after the hello line
   module _ (first old : List (Entry A)) (x y z : WireState) (nothing : Enters author first old []) (took : Took x y [] []) (told : Told x y [] (says control.Hello)) (writing : WritingStays y.written z.written y.write_faults z.write_faults) where
     still_told : Told x z [] (says control.Hello)
     still_told = told_chain x y z [] (says control.Hello) (says control.Hello) told (told_nothing y z (says control.Hello) (says control.Hello) writing refl)

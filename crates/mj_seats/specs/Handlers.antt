@@ -27,13 +27,13 @@ pub record IsNew (x : WireState) : Type 0 where
   pub fresh : IsFresh x.read x.written x.read_faults x.write_faults
   pub holds_nothing : x.held ≡ []
 
--- Want of memory excuses a session that it ended.
+-- Running out of memory excuses a session that it ended.
 abbrev pub WantsMemory : {F : Type 0} → HandlerEnd F → Type 0
 WantsMemory Over = ⊥
 WantsMemory (Host fault) = ⊥
 WantsMemory NoMemory = Unit {0}
 
--- A handler that goes on has had no want of memory.
+-- A handler that goes on has had no running out of memory.
 abbrev pub Excuses : {F : Type 0} → Option (HandlerEnd F) → Type 0
 Excuses None = ⊥
 Excuses (Some end) = WantsMemory end

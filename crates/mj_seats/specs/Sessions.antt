@@ -19,7 +19,7 @@ use Rattle.mj_seats.specs.declared.served.Served.{Served}
 use Rattle.mj_seats.specs.Histories.{Enters}
 use Rattle.mj_seats.specs.Wires.{WireState, Took, ToldInPart}
 
--- Want of memory excuses what is missing.
+-- Running out of memory excuses what is missing.
 abbrev pub IsExcused : Ended → Type 0
 IsExcused GameOver = ⊥
 IsExcused PeerEnded = ⊥

@@ -42,7 +42,7 @@ pub record Wrote (x y : WireState) (piece : List ℕ) : Type 0 where
   pub written : Appends x.written y.written piece
   pub risen : x.write_faults ≤ y.write_faults
 
--- What was written behind one text makes it another text.
+-- What was written after one text makes it another text.
 pub record Told (x y : WireState) (old new : List ℕ) : Type 0 where
   pub piece : List ℕ
   pub wrote : Wrote x y piece

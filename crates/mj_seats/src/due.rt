@@ -98,7 +98,7 @@ fn look<T: SharedGame, R: Wait>(
     found
 }
 
-// The line of the due deed of the seat behind what stands in `line`; None where there is no such deed yet.
+// The line of the due deed of the seat after what stands in `line`; None where there is no such deed yet.
 fn find_due<T: SharedGame>(table: &mut T, seat: u8, line: &mut Vec<u8>) -> Option<Due>
     requires { seat < 4 }
     ensures setting { T.Seated.setting table.new ≡ T.Seated.setting table.old }

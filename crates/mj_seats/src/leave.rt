@@ -41,7 +41,7 @@ pub(crate) fn finish<T: SharedGame, R: Wait>(
     }
 }
 
-// Enters that the seat is gone, in its turn, and answers how its session ended, or want of memory.
+// Enters that the seat is gone, in its turn, and answers how its session ended, or running out of memory.
 pub(crate) fn leave<T: SharedGame, R: Wait>(
     turn: &Turn<T>,
     rt: &R,

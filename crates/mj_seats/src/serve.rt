@@ -221,7 +221,7 @@ fn seat_line<T: SharedGame, L: Link, R: Wait>(
     }
 }
 
-// Writes what a seat is told first behind the hello line, and plays it to the end.
+// Writes what a seat is told first after the hello line, and plays it to the end.
 fn play_out<T: SharedGame, L: Link, R: Wait>(
     turn: &Turn<T>,
     rt: &R,

@@ -13,7 +13,7 @@ use std::alloc::{AllocError, Global};
 use std::sync::Wait;
 use turn_lock::{Pass, Turn};
 
-// Gives the line a seat, in its turn, with what is told to it behind the hello line, or the line of its refusal.
+// Gives the line a seat, in its turn, with what is told to it after the hello line, or the line of its refusal.
 pub(crate) fn sit<T: SharedGame, R: Wait>(
     turn: &Turn<T>,
     rt: &R,
@@ -41,7 +41,7 @@ pub(crate) fn sit<T: SharedGame, R: Wait>(
     sitting
 }
 
-// Gives the line a seat, and writes what it is told behind the hello line, or the line of its refusal, into `told`.
+// Gives the line a seat, and writes what it is told after the hello line, or the line of its refusal, into `told`.
 fn sit_down<T: SharedGame>(
     table: &mut T,
     alloc: Global,
@@ -79,7 +79,7 @@ fn sit_down<T: SharedGame>(
     }
 }
 
-// The replay head and the lines before the due deed of the seat, behind what stands in `told`.
+// The replay head and the lines before the due deed of the seat, after what stands in `told`.
 #[tactic(auto, using(crate::proofs::Seating::replay_start, crate::proofs::Seating::replay_more))]
 fn replay<T: SharedGame>(
     table: &T,

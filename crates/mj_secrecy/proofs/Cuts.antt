@@ -14,7 +14,7 @@ use Rattle.mj_history.specs.Legal.{IsLegal, Game}
 use Rattle.mj_secrecy.specs.Follows.{AgreeUpTo, Beginning, BeginAlike}
 use Rattle.mj_history.proofs.Seated as seated
 
--- the items go on behind what was given
+-- the items go on after what was given
 pub record GoesOn (gave behind items : List Item) (t : Token) (more : List Item) : Type 0 where
   pub rest : List Item
   pub of_gave : items ≡ gave ++ rest

@@ -85,7 +85,7 @@ rebuilt seat before (tokens.DrawnHand reason hands) = draw_shown before reason h
 rebuilt seat before tokens.EndHand = deeds.EndHand
 rebuilt seat before tokens.EndGame = deeds.EndGame (points before) (deposits before)
 
--- A deed is so told behind deeds.
+-- A deed is so told after deeds.
 abbrev pub IsTold : ℕ → List Deed → Deed → Type 0
 IsTold seat ds d = masked seat d ≡ rebuilt seat (all_masked seat ds) (token seat d)
 
@@ -134,7 +134,7 @@ first_told seat walls ds names h e =
     start_told seat walls 0 0 first_standing h
     ∙ ap (λ (o : Option Deed). start_rebuilt seat (all_masked seat ds) o (indicator_tile (wall_of walls 0) 0) (at_seat (for_each_seat (hand_dealt (wall_of walls 0) first_standing.dealer)) seat)) (sym e)
 
--- the next hand, behind the end of one, where the standing before it leads to one
+-- the next hand, after the end of one, where the standing before it leads to one
 next_told : (seat : ℕ) (walls : List (List ℕ)) (ds : List Deed) (next : Standing) → DealsThirteen walls → newest (all_masked seat ds) ≡ Some deeds.EndHand → standing_after (standing ds) (hand ds) ≡ Some next →
     IsTold seat ds (hand_start (wall_of walls next.hand) next (deposits ds))
 unfolding hand_start

@@ -22,7 +22,7 @@ own_alone seat hands = record {
 
 -- A deed with nothing left in it but what a seat sees and can't reckon: no points, changes of points, honba or deposits; no
 -- round, dealer or number of the hand; no yaku, fu, han or value of a win; not who is ready, nor whether a draw is a
--- replacement; neither the call that is kept at an accepted reach nor the winners behind one; no hand that another is dealt,
+-- replacement; neither the call that is kept at an accepted reach nor the winners after one; no hand that another is dealt,
 -- and no tile that another draws.
 abbrev pub bare : ℕ → Deed → Deed
 bare seat (StartHand round number honba deposits dealer indicator hands) = StartHand 0 0 0 0 0 indicator (own_alone seat hands)

@@ -103,7 +103,7 @@ pub record SameJudgement (seat : ℕ) (g h : Game) : Type 0 where
 abbrev pub VerdictsFollow : Type 0
 VerdictsFollow = (seat : ℕ) (g h : Game) → seat < 4 → Agree seat g h → SameJudgement seat g h
 
--- What the numbers of a deed are made of, beside what its token tells, is the same behind two lists of deeds.
+-- What the numbers of a deed are made of, beside what its token tells, is the same after two lists of deeds.
 pub record SameArguments (ds es : List Deed) : Type 0 where
   -- of what a win of whichever seat is worth: its melds, its circumstances, and its dora by what the winner shows
   pub melds : (who : ℕ) → seat_melds (before_wins (hand ds)) who ≡ seat_melds (before_wins (hand es)) who
@@ -118,7 +118,7 @@ pub record SameArguments (ds es : List Deed) : Type 0 where
   pub win : (who target : ℕ) (shows : Shows) (rest : List ℕ) → win_shown ds who target shows rest ≡ win_shown es who target shows rest
   pub drawn_hand : (reason : Reason) (hands : Four Shown) → draw_shown ds reason hands ≡ draw_shown es reason hands
 
--- The lines of deeds for a seat are the same of two lists of deeds, and so are their tokens; and behind any number of deeds
+-- The lines of deeds for a seat are the same of two lists of deeds, and so are their tokens; and after any number of deeds
 -- the numbers of the next one are made of the same.
 pub record SameLines (seat : ℕ) (ds es : List Deed) : Type 0 where
   pub lines : lines_for seat ds ≡ lines_for seat es

@@ -36,7 +36,7 @@ pub fn verdicts_follow()
 {}
 
 /// Lines follow: in two games that agree for a seat of the four the seat's line of each deed is the
-/// same, and so is its token; and behind any number of deeds all that the numbers of a win or of a
+/// same, and so is its token; and after any number of deeds all that the numbers of a win or of a
 /// drawn hand are made of is the same, beside what the deed's own token tells.
 pub fn lines_follow()
     ensures { LinesFollow }
@@ -59,7 +59,7 @@ pub fn some_games_agree_apart()
 
 /// The token of a deed holds nothing but what the seat sees and can't reckon: it is the same whatever the points, the honba,
 /// the deposits, the round and the dealer, the yaku, fu, han and value of a win, the seats that are ready, the call that is
-/// kept at an accepted reach, the winners behind one, the hands that others are dealt and the tiles that they draw.
+/// kept at an accepted reach, the winners after one, the hands that others are dealt and the tiles that they draw.
 pub fn tokens_hold_no_more()
     ensures { TokensHoldNoMore }
 {}

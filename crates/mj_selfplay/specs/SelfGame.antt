@@ -31,12 +31,12 @@ pub record IsChosen (rules : Rules) (walls : List (List ℕ)) (deeds : List Deed
 unfoldable pub self_start : Deed
 self_start = StartGame (record { first = codes "a"; second = codes "b"; third = codes "c"; fourth = codes "d" })
 
--- A deed stands behind others: as the first one it is the start of the game, and later the choices of the four seats give it.
+-- A deed stands after others: as the first one it is the start of the game, and later the choices of the four seats give it.
 abbrev pub IsChosenBehind : Rules → List (List ℕ) → List Deed → Deed → Type 0
 IsChosenBehind rules walls [] deed = deed ≡ self_start
 IsChosenBehind rules walls (first ∷ others) deed = IsChosen rules walls (first ∷ others) deed
 
--- Each deed stands so behind those before it.
+-- Each deed stands so after those before it.
 abbrev pub AllChosen : Rules → List (List ℕ) → List Deed → List Deed → Type 0
 AllChosen rules walls before [] = Unit {0}
 AllChosen rules walls before (deed ∷ deeds) = IsChosenBehind rules walls before deed × AllChosen rules walls (before ++ deed ∷ []) deeds

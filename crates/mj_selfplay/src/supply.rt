@@ -17,7 +17,7 @@ pub(crate) fn first_walls(alloc: Global, seed: [u8; 32]) -> Result<Walls, AllocE
     Walls::shuffled(alloc, seed, AHEAD, false)
 }
 
-// Those at hand where there is one for the hand behind so many, and else more of the seed.
+// Those at hand where there is one for the hand after so many, and else more of the seed.
 pub(crate) fn enough_walls(
     alloc: Global,
     seed: [u8; 32],

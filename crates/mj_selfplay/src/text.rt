@@ -23,7 +23,7 @@ pub fn summary_lines(alloc: Global, summary: &Summary) -> Result<Vec<u8>, AllocE
 }
 
 /// The last three of these lines, of deeds that need not be a whole game: `deeds`, how many there are, and `points` and
-/// `deposits` behind the last of them.
+/// `deposits` after the last of them.
 pub fn result_lines(
     alloc: Global,
     deeds: u32,

@@ -27,7 +27,7 @@ use Rattle.mj_served.proofs.Owning.{owned, at_seam}
 use Rattle.mj_served.proofs.Beginning.{first_of, place_of}
 use Rattle.mj_served.proofs.Reading.{lines_of, unfinished_of, none_left, all_left, known, written_of}
 
--- A session that no want of memory ended left no line out.
+-- A session that no running out of memory ended left no line out.
 none_out : (ended : Ended) (out : List (List ℕ)) → (IsExcused ended → ⊥) → LeavesOut ended out → out ≡ []
 none_out GameOver out never h = h
 none_out PeerEnded out never h = h
@@ -97,7 +97,7 @@ module _ {L : Type 0} (read left written : L → Option (List ℕ)) (read_faults
   ends_as game link start held rest bytes lines author seat place new NoMemory never begins r w u wire history = absurd (never tt)
 
   module _ (game : Game) (legal : IsLegal game.setting game.entries) (author : ℕ) (old new : List (Entry Answer)) (session : Session L) where
-    -- It was the connection of its place, where the author's next entry behind it begins another.
+    -- It was the connection of its place, where the author's next entry after it begins another.
     pub connection_of : WasServed (shown_of game.setting) answer_of join_of (sits_of game.setting) (λ before by seat answer. hears_of game.setting before seat answer) control_line (at_link read left written read_faults write_faults) author old new game.entries session
         → ((later : List (Entry Answer)) → game.entries ≡ new ++ later → own_entries author later ≡ []) → IsConnection read left written read_faults write_faults game session.link session.place
     connection_of was next =

@@ -22,7 +22,7 @@ use Rattle.turn_lock.specs.Notes.{notes_of}
 use Rattle.mj_ports.specs.Entries.{author_of}
 
 module _ {L : Type 0} (read left written : L → Option (List ℕ)) (read_faults write_faults : L → ℕ) (game : Game) (legal : IsLegal game.setting game.entries) where
-  -- Behind a session its author entered nothing more, or began another first.
+  -- After a session its author entered nothing more, or began another first.
   next_begins : (author : ℕ) (new : List (Entry Answer)) (sessions : List (Session L))
       → Serves (shown_of game.setting) answer_of join_of (sits_of game.setting) (λ before by seat answer. hears_of game.setting before seat answer) control_line (at_link read left written read_faults write_faults) author new game.entries sessions
       → (later : List (Entry Answer)) → game.entries ≡ new ++ later → own_entries author later ≡ []

@@ -51,7 +51,7 @@ IsEntryFor (sits.Back given) join author seat entry = (given ≡ seat) × (entry
 IsEntryFor (sits.Refused why) join author seat entry = ⊥
 IsEntryFor sits.NoMemory join author seat entry = ⊥
 
--- Behind the entries before a place a line is answered with this seat, and the entry at the place is the one for it.
+-- After the entries before a place a line is answered with this seat, and the entry at the place is the one for it.
 pub record GivesSeat (game : Game) (line : List ℕ) (place author seat : ℕ) : Type 0 where
   pub entry : Entry Answer
   pub entered : slice_get game.entries place ≡ Some entry
@@ -66,7 +66,7 @@ abbrev pub AllTell : {L : Type 0} → (L → Option (List ℕ)) → Type 0
 AllTell {L} tells = (link : L) → is_some (tells link) ≡ true
 
 module _ {L : Type 0} (left : L → Option (List ℕ)) (read_faults write_faults : L → ℕ) where
-  -- Why a seat leaves: the input of its link has ended, or a read or a write on it failed, or behind the last whole line that was
+  -- Why a seat leaves: the input of its link has ended, or a read or a write on it failed, or after the last whole line that was
   -- read it gave 4,096 bytes without a newline.
   abbrev pub IsLost : L → List ℕ → Type 0
   IsLost link bytes = IsAtEnd (left link) ⊎ ((0 < read_faults link) ⊎ ((0 < write_faults link) ⊎ (length (unfinished bytes) ≡ 4096)))

@@ -74,7 +74,7 @@ all_last : {A : Type 0} (P : A → Type 0) (xs : List A) (x : A) → All P (xs +
 all_last P [] x all = head P x [] all
 all_last P (y ∷ ys) x all = all_last P ys x (tail P y (ys ++ x ∷ []) all)
 
--- What the places show stays as a line is written behind the newest page.
+-- What the places show stays as a line is written after the newest page.
 shown_before : (full : List (List ℕ)) (newest line : List ℕ) (places : List Place) → All (IsWithin full newest) places →
     lines_at full (newest ++ line) places ≡ lines_at full newest places
 shown_before full newest line places all =

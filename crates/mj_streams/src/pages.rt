@@ -24,7 +24,7 @@ pub(crate) struct Place {
     pub(crate) end: usize,
 }
 
-// The lines of one seat, on pages. The newest page is open: the next line is written behind its text where both fit a
+// The lines of one seat, on pages. The newest page is open: the next line is written after its text where both fit a
 // page, and else on a new page. A line longer than a page has a page of its own.
 #[derive(Drop)]
 pub(crate) struct Stream {

@@ -89,7 +89,7 @@ impl Stream {
     }
 }
 
-// Whether a line of so many bytes goes behind the text of a page.
+// Whether a line of so many bytes goes after the text of a page.
 fn fits(page: &[u8], len: usize) -> bool
     ensures { Decides result (Fits page.now len) }
 {
@@ -106,7 +106,7 @@ fn close(page: &mut Vec<u8>, empty: Vec<u8>) -> Page
     Page { text }
 }
 
-// Writes a line behind the text of a page, which has the memory for it, so that nothing fails.
+// Writes a line after the text of a page, which has the memory for it, so that nothing fails.
 fn write_behind(page: &mut Vec<u8>, line: &[u8])
     requires { vec_len page.old + length line.now ≤ vec_capacity page.old }
     ensures { page.new.items ≡ page.old.items ++ line.now }

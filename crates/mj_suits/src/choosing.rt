@@ -78,7 +78,7 @@ pub(crate) fn choose_all(aim: &Aim, levels: &[Level], sets: u8, pairs: u8, left:
     choose_from(aim, levels, &plan, &[0; 9])
 }
 
-// Chooses the tiles of the numbers from the plan's on, behind those of the target below it.
+// Chooses the tiles of the numbers from the plan's on, after those of the target below it.
 #[cycle(choosing)]
 fn choose_from(aim: &Aim, levels: &[Level], plan: &Plan, target: &[u8; 9]) -> Choice
     requires { IsPlan aim.now levels.now plan.now }

@@ -29,7 +29,7 @@ struct Search {
 /// All ways of parting the tiles of a suit into runs, triplets and at most one pair, each way once.
 ///
 /// `counts` says how many tiles there are of each number. Honours make no runs: `runs` is false for them.
-/// The only error is want of memory.
+/// The only error is running out of memory.
 pub fn partitions(alloc: Global, counts: [u8; 9], runs: bool) -> Result<Vec<Split>, AllocError>
     ensures { IfOk result (λ found. AreAll (IsPartition counts runs) found.items) }
 {

@@ -93,7 +93,7 @@ few_drawn red ds fit = kept_in_hand (λ xs. live_draws xs ≤ 70) red ds step (o
     step : (xs : List Deed) (d : Deed) → live_draws xs ≤ 70 → Parts red xs d → live_draws (xs ++ d ∷ []) ≤ 70
     step xs d h p = one (live_draws xs) (live_draws (xs ++ d ∷ [])) (is_live_draw d) (draws_more xs d) h (live_left xs d p.live)
 
--- At most five indicators are shown: one at the start, and one behind each kan.
+-- At most five indicators are shown: one at the start, and one after each kan.
 
 shows_more : (ds : List Deed) (d : Deed) → length (indicators (ds ++ d ∷ [])) ≡ length (indicators ds) + length (indicators_by d)
 shows_more ds d = ap length (one_more indicators_by ds d) ∙ length-append (indicators ds) (indicators_by d)

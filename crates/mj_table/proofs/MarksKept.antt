@@ -19,7 +19,7 @@ use Rattle.mj_table.specs.Inner.Seats.{KeepsMarks}
 any_more : (p : Deed → Bool) (xs : List Deed) (d : Deed) → list_any p (xs ++ d ∷ []) ≡ (list_any p xs || p d)
 any_more p xs d = or_push (list_any p) p refl (λ x xs. refl) xs d
 
--- A seat has discarded behind its reach, with one deed more.
+-- A seat has discarded after its reach, with one deed more.
 declared_more : (ds : List Deed) (d : Deed) (seat : ℕ) →
     list_any (is_discard_by seat) (behind_first (is_reach_by seat) (ds ++ d ∷ []))
     ≡ (has_reached ds seat && (list_any (is_discard_by seat) (behind_first (is_reach_by seat) ds) || is_discard_by seat d))

@@ -27,7 +27,7 @@ use Rattle.mj_deeds.specs.Facts.{is_discard}
 use Rattle.mj_table.specs.Inner.Passing.{OnlyOffers}
 use Rattle.mj_table.specs.Inner.Seats.{Keeps, AllKeep, KeepsMarks}
 
--- Behind the first that passes stands nothing, where none does.
+-- After the first that passes stands nothing, where none does.
 behind_none : (p : Deed → Bool) (xs : List Deed) → list_any p xs ≡ false → behind_first p xs ≡ []
 behind_none p [] h = refl
 behind_none p (x ∷ xs) h = either (p x) h (behind_none p xs)

@@ -72,7 +72,7 @@ broken_without ds seat =
 pub before_wins-more : (ds : List Deed) (d : Deed) → before_wins (ds ++ d ∷ []) ≡ before_wins ds ++ cond (not (is_win d)) (d ∷ []) []
 before_wins-more ds d = filter-append (λ deed. not (is_win deed)) ds (d ∷ [])
 
--- Behind a win the deeds before the winners are those before it.
+-- After a win the deeds before the winners are those before it.
 pub behind_win : (all ds : List Deed) (d : Deed) → all ≡ ds ++ d ∷ [] → is_win d ≡ true → before_wins all ≡ before_wins ds
 behind_win all ds d is e = ap before_wins is ∙ before_wins-more ds d ∙ ap (λ b. before_wins ds ++ cond (not b) (d ∷ []) []) e ∙ append-nil (before_wins ds)
 

@@ -124,7 +124,7 @@ fn is_another(first: Option<u8>, kan: Option<u8>) -> bool
     }
 }
 
-// Puts the kind that a deed discards to those of the first four discards and calls, where it is one and comes behind so
+// Puts the kind that a deed discards to those of the first four discards and calls, where it is one and comes after so
 // many of them.
 fn put_kind(kinds: &mut Four<Option<Kind>>, turns: u8, deed: &Deed)
     ensures { (place : ℕ) → place ≤ 3 → at_seat kinds.new place

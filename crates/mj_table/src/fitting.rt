@@ -15,7 +15,7 @@ use crate::seat_facts::SeatFacts;
 use mj_deeds::{Deed, Four, has_seats, has_tiles, is_call, is_kan, made};
 use mj_tiles::{FACES, Tile, number_among};
 
-// Whether a deed fits behind the deeds before it in its own hand, of which is kept what the seats hold, and their facts.
+// Whether a deed fits after the deeds before it in its own hand, of which is kept what the seats hold, and their facts.
 pub(crate) fn fits_in(red: bool, held: &Four<[u8; FACES]>, facts: &HandFacts, deed: &Deed) -> bool
     ensures { (hand : List Deed)
         → ((seat : ℕ) → seat ≤ 3 → Holds hand seat (at_seat held.now seat)) → Few hand

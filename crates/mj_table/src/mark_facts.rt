@@ -23,7 +23,7 @@ pub(crate) struct MarkFacts {
     pub reached: bool,
     pub accepted: bool,
     pub double: bool,
-    // it discarded behind its reach, and a deed behind that discard ended its one turn
+    // it discarded after its reach, and a deed after that discard ended its one turn
     pub declared: bool,
     pub broken: bool,
     // it is within one turn of its riichi, and was when the tile was given that is won on
@@ -168,7 +168,7 @@ fn is_double(marks: &MarkFacts, deed: &Deed, seat: u8) -> bool
     is_reach_by(deed, seat) && marks.is_first()
 }
 
-// Whether a deed behind the discard of its reach ended the one turn of a seat.
+// Whether a deed after the discard of its reach ended the one turn of a seat.
 fn has_broken(marks: &MarkFacts, deed: &Deed) -> bool
     ensures { result ≡ (marks.now.declared && (marks.now.broken || is_call deed.now)) }
 {

@@ -41,7 +41,7 @@ use mj_wall::Rules;
 use std::alloc::{AllocError, Global};
 use std::marker::Model;
 
-/// A game as far as it was played: its rules, and its deeds so far, each of which fits behind those before it. It
+/// A game as far as it was played: its rules, and its deeds so far, each of which fits after those before it. It
 /// says each fact of these deeds. No call but `push`, `copy` and `concealed` takes memory. Condition wherever a seat is asked for: it is 0 to 3.
 #[derive(Drop)]
 pub struct Table {
@@ -90,7 +90,7 @@ impl Table {
         })
     }
 
-    /// Adds a deed, which fits behind the deeds so far; `fits` tells whether it does. Where memory is wanting nothing
+    /// Adds a deed, which fits after the deeds so far; `fits` tells whether it does. Where memory is wanting nothing
     /// changes.
     pub fn push(&mut self, deed: &Deed) -> Result<(), AllocError>
         requires { IsTrue (fits self.old.rules.red self.old.deeds deed.now) }
@@ -149,7 +149,7 @@ impl Table {
         self.facts.seats.at(seat)
     }
 
-    /// Whether a deed fits behind the deeds so far: it stands in its place, its seats are 0 to 3, tiles that are put
+    /// Whether a deed fits after the deeds so far: it stands in its place, its seats are 0 to 3, tiles that are put
     /// down are held, a tile is added to an own pon, each tile is one that the game has, a red five only in a game with
     /// them, there is no fifth tile of a kind, no fifth meld of a seat, no fifth kan, a live tile is left for a live draw
     /// or a kan, a seat's reach is accepted once, and the points that it says are those before it, changed as it says.
@@ -160,7 +160,7 @@ impl Table {
         self.is_in_place(deed) && self.fits_in(deed) && self.has_points(deed)
     }
 
-    // Whether a deed fits behind the deeds before it in its own hand.
+    // Whether a deed fits after the deeds before it in its own hand.
     fn fits_in(&self, deed: &Deed) -> bool
         ensures { result ≡ fits_in self.now.rules.red
             (before_in (hand self.now.deeds) deed.now) deed.now }
@@ -178,7 +178,7 @@ impl Table {
         has_points(self.points, deed)
     }
 
-    // Whether a deed stands in its place behind the deeds so far.
+    // Whether a deed stands in its place after the deeds so far.
     fn is_in_place(&self, deed: &Deed) -> bool
         ensures { result ≡ is_in_place (ground_of self.now.deeds) deed.now }
     {

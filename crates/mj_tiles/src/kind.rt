@@ -74,7 +74,7 @@ pub fn after(kind: Kind) -> Kind
     Kind { number }
 }
 
-/// Adds a kind so often behind a list of kinds. `Err` is want of memory.
+/// Adds a kind so often after a list of kinds. `Err` is running out of memory.
 pub fn push_times(kinds: &mut Vec<Kind>, kind: Kind, times: u8) -> Result<(), AllocError>
     ensures { OnOk result (kinds.new.items ≡ kinds.old.items ++ replicate times kind) }
 {

@@ -14,7 +14,7 @@ pub none_above : (red : Bool) (face : ℕ) → 37 ≤ face → number_in_wall re
 none_above true face h = rw (le-ltb face 34 (omega arith)) (rw (le-ltb face 37 h) refl)
 none_above false face h = rw (le-ltb face 34 (omega arith)) refl
 
--- Where no place is found, the tile is not one too many, and none behind it is.
+-- Where no place is found, the tile is not one too many, and none after it is.
 pub not_found : (extra : Bool) (place : ℕ) (rest : Option ℕ) → cond extra (Some place) rest ≡ None → (extra ≡ false) × (rest ≡ None)
 not_found true place rest h = cc
 not_found false place rest h = (refl, h)

@@ -36,7 +36,7 @@ abbrev pub number_in_wall : Bool → ℕ → ℕ
 number_in_wall red face =
     if nat_lt face 34 then (if red && is_five face then 3 else 4) else (if red && nat_lt face 37 then 1 else 0)
 
--- The first place of a tile that is one too many of its face, among those behind the tiles before.
+-- The first place of a tile that is one too many of its face, among those after the tiles before.
 abbrev pub first_extra : Bool → List ℕ → List ℕ → Option ℕ
 first_extra red before [] = None
 first_extra red before (tile ∷ tiles) =

@@ -10,7 +10,7 @@ some_hex = codes "000000000000000000000000000000000000000000000000000000000000aa
 abbrev pub some_seed : List ℕ
 some_seed = replicate 30 0 ++ 170 ∷ 255 ∷ []
 
--- Each command has its words and no others; a word that begins with a hyphen is a value behind `--` alone.
+-- Each command has its words and no others; a word that begins with a hyphen is a value after `--` alone.
 pub record WordsAreRead : Type 0 where
   pub none : asked_by [] ≡ Nothing
   pub no_command : asked_by (codes "judge" ∷ codes "0" ∷ []) ≡ Nothing
@@ -50,7 +50,7 @@ abbrev pub is_plain : List ℕ → Bool
 is_plain [] = true
 is_plain (byte ∷ bytes) = not (byte == 45)
 
--- Such a word is a value, and so is any word behind `--`.
+-- Such a word is a value, and so is any word after `--`.
 pub record PlainWordsAreValues : Type 0 where
   pub seats : (word : List ℕ) → is_plain word ≡ true → value_in referee_line (codes "seat") (codes "referee" ∷ word ∷ []) ≡ Some word
   pub marked_seats : (word : List ℕ) → value_in referee_line (codes "seat") (codes "referee" ∷ codes "--" ∷ word ∷ []) ≡ Some word

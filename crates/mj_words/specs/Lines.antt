@@ -13,14 +13,14 @@ wanted name = record (new_rule name) { required = true }
 abbrev pub wanted_often : List ℕ → Rule
 wanted_often name = record (wanted name) { range = Some (record { start_inclusive = 1; end_inclusive = usize_max }) }
 
--- An option with one value behind its name, which must be there; or which has a value of its own where it is left out.
+-- An option with one value after its name, which must be there; or which has a value of its own where it is left out.
 abbrev pub option_wanted : List ℕ → Rule
 option_wanted name = record (wanted name) { long = Some name }
 
 abbrev pub option_or : List ℕ → List ℕ → Rule
 option_or name value = record (new_rule name) { long = Some name; defaults = value ∷ [] }
 
--- A name that has no value behind it; where it is there its value is `true`, else `false`.
+-- A name that has no value after it; where it is there its value is `true`, else `false`.
 abbrev pub flag : List ℕ → Rule
 flag name = record (new_rule name) { long = Some name; action = Some SetTrue }
 

@@ -29,8 +29,8 @@ pub enum Command {
 }
 
 /// The command that words ask for, which leave out the program's name. The first is the command, and the others are read by
-/// clap: a seat behind `referee`, options behind `serve`, nothing behind `replay`, one word or more behind `hand`, and a number
-/// behind `selfplay`. The only error is want of memory.
+/// clap: a seat after `referee`, options after `serve`, nothing after `replay`, one word or more after `hand`, and a number
+/// after `selfplay`. The only error is running out of memory.
 pub fn command_of(alloc: Global, words: &[String]) -> Result<Command, AllocError>
     ensures { IfOk result (λ command. asked_by_command command
         ≡ asked_by (map string_bytes words.now)) }
@@ -57,7 +57,7 @@ pub fn command_of(alloc: Global, words: &[String]) -> Result<Command, AllocError
     Ok(Command::Unknown)
 }
 
-// The referee of the seat that the words behind the first say.
+// The referee of the seat that the words after the first say.
 fn referee_of(alloc: Global, words: &[String]) -> Result<Command, AllocError>
     ensures { IfOk result (λ command. asked_by_command command
         ≡ referee_asked (map string_bytes words.now)) }
@@ -71,7 +71,7 @@ fn referee_of(alloc: Global, words: &[String]) -> Result<Command, AllocError>
     }
 }
 
-// The game that is served with what the words behind the first say.
+// The game that is served with what the words after the first say.
 fn serve_of(alloc: Global, words: &[String]) -> Result<Command, AllocError>
     ensures { IfOk result (λ command. asked_by_command command
         ≡ serve_asked (map string_bytes words.now)) }
@@ -82,7 +82,7 @@ fn serve_of(alloc: Global, words: &[String]) -> Result<Command, AllocError>
     }
 }
 
-// The summary of a record, where no words stand behind the first.
+// The summary of a record, where no words stand after the first.
 fn replay_of(alloc: Global, words: &[String]) -> Result<Command, AllocError>
     ensures { IfOk result (λ command. asked_by_command command
         ≡ replay_asked (map string_bytes words.now)) }
@@ -93,7 +93,7 @@ fn replay_of(alloc: Global, words: &[String]) -> Result<Command, AllocError>
     Ok(Command::Unknown)
 }
 
-// The hand that the words behind the first name.
+// The hand that the words after the first name.
 fn hand_of(alloc: Global, words: &[String]) -> Result<Command, AllocError>
     ensures { IfOk result (λ command. asked_by_command command
         ≡ hand_asked (map string_bytes words.now)) }
@@ -104,7 +104,7 @@ fn hand_of(alloc: Global, words: &[String]) -> Result<Command, AllocError>
     }
 }
 
-// The self-played game of the number that the words behind the first say.
+// The self-played game of the number that the words after the first say.
 fn self_play_of(alloc: Global, words: &[String]) -> Result<Command, AllocError>
     ensures { IfOk result (λ command. asked_by_command command
         ≡ self_play_asked (map string_bytes words.now)) }

@@ -1,4 +1,4 @@
-//! What the words behind `serve` say.
+//! What the words after `serve` say.
 
 ghost use Rattle.std.specs.Prelude.{◌≡◌, ◌≤◌, map, IfOk, IfSome, option_map};
 ghost use Rattle.std.specs.String.{string_bytes};
@@ -14,7 +14,7 @@ use std::alloc::{AllocError, Global};
 
 const LONGEST_LIMIT: u64 = 3_600_000;
 
-/// What words say whose first is `serve`; None where they are refused. The only error is want of memory.
+/// What words say whose first is `serve`; None where they are refused. The only error is running out of memory.
 pub fn serving_of(alloc: Global, words: &[String]) -> Result<Option<Serving>, AllocError>
     ensures { IfOk result (λ serving. asked_by_serving serving
         ≡ serve_asked (map string_bytes words.now)) }

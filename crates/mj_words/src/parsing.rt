@@ -11,7 +11,7 @@ use clap::error::ErrorKind;
 use clap::{Arg, ArgAction, ArgMatches, Command};
 use std::alloc::{AllocError, Global};
 
-/// The word of the seat behind `referee`; none where clap refuses the words.
+/// The word of the seat after `referee`; none where clap refuses the words.
 pub(crate) fn seat_word<'a>(
     alloc: Global,
     words: &'a [String],
@@ -27,7 +27,7 @@ pub(crate) fn seat_word<'a>(
     }
 }
 
-/// The words of the options behind `serve`, and of its flags, each where clap takes the words.
+/// The words of the options after `serve`, and of its flags, each where clap takes the words.
 #[derive(Clone, Copy)]
 pub(crate) struct ServeWords<'a> {
     pub seed: Option<&'a str>,
@@ -37,7 +37,7 @@ pub(crate) struct ServeWords<'a> {
     pub red: Option<&'a str>,
 }
 
-/// The words of the options and of the flags behind `serve`.
+/// The words of the options and of the flags after `serve`.
 pub(crate) fn serve_words<'a>(
     alloc: Global,
     words: &'a [String],
@@ -85,7 +85,7 @@ fn serve_command<'a>(alloc: Global) -> Result<Command<'a>, AllocError>
         .arg(red)
 }
 
-/// Whether clap takes the words behind `replay`.
+/// Whether clap takes the words after `replay`.
 pub(crate) fn takes_replay(alloc: Global, words: &[String]) -> Result<bool, AllocError>
     ensures { IfOk result (λ taken. taken ≡ is_taken replay_line (map string_bytes words.now)) }
 {
@@ -93,7 +93,7 @@ pub(crate) fn takes_replay(alloc: Global, words: &[String]) -> Result<bool, Allo
     Ok(parse(command, words)?.is_some())
 }
 
-/// The words of the hand behind `hand`; none where clap refuses the words.
+/// The words of the hand after `hand`; none where clap refuses the words.
 pub(crate) fn hand_words(alloc: Global, words: &[String]) -> Result<Option<Vec<String>>, AllocError>
     ensures { IfOk result (λ found. option_map (λ f. map string_bytes f.items) found
         ≡ values_in hand_line (codes "words") (map string_bytes words.now)) }
@@ -106,7 +106,7 @@ pub(crate) fn hand_words(alloc: Global, words: &[String]) -> Result<Option<Vec<S
     }
 }
 
-/// The word of the number behind `selfplay`; none where clap refuses the words.
+/// The word of the number after `selfplay`; none where clap refuses the words.
 pub(crate) fn number_word<'a>(
     alloc: Global,
     words: &'a [String],

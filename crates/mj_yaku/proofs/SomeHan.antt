@@ -108,7 +108,7 @@ within_rows [] place h = absurd (cc)
 within_rows (row ∷ rows) zero h = omega arith
 within_rows (row ∷ rows) (suc place) h = let rest : place < length rows = within_rows rows place h in omega arith
 
--- The sum of han is at least the han of a row below 28, and of the two rows behind the dora.
+-- The sum of han is at least the han of a row below 28, and of the two rows after the dora.
 sum_low : (f : ℕ → ℕ) (row : ℕ) → row < 28 → f row ≤ sum_by f ordinary_numbers
 sum_low f row within =
     let inside : row < length (range_with_len 0 28) = omega (arith, length-range_with_len 0 28) in

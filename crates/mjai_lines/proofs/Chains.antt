@@ -1,4 +1,4 @@
--- Pieces that are written one behind the other, in the order of the code.
+-- Pieces that are written one after the other, in the order of the code.
 use Rattle.std.proofs.Common.{◌≡◌, ℕ, List, ◌++◌, subst}
 use Rattle.mj_bytes.specs.Adds.{Adds}
 use Rattle.mj_bytes.proofs.AddLaws.{adds_more}

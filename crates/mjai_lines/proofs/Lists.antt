@@ -12,7 +12,7 @@ shown_is_map true tiles = refl
 shown_is_map false [] = refl
 shown_is_map false (tile ∷ tiles) = ap (λ rest. hidden_tile ∷ rest) (shown_is_map false tiles)
 
--- four pieces in brackets, as they are written one behind the other
+-- four pieces in brackets, as they are written one after the other
 pub bracketed_four : (a b c d : List ℕ) →
     bracketed (a ∷ b ∷ c ∷ d ∷ []) ≡ codes "[" ++ a ++ codes "," ++ b ++ codes "," ++ c ++ codes "," ++ d ++ codes "]"
 unfolding bracketed
@@ -34,13 +34,13 @@ pub first_hidden : (number : ℕ) → 1 ≤ number → replicate number hidden_t
 first_hidden (suc number) some = ap (λ k. hidden_tile ∷ replicate k hidden_tile) (omega arith)
 first_hidden zero some = absurd (omega (arith, some))
 
--- so many hidden tiles in brackets, the first and then the others, each behind a comma
+-- so many hidden tiles in brackets, the first and then the others, each after a comma
 pub bracketed_hidden : (number : ℕ) → 1 ≤ number →
     bracketed (replicate number hidden_tile) ≡ codes "[\"?\"" ++ flat_map (λ other. 44 ∷ other) (replicate (number - 1) hidden_tile) ++ codes "]"
 unfolding bracketed hidden_tile
 bracketed_hidden number some = ap bracketed (first_hidden number some)
 
--- one more hidden tile behind a comma
+-- one more hidden tile after a comma
 pub one_more_hidden : (number : ℕ) →
     flat_map (λ other. 44 ∷ other) (replicate number hidden_tile) ++ codes ",\"?\"" ≡ flat_map (λ other. 44 ∷ other) (replicate (number + 1) hidden_tile)
 unfolding hidden_tile

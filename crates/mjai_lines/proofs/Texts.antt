@@ -43,7 +43,7 @@ untrue false d h = refl
 pub unlike : (a b : List ℕ) → (b ≡ a → ⊥) → bytes_eq a b ≡ false
 unlike a b h = untrue (bytes_eq a b) (bytes_eq-Decides a b) (λ e. h (sym e))
 
--- what is behind a beginning that was found, and what is before an end
+-- what is after a beginning that was found, and what is before an end
 pub begun : (text front rest : List ℕ) → (bytes_eq (take (length front) text) front ≡ true) × (rest ≡ drop (length front) text) × (length rest + length front ≡ length text) → text ≡ front ++ rest
 begun text front rest h =
     let same = (bytes_eq-Decides (take (length front) text) front).0 h.0 in

@@ -33,7 +33,7 @@ four w a b c d = simp append_assoc refl
 eight : (w a b c d e f g h : List ℕ) → w ++ (a ++ b ++ c ++ d ++ e ++ f ++ g ++ h) ≡ w ++ a ++ b ++ c ++ d ++ e ++ f ++ g ++ h
 eight w a b c d e f g h = simp append_assoc refl
 
--- the pieces one behind the other are the line
+-- the pieces one after the other are the line
 pub win_in_pieces : (viewer : Viewer) (seat target tile : ℕ) (unders hand : List ℕ) (yaku : List (ℕ × ℕ)) (fu han value : ℕ)
     (deltas points : List ℤ) (rest : List ℕ) →
     winner_piece seat target tile unders hand ++ worth_piece yaku fu han value ++ changes_piece deltas points ++ rest_piece viewer rest

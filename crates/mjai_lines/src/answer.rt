@@ -18,7 +18,7 @@ use std::alloc::{AllocError, Global};
 /// may name its reason, `kyushukyuhai`; every other line is unread. An answer is an object with the fields of its
 /// type in the right form: a seat is a whole number from 0 to 3, a tile one of the 37 texts or a question mark, and
 /// the consumed tiles are as many as the type takes, in any order; they are read into tile order, hidden ones last.
-/// Other fields are ignored, and of equal keys the last counts. The only error is want of memory.
+/// Other fields are ignored, and of equal keys the last counts. The only error is running out of memory.
 #[tactic(auto, unfolding(mj_forms::specs::AnswerForms::answer_of))]
 pub fn read_answer(alloc: Global, line: &[u8]) -> Result<Answer, AllocError>
     ensures { IfOk result (λ a. a ≡ answer_of line.now) }

@@ -16,9 +16,9 @@ use std::alloc::{AllocError, Global};
 use std::marker::Brand;
 use std::sync::ledger::{Blank, Ledger};
 
-/// Writes the line of a deed, as the viewer sees it, behind a text: a seat sees its own tiles and a question mark for
+/// Writes the line of a deed, as the viewer sees it, after a text: a seat sees its own tiles and a question mark for
 /// each hidden tile of another, the record sees all, and it alone has the call that is kept at an accepted reach and the
-/// seats that win next. The only error is want of memory, and then the text stays as it
+/// seats that win next. The only error is running out of memory, and then the text stays as it
 /// was. It counts one line.
 pub fn write<L: Ledger>(
     alloc: Global,

@@ -111,7 +111,7 @@ fn push_hidden(line: &mut Vec<u8>, number: u8) -> Result<(), AllocError>
     Ok(())
 }
 
-// Writes so many hidden tiles, each behind a comma.
+// Writes so many hidden tiles, each after a comma.
 fn push_more_hidden(line: &mut Vec<u8>, number: u8) -> Result<(), AllocError>
     ensures { OnOk result (Adds line.old.items line.new.items
         (flat_map (λ other. 44 ∷ other) (replicate number hidden_tile))) }

@@ -8,8 +8,8 @@ use mj_deeds::Rule;
 use mj_ports::SitRefused;
 use std::alloc::{AllocError, Global};
 
-/// Writes the line that a refused answer gets, with the number and the name of the rule that it broke, behind a text.
-/// The only error is want of memory, and then the text stays as it was.
+/// Writes the line that a refused answer gets, with the number and the name of the rule that it broke, after a text.
+/// The only error is running out of memory, and then the text stays as it was.
 pub fn error_line(alloc: Global, rule: Rule, into: &mut Vec<u8>) -> Result<(), AllocError>
     ensures ok { OnOk result (Adds into.old.items into.new.items (error_text rule)) }
     ensures err { OnErr result (into.new.items ≡ into.old.items) }
@@ -19,8 +19,8 @@ pub fn error_line(alloc: Global, rule: Rule, into: &mut Vec<u8>) -> Result<(), A
     push_all(into, line.as_slice())
 }
 
-/// Writes the line that a refused join gets, with the number and the name of the cause, behind a text. The only error is
-/// want of memory, and then the text stays as it was.
+/// Writes the line that a refused join gets, with the number and the name of the cause, after a text. The only error is
+/// running out of memory, and then the text stays as it was.
 pub fn refusal_line(alloc: Global, cause: SitRefused, into: &mut Vec<u8>) -> Result<(), AllocError>
     ensures ok { OnOk result (Adds into.old.items into.new.items (refusal_of cause)) }
     ensures err { OnErr result (into.new.items ≡ into.old.items) }

@@ -12,7 +12,7 @@ use std::alloc::{AllocError, Global};
 
 /// What a line asks that wants a seat; none where it is no join with a name and a key of the right form. A name is a
 /// text in UTF-8 of 1 to 64 bytes, none of them a quotation mark, a backslash or a control character below 32; a key,
-/// where there is one, has at most 64 bytes. Other fields are ignored. The only error is want of memory.
+/// where there is one, has at most 64 bytes. Other fields are ignored. The only error is running out of memory.
 #[tactic(auto, unfolding(mj_forms::specs::AnswerForms::join_of))]
 pub fn read_join(alloc: Global, line: &[u8]) -> Result<Option<JoinLine>, AllocError>
     ensures { IfOk result (λ j. j ≡ join_of line.now) }

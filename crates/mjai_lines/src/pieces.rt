@@ -104,7 +104,7 @@ fn push_joined(line: &mut Vec<u8>, seen: bool, tiles: &[Tile]) -> Result<(), All
     }
 }
 
-// Writes the tiles as they are seen, each behind a comma.
+// Writes the tiles as they are seen, each after a comma.
 fn push_after_commas(line: &mut Vec<u8>, seen: bool, tiles: &[Tile]) -> Result<(), AllocError>
     ensures { OnOk result (Adds line.old.items line.new.items
         (flat_map (λ other. 44 ∷ other) (map (tile_seen seen) tiles.now))) }

@@ -15,8 +15,8 @@ use mj_tiles::Tile;
 use mj_wall::{Rules, Wall};
 use std::alloc::{AllocError, Global};
 
-/// Writes the record of a game behind a text: the header with its rules, a line for each of its walls, and the record's line
-/// of each of its deeds. The only error is want of memory, and then the text stays as it was.
+/// Writes the record of a game after a text: the header with its rules, a line for each of its walls, and the record's line
+/// of each of its deeds. The only error is running out of memory, and then the text stays as it was.
 pub fn write_record(
     alloc: Global,
     rules: Rules,
@@ -33,7 +33,7 @@ pub fn write_record(
     push_all(into, text.as_slice())
 }
 
-// Writes the record behind a text that may be spoilt.
+// Writes the record after a text that may be spoilt.
 #[tactic(auto, unfolding(mj_forms::specs::RecordTexts::record_text))]
 fn push_record(
     alloc: Global,
@@ -97,7 +97,7 @@ fn push_wall(text: &mut Vec<u8>, wall: &Wall) -> Result<(), AllocError>
     Ok(())
 }
 
-// Writes the tiles, each behind a space.
+// Writes the tiles, each after a space.
 fn push_tiles(text: &mut Vec<u8>, tiles: &[Tile]) -> Result<(), AllocError>
     ensures { OnOk result (Adds text.old.items text.new.items
         (flat_map (λ tile. 32 ∷ text_of tile) tiles.now)) }

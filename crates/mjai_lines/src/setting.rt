@@ -26,7 +26,7 @@ pub fn read_rules(text: &[u8]) -> Option<Rules>
     })
 }
 
-/// The tiles that the fields of a text name; none where a field names no tile. The only error is want of memory.
+/// The tiles that the fields of a text name; none where a field names no tile. The only error is running out of memory.
 #[tactic(auto, using(crate::proofs::Settings::reading))]
 pub fn read_tiles(alloc: Global, text: &[u8]) -> Result<Option<Vec<Tile>>, AllocError>
     ensures { IfOk result (λ tiles. option_map (λ t. t.items) tiles ≡ tiles_in (fields text.now)) }

@@ -44,7 +44,7 @@ fn usual_discard(line: &[u8]) -> Option<Answer>
     Some(Answer::Discard { actor, tile, drawn })
 }
 
-// The seat that a text begins with, and the rest behind it.
+// The seat that a text begins with, and the rest after it.
 fn seat_first(text: &[u8]) -> Option<(u8, &[u8])>
     ensures { IfSome result (λ x. BeginsWithSeat text.now x.0 x.1.now) }
 {

@@ -124,7 +124,7 @@ fn push_joined_rows(line: &mut Vec<u8>, rows: &[(u8, u8)]) -> Result<(), AllocEr
     }
 }
 
-// Writes rows with their numbers, each behind a comma.
+// Writes rows with their numbers, each after a comma.
 fn push_later_rows(line: &mut Vec<u8>, rows: &[(u8, u8)]) -> Result<(), AllocError>
     ensures { OnOk result (Adds line.old.items line.new.items
         (flat_map (λ other. 44 ∷ other) (map row_text rows.now))) }
@@ -173,7 +173,7 @@ fn push_joined_seats(line: &mut Vec<u8>, seats: &[u8]) -> Result<(), AllocError>
     }
 }
 
-// Writes seats, each behind a comma.
+// Writes seats, each after a comma.
 fn push_later_seats(line: &mut Vec<u8>, seats: &[u8]) -> Result<(), AllocError>
     ensures { OnOk result (Adds line.old.items line.new.items
         (flat_map (λ other. 44 ∷ other) (map decimal seats.now))) }

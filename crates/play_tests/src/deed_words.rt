@@ -2,9 +2,9 @@
 //! of the four seats; `draw 0 1m` and `replace 0 1m`; `discard 0 1m`, and `cut 0 1m` for a drawn tile; `chi 1 0 3m 4m
 //! 5m` by seat 1 of the tile of seat 0; `pon` and `open` likewise; `closed 0 1m 1m 1m 1m`; `added 0 E E E E`; `dora
 //! 9p`; `reach 0`; `accepted|0|29000 30000 30000 30000`, with the call that is kept behind it; `win|1|0|5p|-1000 1000
-//! 0 0|29000 31000 30000 30000|2`, with what each gains, the points, and the winners that follow, and behind it the hand
+//! 0 0|29000 31000 30000 30000|2`, with what each gains, the points, and the winners that follow, and after it the hand
 //! where it is shown; `drawn|yes no no no|3000 -1000 -1000 -1000|33000 29000 29000 29000` at the last tile, with the reason
-//! behind it where there is another, the tiles of the dealer, and of how many tiles the other hands are; `end`;
+//! after it where there is another, the tiles of the dealer, and of how many tiles the other hands are; `end`;
 //! `over|30000 30000 30000 30000|0`.
 
 use crate::words::{fields, kind, number, points, tile, tiles, truths, words};

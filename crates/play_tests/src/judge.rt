@@ -85,7 +85,7 @@ judge 1 chi 1 0 3m 4m 5m? StuckCall
 judge 3 pon 3 0 3m 3m 3m? StuckCall
 judge 3 open 3 0 3m 3m 3m 3m? lawful";
 
-/// The discard behind the last live tile can't be called, and the one before it can.
+/// The discard after the last live tile can't be called, and the one before it can.
 const LAST_TILE: &str = "\
 game
 hand|P|33m|45m F|E|E

@@ -150,7 +150,7 @@ fn a_line_reads_as_the_answer_that_it_is(rt: HostRuntime) {
     assert!(rt; matches!(read_answer(rt.alloc(), no_text), Ok(Answer::Unread)));
 }
 
-/// A line, and the name of the join that it is, behind a bar its key if it has one, and nothing where it is none. A name
+/// A line, and the name of the join that it is, after a bar its key if it has one, and nothing where it is none. A name
 /// has 1 to 64 bytes, and a key at most 64.
 const JOINS: &str = "\
 {\"type\":\"join\",\"name\":\"\\u0061é\",\"room\":\"default\"}=aé

@@ -263,7 +263,7 @@ since_reach 0? 567s
 concealed 0? 1m 2m 3m 4m 5m 6m 7m 8m 9m 2p 3p E E
 room 0 E? 4";
 
-/// A reach behind an own discard, a call that is kept, a kan that is robbed by two, and the hands that follow.
+/// A reach after an own discard, a call that is kept, a kan that is robbed by two, and the hands that follow.
 const WINS: &str = "\
 game
 hand|C|123456789m EE 23p F|PP|23p|3s
@@ -421,7 +421,7 @@ fn a_table_tells_what_its_deeds_come_to(rt: HostRuntime) {
     }
 }
 
-/// The rules, the first discards of the four seats, and the reason that ends the hand behind them.
+/// The rules, the first discards of the four seats, and the reason that ends the hand after them.
 const FIRST_DISCARDS: &str = "\
 game draws|S S S S|suufonrenta
 game|S S S S|none

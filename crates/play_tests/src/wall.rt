@@ -3,7 +3,7 @@ use mj_tiles::Tile;
 use mj_wall::{Rules, Setting, Wall, Walls};
 use std::alloc::Global;
 
-/// How many tiles of the sorted wall are read (behind its 136 one C more), with tiles put into places, in a game with
+/// How many tiles of the sorted wall are read (after its 136 one C more), with tiles put into places, in a game with
 /// red fives or without; and the place that is wrong, if it is no wall.
 const WALLS: &str = "\
 136||plain|wall

@@ -4,7 +4,7 @@ use mj_deeds::Tiles;
 use mj_tiles::{Counts, Kind, Kinds, Tile};
 use std::alloc::Global;
 
-/// The fields of a line, at most eight, with empty ones behind them. Bars part them.
+/// The fields of a line, at most eight, with empty ones after them. Bars part them.
 pub(crate) fn fields(line: &str) -> [&str; 8] {
     let mut fields = [""; 8];
     for (place, field) in line.split('|').enumerate() {
@@ -15,7 +15,7 @@ pub(crate) fn fields(line: &str) -> [&str; 8] {
     fields
 }
 
-/// The words of a line, at most eight, with empty ones behind them.
+/// The words of a line, at most eight, with empty ones after them.
 pub(crate) fn words(line: &str) -> [&str; 8] {
     let mut words = [""; 8];
     for (place, word) in line.split_whitespace().enumerate() {

@@ -157,7 +157,7 @@ fn tell_record(rt: &HostRuntime, record: &[u8], timed: bool) -> Result<()> {
     Ok(())
 }
 
-// How many megabytes of the lines behind the header and the walls of a record are checked a second.
+// How many megabytes of the lines after the header and the walls of a record are checked a second.
 fn rate_of_record(rt: &HostRuntime, record: &[u8]) -> Result<u128> {
     let beginning = first_lines(rt.alloc(), record, BEFORE_DEEDS)?;
     let bytes = record.len().saturating_sub(beginning.len());

@@ -1,8 +1,8 @@
-//! Parts of stored games: what so many arrivals of a game cost, behind those before them.
+//! Parts of stored games: what so many arrivals of a game cost, after those before them.
 
 use std::alloc::{AllocError, Global};
 
-/// The arrivals of a file behind its first lines, as many as `from` says, up to the line `to`.
+/// The arrivals of a file after its first lines, as many as `from` says, up to the line `to`.
 #[derive(Clone, Copy)]
 pub struct Part {
     pub name: &'static str,
@@ -37,7 +37,7 @@ impl Unit {
     }
 }
 
-/// All parts. The whole game has eight hands of 572 arrivals each behind the first ten, and each is drawn to its last
+/// All parts. The whole game has eight hands of 572 arrivals each after the first ten, and each is drawn to its last
 /// tile; the last arrival of the second game wins by draw; the third has refused and late answers, returns and expiries,
 /// from the header on.
 pub const PARTS: [Part; 5] = [

@@ -32,7 +32,7 @@ fn with_game(alloc: Global, all: Played, number: u64) -> Result<Played, AllocErr
     })
 }
 
-// The checksum with these bytes behind those before.
+// The checksum with these bytes after those before.
 fn with_bytes(before: u64, bytes: &[u8]) -> u64 {
     let mut sum = before;
     for byte in bytes {

@@ -1,6 +1,6 @@
 //! A case: a first line that says in plain words what it shows, and then parts, each under a head that begins with two dashes
 //! and a space. Under `-- input` stand the arrivals of a game, under `-- input without its last newline` arrivals that break
-//! off. Any other head is the words of a command, behind which `=> ` and the exit code and text of the status follow where
+//! off. Any other head is the words of a command, after which `=> ` and the exit code and text of the status follow where
 //! the run doesn't end well; under it stands what the run on the newest input writes.
 
 use crate::compare::push_difference;

@@ -5,7 +5,7 @@ use mj_front::{Status, exit_code, is_for_waiting, run_alone, status_text};
 use mj_links::{MemSink, MemSource};
 use std::alloc::{AllocError, Global};
 
-/// What a run comes to: what it writes, and its exit code, with the text of its status behind a space where there is one.
+/// What a run comes to: what it writes, and its exit code, with the text of its status after a space where there is one.
 #[derive(Drop)]
 pub struct Outcome {
     pub bytes: Vec<u8>,

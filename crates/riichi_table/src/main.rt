@@ -42,7 +42,7 @@ fn limit_of(alloc: Global, words: &[String]) -> u64 {
     }
 }
 
-// The words behind the program's name. Where one of them is no text there are none, for no command has such a word.
+// The words after the program's name. Where one of them is no text there are none, for no command has such a word.
 fn words(rt: &HostRuntime) -> Result<Vec<String>, AllocError> {
     let mut words = Vec::new(rt.alloc());
     match env::args(rt) {

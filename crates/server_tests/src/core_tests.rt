@@ -27,7 +27,7 @@ enum Step {
     IsTold(u8, &'static str),
     // This is the line of a seat with this number.
     HasLine(u8, u32, &'static str),
-    // The record of the game is this behind its header and its wall.
+    // The record of the game is this after its header and its wall.
     IsRecorded(&'static str),
     // The record of the game has so many lines, and is refused once any of them is spoilt.
     IsGuarded(u32),

@@ -14,7 +14,7 @@ fn line(alloc: Global, fails: u64) -> Result<MemSource, AllocError> {
     Ok(MemSource::new(LINE.to_vec(alloc)?, reads))
 }
 
-// Whether a source is read to such an end, behind a text, and the text is then this one.
+// Whether a source is read to such an end, after a text, and the text is then this one.
 fn reads<S: Source>(
     alloc: Global,
     source: &mut S,

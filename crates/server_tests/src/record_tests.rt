@@ -11,13 +11,13 @@ enum Spoilt {
     Deleted,
     // It stands twice.
     Doubled,
-    // It stands behind the next one.
+    // It stands after the next one.
     Swapped,
 }
 
 const WAYS: [Spoilt; 3] = [Spoilt::Deleted, Spoilt::Doubled, Spoilt::Swapped];
 
-// The lines of a text before a place, counted from 0, the one at the place, and those behind it.
+// The lines of a text before a place, counted from 0, the one at the place, and those after it.
 fn cut(text: &[u8], place: usize) -> Option<(&[u8], &[u8], &[u8])> {
     let mut rest = text;
     for _ in 0..place {
@@ -29,7 +29,7 @@ fn cut(text: &[u8], place: usize) -> Option<(&[u8], &[u8], &[u8])> {
     Some((before, line, behind))
 }
 
-// Four pieces of a text, one behind the other.
+// Four pieces of a text, one after the other.
 #[derive(Clone, Copy)]
 struct FourPieces<'a> {
     first: &'a [u8],

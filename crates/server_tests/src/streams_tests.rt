@@ -103,7 +103,7 @@ const LONG: [Line; 5] = [
     Line(2, 2801, Some("{\"type\":\"reach\",\"actor\":3}\n")),
 ];
 
-// Whether this is the line of the win: 20,000 quoted tiles with commas between, and what stands before and behind them.
+// Whether this is the line of the win: 20,000 quoted tiles with commas between, and what stands before and after them.
 fn is_win(line: &[u8]) -> bool {
     line.len() == 83 + 99_999 + 87
         && line.starts_with(

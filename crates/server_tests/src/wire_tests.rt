@@ -11,7 +11,7 @@ fn link(alloc: Global, bytes: &[u8], fails: u64) -> Result<MemLink, AllocError> 
     Ok(MemLink::new(bytes.to_vec(alloc)?, reads, Vec::new(alloc)))
 }
 
-// Reads lines until one does not come, and puts what the line then is behind a text, with a bar behind each line that came.
+// Reads lines until one does not come, and puts what the line then is after a text, with a bar after each line that came.
 fn read_lines<L: Link>(
     wire: &mut Wire<L>,
     line: &mut Vec<u8>,

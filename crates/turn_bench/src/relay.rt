@@ -10,7 +10,7 @@ use std::sync::Wait;
 use std::thread::{Threads, join};
 use turn_lock::{Pass, Turn};
 
-/// Has two threads leave so many notes each, by turns, and gives the checksum of them all. The error is want of memory.
+/// Has two threads leave so many notes each, by turns, and gives the checksum of them all. The error is running out of memory.
 pub fn relay<R: Threads + Wait + Sync>(
     rt: &R,
     alloc: Global,

@@ -4,7 +4,7 @@ use std::alloc::{AllocError, Global};
 
 pub const HELLO: &str = "{\"type\":\"hello\",\"protocol\":\"mjsonp\",\"protocol_version\":3}\n";
 
-/// What comes behind the hello line for a seat that came back once the first deed was answered.
+/// What comes after the hello line for a seat that came back once the first deed was answered.
 pub const HEAD: &str = "{\"type\":\"replay\",\"count\":1}\n";
 
 /// The first deed as seat 3 is told it.
@@ -14,7 +14,7 @@ pub const START: &str = "{\"type\":\"start_game\",\"id\":3,\"names\":[\"a\",\"b\
 #[derive(Clone, Copy)]
 pub struct Part(pub &'static str, pub u32);
 
-/// The bytes of some parts, one behind the other.
+/// The bytes of some parts, one after the other.
 pub fn bytes_of(alloc: Global, parts: &[Part]) -> Result<Vec<u8>, AllocError> {
     let mut bytes = Vec::new(alloc);
     for part in parts {
@@ -25,7 +25,7 @@ pub fn bytes_of(alloc: Global, parts: &[Part]) -> Result<Vec<u8>, AllocError> {
     Ok(bytes)
 }
 
-/// Whether the bytes are those of these parts, one behind the other.
+/// Whether the bytes are those of these parts, one after the other.
 pub fn are_made_of(bytes: &[u8], parts: &[Part]) -> bool {
     let mut rest = bytes;
     for part in parts {

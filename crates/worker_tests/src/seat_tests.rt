@@ -52,7 +52,7 @@ const NAMED: &str = "{\"type\":\"join\",\"name\":\"";
 
 const LINE_END: &str = "\n";
 
-// What comes behind the hello line for a seat that came back before the first deed was answered.
+// What comes after the hello line for a seat that came back before the first deed was answered.
 const AGAIN: &str = "{\"type\":\"replay\",\"count\":0}\n";
 
 const DEAL: &str =
@@ -95,7 +95,7 @@ fn link(alloc: Global, case: Case) -> Result<MemLink, AllocError> {
 }
 
 // How the session of a link ended, what is written on the link, what others see then, and whether the seat is taken by its
-// key behind it.
+// key after it.
 #[derive(Drop)]
 struct Outcome {
     served: Served,

@@ -55,7 +55,7 @@ fn is_good(alloc: Global, record: &[u8]) -> Result<bool, AllocError> {
     )
 }
 
-// What the first deed tells behind the seat, where a link holds the hello line and that of this deed alone.
+// What the first deed tells after the seat, where a link holds the hello line and that of this deed alone.
 fn names_told(link: &MemLink, place: u64) -> Option<&[u8]> {
     let start = link.written().strip_prefix(HELLO.as_bytes())?;
     let seat = start.strip_prefix(b"{\"type\":\"start_game\",\"id\":")?;

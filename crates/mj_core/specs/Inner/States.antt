@@ -157,7 +157,7 @@ is_due now seat = option_map_or (λ (chair : Chair). nat_lt chair.progress.due (
 abbrev pub IsOpen : After → Type 0
 IsOpen now = (seat : ℕ) → is_due now seat ≡ true → at_seat now.slots seat ≡ None
 
--- A seat that is present has room for one more refused answer, and none waits for a deed behind the next one.
+-- A seat that is present has room for one more refused answer, and none waits for a deed after the next one.
 pub record IsPatient (deeds : List Deed) (chair : Chair) : Type 0 where
   pub due : chair.progress.due ≤ length deeds
   pub refused : is_present chair ≡ true → chair.progress.refused ≤ 15

@@ -1,4 +1,4 @@
--- How four lists stand in one, one behind the other, by the places where the first three end.
+-- How four lists stand in one, one after the other, by the places where the first three end.
 use Rattle.std.specs.Prelude.{ℕ, ◌-◌, List, take, drop}
 use Rattle.mj_deeds.specs.declared.four.Four.{Four}
 

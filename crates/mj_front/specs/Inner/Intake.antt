@@ -12,7 +12,7 @@ use Rattle.mj_front.specs.declared.arriving.Arrived.TheVariants as steps
 use Rattle.mj_front.specs.declared.intake.End.{End}
 use Rattle.mj_front.specs.Referee.{ending}
 
--- What was read behind a header and walls alone.
+-- What was read after a header and walls alone.
 abbrev pub intake_with_walls : Rules → List (List ℕ) → Intake
 intake_with_walls rules walls = record { rules = Some rules; walls = walls; begun = false; entries = [] }
 

@@ -1,4 +1,4 @@
--- What is known of the deeds of a game, and of who wins behind them.
+-- What is known of the deeds of a game, and of who wins after them.
 use Rattle.std.specs.Prelude.{ℕ, ◌≡◌, ◌≢◌, ◌≤◌, Bool, true, false, List, [], ◌∷◌, ◌++◌, length, All, flat_map, unsigned_abs}
 use Rattle.mj_tiles.specs.Counts.{NoFifth, kind_counts}
 use Rattle.mj_tiles.specs.Melds.{tiles_of_meld}
@@ -63,7 +63,7 @@ abbrev pub CanWinBy : List Deed → Deed → ℕ → Answer → Type 0
 CanWinBy deeds last seat (answers.Win actor target tile) = CanWin deeds seat seat (won_tile last)
 CanWinBy deeds last seat other = Unit {0}
 
--- Whoever wins by what is decided behind the newest deed does so.
+-- Whoever wins by what is decided after the newest deed does so.
 abbrev pub CanFollow : List Deed → Deed → Decision → Type 0
 CanFollow deeds last (Rons seats) = CanWin deeds seats.first (seat_of last) (won_tile last)
 CanFollow deeds last (Call bid) = Unit {0}

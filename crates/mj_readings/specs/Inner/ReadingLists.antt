@@ -27,7 +27,7 @@ standard_of melds winning winning_way = standard (winning_way.sets ++ map set_of
 abbrev pub with_win : List Meld → ℕ → List Set → ℕ → ℕ → Reading
 with_win melds winning sets pair win = standard_of melds winning (record { sets = sets; pair = pair; win = win })
 
--- The readings of some ways, behind these sets.
+-- The readings of some ways, after these sets.
 abbrev pub readings_past : List Meld → ℕ → List Set → List Way → List Reading
 readings_past melds winning sets list = map (standard_of melds winning) (winning_ways sets winning list)
 

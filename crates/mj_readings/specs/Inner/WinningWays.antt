@@ -6,7 +6,7 @@ use Rattle.mj_readings.specs.declared.winning_way.WinningWay.{WinningWay}
 use Rattle.mj_readings.specs.Readings.{names_winning}
 use Rattle.mj_readings.specs.Inner.Ways.{Way}
 
--- The item of a list at this place, or how far behind the end the place is.
+-- The item of a list at this place, or how far after the end the place is.
 abbrev pub Picks : {X : Type 0} → List X → ℕ → Result X ℕ → Type 0
 Picks items place (Ok item) = slice_get items place ≡ Some item
 Picks items place (Err rest) = place ≡ length items + rest
@@ -19,6 +19,6 @@ abbrev pub winning_ways_of : List Set → ℕ → Way → List WinningWay
 winning_ways_of sets winning way =
     map (λ win. record { sets = sets ++ way.sets; pair = way.pair; win = win }) (win_places (sets ++ way.sets) way.pair winning)
 
--- The ways, behind these sets, each with the places of the winning tile.
+-- The ways, after these sets, each with the places of the winning tile.
 unfoldable pub winning_ways : List Set → ℕ → List Way → List WinningWay
 winning_ways sets winning list = flat_map (winning_ways_of sets winning) list

@@ -1,4 +1,4 @@
--- The deeds of lines, read from what stands behind their kind.
+-- The deeds of lines, read from what stands after their kind.
 use Rattle.std.specs.Prelude.{ℕ, false, if◌then◌else◌, List, [], ◌∷◌, codes, bytes_eq, Option, Some, None, option_map, option_and_then}
 use Rattle.std.specs.Option.{option_or}
 use Rattle.mj_bytes.specs.Parts.{behind}
@@ -44,7 +44,7 @@ end_game_in text =
     (word_field (codes ",\"kyotaku\":") points.1))
     (points_field (codes ",\"scores\":") text)
 
--- A call of a discard by its type, with two own tiles and what stands behind them.
+-- A call of a discard by its type, with two own tiles and what stands after them.
 abbrev pub call_by : List ℕ → ℕ → ℕ → ℕ → ℕ → ℕ → List ℕ → Option Bid
 call_by kind seat target tile a b rest =
     if bytes_eq kind (codes "chi") then Some (bids.Chi seat target tile a b) else
@@ -90,7 +90,7 @@ added_kan_in text =
     (tile_field (codes ",\"pai\":") seat.1))
     (byte_field (codes ",\"actor\":") text)
 
--- A name between quotation marks behind a key.
+-- A name between quotation marks after a key.
 abbrev pub name_of : List ℕ → Option (List ℕ)
 name_of text = if is_name text then Some text else None
 
@@ -149,7 +149,7 @@ start_by round number honba deposits text =
     (tile_field (codes ",\"dora_marker\":") dealer.1))
     (byte_field (codes ",\"oya\":") text)
 
--- A kind of tile behind a key.
+-- A kind of tile after a key.
 unfoldable pub kind_field : List ℕ → List ℕ → Option (ℕ × List ℕ)
 kind_field key text = option_and_then (and_rest (below 34)) (tile_field key text)
 

@@ -1,4 +1,4 @@
--- Fields at the front of a text: each gives its value and what stands behind it.
+-- Fields at the front of a text: each gives its value and what stands after it.
 use Rattle.std.specs.Prelude.{ℕ, ℤ, pos, negsuc, zero, suc, ◌^◌, ◌==◌, Bool, true, false, nat_lt, if◌then◌else◌, List, [], ◌∷◌, codes, Option, Some, None, option_map, option_and_then}
 use Rattle.std.specs.Option.{option_or}
 use Rattle.std.specs.Char.{is_ascii_digit}
@@ -6,7 +6,7 @@ use Rattle.mj_bytes.specs.Numbers.{decimal_of}
 use Rattle.mj_bytes.specs.Parts.{behind, onto_front}
 use Rattle.mj_tiles.specs.Faces.{face_of}
 
--- The decimal digits that a text begins with, and what stands behind them.
+-- The decimal digits that a text begins with, and what stands after them.
 abbrev pub digits_front : List ℕ → List ℕ
 digits_front [] = []
 digits_front (b ∷ bs) = if is_ascii_digit b then b ∷ digits_front bs else []
@@ -60,7 +60,7 @@ signed_by text (Some size) = option_and_then (and_rest negative_of) (number_at s
 unfoldable pub signed_at : List ℕ → Option (ℤ × List ℕ)
 signed_at text = signed_by text (behind (codes "-") text)
 
--- Fields behind a key.
+-- Fields after a key.
 unfoldable pub byte_field : List ℕ → List ℕ → Option (ℕ × List ℕ)
 byte_field key text = option_and_then (below_at (2 ^ 8)) (behind key text)
 

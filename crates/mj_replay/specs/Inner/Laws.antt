@@ -1,4 +1,4 @@
--- What is written is read again, whatever stands behind it.
+-- What is written is read again, whatever stands after it.
 use Rattle.std.specs.Prelude.{◌≡◌, ℕ, ℤ, zero, suc, nat_le, length, ◌<◌, Bool, true, false, not, List, [], ◌∷◌, ◌++◌, decimal, Option, Some}
 use Rattle.mj_history.specs.Told.{told_of}
 use Rattle.std.specs.Char.{is_ascii_digit}

@@ -4,13 +4,13 @@ use Rattle.mj_bytes.specs.Parts.{behind}
 use Rattle.mj_yaku.specs.Han.{table}
 use Rattle.mj_replay.specs.Inner.Fields.{quoted_at, tile_at, byte_field, and_rest}
 
--- Behind an item stand a comma and more items, or the bracket that ends the list.
+-- After an item stand a comma and more items, or the bracket that ends the list.
 abbrev pub behind_item : {A : Type 0} → A → (List ℕ → Option (List A × List ℕ)) → List ℕ → Option (List A × List ℕ)
 behind_item item others [] = None
 behind_item item others (b ∷ bs) =
     if b == 44 then option_map (λ more. (item ∷ more.0, more.1)) (others bs) else (if b == 93 then Some (item ∷ [], bs) else None)
 
--- Items with commas between, up to the bracket behind them, so many at most.
+-- Items with commas between, up to the bracket after them, so many at most.
 abbrev pub items_from : {A : Type 0} → (List ℕ → Option (A × List ℕ)) → ℕ → List ℕ → Option (List A × List ℕ)
 items_from item zero text = None
 items_from item (suc most) text = option_and_then (λ x. behind_item x.0 (items_from item most) x.1) (item text)
@@ -46,7 +46,7 @@ row_at text =
 unfoldable pub rows_field : List ℕ → List ℕ → Option (List (ℕ × ℕ) × List ℕ)
 rows_field key text = option_and_then (list_at row_at) (behind key text)
 
--- Question marks with commas before them, up to the bracket behind them, so many at most.
+-- Question marks with commas before them, up to the bracket after them, so many at most.
 abbrev pub marks_by : ℕ → (List ℕ → Option (ℕ × List ℕ)) → Option (List ℕ) → Option (List ℕ) → Option (ℕ × List ℕ)
 marks_by before others (Some rest) more = Some (before, rest)
 marks_by before others None more = option_and_then others more
@@ -55,7 +55,7 @@ abbrev pub marks_from : ℕ → ℕ → List ℕ → Option (ℕ × List ℕ)
 marks_from zero before text = None
 marks_from (suc most) before text = marks_by before (marks_from most (suc before)) (behind (codes "]") text) (behind (codes ",\"?\"") text)
 
--- Question marks behind the first, 255 with it at most.
+-- Question marks after the first, 255 with it at most.
 unfoldable pub marks_at : List ℕ → Option (ℕ × List ℕ)
 marks_at text = marks_from 255 1 text
 

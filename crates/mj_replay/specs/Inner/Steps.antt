@@ -21,7 +21,7 @@ abbrev pub cause_at_end : List ℕ → Cause → Cause
 cause_at_end [] cause = cause
 cause_at_end (byte ∷ bytes) cause = causes.Cut
 
--- A line is a wall behind so many others, 200 of them at most.
+-- A line is a wall after so many others, 200 of them at most.
 pub record IsNext (red : Bool) (before : ℕ) (line wall : List ℕ) : Type 0 where
   pub few : before < 200
   pub wall_is : IsWallLine red line wall
@@ -45,7 +45,7 @@ pub record Follows (walls : List (List ℕ)) (before after : Play) (text : List 
   pub more : after ≡ record { rules = before.rules; deeds = before.deeds ++ deed ∷ [] }
   pub played : IsPlayed before.rules walls after.deeds
 
--- Or no deed with the line is played behind its deeds.
+-- Or no deed with the line is played after its deeds.
 abbrev pub FollowsIf : Bool → List (List ℕ) → Play → Play → List ℕ → Type 0
 FollowsIf true walls before after text = Follows walls before after text
 FollowsIf false walls before after text = (deed : Deed) → IsLineOf text deed → IsPlayedBehind before.rules walls before.deeds deed → ⊥

@@ -4,7 +4,7 @@ use Rattle.std.proofs.Common.{◌⊎◌}
 use Rattle.std.specs.List.{All, AllPass}
 use Rattle.mj_streams.specs.declared.pages.Place.{Place}
 
--- The text of a page by its number: one of the full pages, and behind them the newest one.
+-- The text of a page by its number: one of the full pages, and after them the newest one.
 abbrev pub page_at : List (List ℕ) → List ℕ → ℕ → List ℕ
 page_at full newest number = unwrap_or (slice_get full number) newest
 
@@ -36,6 +36,6 @@ pub record IsKept (full : List (List ℕ)) (newest : List ℕ) (places : List Pl
   pub sizes : All (IsPage (lines_at full newest places)) full
   pub size : IsPage (lines_at full newest places) newest
 
--- A line of so many bytes goes behind the text of a page: the page is empty, or the two are no longer than a page.
+-- A line of so many bytes goes after the text of a page: the page is empty, or the two are no longer than a page.
 abbrev pub Fits : List ℕ → ℕ → Type 0
 Fits page len = (page ≡ []) ⊎ (length page + len ≤ 65536)

@@ -31,7 +31,7 @@ beside deeds = previous (hand deeds)
 abbrev pub KnowsNewest : List Deed → HandFacts → Type 0
 KnowsNewest deeds facts = Knows (hand deeds) facts
 
--- What is kept stands for the deeds: each of them fits behind those before it, and kept are the newest one and the one beside
+-- What is kept stands for the deeds: each of them fits after those before it, and kept are the newest one and the one beside
 -- it, the standing, the points, the deposits, how many tiles of each face each seat holds, and the facts of the newest hand.
 pub record Stands (rules : Rules) (deeds : List Deed) (last before : Option Deed) (now : Standing) (held : List ℤ) (lying : ℕ) (tiles : Four (List ℕ)) (known : HandFacts) : Type 0 where
   pub fit : IsTrue (all_fit rules.red [] deeds)

@@ -29,7 +29,7 @@ abbrev pub is_after_win : Option Deed → Bool
 is_after_win None = false
 is_after_win (Some deed) = is_win deed
 
--- What stands beside a further deed: nothing of an earlier hand, and behind a win what stood beside it.
+-- What stands beside a further deed: nothing of an earlier hand, and after a win what stood beside it.
 abbrev pub previous_with : Bool → Option Deed → Option Deed → Deed → Option Deed
 previous_with begun before newest deed =
     if not begun || is_hand_start deed then None else (if is_win deed && is_after_win newest then before else newest)

@@ -16,8 +16,8 @@ use Rattle.mj_table.specs.declared.seat_facts.SeatFacts.{SeatFacts}
 use Rattle.mj_table.specs.Inner.Few.{Lists}
 
 -- What is kept of a seat's riichi says these facts of the deeds of one hand: whether it has begun, and the seat's first turn
--- has ended; whether the seat has reached, its reach was accepted and is a double one; whether it has discarded behind its
--- reach, and a deed behind that discard ended its one turn; and whether it is within that turn, and was at the tile given.
+-- has ended; whether the seat has reached, its reach was accepted and is a double one; whether it has discarded after its
+-- reach, and a deed after that discard ended its one turn; and whether it is within that turn, and was at the tile given.
 pub record KeepsMarks (deeds : List Deed) (seat : ℕ) (marks : MarkFacts) : Type 0 where
   pub begun : marks.begun ≡ list_any is_hand_start deeds
   pub ended : marks.ended ≡ list_any (ends_first seat) deeds

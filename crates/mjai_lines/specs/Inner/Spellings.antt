@@ -1,7 +1,7 @@
 -- Lines of players in their usual spelling: without spaces, and the fields in one order.
 use Rattle.std.specs.Prelude.{◌≡◌, ℕ, ◌+◌, ◌<◌, List, ◌∷◌, ◌++◌, codes, Bool, true, false}
 
--- A text that begins with a seat, and what is behind it.
+-- A text that begins with a seat, and what is after it.
 pub record BeginsWithSeat (text : List ℕ) (seat : ℕ) (behind : List ℕ) : Type 0 where
   pub within : seat < 4
   pub parts : text ≡ (48 + seat) ∷ behind
@@ -14,7 +14,7 @@ pass_front = codes "{\"type\":\"none\",\"actor\":"
 unfoldable pub pass_text : ℕ → List ℕ
 pass_text actor = pass_front ++ (48 + actor) ∷ codes "}"
 
--- How a discard begins, what stands between its actor and the text of its tile, and how it ends behind that text.
+-- How a discard begins, what stands between its actor and the text of its tile, and how it ends after that text.
 abbrev pub discard_front : List ℕ
 discard_front = codes "{\"type\":\"dahai\",\"actor\":"
 

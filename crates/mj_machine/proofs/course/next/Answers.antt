@@ -14,13 +14,13 @@ follower-requires-clause-small c =
     let s = played_sound c.args.table.now.rules c.args.walls.now c.args.table.now.deeds (each_is_wall c.args.table.now.rules.red c.args.walls.now c.requires.some c.requires.whole) c.requires.played in
     all_small c.args.table.now.rules.red c.args.walls.now _ _ c.args.table.now.deeds s.fit s.known.fair s.standing
 
--- Whoever wins behind them by lawful answers can.
+-- Whoever wins after them by lawful answers can.
 pub follower-requires-clause-can : goal.follower-requires-clause-can
 follower-requires-clause-can c = λ last e.
     can_follow c.args.table.now.rules c.args.walls.now c.args.table.now.deeds c.args.answers.now last
     (each_is_wall c.args.table.now.rules.red c.args.walls.now c.requires.some c.requires.whole) c.requires.played c.requires.lawful e
 
--- The deed that lawful answers give behind played deeds fits there.
+-- The deed that lawful answers give after played deeds fits there.
 pub push-requires : goal.push-requires
 push-requires c =
     (next_of_played_fits c.args.table.now.rules c.args.walls.now c.args.table.now.deeds c.args.answers.now c.in-Some.deed

@@ -1,4 +1,4 @@
--- The readings of the places gone through stand behind those found before.
+-- The readings of the places gone through stand after those found before.
 use Rattle.std.proofs.Common.{◌≡◌, ◌++◌, map}
 use Rattle.std.specs.List.{filter, range_with_len}
 use Rattle.mj_readings.specs.Readings.{names_winning}

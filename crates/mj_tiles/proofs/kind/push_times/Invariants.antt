@@ -1,4 +1,4 @@
--- The kind stands behind the others as often as it was added.
+-- The kind stands after the others as often as it was added.
 use Rattle.std.proofs.Common.{◌≡◌, ◌++◌, replicate}
 use Rattle.mj_tiles.proofs.kind.push_times.Given as goal
 

@@ -1,4 +1,4 @@
--- `more` makes a value of no bytes, at a count one higher than that of the value behind the reference. Assumes `Logic`.
+-- `more` makes a value of no bytes, at a count one higher than that of the value after the reference. Assumes `Logic`.
 use Rattle.std.proofs.Common.{List, [], ◌∷◌, ◌++◌, ◌+◌, refl}
 use seplogic.Ra.Ura.{Ura}
 use mir.Syntax.{Fn}

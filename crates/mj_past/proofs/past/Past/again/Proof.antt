@@ -1,4 +1,4 @@
--- `again` makes a value of no bytes, with the list of the value behind the reference. Assumes `Logic`.
+-- `again` makes a value of no bytes, with the list of the value after the reference. Assumes `Logic`.
 use Rattle.std.proofs.Common.{List, [], ◌∷◌, ◌++◌, refl}
 use seplogic.Ra.Ura.{Ura}
 use mir.Syntax.{Fn, Args, a_type}
