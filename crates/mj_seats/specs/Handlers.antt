@@ -33,7 +33,7 @@ WantsMemory Over = ⊥
 WantsMemory (Host fault) = ⊥
 WantsMemory NoMemory = Unit {0}
 
--- A handler that goes on has had no running out of memory.
+-- A handler that goes on has not run out of memory.
 abbrev pub Excuses : {F : Type 0} → Option (HandlerEnd F) → Type 0
 Excuses None = ⊥
 Excuses (Some end) = WantsMemory end

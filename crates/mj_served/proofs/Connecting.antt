@@ -27,7 +27,7 @@ use Rattle.mj_served.proofs.Owning.{owned, at_seam}
 use Rattle.mj_served.proofs.Beginning.{first_of, place_of}
 use Rattle.mj_served.proofs.Reading.{lines_of, unfinished_of, none_left, all_left, known, written_of}
 
--- A session that no running out of memory ended left no line out.
+-- A session that didn't end by running out of memory left no line out.
 none_out : (ended : Ended) (out : List (List ℕ)) → (IsExcused ended → ⊥) → LeavesOut ended out → out ≡ []
 none_out GameOver out never h = h
 none_out PeerEnded out never h = h
