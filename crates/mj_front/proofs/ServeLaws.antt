@@ -27,7 +27,7 @@ use Rattle.mj_served.specs.Laws.{ArePlayed}
 use Rattle.mj_served.proofs.Serving.{served}
 use Rattle.mj_front.specs.declared.serve.ServeEnd.{ServeEnd}
 use Rattle.mj_front.specs.declared.serve.ServeEnd.TheVariants as ends
-use Rattle.mj_front.specs.Serve.{Serves, HasLostAll, AppendsLinks}
+use Rattle.mj_front.specs.Serve.{Serves, HasLostAll, AppendsLinks, Outside}
 use Rattle.mj_front.specs.Inner.Serving.{WritesRecordOf, placed_link, Giving}
 
 module _ {A F : Type 0} (after_all : List (Entry A) → Showing) (made : F → Type 0) (number : F → ℕ) where
@@ -78,19 +78,19 @@ module _ {L : Type 0} (read left written : L → Option (List ℕ)) (read_faults
 
   -- The end of the command, by what was written of the record.
   module _ {F : Type 0} (made : F → Type 0) (number : F → ℕ) where
-    pub serves_by : (end : ServeEnd) (s : ServedWith) (game : Game) (links : List (L × ℕ)) (old_ports new_ports : Option (List ℕ)) (old_returned new_returned : Option (List (L × ℕ))) (old_readings new_readings old_written new_written : Option (List ℕ))
-        → Appends old_ports new_ports (s.port ∷ []) → IsServed read left written read_faults write_faults s game links old_readings new_readings → AppendsLinks old_returned new_returned links
-        → (is_over (after game.setting game.entries).deeds ≡ false → HasLostAll made number) → WritesRecordOf end game old_written new_written
-        → Serves read left written read_faults write_faults made number end s old_ports new_ports old_returned new_returned old_readings new_readings old_written new_written
-    serves_by ends.Over s game links _ _ _ _ _ _ _ _ opened is back lost h = record { game = game; links = links; opened = opened; served = is; back = back; record_is = h.0; ends = h.1 }
-    serves_by ends.HostLost s game links _ _ _ _ _ _ _ _ opened is back lost h = record { game = game; links = links; opened = opened; served = is; back = back; record_is = h.0; ends = (h.1, lost h.1) }
-    serves_by ends.NotOpened s game links _ _ _ _ _ _ _ _ opened is back lost h = absurd h
-    serves_by ends.WriteFault s game links _ _ _ _ _ _ _ _ opened is back lost h = record { game = game; links = links; opened = opened; served = is; back = back; record_is = h; ends = either (is_over (after game.setting game.entries).deeds) refl }
+    pub serves_by : (end : ServeEnd) (s : ServedWith) (game : Game) (links : List (L × ℕ)) (old new : Outside L)
+        → Appends old.ports new.ports (s.port ∷ []) → IsServed read left written read_faults write_faults s game links old.readings new.readings → AppendsLinks old.returned new.returned links
+        → (is_over (after game.setting game.entries).deeds ≡ false → HasLostAll made number) → WritesRecordOf end game old.written new.written
+        → Serves read left written read_faults write_faults made number end s old new
+    serves_by ends.Over s game links old new opened is back lost h = record { game = game; links = links; opened = opened; served = is; back = back; record_is = h.0; ends = h.1 }
+    serves_by ends.HostLost s game links old new opened is back lost h = record { game = game; links = links; opened = opened; served = is; back = back; record_is = h.0; ends = (h.1, lost h.1) }
+    serves_by ends.NotOpened s game links old new opened is back lost h = absurd h
+    serves_by ends.WriteFault s game links old new opened is back lost h = record { game = game; links = links; opened = opened; served = is; back = back; record_is = h; ends = either (is_over (after game.setting game.entries).deeds) refl }
       where
         either : (b : Bool) → is_over (after game.setting game.entries).deeds ≡ b → has_ended game ⊎ ((is_over (after game.setting game.entries).deeds ≡ false) × HasLostAll made number)
         either true e = inl e
         either false e = inr (e, lost e)
-    serves_by ends.NoMemory s game links _ _ _ _ _ _ _ _ opened is back lost h = h
+    serves_by ends.NoMemory s game links old new opened is back lost h = h
 
 -- The giving back of links, one after the other.
 module _ {L : Type 0} where

@@ -20,24 +20,35 @@ AppendsLinks (Some xs) (Some ys) links = ys ≡ xs ++ links
 abbrev pub HasLostAll : {F : Type 0} → (F → Type 0) → (F → ℕ) → Type 0
 HasLostAll {F} made number = (k : ℕ) → k < 8 → (fault : F) × made fault × (number fault ≡ k)
 
+-- What a host, a clock and a sink have told of themselves: the ports that were tried, the links that were given back, what the
+-- clock told, and what was written; of each nothing where it tells nothing.
+pub record Outside (L : Type 0) : Type 0 where
+  pub ports : Option (List ℕ)
+  pub returned : Option (List (L × ℕ))
+  pub readings : Option (List ℕ)
+  pub written : Option (List ℕ)
+
+abbrev pub outside : {L : Type 0} → Option (List ℕ) → Option (List (L × ℕ)) → Option (List ℕ) → Option (List ℕ) → Outside L
+outside ports returned readings written = record { ports = ports; returned = returned; readings = readings; written = written }
+
 -- The host was not opened, and nothing else was done.
-pub record NotOpened {F X : Type 0} (made : F → Type 0) (number : F → ℕ) (port : ℕ) (old_ports new_ports : Option (List ℕ)) (old_returned new_returned : Option (List X)) (old_written new_written : Option (List ℕ)) : Type 0 where
+pub record NotOpened {F L : Type 0} (made : F → Type 0) (number : F → ℕ) (port : ℕ) (old new : Outside L) : Type 0 where
   pub fault : F
   pub made_it : made fault
   pub of_opening : number fault ≡ 255
-  pub tried : Appends old_ports new_ports (port ∷ []) ⊎ Keeps old_ports new_ports
-  pub none_back : new_returned ≡ old_returned
-  pub unwritten : Keeps old_written new_written
+  pub tried : Appends old.ports new.ports (port ∷ []) ⊎ Keeps old.ports new.ports
+  pub none_back : new.returned ≡ old.returned
+  pub unwritten : Keeps old.written new.written
 
 module _ {L F : Type 0} (read left written : L → Option (List ℕ)) (read_faults write_faults : L → ℕ) (made : F → Type 0) (number : F → ℕ) where
   -- A game was played to an end, its links were given back to the host with the places of their connections, and its record was
   -- written, whole or in part, as `IsWritten` says.
-  pub record PlaysGame (IsWritten : List ℕ → Type 0) (Ends : Game → Type 0) (s : ServedWith) (old_ports new_ports : Option (List ℕ)) (old_returned new_returned : Option (List (L × ℕ))) (old_readings new_readings : Option (List ℕ)) : Type 0 where
+  pub record PlaysGame (IsWritten : List ℕ → Type 0) (Ends : Game → Type 0) (s : ServedWith) (old new : Outside L) : Type 0 where
     pub game : Game
     pub links : List (L × ℕ)
-    pub opened : Appends old_ports new_ports (s.port ∷ [])
-    pub served : IsServed read left written read_faults write_faults s game links old_readings new_readings
-    pub back : AppendsLinks old_returned new_returned links
+    pub opened : Appends old.ports new.ports (s.port ∷ [])
+    pub served : IsServed read left written read_faults write_faults s game links old.readings new.readings
+    pub back : AppendsLinks old.returned new.returned links
     pub record_is : IsWritten (record_of_game game)
     pub ends : Ends game
 
@@ -46,13 +57,9 @@ module _ {L F : Type 0} (read left written : L → Option (List ℕ)) (read_faul
   IsAbandoned game = (is_over (after game.setting game.entries).deeds ≡ false) × HasLostAll made number
 
   -- What the command does, by its end. Running out of memory writes nothing.
-  abbrev pub Serves : ServeEnd → ServedWith → Option (List ℕ) → Option (List ℕ) → Option (List (L × ℕ)) → Option (List (L × ℕ)) → Option (List ℕ) → Option (List ℕ) → Option (List ℕ) → Option (List ℕ) → Type 0
-  Serves ends.Over s old_ports new_ports old_returned new_returned old_readings new_readings old_written new_written =
-      PlaysGame (Appends old_written new_written) has_ended s old_ports new_ports old_returned new_returned old_readings new_readings
-  Serves ends.HostLost s old_ports new_ports old_returned new_returned old_readings new_readings old_written new_written =
-      PlaysGame (Appends old_written new_written) IsAbandoned s old_ports new_ports old_returned new_returned old_readings new_readings
-  Serves ends.WriteFault s old_ports new_ports old_returned new_returned old_readings new_readings old_written new_written =
-      PlaysGame (WritesPrefix old_written new_written) (λ game. has_ended game ⊎ IsAbandoned game) s old_ports new_ports old_returned new_returned old_readings new_readings
-  Serves ends.NotOpened s old_ports new_ports old_returned new_returned old_readings new_readings old_written new_written =
-      NotOpened made number s.port old_ports new_ports old_returned new_returned old_written new_written
-  Serves ends.NoMemory s old_ports new_ports old_returned new_returned old_readings new_readings old_written new_written = Keeps old_written new_written
+  abbrev pub Serves : ServeEnd → ServedWith → Outside L → Outside L → Type 0
+  Serves ends.Over s old new = PlaysGame (Appends old.written new.written) has_ended s old new
+  Serves ends.HostLost s old new = PlaysGame (Appends old.written new.written) IsAbandoned s old new
+  Serves ends.WriteFault s old new = PlaysGame (WritesPrefix old.written new.written) (λ game. has_ended game ⊎ IsAbandoned game) s old new
+  Serves ends.NotOpened s old new = NotOpened made number s.port old new
+  Serves ends.NoMemory s old new = Keeps old.written new.written

@@ -5,7 +5,7 @@ ghost use Rattle.std.specs.String.{string_bytes};
 ghost use Rattle.mj_words.specs.Asked.{asked_by};
 ghost use Rattle.mj_words.specs.Commands.{asked_by_command};
 ghost use Rattle.mj_front.specs.Run.{Runs, RunsAny, MeetsReadFaults, LeavesAlone, is_waiting, IsAlone};
-ghost use Rattle.mj_front.specs.Serve.{Serves};
+ghost use Rattle.mj_front.specs.Serve.{Serves, outside};
 ghost use Rattle.mj_front.specs.Faults.{CountsReadFaults, CountsWriteFaults};
 
 use crate::hand::write_hand;
@@ -44,8 +44,8 @@ pub fn run<S: Source, K: Sink, H: Host, C: Clock, R: Threads + Wait + Sync>(
 ) -> Status
     ensures run { RunsAny (λ end s. Serves H.Link.was_read H.Link.left H.Link.written
         H.Link.read_faults H.Link.write_faults (H.made_by host.new) H.Fault.number end s
-        (H.ports host.old) (H.ports host.new) (H.returned host.old) (H.returned host.new)
-        (C.readings clock.old) (C.readings clock.new) (K.written sink.old) (K.written sink.new))
+        (outside (H.ports host.old) (H.returned host.old) (C.readings clock.old) (K.written sink.old))
+        (outside (H.ports host.new) (H.returned host.new) (C.readings clock.new) (K.written sink.new)))
         (asked_by (map string_bytes words.now)) result (S.left source.old) (S.left source.new)
         (K.written sink.old) (K.written sink.new) }
     ensures reads { CountsReadFaults result (S.read_faults source.old) (S.read_faults source.new) }

@@ -5,7 +5,7 @@ ghost use Rattle.std.specs.Io.KnownBytes.{Appends};
 ghost use Rattle.mj_words.specs.Asked.{ServedWith};
 ghost use Rattle.mj_words.specs.Commands.{served_with};
 ghost use Rattle.mj_served.specs.Served.{served_setting};
-ghost use Rattle.mj_front.specs.Serve.{Serves};
+ghost use Rattle.mj_front.specs.Serve.{Serves, outside};
 ghost use Rattle.mj_front.specs.Statuses.{serve_status};
 ghost use Rattle.mj_front.specs.Faults.{CountsWriteFaults};
 ghost use Rattle.mj_front.specs.Inner.Serving.{GivesAllBack, WritesRecordOf, placed_link};
@@ -48,9 +48,9 @@ pub(crate) fn serve<K: Sink, H: Host, C: Clock, R: Threads + Wait + Sync>(
 ) -> ServeEnd
     ensures serves { Serves H.Link.was_read H.Link.left H.Link.written H.Link.read_faults
         H.Link.write_faults (H.made_by host.new) H.Fault.number result
-        (served_with serving.now) (H.ports host.old) (H.ports host.new) (H.returned host.old)
-        (H.returned host.new) (C.readings clock.old) (C.readings clock.new) (K.written sink.old)
-        (K.written sink.new) }
+        (served_with serving.now)
+        (outside (H.ports host.old) (H.returned host.old) (C.readings clock.old) (K.written sink.old))
+        (outside (H.ports host.new) (H.returned host.new) (C.readings clock.new) (K.written sink.new)) }
     ensures writes { CountsWriteFaults (serve_status result) (K.write_faults sink.old)
         (K.write_faults sink.new) }
 {
@@ -104,9 +104,9 @@ fn play<K: Sink, H: Host, C: Clock, R: Threads + Wait + Sync>(
     ensures serves { (s : ServedWith) → (first : Option (List ℕ))
         → game.setting ≡ served_setting s → Appends first (H.ports host.old) (s.port ∷ [])
         → Serves H.Link.was_read H.Link.left H.Link.written H.Link.read_faults
-        H.Link.write_faults (H.made_by host.new) H.Fault.number result s first
-        (H.ports host.new) (H.returned host.old) (H.returned host.new) (C.readings clock.old)
-        (C.readings clock.new) (K.written sink.old) (K.written sink.new) }
+        H.Link.write_faults (H.made_by host.new) H.Fault.number result s
+        (outside first (H.returned host.old) (C.readings clock.old) (K.written sink.old))
+        (outside (H.ports host.new) (H.returned host.new) (C.readings clock.new) (K.written sink.new)) }
     ensures writes { CountsWriteFaults (serve_status result) (K.write_faults sink.old)
         (K.write_faults sink.new) }
 {
