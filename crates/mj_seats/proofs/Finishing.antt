@@ -16,7 +16,7 @@ use Rattle.mj_seats.specs.Wires.{WireState, Took, Told, ToldInPart}
 use Rattle.mj_seats.proofs.Wiring.{took_nothing, told_failed}
 use Rattle.mj_seats.proofs.Entering.{enters_nothing, enters_chain, enters_one}
 use Rattle.mj_seats.proofs.Scripts.{script_at, script_kept}
-use Rattle.mj_seats.proofs.Moving.{moves_behind}
+use Rattle.mj_seats.proofs.Moving.{asked_still, moves_behind}
 
 module _ {A : Type 0} (author : ℕ) where
   -- nothing more of one's own was entered
@@ -54,13 +54,9 @@ module _ {A R : Type 0} (after : List (Entry A) → Showing) (reads : List ℕ �
   ends_gone : (verdict : List (Entry A) → Type 0) (mid new : List (Entry A)) → Stands (after mid) author seat place → (g : GoesAway after author seat place mid new) → verdict g.until → EndsBy after seat place new (Gone author seat) verdict
   ends_gone verdict mid new s g right = record { before = g.until; last_is = g.extends.added; was_of = g.watches.unmoved.seat_of place s.mine; right = right }
 
-  -- a seat that has a deed to answer has it still where others entered something
-  asked_still : (mid new : List (Entry A)) → Watches after author seat mid new → (after mid).due seat < (after mid).deeds → (after new).due seat < (after new).deeds
-  asked_still mid new w near = let due = w.unmoved.due in let deeds = w.stays.deeds in omega (arith, near, due, deeds)
-
   module _ (old mid new : List (Entry A)) (x y : WireState) (text : List ℕ) where
     -- a session that ended in the game
-    pub finished_as : (e : Ended) → new ≡ mid → (m : Moves after reads hears author seat place (Ends e) [] old mid x y text) → last_entry {A = A} e author seat ≡ [] → HistoryEnds after hears e author seat place mid → Finished after reads hears author seat place e old new x y text
+    pub finished_as : (e : Ended) → new ≡ mid → (m : Moves after reads hears author seat place (Ends e) [] old mid x y text) → last_entry {A = A} e author seat ≡ [] → HistoryEnds after hears e author seat place m.said mid → Finished after reads hears author seat place e old new x y text
     finished_as e same m none history =
         let entered : Enters author old mid (said_by reads author seat m.said ++ last_entry e author seat) = subst (λ (l : List (Entry A)). Enters author old mid (said_by reads author seat m.said ++ l)) (sym none) (subst (λ (l : List (Entry A)). Enters author old mid l) (sym (append-nil (said_by reads author seat m.said))) m.entered) in
         subst (λ (l : List (Entry A)). Finished after reads hears author seat place e old l x y text) (sym same)
@@ -68,7 +64,7 @@ module _ {A R : Type 0} (after : List (Entry A) → Showing) (reads : List ℕ �
 
     -- a session that the link ended
     pub finished_gone : (e : Ended) → (m : Moves after reads hears author seat place (Ends e) [] old mid x y text) → last_entry {A = A} e author seat ≡ Gone author seat ∷ [] → Stands (after mid) author seat place → (after mid).due seat < (after mid).deeds
-        → (EndsBy after seat place new (Gone author seat) (λ before. (after before).due seat < (after before).deeds) → HistoryEnds after hears e author seat place new) → GoesAway after author seat place mid new → Finished after reads hears author seat place e old new x y text
+        → (EndsBy after seat place new (Gone author seat) (λ before. (after before).due seat < (after before).deeds) → HistoryEnds after hears e author seat place m.said new) → GoesAway after author seat place mid new → Finished after reads hears author seat place e old new x y text
     finished_gone e m last stands near history g = record {
       said = m.said;
       left_out = m.left_out;
@@ -78,7 +74,7 @@ module _ {A R : Type 0} (after : List (Entry A) → Showing) (reads : List ℕ �
       entered = subst (λ (l : List (Entry A)). Enters author old new (said_by reads author seat m.said ++ l)) (sym last) (enters_gone author after seat place old mid new (said_by reads author seat m.said) m.entered g);
       wrote = subst (λ (l : List ℕ). ToldInPart (IsExcused e) x y text l) (sym (kept_away mid new stands near g)) m.reaches.3;
       wire_ends = m.reaches.1;
-      history_ends = history (ends_gone (λ before. (after before).due seat < (after before).deeds) mid new stands g (asked_still mid g.until g.watches near));
+      history_ends = history (ends_gone (λ before. (after before).due seat < (after before).deeds) mid new stands g (asked_still after author seat mid g.until g.watches near));
     }
 
     -- a session that the link ended, but memory was wanting for its last entry
@@ -103,7 +99,7 @@ module _ {A R : Type 0} (after : List (Entry A) → Showing) (reads : List ℕ �
     finished GameOver r m (is, same) = done_as GameOver r is (finished_as GameOver same m refl (m.reaches.2.1, m.reaches.2.0.present, m.reaches.2.0.mine, m.reaches.2.2))
     finished PeerEnded r m (inl (is, g)) = done_as PeerEnded r is (finished_gone PeerEnded m refl m.reaches.2.0 m.reaches.2.1 (λ h. h) g)
     finished PeerEnded r m (inr (is, w)) = done_as NoMemory r is (finished_dry PeerEnded m m.reaches.0 m.reaches.1.0 m.reaches.2.0 m.reaches.2.1 w)
-    finished LinkFault r m (inl (is, g)) = done_as LinkFault r is (finished_gone LinkFault m refl m.reaches.2.0 m.reaches.2.1 (λ h. record { before = h.before; last_is = h.last_is; was_of = h.was_of; right = tt }) g)
+    finished LinkFault r m (inl (is, g)) = done_as LinkFault r is (finished_gone LinkFault m refl m.reaches.2.0 m.reaches.2.1 (λ h. record { before = h.before; last_is = h.last_is; was_of = h.was_of; right = inr h.right }) g)
     finished LinkFault r m (inr (is, w)) = done_as NoMemory r is (finished_dry LinkFault m m.reaches.0 (ap (λ (l : List ℕ). has_newline l) m.reaches.1.0) m.reaches.2.0 m.reaches.2.1 w)
     finished LineTooLong r m (inl (is, g)) = done_as LineTooLong r is (finished_gone LineTooLong m refl m.reaches.2.0 m.reaches.2.1 (λ h. h) g)
     finished LineTooLong r m (inr (is, w)) = done_as NoMemory r is (finished_dry LineTooLong m m.reaches.0 (ap (λ (l : List ℕ). has_newline l) m.reaches.1.0) m.reaches.2.0 m.reaches.2.1 w)
@@ -129,7 +125,7 @@ module _ {A R : Type 0} (after : List (Entry A) → Showing) (reads : List ℕ �
       entered = enters_gone author after seat place old old new [] (enters_nothing author old) g;
       wrote = subst (λ (l : List ℕ). ToldInPart ⊥ x y hello l) (sym (g.extends.script_is ∙ append-nil (script (after g.until) place))) (first_part ⊥ g.until g.watches);
       wire_ends = (refl, inl up);
-      history_ends = ends_gone (λ _. Unit {0}) old new stands g tt;
+      history_ends = ends_gone _ old new stands g (inl refl);
     })
     unplayed r (inr (is, w)) = subst (λ (k : Ended). Finished after reads hears author seat place k old new x y hello) (sym is) (record {
       said = [];

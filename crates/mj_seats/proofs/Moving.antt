@@ -33,6 +33,10 @@ ends_from TooManyRefusals x y z rest r w h = h
 ends_from (NotSeated why) x y z rest r w h = h
 ends_from NoMemory x y z rest r w h = h
 
+-- a seat that has a deed to answer has it still where others entered something
+pub asked_still : {A : Type 0} (after : List (Entry A) → Showing) (author seat : ℕ) (old new : List (Entry A)) → Watches after author seat old new → (after old).due seat < (after old).deeds → (after new).due seat < (after new).deeds
+asked_still after author seat old new w near = let due = w.unmoved.due in let deeds = w.stays.deeds in omega (arith, near, due, deeds)
+
 module _ {A R : Type 0} (after : List (Entry A) → Showing) (reads : List ℕ → A) (hears : List (Entry A) → ℕ → ℕ → A → Heard R) (author seat place : ℕ) where
   reaches_from : (step : Step) (new : List (Entry A)) (x y z : WireState) (t0 t : List ℕ) (left_out : List (List ℕ)) (rest : List ℕ) → x.read_faults ≤ y.read_faults → Told x y t0 t
       → Reaches after reads hears author seat place step new y z t left_out rest → Reaches after reads hears author seat place step new x z t0 left_out rest
@@ -295,7 +299,7 @@ module _ {A R : Type 0} (after : List (Entry A) → Showing) (reads : List ℕ �
         reaches = (
           refl,
           refl,
-          record { answer = reads line; rule = s.speaks.1.0; ends = record { before = s.until; last_is = s.speaks.0.added; was_of = s.watches.unmoved.seat_of place stands.mine; right = s.speaks.1.1 } },
+          record { answer = reads line; rule = s.speaks.1.0; ends = record { before = s.until; last_is = s.speaks.0.added; was_of = s.watches.unmoved.seat_of place stands.mine; right = (asked_still after author seat old s.until s.watches near, s.speaks.1.1) } },
           told_any x y piece (script (after old) place) (script (after new) place) (replied_by s.until s.watches s.speaks.0) ⊥ sent bytes faults,
         );
       }

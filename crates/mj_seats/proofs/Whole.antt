@@ -1,5 +1,5 @@
 -- What a session wrote stays the script of its connection when others enter more.
-use Rattle.std.proofs.Common.{◌≡◌, ℕ, ◌+◌, ◌<◌, ◌≤◌, Bool, true, false, nat_lt, if◌then◌else◌, List, [], ◌∷◌, ◌++◌, length, Option, Some, None, refl, true≢false, sym, ap, ◌∙◌, subst, arith, append_assoc, append-nil}
+use Rattle.std.proofs.Common.{◌≡◌, ◌⊎◌, ℕ, ◌+◌, ◌<◌, ◌≤◌, Bool, true, false, nat_lt, if◌then◌else◌, List, [], ◌∷◌, ◌++◌, length, Option, Some, None, refl, true≢false, sym, ap, ◌∙◌, subst, arith, append_assoc, append-nil}
 use Rattle.std.proofs.lemmas.List.{length-append}
 use Rattle.mj_ports.specs.declared.entry.Entry.{Entry}
 use Rattle.mj_ports.specs.declared.entry.Entry.TheVariants.{Said, Gone}
@@ -107,22 +107,22 @@ module _ {A : Type 0} (after : List (Entry A) → Showing) (is_legal : List (Ent
       refused_none author seat place new legal r =
           let e = r.ends in
           let moved : Answers says (Closing r.rule) seat (after e.before) (after (e.before ++ Said author seat r.answer ∷ [])) =
-          subst (λ (h : Heard R). Answers says h seat (after e.before) (after (e.before ++ Said author seat r.answer ∷ []))) e.right (answers e.before author seat r.answer (subst is_legal e.last_is legal)) in
+          subst (λ (h : Heard R). Answers says h seat (after e.before) (after (e.before ++ Said author seat r.answer ∷ []))) e.right.1 (answers e.before author seat r.answer (subst is_legal e.last_is legal)) in
           ap (λ (fs : List (Entry A)). (after fs).seat_of place) e.last_is ∙ moved.0.no_seat place e.was_of
 
       -- in the whole history the script of a session's connection is that in what the session saw
-      script_stays : (ended : Ended) (author seat place : ℕ) (new all gap : List (Entry A)) → is_legal all → all ≡ new ++ gap → place < length new → HistoryEnds after hears ended author seat place new → (IsExcused ended → ⊥)
+      script_stays : (ended : Ended) (author seat place : ℕ) (said : List (List ℕ)) (new all gap : List (Entry A)) → is_legal all → all ≡ new ++ gap → place < length new → HistoryEnds after hears ended author seat place said new → (IsExcused ended → ⊥)
           → ((after new).over ≡ true → Enters author new all []) → script (after all) place ≡ script (after new) place
-      script_stays GameOver author seat place new all gap legal e near (over, here, mine, none) excused alone =
+      script_stays GameOver author seat place said new all gap legal e near (over, here, mine, none) excused alone =
           let a = alone over in
           let moved = between after is_legal legal_before stays others author seat new a.since (subst is_legal a.grown legal) a.mine_are here in
           subst (λ (fs : List (Entry A)). script (after fs) place ≡ script (after new) place) (sym a.grown) (script_quiet (after new) (after (new ++ a.since)) place seat moved.0 moved.1 over mine none)
-      script_stays PeerEnded author seat place new all gap legal e near h excused alone = script_over place new all gap legal e near (gone_none (λ before. (after before).due seat < (after before).deeds) author seat place new (legal_before new gap (subst is_legal e legal)) h)
-      script_stays LinkFault author seat place new all gap legal e near h excused alone = script_over place new all gap legal e near (gone_none (λ _. Unit {0}) author seat place new (legal_before new gap (subst is_legal e legal)) h)
-      script_stays LineTooLong author seat place new all gap legal e near h excused alone = script_over place new all gap legal e near (gone_none (λ before. (after before).due seat < (after before).deeds) author seat place new (legal_before new gap (subst is_legal e legal)) h)
-      script_stays TooManyRefusals author seat place new all gap legal e near h excused alone = script_over place new all gap legal e near (refused_none author seat place new (legal_before new gap (subst is_legal e legal)) h)
-      script_stays (NotSeated why) author seat place new all gap legal e near h excused alone = absurd h
-      script_stays NoMemory author seat place new all gap legal e near h excused alone = absurd (excused tt)
+      script_stays PeerEnded author seat place said new all gap legal e near h excused alone = script_over place new all gap legal e near (gone_none (λ before. (after before).due seat < (after before).deeds) author seat place new (legal_before new gap (subst is_legal e legal)) h)
+      script_stays LinkFault author seat place said new all gap legal e near h excused alone = script_over place new all gap legal e near (gone_none (λ before. (said ≡ []) ⊎ ((after before).due seat < (after before).deeds)) author seat place new (legal_before new gap (subst is_legal e legal)) h)
+      script_stays LineTooLong author seat place said new all gap legal e near h excused alone = script_over place new all gap legal e near (gone_none (λ before. (after before).due seat < (after before).deeds) author seat place new (legal_before new gap (subst is_legal e legal)) h)
+      script_stays TooManyRefusals author seat place said new all gap legal e near h excused alone = script_over place new all gap legal e near (refused_none author seat place new (legal_before new gap (subst is_legal e legal)) h)
+      script_stays (NotSeated why) author seat place said new all gap legal e near h excused alone = absurd h
+      script_stays NoMemory author seat place said new all gap legal e near h excused alone = absurd (excused tt)
 
       module _ {L : Type 0} (reads : List ℕ → A) (joins : List ℕ → Option JoinLine) (sits : List (Entry A) → List ℕ → SitAnswer) (at : List ℕ → L → WireState) where
         place_near : (excuse : Type 0) (author : ℕ) (old new : List (Entry A)) (s : Session L) → Noted after reads joins sits hears says at excuse author old new s → s.place < length new
@@ -144,7 +144,7 @@ module _ {A : Type 0} (after : List (Entry A) → Showing) (is_legal : List (Ent
               record {
                 kept = k;
                 begins = (gap, sym is);
-                script_is = script_stays k.ended author k.seated.seat s.place mid all gap legal is (place_near ⊥ author old mid s k) k.seated.history_ends k.excused alone;
+                script_is = script_stays k.ended author k.seated.seat s.place k.seated.lines mid all gap legal is (place_near ⊥ author old mid s k) k.seated.history_ends k.excused alone;
               },
               serves_all author mid new all ss legal e h,
             )

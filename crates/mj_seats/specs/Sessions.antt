@@ -86,24 +86,29 @@ pub record EndsBy {A : Type 0} (after : List (Entry A) → Showing) (seat place 
   pub was_of : (after before).seat_of place ≡ Some seat
   pub right : verdict before
 
--- A closing refusal ends a connection.
+-- A seat has a deed to answer.
+abbrev pub Owes : Showing → ℕ → Type 0
+Owes w seat = w.due seat < w.deeds
+
+-- A closing refusal ends the connection of a seat that has a deed to answer.
 pub record EndsByRefusal {A R : Type 0} (after : List (Entry A) → Showing) (hears : List (Entry A) → ℕ → ℕ → A → Heard R) (author seat place : ℕ) (new : List (Entry A)) : Type 0 where
   pub answer : A
   pub rule : R
-  pub ends : EndsBy after seat place new (Said author seat answer) (λ before. hears before author seat answer ≡ heard.Closing rule)
+  pub ends : EndsBy after seat place new (Said author seat answer) (λ before. Owes (after before) seat × (hears before author seat answer ≡ heard.Closing rule))
 
--- What the history shows of the end of a seat's session. The game is over, the connection goes on, and the seat, which is
--- present by the author, has no deed to answer; or its last entry is that it is gone, and where its input had ended or its line
--- was too long, it had a deed to answer before that entry; or its last entry is an answer with a closing refusal.
-abbrev pub HistoryEnds : {A R : Type 0} → (List (Entry A) → Showing) → (List (Entry A) → ℕ → ℕ → A → Heard R) → Ended → ℕ → ℕ → ℕ → List (Entry A) → Type 0
-HistoryEnds after hears GameOver author seat place new =
+-- What the history shows of the end of the session of a seat that said these lines. The game is over, the connection goes on,
+-- and the seat, which is present by the author, has no deed to answer. Else the last entry is that the seat is gone or that it
+-- was refused for good, and before that entry it had a deed to answer; only a link that failed before anything was said on it
+-- may have ended while there was none.
+abbrev pub HistoryEnds : {A R : Type 0} → (List (Entry A) → Showing) → (List (Entry A) → ℕ → ℕ → A → Heard R) → Ended → ℕ → ℕ → ℕ → List (List ℕ) → List (Entry A) → Type 0
+HistoryEnds after hears GameOver author seat place said new =
     ((after new).over ≡ true) × ((after new).present seat ≡ Some author) × ((after new).seat_of place ≡ Some seat) × ((after new).deeds ≤ (after new).due seat)
-HistoryEnds after hears PeerEnded author seat place new = EndsBy after seat place new (Gone author seat) (λ before. (after before).due seat < (after before).deeds)
-HistoryEnds after hears LinkFault author seat place new = EndsBy after seat place new (Gone author seat) (λ _. Unit {0})
-HistoryEnds after hears LineTooLong author seat place new = EndsBy after seat place new (Gone author seat) (λ before. (after before).due seat < (after before).deeds)
-HistoryEnds after hears TooManyRefusals author seat place new = EndsByRefusal after hears author seat place new
-HistoryEnds after hears (NotSeated why) author seat place new = ⊥
-HistoryEnds after hears NoMemory author seat place new = Unit {0}
+HistoryEnds after hears PeerEnded author seat place said new = EndsBy after seat place new (Gone author seat) (λ before. Owes (after before) seat)
+HistoryEnds after hears LinkFault author seat place said new = EndsBy after seat place new (Gone author seat) (λ before. (said ≡ []) ⊎ Owes (after before) seat)
+HistoryEnds after hears LineTooLong author seat place said new = EndsBy after seat place new (Gone author seat) (λ before. Owes (after before) seat)
+HistoryEnds after hears TooManyRefusals author seat place said new = EndsByRefusal after hears author seat place new
+HistoryEnds after hears (NotSeated why) author seat place said new = ⊥
+HistoryEnds after hears NoMemory author seat place said new = Unit {0}
 
 -- What is written on the link of a session without a seat: the hello line, and the line of its refusal.
 abbrev pub turned_away : {R : Type 0} → (Control R → List ℕ) → Ended → List ℕ
@@ -156,7 +161,7 @@ module _ {A R : Type 0} (after : List (Entry A) → Showing) (reads : List ℕ �
     pub all_but : LeavesOut ended left_out
     pub wrote : ToldInPart (IsExcused ended) x y [] (script (after new) place)
     pub wire_ends : WireEnds ended x y rest
-    pub history_ends : HistoryEnds after hears ended author seat place new
+    pub history_ends : HistoryEnds after hears ended author seat place lines new
 
   -- A session has a place exactly where it has a seat.
   abbrev pub SessionAt : ℕ → List (Entry A) → List (Entry A) → WireState → WireState → Ended → Option ℕ → Type 0

@@ -65,6 +65,13 @@ IsWrittenOf text faults script = (text ≡ script) ⊎ ((0 < faults) × IsPrefix
 abbrev pub AllTell : {L : Type 0} → (L → Option (List ℕ)) → Type 0
 AllTell {L} tells = (link : L) → is_some (tells link) ≡ true
 
+-- Before this entry the connection of a place was that of the seat, which had a deed to answer.
+pub record OwesAnAnswer (game : Game) (seat place : ℕ) (next : Entry Answer) : Type 0 where
+  pub before : List (Entry Answer)
+  pub in_game : IsPrefix (before ++ next ∷ []) game.entries
+  pub was_of : (shown_of game.setting before).seat_of place ≡ Some seat
+  pub owes : (shown_of game.setting before).due seat < (shown_of game.setting before).deeds
+
 module _ {L : Type 0} (left : L → Option (List ℕ)) (read_faults write_faults : L → ℕ) where
   -- Why a seat leaves: the input of its link has ended, or a read or a write on it failed, or after the last whole line that was
   -- read it gave 4,096 bytes without a newline.
@@ -72,11 +79,12 @@ module _ {L : Type 0} (left : L → Option (List ℕ)) (read_faults write_faults
   IsLost link bytes = IsAtEnd (left link) ⊎ ((0 < read_faults link) ⊎ ((0 < write_faults link) ⊎ (length (unfinished bytes) ≡ 4096)))
 
   -- A seat left by its link: that is the last that was entered of the connection, and where no write failed all whole lines that
-  -- were read are entered.
-  pub record LeavesByLink (author seat : ℕ) (link : L) (bytes : List ℕ) (more : List (List ℕ)) (last : List (Entry Answer)) : Type 0 where
+  -- were read are entered. Unless it had said nothing, the seat owed an answer then.
+  pub record LeavesByLink (game : Game) (author seat place : ℕ) (link : L) (bytes : List ℕ) (lines more : List (List ℕ)) (last : List (Entry Answer)) : Type 0 where
     pub gone : last ≡ Gone author seat ∷ []
     pub lost : IsLost link bytes
     pub all_entered : write_faults link ≡ 0 → more ≡ []
+    pub owed : (lines ≡ []) ⊎ OwesAnAnswer game seat place (Gone author seat)
 
 -- The last that a seat said was refused for good.
 pub record LeavesRefused (game : Game) (author seat place : ℕ) (last : List (Entry Answer)) : Type 0 where
@@ -122,7 +130,7 @@ module _ {L : Type 0} (read left written : L → Option (List ℕ)) (read_faults
     -- what was written is what the seat is told in this connection, and so in every game that agrees with this one for the seat
     pub told : (other : Game) → Agree seat game other → (script : List ℕ) × (slice_get (connections seat other.setting other.entries) number ≡ Some script) × IsWrittenOf text (write_faults link) script
     -- the connection has ended
-    pub ended : LeavesByLink left read_faults write_faults author seat link bytes more last ⊎ (LeavesRefused game author seat place last ⊎ HasAnsweredAll game seat place last)
+    pub ended : LeavesByLink left read_faults write_faults game author seat place link bytes lines more last ⊎ (LeavesRefused game author seat place last ⊎ HasAnsweredAll game seat place last)
 
   -- A game of these words was played: these links were its connections.
   pub record IsServed (s : ServedWith) (game : Game) (links : List (L × ℕ)) (old_readings new_readings : Option (List ℕ)) : Type 0 where

@@ -145,7 +145,7 @@ module _ {A R : Type 0} (after : List (Entry A) → Showing) (reads : List ℕ �
     pub entered : Enters author old new (said_by reads author seat said ++ last_entry ended author seat)
     pub wrote : ToldInPart (IsExcused ended) x y text (script (after new) place)
     pub wire_ends : WireEnds ended x y rest
-    pub history_ends : HistoryEnds after hears ended author seat place new
+    pub history_ends : HistoryEnds after hears ended author seat place said new
 
 -- A seat leaves, unless memory is wanting.
 abbrev pub LeavesAs : {A : Type 0} → (List (Entry A) → Showing) → Ended → Ended → ℕ → ℕ → ℕ → List (Entry A) → List (Entry A) → Type 0
