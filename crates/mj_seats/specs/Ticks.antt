@@ -47,11 +47,11 @@ module _ {A : Type 0} (author : ℕ) where
     pub made : Appends was_read read (used ++ pending)
     pub since : SinceRead watch pending
 
-module _ {T A : Type 0} (history : T → List (Entry A)) (lost : T → ℕ → Bool) (after : List (Entry A) → Showing) where
-  -- The game is over in the history seen; or it is not, and a table with this history has lost all eight hosts.
+module _ {T S A : Type 0} (setting : T → S) (fixed : S) (history : T → List (Entry A)) (lost : T → ℕ → Bool) (after : List (Entry A) → Showing) where
+  -- The game is over in the history seen; or it is not, and a table of this setting and history has lost all eight hosts.
   abbrev pub TicksAs : Ticked → List (Entry A) → Type 0
   TicksAs Over new = (after new).over ≡ true
-  TicksAs HostGone new = ((after new).over ≡ false) × ((x : T) × (history x ≡ new) × ((k : ℕ) → k < 8 → lost x k ≡ true))
+  TicksAs HostGone new = ((after new).over ≡ false) × ((x : T) × (setting x ≡ fixed) × (history x ≡ new) × ((k : ℕ) → k < 8 → lost x k ≡ true))
   TicksAs NoMemory new = Unit {0}
 
   -- One step of the ticker.

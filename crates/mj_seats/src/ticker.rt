@@ -71,7 +71,8 @@ pub fn tick<G: Seated, F: Numbered, C: Clock, R: Wait>(
         × (pass.new.number ≡ pass.old.number) }
     ensures ticks { Ticks pass.old.number pass.old.seen pass.new.seen (C.readings clock.old)
         (C.readings clock.new) }
-    ensures ended { TicksAs ⟦<Room<G, F> as Seated>⟧.history ⟦<Room<G, F> as SharedGame>⟧.lost
+    ensures ended { TicksAs ⟦<Room<G, F> as Seated>⟧.setting (G.setting turn.now.opening.game)
+        ⟦<Room<G, F> as Seated>⟧.history ⟦<Room<G, F> as SharedGame>⟧.lost
         (G.after (G.setting turn.now.opening.game)) result pass.new.seen }
 {
     tick_at(turn, rt, alloc, pass, clock)
@@ -89,7 +90,8 @@ pub(crate) fn tick_at<T: SharedGame, C: Clock, R: Wait>(
     ensures idle { IsIdle T.Noted.setting turn.now pass.new × (pass.new.number ≡ pass.old.number) }
     ensures ticks { Ticks pass.old.number pass.old.seen pass.new.seen (C.readings clock.old)
         (C.readings clock.new) }
-    ensures ended { TicksAs T.history T.lost (T.after (T.Noted.setting turn.now.opening)) result
+    ensures ended { TicksAs T.Seated.setting (T.Noted.setting turn.now.opening) T.history
+        T.lost (T.after (T.Noted.setting turn.now.opening)) result
         pass.new.seen }
 {
     let mut watch = None;
@@ -115,7 +117,8 @@ fn tick_once<T: SharedGame, C: Clock, R: Wait>(
     ensures idle { IsIdle T.Noted.setting turn.now pass.new × (pass.new.number ≡ pass.old.number) }
     ensures ticks { (first : List (Entry T.Answer)) → (start : Option (List ℕ))
         → Ticking pass.old.number first pass.old.seen start (C.readings clock.old) watch
-        → TicksTo T.history T.lost (T.after (T.Noted.setting turn.now.opening)) result
+        → TicksTo T.Seated.setting (T.Noted.setting turn.now.opening) T.history
+        T.lost (T.after (T.Noted.setting turn.now.opening)) result
         pass.old.number first pass.new.seen start (C.readings clock.new) }
 {
     match watch {
@@ -135,7 +138,8 @@ fn open_watch<T: SharedGame, C: Clock, R: Wait>(
     ensures idle { IsIdle T.Noted.setting turn.now pass.new × (pass.new.number ≡ pass.old.number) }
     ensures ticks { (first : List (Entry T.Answer)) → (start : Option (List ℕ))
         → Ticking pass.old.number first pass.old.seen start (C.readings clock.old) None
-        → TicksTo T.history T.lost (T.after (T.Noted.setting turn.now.opening)) result
+        → TicksTo T.Seated.setting (T.Noted.setting turn.now.opening) T.history
+        T.lost (T.after (T.Noted.setting turn.now.opening)) result
         pass.old.number first pass.new.seen start (C.readings clock.new) }
 {
     match look(turn, rt, pass) {
@@ -164,7 +168,8 @@ fn try_close<T: SharedGame, C: Clock, R: Wait>(
     ensures idle { IsIdle T.Noted.setting turn.now pass.new × (pass.new.number ≡ pass.old.number) }
     ensures ticks { (first : List (Entry T.Answer)) → (start : Option (List ℕ))
         → Ticking pass.old.number first pass.old.seen start (C.readings clock.old) (Some watch)
-        → TicksTo T.history T.lost (T.after (T.Noted.setting turn.now.opening)) result
+        → TicksTo T.Seated.setting (T.Noted.setting turn.now.opening) T.history
+        T.lost (T.after (T.Noted.setting turn.now.opening)) result
         pass.old.number first pass.new.seen start (C.readings clock.new) }
 {
     let now = clock.now();
@@ -181,7 +186,8 @@ fn look<T: SharedGame, R: Wait>(turn: &Turn<T>, rt: &R, pass: &mut Pass<T>) -> S
     requires { IsIdle T.Noted.setting turn.now pass.old }
     ensures idle { IsIdle T.Noted.setting turn.now pass.new × (pass.new.number ≡ pass.old.number) }
     ensures nothing { Enters pass.old.number pass.old.seen pass.new.seen [] }
-    ensures sees { Sees T.history T.lost (T.after (T.Noted.setting turn.now.opening)) result
+    ensures sees { Sees T.Seated.setting (T.Noted.setting turn.now.opening) T.history
+        T.lost (T.after (T.Noted.setting turn.now.opening)) result
         pass.new.seen }
 {
     let mut held = hold::take(turn, rt, pass);
@@ -192,7 +198,8 @@ fn look<T: SharedGame, R: Wait>(turn: &Turn<T>, rt: &R, pass: &mut Pass<T>) -> S
 
 fn see<T: SharedGame>(table: &mut T) -> Seen
     ensures same { table.new ≡ table.old }
-    ensures sees { Sees T.history T.lost (T.after (T.Seated.setting table.old)) result
+    ensures sees { Sees T.Seated.setting (T.Seated.setting table.old) T.history T.lost
+        (T.after (T.Seated.setting table.old)) result
         (T.history table.old) }
 {
     match survey(table) {
@@ -215,7 +222,8 @@ fn close<T: SharedGame, R: Wait>(
 ) -> Closing
     requires { IsIdle T.Noted.setting turn.now pass.old }
     ensures idle { IsIdle T.Noted.setting turn.now pass.new × (pass.new.number ≡ pass.old.number) }
-    ensures closes { ClosesAt T.history T.lost (T.after (T.Noted.setting turn.now.opening)) result
+    ensures closes { ClosesAt T.Seated.setting (T.Noted.setting turn.now.opening) T.history
+        T.lost (T.after (T.Noted.setting turn.now.opening)) result
         pass.old.number watch.window watch.since now pass.old.seen pass.new.seen }
 {
     let number = pass.number();
@@ -242,7 +250,8 @@ fn expire<T: SharedGame>(
     now: u64,
 ) -> Closing
     ensures setting { T.Seated.setting table.new ≡ T.Seated.setting table.old }
-    ensures closes { Closes T.history T.lost (T.after (T.Seated.setting table.old)) result author
+    ensures closes { Closes T.Seated.setting (T.Seated.setting table.old) T.history T.lost
+        (T.after (T.Seated.setting table.old)) result author
         watch.window watch.since now (T.history table.old) (T.history table.new) }
 {
     if let Some(ticked) = survey(table) {
@@ -259,7 +268,8 @@ fn expire<T: SharedGame>(
 // Whether the ticker has come to its end.
 fn survey<T: SharedGame>(table: &T) -> Option<Ticked>
     ensures { IfSome result (λ ticked.
-        TicksAs T.history T.lost (T.after (T.Seated.setting table.now)) ticked
+        TicksAs T.Seated.setting (T.Seated.setting table.now) T.history T.lost
+        (T.after (T.Seated.setting table.now)) ticked
         (T.history table.now)) }
 {
     if table.dry() {
