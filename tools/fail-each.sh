@@ -1,49 +1,70 @@
 #!/usr/bin/env bash
-# Makes what the programs and tests ask the system for fail, one call at a time: each request for memory, each read, write
-# and sync, and each read or write of several bytes, which then moves one alone. Every run has to answer; none may fault or
-# hang. The runs are unproved, as `rt try` builds them, and no part of the gate.
+# Makes what a run of the program asks the system for fail, one call at a time: each request for memory, each read and write, and
+# each read or write of several bytes, which then moves one alone; after the first 200 calls of a run ever fewer of them. Every
+# run has to answer: to end by itself with an exit code of the program's, 0 to 9, and with a front of what the run without a
+# failure writes. No part of the gate.
 #
-# usage: fail-each.sh [CRATE..]
+# usage: fail-each.sh [PROGRAM]
 #
-# Without names the crates are riichi_table and riichi_bench, by their stored runs, and server_tests and worker_tests, by their tests.
-# A line a crate and kind says what came of it; the exit code is 0 where each run answered. It takes an hour or more.
+# PROGRAM is the built riichi_table; without it that of this repository, where it is built. It takes some minutes, and a C
+# compiler. A line a run and kind says how many calls were made to fail, with how many of each exit code; the script's own exit
+# code is 0 where each run answered.
 cd "$(dirname "$0")/.." || exit 1
-[ $# -gt 0 ] || set -- riichi_table riichi_bench server_tests worker_tests
+program=${1:-crates/riichi_table/out/riichi_table}
+if [ ! -x "$program" ]; then
+    echo "$program is no program that can be run" >&2
+    exit 2
+fi
+folder=$(mktemp -d)
+trap 'rm -rf "$folder"' EXIT
+"${CC:-cc}" -shared -fPIC -O1 -o "$folder/fails.so" tools/fail-each.c || exit 2
 
-# The words, beside the flag, by which rt runs a crate: its tests where it is a library, else the words of its stored run.
-words() {
-    if [ -e "crates/$1/src/main.rt" ]; then
-        echo "--"
-        [ ! -e "crates/$1/args" ] || cat "crates/$1/args"
-    fi
+# One run, with what it reads, in which this call of its kind fails.
+fail_one() {
+    local kind=$1 at=$2 input=$3
+    shift 3
+    rm -f "$folder/mark"
+    timeout 60 env FAIL_KIND="$kind" FAIL_AT="$at" FAIL_MARK="$folder/mark" LD_PRELOAD="$folder/fails.so" \
+        "$program" "$@" < "$input" > "$folder/out" 2> "$folder/err"
 }
 
-# Lets the calls of one kind fail in turn, from the first to the last. rt stops after ten minutes and says where to go on.
+# Whether the run answered that has ended so.
+has_answered() {
+    [ "$1" -le 9 ] && cmp -s -n "$(stat -c %s "$folder/out")" "$folder/out" "$folder/whole"
+}
+
+# Lets the calls of one kind fail in turn, from the first to the last.
 fail_each() {
-    local crate=$1 flag=$2 from=1 input=/dev/null tests=--test last status
-    local -a run
-    [ ! -e "crates/$crate/stdin" ] || input=crates/$crate/stdin
-    [ ! -e "crates/$crate/src/main.rt" ] || tests=
-    mapfile -t run < <(words "$crate")
-    while [ -n "$from" ]; do
-        rt try "$crate" $tests "$flag" "$from.." "${run[@]}" < "$input" > "$log" 2>&1
+    local kind=$1 input=$2 at=0 status runs=0 faulted=0
+    local -A codes=()
+    shift 2
+    while :; do
+        at=$((at + at / 200 + 1))
+        fail_one "$kind" "$at" "$input" "$@"
         status=$?
-        last=$(tail -n 1 "$log")
-        echo "$crate $flag $from..: status $status, $last"
-        from=$(sed -n 's/.*\bnext=\([0-9]*\).*/\1/p' <<< "$last")
-        if [ -z "$from" ] && [ $status -ne 0 ]; then
-            failed=1
-            grep -v "^rt: \|^libraries " "$log" | head -n 20
-        fi
+        [ -e "$folder/mark" ] || break
+        runs=$((runs + 1))
+        codes[$status]=$((${codes[$status]:-0} + 1))
+        has_answered "$status" && continue
+        faulted=$((faulted + 1))
+        echo "call $at of $kind: exit code $status" >&2
+    done
+    echo "$* · $kind: $runs made to fail, $((runs - faulted)) answered, $faulted faulted;$(for code in "${!codes[@]}"; do echo -n " ${codes[$code]} with code $code"; done)"
+    [ "$faulted" -eq 0 ] || failed=1
+}
+
+# A run, with what it reads, in which the calls of each kind fail in turn.
+fail_all() {
+    local input=$1
+    shift
+    "$program" "$@" < "$input" > "$folder/whole" 2> /dev/null
+    for kind in memory io short; do
+        fail_each "$kind" "$input" "$@"
     done
 }
 
 failed=0
-log=$(mktemp)
-trap 'rm -f "$log"' EXIT
-for crate in "$@"; do
-    for flag in --fail-alloc --fail-io --short-io; do
-        fail_each "$crate" "$flag"
-    done
-done
+fail_all crates/riichi_table/stdin referee 0
+fail_all crates/riichi_bench/data/self_played_record replay
+fail_all /dev/null hand 1m 2m 3m 4p 5p 6p 7s 8s 9s E E S S
 exit $failed
