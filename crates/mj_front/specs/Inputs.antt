@@ -12,6 +12,13 @@ pub record IsRead (old_left new_left : Option (List ℕ)) (input : List ℕ) : T
   pub all : IsAtEnd new_left
   pub fits : length input ≤ longest
 
+-- A read failed after no more bytes than an input may have, and nothing is written.
+pub record IsCutOff (old_left new_left old_written new_written : Option (List ℕ)) : Type 0 where
+  pub bytes : List ℕ
+  pub taken : Consumes old_left new_left bytes
+  pub fits : length bytes ≤ longest
+  pub unwritten : Keeps old_written new_written
+
 -- More was read than an input may have, and nothing is written.
 pub record IsTooLong (old_left new_left old_written new_written : Option (List ℕ)) : Type 0 where
   pub bytes : List ℕ

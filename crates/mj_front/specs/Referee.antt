@@ -12,7 +12,7 @@ use Rattle.mj_front.specs.declared.intake.End.{End}
 use Rattle.mj_front.specs.declared.intake.End.TheVariants as inputs
 use Rattle.mj_front.specs.declared.referee.RefereeEnd.{RefereeEnd}
 use Rattle.mj_front.specs.declared.referee.RefereeEnd.TheVariants as ends
-use Rattle.mj_front.specs.Inputs.{IsRead, IsTooLong}
+use Rattle.mj_front.specs.Inputs.{IsRead, IsCutOff, IsTooLong}
 
 -- The headline: what the referee of a seat writes of a game, whole or in part, as `IsWritten` says.
 pub record IsTold (IsWritten : List ℕ → Type 0) (seat : ℕ) (game : Game) : Type 0 where
@@ -53,6 +53,6 @@ ending (inputs.Bad line) = BadAt line
 abbrev pub Referees : RefereeEnd → ℕ → Option (List ℕ) → Option (List ℕ) → Option (List ℕ) → Option (List ℕ) → Type 0
 Referees (ends.Told end) seat old_left new_left old_written new_written = RefereesAll (ending end) seat old_left new_left old_written new_written
 Referees ends.WriteFault seat old_left new_left old_written new_written = RefereesPart seat old_left new_left old_written new_written
-Referees ends.ReadFault seat old_left new_left old_written new_written = Keeps old_written new_written
+Referees ends.ReadFault seat old_left new_left old_written new_written = IsCutOff old_left new_left old_written new_written
 Referees ends.TooLong seat old_left new_left old_written new_written = IsTooLong old_left new_left old_written new_written
 Referees ends.NoMemory seat old_left new_left old_written new_written = Keeps old_written new_written

@@ -9,7 +9,7 @@ use Rattle.mj_replay.specs.Checks.{fault_of}
 use Rattle.mj_replay.specs.declared.checking.Cause.{Cause}
 use Rattle.mj_front.specs.declared.replay.ReplayEnd.{ReplayEnd}
 use Rattle.mj_front.specs.declared.replay.ReplayEnd.TheVariants as ends
-use Rattle.mj_front.specs.Inputs.{IsRead, IsTooLong}
+use Rattle.mj_front.specs.Inputs.{IsRead, IsCutOff, IsTooLong}
 
 -- The three lines of a summary: the deeds, the points of the four seats, and the deposits.
 abbrev pub replay_text : Summary → List ℕ
@@ -46,6 +46,6 @@ abbrev pub Replays : ReplayEnd → Option (List ℕ) → Option (List ℕ) → O
 Replays ends.Written old_left new_left old_written new_written = ReplaysAll ends.Written old_left new_left old_written new_written
 Replays (ends.Bad line cause) old_left new_left old_written new_written = ReplaysAll (ends.Bad line cause) old_left new_left old_written new_written
 Replays ends.WriteFault old_left new_left old_written new_written = ReplaysAll ends.WriteFault old_left new_left old_written new_written
-Replays ends.ReadFault old_left new_left old_written new_written = Keeps old_written new_written
+Replays ends.ReadFault old_left new_left old_written new_written = IsCutOff old_left new_left old_written new_written
 Replays ends.TooLong old_left new_left old_written new_written = IsTooLong old_left new_left old_written new_written
 Replays ends.NoMemory old_left new_left old_written new_written = Keeps old_written new_written
