@@ -23,4 +23,8 @@ mod seat_tests;
 #[cfg(test)]
 mod serving_tests;
 #[cfg(test)]
+mod slow;
+#[cfg(test)]
 mod tick_tests;
+#[cfg(test)]
+mod turn_tests;

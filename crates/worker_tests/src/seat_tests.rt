@@ -5,7 +5,8 @@ ghost use Rattle.std.specs.Prelude.{◌≡◌, []};
 use crate::hall::sorted_hall;
 use crate::lines::{HEAD, HELLO, Part, START, are_made_of, bytes_of};
 use crate::player::{A, B, C, D, KEY, PASS, Shown, Step, THREE, act, act_all, act_often, look};
-use mj_links::{MemLink, Numbered, Wire};
+use crate::slow::SlowLink;
+use mj_links::{Link, MemLink, Numbered, Wire};
 use mj_ports::{Seated, SitRefused};
 use mj_seats::{Ended, Room, Served, serve_seat};
 use std::alloc::{AllocError, Global};
@@ -97,22 +98,22 @@ fn link(alloc: Global, case: Case) -> Result<MemLink, AllocError> {
 // How the session of a link ended, what is written on the link, what others see then, and whether the seat is taken by its
 // key after it.
 #[derive(Drop)]
-struct Outcome {
+struct Outcome<L> {
     served: Served,
-    link: MemLink,
+    link: L,
     shown: Shown,
     taken: bool,
 }
 
 // Serves a link by one pass, once another one has done all this.
-fn serve<G: Seated, F: Numbered, R: Wait>(
+fn serve<G: Seated, F: Numbered, L: Link + Drop, R: Wait>(
     rt: &R,
     alloc: Global,
     room: Room<G, F>,
     before: &[Step],
     returns: u32,
-    link: MemLink,
-) -> Option<Outcome>
+    link: L,
+) -> Option<Outcome<L>>
     requires { G.history room.game ≡ [] }
 {
     let Ok((turn, mut passes)) = Turn::new(alloc, room, 2) else {
@@ -137,25 +138,39 @@ fn serve<G: Seated, F: Numbered, R: Wait>(
 }
 
 // Whether all came as the case says, and the seat of the link is gone.
-fn is_as_wanted(outcome: Outcome, case: Case) -> bool {
-    outcome.served.ended == case.ended
-        && outcome.served.place == case.place
-        && are_made_of(outcome.link.written(), case.written)
-        && outcome.shown.entries == case.entries
-        && !outcome.shown.present[3]
+fn is_as_wanted(served: Served, written: &[u8], shown: Shown, case: Case) -> bool {
+    served.ended == case.ended
+        && served.place == case.place
+        && are_made_of(written, case.written)
+        && shown.entries == case.entries
+        && !shown.present[3]
 }
 
 fn holds<R: Wait>(rt: &R, alloc: Global, case: Case) -> Result<bool, Fail> {
+    let hall = sorted_hall(alloc)?;
     let link = link(alloc, case)?;
-    match serve(
-        rt,
-        alloc,
-        sorted_hall(alloc)?,
-        case.before,
-        case.returns,
-        link,
-    ) {
-        Some(outcome) => Ok(is_as_wanted(outcome, case)),
+    match serve(rt, alloc, hall, case.before, case.returns, link) {
+        Some(outcome) => Ok(is_as_wanted(
+            outcome.served,
+            outcome.link.written(),
+            outcome.shown,
+            case,
+        )),
+        None => Err("no table".into()),
+    }
+}
+
+// The same with a link that gives a byte a read.
+fn holds_slowly<R: Wait>(rt: &R, alloc: Global, case: Case) -> Result<bool, Fail> {
+    let hall = sorted_hall(alloc)?;
+    let link = SlowLink(link(alloc, case)?);
+    match serve(rt, alloc, hall, case.before, case.returns, link) {
+        Some(outcome) => Ok(is_as_wanted(
+            outcome.served,
+            outcome.link.0.written(),
+            outcome.shown,
+            case,
+        )),
         None => Err("no table".into()),
     }
 }
@@ -461,6 +476,15 @@ fn a_link_that_is_given_no_seat_enters_nothing(rt: HostRuntime) -> Result<(), Fa
 fn a_seat_is_gone_once_its_link_has_ended_the_session(rt: HostRuntime) -> Result<(), Fail> {
     for case in SEATED {
         assert!(rt; holds(&rt, rt.alloc(), case)?);
+    }
+    Ok(())
+}
+
+// Where no read is to fail, it is all the same how many bytes come by each.
+#[test]
+fn a_line_that_comes_a_byte_a_read_is_answered_alike(rt: HostRuntime) -> Result<(), Fail> {
+    for case in SEATED {
+        assert!(rt; !case.reads.is_empty() || holds_slowly(&rt, rt.alloc(), case)?);
     }
     Ok(())
 }

@@ -1,9 +1,10 @@
 //! Games that the command `serve` plays.
 
-ghost use Rattle.std.specs.Prelude.{◌≡◌};
+ghost use Rattle.std.specs.Prelude.{◌≡◌, IfOk};
+ghost use Rattle.mj_links.specs.FreshLinks.{IsFreshLink};
 
 use crate::handler_tests::host;
-use crate::lines::HELLO;
+use crate::lines::{HELLO, Part, bytes_of};
 use crate::meeting::{Meeting, MeetingHost, Sign};
 use crate::patient::{PatientClock, PatientHost};
 use crate::player::{A, B, C, D, KEY};
@@ -104,6 +105,62 @@ fn serves_four<R: Threads + Wait + Sync>(rt: &R, alloc: Global, fails: u64) -> R
 #[test]
 fn four_players_that_leave_are_served_a_game(rt: HostRuntime) -> Result<(), Fail> {
     assert!(rt; serves_four(&rt, rt.alloc(), 0)?);
+    Ok(())
+}
+
+// A link that is nobody's, or one of the four players': what is read from it, and which of its reads and writes fail.
+#[derive(Clone, Copy)]
+struct Guest(&'static [Part], &'static [u64], &'static [u64]);
+
+const LINE_END: Part = Part("\n", 1);
+
+// Links that say nothing, no join, half a join, too much or what gets no seat, or that fail, among those of four players.
+const GUESTS: [Guest; 14] = [
+    Guest(&[], &[], &[]),
+    Guest(&[Part("x\n", 3)], &[], &[]),
+    Guest(&[Part(A, 1), LINE_END], &[], &[]),
+    Guest(&[Part(" ", 4096)], &[], &[]),
+    Guest(&[Part(B, 1), LINE_END], &[1], &[]),
+    Guest(&[Part(B, 1), LINE_END], &[], &[1]),
+    Guest(&[Part(B, 1), LINE_END], &[], &[]),
+    Guest(&[Part(C, 1)], &[], &[]),
+    Guest(&[Part(C, 1), LINE_END], &[], &[]),
+    Guest(&[Part("\n", 4096)], &[], &[]),
+    Guest(&[Part("[", 4095), LINE_END], &[], &[]),
+    Guest(
+        &[Part("{\"type\":\"join\",\"name\":\"\\\"\"}\n", 1)],
+        &[],
+        &[],
+    ),
+    Guest(&[Part(D, 1), LINE_END], &[], &[]),
+    Guest(&[Part(KEY, 1), LINE_END], &[], &[]),
+];
+
+fn link_of(alloc: Global, guest: Guest) -> Result<MemLink, AllocError>
+    ensures { IfOk result IsFreshLink }
+{
+    let bytes = bytes_of(alloc, guest.0)?;
+    let reads = guest.1.to_vec(alloc)?;
+    Ok(MemLink::new(bytes, reads, guest.2.to_vec(alloc)?))
+}
+
+// A host of all guests.
+fn crowd(alloc: Global) -> Result<MemHost, AllocError> {
+    let mut links = Vec::new(alloc);
+    for guest in GUESTS {
+        links.push(link_of(alloc, guest)?)?;
+    }
+    Ok(MemHost::new(links, false, Vec::new(alloc)))
+}
+
+#[test]
+fn links_that_get_no_seat_keep_nobody_from_playing(rt: HostRuntime) -> Result<(), Fail> {
+    let alloc = rt.alloc();
+    let mut host = crowd(alloc)?;
+    let mut sink = MemSink::new(Vec::new(alloc));
+    let mut clock = MemClock::new(0, 1000);
+    assert!(rt; serve(&rt, alloc, &mut host, &mut clock, &mut sink)? == Status::Done);
+    assert!(rt; are_told(host.returned()) && is_ended(sink.written()));
     Ok(())
 }
 

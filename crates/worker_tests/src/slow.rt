@@ -1,0 +1,43 @@
+//! A link that gives one byte a read.
+
+use mj_links::{Got, Link, MemLink, Put, Sink, Source};
+
+/// Gives one byte a read of what a link in memory gives.
+#[derive(Drop)]
+pub struct SlowLink(pub MemLink);
+
+impl Source for SlowLink {
+    ghost left = { λ s. ⟦<MemLink as Source>⟧.left s.0 };
+
+    ghost read_faults = { λ s. ⟦<MemLink as Source>⟧.read_faults s.0 };
+
+    ghost also_reads = { λ got into old new. ⟦<MemLink as Source>⟧.also_reads got into old.0 new.0 };
+
+    fn read(&mut self, into: &mut [u8]) -> Got {
+        self.0.read(&mut into[..1])
+    }
+}
+
+impl Sink for SlowLink {
+    ghost written = { λ s. ⟦<MemLink as Sink>⟧.written s.0 };
+
+    ghost write_faults = { λ s. ⟦<MemLink as Sink>⟧.write_faults s.0 };
+
+    ghost also_writes = { λ put piece old new. ⟦<MemLink as Sink>⟧.also_writes put piece old.0 new.0 };
+
+    fn write(&mut self, piece: &[u8]) -> Put {
+        self.0.write(piece)
+    }
+}
+
+impl Link for SlowLink {
+    ghost was_read = { λ s. ⟦<MemLink as Link>⟧.was_read s.0 };
+
+    fn shut(&mut self) {
+        self.0.shut();
+    }
+
+    ghost reads_apart = { λ got into old new h. h };
+
+    ghost writes_apart = { λ put piece old new h. h };
+}

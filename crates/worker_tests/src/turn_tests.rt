@@ -1,0 +1,68 @@
+//! What a pass is told of the turns of another.
+
+ghost use Rattle.std.specs.Prelude.{◌≡◌, []};
+ghost use Rattle.turn_lock.specs.Turns.{IsIdle};
+
+use crate::hall::sorted_hall;
+use mj_links::Numbered;
+use mj_ports::Seated;
+use mj_seats::Room;
+use std::alloc::Global;
+use std::sync::Wait;
+use std::test::Fail;
+use turn_lock::{Noted, Pass, Turn};
+
+// Whether two passes are told of a change: at first, after a turn of the second that ends in a change, after a turn of the
+// first, and after two turns of the second, the last of which is a look.
+const WANTED: [(bool, bool); 4] = [(false, false), (true, false), (false, false), (true, false)];
+
+// A turn without an entry, which ends in a change or in none.
+fn turn_once<G: Seated, F: Numbered, R: Wait>(
+    turn: &Turn<Room<G, F>>,
+    rt: &R,
+    pass: &mut Pass<Room<G, F>>,
+    changes: bool,
+)
+    requires { IsIdle ⟦<Room<G, F> as Noted>⟧.setting turn.now pass.old }
+    ensures { IsIdle ⟦<Room<G, F> as Noted>⟧.setting turn.now pass.new }
+{
+    let held = turn.take(rt, pass);
+    if changes {
+        turn.give(pass, held);
+    } else {
+        turn.give_unchanged(pass, held);
+    }
+}
+
+// What two passes are told, one turn after the other.
+fn told<G: Seated, F: Numbered, R: Wait>(
+    rt: &R,
+    alloc: Global,
+    room: Room<G, F>,
+) -> Option<[(bool, bool); 4]>
+    requires { G.history room.game ≡ [] }
+{
+    let Ok((turn, mut passes)) = Turn::new(alloc, room, 2) else {
+        return None;
+    };
+    let mut second = passes.pop().unwrap();
+    let mut first = passes.pop().unwrap();
+    let new = (turn.has_changed(&first), turn.has_changed(&second));
+    turn_once(&turn, rt, &mut second, true);
+    let changed = (turn.has_changed(&first), turn.has_changed(&second));
+    turn_once(&turn, rt, &mut first, false);
+    let seen = (turn.has_changed(&first), turn.has_changed(&second));
+    turn_once(&turn, rt, &mut second, true);
+    turn_once(&turn, rt, &mut second, false);
+    let again = (turn.has_changed(&first), turn.has_changed(&second));
+    Some([new, changed, seen, again])
+}
+
+#[test]
+fn a_pass_is_told_of_each_change_by_another_until_it_has_looked(
+    rt: HostRuntime,
+) -> Result<(), Fail> {
+    let alloc = rt.alloc();
+    assert!(rt; told(&rt, alloc, sorted_hall(alloc)?) == Some(WANTED));
+    Ok(())
+}
