@@ -27,7 +27,8 @@ use Rattle.mj_rules.specs.View.{SeatView, WindowTurn, Drew, Discarded, Added, Re
 use Rattle.mj_rules.specs.Default.{discard_of, lawful_faces, last_face}
 use Rattle.mj_rules.proofs.Questions.{all_no, none_broken}
 use Rattle.mj_judge.proofs.Swaps.{swap_of}
-use Rattle.mj_bot.specs.Choice.{lawful_of, is_measured, IsBestLawful, IsBest}
+use Rattle.mj_judge.specs.Measured.{is_measured}
+use Rattle.mj_bot.specs.Choice.{lawful_of, IsBestLawful, IsBest}
 use Rattle.mj_bot.specs.Inner.Turns.{is_own_turn, is_own_draw, is_free, is_among}
 
 -- The discard of a face breaks no rule.

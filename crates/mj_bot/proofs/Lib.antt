@@ -1,6 +1,5 @@
 pub mod Chosen
 pub mod Lawful
-pub mod Measured
 pub mod Unready
 pub mod Offered
 pub mod Promises

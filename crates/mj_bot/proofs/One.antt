@@ -9,7 +9,8 @@ use Rattle.mj_shanten.proofs.BestDiscard.{one_best}
 use Rattle.mj_wall.specs.declared.setting.Rules.{Rules}
 use Rattle.mj_rules.specs.Default.{lawful_faces, last_face}
 use Rattle.mj_rules.specs.View.{SeatView, view_of, concealed, room}
-use Rattle.mj_bot.specs.Choice.{is_measured, lawful_of, IsBestLawful, IsBest, chosen}
+use Rattle.mj_judge.specs.Measured.{is_measured}
+use Rattle.mj_bot.specs.Choice.{lawful_of, IsBestLawful, IsBest, chosen}
 use Rattle.mj_bot.specs.Laws.{ChoiceIsOne}
 
 -- Two best discards are of one face.

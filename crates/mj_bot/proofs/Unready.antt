@@ -1,207 +1,25 @@
 -- Where not even the best discard leaves the hand ready, none does.
-use Rattle.std.proofs.Common.{ℕ, not, ◌||◌, Option, None, Some, zero, suc, ◌≡◌, ◌<◌, ◌≤◌, ◌+◌, ◌-◌, ◌*◌, ◌∷◌, [], inl, inr, Bool, true, false, ◌&&◌, cond, eqb, ltb, List, length, get_or, sum, refl, sym, ◌∙◌, ap, subst, arith}
+use Rattle.std.proofs.Common.{ℕ, not, ◌||◌, Option, None, Some, ◌≡◌, ◌<◌, ◌≤◌, Bool, true, false, ◌&&◌, cond, eqb, List, length, get_or, refl, sym, ◌∙◌, ap, subst, arith, ◌∷◌, []}
 use Rattle.std.specs.Prelude.{is_none}
-use Rattle.std.specs.List.{list_any, range_with_len}
-use Rattle.std.proofs.lemmas.Bool.{cases_eq, cases_lt, eq-eqb, ne_eqb, and_parts, and_from, ltb-true, lt-ltb, true≢false, false≢true}
-use Rattle.std.proofs.lemmas.List.{length-set}
-use Rattle.mj_tiles.specs.Counts.{all_kinds, IsCounts, kind_counts}
+use Rattle.std.specs.List.{list_any}
+use Rattle.std.proofs.lemmas.Bool.{ne_eqb, and_parts, true≢false, false≢true}
+use Rattle.mj_tiles.specs.Counts.{kind_counts}
 use Rattle.mj_tiles.specs.Kinds.{has_kind}
-use Rattle.mj_tiles.proofs.EachKind.{any_kind, each_kind}
-use Rattle.mj_readings.specs.Tests.{complete, one_more}
-use Rattle.mj_readings.proofs.Laws.{complete-are, are-complete}
-use Rattle.mj_waits.specs.Waits.{is_wait, is_ready}
-use Rattle.mj_suits.specs.Targets.{missing}
-use Rattle.mj_suits.specs.Tables.{IsLeast}
+use Rattle.mj_tiles.proofs.EachKind.{each_kind}
+use Rattle.mj_waits.specs.Waits.{is_ready}
 use Rattle.mj_shanten.specs.Room.{IsRoom, IsWithinRoom}
-use Rattle.mj_shanten.specs.Shanten.{IsGoal}
 use Rattle.mj_shanten.specs.Exchanges.{one_less}
 use Rattle.mj_shanten.specs.Discards.{IsBestDiscard}
-use Rattle.mj_shanten.proofs.Goal.{counts_from}
-use Rattle.mj_shanten.proofs.Least.{one_nearer}
-use Rattle.mj_shanten.proofs.Path.{one_less_at, one_more_at}
-use Rattle.mj_shanten.proofs.Sums.{sum-cons, sum_missing, sum_complete}
 use Rattle.mj_deeds.specs.declared.answer.Answer.TheVariants.{Reach}
 use Rattle.mj_deeds.specs.declared.rule.Rule.{Rule}
 use Rattle.mj_wall.specs.declared.setting.Rules.{Rules}
 use Rattle.mj_rules.specs.Broken.{questions, broken_by}
 use Rattle.mj_rules.specs.View.{SeatView, concealed, room}
 use Rattle.mj_rules.proofs.Questions.{all_no}
-use Rattle.mj_judge.specs.Inner.Ready.{leaves_ready}
 use Rattle.mj_judge.proofs.Discards.{none_ready}
+use Rattle.mj_judge.proofs.BestDiscards.{none_leaves_ready}
 use Rattle.mj_bot.specs.Choice.{first_lawful}
 use Rattle.mj_bot.specs.Inner.Turns.{is_out_or_among, are_all_among, IsNeverReady}
-
--- numbers
-
-sum_more : (xs : List ℕ) (k : ℕ) → k < length xs → sum (one_more xs k) ≡ suc (sum xs)
-sum_more [] k inside = absurd (omega arith)
-sum_more (x ∷ xs) zero inside = (let a = sum-cons x xs in let b = sum-cons (x + 1) xs in omega arith)
-sum_more (x ∷ xs) (suc k) inside = (let a = sum-cons x xs in let b = sum-cons x (one_more xs k) in let c = sum_more xs k (omega arith) in omega arith)
-
-sum_less : (xs : List ℕ) (k : ℕ) → k < length xs → 0 < get_or xs k 0 → suc (sum (one_less xs k)) ≡ sum xs
-sum_less [] k inside some = absurd (omega arith)
-sum_less (x ∷ xs) zero inside some = (let a = sum-cons x xs in let b = sum-cons (x - 1) xs in let c : 0 < x = some in omega arith)
-sum_less (x ∷ xs) (suc k) inside some = (let a = sum-cons x xs in let b = sum-cons x (one_less xs k) in let c = sum_less xs k (omega arith) some in omega arith)
-
-itself : (t : List ℕ) → missing t t ≡ 0
-itself [] = refl
-itself (w ∷ t) = (let r = itself t in omega arith)
-
--- A list that misses nothing of another of the same sum is that one.
-same_of : (t h : List ℕ) → length t ≡ length h → sum t ≡ sum h → missing t h ≡ 0 → t ≡ h
-same_of [] [] size whole none = refl
-same_of [] (y ∷ h) size whole none = absurd (omega arith)
-same_of (x ∷ t) [] size whole none = absurd (omega arith)
-same_of (x ∷ t) (y ∷ h) size whole none =
-    let a = sum-cons x t in
-    let b = sum-cons y h in
-    let c = sum_missing t h in
-    let head : x ≡ y = omega arith in
-    let tail : t ≡ h = same_of t h (omega arith) (omega arith) (omega arith) in
-    (λ i. head i ∷ tail i)
-
--- A place at which one more of a hand makes another.
-record Away (t h : List ℕ) : Type 0 where
-  at : ℕ
-  inside : at < length h
-  is : one_more h at ≡ t
-  more : get_or h at 0 < get_or t at 0
-
--- Where one tile is missed of a hand with one tile more, it is that one.
-one_away : (t h : List ℕ) → length t ≡ length h → sum t ≡ suc (sum h) → missing t h ≡ 1 → Away t h
-one_away [] [] size whole one = absurd (omega arith)
-one_away [] (y ∷ h) size whole one = absurd (omega arith)
-one_away (x ∷ t) [] size whole one = absurd (omega arith)
-one_away (x ∷ t) (y ∷ h) size whole one =
-    let a = sum-cons x t in
-    let b = sum-cons y h in
-    let c = sum_missing t h in
-    elim (cases_lt y x) [
-      | inl less ↦
-          (let head : y + 1 ≡ x = omega arith in
-          let tail : t ≡ h = same_of t h (omega arith) (omega arith) (omega arith) in
-          record { at = 0; inside = omega arith; is = (λ i. head i ∷ sym tail i); more = less })
-      | inr over ↦
-          (let head : y ≡ x = omega arith in
-          let rest : Away t h = one_away t h (omega arith) (omega arith) (omega arith) in
-          record { at = suc rest.at; inside = (let e = rest.inside in omega arith); is = (λ i. head i ∷ rest.is i); more = rest.more })
-    ]
-
--- a kind that passes
-
-record Found (p : ℕ → Bool) (below : ℕ) : Type 0 where
-  kind : ℕ
-  low : kind < below
-  yes : p kind ≡ true
-
-found_in : (p : ℕ → Bool) (from n : ℕ) → list_any p (range_with_len from n) ≡ true → Found p (from + n)
-found_in p from zero h = cc
-found_in p from (suc n) h = by_test (p from) refl h (found_in p (from + 1) n)
-  where
-    by_test : (b : Bool) → p from ≡ b → (b || list_any p (range_with_len (from + 1) n)) ≡ true → (list_any p (range_with_len (from + 1) n) ≡ true → Found p (from + 1 + n)) → Found p (from + suc n)
-    by_test true e k later = record { kind = from; low = omega arith; yes = e }
-    by_test false e k later = (let f = later k in record { kind = f.kind; low = (let l = f.low in omega arith); yes = f.yes })
-
--- a hand that is ready
-
-more_within : (counts room : List ℕ) (kind : ℕ) → length counts ≡ 34 → kind < 34 → IsWithinRoom counts room → get_or counts kind 0 < get_or room kind 0 → IsWithinRoom (one_more counts kind) room
-more_within counts room kind size low within less k small = (let a = one_more_at counts kind k (omega arith) in let w = within k small in
-    elim (cases_eq kind k) [
-      | inl same ↦ (let e : ◌≡◌ {A = ℕ} (cond (eqb kind k) 1 0) 1 = ap (λ b. cond b 1 0) (eq-eqb kind k same) in
-          let f : get_or counts k 0 < get_or room k 0 = subst (λ j. get_or counts j 0 < get_or room j 0) same less in omega arith)
-      | inr other ↦ (let e : ◌≡◌ {A = ℕ} (cond (eqb kind k) 1 0) 0 = ap (λ b. cond b 1 0) (ne_eqb kind k other) in omega arith)
-    ])
-
--- It has thirteen tiles, and misses one of a complete hand.
-record OneMissed (counts room : List ℕ) (melds : ℕ) : Type 0 where
-  thirteen : sum counts + 3 * melds ≡ 13
-  least : IsLeast counts (IsGoal room melds) 1
-
-ready_misses : (counts room : List ℕ) (melds : ℕ) → length counts ≡ 34 → IsRoom room melds → IsWithinRoom counts room → is_ready counts room melds ≡ true → OneMissed counts room melds
-unfolding is_ready all_kinds
-ready_misses counts room melds size is_room within ready = by_wait (found_in (is_wait counts room melds) 0 34 ready)
-  where
-    by_wait : Found (is_wait counts room melds) 34 → OneMissed counts room melds
-    by_wait f = record { thirteen = thirteen; least = record { some = (one_more counts f.kind, (goal, one)); least = at_least } }
-      where
-        parts : (ltb (get_or counts f.kind 0) (get_or room f.kind 0) ≡ true) × (complete (one_more counts f.kind) melds ≡ true)
-        parts = and_parts (ltb (get_or counts f.kind 0) (get_or room f.kind 0)) (complete (one_more counts f.kind) melds) f.yes
-
-        whole : length (one_more counts f.kind) ≡ 34
-        whole = length-set counts f.kind _ ∙ size
-
-        wide : IsWithinRoom (one_more counts f.kind) room
-        wide = more_within counts room f.kind size f.low within (ltb-true _ _ parts.0)
-
-        are : IsCounts (one_more counts f.kind)
-        are = counts_from room (one_more counts f.kind) melds is_room whole wide
-
-        goal : IsGoal room melds (one_more counts f.kind)
-        goal = record { are_counts = are; complete = complete-are (one_more counts f.kind) melds are parts.1; within = wide }
-
-        fourteen : sum (one_more counts f.kind) ≡ suc (sum counts)
-        fourteen = sum_more counts f.kind (let l = f.low in omega arith)
-
-        thirteen : sum counts + 3 * melds ≡ 13
-        thirteen = (let a = fourteen in let b = sum_complete (one_more counts f.kind) melds goal.complete in omega arith)
-
-        at_least : (other : List ℕ) → IsGoal room melds other → 1 ≤ missing other counts
-        at_least other g = (let a = sum_complete other melds g.complete in let b = sum_missing other counts in let c = thirteen in omega arith)
-
-        at_most : missing (one_more counts f.kind) counts ≤ 1
-        at_most =
-            let a = one_nearer f.kind (one_more counts f.kind) counts (one_more counts f.kind) (size ∙ sym whole) (λ k inside. (let b = one_more_at counts f.kind k (let l = f.low in omega arith) in omega arith)) in
-            let c = itself (one_more counts f.kind) in
-            omega arith
-
-        one : 1 ≡ missing (one_more counts f.kind) counts
-        one = (let a = at_most in let b = at_least (one_more counts f.kind) goal in omega arith)
-
--- And where it has thirteen tiles and misses one, it is ready.
-misses_ready : (counts room : List ℕ) (melds number : ℕ) → length counts ≡ 34 → sum counts + 3 * melds ≡ 13 → number ≤ 1 → IsLeast counts (IsGoal room melds) number → is_ready counts room melds ≡ true
-unfolding is_ready
-misses_ready counts room melds number size thirteen few least = any_kind (is_wait counts room melds) away.at (let i = away.inside in omega arith)
-    (and_from (ltb (get_or counts away.at 0) (get_or room away.at 0)) (complete (one_more counts away.at) melds)
-    (lt-ltb _ _ (let i = away.inside in let w = goal.within away.at (omega arith) in let m = away.more in omega arith))
-    (ap (λ t. complete t melds) away.is ∙ are-complete target melds goal.are_counts goal.complete))
-  where
-    target : List ℕ
-    target = least.some.0
-
-    goal : IsGoal room melds target
-    goal = least.some.1.0
-
-    away : Away target counts
-    away =
-        let a = sum_complete target melds goal.complete in
-        let b = sum_missing target counts in
-        let c : number ≡ missing target counts = least.some.1.1 in
-        one_away target counts (goal.are_counts.size ∙ sym size) (omega arith) (omega arith)
-
--- a hand of one tile less
-
-less_within : (counts room : List ℕ) (kind : ℕ) → length counts ≡ 34 → kind < 34 → IsWithinRoom counts room → IsWithinRoom (one_less counts kind) room
-less_within counts room kind size low within k small = (let a = one_less_at counts kind k (omega arith) in let w = within k small in omega arith)
-
--- Where each kind that is held is one of the set, and without the best of them the hand isn't ready, it is ready without none.
-pub none_leaves_ready : (counts room : List ℕ) (melds kinds kind : ℕ) → length counts ≡ 34 → IsRoom room melds → IsWithinRoom counts room → IsBestDiscard counts room melds kinds kind →
-    ((k : ℕ) → k < 34 → 0 < get_or counts k 0 → has_kind kinds k ≡ true) → is_ready (one_less counts kind) room melds ≡ false → (k : ℕ) → k < 34 → leaves_ready counts room melds k ≡ false
-none_leaves_ready counts room melds kinds kind size is_room within best each unready k low = by_test (leaves_ready counts room melds k) refl
-  where
-    never : 0 < get_or counts k 0 → is_ready (one_less counts k) room melds ≡ true → ⊥
-    never held ready =
-        let one : OneMissed (one_less counts k) room melds = ready_misses (one_less counts k) room melds (length-set counts k _ ∙ size) is_room (less_within counts room k size low within) ready in
-        let thirteen = one.thirteen in
-        let a = sum_less counts k (omega arith) held in
-        let b = sum_less counts kind (let l = best.is_discard.kind_is in omega arith) best.is_discard.held in
-        let few : best.number ≤ 1 = elim (best.best k 1 (record { kind_is = low; among = each k low held; held = held }) one.least) [ inl less ↦ omega arith | inr same ↦ (let e = same.0 in omega arith) ] in
-        true≢false (sym (misses_ready (one_less counts kind) room melds best.number (length-set counts kind _ ∙ size) (omega arith) few best.leaves) ∙ unready)
-
-    by_test : (b : Bool) → leaves_ready counts room melds k ≡ b → b ≡ false
-    by_test false e = refl
-    by_test true e =
-        let parts = and_parts (ltb 0 (get_or counts k 0)) (is_ready (one_less counts k) room melds) e in
-        absurd (never (ltb-true 0 _ parts.0) parts.1)
 
 -- the seat's view
 

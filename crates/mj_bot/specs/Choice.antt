@@ -1,13 +1,10 @@
 -- What the built-in player answers.
-use Rattle.std.specs.Prelude.{ℕ, ◌≡◌, ◌+◌, ◌==◌, ◌&&◌, Bool, nat_le, if◌then◌else◌, List, [], ◌∷◌, ◌++◌, length, map, flat_map, filter, count_by, slice_index, Option, Some, None, is_none, option_to_list, unwrap_or, MatchOption, MatchBool}
-use Rattle.std.specs.List.{list_all}
+use Rattle.std.specs.Prelude.{ℕ, ◌≡◌, ◌==◌, if◌then◌else◌, List, [], ◌∷◌, ◌++◌, length, map, filter, Option, Some, None, is_none, option_to_list, unwrap_or, MatchOption, MatchBool}
 use Rattle.mj_tiles.specs.Faces.{kind_of}
-use Rattle.mj_tiles.specs.Counts.{all_kinds, kind_counts}
+use Rattle.mj_tiles.specs.Counts.{kind_counts}
 use Rattle.mj_tiles.specs.Kinds.{set_of}
-use Rattle.mj_readings.specs.declared.reading.Set.{Set}
-use Rattle.mj_readings.specs.Sets.{tiles_of_set, set_of_meld}
+use Rattle.mj_readings.specs.Sets.{set_of_meld}
 use Rattle.mj_fu.specs.Forms.{has_value}
-use Rattle.mj_shanten.specs.Room.{is_meld}
 use Rattle.mj_shanten.specs.Discards.{IsBestDiscard}
 use Rattle.mj_deeds.specs.declared.answer.Pai.TheVariants.{Known}
 use Rattle.mj_deeds.specs.declared.answer.Answer.{Answer}
@@ -17,6 +14,7 @@ use Rattle.mj_wall.specs.declared.setting.Rules.{Rules}
 use Rattle.mj_rules.specs.Broken.{broken_by}
 use Rattle.mj_rules.specs.Default.{discard_of, lawful_faces, last_face}
 use Rattle.mj_rules.specs.View.{SeatView, view_of, WindowTurn, Drew, Discarded, Added, concealed, room}
+use Rattle.mj_judge.specs.Measured.{is_measured}
 
 -- The win that a seat would answer: on the tile that it has drawn, or on the one that another discards or adds, with that
 -- seat as the target.
@@ -45,15 +43,6 @@ wanted seat view best = win_in seat view view.turn ++ (Reach seat ∷ (map (disc
 -- The first of them that is lawful, and a pass where none is.
 abbrev pub chosen : Rules → ℕ → SeatView → Option ℕ → Answer
 chosen rules seat view best = unwrap_or (first_lawful rules seat view (wanted seat view best)) (Pass None)
-
--- Shanten is said of a hand whose melds are sets, which with the room that they leave are four of each kind, and of whose
--- tiles no kind stands more often than its room.
-abbrev pub is_kind_within : List ℕ → List ℕ → List Set → ℕ → Bool
-is_kind_within counts room sets kind =
-    slice_index room kind + count_by (λ tile. tile == kind) (flat_map tiles_of_set sets) == 4 && nat_le (slice_index counts kind) (slice_index room kind)
-
-unfoldable pub is_measured : List ℕ → List ℕ → List Set → Bool
-is_measured counts room sets = list_all is_meld sets && list_all (is_kind_within counts room sets) all_kinds
 
 -- The lawful discards of a kind, in tile order: a red five stands after a plain one.
 abbrev pub lawful_of : Rules → ℕ → SeatView → ℕ → List ℕ

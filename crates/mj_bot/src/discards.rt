@@ -9,12 +9,12 @@ ghost use Rattle.mj_waits.specs.Waits.{is_ready};
 ghost use Rattle.mj_shanten.specs.Exchanges.{one_less};
 ghost use Rattle.mj_rules.specs.View.{view_of, concealed, room};
 ghost use Rattle.mj_rules.specs.Default.{discard_of, lawful_faces, last_face};
-ghost use Rattle.mj_bot.specs.Choice.{is_measured, IsBest};
+ghost use Rattle.mj_judge.specs.Measured.{is_measured};
+ghost use Rattle.mj_bot.specs.Choice.{IsBest};
 ghost use Rattle.mj_bot.specs.Inner.Turns.{is_own_turn, is_own_draw, is_free, is_among, is_out_or_among, are_all_among, IsNeverReady};
 
-use crate::measure::is_measured;
 use mj_deeds::{Deed, is_face, ordered};
-use mj_judge::{discard, judge};
+use mj_judge::{discard, is_measured, judge};
 use mj_shanten::Suits;
 use mj_table::Table;
 use mj_tiles::{Counts, FACES, KINDS, Kind, Kinds, Meld, Tile};

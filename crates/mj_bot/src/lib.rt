@@ -5,7 +5,6 @@ ghost use Rattle.mj_bot.specs.Laws.{ChoiceIsLawful, ChoiceIsOne};
 
 mod choosing;
 mod discards;
-mod measure;
 
 pub use choosing::choose;
 

@@ -11,13 +11,13 @@ use Rattle.mj_deeds.specs.declared.bid.Bid.TheVariants.{NoBid}
 use Rattle.mj_deeds.specs.declared.deed.Deed.{Deed}
 use Rattle.mj_deeds.specs.declared.deed.Deed.TheVariants as deeds
 use Rattle.mj_deeds.specs.Four.{at_seat}
-use Rattle.mj_deeds.specs.Facts.{newest, before_newest, gains_by, losses_by, tiles_gained, tiles_lost, discards_by, is_discard_by, river_tiles, makes_by, adds_by, with_added, seat_melds, is_kan, kans, kan_seats_by, kan_seats, indicators_by, indicators, is_live_draw, live_draws, live_tiles, drawn_by, holds_drawn, drawn_tile}
+use Rattle.mj_deeds.specs.Facts.{newest, before_newest, gains_by, losses_by, tiles_gained, tiles_lost, discards_by, is_discard_by, river_tiles, makes_by, adds_by, with_added, seat_melds, is_kan, kans, indicators_by, indicators, is_live_draw, live_draws, live_tiles, drawn_by, holds_drawn, drawn_tile}
 use Rattle.mj_deeds.specs.Hand.{is_hand_start, hand, starts, hand_number}
 use Rattle.mj_deeds.specs.Firsts.{ends_first, is_first}
 use Rattle.mj_deeds.specs.Riichi.{is_reach_by, is_accepted_by, has_reached, is_in_riichi, before_first, behind_first, is_double, behind_reach, without_robbed, is_ippatsu}
 use Rattle.mj_deeds.specs.Passed.{kinds_among, own_kinds, offers_to, offered_tiles, passed_before, passed_kinds, passed_in_riichi}
 use Rattle.mj_deeds.specs.Points.{change_by, points_of, points, is_deposit, is_win, behind_last, deposits}
-use Rattle.mj_deeds.specs.Course.{is_reach, before_wins}
+use Rattle.mj_deeds.specs.Course.{before_wins}
 use Rattle.mj_deeds.specs.Ends.{winners_by, winners, draws_by, end_of, standing_after}
 use Rattle.mj_deeds.specs.Standings.{standing_by, standing}
 use Rattle.mj_deeds.proofs.HandSteps.{from_last-map}
@@ -103,10 +103,6 @@ pub kan-masked : (seat : ℕ) (d : Deed) → is_kan d ≡ is_kan (masked seat d)
 kan-masked seat (deeds.Draw w tile replacement) = refl
 kan-masked seat other = refl
 
-pub kan_seats-masked : (seat : ℕ) (d : Deed) → kan_seats_by d ≡ kan_seats_by (masked seat d)
-kan_seats-masked seat (deeds.Draw w tile replacement) = refl
-kan_seats-masked seat other = refl
-
 pub indicators-masked : (seat : ℕ) (d : Deed) → indicators_by d ≡ indicators_by (masked seat d)
 indicators-masked seat (deeds.Draw w tile replacement) = refl
 indicators-masked seat other = refl
@@ -146,10 +142,6 @@ deposit-masked seat other = refl
 pub win-masked : (seat : ℕ) (d : Deed) → is_win d ≡ is_win (masked seat d)
 win-masked seat (deeds.Draw w tile replacement) = refl
 win-masked seat other = refl
-
-pub reach-masked : (seat : ℕ) (d : Deed) → is_reach d ≡ is_reach (masked seat d)
-reach-masked seat (deeds.Draw w tile replacement) = refl
-reach-masked seat other = refl
 
 pub winners_by-masked : (seat : ℕ) (d : Deed) → winners_by d ≡ winners_by (masked seat d)
 winners_by-masked seat (deeds.Draw w tile replacement) = refl
@@ -287,9 +279,6 @@ passed_in_riichi-masked seat who ds = ap kinds_among (
 
 pub kans-masked : (seat : ℕ) (ds : List Deed) → kans ds ≡ kans (all_masked seat ds)
 kans-masked seat ds = count-kept is_kan (masked seat) (kan-masked seat) ds
-
-pub kan_seats_all-masked : (seat : ℕ) (ds : List Deed) → kan_seats ds ≡ kan_seats (all_masked seat ds)
-kan_seats_all-masked seat ds = flat_map-kept kan_seats_by (masked seat) (kan_seats-masked seat) ds
 
 pub indicators_all-masked : (seat : ℕ) (ds : List Deed) → indicators ds ≡ indicators (all_masked seat ds)
 indicators_all-masked seat ds = flat_map-kept indicators_by (masked seat) (indicators-masked seat) ds

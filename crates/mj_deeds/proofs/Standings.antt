@@ -1,5 +1,5 @@
 -- How a game of deeds that fit stands, one hand after another.
-use Rattle.std.proofs.Common.{◌≡◌, ℕ, suc, ◌+◌, ◌-◌, ◌<◌, ◌≤◌, ◌⊎◌, inl, inr, Bool, true, false, cond, ◌&&◌, ◌||◌, List, [], ◌∷◌, ◌++◌, length, Option, Some, None, refl, sym, ap, ◌∙◌, subst, arith}
+use Rattle.std.proofs.Common.{◌≡◌, ℕ, suc, ◌+◌, ◌-◌, ◌<◌, ◌≤◌, Bool, true, false, cond, ◌&&◌, ◌||◌, List, [], ◌∷◌, ◌++◌, length, Option, Some, None, refl, sym, ap, ◌∙◌, subst, arith}
 use Rattle.std.specs.Prelude.{is_none, ◌==◌, ◌%◌}
 use Rattle.std.specs.Option.{option_map_or}
 use Rattle.std.proofs.lemmas.Bool.{and_parts, eqb-true}
@@ -211,17 +211,3 @@ few_hands red ds fit = few (standing ds).hand (length (starts ds)) (standing_han
 
 pub some_starts : (red : Bool) (ds : List Deed) → all_fit red [] ds ≡ true → is_past_start (newest ds) ≡ true → 0 < length (starts ds)
 some_starts red ds fit h = (kept_all red ds fit).some h
-
--- A start of a hand that fits begins the first hand, or the one whose standing follows.
-pub start_follows : (red : Bool) (ds : List Deed) (d : Deed) → all_fit red [] ds ≡ true → fits red ds d ≡ true → is_hand_start d ≡ true →
-    ((is_after_start (newest ds) ≡ true) × (standing (ds ++ d ∷ []) ≡ first_standing)) ⊎ ((is_after_hand (newest ds) ≡ true) × (standing_after (standing ds) (hand ds) ≡ Some (standing (ds ++ d ∷ []))))
-start_follows red ds d fit one start = by_coming (comes ds d start (parts_of red ds d one).place)
-  where
-    numbered : (next : Standing) (number : ℕ) → next.hand ≡ number → ◌≡◌ {A = Standing} (record { round = next.round; dealer = next.dealer; honba = next.honba; hand = number }) next
-    numbered next number e = λ i. record { round = next.round; dealer = next.dealer; honba = next.honba; hand = sym e i }
-
-    by_coming : Comes ds d → ((is_after_start (newest ds) ≡ true) × (standing (ds ++ d ∷ []) ≡ first_standing)) ⊎ ((is_after_hand (newest ds) ≡ true) × (standing_after (standing ds) (hand ds) ≡ Some (standing (ds ++ d ∷ []))))
-    by_coming (First a s) =
-        inl (a, standing_starts ds d start ∙ start_says first_standing 0 (length (starts ds)) d s ∙ numbered first_standing (length (starts ds)) (sym ((kept_all red ds fit).none a)))
-    by_coming (Later next a n s) =
-        inr (a, n ∙ ap Some (sym (standing_starts ds d start ∙ start_says next (deposits ds) (length (starts ds)) d s ∙ numbered next (length (starts ds)) (number_next ds next (kept_all red ds fit) a n).1)))

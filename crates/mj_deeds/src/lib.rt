@@ -2,6 +2,7 @@
 #![tactic(auto)]
 
 mod answer;
+mod answers;
 mod bid;
 mod bringing;
 mod course;
@@ -9,6 +10,7 @@ mod deed;
 mod ending;
 mod facts;
 mod fitting;
+mod form;
 mod four;
 mod hand;
 mod hands;
@@ -24,6 +26,7 @@ mod token;
 mod yaku_list;
 
 pub use answer::{Answer, Pai};
+pub use answers::Answers;
 pub use bid::Bid;
 pub use bringing::brought;
 pub use course::{is_call, is_kan, seat_of_kan};
@@ -31,6 +34,7 @@ pub use deed::{Deed, Viewer};
 pub use ending::end_by_draw;
 pub use facts::{concealed, river};
 pub use fitting::{has_seats, has_tiles, is_face};
+pub use form::is_in_form;
 pub use four::{Four, next_seat};
 pub use hand::is_hand_start;
 pub use hands::Hands;

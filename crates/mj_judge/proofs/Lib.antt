@@ -1,8 +1,11 @@
+pub mod BestDiscards
 pub mod Discards
+pub mod Measured
 pub mod Missed
 pub mod Outer
 pub mod Places
 pub mod Pons
 pub mod Swaps
+pub mod Tried
 pub mod Verdicts
 pub mod Wins

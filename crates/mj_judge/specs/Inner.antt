@@ -3,3 +3,4 @@
 pub mod Free
 pub mod Ready
 pub mod Missed
+pub mod Tried

@@ -259,7 +259,7 @@ fn is_other_tile(tile: Tile, named: Option<&Pai>) -> bool
 }
 
 // The newest deed is a discard of the seat before this one.
-fn is_before(table: &Table, seat: u8) -> bool
+pub(crate) fn is_before(table: &Table, seat: u8) -> bool
     ensures { result ≡ is_before (turn_in (option_map turn_by (newest table.now.deeds))) seat }
 {
     match table.newest() {

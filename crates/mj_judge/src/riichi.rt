@@ -7,6 +7,7 @@ ghost use Rattle.mj_judge.specs.Inner.Ready.{leaves_ready};
 
 use crate::counting::{counts_without, without};
 use crate::questions::is_call_answer;
+use crate::unready::is_never_ready;
 use mj_calls::riichi_kan;
 use mj_deeds::{Answer, Deed, Pai};
 use mj_table::Table;
@@ -123,10 +124,15 @@ fn has_ready_discard(table: &Table, seat: u8) -> bool
 {
     let counts = table.holds(seat);
     let room = table.room(seat);
-    let melds = table.melds(seat).as_slice().len() as u8;
+    let melds = table.melds(seat);
+    let melds = melds.as_slice();
+    if is_never_ready(&counts, &room, melds) {
+        return false;
+    }
+    let many = melds.len() as u8;
     for number in 0..KINDS as u8 {
         let kind = Kind::at(number);
-        if leaves_ready(&counts, &room, melds, kind) {
+        if leaves_ready(&counts, &room, many, kind) {
             return true;
         }
     }

@@ -25,6 +25,10 @@ pub mod Lawful
 pub mod Given
 pub mod Defaults
 pub mod Followed
+pub mod InTurn
+pub mod Listed
+pub mod ListedOrder
+pub mod ListedRows
 pub mod Shares
 pub mod Precedence
 pub mod Paid

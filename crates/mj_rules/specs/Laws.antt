@@ -1,5 +1,5 @@
 -- The laws over played deeds.
-use Rattle.std.specs.Prelude.{◌≡◌, ℕ, ◌*◌, ◌+◌, Bool, true, List, [], ◌∷◌, ◌++◌, length, ◌≤◌, ◌<◌, Some, is_some, pos, ◌+ℤ◌}
+use Rattle.std.specs.Prelude.{◌≡◌, ◌≢◌, ◌↔◌, Contains, AllPairs, ℕ, ◌*◌, Bool, true, List, [], ◌∷◌, ◌++◌, length, ◌≤◌, ◌<◌, Some, is_some, pos, ◌+ℤ◌, ◌+◌}
 use Rattle.std.specs.List.{list_all}
 use Rattle.mj_deeds.specs.declared.four.Four.{Four}
 use Rattle.mj_deeds.specs.declared.answer.Answer.{Answer}
@@ -13,6 +13,9 @@ use Rattle.mj_wall.specs.Places.{is_wall}
 use Rattle.mj_rules.specs.Default.{default_answer, can_discard}
 use Rattle.mj_deeds.specs.Facts.{newest, live_draws, kans, seat_melds}
 use Rattle.mj_rules.specs.Outcome.{wall_of, outcome, goes_on}
+use Rattle.mj_tiles.specs.Faces.{kind_of}
+use Rattle.mj_rules.specs.View.{view_of}
+use Rattle.mj_rules.specs.Possible.{is_plain, names_faces, triplets, key_of, comes_before, possible}
 use Rattle.mj_rules.specs.Played.{IsLawful, AllLawful, IsPlayedBehind, IsPlayed}
 
 -- Where there is a wall and all are whole, the wall of each hand is whole.
@@ -73,6 +76,21 @@ abbrev pub FewDeeds : Type 0
 FewDeeds =
     (rules : Rules) (walls : List (List ℕ)) (deeds : List Deed) → ((number : ℕ) → is_wall rules.red (wall_of walls number) ≡ true) → IsPlayed rules walls deeds →
     (length (hand deeds) ≤ 300) × (length deeds ≤ 60002)
+
+-- A plain answer is listed exactly where it is lawful, and no other answer is listed.
+abbrev pub PlainIsListed : Type 0
+PlainIsListed =
+    (rules : Rules) (deeds : List Deed) (seat : ℕ) (answer : Answer) → is_plain answer ≡ true → names_faces answer ≡ true →
+    Contains (possible rules deeds seat) answer ↔ IsLawful rules deeds seat answer
+
+abbrev pub ListedIsPlain : Type 0
+ListedIsPlain = (rules : Rules) (deeds : List Deed) (seat : ℕ) → list_all is_plain (possible rules deeds seat) ≡ true
+
+-- The listed answers stand in turn, and so none stands there twice, where no two triplets of the seat are of one kind.
+abbrev pub ListedInTurn : Type 0
+ListedInTurn =
+    (rules : Rules) (deeds : List Deed) (seat : ℕ) → AllPairs (λ one other. kind_of one.a ≢ kind_of other.a) (triplets (view_of deeds seat)) →
+    AllPairs (λ one other. comes_before (key_of one) (key_of other) ≡ true) (possible rules deeds seat)
 
 -- In played deeds the live draws and the kans of a hand are at most 70 together, the kans at most four, and so are the melds of a
 -- seat.

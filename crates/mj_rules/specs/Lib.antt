@@ -6,6 +6,8 @@ pub mod Played
 pub mod View
 pub mod Wins
 pub mod Draws
+pub mod Possible
+pub mod Example
 pub mod Precedence
 pub mod Paid
 pub mod Said

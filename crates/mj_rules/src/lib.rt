@@ -5,7 +5,7 @@
 ghost use Rattle.mj_rules.specs.Accepted.{AcceptedOfDiscard};
 ghost use Rattle.mj_rules.specs.Hands.{CompleteIsFound, WaitsAreFound, ReadyIsFound, ReadingsAreFound, WorthIsFound};
 ghost use Rattle.mj_rules.specs.Hands.{KansAreFound, SeatWaitsAreFound, NoYakuIsFound, LawfulWinsAreGreatest};
-ghost use Rattle.mj_rules.specs.Laws.{EachIsWall, PlayedWithOneMore, PlayedWithoutTheLast, PlayedDeedsFit, NextOfPlayedFits, SomeDeedFollows, SomeDiscardIsLawful, FittingDefaultIsLawful, PlayedDefaultIsLawful, TotalStays, FewDeeds, FewDraws};
+ghost use Rattle.mj_rules.specs.Laws.{EachIsWall, PlayedWithOneMore, PlayedWithoutTheLast, PlayedDeedsFit, NextOfPlayedFits, SomeDeedFollows, SomeDiscardIsLawful, FittingDefaultIsLawful, PlayedDefaultIsLawful, TotalStays, FewDeeds, FewDraws, PlainIsListed, ListedIsPlain, ListedInTurn};
 ghost use Rattle.mj_rules.specs.Paid.{LawfulWinsAreWorth, FirstRonIsPaid, FurtherRonsArePaid, OwnWinIsPaid};
 ghost use Rattle.mj_rules.specs.Precedence.{AllWinsCome, OnePonOrKan, OneChi, PonOrKanComes, ChiComes, NothingIsCalled, KeptCallComes};
 ghost use Rattle.mj_rules.specs.Said.{PointsAreRead};
@@ -61,6 +61,14 @@ pub fn points_stay()
 /// discarding tiles, of which there are few, and a game has at most 200 hands.
 pub fn few_deeds()
     ensures { FewDeeds }
+{}
+
+/// A plain answer is in the list of possible answers of a seat exactly where it is lawful, and no other answer is there. The
+/// list stands in turn: by type, within a type by the tiles in tile order, so that no answer stands there twice.
+pub fn lawful_answers_are_listed()
+    ensures listed { PlainIsListed }
+    ensures plain { ListedIsPlain }
+    ensures in_turn { ListedInTurn }
 {}
 
 /// All who win on a discard or on the tile of an added kan win, in turn order after its seat, and nothing else comes.

@@ -5,9 +5,9 @@ use Rattle.mj_readings.specs.Sets.{set_of_meld}
 use Rattle.mj_shanten.specs.Room.{IsRoom}
 use Rattle.mj_shanten.specs.Walked.{Tiles}
 use Rattle.mj_rules.specs.View.{view_of, concealed}
-use Rattle.mj_bot.specs.Choice.{is_measured}
+use Rattle.mj_judge.specs.Measured.{is_measured}
 use Rattle.mj_bot.proofs.Lawful.{no_kind_lawful, measured_best}
-use Rattle.mj_bot.proofs.Measured.{room_of, within_of}
+use Rattle.mj_judge.proofs.Measured.{room_of, within_of}
 use Rattle.mj_bot.proofs.Unready.{never_ready}
 use Rattle.mj_bot.proofs.discards.measured_discard.Goals as goal
 

@@ -2,9 +2,9 @@ use Rattle.std.proofs.Common.{◌&&◌, map, sym, ap, ◌∙◌}
 use Rattle.std.specs.List.{list_all}
 use Rattle.mj_tiles.specs.Counts.{all_kinds}
 use Rattle.mj_readings.specs.Sets.{set_of_meld}
-use Rattle.mj_bot.specs.Choice.{is_kind_within, is_measured}
-use Rattle.mj_bot.proofs.Measured.{all_sets}
-use Rattle.mj_bot.proofs.measure.is_measured.Goals as goal
+use Rattle.mj_judge.specs.Measured.{is_kind_within, is_measured}
+use Rattle.mj_judge.proofs.Measured.{all_sets}
+use Rattle.mj_judge.proofs.measure.is_measured.Goals as goal
 
 pub returns-then-not-are_sets : goal.returns-then-not-are_sets
 unfolding is_measured

@@ -1,8 +1,8 @@
 use Rattle.std.proofs.Common.{arith, map, sym, ◌∙◌}
 use Rattle.mj_tiles.proofs.EachKind.{all_kinds-pass, all_kinds-fail}
 use Rattle.mj_readings.specs.Sets.{set_of_meld}
-use Rattle.mj_bot.specs.Choice.{is_kind_within}
-use Rattle.mj_bot.proofs.measure.all_within.Goals as goal
+use Rattle.mj_judge.specs.Measured.{is_kind_within}
+use Rattle.mj_judge.proofs.measure.all_within.Goals as goal
 
 pub returns-then-not-is_kind_within : goal.returns-then-not-is_kind_within
 returns-then-not-is_kind_within c =

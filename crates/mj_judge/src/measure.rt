@@ -3,14 +3,14 @@ ghost use Rattle.std.specs.List.{list_all};
 ghost use Rattle.mj_readings.specs.Sets.{set_of_meld, tiles_of_set, begins_run};
 ghost use Rattle.mj_shanten.specs.Room.{is_meld};
 ghost use Rattle.mj_tiles.specs.Counts.{all_kinds};
-ghost use Rattle.mj_bot.specs.Choice.{is_kind_within, is_measured};
+ghost use Rattle.mj_judge.specs.Measured.{is_kind_within, is_measured};
 
 use mj_tiles::{Counts, EAST, Form, KINDS, Kind, Meld};
 
-// Whether shanten is said of the hand: its melds are sets, which with the room that they leave are four of each kind, and
-// no kind stands more often than its room.
-#[tactic(auto, unfolding(crate::specs::Choice::is_measured))]
-pub(crate) fn is_measured(counts: &Counts, room: &Counts, melds: &[Meld]) -> bool
+/// Whether shanten is said of a hand of these concealed tiles, with the room that its melds leave, at most four: its melds
+/// are sets, which with the room are four of each kind, and no kind stands more often than its room.
+#[tactic(auto, unfolding(crate::specs::Measured::is_measured))]
+pub fn is_measured(counts: &Counts, room: &Counts, melds: &[Meld]) -> bool
     requires { length melds.now ≤ 4 }
     ensures { result ≡ is_measured counts.now room.now (map set_of_meld melds.now) }
 {

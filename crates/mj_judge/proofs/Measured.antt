@@ -9,7 +9,7 @@ use Rattle.mj_tiles.proofs.EachKind.{each_kind}
 use Rattle.mj_readings.specs.declared.reading.Set.{Set}
 use Rattle.mj_readings.specs.Sets.{set_of_meld, tiles_of_set}
 use Rattle.mj_shanten.specs.Room.{is_meld, IsRoom, IsWithinRoom}
-use Rattle.mj_bot.specs.Choice.{is_kind_within, is_measured}
+use Rattle.mj_judge.specs.Measured.{is_kind_within, is_measured}
 
 length_of : (melds : List Meld) → length (map set_of_meld melds) ≡ length melds
 length_of [] = refl

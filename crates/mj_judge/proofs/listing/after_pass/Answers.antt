@@ -1,0 +1,19 @@
+use Rattle.std.proofs.Common.{◌≡◌, false, true, length, rules, sym, ◌∙◌}
+use Rattle.mj_judge.proofs.Tried.{pass_fails, pass_stands, pass_alone}
+use Rattle.mj_judge.proofs.listing.after_pass.Goals as goal
+
+pub returns-then-not-is_lawful : goal.returns-then-not-is_lawful
+returns-then-not-is_lawful c =
+    let fails : c.is_lawful.result ≡ false = search rules in
+    c.from_vec.ensures ∙ pass_fails c.args.table.now.rules c.args.table.now.deeds c.args.seat c.args.items.items (sym c.is_lawful.ensures ∙ fails)
+
+pub returns-then-is_empty : goal.returns-then-is_empty
+returns-then-is_empty c =
+    let lawful : c.is_lawful.result ≡ true = search rules in
+    let none : length c.args.items.items ≡ 0 = search rules in
+    c.pass_alone.ensures ∙ pass_alone c.args.table.now.rules c.args.table.now.deeds c.args.seat c.args.items.items (sym c.is_lawful.ensures ∙ lawful) none
+
+pub returns : goal.returns
+returns c =
+    let lawful : c.is_lawful.result ≡ true = search rules in
+    c.from_vec-2.ensures ∙ c.in_ok-insert.ensures.items ∙ pass_stands c.args.table.now.rules c.args.table.now.deeds c.args.seat c.args.items.items (sym c.is_lawful.ensures ∙ lawful)

@@ -1,0 +1,32 @@
+-- What is tried of the answers that a seat may give, and what of it is lawful.
+use Rattle.std.specs.Prelude.{ℕ, ◌+◌, ◌==◌, ◌&&◌, Bool, false, nat_le, if◌then◌else◌, List, Option, Some, None, filter}
+use Rattle.mj_tiles.specs.Faces.{kind_of}
+use Rattle.mj_deeds.specs.declared.answer.Answer.{Answer}
+use Rattle.mj_deeds.specs.declared.deed.Deed.{Deed}
+use Rattle.mj_wall.specs.declared.setting.Rules.{Rules}
+use Rattle.mj_rules.specs.View.{WindowTurn, Drew, Reached, Called, view_of}
+use Rattle.mj_rules.specs.Possible.{is_lawful}
+
+-- The lawful ones among answers of a seat in the window on the newest deed.
+unfoldable pub lawful_among : Rules → List Deed → ℕ → List Answer → List Answer
+lawful_among rules deeds seat answers = filter (is_lawful rules seat (view_of deeds seat)) answers
+
+-- The window is on a draw of the seat.
+abbrev pub is_own_draw : ℕ → WindowTurn → Bool
+is_own_draw seat (Drew who) = who == seat
+is_own_draw seat other = false
+
+-- In the window the seat may discard.
+abbrev pub is_discarding : ℕ → WindowTurn → Bool
+is_discarding seat (Drew who) = who == seat
+is_discarding seat (Reached who) = who == seat
+is_discarding seat (Called who banned) = who == seat
+is_discarding seat other = false
+
+-- The kinds of two tiles are at most two apart.
+abbrev pub is_near : ℕ → ℕ → Bool
+is_near tile a = nat_le (kind_of a) (kind_of tile + 2) && nat_le (kind_of tile) (kind_of a + 2)
+
+-- The red five of a kind.
+abbrev pub red_of : ℕ → Option ℕ
+red_of kind = if kind == 4 then Some 34 else (if kind == 13 then Some 35 else (if kind == 22 then Some 36 else None))

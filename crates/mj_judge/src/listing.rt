@@ -1,0 +1,131 @@
+ghost use Rattle.std.specs.Prelude.{◌≡◌, ◌≤◌, ◌++◌, ◌∷◌, [], None, IfOk, OnOk, option_map};
+ghost use Rattle.mj_deeds.specs.declared.answer.Answer.TheVariants as answers;
+ghost use Rattle.mj_deeds.specs.Facts.{newest};
+ghost use Rattle.mj_rules.specs.View.{view_of, turn_by, turn_in};
+ghost use Rattle.mj_rules.specs.Possible.{possible, is_lawful, all_discards, all_calls, all_closed_kans, all_added_kans, triplets, all_wins};
+ghost use Rattle.mj_judge.specs.Inner.Tried.{lawful_among};
+
+use crate::calling::push_calls;
+use crate::turning::{push_added_kans, push_closed_kans, push_discards};
+use crate::verdict::judge;
+use mj_deeds::{Answer, Answers, Deed, is_in_form};
+use mj_table::Table;
+use std::alloc::{AllocError, Global};
+
+/// The answers that a seat, 0 to 3, may give in the window on the newest deed: all that are in form, break no rule and name
+/// no more than they have to. They stand by type in the order pass, discard, chi, pon, open kan, concealed kan, added kan,
+/// reach, win, nine kinds, within a type by their tiles in tile order, and a discard unmarked before it is marked. A pass
+/// alone takes no memory.
+pub fn possible(alloc: Global, table: &Table, seat: u8) -> Result<Answers, AllocError>
+    requires { seat ≤ 3 }
+    ensures { IfOk result (λ list. list ≡ possible table.now.rules table.now.deeds seat) }
+{
+    let mut items = Vec::new(alloc);
+    push_discards(table, seat, &mut items)?;
+    push_calls(table, seat, &mut items)?;
+    push_closed_kans(table, seat, &mut items)?;
+    push_added_kans(table, seat, &mut items)?;
+    push_lawful(table, seat, &[Answer::Reach { actor: seat }], &mut items)?;
+    push_win(table, seat, &mut items)?;
+    push_lawful(
+        table,
+        seat,
+        &[Answer::NineKinds { actor: seat }],
+        &mut items,
+    )?;
+    Ok(after_pass(table, seat, items)?)
+}
+
+// The answers after a pass, where a pass is lawful.
+fn after_pass(table: &Table, seat: u8, items: Vec<Answer>) -> Result<Answers, AllocError>
+    requires { seat ≤ 3 }
+    ensures { IfOk result (λ list. list
+        ≡ lawful_among table.now.rules table.now.deeds seat (answers.Pass None ∷ [])
+        ++ items.items) }
+{
+    let mut items = items;
+    let pass = Answer::Pass { actor: None };
+    if !is_lawful(table, seat, &pass) {
+        return Ok(Answers::from_vec(items));
+    }
+    if items.is_empty() {
+        return Ok(Answers::pass_alone());
+    }
+    items.insert(0, pass)?;
+    Ok(Answers::from_vec(items))
+}
+
+// Adds the win that the turn offers, where it is lawful.
+#[tactic(auto, using(crate::proofs::Tried::nothing_added))]
+fn push_win(table: &Table, seat: u8, items: &mut Vec<Answer>) -> Result<(), AllocError>
+    requires { seat ≤ 3 }
+    ensures { OnOk result (items.new.items ≡ items.old.items
+        ++ lawful_among table.now.rules table.now.deeds seat
+        (all_wins seat (turn_in (option_map turn_by (newest table.now.deeds))))) }
+{
+    match table.newest() {
+        Some(Deed::Draw { seat: who, .. }) => {
+            push_win_from(table, seat, *who, items)?;
+            Ok(())
+        }
+        Some(Deed::Discard { seat: who, .. }) => {
+            push_win_from(table, seat, *who, items)?;
+            Ok(())
+        }
+        Some(Deed::AddedKan { seat: who, .. }) => {
+            push_win_from(table, seat, *who, items)?;
+            Ok(())
+        }
+        _ => Ok(()),
+    }
+}
+
+// The same of the seat that gives the tile.
+fn push_win_from(
+    table: &Table,
+    seat: u8,
+    target: u8,
+    items: &mut Vec<Answer>,
+) -> Result<(), AllocError>
+    requires { seat ≤ 3 }
+    ensures { OnOk result (items.new.items ≡ items.old.items
+        ++ lawful_among table.now.rules table.now.deeds seat
+        (answers.Win seat target None ∷ [])) }
+{
+    let win = Answer::Win {
+        actor: seat,
+        target,
+        tile: None,
+    };
+    push_lawful(table, seat, &[win], items)?;
+    Ok(())
+}
+
+// Adds those of some answers that are lawful.
+#[tactic(auto, unfolding(crate::specs::Inner::Tried::lawful_among))]
+pub(crate) fn push_lawful(
+    table: &Table,
+    seat: u8,
+    tried: &[Answer],
+    items: &mut Vec<Answer>,
+) -> Result<(), AllocError>
+    requires { seat ≤ 3 }
+    ensures { OnOk result (items.new.items ≡ items.old.items
+        ++ lawful_among table.now.rules table.now.deeds seat tried.now) }
+{
+    for answer in tried {
+        if is_lawful(table, seat, answer) {
+            items.push(*answer)?;
+        }
+    }
+    Ok(())
+}
+
+// The answer is in form and breaks no rule.
+#[tactic(auto, unfolding(mj_rules::specs::Possible::is_lawful))]
+fn is_lawful(table: &Table, seat: u8, answer: &Answer) -> bool
+    requires { seat ≤ 3 }
+    ensures { result ≡ is_lawful table.now.rules seat (view_of table.now.deeds seat) answer.now }
+{
+    is_in_form(answer) && judge(table, seat, answer).is_ok()
+}

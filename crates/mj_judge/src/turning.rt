@@ -1,0 +1,268 @@
+ghost use Rattle.std.specs.Prelude.{◌≡◌, ◌≤◌, ◌++◌, ◌∷◌, [], OnOk, filter, option_map};
+ghost use Rattle.mj_tiles.specs.Faces.{kind_of};
+ghost use Rattle.mj_deeds.specs.declared.answer.Answer.TheVariants as answers;
+ghost use Rattle.mj_deeds.specs.declared.answer.Pai.TheVariants.{Known};
+ghost use Rattle.mj_deeds.specs.Facts.{newest, is_pon};
+ghost use Rattle.mj_rules.specs.View.{view_of, turn_by, turn_in};
+ghost use Rattle.mj_rules.specs.Possible.{faces_of, discards_of, all_discards, closed_kans_of, all_closed_kans, added_kans_of, all_added_kans, triplets};
+ghost use Rattle.mj_judge.specs.Inner.Tried.{lawful_among, is_own_draw, is_discarding};
+
+use crate::calling::{plain_of, red_of};
+use crate::listing::push_lawful;
+use mj_deeds::{Answer, Deed, Pai, ordered};
+use mj_table::Table;
+use mj_tiles::{FACES, Form, Meld, Tile};
+use std::alloc::AllocError;
+
+// Adds the lawful discards, of each tile that is held.
+pub(crate) fn push_discards(
+    table: &Table,
+    seat: u8,
+    items: &mut Vec<Answer>,
+) -> Result<(), AllocError>
+    requires { seat ≤ 3 }
+    ensures { OnOk result (items.new.items ≡ items.old.items
+        ++ lawful_among table.now.rules table.now.deeds seat (all_discards seat)) }
+{
+    if !is_discarding(table, seat) {
+        return Ok(());
+    }
+    for place in 0..FACES {
+        push_discards_of(table, seat, ordered(place), items)?;
+    }
+    Ok(())
+}
+
+// The discards of one face.
+fn push_discards_of(
+    table: &Table,
+    seat: u8,
+    tile: Tile,
+    items: &mut Vec<Answer>,
+) -> Result<(), AllocError>
+    requires { seat ≤ 3 }
+    ensures { OnOk result (items.new.items ≡ items.old.items
+        ++ lawful_among table.now.rules table.now.deeds seat (discards_of seat tile)) }
+{
+    if table.held_count(seat, tile) == 0 {
+        return Ok(());
+    }
+    let discards = [discard(seat, tile, false), discard(seat, tile, true)];
+    push_lawful(table, seat, &discards, items)?;
+    Ok(())
+}
+
+// Adds the lawful kans of four concealed tiles: at the own draw alone.
+pub(crate) fn push_closed_kans(
+    table: &Table,
+    seat: u8,
+    items: &mut Vec<Answer>,
+) -> Result<(), AllocError>
+    requires { seat ≤ 3 }
+    ensures { OnOk result (items.new.items ≡ items.old.items
+        ++ lawful_among table.now.rules table.now.deeds seat (all_closed_kans seat)) }
+{
+    if !is_own_draw(table, seat) {
+        return Ok(());
+    }
+    for place in 0..FACES {
+        push_closed_kans_of(table, seat, ordered(place), items)?;
+    }
+    Ok(())
+}
+
+// The kans of four concealed tiles whose first has this face.
+fn push_closed_kans_of(
+    table: &Table,
+    seat: u8,
+    a: Tile,
+    items: &mut Vec<Answer>,
+) -> Result<(), AllocError>
+    requires { seat ≤ 3 }
+    ensures { OnOk result (items.new.items ≡ items.old.items
+        ++ lawful_among table.now.rules table.now.deeds seat
+        (closed_kans_of seat a (faces_of (kind_of a)))) }
+{
+    if table.held_count(seat, a) == 0 {
+        return Ok(());
+    }
+    let plain = plain_of(a.kind());
+    match red_of(a.kind()) {
+        None => {
+            push_plain_kan(table, seat, a, plain, items)?;
+            Ok(())
+        }
+        Some(red) => {
+            let kans = [
+                closed_kan(seat, a, plain, plain, plain),
+                closed_kan(seat, a, plain, plain, red),
+                closed_kan(seat, a, plain, red, plain),
+                closed_kan(seat, a, plain, red, red),
+                closed_kan(seat, a, red, plain, plain),
+                closed_kan(seat, a, red, plain, red),
+                closed_kan(seat, a, red, red, plain),
+                closed_kan(seat, a, red, red, red),
+            ];
+            push_lawful(table, seat, &kans, items)?;
+            Ok(())
+        }
+    }
+}
+
+// The kan with three more tiles of one face.
+fn push_plain_kan(
+    table: &Table,
+    seat: u8,
+    a: Tile,
+    plain: Tile,
+    items: &mut Vec<Answer>,
+) -> Result<(), AllocError>
+    requires { seat ≤ 3 }
+    ensures { OnOk result (items.new.items ≡ items.old.items
+        ++ lawful_among table.now.rules table.now.deeds seat
+        (answers.ClosedKan seat (Known a) (Known plain) (Known plain) (Known plain) ∷ [])) }
+{
+    if table.held_count(seat, plain) < 3 {
+        return Ok(());
+    }
+    let kan = closed_kan(seat, a, plain, plain, plain);
+    push_lawful(table, seat, &[kan], items)?;
+    Ok(())
+}
+
+// Adds the lawful kans by a tile added to an own triplet: at the own draw alone.
+pub(crate) fn push_added_kans(
+    table: &Table,
+    seat: u8,
+    items: &mut Vec<Answer>,
+) -> Result<(), AllocError>
+    requires { seat ≤ 3 }
+    ensures { OnOk result (items.new.items ≡ items.old.items
+        ++ lawful_among table.now.rules table.now.deeds seat
+        (all_added_kans seat (triplets (view_of table.now.deeds seat)))) }
+{
+    if !is_own_draw(table, seat) {
+        return Ok(());
+    }
+    for place in 0..FACES {
+        push_added_kans_of(table, seat, ordered(place), items)?;
+    }
+    Ok(())
+}
+
+// The kans by adding a tile of one face.
+fn push_added_kans_of(
+    table: &Table,
+    seat: u8,
+    tile: Tile,
+    items: &mut Vec<Answer>,
+) -> Result<(), AllocError>
+    requires { seat ≤ 3 }
+    ensures { OnOk result (items.new.items ≡ items.old.items
+        ++ lawful_among table.now.rules table.now.deeds seat
+        (added_kans_of seat tile (triplets (view_of table.now.deeds seat)))) }
+{
+    if table.held_count(seat, tile) == 0 {
+        return Ok(());
+    }
+    let melds = table.melds(seat);
+    push_added_to(table, seat, tile, melds.as_slice(), items)?;
+    Ok(())
+}
+
+// The same to the triplets among some melds.
+fn push_added_to(
+    table: &Table,
+    seat: u8,
+    tile: Tile,
+    melds: &[Meld],
+    items: &mut Vec<Answer>,
+) -> Result<(), AllocError>
+    requires { seat ≤ 3 }
+    ensures { OnOk result (items.new.items ≡ items.old.items
+        ++ lawful_among table.now.rules table.now.deeds seat
+        (added_kans_of seat tile (filter (λ meld. is_pon meld.form) melds.now))) }
+{
+    for meld in melds {
+        push_added_kan(table, seat, tile, meld, items)?;
+    }
+    Ok(())
+}
+
+// The same to one meld.
+fn push_added_kan(
+    table: &Table,
+    seat: u8,
+    tile: Tile,
+    meld: &Meld,
+    items: &mut Vec<Answer>,
+) -> Result<(), AllocError>
+    requires { seat ≤ 3 }
+    ensures { OnOk result (items.new.items ≡ items.old.items
+        ++ lawful_among table.now.rules table.now.deeds seat
+        (added_kans_of seat tile (filter (λ meld. is_pon meld.form) (meld.now ∷ [])))) }
+{
+    if !is_pon(meld) {
+        return Ok(());
+    }
+    let kan = Answer::AddedKan {
+        actor: seat,
+        tile: Pai::Known(tile),
+        a: Pai::Known(meld.a),
+        b: Pai::Known(meld.b),
+        c: Pai::Known(meld.c),
+    };
+    push_lawful(table, seat, &[kan], items)?;
+    Ok(())
+}
+
+fn is_pon(meld: &Meld) -> bool
+    ensures { result ≡ is_pon meld.now.form }
+{
+    matches!(meld.form, Form::Pon)
+}
+
+fn discard(seat: u8, tile: Tile, drawn: bool) -> Answer
+    ensures { result ≡ answers.Discard seat (Known tile) drawn }
+{
+    Answer::Discard {
+        actor: seat,
+        tile: Pai::Known(tile),
+        drawn,
+    }
+}
+
+fn closed_kan(seat: u8, a: Tile, b: Tile, c: Tile, d: Tile) -> Answer
+    ensures { result ≡ answers.ClosedKan seat (Known a) (Known b) (Known c) (Known d) }
+{
+    Answer::ClosedKan {
+        actor: seat,
+        a: Pai::Known(a),
+        b: Pai::Known(b),
+        c: Pai::Known(c),
+        d: Pai::Known(d),
+    }
+}
+
+// The window is on a draw of the seat.
+fn is_own_draw(table: &Table, seat: u8) -> bool
+    ensures { result ≡ is_own_draw seat (turn_in (option_map turn_by (newest table.now.deeds))) }
+{
+    match table.newest() {
+        Some(Deed::Draw { seat: who, .. }) => *who == seat,
+        _ => false,
+    }
+}
+
+// In the window the seat may discard: after its draw, its reach, its chi or its pon.
+fn is_discarding(table: &Table, seat: u8) -> bool
+    ensures { result ≡ is_discarding seat (turn_in (option_map turn_by (newest table.now.deeds))) }
+{
+    match table.newest() {
+        Some(Deed::Draw { seat: who, .. }) => *who == seat,
+        Some(Deed::Reach { seat: who }) => *who == seat,
+        Some(Deed::Chi { seat: who, .. }) => *who == seat,
+        Some(Deed::Pon { seat: who, .. }) => *who == seat,
+        _ => false,
+    }
+}
