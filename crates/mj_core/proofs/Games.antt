@@ -1,11 +1,11 @@
 -- What a core keeps is what its entries come to.
-use Rattle.std.proofs.Common.{◌≡◌, ◌≢◌, ℕ, zero, suc, ◌+◌, ◌-◌, ◌<◌, ◌≤◌, ◌==◌, ◌&&◌, not, inl, inr, List, [], ◌∷◌, ◌++◌, length, map, get_or, Bool, true, false, refl, ap, ◌∙◌, sym, subst, arith}
+use Rattle.std.proofs.Common.{◌≡◌, ◌≢◌, ℕ, zero, suc, ◌+◌, ◌-◌, ◌<◌, ◌≤◌, ◌==◌, ◌&&◌, not, inl, inr, List, [], ◌∷◌, ◌++◌, length, map, Bool, true, false, refl, ap, ◌∙◌, sym, subst, arith}
 use Rattle.std.specs.Prelude.{if◌then◌else◌, Option, Some, None, is_some, unwrap_or, option_map, slice_get, nat_lt, nat_le}
 use Rattle.std.specs.Option.{option_map_or}
 use Rattle.std.specs.List.{list_all, list_any}
 use Rattle.std.proofs.lemmas.Bool.{and_parts, and_from, ltb-true, eq-eqb}
 use Rattle.std.proofs.lemmas.Bool.Decides.{eqb_tells}
-use Rattle.std.proofs.lemmas.Option.{slice_get-map, slice_get-get_or, slice_get_past, slice_get_within, same_Some}
+use Rattle.std.proofs.lemmas.Option.{slice_get_within, same_Some}
 use Rattle.mj_ports.specs.Names.{is_name}
 use Rattle.mj_ports.specs.declared.entry.Entry.{Entry}
 use Rattle.mj_ports.specs.declared.entry.Entry.TheVariants.{Sat, Back, Said, Gone, Expired}
@@ -17,12 +17,10 @@ use Rattle.mj_seating.specs.declared.desk.Placed.TheVariants as places
 use Rattle.mj_seating.specs.Sitting.{Occupant, placed}
 use Rattle.mj_deeds.specs.declared.four.Four.{Four}
 use Rattle.mj_deeds.specs.declared.deed.Deed.{Deed}
-use Rattle.mj_deeds.specs.declared.deed.Viewer.TheVariants.{Seat}
 use Rattle.mj_deeds.specs.declared.answer.Answer.{Answer}
 use Rattle.mj_deeds.specs.Answers.{is_in_form}
 use Rattle.mj_wall.specs.declared.setting.Setting.{Setting}
 use Rattle.mj_wall.specs.Places.{is_wall}
-use Rattle.mj_forms.specs.Lines.{line}
 use Rattle.mj_history.specs.After.{After, Chair, before_all, after, own_part, is_present, pending, lines_for, verdict_on}
 use Rattle.mj_history.specs.Legal.{Game, has_name, can_sit, can_say, may_say, can_return, is_present_by, is_over, is_open, can_expire, is_permitted, all_permitted, has_wall, has_ground, IsLegal}
 use Rattle.mj_history.specs.Sitting.{held_of, placing}
@@ -394,44 +392,26 @@ reads-none f d setting entries state seat k e =
     sym (read-none f d (slice_get (now_of state).chairs seat) e)
     ∙ seat_or-same (λ (chair : Chair). f (player_in chair)) (λ chair. refl) d (now_of state).chairs (after setting entries).chairs seat (kept-chairs setting entries state k)
 
--- The line of a seat with a number, where there is one.
-pub line-some : (setting : Setting) (entries : List (Entry Answer)) (state : Position) (seat k : ℕ) (deed : Deed) → IsKept setting entries state → k < length state.deeds → deed ≡ get_or state.deeds k deed
-    → line_of (game setting entries) seat k ≡ line (Seat seat) deed
-line-some setting entries state seat k deed kept l g =
-    let there : slice_get (after setting entries).deeds k ≡ Some deed = ap (λ (ds : List Deed). slice_get ds k) (sym (kept-deeds setting entries state kept)) ∙ slice_get-get_or state.deeds k deed l ∙ ap Some (sym g) in
-    ap (λ (o : Option Deed). option_map_or (λ (d : Deed). line (Seat seat) d) o []) there
-
-pub line-none : (setting : Setting) (entries : List (Entry Answer)) (state : Position) (seat k : ℕ) → IsKept setting entries state → length state.deeds ≤ k → line_of (game setting entries) seat k ≡ []
-line-none setting entries state seat k kept l =
-    let none : slice_get (after setting entries).deeds k ≡ None = ap (λ (ds : List Deed). slice_get ds k) (sym (kept-deeds setting entries state kept)) ∙ slice_get_past state.deeds k l in
-    ap (λ (o : Option Deed). option_map_or (λ (d : Deed). line (Seat seat) d) o []) none
-
 -- What is pending for a seat.
 abbrev pending_by : List (List ℕ) → Player → List ℕ
 pending_by lines p = if is_some p.author then (if p.refused == 0 then unwrap_or (slice_get lines p.due) [] else []) else []
 
-pending_at-by : (game : Game) (seat : ℕ) → pending_at game seat ≡ option_map_or (λ (chair : Chair). pending_by (lines_for seat (after_of game).deeds) (player_in chair)) (slice_get (after_of game).chairs seat) []
+pending_at-by : (game : Game) (seat : ℕ) → pending_at game seat ≡ option_map_or (λ (chair : Chair). pending_by (lines_for game.setting.rules seat (after_of game).deeds) (player_in chair)) (slice_get (after_of game).chairs seat) []
 unfolding pending
 pending_at-by game seat = refl
-
-line-mapped : (seat : ℕ) (o : Option Deed) → unwrap_or (option_map (line (Seat seat)) o) [] ≡ option_map_or (λ (d : Deed). line (Seat seat) d) o []
-line-mapped seat None = refl
-line-mapped seat (Some deed) = refl
 
 pub pending-some : (setting : Setting) (entries : List (Entry Answer)) (state : Position) (seat : ℕ) (held : Player) → IsKept setting entries state → Some held ≡ option_map player_in (slice_get (now_of state).chairs seat) → is_some held.author ≡ true
     → (held.refused == 0) ≡ true → pending_at (game setting entries) seat ≡ line_of (game setting entries) seat held.due
 pending-some setting entries state seat held k e a r =
-    let lines : List (List ℕ) = lines_for seat (after setting entries).deeds in
+    let lines : List (List ℕ) = lines_for setting.rules seat (after setting entries).deeds in
     pending_at-by (game setting entries) seat ∙ sym (reads-some (pending_by lines) [] setting entries state seat held k e)
     ∙ ap (λ (b : Bool). if b then (if held.refused == 0 then unwrap_or (slice_get lines held.due) [] else []) else []) a
     ∙ ap (λ (b : Bool). if b then unwrap_or (slice_get lines held.due) [] else []) r
-    ∙ ap (λ (o : Option (List ℕ)). unwrap_or o []) (slice_get-map (line (Seat seat)) (after setting entries).deeds held.due)
-    ∙ line-mapped seat (slice_get (after setting entries).deeds held.due)
 
 pub pending-stale : (setting : Setting) (entries : List (Entry Answer)) (state : Position) (seat : ℕ) (held : Player) → IsKept setting entries state → Some held ≡ option_map player_in (slice_get (now_of state).chairs seat)
     → (is_some held.author && held.refused == 0) ≡ false → pending_at (game setting entries) seat ≡ []
 pending-stale setting entries state seat held k e h =
-    let lines : List (List ℕ) = lines_for seat (after setting entries).deeds in
+    let lines : List (List ℕ) = lines_for setting.rules seat (after setting entries).deeds in
     pending_at-by (game setting entries) seat ∙ sym (reads-some (pending_by lines) [] setting entries state seat held k e) ∙ by (is_some held.author) (held.refused == 0) (unwrap_or (slice_get lines held.due) []) h
   where
     by : (a r : Bool) (told : List ℕ) → (a && r) ≡ false → (if a then (if r then told else []) else []) ≡ []
@@ -440,7 +420,7 @@ pending-stale setting entries state seat held k e h =
     by false r told e = refl
 
 pub pending-none : (setting : Setting) (entries : List (Entry Answer)) (state : Position) (seat : ℕ) → IsKept setting entries state → None ≡ option_map player_in (slice_get (now_of state).chairs seat) → pending_at (game setting entries) seat ≡ []
-pending-none setting entries state seat k e = pending_at-by (game setting entries) seat ∙ sym (reads-none (pending_by (lines_for seat (after setting entries).deeds)) [] setting entries state seat k e)
+pending-none setting entries state seat k e = pending_at-by (game setting entries) seat ∙ sym (reads-none (pending_by (lines_for setting.rules seat (after setting entries).deeds)) [] setting entries state seat k e)
 
 -- What was entered.
 pub sat-entered : (setting : Setting) (entries all : List (Entry Answer)) (author seat : ℕ) (join : JoinLine) → placing (after_of (game setting entries)) (Some join) ≡ places.Sat seat → all ≡ entries ++ Sat author join.name join.key ∷ []

@@ -20,6 +20,7 @@ use Rattle.mj_deeds.specs.Four.{at_seat}
 use Rattle.mj_wall.specs.declared.setting.Setting.{Setting}
 use Rattle.mj_window.specs.Slots.{empty_slots, put_at}
 use Rattle.mj_rules.specs.Broken.{broken_rule}
+use Rattle.mj_wall.specs.declared.setting.Rules.{Rules}
 use Rattle.mj_history.specs.After.{After, Chair, Verdict, Taken, Late, Refused, Closing, verdict, progress_after, author_after, slots_after, lines_for, after_said, after_gone, after_back, new_chair, own_part, next_deed, with_deed, step, before_all, after_from, after}
 use Rattle.mj_history.specs.Legal.{has_name, can_sit, is_present_by, may_say, can_say, can_return, is_permitted, all_permitted, IsLegal}
 use Rattle.mj_history.proofs.Places.{slice_get-set_at, slice_get-set_other}
@@ -161,12 +162,12 @@ put_other slots (suc (suc (suc (suc seat)))) other answer s o ne = absurd (omega
 abbrev said_chair : List (List ℕ) → Verdict → Chair → Chair
 said_chair lines v chair = record chair { author = author_after v chair.author; progress = progress_after lines v chair.progress }
 
-abbrev SaidChanges : After → ℕ → Answer → Chair → Verdict → Type 0
-SaidChanges now seat answer chair v = Changes now seat chair (said_chair (lines_for seat now.deeds) v chair) (slots_after v now.slots seat answer)
+abbrev SaidChanges : (rules : Rules) → After → ℕ → Answer → Chair → Verdict → Type 0
+SaidChanges rules now seat answer chair v = Changes now seat chair (said_chair (lines_for rules seat now.deeds) v chair) (slots_after v now.slots seat answer)
 
-said_changes : (now : After) (seat : ℕ) (answer : Answer) (chair : Chair) (rule : Option Rule) → IsInOrder now → slice_get now.chairs seat ≡ Some chair → nat_lt chair.progress.due (length now.deeds) ≡ true
-    → SaidChanges now seat answer chair (verdict chair.progress.due chair.progress.refused (length now.deeds) rule)
-said_changes now seat answer chair rule o e h = by rule
+said_changes : (rules : Rules) (now : After) (seat : ℕ) (answer : Answer) (chair : Chair) (rule : Option Rule) → IsInOrder now → slice_get now.chairs seat ≡ Some chair → nat_lt chair.progress.due (length now.deeds) ≡ true
+    → SaidChanges rules now seat answer chair (verdict chair.progress.due chair.progress.refused (length now.deeds) rule)
+said_changes rules now seat answer chair rule o e h = by rule
   where
     goes_on : (due n : ℕ) → nat_lt due n ≡ true → due + 1 ≤ n
     goes_on due n h = let k : due < n = ltb-true due n h in omega arith
@@ -183,10 +184,10 @@ said_changes now seat answer chair rule o e h = by rule
     small : seat < 4
     small = below_four seat (length now.chairs) (slice_get_within now.chairs seat chair e) o.few
 
-    late : SaidChanges now seat answer chair Late
+    late : SaidChanges rules now seat answer chair Late
     late = record { held = e; slot = λ _. slot; others = λ other k ne. refl; patient = record { due = goes_on chair.progress.due (length now.deeds) h; refused = λ _. nothing 15 } }
 
-    taken : nat_lt (chair.progress.due + 1) (length now.deeds) ≡ false → SaidChanges now seat answer chair Taken
+    taken : nat_lt (chair.progress.due + 1) (length now.deeds) ≡ false → SaidChanges rules now seat answer chair Taken
     taken f = record {
       held = e;
       slot = λ t. absurd (true≢false (sym t ∙ f));
@@ -194,25 +195,25 @@ said_changes now seat answer chair rule o e h = by rule
       patient = record { due = goes_on chair.progress.due (length now.deeds) h; refused = λ _. nothing 15 };
     }
 
-    refused : (rule : Rule) → nat_lt chair.progress.refused 15 ≡ true → SaidChanges now seat answer chair (Refused rule)
+    refused : (rule : Rule) → nat_lt chair.progress.refused 15 ≡ true → SaidChanges rules now seat answer chair (Refused rule)
     refused rule r = record { held = e; slot = λ _. slot; others = λ other k ne. refl; patient = record { due = (patient_at now seat chair o e).due; refused = λ _. one_more chair.progress.refused r } }
 
-    closing : (rule : Rule) → SaidChanges now seat answer chair (Closing rule)
+    closing : (rule : Rule) → SaidChanges rules now seat answer chair (Closing rule)
     closing rule = record { held = e; slot = λ _. slot; others = λ other k ne. refl; patient = record { due = (patient_at now seat chair o e).due; refused = λ t. absurd (true≢false (sym t)) } }
 
-    no_rule : (b : Bool) → nat_lt (chair.progress.due + 1) (length now.deeds) ≡ b → SaidChanges now seat answer chair (if b then Late else Taken)
+    no_rule : (b : Bool) → nat_lt (chair.progress.due + 1) (length now.deeds) ≡ b → SaidChanges rules now seat answer chair (if b then Late else Taken)
     no_rule true f = late
     no_rule false f = taken f
 
-    room : (rule : Rule) (b : Bool) → nat_lt chair.progress.refused 15 ≡ b → SaidChanges now seat answer chair (if b then Refused rule else Closing rule)
+    room : (rule : Rule) (b : Bool) → nat_lt chair.progress.refused 15 ≡ b → SaidChanges rules now seat answer chair (if b then Refused rule else Closing rule)
     room rule true f = refused rule f
     room rule false f = closing rule
 
-    some_rule : (rule : Rule) (b : Bool) → SaidChanges now seat answer chair (if b then Late else (if nat_lt chair.progress.refused 15 then Refused rule else Closing rule))
+    some_rule : (rule : Rule) (b : Bool) → SaidChanges rules now seat answer chair (if b then Late else (if nat_lt chair.progress.refused 15 then Refused rule else Closing rule))
     some_rule rule true = late
     some_rule rule false = room rule (nat_lt chair.progress.refused 15) refl
 
-    by : (rule : Option Rule) → SaidChanges now seat answer chair (verdict chair.progress.due chair.progress.refused (length now.deeds) rule)
+    by : (rule : Option Rule) → SaidChanges rules now seat answer chair (verdict chair.progress.due chair.progress.refused (length now.deeds) rule)
     by None = no_rule (nat_lt (chair.progress.due + 1) (length now.deeds)) refl
     by (Some rule) = some_rule rule (nat_lt (chair.progress.due + 1) (length now.deeds))
 
@@ -221,14 +222,14 @@ said_midway : (setting : Setting) (now : After) (author seat : ℕ) (answer : An
 unfolding after_said may_say
 said_midway setting now author seat answer None o e p = cc
 said_midway setting now author seat answer (Some chair) o e p =
-    chair_in_order now seat chair _ _ o (said_changes now seat answer chair (broken_rule setting.rules now.deeds seat answer) o e (and_parts (is_present_by author chair) (nat_lt chair.progress.due (length now.deeds)) p).1)
+    chair_in_order now seat chair _ _ o (said_changes setting.rules now seat answer chair (broken_rule setting.rules now.deeds seat answer) o e (and_parts (is_present_by author chair) (nat_lt chair.progress.due (length now.deeds)) p).1)
 
 -- A seat that leaves.
-gone_midway : (now : After) (author seat : ℕ) (held : Option Chair) → IsInOrder now → slice_get now.chairs seat ≡ held → option_map_or (is_present_by author) held false ≡ true
-    → IsMidway (option_map_or (after_gone now seat) held now)
+gone_midway : (rules : Rules) (now : After) (author seat : ℕ) (held : Option Chair) → IsInOrder now → slice_get now.chairs seat ≡ held → option_map_or (is_present_by author) held false ≡ true
+    → IsMidway (option_map_or (after_gone rules now seat) held now)
 unfolding after_gone
-gone_midway now author seat None o e p = cc
-gone_midway now author seat (Some chair) o e p = chair_in_order now seat chair _ now.slots o (record {
+gone_midway rules now author seat None o e p = cc
+gone_midway rules now author seat (Some chair) o e p = chair_in_order now seat chair _ now.slots o (record {
   held = e;
   slot = λ h. open_at now seat chair o e h;
   others = λ other k ne. refl;
@@ -244,11 +245,11 @@ back_open : (slot : Option Answer) (n : ℕ) → nat_lt (if is_some slot then n 
 back_open None n h = refl
 back_open (Some answer) n h = let k : n < n = ltb-true n n h in absurd (omega arith)
 
-back_midway : (now : After) (author seat : ℕ) (held : Option Chair) → IsInOrder now → slice_get now.chairs seat ≡ held → option_map_or (can_return now) held false ≡ true
-    → IsMidway (option_map_or (after_back now author seat) held now)
+back_midway : (rules : Rules) (now : After) (author seat : ℕ) (held : Option Chair) → IsInOrder now → slice_get now.chairs seat ≡ held → option_map_or (can_return now) held false ≡ true
+    → IsMidway (option_map_or (after_back rules now author seat) held now)
 unfolding after_back
-back_midway now author seat None o e p = cc
-back_midway now author seat (Some chair) o e p = chair_in_order now seat chair _ now.slots o (record {
+back_midway rules now author seat None o e p = cc
+back_midway rules now author seat (Some chair) o e p = chair_in_order now seat chair _ now.slots o (record {
   held = e;
   slot = λ h. back_open (at_seat now.slots seat) (length now.deeds) h;
   others = λ other k ne. refl;
@@ -300,8 +301,8 @@ own_midway : (setting : Setting) (now : After) (entry : Entry Answer) → is_per
 unfolding own_part
 own_midway setting now (Sat author name key) p o = sat_midway now author name key o (and_parts (is_name name) (can_sit now.chairs name) p).1
 own_midway setting now (Said author seat answer) p o = said_midway setting now author seat answer (slice_get now.chairs seat) o refl (and_parts (is_in_form answer) (can_say now author seat) p).1
-own_midway setting now (Back author seat) p o = back_midway now author seat (slice_get now.chairs seat) o refl p
-own_midway setting now (Gone author seat) p o = gone_midway now author seat (slice_get now.chairs seat) o refl p
+own_midway setting now (Back author seat) p o = back_midway setting.rules now author seat (slice_get now.chairs seat) o refl p
+own_midway setting now (Gone author seat) p o = gone_midway setting.rules now author seat (slice_get now.chairs seat) o refl p
 own_midway setting now (Expired author window t1 t2) p o = record { few = o.few; begun = λ e. o.started ∙ ap not e; empty = o.empty; patient = o.patient }
 
 pub step-in-order : (setting : Setting) (now : After) (entry : Entry Answer) → is_permitted setting now entry ≡ true → IsInOrder now → IsInOrder (step setting now entry)

@@ -100,15 +100,15 @@ after_said-untold : (rules : Rules) (now : After) (seat : ℕ) (answer : Answer)
 unfolding after_said
 after_said-untold rules now seat answer chair =
     let v : Verdict = verdict_on rules now.deeds seat answer chair.progress in
-    ap (λ (cs : List Chair). pieces now.deeds cs (slots_after v now.slots seat answer)) (set-untold now.chairs seat _ _ (said-untold (lines_for seat now.deeds) v chair))
+    ap (λ (cs : List Chair). pieces now.deeds cs (slots_after v now.slots seat answer)) (set-untold now.chairs seat _ _ (said-untold (lines_for rules seat now.deeds) v chair))
 
-after_gone-untold : (now : After) (seat : ℕ) (chair : Chair) → untold (after_gone (untold now) seat (untold_chair chair)) ≡ untold (after_gone now seat chair)
+after_gone-untold : (rules : Rules) (now : After) (seat : ℕ) (chair : Chair) → untold (after_gone rules (untold now) seat (untold_chair chair)) ≡ untold (after_gone rules now seat chair)
 unfolding after_gone
-after_gone-untold now seat chair = ap (λ (cs : List Chair). pieces now.deeds cs now.slots) (set-untold now.chairs seat _ _ refl)
+after_gone-untold rules now seat chair = ap (λ (cs : List Chair). pieces now.deeds cs now.slots) (set-untold now.chairs seat _ _ refl)
 
-after_back-untold : (now : After) (author seat : ℕ) (chair : Chair) → untold (after_back (untold now) author seat (untold_chair chair)) ≡ untold (after_back now author seat chair)
+after_back-untold : (rules : Rules) (now : After) (author seat : ℕ) (chair : Chair) → untold (after_back rules (untold now) author seat (untold_chair chair)) ≡ untold (after_back rules now author seat chair)
 unfolding after_back
-after_back-untold now author seat chair = ap (λ (cs : List Chair). pieces now.deeds cs now.slots) (set-untold now.chairs seat _ _ refl)
+after_back-untold rules now author seat chair = ap (λ (cs : List Chair). pieces now.deeds cs now.slots) (set-untold now.chairs seat _ _ refl)
 
 pub untold-untold : (now : After) → untold (untold now) ≡ untold now
 untold-untold now = ap (λ (cs : List Chair). pieces now.deeds cs now.slots) (untold-twice now.chairs)
@@ -117,13 +117,13 @@ said-option : (rules : Rules) (now : After) (seat : ℕ) (answer : Answer) (o : 
 said-option rules now seat answer None = untold-untold now
 said-option rules now seat answer (Some chair) = after_said-untold rules now seat answer chair
 
-gone-option : (now : After) (seat : ℕ) (o : Option Chair) → untold (option_map_or (after_gone (untold now) seat) (option_map untold_chair o) (untold now)) ≡ untold (option_map_or (after_gone now seat) o now)
-gone-option now seat None = untold-untold now
-gone-option now seat (Some chair) = after_gone-untold now seat chair
+gone-option : (rules : Rules) (now : After) (seat : ℕ) (o : Option Chair) → untold (option_map_or (after_gone rules (untold now) seat) (option_map untold_chair o) (untold now)) ≡ untold (option_map_or (after_gone rules now seat) o now)
+gone-option rules now seat None = untold-untold now
+gone-option rules now seat (Some chair) = after_gone-untold rules now seat chair
 
-back-option : (now : After) (author seat : ℕ) (o : Option Chair) → untold (option_map_or (after_back (untold now) author seat) (option_map untold_chair o) (untold now)) ≡ untold (option_map_or (after_back now author seat) o now)
-back-option now author seat None = untold-untold now
-back-option now author seat (Some chair) = after_back-untold now author seat chair
+back-option : (rules : Rules) (now : After) (author seat : ℕ) (o : Option Chair) → untold (option_map_or (after_back rules (untold now) author seat) (option_map untold_chair o) (untold now)) ≡ untold (option_map_or (after_back rules now author seat) o now)
+back-option rules now author seat None = untold-untold now
+back-option rules now author seat (Some chair) = after_back-untold rules now author seat chair
 
 append-untold : (chairs : List Chair) (chair other : Chair) → untold_chair chair ≡ untold_chair other → map untold_chair (map untold_chair chairs ++ chair ∷ []) ≡ map untold_chair (chairs ++ other ∷ [])
 append-untold chairs chair other e =
@@ -136,8 +136,8 @@ own_part-untold : (setting : Setting) (now : After) (entry : Entry Answer) → u
 unfolding own_part
 own_part-untold setting now (Sat author name key) = ap (λ (cs : List Chair). pieces now.deeds cs now.slots) (append-untold now.chairs (new_chair 0 author name key) (new_chair now.entered author name key) refl)
 own_part-untold setting now (Said author seat answer) = rw (slice_get-map untold_chair now.chairs seat) (said-option setting.rules now seat answer (slice_get now.chairs seat))
-own_part-untold setting now (Back author seat) = rw (slice_get-map untold_chair now.chairs seat) (back-option now author seat (slice_get now.chairs seat))
-own_part-untold setting now (Gone author seat) = rw (slice_get-map untold_chair now.chairs seat) (gone-option now seat (slice_get now.chairs seat))
+own_part-untold setting now (Back author seat) = rw (slice_get-map untold_chair now.chairs seat) (back-option setting.rules now author seat (slice_get now.chairs seat))
+own_part-untold setting now (Gone author seat) = rw (slice_get-map untold_chair now.chairs seat) (gone-option setting.rules now seat (slice_get now.chairs seat))
 own_part-untold setting now (Expired author window t1 t2) = untold-untold now
 
 pub own_part-same : (setting : Setting) (now other : After) (entry : Entry Answer) → untold now ≡ untold other → untold (own_part setting now entry) ≡ untold (own_part setting other entry)

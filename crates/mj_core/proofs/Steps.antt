@@ -69,12 +69,12 @@ said-at setting now author seat answer chair e = ap (λ (o : Option Chair). opti
 
 said-is : (rules : Rules) (now : After) (seat : ℕ) (answer : Answer) (chair : Chair) (v : Verdict) → v ≡ verdict_on rules now.deeds seat answer chair.progress
     → untold (after_said rules now seat answer chair) ≡ pieces now.deeds
-    (map untold_chair (slice_set now.chairs seat (record chair { author = author_after v chair.author; progress = progress_after (lines_for seat now.deeds) v chair.progress })))
+    (map untold_chair (slice_set now.chairs seat (record chair { author = author_after v chair.author; progress = progress_after (lines_for rules seat now.deeds) v chair.progress })))
     (slots_after v now.slots seat answer)
 unfolding after_said
 said-is rules now seat answer chair v e =
     ap (λ (w : Verdict). pieces now.deeds
-    (map untold_chair (slice_set now.chairs seat (record chair { author = author_after w chair.author; progress = progress_after (lines_for seat now.deeds) w chair.progress })))
+    (map untold_chair (slice_set now.chairs seat (record chair { author = author_after w chair.author; progress = progress_after (lines_for rules seat now.deeds) w chair.progress })))
     (slots_after w now.slots seat answer)) (sym e)
 
 pub said-own : (setting : Setting) (old : Position) (author seat : ℕ) (answer : Answer) (h : Occupant) (p next : Player) (v : Verdict) (slots : Four (Option Answer))
@@ -82,7 +82,7 @@ pub said-own : (setting : Setting) (old : Position) (author seat : ℕ) (answer 
     → ((lines : List (List ℕ)) → next ≡ player_of (author_after v p.author) (progress_after lines v (progress_of p))) → slots ≡ slots_after v old.slots seat answer
     → untold (now_of (changed old (desk_after v old.desk seat) (slice_set old.players seat next) slots)) ≡ untold (own_part setting (now_of old) (Said author seat answer))
 said-own setting old author seat answer h p next v slots d c judged on filled =
-    let lines : List (List ℕ) = lines_for seat old.deeds in
+    let lines : List (List ℕ) = lines_for setting.rules seat old.deeds in
     let came : Chair = record (chair_of h p) { author = author_after v p.author; progress = progress_after lines v (progress_of p) } in
     let same : untold_chair (chair_of (held_after v h) next) ≡ untold_chair came = ap (λ (q : Player). untold_chair (chair_of (held_after v h) q)) (on lines) ∙ said-chair lines v h p in
     ap (λ (cs : List Chair). pieces old.deeds cs slots) (put-untold old.desk (desk_after v old.desk seat) old.players seat (held_after v h) next came (desk_after-is v old.desk seat h d) same)
@@ -91,13 +91,13 @@ said-own setting old author seat answer h p next v slots d c judged on filled =
     ∙ ap untold (sym (said-at setting (now_of old) author seat answer (chair_of h p) (chairs_of-get old.desk old.players seat h p d c)))
 
 -- A seat leaves.
-gone-at : (setting : Setting) (now : After) (author seat : ℕ) (chair : Chair) → slice_get now.chairs seat ≡ Some chair → own_part setting now (Gone author seat) ≡ after_gone now seat chair
+gone-at : (setting : Setting) (now : After) (author seat : ℕ) (chair : Chair) → slice_get now.chairs seat ≡ Some chair → own_part setting now (Gone author seat) ≡ after_gone setting.rules now seat chair
 unfolding own_part
-gone-at setting now author seat chair e = ap (λ (o : Option Chair). option_map_or (after_gone now seat) o now) e
+gone-at setting now author seat chair e = ap (λ (o : Option Chair). option_map_or (after_gone setting.rules now seat) o now) e
 
-gone-is : (now : After) (seat : ℕ) (chair : Chair) → untold (after_gone now seat chair) ≡ pieces now.deeds (map untold_chair (slice_set now.chairs seat (untold_chair (record chair { author = None })))) now.slots
+gone-is : (rules : Rules) (now : After) (seat : ℕ) (chair : Chair) → untold (after_gone rules now seat chair) ≡ pieces now.deeds (map untold_chair (slice_set now.chairs seat (untold_chair (record chair { author = None })))) now.slots
 unfolding after_gone
-gone-is now seat chair = ap (λ (cs : List Chair). pieces now.deeds cs now.slots) (untold-set now.chairs seat _ _ refl)
+gone-is rules now seat chair = ap (λ (cs : List Chair). pieces now.deeds cs now.slots) (untold-set now.chairs seat _ _ refl)
 
 pub gone-own : (setting : Setting) (old : Position) (author seat : ℕ) (h : Occupant) (p : Player) → slice_get old.desk seat ≡ Some h → slice_get old.players seat ≡ Some p
     → untold (now_of (changed old (changed_at old.desk seat gone) (slice_set old.players seat (record { author = None; due = p.due; refused = p.refused })) old.slots))
@@ -106,13 +106,13 @@ gone-own setting old author seat h p d c =
     let left : Player = record { author = None; due = p.due; refused = p.refused } in
     ap (λ (cs : List Chair). pieces old.deeds cs old.slots)
     (put-untold old.desk (changed_at old.desk seat gone) old.players seat (gone h) left (untold_chair (record (chair_of h p) { author = None })) (changed-is old.desk seat gone h d) refl)
-    ∙ sym (gone-is (now_of old) seat (chair_of h p))
+    ∙ sym (gone-is setting.rules (now_of old) seat (chair_of h p))
     ∙ ap untold (sym (gone-at setting (now_of old) author seat (chair_of h p) (chairs_of-get old.desk old.players seat h p d c)))
 
 -- A seat comes back.
-back-at : (setting : Setting) (now : After) (author seat : ℕ) (chair : Chair) → slice_get now.chairs seat ≡ Some chair → own_part setting now (Back author seat) ≡ after_back now author seat chair
+back-at : (setting : Setting) (now : After) (author seat : ℕ) (chair : Chair) → slice_get now.chairs seat ≡ Some chair → own_part setting now (Back author seat) ≡ after_back setting.rules now author seat chair
 unfolding own_part
-back-at setting now author seat chair e = ap (λ (o : Option Chair). option_map_or (after_back now author seat) o now) e
+back-at setting now author seat chair e = ap (λ (o : Option Chair). option_map_or (after_back setting.rules now author seat) o now) e
 
 abbrev back_chair : After → ℕ → ℕ → Chair → Chair
 back_chair now author seat chair = record {
@@ -125,9 +125,9 @@ back_chair now author seat chair = record {
   earlier = [];
 }
 
-back-is : (now : After) (author seat : ℕ) (chair : Chair) → untold (after_back now author seat chair) ≡ pieces now.deeds (map untold_chair (slice_set now.chairs seat (back_chair now author seat chair))) now.slots
+back-is : (rules : Rules) (now : After) (author seat : ℕ) (chair : Chair) → untold (after_back rules now author seat chair) ≡ pieces now.deeds (map untold_chair (slice_set now.chairs seat (back_chair now author seat chair))) now.slots
 unfolding after_back
-back-is now author seat chair = ap (λ (cs : List Chair). pieces now.deeds cs now.slots) (untold-set now.chairs seat _ _ refl)
+back-is rules now author seat chair = ap (λ (cs : List Chair). pieces now.deeds cs now.slots) (untold-set now.chairs seat _ _ refl)
 
 pub back-own : (setting : Setting) (old : Position) (author seat : ℕ) (h : Occupant) (p : Player) → slice_get old.desk seat ≡ Some h → slice_get old.players seat ≡ Some p
     → untold (now_of (changed old (changed_at old.desk seat came_back) (slice_set old.players seat (record { author = Some author; due = due_on_return (now_of old) seat; refused = 0 })) old.slots))
@@ -136,7 +136,7 @@ back-own setting old author seat h p d c =
     let here : Player = record { author = Some author; due = due_on_return (now_of old) seat; refused = 0 } in
     ap (λ (cs : List Chair). pieces old.deeds cs old.slots)
     (put-untold old.desk (changed_at old.desk seat came_back) old.players seat (came_back h) here (back_chair (now_of old) author seat (chair_of h p)) (changed-is old.desk seat came_back h d) refl)
-    ∙ sym (back-is (now_of old) author seat (chair_of h p))
+    ∙ sym (back-is setting.rules (now_of old) author seat (chair_of h p))
     ∙ ap untold (sym (back-at setting (now_of old) author seat (chair_of h p) (chairs_of-get old.desk old.players seat h p d c)))
 
 -- A seat is taken.

@@ -97,12 +97,12 @@ may_say_at game seat =
 -- What is still to be told to a seat; nothing where it isn't present.
 abbrev pub pending_at : Game → ℕ → List ℕ
 pending_at game seat =
-    option_map_or (λ (chair : Chair). if is_present chair then pending (lines_for seat (after_of game).deeds) chair.progress else [])
+    option_map_or (λ (chair : Chair). if is_present chair then pending (lines_for game.setting.rules seat (after_of game).deeds) chair.progress else [])
     (slice_get (after_of game).chairs seat) []
 
 -- Line k of a seat; nothing where there is no such deed yet.
 abbrev pub line_of : Game → ℕ → ℕ → List ℕ
-line_of game seat k = line_at (after_of game).deeds seat k
+line_of game seat k = line_at game.setting.rules (after_of game).deeds seat k
 
 -- The record of a game: its header, its walls, and the deeds that its entries come to.
 abbrev pub record_of : Game → List ℕ

@@ -21,6 +21,7 @@ use mj_bytes::push_all;
 use mj_deeds::{Answer, Rule};
 use mj_ports::{Control, JoinLine, SitRefused};
 use mj_seating::Placed;
+use mj_table::Table;
 use mj_wall::{Rules, Setting, Wall, Walls};
 use mjai_lines::{read_answer, read_join, write_record};
 use std::alloc::{AllocError, Global};
@@ -263,6 +264,13 @@ impl Core {
         self.state.deeds().len() as u32
     }
 
+    /// The table that stands for the deeds so far.
+    pub fn table(&self) -> &Table
+        ensures { result.now ≡ record { rules = self.now.setting.rules; deeds = (after_of self.now).deeds } }
+    {
+        self.state.table()
+    }
+
     /// The number of the open window, that of the newest deed; None exactly before the first deed and after the game's
     /// end.
     pub fn open(&self) -> Option<u32>
@@ -325,7 +333,7 @@ impl Core {
         requires { seat < 4 }
         ensures { MatchOption result (length (after_of self.now).deeds ≤ k)
             (λ l. (k < length (after_of self.now).deeds)
-            × (l.now ≡ line_at (after_of self.now).deeds seat k)) }
+            × (l.now ≡ line_at self.now.setting.rules (after_of self.now).deeds seat k)) }
     {
         self.state.line(seat, k)
     }

@@ -6,17 +6,17 @@ ghost use Rattle.mj_wall.specs.declared.setting.Setting.{Setting};
 ghost use Rattle.mj_window.specs.Slots.{closes};
 ghost use Rattle.mj_rules.specs.Outcome.{goes_on};
 ghost use Rattle.mj_deeds.specs.Facts.{newest};
-ghost use Rattle.mj_history.specs.After.{due_on_return};
+ghost use Rattle.mj_history.specs.After.{due_on_return, lines_for};
 ghost use Rattle.mj_history.specs.Legal.{is_over};
-ghost use Rattle.mj_streams.specs.Streams.{line_of};
 ghost use Rattle.mj_core.specs.Calls.{open_window};
-ghost use Rattle.mj_core.specs.Inner.States.{Steps, Hears, Advances, Settles, CanTakeSeat, CanTakeBack, CanHear, CanLeave, CanExpire, CanSettle, HasWalls, MayAdd, changed, now_of, nobody, desk_after, player_in, placed_in, presence_at, desk_name, desk_names};
+ghost use Rattle.mj_core.specs.Inner.States.{Steps, Hears, Advances, Settles, CanTakeSeat, CanTakeBack, CanHear, CanLeave, CanExpire, CanSettle, HasWalls, MayAdd, changed, now_of, nobody, desk_after, player_in, placed_in, presence_at, desk_name, desk_names, possible_of_all};
 ghost use Rattle.mj_core.specs.Inner.Verdicts.{verdict_given};
 
 use crate::chair::Chair;
 use crate::verdict::Verdict;
 use crate::window::{answers_in, slots_after};
-use mj_deeds::{Answer, Deed, Four};
+use mj_deeds::{Answer, Answers, Deed, Four};
+use mj_judge::possible;
 use mj_machine::next;
 use mj_ports::{JoinLine, Name};
 use mj_seating::{Desk, Placed};
@@ -52,7 +52,7 @@ impl Model for State {
       slots = s.window;
     } };
 
-    ghost invariant = { λ s. AreKept s.table.deeds s.streams s.deeds.items s.desk
+    ghost invariant = { λ s. AreKept s.table.rules s.table.deeds s.streams s.deeds.items s.desk
         s.chairs.items };
 }
 
@@ -71,6 +71,13 @@ impl State {
         })
     }
 
+    // The table that the deeds so far make.
+    pub fn table(&self) -> &Table
+        ensures { result.now ≡ record { rules = self.now.rules; deeds = self.now.deeds } }
+    {
+        &self.table
+    }
+
     // The deeds so far.
     pub fn deeds(&self) -> &[Deed]
         ensures { result.now ≡ self.now.deeds }
@@ -81,7 +88,7 @@ impl State {
     // Line k of a seat, 0 to 3; None exactly where there is no deed k yet.
     pub fn line(&self, seat: u8, k: u32) -> Option<&[u8]>
         requires { seat < 4 }
-        ensures { option_copied result ≡ line_of self.now.deeds seat k }
+        ensures { option_copied result ≡ slice_get (lines_for self.now.rules seat self.now.deeds) k }
     {
         self.streams.line(seat, k)
     }
@@ -149,7 +156,8 @@ impl State {
             };
             let mut table = self.table.copy()?;
             table.push(&deed)?;
-            self.streams.push_alone(alloc, &deed)?;
+            let possible = possible_of(alloc, &table)?;
+            self.streams.push_alone(alloc, &deed, &possible)?;
             self.table = table;
             self.deeds.push_reserved(deed);
             self.chairs.push_reserved(Chair::new(author));
@@ -298,11 +306,24 @@ impl State {
         let answers = answers_in(&self.table, window);
         let mut table = self.table.copy()?;
         let deed = next(alloc, &mut table, setting.walls.as_slice(), &answers)?;
-        self.streams.push_alone(alloc, &deed)?;
+        let possible = possible_of(alloc, &table)?;
+        self.streams.push_alone(alloc, &deed, &possible)?;
         self.table = table;
         self.deeds.push_reserved(deed);
         Ok(())
     }
+}
+
+// What each of the four seats may answer to the newest deed of a table.
+fn possible_of(alloc: Global, table: &Table) -> Result<Four<Answers>, AllocError>
+    ensures { IfOk result (λ lists. lists ≡ possible_of_all table.now.rules table.now.deeds) }
+{
+    Ok(Four {
+        first: possible(alloc, table, 0)?,
+        second: possible(alloc, table, 1)?,
+        third: possible(alloc, table, 2)?,
+        fourth: possible(alloc, table, 3)?,
+    })
 }
 
 // The desk once an answer of a seat has this verdict: one that is refused for good makes the seat leave.

@@ -1,2 +1,4 @@
+pub mod Closing
 pub mod Forms
 pub mod SeenLine
+pub mod Written

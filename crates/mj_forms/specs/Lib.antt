@@ -1,5 +1,6 @@
 pub mod Lines
 pub mod AnswerForms
+pub mod Choices
 pub mod Headers
 pub mod RecordTexts
 pub mod Laws

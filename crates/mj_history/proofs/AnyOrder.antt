@@ -80,13 +80,13 @@ said_goes setting now who answer chair e stays = record {
     present_in author o = option_map_or (is_present_by author) o false
 
     lines : List (List ℕ)
-    lines = lines_for who now.deeds
+    lines = lines_for setting.rules who now.deeds
 
     v : Verdict
     v = verdict_on setting.rules now.deeds who answer chair.progress
 
     new : Chair
-    new = said_chair (lines_for who now.deeds) (verdict_on setting.rules now.deeds who answer chair.progress) chair
+    new = said_chair (lines_for setting.rules who now.deeds) (verdict_on setting.rules now.deeds who answer chair.progress) chair
 
     set : List Chair
     set = slice_set now.chairs who new

@@ -14,6 +14,7 @@ use Rattle.mj_ports.specs.Seats.{script, pending as waiting}
 use Rattle.mj_deeds.specs.declared.answer.Answer.{Answer}
 use Rattle.mj_wall.specs.declared.setting.Setting.{Setting}
 use Rattle.mj_lists.proofs.Fronts.{at_end}
+use Rattle.mj_wall.specs.declared.setting.Rules.{Rules}
 use Rattle.mj_history.specs.After.{After, Chair, Connection, is_present, lines_for, pending, script_at, connections_at, after_said, after_gone, own_part, step, after_from, after, before_all}
 use Rattle.mj_history.specs.Legal.{is_permitted, all_permitted, can_return}
 use Rattle.mj_history.specs.Shown.{shown, shown_of, is_connected, seat_at, told_by, told_in, told_at}
@@ -78,24 +79,24 @@ ended p chairs i c few e some off = nobody-at p chairs (λ j d f. elim (eqb_tell
     none false n m k f g h = refl
 
 -- The scripts of a held seat's connections, by their places.
-earlier_scripts : (now : After) (seat : ℕ) (chair : Chair) → ArePlaced now.entered now.chairs → slice_get now.chairs seat ≡ Some chair → (xs ys : List Connection) → chair.earlier ≡ xs ++ ys
-    → map (script (shown now)) (map (λ (c : Connection). c.place) ys) ≡ map (λ (c : Connection). c.told) ys
-earlier_scripts now seat chair k e xs [] h = refl
-earlier_scripts now seat chair k e xs (c ∷ ys) h =
+earlier_scripts : (rules : Rules) (now : After) (seat : ℕ) (chair : Chair) → ArePlaced now.entered now.chairs → slice_get now.chairs seat ≡ Some chair → (xs ys : List Connection) → chair.earlier ≡ xs ++ ys
+    → map (script (shown rules now)) (map (λ (c : Connection). c.place) ys) ≡ map (λ (c : Connection). c.told) ys
+earlier_scripts rules now seat chair k e xs [] h = refl
+earlier_scripts rules now seat chair k e xs (c ∷ ys) h =
     let one : begun_in c.place chair ≤ 1 = below (begun-one c.place now.chairs seat chair e) (k.once c.place) in
     let t = told-one xs ys c chair h one in
     let told : told_at now.chairs c.place ≡ c.told = told-only c.place now.chairs seat chair (k.once c.place) t.0 e ∙ t.2 in
     let gone : seat_at now.chairs c.place ≡ None = ended c.place now.chairs seat chair (k.once c.place) e t.0 t.1 in
-    let here : script (shown now) c.place ≡ c.told = (λ i. told i ++ option_map_or (waiting (shown now)) (gone i) []) ∙ append-nil c.told in
-    let rest = earlier_scripts now seat chair k e (xs ++ c ∷ []) ys (h ∙ sym (append_assoc xs (c ∷ []) ys)) in
+    let here : script (shown rules now) c.place ≡ c.told = (λ i. told i ++ option_map_or (waiting (shown rules now)) (gone i) []) ∙ append-nil c.told in
+    let rest = earlier_scripts rules now seat chair k e (xs ++ c ∷ []) ys (h ∙ sym (append_assoc xs (c ∷ []) ys)) in
     λ i. here i ∷ rest i
   where
     below : {m n o : ℕ} → m ≤ n → n ≤ o → m ≤ o
     below {m} {n} {o} a b = omega arith
 
-own_script : (now : After) (seat : ℕ) (chair : Chair) → ArePlaced now.entered now.chairs → slice_get now.chairs seat ≡ Some chair → script (shown now) chair.place ≡ script_at seat now chair
+own_script : (rules : Rules) (now : After) (seat : ℕ) (chair : Chair) → ArePlaced now.entered now.chairs → slice_get now.chairs seat ≡ Some chair → script (shown rules now) chair.place ≡ script_at rules seat now chair
 unfolding script_at
-own_script now seat chair k e = by (is_present chair) refl
+own_script rules now seat chair k e = by (is_present chair) refl
   where
     here : (chair.place == chair.place) ≡ true
     here = elim (eqb_tells chair.place chair.place) [ inl s ↦ s.0 | inr s ↦ absurd (s.1 refl) ]
@@ -107,25 +108,25 @@ own_script now seat chair k e = by (is_present chair) refl
     off_left true b h = cc
     off_left false b h = refl
 
-    by : (b : Bool) → is_present chair ≡ b → script (shown now) chair.place ≡ chair.progress.told ++ (if b then pending (lines_for seat now.deeds) chair.progress else [])
+    by : (b : Bool) → is_present chair ≡ b → script (shown rules now) chair.place ≡ chair.progress.told ++ (if b then pending (lines_for rules seat now.deeds) chair.progress else [])
     by true p =
-        let due : option_map_or (waiting (shown now)) (seat_at now.chairs chair.place) [] ≡ pending (lines_for seat now.deeds) chair.progress =
-        ap (λ (o : Option ℕ). option_map_or (waiting (shown now)) o []) (seat-is chair.place now.chairs seat chair (k.once chair.place) e p here) ∙ waiting_is now seat chair e in
+        let due : option_map_or (waiting (shown rules now)) (seat_at now.chairs chair.place) [] ≡ pending (lines_for rules seat now.deeds) chair.progress =
+        ap (λ (o : Option ℕ). option_map_or (waiting (shown rules now)) o []) (seat-is chair.place now.chairs seat chair (k.once chair.place) e p here) ∙ waiting_is rules now seat chair e in
         λ i. told i ++ due i
     by false p =
         let gone : seat_at now.chairs chair.place ≡ None = nobody-at chair.place now.chairs (λ j d f. elim (eqb_tells seat j) [
           | inl s ↦ ap (is_connected chair.place) (same_Some d chair (sym f ∙ ap (slice_get now.chairs) (sym s.1) ∙ e)) ∙ off_left (is_present chair) (chair.place == chair.place) p
           | inr s ↦ and_off (is_present d) (d.place == chair.place) (apart-at chair.place now.chairs seat j chair d (k.once chair.place) s.1 e f here)
         ]) in
-        λ i. told i ++ option_map_or (waiting (shown now)) (gone i) []
+        λ i. told i ++ option_map_or (waiting (shown rules now)) (gone i) []
 
-scripts_of : (now : After) (seat : ℕ) → ArePlaced now.entered now.chairs → (held : Option Chair) → slice_get now.chairs seat ≡ held
-    → map (script (shown now)) (option_map_or places_at held []) ≡ option_map_or (connections_at seat now) held []
-scripts_of now seat k None e = refl
-scripts_of now seat k (Some chair) e =
-    let before = earlier_scripts now seat chair k e [] chair.earlier refl in
-    let own = own_script now seat chair k e in
-    map-append (script (shown now)) (map (λ (c : Connection). c.place) chair.earlier) (chair.place ∷ []) ∙ (λ i. before i ++ own i ∷ [])
+scripts_of : (rules : Rules) (now : After) (seat : ℕ) → ArePlaced now.entered now.chairs → (held : Option Chair) → slice_get now.chairs seat ≡ held
+    → map (script (shown rules now)) (option_map_or places_at held []) ≡ option_map_or (connections_at rules seat now) held []
+scripts_of rules now seat k None e = refl
+scripts_of rules now seat k (Some chair) e =
+    let before = earlier_scripts rules now seat chair k e [] chair.earlier refl in
+    let own = own_script rules now seat chair k e in
+    map-append (script (shown rules now)) (map (λ (c : Connection). c.place) chair.earlier) (chair.place ∷ []) ∙ (λ i. before i ++ own i ∷ [])
 
 -- The places by the entries: each entry adds those that it begins.
 kept_places : (seat : ℕ) (chairs : List Chair) (who : ℕ) (old new : Chair) → slice_get chairs who ≡ Some old → places_at new ≡ places_at old → places_in seat (slice_set chairs who new) ≡ places_in seat chairs
@@ -149,7 +150,7 @@ gone_places : (seat : ℕ) (setting : Setting) (now : After) (author who : ℕ) 
     → places_in seat (step setting now (Gone author who)).chairs ≡ places_in seat now.chairs
 unfolding own_part
 gone_places seat setting now author who None e =
-    ap (places_in seat) (step-chairs setting now (Gone author who) ∙ ap (λ (o : Option Chair). (option_map_or (after_gone now who) o now).chairs) e)
+    ap (places_in seat) (step-chairs setting now (Gone author who) ∙ ap (λ (o : Option Chair). (option_map_or (after_gone setting.rules now who) o now).chairs) e)
 gone_places seat setting now author who (Some chair) e = ap (places_in seat) (gone-chairs setting now author who chair e) ∙ kept_places seat now.chairs who chair _ e refl
 
 back_places : (seat : ℕ) (setting : Setting) (now : After) (author who : ℕ) (held : Option Chair) → slice_get now.chairs who ≡ held → option_map_or (can_return now) held false ≡ true
@@ -159,7 +160,7 @@ back_places seat setting now author who (Some chair) e may =
     ap (places_in seat) (back-chairs setting now author who chair e) ∙ elim (eqb_tells who seat) [
       | inl s ↦
           let at : slice_get now.chairs seat ≡ Some chair = ap (slice_get now.chairs) (sym s.1) ∙ e in
-          let set : slice_get (slice_set now.chairs who (back_chair now author who chair)) seat ≡ Some (back_chair now author who chair) = ap (slice_get (slice_set now.chairs who (back_chair now author who chair))) (sym s.1) ∙ slice_get-set_at now.chairs who _ chair e in
+          let set : slice_get (slice_set now.chairs who (back_chair setting.rules now author who chair)) seat ≡ Some (back_chair setting.rules now author who chair) = ap (slice_get (slice_set now.chairs who (back_chair setting.rules now author who chair))) (sym s.1) ∙ slice_get-set_at now.chairs who _ chair e in
           ap (λ (o : Option Chair). option_map_or places_at o []) set
           ∙ ap (λ (l : List ℕ). l ++ now.entered ∷ []) (map-append (λ (c : Connection). c.place) chair.earlier (_ ∷ []))
           ∙ sym (λ i. option_map_or places_at (at i) [] ++ (if s.0 i then now.entered ∷ [] else []))
@@ -215,4 +216,4 @@ pub scripts_by_place : ScriptsByPlace
 scripts_by_place seat setting entries legal =
     let places : places_in seat (after setting entries).chairs ≡ begun_by seat entries = begun seat setting before_all entries legal.permitted in
     ap (map (script (shown_of setting entries))) (sym places)
-    ∙ scripts_of (after setting entries) seat (after-placed setting entries) (slice_get (after setting entries).chairs seat) refl
+    ∙ scripts_of setting.rules (after setting entries) seat (after-placed setting entries) (slice_get (after setting entries).chairs seat) refl

@@ -39,22 +39,22 @@ unfolding after_said
 said_named rules now seat answer None e = refl
 said_named rules now seat answer (Some chair) e = names_said now.chairs seat chair _ e refl
 
-gone_named : (now : After) (seat : ℕ) (held : Option Chair) → slice_get now.chairs seat ≡ held → names_in (option_map_or (after_gone now seat) held now).chairs ≡ names_in now.chairs
+gone_named : (rules : Rules) (now : After) (seat : ℕ) (held : Option Chair) → slice_get now.chairs seat ≡ held → names_in (option_map_or (after_gone rules now seat) held now).chairs ≡ names_in now.chairs
 unfolding after_gone
-gone_named now seat None e = refl
-gone_named now seat (Some chair) e = names_said now.chairs seat chair _ e refl
+gone_named rules now seat None e = refl
+gone_named rules now seat (Some chair) e = names_said now.chairs seat chair _ e refl
 
-back_named : (now : After) (author seat : ℕ) (held : Option Chair) → slice_get now.chairs seat ≡ held → names_in (option_map_or (after_back now author seat) held now).chairs ≡ names_in now.chairs
+back_named : (rules : Rules) (now : After) (author seat : ℕ) (held : Option Chair) → slice_get now.chairs seat ≡ held → names_in (option_map_or (after_back rules now author seat) held now).chairs ≡ names_in now.chairs
 unfolding after_back
-back_named now author seat None e = refl
-back_named now author seat (Some chair) e = names_said now.chairs seat chair _ e refl
+back_named rules now author seat None e = refl
+back_named rules now author seat (Some chair) e = names_said now.chairs seat chair _ e refl
 
 own_named : (setting : Setting) (now : After) (entry : Entry Answer) → names_in (own_part setting now entry).chairs ≡ names_in now.chairs ++ sits_as entry
 unfolding own_part
 own_named setting now (Sat author name key) = names_sat now.chairs _
 own_named setting now (Said author seat answer) = said_named setting.rules now seat answer (slice_get now.chairs seat) refl ∙ sym (append-nil (names_in now.chairs))
-own_named setting now (Back author seat) = back_named now author seat (slice_get now.chairs seat) refl ∙ sym (append-nil (names_in now.chairs))
-own_named setting now (Gone author seat) = gone_named now seat (slice_get now.chairs seat) refl ∙ sym (append-nil (names_in now.chairs))
+own_named setting now (Back author seat) = back_named setting.rules now author seat (slice_get now.chairs seat) refl ∙ sym (append-nil (names_in now.chairs))
+own_named setting now (Gone author seat) = gone_named setting.rules now seat (slice_get now.chairs seat) refl ∙ sym (append-nil (names_in now.chairs))
 own_named setting now (Expired author window t1 t2) = sym (append-nil (names_in now.chairs))
 
 more_named : (setting : Setting) (now : After) (entries : List (Entry Answer)) → names_in (after_from setting now entries).chairs ≡ names_in now.chairs ++ seated_names entries

@@ -44,22 +44,22 @@ unfolding after_said
 said_entered rules now seat answer None = refl
 said_entered rules now seat answer (Some chair) = refl
 
-gone_entered : (now : After) (seat : ℕ) (held : Option Chair) → (option_map_or (after_gone now seat) held now).entered ≡ now.entered
+gone_entered : (rules : Rules) (now : After) (seat : ℕ) (held : Option Chair) → (option_map_or (after_gone rules now seat) held now).entered ≡ now.entered
 unfolding after_gone
-gone_entered now seat None = refl
-gone_entered now seat (Some chair) = refl
+gone_entered rules now seat None = refl
+gone_entered rules now seat (Some chair) = refl
 
-back_entered : (now : After) (author seat : ℕ) (held : Option Chair) → (option_map_or (after_back now author seat) held now).entered ≡ now.entered
+back_entered : (rules : Rules) (now : After) (author seat : ℕ) (held : Option Chair) → (option_map_or (after_back rules now author seat) held now).entered ≡ now.entered
 unfolding after_back
-back_entered now author seat None = refl
-back_entered now author seat (Some chair) = refl
+back_entered rules now author seat None = refl
+back_entered rules now author seat (Some chair) = refl
 
 own_entered : (setting : Setting) (now : After) (entry : Entry Answer) → (own_part setting now entry).entered ≡ now.entered
 unfolding own_part
 own_entered setting now (Sat author name key) = refl
 own_entered setting now (Said author seat answer) = said_entered setting.rules now seat answer (slice_get now.chairs seat)
-own_entered setting now (Back author seat) = back_entered now author seat (slice_get now.chairs seat)
-own_entered setting now (Gone author seat) = gone_entered now seat (slice_get now.chairs seat)
+own_entered setting now (Back author seat) = back_entered setting.rules now author seat (slice_get now.chairs seat)
+own_entered setting now (Gone author seat) = gone_entered setting.rules now seat (slice_get now.chairs seat)
 own_entered setting now (Expired author window t1 t2) = refl
 
 pub step-entered : (setting : Setting) (now : After) (entry : Entry Answer) → (step setting now entry).entered ≡ now.entered + 1
@@ -92,15 +92,15 @@ unfolding after_said
 said_seats rules now seat answer None = refl
 said_seats rules now seat answer (Some chair) = length-set now.chairs seat _
 
-gone_seats : (now : After) (seat : ℕ) (held : Option Chair) → length (option_map_or (after_gone now seat) held now).chairs ≡ length now.chairs
+gone_seats : (rules : Rules) (now : After) (seat : ℕ) (held : Option Chair) → length (option_map_or (after_gone rules now seat) held now).chairs ≡ length now.chairs
 unfolding after_gone
-gone_seats now seat None = refl
-gone_seats now seat (Some chair) = length-set now.chairs seat _
+gone_seats rules now seat None = refl
+gone_seats rules now seat (Some chair) = length-set now.chairs seat _
 
-back_seats : (now : After) (author seat : ℕ) (held : Option Chair) → length (option_map_or (after_back now author seat) held now).chairs ≡ length now.chairs
+back_seats : (rules : Rules) (now : After) (author seat : ℕ) (held : Option Chair) → length (option_map_or (after_back rules now author seat) held now).chairs ≡ length now.chairs
 unfolding after_back
-back_seats now author seat None = refl
-back_seats now author seat (Some chair) = length-set now.chairs seat _
+back_seats rules now author seat None = refl
+back_seats rules now author seat (Some chair) = length-set now.chairs seat _
 
 and_none : (m n : ℕ) → m ≡ n → m ≡ n + 0
 and_none m n e = omega arith
@@ -109,8 +109,8 @@ pub own_seats : (setting : Setting) (now : After) (entry : Entry Answer) → len
 unfolding own_part
 own_seats setting now (Sat author name key) = length-append now.chairs _
 own_seats setting now (Said author seat answer) = and_none _ _ (said_seats setting.rules now seat answer (slice_get now.chairs seat))
-own_seats setting now (Back author seat) = and_none _ _ (back_seats now author seat (slice_get now.chairs seat))
-own_seats setting now (Gone author seat) = and_none _ _ (gone_seats now seat (slice_get now.chairs seat))
+own_seats setting now (Back author seat) = and_none _ _ (back_seats setting.rules now author seat (slice_get now.chairs seat))
+own_seats setting now (Gone author seat) = and_none _ _ (gone_seats setting.rules now seat (slice_get now.chairs seat))
 own_seats setting now (Expired author window t1 t2) = and_none _ _ refl
 
 abbrev sats : List (Entry Answer) → ℕ
@@ -139,22 +139,22 @@ unfolding after_said
 said_placed rules now seat answer None e k = placed-idle now.entered now.chairs k
 said_placed rules now seat answer (Some chair) e k = placed-kept now.entered now.chairs seat chair _ k e refl refl
 
-gone_placed : (now : After) (seat : ℕ) (held : Option Chair) → slice_get now.chairs seat ≡ held → ArePlaced now.entered now.chairs → ArePlaced (now.entered + 1) (option_map_or (after_gone now seat) held now).chairs
+gone_placed : (rules : Rules) (now : After) (seat : ℕ) (held : Option Chair) → slice_get now.chairs seat ≡ held → ArePlaced now.entered now.chairs → ArePlaced (now.entered + 1) (option_map_or (after_gone rules now seat) held now).chairs
 unfolding after_gone
-gone_placed now seat None e k = placed-idle now.entered now.chairs k
-gone_placed now seat (Some chair) e k = placed-kept now.entered now.chairs seat chair _ k e refl refl
+gone_placed rules now seat None e k = placed-idle now.entered now.chairs k
+gone_placed rules now seat (Some chair) e k = placed-kept now.entered now.chairs seat chair _ k e refl refl
 
-back_placed : (now : After) (author seat : ℕ) (held : Option Chair) → slice_get now.chairs seat ≡ held → ArePlaced now.entered now.chairs → ArePlaced (now.entered + 1) (option_map_or (after_back now author seat) held now).chairs
+back_placed : (rules : Rules) (now : After) (author seat : ℕ) (held : Option Chair) → slice_get now.chairs seat ≡ held → ArePlaced now.entered now.chairs → ArePlaced (now.entered + 1) (option_map_or (after_back rules now author seat) held now).chairs
 unfolding after_back
-back_placed now author seat None e k = placed-idle now.entered now.chairs k
-back_placed now author seat (Some chair) e k = placed-again now.entered now.chairs seat chair _ k e refl refl
+back_placed rules now author seat None e k = placed-idle now.entered now.chairs k
+back_placed rules now author seat (Some chair) e k = placed-again now.entered now.chairs seat chair _ k e refl refl
 
 own_placed : (setting : Setting) (now : After) (entry : Entry Answer) → ArePlaced now.entered now.chairs → ArePlaced (now.entered + 1) (own_part setting now entry).chairs
 unfolding own_part
 own_placed setting now (Sat author name key) k = placed-new now.entered now.chairs (new_chair now.entered author name key) k refl refl
 own_placed setting now (Said author seat answer) k = said_placed setting.rules now seat answer (slice_get now.chairs seat) refl k
-own_placed setting now (Back author seat) k = back_placed now author seat (slice_get now.chairs seat) refl k
-own_placed setting now (Gone author seat) k = gone_placed now seat (slice_get now.chairs seat) refl k
+own_placed setting now (Back author seat) k = back_placed setting.rules now author seat (slice_get now.chairs seat) refl k
+own_placed setting now (Gone author seat) k = gone_placed setting.rules now seat (slice_get now.chairs seat) refl k
 own_placed setting now (Expired author window t1 t2) k = placed-idle now.entered now.chairs k
 
 pub step-placed : (setting : Setting) (now : After) (entry : Entry Answer) → ArePlaced now.entered now.chairs → ArePlaced (step setting now entry).entered (step setting now entry).chairs
@@ -170,14 +170,14 @@ pub after-placed : (setting : Setting) (entries : List (Entry Answer)) → ArePl
 after-placed setting entries = more_placed setting before_all entries (record { once = λ p. omega arith; past = λ p h. refl })
 
 -- A seat once it has come back, and once an answer of it has a verdict.
-abbrev pub back_chair : After → ℕ → ℕ → Chair → Chair
-back_chair now author seat chair = record {
+abbrev pub back_chair : (rules : Rules) → After → ℕ → ℕ → Chair → Chair
+back_chair rules now author seat chair = record {
   author = Some author;
   name = chair.name;
   key = chair.key;
   returns = chair.returns + 1;
   place = now.entered;
-  progress = record { due = due_on_return now seat; refused = 0; told = told_again (lines_for seat now.deeds) (due_on_return now seat) };
+  progress = record { due = due_on_return now seat; refused = 0; told = told_again (lines_for rules seat now.deeds) (due_on_return now seat) };
   earlier = chair.earlier ++ (let c : Connection = record { place = chair.place; told = chair.progress.told } in c) ∷ [];
 }
 
@@ -189,20 +189,20 @@ gone_chair lines chair = record chair { author = None; progress = record chair.p
 
 -- The seats once a held seat has said something, has left, or has come back, and once one is new.
 pub said-chairs : (setting : Setting) (now : After) (author seat : ℕ) (answer : Answer) (chair : Chair) → slice_get now.chairs seat ≡ Some chair
-    → (step setting now (Said author seat answer)).chairs ≡ slice_set now.chairs seat (said_chair (lines_for seat now.deeds) (verdict_on setting.rules now.deeds seat answer chair.progress) chair)
+    → (step setting now (Said author seat answer)).chairs ≡ slice_set now.chairs seat (said_chair (lines_for setting.rules seat now.deeds) (verdict_on setting.rules now.deeds seat answer chair.progress) chair)
 unfolding own_part after_said
 said-chairs setting now author seat answer chair e =
     step-chairs setting now (Said author seat answer) ∙ ap (λ (o : Option Chair). (option_map_or (after_said setting.rules now seat answer) o now).chairs) e
 
 pub gone-chairs : (setting : Setting) (now : After) (author seat : ℕ) (chair : Chair) → slice_get now.chairs seat ≡ Some chair
-    → (step setting now (Gone author seat)).chairs ≡ slice_set now.chairs seat (gone_chair (lines_for seat now.deeds) chair)
+    → (step setting now (Gone author seat)).chairs ≡ slice_set now.chairs seat (gone_chair (lines_for setting.rules seat now.deeds) chair)
 unfolding own_part after_gone
-gone-chairs setting now author seat chair e = step-chairs setting now (Gone author seat) ∙ ap (λ (o : Option Chair). (option_map_or (after_gone now seat) o now).chairs) e
+gone-chairs setting now author seat chair e = step-chairs setting now (Gone author seat) ∙ ap (λ (o : Option Chair). (option_map_or (after_gone setting.rules now seat) o now).chairs) e
 
 pub back-chairs : (setting : Setting) (now : After) (author seat : ℕ) (chair : Chair) → slice_get now.chairs seat ≡ Some chair
-    → (step setting now (Back author seat)).chairs ≡ slice_set now.chairs seat (back_chair now author seat chair)
+    → (step setting now (Back author seat)).chairs ≡ slice_set now.chairs seat (back_chair setting.rules now author seat chair)
 unfolding own_part after_back
-back-chairs setting now author seat chair e = step-chairs setting now (Back author seat) ∙ ap (λ (o : Option Chair). (option_map_or (after_back now author seat) o now).chairs) e
+back-chairs setting now author seat chair e = step-chairs setting now (Back author seat) ∙ ap (λ (o : Option Chair). (option_map_or (after_back setting.rules now author seat) o now).chairs) e
 
 pub sat-chairs : (setting : Setting) (now : After) (author : ℕ) (name : List ℕ) (key : Option (List ℕ)) → (step setting now (Sat author name key)).chairs ≡ now.chairs ++ new_chair now.entered author name key ∷ []
 unfolding own_part

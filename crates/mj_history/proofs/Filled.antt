@@ -87,19 +87,19 @@ said_filled rules now author seat answer None e few may filled = cc
 said_filled rules now author seat answer (Some chair) e few may filled =
     let v : Verdict = verdict_on rules now.deeds seat answer chair.progress in
     let near : nat_lt chair.progress.due (length now.deeds) ≡ true = (and_parts (is_present_by author chair) (nat_lt chair.progress.due (length now.deeds)) may).1 in
-    filled_set (length now.deeds) now.chairs now.slots (slots_after v now.slots seat answer) seat chair (said_chair (lines_for seat now.deeds) v chair) e filled
+    filled_set (length now.deeds) now.chairs now.slots (slots_after v now.slots seat answer) seat chair (said_chair (lines_for rules seat now.deeds) v chair) e filled
     (λ other small ne. others_slot now.slots seat other answer v (below_four seat (length now.chairs) (slice_get_within now.chairs seat chair e) few) small ne)
-    (own_past (lines_for seat now.deeds) (length now.deeds) now.slots seat answer chair v
+    (own_past (lines_for rules seat now.deeds) (length now.deeds) now.slots seat answer chair v
     (taken_at chair.progress.due chair.progress.refused (length now.deeds) (broken_rule rules now.deeds seat answer))
     (λ s. true≢false (sym near ∙ past_at (length now.deeds) now.chairs now.slots seat chair e few filled s)))
 
 -- A seat leaves.
-gone_filled : (now : After) (seat : ℕ) (held : Option Chair) → slice_get now.chairs seat ≡ held → length now.chairs ≤ 4 → AreFilled now
-    → AreFilledBy (length now.deeds) (option_map_or (after_gone now seat) held now).chairs (option_map_or (after_gone now seat) held now).slots
+gone_filled : (rules : Rules) (now : After) (seat : ℕ) (held : Option Chair) → slice_get now.chairs seat ≡ held → length now.chairs ≤ 4 → AreFilled now
+    → AreFilledBy (length now.deeds) (option_map_or (after_gone rules now seat) held now).chairs (option_map_or (after_gone rules now seat) held now).slots
 unfolding after_gone
-gone_filled now seat None e few filled = filled
-gone_filled now seat (Some chair) e few filled =
-    filled_set (length now.deeds) now.chairs now.slots now.slots seat chair (gone_chair (lines_for seat now.deeds) chair) e filled (λ other small ne. refl)
+gone_filled rules now seat None e few filled = filled
+gone_filled rules now seat (Some chair) e few filled =
+    filled_set (length now.deeds) now.chairs now.slots now.slots seat chair (gone_chair (lines_for rules seat now.deeds) chair) e filled (λ other small ne. refl)
     (past_at (length now.deeds) now.chairs now.slots seat chair e few filled)
 
 -- A seat comes back.
@@ -113,12 +113,12 @@ never_less n = by (nat_lt n n) refl
     by true h = absurd (apart n (ltb-true n n h))
     by false h = h
 
-back_filled : (now : After) (author seat : ℕ) (held : Option Chair) → slice_get now.chairs seat ≡ held → AreFilled now
-    → AreFilledBy (length now.deeds) (option_map_or (after_back now author seat) held now).chairs (option_map_or (after_back now author seat) held now).slots
+back_filled : (rules : Rules) (now : After) (author seat : ℕ) (held : Option Chair) → slice_get now.chairs seat ≡ held → AreFilled now
+    → AreFilledBy (length now.deeds) (option_map_or (after_back rules now author seat) held now).chairs (option_map_or (after_back rules now author seat) held now).slots
 unfolding after_back
-back_filled now author seat None e filled = filled
-back_filled now author seat (Some chair) e filled =
-    filled_set (length now.deeds) now.chairs now.slots now.slots seat chair (back_chair now author seat chair) e filled (λ other small ne. refl)
+back_filled rules now author seat None e filled = filled
+back_filled rules now author seat (Some chair) e filled =
+    filled_set (length now.deeds) now.chairs now.slots now.slots seat chair (back_chair rules now author seat chair) e filled (λ other small ne. refl)
     (λ s. ap (λ (b : Bool). nat_lt (if b then length now.deeds else length now.deeds - 1) (length now.deeds)) s ∙ never_less (length now.deeds))
 
 -- An entry.
@@ -127,8 +127,8 @@ pub own_filled : (setting : Setting) (now : After) (entry : Entry Answer) → is
 unfolding own_part
 own_filled setting now (Sat author name key) p seats filled = sat_filled (length now.deeds) now.chairs now.slots (new_chair now.entered author name key) filled
 own_filled setting now (Said author seat answer) p seats filled = said_filled setting.rules now author seat answer (slice_get now.chairs seat) refl seats.few (and_parts (is_in_form answer) (can_say now author seat) p).1 filled
-own_filled setting now (Back author seat) p seats filled = back_filled now author seat (slice_get now.chairs seat) refl filled
-own_filled setting now (Gone author seat) p seats filled = gone_filled now seat (slice_get now.chairs seat) refl seats.few filled
+own_filled setting now (Back author seat) p seats filled = back_filled setting.rules now author seat (slice_get now.chairs seat) refl filled
+own_filled setting now (Gone author seat) p seats filled = gone_filled setting.rules now seat (slice_get now.chairs seat) refl seats.few filled
 own_filled setting now (Expired author window t1 t2) p seats filled = filled
 
 none_filled : (n : ℕ) (chairs : List Chair) → AreFilledBy n chairs empty_slots

@@ -75,13 +75,13 @@ said_slots rules now seat answer (Some chair) form e few s =
     below seat n h k = omega arith
 
 gone_slots : (rules : Rules) (now : After) (seat : ℕ) (held : Option Chair) → AreLawfulIn rules now.deeds now.slots →
-    AreLawfulIn rules (option_map_or (after_gone now seat) held now).deeds (option_map_or (after_gone now seat) held now).slots
+    AreLawfulIn rules (option_map_or (after_gone rules now seat) held now).deeds (option_map_or (after_gone rules now seat) held now).slots
 unfolding after_gone
 gone_slots rules now seat None s = s
 gone_slots rules now seat (Some chair) s = s
 
 back_slots : (rules : Rules) (now : After) (author seat : ℕ) (held : Option Chair) → AreLawfulIn rules now.deeds now.slots →
-    AreLawfulIn rules (option_map_or (after_back now author seat) held now).deeds (option_map_or (after_back now author seat) held now).slots
+    AreLawfulIn rules (option_map_or (after_back rules now author seat) held now).deeds (option_map_or (after_back rules now author seat) held now).slots
 unfolding after_back
 back_slots rules now author seat None s = s
 back_slots rules now author seat (Some chair) s = s
@@ -99,22 +99,22 @@ unfolding after_said
 said_deeds rules now seat answer None = refl
 said_deeds rules now seat answer (Some chair) = refl
 
-gone_deeds : (now : After) (seat : ℕ) (held : Option Chair) → (option_map_or (after_gone now seat) held now).deeds ≡ now.deeds
+gone_deeds : (rules : Rules) (now : After) (seat : ℕ) (held : Option Chair) → (option_map_or (after_gone rules now seat) held now).deeds ≡ now.deeds
 unfolding after_gone
-gone_deeds now seat None = refl
-gone_deeds now seat (Some chair) = refl
+gone_deeds rules now seat None = refl
+gone_deeds rules now seat (Some chair) = refl
 
-back_deeds : (now : After) (author seat : ℕ) (held : Option Chair) → (option_map_or (after_back now author seat) held now).deeds ≡ now.deeds
+back_deeds : (rules : Rules) (now : After) (author seat : ℕ) (held : Option Chair) → (option_map_or (after_back rules now author seat) held now).deeds ≡ now.deeds
 unfolding after_back
-back_deeds now author seat None = refl
-back_deeds now author seat (Some chair) = refl
+back_deeds rules now author seat None = refl
+back_deeds rules now author seat (Some chair) = refl
 
 pub own_deeds : (setting : Setting) (now : After) (entry : Entry Answer) → (own_part setting now entry).deeds ≡ now.deeds
 unfolding own_part
 own_deeds setting now (Sat author name key) = refl
 own_deeds setting now (Said author seat answer) = said_deeds setting.rules now seat answer (slice_get now.chairs seat)
-own_deeds setting now (Back author seat) = back_deeds now author seat (slice_get now.chairs seat)
-own_deeds setting now (Gone author seat) = gone_deeds now seat (slice_get now.chairs seat)
+own_deeds setting now (Back author seat) = back_deeds setting.rules now author seat (slice_get now.chairs seat)
+own_deeds setting now (Gone author seat) = gone_deeds setting.rules now seat (slice_get now.chairs seat)
 own_deeds setting now (Expired author window t1 t2) = refl
 
 -- What a permitted entry says is in form.

@@ -9,6 +9,8 @@ pub mod Entries
 pub mod Filled
 pub mod Fitting
 pub mod Legality
+pub mod LineRows
+pub mod LinesGrow
 pub mod Moves
 pub mod Order
 pub mod Places

@@ -122,11 +122,11 @@ author_by lines (Refused rule) chair h = refl
 author_by lines (Closing rule) chair h = cc
 
 -- One answer.
-abbrev with_said : After → ℕ → Answer → Chair → Verdict → After
-with_said now seat answer chair v = record {
+abbrev with_said : (rules : Rules) → After → ℕ → Answer → Chair → Verdict → After
+with_said rules now seat answer chair v = record {
   entered = now.entered;
   deeds = now.deeds;
-  chairs = slice_set now.chairs seat (said_chair (lines_for seat now.deeds) v chair);
+  chairs = slice_set now.chairs seat (said_chair (lines_for rules seat now.deeds) v chair);
   slots = slots_after v now.slots seat answer;
 }
 
@@ -139,10 +139,10 @@ not_said b c answer e = ap (λ (a : Bool). answer_if (a && c) answer) e
 is_said : (b c : Bool) (answer : Answer) → b ≡ true → answer_if (b && c) answer ≡ answer_if c answer
 is_said b c answer e = ap (λ (a : Bool). answer_if (a && c) answer) e
 
-held_moves : (now : After) (who : ℕ) (answer : Answer) (chair : Chair) (v : Verdict) → slice_get now.chairs who ≡ Some chair → length now.chairs ≤ 4 → is_closing v ≡ false
+held_moves : (rules : Rules) (now : After) (who : ℕ) (answer : Answer) (chair : Chair) (v : Verdict) → slice_get now.chairs who ≡ Some chair → length now.chairs ≤ 4 → is_closing v ≡ false
     → (v ≡ Taken → nat_lt (chair.progress.due + 1) (length now.deeds) ≡ false) → (v ≡ Late → nat_lt (chair.progress.due + 1) (length now.deeds) ≡ true)
-    → Moves now (with_said now who answer chair v) (λ seat. answer_if (who == seat && is_acceptance v) answer)
-held_moves now who answer chair v e few stays t l = record {
+    → Moves now (with_said rules now who answer chair v) (λ seat. answer_if (who == seat && is_acceptance v) answer)
+held_moves rules now who answer chair v e few stays t l = record {
   deeds = refl;
   authors = authors-set now.chairs who chair new e (author_by lines v chair stays);
   due = λ seat. elim (eqb_tells who seat) [
@@ -158,16 +158,16 @@ held_moves now who answer chair v e few stays t l = record {
 }
   where
     lines : List (List ℕ)
-    lines = lines_for who now.deeds
+    lines = lines_for rules who now.deeds
 
     n : ℕ
     n = length now.deeds
 
     new : Chair
-    new = said_chair (lines_for who now.deeds) v chair
+    new = said_chair (lines_for rules who now.deeds) v chair
 
     next : After
-    next = with_said now who answer chair v
+    next = with_said rules now who answer chair v
 
     known : who < 4
     known = below_four who (length now.chairs) (slice_get_within now.chairs who chair e) few
@@ -202,7 +202,7 @@ said_moves : (rules : Rules) (now : After) (who : ℕ) (answer : Answer) (held :
 unfolding after_said
 said_moves rules now who answer None e few stays = idle_moves now _ (λ seat. never_said (who == seat) answer)
 said_moves rules now who answer (Some chair) e few stays =
-    held_moves now who answer chair (verdict_on rules now.deeds who answer chair.progress) e few stays
+    held_moves rules now who answer chair (verdict_on rules now.deeds who answer chair.progress) e few stays
     (taken_at chair.progress.due chair.progress.refused (length now.deeds) (broken_rule rules now.deeds who answer))
     (late_at chair.progress.due chair.progress.refused (length now.deeds) (broken_rule rules now.deeds who answer))
 

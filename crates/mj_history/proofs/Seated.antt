@@ -1,5 +1,5 @@
 -- The laws by which a game is one that workers play by entries.
-use Rattle.std.proofs.Common.{◌≡◌, ◌≢◌, ℕ, ◌<◌, ◌≤◌, ◌==◌, ◌&&◌, inl, inr, List, [], ◌∷◌, ◌++◌, length, Bool, true, false, refl, ap, ◌∙◌, sym, subst, arith, append-nil}
+use Rattle.std.proofs.Common.{◌≡◌, ℕ, ◌<◌, ◌≤◌, ◌==◌, ◌&&◌, inl, inr, List, [], ◌∷◌, ◌++◌, length, Bool, true, false, refl, ap, ◌∙◌, sym, subst, arith, append-nil}
 use Rattle.std.specs.Prelude.{if◌then◌else◌, Option, Some, None, is_some, slice_get, slice_set, nat_lt}
 use Rattle.std.specs.Option.{option_map_or}
 use Rattle.std.proofs.lemmas.Bool.{and_parts, and_from}
@@ -10,24 +10,22 @@ use Rattle.mj_ports.specs.declared.entry.Entry.TheVariants.{Sat, Back, Said, Gon
 use Rattle.mj_ports.specs.Seats.{Showing, Stays, StaysEnded}
 use Rattle.mj_deeds.specs.declared.answer.Answer.{Answer}
 use Rattle.mj_deeds.specs.declared.deed.Deed.{Deed}
-use Rattle.mj_deeds.specs.declared.deed.Viewer.TheVariants.{Seat}
 use Rattle.mj_wall.specs.declared.setting.Rules.{Rules}
 use Rattle.mj_wall.specs.declared.setting.Setting.{Setting}
-use Rattle.mj_forms.specs.Lines.{line}
 use Rattle.mj_history.specs.After.{After, Chair, is_present, after_said, after_gone, after_back, new_chair, own_part, next_deed, step, after, before_all}
 use Rattle.mj_history.specs.Legal.{IsLegal, is_over, is_present_by, may_say, is_permitted, all_permitted, has_ground}
 use Rattle.mj_history.specs.Shown.{shown, shown_of, line_at, seat_at, told_at}
 use Rattle.mj_history.specs.Seated.{BeginningsAreLegal, LinesStay, EndedConnectionsStay}
 use Rattle.mj_history.proofs.Entries.{after-append, all_permitted-append}
-use Rattle.mj_history.proofs.Places.{slice_get-append_other}
 use Rattle.mj_history.proofs.Fitting.{own_deeds}
 use Rattle.mj_history.proofs.Connections.{not-connected, nobody-set, nobody-append, told-set, told-append, told-elsewhere, told-again-elsewhere}
 use Rattle.mj_history.proofs.Ended.{no_more}
+use Rattle.mj_history.proofs.LinesGrow.{line_kept}
 use Rattle.mj_history.proofs.Entered.{step-chairs, step-deeds, listed, entered-is, back_chair}
 
 -- A law of one step, at entries of which the last is the step.
-pub stepped : (P : Showing → Type 0) (setting : Setting) (entries : List (Entry Answer)) (entry : Entry Answer) → P (shown (step setting (after setting entries) entry)) → P (shown_of setting (entries ++ entry ∷ []))
-stepped P setting entries entry p = subst (λ (now : After). P (shown now)) (sym (after-append setting entries entry)) p
+pub stepped : (P : Showing → Type 0) (setting : Setting) (entries : List (Entry Answer)) (entry : Entry Answer) → P (shown setting.rules (step setting (after setting entries) entry)) → P (shown_of setting (entries ++ entry ∷ []))
+stepped P setting entries entry p = subst (λ (now : After). P (shown setting.rules now)) (sym (after-append setting entries entry)) p
 
 -- Beginnings.
 ground_before : (walls : List (List ℕ)) (entries more : List (Entry Answer)) → has_ground walls (entries ++ more) ≡ true → has_ground walls entries ≡ true
@@ -56,26 +54,19 @@ last_permitted setting entries entry l =
 more_deeds : (deeds more : List Deed) → length deeds ≤ length (deeds ++ more)
 more_deeds deeds more = omega (arith, length-append deeds more)
 
-pub same_deed : (deeds : List Deed) (o : Option Deed) (k : ℕ) → k < length deeds → slice_get (deeds ++ listed o) k ≡ slice_get deeds k
-same_deed deeds None k h = ap (λ (ds : List Deed). slice_get ds k) (append-nil deeds)
-same_deed deeds (Some deed) k h = slice_get-append_other deeds deed k (apart k (length deeds) h)
-  where
-    apart : (k n : ℕ) → k < n → k ≢ n
-    apart k n h e = omega arith
-
 over_deeds : (setting : Setting) (now : After) (entry : Entry Answer) → is_over now.deeds ≡ true → (step setting now entry).deeds ≡ now.deeds
 over_deeds setting now entry h =
     step-deeds setting now entry
     ∙ ap (λ (o : Option Deed). now.deeds ++ listed o) (no_more setting (own_part setting now entry) entry (ap is_over (own_deeds setting now entry) ∙ h))
     ∙ append-nil now.deeds
 
-pub stays_step : (setting : Setting) (now : After) (entry : Entry Answer) → Stays (shown now) (shown (step setting now entry))
+pub stays_step : (setting : Setting) (now : After) (entry : Entry Answer) → Stays (shown setting.rules now) (shown setting.rules (step setting now entry))
 stays_step setting now entry =
     let more : List Deed = listed (next_deed setting (own_part setting now entry) entry) in
     record {
       deeds = subst (λ (ds : List Deed). length now.deeds ≤ length ds) (sym (step-deeds setting now entry)) (more_deeds now.deeds more);
-      text = λ seat k h. ap (λ (ds : List Deed). line_at ds seat k) (step-deeds setting now entry)
-          ∙ ap (λ (o : Option Deed). option_map_or (λ (deed : Deed). line (Seat seat) deed) o []) (same_deed now.deeds (next_deed setting (own_part setting now entry) entry) k h);
+      text = λ seat k h. ap (λ (ds : List Deed). line_at setting.rules ds seat k) (step-deeds setting now entry)
+          ∙ line_kept setting.rules seat k now.deeds more h;
       over = λ h. ap is_over (over_deeds setting now entry h) ∙ h;
       no_deed = λ h. ap (λ (ds : List Deed). length ds) (over_deeds setting now entry h);
     }
@@ -128,19 +119,19 @@ unfolding after_said
 said_ended rules now author seat place answer None e p n = cc
 said_ended rules now author seat place answer (Some chair) e p n = kept_ended place now.chairs seat chair _ n e (present_is author chair (said_present now author chair p)) refl refl
 
-gone_ended : (now : After) (author seat place : ℕ) (held : Option Chair) → slice_get now.chairs seat ≡ held → option_map_or (is_present_by author) held false ≡ true → seat_at now.chairs place ≡ None
-    → EndsAt place now.chairs (option_map_or (after_gone now seat) held now).chairs
+gone_ended : (rules : Rules) (now : After) (author seat place : ℕ) (held : Option Chair) → slice_get now.chairs seat ≡ held → option_map_or (is_present_by author) held false ≡ true → seat_at now.chairs place ≡ None
+    → EndsAt place now.chairs (option_map_or (after_gone rules now seat) held now).chairs
 unfolding after_gone
-gone_ended now author seat place None e p n = cc
-gone_ended now author seat place (Some chair) e p n = kept_ended place now.chairs seat chair _ n e (present_is author chair p) refl refl
+gone_ended rules now author seat place None e p n = cc
+gone_ended rules now author seat place (Some chair) e p n = kept_ended place now.chairs seat chair _ n e (present_is author chair p) refl refl
 
-back_ended : (now : After) (author seat place : ℕ) (held : Option Chair) → slice_get now.chairs seat ≡ held → place < now.entered → seat_at now.chairs place ≡ None
-    → EndsAt place now.chairs (option_map_or (after_back now author seat) held now).chairs
+back_ended : (rules : Rules) (now : After) (author seat place : ℕ) (held : Option Chair) → slice_get now.chairs seat ≡ held → place < now.entered → seat_at now.chairs place ≡ None
+    → EndsAt place now.chairs (option_map_or (after_back rules now author seat) held now).chairs
 unfolding after_back
-back_ended now author seat place None e near n = record { no_seat = n; told = refl }
-back_ended now author seat place (Some chair) e near n = record {
+back_ended rules now author seat place None e near n = record { no_seat = n; told = refl }
+back_ended rules now author seat place (Some chair) e near n = record {
   no_seat = nobody-set place now.chairs seat chair _ n e (on_off true (now.entered == place) (not_at place now.entered near));
-  told = told-set place now.chairs seat chair _ e (told-again-elsewhere place chair (back_chair now author seat chair) refl (not_at place now.entered near));
+  told = told-set place now.chairs seat chair _ e (told-again-elsewhere place chair (back_chair rules now author seat chair) refl (not_at place now.entered near));
 }
 
 untold_new : (place n : ℕ) (told : List ℕ) → place < n → ([] ++ (if n == place then told else [])) ≡ []
@@ -153,11 +144,11 @@ own_ended setting now (Sat author name key) place p near n = record {
   told = told-append place now.chairs (new_chair now.entered author name key) (untold_new place now.entered _ near);
 }
 own_ended setting now (Said author seat answer) place p near n = said_ended setting.rules now author seat place answer (slice_get now.chairs seat) refl (and_parts _ _ p).1 n
-own_ended setting now (Back author seat) place p near n = back_ended now author seat place (slice_get now.chairs seat) refl near n
-own_ended setting now (Gone author seat) place p near n = gone_ended now author seat place (slice_get now.chairs seat) refl p n
+own_ended setting now (Back author seat) place p near n = back_ended setting.rules now author seat place (slice_get now.chairs seat) refl near n
+own_ended setting now (Gone author seat) place p near n = gone_ended setting.rules now author seat place (slice_get now.chairs seat) refl p n
 own_ended setting now (Expired author window t1 t2) place p near n = record { no_seat = n; told = refl }
 
-ended_step : (setting : Setting) (now : After) (entry : Entry Answer) (place : ℕ) → is_permitted setting now entry ≡ true → place < now.entered → seat_at now.chairs place ≡ None → StaysEnded place (shown now) (shown (step setting now entry))
+ended_step : (setting : Setting) (now : After) (entry : Entry Answer) (place : ℕ) → is_permitted setting now entry ≡ true → place < now.entered → seat_at now.chairs place ≡ None → StaysEnded place (shown setting.rules now) (shown setting.rules (step setting now entry))
 ended_step setting now entry place p near n =
     let own : EndsAt place now.chairs (own_part setting now entry).chairs = own_ended setting now entry place p near n in
     let changed : EndsAt place now.chairs (step setting now entry).chairs = subst (λ (cs : List Chair). EndsAt place now.chairs cs) (sym (step-chairs setting now entry)) own in

@@ -100,22 +100,22 @@ unfolding after_said
 said_seats rules now seat answer None e s = s
 said_seats rules now seat answer (Some chair) e s = kept_seats now.chairs seat chair _ e refl s
 
-gone_seats : (now : After) (seat : ℕ) (held : Option Chair) → slice_get now.chairs seat ≡ held → AreSeats now.chairs → AreSeats (option_map_or (after_gone now seat) held now).chairs
+gone_seats : (rules : Rules) (now : After) (seat : ℕ) (held : Option Chair) → slice_get now.chairs seat ≡ held → AreSeats now.chairs → AreSeats (option_map_or (after_gone rules now seat) held now).chairs
 unfolding after_gone
-gone_seats now seat None e s = s
-gone_seats now seat (Some chair) e s = kept_seats now.chairs seat chair _ e refl s
+gone_seats rules now seat None e s = s
+gone_seats rules now seat (Some chair) e s = kept_seats now.chairs seat chair _ e refl s
 
-back_seats : (now : After) (author seat : ℕ) (held : Option Chair) → slice_get now.chairs seat ≡ held → AreSeats now.chairs → AreSeats (option_map_or (after_back now author seat) held now).chairs
+back_seats : (rules : Rules) (now : After) (author seat : ℕ) (held : Option Chair) → slice_get now.chairs seat ≡ held → AreSeats now.chairs → AreSeats (option_map_or (after_back rules now author seat) held now).chairs
 unfolding after_back
-back_seats now author seat None e s = s
-back_seats now author seat (Some chair) e s = kept_seats now.chairs seat chair _ e refl s
+back_seats rules now author seat None e s = s
+back_seats rules now author seat (Some chair) e s = kept_seats now.chairs seat chair _ e refl s
 
 pub own_seats : (setting : Setting) (now : After) (entry : Entry Answer) → is_permitted setting now entry ≡ true → AreSeats now.chairs → AreSeats (own_part setting now entry).chairs
 unfolding own_part
 own_seats setting now (Sat author name key) p s = sat_seats now.chairs _ p s
 own_seats setting now (Said author seat answer) p s = said_seats setting.rules now seat answer (slice_get now.chairs seat) refl s
-own_seats setting now (Back author seat) p s = back_seats now author seat (slice_get now.chairs seat) refl s
-own_seats setting now (Gone author seat) p s = gone_seats now seat (slice_get now.chairs seat) refl s
+own_seats setting now (Back author seat) p s = back_seats setting.rules now author seat (slice_get now.chairs seat) refl s
+own_seats setting now (Gone author seat) p s = gone_seats setting.rules now seat (slice_get now.chairs seat) refl s
 own_seats setting now (Expired author window t1 t2) p s = s
 
 -- a whole game

@@ -102,23 +102,23 @@ said_holds rules now author who answer (Some chair) e few may filled =
     both : (b : Bool) → b ≡ true → b ≡ false → ⊥
     both b h k = cc
 
-gone_holds : (now : After) (who : ℕ) (held : Option Chair) → Holds now.slots (option_map_or (after_gone now who) held now).slots (λ seat. [])
+gone_holds : (rules : Rules) (now : After) (who : ℕ) (held : Option Chair) → Holds now.slots (option_map_or (after_gone rules now who) held now).slots (λ seat. [])
 unfolding after_gone
-gone_holds now who None = as_before now.slots
-gone_holds now who (Some chair) = as_before now.slots
+gone_holds rules now who None = as_before now.slots
+gone_holds rules now who (Some chair) = as_before now.slots
 
-back_holds : (now : After) (author who : ℕ) (held : Option Chair) → Holds now.slots (option_map_or (after_back now author who) held now).slots (λ seat. [])
+back_holds : (rules : Rules) (now : After) (author who : ℕ) (held : Option Chair) → Holds now.slots (option_map_or (after_back rules now author who) held now).slots (λ seat. [])
 unfolding after_back
-back_holds now author who None = as_before now.slots
-back_holds now author who (Some chair) = as_before now.slots
+back_holds rules now author who None = as_before now.slots
+back_holds rules now author who (Some chair) = as_before now.slots
 
 own_holds : (setting : Setting) (now : After) (entry : Entry Answer) → is_permitted setting now entry ≡ true → AreSeats now.chairs → AreFilled now
     → Holds now.slots (own_part setting now entry).slots (λ seat. taken setting (length now.deeds) seat now entry)
 unfolding own_part
 own_holds setting now (Sat author name key) p seats filled = as_before now.slots
 own_holds setting now (Said author who answer) p seats filled = said_holds setting.rules now author who answer (slice_get now.chairs who) refl seats.few (and_parts (is_in_form answer) (can_say now author who) p).1 filled
-own_holds setting now (Back author who) p seats filled = back_holds now author who (slice_get now.chairs who)
-own_holds setting now (Gone author who) p seats filled = gone_holds now who (slice_get now.chairs who)
+own_holds setting now (Back author who) p seats filled = back_holds setting.rules now author who (slice_get now.chairs who)
+own_holds setting now (Gone author who) p seats filled = gone_holds setting.rules now who (slice_get now.chairs who)
 own_holds setting now (Expired author window t1 t2) p seats filled = as_before now.slots
 
 -- one entry more, before its deed

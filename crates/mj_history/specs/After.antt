@@ -7,7 +7,6 @@ use Rattle.mj_deeds.specs.declared.four.Four.{Four}
 use Rattle.mj_deeds.specs.Four.{at_seat}
 use Rattle.mj_deeds.specs.declared.rule.Rule.{Rule}
 use Rattle.mj_deeds.specs.declared.answer.Answer.{Answer}
-use Rattle.mj_deeds.specs.declared.deed.Viewer.TheVariants.{Seat}
 use Rattle.mj_deeds.specs.declared.deed.Deed.{Deed}
 use Rattle.mj_deeds.specs.declared.deed.Deed.TheVariants.{StartGame}
 use Rattle.mj_wall.specs.declared.setting.Rules.{Rules}
@@ -17,7 +16,8 @@ use Rattle.mj_rules.specs.Default.{default_answer}
 use Rattle.mj_rules.specs.Outcome.{outcome}
 use Rattle.mj_rules.specs.Played.{IsLawful}
 use Rattle.mj_window.specs.Slots.{empty_slots, put_at, closes}
-use Rattle.mj_forms.specs.Lines.{line, error_text, hello_line, replay_line}
+use Rattle.mj_forms.specs.Lines.{error_text, hello_line, replay_line}
+pub use Rattle.mj_history.specs.SeatLines.{lines_for}
 
 -- How far a seat has come in its connection: the number of the deed that its next line answers, how many of its answers
 -- to it were refused, and what the connection was told by the seat's own entries.
@@ -79,10 +79,6 @@ verdict due refused deeds rule = if nat_lt (due + 1) deeds then Late else verdic
 unfoldable pub pending : List (List ℕ) → Progress → List ℕ
 pending lines p = if p.refused == 0 then unwrap_or (slice_get lines p.due) [] else []
 
--- The lines of the deeds for a seat.
-abbrev pub lines_for : ℕ → List Deed → List (List ℕ)
-lines_for seat deeds = map (line (Seat seat)) deeds
-
 -- How far a seat has come once its answer has this verdict: an answer that is taken or late answers the due deed, and one
 -- that is refused is told its rule.
 abbrev pub progress_after : List (List ℕ) → Verdict → Progress → Progress
@@ -111,16 +107,16 @@ after_said rules now seat answer chair =
     let v = verdict_on rules now.deeds seat answer chair.progress in
     record now {
       chairs = slice_set now.chairs seat
-          (record chair { author = author_after v chair.author; progress = progress_after (lines_for seat now.deeds) v chair.progress });
+          (record chair { author = author_after v chair.author; progress = progress_after (lines_for rules seat now.deeds) v chair.progress });
       slots = slots_after v now.slots seat answer;
     }
 
 -- A seat that leaves was told what was pending.
-unfoldable pub after_gone : After → ℕ → Chair → After
-after_gone now seat chair =
+unfoldable pub after_gone : Rules → After → ℕ → Chair → After
+after_gone rules now seat chair =
     record now {
       chairs = slice_set now.chairs seat
-          (record chair { author = None; progress = record chair.progress { told = chair.progress.told ++ pending (lines_for seat now.deeds) chair.progress } });
+          (record chair { author = None; progress = record chair.progress { told = chair.progress.told ++ pending (lines_for rules seat now.deeds) chair.progress } });
     }
 
 -- The deed that a seat answers next where it comes back: the newest one where its slot is empty, else the one after it;
@@ -132,15 +128,15 @@ due_on_return now seat = if is_some (at_seat now.slots seat) then length now.dee
 abbrev pub told_again : List (List ℕ) → ℕ → List ℕ
 told_again lines due = hello_line ++ replay_line due ++ flat_map (λ line. line) (take due lines)
 
-unfoldable pub after_back : After → ℕ → ℕ → Chair → After
-after_back now author seat chair =
+unfoldable pub after_back : Rules → After → ℕ → ℕ → Chair → After
+after_back rules now author seat chair =
     let due = due_on_return now seat in
     record now {
       chairs = slice_set now.chairs seat (record chair {
         author = Some author;
         returns = chair.returns + 1;
         place = now.entered;
-        progress = record { due = due; refused = 0; told = told_again (lines_for seat now.deeds) due };
+        progress = record { due = due; refused = 0; told = told_again (lines_for rules seat now.deeds) due };
         earlier = chair.earlier ++ (record { place = chair.place; told = chair.progress.told }) ∷ [];
       });
     }
@@ -154,8 +150,8 @@ new_chair place author name key =
 unfoldable pub own_part : Setting → After → Entry Answer → After
 own_part setting now (Sat author name key) = record now { chairs = now.chairs ++ new_chair now.entered author name key ∷ [] }
 own_part setting now (Said author seat answer) = option_map_or (after_said setting.rules now seat answer) (slice_get now.chairs seat) now
-own_part setting now (Back author seat) = option_map_or (after_back now author seat) (slice_get now.chairs seat) now
-own_part setting now (Gone author seat) = option_map_or (after_gone now seat) (slice_get now.chairs seat) now
+own_part setting now (Back author seat) = option_map_or (after_back setting.rules now author seat) (slice_get now.chairs seat) now
+own_part setting now (Gone author seat) = option_map_or (after_gone setting.rules now seat) (slice_get now.chairs seat) now
 own_part setting now (Expired author window t1 t2) = now
 
 -- The name of a seat.
@@ -217,28 +213,28 @@ abbrev pub after : Setting → List (Entry Answer) → After
 after setting entries = after_from setting before_all entries
 
 -- What the newest connection of a seat is told: what it was told, and what is pending while the seat is present.
-unfoldable pub script_at : ℕ → After → Chair → List ℕ
-script_at seat now chair = chair.progress.told ++ (if is_present chair then pending (lines_for seat now.deeds) chair.progress else [])
+unfoldable pub script_at : Rules → ℕ → After → Chair → List ℕ
+script_at rules seat now chair = chair.progress.told ++ (if is_present chair then pending (lines_for rules seat now.deeds) chair.progress else [])
 
 -- The bytes of each connection of a seat, the oldest first; there is none where the seat isn't held.
-abbrev pub connections_at : ℕ → After → Chair → List (List ℕ)
-connections_at seat now chair = map (λ (c : Connection). c.told) chair.earlier ++ script_at seat now chair ∷ []
+abbrev pub connections_at : Rules → ℕ → After → Chair → List (List ℕ)
+connections_at rules seat now chair = map (λ (c : Connection). c.told) chair.earlier ++ script_at rules seat now chair ∷ []
 
-abbrev pub connections_in : ℕ → After → List (List ℕ)
-connections_in seat now = option_map_or (connections_at seat now) (slice_get now.chairs seat) []
+abbrev pub connections_in : Rules → ℕ → After → List (List ℕ)
+connections_in rules seat now = option_map_or (connections_at rules seat now) (slice_get now.chairs seat) []
 
 abbrev pub connections : ℕ → Setting → List (Entry Answer) → List (List ℕ)
-connections seat setting entries = connections_in seat (after setting entries)
+connections seat setting entries = connections_in setting.rules seat (after setting entries)
 
 -- The bytes of all connections of a seat, one after the other; none where the seat isn't held.
-unfoldable pub scripts_at : ℕ → After → Chair → List ℕ
-scripts_at seat now chair = flat_map (λ (c : Connection). c.told) chair.earlier ++ script_at seat now chair
+unfoldable pub scripts_at : Rules → ℕ → After → Chair → List ℕ
+scripts_at rules seat now chair = flat_map (λ (c : Connection). c.told) chair.earlier ++ script_at rules seat now chair
 
-abbrev pub scripts_in : ℕ → After → List ℕ
-scripts_in seat now = option_map_or (scripts_at seat now) (slice_get now.chairs seat) []
+abbrev pub scripts_in : Rules → ℕ → After → List ℕ
+scripts_in rules seat now = option_map_or (scripts_at rules seat now) (slice_get now.chairs seat) []
 
 abbrev pub scripts : ℕ → Setting → List (Entry Answer) → List ℕ
-scripts seat setting entries = scripts_in seat (after setting entries)
+scripts seat setting entries = scripts_in setting.rules seat (after setting entries)
 
 -- The answer in a slot is lawful for its seat in the window on the newest deed.
 abbrev pub IsLawfulIn : Rules → List Deed → ℕ → Option Answer → Type 0

@@ -6,6 +6,7 @@ pub mod Laws
 pub mod Legal
 pub mod Order
 pub mod Records
+pub mod SeatLines
 pub mod Seated
 pub mod Shown
 pub mod Sitting

@@ -1,6 +1,6 @@
 -- What a game shows to those who play it by entries: what its entries come to, what its calls answer, and the lines that are
 -- no deed's.
-use Rattle.std.specs.Prelude.{ℕ, suc, ◌-◌, ◌==◌, ◌&&◌, not, Bool, false, if◌then◌else◌, List, [], ◌∷◌, ◌++◌, length, flat_map, Option, Some, None, option_map, slice_get}
+use Rattle.std.specs.Prelude.{ℕ, suc, ◌-◌, ◌==◌, ◌&&◌, not, Bool, false, if◌then◌else◌, List, [], ◌∷◌, ◌++◌, length, flat_map, Option, Some, None, option_map, slice_get, unwrap_or}
 use Rattle.std.specs.Option.{option_map_or}
 use Rattle.mj_ports.specs.declared.entry.Entry.{Entry}
 use Rattle.mj_ports.specs.declared.answers.SitAnswer.{SitAnswer}
@@ -17,11 +17,11 @@ use Rattle.mj_seating.specs.declared.desk.Placed.TheVariants as places
 use Rattle.mj_deeds.specs.declared.rule.Rule.{Rule}
 use Rattle.mj_deeds.specs.declared.answer.Answer.{Answer}
 use Rattle.mj_deeds.specs.declared.deed.Deed.{Deed}
-use Rattle.mj_deeds.specs.declared.deed.Viewer.TheVariants.{Seat}
 use Rattle.mj_wall.specs.declared.setting.Rules.{Rules}
 use Rattle.mj_wall.specs.declared.setting.Setting.{Setting}
-use Rattle.mj_forms.specs.Lines.{line, error_text, refusal_line, hello_line, replay_line}
+use Rattle.mj_forms.specs.Lines.{error_text, refusal_line, hello_line, replay_line}
 use Rattle.mj_history.specs.After.{After, Chair, Connection, Verdict, Taken, Late, Refused, Closing, verdict_on, is_present, after}
+use Rattle.mj_history.specs.SeatLines.{lines_for}
 use Rattle.mj_history.specs.Legal.{is_over, is_open, can_expire}
 use Rattle.mj_history.specs.Sitting.{placing, author_at}
 use Rattle.mj_forms.specs.AnswerForms.{join_of}
@@ -35,8 +35,8 @@ abbrev pub was_told_at : After → ℕ → Bool
 was_told_at now seat = option_map_or (λ (chair : Chair). not (chair.progress.refused == 0)) (slice_get now.chairs seat) false
 
 -- Line k of a seat; nothing where there is no such deed yet.
-abbrev pub line_at : List Deed → ℕ → ℕ → List ℕ
-line_at deeds seat k = option_map_or (λ (deed : Deed). line (Seat seat) deed) (slice_get deeds k) []
+abbrev pub line_at : Rules → List Deed → ℕ → ℕ → List ℕ
+line_at rules deeds seat k = unwrap_or (slice_get (lines_for rules seat deeds) k) []
 
 -- The number of the open window: that of the newest deed, until the game has ended.
 abbrev pub open_window : List Deed → Option ℕ
@@ -63,13 +63,13 @@ abbrev pub told_at : List Chair → ℕ → List ℕ
 told_at chairs place = flat_map (told_in place) chairs
 
 -- What shows of what the entries come to.
-abbrev pub shown : After → Showing
-shown now = record {
+abbrev pub shown : Rules → After → Showing
+shown rules now = record {
   present = author_at now;
   due = due_at now;
   is_told = was_told_at now;
   deeds = length now.deeds;
-  text = line_at now.deeds;
+  text = line_at rules now.deeds;
   seat_of = seat_at now.chairs;
   told = told_at now.chairs;
   window = open_window now.deeds;
@@ -78,7 +78,7 @@ shown now = record {
 
 -- What shows of a game.
 abbrev pub shown_of : Setting → List (Entry Answer) → Showing
-shown_of setting entries = shown (after setting entries)
+shown_of setting entries = shown setting.rules (after setting entries)
 
 -- What a line that wants a seat is answered, by what becomes of its join.
 abbrev pub sit_answer : Placed → SitAnswer

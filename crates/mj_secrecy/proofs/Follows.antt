@@ -16,11 +16,12 @@ use Rattle.mj_deeds.specs.declared.token.Token.TheVariants as tokens
 use Rattle.mj_deeds.specs.Hand.{hand}
 use Rattle.mj_deeds.specs.Facts.{concealed_tiles, drawn_tile, river_tiles, seat_melds, kans, live_tiles, indicators}
 use Rattle.mj_deeds.specs.Riichi.{has_reached, is_ippatsu}
+use Rattle.mj_deeds.specs.Passed.{passed_kinds, passed_in_riichi}
 use Rattle.mj_deeds.specs.Points.{points, deposits}
 use Rattle.mj_deeds.specs.Course.{before_wins}
 use Rattle.mj_deeds.specs.Ends.{winners}
 use Rattle.mj_deeds.specs.Standings.{standing}
-use Rattle.mj_deeds.proofs.Masked.{masked, all_masked, gains-masked, tiles_gained-masked, tiles_lost-masked, drawn_tile-masked, river-masked, seat_melds-masked, has_reached-masked, is_in_riichi-masked, is_double-masked, is_ippatsu-masked, kans-masked, live_tiles-masked, indicators_all-masked, winners-masked, standing-masked, points-masked, deposits-masked}
+use Rattle.mj_deeds.proofs.Masked.{masked, all_masked, gains-masked, tiles_gained-masked, tiles_lost-masked, drawn_tile-masked, river-masked, seat_melds-masked, has_reached-masked, is_in_riichi-masked, is_double-masked, is_ippatsu-masked, passed_kinds-masked, passed_in_riichi-masked, kans-masked, live_tiles-masked, indicators_all-masked, winners-masked, standing-masked, points-masked, deposits-masked}
 use Rattle.mj_wall.specs.declared.setting.Rules.{Rules}
 use Rattle.mj_view.specs.Tokens.{token}
 use Rattle.mj_view.specs.Seen.{own_tile}
@@ -30,13 +31,16 @@ use Rattle.mj_rules.specs.Default.{lawful_faces, default_by}
 use Rattle.mj_rules.specs.Wins.{riichi_of, case_of, extra_by, win_shown}
 use Rattle.mj_rules.specs.Draws.{draw_shown}
 use Rattle.mj_rules.proofs.MaskedView.{of_hand, view-masked, case_of-masked, before_wins_of_hand, win_shown-masked, draw_shown-masked}
+use Rattle.mj_sights.specs.Seen.{seen_tiles}
+use Rattle.mj_safety.specs.Safe.{has_to_discard, safe_reason, safe_kinds}
+use Rattle.mj_safety.proofs.MaskedSafe.{seen_tiles-masked, has_to_discard-masked, safe_reason-masked, safe_kinds-masked}
 use Rattle.mj_history.specs.After.{After, Chair, verdict, pending, after, lines_for}
 use Rattle.mj_history.specs.Shown.{verdict_at}
 use Rattle.mj_history.specs.Legal.{Game}
 use Rattle.mj_secrecy.specs.Trace.{Agree}
 use Rattle.mj_secrecy.specs.Follows.{SameFacts, SameVerdicts, SameJudgement, SameArguments, SameLines}
 use Rattle.mj_secrecy.proofs.MaskedLine.{lines-masked}
-use Rattle.mj_secrecy.proofs.Solo.{Part, Solo, untimed, untimed_verdict}
+use Rattle.mj_secrecy.proofs.Solo.{Part, Solo, untimed, untimed_verdict, untimed_lines}
 use Rattle.mj_secrecy.proofs.Heard.{same_heard}
 use Rattle.mj_secrecy.proofs.OneWorld.{part_of, part_at, legal_game_follows, learnt_alike}
 
@@ -57,6 +61,10 @@ agreeing_are_alike seat g h small a =
       deeds = m.deeds ∙ ap (λ (s : Solo). s.deeds) same ∙ sym n.deeds;
       slot = m.slot ∙ ap (λ (s : Solo). s.slot) same ∙ sym n.slot;
     }
+
+-- games that agree are under the same switches
+same_switches : (seat : ℕ) (g h : Game) → Agree seat g h → untimed g.setting.rules ≡ untimed h.setting.rules
+same_switches seat g h a = λ i. record { limit = 0; draws = a.draws i; red = a.red i }
 
 -- a fact of deeds as a seat sees them is the same of lists that it sees alike
 of_masks : {A : Type 0} (seat : ℕ) (f : List Deed → A) → ((ds : List Deed) → f ds ≡ f (all_masked seat ds)) → (ds es : List Deed) → all_masked seat ds ≡ all_masked seat es → f ds ≡ f es
@@ -89,10 +97,18 @@ of_part f o p e = through o ∙ ap (option_map f) e ∙ sym (through p)
     through None = refl
     through (Some chair) = refl
 
-facts_of_alike : (seat : ℕ) (one other : After) → Alike seat one other → SameFacts seat one other
-facts_of_alike seat one other a =
+-- the lines of deeds that are seen alike, under the same switches
+lines_alike : (seat : ℕ) (rules others : Rules) → untimed rules ≡ untimed others → (ds es : List Deed) → all_masked seat ds ≡ all_masked seat es → lines_for rules seat ds ≡ lines_for others seat es
+lines_alike seat rules others switches ds es e =
+    untimed_lines rules seat ds
+    ∙ of_masks seat (lines_for (untimed rules) seat) (lines-masked (untimed rules) seat) ds es e
+    ∙ ap (λ (r : Rules). lines_for r seat es) switches
+    ∙ sym (untimed_lines others seat es)
+
+facts_of_alike : (seat : ℕ) (rules others : Rules) (one other : After) → untimed rules ≡ untimed others → Alike seat one other → SameFacts seat rules others one other
+facts_of_alike seat rules others one other switches a =
     let e = a.deeds in
-    let lines = of_masks seat (lines_for seat) (lines-masked seat) one.deeds other.deeds e in
+    let lines = lines_alike seat rules others switches one.deeds other.deeds e in
     let now = of_masks seat standing (standing-masked seat) one.deeds other.deeds e in
     record {
       number = of_masks seat length (long-masked seat) one.deeds other.deeds e;
@@ -110,6 +126,12 @@ facts_of_alike seat one other a =
       reached = λ who. of_hands seat (λ (xs : List Deed). has_reached xs who) (has_reached-masked seat who) one.deeds other.deeds e;
       riichi = λ who. of_hands seat (λ (xs : List Deed). riichi_of xs who) (riichi-masked seat who) one.deeds other.deeds e;
       ippatsu = λ who. of_hands seat (λ (xs : List Deed). is_ippatsu xs who) (is_ippatsu-masked seat who) one.deeds other.deeds e;
+      passed = λ who. of_hands seat (λ (xs : List Deed). passed_kinds xs who) (passed_kinds-masked seat who) one.deeds other.deeds e;
+      passed_in_riichi = λ who. of_hands seat (λ (xs : List Deed). passed_in_riichi xs who) (passed_in_riichi-masked seat who) one.deeds other.deeds e;
+      seen = of_hands seat (λ (xs : List Deed). seen_tiles xs seat) (seen_tiles-masked seat) one.deeds other.deeds e;
+      discards = of_masks seat (λ (xs : List Deed). has_to_discard xs seat) (has_to_discard-masked seat seat) one.deeds other.deeds e;
+      safe = λ against kind. of_masks seat (λ (xs : List Deed). safe_reason xs seat against kind) (safe_reason-masked seat against kind) one.deeds other.deeds e;
+      safe_kinds = λ against. of_masks seat (λ (xs : List Deed). safe_kinds xs seat against) (safe_kinds-masked seat against) one.deeds other.deeds e;
       own = of_hands seat (λ (xs : List Deed). concealed_tiles xs seat) (own-masked seat) one.deeds other.deeds e;
       drawn = of_masks seat (λ (xs : List Deed). drawn_tile xs seat) (drawn_tile-masked seat) one.deeds other.deeds e;
       view = of_masks seat (λ (xs : List Deed). view_of xs seat) (view-masked seat) one.deeds other.deeds e;
@@ -117,9 +139,9 @@ facts_of_alike seat one other a =
       present = of_part (λ (p : Part). p.present) (slice_get one.chairs seat) (slice_get other.chairs seat) a.part;
       due = of_part (λ (p : Part). p.progress.due) (slice_get one.chairs seat) (slice_get other.chairs seat) a.part;
       prompt =
-          prompt_by (lines_for seat one.deeds) (slice_get one.chairs seat)
+          prompt_by (lines_for rules seat one.deeds) (slice_get one.chairs seat)
           ∙ (λ i. option_map (λ (p : Part). pending (lines i) p.progress) (a.part i))
-          ∙ sym (prompt_by (lines_for seat other.deeds) (slice_get other.chairs seat));
+          ∙ sym (prompt_by (lines_for others seat other.deeds) (slice_get other.chairs seat));
       refused = of_part (λ (p : Part). p.progress.refused) (slice_get one.chairs seat) (slice_get other.chairs seat) a.part;
     }
   where
@@ -128,8 +150,9 @@ facts_of_alike seat one other a =
     prompt_by ls (Some chair) = refl
 
 -- facts follow
-pub same_facts : (seat : ℕ) (g h : Game) → seat < 4 → Agree seat g h → SameFacts seat (after g.setting g.entries) (after h.setting h.entries)
-same_facts seat g h small a = facts_of_alike seat (after g.setting g.entries) (after h.setting h.entries) (agreeing_are_alike seat g h small a)
+pub same_facts : (seat : ℕ) (g h : Game) → seat < 4 → Agree seat g h → SameFacts seat g.setting.rules h.setting.rules (after g.setting g.entries) (after h.setting h.entries)
+same_facts seat g h small a =
+    facts_of_alike seat g.setting.rules h.setting.rules (after g.setting g.entries) (after h.setting h.entries) (same_switches seat g h a) (agreeing_are_alike seat g h small a)
 
 -- each rule's question is asked of the same view, under the same switches
 questions_of : (seat : ℕ) (rules : Rules) (view : SeatView) (answer : Answer) → questions rules seat view answer ≡ questions (untimed rules) seat view answer
@@ -164,7 +187,7 @@ pub same_verdicts : (seat : ℕ) (g h : Game) → seat < 4 → Agree seat g h �
 same_verdicts seat g h small a = record {
   said = same_heard seat g h small a;
   next = verdicts_of_alike seat g.setting.rules h.setting.rules (after g.setting g.entries) (after h.setting h.entries)
-      (λ i. record { limit = 0; draws = a.draws i; red = a.red i }) (agreeing_are_alike seat g h small a);
+      (same_switches seat g h a) (agreeing_are_alike seat g h small a);
 }
 
 -- what a seat learns of a deed is of the deed as it sees it
@@ -209,13 +232,14 @@ arguments_of_alike seat ds es e =
       drawn_hand = λ reason hands. of_masks seat (λ (xs : List Deed). draw_shown xs reason hands) (draw_shown-masked seat reason hands) ds es e;
     }
 
-lines_of_alike : (seat : ℕ) (ds es : List Deed) → all_masked seat ds ≡ all_masked seat es → SameLines seat ds es
-lines_of_alike seat ds es e = record {
-  lines = of_masks seat (lines_for seat) (lines-masked seat) ds es e;
+lines_of_alike : (seat : ℕ) (rules others : Rules) (ds es : List Deed) → untimed rules ≡ untimed others → all_masked seat ds ≡ all_masked seat es → SameLines seat rules others ds es
+lines_of_alike seat rules others ds es switches e = record {
+  lines = lines_alike seat rules others switches ds es e;
   tokens = of_masks seat (λ (xs : List Deed). map (token seat) xs) (tokens-masked seat) ds es e;
   arguments = λ n. arguments_of_alike seat (take n ds) (take n es) (front_alike seat n ds es e);
 }
 
 -- lines follow
-pub same_lines : (seat : ℕ) (g h : Game) → seat < 4 → Agree seat g h → SameLines seat (after g.setting g.entries).deeds (after h.setting h.entries).deeds
-same_lines seat g h small a = lines_of_alike seat (after g.setting g.entries).deeds (after h.setting h.entries).deeds (agreeing_are_alike seat g h small a).deeds
+pub same_lines : (seat : ℕ) (g h : Game) → seat < 4 → Agree seat g h → SameLines seat g.setting.rules h.setting.rules (after g.setting g.entries).deeds (after h.setting h.entries).deeds
+same_lines seat g h small a =
+    lines_of_alike seat g.setting.rules h.setting.rules (after g.setting g.entries).deeds (after h.setting h.entries).deeds (same_switches seat g h a) (agreeing_are_alike seat g h small a).deeds

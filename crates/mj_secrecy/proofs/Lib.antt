@@ -7,3 +7,4 @@ pub mod OneWorld
 pub mod Rebuilt
 pub mod Solo
 pub mod Witness
+pub mod Safer

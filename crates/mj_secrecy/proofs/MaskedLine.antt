@@ -1,13 +1,17 @@
 -- The line of a deed for a seat is that of the deed as the seat sees it.
-use Rattle.std.proofs.Common.{◌≡◌, ℕ, ◌==◌, ◌&&◌, not, Bool, true, false, cond, List, [], ◌∷◌, length, map, refl, ap, sym, eqb-true}
+use Rattle.std.proofs.Common.{◌≡◌, ℕ, ◌==◌, ◌&&◌, not, Bool, true, false, cond, List, [], ◌∷◌, ◌++◌, length, map, refl, ap, sym, ◌∙◌, eqb-true}
 use Rattle.std.specs.Prelude.{replicate}
-use Rattle.std.proofs.lemmas.List.{length-replicate}
+use Rattle.std.proofs.lemmas.List.{length-replicate, map-append}
 use Rattle.mj_deeds.specs.declared.four.Four.{Four}
 use Rattle.mj_deeds.specs.declared.deed.Viewer.TheVariants.{Seat}
 use Rattle.mj_deeds.specs.declared.deed.Deed.{Deed}
 use Rattle.mj_deeds.specs.declared.deed.Deed.TheVariants as deeds
 use Rattle.mj_forms.specs.Lines.{line, hands_seen, shown_tiles, tile_seen, quoted_tile, hidden_tile, start_hand_line, draw_line, reach_accepted_line, win_line}
-use Rattle.mj_history.specs.After.{lines_for}
+use Rattle.mj_forms.specs.Choices.{line_with}
+use Rattle.mj_wall.specs.declared.setting.Rules.{Rules}
+use Rattle.mj_rules.specs.Possible.{possible, possible_by}
+use Rattle.mj_rules.proofs.MaskedView.{view-masked}
+use Rattle.mj_history.specs.SeatLines.{seat_line, lines_from, lines_for}
 use Rattle.mj_deeds.proofs.Masked.{masked, all_masked, seen_or_blank, hands_masked}
 
 -- What is seen is kept, and of what is not seen the number of tiles is.
@@ -48,7 +52,16 @@ line-masked seat (deeds.ReachAccepted who points bid) = refl
 line-masked seat (deeds.Win who target tile unders hand yaku fu han value deltas points rest) = refl
 line-masked seat other = refl
 
--- So are the lines of deeds.
-pub lines-masked : (seat : ℕ) (ds : List Deed) → lines_for seat ds ≡ lines_for seat (all_masked seat ds)
-lines-masked seat [] = refl
-lines-masked seat (d ∷ ds) = λ i. line-masked seat d i ∷ lines-masked seat ds i
+-- So are the answers that it may give.
+possible-masked : (rules : Rules) (seat : ℕ) (ds : List Deed) → possible rules ds seat ≡ possible rules (all_masked seat ds) seat
+possible-masked rules seat ds = ap (possible_by rules seat) (view-masked seat ds)
+
+-- So are the lines of deeds, each with the answers that it lists.
+lines_from-masked : (rules : Rules) (seat : ℕ) (before ds : List Deed) → lines_from rules seat before ds ≡ lines_from rules seat (all_masked seat before) (all_masked seat ds)
+lines_from-masked rules seat before [] = refl
+lines_from-masked rules seat before (d ∷ ds) =
+    (λ i. line_with (possible-masked rules seat (before ++ d ∷ []) i) (line-masked seat d i) ∷ lines_from-masked rules seat (before ++ d ∷ []) ds i)
+    ∙ ap (λ (front : List Deed). seat_line rules front seat (masked seat d) ∷ lines_from rules seat front (all_masked seat ds)) (map-append (masked seat) before (d ∷ []))
+
+pub lines-masked : (rules : Rules) (seat : ℕ) (ds : List Deed) → lines_for rules seat ds ≡ lines_for rules seat (all_masked seat ds)
+lines-masked rules seat ds = lines_from-masked rules seat [] ds

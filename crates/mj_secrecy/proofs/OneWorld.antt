@@ -37,7 +37,7 @@ use Rattle.mj_history.proofs.Places.{slice_get-append_other, slice_get-set_at, s
 use Rattle.mj_history.proofs.Filled.{others_slot}
 use Rattle.mj_secrecy.proofs.Rebuilt.{rebuilt, IsTold, DealsThirteen, Only, only_none, only_some, by_choice, outcome_is_told}
 use Rattle.mj_history.proofs.Seats.{AreSeats, no_seats, step_seats, legal_seats}
-use Rattle.mj_secrecy.proofs.Solo.{Part, Solo, untimed, untimed_verdict, at_first, slot_after, judged, left, next_due, after_answer, after_leaving, after_return, learns_all, learns_all-append, solo_connections, told_by}
+use Rattle.mj_secrecy.proofs.Solo.{Part, Solo, untimed, untimed_verdict, untimed_lines, at_first, slot_after, judged, left, next_due, after_answer, after_leaving, after_return, learns_all, learns_all-append, solo_connections, told_by}
 
 -- what decides the bytes of a seat that is held
 abbrev pub part_of : Chair → Part
@@ -52,8 +52,8 @@ pub record Matches (seat : ℕ) (now : After) (s : Solo) : Type 0 where
   pub deeds : all_masked seat now.deeds ≡ s.deeds
   pub slot : at_seat now.slots seat ≡ s.slot
 
-lines_follow : (seat : ℕ) (now : After) (s : Solo) → Matches seat now s → lines_for seat now.deeds ≡ lines_for seat s.deeds
-lines_follow seat now s m = lines-masked seat now.deeds ∙ ap (lines_for seat) m.deeds
+lines_follow : (rules : Rules) (seat : ℕ) (now : After) (s : Solo) → Matches seat now s → lines_for rules seat now.deeds ≡ lines_for (untimed rules) seat s.deeds
+lines_follow rules seat now s m = untimed_lines rules seat now.deeds ∙ lines-masked (untimed rules) seat now.deeds ∙ ap (lines_for (untimed rules) seat) m.deeds
 
 count_follows : (seat : ℕ) (now : After) (s : Solo) → Matches seat now s → length now.deeds ≡ length s.deeds
 count_follows seat now s m = sym (length-map now.deeds (masked seat)) ∙ ap length m.deeds
@@ -94,9 +94,9 @@ said_follows rules seat now s answer None small at m =
 said_follows rules seat now s answer (Some chair) small at m =
     let v = verdict_on rules now.deeds seat answer chair.progress in
     let same = verdict_follows rules seat now s answer chair.progress m in
-    let lines = lines_follow seat now s m in
+    let lines = lines_follow rules seat now s m in
     subst (λ (o : Option Part). Matches seat (after_said rules now seat answer chair) (option_map_or (after_answer (untimed rules) seat s answer) o s)) (held_part seat now s (Some chair) at m) (record {
-      part = ap (option_map part_of) (slice_get-set_at now.chairs seat _ chair at) ∙ ap Some (judged_is (lines_for seat now.deeds) v chair ∙ (λ i. judged (lines i) (same i) (part_of chair)));
+      part = ap (option_map part_of) (slice_get-set_at now.chairs seat _ chair at) ∙ ap Some (judged_is (lines_for rules seat now.deeds) v chair ∙ (λ i. judged (lines i) (same i) (part_of chair)));
       deeds = m.deeds;
       slot = slot_is now.slots seat answer v small ∙ (λ i. slot_after (same i) answer (m.slot i));
     })
@@ -116,21 +116,21 @@ others_said rules seat who now s answer (Some chair) small few ne at m = record 
     below who n h k = omega arith
 
 -- what changes where the seat leaves
-left_follows : (seat : ℕ) (now : After) (s : Solo) (held : Option Chair) → slice_get now.chairs seat ≡ held → Matches seat now s →
-    Matches seat (option_map_or (after_gone now seat) held now) (option_map_or (after_leaving seat s) s.part s)
+left_follows : (rules : Rules) (seat : ℕ) (now : After) (s : Solo) (held : Option Chair) → slice_get now.chairs seat ≡ held → Matches seat now s →
+    Matches seat (option_map_or (after_gone rules now seat) held now) (option_map_or (after_leaving (untimed rules) seat s) s.part s)
 unfolding after_gone after_leaving
-left_follows seat now s None at m = subst (λ (o : Option Part). Matches seat now (option_map_or (after_leaving seat s) o s)) (held_part seat now s None at m) m
-left_follows seat now s (Some chair) at m =
-    subst (λ (o : Option Part). Matches seat (after_gone now seat chair) (option_map_or (after_leaving seat s) o s)) (held_part seat now s (Some chair) at m) (record {
-      part = ap (option_map part_of) (slice_get-set_at now.chairs seat _ chair at) ∙ ap (λ ls. Some (left ls (part_of chair))) (lines_follow seat now s m);
+left_follows rules seat now s None at m = subst (λ (o : Option Part). Matches seat now (option_map_or (after_leaving (untimed rules) seat s) o s)) (held_part seat now s None at m) m
+left_follows rules seat now s (Some chair) at m =
+    subst (λ (o : Option Part). Matches seat (after_gone rules now seat chair) (option_map_or (after_leaving (untimed rules) seat s) o s)) (held_part seat now s (Some chair) at m) (record {
+      part = ap (option_map part_of) (slice_get-set_at now.chairs seat _ chair at) ∙ ap (λ ls. Some (left ls (part_of chair))) (lines_follow rules seat now s m);
       deeds = m.deeds;
       slot = m.slot;
     })
 
-others_left : (seat who : ℕ) (now : After) (s : Solo) (held : Option Chair) → who ≢ seat → Matches seat now s → Matches seat (option_map_or (after_gone now who) held now) s
+others_left : (rules : Rules) (seat who : ℕ) (now : After) (s : Solo) (held : Option Chair) → who ≢ seat → Matches seat now s → Matches seat (option_map_or (after_gone rules now who) held now) s
 unfolding after_gone
-others_left seat who now s None ne m = m
-others_left seat who now s (Some chair) ne m = record {
+others_left rules seat who now s None ne m = m
+others_left rules seat who now s (Some chair) ne m = record {
   part = ap (option_map part_of) (slice_get-set_other now.chairs who seat _ ne) ∙ m.part;
   deeds = m.deeds;
   slot = m.slot;
@@ -140,16 +140,16 @@ others_left seat who now s (Some chair) ne m = record {
 told_before : (earlier : List Connection) (last : Connection) → map (λ (c : Connection). c.told) (earlier ++ last ∷ []) ≡ map (λ (c : Connection). c.told) earlier ++ last.told ∷ []
 told_before earlier last = map-append (λ (c : Connection). c.told) earlier (last ∷ [])
 
-back_follows : (seat author : ℕ) (now : After) (s : Solo) (held : Option Chair) → slice_get now.chairs seat ≡ held → Matches seat now s →
-    Matches seat (option_map_or (after_back now author seat) held now) (option_map_or (after_return seat s) s.part s)
+back_follows : (rules : Rules) (seat author : ℕ) (now : After) (s : Solo) (held : Option Chair) → slice_get now.chairs seat ≡ held → Matches seat now s →
+    Matches seat (option_map_or (after_back rules now author seat) held now) (option_map_or (after_return (untimed rules) seat s) s.part s)
 unfolding after_back after_return
-back_follows seat author now s None at m = subst (λ (o : Option Part). Matches seat now (option_map_or (after_return seat s) o s)) (held_part seat now s None at m) m
-back_follows seat author now s (Some chair) at m =
-    let lines = lines_follow seat now s m in
+back_follows rules seat author now s None at m = subst (λ (o : Option Part). Matches seat now (option_map_or (after_return (untimed rules) seat s) o s)) (held_part seat now s None at m) m
+back_follows rules seat author now s (Some chair) at m =
+    let lines = lines_follow rules seat now s m in
     let long = count_follows seat now s m in
     let due : next_due (is_some (at_seat now.slots seat)) (length now.deeds) ≡ next_due (is_some s.slot) (length s.deeds) = λ i. next_due (is_some (m.slot i)) (long i) in
     let before = told_before chair.earlier (record { place = chair.place; told = chair.progress.told }) in
-    subst (λ (o : Option Part). Matches seat (after_back now author seat chair) (option_map_or (after_return seat s) o s)) (held_part seat now s (Some chair) at m) (record {
+    subst (λ (o : Option Part). Matches seat (after_back rules now author seat chair) (option_map_or (after_return (untimed rules) seat s) o s)) (held_part seat now s (Some chair) at m) (record {
       part =
           ap (option_map part_of) (slice_get-set_at now.chairs seat _ chair at)
           ∙ (λ i. Some (record { present = true; progress = record { due = due i; refused = 0; told = told_again (lines i) (due i) }; earlier = before i }));
@@ -157,10 +157,10 @@ back_follows seat author now s (Some chair) at m =
       slot = m.slot;
     })
 
-others_back : (seat author who : ℕ) (now : After) (s : Solo) (held : Option Chair) → who ≢ seat → Matches seat now s → Matches seat (option_map_or (after_back now author who) held now) s
+others_back : (rules : Rules) (seat author who : ℕ) (now : After) (s : Solo) (held : Option Chair) → who ≢ seat → Matches seat now s → Matches seat (option_map_or (after_back rules now author who) held now) s
 unfolding after_back
-others_back seat author who now s None ne m = m
-others_back seat author who now s (Some chair) ne m = record {
+others_back rules seat author who now s None ne m = m
+others_back rules seat author who now s (Some chair) ne m = record {
   part = ap (option_map part_of) (slice_get-set_other now.chairs who seat _ ne) ∙ m.part;
   deeds = m.deeds;
   slot = m.slot;
@@ -196,16 +196,16 @@ left_or_not : (seat author who : ℕ) (setting : Setting) (now : After) (s : Sol
     Matches seat (own_part setting now (Gone author who)) (learns_all (untimed setting.rules) seat s (own_items seat now (Gone author who)))
 unfolding own_part
 left_or_not seat author who setting now s m = elim (eqb_tells who seat) [
-  | inl p ↦ rw (p.0, p.1) (left_follows seat now s (slice_get now.chairs seat) refl m)
-  | inr p ↦ rw p.0 (others_left seat who now s (slice_get now.chairs who) p.1 m)
+  | inl p ↦ rw (p.0, p.1) (left_follows setting.rules seat now s (slice_get now.chairs seat) refl m)
+  | inr p ↦ rw p.0 (others_left setting.rules seat who now s (slice_get now.chairs who) p.1 m)
 ]
 
 back_or_not : (seat author who : ℕ) (setting : Setting) (now : After) (s : Solo) → Matches seat now s →
     Matches seat (own_part setting now (Back author who)) (learns_all (untimed setting.rules) seat s (own_items seat now (Back author who)))
 unfolding own_part
 back_or_not seat author who setting now s m = elim (eqb_tells who seat) [
-  | inl p ↦ rw (p.0, p.1) (back_follows seat author now s (slice_get now.chairs seat) refl m)
-  | inr p ↦ rw p.0 (others_back seat author who now s (slice_get now.chairs who) p.1 m)
+  | inl p ↦ rw (p.0, p.1) (back_follows setting.rules seat author now s (slice_get now.chairs seat) refl m)
+  | inr p ↦ rw p.0 (others_back setting.rules seat author who now s (slice_get now.chairs who) p.1 m)
 ]
 
 -- what an entry changes of its own seat
@@ -268,23 +268,23 @@ game_follows seat (entry ∷ entries) setting now s small deals permitted seats 
     (step_seats setting now entry parts.0 seats) (stepped_follows seat entry setting now s small seats.few deals m))
 
 -- what the machine tells is what the game tells
-connections_by : (seat : ℕ) (now : After) (s : Solo) (held : Option Chair) → slice_get now.chairs seat ≡ held → Matches seat now s →
-    option_map_or (connections_at seat now) held [] ≡ solo_connections seat s
+connections_by : (rules : Rules) (seat : ℕ) (now : After) (s : Solo) (held : Option Chair) → slice_get now.chairs seat ≡ held → Matches seat now s →
+    option_map_or (connections_at rules seat now) held [] ≡ solo_connections (untimed rules) seat s
 unfolding script_at
-connections_by seat now s None at m = ap (λ (o : Option Part). option_map_or (told_by (lines_for seat s.deeds)) o []) (held_part seat now s None at m)
-connections_by seat now s (Some chair) at m =
-    ap (λ ls. told_by ls (part_of chair)) (lines_follow seat now s m)
-    ∙ ap (λ (o : Option Part). option_map_or (told_by (lines_for seat s.deeds)) o []) (held_part seat now s (Some chair) at m)
+connections_by rules seat now s None at m = ap (λ (o : Option Part). option_map_or (told_by (lines_for (untimed rules) seat s.deeds)) o []) (held_part seat now s None at m)
+connections_by rules seat now s (Some chair) at m =
+    ap (λ ls. told_by ls (part_of chair)) (lines_follow rules seat now s m)
+    ∙ ap (λ (o : Option Part). option_map_or (told_by (lines_for (untimed rules) seat s.deeds)) o []) (held_part seat now s (Some chair) at m)
 
 -- a seat's script is what its connections are told, one after the other
-joined_at : (seat : ℕ) (now : After) (held : Option Chair) → option_map_or (scripts_at seat now) held [] ≡ flat_map (λ (bytes : List ℕ). bytes) (option_map_or (connections_at seat now) held [])
+joined_at : (rules : Rules) (seat : ℕ) (now : After) (held : Option Chair) → option_map_or (scripts_at rules seat now) held [] ≡ flat_map (λ (bytes : List ℕ). bytes) (option_map_or (connections_at rules seat now) held [])
 unfolding scripts_at
-joined_at seat now None = refl
-joined_at seat now (Some chair) =
+joined_at rules seat now None = refl
+joined_at rules seat now (Some chair) =
     let earlier = map (λ (c : Connection). c.told) chair.earlier in
-    sym (flat_map-append (λ (bytes : List ℕ). bytes) earlier (script_at seat now chair ∷ [])
-    ∙ ap (λ (bytes : List ℕ). bytes ++ (script_at seat now chair ++ [])) (flat_map-map (λ (bytes : List ℕ). bytes) (λ (c : Connection). c.told) chair.earlier)
-    ∙ ap (λ (bytes : List ℕ). flat_map (λ (c : Connection). c.told) chair.earlier ++ bytes) (append-nil (script_at seat now chair)))
+    sym (flat_map-append (λ (bytes : List ℕ). bytes) earlier (script_at rules seat now chair ∷ [])
+    ∙ ap (λ (bytes : List ℕ). bytes ++ (script_at rules seat now chair ++ [])) (flat_map-map (λ (bytes : List ℕ). bytes) (λ (c : Connection). c.told) chair.earlier)
+    ∙ ap (λ (bytes : List ℕ). flat_map (λ (c : Connection). c.told) chair.earlier ++ bytes) (append-nil (script_at rules seat now chair)))
 
 pub nothing_known : (seat : ℕ) → Matches seat before_all at_first
 nothing_known seat = record { part = refl; deeds = refl; slot = slot-empty seat }
@@ -316,14 +316,14 @@ learnt_alike seat g h a = λ i. learns_all (record { limit = 0; draws = a.draws 
 
 -- of a legal game the seat's connections are told what the machine tells that learns the game's trace
 pub connections_follow : (seat : ℕ) (setting : Setting) (entries : List (Entry Answer)) → seat < 4 → IsLegal setting entries →
-    connections seat setting entries ≡ solo_connections seat (learnt seat setting.rules (trace seat setting entries))
+    connections seat setting entries ≡ solo_connections (untimed setting.rules) seat (learnt seat setting.rules (trace seat setting entries))
 connections_follow seat setting entries small legal =
-    connections_by seat (after setting entries) _ (slice_get (after setting entries).chairs seat) refl (legal_game_follows seat setting entries small legal)
+    connections_by setting.rules seat (after setting entries) _ (slice_get (after setting entries).chairs seat) refl (legal_game_follows seat setting entries small legal)
 
 -- a fifth seat is never held, and so has no connection
 no_connection : (seat : ℕ) (setting : Setting) (entries : List (Entry Answer)) → 4 ≤ seat → IsLegal setting entries → connections seat setting entries ≡ []
 no_connection seat setting entries beyond legal =
-    ap (λ (o : Option Chair). option_map_or (connections_at seat (after setting entries)) o [])
+    ap (λ (o : Option Chair). option_map_or (connections_at setting.rules seat (after setting entries)) o [])
     (none_behind (after setting entries).chairs seat (behind (length (after setting entries).chairs) (legal_seats setting entries legal).few))
   where
     behind : (n : ℕ) → n ≤ 4 → n ≤ seat
@@ -336,13 +336,13 @@ agreeing_connections seat g h a = by_number (nat_lt seat 4) refl
     by_number : (b : Bool) → nat_lt seat 4 ≡ b → connections seat g.setting g.entries ≡ connections seat h.setting h.entries
     by_number true e =
         connections_follow seat g.setting g.entries (ltb-true seat 4 e) a.legal
-        ∙ ap (solo_connections seat) (learnt_alike seat g h a)
+        ∙ (λ i. solo_connections (record { limit = 0; draws = a.draws i; red = a.red i }) seat (learnt_alike seat g h a i))
         ∙ sym (connections_follow seat h.setting h.entries (ltb-true seat 4 e) a.other_legal)
     by_number false e = no_connection seat g.setting g.entries (ltb-false seat 4 e) a.legal ∙ sym (no_connection seat h.setting h.entries (ltb-false seat 4 e) a.other_legal)
 
 -- and so the same script
 pub agreeing_scripts : (seat : ℕ) (g h : Game) → Agree seat g h → scripts seat g.setting g.entries ≡ scripts seat h.setting h.entries
 agreeing_scripts seat g h a =
-    joined_at seat (after g.setting g.entries) (slice_get (after g.setting g.entries).chairs seat)
+    joined_at g.setting.rules seat (after g.setting g.entries) (slice_get (after g.setting g.entries).chairs seat)
     ∙ ap (flat_map (λ (bytes : List ℕ). bytes)) (agreeing_connections seat g h a)
-    ∙ sym (joined_at seat (after h.setting h.entries) (slice_get (after h.setting h.entries).chairs seat))
+    ∙ sym (joined_at h.setting.rules seat (after h.setting h.entries) (slice_get (after h.setting h.entries).chairs seat))

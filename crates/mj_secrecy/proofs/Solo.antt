@@ -4,10 +4,15 @@ use Rattle.std.specs.Prelude.{Option, Some, None, is_some}
 use Rattle.std.specs.Option.{option_map_or}
 use Rattle.mj_deeds.specs.declared.answer.Answer.{Answer}
 use Rattle.mj_deeds.specs.declared.deed.Deed.{Deed}
+use Rattle.mj_deeds.specs.declared.deed.Viewer.TheVariants.{Seat}
 use Rattle.mj_deeds.specs.declared.token.Token.{Token}
 use Rattle.mj_wall.specs.declared.setting.Rules.{Rules}
 use Rattle.mj_rules.specs.Broken.{broken_by}
 use Rattle.mj_rules.specs.View.{SeatView}
+use Rattle.mj_rules.specs.Possible.{possible, possible_by, is_lawful}
+use Rattle.mj_forms.specs.Lines.{line}
+use Rattle.mj_forms.specs.Choices.{line_with}
+use Rattle.mj_history.specs.SeatLines.{lines_from}
 use Rattle.mj_history.specs.After.{Progress, Verdict, Taken, Closing, verdict_on, progress_after, pending, told_again, first_progress, lines_for}
 use Rattle.mj_secrecy.specs.Trace.{Item, OwnSat, OwnBack, OwnSaid, OwnGone, Saw}
 use Rattle.mj_secrecy.proofs.Rebuilt.{rebuilt}
@@ -36,6 +41,19 @@ pub untimed_verdict : (rules : Rules) (seat : ℕ) (view : SeatView) (answer : A
 unfolding broken_by
 untimed_verdict rules seat view answer = refl
 
+-- Nor do the lines: a list of answers is one of verdicts.
+possible_untimed : (rules : Rules) (ds : List Deed) (seat : ℕ) → possible rules ds seat ≡ possible (untimed rules) ds seat
+unfolding possible_by is_lawful broken_by
+possible_untimed rules ds seat = refl
+
+untimed_from : (rules : Rules) (seat : ℕ) (before ds : List Deed) → lines_from rules seat before ds ≡ lines_from (untimed rules) seat before ds
+untimed_from rules seat before [] = refl
+untimed_from rules seat before (d ∷ ds) =
+    λ i. line_with (possible_untimed rules (before ++ d ∷ []) seat i) (line (Seat seat) d) ∷ untimed_from rules seat (before ++ d ∷ []) ds i
+
+pub untimed_lines : (rules : Rules) (seat : ℕ) (ds : List Deed) → lines_for rules seat ds ≡ lines_for (untimed rules) seat ds
+untimed_lines rules seat ds = untimed_from rules seat [] ds
+
 -- an answer that is refused for good ends the presence
 abbrev pub present_after : Verdict → Bool → Bool
 present_after (Closing rule) present = false
@@ -53,14 +71,14 @@ judged lines v p = record { present = present_after v p.present; progress = prog
 unfoldable pub after_answer : Rules → ℕ → Solo → Answer → Part → Solo
 after_answer rules seat s answer p =
     let v = verdict_on rules s.deeds seat answer p.progress in
-    record { part = Some (judged (lines_for seat s.deeds) v p); deeds = s.deeds; slot = slot_after v answer s.slot }
+    record { part = Some (judged (lines_for rules seat s.deeds) v p); deeds = s.deeds; slot = slot_after v answer s.slot }
 
 -- once it has left
 abbrev pub left : List (List ℕ) → Part → Part
 left lines p = record { present = false; progress = record p.progress { told = p.progress.told ++ pending lines p.progress }; earlier = p.earlier }
 
-unfoldable pub after_leaving : ℕ → Solo → Part → Solo
-after_leaving seat s p = record { part = Some (left (lines_for seat s.deeds) p); deeds = s.deeds; slot = s.slot }
+unfoldable pub after_leaving : Rules → ℕ → Solo → Part → Solo
+after_leaving rules seat s p = record { part = Some (left (lines_for rules seat s.deeds) p); deeds = s.deeds; slot = s.slot }
 
 -- once it is back, due to answer a deed
 abbrev pub again : List (List ℕ) → ℕ → Part → Part
@@ -69,17 +87,17 @@ again lines due p = record { present = true; progress = record { due = due; refu
 abbrev pub next_due : Bool → ℕ → ℕ
 next_due filled deeds = cond filled deeds (deeds - 1)
 
-unfoldable pub after_return : ℕ → Solo → Part → Solo
-after_return seat s p = record { part = Some (again (lines_for seat s.deeds) (next_due (is_some s.slot) (length s.deeds)) p); deeds = s.deeds; slot = s.slot }
+unfoldable pub after_return : Rules → ℕ → Solo → Part → Solo
+after_return rules seat s p = record { part = Some (again (lines_for rules seat s.deeds) (next_due (is_some s.slot) (length s.deeds)) p); deeds = s.deeds; slot = s.slot }
 
 abbrev pub saw : ℕ → Solo → Token → Solo
 saw seat s t = record { part = s.part; deeds = s.deeds ++ rebuilt seat s.deeds t ∷ []; slot = None }
 
 abbrev pub learns : Rules → ℕ → Solo → Item → Solo
 learns rules seat s (OwnSat name key) = record { part = Some (record { present = true; progress = first_progress; earlier = [] }); deeds = s.deeds; slot = s.slot }
-learns rules seat s OwnBack = option_map_or (after_return seat s) s.part s
+learns rules seat s OwnBack = option_map_or (after_return rules seat s) s.part s
 learns rules seat s (OwnSaid answer) = option_map_or (after_answer rules seat s answer) s.part s
-learns rules seat s OwnGone = option_map_or (after_leaving seat s) s.part s
+learns rules seat s OwnGone = option_map_or (after_leaving rules seat s) s.part s
 learns rules seat s (Saw t) = saw seat s t
 
 abbrev pub learns_all : Rules → ℕ → Solo → List Item → Solo
@@ -90,8 +108,8 @@ abbrev pub told_by : List (List ℕ) → Part → List (List ℕ)
 told_by lines p = p.earlier ++ (p.progress.told ++ cond p.present (pending lines p.progress) []) ∷ []
 
 -- the bytes that the machine tells each connection, the oldest first
-abbrev pub solo_connections : ℕ → Solo → List (List ℕ)
-solo_connections seat s = option_map_or (told_by (lines_for seat s.deeds)) s.part []
+abbrev pub solo_connections : Rules → ℕ → Solo → List (List ℕ)
+solo_connections rules seat s = option_map_or (told_by (lines_for rules seat s.deeds)) s.part []
 
 pub learns_all-append : (rules : Rules) (seat : ℕ) (s : Solo) (xs ys : List Item) → learns_all rules seat s (xs ++ ys) ≡ learns_all rules seat (learns_all rules seat s xs) ys
 learns_all-append rules seat s [] ys = refl

@@ -13,6 +13,7 @@ use Rattle.mj_deeds.specs.declared.token.Token.{Token}
 use Rattle.mj_deeds.specs.Hand.{hand}
 use Rattle.mj_deeds.specs.Facts.{concealed_tiles, drawn_tile, river_tiles, seat_melds, kans, live_tiles, indicators}
 use Rattle.mj_deeds.specs.Riichi.{has_reached, is_ippatsu}
+use Rattle.mj_deeds.specs.Passed.{passed_kinds, passed_in_riichi}
 use Rattle.mj_deeds.specs.Points.{points, deposits}
 use Rattle.mj_deeds.specs.Course.{before_wins}
 use Rattle.mj_deeds.specs.Standings.{standing}
@@ -24,6 +25,8 @@ use Rattle.mj_rules.specs.Broken.{questions, broken_rule}
 use Rattle.mj_rules.specs.Default.{default_answer}
 use Rattle.mj_rules.specs.Wins.{riichi_of, case_of, Shows, extra_of, for_first, win_shown}
 use Rattle.mj_rules.specs.Draws.{draw_shown}
+use Rattle.mj_sights.specs.Seen.{seen_tiles}
+use Rattle.mj_safety.specs.Safe.{has_to_discard, safe_reason, safe_kinds}
 use Rattle.mj_history.specs.After.{After, Chair, Verdict, before_all, is_present, lines_for, pending, step, after}
 use Rattle.mj_history.specs.Shown.{verdict_at}
 use Rattle.mj_secrecy.specs.Trace.{Item, Saw, trace, Agree}
@@ -33,8 +36,8 @@ use Rattle.mj_history.specs.Legal.{IsLegal, Game}
 abbrev pub of_chair : {A : Type 0} → (Chair → A) → After → ℕ → Option A
 of_chair fact now seat = option_map fact (slice_get now.chairs seat)
 
--- The facts that a seat may know are the same of two games, as far as their entries have come.
-pub record SameFacts (seat : ℕ) (one other : After) : Type 0 where
+-- The facts that a seat may know are the same of two games, each under its rules, as far as their entries have come.
+pub record SameFacts (seat : ℕ) (rules others : Rules) (one other : After) : Type 0 where
   -- of the game: how many deeds there are, the points of the four seats, the deposits on the table, and how it stands
   pub number : length one.deeds ≡ length other.deeds
   pub points : points one.deeds ≡ points other.deeds
@@ -53,9 +56,17 @@ pub record SameFacts (seat : ℕ) (one other : After) : Type 0 where
   pub reached : (who : ℕ) → has_reached (hand one.deeds) who ≡ has_reached (hand other.deeds) who
   pub riichi : (who : ℕ) → riichi_of (hand one.deeds) who ≡ riichi_of (hand other.deeds) who
   pub ippatsu : (who : ℕ) → is_ippatsu (hand one.deeds) who ≡ is_ippatsu (hand other.deeds) who
+  -- the kinds that it let pass since its last discard, and since its reach
+  pub passed : (who : ℕ) → passed_kinds (hand one.deeds) who ≡ passed_kinds (hand other.deeds) who
+  pub passed_in_riichi : (who : ℕ) → passed_in_riichi (hand one.deeds) who ≡ passed_in_riichi (hand other.deeds) who
   -- the seat's own: its concealed tiles, and the one that it has drawn
   pub own : concealed_tiles (hand one.deeds) seat ≡ concealed_tiles (hand other.deeds) seat
   pub drawn : drawn_tile one.deeds seat ≡ drawn_tile other.deeds seat
+  -- the tiles that it sees, whether it has to discard, why a kind is safe for it against another, and which it holds are
+  pub seen : seen_tiles (hand one.deeds) seat ≡ seen_tiles (hand other.deeds) seat
+  pub discards : has_to_discard one.deeds seat ≡ has_to_discard other.deeds seat
+  pub safe : (against kind : ℕ) → safe_reason one.deeds seat against kind ≡ safe_reason other.deeds seat against kind
+  pub safe_kinds : (against : ℕ) → safe_kinds one.deeds seat against ≡ safe_kinds other.deeds seat against
   -- and all that decides over its own answers
   pub view : view_of one.deeds seat ≡ view_of other.deeds seat
   -- of its entries: the answer in its slot, whether it is present, the deed that it answers next, the prompt that is due to
@@ -63,12 +74,12 @@ pub record SameFacts (seat : ℕ) (one other : After) : Type 0 where
   pub slot : at_seat one.slots seat ≡ at_seat other.slots seat
   pub present : of_chair is_present one seat ≡ of_chair is_present other seat
   pub due : of_chair (λ (chair : Chair). chair.progress.due) one seat ≡ of_chair (λ (chair : Chair). chair.progress.due) other seat
-  pub prompt : of_chair (λ (chair : Chair). pending (lines_for seat one.deeds) chair.progress) one seat ≡ of_chair (λ (chair : Chair). pending (lines_for seat other.deeds) chair.progress) other seat
+  pub prompt : of_chair (λ (chair : Chair). pending (lines_for rules seat one.deeds) chair.progress) one seat ≡ of_chair (λ (chair : Chair). pending (lines_for others seat other.deeds) chair.progress) other seat
   pub refused : of_chair (λ (chair : Chair). chair.progress.refused) one seat ≡ of_chair (λ (chair : Chair). chair.progress.refused) other seat
 
 -- Facts follow: whichever two games agree for a seat, the facts that it may know are the same of both.
 abbrev pub FactsFollow : Type 0
-FactsFollow = (seat : ℕ) (g h : Game) → seat < 4 → Agree seat g h → SameFacts seat (after g.setting g.entries) (after h.setting h.entries)
+FactsFollow = (seat : ℕ) (g h : Game) → seat < 4 → Agree seat g h → SameFacts seat g.setting.rules h.setting.rules (after g.setting g.entries) (after h.setting h.entries)
 
 -- The verdict on what a seat says by an entry.
 abbrev pub verdict_in : Setting → ℕ → After → Entry Answer → List Verdict
@@ -118,16 +129,16 @@ pub record SameArguments (ds es : List Deed) : Type 0 where
   pub win : (who target : ℕ) (shows : Shows) (rest : List ℕ) → win_shown ds who target shows rest ≡ win_shown es who target shows rest
   pub drawn_hand : (reason : Reason) (hands : Four Shown) → draw_shown ds reason hands ≡ draw_shown es reason hands
 
--- The lines of deeds for a seat are the same of two lists of deeds, and so are their tokens; and after any number of deeds
--- the numbers of the next one are made of the same.
-pub record SameLines (seat : ℕ) (ds es : List Deed) : Type 0 where
-  pub lines : lines_for seat ds ≡ lines_for seat es
+-- The lines of deeds for a seat, with the answers that each lists, are the same of two lists of deeds, each under its rules, and
+-- so are their tokens; and after any number of deeds the numbers of the next one are made of the same.
+pub record SameLines (seat : ℕ) (rules others : Rules) (ds es : List Deed) : Type 0 where
+  pub lines : lines_for rules seat ds ≡ lines_for others seat es
   pub tokens : map (token seat) ds ≡ map (token seat) es
   pub arguments : (n : ℕ) → SameArguments (take n ds) (take n es)
 
 -- Lines follow: whichever two games agree for a seat, the seat's line of each deed is the same in both.
 abbrev pub LinesFollow : Type 0
-LinesFollow = (seat : ℕ) (g h : Game) → seat < 4 → Agree seat g h → SameLines seat (after g.setting g.entries).deeds (after h.setting h.entries).deeds
+LinesFollow = (seat : ℕ) (g h : Game) → seat < 4 → Agree seat g h → SameLines seat g.setting.rules h.setting.rules (after g.setting g.entries).deeds (after h.setting h.entries).deeds
 
 -- Two games of which a seat learns the same up to some deed, whatever it learns of each later: both are legal, under the
 -- same switches.

@@ -1,5 +1,6 @@
 pub mod Bare
 pub mod Follows
 pub mod Laws
+pub mod Safe
 pub mod Trace
 pub mod Witness

@@ -3,6 +3,7 @@
 #![tactic(auto)]
 
 ghost use Rattle.mj_secrecy.specs.Laws.{AgreeingGamesTellTheSame, AgreeingConnectionsAreTheSame};
+ghost use Rattle.mj_secrecy.specs.Safe.{SafeInEveryGame};
 ghost use Rattle.mj_secrecy.specs.Witness.{SomeAgreeApart};
 ghost use Rattle.mj_secrecy.specs.Bare.{TokensHoldNoMore};
 ghost use Rattle.mj_secrecy.specs.Follows.{FactsFollow, VerdictsFollow, LinesFollow, BeginningsAgree};
@@ -21,7 +22,8 @@ pub fn agreeing_connections_are_the_same()
 
 /// Facts follow: in two games that agree for a seat of the four the facts that it may know are the
 /// same: the points of all, the deposits, the honba, the dealer, the round and the hand; the live
-/// tiles, the kans, the indicators, every river and meld, every riichi and ippatsu; its own tiles;
+/// tiles, the kans, the indicators, every river and meld, every riichi and ippatsu, the kinds that
+/// each let pass; its own tiles, those that it sees, and which kinds are safe for it and why;
 /// and its slot, its presence, its due prompt and how many of its answers to that were refused.
 pub fn facts_follow()
     ensures { FactsFollow }
@@ -40,6 +42,13 @@ pub fn verdicts_follow()
 /// drawn hand are made of is the same, beside what the deed's own token tells.
 pub fn lines_follow()
     ensures { LinesFollow }
+{}
+
+/// Safe tiles stay safe: where a seat of the four has a reason why a kind is safe against another, then in every legal game that
+/// goes on, by a discard of this kind, from a game that agrees for the seat, no win of that other seat is lawful in the window on
+/// the discard.
+pub fn safe_tiles_stay_safe()
+    ensures { SafeInEveryGame }
 {}
 
 /// Beginnings agree: two legal games under the same switches, of which a seat learns the same up to

@@ -1,2 +1,2 @@
 pub mod PageLaws
-pub mod TellLaws
+pub mod Fours

@@ -2,4 +2,3 @@
 -- outside the crate names them, and no public clause.
 pub mod Pages
 pub mod Told
-pub mod Tells

@@ -1,14 +1,16 @@
-ghost use Rattle.std.specs.Prelude.{◌≡◌, ◌+◌, ◌<◌, ◌∷◌, ◌++◌, [], OnOk, OnErr, codes, decimal};
+ghost use Rattle.std.specs.Prelude.{◌≡◌, ◌+◌, ◌<◌, ◌∷◌, ◌++◌, [], OnOk, OnErr, codes, decimal, option_copied};
 ghost use Rattle.mj_bytes.specs.Adds.{Adds};
+ghost use Rattle.mj_forms.specs.Choices.{line_listing};
 ghost use Rattle.mj_forms.specs.Lines.{line as line_for, quoted, bracketed, seat_in_line as seat_written, start_game_line, draw_line, discard_line, call_line, call_object, closed_kan_line, added_kan_line, dora_line, hands_seen, quoted_tile, tile_seen};
 
+use crate::choices::list_answers;
 use crate::ending::{push_drawn_hand, push_end_game};
 use crate::pieces::{push_quoted, push_tile, push_tile_seen, push_tiles_seen, push_truth};
 use crate::riichi::{push_reach, push_reach_accepted};
 use crate::steps::Steps;
 use crate::winning::{push_changes, push_rest, push_winner, push_worth};
 use mj_bytes::{push_all, push_number};
-use mj_deeds::{Deed, Four, Hands, Viewer};
+use mj_deeds::{Answers, Deed, Four, Hands, Viewer};
 use mj_ports::Name;
 use mj_tiles::{Kind, Tile};
 use mj_view::sees;
@@ -18,26 +20,28 @@ use std::sync::ledger::{Blank, Ledger};
 
 /// Writes the line of a deed, as the viewer sees it, after a text: a seat sees its own tiles and a question mark for
 /// each hidden tile of another, the record sees all, and it alone has the call that is kept at an accepted reach and the
-/// seats that win next. The only error is running out of memory, and then the text stays as it
-/// was. It counts one line.
+/// seats that win next. Where a list of answers is given it is the last field of the line; the record's lines have none. The
+/// only error is running out of memory, and then the text stays as it was. It counts one line.
 pub fn write<L: Ledger>(
     alloc: Global,
     viewer: Viewer,
     deed: &Deed,
+    possible: Option<&Answers>,
     into: &mut Vec<u8>,
     steps: &mut Steps<L>,
 ) -> Result<(), AllocError>
-    ensures ok { OnOk result (Adds into.old.items into.new.items (line_for viewer deed.now)) }
+    ensures ok { OnOk result (Adds into.old.items into.new.items
+        (line_listing (option_copied possible.entry) viewer deed.now)) }
     ensures err { OnErr result (into.new.items ≡ into.old.items) }
     ensures steps { steps.new ≡ steps.old + 1 }
 {
     steps.take();
     let mut line = Vec::new(alloc);
-    push_deed(&mut line, viewer, deed)?;
+    push_listing(&mut line, viewer, deed, possible)?;
     push_all(into, line.as_slice())
 }
 
-/// Writes the line of a deed as `write` does, with a counter that is made for this call.
+/// Writes the line of a deed as `write` does, without a list of answers, with a counter that is made for this call.
 pub fn write_alone(
     alloc: Global,
     viewer: Viewer,
@@ -74,7 +78,24 @@ fn write_on<L: Ledger>(
     ensures err { OnErr result (into.new.items ≡ into.old.items) }
 {
     let mut steps = Steps::<L>::new(blank);
-    write(alloc, viewer, deed, into, &mut steps)
+    write(alloc, viewer, deed, None, into, &mut steps)
+}
+
+// Writes the line of a deed in place of a text, with a list of answers where one is given.
+fn push_listing(
+    line: &mut Vec<u8>,
+    viewer: Viewer,
+    deed: &Deed,
+    possible: Option<&Answers>,
+) -> Result<(), AllocError>
+    ensures { OnOk result (line.new.items
+        ≡ line_listing (option_copied possible.entry) viewer deed.now) }
+{
+    write_over(line, viewer, deed)?;
+    match possible {
+        Some(answers) => list_answers(line, answers.as_slice()),
+        None => Ok(()),
+    }
 }
 
 // Writes the line of a deed.

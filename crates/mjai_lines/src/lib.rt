@@ -5,6 +5,7 @@
 
 mod announcement;
 mod answer;
+mod choices;
 mod deed;
 mod ending;
 mod error;

@@ -17,8 +17,9 @@ use Rattle.mj_wall.specs.declared.setting.Setting.{Setting}
 use Rattle.mj_wall.specs.Places.{is_wall}
 use Rattle.mj_window.specs.Slots.{empty_slots}
 use Rattle.mj_rules.specs.Outcome.{outcome}
+use Rattle.mj_rules.specs.Possible.{possible}
 use Rattle.mj_rules.specs.Played.{IsPlayed, AllLawful}
-use Rattle.mj_history.specs.After.{After, Chair, Progress, Verdict, Closing, is_present, is_expiry, answers_in, verdict_on, own_part, next_deed, step}
+use Rattle.mj_history.specs.After.{After, Chair, Progress, Verdict, Closing, is_present, is_expiry, answers_in, verdict_on, own_part, next_deed, step, lines_for}
 use Rattle.mj_history.specs.Laws.{CanGoOn}
 use Rattle.mj_history.specs.Sitting.{held_of}
 use Rattle.mj_core.specs.Calls.{open_window}
@@ -58,10 +59,17 @@ pub record AreSeated (desk : List Occupant) (players : List Player) : Type 0 whe
   pub many : length players ≡ length desk
   pub held : map held_of (chairs_of desk players) ≡ desk
 
--- What a state keeps: its table and its lines have the deeds, and its desk the seats.
-pub record AreKept (told streamed deeds : List Deed) (desk : List Occupant) (players : List Player) : Type 0 where
+-- The lines of the four seats, and the answers that each may give to the newest deed.
+abbrev pub lines_of_all : Rules → List Deed → Four (List (List ℕ))
+lines_of_all rules deeds = record { first = lines_for rules 0 deeds; second = lines_for rules 1 deeds; third = lines_for rules 2 deeds; fourth = lines_for rules 3 deeds }
+
+abbrev pub possible_of_all : Rules → List Deed → Four (List Answer)
+possible_of_all rules deeds = record { first = possible rules deeds 0; second = possible rules deeds 1; third = possible rules deeds 2; fourth = possible rules deeds 3 }
+
+-- What a state keeps: its table has the deeds, its streams the lines of these, and its desk the seats.
+pub record AreKept (rules : Rules) (told : List Deed) (streamed : Four (List (List ℕ))) (deeds : List Deed) (desk : List Occupant) (players : List Player) : Type 0 where
   pub same : told ≡ deeds
-  pub lines : streamed ≡ deeds
+  pub lines : streamed ≡ lines_of_all rules deeds
   pub seated : AreSeated desk players
 
 -- How far a player has come, and the player that has come so far.

@@ -1,7 +1,13 @@
-use Rattle.std.proofs.Common.{List, ap, ◌∙◌}
-use Rattle.mj_deeds.specs.declared.deed.Deed.{Deed}
-use Rattle.mj_streams.specs.Streams.{line_of}
+use Rattle.std.proofs.Common.{ℕ, List, ap, ◌∙◌}
+use Rattle.std.specs.Prelude.{slice_get}
+use Rattle.mj_deeds.specs.declared.four.Four.{Four}
+use Rattle.mj_deeds.specs.Four.{at_seat}
+use Rattle.mj_core.proofs.KeptLines.{lines_of_seat}
 use Rattle.mj_core.proofs.state.State.line.Goals as goal
 
 pub returns : goal.returns
-returns c = rw (← c.self.view_is) (c.line.ensures ∙ ap (λ (ds : List Deed). line_of ds c.args.seat c.args.k) c.self.invariant.lines)
+returns c =
+    rw (← c.self.view_is)
+    (c.line.ensures
+    ∙ ap (λ (lines : Four (List (List ℕ))). slice_get (at_seat lines c.args.seat) c.args.k) c.self.invariant.lines
+    ∙ ap (λ (lines : List (List ℕ)). slice_get lines c.args.k) (lines_of_seat c.self.inside.table.rules c.self.inside.deeds.items c.args.seat c.requires))

@@ -1,9 +1,12 @@
 use Rattle.std.proofs.Common.{List, [], ◌∷◌, ◌++◌, ap, ◌∙◌, sym}
+use Rattle.std.proofs.lemmas.Result.{err_from_is_err_and}
 use Rattle.mj_deeds.specs.declared.deed.Deed.{Deed}
 use Rattle.mj_deeds.specs.declared.deed.Deed.TheVariants.{StartGame}
 use Rattle.mj_table.specs.Plays.{Play}
 use Rattle.mj_core.specs.contracts.state.State.{the_view}
 use Rattle.mj_core.proofs.Pieces.{takes-seated, seat-waits, seat-starts, start-fits, names-at-desk}
+use Rattle.mj_core.specs.Inner.States.{lines_of_all}
+use Rattle.mj_core.proofs.KeptLines.{told_next}
 use Rattle.mj_core.proofs.Turns.{takes}
 use Rattle.mj_core.proofs.state.State.take_seat.Goals as goal
 
@@ -16,9 +19,12 @@ invariant_of-self-then-held-eq4 c = record {
       ap (λ (p : Play). p.deeds) c.in_ok-push.ensures.ok ∙ ap (λ (p : Play). p.deeds ++ StartGame c.names.result ∷ []) c.in_ok-table.ensures
       ∙ ap (λ (ds : List Deed). ds ++ StartGame c.names.result ∷ []) (c.self.invariant.same ∙ sym c.reserve.ensures.items)
       ∙ sym c.push_reserved.ensures.items;
-  lines =
-      c.in_ok-push_alone.ensures.ok ∙ ap (λ (ds : List Deed). ds ++ StartGame c.names.result ∷ []) (c.self.invariant.lines ∙ sym c.reserve.ensures.items)
-      ∙ sym c.push_reserved.ensures.items;
+  lines = told_next c.self.inside.table.rules c.push.new.self.rules c.self.inside.deeds.items _ c.push_reserved.new.self.items (StartGame c.names.result) _ _ _ c.self.invariant.lines
+      (ap (λ (p : Play). p.rules) c.in_ok-push.ensures.ok ∙ ap (λ (p : Play). p.rules) c.in_ok-table.ensures)
+      (ap (λ (p : Play). p.deeds) c.in_ok-push.ensures.ok ∙ ap (λ (p : Play). p.deeds ++ StartGame c.names.result ∷ []) c.in_ok-table.ensures
+      ∙ ap (λ (ds : List Deed). ds ++ StartGame c.names.result ∷ []) c.self.invariant.same)
+      (c.push_reserved.ensures.items ∙ ap (λ (ds : List Deed). ds ++ StartGame c.names.result ∷ []) c.reserve.ensures.items)
+      c.in_ok-possible.ensures c.in_ok-push_alone.ensures.ok;
   seated = takes-seated c.self.inside.deeds.items c.self.inside.desk c.sit.new.self c.self.inside.chairs.items c.push_reserved-then-held-eq4.new.self.items c.args.author c.args.join.now
       (takes (the_view c.self.inside) c.args.author c.args.join.now c.sit.result c.sit.new.self c.push_reserved-then-held-eq4.new.self.items (rw (← c.self.view_is) at c.requires) c.self.invariant.seated c.sit.ensures.answer c.sit.ensures.desk
       (rw (c.reserve-2.ensures.items, c.new.ensures) at c.push_reserved-then-held-eq4.ensures.items));
@@ -41,7 +47,7 @@ returns-then-held-eq4-clause-ok c =
 pub invariant_of-self-2 : goal.invariant_of-self-2
 invariant_of-self-2 c = record {
   same = c.self.invariant.same ∙ sym c.reserve.ensures.items;
-  lines = c.self.invariant.lines ∙ sym c.reserve.ensures.items;
+  lines = c.self.invariant.lines ∙ ap (lines_of_all c.self.inside.table.rules) (sym c.reserve.ensures.items);
   seated = takes-seated c.self.inside.deeds.items c.self.inside.desk c.sit.new.self c.self.inside.chairs.items c.push_reserved-2.new.self.items c.args.author c.args.join.now
       (takes (the_view c.self.inside) c.args.author c.args.join.now c.sit.result c.sit.new.self c.push_reserved-2.new.self.items (rw (← c.self.view_is) at c.requires) c.self.invariant.seated c.sit.ensures.answer c.sit.ensures.desk
       (rw (c.reserve-2.ensures.items, c.new-2.ensures) at c.push_reserved-2.ensures.items));
@@ -54,3 +60,13 @@ returns-clause-ok c =
     (takes (the_view c.self.inside) c.args.author c.args.join.now c.sit.result c.sit.new.self c.push_reserved-2.new.self.items (rw (← c.self.view_is) at c.requires) c.self.invariant.seated c.sit.ensures.answer c.sit.ensures.desk
     (rw (c.reserve-2.ensures.items, c.new-2.ensures) at c.push_reserved-2.ensures.items))
     c.held.ensures.number c.if-held-eq4.false)
+
+pub returns-in_err-push_alone-clause-ok : goal.returns-in_err-push_alone-clause-ok
+returns-in_err-push_alone-clause-ok c =
+    let p = err_from_is_err_and c.from_residual-in_err-push_alone.result c.from_residual-in_err-push_alone.ensures.1 in
+    rw p.1 tt
+
+pub returns-in_err-push_alone-clause-err : goal.returns-in_err-push_alone-clause-err
+returns-in_err-push_alone-clause-err c =
+    let p = err_from_is_err_and c.from_residual-in_err-push_alone.result c.from_residual-in_err-push_alone.ensures.1 in
+    rw (p.1, c.reserve.ensures.items, c.reserve-2.ensures.items, ← c.self.view_is)

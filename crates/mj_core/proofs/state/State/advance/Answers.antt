@@ -1,0 +1,30 @@
+use Rattle.std.proofs.Common.{List, [], ◌∷◌, ◌++◌, ap, ◌∙◌, sym}
+use Rattle.std.proofs.lemmas.Result.{err_from_is_err_and}
+use Rattle.mj_deeds.specs.declared.deed.Deed.{Deed}
+use Rattle.mj_table.specs.Plays.{Play}
+use Rattle.mj_core.proofs.KeptLines.{told_next}
+use Rattle.mj_core.proofs.state.State.advance.Goals as goal
+
+pub invariant_of-self-2 : goal.invariant_of-self-2
+invariant_of-self-2 c =
+    let played =
+    ap (λ (p : Play). p.deeds) c.in_ok-deed.ensures.pushed ∙ ap (λ (p : Play). p.deeds ++ c.in_ok-deed.deed ∷ []) c.in_ok-table.ensures
+    ∙ ap (λ (ds : List Deed). ds ++ c.in_ok-deed.deed ∷ []) c.self.invariant.same in
+    let grown = c.push_reserved.ensures.items ∙ ap (λ (ds : List Deed). ds ++ c.in_ok-deed.deed ∷ []) c.reserve.ensures.items in
+    record {
+      same = played ∙ sym grown;
+      lines = told_next c.self.inside.table.rules _ c.self.inside.deeds.items _ c.push_reserved.new.self.items c.in_ok-deed.deed _ _ _ c.self.invariant.lines
+          (ap (λ (p : Play). p.rules) c.in_ok-deed.ensures.pushed ∙ ap (λ (p : Play). p.rules) c.in_ok-table.ensures)
+          played grown c.in_ok-possible.ensures c.in_ok-push_alone.ensures.ok;
+      seated = c.self.invariant.seated;
+    }
+
+pub returns-in_err-push_alone-clause-ok : goal.returns-in_err-push_alone-clause-ok
+returns-in_err-push_alone-clause-ok c =
+    let p = err_from_is_err_and c.from_residual-in_err-push_alone.result c.from_residual-in_err-push_alone.ensures.1 in
+    rw p.1 tt
+
+pub returns-in_err-push_alone-clause-err : goal.returns-in_err-push_alone-clause-err
+returns-in_err-push_alone-clause-err c =
+    let p = err_from_is_err_and c.from_residual-in_err-push_alone.result c.from_residual-in_err-push_alone.ensures.1 in
+    rw (p.1, c.reserve.ensures.items, ← c.self.view_is)
