@@ -21,14 +21,14 @@ number_line number = codes "shanten " ++ (number_text number ++ codes "\n")
 abbrev pub target_line : List ℕ → List ℕ
 target_line target = codes "target" ++ (kinds_text (sorted_kinds target) ++ codes "\n")
 
--- The waits, or a dash where there are none.
-abbrev pub waits_text : List ℕ → List ℕ
-waits_text [] = codes " -"
-waits_text (kind ∷ kinds) = kinds_text (kind ∷ kinds)
+-- Kinds, or a dash where there are none.
+abbrev pub kinds_or_dash : List ℕ → List ℕ
+kinds_or_dash [] = codes " -"
+kinds_or_dash (kind ∷ kinds) = kinds_text (kind ∷ kinds)
 
 -- `waits` and the waits.
 abbrev pub waits_line : List ℕ → List ℕ
-waits_line kinds = codes "waits" ++ (waits_text kinds ++ codes "\n")
+waits_line kinds = codes "waits" ++ (kinds_or_dash kinds ++ codes "\n")
 
 -- The three lines of a hand: its shanten, the concealed tiles of its target, and its waits.
 abbrev pub hand_text : ℕ → List ℕ → List ℕ → List ℕ

@@ -5,4 +5,4 @@ mod hand;
 mod lines;
 mod words;
 
-pub use lines::hand_lines;
+pub use lines::{hand_lines, push_kinds_or_dash};

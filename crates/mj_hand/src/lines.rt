@@ -9,7 +9,7 @@ ghost use Rattle.mj_bytes.specs.Adds.{Adds};
 ghost use Rattle.mj_shanten.specs.Room.{IsHand};
 ghost use Rattle.mj_shanten.specs.Shanten.{sorted_kinds};
 ghost use Rattle.mj_hand.specs.Hands.{hand_of};
-ghost use Rattle.mj_hand.specs.Text.{IsTextOf, IsHandText, kinds_text, number_line, target_line, waits_text, waits_line};
+ghost use Rattle.mj_hand.specs.Text.{IsTextOf, IsHandText, kinds_text, number_line, target_line, kinds_or_dash, waits_line};
 
 use crate::hand::{Hand, read_hand};
 use mj_bytes::{push_all, push_number};
@@ -80,8 +80,9 @@ fn push_waits(alloc: Global, text: &mut Vec<u8>, waits: Kinds) -> Result<(), All
     Ok(())
 }
 
-fn push_kinds_or_dash(text: &mut Vec<u8>, kinds: &[Kind]) -> Result<(), AllocError>
-    ensures { OnOk result (Adds text.old.items text.new.items (waits_text kinds.now)) }
+/// Adds the texts of kinds after a text, each after a space, or `-` after one where there are none. `Err` is running out of memory.
+pub fn push_kinds_or_dash(text: &mut Vec<u8>, kinds: &[Kind]) -> Result<(), AllocError>
+    ensures { OnOk result (Adds text.old.items text.new.items (kinds_or_dash kinds.now)) }
 {
     if kinds.is_empty() {
         push_all(text, b" -")?;

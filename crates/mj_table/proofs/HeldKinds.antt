@@ -15,7 +15,7 @@ use Rattle.mj_tiles.proofs.Faces.{all_faces}
 abbrev pub copies_of : (ℕ → ℕ) → List ℕ → List ℕ
 copies_of number faces = flat_map (λ face. replicate (number face) face) faces
 
-number_of-replicate : (n face kind : ℕ) → number_of (replicate n face) kind ≡ cond (eqb (kind_of face) kind) n 0
+pub number_of-replicate : (n face kind : ℕ) → number_of (replicate n face) kind ≡ cond (eqb (kind_of face) kind) n 0
 number_of-replicate n face kind = sum_by-replicate (λ tile. cond (eqb (kind_of tile) kind) 1 0) n face ∙ times (eqb (kind_of face) kind)
   where
     times : (b : Bool) → n * cond b 1 0 ≡ cond b n 0

@@ -1,6 +1,7 @@
 mod Brought
 mod CourseKept
 mod FacesHeld
+mod FaceSums
 mod FewKept
 mod FitsKept
 mod Gathered
@@ -18,5 +19,6 @@ mod OneMore
 mod RoomSteps
 mod SeatsKept
 mod SeatTurns
+mod Sights
 mod Spare
 pub mod WinSteps

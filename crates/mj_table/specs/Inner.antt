@@ -8,3 +8,4 @@ pub mod Kept
 pub mod Latest
 pub mod Passing
 pub mod Seats
+pub mod Seeing

@@ -20,6 +20,7 @@ mod reason;
 mod riichi;
 mod room;
 mod seat_facts;
+mod seeing;
 mod standing;
 mod table;
 mod winning;

@@ -12,6 +12,7 @@ ghost use Rattle.mj_deeds.specs.Passed.{own_kinds, passed_kinds, passed_in_riich
 ghost use Rattle.mj_deeds.specs.Points.{points, deposits};
 ghost use Rattle.mj_deeds.specs.Riichi.{is_in_riichi, is_ippatsu};
 ghost use Rattle.mj_deeds.specs.Reasons.{reason};
+ghost use Rattle.mj_sights.specs.Seen.{seen_tiles};
 ghost use Rattle.mj_table.specs.Marks.{marks};
 ghost use Rattle.mj_table.specs.Offers.{offered_tile};
 ghost use Rattle.mj_table.specs.Inner.Seats.{Keeps};
@@ -30,6 +31,7 @@ use crate::meld_steps::has_triplet;
 use crate::reason::reason;
 use crate::room::room_beside;
 use crate::seat_facts::SeatFacts;
+use crate::seeing::kinds_seen;
 use crate::standing::stand;
 use mj_deeds::{
     Deed, Four, Reason, Tiles, deposits_after, has_points, is_hand_start, is_in_place, points_after,
@@ -293,6 +295,15 @@ impl Table {
             → slice_index result (kind_of tile) < 4 }
     {
         kinds_held(self.held.at(seat))
+    }
+
+    /// How often each kind stands among the tiles that a seat sees: its own concealed ones, and those that lie open, each once, in
+    /// a meld, as a discard that wasn't called, or as an indicator.
+    pub fn seen(&self, seat: u8) -> Counts
+        requires { seat ≤ 3 }
+        ensures { result ≡ kind_counts (seen_tiles (hand self.now.deeds) seat) }
+    {
+        kinds_seen(&self.facts.brought, &self.held, seat)
     }
 
     /// How many concealed tiles of the face of a tile a seat holds, four at most.

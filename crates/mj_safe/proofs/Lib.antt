@@ -1,0 +1,3 @@
+mod Blocking
+mod Pieces
+mod Firsts

@@ -1,0 +1,3 @@
+pub mod Promise
+pub mod Text
+pub mod Inner

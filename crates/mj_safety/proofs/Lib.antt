@@ -1,0 +1,12 @@
+pub mod Orders
+pub mod Unfinished
+pub mod Quiet
+pub mod Asked
+pub mod Blocking
+pub mod Triplets
+pub mod Laid
+pub mod Melded
+pub mod Missing
+pub mod Winless
+pub mod MaskedSafe
+pub mod Rows
