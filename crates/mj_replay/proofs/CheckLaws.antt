@@ -1,6 +1,6 @@
 -- The steps of a check, said of plain lists.
 use Rattle.std.proofs.Common.{◌≡◌, ℕ, ◌+◌, ◌≤◌, ◌<◌, List, [], ◌∷◌, ◌++◌, Bool, true, false, refl, ap, sym, ◌∙◌, subst, length, arith, append_assoc, append-nil, take, suc}
-use Rattle.std.specs.Prelude.{Some, None, ◌==◌, ◌&&◌, nat_le, bytes_eq, codes, flat_map}
+use Rattle.std.specs.Prelude.{Some, None, Option, option_to_list, if◌then◌else◌, ◌==◌, ◌&&◌, nat_le, bytes_eq, codes, flat_map}
 use Rattle.std.specs.List.{list_all}
 use Rattle.std.proofs.lemmas.Bool.{false≢true}
 use Rattle.std.proofs.lemmas.Bool.Decides.{nat_tests, Decides-eqb}
@@ -12,7 +12,9 @@ use Rattle.std.proofs.lemmas.List.Folds.{list_all-append}
 use Rattle.mj_bytes.specs.Parts.{has_byte, whole_lines, unfinished, behind, BeginsWithLine, HasNoLine}
 use Rattle.mj_bytes.proofs.PartLaws.{has_byte-at, whole_lines-at}
 use Rattle.mj_deeds.specs.declared.deed.Deed.{Deed}
+use Rattle.mj_deeds.specs.Facts.{newest}
 use Rattle.mj_deeds.specs.Points.{points, deposits}
+use Rattle.mj_deeds.proofs.Newest.{newest_more}
 use Rattle.mj_deeds.specs.declared.deed.Viewer.TheVariants.{Record}
 use Rattle.mj_wall.specs.declared.setting.Rules.{Rules}
 use Rattle.mj_wall.specs.Places.{is_wall}
@@ -27,10 +29,12 @@ use Rattle.mj_forms.specs.RecordTexts.{record_text}
 use Rattle.mj_replay.specs.declared.checking.Cause.{Cause}
 use Rattle.mj_replay.specs.declared.checking.Cause.TheVariants as causes
 use Rattle.mj_replay.specs.declared.checking.Checked.{Checked}
-use Rattle.mj_replay.specs.declared.checking.Checked.TheVariants.{Good, Bad}
-use Rattle.mj_replay.specs.Checks.{fault_of, Tells}
+use Rattle.mj_replay.specs.declared.checking.Checked.TheVariants.{Good, Bad, NoMemory}
+use Rattle.mj_replay.specs.declared.checking.Summary.{Summary as Said}
+use Rattle.mj_history.specs.Told.{Summary}
+use Rattle.mj_replay.specs.Checks.{fault_of, summary_said, Tells, IsRecordOf}
 use Rattle.mj_replay.specs.Inner.Settings.{IsHeader, IsNoHeader}
-use Rattle.mj_replay.specs.Inner.Steps.{cause_at_end, IsNext, IsNoNext, NoneNeeded, Follows, FollowsOr}
+use Rattle.mj_replay.specs.Inner.Steps.{cause_at_end, IsNext, IsNoNext, NoneNeeded, Follows, FollowsOr, IsList, TellsKept}
 use Rattle.mj_replay.proofs.SettingLaws.{behind-is, bytes-same}
 
 not_empty : (n : ℕ) → (suc n == 0) ≡ true → ⊥
@@ -77,15 +81,15 @@ breaks_at : (before : Before) (rest first others : List ℕ) (fault : Fault) →
 breaks_at before rest first others fault b h = rw b.lines h
 
 -- the header
-pub no_header_line : (text : List ℕ) (answer : Checked) → HasNoLine text → answer ≡ Bad 1 (cause_at_end text causes.Header) → Tells text answer
-no_header_line text answer n e = rw e (record { before = Nothing; rest = text; sound = tt; is = refl; place = refl; breaks = ends Nothing text causes.Header n tt })
+pub no_header_line : (text : List ℕ) (answer : Checked) (keeps : Bool) (kept : List Deed) → HasNoLine text → answer ≡ Bad 1 (cause_at_end text causes.Header) → TellsKept text answer keeps kept
+no_header_line text answer keeps kept n e = rw e (record { before = Nothing; rest = text; sound = tt; is = refl; place = refl; breaks = ends Nothing text causes.Header n tt })
 
 pub bad_header : (text first rest : List ℕ) → BeginsWithLine text first rest → IsNoHeader first → Tells text (Bad 1 causes.Header)
 bad_header text first rest b n = record { before = Nothing; rest = text; sound = tt; is = refl; place = refl; breaks = breaks_at Nothing text first rest (fault_of causes.Header) b n }
 
-pub headed : (text first rest : List ℕ) (rules : Rules) (answer : Checked) → BeginsWithLine text first rest → IsHeader first rules → Tells (header_line rules ++ rest) answer → Tells text answer
-headed text first rest rules answer b h t =
-    subst (λ xs. Tells xs answer) (ap (λ xs. xs ++ rest) h.is ∙ append_assoc first (10 ∷ []) rest ∙ sym b.parts) t
+pub headed : (text first rest : List ℕ) (rules : Rules) (answer : Checked) (keeps : Bool) (kept : List Deed) → BeginsWithLine text first rest → IsHeader first rules → TellsKept (header_line rules ++ rest) answer keeps kept → TellsKept text answer keeps kept
+headed text first rest rules answer keeps kept b h t =
+    subst (λ xs. TellsKept xs answer keeps kept) (ap (λ xs. xs ++ rest) h.is ∙ append_assoc first (10 ∷ []) rest ∙ sym b.parts) t
 
 pub header_fits : (first : List ℕ) (rules : Rules) → IsHeader first rules → are_rules rules ≡ true
 header_fits first rules h = h.fits
@@ -152,9 +156,9 @@ no_walls : (walls : List (List ℕ)) → (length walls == 0) ≡ true → walls 
 no_walls [] h = refl
 no_walls (wall ∷ walls) h = absurd (not_empty (length walls) h)
 
-pub lacks_wall : (rules : Rules) (walls : List (List ℕ)) (text rest : List ℕ) (answer : Checked) (empty : Bool) → are_rules rules ≡ true → header_line rules ++ text ≡ record_text rules walls [] ++ rest → HasNoLine rest → empty ≡ (length walls == 0) → empty ≡ true → answer ≡ Bad 2 (cause_at_end rest causes.Wall) →
-    Tells (header_line rules ++ text) answer
-lacks_wall rules walls text rest answer empty r said n e y a =
+pub lacks_wall : (rules : Rules) (walls : List (List ℕ)) (text rest : List ℕ) (answer : Checked) (empty keeps : Bool) (kept : List Deed) → are_rules rules ≡ true → header_line rules ++ text ≡ record_text rules walls [] ++ rest → HasNoLine rest → empty ≡ (length walls == 0) → empty ≡ true → answer ≡ Bad 2 (cause_at_end rest causes.Wall) →
+    TellsKept (header_line rules ++ text) answer keeps kept
+lacks_wall rules walls text rest answer empty keeps kept r said n e y a =
     let none : walls ≡ [] = no_walls walls (sym e ∙ y) in
     rw a (record {
       before = Lines rules [] [];
@@ -179,8 +183,8 @@ none_needed walls rest first others needed b e n one more is plain = rw (one_lin
 pub none_left : (walls : List (List ℕ)) (deeds : List Deed) (rest : List ℕ) → HasNoLine rest → NoneNeeded walls deeds rest
 none_left walls deeds rest n one more is plain = absurd (false≢true (sym n.plain ∙ ap (has_byte 10) is ∙ has_byte-at 10 one more))
 
-pub tells_from : (rules : Rules) (walls : List (List ℕ)) (text rest : List ℕ) (answer : Checked) → header_line rules ++ text ≡ record_text rules walls [] ++ rest → Tells (record_text rules walls [] ++ rest) answer → Tells (header_line rules ++ text) answer
-tells_from rules walls text rest answer said t = subst (λ xs. Tells xs answer) (sym said) t
+pub tells_from : (rules : Rules) (walls : List (List ℕ)) (text rest : List ℕ) (answer : Checked) (keeps : Bool) (kept : List Deed) → header_line rules ++ text ≡ record_text rules walls [] ++ rest → TellsKept (record_text rules walls [] ++ rest) answer keeps kept → TellsKept (header_line rules ++ text) answer keeps kept
+tells_from rules walls text rest answer keeps kept said t = subst (λ xs. TellsKept xs answer keeps kept) (sym said) t
 
 -- the deeds
 pub record InPlay (rules : Rules) (walls : List (List ℕ)) (text rest : List ℕ) (play : Play) (number : ℕ) : Type 0 where
@@ -282,21 +286,49 @@ pub cut : (rules : Rules) (walls : List (List ℕ)) (text rest : List ℕ) (play
     Tells (record_text rules walls [] ++ text) (Bad (first + number) causes.Cut)
 cut rules walls text rest play number first empty w p f n e some = no_record rules walls text rest play number first CutFault w p f (cut_breaks (Lines rules walls play.deeds) rest n (sym e ∙ some))
 
-pub good : (rules : Rules) (walls : List (List ℕ)) (text rest : List ℕ) (play : Play) (number deposits_are : ℕ) (points_are : List ℤ) (empty : Bool) → Walled rules walls → InPlay rules walls text rest play number → empty ≡ (length rest == 0) → empty ≡ true →
-    points_are ≡ points play.deeds → deposits_are ≡ deposits play.deeds → Tells (record_text rules walls [] ++ text) (Good (record { deeds = number; points = points_are; deposits = deposits_are }))
-good rules walls text rest play number deposits_are points_are empty w p e y pe de =
+pub good : (rules : Rules) (walls : List (List ℕ)) (text rest : List ℕ) (play : Play) (number deposits_are : ℕ) (points_are : List ℤ) (empty keeps : Bool) (kept : List Deed) → Walled rules walls → InPlay rules walls text rest play number → IsList keeps kept play.deeds → empty ≡ (length rest == 0) → empty ≡ true →
+    points_are ≡ points play.deeds → deposits_are ≡ deposits play.deeds → TellsKept (record_text rules walls [] ++ text) (Good (record { deeds = number; points = points_are; deposits = deposits_are })) keeps kept
+good rules walls text rest play number deposits_are points_are empty keeps kept w p k e y pe de =
     let none : rest ≡ [] = no_bytes rest (sym e ∙ y) in
     record {
-      rules = rules;
-      walls = walls;
-      deeds = play.deeds;
-      rules_fit = w.rules_fit;
-      walls_fit = all_walls rules walls w.some w.few w.whole;
-      played = p.played;
-      is = p.said ∙ ap (λ xs. record_text rules walls play.deeds ++ xs) none ∙ append-nil (record_text rules walls play.deeds);
-      comes_to = rw (p.count, pe, de) refl;
+      record_is = record {
+        rules = rules;
+        walls = walls;
+        deeds = play.deeds;
+        rules_fit = w.rules_fit;
+        walls_fit = all_walls rules walls w.some w.few w.whole;
+        played = p.played;
+        is = p.said ∙ ap (λ xs. record_text rules walls play.deeds ++ xs) none ∙ append-nil (record_text rules walls play.deeds);
+        comes_to = rw (p.count, pe, de) refl;
+      };
+      kept_are = k;
     }
   where
     no_bytes : (bytes : List ℕ) → (length bytes == 0) ≡ true → bytes ≡ []
     no_bytes [] h = refl
     no_bytes (byte ∷ bytes) h = absurd (not_empty (length bytes) h)
+
+-- the deeds that are kept, one further
+pub list_more : (keeps : Bool) (walls : List (List ℕ)) (before after : Play) (told : List ℕ) (kept more : List Deed) → IsList keeps kept before.deeds → Follows walls before after told →
+    more ≡ kept ++ (if keeps then option_to_list (newest after.deeds) else []) → IsList keeps more after.deeds
+list_more false walls before after told kept more k f m = tt
+list_more true walls before after told kept more k f m =
+    let deeds : after.deeds ≡ before.deeds ++ f.deed ∷ [] = ap (λ (x : Play). x.deeds) f.more in
+    let new : newest after.deeds ≡ Some f.deed = ap newest deeds ∙ newest_more before.deeds f.deed in
+    m ∙ (λ i. k i ++ option_to_list (new i)) ∙ sym deeds
+
+pub nothing_kept : (keeps : Bool) (kept : List Deed) (play : Play) (rules : Rules) → kept ≡ [] → play ≡ record { rules = rules; deeds = [] } → IsList keeps kept play.deeds
+nothing_kept false kept play rules k p = tt
+nothing_kept true kept play rules k p = k ∙ sym (ap (λ (x : Play). x.deeds) p)
+
+-- what is said of a record whose deeds are kept is said of it
+pub told_kept : (text : List ℕ) (answer : Checked) (keeps : Bool) (kept : List Deed) → TellsKept text answer keeps kept → Tells text answer
+told_kept text (Good said) keeps kept h = h.record_is
+told_kept text (Bad number cause) keeps kept h = h
+told_kept text NoMemory keeps kept h = tt
+
+pub told_played : (text : List ℕ) (said : Said) (kept : List Deed) → TellsKept text (Good said) true kept → IsRecordOf text kept
+told_played text said kept h = record { summary = summary_said said; record_is = h.record_is; deeds_are = sym h.kept_are }
+
+pub kept_few : (text : List ℕ) (said : Said) (kept : List Deed) → TellsKept text (Good said) true kept → length kept ≡ said.deeds
+kept_few text said kept h = ap length h.kept_are ∙ sym (ap (λ (s : Summary). s.deeds) h.record_is.comes_to)

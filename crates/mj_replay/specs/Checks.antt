@@ -1,5 +1,6 @@
 -- What the answer of `check` says of a text.
 use Rattle.std.specs.Prelude.{◌≡◌, ℕ, List}
+use Rattle.mj_deeds.specs.declared.deed.Deed.{Deed}
 use Rattle.mj_history.specs.Told.{Summary}
 use Rattle.mj_history.specs.Records.{Fault, HeaderFault, WallFault, LineFault, NextFault, CutFault, IsRecord, IsNoRecord}
 use Rattle.mj_replay.specs.declared.checking.Cause.{Cause}
@@ -7,6 +8,8 @@ use Rattle.mj_replay.specs.declared.checking.Cause.TheVariants as causes
 use Rattle.mj_replay.specs.declared.checking.Summary.{Summary as Said}
 use Rattle.mj_replay.specs.declared.checking.Checked.{Checked}
 use Rattle.mj_replay.specs.declared.checking.Checked.TheVariants.{Good, Bad, NoMemory}
+use Rattle.mj_replay.specs.declared.played.Played.{Played}
+use Rattle.mj_replay.specs.declared.played.Played.TheVariants as played
 
 -- What the numbers of an answer say that deeds come to.
 abbrev pub summary_said : Said → Summary
@@ -25,6 +28,18 @@ abbrev pub Tells : List ℕ → Checked → Type 0
 Tells text (Good said) = IsRecord text (summary_said said)
 Tells text (Bad number cause) = IsNoRecord text number (fault_of cause)
 Tells text NoMemory = Unit {0}
+
+-- A text is the record of these deeds.
+pub record IsRecordOf (text : List ℕ) (deeds : List Deed) : Type 0 where
+  pub summary : Summary
+  pub record_is : IsRecord text summary
+  pub deeds_are : record_is.deeds ≡ deeds
+
+-- The same with the deeds in place of what they come to.
+abbrev pub TellsPlayed : List ℕ → Played → Type 0
+TellsPlayed text (played.Good deeds) = IsRecordOf text deeds
+TellsPlayed text (played.Bad number cause) = IsNoRecord text number (fault_of cause)
+TellsPlayed text played.NoMemory = Unit {0}
 
 -- The answers are exact: of one text they say one thing.
 pub record AnswersAreExact : Type 0 where

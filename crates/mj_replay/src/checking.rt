@@ -1,18 +1,20 @@
 //! The records of games, checked line by line.
 
-ghost use Rattle.std.specs.Prelude.{◌≡◌, ◌≤◌, ◌++◌, ◌∷◌, [], length, true, IfOk, IsTrue, MatchOption};
+ghost use Rattle.std.specs.Prelude.{◌≡◌, ◌≤◌, ◌++◌, ◌∷◌, [], length, true, if◌then◌else◌, option_to_list, IfOk, IsTrue, MatchOption};
 ghost use Rattle.std.specs.List.{list_all};
 ghost use Rattle.mj_wall.specs.Places.{is_wall};
+ghost use Rattle.mj_deeds.specs.Facts.{newest};
 ghost use Rattle.mj_history.specs.Records.{are_rules, needs_wall};
 ghost use Rattle.mj_forms.specs.RecordTexts.{record_text};
 ghost use Rattle.mj_forms.specs.Headers.{header_line};
 ghost use Rattle.mj_replay.specs.Checks.{Tells};
-ghost use Rattle.mj_replay.specs.Inner.Steps.{cause_at_end, IsNext, IsNoNext, NoneNeeded};
+ghost use Rattle.mj_replay.specs.Inner.Steps.{cause_at_end, IsNext, IsNoNext, NoneNeeded, TellsKept};
 ghost use Rattle.mj_replay.specs.declared.checking.Checked.TheVariants.{Bad};
 
 use crate::following::follow;
 use crate::setting::{header_of, wall_of};
 use mj_bytes::{split_line, strip};
+use mj_deeds::Deed;
 use mj_table::Table;
 use mj_wall::{Rules, Wall};
 use std::alloc::{AllocError, Global};
@@ -54,24 +56,33 @@ pub enum Checked {
 /// Whether a text is the record of a game: a header, 1 to 200 walls, and the record's line of each deed from the start of the
 /// game on, each of which some four lawful answers give after those before it. The record may end after its walls or
 /// after any deed.
+#[tactic(auto, using(crate::proofs::CheckLaws::told_kept))]
 pub fn check(alloc: Global, text: &[u8]) -> Checked
     ensures { Tells text.now result }
 {
-    match checked_text(alloc, text) {
+    let mut none = Vec::new(alloc);
+    match walk(alloc, text, false, &mut none) {
         Ok(answer) => answer,
         Err(_) => Checked::NoMemory,
     }
 }
 
+/// What a text is as a record; where its deeds are to be kept, they are put into a list that is empty.
 #[tactic(auto, using(crate::proofs::CheckLaws::headers))]
-fn checked_text(alloc: Global, text: &[u8]) -> Result<Checked, AllocError>
-    ensures { IfOk result (λ answer. Tells text.now answer) }
+pub(crate) fn walk(
+    alloc: Global,
+    text: &[u8],
+    keeps: bool,
+    kept: &mut Vec<Deed>,
+) -> Result<Checked, AllocError>
+    requires { kept.old.items ≡ [] }
+    ensures { IfOk result (λ answer. TellsKept text.now answer keeps kept.new.items) }
 {
     let Some((line, rest)) = split_line(text) else {
         return Ok(ending(text, 1, Cause::Header));
     };
     match header_of(line) {
-        Some(rules) => behind_header(alloc, rules, rest),
+        Some(rules) => behind_header(alloc, rules, rest, keeps, kept),
         None => Ok(Checked::Bad(1, Cause::Header)),
     }
 }
@@ -87,15 +98,23 @@ fn ending(rest: &[u8], line: u32, cause: Cause) -> Checked
 }
 
 // What a text is after its header.
-fn behind_header(alloc: Global, rules: Rules, text: &[u8]) -> Result<Checked, AllocError>
-    requires { are_rules rules ≡ true }
-    ensures { IfOk result (λ answer. Tells (header_line rules ++ text.now) answer) }
+fn behind_header(
+    alloc: Global,
+    rules: Rules,
+    text: &[u8],
+    keeps: bool,
+    kept: &mut Vec<Deed>,
+) -> Result<Checked, AllocError>
+    requires rules { are_rules rules ≡ true }
+    requires none { kept.old.items ≡ [] }
+    ensures { IfOk result (λ answer. TellsKept (header_line rules ++ text.now) answer keeps
+        kept.new.items) }
 {
     let mut walls = Vec::new(alloc);
     let mut rest = text;
     while let Some((line, others)) = split_line(rest) {
         if !must_be_wall(walls.as_slice(), line) {
-            return behind_walls(alloc, rules, walls.as_slice(), rest);
+            return behind_walls(alloc, rules, walls.as_slice(), rest, keeps, kept);
         }
         let Some(wall) = next_wall(alloc, rules, walls.len(), line)? else {
             return Ok(Checked::Bad(walls.len() as u32 + 2, Cause::Wall));
@@ -106,7 +125,7 @@ fn behind_header(alloc: Global, rules: Rules, text: &[u8]) -> Result<Checked, Al
     if walls.is_empty() {
         return Ok(ending(rest, 2, Cause::Wall));
     }
-    behind_walls(alloc, rules, walls.as_slice(), rest)
+    behind_walls(alloc, rules, walls.as_slice(), rest, keeps, kept)
 }
 
 // Whether a line after these walls must be a wall: the first one must, and each that begins with `wall`.
@@ -145,13 +164,17 @@ fn behind_walls(
     rules: Rules,
     walls: &[Wall],
     text: &[u8],
+    keeps: bool,
+    kept: &mut Vec<Deed>,
 ) -> Result<Checked, AllocError>
     requires rules { are_rules rules ≡ true }
     requires some { 1 ≤ length walls.now }
     requires few { length walls.now ≤ 200 }
     requires whole { IsTrue (list_all (is_wall rules.red) walls.now) }
     requires other { NoneNeeded walls.now [] text.now }
-    ensures { IfOk result (λ answer. Tells (record_text rules walls.now [] ++ text.now) answer) }
+    requires none { kept.old.items ≡ [] }
+    ensures { IfOk result (λ answer. TellsKept (record_text rules walls.now [] ++ text.now) answer
+        keeps kept.new.items) }
 {
     let mut table = Table::new(rules)?;
     let mut room = Vec::new(alloc);
@@ -163,6 +186,7 @@ fn behind_walls(
         if let Some(cause) = follow(alloc, &mut table, walls, line, &mut room)? {
             return Ok(Checked::Bad(first + deeds, cause));
         }
+        keep_newest(&table, keeps, kept)?;
         deeds += 1;
         rest = others;
     }
@@ -174,4 +198,18 @@ fn behind_walls(
         points: table.points(),
         deposits: table.deposits(),
     }))
+}
+
+// Puts the newest deed of a table into a list, where deeds are kept.
+fn keep_newest(table: &Table, keeps: bool, kept: &mut Vec<Deed>) -> Result<(), AllocError>
+    ensures { IfOk result (λ done. kept.new.items ≡ kept.old.items
+        ++ (if keeps then option_to_list (newest table.now.deeds) else [])) }
+{
+    if !keeps {
+        return Ok(());
+    }
+    if let Some(deed) = table.newest() {
+        kept.push(deed.copy()?)?;
+    }
+    Ok(())
 }

@@ -1,9 +1,8 @@
 //! Whether the deed that a line tells may follow the deeds on a table.
 
-ghost use Rattle.std.specs.Prelude.{◌≡◌, ◌≤◌, ◌↔◌, [], length, Some, None, Bool, IfOk, IsTrue, bytes_eq, is_none, nat_le};
+ghost use Rattle.std.specs.Prelude.{◌≡◌, ◌≤◌, ◌↔◌, [], length, Some, None, Bool, IfOk, IsTrue, bytes_eq, is_none};
 ghost use Rattle.std.specs.List.{list_all};
 ghost use Rattle.mj_wall.specs.Places.{is_wall};
-ghost use Rattle.mj_deeds.specs.Answers.{is_in_form, place_of};
 ghost use Rattle.mj_deeds.specs.Facts.{newest};
 ghost use Rattle.mj_deeds.specs.declared.deed.Viewer.TheVariants.{Record};
 ghost use Rattle.mj_rules.specs.Outcome.{goes_on};
@@ -15,11 +14,10 @@ ghost use Rattle.mj_replay.specs.Inner.Steps.{FollowsOr, FollowsIf, FollowsBy, h
 use crate::checking::Cause;
 use crate::reading::deed_in;
 use crate::told::told;
-use mj_deeds::{Answer, Deed, Four, Pai, Viewer};
+use mj_deeds::{Answer, Deed, Four, Viewer, is_in_form};
 use mj_judge::judge;
 use mj_machine::next;
 use mj_table::Table;
-use mj_tiles::RED;
 use mj_wall::Wall;
 use mjai_lines::write_over;
 use std::alloc::{AllocError, Global};
@@ -147,39 +145,6 @@ fn is_lawful(table: &Table, seat: u8, answer: &Answer) -> bool
     ensures { IsTrue result ↔ IsLawful table.now.rules table.now.deeds seat answer.now }
 {
     is_in_form(answer) && judge(table, seat, answer).is_ok()
-}
-
-// Whether the own tiles that an answer names together stand in tile order.
-fn is_in_form(answer: &Answer) -> bool
-    ensures { result ≡ is_in_form answer.now }
-{
-    match answer {
-        Answer::Chi { a, b, .. } => is_before(*a, *b),
-        Answer::Pon { a, b, .. } => is_before(*a, *b),
-        Answer::OpenKan { a, b, c, .. } => is_before(*a, *b) && is_before(*b, *c),
-        Answer::ClosedKan { a, b, c, d, .. } => {
-            is_before(*a, *b) && is_before(*b, *c) && is_before(*c, *d)
-        }
-        Answer::AddedKan { a, b, c, .. } => is_before(*a, *b) && is_before(*b, *c),
-        _ => true,
-    }
-}
-
-// Whether a tile stands before another in tile order, or is the same.
-fn is_before(a: Pai, b: Pai) -> bool
-    ensures { result ≡ nat_le (place_of a) (place_of b) }
-{
-    place_of(a) <= place_of(b)
-}
-
-// The place of a tile in tile order, a hidden one after all.
-fn place_of(pai: Pai) -> u8
-    ensures { result ≡ place_of pai }
-{
-    match pai {
-        Pai::Known(tile) => 2 * tile.kind().number() + u8::from(tile.face() >= RED),
-        Pai::Hidden => 68,
-    }
 }
 
 // Puts a start of a game with four different names on the table, which has no deed; says whether the deed that was read of

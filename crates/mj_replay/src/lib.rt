@@ -9,6 +9,7 @@ mod following;
 mod hands;
 mod laws;
 mod lists;
+mod played;
 mod reaches;
 mod reading;
 mod results;
@@ -23,3 +24,4 @@ pub use laws::{
     game_starts_are_read, hand_starts_are_read, reaches_are_read, read_deeds_tell_the_same,
     wins_are_read,
 };
+pub use played::{Deeds, Played, read_played};

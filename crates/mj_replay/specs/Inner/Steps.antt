@@ -11,9 +11,13 @@ use Rattle.mj_rules.specs.Outcome.{outcome}
 use Rattle.mj_rules.specs.Played.{AllLawful, IsPlayed, IsPlayedBehind}
 use Rattle.mj_table.specs.Plays.{Play}
 use Rattle.mj_forms.specs.Lines.{line}
-use Rattle.mj_history.specs.Records.{IsLineOf, IsOfNoNext, needs_wall}
+use Rattle.mj_history.specs.Told.{Summary}
+use Rattle.mj_history.specs.Records.{IsLineOf, IsOfNoNext, IsRecord, IsNoRecord, needs_wall}
 use Rattle.mj_replay.specs.declared.checking.Cause.{Cause}
 use Rattle.mj_replay.specs.declared.checking.Cause.TheVariants as causes
+use Rattle.mj_replay.specs.declared.checking.Checked.{Checked}
+use Rattle.mj_replay.specs.declared.checking.Checked.TheVariants.{Good, Bad, NoMemory}
+use Rattle.mj_replay.specs.Checks.{summary_said, fault_of}
 use Rattle.mj_replay.specs.Inner.Settings.{IsWallLine, IsNoWallLine}
 
 -- Where a text ends, the cause is that nothing is left, or that what is left has no newline.
@@ -62,3 +66,17 @@ FollowsOr None walls before after text = Follows walls before after text
 FollowsOr (Some causes.Line) walls before after text = (deed : Deed) → IsLineOf text deed → ⊥
 FollowsOr (Some causes.Next) walls before after text = IsOfNoNext before.rules walls before.deeds text
 FollowsOr (Some other) walls before after text = ⊥
+
+-- A text is the record of deeds that come to this, and where they are kept a list holds them.
+abbrev pub IsList : Bool → List Deed → List Deed → Type 0
+IsList true kept deeds = kept ≡ deeds
+IsList false kept deeds = Unit {0}
+
+pub record IsRecordKept (text : List ℕ) (summary : Summary) (keeps : Bool) (kept : List Deed) : Type 0 where
+  pub record_is : IsRecord text summary
+  pub kept_are : IsList keeps kept record_is.deeds
+
+abbrev pub TellsKept : List ℕ → Checked → Bool → List Deed → Type 0
+TellsKept text (Good said) keeps kept = IsRecordKept text (summary_said said) keeps kept
+TellsKept text (Bad number cause) keeps kept = IsNoRecord text number (fault_of cause)
+TellsKept text NoMemory keeps kept = Unit {0}

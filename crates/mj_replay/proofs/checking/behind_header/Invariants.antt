@@ -10,6 +10,7 @@ invariant-loop-line l = record {
   said : header_line l.rules ++ l.text ≡ record_text l.rules l.walls.items [] ++ l.rest;
   few : length l.walls.items ≤ 200;
   whole : list_all (is_wall l.rules.red) l.walls.items ≡ true;
+  none : l.kept.items ≡ [];
 }
 
 abbrev pub decreases-loop-line : goal.decreases-loop-line

@@ -1,0 +1,6 @@
+pub mod Growing
+pub mod Bare
+pub mod Secrets
+pub mod Watching
+pub mod Keeping
+pub mod Pieces

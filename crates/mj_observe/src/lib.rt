@@ -1,0 +1,9 @@
+//! What a watcher without tiles is told of a game: the public line of each deed as it comes, and each hand in full once it has ended.
+#![tactic(auto)]
+
+mod laws;
+mod observer;
+mod public;
+
+pub use laws::{others_are_told_all, views_grow, watchers_learn_no_more};
+pub use observer::Observer;
