@@ -11,8 +11,6 @@ mod file_disk;
 mod founding;
 mod head;
 mod kept;
-#[cfg(test)]
-mod kept_tests;
 mod mem_call;
 mod mem_calls;
 mod mem_disk;
@@ -24,8 +22,6 @@ mod reading;
 mod record;
 mod replaying;
 mod through;
-#[cfg(test)]
-mod toy;
 
 pub use answered::Answered;
 pub use disk::{Disk, Filled, Size, Synced, Wrote};
