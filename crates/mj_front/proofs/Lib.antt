@@ -1,3 +1,4 @@
+pub mod AskLaws
 pub mod FieldLaws
 pub mod StatusLaws
 pub mod Placing
@@ -8,5 +9,14 @@ pub mod WallLaws
 pub mod RunLaws
 pub mod WordLaws
 pub mod ReplayLaws
+pub mod ObserveLaws
 pub mod ServeLaws
 pub mod WaitLaws
+pub mod WatchLaws
+pub mod PlayedLaws
+pub mod NoteLaws
+pub mod KeepLaws
+pub mod WalkLaws
+pub mod SafeLaws
+pub mod BaseLaws
+pub mod InputLaws

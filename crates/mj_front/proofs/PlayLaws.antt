@@ -51,7 +51,7 @@ plays-on seat old new entry told more play e few bytes = record {
 
 -- somebody wants a seat
 
-sits-by : (old : Game) (text : List ℕ) (entries : List (Entry Answer)) → (length old.setting.walls == 0) ≡ false → entries_of_placing 1 (join_of text) (placing (after_of old) (join_of text)) ≡ entries →
+pub sits-by : (old : Game) (text : List ℕ) (entries : List (Entry Answer)) → (length old.setting.walls == 0) ≡ false → entries_of_placing 1 (join_of text) (placing (after_of old) (join_of text)) ≡ entries →
     sit_arrives (intake_of old) text ≡ Leads (with_entries (intake_of old) entries)
 unfolding sit_arrives
 sits-by old text entries w e = rw (w, e)
@@ -115,7 +115,7 @@ sits-refused seat old new text told why play h = (
 
 -- who says a line
 
-says : (game : Game) (author who : ℕ) (text : List ℕ) → author_of_seat game who ≡ Some author → can_say (after_of game) author who ≡ true → say_arrives (intake_of game) who text ≡ Leads (with_entries (intake_of game) (Said author who (answer_of text) ∷ []))
+pub says : (game : Game) (author who : ℕ) (text : List ℕ) → author_of_seat game who ≡ Some author → can_say (after_of game) author who ≡ true → say_arrives (intake_of game) who text ≡ Leads (with_entries (intake_of game) (Said author who (answer_of text) ∷ []))
 unfolding say_arrives
 says game author who text h k = rw (h, k)
 
@@ -200,7 +200,7 @@ others author who seat old new text told verdict differs play h k e =
 
 -- who leaves
 
-goes : (game : Game) (author who : ℕ) → author_of_seat game who ≡ Some author → gone_arrives (intake_of game) who ≡ Leads (with_entries (intake_of game) (Gone author who ∷ []))
+pub goes : (game : Game) (author who : ℕ) → author_of_seat game who ≡ Some author → gone_arrives (intake_of game) who ≡ Leads (with_entries (intake_of game) (Gone author who ∷ []))
 unfolding gone_arrives
 goes game author who h = rw h
 
@@ -227,7 +227,7 @@ goes-on author leaver who seat old new told more p play e adds =
 
 -- whose time runs out
 
-expires-by : (old : Game) (window t1 t2 : ℕ) (b : Bool) → (length old.setting.walls == 0) ≡ false → may_expire old window t1 t2 ≡ b →
+pub expires-by : (old : Game) (window t1 t2 : ℕ) (b : Bool) → (length old.setting.walls == 0) ≡ false → may_expire old window t1 t2 ≡ b →
     expiry_arrives (intake_of old) window t1 t2 ≡ Leads (with_entries (intake_of old) (if b then Expired 0 window t1 t2 ∷ [] else []))
 unfolding expiry_arrives
 expires-by old window t1 t2 b w e = rw (w, e)
@@ -254,7 +254,7 @@ unfolding can_expire
 stale game window t1 t2 h = not-open _ _ _ h
 
 -- a wall after the first arrival
-wall-late : (game : Game) (tiles : List ℕ) → wall_arrives (intake_of game) tiles ≡ Bad
+pub wall-late : (game : Game) (tiles : List ℕ) → wall_arrives (intake_of game) tiles ≡ Bad
 unfolding wall_arrives
 wall-late game tiles = rw (and-false (is_wall (setting_of (intake_of game)).rules.red tiles))
 

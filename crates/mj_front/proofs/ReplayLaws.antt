@@ -6,11 +6,11 @@ use Rattle.mj_history.specs.Records.{IsRecord}
 use Rattle.mj_front.specs.declared.replay.ReplayEnd.{ReplayEnd}
 use Rattle.mj_front.specs.declared.replay.ReplayEnd.TheVariants as ends
 use Rattle.mj_front.specs.Inputs.{IsRead}
-use Rattle.mj_front.specs.Replay.{Replays, ReplaysInput}
+use Rattle.mj_front.specs.Replay.{Saying, TakesInput, TakesRecord, IsSummed, Replays}
 use Rattle.mj_front.specs.Inner.Replaying.{WritesSummary}
 
 -- what is written of the summary is written of the record
-pub summed : (end : ReplayEnd) (input : List ℕ) (summary : Summary) (old new : Option (List ℕ)) → IsRecord input summary → WritesSummary end summary old new → ReplaysInput end input old new
+pub summed : (end : ReplayEnd) (input : List ℕ) (summary : Summary) (old new : Option (List ℕ)) → IsRecord input summary → WritesSummary end summary old new → TakesInput IsSummed end input old new
 summed ends.Written input summary old new sums written = record { summary = summary; sums = sums; bytes = written }
 summed (ends.Bad line cause) input summary old new sums written = absurd written
 summed ends.WriteFault input summary old new sums written = record { summary = summary; sums = sums; bytes = written }
@@ -19,10 +19,13 @@ summed ends.TooLong input summary old new sums written = absurd written
 summed ends.NoMemory input summary old new sums written = written
 
 -- what is written of an input is written of what was read
-pub replayed : (end : ReplayEnd) (input : List ℕ) (old_left new_left old new : Option (List ℕ)) → IsRead old_left new_left input → ReplaysInput end input old new → Replays end old_left new_left old new
-replayed ends.Written input old_left new_left old new read written = record { input = input; read = read; written = written }
-replayed (ends.Bad line cause) input old_left new_left old new read written = record { input = input; read = read; written = written }
-replayed ends.WriteFault input old_left new_left old new read written = record { input = input; read = read; written = written }
-replayed ends.ReadFault input old_left new_left old new read written = absurd written
-replayed ends.TooLong input old_left new_left old new read written = absurd written
-replayed ends.NoMemory input old_left new_left old new read written = written
+pub taken : (Says : Saying) (end : ReplayEnd) (input : List ℕ) (old_left new_left old new : Option (List ℕ)) → IsRead old_left new_left input → TakesInput Says end input old new → TakesRecord Says end old_left new_left old new
+taken Says ends.Written input old_left new_left old new read written = record { input = input; read = read; written = written }
+taken Says (ends.Bad line cause) input old_left new_left old new read written = record { input = input; read = read; written = written }
+taken Says ends.WriteFault input old_left new_left old new read written = record { input = input; read = read; written = written }
+taken Says ends.ReadFault input old_left new_left old new read written = absurd written
+taken Says ends.TooLong input old_left new_left old new read written = absurd written
+taken Says ends.NoMemory input old_left new_left old new read written = written
+
+pub replayed : (end : ReplayEnd) (input : List ℕ) (old_left new_left old new : Option (List ℕ)) → IsRead old_left new_left input → TakesInput IsSummed end input old new → Replays end old_left new_left old new
+replayed end input old_left new_left old new read written = taken IsSummed end input old_left new_left old new read written

@@ -1,6 +1,9 @@
--- Texts of four pieces and of five.
+-- Texts of three pieces, of four and of five.
 use Rattle.std.proofs.Common.{◌≡◌, ℕ, List, ◌++◌, append_assoc}
 use Rattle.mj_bytes.specs.Adds.{Adds}
+
+pub three_pieces : (a b c x y : List ℕ) → Adds a b x → Adds b c y → c ≡ a ++ (x ++ y)
+three_pieces a b c x y p q = rw (q.is, p.is) (simp append_assoc)
 
 pub pieces : (a b c d x y z : List ℕ) → Adds a b x → Adds b c y → Adds c d z → d ≡ a ++ (x ++ (y ++ z))
 pieces a b c d x y z p q r = rw (r.is, q.is, p.is) (simp append_assoc)

@@ -9,9 +9,10 @@ use Rattle.mj_ports.specs.declared.entry.Entry.{Entry}
 use Rattle.mj_ports.specs.declared.entry.Entry.TheVariants.{Sat, Said, Gone, Expired}
 use Rattle.mj_deeds.specs.declared.answer.Answer.{Answer}
 use Rattle.mj_deeds.specs.declared.deed.Deed.{Deed}
+use Rattle.mj_wall.specs.declared.setting.Rules.{Rules}
 use Rattle.mj_wall.specs.declared.setting.Setting.{Setting}
 use Rattle.mj_forms.specs.Lines.{error_text}
-use Rattle.mj_history.specs.After.{After, Chair, Connection, Progress, Verdict, Taken, Late, Refused, Closing, verdict_on, author_after, progress_after, pending, lines_for, is_present, new_chair, after_said, after_gone, own_part, next_deed, with_deed, step, script_at, scripts_at, scripts_in}
+use Rattle.mj_history.specs.After.{After, Chair, Connection, Progress, Verdict, Taken, Late, Refused, Closing, verdict_on, author_after, progress_after, pending, lines_for, is_present, new_chair, after_said, after_gone, own_part, next_deed, with_deed, step, script_at, scripts_at, scripts}
 use Rattle.mj_history.specs.Legal.{Game}
 use Rattle.mj_history.proofs.Entries.{after-append}
 use Rattle.mj_history.proofs.Places.{slice_get-append_other, slice_get-set_at, slice_get-set_other}
@@ -83,7 +84,7 @@ few-sat author name key old new e few =
 said : (setting : Setting) (now : After) (seat : ℕ) (answer : Answer) (chair : Chair) → Chair
 said setting now seat answer chair =
     let v = verdict_on setting.rules now.deeds seat answer chair.progress in
-    record chair { author = author_after v chair.author; progress = progress_after (lines_for seat now.deeds) v chair.progress }
+    record chair { author = author_after v chair.author; progress = progress_after (lines_for setting.rules seat now.deeds) v chair.progress }
 
 chairs-said : (setting : Setting) (now : After) (author seat : ℕ) (answer : Answer) (chair : Chair) → slice_get now.chairs seat ≡ Some chair →
     (own_part setting now (Said author seat answer)).chairs ≡ slice_set now.chairs seat (said setting now seat answer chair)
@@ -106,18 +107,18 @@ told-progress_after lines (Closing rule) p = refl
 behind-all : (earlier told due more : List ℕ) → earlier ++ (told ++ due ++ more) ≡ earlier ++ told ++ due ++ more
 behind-all earlier told due more = simp append_assoc
 
-pending-present : (o : Option Chair) (seat : ℕ) (deeds : List Deed) (chair : Chair) → o ≡ Some chair → is_present chair ≡ true →
-    option_map_or (λ (c : Chair). if is_present c then pending (lines_for seat deeds) c.progress else []) o [] ≡ pending (lines_for seat deeds) chair.progress
-pending-present o seat deeds chair h k = rw (h, k)
+pending-present : (rules : Rules) (o : Option Chair) (seat : ℕ) (deeds : List Deed) (chair : Chair) → o ≡ Some chair → is_present chair ≡ true →
+    option_map_or (λ (c : Chair). if is_present c then pending (lines_for rules seat deeds) c.progress else []) o [] ≡ pending (lines_for rules seat deeds) chair.progress
+pending-present rules o seat deeds chair h k = rw (h, k)
 
 told-said : (setting : Setting) (now : After) (seat : ℕ) (answer : Answer) (chair : Chair) (verdict : Verdict) → verdict_on setting.rules now.deeds seat answer chair.progress ≡ verdict →
-    told_of (said setting now seat answer chair) ≡ told_of chair ++ pending (lines_for seat now.deeds) chair.progress ++ error_of verdict
+    told_of (said setting now seat answer chair) ≡ told_of chair ++ pending (lines_for setting.rules seat now.deeds) chair.progress ++ error_of verdict
 unfolding said
 told-said setting now seat answer chair verdict v =
     let earlier = flat_map (λ (c : Connection). c.told) chair.earlier in
-    ap (λ (w : Verdict). earlier ++ (progress_after (lines_for seat now.deeds) w chair.progress).told) v
-    ∙ ap (λ (bytes : List ℕ). earlier ++ bytes) (told-progress_after (lines_for seat now.deeds) verdict chair.progress)
-    ∙ behind-all earlier chair.progress.told (pending (lines_for seat now.deeds) chair.progress) (error_of verdict)
+    ap (λ (w : Verdict). earlier ++ (progress_after (lines_for setting.rules seat now.deeds) w chair.progress).told) v
+    ∙ ap (λ (bytes : List ℕ). earlier ++ bytes) (told-progress_after (lines_for setting.rules seat now.deeds) verdict chair.progress)
+    ∙ behind-all earlier chair.progress.told (pending (lines_for setting.rules seat now.deeds) chair.progress) (error_of verdict)
 
 -- the verdict on an answer, from the verdict that was told
 verdict-at : (game : Game) (seat : ℕ) (answer : Answer) (chair : Chair) (verdict : Verdict) → slice_get (after_of game).chairs seat ≡ Some chair → verdict_at game seat answer ≡ Some verdict →
@@ -136,7 +137,7 @@ told-own author seat answer old new chair verdict e h present v =
     ap (told_at seat) (chairs-enters old new (Said author seat answer) e ∙ chairs-said old.setting (after_of old) author seat answer chair h)
     ∙ set-own seat (after_of old).chairs chair (said old.setting (after_of old) seat answer chair) h
     ∙ told-said old.setting (after_of old) seat answer chair verdict (verdict-at old seat answer chair verdict h v)
-    ∙ (λ i. option_map_or told_of (sym h i) [] ++ sym (pending-present (slice_get (after_of old).chairs seat) seat (after_of old).deeds chair h present) i ++ error_of verdict)
+    ∙ (λ i. option_map_or told_of (sym h i) [] ++ sym (pending-present old.setting.rules (slice_get (after_of old).chairs seat) seat (after_of old).deeds chair h present) i ++ error_of verdict)
 
 -- another's answer tells a seat nothing
 pub told-other : (author who seat : ℕ) (answer : Answer) (old new : Game) (chair : Chair) → who ≢ seat → Enters old new (Said author who answer) → slice_get (after_of old).chairs who ≡ Some chair →
@@ -152,34 +153,34 @@ few-said author who answer old new chair e h few =
 
 -- a seat leaves
 
-gone : (now : After) (seat : ℕ) (chair : Chair) → Chair
-gone now seat chair = record chair { author = None; progress = record chair.progress { told = chair.progress.told ++ pending (lines_for seat now.deeds) chair.progress } }
+gone : (rules : Rules) (now : After) (seat : ℕ) (chair : Chair) → Chair
+gone rules now seat chair = record chair { author = None; progress = record chair.progress { told = chair.progress.told ++ pending (lines_for rules seat now.deeds) chair.progress } }
 
-chairs-gone : (setting : Setting) (now : After) (author seat : ℕ) (chair : Chair) → slice_get now.chairs seat ≡ Some chair → (own_part setting now (Gone author seat)).chairs ≡ slice_set now.chairs seat (gone now seat chair)
+chairs-gone : (setting : Setting) (now : After) (author seat : ℕ) (chair : Chair) → slice_get now.chairs seat ≡ Some chair → (own_part setting now (Gone author seat)).chairs ≡ slice_set now.chairs seat (gone setting.rules now seat chair)
 unfolding own_part after_gone gone
 chairs-gone setting now author seat chair e = rw e
 
-told-gone-of : (now : After) (seat : ℕ) (chair : Chair) → told_of (gone now seat chair) ≡ told_of chair ++ pending (lines_for seat now.deeds) chair.progress
+told-gone-of : (rules : Rules) (now : After) (seat : ℕ) (chair : Chair) → told_of (gone rules now seat chair) ≡ told_of chair ++ pending (lines_for rules seat now.deeds) chair.progress
 unfolding gone
-told-gone-of now seat chair = sym (append_assoc (flat_map (λ (c : Connection). c.told) chair.earlier) chair.progress.told (pending (lines_for seat now.deeds) chair.progress))
+told-gone-of rules now seat chair = sym (append_assoc (flat_map (λ (c : Connection). c.told) chair.earlier) chair.progress.told (pending (lines_for rules seat now.deeds) chair.progress))
 
 pub told-gone : (author seat : ℕ) (old new : Game) (chair : Chair) → Enters old new (Gone author seat) → slice_get (after_of old).chairs seat ≡ Some chair → is_present chair ≡ true →
     told_in seat (after_of new) ≡ told_in seat (after_of old) ++ pending_at old seat
 told-gone author seat old new chair e h present =
     ap (told_at seat) (chairs-enters old new (Gone author seat) e ∙ chairs-gone old.setting (after_of old) author seat chair h)
-    ∙ set-own seat (after_of old).chairs chair (gone (after_of old) seat chair) h
-    ∙ told-gone-of (after_of old) seat chair
-    ∙ (λ i. option_map_or told_of (sym h i) [] ++ sym (pending-present (slice_get (after_of old).chairs seat) seat (after_of old).deeds chair h present) i)
+    ∙ set-own seat (after_of old).chairs chair (gone old.setting.rules (after_of old) seat chair) h
+    ∙ told-gone-of old.setting.rules (after_of old) seat chair
+    ∙ (λ i. option_map_or told_of (sym h i) [] ++ sym (pending-present old.setting.rules (slice_get (after_of old).chairs seat) seat (after_of old).deeds chair h present) i)
 
 pub told-gone_other : (author who seat : ℕ) (old new : Game) (chair : Chair) → who ≢ seat → Enters old new (Gone author who) → slice_get (after_of old).chairs who ≡ Some chair → told_in seat (after_of new) ≡ told_in seat (after_of old)
 told-gone_other author who seat old new chair apart e h =
     ap (told_at seat) (chairs-enters old new (Gone author who) e ∙ chairs-gone old.setting (after_of old) author who chair h)
-    ∙ set-other who seat (after_of old).chairs (gone (after_of old) who chair) apart
+    ∙ set-other who seat (after_of old).chairs (gone old.setting.rules (after_of old) who chair) apart
 
 pub few-gone : (author who : ℕ) (old new : Game) (chair : Chair) → Enters old new (Gone author who) → slice_get (after_of old).chairs who ≡ Some chair → length (after_of old).chairs ≤ 4 → length (after_of new).chairs ≤ 4
 few-gone author who old new chair e h few =
     subst (λ (chairs : List Chair). length chairs ≤ 4) (sym (chairs-enters old new (Gone author who) e ∙ chairs-gone old.setting (after_of old) author who chair h))
-    (set-few (after_of old).chairs who (gone (after_of old) who chair) few)
+    (set-few (after_of old).chairs who (gone old.setting.rules (after_of old) who chair) few)
 
 -- time runs out
 
@@ -191,12 +192,12 @@ pub same-expired : (author window t1 t2 : ℕ) (old new : Game) → Enters old n
 same-expired author window t1 t2 old new e = chairs-enters old new (Expired author window t1 t2) e ∙ chairs-expired old.setting (after_of old) author window t1 t2
 
 -- what the connections of a seat get: what they were told, and what is pending
-parts : (seat : ℕ) (now : After) (o : Option Chair) →
-    option_map_or (scripts_at seat now) o [] ≡ option_map_or told_of o [] ++ option_map_or (λ (chair : Chair). if is_present chair then pending (lines_for seat now.deeds) chair.progress else []) o []
+parts : (rules : Rules) (seat : ℕ) (now : After) (o : Option Chair) →
+    option_map_or (scripts_at rules seat now) o [] ≡ option_map_or told_of o [] ++ option_map_or (λ (chair : Chair). if is_present chair then pending (lines_for rules seat now.deeds) chair.progress else []) o []
 unfolding scripts_at script_at
-parts seat now None = refl
-parts seat now (Some chair) =
-    sym (append_assoc (flat_map (λ (c : Connection). c.told) chair.earlier) chair.progress.told (if is_present chair then pending (lines_for seat now.deeds) chair.progress else []))
+parts rules seat now None = refl
+parts rules seat now (Some chair) =
+    sym (append_assoc (flat_map (λ (c : Connection). c.told) chair.earlier) chair.progress.told (if is_present chair then pending (lines_for rules seat now.deeds) chair.progress else []))
 
-pub script-parts : (seat : ℕ) (game : Game) → scripts_in seat (after_of game) ≡ told_in seat (after_of game) ++ pending_at game seat
-script-parts seat game = parts seat (after_of game) (slice_get (after_of game).chairs seat)
+pub script-parts : (seat : ℕ) (game : Game) → scripts seat game.setting game.entries ≡ told_in seat (after_of game) ++ pending_at game seat
+script-parts seat game = parts game.setting.rules seat (after_of game) (slice_get (after_of game).chairs seat)

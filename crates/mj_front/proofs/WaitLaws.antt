@@ -1,10 +1,11 @@
 -- Words of a command that waits, and of one that doesn't.
 use Rattle.std.proofs.Common.{◌≡◌, ℕ, Bool, true, false, not, List, [], ◌∷◌, refl, sym, subst, ◌∙◌, arith, codes, true≢false}
-use Rattle.std.specs.Prelude.{Option, Some, None, bytes_eq, if◌then◌else◌}
+use Rattle.std.specs.Prelude.{Option, Some, None, ◌<◌, option_and_then, bytes_eq, if◌then◌else◌}
 use Rattle.std.proofs.KnownBytes.{Keeps-refl}
 use Rattle.std.proofs.lemmas.Slice.Eq.{bytes_eq-Decides}
 use Rattle.mj_words.specs.declared.serving.Serving.{Serving}
-use Rattle.mj_words.specs.Asked.{Asked, ServedWith, RefereeOf, ServingOf, SummaryOfRecord, HandOf, SelfPlayOf, Nothing, asked_by, referee_by, referee_asked, serve_asked, replay_by, replay_asked, hand_by, hand_asked, self_play_by, self_play_asked, serving_by}
+use Rattle.mj_words.specs.Asked.{Asked, ServedWith, RefereeOf, ServingOf, SummaryOfRecord, HandOf, SelfPlayOf, ViewOfRecord, KeepOf, SafeOf, Nothing, asked_by, seat_named, referee_by, referee_asked, keep_by, keep_asked, serve_asked, replay_by, replay_asked, hand_by, hand_asked, self_play_by, self_play_asked, observe_by, observe_asked, serving_by, safe_by, safe_asked}
+use Rattle.mj_words.specs.Lines.{referee_line, safe_line, value_in}
 use Rattle.mj_words.specs.Commands.{served_with, asked_by_serving}
 use Rattle.mj_front.specs.declared.serve.ServeEnd.{ServeEnd}
 use Rattle.mj_front.specs.declared.serve.ServeEnd.TheVariants as ends
@@ -12,11 +13,34 @@ use Rattle.mj_front.specs.declared.status.Status.{Status}
 use Rattle.mj_front.specs.declared.status.Status.TheVariants as statuses
 use Rattle.mj_front.specs.Statuses.{serve_status}
 use Rattle.mj_front.specs.Faults.{CountsReadFaults}
-use Rattle.mj_front.specs.Run.{Runs, RunsAny, IsAlone, LeavesAlone, is_waiting}
+use Rattle.mj_front.specs.Run.{Runs, RunsAny, RunsDisk, IsAlone, LeavesAlone, is_waiting}
 
-referee_alone : (o : Option ℕ) → IsAlone (referee_by o)
-referee_alone None = tt
-referee_alone (Some seat) = tt
+-- The seat that a word names is one of the four.
+IsSeat : Option ℕ → Type 0
+IsSeat None = Unit {0}
+IsSeat (Some seat) = seat < 4
+
+named_within : (word : Option (List ℕ)) → IsSeat (option_and_then seat_named word)
+unfolding IsSeat
+named_within None = tt
+named_within (Some word) = by_word (bytes_eq word (codes "0")) (bytes_eq word (codes "1")) (bytes_eq word (codes "2")) (bytes_eq word (codes "3"))
+  where
+    by_word : (a b c d : Bool) → IsSeat (if a then Some 0 else (if b then Some 1 else (if c then Some 2 else (if d then Some 3 else None))))
+    by_word true b c d = omega arith
+    by_word false true c d = omega arith
+    by_word false false true d = omega arith
+    by_word false false false true = omega arith
+    by_word false false false false = tt
+
+referee_alone : (o : Option ℕ) → IsSeat o → IsAlone (referee_by o)
+unfolding IsSeat
+referee_alone None within = tt
+referee_alone (Some seat) within = within
+
+safe_alone : (o : Option ℕ) → IsSeat o → IsAlone (safe_by o)
+unfolding IsSeat
+safe_alone None within = tt
+safe_alone (Some seat) within = within
 
 replay_alone : (b : Bool) → IsAlone (replay_by b)
 replay_alone false = tt
@@ -30,21 +54,33 @@ self_play_alone : (o : Option ℕ) → IsAlone (self_play_by o)
 self_play_alone None = tt
 self_play_alone (Some number) = tt
 
-one_alone : (r s p h g : Bool) (words : List (List ℕ)) → s ≡ false → IsAlone (if r then referee_asked words else (if s then serve_asked words else (if p then replay_asked words else (if h then hand_asked words else (if g then self_play_asked words else Nothing)))))
-one_alone true s p h g words isnt = referee_alone _
-one_alone false true p h g words isnt = absurd (not_so isnt)
+observe_alone : (b : Bool) → IsAlone (observe_by b)
+observe_alone false = tt
+observe_alone true = tt
+
+keep_alone : (o : Option ℕ) → IsAlone (keep_by o)
+keep_alone None = tt
+keep_alone (Some seat) = tt
+
+one_alone : (r s p h g o k a : Bool) (words : List (List ℕ)) → s ≡ false
+    → IsAlone (if r then referee_asked words else (if s then serve_asked words else (if p then replay_asked words else (if h then hand_asked words else (if g then self_play_asked words else (if o then observe_asked words else (if k then keep_asked words else (if a then safe_asked words else Nothing))))))))
+one_alone true s p h g o k a words isnt = referee_alone _ (named_within (value_in referee_line (codes "seat") words))
+one_alone false true p h g o k a words isnt = absurd (not_so isnt)
   where
     not_so : true ≡ false → ⊥
     not_so e = cc
-one_alone false false true h g words isnt = replay_alone _
-one_alone false false false true g words isnt = hand_alone _
-one_alone false false false false true words isnt = self_play_alone _
-one_alone false false false false false words isnt = tt
+one_alone false false true h g o k a words isnt = replay_alone _
+one_alone false false false true g o k a words isnt = hand_alone _
+one_alone false false false false true o k a words isnt = self_play_alone _
+one_alone false false false false false true k a words isnt = observe_alone _
+one_alone false false false false false false true a words isnt = keep_alone _
+one_alone false false false false false false false true words isnt = safe_alone _ (named_within (value_in safe_line (codes "seat") words))
+one_alone false false false false false false false false words isnt = tt
 
 -- Words whose first is of no command that waits ask for no game that is served.
 pub alone_of : (words : List (List ℕ)) → is_waiting words ≡ false → IsAlone (asked_by words)
 alone_of [] isnt = tt
-alone_of (first ∷ words) isnt = one_alone (bytes_eq first (codes "referee")) (bytes_eq first (codes "serve")) (bytes_eq first (codes "replay")) (bytes_eq first (codes "hand")) (bytes_eq first (codes "selfplay")) (first ∷ words) isnt
+alone_of (first ∷ words) isnt = one_alone (bytes_eq first (codes "referee")) (bytes_eq first (codes "serve")) (bytes_eq first (codes "replay")) (bytes_eq first (codes "hand")) (bytes_eq first (codes "selfplay")) (bytes_eq first (codes "observe")) (bytes_eq first (codes "keep")) (bytes_eq first (codes "safe")) (first ∷ words) isnt
 
 pub alone_as : (asked other : Asked) → asked ≡ other → IsAlone other → IsAlone asked
 alone_as asked other e h = subst IsAlone (sym e) h
@@ -74,6 +110,9 @@ any_of Does (ServingOf s) status ol nl ow nw h = absurd h
 any_of Does SummaryOfRecord status ol nl ow nw h = h
 any_of Does (HandOf words) status ol nl ow nw h = h
 any_of Does (SelfPlayOf number) status ol nl ow nw h = h
+any_of Does ViewOfRecord status ol nl ow nw h = h
+any_of Does (KeepOf seat) status ol nl ow nw h = h
+any_of Does (SafeOf seat) status ol nl ow nw h = h
 any_of Does Nothing status ol nl ow nw h = h
 
 pub left_alone : (asked : Asked) (Same : Type 0) → Same → LeavesAlone asked Same
@@ -82,6 +121,9 @@ left_alone (ServingOf s) Same h = tt
 left_alone SummaryOfRecord Same h = h
 left_alone (HandOf words) Same h = h
 left_alone (SelfPlayOf number) Same h = h
+left_alone ViewOfRecord Same h = h
+left_alone (KeepOf seat) Same h = h
+left_alone (SafeOf seat) Same h = h
 left_alone Nothing Same h = h
 
 -- A run that serves a game.
@@ -114,3 +156,9 @@ runs_none Does none words left written is = subst (λ (a : Asked). RunsAny Does 
     by (Some seed) None port draws red = record { words = tt; unread = Keeps-refl left; unwritten = Keeps-refl written }
     by (Some seed) (Some limit) None draws red = record { words = tt; unread = Keeps-refl left; unwritten = Keeps-refl written }
     by (Some seed) (Some limit) (Some port) draws red = record { end = ends.NoMemory; gives = refl; unread = Keeps-refl left; does = none _ }
+
+-- A game that is served leaves the disk alone, and so do words that are refused.
+pub serve_spares : {D : Type 0} (told : D → Option (List ℕ)) (may_leave : D → List ℕ → Type 0) (faults : D → ℕ) (disk : D) (asked : Asked) (serving : Option Serving) (status : Status) (ol nl ow nw : Option (List ℕ)) → asked ≡ asked_by_serving serving
+    → RunsDisk told may_leave faults asked status ol nl ow nw disk disk
+serve_spares told may_leave faults disk asked None status ol nl ow nw e = subst (λ (a : Asked). RunsDisk told may_leave faults a status ol nl ow nw disk disk) (sym e) refl
+serve_spares told may_leave faults disk asked (Some serving) status ol nl ow nw e = subst (λ (a : Asked). RunsDisk told may_leave faults a status ol nl ow nw disk disk) (sym e) refl

@@ -4,17 +4,14 @@ use Rattle.std.specs.Prelude.{Option, Some, None, nat_lt, if◌then◌else◌}
 use Rattle.std.specs.List.{list_all}
 use Rattle.std.proofs.lemmas.Bool.Decides.{nat_tests}
 use Rattle.std.proofs.lemmas.List.{length-append}
-use Rattle.mj_bytes.specs.Adds.{Adds}
 use Rattle.mj_wall.specs.declared.setting.Rules.{Rules}
 use Rattle.mj_wall.specs.Places.{is_wall}
-use Rattle.mj_history.specs.After.{scripts_in}
 use Rattle.mj_history.specs.Legal.{Game}
-use Rattle.mj_history.specs.Arrivals.{ArrivalForm, Header, WallOf, Sit, Say, Leave, Expire, NoForm, form_of, Intake, setting_of, Arrival, Leads, Bad, now_of, sit_arrives, say_arrives, gone_arrives, expiry_arrives, wall_arrives, behind_header, arrives, Input, BadAt, intake_on, intake_from}
-use Rattle.mj_core.specs.Calls.{pending_at}
+use Rattle.mj_history.specs.Arrivals.{ArrivalForm, Header, WallOf, Sit, Say, Leave, Expire, NoForm, form_of, Intake, setting_of, game_of, Arrival, Leads, Bad, sit_arrives, say_arrives, gone_arrives, expiry_arrives, wall_arrives, behind_header, arrives, Input, BadAt, intake_on, intake_from}
 use Rattle.mj_front.specs.declared.intake.End.{End}
+use Rattle.mj_front.specs.declared.intake.Question.{Question}
 use Rattle.mj_front.specs.Referee.{ending}
-use Rattle.mj_front.specs.Inner.Intake.{intake_of, intake_with_walls, is_wall_form, begin_with_wall, HearsAll, Tells}
-use Rattle.mj_front.proofs.Telling.{script-parts}
+use Rattle.mj_front.specs.Inner.Intake.{answer_to, intake_of, intake_with_walls, is_wall_form, begin_with_wall, HasNothing, HearsAll, Tells}
 
 -- a wall more, after a header and walls
 wall-by : (reading : Intake) (tiles : List ℕ) (whole few : Bool) → is_wall (setting_of reading).rules.red tiles ≡ whole → nat_lt (length reading.walls) 200 ≡ few → reading.begun ≡ false
@@ -73,7 +70,7 @@ pub record IsWallLine (red : Bool) (walls : List (List ℕ)) (lines texts : List
   pub same : seen ≡ tiles
   pub read : given ≡ (if is_wall red seen && nat_lt before 200 then Some seen else None)
 
-read-wall : (red : Bool) (walls lines texts : List (List ℕ)) (given : Option (List ℕ)) → (w : IsWallLine red walls lines texts given) → given ≡ (if is_wall red w.tiles && nat_lt (length walls) 200 then Some w.tiles else None)
+pub read-wall : (red : Bool) (walls lines texts : List (List ℕ)) (given : Option (List ℕ)) → (w : IsWallLine red walls lines texts given) → given ≡ (if is_wall red w.tiles && nat_lt (length walls) 200 then Some w.tiles else None)
 read-wall red walls lines texts given w = rw (← w.many, ← w.same) w.read
 
 -- one wall more
@@ -100,15 +97,15 @@ pub counted : (number rest others all : ℕ) → number + rest ≤ all → other
 counted number rest others all h k = omega arith
 
 -- tiles that are no wall, or one wall too many
-pub tells-bad_wall : (seat number : ℕ) (end : End) (rules : Rules) (walls lines texts : List (List ℕ)) (unread bytes : List ℕ) (input : Input) → input ≡ intake_from (intake_with_walls rules walls) number lines unread
-    → IsWallLine rules.red walls lines texts None → BadAt number ≡ ending end → bytes ≡ [] → Tells input seat end bytes
-tells-bad_wall seat number end rules walls lines texts unread bytes input h w e b =
+pub nothing-bad_wall : (number : ℕ) (end : End) (rules : Rules) (walls lines texts : List (List ℕ)) (unread : List ℕ) (input : Input) → input ≡ intake_from (intake_with_walls rules walls) number lines unread
+    → IsWallLine rules.red walls lines texts None → BadAt number ≡ ending end → HasNothing input end
+nothing-bad_wall number end rules walls lines texts unread input h w e =
     let same : input ≡ record { reading = intake_with_walls rules walls; ending = BadAt number } =
     h ∙ ap (λ (ls : List (List ℕ)). intake_from (intake_with_walls rules walls) number ls unread) w.lines_are
     ∙ ap (λ (arrival : Arrival). intake_on arrival (λ next. intake_from next (number + 1) texts unread) (intake_with_walls rules walls) number) (wall-none rules walls w.line w.tiles w.form (read-wall rules.red walls lines texts None w)) in
     record {
       ends = ap (λ (input : Input). input.ending) same ∙ e;
-      told = b ∙ sym (ap (λ (input : Input). scripts_in seat (now_of input.reading)) same);
+      nothing = ap (λ (input : Input). input.reading.entries) same;
     }
 
 -- after a header without a wall only a wall may stand
@@ -122,7 +119,7 @@ alone rules (Leave seat) h = refl
 alone rules (Expire window t1 t2) h = refl
 alone rules NoForm h = refl
 
-arrives-alone : (rules : Rules) (line : List ℕ) → is_wall_form (form_of line) ≡ false → arrives (intake_with_walls rules []) line ≡ Bad
+pub arrives-alone : (rules : Rules) (line : List ℕ) → is_wall_form (form_of line) ≡ false → arrives (intake_with_walls rules []) line ≡ Bad
 unfolding arrives
 arrives-alone rules line h = alone rules (form_of line) h
 
@@ -133,16 +130,16 @@ no-walls (wall ∷ walls) many none e = absurd (some (length walls) e)
     some : (n : ℕ) → many ≡ suc n → ⊥
     some n k = grind (arith, nat_tests, none, k)
 
-pub tells-no_wall : (seat number : ℕ) (end : End) (rules : Rules) (walls lines : List (List ℕ)) (rest bytes : List ℕ) → walls ≡ [] → (length lines == 0) ≡ false → begin_with_wall lines ≡ false → BadAt number ≡ ending end → bytes ≡ []
-    → Tells (intake_from (intake_with_walls rules walls) number lines rest) seat end bytes
-tells-no_wall seat number end rules walls [] rest bytes w none other e b = cc
-tells-no_wall seat number end rules walls (line ∷ lines) rest bytes w none other e b =
+pub nothing-no_wall : (number : ℕ) (end : End) (rules : Rules) (walls lines : List (List ℕ)) (rest : List ℕ) → walls ≡ [] → (length lines == 0) ≡ false → begin_with_wall lines ≡ false → BadAt number ≡ ending end
+    → HasNothing (intake_from (intake_with_walls rules walls) number lines rest) end
+nothing-no_wall number end rules walls [] rest w none other e = cc
+nothing-no_wall number end rules walls (line ∷ lines) rest w none other e =
     let same : intake_from (intake_with_walls rules walls) number (line ∷ lines) rest ≡ record { reading = intake_with_walls rules []; ending = BadAt number } =
     ap (λ (given : List (List ℕ)). intake_from (intake_with_walls rules given) number (line ∷ lines) rest) w
     ∙ ap (λ (arrival : Arrival). intake_on arrival (λ next. intake_from next (number + 1) lines rest) (intake_with_walls rules []) number) (arrives-alone rules line other) in
     record {
       ends = ap (λ (input : Input). input.ending) same ∙ e;
-      told = b ∙ sym (ap (λ (input : Input). scripts_in seat (now_of input.reading)) same);
+      nothing = ap (λ (input : Input). input.reading.entries) same;
     }
 
 -- After a header and its walls it makes no difference to what follows whether an arrival came already, where the next line is
@@ -160,15 +157,15 @@ begun-form rules walls (Leave seat) h = refl
 begun-form rules walls (Expire window t1 t2) h = refl
 begun-form rules walls NoForm h = refl
 
--- two inputs end alike, and their games tell the same
+-- two inputs end alike, and their games are the same
 record Alike (a b : Input) : Type 0 where
   ends : a.ending ≡ b.ending
-  now : now_of a.reading ≡ now_of b.reading
+  game : game_of a.reading ≡ game_of b.reading
 
 alike-on : (rules : Rules) (walls : List (List ℕ)) (number : ℕ) (onwards : Intake → Input) (arrival : Arrival) → Alike (intake_on arrival onwards (intake_with_walls rules walls) number) (intake_on arrival onwards (begun_with rules walls) number)
 unfolding begun_with
-alike-on rules walls number onwards (Leads next) = record { ends = refl; now = refl }
-alike-on rules walls number onwards Bad = record { ends = refl; now = refl }
+alike-on rules walls number onwards (Leads next) = record { ends = refl; game = refl }
+alike-on rules walls number onwards Bad = record { ends = refl; game = refl }
 
 begun-line : (rules : Rules) (walls : List (List ℕ)) (line : List ℕ) → is_wall_form (form_of line) ≡ false → arrives (intake_with_walls rules walls) line ≡ arrives (begun_with rules walls) line
 unfolding begun_with arrives
@@ -187,14 +184,13 @@ begun-game : (rules : Rules) (walls : List (List ℕ)) (start : Game) → start 
 unfolding begun_with
 begun-game rules walls start s = rw s
 
-pub tells-walls : (seat number : ℕ) (end : End) (rules : Rules) (walls : List (List ℕ)) (start game : Game) (lines : List (List ℕ)) (rest told all : List ℕ) →
+pub tells-walls : (question : Question) (seat number : ℕ) (end : End) (rules : Rules) (walls : List (List ℕ)) (start game : Game) (lines : List (List ℕ)) (rest told all : List ℕ) →
     start ≡ record { setting = record { walls = walls; rules = rules }; entries = [] } → (length lines == 0) ≡ false → begin_with_wall lines ≡ false →
-    HearsAll (intake_from (intake_of start) number lines rest) seat end game told → Adds told all (pending_at game seat) → Tells (intake_from (intake_with_walls rules walls) number lines rest) seat end all
-tells-walls seat number end rules walls start game lines rest told all s some other h adds =
+    HearsAll (intake_from (intake_of start) number lines rest) seat end game told → all ≡ answer_to question seat game → Tells question (intake_from (intake_with_walls rules walls) number lines rest) seat end all
+tells-walls question seat number end rules walls start game lines rest told all s some other h is =
     let alike = begun-alike rules walls number lines rest some other in
     let same : intake_from (begun_with rules walls) number lines rest ≡ intake_from (intake_of start) number lines rest = ap (λ (reading : Intake). intake_from reading number lines rest) (begun-game rules walls start s) in
     record {
       ends = alike.ends ∙ ap (λ (input : Input). input.ending) same ∙ h.ends;
-      told = adds.is ∙ ap (λ (xs : List ℕ). xs ++ pending_at game seat) h.play.bytes ∙ sym (script-parts seat game)
-          ∙ ap (scripts_in seat) (sym (alike.now ∙ ap (λ (input : Input). now_of input.reading) same ∙ ap now_of h.reading));
+      told = is ∙ ap (answer_to question seat) (sym (alike.game ∙ ap (λ (input : Input). game_of input.reading) same ∙ ap game_of h.reading));
     }

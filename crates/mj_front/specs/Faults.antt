@@ -1,4 +1,4 @@
--- How the counts of faults of the source and of the sink change by a run, by its status.
+-- How the counts of faults of the source, of the sink and of the disk change by a run, by its status.
 use Rattle.std.specs.Prelude.{◌≡◌, ℕ, ◌≤◌, ◌<◌}
 use Rattle.mj_front.specs.declared.status.Status.{Status}
 use Rattle.mj_front.specs.declared.status.Status.TheVariants as statuses
@@ -14,6 +14,9 @@ CountsReadFaults (statuses.BadArrival line) old new = old ≤ new
 CountsReadFaults (statuses.BadRecord line cause) old new = old ≤ new
 CountsReadFaults statuses.HostFault old new = old ≡ new
 CountsReadFaults statuses.TooLong old new = old ≤ new
+CountsReadFaults statuses.DiskFault old new = old ≤ new
+CountsReadFaults statuses.OtherGame old new = old ≤ new
+CountsReadFaults (statuses.BadJournal place) old new = old ≤ new
 
 -- The count of write faults never falls, and rises where the status says so.
 abbrev pub CountsWriteFaults : Status → ℕ → ℕ → Type 0
@@ -26,3 +29,11 @@ CountsWriteFaults (statuses.BadArrival line) old new = old ≤ new
 CountsWriteFaults (statuses.BadRecord line cause) old new = old ≡ new
 CountsWriteFaults statuses.HostFault old new = old ≤ new
 CountsWriteFaults statuses.TooLong old new = old ≡ new
+CountsWriteFaults statuses.DiskFault old new = old ≡ new
+CountsWriteFaults statuses.OtherGame old new = old ≡ new
+CountsWriteFaults (statuses.BadJournal place) old new = old ≡ new
+
+-- The count of faults of the disk never falls, and rises where the status says so.
+abbrev pub CountsDiskFaults : Status → ℕ → ℕ → Type 0
+CountsDiskFaults statuses.DiskFault old new = old < new
+CountsDiskFaults status old new = old ≤ new

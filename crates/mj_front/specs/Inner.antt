@@ -2,6 +2,10 @@
 -- outside the crate names them, and no public clause.
 pub mod Forms
 pub mod Intake
+pub mod Observing
 pub mod Refereeing
 pub mod Replaying
 pub mod Serving
+pub mod Watching
+pub mod Keeping
+pub mod Bases

@@ -1,5 +1,8 @@
 pub mod Inputs
 pub mod Referee
+pub mod Observe
+pub mod Keep
+pub mod Safe
 pub mod Replay
 pub mod Hand
 pub mod SelfPlay

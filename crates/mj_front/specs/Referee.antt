@@ -1,4 +1,4 @@
--- What the command `referee` tells a seat, reads and writes.
+-- What the command `referee` tells a seat; and what it and others that ask something of the game of arrivals read and write.
 use Rattle.std.specs.Prelude.{◌≡◌, ℕ, List, Option}
 use Rattle.std.specs.Io.KnownBytes.{Appends, Keeps}
 use Rattle.mj_links.specs.Sinks.{WritesPrefix}
@@ -27,32 +27,32 @@ pub record IsTold (IsWritten : List ℕ → Type 0) (seat : ℕ) (game : Game) :
   -- and each window is decided by the answers that were taken in it, with the default of each seat that gave none
   pub decided : EachIsDecided game.setting game.entries
 
--- An input ends so, and what its game tells the seat is written whole.
-pub record TellsAll (ends_so : Ending) (seat : ℕ) (input : List ℕ) (old new : Option (List ℕ)) : Type 0 where
+-- An input ends so, and what is said of its game for the seat, as `Says` has it, is written whole.
+pub record TellsAll (Says : (List ℕ → Type 0) → ℕ → Game → Type 0) (ends_so : Ending) (seat : ℕ) (input : List ℕ) (old new : Option (List ℕ)) : Type 0 where
   pub ends : (input_of input).ending ≡ ends_so
-  pub told : IsTold (Appends old new) seat (game_of (input_of input).reading)
+  pub told : Says (Appends old new) seat (game_of (input_of input).reading)
 
--- An input that ends so was read, and what its game tells the seat is written whole.
-pub record RefereesAll (ends_so : Ending) (seat : ℕ) (old_left new_left old_written new_written : Option (List ℕ)) : Type 0 where
+-- An input that ends so was read, and what is said of its game for the seat is written whole.
+pub record RefereesAll (Says : (List ℕ → Type 0) → ℕ → Game → Type 0) (ends_so : Ending) (seat : ℕ) (old_left new_left old_written new_written : Option (List ℕ)) : Type 0 where
   pub input : List ℕ
   pub read : IsRead old_left new_left input
-  pub told : TellsAll ends_so seat input old_written new_written
+  pub told : TellsAll Says ends_so seat input old_written new_written
 
--- An input was read, and of what its game tells the seat a part from the front is written, and not all.
-pub record RefereesPart (seat : ℕ) (old_left new_left old_written new_written : Option (List ℕ)) : Type 0 where
+-- An input was read, and of what is said of its game for the seat a part from the front is written, and not all.
+pub record RefereesPart (Says : (List ℕ → Type 0) → ℕ → Game → Type 0) (seat : ℕ) (old_left new_left old_written new_written : Option (List ℕ)) : Type 0 where
   pub input : List ℕ
   pub read : IsRead old_left new_left input
-  pub told : IsTold (WritesPrefix old_written new_written) seat (game_of (input_of input).reading)
+  pub told : Says (WritesPrefix old_written new_written) seat (game_of (input_of input).reading)
 
 -- How an input ends.
 abbrev pub ending : End → Ending
 ending inputs.Whole = Whole
 ending (inputs.Bad line) = BadAt line
 
--- What the referee of a seat does, by its end. A fault of the source and running out of memory write nothing.
-abbrev pub Referees : RefereeEnd → ℕ → Option (List ℕ) → Option (List ℕ) → Option (List ℕ) → Option (List ℕ) → Type 0
-Referees (ends.Told end) seat old_left new_left old_written new_written = RefereesAll (ending end) seat old_left new_left old_written new_written
-Referees ends.WriteFault seat old_left new_left old_written new_written = RefereesPart seat old_left new_left old_written new_written
-Referees ends.ReadFault seat old_left new_left old_written new_written = IsCutOff old_left new_left old_written new_written
-Referees ends.TooLong seat old_left new_left old_written new_written = IsTooLong old_left new_left old_written new_written
-Referees ends.NoMemory seat old_left new_left old_written new_written = Keeps old_written new_written
+-- What is done for a seat, by the end. A fault of the source and running out of memory write nothing.
+abbrev pub Referees : ((List ℕ → Type 0) → ℕ → Game → Type 0) → RefereeEnd → ℕ → Option (List ℕ) → Option (List ℕ) → Option (List ℕ) → Option (List ℕ) → Type 0
+Referees Says (ends.Told end) seat old_left new_left old_written new_written = RefereesAll Says (ending end) seat old_left new_left old_written new_written
+Referees Says ends.WriteFault seat old_left new_left old_written new_written = RefereesPart Says seat old_left new_left old_written new_written
+Referees Says ends.ReadFault seat old_left new_left old_written new_written = IsCutOff old_left new_left old_written new_written
+Referees Says ends.TooLong seat old_left new_left old_written new_written = IsTooLong old_left new_left old_written new_written
+Referees Says ends.NoMemory seat old_left new_left old_written new_written = Keeps old_written new_written

@@ -1,4 +1,4 @@
--- What the command `replay` reads and writes.
+-- What a command reads and writes that reads a record, and what the command `replay` writes of it.
 use Rattle.std.specs.Prelude.{ℕ, List, Option}
 use Rattle.std.specs.Io.KnownBytes.{Appends, Keeps}
 use Rattle.mj_links.specs.Sinks.{WritesPrefix}
@@ -26,26 +26,34 @@ pub record IsRefused (line : ℕ) (cause : Cause) (input : List ℕ) (old new : 
   pub breaks : IsNoRecord input line (fault_of cause)
   pub unwritten : Keeps old new
 
+-- What says of an input that is a record what is written of it, whole or in part.
+abbrev pub Saying : Type 1
+Saying = (List ℕ → Type 0) → List ℕ → Type 0
+
 -- What is written once an input was read, by the end. Running out of memory writes nothing, and no read can fail any more.
-abbrev pub ReplaysInput : ReplayEnd → List ℕ → Option (List ℕ) → Option (List ℕ) → Type 0
-ReplaysInput ends.Written input old new = IsSummed (Appends old new) input
-ReplaysInput (ends.Bad line cause) input old new = IsRefused line cause input old new
-ReplaysInput ends.WriteFault input old new = IsSummed (WritesPrefix old new) input
-ReplaysInput ends.ReadFault input old new = ⊥
-ReplaysInput ends.TooLong input old new = ⊥
-ReplaysInput ends.NoMemory input old new = Keeps old new
+abbrev pub TakesInput : Saying → ReplayEnd → List ℕ → Option (List ℕ) → Option (List ℕ) → Type 0
+TakesInput Says ends.Written input old new = Says (Appends old new) input
+TakesInput Says (ends.Bad line cause) input old new = IsRefused line cause input old new
+TakesInput Says ends.WriteFault input old new = Says (WritesPrefix old new) input
+TakesInput Says ends.ReadFault input old new = ⊥
+TakesInput Says ends.TooLong input old new = ⊥
+TakesInput Says ends.NoMemory input old new = Keeps old new
 
 -- An input was read, and this is what is written of it.
-pub record ReplaysAll (end : ReplayEnd) (old_left new_left old_written new_written : Option (List ℕ)) : Type 0 where
+pub record TakesAll (Says : Saying) (end : ReplayEnd) (old_left new_left old_written new_written : Option (List ℕ)) : Type 0 where
   pub input : List ℕ
   pub read : IsRead old_left new_left input
-  pub written : ReplaysInput end input old_written new_written
+  pub written : TakesInput Says end input old_written new_written
 
--- What the command does, by its end. A fault of the source and running out of memory write nothing.
+-- What a command does that reads a record, by its end. A fault of the source and running out of memory write nothing.
+abbrev pub TakesRecord : Saying → ReplayEnd → Option (List ℕ) → Option (List ℕ) → Option (List ℕ) → Option (List ℕ) → Type 0
+TakesRecord Says ends.Written old_left new_left old_written new_written = TakesAll Says ends.Written old_left new_left old_written new_written
+TakesRecord Says (ends.Bad line cause) old_left new_left old_written new_written = TakesAll Says (ends.Bad line cause) old_left new_left old_written new_written
+TakesRecord Says ends.WriteFault old_left new_left old_written new_written = TakesAll Says ends.WriteFault old_left new_left old_written new_written
+TakesRecord Says ends.ReadFault old_left new_left old_written new_written = IsCutOff old_left new_left old_written new_written
+TakesRecord Says ends.TooLong old_left new_left old_written new_written = IsTooLong old_left new_left old_written new_written
+TakesRecord Says ends.NoMemory old_left new_left old_written new_written = Keeps old_written new_written
+
+-- What the command `replay` does.
 abbrev pub Replays : ReplayEnd → Option (List ℕ) → Option (List ℕ) → Option (List ℕ) → Option (List ℕ) → Type 0
-Replays ends.Written old_left new_left old_written new_written = ReplaysAll ends.Written old_left new_left old_written new_written
-Replays (ends.Bad line cause) old_left new_left old_written new_written = ReplaysAll (ends.Bad line cause) old_left new_left old_written new_written
-Replays ends.WriteFault old_left new_left old_written new_written = ReplaysAll ends.WriteFault old_left new_left old_written new_written
-Replays ends.ReadFault old_left new_left old_written new_written = IsCutOff old_left new_left old_written new_written
-Replays ends.TooLong old_left new_left old_written new_written = IsTooLong old_left new_left old_written new_written
-Replays ends.NoMemory old_left new_left old_written new_written = Keeps old_written new_written
+Replays end old_left new_left old_written new_written = TakesRecord IsSummed end old_left new_left old_written new_written

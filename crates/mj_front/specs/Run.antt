@@ -1,17 +1,23 @@
 -- What a run does by what its words ask for.
-use Rattle.std.specs.Prelude.{◌≡◌, ℕ, ◌≤◌, Bool, false, List, [], ◌∷◌, codes, bytes_eq, Option}
+use Rattle.std.specs.Prelude.{◌≡◌, ℕ, ◌<◌, ◌≤◌, Bool, false, List, [], ◌∷◌, codes, bytes_eq, Option}
 use Rattle.std.specs.Io.KnownBytes.{Keeps}
-pub use Rattle.mj_words.specs.Asked.{Asked, ServedWith, RefereeOf, ServingOf, SummaryOfRecord, HandOf, SelfPlayOf, Nothing, asked_by}
+pub use Rattle.mj_words.specs.Asked.{Asked, ServedWith, RefereeOf, ServingOf, SummaryOfRecord, HandOf, SelfPlayOf, ViewOfRecord, KeepOf, SafeOf, Nothing, asked_by}
 use Rattle.mj_front.specs.declared.hand.HandLinesEnd.{HandLinesEnd}
+use Rattle.mj_front.specs.declared.keep.KeepEnd.{KeepEnd}
 use Rattle.mj_front.specs.declared.referee.RefereeEnd.{RefereeEnd}
 use Rattle.mj_front.specs.declared.replay.ReplayEnd.{ReplayEnd}
 use Rattle.mj_front.specs.declared.self_game.SelfPlayEnd.{SelfPlayEnd}
 use Rattle.mj_front.specs.declared.serve.ServeEnd.{ServeEnd}
 use Rattle.mj_front.specs.declared.status.Status.{Status}
 use Rattle.mj_front.specs.declared.status.Status.TheVariants as statuses
-use Rattle.mj_front.specs.Statuses.{referee_status, serve_status, replay_status, hand_status, self_play_status}
-use Rattle.mj_front.specs.Referee.{Referees}
+use Rattle.mj_front.specs.Statuses.{referee_status, serve_status, replay_status, hand_status, self_play_status, keep_status}
+use Rattle.mj_history.specs.Legal.{Game}
+use Rattle.mj_front.specs.Referee.{IsTold, Referees}
+use Rattle.mj_front.specs.Keep.{KeepsAll}
+use Rattle.mj_front.specs.Faults.{CountsDiskFaults}
+use Rattle.mj_front.specs.Safe.{IsSafeTold}
 use Rattle.mj_front.specs.Replay.{Replays}
+use Rattle.mj_front.specs.Observe.{Observes}
 use Rattle.mj_front.specs.Hand.{WritesHand}
 use Rattle.mj_front.specs.SelfPlay.{WritesSelfPlay}
 
@@ -27,17 +33,23 @@ pub record IsUnheard (status : Status) (old_left new_left old_written new_writte
   pub unread : Keeps old_left new_left
   pub unwritten : Keeps old_written new_written
 
--- The referee of a seat has run, and its end gives the status.
-pub record RunsReferee (status : Status) (seat : ℕ) (old_left new_left old_written new_written : Option (List ℕ)) : Type 0 where
+-- Arrivals were read and what is asked of their game for a seat was written, as `Says` has it; and the end gives the status.
+pub record RunsReferee (Says : (List ℕ → Type 0) → ℕ → Game → Type 0) (status : Status) (seat : ℕ) (old_left new_left old_written new_written : Option (List ℕ)) : Type 0 where
   pub end : RefereeEnd
   pub gives : status ≡ referee_status end
-  pub does : Referees end seat old_left new_left old_written new_written
+  pub does : Referees Says end seat old_left new_left old_written new_written
 
 -- The summary of the record was written, and its end gives the status.
 pub record RunsReplay (status : Status) (old_left new_left old_written new_written : Option (List ℕ)) : Type 0 where
   pub end : ReplayEnd
   pub gives : status ≡ replay_status end
   pub does : Replays end old_left new_left old_written new_written
+
+-- The public view of the record was written, and its end gives the status.
+pub record RunsObserve (status : Status) (old_left new_left old_written new_written : Option (List ℕ)) : Type 0 where
+  pub end : ReplayEnd
+  pub gives : status ≡ replay_status end
+  pub does : Observes end old_left new_left old_written new_written
 
 -- The hand that words name was written, its end gives the status, and nothing is read.
 pub record RunsHand (status : Status) (words : List (List ℕ)) (old_left new_left old_written new_written : Option (List ℕ)) : Type 0 where
@@ -60,26 +72,44 @@ pub record RunsServe (Does : ServeEnd → Type 0) (status : Status) (old_left ne
   pub unread : Keeps old_left new_left
   pub does : Does end
 
+-- The game of a seat was kept, which gives the status by its end.
+pub record RunsKeep {D : Type 0} (told : D → Option (List ℕ)) (may_leave : D → List ℕ → Type 0) (faults : D → ℕ) (status : Status) (seat : ℕ) (old_left new_left old_written new_written : Option (List ℕ)) (old new : D) : Type 0 where
+  pub end : KeepEnd
+  pub gives : status ≡ keep_status end
+  pub does : KeepsAll told may_leave end seat old_left new_left old_written new_written old new
+  pub counts : CountsDiskFaults status (faults old) (faults new)
+
+-- What a run does to the disk and by it: a kept game goes by `RunsKeep`, and nothing else touches the disk.
+abbrev pub RunsDisk : {D : Type 0} → (D → Option (List ℕ)) → (D → List ℕ → Type 0) → (D → ℕ) → Asked → Status → Option (List ℕ) → Option (List ℕ) → Option (List ℕ) → Option (List ℕ) → D → D → Type 0
+RunsDisk told may_leave faults (KeepOf seat) status old_left new_left old_written new_written old new = RunsKeep told may_leave faults status seat old_left new_left old_written new_written old new
+RunsDisk told may_leave faults asked status old_left new_left old_written new_written old new = new ≡ old
+
 -- The first word is that of a command that waits for others.
 abbrev pub is_waiting : List (List ℕ) → Bool
 is_waiting [] = false
 is_waiting (command ∷ words) = bytes_eq command (codes "serve")
 
--- No game is to be served.
+-- No game is to be served, and a seat that is asked of is one of the four.
 abbrev pub IsAlone : Asked → Type 0
 IsAlone (ServingOf s) = ⊥
+IsAlone (RefereeOf seat) = seat < 4
+IsAlone (SafeOf seat) = seat < 4
 IsAlone asked = Unit {0}
 
--- What a run does that waits for nobody, by what its words ask for.
+-- What a run does that waits for nobody, by what its words ask for. Of a kept game `RunsDisk` says it.
 abbrev pub Runs : Asked → Status → Option (List ℕ) → Option (List ℕ) → Option (List ℕ) → Option (List ℕ) → Type 0
 Runs Nothing status old_left new_left old_written new_written = IsUnheard status old_left new_left old_written new_written
-Runs (RefereeOf seat) status old_left new_left old_written new_written = RunsReferee status seat old_left new_left old_written new_written
+Runs (RefereeOf seat) status old_left new_left old_written new_written = RunsReferee IsTold status seat old_left new_left old_written new_written
 Runs (ServingOf s) status old_left new_left old_written new_written = ⊥
 Runs SummaryOfRecord status old_left new_left old_written new_written = RunsReplay status old_left new_left old_written new_written
 Runs (HandOf words) status old_left new_left old_written new_written = RunsHand status words old_left new_left old_written new_written
 Runs (SelfPlayOf number) status old_left new_left old_written new_written = RunsSelfPlay status number old_left new_left old_written new_written
+Runs ViewOfRecord status old_left new_left old_written new_written = RunsObserve status old_left new_left old_written new_written
+Runs (KeepOf seat) status old_left new_left old_written new_written = Unit {0}
+Runs (SafeOf seat) status old_left new_left old_written new_written = RunsReferee IsSafeTold status seat old_left new_left old_written new_written
 
--- Read faults are met by the referee and where a record is summed up, for nothing else reads.
+-- Read faults are met by the referee, where safe kinds are asked, where a game is kept and where a record is summed up or shown,
+-- for nothing else reads.
 abbrev pub MeetsReadFaults : Asked → ℕ → ℕ → Type 0
 MeetsReadFaults Nothing old new = old ≡ new
 MeetsReadFaults (RefereeOf seat) old new = old ≤ new
@@ -87,6 +117,9 @@ MeetsReadFaults (ServingOf s) old new = old ≡ new
 MeetsReadFaults SummaryOfRecord old new = old ≤ new
 MeetsReadFaults (HandOf words) old new = old ≡ new
 MeetsReadFaults (SelfPlayOf number) old new = old ≡ new
+MeetsReadFaults ViewOfRecord old new = old ≤ new
+MeetsReadFaults (KeepOf seat) old new = old ≤ new
+MeetsReadFaults (SafeOf seat) old new = old ≤ new
 
 -- What any run does: a game that is served goes by `Does`, and all else as where nobody is waited for.
 abbrev pub RunsAny : (ServeEnd → ServedWith → Type 0) → Asked → Status → Option (List ℕ) → Option (List ℕ) → Option (List ℕ) → Option (List ℕ) → Type 0

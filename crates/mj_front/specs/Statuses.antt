@@ -7,6 +7,8 @@ use Rattle.mj_replay.specs.declared.checking.Cause.TheVariants as causes
 use Rattle.mj_front.specs.declared.hand.HandLinesEnd.{HandLinesEnd}
 use Rattle.mj_front.specs.declared.hand.HandLinesEnd.TheVariants as hands
 use Rattle.mj_front.specs.declared.intake.End.TheVariants as ends
+use Rattle.mj_front.specs.declared.keep.KeepEnd.{KeepEnd}
+use Rattle.mj_front.specs.declared.keep.KeepEnd.TheVariants as keeping
 use Rattle.mj_front.specs.declared.referee.RefereeEnd.{RefereeEnd}
 use Rattle.mj_front.specs.declared.referee.RefereeEnd.TheVariants as referees
 use Rattle.mj_front.specs.declared.replay.ReplayEnd.{ReplayEnd}
@@ -18,7 +20,7 @@ use Rattle.mj_front.specs.declared.serve.ServeEnd.TheVariants as serving
 use Rattle.mj_front.specs.declared.status.Status.{Status}
 use Rattle.mj_front.specs.declared.status.Status.TheVariants as statuses
 
--- The status that the end of the referee gives.
+-- The status that the end of the referee gives, and of the command `safe`.
 abbrev pub referee_status : RefereeEnd → Status
 referee_status (referees.Told ends.Whole) = statuses.Done
 referee_status (referees.Told (ends.Bad line)) = statuses.BadArrival line
@@ -27,7 +29,7 @@ referee_status referees.ReadFault = statuses.ReadFault
 referee_status referees.TooLong = statuses.TooLong
 referee_status referees.NoMemory = statuses.NoMemory
 
--- The status that the end of the command `replay` gives.
+-- The status that the end of a command gives that reads a record.
 abbrev pub replay_status : ReplayEnd → Status
 replay_status replays.Written = statuses.Done
 replay_status (replays.Bad line cause) = statuses.BadRecord line cause
@@ -57,6 +59,18 @@ serve_status serving.NotOpened = statuses.HostFault
 serve_status serving.WriteFault = statuses.WriteFault
 serve_status serving.NoMemory = statuses.NoMemory
 
+-- The status that the end of the command `keep` gives.
+abbrev pub keep_status : KeepEnd → Status
+keep_status (keeping.Told ends.Whole) = statuses.Done
+keep_status (keeping.Told (ends.Bad line)) = statuses.BadArrival line
+keep_status keeping.WriteFault = statuses.WriteFault
+keep_status keeping.DiskFault = statuses.DiskFault
+keep_status keeping.OtherGame = statuses.OtherGame
+keep_status (keeping.BadJournal place) = statuses.BadJournal place
+keep_status keeping.ReadFault = statuses.ReadFault
+keep_status keeping.TooLong = statuses.TooLong
+keep_status keeping.NoMemory = statuses.NoMemory
+
 -- The exit code; 0 for success alone.
 abbrev pub code_of : Status → ℕ
 code_of statuses.Done = 0
@@ -68,14 +82,21 @@ code_of (statuses.BadArrival line) = 6
 code_of (statuses.BadRecord line cause) = 7
 code_of statuses.HostFault = 8
 code_of statuses.TooLong = 9
+code_of statuses.DiskFault = 11
+code_of statuses.OtherGame = 12
+code_of (statuses.BadJournal place) = 13
 
 -- How the program is called.
 unfoldable pub usage : List ℕ
-usage = codes "usage: riichi_table referee SEAT | serve --seed HEX [--limit MS] [--port N] [--draws] [--red] | replay | hand WORDS | selfplay N\n"
+usage = codes "usage: riichi_table referee SEAT | serve --seed HEX [--limit MS] [--port N] [--draws] [--red] | replay | hand WORDS | selfplay N | observe | keep SEAT | safe SEAT\n"
 
 -- A fault at a line of the input, counted from 1.
 unfoldable pub at_line : List ℕ → ℕ → List ℕ
 at_line fault line = fault ++ (codes " at line " ++ (number_text line ++ codes "\n"))
+
+-- The byte of a journal at which it is bad.
+unfoldable pub bad_journal : ℕ → List ℕ
+bad_journal place = codes "bad journal at byte " ++ (number_text place ++ codes "\n")
 
 -- The number of a cause by which a line breaks the form of a record.
 abbrev pub cause_number : Cause → ℕ
@@ -100,3 +121,6 @@ status_words (statuses.BadArrival line) = at_line (codes "bad arrival") line
 status_words (statuses.BadRecord line cause) = bad_record line cause
 status_words statuses.HostFault = codes "host fault\n"
 status_words statuses.TooLong = codes "input too long\n"
+status_words statuses.DiskFault = codes "disk fault\n"
+status_words statuses.OtherGame = codes "journal of another game\n"
+status_words (statuses.BadJournal place) = bad_journal place

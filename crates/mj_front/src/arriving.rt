@@ -15,10 +15,10 @@ use mj_ports::Control;
 use std::alloc::{AllocError, Global};
 
 /// The author of each line that wants a seat.
-const JOINER: u8 = 1;
+pub(crate) const JOINER: u8 = 1;
 
 /// The author of each expiry.
-const CLOCK: u8 = 0;
+pub(crate) const CLOCK: u8 = 0;
 
 /// What a line does.
 #[derive(Clone, Copy)]
@@ -81,7 +81,7 @@ fn sit(
 }
 
 // Greets a seat, where it is the one that was taken.
-fn greet(
+pub(crate) fn greet(
     alloc: Global,
     core: &Core,
     told: &mut Vec<u8>,
@@ -97,7 +97,7 @@ fn greet(
 }
 
 // Greets a seat, where it is the one that was taken back.
-fn greet_again(
+pub(crate) fn greet_again(
     alloc: Global,
     core: &Core,
     told: &mut Vec<u8>,
@@ -133,7 +133,7 @@ fn tell_again(alloc: Global, seat: u8, core: &Core, told: &mut Vec<u8>) -> Resul
 fn tell_line(seat: u8, k: u32, core: &Core, told: &mut Vec<u8>) -> Result<(), AllocError>
     requires { seat < 4 }
     ensures { OnOk result (Adds told.old.items told.new.items
-        (line_at (after_of core.now).deeds seat k)) }
+        (line_at core.now.setting.rules (after_of core.now).deeds seat k)) }
 {
     match core.line(seat, k) {
         Some(line) => push_all(told, line),
@@ -168,7 +168,7 @@ fn say(
 }
 
 // A seat that is present, with its author.
-fn present(core: &Core, who: u64) -> Option<(u8, u8)>
+pub(crate) fn present(core: &Core, who: u64) -> Option<(u8, u8)>
     requires { length (after_of core.now).chairs ≤ 4 }
     ensures { result ≡ present_in core.now who }
 {
@@ -257,7 +257,12 @@ fn leave(
 }
 
 // Tells a seat what is pending, where it is the one that leaves.
-fn tell_last(core: &Core, told: &mut Vec<u8>, leaver: u8, seat: u8) -> Result<(), AllocError>
+pub(crate) fn tell_last(
+    core: &Core,
+    told: &mut Vec<u8>,
+    leaver: u8,
+    seat: u8,
+) -> Result<(), AllocError>
     ensures { OnOk result (Adds told.old.items told.new.items (last_lines leaver seat core.now)) }
 {
     if leaver == seat {

@@ -4,19 +4,23 @@ ghost use Rattle.std.specs.Prelude.{◌≡◌, false, map};
 ghost use Rattle.std.specs.String.{string_bytes};
 ghost use Rattle.mj_words.specs.Asked.{asked_by};
 ghost use Rattle.mj_words.specs.Commands.{asked_by_command};
-ghost use Rattle.mj_front.specs.Run.{Runs, RunsAny, MeetsReadFaults, LeavesAlone, is_waiting, IsAlone};
+ghost use Rattle.mj_front.specs.Run.{Runs, RunsAny, RunsDisk, MeetsReadFaults, LeavesAlone, is_waiting, IsAlone};
 ghost use Rattle.mj_front.specs.Serve.{Serves, outside};
 ghost use Rattle.mj_front.specs.Faults.{CountsReadFaults, CountsWriteFaults};
 
 use crate::hand::write_hand;
+use crate::intake::Question;
+use crate::keep::keep_of;
+use crate::observe::observe_of;
 use crate::referee::referee_of;
 use crate::replay::replay_of;
 use crate::self_game::write_self_play;
 use crate::serve::serve;
 use crate::status::{
-    Status, status_of_hand, status_of_referee, status_of_replay, status_of_self_play,
-    status_of_serve,
+    Status, status_of_hand, status_of_keep, status_of_referee, status_of_replay,
+    status_of_self_play, status_of_serve,
 };
+use mj_journal::Disk;
 use mj_links::{Clock, Host, Sink, Source};
 use mj_words::{Command, command_of, serving_of};
 use std::alloc::Global;
@@ -33,7 +37,7 @@ use std::thread::Threads;
 /// back to the host, each with the place of its connection among the entries, and the record is written. The source is left as it
 /// was. It may wait for others for ever.
 #[tactic(auto, using(crate::proofs::WaitLaws::any_of, crate::proofs::WaitLaws::left_alone, crate::proofs::WordLaws::unread))]
-pub fn run<S: Source, K: Sink, H: Host, C: Clock, R: Threads + Wait + Sync>(
+pub fn run<S: Source, K: Sink, H: Host, C: Clock, D: Disk, R: Threads + Wait + Sync>(
     rt: &R,
     alloc: Global,
     words: &[String],
@@ -41,6 +45,7 @@ pub fn run<S: Source, K: Sink, H: Host, C: Clock, R: Threads + Wait + Sync>(
     sink: &mut K,
     host: &mut H,
     clock: &mut C,
+    disk: &mut D,
 ) -> Status
     ensures run { RunsAny (λ end s. Serves H.Link.was_read H.Link.left H.Link.written
         H.Link.read_faults H.Link.write_faults (H.made_by host.new) H.Fault.number end s
@@ -52,11 +57,14 @@ pub fn run<S: Source, K: Sink, H: Host, C: Clock, R: Threads + Wait + Sync>(
     ensures unread { MeetsReadFaults (asked_by (map string_bytes words.now))
         (S.read_faults source.old) (S.read_faults source.new) }
     ensures writes { CountsWriteFaults result (K.write_faults sink.old) (K.write_faults sink.new) }
+    ensures disk { RunsDisk D.told D.may_leave D.disk_faults (asked_by (map string_bytes words.now)) result
+        (S.left source.old) (S.left source.new) (K.written sink.old) (K.written sink.new) disk.old
+        disk.new }
     ensures host { LeavesAlone (asked_by (map string_bytes words.now)) (host.new ≡ host.old) }
     ensures clock { LeavesAlone (asked_by (map string_bytes words.now)) (clock.new ≡ clock.old) }
 {
     if !is_for_waiting(words) {
-        return run_alone(alloc, words, source, sink);
+        return run_alone(alloc, words, source, sink, disk);
     }
     match serving_of(alloc, words) {
         Ok(Some(serving)) => status_of_serve(serve(rt, alloc, &serving, sink, host, clock)),
@@ -89,12 +97,25 @@ pub fn is_for_waiting(words: &[String]) -> bool
 ///
 /// `selfplay N`, with a decimal number below 2^64 without a leading zero, plays a whole game of four built-in players with the
 /// 200 walls that the number shuffles, and writes what it comes to on six lines. The source is left as it was.
-#[tactic(auto, using(crate::proofs::WordLaws::unheard, crate::proofs::WordLaws::unread, crate::proofs::WaitLaws::alone_of, crate::proofs::WaitLaws::alone_as))]
-pub fn run_alone<S: Source, K: Sink>(
+///
+/// `observe` reads a record to its end and then writes its public view: what a watcher without tiles may see, and each hand in full
+/// once it has ended. Nothing is written of a text that is no record.
+///
+/// `keep SEAT` is `referee SEAT` over a game whose entries stand in a journal on the disk, after the header and the walls
+/// that the input has. It goes on where the journal ends, puts the entry of each arrival on the disk before it hears the
+/// next one, and then writes what the whole game tells the seat. Nothing else touches the disk.
+///
+/// `safe SEAT`, with a seat from `0` to `3`, reads arrivals as `referee` does, with its endings. Where the seat has to discard, the
+/// newest deed being its draw, reach, chi or pon, it writes a line for each other seat, `against` and its number, and then the
+/// kinds that the seat holds and that this one can't win on, as far as the seat can know, or `-`. Elsewhere it writes `not to
+/// discard`.
+#[tactic(auto, using(crate::proofs::WordLaws::unheard, crate::proofs::WordLaws::untouched, crate::proofs::WordLaws::unread, crate::proofs::WaitLaws::alone_of, crate::proofs::WaitLaws::alone_as))]
+pub fn run_alone<S: Source, K: Sink, D: Disk>(
     alloc: Global,
     words: &[String],
     source: &mut S,
     sink: &mut K,
+    disk: &mut D,
 ) -> Status
     requires { is_waiting (map string_bytes words.now) ≡ false }
     ensures run { Runs (asked_by (map string_bytes words.now)) result (S.left source.old)
@@ -103,19 +124,23 @@ pub fn run_alone<S: Source, K: Sink>(
     ensures unread { MeetsReadFaults (asked_by (map string_bytes words.now))
         (S.read_faults source.old) (S.read_faults source.new) }
     ensures writes { CountsWriteFaults result (K.write_faults sink.old) (K.write_faults sink.new) }
+    ensures disk { RunsDisk D.told D.may_leave D.disk_faults (asked_by (map string_bytes words.now)) result
+        (S.left source.old) (S.left source.new) (K.written sink.old) (K.written sink.new) disk.old
+        disk.new }
 {
     match command_of(alloc, words) {
-        Ok(command) => run_command(alloc, &command, source, sink),
+        Ok(command) => run_command(alloc, &command, source, sink, disk),
         Err(_) => Status::NoMemory,
     }
 }
 
 // Runs a command.
-fn run_command<S: Source, K: Sink>(
+fn run_command<S: Source, K: Sink, D: Disk>(
     alloc: Global,
     command: &Command,
     source: &mut S,
     sink: &mut K,
+    disk: &mut D,
 ) -> Status
     requires { IsAlone (asked_by_command command.now) }
     ensures run { Runs (asked_by_command command.now) result (S.left source.old)
@@ -124,13 +149,23 @@ fn run_command<S: Source, K: Sink>(
     ensures unread { MeetsReadFaults (asked_by_command command.now) (S.read_faults source.old)
         (S.read_faults source.new) }
     ensures writes { CountsWriteFaults result (K.write_faults sink.old) (K.write_faults sink.new) }
+    ensures disk { RunsDisk D.told D.may_leave D.disk_faults (asked_by_command command.now) result
+        (S.left source.old) (S.left source.new) (K.written sink.old) (K.written sink.new) disk.old
+        disk.new }
 {
     match command {
-        Command::Referee(seat) => status_of_referee(referee_of(alloc, *seat, source, sink)),
+        Command::Referee(seat) => {
+            status_of_referee(referee_of(alloc, Question::Script, *seat, source, sink))
+        }
         Command::Serve(_) => unreachable!(),
         Command::Replay => status_of_replay(replay_of(alloc, source, sink)),
         Command::Hand(words) => status_of_hand(write_hand(alloc, words.as_slice(), sink)),
         Command::SelfPlay(number) => status_of_self_play(write_self_play(alloc, *number, sink)),
+        Command::Observe => status_of_replay(observe_of(alloc, source, sink)),
+        Command::Keep(seat) => status_of_keep(keep_of(alloc, *seat, source, sink, disk)),
+        Command::Safe(seat) => {
+            status_of_referee(referee_of(alloc, Question::SafeKinds, *seat, source, sink))
+        }
         Command::Unknown => Status::Words,
     }
 }

@@ -1,19 +1,24 @@
 //! The commands that words ask for: arrivals read from a source, and what one seat is told written to a sink; a record read
-//! from a source, and its summary written to a sink; the lines of a hand written to a sink; a self-played game whose summary
-//! is written to a sink; and a game that is served to whoever connects, and its record written to a sink.
+//! from a source, and its summary or its public view written to a sink; the lines of a hand written to a sink; a
+//! self-played game whose summary is written to a sink; and a game that is served to whoever connects, and its record written to a sink.
 #![tactic(auto)]
 
 mod arriving;
+mod base;
 mod commands;
 mod form;
 mod hand;
 mod input;
 mod intake;
+mod keep;
+mod keeping;
+mod observe;
 mod referee;
 mod replay;
 mod self_game;
 mod serve;
 mod status;
+mod watched;
 
 pub use commands::{is_for_waiting, run, run_alone};
 pub use mj_replay::Cause;

@@ -1,7 +1,7 @@
 //! The command `replay`: the input read whole, and what its record comes to written.
 
 ghost use Rattle.mj_replay.specs.Checks.{summary_said};
-ghost use Rattle.mj_front.specs.Replay.{Replays, ReplaysInput};
+ghost use Rattle.mj_front.specs.Replay.{Replays, TakesInput, IsSummed};
 ghost use Rattle.mj_front.specs.Inner.Replaying.{WritesSummary};
 ghost use Rattle.mj_front.specs.Statuses.{replay_status};
 ghost use Rattle.mj_front.specs.Faults.{CountsReadFaults, CountsWriteFaults};
@@ -12,14 +12,14 @@ use mj_replay::{Cause, Checked, Summary, check};
 use mj_selfplay::result_lines;
 use std::alloc::Global;
 
-/// How the command `replay` ends.
+/// How a command ends that reads a record: `replay` and `observe`.
 #[derive(Clone, Copy)]
 pub(crate) enum ReplayEnd {
-    /// The input is a record, and the lines of its summary are written.
+    /// The input is a record, and what the command says of it is written.
     Written,
     /// The input is no record: the line, counted from 1, is the first that breaks its form, by this cause. Nothing is written.
     Bad(u32, Cause),
-    /// A write failed. A part of the lines is written.
+    /// A write failed. A part of what was to be is written.
     WriteFault,
     /// A read failed. Nothing is written.
     ReadFault,
@@ -55,7 +55,8 @@ pub(crate) fn replay_of<S: Source, K: Sink>(
 // Writes what the record of an input comes to.
 #[tactic(auto, using(crate::proofs::ReplayLaws::summed))]
 fn replay<K: Sink>(alloc: Global, input: &[u8], sink: &mut K) -> ReplayEnd
-    ensures tells { ReplaysInput result input.now (K.written sink.old) (K.written sink.new) }
+    ensures tells { TakesInput IsSummed result input.now (K.written sink.old)
+        (K.written sink.new) }
     ensures writes { CountsWriteFaults (replay_status result) (K.write_faults sink.old)
         (K.write_faults sink.new) }
 {

@@ -2,10 +2,11 @@
 
 ghost use Rattle.std.specs.Prelude.{◌≡◌, IfOk, OnOk, OnErr, codes};
 ghost use Rattle.mj_bytes.specs.Adds.{Adds};
-ghost use Rattle.mj_front.specs.Statuses.{referee_status, serve_status, replay_status, hand_status, self_play_status, code_of, cause_number, status_words, at_line, bad_record, usage};
+ghost use Rattle.mj_front.specs.Statuses.{referee_status, serve_status, replay_status, hand_status, self_play_status, keep_status, code_of, cause_number, status_words, at_line, bad_record, bad_journal, usage};
 
 use crate::hand::HandLinesEnd;
 use crate::intake::End;
+use crate::keep::KeepEnd;
 use crate::referee::RefereeEnd;
 use crate::replay::ReplayEnd;
 use crate::self_game::SelfPlayEnd;
@@ -15,12 +16,12 @@ use mj_replay::Cause;
 use std::alloc::{AllocError, Global};
 
 /// How a run ended. Where several fit, the first of this order answers: `Words`; `ReadFault` or `TooLong`, whichever is met
-/// first; `BadRecord`; `WriteFault`; `BadArrival` or `HostFault`; `Done`.
+/// first; `BadRecord`; `DiskFault`, `OtherGame` or `BadJournal`; `WriteFault`; `BadArrival` or `HostFault`; `Done`.
 #[derive(Clone, Copy, Debug, PartialEq, Eq)]
 pub enum Status {
-    /// The input was read to its end and is valid, and what it tells the seat or the summary of its record is written; or the
-    /// lines of a hand or of a self-played game are written; or a served game is over, its links are given back, and its
-    /// record is written.
+    /// The input was read to its end and is valid, and what it tells the seat, the kinds that are safe for it, or the summary or the
+    /// public view of its record, is written; or the lines of a hand or of a self-played game are written; or a served game is over,
+    /// its links are given back, and its record is written.
     Done,
     /// The words ask for no command, or for one with other arguments than its own, as `hand` with words that name no hand, or
     /// `selfplay` with a word that is no number. Nothing is written.
@@ -40,9 +41,16 @@ pub enum Status {
     HostFault,
     /// The input has more than 67,108,864 bytes. Nothing is written.
     TooLong,
+    /// The disk of a kept game failed. Nothing is written, and what its journal had stands there.
+    DiskFault,
+    /// The journal is that of another game: of another header or other walls. Nothing is written, there or here.
+    OtherGame,
+    /// The open gate at this byte of the journal is the first whose record isn't whole, or tells no arrival in its place that
+    /// adds an entry. Nothing is written, there or here.
+    BadJournal(u64),
 }
 
-/// The status that the end of the referee gives.
+/// The status that the end of the referee gives, and of the command `safe`.
 pub(crate) fn status_of_referee(end: RefereeEnd) -> Status
     ensures { result ≡ referee_status end }
 {
@@ -56,7 +64,7 @@ pub(crate) fn status_of_referee(end: RefereeEnd) -> Status
     }
 }
 
-/// The status that the end of the command `replay` gives.
+/// The status that the end of a command gives that reads a record.
 pub(crate) fn status_of_replay(end: ReplayEnd) -> Status
     ensures { result ≡ replay_status end }
 {
@@ -106,6 +114,23 @@ pub(crate) fn status_of_serve(end: ServeEnd) -> Status
     }
 }
 
+/// The status that the end of the command `keep` gives.
+pub(crate) fn status_of_keep(end: KeepEnd) -> Status
+    ensures { result ≡ keep_status end }
+{
+    match end {
+        KeepEnd::Told(End::Whole) => Status::Done,
+        KeepEnd::Told(End::Bad(line)) => Status::BadArrival(line),
+        KeepEnd::WriteFault => Status::WriteFault,
+        KeepEnd::DiskFault => Status::DiskFault,
+        KeepEnd::OtherGame => Status::OtherGame,
+        KeepEnd::BadJournal(place) => Status::BadJournal(place),
+        KeepEnd::ReadFault => Status::ReadFault,
+        KeepEnd::TooLong => Status::TooLong,
+        KeepEnd::NoMemory => Status::NoMemory,
+    }
+}
+
 /// The exit code of a program that ends so.
 pub fn exit_code(status: &Status) -> u8
     ensures { result ≡ code_of status.now }
@@ -120,6 +145,9 @@ pub fn exit_code(status: &Status) -> u8
         Status::BadRecord(_, _) => 7,
         Status::HostFault => 8,
         Status::TooLong => 9,
+        Status::DiskFault => 11,
+        Status::OtherGame => 12,
+        Status::BadJournal(_) => 13,
     }
 }
 
@@ -132,7 +160,7 @@ pub fn status_text(alloc: Global, status: &Status) -> Result<Vec<u8>, AllocError
         Status::Done => Ok(Vec::new(alloc)),
         Status::Words => Vec::from_slice(
             alloc,
-            b"usage: riichi_table referee SEAT | serve --seed HEX [--limit MS] [--port N] [--draws] [--red] | replay | hand WORDS | selfplay N\n",
+            b"usage: riichi_table referee SEAT | serve --seed HEX [--limit MS] [--port N] [--draws] [--red] | replay | hand WORDS | selfplay N | observe | keep SEAT | safe SEAT\n",
         ),
         Status::ReadFault => Vec::from_slice(alloc, b"read fault\n"),
         Status::WriteFault => Vec::from_slice(alloc, b"write fault\n"),
@@ -141,6 +169,9 @@ pub fn status_text(alloc: Global, status: &Status) -> Result<Vec<u8>, AllocError
         Status::BadRecord(line, cause) => text_of_record(alloc, *line, *cause),
         Status::HostFault => Vec::from_slice(alloc, b"host fault\n"),
         Status::TooLong => Vec::from_slice(alloc, b"input too long\n"),
+        Status::DiskFault => Vec::from_slice(alloc, b"disk fault\n"),
+        Status::OtherGame => Vec::from_slice(alloc, b"journal of another game\n"),
+        Status::BadJournal(place) => text_of_journal(alloc, *place),
     }
 }
 
@@ -165,6 +196,17 @@ fn text_of_record(alloc: Global, line: u32, cause: Cause) -> Result<Vec<u8>, All
     push_number(&mut text, u64::from(line))?;
     push_all(&mut text, b": ")?;
     push_number(&mut text, number_of(cause))?;
+    push_all(&mut text, b"\n")?;
+    Ok(text)
+}
+
+// The text on a journal that is bad at a byte.
+#[tactic(auto, using(crate::proofs::StatusLaws::three_pieces), unfolding(crate::specs::Statuses::bad_journal))]
+fn text_of_journal(alloc: Global, place: u64) -> Result<Vec<u8>, AllocError>
+    ensures { IfOk result (λ text. text.items ≡ bad_journal place) }
+{
+    let mut text = Vec::from_slice(alloc, b"bad journal at byte ")?;
+    push_number(&mut text, place)?;
     push_all(&mut text, b"\n")?;
     Ok(text)
 }

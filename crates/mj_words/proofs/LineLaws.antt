@@ -16,13 +16,21 @@ use Rattle.clap.specs.declared.error.kind.ErrorKind.TheVariants.{OutOfMemory}
 use Rattle.clap.specs.declared.parser.matches.ArgMatches.{ArgMatches}
 use Rattle.clap.proofs.OnLiterals.{clap_on_literals}
 use Rattle.clap.proofs.WalkLemmas.{first_value-rows, raw_values-rows}
-use Rattle.mj_words.specs.Lines.{wanted, wanted_often, referee_line, serve_line, replay_line, hand_line, self_play_line, are_none, is_taken, value_in, values_in}
+use Rattle.mj_words.specs.Lines.{wanted, wanted_often, referee_line, keep_line, serve_line, replay_line, hand_line, self_play_line, observe_line, safe_line, are_none, is_taken, value_in, values_in}
 use Rattle.mj_words.specs.Inner.Parsing.{IsParse}
 
 -- Each line is simple: clap's definitions tell its matches and its faults.
 pub referee_is_simple : is_simple_and_free referee_line ≡ true
 unfolding clap_on_literals referee_line
 referee_is_simple = refl
+
+pub keep_is_simple : is_simple_and_free keep_line ≡ true
+unfolding clap_on_literals keep_line
+keep_is_simple = refl
+
+pub safe_is_simple : is_simple_and_free safe_line ≡ true
+unfolding clap_on_literals safe_line
+safe_is_simple = refl
 
 pub serve_is_simple : is_simple_and_free serve_line ≡ true
 unfolding clap_on_literals serve_line
@@ -39,6 +47,10 @@ hand_is_simple = refl
 pub self_play_is_simple : is_simple_and_free self_play_line ≡ true
 unfolding clap_on_literals self_play_line
 self_play_is_simple = refl
+
+pub observe_is_simple : is_simple_and_free observe_line ≡ true
+unfolding clap_on_literals observe_line
+observe_is_simple = refl
 
 -- A command to which one argument more is added, and one to which the first is.
 pub with_more : (start command : Command) (arg : Arg) (line : App) (rule : Rule) → app_of start ≡ line → rule_of arg ≡ rule → arg.global ≡ false → AddsArg start arg command → app_of command ≡ with_rule line rule

@@ -2,7 +2,7 @@
 use Rattle.std.specs.Prelude.{ℕ, ◌&&◌, nat_le, Bool, true, false, if◌then◌else◌, List, [], ◌∷◌, codes, bytes_eq, Option, Some, None, Result, Ok, Err, option_and_then}
 use Rattle.hex.specs.Hex.{decode_sized}
 use Rattle.mj_bytes.specs.Numbers.{decimal_of}
-use Rattle.mj_words.specs.Lines.{referee_line, serve_line, replay_line, hand_line, self_play_line, is_taken, value_in, values_in}
+use Rattle.mj_words.specs.Lines.{referee_line, keep_line, serve_line, replay_line, hand_line, self_play_line, observe_line, safe_line, is_taken, value_in, values_in}
 
 -- What a game is served with: the 32 bytes of its seed, the limit of a window in milliseconds, the port, whether the draw
 -- reasons are in force, and whether one five of each suit is red.
@@ -14,13 +14,17 @@ pub record ServedWith : Type 0 where
   pub red : Bool
 
 -- The referee of a seat, a game that is served, the summary of a record, the lines of the hand that further words name, the
--- self-played game of a number, or nothing that there is.
+-- self-played game of a number, the public view of a record, the referee of a seat whose game is kept on a disk, the kinds that are
+-- safe for a seat, or nothing that there is.
 pub data Asked : Type 0 where
   RefereeOf : (seat : ℕ) → Asked
   ServingOf : (with : ServedWith) → Asked
   SummaryOfRecord : Asked
   HandOf : (words : List (List ℕ)) → Asked
   SelfPlayOf : (number : ℕ) → Asked
+  ViewOfRecord : Asked
+  KeepOf : (seat : ℕ) → Asked
+  SafeOf : (seat : ℕ) → Asked
   Nothing : Asked
 
 -- The seat that a word names.
@@ -38,6 +42,22 @@ referee_by (Some seat) = RefereeOf seat
 
 abbrev pub referee_asked : List (List ℕ) → Asked
 referee_asked words = referee_by (option_and_then seat_named (value_in referee_line (codes "seat") words))
+
+-- Those whose first is `keep` ask for the kept game of that seat.
+abbrev pub keep_by : Option ℕ → Asked
+keep_by None = Nothing
+keep_by (Some seat) = KeepOf seat
+
+abbrev pub keep_asked : List (List ℕ) → Asked
+keep_asked words = keep_by (option_and_then seat_named (value_in keep_line (codes "seat") words))
+
+-- Those whose first is `safe` ask for the kinds that are safe for that seat.
+abbrev pub safe_by : Option ℕ → Asked
+safe_by None = Nothing
+safe_by (Some seat) = SafeOf seat
+
+abbrev pub safe_asked : List (List ℕ) → Asked
+safe_asked words = safe_by (option_and_then seat_named (value_in safe_line (codes "seat") words))
 
 -- The bytes that a word writes as 64 hex digits of either case, two a byte.
 abbrev pub bytes_by : {E : Type 0} → Result (List ℕ) E → Option (List ℕ)
@@ -98,6 +118,14 @@ self_play_by (Some number) = SelfPlayOf number
 abbrev pub self_play_asked : List (List ℕ) → Asked
 self_play_asked words = self_play_by (option_and_then decimal_of (value_in self_play_line (codes "n") words))
 
+-- Those whose first is `observe` ask for the public view of a record.
+abbrev pub observe_by : Bool → Asked
+observe_by false = Nothing
+observe_by true = ViewOfRecord
+
+abbrev pub observe_asked : List (List ℕ) → Asked
+observe_asked words = observe_by (is_taken observe_line words)
+
 -- Other words ask for nothing, and so do words that clap refuses.
 abbrev pub asked_by : List (List ℕ) → Asked
 asked_by [] = Nothing
@@ -106,4 +134,7 @@ asked_by (command ∷ words) =
     (if bytes_eq command (codes "serve") then serve_asked (command ∷ words) else
     (if bytes_eq command (codes "replay") then replay_asked (command ∷ words) else
     (if bytes_eq command (codes "hand") then hand_asked (command ∷ words) else
-    (if bytes_eq command (codes "selfplay") then self_play_asked (command ∷ words) else Nothing))))
+    (if bytes_eq command (codes "selfplay") then self_play_asked (command ∷ words) else
+    (if bytes_eq command (codes "observe") then observe_asked (command ∷ words) else
+    (if bytes_eq command (codes "keep") then keep_asked (command ∷ words) else
+    (if bytes_eq command (codes "safe") then safe_asked (command ∷ words) else Nothing)))))))

@@ -4,7 +4,7 @@ use Rattle.std.specs.String.{string_bytes}
 use Rattle.mj_words.specs.declared.command.Command.{Command}
 use Rattle.mj_words.specs.declared.command.Command.TheVariants as commands
 use Rattle.mj_words.specs.declared.serving.Serving.{Serving}
-use Rattle.mj_words.specs.Asked.{Asked, ServedWith, RefereeOf, ServingOf, SummaryOfRecord, HandOf, SelfPlayOf, Nothing}
+use Rattle.mj_words.specs.Asked.{Asked, ServedWith, RefereeOf, ServingOf, SummaryOfRecord, HandOf, SelfPlayOf, ViewOfRecord, KeepOf, SafeOf, Nothing}
 
 -- What a game is served with.
 abbrev pub served_with : Serving → ServedWith
@@ -22,4 +22,7 @@ asked_by_command (commands.Serve serving) = ServingOf (served_with serving)
 asked_by_command commands.Replay = SummaryOfRecord
 asked_by_command (commands.Hand words) = HandOf (map string_bytes words.items)
 asked_by_command (commands.SelfPlay number) = SelfPlayOf number
+asked_by_command commands.Observe = ViewOfRecord
+asked_by_command (commands.Keep seat) = KeepOf seat
+asked_by_command (commands.Safe seat) = SafeOf seat
 asked_by_command commands.Unknown = Nothing

@@ -1,7 +1,7 @@
 -- Some words, and what they ask for.
 use Rattle.std.specs.Prelude.{◌≡◌, ℕ, ◌==◌, Bool, true, false, not, List, [], ◌∷◌, ◌++◌, replicate, codes, Some}
 use Rattle.mj_words.specs.Lines.{referee_line, self_play_line, value_in}
-use Rattle.mj_words.specs.Asked.{asked_by, RefereeOf, ServingOf, SummaryOfRecord, HandOf, SelfPlayOf, Nothing}
+use Rattle.mj_words.specs.Asked.{asked_by, RefereeOf, ServingOf, SummaryOfRecord, HandOf, SelfPlayOf, ViewOfRecord, KeepOf, SafeOf, Nothing}
 
 -- A seed of 32 bytes, of which the last two are 170 and 255, and the word that names it.
 abbrev pub some_hex : List ℕ
@@ -42,8 +42,16 @@ pub record WordsAreRead : Type 0 where
   pub hand_of_none : asked_by (codes "hand" ∷ []) ≡ Nothing
   pub hand_with_an_option : asked_by (codes "hand" ∷ codes "1m" ∷ codes "-E" ∷ []) ≡ Nothing
   pub self_play : asked_by (codes "selfplay" ∷ codes "70" ∷ []) ≡ SelfPlayOf 70
+  pub keep : asked_by (codes "keep" ∷ codes "2" ∷ []) ≡ KeepOf 2
+  pub keep_of_none : asked_by (codes "keep" ∷ []) ≡ Nothing
+  pub keep_of_the_fifth : asked_by (codes "keep" ∷ codes "4" ∷ []) ≡ Nothing
   pub self_play_of_none : asked_by (codes "selfplay" ∷ []) ≡ Nothing
   pub self_play_of_a_longer_number : asked_by (codes "selfplay" ∷ codes "07" ∷ []) ≡ Nothing
+  pub observe : asked_by (codes "observe" ∷ []) ≡ ViewOfRecord
+  pub observe_of_a_seat : asked_by (codes "observe" ∷ codes "0" ∷ []) ≡ Nothing
+  pub safe : asked_by (codes "safe" ∷ codes "2" ∷ []) ≡ SafeOf 2
+  pub safe_of_none : asked_by (codes "safe" ∷ []) ≡ Nothing
+  pub safe_of_the_fifth : asked_by (codes "safe" ∷ codes "4" ∷ []) ≡ Nothing
 
 -- A word doesn't begin with a hyphen.
 abbrev pub is_plain : List ℕ → Bool

@@ -28,9 +28,18 @@ flag name = record (new_rule name) { long = Some name; action = Some SetTrue }
 unfoldable pub referee_line : App
 referee_line = with_rule (new_app (codes "referee")) (wanted (codes "seat"))
 
--- Nothing.
+unfoldable pub keep_line : App
+keep_line = with_rule (new_app (codes "keep")) (wanted (codes "seat"))
+
+unfoldable pub safe_line : App
+safe_line = with_rule (new_app (codes "safe")) (wanted (codes "seat"))
+
+-- Nothing after `replay` and after `observe`.
 unfoldable pub replay_line : App
 replay_line = new_app (codes "replay")
+
+unfoldable pub observe_line : App
+observe_line = new_app (codes "observe")
 
 -- One word or more.
 unfoldable pub hand_line : App

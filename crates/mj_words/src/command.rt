@@ -2,11 +2,13 @@
 
 ghost use Rattle.std.specs.Prelude.{◌≡◌, map, IfOk};
 ghost use Rattle.std.specs.String.{string_bytes};
-ghost use Rattle.mj_words.specs.Asked.{asked_by, seat_named, referee_asked, serve_asked, replay_asked, hand_asked, self_play_asked};
+ghost use Rattle.mj_words.specs.Asked.{asked_by, seat_named, referee_asked, serve_asked, replay_asked, hand_asked, self_play_asked, observe_asked, keep_asked, safe_asked};
 ghost use Rattle.mj_words.specs.Commands.{asked_by_command};
 
 use crate::options::serving_of;
-use crate::parsing::{hand_words, number_word, seat_word, takes_replay};
+use crate::parsing::{
+    hand_words, kept_seat_word, number_word, safe_seat_word, seat_word, takes_observe, takes_replay,
+};
 use crate::serving::Serving;
 use mj_bytes::read_number;
 use std::alloc::{AllocError, Global};
@@ -24,13 +26,19 @@ pub enum Command {
     Hand(Vec<String>),
     /// The self-played game of a number.
     SelfPlay(u64),
+    /// The public view of a record.
+    Observe,
+    /// The referee of a seat, 0 to 3, whose game is kept on a disk.
+    Keep(u8),
+    /// The kinds that are safe for a seat, 0 to 3.
+    Safe(u8),
     /// Nothing that there is.
     Unknown,
 }
 
 /// The command that words ask for, which leave out the program's name. The first is the command, and the others are read by
-/// clap: a seat after `referee`, options after `serve`, nothing after `replay`, one word or more after `hand`, and a number
-/// after `selfplay`. The only error is running out of memory.
+/// clap: a seat after `referee`, `keep` and `safe`, options after `serve`, nothing after `replay` and `observe`, one word or more
+/// after `hand`, and a number after `selfplay`. The only error is running out of memory.
 pub fn command_of(alloc: Global, words: &[String]) -> Result<Command, AllocError>
     ensures { IfOk result (λ command. asked_by_command command
         ≡ asked_by (map string_bytes words.now)) }
@@ -53,6 +61,15 @@ pub fn command_of(alloc: Global, words: &[String]) -> Result<Command, AllocError
     }
     if name == "selfplay" {
         return self_play_of(alloc, words);
+    }
+    if name == "observe" {
+        return observe_of(alloc, words);
+    }
+    if name == "keep" {
+        return keep_of(alloc, words);
+    }
+    if name == "safe" {
+        return safe_of(alloc, words);
     }
     Ok(Command::Unknown)
 }
@@ -114,6 +131,45 @@ fn self_play_of(alloc: Global, words: &[String]) -> Result<Command, AllocError>
     };
     match read_number(word.as_bytes()) {
         Some(number) => Ok(Command::SelfPlay(number)),
+        None => Ok(Command::Unknown),
+    }
+}
+
+// The public view of a record, where no words stand after the first.
+fn observe_of(alloc: Global, words: &[String]) -> Result<Command, AllocError>
+    ensures { IfOk result (λ command. asked_by_command command
+        ≡ observe_asked (map string_bytes words.now)) }
+{
+    if takes_observe(alloc, words)? {
+        return Ok(Command::Observe);
+    }
+    Ok(Command::Unknown)
+}
+
+// The kept game of the seat that the words after the first say.
+fn keep_of(alloc: Global, words: &[String]) -> Result<Command, AllocError>
+    ensures { IfOk result (λ command. asked_by_command command
+        ≡ keep_asked (map string_bytes words.now)) }
+{
+    let Some(word) = kept_seat_word(alloc, words)? else {
+        return Ok(Command::Unknown);
+    };
+    match named_seat(word) {
+        Some(seat) => Ok(Command::Keep(seat)),
+        None => Ok(Command::Unknown),
+    }
+}
+
+// The safe kinds of the seat that the words after the first say.
+fn safe_of(alloc: Global, words: &[String]) -> Result<Command, AllocError>
+    ensures { IfOk result (λ command. asked_by_command command
+        ≡ safe_asked (map string_bytes words.now)) }
+{
+    let Some(word) = safe_seat_word(alloc, words)? else {
+        return Ok(Command::Unknown);
+    };
+    match named_seat(word) {
+        Some(seat) => Ok(Command::Safe(seat)),
         None => Ok(Command::Unknown),
     }
 }

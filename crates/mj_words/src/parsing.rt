@@ -4,7 +4,7 @@
 ghost use Rattle.std.specs.Prelude.{◌≡◌, true, false, map, codes, option_map, IfOk, MatchOption};
 ghost use Rattle.std.specs.String.{string_bytes};
 ghost use Rattle.clap.specs.Words.{app_of, found_of, is_simple_and_free, matched_of, raw_values};
-ghost use Rattle.mj_words.specs.Lines.{referee_line, serve_line, replay_line, hand_line, self_play_line, is_taken, value_in, values_in};
+ghost use Rattle.mj_words.specs.Lines.{referee_line, keep_line, serve_line, replay_line, hand_line, self_play_line, observe_line, safe_line, is_taken, value_in, values_in};
 ghost use Rattle.mj_words.specs.Inner.Parsing.{IsParse, HasServeWords};
 
 use clap::error::ErrorKind;
@@ -21,6 +21,38 @@ pub(crate) fn seat_word<'a>(
 {
     let seat = Arg::new(alloc, "seat").required(true);
     let command = Command::new(alloc, "referee").arg(seat)?;
+    match parse(command, words)? {
+        Some(matches) => Ok(matches.get_str("seat")),
+        None => Ok(None),
+    }
+}
+
+/// The word of the seat after `keep`; none where clap refuses the words.
+pub(crate) fn kept_seat_word<'a>(
+    alloc: Global,
+    words: &'a [String],
+) -> Result<Option<&'a str>, AllocError>
+    ensures { IfOk result (λ word. option_map (λ w. w.now) word
+        ≡ value_in keep_line (codes "seat") (map string_bytes words.now)) }
+{
+    let seat = Arg::new(alloc, "seat").required(true);
+    let command = Command::new(alloc, "keep").arg(seat)?;
+    match parse(command, words)? {
+        Some(matches) => Ok(matches.get_str("seat")),
+        None => Ok(None),
+    }
+}
+
+/// The word of the seat after `safe`; none where clap refuses the words.
+pub(crate) fn safe_seat_word<'a>(
+    alloc: Global,
+    words: &'a [String],
+) -> Result<Option<&'a str>, AllocError>
+    ensures { IfOk result (λ word. option_map (λ w. w.now) word
+        ≡ value_in safe_line (codes "seat") (map string_bytes words.now)) }
+{
+    let seat = Arg::new(alloc, "seat").required(true);
+    let command = Command::new(alloc, "safe").arg(seat)?;
     match parse(command, words)? {
         Some(matches) => Ok(matches.get_str("seat")),
         None => Ok(None),
@@ -90,6 +122,14 @@ pub(crate) fn takes_replay(alloc: Global, words: &[String]) -> Result<bool, Allo
     ensures { IfOk result (λ taken. taken ≡ is_taken replay_line (map string_bytes words.now)) }
 {
     let command = Command::new(alloc, "replay");
+    Ok(parse(command, words)?.is_some())
+}
+
+/// Whether clap takes the words after `observe`.
+pub(crate) fn takes_observe(alloc: Global, words: &[String]) -> Result<bool, AllocError>
+    ensures { IfOk result (λ taken. taken ≡ is_taken observe_line (map string_bytes words.now)) }
+{
+    let command = Command::new(alloc, "observe");
     Ok(parse(command, words)?.is_some())
 }
 

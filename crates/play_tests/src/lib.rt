@@ -19,7 +19,11 @@ mod play;
 #[cfg(test)]
 mod ports;
 #[cfg(test)]
+mod possible;
+#[cfg(test)]
 mod rounds;
+#[cfg(test)]
+mod safety;
 #[cfg(test)]
 mod seating;
 #[cfg(test)]

@@ -5,10 +5,11 @@ ghost use Rattle.std.specs.Prelude.{IfSome, ◌≤◌};
 
 use crate::deed_words::{answer, deed};
 use crate::rounds::{end, standing};
+use crate::safety::why;
 use crate::words::{are, counts, kind, kinds, number, points, tile, tile_or_none, words, yes};
 use mj_bot::choose;
-use mj_deeds::{Deed, Reason, Rule};
-use mj_judge::{case_of, default, judge};
+use mj_deeds::{Answer, Deed, Reason, Rule};
+use mj_judge::{case_of, default, judge, possible};
 use mj_readings::Riichi;
 use mj_table::Table;
 use mj_tiles::{Form, Kinds, Meld, Tile};
@@ -106,6 +107,7 @@ fn tells(alloc: Global, table: &Table, question: &str, told: &str) -> Option<boo
         "kan_seat" => Some(table.kan_seat() == number(told)),
         "default" => Some(default_is(table, seat_of(words[1])?, told)),
         "choose" => Some(choice_is(table, seat_of(words[1])?, told)),
+        "possible" => Some(may_answer(alloc, table, seat_of(words[1])?, told)),
         "indicator" => Some(table.indicator(number(words[1])?) == tile_or_none(told)?),
         _ => tells_of_seat(table, &words, told),
     }
@@ -147,6 +149,8 @@ fn tells_of_seat(table: &Table, words: &[&str; 8], told: &str) -> Option<bool> {
         "marks" => Some(has_marks(table, seat, told)),
         "room" => Some(table.room(seat).get(kind(a)?) == number(told)?),
         "case" => has_case(table, seat, told),
+        "sees" => Some(table.seen(seat).get(kind(a)?) == number(told)?),
+        "safe" => Some(why(table, seat, seat_of(a)?, kind(b)?) == told),
         "triplet" => Some(has_triplet(table, seat, [a, b, c, d])? == yes(told)?),
         _ => None,
     }
@@ -304,6 +308,30 @@ fn choice_is(table: &Table, seat: u8, told: &str) -> bool
     requires { seat ≤ 3 }
 {
     Some(choose(table, seat)) == answer(told)
+}
+
+/// Whether a seat may answer just so, the answers parted by commas.
+fn may_answer(alloc: Global, table: &Table, seat: u8, told: &str) -> bool
+    requires { seat ≤ 3 }
+{
+    match possible(alloc, table, seat) {
+        Ok(answers) => are_answers(answers.as_slice(), told),
+        Err(_) => false,
+    }
+}
+
+fn are_answers(answers: &[Answer], told: &str) -> bool {
+    let mut rest = answers;
+    for text in told.split(',') {
+        let Some((first, others)) = rest.split_first() else {
+            return false;
+        };
+        if Some(*first) != answer(text.trim()) {
+            return false;
+        }
+        rest = others;
+    }
+    rest.is_empty()
 }
 
 /// Whether an answer of a seat breaks that rule first, or none where it is `lawful`.

@@ -3,6 +3,7 @@
 use mj_deeds::{Answer, Deed, Four, Hands, Pai};
 use mj_judge::judge;
 use mj_ports::Name;
+use mj_safe::{has_to_discard, safe};
 use mj_table::Table;
 use mj_tiles::{Kind, Tile};
 use mj_wall::Rules;
@@ -45,6 +46,22 @@ pub fn may_discard(table: &Table, kind: Kind) -> u64 {
     match judge(table, 0, &answer) {
         Ok(()) => 1,
         Err(_) => 0,
+    }
+}
+
+/// 1 where one of the kinds `1m` to `4m`, which seat 0 holds, is safe for it against seat 1, by turns, and else 0.
+pub fn is_safe(table: &Table, turn: u32) -> u64 {
+    let kind = Kind::at((turn % 4) as u8);
+    if !has_to_discard(table, 0) {
+        return 0;
+    }
+    let held = table.holds(0);
+    if held.numbers()[usize::from(kind.number())] == 0 {
+        return 0;
+    }
+    match safe(table, 0, 1, kind) {
+        Some(_) => 1,
+        None => 0,
     }
 }
 

@@ -3,7 +3,7 @@
 ghost use Rattle.std.specs.Prelude.{◌≡◌, sum};
 ghost use Rattle.mj_tiles.specs.Counts.{NoFifth};
 
-use crate::half_played::{half_played, may_discard};
+use crate::half_played::{half_played, is_safe, may_discard};
 use crate::hands::{Hands, OpenHand, ROOM, first_kind, without_first};
 use crate::told::{line_sum, told};
 use crate::winning::{awaited, may_win};
@@ -35,10 +35,11 @@ pub enum Job {
     WorthOfOpen,
     EarlyLine,
     LateLine,
+    Safe,
 }
 
 /// All jobs, in the order in which they are printed.
-pub const JOBS: [Job; 15] = [
+pub const JOBS: [Job; 16] = [
     Job::Waits,
     Job::WaitsOfReady,
     Job::Readings,
@@ -54,6 +55,7 @@ pub const JOBS: [Job; 15] = [
     Job::WorthOfOpen,
     Job::EarlyLine,
     Job::LateLine,
+    Job::Safe,
 ];
 
 // The places of the lines that are asked for.
@@ -80,6 +82,7 @@ impl Job {
             Job::WorthOfOpen => "worth of an open hand",
             Job::EarlyLine => "line 100 of a seat",
             Job::LateLine => "line 10000 of a seat",
+            Job::Safe => "safe of a held kind in the middle of a hand",
         }
     }
 
@@ -90,6 +93,7 @@ impl Job {
             Job::LateLine => lines_asked(alloc, hands, times, LATE),
             Job::Judge => discards_judged(alloc, hands, times),
             Job::JudgeWin => wins_judged(alloc, hands, times),
+            Job::Safe => kinds_asked(alloc, hands, times),
             _ => self.asked(alloc, hands, times),
         }
     }
@@ -111,7 +115,7 @@ impl Job {
                 Job::WaitsOfOpen => waits_of_open(&hands.open_hand()),
                 Job::ReadingsOfOpen => readings_of_open(alloc, &hands.open_hand())?,
                 Job::WorthOfOpen => worth_of_open(alloc, &hands.open_hand())?,
-                Job::Judge | Job::JudgeWin | Job::EarlyLine | Job::LateLine => 0,
+                Job::Judge | Job::JudgeWin | Job::EarlyLine | Job::LateLine | Job::Safe => 0,
             };
             sum = sum.wrapping_mul(31).wrapping_add(part);
         }
@@ -141,6 +145,17 @@ fn wins_judged(alloc: Global, hands: &mut Hands, times: u32) -> Result<u64, Allo
     Ok(sum)
 }
 
+// Asks so many times whether a kind that a seat holds is safe, in the middle of a hand.
+fn kinds_asked(alloc: Global, hands: &mut Hands, times: u32) -> Result<u64, AllocError> {
+    let table = half_played(alloc)?;
+    let mut sum = 0u64;
+    for turn in 0..times {
+        let part = u64::from(hands.numbers(1)[0]).wrapping_add(is_safe(&table, turn));
+        sum = sum.wrapping_mul(31).wrapping_add(part);
+    }
+    Ok(sum)
+}
+
 // Asks so many times for the line of a seat at one place, of as many as the latest place wants.
 fn lines_asked(
     alloc: Global,
@@ -165,7 +180,9 @@ pub fn make_only(job: Job, hands: &mut Hands, times: u32) -> u64 {
             Job::Waits => hands.mixed_numbers(),
             Job::Shanten | Job::Number => hands.numbers(13),
             Job::BestDiscard => hands.numbers(14),
-            Job::Judge | Job::JudgeWin | Job::EarlyLine | Job::LateLine => hands.numbers(1),
+            Job::Judge | Job::JudgeWin | Job::EarlyLine | Job::LateLine | Job::Safe => {
+                hands.numbers(1)
+            }
             Job::WaitsOfReady => hands.ready_numbers(),
             Job::Readings | Job::Partitions | Job::Worth => hands.complete_numbers(),
             Job::WaitsOfOpen => without_first(&hands.open_hand().numbers),

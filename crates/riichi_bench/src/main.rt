@@ -2,7 +2,7 @@
 //! standard input is refereed, and the parts of the games in the files that the words name, and a record in such a file is
 //! checked; last the built-in players play twenty games. Where the first word is `time`, each job is printed with its
 //! nanoseconds a call and its calls a second, each game with its nanoseconds a deed or an arrival, the record with the megabytes
-//! of its deeds' lines that are checked a second, and the self-played games with their games and deeds a second.
+//! of its deeds' lines that are checked a second and of which the public view is made, and the self-played games with their games and deeds a second.
 #![tactic(auto)]
 
 mod half_played;
@@ -20,7 +20,7 @@ use hands::Hands;
 use jobs::{JOBS, Job};
 use parts::{PARTS, Part, Unit, first_lines};
 use referee::referee;
-use replayed::deeds_checked;
+use replayed::{bytes_shown, deeds_checked};
 use self_played::{PLAYED, self_played};
 use std::io::Read;
 use std::time::CpuClock;
@@ -94,7 +94,8 @@ fn time_job(rt: &HostRuntime, job: Job) -> Result<()> {
 fn tell_parts(rt: &HostRuntime, file: &str, timed: bool) -> Result<()> {
     let game = fs::read(rt, file)?;
     if file.ends_with("record") {
-        return tell_record(rt, game.as_slice(), timed);
+        tell_record(rt, game.as_slice(), timed)?;
+        return tell_view(rt, game.as_slice(), timed);
     }
     for part in PARTS {
         if file.ends_with(part.file) {
@@ -152,28 +153,44 @@ fn tell_record(rt: &HostRuntime, record: &[u8], timed: bool) -> Result<()> {
         println!(rt; "replay of a whole game's record: {deeds} deeds")?;
         return Ok(());
     }
-    let rate = rate_of_record(rt, record)?;
+    let rate = rate_of_record(rt, record, false)?;
     println!(rt; "replay of a whole game's record: {rate} megabytes a second, {deeds} deeds")?;
     Ok(())
 }
 
-// How many megabytes of the lines after the header and the walls of a record are checked a second.
-fn rate_of_record(rt: &HostRuntime, record: &[u8]) -> Result<u128> {
+// Prints how many bytes the public view of a record has, or of how many megabytes of its lines it is made a second.
+fn tell_view(rt: &HostRuntime, record: &[u8], timed: bool) -> Result<()> {
+    let bytes = bytes_shown(rt.alloc(), record)?;
+    if !timed {
+        println!(rt; "public view of a whole game's record: {bytes} bytes")?;
+        return Ok(());
+    }
+    let rate = rate_of_record(rt, record, true)?;
+    println!(rt; "public view of a whole game's record: {rate} megabytes a second, {bytes} bytes")?;
+    Ok(())
+}
+
+// How many megabytes of the lines after the header and the walls of a record are checked a second, or checked and shown.
+fn rate_of_record(rt: &HostRuntime, record: &[u8], shown: bool) -> Result<u128> {
     let beginning = first_lines(rt.alloc(), record, BEFORE_DEEDS)?;
     let bytes = record.len().saturating_sub(beginning.len());
     let mut before = u128::MAX;
     let mut all = u128::MAX;
     for _ in 0..GAMES {
-        before = before.min(time_of_check(rt, beginning.as_slice())?);
-        all = all.min(time_of_check(rt, record)?);
+        before = before.min(time_of_check(rt, beginning.as_slice(), shown)?);
+        all = all.min(time_of_check(rt, record, shown)?);
     }
     Ok(bytes as u128 * 1_000 / all.saturating_sub(before).max(1))
 }
 
-// The nanoseconds of processor time that the check of a record takes.
-fn time_of_check(rt: &HostRuntime, record: &[u8]) -> Result<u128> {
+// The nanoseconds of processor time that the check of a record takes, or its public view.
+fn time_of_check(rt: &HostRuntime, record: &[u8], shown: bool) -> Result<u128> {
     let before = rt.process_cpu_time()?;
-    deeds_checked(rt.alloc(), record);
+    if shown {
+        bytes_shown(rt.alloc(), record)?;
+    } else {
+        deeds_checked(rt.alloc(), record);
+    }
     let after = rt.process_cpu_time()?;
     Ok(after.as_nanos().saturating_sub(before.as_nanos()))
 }

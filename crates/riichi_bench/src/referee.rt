@@ -1,6 +1,7 @@
 //! A stored game, refereed.
 
 use mj_front::{Status, is_for_waiting, run_alone};
+use mj_journal::MemDisk;
 use mj_links::{MemSink, MemSource};
 use std::alloc::{AllocError, Global};
 
@@ -20,7 +21,8 @@ pub fn referee(alloc: Global, game: &[u8]) -> Result<Refereed, AllocError> {
     }
     let mut source = MemSource::new(Vec::from_slice(alloc, game)?, Vec::new(alloc));
     let mut sink = MemSink::new(Vec::new(alloc));
-    match run_alone(alloc, words.as_slice(), &mut source, &mut sink) {
+    let mut disk = MemDisk::new(b"", Vec::new(alloc))?;
+    match run_alone(alloc, words.as_slice(), &mut source, &mut sink, &mut disk) {
         Status::Done => Ok(told_in(sink.written())),
         _ => Ok(told_in(&[])),
     }

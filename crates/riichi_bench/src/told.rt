@@ -1,6 +1,6 @@
 //! The lines of many deeds, as they are kept for the seats.
 
-use mj_deeds::Deed;
+use mj_deeds::{Answers, Deed, Four};
 use mj_streams::Streams;
 use mj_tiles::Tile;
 use std::alloc::{AllocError, Global};
@@ -14,7 +14,7 @@ pub fn told(alloc: Global, deeds: u32) -> Result<Streams, AllocError> {
     Ok(streams)
 }
 
-// Tells a discard of the next seat and the next kind.
+// Tells a discard of the next seat and the next kind, to which each seat may only pass.
 fn tell_discard(alloc: Global, streams: &mut Streams, number: u32) -> Result<(), AllocError> {
     match Tile::of((number % 34) as u8) {
         Some(tile) => streams.push_alone(
@@ -24,8 +24,19 @@ fn tell_discard(alloc: Global, streams: &mut Streams, number: u32) -> Result<(),
                 tile,
                 drawn: number % 2 == 0,
             },
+            &passes(),
         ),
         None => Ok(()),
+    }
+}
+
+// A pass alone for each seat.
+fn passes() -> Four<Answers> {
+    Four {
+        first: Answers::pass_alone(),
+        second: Answers::pass_alone(),
+        third: Answers::pass_alone(),
+        fourth: Answers::pass_alone(),
     }
 }
 

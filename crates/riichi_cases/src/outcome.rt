@@ -2,6 +2,7 @@
 
 use mj_bytes::push_number;
 use mj_front::{Status, exit_code, is_for_waiting, run_alone, status_text};
+use mj_journal::MemDisk;
 use mj_links::{MemSink, MemSource};
 use std::alloc::{AllocError, Global};
 
@@ -21,7 +22,8 @@ pub fn outcome_of(alloc: Global, words: &[u8], input: Vec<u8>) -> Result<Outcome
     let status = if is_for_waiting(words.as_slice()) {
         Status::Words
     } else {
-        run_alone(alloc, words.as_slice(), &mut source, &mut sink)
+        let mut disk = MemDisk::new(b"", Vec::new(alloc))?;
+        run_alone(alloc, words.as_slice(), &mut source, &mut sink, &mut disk)
     };
     Ok(Outcome {
         bytes: Vec::from_slice(alloc, sink.written())?,

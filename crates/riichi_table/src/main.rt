@@ -3,10 +3,13 @@
 //! whoever connects to a port of this machine, and writes its record; `riichi_table replay` reads a record from
 //! standard input and writes what it comes to; `riichi_table hand WORDS` writes the shanten,
 //! the target and the waits of the hand that the words name; `riichi_table selfplay N` writes what the game of four built-in
-//! players with the walls of a number comes to.
+//! players with the walls of a number comes to; `riichi_table observe` reads a record and writes what a watcher without tiles is
+//! told of it; `riichi_table keep SEAT` is `referee SEAT` over a game whose entries stand in the file `riichi.journal`, and goes on
+//! where that ends; `riichi_table safe SEAT` reads arrivals and writes which tiles the seat may discard that can't be won on.
 #![tactic(auto)]
 
 use mj_front::{Status, exit_code, run, status_text};
+use mj_journal::FileDisk;
 use mj_links::{MachineClock, ReaderSource, TcpHost, WriterSink};
 use mj_words::serving_of;
 use std::alloc::{AllocError, Global};
@@ -25,6 +28,7 @@ fn main(rt: HostRuntime) -> ExitCode {
             &mut WriterSink::new(rt.stdout()),
             &mut TcpHost::new(&rt, limit_of(alloc, words.as_slice())),
             &mut MachineClock::new(&rt),
+            &mut FileDisk::new(&rt),
         ),
         Err(_) => Status::NoMemory,
     };

@@ -1,3 +1,5 @@
+ghost use Rattle.std.specs.Prelude.{◌≡◌, [], IfSome};
+
 use crate::record_tests::{all_refused, number_of_lines};
 use mj_core::{Core, Expiry, Heard, Left, SitAnswer};
 use mj_deeds::Rule;
@@ -42,7 +44,9 @@ enum Step {
 }
 
 // A game on the wall in tile order, before its first entry.
-fn before_all(alloc: Global) -> Option<Core> {
+pub(crate) fn before_all(alloc: Global) -> Option<Core>
+    ensures { IfSome result (λ core. core.entries ≡ []) }
+{
     let mut tiles = [Tile::of(0)?; 136];
     for place in 0..136u8 {
         tiles[usize::from(place)] = Tile::of(place / 4)?;
@@ -201,7 +205,7 @@ const FOUR_SEATS: [Step; 13] = [
     Step::Asks(4, [true, true, true, true]),
     Step::IsTold(
         3,
-        "{\"type\":\"start_game\",\"id\":3,\"names\":[\"a\",\"b\",\"c\",\"d\"]}\n",
+        "{\"type\":\"start_game\",\"id\":3,\"names\":[\"a\",\"b\",\"c\",\"d\"],\"possible_actions\":[{\"type\":\"none\"}]}\n",
     ),
 ];
 
@@ -210,6 +214,19 @@ const HEAD: &str =
 
 const FIVE_DEEDS: &str =
     "{\"type\":\"start_game\",\"id\":0,\"names\":[\"a\",\"b\",\"c\",\"d\"]}\n{\"type\":\"start_kyoku\",\"bakaze\":\"E\",\"kyoku\":1,\"honba\":0,\"kyotaku\":0,\"oya\":0,\"dora_marker\":\"F\",\"tehais\":[[\"1m\",\"1m\",\"1m\",\"1m\",\"2m\",\"2m\",\"2m\",\"2m\",\"3m\",\"3m\",\"3m\",\"3m\",\"4m\"],[\"4m\",\"4m\",\"4m\",\"5m\",\"5m\",\"5m\",\"5m\",\"6m\",\"6m\",\"6m\",\"6m\",\"7m\",\"7m\"],[\"7m\",\"7m\",\"8m\",\"8m\",\"8m\",\"8m\",\"9m\",\"9m\",\"9m\",\"9m\",\"1p\",\"1p\",\"1p\"],[\"1p\",\"2p\",\"2p\",\"2p\",\"2p\",\"3p\",\"3p\",\"3p\",\"3p\",\"4p\",\"4p\",\"4p\",\"4p\"]]}\n{\"type\":\"tsumo\",\"actor\":0,\"pai\":\"5p\"}\n{\"type\":\"dahai\",\"actor\":0,\"pai\":\"1m\",\"tsumogiri\":false}\n{\"type\":\"tsumo\",\"actor\":1,\"pai\":\"5p\"}\n";
+
+// What the seats are told of the first deeds, each with what it may answer.
+const DRAW: &str =
+    "{\"type\":\"tsumo\",\"actor\":0,\"pai\":\"?\",\"possible_actions\":[{\"type\":\"none\"}]}\n";
+
+const DEALER_DRAWS: &str =
+    "{\"type\":\"tsumo\",\"actor\":0,\"pai\":\"5p\",\"possible_actions\":[{\"type\":\"dahai\",\"actor\":0,\"pai\":\"1m\",\"tsumogiri\":false},{\"type\":\"dahai\",\"actor\":0,\"pai\":\"2m\",\"tsumogiri\":false},{\"type\":\"dahai\",\"actor\":0,\"pai\":\"3m\",\"tsumogiri\":false},{\"type\":\"dahai\",\"actor\":0,\"pai\":\"4m\",\"tsumogiri\":false},{\"type\":\"dahai\",\"actor\":0,\"pai\":\"5p\",\"tsumogiri\":true},{\"type\":\"ankan\",\"actor\":0,\"consumed\":[\"1m\",\"1m\",\"1m\",\"1m\"]},{\"type\":\"ankan\",\"actor\":0,\"consumed\":[\"2m\",\"2m\",\"2m\",\"2m\"]},{\"type\":\"ankan\",\"actor\":0,\"consumed\":[\"3m\",\"3m\",\"3m\",\"3m\"]},{\"type\":\"reach\",\"actor\":0}]}\n";
+
+const DISCARDS: &str =
+    "{\"type\":\"dahai\",\"actor\":0,\"pai\":\"1m\",\"tsumogiri\":false,\"possible_actions\":[{\"type\":\"none\"}]}\n";
+
+const SECOND_DRAWS: &str =
+    "{\"type\":\"tsumo\",\"actor\":1,\"pai\":\"5p\",\"possible_actions\":[{\"type\":\"dahai\",\"actor\":1,\"pai\":\"4m\",\"tsumogiri\":false},{\"type\":\"dahai\",\"actor\":1,\"pai\":\"5m\",\"tsumogiri\":false},{\"type\":\"dahai\",\"actor\":1,\"pai\":\"6m\",\"tsumogiri\":false},{\"type\":\"dahai\",\"actor\":1,\"pai\":\"7m\",\"tsumogiri\":false},{\"type\":\"dahai\",\"actor\":1,\"pai\":\"5p\",\"tsumogiri\":true},{\"type\":\"ankan\",\"actor\":1,\"consumed\":[\"5m\",\"5m\",\"5m\",\"5m\"]},{\"type\":\"ankan\",\"actor\":1,\"consumed\":[\"6m\",\"6m\",\"6m\",\"6m\"]},{\"type\":\"reach\",\"actor\":1}]}\n";
 
 const FIRST_DISCARD: [Step; 26] = [
     Step::IsRecorded(""),
@@ -224,8 +241,8 @@ const FIRST_DISCARD: [Step; 26] = [
     Step::Says(1, PASS, Heard::Taken),
     Step::Says(3, PASS, Heard::Taken),
     Step::AllPass,
-    Step::IsTold(0, "{\"type\":\"tsumo\",\"actor\":0,\"pai\":\"5p\"}\n"),
-    Step::IsTold(1, "{\"type\":\"tsumo\",\"actor\":0,\"pai\":\"?\"}\n"),
+    Step::IsTold(0, DEALER_DRAWS),
+    Step::IsTold(1, DRAW),
     Step::Says(3, PASS, Heard::Taken),
     Step::Says(
         0,
@@ -241,19 +258,15 @@ const FIRST_DISCARD: [Step; 26] = [
     ),
     Step::Says(1, PASS, Heard::Taken),
     Step::Says(2, PASS, Heard::Taken),
-    Step::IsTold(
-        3,
-        "{\"type\":\"dahai\",\"actor\":0,\"pai\":\"1m\",\"tsumogiri\":false}\n",
-    ),
+    Step::IsTold(3, DISCARDS),
     Step::Asks(4, [true, true, true, true]),
     Step::AllPass,
-    Step::IsTold(1, "{\"type\":\"tsumo\",\"actor\":1,\"pai\":\"5p\"}\n"),
+    Step::IsTold(1, SECOND_DRAWS),
     Step::IsRecorded(FIVE_DEEDS),
 ];
 
-const START: &str = "{\"type\":\"start_game\",\"id\":0,\"names\":[\"a\",\"b\",\"c\",\"d\"]}\n";
-
-const DRAW: &str = "{\"type\":\"tsumo\",\"actor\":0,\"pai\":\"?\"}\n";
+const START: &str =
+    "{\"type\":\"start_game\",\"id\":0,\"names\":[\"a\",\"b\",\"c\",\"d\"],\"possible_actions\":[{\"type\":\"none\"}]}\n";
 
 const WRONG_KEY: &str = "{\"type\":\"join\",\"name\":\"a\",\"key\":\"l\"}";
 

@@ -1,5 +1,6 @@
 use crate::slow::{SlowSink, SlowSource};
 use mj_front::{Cause, Status, exit_code, is_for_waiting, run_alone, status_text};
+use mj_journal::MemDisk;
 use mj_links::{MemSink, MemSource, Sink, Source};
 use std::alloc::{AllocError, Global};
 use std::test::Fail;
@@ -36,7 +37,10 @@ fn end<S: Source, K: Sink>(
     if is_for_waiting(words) {
         return Status::Words;
     }
-    run_alone(alloc, words, source, sink)
+    match MemDisk::new(b"", Vec::new(alloc)) {
+        Ok(mut disk) => run_alone(alloc, words, source, sink, &mut disk),
+        Err(_) => Status::NoMemory,
+    }
 }
 
 // A source one of whose reads fails.
@@ -191,7 +195,7 @@ fn commands_that_read_nothing_leave_the_source_as_it_was(rt: HostRuntime) -> Res
 }
 
 // A status, its code and its text.
-const STATUSES: [(Status, u8, &str); 8] = [
+const STATUSES: [(Status, u8, &str); 11] = [
     (Status::Done, 0, ""),
     (Status::ReadFault, 3, "read fault\n"),
     (Status::WriteFault, 4, "write fault\n"),
@@ -207,10 +211,17 @@ const STATUSES: [(Status, u8, &str); 8] = [
         "bad record at line 4294967295: 4\n",
     ),
     (Status::TooLong, 9, "input too long\n"),
+    (Status::DiskFault, 11, "disk fault\n"),
+    (Status::OtherGame, 12, "journal of another game\n"),
+    (
+        Status::BadJournal(u64::MAX),
+        13,
+        "bad journal at byte 18446744073709551615\n",
+    ),
     (
         Status::Words,
         2,
-        "usage: riichi_table referee SEAT | serve --seed HEX [--limit MS] [--port N] [--draws] [--red] | replay | hand WORDS | selfplay N\n",
+        "usage: riichi_table referee SEAT | serve --seed HEX [--limit MS] [--port N] [--draws] [--red] | replay | hand WORDS | selfplay N | observe | keep SEAT | safe SEAT\n",
     ),
 ];
 

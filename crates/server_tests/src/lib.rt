@@ -9,6 +9,10 @@ mod front_tests;
 #[cfg(test)]
 mod host_tests;
 #[cfg(test)]
+mod journal_tests;
+#[cfg(test)]
+mod keep_tests;
+#[cfg(test)]
 mod links_tests;
 #[cfg(test)]
 mod record_tests;

@@ -1,6 +1,6 @@
 //! Lines that are kept.
 
-use mj_deeds::{Deed, SeatList, Tiles, YakuList};
+use mj_deeds::{Answers, Deed, Four, SeatList, Tiles, YakuList};
 use mj_streams::Streams;
 use mj_tiles::Tile;
 use std::alloc::{AllocError, Global};
@@ -14,8 +14,15 @@ fn draw(tile: Tile) -> Deed {
     }
 }
 
+// Whether a deed is added to which each seat may only pass.
 fn push(alloc: Global, streams: &mut Streams, deed: Deed) -> bool {
-    streams.push_alone(alloc, &deed).is_ok()
+    let passes = Four {
+        first: Answers::pass_alone(),
+        second: Answers::pass_alone(),
+        third: Answers::pass_alone(),
+        fourth: Answers::pass_alone(),
+    };
+    streams.push_alone(alloc, &deed, &passes).is_ok()
 }
 
 // Whether a reach of each seat in turn is added so many times.
@@ -42,11 +49,13 @@ fn have(streams: &Streams, lines: &[Line]) -> bool {
     right
 }
 
-const HIDDEN: &str = "{\"type\":\"tsumo\",\"actor\":2,\"pai\":\"?\"}\n";
+const HIDDEN: &str =
+    "{\"type\":\"tsumo\",\"actor\":2,\"pai\":\"?\",\"possible_actions\":[{\"type\":\"none\"}]}\n";
 
-const DRAWN: &str = "{\"type\":\"tsumo\",\"actor\":2,\"pai\":\"5p\"}\n";
+const DRAWN: &str =
+    "{\"type\":\"tsumo\",\"actor\":2,\"pai\":\"5p\",\"possible_actions\":[{\"type\":\"none\"}]}\n";
 
-const REACH: &str = "{\"type\":\"reach\",\"actor\":2}\n";
+const REACH: &str = "{\"type\":\"reach\",\"actor\":2,\"possible_actions\":[{\"type\":\"none\"}]}\n";
 
 const FEW: [Line; 8] = [
     Line(0, 0, Some(HIDDEN)),
@@ -95,21 +104,29 @@ fn win(alloc: Global, tile: Tile, shown: usize) -> Result<Deed, AllocError> {
     })
 }
 
+const FIRST_REACH: &str =
+    "{\"type\":\"reach\",\"actor\":0,\"possible_actions\":[{\"type\":\"none\"}]}\n";
+
+const LAST_REACH: &str =
+    "{\"type\":\"reach\",\"actor\":3,\"possible_actions\":[{\"type\":\"none\"}]}\n";
+
 const LONG: [Line; 5] = [
-    Line(0, 0, Some("{\"type\":\"reach\",\"actor\":0}\n")),
-    Line(0, 2426, Some("{\"type\":\"reach\",\"actor\":2}\n")),
-    Line(3, 2427, Some("{\"type\":\"reach\",\"actor\":3}\n")),
-    Line(1, 2799, Some("{\"type\":\"reach\",\"actor\":3}\n")),
-    Line(2, 2801, Some("{\"type\":\"reach\",\"actor\":3}\n")),
+    Line(0, 0, Some(FIRST_REACH)),
+    Line(0, 1023, Some(LAST_REACH)),
+    Line(3, 1024, Some(FIRST_REACH)),
+    Line(1, 2799, Some(LAST_REACH)),
+    Line(2, 2801, Some(LAST_REACH)),
 ];
 
 // Whether this is the line of the win: 20,000 quoted tiles with commas between, and what stands before and after them.
 fn is_win(line: &[u8]) -> bool {
-    line.len() == 83 + 99_999 + 87
+    line.len() == 83 + 99_999 + 124
         && line.starts_with(
             b"{\"type\":\"hora\",\"actor\":0,\"target\":0,\"pai\":\"5p\",\"uradora_markers\":[],\"hora_tehais\":[\"5p\",\"5p\",",
         )
-        && line.ends_with(b"\"hora_points\":1000,\"deltas\":[0,0,0,0],\"scores\":[0,0,0,0]}\n")
+        && line.ends_with(
+            b"\"hora_points\":1000,\"deltas\":[0,0,0,0],\"scores\":[0,0,0,0],\"possible_actions\":[{\"type\":\"none\"}]}\n",
+        )
 }
 
 // Whether 2,800 reaches of the seats in turn, a win that shows 20,000 tiles, and a reach of seat 3 are kept so.
@@ -124,7 +141,7 @@ fn many_are_kept(alloc: Global, mut streams: Streams, win: Deed) -> bool {
         }
 }
 
-// A page has 65,536 bytes, so it takes 2,427 lines of a reach, and the win has a page of its own.
+// A page has 65,536 bytes, so it takes 1,024 lines of a reach, and the win has a page of its own.
 #[test]
 fn lines_stay_as_they_are_at_the_end_of_a_page_and_beside_one_longer_than_a_page(
     rt: HostRuntime,

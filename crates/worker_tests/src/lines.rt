@@ -8,7 +8,8 @@ pub const HELLO: &str = "{\"type\":\"hello\",\"protocol\":\"mjsonp\",\"protocol_
 pub const HEAD: &str = "{\"type\":\"replay\",\"count\":1}\n";
 
 /// The first deed as seat 3 is told it.
-pub const START: &str = "{\"type\":\"start_game\",\"id\":3,\"names\":[\"a\",\"b\",\"c\",\"d\"]}\n";
+pub const START: &str =
+    "{\"type\":\"start_game\",\"id\":3,\"names\":[\"a\",\"b\",\"c\",\"d\"],\"possible_actions\":[{\"type\":\"none\"}]}\n";
 
 /// A text, so many times.
 #[derive(Clone, Copy)]

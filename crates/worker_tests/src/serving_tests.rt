@@ -9,6 +9,7 @@ use crate::meeting::{Meeting, MeetingHost, Sign};
 use crate::patient::{PatientClock, PatientHost};
 use crate::player::{A, B, C, D, KEY};
 use mj_front::{Status, exit_code, is_for_waiting, run, run_alone, status_text};
+use mj_journal::MemDisk;
 use mj_links::{Clock, Host, MemClock, MemHost, MemLink, MemSink, MemSource};
 use std::alloc::{AllocError, Global};
 use std::sync::Wait;
@@ -42,7 +43,17 @@ fn serve<H: Host, K: Clock, R: Threads + Wait + Sync>(
 ) -> Result<Status, AllocError> {
     let words = words_of(alloc, &SERVE)?;
     let mut source = MemSource::new(Vec::new(alloc), Vec::new(alloc));
-    Ok(run(rt, alloc, words.as_slice(), &mut source, sink, host, clock))
+    let mut disk = MemDisk::new(b"", Vec::new(alloc))?;
+    Ok(run(
+        rt,
+        alloc,
+        words.as_slice(),
+        &mut source,
+        sink,
+        host,
+        clock,
+        &mut disk,
+    ))
 }
 
 // Whether a record is good.
@@ -50,9 +61,11 @@ fn is_good(alloc: Global, record: &[u8]) -> Result<bool, AllocError> {
     let words = words_of(alloc, &["replay"])?;
     let mut source = MemSource::new(record.to_vec(alloc)?, Vec::new(alloc));
     let mut sink = MemSink::new(Vec::new(alloc));
+    let mut disk = MemDisk::new(b"", Vec::new(alloc))?;
     Ok(
         !is_for_waiting(words.as_slice())
-            && run_alone(alloc, words.as_slice(), &mut source, &mut sink) == Status::Done,
+            && run_alone(alloc, words.as_slice(), &mut source, &mut sink, &mut disk)
+                == Status::Done,
     )
 }
 

@@ -1,34 +1,23 @@
 -- What is kept of an input while its lines are heard.
-use Rattle.std.specs.Prelude.{◌≡◌, ℕ, ◌==◌, ◌≤◌, Bool, true, false, if◌then◌else◌, List, [], ◌∷◌, ◌++◌, length, flat_map, Option, Some, option_map, slice_get}
+use Rattle.std.specs.Prelude.{◌≡◌, ℕ, ◌==◌, ◌≤◌, Bool, true, false, if◌then◌else◌, List, [], ◌∷◌, ◌++◌, codes, length, flat_map, Option, Some, option_map, slice_get}
 use Rattle.std.specs.Option.{option_map_or}
-use Rattle.mj_wall.specs.declared.setting.Rules.{Rules}
 use Rattle.mj_forms.specs.Lines.{hello_line}
-use Rattle.mj_history.specs.After.{After, Chair, Connection, lines_for, told_again, scripts_in}
+use Rattle.mj_history.specs.After.{After, Chair, Connection, lines_for, told_again, scripts}
 use Rattle.mj_history.specs.Legal.{Game}
-use Rattle.mj_history.specs.Arrivals.{ArrivalForm, Header, WallOf, Sit, Say, Leave, Expire, NoForm, form_of, Intake, Arrival, Leads, Bad, Input, now_of}
+use Rattle.mj_history.specs.Arrivals.{form_of, Intake, Arrival, Leads, Bad, Input, game_of}
 use Rattle.mj_core.specs.Calls.{after_of, author_of_seat, due_of, pending_at}
+use Rattle.mj_safe.specs.Text.{safe_text}
 use Rattle.mj_front.specs.declared.arriving.Arrived.{Arrived}
 use Rattle.mj_front.specs.declared.arriving.Arrived.TheVariants as steps
 use Rattle.mj_front.specs.declared.intake.End.{End}
+use Rattle.mj_front.specs.declared.intake.Question.{Question}
+use Rattle.mj_front.specs.declared.intake.Question.TheVariants as questions
 use Rattle.mj_front.specs.Referee.{ending}
-
--- What was read after a header and walls alone.
-abbrev pub intake_with_walls : Rules → List (List ℕ) → Intake
-intake_with_walls rules walls = record { rules = Some rules; walls = walls; begun = false; entries = [] }
+pub use Rattle.mj_front.specs.Keep.{is_wall_form, intake_with_walls}
 
 -- What was read, where a game is in play: no wall may stand here any more.
 abbrev pub intake_of : Game → Intake
 intake_of game = record { rules = Some game.setting.rules; walls = game.setting.walls; begun = true; entries = game.entries }
-
--- A line is a wall by its form.
-abbrev pub is_wall_form : ArrivalForm → Bool
-is_wall_form (WallOf tiles) = true
-is_wall_form (Header rules) = false
-is_wall_form (Sit text) = false
-is_wall_form (Say seat text) = false
-is_wall_form (Leave seat) = false
-is_wall_form (Expire window t1 t2) = false
-is_wall_form NoForm = false
 
 -- Lines begin with a wall.
 abbrev pub begin_with_wall : List (List ℕ) → Bool
@@ -49,7 +38,7 @@ greeting taken seat = if taken == seat then hello_line else []
 
 -- What a seat that is back is told again: the lines before its due deed.
 abbrev pub told_again_in : ℕ → Game → List ℕ
-told_again_in seat game = told_again (lines_for seat (after_of game).deeds) (due_of game seat)
+told_again_in seat game = told_again (lines_for game.setting.rules seat (after_of game).deeds) (due_of game seat)
 
 -- So where it is the seat that was taken back.
 abbrev pub greeting_again : ℕ → ℕ → Game → List ℕ
@@ -81,7 +70,22 @@ pub record HearsAll (input : Input) (seat : ℕ) (end : End) (game : Game) (told
   pub ends : input.ending ≡ ending end
   pub play : InPlay seat game told
 
--- How an input ends, and what its game tells the seat.
-pub record Tells (input : Input) (seat : ℕ) (end : End) (bytes : List ℕ) : Type 0 where
+-- What answers a question of a game, for a seat.
+abbrev pub answer_to : Question → ℕ → Game → List ℕ
+answer_to questions.Script seat game = scripts seat game.setting game.entries
+answer_to questions.SafeKinds seat game = safe_text (after_of game).deeds seat
+
+-- What answers it before the first entry.
+abbrev pub first_answer : Question → List ℕ
+first_answer questions.Script = []
+first_answer questions.SafeKinds = codes "not to discard\n"
+
+-- How an input ends, and what answers the question of its game for the seat.
+pub record Tells (question : Question) (input : Input) (seat : ℕ) (end : End) (bytes : List ℕ) : Type 0 where
   pub ends : input.ending ≡ ending end
-  pub told : bytes ≡ scripts_in seat (now_of input.reading)
+  pub told : bytes ≡ answer_to question seat (game_of input.reading)
+
+-- An input ends so before an entry.
+pub record HasNothing (input : Input) (end : End) : Type 0 where
+  pub ends : input.ending ≡ ending end
+  pub nothing : input.reading.entries ≡ []

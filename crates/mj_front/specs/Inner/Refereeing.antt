@@ -1,16 +1,25 @@
--- What the referee of a seat does once an input was read.
+-- What is done once an input was read whose game is asked something for a seat.
 use Rattle.std.specs.Prelude.{ℕ, List, Option}
 use Rattle.std.specs.Io.KnownBytes.{Keeps}
 use Rattle.mj_links.specs.Sinks.{WritesPrefix}
 use Rattle.mj_history.specs.Arrivals.{input_of, game_of}
 use Rattle.mj_front.specs.declared.referee.RefereeEnd.{RefereeEnd}
 use Rattle.mj_front.specs.declared.referee.RefereeEnd.TheVariants as ends
+use Rattle.mj_history.specs.Legal.{Game}
+use Rattle.mj_front.specs.declared.intake.Question.{Question}
+use Rattle.mj_front.specs.declared.intake.Question.TheVariants as questions
 use Rattle.mj_front.specs.Referee.{IsTold, TellsAll, ending}
+use Rattle.mj_front.specs.Safe.{IsSafeTold}
 
--- By its end: what is written of what the game tells the seat, and that no read can fail any more.
-abbrev pub RefereesInput : RefereeEnd → ℕ → List ℕ → Option (List ℕ) → Option (List ℕ) → Type 0
-RefereesInput (ends.Told end) seat input old new = TellsAll (ending end) seat input old new
-RefereesInput ends.WriteFault seat input old new = IsTold (WritesPrefix old new) seat (game_of (input_of input).reading)
-RefereesInput ends.ReadFault seat input old new = ⊥
-RefereesInput ends.TooLong seat input old new = ⊥
-RefereesInput ends.NoMemory seat input old new = Keeps old new
+-- By its end: what is written of what is said of the game, and that no read can fail any more.
+abbrev pub RefereesInput : ((List ℕ → Type 0) → ℕ → Game → Type 0) → RefereeEnd → ℕ → List ℕ → Option (List ℕ) → Option (List ℕ) → Type 0
+RefereesInput Says (ends.Told end) seat input old new = TellsAll Says (ending end) seat input old new
+RefereesInput Says ends.WriteFault seat input old new = Says (WritesPrefix old new) seat (game_of (input_of input).reading)
+RefereesInput Says ends.ReadFault seat input old new = ⊥
+RefereesInput Says ends.TooLong seat input old new = ⊥
+RefereesInput Says ends.NoMemory seat input old new = Keeps old new
+
+-- What is said of a game for a seat, by what is asked.
+abbrev pub said_by : Question → (List ℕ → Type 0) → ℕ → Game → Type 0
+said_by questions.Script IsWritten seat game = IsTold IsWritten seat game
+said_by questions.SafeKinds IsWritten seat game = IsSafeTold IsWritten seat game

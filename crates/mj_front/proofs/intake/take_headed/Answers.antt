@@ -1,12 +1,13 @@
-use Rattle.std.proofs.Common.{ap, sym, ◌∙◌, Some}
+use Rattle.std.proofs.Common.{refl, ◌∙◌, Some}
 use Rattle.mj_bytes.specs.Parts.{whole_lines}
-use Rattle.mj_front.proofs.WallLaws.{IsWallLine, heard-wall, few-more, whole-more, counted, tells-bad_wall}
-use Rattle.mj_front.specs.Referee.{ending}
+use Rattle.mj_front.proofs.WallLaws.{IsWallLine, heard-wall, few-more, whole-more, counted, nothing-bad_wall}
+use Rattle.mj_front.proofs.AskLaws.{nothing_at_end, told_nothing}
 use Rattle.mj_front.proofs.intake.take_headed.Goals as goal
 
 pub returns-in_default-next_wall : goal.returns-in_default-next_wall
 returns-in_default-next_wall c =
-    tells-bad_wall c.args.seat c.loop-line.number _ c.args.rules c.loop-line.walls.items _ _ _ _ _ c.loop-line.invariant.same
+    told_nothing c.args.question _ _ c.args.seat _ c.nothing_told.ensures
+    (nothing-bad_wall c.loop-line.number _ c.args.rules c.loop-line.walls.items _ _ _ _ c.loop-line.invariant.same
     (record {
       line = c.in-Some.line.now;
       tiles = c.in-Wall.tiles.items;
@@ -18,7 +19,7 @@ returns-in_default-next_wall c =
       same = c.as_slice.ensures.value;
       read = c.in_default-next_wall.ensures;
     })
-    (ap ending (sym c.nothing_told.ensures.end)) c.nothing_told.ensures.bytes
+    refl)
 
 pub loop-line-preserved : goal.loop-line-preserved
 loop-line-preserved c =
@@ -38,3 +39,8 @@ loop-line-preserved c =
       whole = whole-more c.args.rules _ _ _ _ _ read c.in_ok-push.ensures.items c.loop-line.invariant.whole;
       count = counted _ _ _ _ c.loop-line.invariant.count c.in-Some.ensures.shorter;
     }
+
+pub returns : goal.returns
+returns c =
+    told_nothing c.args.question _ _ c.args.seat _ c.nothing_told-2.ensures
+    (nothing_at_end _ _ _ _ _ c.loop-line.rest.now _ c.loop-line.invariant.same c.in_default.ensures.lines c.in_default.ensures.ending (c.end_at.ensures _) refl)

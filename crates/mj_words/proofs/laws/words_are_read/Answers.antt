@@ -1,11 +1,11 @@
 use Rattle.std.proofs.Common.{refl}
 use Rattle.clap.proofs.OnLiterals.{clap_on_literals}
 use Rattle.hex.proofs.OnLiterals.{hex_on_literals}
-use Rattle.mj_words.specs.Lines.{referee_line, serve_line, replay_line, hand_line, self_play_line, is_taken, value_in, values_in}
+use Rattle.mj_words.specs.Lines.{referee_line, keep_line, serve_line, replay_line, hand_line, self_play_line, observe_line, safe_line, is_taken, value_in, values_in}
 use Rattle.mj_words.proofs.laws.words_are_read.Goals as goal
 
 pub returns : goal.returns
-unfolding clap_on_literals hex_on_literals referee_line serve_line replay_line hand_line self_play_line is_taken value_in values_in
+unfolding clap_on_literals hex_on_literals referee_line keep_line serve_line replay_line hand_line self_play_line observe_line safe_line is_taken value_in values_in
 returns c = record {
   none = refl;
   no_command = refl;
@@ -35,6 +35,14 @@ returns c = record {
   hand_of_none = refl;
   hand_with_an_option = refl;
   self_play = refl;
+  keep = refl;
+  keep_of_none = refl;
+  keep_of_the_fifth = refl;
   self_play_of_none = refl;
   self_play_of_a_longer_number = refl;
+  safe = refl;
+  safe_of_none = refl;
+  safe_of_the_fifth = refl;
+  observe = refl;
+  observe_of_a_seat = refl;
 }

@@ -1,0 +1,282 @@
+use mj_front::{Status, is_for_waiting, run_alone};
+use mj_journal::{CallMade, DiskCall, MemDisk};
+use mj_links::{MemSink, MemSource};
+use std::alloc::{AllocError, Global};
+use std::test::Fail;
+
+const GAME: &[u8] = b"game limit=1000 draws=0 red=0\n";
+
+const OTHER_GAME: &[u8] = b"game limit=2000 draws=0 red=0\n";
+
+// A wall in tile order.
+const WALL: &[u8] =
+    b"wall 1m 1m 1m 1m 2m 2m 2m 2m 3m 3m 3m 3m 4m 4m 4m 4m 5m 5m 5m 5m 6m 6m 6m 6m 7m 7m 7m 7m 8m 8m 8m 8m 9m 9m 9m 9m 1p 1p 1p 1p 2p 2p 2p 2p 3p 3p 3p 3p 4p 4p 4p 4p 5p 5p 5p 5p 6p 6p 6p 6p 7p 7p 7p 7p 8p 8p 8p 8p 9p 9p 9p 9p 1s 1s 1s 1s 2s 2s 2s 2s 3s 3s 3s 3s 4s 4s 4s 4s 5s 5s 5s 5s 6s 6s 6s 6s 7s 7s 7s 7s 8s 8s 8s 8s 9s 9s 9s 9s E E E E S S S S W W W W N N N N P P P P F F F F C C C C\n";
+
+const JOINS: &[u8] =
+    b"sit {\"type\":\"join\",\"name\":\"a\",\"room\":\"default\"}\nsit {\"type\":\"join\",\"name\":\"b\",\"room\":\"default\"}\nsit {\"type\":\"join\",\"name\":\"c\",\"room\":\"default\"}\nsit {\"type\":\"join\",\"name\":\"d\",\"room\":\"default\"}\n";
+
+const PASSES: &[u8] =
+    b"say 0 {\"type\":\"none\"}\nsay 1 {\"type\":\"none\"}\nsay 2 {\"type\":\"none\"}\nsay 3 {\"type\":\"none\"}\n";
+
+const NOTHING: &[u8] = b"";
+
+// How many calls on the disk the opening of a new journal makes, and then each entry.
+const CALLS_OF_OPENING: usize = 8;
+
+const CALLS_OF_ENTRY: usize = 4;
+
+// The entries of the joins and of the passes.
+const ENTRIES: usize = 8;
+
+// How a run ends, and what it writes.
+#[derive(Drop)]
+struct Ran {
+    status: Status,
+    bytes: Vec<u8>,
+}
+
+// Runs a command of seat 0 on an input of these parts.
+fn told_by(
+    alloc: Global,
+    name: &str,
+    input: &[&[u8]],
+    disk: &mut MemDisk,
+) -> Result<Ran, AllocError> {
+    let mut words = Vec::new(alloc);
+    words.push(String::from_str(alloc, name)?)?;
+    words.push(String::from_str(alloc, "0")?)?;
+    let mut bytes = Vec::new(alloc);
+    for part in input {
+        bytes.extend_from_slice(part)?;
+    }
+    let mut source = MemSource::new(bytes, Vec::new(alloc));
+    let mut sink = MemSink::new(Vec::new(alloc));
+    if is_for_waiting(words.as_slice()) {
+        return Err(AllocError);
+    }
+    let status = run_alone(alloc, words.as_slice(), &mut source, &mut sink, disk);
+    Ok(Ran {
+        status,
+        bytes: sink.written().to_vec(alloc)?,
+    })
+}
+
+fn disk_of(alloc: Global, image: &[u8]) -> Result<MemDisk, AllocError> {
+    MemDisk::new(image, Vec::new(alloc))
+}
+
+// Where the record at a place ends, where an open gate stands there and the record is whole.
+fn end_of_record(image: &[u8], place: usize) -> Option<usize> {
+    match image.get(place..)? {
+        [1, a, b, c, d, ..] => {
+            let length = u32::from_be_bytes([*a, *b, *c, *d]) as usize;
+            let end = place.checked_add(5)?.checked_add(length)?;
+            image.get(end)?;
+            Some(end)
+        }
+        _ => None,
+    }
+}
+
+// How many records stand on a disk, up to the first gate that isn't open.
+fn records(image: &[u8]) -> usize {
+    let mut place = 0;
+    for count in 0..image.len() {
+        match end_of_record(image, place) {
+            Some(end) => place = end,
+            None => return count,
+        }
+    }
+    image.len()
+}
+
+// How many entries a disk opens to; None where it doesn't open.
+fn entries_of(alloc: Global, image: &[u8]) -> Result<Option<usize>, AllocError> {
+    let mut disk = disk_of(alloc, image)?;
+    match told_by(alloc, "keep", &[GAME, WALL], &mut disk)?.status {
+        Status::Done => Ok(records(disk.bytes()).checked_sub(1)),
+        _ => Ok(None),
+    }
+}
+
+#[test]
+fn a_kept_game_goes_on_where_its_journal_ends(rt: HostRuntime) -> Result<(), Fail> {
+    let alloc = rt.alloc();
+    let mut disk = disk_of(alloc, NOTHING)?;
+    let first = told_by(alloc, "keep", &[GAME, WALL, JOINS], &mut disk)?;
+    let alone = told_by(
+        alloc,
+        "referee",
+        &[GAME, WALL, JOINS],
+        &mut disk_of(alloc, NOTHING)?,
+    )?;
+    assert!(rt; first.status == Status::Done && first.bytes.as_slice() == alone.bytes.as_slice());
+    let mut again = disk_of(alloc, disk.bytes())?;
+    let second = told_by(alloc, "keep", &[GAME, WALL, PASSES], &mut again)?;
+    let whole = told_by(alloc, "referee", &[GAME, WALL, JOINS, PASSES], &mut disk)?;
+    assert!(rt; second.status == Status::Done && second.bytes.as_slice() == whole.bytes.as_slice());
+    assert!(rt; records(again.bytes()) == ENTRIES + 1);
+    let mut other = disk_of(alloc, again.bytes())?;
+    let refused = told_by(alloc, "keep", &[OTHER_GAME, WALL, PASSES], &mut other)?;
+    assert!(rt; refused.status == Status::OtherGame && refused.bytes.is_empty());
+    assert!(rt; other.bytes() == again.bytes());
+    Ok(())
+}
+
+#[test]
+fn an_input_without_a_wall_touches_no_disk(rt: HostRuntime) -> Result<(), Fail> {
+    let alloc = rt.alloc();
+    let cases: [(&[&[u8]], Status); 4] = [
+        (&[], Status::Done),
+        (&[GAME], Status::Done),
+        (&[GAME, JOINS], Status::BadArrival(2)),
+        (&[WALL, JOINS], Status::BadArrival(1)),
+    ];
+    for (input, status) in cases {
+        let mut disk = disk_of(alloc, b"\x01")?;
+        let end = told_by(alloc, "keep", input, &mut disk)?;
+        assert!(rt; end.status == status && end.bytes.is_empty() && disk.calls().is_empty());
+    }
+    Ok(())
+}
+
+#[test]
+fn a_bad_line_keeps_the_arrivals_before_it(rt: HostRuntime) -> Result<(), Fail> {
+    let alloc = rt.alloc();
+    let mut disk = disk_of(alloc, NOTHING)?;
+    let end = told_by(alloc, "keep", &[GAME, WALL, JOINS, WALL, PASSES], &mut disk)?;
+    assert!(rt; end.status == Status::BadArrival(7) && !end.bytes.is_empty());
+    assert!(rt; entries_of(alloc, disk.bytes())? == Some(4));
+    let mut bad = disk_of(alloc, b"\x01\0")?;
+    let refused = told_by(alloc, "keep", &[GAME, WALL, JOINS], &mut bad)?;
+    assert!(rt; refused.status == Status::BadJournal(0) && refused.bytes.is_empty());
+    Ok(())
+}
+
+// What a crash in a write leaves: of the piece as many bytes as these, from its front or from its end, and junk for the
+// others.
+#[derive(Drop)]
+struct Tear<'a> {
+    before: &'a [u8],
+    place: usize,
+    piece: &'a [u8],
+    kept: usize,
+    from_end: bool,
+}
+
+impl Tear<'_> {
+    fn byte(&self, at: usize) -> u8 {
+        let old = self.before.get(at).copied().unwrap_or(1);
+        match at.checked_sub(self.place) {
+            Some(within) => match self.piece.get(within) {
+                Some(new) if (within < self.kept) != self.from_end => *new,
+                Some(_) => 1,
+                None => old,
+            },
+            None => old,
+        }
+    }
+
+    fn image(&self, alloc: Global) -> Result<Vec<u8>, AllocError> {
+        let size = self
+            .before
+            .len()
+            .max(self.place.saturating_add(self.piece.len()));
+        let mut image = Vec::new(alloc);
+        for at in 0..size {
+            image.push(self.byte(at))?;
+        }
+        Ok(image)
+    }
+}
+
+// Whether a disk opens to so many entries, or to one more.
+fn opens_near(alloc: Global, image: &[u8], entries: usize) -> Result<bool, AllocError> {
+    match entries_of(alloc, image)? {
+        Some(opened) => Ok(opened == entries || opened.checked_sub(1) == Some(entries)),
+        None => Ok(false),
+    }
+}
+
+// Whether each image that a crash in this write may leave opens so. Of a long piece some tears are tried.
+fn each_tear_opens(
+    alloc: Global,
+    before: &[u8],
+    place: usize,
+    piece: &[u8],
+    entries: usize,
+) -> Result<bool, AllocError> {
+    let mut hold = true;
+    for kept in 0..=piece.len() {
+        for from_end in [false, true] {
+            if kept > 6 && kept % 16 != 0 && kept != piece.len() {
+                continue;
+            }
+            let tear = Tear {
+                before,
+                place,
+                piece,
+                kept,
+                from_end,
+            };
+            hold = hold && opens_near(alloc, &tear.image(alloc)?, entries)?;
+        }
+    }
+    Ok(hold)
+}
+
+// How many entries were acknowledged before a call on the disk.
+fn acknowledged(calls_before: usize) -> usize {
+    calls_before.saturating_sub(CALLS_OF_OPENING) / CALLS_OF_ENTRY
+}
+
+// Whether so at each write of these calls on a new disk.
+fn each_write_holds(alloc: Global, calls: &[CallMade]) -> Result<bool, AllocError> {
+    let mut hold = true;
+    let mut bytes = Vec::new(alloc);
+    for (before, call) in calls.iter().enumerate() {
+        if let DiskCall::Write { place, piece } = &call.what {
+            let place = *place as usize;
+            hold = hold
+                && each_tear_opens(alloc, bytes.as_slice(), place, piece, acknowledged(before))?;
+            if !call.failed {
+                let whole = Tear {
+                    before: bytes.as_slice(),
+                    place,
+                    piece,
+                    kept: piece.len(),
+                    from_end: false,
+                };
+                bytes = whole.image(alloc)?;
+            }
+        }
+    }
+    Ok(hold)
+}
+
+#[test]
+fn a_stop_at_each_write_of_a_run_loses_nothing(rt: HostRuntime) -> Result<(), Fail> {
+    let alloc = rt.alloc();
+    let mut disk = disk_of(alloc, NOTHING)?;
+    let end = told_by(alloc, "keep", &[GAME, WALL, JOINS, PASSES], &mut disk)?;
+    assert!(rt; end.status == Status::Done);
+    assert!(rt; disk.calls().len() == CALLS_OF_OPENING + ENTRIES * CALLS_OF_ENTRY);
+    assert!(rt; each_write_holds(alloc, disk.calls())?);
+    assert!(rt; entries_of(alloc, disk.bytes())? == Some(ENTRIES));
+    Ok(())
+}
+
+#[test]
+fn each_failing_call_of_a_run_loses_nothing(rt: HostRuntime) -> Result<(), Fail> {
+    let alloc = rt.alloc();
+    for number in 1..=CALLS_OF_OPENING + ENTRIES * CALLS_OF_ENTRY {
+        let mut failing = Vec::new(alloc);
+        failing.push(number as u64)?;
+        let mut disk = MemDisk::new(NOTHING, failing)?;
+        let end = told_by(alloc, "keep", &[GAME, WALL, JOINS, PASSES], &mut disk)?;
+        assert!(rt; end.status == Status::DiskFault && end.bytes.is_empty());
+        assert!(rt; disk.calls().len() == number);
+        assert!(rt; opens_near(alloc, disk.bytes(), acknowledged(number - 1))?);
+    }
+    Ok(())
+}
