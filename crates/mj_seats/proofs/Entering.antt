@@ -43,7 +43,7 @@ module _ {A : Type 0} where
   append_same xs ys e = append_cancel_left xs ys [] (e ∙ sym (append-nil xs))
 
   -- a pass that takes its turn finds that the others alone entered something
-  pub enters_seen : {S : Type 0} (log : List (Entry A)) (p : PassState S (Entry A)) → IsSeenIn author_of log p → Enters p.number p.seen log []
+  pub enters_seen : {T S : Type 0} (log : List (Entry A)) (p : PassState T S (Entry A)) → IsSeenIn author_of log p → Enters p.number p.seen log []
   enters_seen log p s = record {
     since = s.begins.0;
     grown = sym s.begins.1;

@@ -16,15 +16,15 @@ module _ {A : Type 0} (after : List (Entry A) → Showing) (seat : ℕ) where
     stays = stays_chain (after a) (after b) (after c) p.stays q.stays;
   }
 
-module _ {S A : Type 0} (after : List (Entry A) → Showing) (seat : ℕ) where
+module _ {T S A : Type 0} (after : List (Entry A) → Showing) (seat : ℕ) where
   -- so far no look found anything
-  pub record Waiting (first now : PassState S (Entry A)) (start line : List ℕ) : Type 0 where
+  pub record Waiting (first now : PassState T S (Entry A)) (start line : List ℕ) : Type 0 where
     pub number : now.number ≡ first.number
     pub watches : Watches after first.number seat first.seen now.seen
     pub here : (after now.seen).present seat ≡ Some now.number
     pub same : line ≡ start
 
-  module _ (first now next : PassState S (Entry A)) (start line line' : List ℕ) (w : Waiting first now start line) (number : next.number ≡ now.number) (seen : Watches after now.number seat now.seen next.seen) where
+  module _ (first now next : PassState T S (Entry A)) (start line line' : List ℕ) (w : Waiting first now start line) (number : next.number ≡ now.number) (seen : Watches after now.number seat now.seen next.seen) where
     pub waiting_until : Watches after first.number seat first.seen next.seen
     waiting_until = watches_chain after seat first.number first.seen now.seen next.seen w.watches (subst (λ (n : ℕ). Watches after n seat now.seen next.seen) w.number seen)
 

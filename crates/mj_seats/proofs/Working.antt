@@ -110,10 +110,10 @@ module _ {T A R L F S : Type 0} (after : List (Entry A) → Showing) (is_legal :
     (reads : List ℕ → A) (joins : List ℕ → Option JoinLine) (sits : List (Entry A) → List ℕ → SitAnswer) (at : List ℕ → L → WireState) (made : F → Type 0) (number : F → ℕ) (setting : T → S) (turn : TurnState T)
     (all : List (Entry A)) (legal : is_legal all) where
   -- others alone entered something since
-  since_seen : (by : ℕ) (p : PassState S (Entry A)) → p.number ≡ by → IsSeenIn author_of all p → Enters by p.seen all []
+  since_seen : (by : ℕ) (p : PassState T S (Entry A)) → p.number ≡ by → IsSeenIn author_of all p → Enters by p.seen all []
   since_seen by p same seen = subst (λ (n : ℕ). Enters n p.seen all []) same (enters_seen all p seen)
 
-  pub all_serve : (n : ℕ) (ps : List (PassState S (Entry A))) (ss : List (Session L)) (es : List (HandlerEnd F)) → AllLeft after reads joins sits hears says at made number setting turn n ps ss es → All (IsSeenIn author_of all) ps → AllServe after reads joins sits hears says at n all ss
+  pub all_serve : (n : ℕ) (ps : List (PassState T S (Entry A))) (ss : List (Session L)) (es : List (HandlerEnd F)) → AllLeft after reads joins sits hears says at made number setting turn n ps ss es → All (IsSeenIn author_of all) ps → AllServe after reads joins sits hears says at n all ss
   all_serve zero passes sessions ends (a, b, c) seen = b
   all_serve (suc n) passes sessions ends (ps, p, before, own, es, end, a, b, c, left, one, memory) seen =
       let parted = All-pop (IsSeenIn author_of all) passes ps (Some p) a seen in (
@@ -130,14 +130,14 @@ module _ {T A R L F S : Type 0} (after : List (Entry A) → Showing) (is_legal :
   end_in by seen (end.Host f) m s h = (h.0, h.1)
   end_in by seen end.NoMemory m s h = m tt
 
-  pub all_end : (n : ℕ) (ps : List (PassState S (Entry A))) (ss : List (Session L)) (es : List (HandlerEnd F)) → AllLeft after reads joins sits hears says at made number setting turn n ps ss es → All (IsSeenIn author_of all) ps → AllEnd after made number n all es
+  pub all_end : (n : ℕ) (ps : List (PassState T S (Entry A))) (ss : List (Session L)) (es : List (HandlerEnd F)) → AllLeft after reads joins sits hears says at made number setting turn n ps ss es → All (IsSeenIn author_of all) ps → AllEnd after made number n all es
   all_end zero passes sessions ends (a, b, c) seen = c
   all_end (suc n) passes sessions ends (ps, p, before, own, es, end, a, b, c, left, one, memory) seen =
       let parted = All-pop (IsSeenIn author_of all) passes ps (Some p) a seen in
       let since = since_seen n p one.back.number_is parted.1 in
       (es, end, c, all_end n ps before es left parted.0, end_in n p.seen end memory (stays_from after is_legal legal_before stays p.seen all since.since legal since.grown) one.ended)
 
-  all_places : (n : ℕ) (ps : List (PassState S (Entry A))) (ss : List (Session L)) (es : List (HandlerEnd F)) → AllLeft after reads joins sits hears says at made number setting turn n ps ss es → All (IsSeenIn author_of all) ps
+  all_places : (n : ℕ) (ps : List (PassState T S (Entry A))) (ss : List (Session L)) (es : List (HandlerEnd F)) → AllLeft after reads joins sits hears says at made number setting turn n ps ss es → All (IsSeenIn author_of all) ps
       → parts_from 0 n all ≡ map (λ (s : Session L). s.place) ss
   all_places zero passes sessions ends (a, b, c) seen = sym (ap (λ (l : List (Session L)). map (λ (s : Session L). s.place) l) b)
   all_places (suc n) passes sessions ends (ps, p, before, own, es, end, a, b, c, left, one, memory) seen =
@@ -147,7 +147,7 @@ module _ {T A R L F S : Type 0} (after : List (Entry A) → Showing) (is_legal :
       ∙ (sym (map-append (λ (s : Session L). s.place) before own)
       ∙ sym (ap (λ (l : List (Session L)). map (λ (s : Session L). s.place) l) b))
 
-  no_expiries : (n : ℕ) (ps : List (PassState S (Entry A))) (ss : List (Session L)) (es : List (HandlerEnd F)) → AllLeft after reads joins sits hears says at made number setting turn n ps ss es → All (IsSeenIn author_of all) ps
+  no_expiries : (n : ℕ) (ps : List (PassState T S (Entry A))) (ss : List (Session L)) (es : List (HandlerEnd F)) → AllLeft after reads joins sits hears says at made number setting turn n ps ss es → All (IsSeenIn author_of all) ps
       → (k : ℕ) → k < n → All NoExpiry (notes_of author_of k all)
   no_expiries zero passes sessions ends left seen k near = absurd (omega (arith, near))
   no_expiries (suc n) passes sessions ends (ps, p, before, own, es, end, a, b, c, left, one, memory) seen k near =
@@ -164,7 +164,7 @@ module _ {T A R L F S : Type 0} (after : List (Entry A) → Showing) (is_legal :
       less ne = omega (arith, near, ne)
 
   -- all of it
-  module _ (n : ℕ) (ps : List (PassState S (Entry A))) (ss : List (Session L)) (es : List (HandlerEnd F)) (left : AllLeft after reads joins sits hears says at made number setting turn n ps ss es) (seen : All (IsSeenIn author_of all) ps) (few : All (λ (e : Entry A). author_of e < n + 1) all) where
+  module _ (n : ℕ) (ps : List (PassState T S (Entry A))) (ss : List (Session L)) (es : List (HandlerEnd F)) (left : AllLeft after reads joins sits hears says at made number setting turn n ps ss es) (seen : All (IsSeenIn author_of all) ps) (few : All (λ (e : Entry A). author_of e < n + 1) all) where
     pub expiries_are : All (ExpiresBy n) all
     expiries_are = all_expiries n all few (no_expiries n ps ss es left seen)
 

@@ -1,5 +1,5 @@
 -- What a worker enters that tells the time.
-use Rattle.std.specs.Prelude.{◌≡◌, ℕ, ◌<◌, Bool, true, false, List, [], ◌∷◌, ◌++◌, Option, Some, None}
+use Rattle.std.specs.Prelude.{◌≡◌, ℕ, ◌<◌, Bool, true, false, List, [], ◌∷◌, ◌++◌, Option, Some, None, IsSomeAnd}
 use Rattle.std.specs.Io.KnownBytes.{Appends}
 use Rattle.mj_ports.specs.declared.entry.Entry.{Entry}
 use Rattle.mj_ports.specs.declared.entry.Entry.TheVariants.{Expired}
@@ -48,32 +48,37 @@ module _ {A : Type 0} (author : ℕ) where
     pub since : SinceRead watch pending
 
 module _ {T S A : Type 0} (setting : T → S) (fixed : S) (history : T → List (Entry A)) (lost : T → ℕ → Bool) (after : List (Entry A) → Showing) where
-  -- The game is over in the history seen; or it is not, and a table of this setting and history has lost all eight hosts.
-  abbrev pub TicksAs : Ticked → List (Entry A) → Type 0
-  TicksAs Over new = (after new).over ≡ true
-  TicksAs HostGone new = ((after new).over ≡ false) × ((x : T) × (setting x ≡ fixed) × (history x ≡ new) × ((k : ℕ) → k < 8 → lost x k ≡ true))
-  TicksAs NoMemory new = Unit {0}
+  -- A table of this setting and history has lost all eight hosts.
+  abbrev pub HasLostAll : List (Entry A) → T → Type 0
+  HasLostAll new x = (setting x ≡ fixed) × (history x ≡ new) × ((k : ℕ) → k < 8 → lost x k ≡ true)
+
+  -- The game is over in the history seen; or it is not, and the table under the turn, as it was given back last, has lost all
+  -- eight hosts.
+  abbrev pub TicksAs : Ticked → List (Entry A) → Option T → Type 0
+  TicksAs Over new last = (after new).over ≡ true
+  TicksAs HostGone new last = ((after new).over ≡ false) × IsSomeAnd last (HasLostAll new)
+  TicksAs NoMemory new last = Unit {0}
 
   -- One step of the ticker.
-  abbrev pub TicksTo : Beat → ℕ → List (Entry A) → List (Entry A) → Option (List ℕ) → Option (List ℕ) → Type 0
-  TicksTo (Ends ticked) author old new was_read read = Ticks author old new was_read read × TicksAs ticked new
-  TicksTo (Watches watch) author old new was_read read = Ticking author old new was_read read watch
+  abbrev pub TicksTo : Beat → ℕ → List (Entry A) → List (Entry A) → Option T → Option (List ℕ) → Option (List ℕ) → Type 0
+  TicksTo (Ends ticked) author old new last was_read read = Ticks author old new was_read read × TicksAs ticked new last
+  TicksTo (Watches watch) author old new last was_read read = Ticking author old new was_read read watch
 
   -- What a look at the table finds.
-  abbrev pub Sees : Seen → List (Entry A) → Type 0
-  Sees (seen.Ends ticked) new = TicksAs ticked new
-  Sees seen.Nothing new = Unit {0}
-  Sees (seen.Open window) new = Unit {0}
+  abbrev pub Sees : Seen → List (Entry A) → Option T → Type 0
+  Sees (seen.Ends ticked) new last = TicksAs ticked new last
+  Sees seen.Nothing new last = Unit {0}
+  Sees (seen.Open window) new last = Unit {0}
 
   -- What comes of a try to close a window that is watched.
-  abbrev pub Closes : Closing → ℕ → ℕ → ℕ → ℕ → List (Entry A) → List (Entry A) → Type 0
-  Closes (closing.Ends ticked) author window t1 t2 old new = (new ≡ old) × TicksAs ticked new
-  Closes closing.Early author window t1 t2 old new = new ≡ old
-  Closes closing.Stale author window t1 t2 old new = new ≡ old
-  Closes closing.Closed author window t1 t2 old new = new ≡ old ++ Expired author window t1 t2 ∷ []
+  abbrev pub Closes : Closing → ℕ → ℕ → ℕ → ℕ → List (Entry A) → List (Entry A) → Option T → Type 0
+  Closes (closing.Ends ticked) author window t1 t2 old new last = (new ≡ old) × TicksAs ticked new last
+  Closes closing.Early author window t1 t2 old new last = new ≡ old
+  Closes closing.Stale author window t1 t2 old new last = new ≡ old
+  Closes closing.Closed author window t1 t2 old new last = new ≡ old ++ Expired author window t1 t2 ∷ []
 
   -- The same, where others entered something before.
-  pub record ClosesAt (what : Closing) (author window t1 t2 : ℕ) (old new : List (Entry A)) : Type 0 where
+  pub record ClosesAt (what : Closing) (author window t1 t2 : ℕ) (old new : List (Entry A)) (last : Option T) : Type 0 where
     pub until : List (Entry A)
     pub nothing : Enters author old until []
-    pub closes : Closes what author window t1 t2 until new
+    pub closes : Closes what author window t1 t2 until new last

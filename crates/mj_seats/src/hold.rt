@@ -1,5 +1,5 @@
 // A turn of a table, in words of its game.
-ghost use Rattle.std.specs.Prelude.{◌≡◌, ◌<◌, ℕ, [], Some, All, length};
+ghost use Rattle.std.specs.Prelude.{◌≡◌, ◌<◌, ℕ, [], Some, All, length, if◌then◌else◌};
 ghost use Rattle.mj_ports.specs.Entries.{author_of};
 ghost use Rattle.mj_seats.specs.Histories.{Enters};
 ghost use Rattle.mj_seats.specs.Inner.Steps.{Watches};
@@ -38,7 +38,7 @@ pub(crate) fn give<T: SharedGame>(
     requires busy { IsBusy T.Noted.setting turn.now pass.old }
     requires setting { T.Seated.setting held ≡ T.Noted.setting turn.now.opening }
     requires entries { Follows author_of pass.old.number pass.old.seen (T.history held) }
-    ensures { pass.new ≡ given pass.old (T.history held) }
+    ensures { pass.new ≡ given pass.old (T.history held) (if wanting then T.dried held else held) }
 {
     mark(held.value(), wanting);
     turn.give(pass, held);
@@ -55,7 +55,7 @@ pub(crate) fn give_unchanged<T: SharedGame>(
     requires busy { IsBusy T.Noted.setting turn.now pass.old }
     requires setting { T.Seated.setting held ≡ T.Noted.setting turn.now.opening }
     requires entries { T.history held ≡ pass.old.seen }
-    ensures { pass.new ≡ given pass.old (T.history held) }
+    ensures { pass.new ≡ given pass.old (T.history held) (if wanting then T.dried held else held) }
 {
     if wanting {
         give(turn, pass, held, true);
@@ -94,6 +94,7 @@ pub(crate) fn give_up<T: SharedGame, R: Wait>(turn: &Turn<T>, rt: &R, pass: &mut
 }
 
 fn mark<T: SharedGame>(table: &mut T, wanting: bool)
+    ensures value { table.new ≡ (if wanting then T.dried table.old else table.old) }
     ensures setting { T.Seated.setting table.new ≡ T.Seated.setting table.old }
     ensures entries { T.history table.new ≡ T.history table.old }
     ensures lost { (k : ℕ) → T.lost table.new k ≡ T.lost table.old k }

@@ -73,7 +73,7 @@ pub fn tick<G: Seated, F: Numbered, C: Clock, R: Wait>(
         (C.readings clock.new) }
     ensures ended { TicksAs ⟦<Room<G, F> as Seated>⟧.setting (G.setting turn.now.opening.game)
         ⟦<Room<G, F> as Seated>⟧.history ⟦<Room<G, F> as SharedGame>⟧.lost
-        (G.after (G.setting turn.now.opening.game)) result pass.new.seen }
+        (G.after (G.setting turn.now.opening.game)) result pass.new.seen pass.new.last }
 {
     tick_at(turn, rt, alloc, pass, clock)
 }
@@ -92,7 +92,7 @@ pub(crate) fn tick_at<T: SharedGame, C: Clock, R: Wait>(
         (C.readings clock.new) }
     ensures ended { TicksAs T.Seated.setting (T.Noted.setting turn.now.opening) T.history
         T.lost (T.after (T.Noted.setting turn.now.opening)) result
-        pass.new.seen }
+        pass.new.seen pass.new.last }
 {
     let mut watch = None;
     for _ in rt.forever() {
@@ -119,7 +119,7 @@ fn tick_once<T: SharedGame, C: Clock, R: Wait>(
         → Ticking pass.old.number first pass.old.seen start (C.readings clock.old) watch
         → TicksTo T.Seated.setting (T.Noted.setting turn.now.opening) T.history
         T.lost (T.after (T.Noted.setting turn.now.opening)) result
-        pass.old.number first pass.new.seen start (C.readings clock.new) }
+        pass.old.number first pass.new.seen pass.new.last start (C.readings clock.new) }
 {
     match watch {
         None => open_watch(turn, rt, pass, clock),
@@ -140,7 +140,7 @@ fn open_watch<T: SharedGame, C: Clock, R: Wait>(
         → Ticking pass.old.number first pass.old.seen start (C.readings clock.old) None
         → TicksTo T.Seated.setting (T.Noted.setting turn.now.opening) T.history
         T.lost (T.after (T.Noted.setting turn.now.opening)) result
-        pass.old.number first pass.new.seen start (C.readings clock.new) }
+        pass.old.number first pass.new.seen pass.new.last start (C.readings clock.new) }
 {
     match look(turn, rt, pass) {
         Seen::Ends(ticked) => Beat::Ends(ticked),
@@ -170,7 +170,7 @@ fn try_close<T: SharedGame, C: Clock, R: Wait>(
         → Ticking pass.old.number first pass.old.seen start (C.readings clock.old) (Some watch)
         → TicksTo T.Seated.setting (T.Noted.setting turn.now.opening) T.history
         T.lost (T.after (T.Noted.setting turn.now.opening)) result
-        pass.old.number first pass.new.seen start (C.readings clock.new) }
+        pass.old.number first pass.new.seen pass.new.last start (C.readings clock.new) }
 {
     let now = clock.now();
     match close(turn, rt, alloc, pass, watch, now) {
@@ -188,7 +188,7 @@ fn look<T: SharedGame, R: Wait>(turn: &Turn<T>, rt: &R, pass: &mut Pass<T>) -> S
     ensures nothing { Enters pass.old.number pass.old.seen pass.new.seen [] }
     ensures sees { Sees T.Seated.setting (T.Noted.setting turn.now.opening) T.history
         T.lost (T.after (T.Noted.setting turn.now.opening)) result
-        pass.new.seen }
+        pass.new.seen pass.new.last }
 {
     let mut held = hold::take(turn, rt, pass);
     let seen = see(held.value());
@@ -200,7 +200,7 @@ fn see<T: SharedGame>(table: &mut T) -> Seen
     ensures same { table.new ≡ table.old }
     ensures sees { Sees T.Seated.setting (T.Seated.setting table.old) T.history T.lost
         (T.after (T.Seated.setting table.old)) result
-        (T.history table.old) }
+        (T.history table.old) (Some table.old) }
 {
     match survey(table) {
         Some(ticked) => Seen::Ends(ticked),
@@ -224,22 +224,32 @@ fn close<T: SharedGame, R: Wait>(
     ensures idle { IsIdle T.Noted.setting turn.now pass.new × (pass.new.number ≡ pass.old.number) }
     ensures closes { ClosesAt T.Seated.setting (T.Noted.setting turn.now.opening) T.history
         T.lost (T.after (T.Noted.setting turn.now.opening)) result
-        pass.old.number watch.window watch.since now pass.old.seen pass.new.seen }
+        pass.old.number watch.window watch.since now pass.old.seen pass.new.seen pass.new.last }
 {
     let number = pass.number();
     let mut held = hold::take(turn, rt, pass);
-    let closing = expire(held.value(), alloc, number, watch, now);
-    if matches!(closing, Closing::Early | Closing::Stale) {
-        hold::give_unchanged(turn, pass, held, false);
-        return closing;
+    match expire(held.value(), alloc, number, watch, now) {
+        Closing::Ends(Ticked::NoMemory) => {
+            hold::give_unchanged(turn, pass, held, true);
+            Closing::Ends(Ticked::NoMemory)
+        }
+        Closing::Ends(ticked) => {
+            hold::give_unchanged(turn, pass, held, false);
+            Closing::Ends(ticked)
+        }
+        Closing::Early => {
+            hold::give_unchanged(turn, pass, held, false);
+            Closing::Early
+        }
+        Closing::Stale => {
+            hold::give_unchanged(turn, pass, held, false);
+            Closing::Stale
+        }
+        Closing::Closed => {
+            hold::give(turn, pass, held, false);
+            Closing::Closed
+        }
     }
-    hold::give(
-        turn,
-        pass,
-        held,
-        matches!(closing, Closing::Ends(Ticked::NoMemory)),
-    );
-    closing
 }
 
 fn expire<T: SharedGame>(
@@ -252,7 +262,8 @@ fn expire<T: SharedGame>(
     ensures setting { T.Seated.setting table.new ≡ T.Seated.setting table.old }
     ensures closes { Closes T.Seated.setting (T.Seated.setting table.old) T.history T.lost
         (T.after (T.Seated.setting table.old)) result author
-        watch.window watch.since now (T.history table.old) (T.history table.new) }
+        watch.window watch.since now (T.history table.old) (T.history table.new)
+        (Some table.new) }
 {
     if let Some(ticked) = survey(table) {
         return Closing::Ends(ticked);
@@ -270,7 +281,7 @@ fn survey<T: SharedGame>(table: &T) -> Option<Ticked>
     ensures { IfSome result (λ ticked.
         TicksAs T.Seated.setting (T.Seated.setting table.now) T.history T.lost
         (T.after (T.Seated.setting table.now)) ticked
-        (T.history table.now)) }
+        (T.history table.now) (Some table.now)) }
 {
     if table.dry() {
         return Some(Ticked::NoMemory);

@@ -13,41 +13,43 @@ module _ {S : Type 0} (N : Type 0) where
   fresh_next fixed from zero some_left = absurd (omega arith)
   fresh_next fixed from (suc count) some_left = ap (λ (k : ℕ). own_of from fixed [] ∷ fresh {N = N} fixed (from + 1) k) (omega arith)
 
-  pub new_passes_next : (turn : TableId) (fixed : S) (count : ℕ) → new_passes {N = N} turn fixed (count + 1) ≡ new_passes turn fixed count ++ new_pass turn fixed count ∷ []
-  new_passes_next turn fixed count = ap (λ (k : ℕ). new_passes {N = N} turn fixed k) {x = count + 1} {y = suc count} (omega arith)
+module _ {S : Type 0} (T N : Type 0) where
+  new_passes_next : (turn : TableId) (fixed : S) (count : ℕ) → new_passes {T = T} {N = N} turn fixed (count + 1) ≡ new_passes turn fixed count ++ new_pass turn fixed count ∷ []
+  new_passes_next turn fixed count = ap (λ (k : ℕ). new_passes {T = T} {N = N} turn fixed k) {x = count + 1} {y = suc count} (omega arith)
 
-  pub pushed_pass : (turn : TableId) (fixed : S) (count : ℕ) (passes : List (PassState S N)) (p : PassState S N) → passes ≡ new_passes turn fixed count → p ≡ new_pass turn fixed count
+module _ {T S : Type 0} (N : Type 0) where
+  pub pushed_pass : (turn : TableId) (fixed : S) (count : ℕ) (passes : List (PassState T S N)) (p : PassState T S N) → passes ≡ new_passes turn fixed count → p ≡ new_pass turn fixed count
       → passes ++ p ∷ [] ≡ new_passes turn fixed (count + 1)
-  pushed_pass turn fixed count passes p is this = (λ i. is i ++ this i ∷ []) ∙ sym (new_passes_next turn fixed count)
+  pushed_pass turn fixed count passes p is this = (λ i. is i ++ this i ∷ []) ∙ sym (new_passes_next T N turn fixed count)
 
 pub one_pushed : {A : Type 0} → (xs ys : List A) (x : A) → xs ≡ [] → ys ≡ xs ++ x ∷ [] → ys ≡ x ∷ []
 one_pushed {A} xs ys x empty pushed = pushed ∙ ap (λ (l : List A). l ++ x ∷ []) empty
 
-module _ {S N : Type 0} where
-  pub gathered_snoc : (fixed : S) (ps : List (PassState S N)) (p : PassState S N) → gathered fixed (ps ++ p ∷ []) ≡ own_of p.number fixed p.seen ∷ gathered fixed ps
+module _ {T S N : Type 0} where
+  pub gathered_snoc : (fixed : S) (ps : List (PassState T S N)) (p : PassState T S N) → gathered fixed (ps ++ p ∷ []) ≡ own_of p.number fixed p.seen ∷ gathered fixed ps
   gathered_snoc fixed [] p = refl
   gathered_snoc fixed (q ∷ ps) p = ap (λ (l : List (Own S N)). l ++ own_of q.number fixed q.seen ∷ []) (gathered_snoc fixed ps p)
 
-  pub length_gathered : (fixed : S) (ps : List (PassState S N)) → length (gathered fixed ps) ≡ length ps
+  pub length_gathered : (fixed : S) (ps : List (PassState T S N)) → length (gathered fixed ps) ≡ length ps
   length_gathered fixed [] = refl
   length_gathered fixed (p ∷ ps) = let e : length (gathered fixed ps) ≡ length ps = length_gathered fixed ps in omega (arith, length-append (gathered fixed ps) (own_of p.number fixed p.seen ∷ []))
 
   -- what the last of the passes leaves behind
-  pub record Popped (turn : TableId) (fixed : S) (passes rest : List (PassState S N)) (p : PassState S N) : Type 0 where
+  pub record Popped (turn : TableId) (fixed : S) (passes rest : List (PassState T S N)) (p : PassState T S N) : Type 0 where
     pub this : IsPassOf turn fixed false p
     pub idle : All (IsPassOf turn fixed false) rest
     pub own : own_of p.number fixed p.seen ∷ gathered fixed rest ≡ gathered fixed passes
 
-  pub popped : (turn : TableId) (fixed : S) (passes rest : List (PassState S N)) (r : Option (PassState S N)) (p : PassState S N) → passes ≡ rest ++ option_to_list r → r ≡ Some p → All (IsPassOf turn fixed false) passes → Popped turn fixed passes rest p
+  pub popped : (turn : TableId) (fixed : S) (passes rest : List (PassState T S N)) (r : Option (PassState T S N)) (p : PassState T S N) → passes ≡ rest ++ option_to_list r → r ≡ Some p → All (IsPassOf turn fixed false) passes → Popped turn fixed passes rest p
   popped turn fixed passes rest r p items this all =
       let a = All-pop (IsPassOf turn fixed false) passes rest r items all in
       record {
-        this = subst (λ (x : Option (PassState S N)). IfSome x (IsPassOf turn fixed false)) this a.1;
+        this = subst (λ (x : Option (PassState T S N)). IfSome x (IsPassOf turn fixed false)) this a.1;
         idle = a.0;
-        own = sym (gathered_snoc fixed rest p) ∙ sym (ap (λ (l : List (PassState S N)). gathered fixed l) items ∙ ap (λ (x : Option (PassState S N)). gathered fixed (rest ++ option_to_list x)) this);
+        own = sym (gathered_snoc fixed rest p) ∙ sym (ap (λ (l : List (PassState T S N)). gathered fixed l) items ∙ ap (λ (x : Option (PassState T S N)). gathered fixed (rest ++ option_to_list x)) this);
       }
 
   -- one more is gathered
-  pub gathered_more : (own all : List (Own S N)) (turn : TableId) (fixed : S) (passes rest : List (PassState S N)) (p : PassState S N) → Popped turn fixed passes rest p → own ++ gathered fixed passes ≡ all
+  pub gathered_more : (own all : List (Own S N)) (turn : TableId) (fixed : S) (passes rest : List (PassState T S N)) (p : PassState T S N) → Popped turn fixed passes rest p → own ++ gathered fixed passes ≡ all
       → (own ++ own_of p.number fixed p.seen ∷ []) ++ gathered fixed rest ≡ all
   gathered_more own all turn fixed passes rest p pop is = append_assoc own (own_of p.number fixed p.seen ∷ []) (gathered fixed rest) ∙ (ap (λ (l : List (Own S N)). own ++ l) pop.own ∙ is)

@@ -114,9 +114,9 @@ module _ {T S N : Type 0} where
   pub dealt_is_pass : (me : Me (Option T) (View S N)) (fixed : S) (number ticket : ℕ) → me ≡ (view Idle (own_of number fixed [] ∷ []), []) → IsPass number ticket me
   dealt_is_pass me fixed number ticket is = subst (λ (m : Me (Option T) (View S N)). IsPass number ticket m) (sym is) (record { own = refl; stands = refl })
 
-  pub dealt_state : (id turn : TableId) (fixed : S) (number : ℕ) (me : Me (Option T) (View S N)) → id ≡ turn → me ≡ (view Idle (own_of number fixed [] ∷ []), [])
-      → record { turn = id; setting = setting_in me.0.own; number = number; seen = seen_in me.0.own; busy = is_serving me.0.stage } ≡ new_pass turn fixed number
-  dealt_state id turn fixed number me a c = λ i. record { turn = a i; setting = setting_in (c i).0.own; number = number; seen = seen_in (c i).0.own; busy = is_serving (c i).0.stage }
+  pub dealt_state : (id turn : TableId) (fixed : S) (number : ℕ) (me : Me (Option T) (View S N)) (last : Option T) → id ≡ turn → me ≡ (view Idle (own_of number fixed [] ∷ []), []) → last ≡ None
+      → record { turn = id; setting = setting_in me.0.own; number = number; seen = seen_in me.0.own; busy = is_serving me.0.stage; last = last } ≡ new_pass {T = T} turn fixed number
+  dealt_state id turn fixed number me last a c e = λ i. record { turn = a i; setting = setting_in (c i).0.own; number = number; seen = seen_in (c i).0.own; busy = is_serving (c i).0.stage; last = e i }
 
   -- the seat that has taken in another
   pub gathered_me : (me w u : Me (Option T) (View S N)) (own : List (Own S N)) (o : Own S N) → me ≡ (view Idle own, []) → w ≡ (view Idle (o ∷ []), []) → u ≡ (view Idle (me.0.own ++ w.0.own), me.1)

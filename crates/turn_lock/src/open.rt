@@ -10,6 +10,7 @@ use crate::plays::Deal;
 use crate::turn::{Board, Place, Turn};
 use crate::view::Start;
 use atomic_table::{Refused, Table};
+use mj_past::Past;
 use std::alloc::Global;
 use std::snapshot::Snapshot;
 
@@ -71,6 +72,7 @@ fn deal_out<T: Noted>(
             number,
             ticket: u64::MAX,
             seat,
+            last: Past::new(),
         });
     }
     passes

@@ -20,40 +20,40 @@ use Rattle.mj_seats.specs.Wires.{WireState}
 
 module _ {T S N : Type 0} (setting : T → S) (turn : TurnState T) where
   -- A new pass of the turn.
-  abbrev pub IsNewPass : PassState S N → Type 0
+  abbrev pub IsNewPass : PassState T S N → Type 0
   IsNewPass p = p ≡ new_pass turn.id (setting turn.opening) p.number
 
   -- New passes of the turn, numbered from 0.
-  abbrev pub AreNewPasses : List (PassState S N) → Type 0
+  abbrev pub AreNewPasses : List (PassState T S N) → Type 0
   AreNewPasses ps = ps ≡ new_passes turn.id (setting turn.opening) (length ps)
 
 -- A pass of a turn that is not busy, with this number.
-pub record IsBack {T S N : Type 0} (setting : T → S) (turn : TurnState T) (number : ℕ) (p : PassState S N) : Type 0 where
+pub record IsBack {T S N : Type 0} (setting : T → S) (turn : TurnState T) (number : ℕ) (p : PassState T S N) : Type 0 where
   pub idle : IsIdle setting turn p
   pub number_is : p.number ≡ number
 
 module _ {T A R L F S : Type 0} (after : List (Entry A) → Showing) (reads : List ℕ → A) (joins : List ℕ → Option JoinLine) (sits : List (Entry A) → List ℕ → SitAnswer) (hears : List (Entry A) → ℕ → ℕ → A → Heard R) (says : Control R → List ℕ) (at : List ℕ → L → WireState) (made : F → Type 0) (number : F → ℕ) (setting : T → S) (turn : TurnState T) where
   -- What is left of the handler with this number: its pass, its sessions and how it ended.
-  pub record IsLeft (by : ℕ) (p : PassState S (Entry A)) (sessions : List (Session L)) (end : HandlerEnd F) : Type 0 where
+  pub record IsLeft (by : ℕ) (p : PassState T S (Entry A)) (sessions : List (Session L)) (end : HandlerEnd F) : Type 0 where
     pub back : IsBack setting turn by p
     pub handled : Handled after reads joins sits hears says at (WantsMemory end) by [] p.seen sessions
     pub places : places_of by p.seen ≡ map (λ s. s.place) sessions
     pub ended : HandlerEnds after made number end by p.seen
 
   -- The same of what a handler with this pass has handed back.
-  abbrev pub IsDone : PassState S (Entry A) → Done (PassState S (Entry A)) L F → Type 0
+  abbrev pub IsDone : PassState T S (Entry A) → Done (PassState T S (Entry A)) L F → Type 0
   IsDone p d = IsLeft p.number d.pass d.sessions.items d.end
 
   -- The same of so many handlers, numbered from 0, in this order.
-  abbrev pub AllDone : ℕ → List (Done (PassState S (Entry A)) L F) → Type 0
+  abbrev pub AllDone : ℕ → List (Done (PassState T S (Entry A)) L F) → Type 0
   AllDone zero ds = ds ≡ []
-  AllDone (suc by) ds = (before : List (Done (PassState S (Entry A)) L F)) × (d : Done (PassState S (Entry A)) L F) × (ds ≡ before ++ d ∷ []) × AllDone by before × IsLeft by d.pass d.sessions.items d.end
+  AllDone (suc by) ds = (before : List (Done (PassState T S (Entry A)) L F)) × (d : Done (PassState T S (Entry A)) L F) × (ds ≡ before ++ d ∷ []) × AllDone by before × IsLeft by d.pass d.sessions.items d.end
 
   -- What is left of so many handlers, numbered from 0, none of which wants memory.
-  abbrev pub AllLeft : ℕ → List (PassState S (Entry A)) → List (Session L) → List (HandlerEnd F) → Type 0
+  abbrev pub AllLeft : ℕ → List (PassState T S (Entry A)) → List (Session L) → List (HandlerEnd F) → Type 0
   AllLeft zero passes sessions ends = (passes ≡ []) × (sessions ≡ []) × (ends ≡ [])
   AllLeft (suc by) passes sessions ends =
-      (ps : List (PassState S (Entry A))) × (p : PassState S (Entry A)) × (before : List (Session L)) × (own : List (Session L)) × (es : List (HandlerEnd F)) × (end : HandlerEnd F)
+      (ps : List (PassState T S (Entry A))) × (p : PassState T S (Entry A)) × (before : List (Session L)) × (own : List (Session L)) × (es : List (HandlerEnd F)) × (end : HandlerEnd F)
       × (passes ≡ ps ++ p ∷ []) × (sessions ≡ before ++ own) × (ends ≡ es ++ end ∷ []) × AllLeft by ps before es × IsLeft by p own end × (WantsMemory end → ⊥)
 
 module _ {A R L F : Type 0} (after : List (Entry A) → Showing) (reads : List ℕ → A) (joins : List ℕ → Option JoinLine) (sits : List (Entry A) → List ℕ → SitAnswer) (hears : List (Entry A) → ℕ → ℕ → A → Heard R) (says : Control R → List ℕ) (at : List ℕ → L → WireState) (made : F → Type 0) (number : F → ℕ) where

@@ -78,10 +78,10 @@ HasOne number [] = ⊥
 HasOne number (o ∷ []) = o.number ≡ number
 HasOne number (o ∷ p ∷ os) = ⊥
 
--- What a pass is by its number and its seat.
-abbrev pub pass_state : {S N : Type 0} → TableId → ℕ → View S N → PassState S N
-pass_state turn number v =
-    record { turn = turn; setting = setting_in v.own; number = number; seen = seen_in v.own; busy = is_serving v.stage }
+-- What a pass is by its number, its seat and the value that it gave back last.
+abbrev pub pass_state : {T S N : Type 0} → TableId → ℕ → View S N → Option T → PassState T S N
+pass_state turn number v last =
+    record { turn = turn; setting = setting_in v.own; number = number; seen = seen_in v.own; busy = is_serving v.stage; last = last }
 
 -- The seat of a pass has just the pass's number, and stands as said above.
 pub record IsPass {T S N : Type 0} (number ticket : ℕ) (me : Me (Option T) (View S N)) : Type 0 where
@@ -89,12 +89,12 @@ pub record IsPass {T S N : Type 0} (number ticket : ℕ) (me : Me (Option T) (Vi
   pub stands : StandsAt ticket me.0.stage me.1
 
 -- The number of each pass with what was seen under it, the last pass first.
-abbrev pub gathered : {S N : Type 0} → S → List (PassState S N) → List (Own S N)
+abbrev pub gathered : {T S N : Type 0} → S → List (PassState T S N) → List (Own S N)
 gathered setting [] = []
 gathered setting (p ∷ ps) = gathered setting ps ++ own_of p.number setting p.seen ∷ []
 
 -- The seat of a pass that is not busy.
-abbrev pub at_rest : {T S N : Type 0} → S → PassState S N → Me (Option T) (View S N)
+abbrev pub at_rest : {T S N : Type 0} → S → PassState T S N → Me (Option T) (View S N)
 at_rest setting p = (view Idle (own_of p.number setting p.seen ∷ []), [])
 
 -- What a turn is by its table and what it was made with.

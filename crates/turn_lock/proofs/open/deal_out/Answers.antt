@@ -1,4 +1,4 @@
-use Rattle.std.proofs.Common.{◌≡◌, ◌+◌, ◌-◌, ◌<◌, [], ap, ◌∙◌, arith, rules}
+use Rattle.std.proofs.Common.{◌≡◌, ◌+◌, ◌-◌, ◌<◌, [], slice_get, ap, ◌∙◌, arith, rules}
 use Rattle.turn_lock.specs.Inner.Views.{view, fresh}
 use Rattle.turn_lock.specs.declared.view.Stage.TheVariants.{Idle}
 use Rattle.turn_lock.proofs.Gathered.{pushed_pass}
@@ -21,7 +21,7 @@ loop-number-preserved g c =
     let me = dealt_left dealer.me _ fixed n left c.loop-number.invariant.me some_left c.split_seat-seat.ensures.2 in
     let less : left - 1 ≡ c.args.start.now.passes - (n + 1) = omega arith in
     let own = dealt_right dealer.me seat.me fixed n left c.loop-number.invariant.me some_left c.split_seat-seat.ensures.4 in
-    let state = dealt_state seat.table_id c.args.board.now.table_id fixed n seat.me (search rules) own in
+    let state = dealt_state seat.table_id c.args.board.now.table_id fixed n seat.me (slice_get c.new.result.items 0) (search rules) own (ap (λ l. slice_get l 0) c.new.ensures) in
     record {
       seat = search rules;
       me = me ∙ ap (λ m. (view Idle (fresh fixed (n + 1) m), [])) less;
