@@ -15,10 +15,10 @@ use std::alloc::Global;
 use std::snapshot::Snapshot;
 
 impl<T: Noted> Turn<T> {
-    /// A turn with this value, which has no notes yet, and so many passes, at most 16, numbered from 0. Where memory is
+    /// A turn with this value, which has no notes yet, and so many passes, at most 64, numbered from 0. Where memory is
     /// wanting, the value comes back.
     pub fn new(alloc: Global, value: T, passes: u8) -> Result<(Turn<T>, Vec<Pass<T>>), T>
-        requires passes { (0 < passes) × (passes ≤ 16) }
+        requires passes { (0 < passes) × (passes ≤ 64) }
         requires notes { T.notes value ≡ [] }
         ensures turn { IfOk result (λ r. (r.0.opening ≡ value) × (r.0.passes ≡ passes)) }
         ensures passes { IfOk result (λ r. r.1.items ≡ new_passes r.0.id (T.setting value) passes) }
