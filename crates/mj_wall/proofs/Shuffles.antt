@@ -1,16 +1,16 @@
 -- The tiles in tile order, and what is left of the swaps.
-use Rattle.std.proofs.Common.{◌≡◌, ℕ, zero, suc, ◌+◌, ◌-◌, ◌*◌, ◌<◌, ◌≤◌, ◌/◌, ◌%◌, ◌^◌, ◌==◌, ◌&&◌, ◌||◌, Bool, true, false, cond, eqb, List, [], ◌∷◌, ◌++◌, length, slice_index, arith, refl, sym, ap, ◌∙◌}
+use Rattle.std.proofs.Common.{◌≡◌, ℕ, zero, suc, ◌+◌, ◌-◌, ◌*◌, ◌<◌, ◌≤◌, ◌/◌, ◌%◌, ◌^◌, ◌==◌, ◌&&◌, ◌||◌, Bool, true, false, cond, eqb, List, [], ◌∷◌, ◌++◌, length, drop, slice_index, arith, refl, sym, ap, ◌∙◌}
 use Rattle.std.specs.List.{list_all, swap}
 use Rattle.std.specs.List.Sorted.{IsPermutation}
 use Rattle.std.proofs.lemmas.Bool.{agree_below_at, eqb-true}
 use Rattle.std.proofs.lemmas.List.{ext_get_or}
-use Rattle.std.proofs.lemmas.List.{length_push}
+use Rattle.std.proofs.lemmas.List.{length_push, drop_all, drop-append-le}
 use Rattle.std.proofs.lemmas.List.Folds.{list_all-append}
 use Rattle.std.proofs.lemmas.List.Sorted.{sum_by-IsPermutation}
 use Rattle.rand_chacha.specs.ChaCha.{ChaCha, key_of, word_at, of_seed}
 use Rattle.mj_tiles.specs.Faces.{number_in, tile_order}
 use Rattle.mj_wall.specs.Places.{number_in_wall, is_wall}
-use Rattle.mj_wall.specs.Shuffle.{sorted_wall, swapped_from, shuffled_wall, shuffled_walls, drawn_number}
+use Rattle.mj_wall.specs.Shuffle.{sorted_wall, swapped_from, shuffled_wall, shuffled_walls, shuffled_from, drawn_number}
 
 -- the tiles in tile order
 
@@ -128,36 +128,59 @@ number_read seed n place to a is told = told ∙ ap (λ (g : ChaCha). (word_at 1
 
 -- several walls
 
--- The first so many walls of a seed, each of them a wall.
-pub record AreFirst (seed : List ℕ) (red : Bool) (number : ℕ) (walls : List (List ℕ)) : Type 0 where
-  pub are : walls ≡ shuffled_walls seed red number
-  pub many : length walls ≡ number
+-- The walls of a seed from one on up to another, each of them a wall.
+pub record AreFrom (seed : List ℕ) (red : Bool) (first next : ℕ) (walls : List (List ℕ)) : Type 0 where
+  pub are : walls ≡ drop first (shuffled_walls seed red next)
+  pub many : first + length walls ≡ next
   pub whole : list_all (is_wall red) walls ≡ true
 
-pub first_none : (seed : List ℕ) (red : Bool) (walls : List (List ℕ)) → walls ≡ [] → AreFirst seed red 0 walls
+number_of_walls : (seed : List ℕ) (red : Bool) (number : ℕ) → length (shuffled_walls seed red number) ≡ number
 unfolding shuffled_walls
-first_none seed red walls is = record {
-  are = is;
-  many = ap length is;
+number_of_walls seed red zero = refl
+number_of_walls seed red (suc n) = length_push (shuffled_walls seed red n) (shuffled_wall seed n red) ∙ ap (λ k. k + 1) (number_of_walls seed red n) ∙ next n
+  where
+    next : (n : ℕ) → n + 1 ≡ suc n
+    next n = omega arith
+
+pub from_none : (seed : List ℕ) (red : Bool) (first : ℕ) (walls : List (List ℕ)) → walls ≡ [] → AreFrom seed red first first walls
+from_none seed red first walls is = record {
+  are = is ∙ sym (drop_all first (shuffled_walls seed red first) (all first (length (shuffled_walls seed red first)) (number_of_walls seed red first)));
+  many = ap (λ ws. first + length ws) is ∙ no_more first;
   whole = ap (list_all (is_wall red)) is;
 }
+  where
+    all : (a b : ℕ) → b ≡ a → b ≤ a
+    all a b e = omega (arith, e)
 
-pub first_more : (seed : List ℕ) (red : Bool) (number next : ℕ) (wall : List ℕ) (walls more : List (List ℕ)) → next ≡ number + 1 → wall ≡ shuffled_wall seed number red → is_wall red wall ≡ true → more ≡ walls ++ wall ∷ [] →
-    AreFirst seed red number walls → AreFirst seed red next more
+    no_more : (n : ℕ) → n + 0 ≡ n
+    no_more n = omega arith
+
+pub from_more : (seed : List ℕ) (red : Bool) (first number next : ℕ) (wall : List ℕ) (walls more : List (List ℕ)) → next ≡ number + 1 → wall ≡ shuffled_wall seed number red → is_wall red wall ≡ true →
+    more ≡ walls ++ wall ∷ [] → AreFrom seed red first number walls → AreFrom seed red first next more
 unfolding shuffled_walls
-first_more seed red number next wall walls more at told whole is first = record {
-  are = is ∙ (λ i. first.are i ++ told i ∷ []) ∙ one_more ∙ ap (shuffled_walls seed red) (sym (same next number at));
-  many = ap length is ∙ length_push walls wall ∙ ap (λ n. n + 1) first.many ∙ sym at;
-  whole = ap (list_all (is_wall red)) is ∙ list_all-append (is_wall red) walls (wall ∷ []) ∙ both (list_all (is_wall red) walls) (is_wall red wall) first.whole whole;
+from_more seed red first number next wall walls more at told whole is before = record {
+  are = is
+      ∙ (λ i. before.are i ++ told i ∷ [])
+      ∙ sym (drop-append-le first (shuffled_walls seed red number) (shuffled_wall seed number red ∷ []) (few first (length walls) number (length (shuffled_walls seed red number)) before.many (number_of_walls seed red number)))
+      ∙ ap (λ n. drop first (shuffled_walls seed red n)) (sym (same next number at));
+  many = ap (λ ws. first + length ws) is ∙ ap (λ n. first + n) (length_push walls wall) ∙ later first (length walls) number next before.many at;
+  whole = ap (list_all (is_wall red)) is ∙ list_all-append (is_wall red) walls (wall ∷ []) ∙ both (list_all (is_wall red) walls) (is_wall red wall) before.whole whole;
 }
   where
     same : (a b : ℕ) → a ≡ b + 1 → a ≡ suc b
     same a b e = omega (arith, e)
 
-    one_more : shuffled_walls seed red number ++ shuffled_wall seed number red ∷ [] ≡ shuffled_walls seed red (suc number)
-    one_more = refl
+    few : (first walls number all : ℕ) → first + walls ≡ number → all ≡ number → first ≤ all
+    few first walls number all e f = omega (arith, e, f)
+
+    later : (first walls number next : ℕ) → first + walls ≡ number → next ≡ number + 1 → first + (walls + 1) ≡ next
+    later first walls number next e f = omega (arith, e, f)
 
     both : (a b : Bool) → a ≡ true → b ≡ true → (a && (b && true)) ≡ true
     both true true e f = refl
     both true false e f = f
     both false b e f = e
+
+pub from_all : (seed : List ℕ) (red : Bool) (first number next : ℕ) (walls : List (List ℕ)) → next ≡ first + number → AreFrom seed red first next walls → walls ≡ shuffled_from seed red first number
+unfolding shuffled_from
+from_all seed red first number next walls at all = all.are ∙ ap (λ n. drop first (shuffled_walls seed red n)) at

@@ -1,5 +1,5 @@
 -- The walls that a seed gives.
-use Rattle.std.specs.Prelude.{ℕ, zero, suc, ◌+◌, ◌-◌, ◌*◌, ◌%◌, ◌^◌, Bool, List, [], ◌∷◌, ◌++◌, flat_map, replicate}
+use Rattle.std.specs.Prelude.{ℕ, zero, suc, ◌+◌, ◌-◌, ◌*◌, ◌%◌, ◌^◌, Bool, List, [], ◌∷◌, ◌++◌, flat_map, replicate, drop}
 use Rattle.std.specs.List.{swap}
 use Rattle.rand_chacha.specs.ChaCha.{key_of, word_at}
 use Rattle.mj_tiles.specs.Faces.{tile_order}
@@ -28,3 +28,7 @@ shuffled_wall seed n red = swapped_from (λ i. drawn_number seed n (135 - i)) 13
 unfoldable pub shuffled_walls : List ℕ → Bool → ℕ → List (List ℕ)
 shuffled_walls seed red zero = []
 shuffled_walls seed red (suc n) = shuffled_walls seed red n ++ shuffled_wall seed n red ∷ []
+
+-- So many walls of a seed, from wall first on.
+unfoldable pub shuffled_from : List ℕ → Bool → ℕ → ℕ → List (List ℕ)
+shuffled_from seed red first number = drop first (shuffled_walls seed red (first + number))

@@ -1,7 +1,7 @@
-ghost use Rattle.std.specs.Prelude.{◌≡◌, IfOk, IsTrue, length};
+ghost use Rattle.std.specs.Prelude.{◌≡◌, ◌<◌, ◌+◌, ◌^◌, IfOk, IsTrue, length};
 ghost use Rattle.std.specs.List.{list_all};
 ghost use Rattle.mj_wall.specs.Places.{is_wall};
-ghost use Rattle.mj_wall.specs.Shuffle.{shuffled_walls};
+ghost use Rattle.mj_wall.specs.Shuffle.{shuffled_walls, shuffled_from as walls_from};
 
 use crate::wall::Wall;
 use std::alloc::{AllocError, Global};
@@ -39,6 +39,7 @@ impl Walls {
     }
 
     /// The first walls of a seed of 32 bytes, so many of them.
+    #[tactic(auto, unfolding(crate::specs::Shuffle::shuffled_from))]
     pub fn shuffled(
         alloc: Global,
         seed: [u8; 32],
@@ -49,8 +50,24 @@ impl Walls {
         ensures many { IfOk result (λ walls. length walls ≡ number) }
         ensures whole { IfOk result (λ walls. IsTrue (list_all (is_wall red) walls)) }
     {
+        Walls::shuffled_from(alloc, seed, 0, number, red)
+    }
+
+    /// The walls of a seed of 32 bytes from wall `first` on, so many of them; `first` and `number` together are below 2^64.
+    pub fn shuffled_from(
+        alloc: Global,
+        seed: [u8; 32],
+        first: u64,
+        number: u64,
+        red: bool,
+    ) -> Result<Walls, AllocError>
+        requires { first + number < 2 ^ 64 }
+        ensures value { IfOk result (λ walls. walls ≡ walls_from seed red first number) }
+        ensures many { IfOk result (λ walls. length walls ≡ number) }
+        ensures whole { IfOk result (λ walls. IsTrue (list_all (is_wall red) walls)) }
+    {
         let mut items = Vec::new(alloc);
-        for n in 0..number {
+        for n in first..first + number {
             items.push(Wall::shuffled(seed, n, red))?;
         }
         Ok(Walls { items })
