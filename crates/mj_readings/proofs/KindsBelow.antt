@@ -48,6 +48,10 @@ pub kinds_below-all : (test : ℕ → Bool) → kinds_below test 34 ≡ kinds_th
 kinds_below-all test =
     kinds_that-same (λ kind. ltb kind 34 && test kind) test (λ kind within. ap (λ b. b && test kind) (lt-ltb kind 34 within))
 
+-- A test that each kind fails gives no kinds.
+pub no_kinds-that : (test : ℕ → Bool) → ((kind : ℕ) → kind < 34 → test kind ≡ false) → no_kinds ≡ kinds_that test
+no_kinds-that test fails = kinds_that-is test no_kinds none_within (λ kind within. has_kind-none kind ∙ sym (fails kind within))
+
 -- A step of a loop that gathers the kinds that pass a test.
 pub gathered-yes : (test : ℕ → Bool) (kinds next n kind : ℕ) (result : Bool) → kinds ≡ kinds_below test n → n < 34 → kind ≡ n → result ≡ test kind → result ≡ true →
     next ≡ with_kind kinds kind → next ≡ kinds_below test (n + 1)

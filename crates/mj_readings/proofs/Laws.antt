@@ -206,7 +206,7 @@ some_has [] way has = absurd (omega (arith, has.1))
 some_has (first ∷ others) way has = refl
 
 -- The test of sets and a pair.
-has_way-are : (counts : List ℕ) (number : ℕ) → length counts ≡ 34 → has_way counts 0 0 0 number false ≡ true →
+pub has_way-are : (counts : List ℕ) (number : ℕ) → length counts ≡ 34 → has_way counts 0 0 0 number false ≡ true →
     (sets : List Set) × (pair : ℕ) × AreSetsAndPair counts number sets pair
 has_way-are counts number size has =
     let found = some_from (ways counts 0 0 0 number None) (sym (has_way-is counts 0 0 0 number None) ∙ has) in

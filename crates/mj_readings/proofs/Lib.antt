@@ -16,4 +16,6 @@ pub mod Laws
 pub mod WinningWayLaws
 pub mod FewReadings
 pub mod ReadingLaws
+pub mod SumLaws
 pub mod OneMore
+pub mod FarLaws

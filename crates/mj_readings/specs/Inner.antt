@@ -6,3 +6,4 @@ pub mod SetLists
 pub mod WinningWays
 pub mod ReadingLists
 pub mod OneMore
+pub mod Sums

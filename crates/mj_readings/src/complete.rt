@@ -1,4 +1,4 @@
-ghost use Rattle.std.specs.Prelude.{slice_index, ◌≡◌, ◌∷◌, ℕ, ◌+◌, ◌≤◌, ◌<◌, ◌↔◌, Bool, IsTrue, length, count_by, ◌==◌, ◌||◌, ◌&&◌, nat_le};
+ghost use Rattle.std.specs.Prelude.{slice_index, ◌≡◌, ◌∷◌, ℕ, ◌+◌, ◌-◌, ◌≤◌, ◌<◌, ◌↔◌, Bool, false, IsTrue, length, count_by, is_some, ◌==◌, ◌||◌, ◌&&◌, nat_le};
 ghost use Rattle.std.specs.List.{list_all};
 ghost use Rattle.mj_tiles.specs.Counts.{all_kinds};
 ghost use Rattle.mj_readings.specs.Sets.{begins_run};
@@ -6,6 +6,7 @@ ghost use Rattle.mj_readings.specs.Complete.{IsComplete, is_seven_pairs};
 ghost use Rattle.mj_readings.specs.Inner.Ways.{begins, has_way};
 ghost use Rattle.mj_readings.specs.Tests.{complete, one_more, orphan_double};
 
+use crate::sums::may_be_sets;
 use mj_tiles::{Counts, EAST, Kind};
 
 /// Whether concealed tiles with these counts and so many melds are a complete hand: four sets and a pair, each meld a
@@ -35,25 +36,50 @@ fn completes_hand(numbers: &[u8], melds: u8) -> bool
     requires { length numbers.now ≡ 34 }
     ensures { result ≡ complete numbers.now melds }
 {
-    melds <= 4
-        && completes(
-            numbers,
-            0,
-            0,
-            0,
-            StillWanted {
-                sets: 4 - melds,
-                paired: false,
-            },
-        )
-        || melds == 0 && (are_seven_pairs(numbers) || double_of(numbers).is_some())
+    is_standard(numbers, melds) || is_special(numbers, melds)
+}
+
+/// Whether the tiles are the sets that the melds leave to make, and a pair. Sums that are not those of any say no at once.
+fn is_standard(numbers: &[u8], melds: u8) -> bool
+    requires { length numbers.now ≡ 34 }
+    ensures { result ≡ (nat_le melds 4 && has_way numbers.now 0 0 0 (4 - melds) false) }
+{
+    if melds > 4 {
+        return false;
+    }
+    if !may_be_sets(numbers, 4 - melds) {
+        return false;
+    }
+    are_sets(numbers, melds)
+}
+
+/// Whether the tiles are the sets that the melds leave to make, and a pair, set by set.
+pub(crate) fn are_sets(numbers: &[u8], melds: u8) -> bool
+    requires size { length numbers.now ≡ 34 }
+    requires few { melds ≤ 4 }
+    ensures { result ≡ has_way numbers.now 0 0 0 (4 - melds) false }
+{
+    let left = StillWanted {
+        sets: 4 - melds,
+        paired: false,
+    };
+    completes(numbers, 0, 0, 0, left)
+}
+
+/// Whether the tiles are seven pairs or thirteen orphans, where there are no melds.
+pub(crate) fn is_special(numbers: &[u8], melds: u8) -> bool
+    requires { length numbers.now ≡ 34 }
+    ensures { result ≡ (melds == 0
+        && (is_seven_pairs numbers.now || is_some (orphan_double numbers.now))) }
+{
+    melds == 0 && (are_seven_pairs(numbers) || double_of(numbers).is_some())
 }
 
 /// What is left to make: so many sets, and the pair where it isn't made.
 #[derive(Clone, Copy, Debug)]
-pub(crate) struct StillWanted {
-    pub(crate) sets: u8,
-    pub(crate) paired: bool,
+struct StillWanted {
+    sets: u8,
+    paired: bool,
 }
 
 /// Whether the kinds from this one on can be made into what is left to make, with so many runs under way that began two
@@ -70,13 +96,19 @@ fn completes(numbers: &[u8], kind: u8, first: u8, second: u8, left: StillWanted)
     let [count, others @ ..] = numbers else {
         return left.sets == 0 && left.paired;
     };
+    if *count == 0 {
+        if first + second > 0 {
+            return false;
+        }
+        return completes(others, kind + 1, 0, 0, left);
+    }
     completes_at(*count, others, kind, first, second, left)
 }
 
 /// The same of so many tiles of a kind and the tiles of those after it.
 #[cycle(completes)]
 #[tactic(auto, unfolding(crate::specs::Inner::Ways::has_way))]
-pub(crate) fn completes_at(
+fn completes_at(
     count: u8,
     others: &[u8],
     kind: u8,

@@ -1,10 +1,13 @@
-ghost use Rattle.std.specs.Prelude.{slice_index, ◌≡◌, ℕ, ◌+◌, ◌-◌, ◌≤◌, ◌<◌, ◌↔◌, Bool, false, true, IsTrue, length, count_by, ◌==◌, ◌&&◌, not, nat_le};
-ghost use Rattle.mj_tiles.specs.Counts.{NoFifth};
+ghost use Rattle.std.specs.Prelude.{slice_index, ◌≡◌, ℕ, List, ◌-◌, ◌<◌, ◌↔◌, false, true, IsTrue, length, count_by, ◌==◌, ◌&&◌, nat_le, nat_lt};
 ghost use Rattle.mj_tiles.specs.Kinds.{has_kind, kinds_that};
 ghost use Rattle.mj_readings.specs.Completing.{IsCompleting, is_completing};
-ghost use Rattle.mj_readings.specs.Inner.OneMore.{Adds, AreStandard, NoSpecial, begins_past, completes_past};
+ghost use Rattle.mj_readings.specs.Inner.OneMore.{NoSpecial};
+ghost use Rattle.mj_readings.specs.Inner.Sums.{IsOver, tiles_from};
+ghost use Rattle.mj_readings.specs.Inner.Ways.{has_way};
+ghost use Rattle.mj_readings.specs.Tests.{complete, one_more};
 
-use crate::complete::{StillWanted, can_begin, completes_at, is_complete_with};
+use crate::complete::{are_sets, is_special};
+use crate::sums::{Over, tiles_from};
 use mj_tiles::{Counts, KINDS, Kind, Kinds};
 
 /// The kinds that complete a hand of concealed tiles with these counts and so many melds: those of which fewer than
@@ -14,157 +17,90 @@ pub fn completing(counts: &Counts, melds: u8) -> Kinds
     ensures law { (kind : ℕ) → kind < 34
         → (IsTrue (has_kind result kind) ↔ IsCompleting counts.now melds kind) }
 {
-    let standard = standard_kinds(counts.numbers(), melds);
+    let over = Over::of(counts.numbers());
     let special = may_be_special(counts.numbers(), melds);
+    if over.has_singles() && !special {
+        return Kinds::none();
+    }
     let mut kinds = Kinds::none();
     for number in 0..KINDS as u8 {
         let kind = Kind::at(number);
-        if completes_with(counts, melds, kind, standard, special) {
+        if completes_with(counts, melds, kind, &over, special) {
             kinds = kinds.with(kind);
         }
     }
     kinds
 }
 
-/// Whether the kind completes the hand, where it is known which kinds do by sets and a pair, and whether one may
-/// otherwise.
-fn completes_with(counts: &Counts, melds: u8, kind: Kind, standard: Kinds, special: bool) -> bool
-    requires sets { AreStandard counts.now melds standard }
+/// Whether the sums of a hand with these counts and so many melds say that no exchange of one tile completes it. True only
+/// where the hand is not complete with one tile more of any kind, whichever of its tiles is taken away.
+pub fn is_far(counts: &Counts, melds: u8) -> bool
+    ensures { result ≡ true → (given : List ℕ) (kind : ℕ) → kind < 34
+        → counts.now ≡ one_more given kind → (other : ℕ) → other < 34
+        → complete (one_more given other) melds ≡ false }
+{
+    if !Over::of(counts.numbers()).has_more_singles() {
+        return false;
+    }
+    if melds > 0 {
+        return true;
+    }
+    is_far_from_special(counts.numbers())
+}
+
+/// Whether three kinds or more stand once and two tiles or more are characters from two to eight: then no exchange of one tile makes
+/// the hand seven pairs or thirteen orphans.
+fn is_far_from_special(numbers: &[u8]) -> bool
+    requires { length numbers.now ≡ 34 }
+    ensures { result ≡ (nat_lt 2 (count_by (λ number. number == 1) numbers.now)
+        && nat_lt 1 (tiles_from numbers.now 1 7)) }
+{
+    single_kinds(numbers) > 2 && tiles_from(numbers, 1, 7) > 1
+}
+
+/// Whether the kind completes the hand, where it is known what is over in it, and whether a tile more may make it
+/// seven pairs or thirteen orphans.
+fn completes_with(counts: &Counts, melds: u8, kind: Kind, over: &Over, special: bool) -> bool
+    requires hand { IsOver counts.now over.now }
     requires other { special ≡ false → NoSpecial counts.now melds }
     ensures { result ≡ is_completing counts.now melds kind }
 {
     if counts.get(kind) >= 4 {
         return false;
     }
-    if standard.has(kind) {
+    if is_standard_with(counts, melds, kind, over) {
         return true;
     }
     if !special {
         return false;
     }
-    is_complete_with(counts, kind, melds)
+    is_special(&with(counts, kind), melds)
 }
 
-/// The kinds of which one tile more makes the hand sets and a pair.
-fn standard_kinds(numbers: &[u8], melds: u8) -> Kinds
-    requires size { length numbers.now ≡ 34 }
-    requires held { NoFifth numbers.now }
-    ensures { AreStandard numbers.now melds result }
+/// Whether one tile more of the kind makes the hand sets and a pair, where it is known what is over in it.
+fn is_standard_with(counts: &Counts, melds: u8, kind: Kind, over: &Over) -> bool
+    requires hand { IsOver counts.now over.now }
+    requires few { slice_index counts.now kind < 4 }
+    ensures { result ≡ (nat_le melds 4 && has_way (one_more counts.now kind) 0 0 0 (4 - melds) false) }
 {
     if melds > 4 {
-        return Kinds::none();
+        return false;
     }
-    let left = StillWanted {
-        sets: 4 - melds,
-        paired: false,
-    };
-    completing_from(numbers, 0, 0, 0, left, Kinds::none())
+    if !over.takes(counts.numbers(), kind) {
+        return false;
+    }
+    are_sets(&with(counts, kind), melds)
 }
 
-/// Walks the kinds from this one on with so many runs under way that began two kinds and one kind before, and adds
-/// those of which one tile more makes the kinds from here on into what is left to make.
-#[cycle(completing_from)]
-fn completing_from(
-    numbers: &[u8],
-    kind: u8,
-    first: u8,
-    second: u8,
-    left: StillWanted,
-    found: Kinds,
-) -> Kinds
-    requires kinds { kind + length numbers.now ≡ 34 }
-    requires held { NoFifth numbers.now }
-    requires first_few { first ≤ 4 }
-    requires second_few { second ≤ 4 }
-    requires few { left.sets ≤ 4 }
-    ensures { Adds found result (completes_past numbers.now kind first second left.sets
-        left.paired) }
+/// The numbers of the hand with one tile more of the kind.
+fn with(counts: &Counts, kind: Kind) -> [u8; KINDS]
+    requires { slice_index counts.now kind < 4 }
+    ensures value { result ≡ one_more counts.now kind }
+    ensures size { length result ≡ 34 }
 {
-    let [count, others @ ..] = numbers else {
-        return found;
-    };
-    let here = completes_at(*count + 1, others, kind, first, second, left);
-    let found = with_where(found, Kind::at(kind), here);
-    if *count < first + second {
-        return found;
-    }
-    let free = *count - (first + second);
-    let found = beyond(others, kind, second, free, 0, left, found);
-    let found = beyond_pair(others, kind, second, free, left, found);
-    if free < 3 {
-        return found;
-    }
-    beyond(others, kind, second, free - 3, 1, left, found)
-}
-
-/// The set, and the kind where this holds.
-fn with_where(found: Kinds, kind: Kind, holds: bool) -> Kinds
-    ensures { Adds found result (λ other. kind == other && holds) }
-{
-    if holds {
-        return found.with(kind);
-    }
-    found
-}
-
-/// The same past a kind at which the pair and so many runs less two begin, where two tiles are free and there is no
-/// pair.
-#[cycle(completing_from)]
-fn beyond_pair(
-    others: &[u8],
-    kind: u8,
-    second: u8,
-    free: u8,
-    left: StillWanted,
-    found: Kinds,
-) -> Kinds
-    requires kinds { kind + length others.now + 1 ≡ 34 }
-    requires held { NoFifth others.now }
-    requires second_few { second ≤ 4 }
-    requires free_few { free ≤ 4 }
-    requires few { left.sets ≤ 4 }
-    ensures { Adds found result
-        (λ other. nat_le 2 free && not left.paired
-        && begins_past others.now kind second (free - 2) 0 left.sets true other) }
-{
-    if free < 2 || left.paired {
-        return found;
-    }
-    let with_pair = StillWanted {
-        sets: left.sets,
-        paired: true,
-    };
-    beyond(others, kind, second, free - 2, 0, with_pair, found)
-}
-
-/// The same past a kind at which so many runs and triplets begin.
-#[cycle(completing_from)]
-fn beyond(
-    others: &[u8],
-    kind: u8,
-    second: u8,
-    runs: u8,
-    triplets: u8,
-    left: StillWanted,
-    found: Kinds,
-) -> Kinds
-    requires kinds { kind + length others.now + 1 ≡ 34 }
-    requires held { NoFifth others.now }
-    requires second_few { second ≤ 4 }
-    requires runs_few { runs ≤ 4 }
-    requires triplet { triplets ≤ 1 }
-    requires few { left.sets ≤ 4 }
-    ensures { Adds found result (begins_past others.now kind second runs triplets left.sets
-        left.paired) }
-{
-    if !can_begin(kind, runs, triplets, left.sets) {
-        return found;
-    }
-    let next = StillWanted {
-        sets: left.sets - (runs + triplets),
-        paired: left.paired,
-    };
-    completing_from(others, kind + 1, second, runs, next, found)
+    let mut numbers = *counts.numbers();
+    numbers[usize::from(kind.number())] += 1;
+    numbers
 }
 
 /// Whether a tile more may make the hand seven pairs or thirteen orphans: false only where none does.

@@ -7,9 +7,10 @@ mod gathering;
 mod listing;
 mod reading;
 mod sets;
+mod sums;
 mod winning_way;
 
 pub use complete::{is_complete, is_complete_with};
-pub use completing_kinds::completing;
+pub use completing_kinds::{completing, is_far};
 pub use listing::{reading_at, readings};
 pub use reading::{Case, Reading, Riichi, Set, SetForm};

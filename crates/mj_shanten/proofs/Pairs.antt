@@ -11,6 +11,7 @@ use Rattle.std.proofs.lemmas.List.{length-take-le, length-drop, drop_more, drop_
 use Rattle.mj_lists.proofs.Fronts.{zero_at}
 use Rattle.mj_suits.specs.Targets.{missing}
 use Rattle.mj_suits.specs.Improves.{AsNear}
+use Rattle.mj_suits.specs.Tables.{IsLeast}
 use Rattle.mj_readings.specs.Complete.{is_seven_pairs}
 use Rattle.mj_shanten.specs.Suits.{with_two, Padded}
 use Rattle.mj_shanten.specs.Inner.Special.{IsPairs, so_often, better, nearest_pairs}
@@ -201,6 +202,22 @@ pub nearest_seven : (held : List ℕ) → length held ≡ 36 → length (take 34
 nearest_seven held wide size t h =
     subst (λ u. AsNear (missing (with_two (nearest_pairs (take 34 held) 7)) held, with_two (nearest_pairs (take 34 held) 7)) (missing u held, u)) (sym h.numbers_are)
     (near_seven held h.counts wide size h.is)
+
+-- what the nearest seven pairs miss
+pub pairs_least : (held : List ℕ) (number : ℕ) → length held ≡ 36 → length (take 34 held) ≡ 34 → number ≡ least (take 34 held) 7 → IsLeast held (Padded IsPairs) number
+pairs_least held number wide size is =
+    let target = with_two (nearest_pairs (take 34 held) 7) in
+    let a : missing target held ≡ missing (nearest_pairs (take 34 held) 7) (take 34 held) = missing_two (nearest_pairs (take 34 held) 7) held (nearest_size (take 34 held) 7 ∙ size) wide in
+    let m : missing (nearest_pairs (take 34 held) 7) (take 34 held) ≡ least (take 34 held) 7 = miss_nearest (take 34 held) 7 (omega arith) in
+    record {
+      some = (target, (seven_are (take 34 held) size, is ∙ sym m ∙ sym a));
+      least = λ t h.
+          (let p = seven_parts h.counts h.is.seven in
+          let b : missing t held ≡ missing h.counts (take 34 held) = ap (λ u. missing u held) h.numbers_are ∙ missing_two h.counts held h.is.size wide in
+          let l : least (take 34 held) (pairs_in h.counts) ≤ missing h.counts (take 34 held) = miss_least h.counts (take 34 held) (h.is.size ∙ sym size) p.0 in
+          let k : least (take 34 held) 7 ≤ missing h.counts (take 34 held) = subst (λ n. least (take 34 held) n ≤ missing h.counts (take 34 held)) p.1 l in
+          omega arith);
+    }
 
 -- ---- one kind after another
 

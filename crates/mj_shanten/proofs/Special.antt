@@ -1,5 +1,5 @@
 -- What seven pairs and thirteen orphans miss at least, and the fewest that a complete hand misses.
-use Rattle.std.proofs.Common.{◌≡◌, cond, eqb, ℕ, ◌-◌, ◌<◌, ◌≤◌, Bool, true, false, Option, None, Some, List, [], ◌∷◌, ◌++◌, map, min, length, take, refl, sym, subst, ap, ◌∙◌, inl, inr, arith}
+use Rattle.std.proofs.Common.{◌≡◌, ◌⊎◌, cond, eqb, ℕ, ◌-◌, ◌<◌, ◌≤◌, Bool, true, false, Option, None, Some, List, [], ◌∷◌, ◌++◌, map, min, length, take, refl, sym, subst, ap, ◌∙◌, inl, inr, arith}
 use Rattle.std.specs.Prelude.{IsSomeAnd, MatchOption}
 use Rattle.std.proofs.lemmas.Bool.{cases_lt}
 use Rattle.mj_tiles.specs.Counts.{all_kinds}
@@ -19,7 +19,7 @@ use Rattle.mj_shanten.proofs.Hands.{missing_two}
 use Rattle.mj_shanten.proofs.Pairs.{seven_parts, miss_least, least}
 use Rattle.mj_shanten.proofs.Exists.{some_goal}
 use Rattle.mj_shanten.proofs.Sums.{missing_few, sum_complete}
-use Rattle.mj_shanten.proofs.Goal.{goal_searched, special_goal, joint_goal, wide_missing, special_on}
+use Rattle.mj_shanten.proofs.Goal.{goal_searched, special_goal, joint_goal, wide_missing}
 
 -- ---- thirteen orphans
 
@@ -86,25 +86,48 @@ orphans_far held number (Some answer) near is = Improves-not held (Padded IsOrph
 pub sets_kept : (held : List ℕ) (P : List ℕ → Type 0) (sets : ℕ) → ((t : List ℕ) → P t → sets ≤ missing t held) → IsLeastWith held P sets sets
 sets_kept held P sets far = record { at_most = omega arith; least = far; some = inl refl }
 
--- the nearest of these, or the sets
-pub special_found : (held : List ℕ) (sets number : ℕ) (answer : ℕ × List ℕ) (b c : Option (ℕ × List ℕ)) → number ≡ min sets answer.0 → Improves held (Padded IsPairs) None b → Improves held (Padded IsOrphans) b c → c ≡ Some answer → IsLeastWith held (IsSpecial 0) sets number
-special_found held sets number answer b c number_is first second is =
-    let n : IsNearest held (IsSpecial 0) answer.0 answer.1 =
-    subst (λ o. MatchOption o ((t : List ℕ) → IsSpecial 0 t → ⊥) (λ (x : ℕ × List ℕ). IsNearest held (IsSpecial 0) x.0 x.1)) is (best_is_nearest held (IsSpecial 0) c (special_on held 0 None b c refl first second)) in
-    record {
-      at_most = omega arith;
-      least = λ t special. (let l = n.least t special in omega arith);
-      some = elim (cases_lt answer.0 sets) [
-        | inl less ↦ inr (answer.1, (n.is_one, (let e = n.number_is in omega arith)))
-        | inr more ↦ inl (omega arith)
-      ];
-    }
+-- the fewest of the sets and the pairs, which no orphans go below, or the orphans that do
+pub special_least : (held : List ℕ) (sets pairs nearest number : ℕ) → nearest ≡ min sets pairs → IsLeast held (Padded IsPairs) pairs → number ≤ nearest → ((t : List ℕ) → Padded IsOrphans t → number ≤ missing t held)
+    → (number ≡ nearest) ⊎ ((t : List ℕ) × (Padded IsOrphans t × (number ≡ missing t held))) → IsLeastWith held (IsSpecial 0) sets number
+special_least held sets pairs nearest number is pairs_are few far from = record {
+  at_most = omega arith;
+  least = λ t special. elim special.either [
+    | inl seven ↦ (let m = pairs_are.least t seven in omega arith)
+    | inr orphans ↦ far t orphans
+  ];
+  some = elim from [
+    | inl same ↦ elim (cases_lt pairs sets) [
+      | inl less ↦ inr (pairs_are.some.0, (record { no_melds = refl; either = inl pairs_are.some.1.0 }, (let e = pairs_are.some.1.1 in omega arith)))
+      | inr more ↦ inl (omega arith)
+    ]
+    | inr found ↦ inr (found.0, (record { no_melds = refl; either = inr found.1.0 }, found.1.1))
+  ];
+}
 
-pub special_none : (held : List ℕ) (sets : ℕ) (b c : Option (ℕ × List ℕ)) → Improves held (Padded IsPairs) None b → Improves held (Padded IsOrphans) b c → c ≡ None → IsLeastWith held (IsSpecial 0) sets sets
-special_none held sets b c first second is =
-    let none : (t : List ℕ) → IsSpecial 0 t → ⊥ =
-    subst (λ o. MatchOption o ((t : List ℕ) → IsSpecial 0 t → ⊥) (λ (x : ℕ × List ℕ). IsNearest held (IsSpecial 0) x.0 x.1)) is (best_is_nearest held (IsSpecial 0) c (special_on held 0 None b c refl first second)) in
-    sets_kept held (IsSpecial 0) sets (λ t special. absurd (none t special))
+-- the orphans all miss as many
+pub orphans_no_less : (held : List ℕ) (sets pairs nearest singles : ℕ) → nearest ≡ min sets pairs → IsLeast held (Padded IsPairs) pairs → nearest ≤ singles
+    → singles ≡ missing (1 ∷ 0 ∷ 0 ∷ 0 ∷ 0 ∷ 0 ∷ 0 ∷ 0 ∷ 1 ∷ 1 ∷ 0 ∷ 0 ∷ 0 ∷ 0 ∷ 0 ∷ 0 ∷ 0 ∷ 1 ∷ 1 ∷ 0 ∷ 0 ∷ 0 ∷ 0 ∷ 0 ∷ 0 ∷ 0 ∷ 1 ∷ 1 ∷ 1 ∷ 1 ∷ 1 ∷ 1 ∷ 1 ∷ 1 ∷ 0 ∷ 0 ∷ []) held
+    → IsLeastWith held (IsSpecial 0) sets nearest
+orphans_no_less held sets pairs nearest singles is pairs_are few singles_is =
+    special_least held sets pairs nearest nearest is pairs_are (omega arith) (λ t orphans. (let m = singles_are _ the_singles held t orphans in omega arith)) (inl refl)
+
+-- the nearest orphans, or what is nearer
+pub orphans_found : (held : List ℕ) (sets pairs nearest number : ℕ) (answer : ℕ × List ℕ) (b : Option (ℕ × List ℕ)) → nearest ≡ min sets pairs → IsLeast held (Padded IsPairs) pairs → number ≡ min nearest answer.0
+    → Improves held (Padded IsOrphans) None b → b ≡ Some answer → IsLeastWith held (IsSpecial 0) sets number
+orphans_found held sets pairs nearest number answer b is pairs_are number_is found same =
+    let n : IsNearest held (Padded IsOrphans) answer.0 answer.1 =
+    subst (λ o. MatchOption o ((t : List ℕ) → Padded IsOrphans t → ⊥) (λ (x : ℕ × List ℕ). IsNearest held (Padded IsOrphans) x.0 x.1)) same (best_is_nearest held (Padded IsOrphans) b found) in
+    special_least held sets pairs nearest number is pairs_are (omega arith) (λ t orphans. (let l = n.least t orphans in omega arith))
+    (elim (cases_lt answer.0 nearest) [
+      | inl less ↦ inr (answer.1, (n.is_one, (let e = n.number_is in omega arith)))
+      | inr more ↦ inl (omega arith)
+    ])
+
+pub orphans_none : (held : List ℕ) (sets pairs nearest : ℕ) (b : Option (ℕ × List ℕ)) → nearest ≡ min sets pairs → IsLeast held (Padded IsPairs) pairs → Improves held (Padded IsOrphans) None b → b ≡ None → IsLeastWith held (IsSpecial 0) sets nearest
+orphans_none held sets pairs nearest b is pairs_are found same =
+    let none : (t : List ℕ) → Padded IsOrphans t → ⊥ =
+    subst (λ o. MatchOption o ((t : List ℕ) → Padded IsOrphans t → ⊥) (λ (x : ℕ × List ℕ). IsNearest held (Padded IsOrphans) x.0 x.1)) same (best_is_nearest held (Padded IsOrphans) b found) in
+    special_least held sets pairs nearest nearest is pairs_are (omega arith) (λ t orphans. absurd (none t orphans)) (inl refl)
 
 -- with melds there are none of these
 pub special_melds : (held : List ℕ) (melds sets : ℕ) → 0 < melds → IsLeastWith held (IsSpecial melds) sets sets

@@ -10,7 +10,7 @@ ghost use Rattle.mj_shanten.specs.Inner.Special.{IsSpecial, IsLeastWith};
 
 use crate::nearest_sets::{WideHand, take_sets};
 use crate::orphans::take_orphans;
-use crate::seven_pairs::{kinds_held, take_pairs};
+use crate::seven_pairs::{kinds_held, missing_of_pairs, take_pairs};
 use crate::suits::{Suits, missing_of_sets, missing_tiles};
 use mj_tiles::{Counts, KINDS};
 
@@ -90,6 +90,16 @@ impl Suits {
     {
         least_missing(self, melds).saturating_sub(1)
     }
+
+    /// How many tiles the nearest complete hand with so many melds misses, whatever the number of tiles of this hand.
+    pub fn missing(&self, melds: u8) -> u8
+        requires few { melds ≤ 4 }
+        requires room { IsRoom self.now.room melds }
+        ensures least { IsLeast self.now.counts (IsGoal self.now.room melds) result }
+        ensures size { length self.now.counts ≡ 34 }
+    {
+        least_missing(self, melds)
+    }
 }
 
 /// How many tiles the nearest complete hand misses.
@@ -113,15 +123,15 @@ fn with_special(held: &[u8; 36], sets: u8) -> u8
     requires { sets ≤ 15 }
     ensures { IsLeastWith held.now (IsSpecial 0) sets result }
 {
-    if u16::from(sets) <= least_of_special(held) {
-        return sets;
+    let nearest = sets.min(missing_of_pairs(held));
+    if u16::from(nearest) <= missing_tiles(held, &EACH_ORPHAN) {
+        return nearest;
     }
     let mut best = None;
-    take_pairs(held, &mut best);
     take_orphans(held, &mut best);
     match best {
-        Some(answer) => u16::from(sets).min(answer.0) as u8,
-        None => sets,
+        Some(answer) => u16::from(nearest).min(answer.0) as u8,
+        None => nearest,
     }
 }
 

@@ -2,6 +2,7 @@
 
 ghost use Rattle.std.specs.Prelude.{◌≡◌, ◌+◌, ◌≤◌, nat_le, nat_lt, take, count_by, slice_index};
 ghost use Rattle.mj_suits.specs.Improves.{Improves};
+ghost use Rattle.mj_suits.specs.Tables.{IsLeast};
 ghost use Rattle.mj_shanten.specs.Suits.{Padded, with_two};
 ghost use Rattle.mj_shanten.specs.Inner.Special.{IsPairs, so_often, better, nearest_pairs};
 
@@ -15,6 +16,16 @@ pub(crate) fn take_pairs(held: &[u8; 36], best: &mut Option<(u16, [u8; 36])>)
 {
     let target = pairs_of(held);
     keep_nearer(held, &target, best);
+}
+
+/// How many tiles the nearest seven pairs miss: one for each pair beyond the kinds that are held twice, and one for each
+/// beyond those that are held.
+pub(crate) fn missing_of_pairs(held: &[u8; 36]) -> u8
+    ensures { IsLeast held.now (Padded IsPairs) result }
+{
+    let twice = 7usize.saturating_sub(kinds_held(held, 2)) as u8;
+    let once = 7usize.saturating_sub(kinds_held(held, 1)) as u8;
+    twice + once
 }
 
 // The nearest seven pairs.

@@ -1,7 +1,7 @@
 //! The walk of a suit from its highest number down: for each number of sets and pairs at once how many of fifteen tiles
 //! are left when the missing ones are paid for.
 
-ghost use Rattle.std.specs.Prelude.{◌≡◌, ◌-◌, ◌*◌, ◌<◌, ◌≤◌, ◌∷◌, [], ℕ, List, true, false, max, drop, slice_index, EachIndex};
+ghost use Rattle.std.specs.Prelude.{◌≡◌, ◌-◌, ◌*◌, ◌<◌, ◌≤◌, ◌∷◌, [], ℕ, List, true, false, max, drop, replicate, slice_index, EachIndex, IsTrue};
 ghost use Rattle.mj_suits.specs.Rows.{Holds, lane, most_left, walked, IsFew};
 ghost use Rattle.mj_suits.specs.Left.{LeavesMost};
 ghost use Rattle.mj_suits.specs.Inner.Walked.{AreCosts, AreBegun, begun_lanes, cost_lanes, row_at, AreRows};
@@ -43,6 +43,20 @@ fn cost_of(tiles: u8, held: Row, room: Row) -> Row
     let missing = Row::all(tiles).less(held);
     let over = Row::all(16 * tiles).less(room);
     missing.greater(over)
+}
+
+// The same where there is room for four.
+#[inline(always)]
+fn costs_in_full_room(held: u8) -> Costs
+    ensures { AreCosts held 4 result }
+{
+    let held = Row::all(held);
+    Costs {
+        one: Row::all(1).less(held),
+        two: Row::all(2).less(held),
+        three: Row::all(3).less(held),
+        four: Row::all(4).less(held),
+    }
 }
 
 // What is left where none to four tiles begin at a number.
@@ -203,25 +217,45 @@ pub(crate) fn rows_before(next: &Rows, held: u8, room: u8) -> Rows
         → AreRows after rooms counts next.now
         → AreRows after (room ∷ rooms) (held ∷ counts) result }
 {
-    let costs = costs_of(held, room);
+    rows_at_cost(next, &costs_of(held, room))
+}
+
+// The same where there is room for four.
+#[inline(always)]
+fn rows_in_full_room(next: &Rows, held: u8) -> Rows
+    ensures { (after : ℕ → ℕ → ℕ) (rooms counts : List ℕ)
+        → AreRows after rooms counts next.now
+        → AreRows after (4 ∷ rooms) (held ∷ counts) result }
+{
+    rows_at_cost(next, &costs_in_full_room(held))
+}
+
+// The same at these costs of the number.
+#[inline(always)]
+fn rows_at_cost(next: &Rows, costs: &Costs) -> Rows
+    ensures { (after : ℕ → ℕ → ℕ) (rooms counts : List ℕ) (held room : ℕ)
+        → AreCosts held room costs.now
+        → AreRows after rooms counts next.now
+        → AreRows after (room ∷ rooms) (held ∷ counts) result }
+{
     let none = begin(next.none.none, next.none.one, next.none.two);
     let one = begin(next.one.none, next.one.one, next.one.two);
     let two = begin(next.two.none, next.two.one, next.two.two);
     Rows {
         none: ByRuns {
-            none: none.alone(&costs),
-            one: one.beside_one(&costs),
-            two: two.beside_two(&costs),
+            none: none.alone(costs),
+            one: one.beside_one(costs),
+            two: two.beside_two(costs),
         },
         one: ByRuns {
-            none: none.beside_one(&costs),
-            one: one.beside_two(&costs),
-            two: two.beside_three(&costs),
+            none: none.beside_one(costs),
+            one: one.beside_two(costs),
+            two: two.beside_three(costs),
         },
         two: ByRuns {
-            none: none.beside_two(&costs),
-            one: one.beside_three(&costs),
-            two: two.beside_four(&costs),
+            none: none.beside_two(costs),
+            one: one.beside_three(costs),
+            two: two.beside_four(costs),
         },
     }
 }
@@ -240,8 +274,26 @@ pub(crate) fn honours_before(next: Row, held: u8, room: u8) -> Row
     next.greater(pair.greater(triplet))
 }
 
-// The row of a suit with runs.
+// The row of a suit with runs: most often there is room for four of each number.
 fn with_runs(after: Row, counts: &[u8; 9], room: &[u8; 9]) -> Row
+    requires { EachIndex room.now (λ n. slice_index room.now n ≤ 4) }
+    ensures { Holds result.lanes (walked true (lane after.lanes) room.now counts.now 0 0) }
+{
+    if is_full(room) {
+        return runs_in_full_room(after, counts);
+    }
+    runs_within(after, counts, room)
+}
+
+// Whether there is room for four of each number.
+fn is_full(room: &[u8; 9]) -> bool
+    ensures { IsTrue result → room.now ≡ replicate 9 4 }
+{
+    room.iter().all(|number| *number == 4)
+}
+
+// The row of a suit with runs within this room.
+fn runs_within(after: Row, counts: &[u8; 9], room: &[u8; 9]) -> Row
     requires { EachIndex room.now (λ n. slice_index room.now n ≤ 4) }
     ensures { Holds result.lanes (walked true (lane after.lanes) room.now counts.now 0 0) }
 {
@@ -255,6 +307,23 @@ fn with_runs(after: Row, counts: &[u8; 9], room: &[u8; 9]) -> Row
     let third = rows_before(&fourth, counts[2], room[2]);
     let second = rows_before(&third, counts[1], room[1]);
     let first = rows_before(&second, counts[0], room[0]);
+    first.none.none
+}
+
+// The same where there is room for four of each number.
+fn runs_in_full_room(after: Row, counts: &[u8; 9]) -> Row
+    ensures { Holds result.lanes (walked true (lane after.lanes) (replicate 9 4) counts.now 0 0) }
+{
+    let past = rows_past(after);
+    let ninth = rows_in_full_room(&past, counts[8]);
+    let eighth = rows_in_full_room(&ninth, counts[7]);
+    let seventh = rows_in_full_room(&eighth, counts[6]);
+    let sixth = rows_in_full_room(&seventh, counts[5]);
+    let fifth = rows_in_full_room(&sixth, counts[4]);
+    let fourth = rows_in_full_room(&fifth, counts[3]);
+    let third = rows_in_full_room(&fourth, counts[2]);
+    let second = rows_in_full_room(&third, counts[1]);
+    let first = rows_in_full_room(&second, counts[0]);
     first.none.none
 }
 

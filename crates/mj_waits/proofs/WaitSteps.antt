@@ -1,11 +1,14 @@
 -- The waits, one kind after another.
-use Rattle.std.proofs.Common.{ℕ, ◌≡◌, ◌<◌, ◌≤◌, ◌+◌, Bool, true, false, List, refl, sym, ◌∙◌, ap, subst, arith, get_or, ltb, ◌&&◌, ◌⊎◌, inl, inr}
-use Rattle.std.proofs.lemmas.Bool.{false≢true, both_ways, and_parts, and_from, ltb-true, lt-ltb}
+use Rattle.std.proofs.Common.{ℕ, ◌≡◌, ◌<◌, ◌≤◌, ◌+◌, Bool, true, false, List, refl, sym, ◌∙◌, ap, subst, arith, get_or, ltb, eqb, zero, suc, ◌&&◌, ◌⊎◌, inl, inr}
+use Rattle.std.specs.List.{list_any}
+use Rattle.std.specs.Prelude.{not}
+use Rattle.std.proofs.lemmas.Bool.{false≢true, and_parts, and_from, and_right, ltb-true, lt-ltb, eqb-true, eq-eqb, ne_eqb}
 use Rattle.std.proofs.lemmas.Bool.Decides.{nat_tests}
 use Rattle.mj_lists.proofs.Ranges.{below_or_here}
 use Rattle.mj_tiles.specs.Kinds.{has_kind, with_kind, no_kinds, kinds_that}
-use Rattle.mj_tiles.proofs.KindSets.{has_kind-kinds_that}
-use Rattle.mj_readings.proofs.KindsBelow.{kinds_below, kinds_below-none, kinds_below-yes, kinds_below-no, kinds_below-all}
+use Rattle.mj_tiles.specs.Counts.{NoFifth, all_kinds}
+use Rattle.mj_tiles.proofs.KindSets.{has_kind-kinds_that, has_kind-none}
+use Rattle.mj_readings.proofs.KindsBelow.{kinds_below, kinds_below-none, kinds_below-yes, kinds_below-no, kinds_below-all, no_kinds-that}
 use Rattle.mj_readings.specs.Tests.{complete, one_more}
 use Rattle.mj_readings.specs.Completing.{IsCompleting, is_completing}
 use Rattle.mj_waits.specs.Waits.{IsWait, is_wait, is_ready}
@@ -36,17 +39,28 @@ wait_law counts room melds completing kind result law within few is = (
       ((law kind within).1 (omega (arith, wait.0, few), wait.1)),
 )
 
--- A kind of the set of waits.
-pub has_wait : (counts room : List ℕ) (melds waits kind : ℕ) (result : Bool) → waits ≡ kinds_that (is_wait counts room melds) → kind < 34 →
-    result ≡ has_kind waits kind → result ≡ is_wait counts room melds kind
-has_wait counts room melds waits kind result are within is =
-    is ∙ ap (λ ks. has_kind ks kind) are ∙ has_kind-kinds_that (is_wait counts room melds) kind within
+-- Where no kind completes the hand, none is a wait.
+pub none_waits : (counts room : List ℕ) (melds completing : ℕ) (empty : Bool) → completing ≡ kinds_that (is_completing counts melds) →
+    ((k : ℕ) → k < 34 → (has_kind completing k ≡ true → IsCompleting counts melds k) × (IsCompleting counts melds k → has_kind completing k ≡ true)) →
+    NoFifth room → empty ≡ eqb completing no_kinds → empty ≡ true →
+    (completing ≡ kinds_that (is_wait counts room melds))
+    × ((k : ℕ) → k < 34 → (has_kind completing k ≡ true → IsWait counts room melds k) × (IsWait counts room melds k → has_kind completing k ≡ true))
+none_waits counts room melds completing empty are law few is holds = (
+  none ∙ no_kinds-that (is_wait counts room melds) (λ k within. sym (wait_value counts room melds completing k false are within (few k) (nothing k))),
+  λ k within. (
+    λ has. absurd (false≢true (sym (lacks k) ∙ has)),
+    λ wait. absurd (false≢true ((wait_law counts room melds completing k false law within (few k) (nothing k)).1 wait)),
+  ),
+)
+  where
+    none : completing ≡ no_kinds
+    none = eqb-true completing no_kinds (sym is ∙ holds)
 
-pub has_wait_law : (counts room : List ℕ) (melds waits kind : ℕ) (result : Bool) →
-    ((k : ℕ) → k < 34 → (has_kind waits k ≡ true → IsWait counts room melds k) × (IsWait counts room melds k → has_kind waits k ≡ true)) → kind < 34 →
-    result ≡ has_kind waits kind → (result ≡ true → IsWait counts room melds kind) × (IsWait counts room melds kind → result ≡ true)
-has_wait_law counts room melds waits kind result law within is =
-    (λ test. (law kind within).0 (sym is ∙ test), λ wait. is ∙ (law kind within).1 wait)
+    lacks : (k : ℕ) → has_kind completing k ≡ false
+    lacks k = ap (λ ks. has_kind ks k) none ∙ has_kind-none k
+
+    nothing : (k : ℕ) → false ≡ (ltb (get_or counts k 0) (get_or room k 0) && has_kind completing k)
+    nothing k = sym (and_right (ltb (get_or counts k 0) (get_or room k 0)) (has_kind completing k) (lacks k))
 
 -- The test says what a wait is.
 abbrev pub Says : List ℕ → List ℕ → ℕ → ℕ → Type 0
@@ -104,39 +118,51 @@ waits-law counts room melds kinds n far last kind within =
     let says = far.says kind (omega (arith, within, last)) in
     (λ test. says.0 (sym has ∙ test), λ wait. has ∙ says.1 wait)
 
--- No wait so far.
-abbrev pub NoWaitBelow : List ℕ → List ℕ → ℕ → ℕ → Type 0
-NoWaitBelow counts room melds n = (k : ℕ) → k < n → (is_wait counts room melds k ≡ false) × (IsWait counts room melds k → ⊥)
-
-pub ready-more : (counts room : List ℕ) (melds n kind : ℕ) (result : Bool) → NoWaitBelow counts room melds n → kind ≡ n →
-    result ≡ is_wait counts room melds kind → (result ≡ true → IsWait counts room melds kind) × (IsWait counts room melds kind → result ≡ true) →
-    result ≡ false → NoWaitBelow counts room melds (n + 1)
-ready-more counts room melds n kind result before here value law is k inside = split (below_or_here k n inside)
+each_below : (test : ℕ → Bool) (n : ℕ) → ((k : ℕ) → k < n → test k ≡ false) → test n ≡ false → (k : ℕ) → k < suc n → test k ≡ false
+each_below test n none here k inside = at (below_or_here k n (omega (arith, inside)))
   where
-    split : (k < n) ⊎ (k ≡ n) → (is_wait counts room melds k ≡ false) × (IsWait counts room melds k → ⊥)
-    split (inl below) = before k below
-    split (inr same) =
-        let equal : kind ≡ k = here ∙ sym same in (
-          ap (is_wait counts room melds) (sym equal) ∙ sym value ∙ is,
-          λ wait. both_ways result is (law.1 (subst (IsWait counts room melds) (sym equal) wait)),
+    at : (k < n) ⊎ (k ≡ n) → test k ≡ false
+    at (inl below) = none k below
+    at (inr same) = ap test same ∙ here
+
+-- Some number below one passes a test, or each fails it.
+some_or_none : (test : ℕ → Bool) (n : ℕ) → ((k : ℕ) × ((k < n) × (test k ≡ true))) ⊎ ((k : ℕ) → k < n → test k ≡ false)
+some_or_none test zero = inr (λ k inside. absurd (omega (arith, inside)))
+some_or_none test (suc n) = step (some_or_none test n) (test n) refl
+  where
+    step : ((k : ℕ) × ((k < n) × (test k ≡ true))) ⊎ ((k : ℕ) → k < n → test k ≡ false) → (b : Bool) → test n ≡ b →
+        ((k : ℕ) × ((k < suc n) × (test k ≡ true))) ⊎ ((k : ℕ) → k < suc n → test k ≡ false)
+    step (inl found) b is = inl (found.0, (omega (arith, found.1.0), found.1.1))
+    step (inr none) true is = inl (n, (omega arith, is))
+    step (inr none) false is = inr (each_below test n none is)
+
+-- A hand is ready where its set of waits isn't empty.
+pub ready_as : (counts room : List ℕ) (melds waits : ℕ) (empty : Bool) → waits ≡ kinds_that (is_wait counts room melds) →
+    ((k : ℕ) → k < 34 → (has_kind waits k ≡ true → IsWait counts room melds k) × (IsWait counts room melds k → has_kind waits k ≡ true)) →
+    empty ≡ eqb waits no_kinds →
+    (not empty ≡ is_ready counts room melds)
+    × ((not empty ≡ true → (k : ℕ) × ((k < 34) × IsWait counts room melds k)) × ((k : ℕ) × ((k < 34) × IsWait counts room melds k) → not empty ≡ true))
+unfolding is_ready
+ready_as counts room melds waits empty are law is = at (some_or_none (is_wait counts room melds) 34)
+  where
+    has : (k : ℕ) → k < 34 → has_kind waits k ≡ is_wait counts room melds k
+    has k within = ap (λ ks. has_kind ks k) are ∙ has_kind-kinds_that (is_wait counts room melds) k within
+
+    at : ((k : ℕ) × ((k < 34) × (is_wait counts room melds k ≡ true))) ⊎ ((k : ℕ) → k < 34 → is_wait counts room melds k ≡ false) →
+        (not empty ≡ list_any (is_wait counts room melds) all_kinds)
+        × ((not empty ≡ true → (k : ℕ) × ((k < 34) × IsWait counts room melds k)) × ((k : ℕ) × ((k < 34) × IsWait counts room melds k) → not empty ≡ true))
+    at (inl found) =
+        let held : has_kind waits found.0 ≡ true = has found.0 found.1.0 ∙ found.1.1 in
+        let some : not empty ≡ true =
+        ap not (is ∙ ne_eqb waits no_kinds (λ e. false≢true (sym (ap (λ ks. has_kind ks found.0) e ∙ has_kind-none found.0) ∙ held))) in (
+          some ∙ sym (any_kind (is_wait counts room melds) found.0 found.1.0 found.1.1),
+          (λ test. (found.0, (found.1.0, (law found.0 found.1.0).0 held)), λ wait. some),
         )
-
-pub ready-yes : (counts room : List ℕ) (melds n kind : ℕ) (result : Bool) → n < 34 → kind ≡ n → result ≡ is_wait counts room melds kind → result ≡ true →
-    true ≡ is_ready counts room melds
-unfolding is_ready
-ready-yes counts room melds n kind result within here value is =
-    sym (any_kind (is_wait counts room melds) kind (omega arith) (sym value ∙ is))
-
-pub ready-yes_law : (counts room : List ℕ) (melds n kind : ℕ) (result : Bool) → n < 34 → kind ≡ n →
-    (result ≡ true → IsWait counts room melds kind) × (IsWait counts room melds kind → result ≡ true) → result ≡ true →
-    (true ≡ true → (k : ℕ) × ((k < 34) × IsWait counts room melds k)) × ((k : ℕ) × ((k < 34) × IsWait counts room melds k) → true ≡ true)
-ready-yes_law counts room melds n kind result within here law is = (λ e. (kind, (omega arith, law.0 is)), λ some. refl)
-
-pub ready-no : (counts room : List ℕ) (melds n : ℕ) → NoWaitBelow counts room melds n → n ≡ 34 → false ≡ is_ready counts room melds
-unfolding is_ready
-ready-no counts room melds n before last = sym (no_kind (is_wait counts room melds) (λ k within. (before k (omega (arith, within, last))).0))
-
-pub ready-no_law : (counts room : List ℕ) (melds n : ℕ) → NoWaitBelow counts room melds n → n ≡ 34 →
-    (false ≡ true → (k : ℕ) × ((k < 34) × IsWait counts room melds k)) × ((k : ℕ) × ((k < 34) × IsWait counts room melds k) → false ≡ true)
-ready-no_law counts room melds n before last =
-    (λ e. absurd (false≢true e), λ some. absurd ((before some.0 (omega (arith, some.1.0, last))).1 some.1.1))
+    at (inr none) =
+        let nothing : not empty ≡ false = ap not (is ∙ eq-eqb waits no_kinds (are ∙ sym (no_kinds-that (is_wait counts room melds) none))) in (
+          nothing ∙ sym (no_kind (is_wait counts room melds) none),
+          (
+            λ test. absurd (false≢true (sym nothing ∙ test)),
+            λ wait. absurd (false≢true (sym (has wait.0 wait.1.0 ∙ none wait.0 wait.1.0) ∙ (law wait.0 wait.1.0).1 wait.1.1)),
+          ),
+        )

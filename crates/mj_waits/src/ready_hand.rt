@@ -1,4 +1,4 @@
-ghost use Rattle.std.specs.Prelude.{◌≡◌, ℕ, ◌<◌, ◌≤◌, ◌↔◌, IsTrue, nat_lt, slice_index, ◌&&◌};
+ghost use Rattle.std.specs.Prelude.{◌≡◌, ℕ, ◌<◌, ◌↔◌, IsTrue, nat_lt, slice_index, ◌&&◌, length};
 ghost use Rattle.mj_tiles.specs.Kinds.{has_kind, kinds_that};
 ghost use Rattle.mj_waits.specs.Waits.{IsWait, is_wait, is_ready};
 
@@ -14,10 +14,14 @@ pub fn waits(counts: &Counts, room: &Counts, melds: u8) -> Kinds
         → (IsTrue (has_kind result kind) ↔ IsWait counts.now room.now melds kind) }
 {
     let complete = completing(counts, melds);
+    let most = room.numbers();
+    if complete.is_empty() {
+        return complete;
+    }
     let mut kinds = Kinds::none();
     for number in 0..KINDS as u8 {
         let kind = Kind::at(number);
-        if waits_on(counts, room, complete, kind) {
+        if waits_on(counts, most, complete, kind) {
             kinds = kinds.with(kind);
         }
     }
@@ -30,21 +34,14 @@ pub fn ready(counts: &Counts, room: &Counts, melds: u8) -> bool
     ensures law { IsTrue result ↔ ((kind : ℕ)
         × ((kind < 34) × IsWait counts.now room.now melds kind)) }
 {
-    let waits = waits(counts, room, melds);
-    for number in 0..KINDS as u8 {
-        let kind = Kind::at(number);
-        if waits.has(kind) {
-            return true;
-        }
-    }
-    false
+    !waits(counts, room, melds).is_empty()
 }
 
-/// Whether the kind is one of those that complete the hand, and the hand has fewer tiles of it than its room.
-fn waits_on(counts: &Counts, room: &Counts, complete: Kinds, kind: Kind) -> bool
-    ensures value { result ≡ (nat_lt (slice_index counts.now kind) (slice_index room.now kind)
+/// Whether the kind is one of those that complete the hand, and the hand has fewer tiles of it than the most by kind.
+fn waits_on(counts: &Counts, most: &[u8], complete: Kinds, kind: Kind) -> bool
+    requires { length most.now ≡ 34 }
+    ensures { result ≡ (nat_lt (slice_index counts.now kind) (slice_index most.now kind)
         && has_kind complete kind) }
-    ensures within { slice_index room.now kind ≤ 4 }
 {
-    counts.get(kind) < room.get(kind) && complete.has(kind)
+    complete.has(kind) && counts.get(kind) < most[usize::from(kind.number())]
 }

@@ -1,7 +1,7 @@
 use Rattle.std.proofs.Common.{[], true, arith}
 use Rattle.mj_suits.proofs.Nine.{holds_whole}
 use Rattle.mj_suits.specs.Rows.{lane}
-use Rattle.mj_suits.proofs.walk.with_runs.Goals as goal
+use Rattle.mj_suits.proofs.walk.runs_within.Goals as goal
 
 pub returns : goal.returns
 returns c =
