@@ -2,13 +2,17 @@ ghost use Rattle.std.specs.Prelude.{◌≡◌, ◌∷◌, [], None};
 ghost use Rattle.mj_deeds.specs.declared.answer.Answer.TheVariants as answers;
 
 use crate::answer::Answer;
+use std::alloc::Global;
 use std::marker::Model;
+use std::mem;
 
-/// A list of answers. A pass alone takes no memory.
+/// A list of answers. A pass alone takes no memory, and the memory of other lists serves again.
 #[derive(Drop)]
 pub struct Answers {
     pass: [Answer; 1],
     listed: Option<Vec<Answer>>,
+    // the memory for the next list, while a pass alone is listed
+    kept: Option<Vec<Answer>>,
 }
 
 impl Model for Answers {
@@ -27,8 +31,9 @@ impl Answers {
         ensures { result ≡ items.items }
     {
         Answers {
-            pass: [Answer::Pass { actor: None }],
+            pass: one_pass(),
             listed: Some(items),
+            kept: None,
         }
     }
 
@@ -37,9 +42,32 @@ impl Answers {
         ensures { result ≡ answers.Pass None ∷ [] }
     {
         Answers {
-            pass: [Answer::Pass { actor: None }],
+            pass: one_pass(),
             listed: None,
+            kept: None,
         }
+    }
+
+    /// The memory of the list, as a vector without items; the list may be any until one is set.
+    pub fn take(&mut self, alloc: Global) -> Vec<Answer>
+        ensures { result.items ≡ [] }
+    {
+        match mem::replace(&mut self.listed, None) {
+            Some(items) => emptied(items),
+            None => match mem::replace(&mut self.kept, None) {
+                Some(items) => emptied(items),
+                None => Vec::new(alloc),
+            },
+        }
+    }
+
+    /// Lists a pass alone, which names no actor, and keeps the memory of a vector for the next list.
+    pub fn set_pass(&mut self, memory: Vec<Answer>)
+        ensures { self.new ≡ answers.Pass None ∷ [] }
+    {
+        self.pass = one_pass();
+        self.listed = None;
+        self.kept = Some(memory);
     }
 
     /// Its answers, in order.
@@ -51,4 +79,20 @@ impl Answers {
             None => &self.pass,
         }
     }
+}
+
+// A pass alone, which names no actor.
+fn one_pass() -> [Answer; 1]
+    ensures { result ≡ answers.Pass None ∷ [] }
+{
+    [Answer::Pass { actor: None }]
+}
+
+// The vector without its items.
+fn emptied(items: Vec<Answer>) -> Vec<Answer>
+    ensures { result.items ≡ [] }
+{
+    let mut items = items;
+    items.clear();
+    items
 }

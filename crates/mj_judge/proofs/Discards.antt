@@ -116,3 +116,10 @@ none_ready view counts room_left melds n is beside made all each =
   where
     within : (k : ℕ) → k < 34 → k < n
     within k h = omega (arith, h, all)
+
+-- Whether one does.
+pub ready_told : (view : SeatView) (counts room_left : List ℕ) (melds : ℕ) (told : Bool) → counts ≡ kind_counts (concealed view) → room_left ≡ room view → melds ≡ length view.melds →
+    (told ≡ false → (k : ℕ) → k < 34 → leaves_ready counts room_left melds k ≡ false) → (told ≡ true → (k : ℕ) × ((k < 34) × (leaves_ready counts room_left melds k ≡ true))) →
+    told ≡ list_any (is_ready_without view) (concealed view)
+ready_told view counts room_left melds true is beside made none some = (let found = some refl in some_ready view counts room_left melds found.0 true is beside made found.1.0 (sym found.1.1) refl)
+ready_told view counts room_left melds false is beside made none some = none_ready view counts room_left melds 34 is beside made (omega arith) (none refl)

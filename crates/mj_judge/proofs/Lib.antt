@@ -1,5 +1,6 @@
-pub mod BestDiscards
 pub mod Discards
+pub mod FarHands
+pub mod FewHeld
 pub mod Measured
 pub mod Missed
 pub mod Outer
@@ -7,5 +8,6 @@ pub mod Places
 pub mod Pons
 pub mod Swaps
 pub mod Tried
+pub mod TwoAway
 pub mod Verdicts
 pub mod Wins

@@ -1,5 +1,6 @@
 -- What is tried of the answers that a seat may give, and why no other is lawful.
-use Rattle.std.proofs.Common.{◌≡◌, ℕ, ◌+◌, ◌-◌, ◌%◌, ◌<◌, ◌≤◌, ◌==◌, ◌&&◌, ◌||◌, ◌⊎◌, inl, inr, Bool, true, false, cond, eqb, ltb, List, [], ◌∷◌, ◌++◌, length, map, take, get_or, refl, sym, ap, ◌∙◌, arith, append-nil, append_assoc}
+use Rattle.std.proofs.Common.{◌≡◌, ℕ, ◌+◌, ◌-◌, ◌%◌, ◌<◌, ◌≤◌, ◌==◌, ◌&&◌, ◌||◌, ◌⊎◌, inl, inr, Bool, true, false, not, cond, eqb, ltb, List, [], ◌∷◌, ◌++◌, length, map, take, get_or, refl, sym, ap, ◌∙◌, arith, append-nil, append_assoc}
+use Rattle.std.specs.List.{list_any}
 use Rattle.std.specs.Prelude.{Option, Some, None, nat_lt, filter, flat_map, slice_index, All, bytes_eq, option_to_list, min}
 use Rattle.std.proofs.lemmas.Bool.{both_ways, false_from_ne_true, and_parts, and_from, or_parts, or_cases, not-false, eq-eqb, eqb-true, ltb-false, le-leb, agree_below_at}
 use Rattle.std.proofs.lemmas.List.{take_more, take_all, flat_map_more, map-append}
@@ -12,27 +13,31 @@ use Rattle.mj_tiles.specs.declared.meld.Meld.{Meld}
 use Rattle.mj_calls.specs.Shapes.{is_among, is_run_of, makes_run}
 use Rattle.mj_deeds.specs.declared.answer.Pai.TheVariants.{Known}
 use Rattle.mj_deeds.specs.declared.answer.Answer.{Answer}
-use Rattle.mj_deeds.specs.declared.answer.Answer.TheVariants.{Pass, Discard, Chi, ClosedKan, AddedKan, Reach, NineKinds}
+use Rattle.mj_deeds.specs.declared.answer.Answer.TheVariants.{Pass, Discard, Chi, ClosedKan, AddedKan, Reach, Win, NineKinds}
 use Rattle.mj_deeds.specs.declared.deed.Deed.{Deed}
 use Rattle.mj_deeds.specs.Facts.{is_pon}
 use Rattle.mj_wall.specs.declared.setting.Rules.{Rules}
 use Rattle.mj_rules.specs.View.{WindowTurn, Drew, Discarded, Added, Reached, Called, Nobodys, SeatView, view_of, held_count}
-use Rattle.mj_rules.specs.Broken.{is_open, is_before}
+use Rattle.mj_rules.specs.Broken.{is_open, is_before, is_wrongly_marked}
 use Rattle.mj_rules.specs.Possible.{is_lawful, faces_of, discards_of, all_discards, chis_with, all_chis, all_calls, closed_kans_of, all_closed_kans, added_kans_of, all_added_kans, triplets, all_wins, possible_by, possible}
 use Rattle.mj_rules.proofs.Listed.{lawful_clear}
 use Rattle.mj_rules.proofs.ListedOrder.{of_all, all_mapped, all_joined}
-use Rattle.mj_judge.specs.Inner.Tried.{lawful_among, is_own_draw, is_discarding, is_near, red_of}
+use Rattle.mj_judge.specs.Inner.Tried.{lawful_among, is_own_draw, is_discarding, is_winning, is_near, red_of}
 
 -- where nothing is lawful
 
 -- An answer that is not lawful, in the words of a test.
-abbrev Fails : Rules → ℕ → SeatView → Answer → Type 0
+abbrev pub Fails : Rules → ℕ → SeatView → Answer → Type 0
 Fails rules seat view answer = is_lawful rules seat view answer ≡ false
 
-none_pass : {A : Type 0} (p : A → Bool) (xs : List A) → All (λ x. p x ≡ false) xs → filter p xs ≡ []
+pub none_pass : {A : Type 0} (p : A → Bool) (xs : List A) → All (λ x. p x ≡ false) xs → filter p xs ≡ []
 none_pass p [] fail = refl
 none_pass p (x ∷ xs) fail =
     ap (λ b. cond b (x ∷ filter p xs) (filter p xs)) (All-head (λ y. p y ≡ false) x xs fail) ∙ none_pass p xs (All-tail (λ y. p y ≡ false) x xs fail)
+
+one_fails : (rules : Rules) (ds : List Deed) (seat : ℕ) (answer : Answer) → Fails rules seat (view_of ds seat) answer → lawful_among rules ds seat (answer ∷ []) ≡ []
+unfolding lawful_among
+one_fails rules ds seat answer fails = none_pass (is_lawful rules seat (view_of ds seat)) (answer ∷ []) (All-cons (Fails rules seat (view_of ds seat)) answer [] fails (All-nil (Fails rules seat (view_of ds seat))))
 
 -- It is not open to the seat.
 not_open : (rules : Rules) (seat : ℕ) (view : SeatView) (answer : Answer) → is_open rules seat view.turn view.accepted answer ≡ false → Fails rules seat view answer
@@ -69,6 +74,53 @@ added_shut rules seat (Called who banned) accepted face a b c h = both_false (wh
 added_shut rules seat (Discarded who tile) accepted face a b c h = both_false (who == seat)
 added_shut rules seat (Added who tile) accepted face a b c h = both_false (who == seat)
 added_shut rules seat Nobodys accepted face a b c h = refl
+
+-- Nor are a reach and nine kinds.
+reach_shut : (rules : Rules) (seat : ℕ) (turn : WindowTurn) (accepted : Bool) → is_own_draw seat turn ≡ false → is_open rules seat turn accepted (Reach seat) ≡ false
+reach_shut rules seat (Drew who) accepted h = ap (λ b. cond b (not accepted) false) h
+reach_shut rules seat (Reached who) accepted h = both_false (who == seat)
+reach_shut rules seat (Called who banned) accepted h = both_false (who == seat)
+reach_shut rules seat (Discarded who tile) accepted h = both_false (who == seat)
+reach_shut rules seat (Added who tile) accepted h = both_false (who == seat)
+reach_shut rules seat Nobodys accepted h = refl
+
+nine_shut : (rules : Rules) (seat : ℕ) (turn : WindowTurn) (accepted : Bool) → is_own_draw seat turn ≡ false → is_open rules seat turn accepted (NineKinds seat) ≡ false
+nine_shut rules seat (Drew who) accepted h = ap (λ b. cond b rules.draws false) h
+nine_shut rules seat (Reached who) accepted h = both_false (who == seat)
+nine_shut rules seat (Called who banned) accepted h = both_false (who == seat)
+nine_shut rules seat (Discarded who tile) accepted h = both_false (who == seat)
+nine_shut rules seat (Added who tile) accepted h = both_false (who == seat)
+nine_shut rules seat Nobodys accepted h = refl
+
+pub no_reach : (rules : Rules) (ds : List Deed) (seat : ℕ) → is_own_draw seat (view_of ds seat).turn ≡ false → lawful_among rules ds seat (Reach seat ∷ []) ≡ []
+no_reach rules ds seat shut =
+    let view = view_of ds seat in
+    one_fails rules ds seat (Reach seat) (not_open rules seat view (Reach seat) (reach_shut rules seat view.turn view.accepted shut))
+
+pub no_nine_kinds : (rules : Rules) (ds : List Deed) (seat : ℕ) → is_own_draw seat (view_of ds seat).turn ≡ false → lawful_among rules ds seat (NineKinds seat ∷ []) ≡ []
+no_nine_kinds rules ds seat shut =
+    let view = view_of ds seat in
+    one_fails rules ds seat (NineKinds seat) (not_open rules seat view (NineKinds seat) (nine_shut rules seat view.turn view.accepted shut))
+
+-- A win is on the own draw, or on the tile of another.
+pub no_wins : (rules : Rules) (ds : List Deed) (seat : ℕ) → is_winning seat (view_of ds seat).turn ≡ false → lawful_among rules ds seat (all_wins seat (view_of ds seat).turn) ≡ []
+unfolding lawful_among
+no_wins rules ds seat shut = by_turn (view_of ds seat).turn refl shut
+  where
+    fails : (who : ℕ) (turn : WindowTurn) → (view_of ds seat).turn ≡ turn → is_open rules seat turn (view_of ds seat).accepted (Win seat who None) ≡ false → lawful_among rules ds seat (Win seat who None ∷ []) ≡ []
+    fails who turn is closed =
+        one_fails rules ds seat (Win seat who None) (not_open rules seat (view_of ds seat) (Win seat who None) (ap (λ (t : WindowTurn). is_open rules seat t (view_of ds seat).accepted (Win seat who None)) is ∙ closed))
+
+    own_alone : (b : Bool) → not b ≡ false → cond b false true ≡ false
+    own_alone b h = ap (λ c. cond c false true) (not-false b h)
+
+    by_turn : (turn : WindowTurn) → (view_of ds seat).turn ≡ turn → is_winning seat turn ≡ false → lawful_among rules ds seat (all_wins seat turn) ≡ []
+    by_turn (Drew who) is h = fails who (Drew who) is (ap (λ b. cond b true false) h)
+    by_turn (Discarded who tile) is h = fails who (Discarded who tile) is (own_alone (who == seat) h)
+    by_turn (Added who tile) is h = fails who (Added who tile) is (own_alone (who == seat) h)
+    by_turn (Reached who) is h = refl
+    by_turn (Called who banned) is h = refl
+    by_turn Nobodys is h = refl
 
 pub no_discards : (rules : Rules) (ds : List Deed) (seat : ℕ) → is_discarding seat (view_of ds seat).turn ≡ false → lawful_among rules ds seat (all_discards seat) ≡ []
 unfolding lawful_among all_discards
@@ -107,6 +159,24 @@ no_added_kans rules ds seat melds shut =
     (all_joined (Fails rules seat view) (λ face. added_kans_of seat face melds) tile_order
     (λ face. added_fail rules seat view face melds (λ meld. not_open rules seat view (AddedKan seat (Known face) (Known meld.a) (Known meld.b) (Known meld.c))
     (added_shut rules seat view.turn view.accepted face meld.a meld.b meld.c shut))))
+
+-- Nor is one where no triplet was taken.
+none_among : {A : Type 0} (p : A → Bool) (xs : List A) → list_any p xs ≡ false → filter p xs ≡ []
+none_among p [] none = refl
+none_among p (x ∷ xs) none =
+    let parts = or_parts (p x) (list_any p xs) none in
+    ap (λ b. cond b (x ∷ filter p xs) (filter p xs)) parts.0 ∙ none_among p xs parts.1
+
+none_to_add_to : (rules : Rules) (ds : List Deed) (seat : ℕ) → lawful_among rules ds seat (all_added_kans seat []) ≡ []
+unfolding lawful_among all_added_kans tile_order
+none_to_add_to rules ds seat = refl
+
+pub no_pon : (rules : Rules) (ds : List Deed) (seat : ℕ) (melds : List Meld) (has : Bool) → melds ≡ (view_of ds seat).melds → has ≡ list_any (λ (meld : Meld). is_pon meld.form) melds → has ≡ false →
+    lawful_among rules ds seat (all_added_kans seat (triplets (view_of ds seat))) ≡ []
+no_pon rules ds seat melds has are is none =
+    ap (λ (ms : List Meld). lawful_among rules ds seat (all_added_kans seat (filter (λ (meld : Meld). is_pon meld.form) ms))) (sym are)
+    ∙ ap (λ (ms : List Meld). lawful_among rules ds seat (all_added_kans seat ms)) (none_among (λ (meld : Meld). is_pon meld.form) melds (sym is ∙ none))
+    ∙ none_to_add_to rules ds seat
 
 -- A chi is of the seat after the discarder alone.
 pub no_chis : (rules : Rules) (ds : List Deed) (seat who tile : ℕ) → is_before (view_of ds seat).turn seat ≡ false → lawful_among rules ds seat (all_chis seat who tile) ≡ []
@@ -178,6 +248,11 @@ not_held-added rules seat view face a b c none = false_from_ne_true (is_lawful r
     (λ lawful. short (held_count view face) (number_in (face ∷ []) face) none (one_of face [])
     (or_parts (nat_lt (held_count view face) (number_in (face ∷ []) face)) _ (lawful_clear rules seat view (AddedKan seat (Known face) (Known a) (Known b) (Known c)) lawful).1.1.1.1.1.1.0).0)
 
+-- A discard that is marked as the drawn tile and isn't that one.
+not_drawn-discard : (rules : Rules) (seat : ℕ) (view : SeatView) (face : ℕ) → is_wrongly_marked view (Known face) true ≡ true → Fails rules seat view (Discard seat (Known face) true)
+not_drawn-discard rules seat view face wrong = false_from_ne_true (is_lawful rules seat view (Discard seat (Known face) true))
+    (λ lawful. both_ways (is_wrongly_marked view (Known face) true) (lawful_clear rules seat view (Discard seat (Known face) true) lawful).1.1.1.1.1.1.1.0 wrong)
+
 -- The same of lists of them.
 
 pub no_discards_of : (rules : Rules) (ds : List Deed) (seat face : ℕ) → held_count (view_of ds seat) face ≡ 0 → lawful_among rules ds seat (discards_of seat face) ≡ []
@@ -194,10 +269,6 @@ no_chis_with rules ds seat who tile a none =
     let view = view_of ds seat in
     none_pass (is_lawful rules seat view) (chis_with seat who tile a)
     (all_mapped (Fails rules seat view) (λ b. Chi seat who (Known tile) (Known a) (Known b)) tile_order (λ b. not_held-chi rules seat view who tile a b none))
-
-one_fails : (rules : Rules) (ds : List Deed) (seat : ℕ) (answer : Answer) → Fails rules seat (view_of ds seat) answer → lawful_among rules ds seat (answer ∷ []) ≡ []
-unfolding lawful_among
-one_fails rules ds seat answer fails = none_pass (is_lawful rules seat (view_of ds seat)) (answer ∷ []) (All-cons (Fails rules seat (view_of ds seat)) answer [] fails (All-nil (Fails rules seat (view_of ds seat))))
 
 pub no_chi : (rules : Rules) (ds : List Deed) (seat who tile a b : ℕ) → held_count (view_of ds seat) b ≡ 0 → lawful_among rules ds seat (Chi seat who (Known tile) (Known a) (Known b) ∷ []) ≡ []
 no_chi rules ds seat who tile a b none = one_fails rules ds seat (Chi seat who (Known tile) (Known a) (Known b)) (other_not_held-chi rules seat (view_of ds seat) who tile a b none)
@@ -339,6 +410,18 @@ added_after rules ds seat xs ys old now new first second =
     second ∙ ap (λ zs. zs ++ lawful_among rules ds seat ys) first
     ∙ append_assoc old (lawful_among rules ds seat xs) (lawful_among rules ds seat ys)
     ∙ ap (λ zs. old ++ zs) (sym (lawful-append rules ds seat xs ys))
+
+-- Of the discards of a face that isn't the drawn tile only the unmarked one may be lawful.
+pub unmarked_alone : (rules : Rules) (ds : List Deed) (seat face : ℕ) (tried old new : List Answer) → is_wrongly_marked (view_of ds seat) (Known face) true ≡ true →
+    tried ≡ Discard seat (Known face) false ∷ [] → new ≡ old ++ lawful_among rules ds seat tried → new ≡ old ++ lawful_among rules ds seat (discards_of seat face)
+unmarked_alone rules ds seat face tried old new wrong are added =
+    added
+    ∙ ap (λ xs. old ++ lawful_among rules ds seat xs) are
+    ∙ ap (λ xs. old ++ xs)
+    (sym (append-nil (lawful_among rules ds seat (Discard seat (Known face) false ∷ [])))
+    ∙ ap (λ xs. lawful_among rules ds seat (Discard seat (Known face) false ∷ []) ++ xs)
+    (sym (one_fails rules ds seat (Discard seat (Known face) true) (not_drawn-discard rules seat (view_of ds seat) face wrong)))
+    ∙ sym (lawful-append rules ds seat (Discard seat (Known face) false ∷ []) (Discard seat (Known face) true ∷ [])))
 
 -- One meld more.
 pub meld_more : (rules : Rules) (ds : List Deed) (seat face : ℕ) (melds : List Meld) (meld : Meld) (i : ℕ) (old now new : List Answer) → i < length melds → meld ≡ get_or melds i meld →

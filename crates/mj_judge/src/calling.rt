@@ -1,11 +1,11 @@
-ghost use Rattle.std.specs.Prelude.{◌≡◌, ◌≤◌, ◌++◌, ◌∷◌, [], OnOk, option_map};
+ghost use Rattle.std.specs.Prelude.{◌≡◌, ◌≤◌, ◌+◌, ◌++◌, ◌∷◌, [], OnOk, min, option_map};
 ghost use Rattle.mj_tiles.specs.Faces.{kind_of};
 ghost use Rattle.mj_deeds.specs.declared.answer.Answer.TheVariants as answers;
 ghost use Rattle.mj_deeds.specs.declared.answer.Pai.TheVariants.{Known};
 ghost use Rattle.mj_deeds.specs.Facts.{newest};
-ghost use Rattle.mj_rules.specs.View.{turn_by, turn_in};
+ghost use Rattle.mj_rules.specs.View.{view_of, held_count, turn_by, turn_in};
 ghost use Rattle.mj_rules.specs.Possible.{faces_of, chis_with, all_chis, pons_of, open_kans_of, all_calls};
-ghost use Rattle.mj_judge.specs.Inner.Tried.{lawful_among, is_near, red_of};
+ghost use Rattle.mj_judge.specs.Inner.Tried.{lawful_among, is_near, red_of, red_held};
 
 use crate::listing::push_lawful;
 use crate::questions::is_before;
@@ -53,9 +53,52 @@ fn push_calls_of(
         ++ open_kans_of seat who tile (faces_of (kind_of tile))))) }
 {
     push_chis(table, seat, who, tile, items)?;
+    push_same(table, seat, who, tile, items)?;
+    Ok(())
+}
+
+// Adds the lawful pons and kans of the discard: none where fewer than two tiles of its kind are held.
+fn push_same(
+    table: &Table,
+    seat: u8,
+    who: u8,
+    tile: Tile,
+    items: &mut Vec<Answer>,
+) -> Result<(), AllocError>
+    requires { seat ≤ 3 }
+    ensures { OnOk result (items.new.items ≡ items.old.items
+        ++ lawful_among table.now.rules table.now.deeds seat
+        (pons_of seat who tile (faces_of (kind_of tile))
+        ++ open_kans_of seat who tile (faces_of (kind_of tile)))) }
+{
+    if held_of(table, seat, tile.kind()) < 2 {
+        return Ok(());
+    }
     push_pons(table, seat, who, tile, items)?;
     push_open_kans(table, seat, who, tile, items)?;
     Ok(())
+}
+
+// How many tiles of a kind are held, of each face four at most.
+#[tactic(auto, unfolding(mj_rules::specs::View::view_of))]
+pub(crate) fn held_of(table: &Table, seat: u8, kind: Kind) -> usize
+    requires { seat ≤ 3 }
+    ensures { result ≡ min (held_count (view_of table.now.deeds seat) kind) 4
+        + min (red_held (view_of table.now.deeds seat) (red_of kind)) 4 }
+{
+    table.held_count(seat, plain_of(kind)) + reds_of(table, seat, kind)
+}
+
+// How many red fives of a kind are held, four at most.
+#[tactic(auto, unfolding(mj_rules::specs::View::view_of))]
+fn reds_of(table: &Table, seat: u8, kind: Kind) -> usize
+    requires { seat ≤ 3 }
+    ensures { result ≡ min (red_held (view_of table.now.deeds seat) (red_of kind)) 4 }
+{
+    match red_of(kind) {
+        Some(red) => table.held_count(seat, red),
+        None => 0,
+    }
 }
 
 // Adds the lawful chis, with each tile that is held as the one and the other: only of the seat before this one.

@@ -3,10 +3,10 @@ ghost use Rattle.mj_deeds.specs.declared.answer.Answer.TheVariants as answers;
 ghost use Rattle.mj_deeds.specs.Facts.{newest};
 ghost use Rattle.mj_rules.specs.View.{view_of, turn_by, turn_in};
 ghost use Rattle.mj_rules.specs.Possible.{possible, is_lawful, all_discards, all_calls, all_closed_kans, all_added_kans, triplets, all_wins};
-ghost use Rattle.mj_judge.specs.Inner.Tried.{lawful_among};
+ghost use Rattle.mj_judge.specs.Inner.Tried.{lawful_among, is_winning};
 
 use crate::calling::push_calls;
-use crate::turning::{push_added_kans, push_closed_kans, push_discards};
+use crate::turning::{is_own_draw, push_added_kans, push_closed_kans, push_discards};
 use crate::verdict::judge;
 use mj_deeds::{Answer, Answers, Deed, is_in_form};
 use mj_table::Table;
@@ -20,42 +20,87 @@ pub fn possible(alloc: Global, table: &Table, seat: u8) -> Result<Answers, Alloc
     requires { seat ≤ 3 }
     ensures { IfOk result (λ list. list ≡ possible table.now.rules table.now.deeds seat) }
 {
-    let mut items = Vec::new(alloc);
+    let mut list = Answers::pass_alone();
+    possible_over(alloc, table, seat, &mut list)?;
+    Ok(list)
+}
+
+/// The same in place of another list, whose memory they take. Where memory is wanting the list may be any.
+pub fn possible_over(
+    alloc: Global,
+    table: &Table,
+    seat: u8,
+    list: &mut Answers,
+) -> Result<(), AllocError>
+    requires { seat ≤ 3 }
+    ensures { OnOk result (list.new ≡ possible table.now.rules table.now.deeds seat) }
+{
+    let mut items = list.take(alloc);
     push_discards(table, seat, &mut items)?;
     push_calls(table, seat, &mut items)?;
     push_closed_kans(table, seat, &mut items)?;
     push_added_kans(table, seat, &mut items)?;
-    push_lawful(table, seat, &[Answer::Reach { actor: seat }], &mut items)?;
+    push_reach(table, seat, &mut items)?;
     push_win(table, seat, &mut items)?;
-    push_lawful(
-        table,
-        seat,
-        &[Answer::NineKinds { actor: seat }],
-        &mut items,
-    )?;
-    Ok(after_pass(table, seat, items)?)
+    push_nine_kinds(table, seat, &mut items)?;
+    set_after_pass(table, seat, items, list)?;
+    Ok(())
 }
 
-// The answers after a pass, where a pass is lawful.
-fn after_pass(table: &Table, seat: u8, items: Vec<Answer>) -> Result<Answers, AllocError>
+// Lists the answers after a pass, where a pass is lawful.
+fn set_after_pass(
+    table: &Table,
+    seat: u8,
+    items: Vec<Answer>,
+    list: &mut Answers,
+) -> Result<(), AllocError>
     requires { seat ≤ 3 }
-    ensures { IfOk result (λ list. list
+    ensures { OnOk result (list.new
         ≡ lawful_among table.now.rules table.now.deeds seat (answers.Pass None ∷ [])
         ++ items.items) }
 {
     let mut items = items;
     let pass = Answer::Pass { actor: None };
     if !is_lawful(table, seat, &pass) {
-        return Ok(Answers::from_vec(items));
+        *list = Answers::from_vec(items);
+        return Ok(());
     }
     if items.is_empty() {
-        return Ok(Answers::pass_alone());
+        list.set_pass(items);
+        return Ok(());
     }
     items.insert(0, pass)?;
-    Ok(Answers::from_vec(items))
+    *list = Answers::from_vec(items);
+    Ok(())
 }
 
-// Adds the win that the turn offers, where it is lawful.
+// Adds a reach where it is lawful: at the own draw alone.
+fn push_reach(table: &Table, seat: u8, items: &mut Vec<Answer>) -> Result<(), AllocError>
+    requires { seat ≤ 3 }
+    ensures { OnOk result (items.new.items ≡ items.old.items
+        ++ lawful_among table.now.rules table.now.deeds seat (answers.Reach seat ∷ [])) }
+{
+    if !is_own_draw(table, seat) {
+        return Ok(());
+    }
+    push_lawful(table, seat, &[Answer::Reach { actor: seat }], items)?;
+    Ok(())
+}
+
+// Adds nine kinds where they are lawful: at the own draw alone.
+fn push_nine_kinds(table: &Table, seat: u8, items: &mut Vec<Answer>) -> Result<(), AllocError>
+    requires { seat ≤ 3 }
+    ensures { OnOk result (items.new.items ≡ items.old.items
+        ++ lawful_among table.now.rules table.now.deeds seat (answers.NineKinds seat ∷ [])) }
+{
+    if !is_own_draw(table, seat) {
+        return Ok(());
+    }
+    push_lawful(table, seat, &[Answer::NineKinds { actor: seat }], items)?;
+    Ok(())
+}
+
+// Adds the win that the turn offers, where it is lawful: at the own draw, or on a tile of another seat.
 #[tactic(auto, using(crate::proofs::Tried::nothing_added))]
 fn push_win(table: &Table, seat: u8, items: &mut Vec<Answer>) -> Result<(), AllocError>
     requires { seat ≤ 3 }
@@ -63,6 +108,9 @@ fn push_win(table: &Table, seat: u8, items: &mut Vec<Answer>) -> Result<(), Allo
         ++ lawful_among table.now.rules table.now.deeds seat
         (all_wins seat (turn_in (option_map turn_by (newest table.now.deeds))))) }
 {
+    if !may_win(table, seat) {
+        return Ok(());
+    }
     match table.newest() {
         Some(Deed::Draw { seat: who, .. }) => {
             push_win_from(table, seat, *who, items)?;
@@ -77,6 +125,18 @@ fn push_win(table: &Table, seat: u8, items: &mut Vec<Answer>) -> Result<(), Allo
             Ok(())
         }
         _ => Ok(()),
+    }
+}
+
+// The window is on a draw of the seat, or on a tile of another that may be won on.
+fn may_win(table: &Table, seat: u8) -> bool
+    ensures { result ≡ is_winning seat (turn_in (option_map turn_by (newest table.now.deeds))) }
+{
+    match table.newest() {
+        Some(Deed::Draw { seat: who, .. }) => *who == seat,
+        Some(Deed::Discard { seat: who, .. }) => *who != seat,
+        Some(Deed::AddedKan { seat: who, .. }) => *who != seat,
+        _ => false,
     }
 }
 

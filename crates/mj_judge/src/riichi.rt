@@ -3,15 +3,14 @@ ghost use Rattle.std.specs.List.{list_any};
 ghost use Rattle.mj_deeds.specs.Facts.{newest};
 ghost use Rattle.mj_rules.specs.Broken.{is_locked_answer, is_locked, is_changing_kan, is_riichi_kan_broken, is_reach, is_reach_open, is_reach_poor, is_reach_late, is_ready_without, discards_unready, is_reach_unready};
 ghost use Rattle.mj_rules.specs.View.{view_of, turn_by, turn_in, concealed};
-ghost use Rattle.mj_judge.specs.Inner.Ready.{leaves_ready};
 
-use crate::counting::{counts_without, without};
+use crate::counting::counts_without;
 use crate::questions::is_call_answer;
-use crate::unready::is_never_ready;
+use crate::ready::leaves_some_ready;
 use mj_calls::riichi_kan;
 use mj_deeds::{Answer, Deed, Pai};
 use mj_table::Table;
-use mj_tiles::{Counts, KINDS, Kind, Tile};
+use mj_tiles::Tile;
 use mj_waits::ready;
 use mj_yaku::is_closed;
 
@@ -125,25 +124,7 @@ fn has_ready_discard(table: &Table, seat: u8) -> bool
     let counts = table.holds(seat);
     let room = table.room(seat);
     let melds = table.melds(seat);
-    let melds = melds.as_slice();
-    if is_never_ready(&counts, &room, melds) {
-        return false;
-    }
-    let many = melds.len() as u8;
-    for number in 0..KINDS as u8 {
-        let kind = Kind::at(number);
-        if leaves_ready(&counts, &room, many, kind) {
-            return true;
-        }
-    }
-    false
-}
-
-// A tile of the kind is held, and the hand is ready once one is discarded.
-fn leaves_ready(counts: &Counts, room: &Counts, melds: u8, kind: Kind) -> bool
-    ensures { result ≡ leaves_ready counts.now room.now melds kind }
-{
-    counts.get(kind) > 0 && ready(&without(counts, kind), room, melds)
+    leaves_some_ready(&counts, &room, melds.as_slice())
 }
 
 // The tile is discarded by a reach, and leaves the hand unready.

@@ -1,17 +1,19 @@
-ghost use Rattle.std.specs.Prelude.{◌≡◌, ◌≤◌, ◌++◌, ◌∷◌, [], OnOk, filter, option_map};
+ghost use Rattle.std.specs.Prelude.{◌≡◌, ◌≤◌, ◌<◌, ◌+◌, ◌++◌, ◌∷◌, [], ℕ, false, min, OnOk, filter, option_map};
+ghost use Rattle.std.specs.List.{list_any};
 ghost use Rattle.mj_tiles.specs.Faces.{kind_of};
 ghost use Rattle.mj_deeds.specs.declared.answer.Answer.TheVariants as answers;
 ghost use Rattle.mj_deeds.specs.declared.answer.Pai.TheVariants.{Known};
 ghost use Rattle.mj_deeds.specs.Facts.{newest, is_pon};
-ghost use Rattle.mj_rules.specs.View.{view_of, turn_by, turn_in};
+ghost use Rattle.mj_rules.specs.View.{view_of, held_count, turn_by, turn_in};
 ghost use Rattle.mj_rules.specs.Possible.{faces_of, discards_of, all_discards, closed_kans_of, all_closed_kans, added_kans_of, all_added_kans, triplets};
-ghost use Rattle.mj_judge.specs.Inner.Tried.{lawful_among, is_own_draw, is_discarding};
+ghost use Rattle.mj_judge.specs.Inner.Tried.{lawful_among, is_own_draw, is_discarding, red_of, red_held};
 
-use crate::calling::{plain_of, red_of};
+use crate::calling::{held_of, plain_of, red_of};
+use crate::holding::is_wrongly_marked;
 use crate::listing::push_lawful;
 use mj_deeds::{Answer, Deed, Pai, ordered};
 use mj_table::Table;
-use mj_tiles::{FACES, Form, Meld, Tile};
+use mj_tiles::{FACES, Form, KINDS, Kind, Meld, Tile};
 use std::alloc::AllocError;
 
 // Adds the lawful discards, of each tile that is held.
@@ -33,7 +35,7 @@ pub(crate) fn push_discards(
     Ok(())
 }
 
-// The discards of one face.
+// The discards of one face: marked only where it is the drawn one.
 fn push_discards_of(
     table: &Table,
     seat: u8,
@@ -47,12 +49,16 @@ fn push_discards_of(
     if table.held_count(seat, tile) == 0 {
         return Ok(());
     }
+    if is_wrongly_marked(table, seat, &Pai::Known(tile), true) {
+        push_lawful(table, seat, &[discard(seat, tile, false)], items)?;
+        return Ok(());
+    }
     let discards = [discard(seat, tile, false), discard(seat, tile, true)];
     push_lawful(table, seat, &discards, items)?;
     Ok(())
 }
 
-// Adds the lawful kans of four concealed tiles: at the own draw alone.
+// Adds the lawful kans of four concealed tiles: at the own draw alone, and where enough of a kind is held.
 pub(crate) fn push_closed_kans(
     table: &Table,
     seat: u8,
@@ -65,10 +71,28 @@ pub(crate) fn push_closed_kans(
     if !is_own_draw(table, seat) {
         return Ok(());
     }
+    if !holds_three(table, seat) {
+        return Ok(());
+    }
     for place in 0..FACES {
         push_closed_kans_of(table, seat, ordered(place), items)?;
     }
     Ok(())
+}
+
+// Of some kind three tiles or more are held.
+fn holds_three(table: &Table, seat: u8) -> bool
+    requires { seat ≤ 3 }
+    ensures { result ≡ false → (kind : ℕ) → kind < 34 → min
+        (held_count (view_of table.now.deeds seat) kind) 4 + min
+        (red_held (view_of table.now.deeds seat) (red_of kind)) 4 < 3 }
+{
+    for number in 0..KINDS as u8 {
+        if held_of(table, seat, Kind::at(number)) >= 3 {
+            return true;
+        }
+    }
+    false
 }
 
 // The kans of four concealed tiles whose first has this face.
@@ -84,6 +108,9 @@ fn push_closed_kans_of(
         (closed_kans_of seat a (faces_of (kind_of a)))) }
 {
     if table.held_count(seat, a) == 0 {
+        return Ok(());
+    }
+    if held_of(table, seat, a.kind()) < 3 {
         return Ok(());
     }
     let plain = plain_of(a.kind());
@@ -130,7 +157,7 @@ fn push_plain_kan(
     Ok(())
 }
 
-// Adds the lawful kans by a tile added to an own triplet: at the own draw alone.
+// Adds the lawful kans by a tile added to an own triplet: at the own draw alone, and where there is a triplet.
 pub(crate) fn push_added_kans(
     table: &Table,
     seat: u8,
@@ -142,6 +169,9 @@ pub(crate) fn push_added_kans(
         (all_added_kans seat (triplets (view_of table.now.deeds seat)))) }
 {
     if !is_own_draw(table, seat) {
+        return Ok(());
+    }
+    if !has_pon(table.melds(seat).as_slice()) {
         return Ok(());
     }
     for place in 0..FACES {
@@ -216,6 +246,13 @@ fn push_added_kan(
     Ok(())
 }
 
+// One of the melds is a pon.
+fn has_pon(melds: &[Meld]) -> bool
+    ensures { result ≡ list_any (λ meld. is_pon meld.form) melds.now }
+{
+    melds.iter().any(|meld| is_pon(meld))
+}
+
 fn is_pon(meld: &Meld) -> bool
     ensures { result ≡ is_pon meld.now.form }
 {
@@ -245,7 +282,7 @@ fn closed_kan(seat: u8, a: Tile, b: Tile, c: Tile, d: Tile) -> Answer
 }
 
 // The window is on a draw of the seat.
-fn is_own_draw(table: &Table, seat: u8) -> bool
+pub(crate) fn is_own_draw(table: &Table, seat: u8) -> bool
     ensures { result ≡ is_own_draw seat (turn_in (option_map turn_by (newest table.now.deeds))) }
 {
     match table.newest() {

@@ -14,6 +14,7 @@ mod LatestTold
 mod MarksKept
 mod MeldsKept
 mod Readers
+mod RedFives
 pub mod OneLess
 mod OneMore
 mod RoomSteps

@@ -12,10 +12,10 @@ pub(crate) fn kinds_held(held: &[u8; FACES]) -> Counts
     ensures { result ≡ kind_counts (tiles_held held.now) }
 {
     let mut numbers = [0; KINDS];
-    for place in 0..FACES {
-        let tile = ordered(place);
-        numbers[tile.kind().number() as usize] += held[tile.face() as usize];
-    }
+    numbers.copy_from_slice(&held[..KINDS]);
+    numbers[4] += held[34];
+    numbers[13] += held[35];
+    numbers[22] += held[36];
     match Counts::of(numbers) {
         Some(counts) => counts,
         None => unreachable!(),

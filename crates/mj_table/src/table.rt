@@ -44,7 +44,7 @@ use std::alloc::{AllocError, Global};
 use std::marker::Model;
 
 /// A game as far as it was played: its rules, and its deeds so far, each of which fits after those before it. It
-/// says each fact of these deeds. No call but `push`, `copy` and `concealed` takes memory. Condition wherever a seat is asked for: it is 0 to 3.
+/// says each fact of these deeds. No call but `push`, `copy`, `copy_over` and `concealed` takes memory. Condition wherever a seat is asked for: it is 0 to 3.
 #[derive(Drop)]
 pub struct Table {
     rules: Rules,
@@ -115,22 +115,31 @@ impl Table {
     pub fn copy(&self) -> Result<Table, AllocError>
         ensures { IfOk result (λ table. table ≡ self.now) }
     {
+        let mut table = Table::new(self.rules)?;
+        self.copy_over(&mut table)?;
+        Ok(table)
+    }
+
+    /// Makes another table the same: of the same rules and the same deeds. Where memory is wanting the other stays as it was.
+    pub fn copy_over(&self, other: &mut Table) -> Result<(), AllocError>
+        ensures ok { OnOk result (other.new ≡ self.now) }
+        ensures err { OnErr result (other.new ≡ other.old) }
+    {
         let first = copy_of(self.latest.first.as_ref())?;
         let second = copy_of(self.latest.second.as_ref())?;
-        Ok(Table {
-            rules: self.rules,
-            latest: Latest {
-                first,
-                second,
-                turned: self.latest.turned,
-            },
-            standing: self.standing,
-            points: self.points,
-            deposits: self.deposits,
-            held: self.held,
-            facts: self.facts,
-            past: self.past.again(),
-        })
+        other.rules = self.rules;
+        other.latest = Latest {
+            first,
+            second,
+            turned: self.latest.turned,
+        };
+        other.standing = self.standing;
+        other.points = self.points;
+        other.deposits = self.deposits;
+        other.held = self.held;
+        other.facts = self.facts;
+        other.past = self.past.again();
+        Ok(())
     }
 
     // The number of a hand that begins next, counted from 0.

@@ -1,6 +1,6 @@
 use Rattle.std.proofs.Common.{◌≡◌, false, true, length, rules, sym, ◌∙◌}
 use Rattle.mj_judge.proofs.Tried.{pass_fails, pass_stands, pass_alone}
-use Rattle.mj_judge.proofs.listing.after_pass.Goals as goal
+use Rattle.mj_judge.proofs.listing.set_after_pass.Goals as goal
 
 pub returns-then-not-is_lawful : goal.returns-then-not-is_lawful
 returns-then-not-is_lawful c =
@@ -11,7 +11,7 @@ pub returns-then-is_empty : goal.returns-then-is_empty
 returns-then-is_empty c =
     let lawful : c.is_lawful.result ≡ true = search rules in
     let none : length c.args.items.items ≡ 0 = search rules in
-    c.pass_alone.ensures ∙ pass_alone c.args.table.now.rules c.args.table.now.deeds c.args.seat c.args.items.items (sym c.is_lawful.ensures ∙ lawful) none
+    c.set_pass.ensures ∙ pass_alone c.args.table.now.rules c.args.table.now.deeds c.args.seat c.args.items.items (sym c.is_lawful.ensures ∙ lawful) none
 
 pub returns : goal.returns
 returns c =

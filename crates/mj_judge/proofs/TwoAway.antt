@@ -1,12 +1,10 @@
--- Where not even the best discard leaves the hand ready, none does.
-use Rattle.std.proofs.Common.{ℕ, ◌||◌, zero, suc, ◌≡◌, ◌<◌, ◌≤◌, ◌+◌, ◌-◌, ◌*◌, ◌∷◌, [], inl, inr, Bool, true, false, not, cond, eqb, ltb, List, length, get_or, sum, refl, sym, ◌∙◌, ap, subst, arith}
+-- How many tiles are missing of the nearest complete hand tells whether some discard leaves the hand ready.
+use Rattle.mj_tiles.proofs.EachKind.{any_kind}
+use Rattle.std.proofs.Common.{ℕ, ◌||◌, ◌⊎◌, zero, suc, ◌≡◌, ◌<◌, ◌≤◌, ◌+◌, ◌*◌, ◌∷◌, [], inl, inr, Bool, true, false, cond, eqb, ltb, List, length, get_or, sum, refl, sym, ◌∙◌, ap, subst, arith, ◌-◌}
 use Rattle.std.specs.List.{list_any, range_with_len}
-use Rattle.std.proofs.lemmas.Bool.{cases_eq, cases_lt, eq-eqb, ne_eqb, and_parts, and_from, ltb-true, lt-ltb, true≢false, false≢true}
+use Rattle.std.proofs.lemmas.Bool.{cases_eq, eq-eqb, ne_eqb, and_parts, ltb-true, and_from, cases_lt, lt-ltb}
 use Rattle.std.proofs.lemmas.List.{length-set}
 use Rattle.mj_tiles.specs.Counts.{all_kinds, IsCounts}
-use Rattle.mj_tiles.specs.Kinds.{has_kind, with_kind}
-use Rattle.mj_tiles.proofs.EachKind.{any_kind}
-use Rattle.mj_tiles.proofs.KindSets.{has_kind-with}
 use Rattle.mj_readings.specs.Tests.{complete, one_more}
 use Rattle.mj_readings.proofs.Laws.{complete-are, are-complete}
 use Rattle.mj_waits.specs.Waits.{is_wait, is_ready}
@@ -15,9 +13,8 @@ use Rattle.mj_suits.specs.Tables.{IsLeast}
 use Rattle.mj_shanten.specs.Room.{IsRoom, IsWithinRoom}
 use Rattle.mj_shanten.specs.Shanten.{IsGoal}
 use Rattle.mj_shanten.specs.Exchanges.{one_less}
-use Rattle.mj_shanten.specs.Discards.{IsBestDiscard}
 use Rattle.mj_shanten.proofs.Goal.{counts_from}
-use Rattle.mj_shanten.proofs.Least.{one_nearer}
+use Rattle.mj_shanten.proofs.Least.{one_nearer, fewer_held}
 use Rattle.mj_shanten.proofs.Path.{one_less_at, one_more_at}
 use Rattle.mj_shanten.proofs.Sums.{sum-cons, sum_missing, sum_complete}
 use Rattle.mj_judge.specs.Inner.Ready.{leaves_ready}
@@ -59,11 +56,11 @@ record Away (t h : List ℕ) : Type 0 where
   more : get_or h at 0 < get_or t at 0
 
 -- Where one tile is missed of a hand with one tile more, it is that one.
-one_away : (t h : List ℕ) → length t ≡ length h → sum t ≡ suc (sum h) → missing t h ≡ 1 → Away t h
-one_away [] [] size whole one = absurd (omega arith)
-one_away [] (y ∷ h) size whole one = absurd (omega arith)
-one_away (x ∷ t) [] size whole one = absurd (omega arith)
-one_away (x ∷ t) (y ∷ h) size whole one =
+away_from : (t h : List ℕ) → length t ≡ length h → sum t ≡ suc (sum h) → missing t h ≡ 1 → Away t h
+away_from [] [] size whole one = absurd (omega arith)
+away_from [] (y ∷ h) size whole one = absurd (omega arith)
+away_from (x ∷ t) [] size whole one = absurd (omega arith)
+away_from (x ∷ t) (y ∷ h) size whole one =
     let a = sum-cons x t in
     let b = sum-cons y h in
     let c = sum_missing t h in
@@ -74,7 +71,7 @@ one_away (x ∷ t) (y ∷ h) size whole one =
           record { at = 0; inside = omega arith; is = (λ i. head i ∷ sym tail i); more = less })
       | inr over ↦
           (let head : y ≡ x = omega arith in
-          let rest : Away t h = one_away t h (omega arith) (omega arith) (omega arith) in
+          let rest : Away t h = away_from t h (omega arith) (omega arith) (omega arith) in
           record { at = suc rest.at; inside = (let e = rest.inside in omega arith); is = (λ i. head i ∷ rest.is i); more = rest.more })
     ]
 
@@ -104,11 +101,11 @@ more_within counts room kind size low within less k small = (let a = one_more_at
     ])
 
 -- It has thirteen tiles, and misses one of a complete hand.
-record OneMissed (counts room : List ℕ) (melds : ℕ) : Type 0 where
-  thirteen : sum counts + 3 * melds ≡ 13
-  least : IsLeast counts (IsGoal room melds) 1
+pub record OneMissed (counts room : List ℕ) (melds : ℕ) : Type 0 where
+  pub thirteen : sum counts + 3 * melds ≡ 13
+  pub least : IsLeast counts (IsGoal room melds) 1
 
-ready_misses : (counts room : List ℕ) (melds : ℕ) → length counts ≡ 34 → IsRoom room melds → IsWithinRoom counts room → is_ready counts room melds ≡ true → OneMissed counts room melds
+pub ready_misses : (counts room : List ℕ) (melds : ℕ) → length counts ≡ 34 → IsRoom room melds → IsWithinRoom counts room → is_ready counts room melds ≡ true → OneMissed counts room melds
 unfolding is_ready all_kinds
 ready_misses counts room melds size is_room within ready = by_wait (found_in (is_wait counts room melds) 0 34 ready)
   where
@@ -167,52 +164,113 @@ misses_ready counts room melds number size thirteen few least = any_kind (is_wai
         let a = sum_complete target melds goal.complete in
         let b = sum_missing target counts in
         let c : number ≡ missing target counts = least.some.1.1 in
-        one_away target counts (goal.are_counts.size ∙ sym size) (omega arith) (omega arith)
+        away_from target counts (goal.are_counts.size ∙ sym size) (omega arith) (omega arith)
 
 -- a hand of one tile less
 
 less_within : (counts room : List ℕ) (kind : ℕ) → length counts ≡ 34 → kind < 34 → IsWithinRoom counts room → IsWithinRoom (one_less counts kind) room
 less_within counts room kind size low within k small = (let a = one_less_at counts kind k (omega arith) in let w = within k small in omega arith)
 
--- Where each kind that is held is one of the set, and without the best of them the hand isn't ready, it is ready without none.
-pub none_leaves_ready : (counts room : List ℕ) (melds kinds kind : ℕ) → length counts ≡ 34 → IsRoom room melds → IsWithinRoom counts room → IsBestDiscard counts room melds kinds kind →
-    ((k : ℕ) → k < 34 → 0 < get_or counts k 0 → has_kind kinds k ≡ true) → is_ready (one_less counts kind) room melds ≡ false → (k : ℕ) → k < 34 → leaves_ready counts room melds k ≡ false
-none_leaves_ready counts room melds kinds kind size is_room within best each unready k low = by_test (leaves_ready counts room melds k) refl
+-- Without any tile of it the hand misses as many tiles as with it, or more, and a ready hand misses one.
+pub two_away : (counts room : List ℕ) (melds number : ℕ) → length counts ≡ 34 → IsRoom room melds → IsWithinRoom counts room → IsLeast counts (IsGoal room melds) number → 1 < number →
+    (k : ℕ) → k < 34 → leaves_ready counts room melds k ≡ false
+two_away counts room melds number size is_room within least far k low = by_test (leaves_ready counts room melds k) refl
   where
-    never : 0 < get_or counts k 0 → is_ready (one_less counts k) room melds ≡ true → ⊥
-    never held ready =
+    never : is_ready (one_less counts k) room melds ≡ true → ⊥
+    never ready =
         let one : OneMissed (one_less counts k) room melds = ready_misses (one_less counts k) room melds (length-set counts k _ ∙ size) is_room (less_within counts room k size low within) ready in
-        let thirteen = one.thirteen in
-        let a = sum_less counts k (omega arith) held in
-        let b = sum_less counts kind (let l = best.is_discard.kind_is in omega arith) best.is_discard.held in
-        let few : best.number ≤ 1 = elim (best.best k 1 (record { kind_is = low; among = each k low held; held = held }) one.least) [ inl less ↦ omega arith | inr same ↦ (let e = same.0 in omega arith) ] in
-        true≢false (sym (misses_ready (one_less counts kind) room melds best.number (length-set counts kind _ ∙ size) (omega arith) few best.leaves) ∙ unready)
+        let target : List ℕ = one.least.some.0 in
+        let near : missing target counts ≤ missing target (one_less counts k) =
+        fewer_held target counts (one_less counts k) (sym (length-set counts k _)) (λ j inside. (let a = one_less_at counts k j (omega arith) in omega arith)) in
+        let few : number ≤ missing target counts = least.least target one.least.some.1.0 in
+        let is : 1 ≡ missing target (one_less counts k) = one.least.some.1.1 in
+        omega arith
 
     by_test : (b : Bool) → leaves_ready counts room melds k ≡ b → b ≡ false
     by_test false e = refl
-    by_test true e =
-        let parts = and_parts (ltb 0 (get_or counts k 0)) (is_ready (one_less counts k) room melds) e in
-        absurd (never (ltb-true 0 _ parts.0) parts.1)
+    by_test true e = absurd (never (and_parts (ltb 0 (get_or counts k 0)) (is_ready (one_less counts k) room melds) e).1)
 
-pub best_unready : (counts room counts_of room_of : List ℕ) (melds kinds kind : ℕ) (unready : Bool) → counts_of ≡ counts → room_of ≡ room → length counts ≡ 34 → IsRoom room melds → IsWithinRoom counts room →
-    IsBestDiscard counts_of room_of melds kinds kind → ((k : ℕ) → k < 34 → has_kind kinds k ≡ true) → unready ≡ not (is_ready (one_less counts kind) room melds) → unready ≡ true → (k : ℕ) → k < 34 → leaves_ready counts room melds k ≡ false
-best_unready counts room counts_of room_of melds kinds kind unready same_counts same_room size is_room within best each told so =
-    let here : IsBestDiscard counts room melds kinds kind =
-    subst (λ (r : List ℕ). IsBestDiscard counts r melds kinds kind) same_room (subst (λ (ns : List ℕ). IsBestDiscard ns room_of melds kinds kind) same_counts best) in
-    none_leaves_ready counts room melds kinds kind size is_room within here (λ k low held. each k low) (off (is_ready (one_less counts kind) room melds) (sym told ∙ so))
+-- a tile to spare
+
+-- A place of which a target leaves a tile.
+record Over (t h : List ℕ) : Type 0 where
+  at : ℕ
+  inside : at < length h
+  held : 0 < get_or h at 0
+  near : missing t (one_less h at) ≤ missing t h
+
+some_over : (t h : List ℕ) → length t ≡ length h → Over t h ⊎ (missing t h + sum h ≡ sum t)
+some_over [] [] size = inr refl
+some_over [] (y ∷ h) size = absurd (omega arith)
+some_over (x ∷ t) [] size = absurd (omega arith)
+some_over (x ∷ t) (y ∷ h) size = by_head (cases_lt x y) (some_over t h (omega (arith, size)))
   where
-    off : (b : Bool) → not b ≡ true → b ≡ false
-    off true h = absurd (false≢true h)
-    off false h = refl
+    by_head : (x < y) ⊎ (y ≤ x) → Over t h ⊎ (missing t h + sum h ≡ sum t) → Over (x ∷ t) (y ∷ h) ⊎ (missing (x ∷ t) (y ∷ h) + sum (y ∷ h) ≡ sum (x ∷ t))
+    by_head (inl less) rest = inl (record { at = 0; inside = omega arith; held = (let h0 : 0 < y = omega (arith, less) in h0); near = (let n : (x - (y - 1)) + missing t h ≤ (x - y) + missing t h = omega (arith, less) in n) })
+    by_head (inr most) (inl o) = inl (record { at = suc o.at; inside = (let i = o.inside in omega arith); held = o.held; near = (let n = o.near in let m : (x - y) + missing t (one_less h o.at) ≤ (x - y) + missing t h = omega (arith, n) in m) })
+    by_head (inr most) (inr e) = inr (let a = sum-cons x t in let b = sum-cons y h in let n : (x - y) + missing t h + sum (y ∷ h) ≡ sum (x ∷ t) = omega (arith, a, b, e, most) in n)
 
--- each kind in a set
+-- A tile that is held.
+record Held (h : List ℕ) : Type 0 where
+  at : ℕ
+  inside : at < length h
+  held : 0 < get_or h at 0
 
--- One kind more stands in it.
-pub one_kind_more : (kinds next kind n : ℕ) → ((k : ℕ) → k < n → has_kind kinds k ≡ true) → kind ≡ n → next ≡ with_kind kinds kind → (k : ℕ) → k < n + 1 → has_kind next k ≡ true
-one_kind_more kinds next kind n before at is k low =
-    ap (λ s. has_kind s k) is
-    ∙ has_kind-with kinds kind k
-    ∙ elim (cases_eq kind k) [
-      | inl same ↦ ap (λ b. b || has_kind kinds k) (eq-eqb kind k same)
-      | inr other ↦ ap (λ b. b || has_kind kinds k) (ne_eqb kind k other) ∙ before k (omega (arith, low, at, other))
-    ]
+some_held : (h : List ℕ) → 0 < sum h → Held h
+some_held [] some = absurd (omega (arith, some))
+some_held (zero ∷ h) some = (let r = some_held h (let a = sum-cons 0 h in omega (arith, a, some)) in record { at = suc r.at; inside = (let i = r.inside in omega arith); held = r.held })
+some_held (suc y ∷ h) some = record { at = 0; inside = omega arith; held = (let p : 0 < suc y = omega arith in p) }
+
+-- Of as many tiles as the target has one can go where at most one is missing.
+record Spare (t h : List ℕ) : Type 0 where
+  at : ℕ
+  inside : at < length h
+  held : 0 < get_or h at 0
+  near : missing t (one_less h at) ≤ 1
+
+spare : (t h : List ℕ) → length t ≡ length h → sum t ≡ sum h → missing t h ≤ 1 → 0 < sum h → Spare t h
+spare t h size whole few some = by_over (some_over t h size)
+  where
+    by_over : Over t h ⊎ (missing t h + sum h ≡ sum t) → Spare t h
+    by_over (inl o) = record { at = o.at; inside = o.inside; held = o.held; near = (let n = o.near in omega (arith, n, few)) }
+    by_over (inr e) =
+        let any : Held h = some_held h some in
+        let nearer : missing t (one_less h any.at) ≤ missing t h + 1 =
+        one_nearer any.at t (one_less h any.at) h (length-set h any.at _) (λ k inside. (let a = one_less_at h any.at k (let i = any.inside in omega (arith, i)) in omega (arith, a))) in
+        record { at = any.at; inside = any.inside; held = any.held; near = omega (arith, nearer, e, whole) }
+
+-- Where at most one tile is missing of fourteen, some discard leaves the hand ready.
+pub one_away : (counts room : List ℕ) (melds number : ℕ) → length counts ≡ 34 → IsRoom room melds → IsWithinRoom counts room → IsLeast counts (IsGoal room melds) number → number ≤ 1 →
+    sum counts + 3 * melds ≡ 14 → melds ≤ 4 → (k : ℕ) × ((k < 34) × (leaves_ready counts room melds k ≡ true))
+one_away counts room melds number size is_room within least near fourteen few = (
+  gone.at,
+  (
+    low,
+    and_from (ltb 0 (get_or counts gone.at 0)) (is_ready (one_less counts gone.at) room melds) (lt-ltb 0 _ gone.held)
+        (misses_ready (one_less counts gone.at) room melds (missing target (one_less counts gone.at)) (length-set counts gone.at _ ∙ size) thirteen gone.near left),
+  ),
+)
+  where
+    target : List ℕ
+    target = least.some.0
+
+    goal : IsGoal room melds target
+    goal = least.some.1.0
+
+    gone : Spare target counts
+    gone =
+        let a = sum_complete target melds goal.complete in
+        let c : number ≡ missing target counts = least.some.1.1 in
+        spare target counts (goal.are_counts.size ∙ sym size) (omega (arith, a, fourteen)) (omega (arith, c, near)) (omega (arith, fourteen, few))
+
+    low : gone.at < 34
+    low = (let i = gone.inside in omega (arith, i, size))
+
+    thirteen : sum (one_less counts gone.at) + 3 * melds ≡ 13
+    thirteen = (let a = sum_less counts gone.at gone.inside gone.held in omega (arith, a, fourteen))
+
+    left : IsLeast (one_less counts gone.at) (IsGoal room melds) (missing target (one_less counts gone.at))
+    left = record {
+      some = (target, (goal, refl));
+      least = λ other is. (let n = gone.near in let a = sum_complete other melds is.complete in let b = sum_missing other (one_less counts gone.at) in omega (arith, n, a, b, thirteen));
+    }
