@@ -5,20 +5,17 @@ ghost use Rattle.mj_tiles.specs.Counts.{kind_counts};
 ghost use Rattle.mj_tiles.specs.Kinds.{set_of};
 ghost use Rattle.mj_rules.specs.Broken.{broken_by};
 ghost use Rattle.mj_readings.specs.Sets.{set_of_meld};
-ghost use Rattle.mj_waits.specs.Waits.{is_ready};
-ghost use Rattle.mj_shanten.specs.Exchanges.{one_less};
 ghost use Rattle.mj_rules.specs.View.{view_of, concealed, room};
 ghost use Rattle.mj_rules.specs.Default.{discard_of, lawful_faces, last_face};
 ghost use Rattle.mj_judge.specs.Measured.{is_measured};
 ghost use Rattle.mj_bot.specs.Choice.{IsBest};
-ghost use Rattle.mj_bot.specs.Inner.Turns.{is_own_turn, is_own_draw, is_free, is_among, is_out_or_among, are_all_among, IsNeverReady};
+ghost use Rattle.mj_bot.specs.Inner.Turns.{is_own_turn, is_own_draw, is_free, is_among, IsNeverReady};
 
 use mj_deeds::{Deed, is_face, ordered};
 use mj_judge::{discard, is_measured, judge};
 use mj_shanten::Suits;
 use mj_table::Table;
-use mj_tiles::{Counts, FACES, KINDS, Kind, Kinds, Meld, Tile};
-use mj_waits::ready;
+use mj_tiles::{Counts, FACES, Kinds, Meld, Tile};
 
 // The best discard of a seat, and whether it is known that a reach would leave the hand unready.
 #[derive(Clone, Copy)]
@@ -79,55 +76,16 @@ fn measured_discard(
     ensures unready { IsTrue result.unready → IsNeverReady (view_of table.now.deeds seat) }
 {
     let number = melds.len() as u8;
-    match Suits::new(counts, left).best_discard(kinds, number) {
+    let suits = Suits::new(counts, left);
+    match suits.best_discard(kinds, number) {
         Some(kind) => Best {
             tile: last_lawful(table, seat, Kinds::none().with(kind)),
-            unready: is_unready(counts, left, number, kinds, kind),
+            unready: suits.missing(number) > 1,
         },
         None => Best {
             tile: None,
             unready: false,
         },
-    }
-}
-
-// Each kind that is held is one of these, and the hand isn't ready without a tile of the best of them.
-fn is_unready(counts: &Counts, room: &Counts, melds: u8, kinds: Kinds, best: Kind) -> bool
-    ensures { result ≡ (are_all_among counts.now kinds
-        && not (is_ready (one_less counts.now best) room.now melds)) }
-{
-    are_all_among(counts, kinds) && !ready(&without(counts, best), room, melds)
-}
-
-// Each kind that is held is one of these.
-#[tactic(auto, unfolding(crate::specs::Inner::Turns::are_all_among))]
-fn are_all_among(counts: &Counts, kinds: Kinds) -> bool
-    ensures { result ≡ are_all_among counts.now kinds }
-{
-    for number in 0..KINDS as u8 {
-        if !is_out_or_among(counts, kinds, Kind::at(number)) {
-            return false;
-        }
-    }
-    true
-}
-
-fn is_out_or_among(counts: &Counts, kinds: Kinds, kind: Kind) -> bool
-    ensures { result ≡ is_out_or_among counts.now kinds kind }
-{
-    counts.get(kind) == 0 || kinds.has(kind)
-}
-
-// The counts with one tile less of a kind, or none of it where there is none.
-fn without(counts: &Counts, kind: Kind) -> Counts
-    ensures { result ≡ one_less counts.now kind }
-{
-    let mut numbers = *counts.numbers();
-    let place = usize::from(kind.number());
-    numbers[place] = numbers[place].saturating_sub(1);
-    match Counts::of(numbers) {
-        Some(counts) => counts,
-        None => unreachable!(),
     }
 }
 

@@ -27,14 +27,6 @@ is_free accepted seat turn = not accepted && is_own_draw seat turn
 abbrev pub is_among : ℕ → ℕ → Bool
 is_among kinds face = has_kind kinds (kind_of face)
 
--- The kind isn't held, or is one of these.
-abbrev pub is_out_or_among : List ℕ → ℕ → ℕ → Bool
-is_out_or_among counts kinds kind = slice_index counts kind == 0 || has_kind kinds kind
-
--- Each kind that is held is one of these.
-unfoldable pub are_all_among : List ℕ → ℕ → Bool
-are_all_among counts kinds = list_all (is_out_or_among counts kinds) all_kinds
-
 -- No discard leaves the hand ready.
 abbrev pub IsNeverReady : SeatView → Type 0
 IsNeverReady view = list_any (is_ready_without view) (concealed view) ≡ false
