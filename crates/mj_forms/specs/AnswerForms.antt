@@ -8,6 +8,8 @@ use Rattle.serde_json.specs.Read.{read}
 use Rattle.mj_tiles.specs.Faces.{face_of, in_tile_order}
 use Rattle.mj_ports.specs.Names.{is_name}
 use Rattle.mj_ports.specs.declared.sitting.JoinLine.{JoinLine}
+use Rattle.mj_ports.specs.declared.picking.Picked.{Picked}
+use Rattle.mj_ports.specs.declared.picking.Picked.TheVariants.{Table, BadName, NoRoom}
 use Rattle.mj_deeds.specs.declared.answer.Pai.{Pai}
 use Rattle.mj_deeds.specs.declared.answer.Pai.TheVariants.{Known, Hidden}
 use Rattle.mj_deeds.specs.Pais.{face_in}
@@ -198,3 +200,36 @@ join_in value =
 -- What a line asks that wants a seat, where it is a join with a name and a key of the right form.
 unfoldable pub join_of : List ℕ → Option JoinLine
 join_of bytes = option_and_then join_in (value_of bytes)
+
+-- The table that a room's text names; tables are numbered from 0.
+abbrev pub room_number : List ℕ → Option ℕ
+room_number text =
+    if bytes_eq text (codes "default") then Some 0 else
+    (if bytes_eq text (codes "room1") then Some 0 else
+    (if bytes_eq text (codes "room2") then Some 1 else
+    (if bytes_eq text (codes "room3") then Some 2 else
+    (if bytes_eq text (codes "room4") then Some 3 else
+    (if bytes_eq text (codes "room5") then Some 4 else
+    (if bytes_eq text (codes "room6") then Some 5 else
+    (if bytes_eq text (codes "room7") then Some 6 else
+    (if bytes_eq text (codes "room8") then Some 7 else None))))))))
+
+abbrev pub room_below : ℕ → ℕ → Option ℕ
+room_below rooms number = if nat_lt number rooms then Some number else None
+
+-- A join may name its room, which is one of so many; else it is for the first one.
+abbrev pub room_by : ℕ → Option Data → Option ℕ
+room_by rooms None = Some 0
+room_by rooms (Some value) = option_and_then (room_below rooms) (option_and_then room_number (as_str value))
+
+abbrev pub picked_by : Option JoinLine → Option ℕ → Picked
+picked_by None room = BadName
+picked_by (Some join) None = NoRoom
+picked_by (Some join) (Some table) = Table table
+
+abbrev pub picked_in : ℕ → Data → Picked
+picked_in rooms value = picked_by (join_in value) (room_by rooms (get (codes "room") value))
+
+-- For which of so many tables a line is that wants a seat, where it is a join with a name and a key of the right form.
+unfoldable pub picked_of : ℕ → List ℕ → Picked
+picked_of rooms bytes = option_map_or (picked_in rooms) (value_of bytes) BadName

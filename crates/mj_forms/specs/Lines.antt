@@ -314,6 +314,7 @@ refusal_number refusals.NoKey = 4
 refusal_number refusals.TooOften = 5
 refusal_number refusals.Over = 6
 refusal_number refusals.BadName = 7
+refusal_number refusals.NoRoom = 8
 
 abbrev pub refusal_name : SitRefused → List ℕ
 refusal_name refusals.Full = codes "Full"
@@ -323,6 +324,7 @@ refusal_name refusals.NoKey = codes "NoKey"
 refusal_name refusals.TooOften = codes "TooOften"
 refusal_name refusals.Over = codes "Over"
 refusal_name refusals.BadName = codes "BadName"
+refusal_name refusals.NoRoom = codes "NoRoom"
 
 -- The line that a refused join gets.
 unfoldable pub refusal_line : SitRefused → List ℕ

@@ -4,6 +4,7 @@
 
 mod answers;
 mod entry;
+mod picking;
 mod seated;
 #[cfg(test)]
 mod seated_tests;
@@ -12,6 +13,7 @@ mod sitting;
 
 pub use answers::{Control, Expiry, Heard, Left, SitAnswer};
 pub use entry::Entry;
+pub use picking::{Picked, Picker};
 pub use seated::Seated;
 pub use short_text::{Key, Name, OfKey, OfName, ShortText};
 pub use sitting::{JoinLine, SitRefused};

@@ -26,4 +26,6 @@ pub enum SitRefused {
     Over,
     /// The line is no join with a name and a key of the right form.
     BadName,
+    /// The line names a room of which there is none. Only where many tables are played is a room asked for.
+    NoRoom,
 }

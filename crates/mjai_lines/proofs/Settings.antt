@@ -1,8 +1,8 @@
 -- Texts of three fields and of other numbers of fields, and tiles read field by field.
-use Rattle.std.proofs.Common.{◌≡◌, ℕ, List, [], ◌∷◌, ◌++◌, true, false, Bool, refl, sym, ◌∙◌, cond}
-use Rattle.std.specs.Prelude.{Option, Some, None, ◌==◌}
+use Rattle.std.proofs.Common.{◌≡◌, ℕ, ◌==◌, List, [], ◌∷◌, ◌++◌, true, false, Bool, refl, sym, ◌∙◌, cond, arith}
+use Rattle.std.specs.Prelude.{Option, Some, None}
 use Rattle.mj_lists.proofs.Onto.{onto, onto-more, onto-nothing}
-use Rattle.mj_bytes.specs.Parts.{fields, onto_first}
+use Rattle.mj_bytes.specs.Parts.{fields, onto_first, BeginsWithField}
 use Rattle.mj_tiles.specs.Faces.{face_of}
 use Rattle.mj_forms.specs.Headers.{rules_of, tiles_in}
 use Rattle.mjai_lines.specs.Settings.{three_of}
@@ -43,6 +43,13 @@ rules_of_others (a ∷ []) h = refl
 rules_of_others (a ∷ b ∷ []) h = refl
 rules_of_others (a ∷ b ∷ c ∷ []) h = cc h
 rules_of_others (a ∷ b ∷ c ∷ d ∷ ds) h = refl
+
+-- a field of one byte, and of two
+pub one_ahead : (a : ℕ) (rest : List ℕ) → (a == 32) ≡ false → BeginsWithField (a ∷ 32 ∷ rest) (a ∷ []) rest
+one_ahead a rest h = record { parts = refl; plain = rw h; all = rw h; shorter = omega arith }
+
+pub two_ahead : (a b : ℕ) (rest : List ℕ) → (a == 32) ≡ false → (b == 32) ≡ false → BeginsWithField (a ∷ b ∷ 32 ∷ rest) (a ∷ b ∷ []) rest
+two_ahead a b rest h k = record { parts = refl; plain = rw (h, k); all = rw (h, k); shorter = omega arith }
 
 -- a tile more was read
 pub onto-step : (whole : Option (List ℕ)) (tiles rest field others : List ℕ) (tile : ℕ) → whole ≡ onto tiles (tiles_in (fields rest)) → fields rest ≡ field ∷ fields others → Some tile ≡ face_of field → whole ≡ onto (tiles ++ tile ∷ []) (tiles_in (fields others))

@@ -1,32 +1,32 @@
 -- What the usual spellings of answers read as: each is what is printed for its tokens, and these have one value.
 use Rattle.std.proofs.Common.{◌≡◌, ℕ, zero, suc, ◌+◌, ◌<◌, ◌≤◌, Bool, true, false, cond, List, [], ◌∷◌, ◌++◌, append_assoc, refl, sym, ap, ◌∙◌, arith}
-use Rattle.std.specs.Prelude.{Option, Some, None, option_and_then, option_map, unwrap_or, codes, bytes_eq, nat_le, nat_lt, not, ◌&&◌, ◌==◌, IsAscii}
+use Rattle.std.specs.Prelude.{Option, Some, None, option_and_then, option_map, unwrap_or, map, codes, bytes_eq, nat_le, nat_lt, not, ◌&&◌, ◌==◌, IsAscii}
 use Rattle.std.specs.List.{list_all}
 use Rattle.std.proofs.lemmas.Bool.{and_parts, ltb-true, lt-ltb}
 use Rattle.std.proofs.lemmas.Bool.Decides.{nat_tests}
 use Rattle.std.proofs.lemmas.Str.{IsUtf8-from_ascii, IsAscii-append}
 use Rattle.std.proofs.lemmas.Str.Ascii.{IsAscii-nil, IsAscii-cons}
 use Rattle.std.proofs.lemmas.Slice.Eq.{bytes_eq-Decides}
-use Rattle.json.specs.Token.{Token, begin_object, end_object, key, string, number, boolean}
+use Rattle.json.specs.Token.{Token, begin_object, end_object, begin_array, end_array, key, string, number, boolean}
 use Rattle.json.specs.Lex.{tokens}
 use Rattle.json.specs.Json as json
 use Rattle.json.specs.Print.{escape, print, print_from, escape_byte, ArePrintable}
 use Rattle.json.specs.Word.{after_number}
 use Rattle.json.proofs.Printed.Strings.{escape_byte_plain}
 use Rattle.json.proofs.Printed.Tokens.{tokens-print}
-use Rattle.serde_json.specs.Data.{Data, unsigned, object, no_members, member}
+use Rattle.serde_json.specs.Data.{Data, unsigned, object, no_members, member, no_items, item}
 use Rattle.serde_json.specs.Data as value
 use Rattle.serde_json.specs.Read.{of_json, max_depth, number_of}
 use Rattle.serde_json.proofs.OnLiterals.{serde_json_on_literals}
 use Rattle.mj_lists.proofs.Ranges.{passes}
-use Rattle.mj_tiles.specs.Faces.{texts, text_of, face_of}
+use Rattle.mj_tiles.specs.Faces.{texts, text_of, face_of, tile_order, less, in_tile_order}
 use Rattle.mj_tiles.proofs.Texts.{text_of-face_of}
 use Rattle.mj_deeds.specs.declared.answer.Pai.{Pai}
 use Rattle.mj_deeds.specs.declared.answer.Pai.TheVariants.{Known, Hidden}
 use Rattle.mj_deeds.specs.declared.answer.Answer.{Answer}
-use Rattle.mj_deeds.specs.declared.answer.Answer.TheVariants.{Pass, Discard, Unread}
-use Rattle.mj_forms.specs.AnswerForms.{value_of, pai_of, seat_as, seat_in, text_in, pai_in, pass_in, discard_in, answer_in, answer_of}
-use Rattle.mjai_lines.specs.Inner.Spellings.{BeginsWithSeat, pass_front, pass_text, discard_front, tile_front, mark_text, discard_text}
+use Rattle.mj_deeds.specs.declared.answer.Answer.TheVariants.{Pass, Discard, Pon, Reach, Win, Unread}
+use Rattle.mj_forms.specs.AnswerForms.{value_of, pai_of, seat_as, seat_in, text_in, pai_in, pass_in, discard_in, reach_in, win_in, own_in, call_in, pais_in_order, answer_in, answer_of}
+use Rattle.mjai_lines.specs.Inner.Spellings.{BeginsWithSeat, pass_front, pass_text, discard_front, tile_front, mark_text, discard_text, reach_front, reach_text, win_front, target_front, win_text, pon_front, own_front, pon_text}
 use Rattle.mjai_lines.proofs.Texts.{value_of_text}
 
 -- plain texts
@@ -226,3 +226,186 @@ discard_read line after rest behind actor tile drawn pai begins seat middle ends
     let whole : line ≡ discard_text actor tile drawn =
     begins ∙ ap (λ t. discard_front ++ t) (seat.parts ∙ ap (λ t. (48 + actor) ∷ t) (middle ∙ ap (λ t. tile_front ++ t) ends)) in
     discard_of_tile actor tile drawn pai seat.within (sym named) ∙ ap answer_of (sym whole)
+
+-- reaches
+
+abbrev reach_tokens : ℕ → List Token
+reach_tokens actor = begin_object ∷ key (codes "type") ∷ string (codes "reach") ∷ key (codes "actor") ∷ number ((48 + actor) ∷ []) ∷ end_object ∷ []
+
+abbrev reach_value : ℕ → Data
+reach_value actor = object (member (codes "actor") (value.number (unsigned actor)) (member (codes "type") (value.string (codes "reach")) no_members))
+
+reach_printed : (actor : ℕ) → print (reach_tokens actor) ≡ reach_text actor
+unfolding print_from escape_byte reach_text
+reach_printed actor = refl
+
+reach_valued : (actor : ℕ) → number_of ((48 + actor) ∷ []) ≡ Some (unsigned actor) → value_of_tokens (reach_tokens actor) ≡ Some (reach_value actor)
+unfolding json.items json.members json.value
+reach_valued actor is = rw is refl
+
+reach_answer : (actor : ℕ) → actor < 4 → answer_in (reach_value actor) ≡ Some (Reach actor)
+unfolding answer_in text_in reach_in seat_in seat_as
+reach_answer actor within = rw (lt-ltb actor 4 within) refl
+
+reach_of_seat : (actor : ℕ) → actor < 4 → Reach actor ≡ answer_of (reach_text actor)
+unfolding ArePrintable reach_text
+reach_of_seat actor within =
+    let seat = seat_number actor within in
+    answer_of_tokens (reach_text actor) (reach_tokens actor) (reach_value actor) (Reach actor)
+    (ascii_with_seat reach_front (codes "}") actor refl within (ascii_from (codes "}") refl))
+    (tt, (tt, (tt, (tt, (seat.0, (tt, tt)))))) (reach_printed actor) (reach_valued actor seat.1) (reach_answer actor within)
+
+-- A line that is read part by part.
+pub reach_read : (line after rest : List ℕ) (actor : ℕ) →
+    line ≡ reach_front ++ after → BeginsWithSeat after actor rest → rest ≡ codes "}" → Reach actor ≡ answer_of line
+unfolding reach_text
+reach_read line after rest actor begins seat ends =
+    let whole : line ≡ reach_text actor = begins ∙ ap (λ t. reach_front ++ t) (seat.parts ∙ ap (λ t. (48 + actor) ∷ t) ends) in
+    reach_of_seat actor seat.within ∙ ap answer_of (sym whole)
+
+-- wins
+
+abbrev win_tokens : ℕ → ℕ → List ℕ → List Token
+win_tokens actor target tile =
+    begin_object ∷ key (codes "type") ∷ string (codes "hora") ∷ key (codes "actor") ∷ number ((48 + actor) ∷ [])
+    ∷ key (codes "target") ∷ number ((48 + target) ∷ []) ∷ key (codes "pai") ∷ string tile ∷ end_object ∷ []
+
+abbrev win_value : ℕ → ℕ → List ℕ → Data
+win_value actor target tile =
+    object (member (codes "actor") (value.number (unsigned actor)) (member (codes "pai") (value.string tile)
+    (member (codes "target") (value.number (unsigned target)) (member (codes "type") (value.string (codes "hora")) no_members))))
+
+win_printed : (actor target : ℕ) (tile : List ℕ) → escape tile ≡ tile → print (win_tokens actor target tile) ≡ win_text actor target tile
+unfolding print_from escape_byte win_text
+win_printed actor target tile same =
+    ap (λ t. win_front ++ (48 + actor) ∷ (target_front ++ (48 + target) ∷ (tile_front ++ t))) (tile_printed tile (codes "}") same)
+
+win_valued : (actor target : ℕ) (tile : List ℕ) → number_of ((48 + actor) ∷ []) ≡ Some (unsigned actor) → number_of ((48 + target) ∷ []) ≡ Some (unsigned target) →
+    value_of_tokens (win_tokens actor target tile) ≡ Some (win_value actor target tile)
+unfolding json.items json.members json.value
+win_valued actor target tile is at = rw (is, at) refl
+
+win_answer : (actor target : ℕ) (tile : List ℕ) (pai : Pai) →
+    actor < 4 → target < 4 → pai_of tile ≡ Some pai → answer_in (win_value actor target tile) ≡ Some (Win actor target (Some pai))
+unfolding answer_in text_in win_in seat_in seat_as
+win_answer actor target tile pai within at named = rw (lt-ltb actor 4 within, lt-ltb target 4 at, named) refl
+
+win_of_tile : (actor target : ℕ) (tile : List ℕ) (pai : Pai) →
+    actor < 4 → target < 4 → pai_of tile ≡ Some pai → Win actor target (Some pai) ≡ answer_of (win_text actor target tile)
+unfolding ArePrintable win_text
+win_of_tile actor target tile pai within at named =
+    let plain = named_is_plain tile pai named in
+    let seat = seat_number actor within in
+    let other = seat_number target at in
+    let behind = IsAscii-append tile (codes "\"}") (ascii_plain tile plain) (ascii_from (codes "\"}") refl) in
+    let rest = IsAscii-append tile_front (tile ++ codes "\"}") (ascii_from tile_front refl) behind in
+    let middle = ascii_with_seat target_front (tile_front ++ (tile ++ codes "\"}")) target refl at rest in
+    answer_of_tokens (win_text actor target tile) (win_tokens actor target tile) (win_value actor target tile) (Win actor target (Some pai))
+    (ascii_with_seat win_front (target_front ++ (48 + target) ∷ (tile_front ++ (tile ++ codes "\"}"))) actor refl within middle)
+    (tt, (tt, (tt, (tt, (seat.0, (tt, (other.0, (tt, (tt, (tt, tt))))))))))
+    (win_printed actor target tile (escape_plain tile plain)) (win_valued actor target tile seat.1 other.1) (win_answer actor target tile pai within at named)
+
+-- A line that is read part by part.
+pub win_read : (line after middle rest tail behind : List ℕ) (actor target : ℕ) (tile : List ℕ) (pai : Pai) →
+    line ≡ win_front ++ after → BeginsWithSeat after actor middle → middle ≡ target_front ++ rest → BeginsWithSeat rest target tail →
+    tail ≡ tile_front ++ behind → behind ≡ tile ++ codes "\"}" → Some pai ≡ pai_of tile → Win actor target (Some pai) ≡ answer_of line
+unfolding win_text
+win_read line after middle rest tail behind actor target tile pai begins seat between other front ends named =
+    let last : tail ≡ tile_front ++ (tile ++ codes "\"}") = front ∙ ap (λ t. tile_front ++ t) ends in
+    let second : middle ≡ target_front ++ (48 + target) ∷ (tile_front ++ (tile ++ codes "\"}")) =
+    between ∙ ap (λ t. target_front ++ t) (other.parts ∙ ap (λ t. (48 + target) ∷ t) last) in
+    let whole : line ≡ win_text actor target tile = begins ∙ ap (λ t. win_front ++ t) (seat.parts ∙ ap (λ t. (48 + actor) ∷ t) second) in
+    win_of_tile actor target tile pai seat.within other.within (sym named) ∙ ap answer_of (sym whole)
+
+-- pons
+
+abbrev pon_tokens : ℕ → ℕ → List ℕ → List ℕ → List Token
+pon_tokens actor target tile own =
+    begin_object ∷ key (codes "type") ∷ string (codes "pon") ∷ key (codes "actor") ∷ number ((48 + actor) ∷ [])
+    ∷ key (codes "target") ∷ number ((48 + target) ∷ []) ∷ key (codes "pai") ∷ string tile
+    ∷ key (codes "consumed") ∷ begin_array ∷ string own ∷ string own ∷ end_array ∷ end_object ∷ []
+
+abbrev pon_value : ℕ → ℕ → List ℕ → List ℕ → Data
+pon_value actor target tile own =
+    object (member (codes "actor") (value.number (unsigned actor))
+    (member (codes "consumed") (value.array (item (value.string own) (item (value.string own) no_items)))
+    (member (codes "pai") (value.string tile)
+    (member (codes "target") (value.number (unsigned target)) (member (codes "type") (value.string (codes "pon")) no_members)))))
+
+pon_printed : (actor target : ℕ) (tile own : List ℕ) → escape tile ≡ tile → escape own ≡ own → print (pon_tokens actor target tile own) ≡ pon_text actor target tile own
+unfolding print_from escape_byte pon_text
+pon_printed actor target tile own same plain =
+    ap (λ t. pon_front ++ (48 + actor) ∷ (target_front ++ (48 + target) ∷ (tile_front ++ t)))
+    (ap (λ t. (escape tile ++ 34 ∷ []) ++ (own_front ++ ((escape own ++ 34 ∷ []) ++ (codes ",\"" ++ t)))) (tile_printed own (codes "]}") plain)
+    ∙ ap (λ t. (escape tile ++ 34 ∷ []) ++ (own_front ++ t)) (tile_printed own (codes ",\"" ++ (own ++ codes "\"]}")) plain)
+    ∙ tile_printed tile (own_front ++ (own ++ 34 ∷ (codes ",\"" ++ (own ++ codes "\"]}")))) same)
+
+pon_valued : (actor target : ℕ) (tile own : List ℕ) → number_of ((48 + actor) ∷ []) ≡ Some (unsigned actor) → number_of ((48 + target) ∷ []) ≡ Some (unsigned target) →
+    value_of_tokens (pon_tokens actor target tile own) ≡ Some (pon_value actor target tile own)
+unfolding json.items json.members json.value
+pon_valued actor target tile own is at = rw (is, at) refl
+
+-- Two tiles of one face are in tile order.
+twin_tiles : (face : ℕ) → face < 37 → in_tile_order (face ∷ face ∷ []) ≡ face ∷ face ∷ []
+unfolding in_tile_order less tile_order
+twin_tiles face within =
+    (bytes_eq-Decides (in_tile_order (face ∷ face ∷ [])) (face ∷ face ∷ [])).0
+    (passes (λ other. bytes_eq (in_tile_order (other ∷ other ∷ [])) (other ∷ other ∷ [])) 37 face refl within)
+
+twins : (text : List ℕ) (pai : Pai) → pai_of text ≡ Some pai → pais_in_order (pai ∷ pai ∷ []) ≡ pai ∷ pai ∷ []
+unfolding pai_of pais_in_order in_tile_order less tile_order
+twins text pai named = by_mark (bytes_eq text (codes "?")) named
+  where
+    of_some : (a b : Pai) → Some a ≡ Some b → pais_in_order (a ∷ a ∷ []) ≡ a ∷ a ∷ [] → pais_in_order (b ∷ b ∷ []) ≡ b ∷ b ∷ []
+    of_some a b e is = let same : a ≡ b = cc in rw same at is
+
+    by_face : (o : Option ℕ) → face_of text ≡ o → option_map Known o ≡ Some pai → pais_in_order (pai ∷ pai ∷ []) ≡ pai ∷ pai ∷ []
+    by_face None is h = absurd (cc)
+    by_face (Some face) is h = of_some (Known face) pai h (ap (λ tiles. map Known tiles ++ []) (twin_tiles face (text_of-face_of text face is).0))
+
+    by_mark : (b : Bool) → cond b (Some Hidden) (option_map Known (face_of text)) ≡ Some pai → pais_in_order (pai ∷ pai ∷ []) ≡ pai ∷ pai ∷ []
+    by_mark true h = of_some Hidden pai h refl
+    by_mark false h = by_face (face_of text) refl h
+
+pon_answer : (actor target : ℕ) (tile own : List ℕ) (pai pair : Pai) →
+    actor < 4 → target < 4 → pai_of tile ≡ Some pai → pai_of own ≡ Some pair → answer_in (pon_value actor target tile own) ≡ Some (Pon actor target pai pair pair)
+unfolding answer_in text_in call_in own_in seat_in pai_in seat_as
+pon_answer actor target tile own pai pair within at named paired =
+    rw (lt-ltb actor 4 within, lt-ltb target 4 at, named, paired, twins own pair paired) refl
+
+pon_of_texts : (actor target : ℕ) (tile own : List ℕ) (pai pair : Pai) →
+    actor < 4 → target < 4 → pai_of tile ≡ Some pai → pai_of own ≡ Some pair → Pon actor target pai pair pair ≡ answer_of (pon_text actor target tile own)
+unfolding ArePrintable pon_text
+pon_of_texts actor target tile own pai pair within at named paired =
+    let plain = named_is_plain tile pai named in
+    let clear = named_is_plain own pair paired in
+    let seat = seat_number actor within in
+    let other = seat_number target at in
+    let ending = IsAscii-append own (codes "\"]}") (ascii_plain own clear) (ascii_from (codes "\"]}") refl) in
+    let second = IsAscii-append (codes "\",\"") (own ++ codes "\"]}") (ascii_from (codes "\",\"") refl) ending in
+    let first = IsAscii-append own (codes "\",\"" ++ (own ++ codes "\"]}")) (ascii_plain own clear) second in
+    let owned = IsAscii-append (34 ∷ own_front) (own ++ (codes "\",\"" ++ (own ++ codes "\"]}"))) (ascii_from (34 ∷ own_front) refl) first in
+    let tiled = IsAscii-append tile ((34 ∷ own_front) ++ (own ++ (codes "\",\"" ++ (own ++ codes "\"]}")))) (ascii_plain tile plain) owned in
+    let rest = IsAscii-append tile_front (tile ++ ((34 ∷ own_front) ++ (own ++ (codes "\",\"" ++ (own ++ codes "\"]}"))))) (ascii_from tile_front refl) tiled in
+    let middle = ascii_with_seat target_front (tile_front ++ (tile ++ ((34 ∷ own_front) ++ (own ++ (codes "\",\"" ++ (own ++ codes "\"]}")))))) target refl at rest in
+    answer_of_tokens (pon_text actor target tile own) (pon_tokens actor target tile own) (pon_value actor target tile own) (Pon actor target pai pair pair)
+    (ascii_with_seat pon_front (target_front ++ (48 + target) ∷ (tile_front ++ (tile ++ ((34 ∷ own_front) ++ (own ++ (codes "\",\"" ++ (own ++ codes "\"]}"))))))) actor refl within middle)
+    (tt, (tt, (tt, (tt, (seat.0, (tt, (other.0, (tt, (tt, (tt, (tt, (tt, (tt, (tt, (tt, tt)))))))))))))))
+    (pon_printed actor target tile own (escape_plain tile plain) (escape_plain own clear)) (pon_valued actor target tile own seat.1 other.1)
+    (pon_answer actor target tile own pai pair within at named paired)
+
+-- A line that is read part by part.
+pub pon_read : (line after middle rest tail behind third inner fourth last ends : List ℕ) (actor target : ℕ) (tile own twin : List ℕ) (pai pair : Pai) →
+    line ≡ pon_front ++ after → BeginsWithSeat after actor middle → middle ≡ target_front ++ rest → BeginsWithSeat rest target tail →
+    tail ≡ tile_front ++ behind → behind ≡ tile ++ 34 ∷ third → third ≡ own_front ++ inner → inner ≡ own ++ 34 ∷ fourth → fourth ≡ codes ",\"" ++ last → last ≡ twin ++ 34 ∷ ends →
+    twin ≡ own → ends ≡ codes "]}" → Some pai ≡ pai_of tile → Some pair ≡ pai_of own → Pon actor target pai pair pair ≡ answer_of line
+unfolding pon_text
+pon_read line after middle rest tail behind third inner fourth last ends actor target tile own twin pai pair begins seat between other front text owns first parted second same closes named paired =
+    let closing : last ≡ own ++ codes "\"]}" = second ∙ ap (λ t. t ++ 34 ∷ ends) same ∙ ap (λ t. own ++ 34 ∷ t) closes in
+    let pair_is : third ≡ own_front ++ (own ++ 34 ∷ (codes ",\"" ++ (own ++ codes "\"]}"))) =
+    owns ∙ ap (λ t. own_front ++ t) (first ∙ ap (λ t. own ++ 34 ∷ t) (parted ∙ ap (λ t. codes ",\"" ++ t) closing)) in
+    let tile_is : tail ≡ tile_front ++ (tile ++ 34 ∷ (own_front ++ (own ++ 34 ∷ (codes ",\"" ++ (own ++ codes "\"]}"))))) =
+    front ∙ ap (λ t. tile_front ++ t) (text ∙ ap (λ t. tile ++ 34 ∷ t) pair_is) in
+    let whole : line ≡ pon_text actor target tile own =
+    begins ∙ ap (λ t. pon_front ++ t) (seat.parts ∙ ap (λ t. (48 + actor) ∷ t) (between ∙ ap (λ t. target_front ++ t) (other.parts ∙ ap (λ t. (48 + target) ∷ t) tile_is))) in
+    pon_of_texts actor target tile own pai pair seat.within other.within (sym named) (sym paired) ∙ ap answer_of (sym whole)

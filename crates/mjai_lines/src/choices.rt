@@ -1,12 +1,13 @@
 // The answers that a seat may give, as its line lists them.
-ghost use Rattle.std.specs.Prelude.{◌≡◌, ◌∷◌, ◌++◌, map, flat_map, codes, OnOk};
+ghost use Rattle.std.specs.Prelude.{◌≡◌, ◌∷◌, ◌++◌, [], true, None, map, flat_map, codes, OnOk};
 ghost use Rattle.mj_bytes.specs.Adds.{Adds};
+ghost use Rattle.mj_deeds.specs.declared.answer.Answer.TheVariants as answers;
 ghost use Rattle.mj_forms.specs.Lines.{bracketed, joined};
 ghost use Rattle.mj_forms.specs.Choices.{pai_text, type_field, actor_field, target_field, pai_field, consumed_field, tsumogiri_field, answer_text, possible_text, line_with};
 
-use crate::pieces::{push_quoted, push_tile, push_truth};
+use crate::pieces::{push_quoted, push_tile};
 use mj_bytes::{push_all, push_number};
-use mj_deeds::{Answer, Pai};
+use mj_deeds::{Answer, Answers, Pai};
 use std::alloc::AllocError;
 
 // Writes a list of answers into a line, as its last field.
@@ -18,8 +19,48 @@ pub(crate) fn list_answers(line: &mut Vec<u8>, answers: &[Answer]) -> Result<(),
     push_list(line, answers)
 }
 
-// Writes the field with the list, and the end of the line.
+/// Writes a line with a list of answers as its last field in place of a text, whose memory it takes. The only error is want of
+/// memory, and then the text may be any.
+#[tactic(auto, unfolding(mj_forms::specs::Choices::line_with))]
+pub fn write_listed(text: &mut Vec<u8>, line: &[u8], answers: &Answers) -> Result<(), AllocError>
+    ensures { OnOk result (text.new.items ≡ line_with answers.now line.now) }
+{
+    text.clear();
+    let end = line.len().saturating_sub(2);
+    push_all(text, &line[..end])?;
+    push_list(text, answers.as_slice())
+}
+
+// Writes the field with the list, and the end of the line. A pass alone is the list of most seats at most deeds.
 fn push_list(line: &mut Vec<u8>, answers: &[Answer]) -> Result<(), AllocError>
+    ensures { OnOk result (Adds line.old.items line.new.items
+        (codes ",\"possible_actions\":" ++ possible_text answers.now ++ codes "}\n")) }
+{
+    if is_pass_alone(answers) {
+        return push_pass_alone(line);
+    }
+    push_all_listed(line, answers)
+}
+
+// Whether the list is a pass alone, which names no actor.
+fn is_pass_alone(list: &[Answer]) -> bool
+    ensures { result ≡ true → list.now ≡ answers.Pass None ∷ [] }
+{
+    matches!(list, [Answer::Pass { actor: None }])
+}
+
+// Writes the field with a pass alone, and the end of the line.
+fn push_pass_alone(line: &mut Vec<u8>) -> Result<(), AllocError>
+    ensures { OnOk result (Adds line.old.items line.new.items
+        (codes ",\"possible_actions\":" ++ possible_text (answers.Pass None ∷ [])
+        ++ codes "}\n")) }
+{
+    push_all(line, b",\"possible_actions\":[{\"type\":\"none\"}]}\n")?;
+    Ok(())
+}
+
+// Writes the field with the list, whatever it is, and the end of the line.
+fn push_all_listed(line: &mut Vec<u8>, answers: &[Answer]) -> Result<(), AllocError>
     ensures { OnOk result (Adds line.old.items line.new.items
         (codes ",\"possible_actions\":" ++ possible_text answers.now ++ codes "}\n")) }
 {
@@ -61,10 +102,63 @@ fn push_further_answers(line: &mut Vec<u8>, answers: &[Answer]) -> Result<(), Al
         (flat_map (λ other. 44 ∷ other) (map answer_text answers.now))) }
 {
     for answer in answers {
-        push_all(line, b",")?;
-        push_answer(line, answer)?;
+        push_further_answer(line, answer)?;
     }
     Ok(())
+}
+
+// Writes an answer after a comma; of all answers most are discards.
+fn push_further_answer(line: &mut Vec<u8>, answer: &Answer) -> Result<(), AllocError>
+    ensures { OnOk result (Adds line.old.items line.new.items (44 ∷ answer_text answer.now)) }
+{
+    match answer {
+        Answer::Discard { actor, tile, drawn } => {
+            push_further_discard(line, *actor, *tile, *drawn)
+        }
+        other => {
+            push_all(line, b",")?;
+            push_answer(line, other)?;
+            Ok(())
+        }
+    }
+}
+
+// Writes a discard after a comma.
+#[tactic(auto, unfolding(mj_forms::specs::Choices::pai_field))]
+fn push_further_discard(
+    line: &mut Vec<u8>,
+    actor: u8,
+    tile: Pai,
+    drawn: bool,
+) -> Result<(), AllocError>
+    ensures { OnOk result (Adds line.old.items line.new.items
+        (44 ∷ type_field (codes "dahai") ++ actor_field actor ++ pai_field tile
+        ++ tsumogiri_field drawn ++ codes "}")) }
+{
+    push_further_front(line, actor)?;
+    push_pai_text(line, tile)?;
+    push_drawn(line, drawn)?;
+    Ok(())
+}
+
+// Writes a comma, and a discard as far as its tile.
+fn push_further_front(line: &mut Vec<u8>, actor: u8) -> Result<(), AllocError>
+    ensures { OnOk result (Adds line.old.items line.new.items
+        (44 ∷ type_field (codes "dahai") ++ actor_field actor ++ codes ",\"pai\":")) }
+{
+    match actor {
+        0 => push_all(line, b",{\"type\":\"dahai\",\"actor\":0,\"pai\":"),
+        1 => push_all(line, b",{\"type\":\"dahai\",\"actor\":1,\"pai\":"),
+        2 => push_all(line, b",{\"type\":\"dahai\",\"actor\":2,\"pai\":"),
+        3 => push_all(line, b",{\"type\":\"dahai\",\"actor\":3,\"pai\":"),
+        _ => {
+            push_all(line, b",")?;
+            push_discard_type(line)?;
+            push_actor(line, actor)?;
+            push_all(line, b",\"pai\":")?;
+            Ok(())
+        }
+    }
 }
 
 // Writes an answer as an object.
@@ -128,11 +222,19 @@ fn push_discard(line: &mut Vec<u8>, actor: u8, tile: Pai, drawn: bool) -> Result
         (type_field (codes "dahai") ++ actor_field actor ++ pai_field tile
         ++ tsumogiri_field drawn ++ codes "}")) }
 {
-    push_type(line, b"dahai")?;
+    push_discard_type(line)?;
     push_actor(line, actor)?;
     push_pai(line, tile)?;
     push_drawn(line, drawn)?;
-    push_all(line, b"}")?;
+    Ok(())
+}
+
+// Writes the type of a discard: of all answers most are discards.
+#[tactic(auto, unfolding(mj_forms::specs::Choices::type_field))]
+fn push_discard_type(line: &mut Vec<u8>) -> Result<(), AllocError>
+    ensures { OnOk result (Adds line.old.items line.new.items (type_field (codes "dahai"))) }
+{
+    push_all(line, b"{\"type\":\"dahai\"")?;
     Ok(())
 }
 
@@ -254,14 +356,16 @@ fn push_pai(line: &mut Vec<u8>, tile: Pai) -> Result<(), AllocError>
     Ok(())
 }
 
-// Writes whether the tile is the drawn one.
+// Writes whether the tile is the drawn one, and the end of a discard.
 #[tactic(auto, unfolding(mj_forms::specs::Choices::tsumogiri_field))]
 fn push_drawn(line: &mut Vec<u8>, drawn: bool) -> Result<(), AllocError>
-    ensures { OnOk result (Adds line.old.items line.new.items (tsumogiri_field drawn)) }
+    ensures { OnOk result (Adds line.old.items line.new.items
+        (tsumogiri_field drawn ++ codes "}")) }
 {
-    push_all(line, b",\"tsumogiri\":")?;
-    push_truth(line, drawn)?;
-    Ok(())
+    if drawn {
+        return push_all(line, b",\"tsumogiri\":true}");
+    }
+    push_all(line, b",\"tsumogiri\":false}")
 }
 
 // Writes the own tiles of an answer.

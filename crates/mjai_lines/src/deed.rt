@@ -1,11 +1,11 @@
 ghost use Rattle.std.specs.Prelude.{◌≡◌, ◌+◌, ◌<◌, ◌∷◌, ◌++◌, [], OnOk, OnErr, codes, decimal, option_copied};
 ghost use Rattle.mj_bytes.specs.Adds.{Adds};
 ghost use Rattle.mj_forms.specs.Choices.{line_listing};
-ghost use Rattle.mj_forms.specs.Lines.{line as line_for, quoted, bracketed, seat_in_line as seat_written, start_game_line, draw_line, discard_line, call_line, call_object, closed_kan_line, added_kan_line, dora_line, hands_seen, quoted_tile, tile_seen};
+ghost use Rattle.mj_forms.specs.Lines.{line as line_for, quoted, bracketed, seat_in_line as seat_written, start_game_line, draw_line, discard_line, call_line, call_object, closed_kan_line, added_kan_line, dora_line, hands_seen, quoted_tile, tile_seen, truth};
 
 use crate::choices::list_answers;
 use crate::ending::{push_drawn_hand, push_end_game};
-use crate::pieces::{push_quoted, push_tile, push_tile_seen, push_tiles_seen, push_truth};
+use crate::pieces::{push_quoted, push_tile, push_tile_seen, push_tiles_seen};
 use crate::riichi::{push_reach, push_reach_accepted};
 use crate::steps::Steps;
 use crate::winning::{push_changes, push_rest, push_winner, push_worth};
@@ -61,6 +61,20 @@ pub fn write_over(line: &mut Vec<u8>, viewer: Viewer, deed: &Deed) -> Result<(),
 {
     line.clear();
     push_deed(line, viewer, deed)
+}
+
+/// Writes the line of a deed as `write_over` does, and counts one line.
+pub fn write_counted<L: Ledger>(
+    line: &mut Vec<u8>,
+    viewer: Viewer,
+    deed: &Deed,
+    steps: &mut Steps<L>,
+) -> Result<(), AllocError>
+    ensures line { OnOk result (line.new.items ≡ line_for viewer deed.now) }
+    ensures steps { steps.new ≡ steps.old + 1 }
+{
+    steps.take();
+    write_over(line, viewer, deed)
 }
 
 // Writes the line of a deed, counted on a new ledger.
@@ -290,30 +304,75 @@ fn push_hands(line: &mut Vec<u8>, viewer: Viewer, hands: &Hands) -> Result<(), A
 }
 
 // Writes a draw.
+#[tactic(auto, unfolding(mj_forms::specs::Lines::draw_line))]
 fn push_draw(line: &mut Vec<u8>, seat: u8, seen: bool, tile: Tile) -> Result<(), AllocError>
     ensures { OnOk result (Adds line.old.items line.new.items
         (draw_line seat (tile_seen seen tile))) }
 {
-    push_all(line, b"{\"type\":\"tsumo\",\"actor\":")?;
-    push_number(line, u64::from(seat))?;
-    push_all(line, b",\"pai\":")?;
+    push_draw_front(line, seat)?;
     push_tile_seen(line, seen, tile)?;
     push_all(line, b"}\n")?;
     Ok(())
 }
 
+// Writes a draw as far as its tile: of a seat at once, since a hand is mostly draws and discards.
+fn push_draw_front(line: &mut Vec<u8>, seat: u8) -> Result<(), AllocError>
+    ensures { OnOk result (Adds line.old.items line.new.items
+        (codes "{\"type\":\"tsumo\",\"actor\":" ++ decimal seat ++ codes ",\"pai\":")) }
+{
+    match seat {
+        0 => push_all(line, b"{\"type\":\"tsumo\",\"actor\":0,\"pai\":"),
+        1 => push_all(line, b"{\"type\":\"tsumo\",\"actor\":1,\"pai\":"),
+        2 => push_all(line, b"{\"type\":\"tsumo\",\"actor\":2,\"pai\":"),
+        3 => push_all(line, b"{\"type\":\"tsumo\",\"actor\":3,\"pai\":"),
+        _ => {
+            push_all(line, b"{\"type\":\"tsumo\",\"actor\":")?;
+            push_number(line, u64::from(seat))?;
+            push_all(line, b",\"pai\":")?;
+            Ok(())
+        }
+    }
+}
+
 // Writes a discard.
+#[tactic(auto, unfolding(mj_forms::specs::Lines::discard_line))]
 fn push_discard(line: &mut Vec<u8>, seat: u8, tile: Tile, drawn: bool) -> Result<(), AllocError>
     ensures { OnOk result (Adds line.old.items line.new.items (discard_line seat tile drawn)) }
 {
-    push_all(line, b"{\"type\":\"dahai\",\"actor\":")?;
-    push_number(line, u64::from(seat))?;
-    push_all(line, b",\"pai\":")?;
+    push_discard_front(line, seat)?;
     push_tile(line, tile)?;
-    push_all(line, b",\"tsumogiri\":")?;
-    push_truth(line, drawn)?;
-    push_all(line, b"}\n")?;
+    push_mark(line, drawn)?;
     Ok(())
+}
+
+// Writes a discard as far as its tile.
+fn push_discard_front(line: &mut Vec<u8>, seat: u8) -> Result<(), AllocError>
+    ensures { OnOk result (Adds line.old.items line.new.items
+        (codes "{\"type\":\"dahai\",\"actor\":" ++ decimal seat ++ codes ",\"pai\":")) }
+{
+    match seat {
+        0 => push_all(line, b"{\"type\":\"dahai\",\"actor\":0,\"pai\":"),
+        1 => push_all(line, b"{\"type\":\"dahai\",\"actor\":1,\"pai\":"),
+        2 => push_all(line, b"{\"type\":\"dahai\",\"actor\":2,\"pai\":"),
+        3 => push_all(line, b"{\"type\":\"dahai\",\"actor\":3,\"pai\":"),
+        _ => {
+            push_all(line, b"{\"type\":\"dahai\",\"actor\":")?;
+            push_number(line, u64::from(seat))?;
+            push_all(line, b",\"pai\":")?;
+            Ok(())
+        }
+    }
+}
+
+// Writes whether the tile is the drawn one, and the end of a discard.
+fn push_mark(line: &mut Vec<u8>, drawn: bool) -> Result<(), AllocError>
+    ensures { OnOk result (Adds line.old.items line.new.items
+        (codes ",\"tsumogiri\":" ++ truth drawn ++ codes "}\n")) }
+{
+    if drawn {
+        return push_all(line, b",\"tsumogiri\":true}\n");
+    }
+    push_all(line, b",\"tsumogiri\":false}\n")
 }
 
 // Writes a call of a discard, under its type.

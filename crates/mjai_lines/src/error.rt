@@ -105,6 +105,7 @@ fn refusal_number(cause: SitRefused) -> u64
         SitRefused::TooOften => 5,
         SitRefused::Over => 6,
         SitRefused::BadName => 7,
+        SitRefused::NoRoom => 8,
     }
 }
 
@@ -120,5 +121,6 @@ fn refusal_name(cause: SitRefused) -> &'static [u8]
         SitRefused::TooOften => b"TooOften",
         SitRefused::Over => b"Over",
         SitRefused::BadName => b"BadName",
+        SitRefused::NoRoom => b"NoRoom",
     }
 }

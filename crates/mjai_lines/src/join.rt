@@ -25,7 +25,7 @@ pub fn read_join(alloc: Global, line: &[u8]) -> Result<Option<JoinLine>, AllocEr
 
 // The join that a value is.
 #[tactic(auto, unfolding(mj_forms::specs::AnswerForms::join_in))]
-fn join_in(value: &Value) -> Option<JoinLine>
+pub(crate) fn join_in(value: &Value) -> Option<JoinLine>
     ensures { result ≡ join_read (view value.now) }
 {
     if text_in("type", value)? != "join" {

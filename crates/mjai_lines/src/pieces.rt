@@ -1,7 +1,7 @@
 // Pieces of a line: quoted texts, tiles, and lists in brackets.
-ghost use Rattle.std.specs.Prelude.{◌∷◌, map, flat_map, OnOk};
+ghost use Rattle.std.specs.Prelude.{◌∷◌, map, flat_map, replicate, OnOk};
 ghost use Rattle.mj_bytes.specs.Adds.{Adds};
-ghost use Rattle.mj_forms.specs.Lines.{quoted, quoted_tile, tile_seen, joined, bracketed, truth, points_text, shown_tiles};
+ghost use Rattle.mj_forms.specs.Lines.{quoted, quoted_tile, tile_seen, joined, bracketed, truth, points_text, shown_tiles, hidden_tile};
 
 use mj_bytes::{push_all, push_signed};
 use mj_tiles::Tile;
@@ -83,10 +83,25 @@ pub(crate) fn push_tiles_seen(
     ensures { OnOk result (Adds line.old.items line.new.items
         (bracketed (shown_tiles seen tiles.now))) }
 {
+    if !seen && tiles.len() == 13 {
+        return push_hidden_hand(line);
+    }
     push_all(line, b"[")?;
     push_joined(line, seen, tiles)?;
     push_all(line, b"]")?;
     Ok(())
+}
+
+// Writes the thirteen hidden tiles of a hand at its start, in brackets.
+#[tactic(auto, unfolding(mj_forms::specs::Lines::bracketed, mj_forms::specs::Lines::hidden_tile))]
+fn push_hidden_hand(line: &mut Vec<u8>) -> Result<(), AllocError>
+    ensures { OnOk result (Adds line.old.items line.new.items
+        (bracketed (replicate 13 hidden_tile))) }
+{
+    push_all(
+        line,
+        b"[\"?\",\"?\",\"?\",\"?\",\"?\",\"?\",\"?\",\"?\",\"?\",\"?\",\"?\",\"?\",\"?\"]",
+    )
 }
 
 // Writes the tiles as they are seen, with commas between.

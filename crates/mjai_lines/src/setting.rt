@@ -1,8 +1,8 @@
 //! What a header and a wall line say: the rules of a game, and tiles.
 
-ghost use Rattle.std.specs.Prelude.{◌≡◌, ◌≤◌, IfOk, IfSome, codes, option_and_then, option_map};
+ghost use Rattle.std.specs.Prelude.{◌≡◌, ◌≤◌, IfOk, IfSome, MatchOption, codes, option_and_then, option_map};
 ghost use Rattle.mj_bytes.specs.Numbers.{decimal_of};
-ghost use Rattle.mj_bytes.specs.Parts.{fields, behind};
+ghost use Rattle.mj_bytes.specs.Parts.{fields, behind, BeginsWithField, IsOneField};
 ghost use Rattle.mj_forms.specs.Headers.{rules_of, tiles_in, limit_of, switch_of};
 ghost use Rattle.mjai_lines.specs.Settings.{three_of, IsLimited};
 
@@ -33,7 +33,7 @@ pub fn read_tiles(alloc: Global, text: &[u8]) -> Result<Option<Vec<Tile>>, Alloc
 {
     let mut tiles = Vec::with_capacity(alloc, text.len() / 2 + 1)?;
     let mut rest = text;
-    while let Some((field, others)) = split_space(rest) {
+    while let Some((field, others)) = split_tile(rest) {
         let Some(tile) = Tile::read(field) else {
             return Ok(None);
         };
@@ -57,6 +57,22 @@ pub fn three_fields(text: &[u8]) -> Option<(&[u8], &[u8], &[u8])>
     match split_space(third) {
         Some(_) => None,
         None => Some((first, second, third)),
+    }
+}
+
+// The first field of a text and all that follows its space, as `split_space` gives them: a field of one byte or two, as the
+// text of most tiles is, is seen without a search.
+#[tactic(auto, using(crate::proofs::Settings::one_ahead, crate::proofs::Settings::two_ahead))]
+fn split_tile(text: &[u8]) -> Option<(&[u8], &[u8])>
+    ensures { MatchOption result (IsOneField text.now)
+        (λ x. BeginsWithField text.now x.0.now x.1.now) }
+{
+    match text {
+        [first, b' ', rest @ ..] if *first != b' ' => Some((&text[..1], rest)),
+        [first, second, b' ', rest @ ..] if *first != b' ' && *second != b' ' => {
+            Some((&text[..2], rest))
+        }
+        _ => split_space(text),
     }
 }
 

@@ -1,6 +1,7 @@
-// Answers in their usual spelling, which are read without JSON: a pass, and a discard that names its actor, the tile
-// and the mark in this order, each without spaces.
-ghost use Rattle.std.specs.Prelude.{◌≡◌, ◌++◌, IfSome};
+// Answers in their usual spelling, which are read without JSON, each without spaces and with its fields in one order: a pass,
+// a discard by its actor, the tile and the mark, a reach by its actor, a win by its actor, the target and the tile, and a pon
+// by these and two own tiles of one text.
+ghost use Rattle.std.specs.Prelude.{◌≡◌, ◌∷◌, ◌++◌, IfSome};
 ghost use Rattle.mj_forms.specs.AnswerForms.{answer_of};
 ghost use Rattle.mjai_lines.specs.Inner.Spellings.{BeginsWithSeat, mark_text};
 
@@ -13,7 +14,23 @@ pub(crate) fn usual_answer(line: &[u8]) -> Option<Answer>
 {
     match usual_pass(line) {
         Some(answer) => Some(answer),
-        None => usual_discard(line),
+        None => match usual_discard(line) {
+            Some(answer) => Some(answer),
+            None => usual_act(line),
+        },
+    }
+}
+
+// The reach, the win or the pon of a line in its usual spelling.
+fn usual_act(line: &[u8]) -> Option<Answer>
+    ensures { IfSome result (λ answer. answer ≡ answer_of line.now) }
+{
+    match usual_reach(line) {
+        Some(answer) => Some(answer),
+        None => match usual_win(line) {
+            Some(answer) => Some(answer),
+            None => usual_pon(line),
+        },
     }
 }
 
@@ -42,6 +59,76 @@ fn usual_discard(line: &[u8]) -> Option<Answer>
     let (text, drawn) = mark_last(rest)?;
     let tile = pai_of(text)?;
     Some(Answer::Discard { actor, tile, drawn })
+}
+
+// The reach of a line in its usual spelling.
+fn usual_reach(line: &[u8]) -> Option<Answer>
+    ensures { IfSome result (λ answer. answer ≡ answer_of line.now) }
+{
+    let rest = line.strip_prefix(b"{\"type\":\"reach\",\"actor\":")?;
+    let (actor, rest) = seat_first(rest)?;
+    if rest == b"}".as_slice() {
+        return Some(Answer::Reach { actor });
+    }
+    None
+}
+
+// The win of a line in its usual spelling.
+fn usual_win(line: &[u8]) -> Option<Answer>
+    ensures { IfSome result (λ answer. answer ≡ answer_of line.now) }
+{
+    let rest = line.strip_prefix(b"{\"type\":\"hora\",\"actor\":")?;
+    let (actor, rest) = seat_first(rest)?;
+    let rest = rest.strip_prefix(b",\"target\":")?;
+    let (target, rest) = seat_first(rest)?;
+    let rest = rest.strip_prefix(b",\"pai\":\"")?;
+    let text = rest.strip_suffix(b"\"}")?;
+    let tile = pai_of(text)?;
+    Some(Answer::Win {
+        actor,
+        target,
+        tile: Some(tile),
+    })
+}
+
+// The pon of a line in its usual spelling, of two tiles of one text.
+fn usual_pon(line: &[u8]) -> Option<Answer>
+    ensures { IfSome result (λ answer. answer ≡ answer_of line.now) }
+{
+    let rest = line.strip_prefix(b"{\"type\":\"pon\",\"actor\":")?;
+    let (actor, rest) = seat_first(rest)?;
+    let rest = rest.strip_prefix(b",\"target\":")?;
+    let (target, rest) = seat_first(rest)?;
+    let rest = rest.strip_prefix(b",\"pai\":\"")?;
+    let (text, rest) = text_first(rest)?;
+    let rest = rest.strip_prefix(b",\"consumed\":[\"")?;
+    let (first, rest) = text_first(rest)?;
+    let rest = rest.strip_prefix(b",\"")?;
+    let (second, rest) = text_first(rest)?;
+    let tile = pai_of(text)?;
+    let own = pai_of(first)?;
+    let twin = own;
+    if second == first && rest == b"]}".as_slice() {
+        return Some(Answer::Pon {
+            actor,
+            target,
+            tile,
+            a: own,
+            b: twin,
+        });
+    }
+    None
+}
+
+// A text of a letter or two before a quotation mark, and what stands after that.
+fn text_first(text: &[u8]) -> Option<(&[u8], &[u8])>
+    ensures { IfSome result (λ x. text.now ≡ x.0.now ++ 34 ∷ x.1.now) }
+{
+    match text {
+        [_, b'"', rest @ ..] => Some((&text[..1], rest)),
+        [_, _, b'"', rest @ ..] => Some((&text[..2], rest)),
+        _ => None,
+    }
 }
 
 // The seat that a text begins with, and the rest after it.

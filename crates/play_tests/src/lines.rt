@@ -3,8 +3,8 @@
 use crate::deed_words::{answer, deed};
 use crate::views::viewer_of;
 use mj_deeds::{Answer, Deed, Rule, Viewer};
-use mj_ports::{JoinLine, SitRefused};
-use mjai_lines::{error_line, read_answer, read_join, refusal_line, write_alone};
+use mj_ports::{JoinLine, Picked, SitRefused};
+use mjai_lines::{error_line, read_answer, read_join, read_room, refusal_line, write_alone};
 use std::alloc::Global;
 
 /// A viewer, a seat or the record, a deed, and its line. A start of a hand shows a seat its own tiles alone and the record
@@ -75,10 +75,15 @@ const RULES: [Rule; 3] = [Rule::NotHeld, Rule::Unreadable, Rule::NotNine];
 const ERRORS: &[u8] =
     b"{\"type\":\"error\",\"rule\":7,\"message\":\"NotHeld\"}\n{\"type\":\"error\",\"rule\":1,\"message\":\"Unreadable\"}\n{\"type\":\"error\",\"rule\":24,\"message\":\"NotNine\"}\n";
 
-const CAUSES: [SitRefused; 3] = [SitRefused::Full, SitRefused::WrongKey, SitRefused::BadName];
+const CAUSES: [SitRefused; 4] = [
+    SitRefused::Full,
+    SitRefused::WrongKey,
+    SitRefused::BadName,
+    SitRefused::NoRoom,
+];
 
 const REFUSALS: &[u8] =
-    b"{\"type\":\"error\",\"sit\":1,\"message\":\"Full\"}\n{\"type\":\"error\",\"sit\":3,\"message\":\"WrongKey\"}\n{\"type\":\"error\",\"sit\":7,\"message\":\"BadName\"}\n";
+    b"{\"type\":\"error\",\"sit\":1,\"message\":\"Full\"}\n{\"type\":\"error\",\"sit\":3,\"message\":\"WrongKey\"}\n{\"type\":\"error\",\"sit\":7,\"message\":\"BadName\"}\n{\"type\":\"error\",\"sit\":8,\"message\":\"NoRoom\"}\n";
 
 fn are_errors(alloc: Global, rules: &[Rule], lines: &[u8]) -> bool {
     let mut written = Vec::new(alloc);
@@ -185,5 +190,47 @@ fn is_named(join: &JoinLine, told: &str) -> bool {
 fn a_join_has_a_name_and_perhaps_a_key(rt: HostRuntime) {
     for row in JOINS.lines() {
         assert!(rt; is_join(rt.alloc(), row) == Some(true), "{row}");
+    }
+}
+
+/// A line, and the number of the table, one of three, that it is for.
+const ROOMS: &str = "\
+{\"type\":\"join\",\"name\":\"a\"}=0
+{\"type\":\"join\",\"name\":\"a\",\"room\":\"default\"}=0
+{\"type\":\"join\",\"name\":\"a\",\"room\":\"room1\"}=0
+{\"room\":\"room2\",\"key\":\"k\",\"name\":\"a\",\"type\":\"join\"}=1
+{\"type\":\"join\",\"name\":\"a\",\"room\":\"room\\u0033\"}=2
+{\"type\":\"join\",\"name\":\"a\",\"room\":\"room4\"}=no room
+{\"type\":\"join\",\"name\":\"a\",\"room\":\"room0\"}=no room
+{\"type\":\"join\",\"name\":\"a\",\"room\":\"room01\"}=no room
+{\"type\":\"join\",\"name\":\"a\",\"room\":\"Room1\"}=no room
+{\"type\":\"join\",\"name\":\"a\",\"room\":1}=no room
+{\"type\":\"join\",\"name\":\"\",\"room\":\"room4\"}=no name
+{\"type\":\"none\",\"name\":\"a\",\"room\":\"room1\"}=no name
+join room1=no name";
+
+fn is_picked(alloc: Global, row: &str) -> Option<bool> {
+    let (line, told) = row.split_once('=')?;
+    match read_room(alloc, line.as_bytes(), 3) {
+        Ok(picked) => Some(picked == table(told)?),
+        Err(_) => None,
+    }
+}
+
+fn table(told: &str) -> Option<Picked> {
+    match told {
+        "no name" => Some(Picked::BadName),
+        "no room" => Some(Picked::NoRoom),
+        "0" => Some(Picked::Table(0)),
+        "1" => Some(Picked::Table(1)),
+        "2" => Some(Picked::Table(2)),
+        _ => None,
+    }
+}
+
+#[test]
+fn a_join_is_for_the_table_whose_room_it_names(rt: HostRuntime) {
+    for row in ROOMS.lines() {
+        assert!(rt; is_picked(rt.alloc(), row) == Some(true), "{row}");
     }
 }

@@ -1,5 +1,4 @@
-use Rattle.mjai_lines.proofs.Chains.{◌▸◌}
 use Rattle.mjai_lines.proofs.choices.push_list.Goals as goal
 
-pub returns : goal.returns
-returns c = c.in_ok-push_all.ensures.ok ▸ c.in_ok-push_answers.ensures ▸ c.in_ok-push_all-2.ensures.ok
+pub returns-then-is_pass_alone : goal.returns-then-is_pass_alone
+returns-then-is_pass_alone c = rw (c.is_pass_alone.ensures c.if-is_pass_alone.true) c.push_pass_alone.ensures

@@ -1,16 +1,14 @@
-use Rattle.std.proofs.Common.{ap}
-use Rattle.std.specs.Prelude.{decimal}
-use Rattle.mj_forms.specs.Lines.{discard_line}
+use Rattle.std.proofs.Common.{ℕ, List, ◌++◌, append_assoc, sym, ◌∙◌}
+use Rattle.std.specs.Prelude.{codes, decimal}
+use Rattle.mj_forms.specs.Lines.{discard_line, quoted_tile, truth}
 use Rattle.mjai_lines.proofs.Chains.{◌▸◌, as_piece}
 use Rattle.mjai_lines.proofs.deed.push_discard.Goals as goal
 
 pub returns : goal.returns
 unfolding discard_line
 returns c =
-    c.in_ok-push_all.ensures.ok
-    ▸ as_piece (ap decimal c.from.ensures) c.in_ok-push_number.ensures.ok
-    ▸ c.in_ok-push_all-2.ensures.ok
-    ▸ c.in_ok-push_tile.ensures
-    ▸ c.in_ok-push_all-3.ensures.ok
-    ▸ c.in_ok-push_truth.ensures
-    ▸ c.in_ok-push_all-4.ensures.ok
+    let front : List ℕ = codes "{\"type\":\"dahai\",\"actor\":" ++ decimal c.args.seat ++ codes ",\"pai\":" ++ quoted_tile c.args.tile in
+    as_piece
+    (sym (append_assoc (front ++ codes ",\"tsumogiri\":") (truth c.args.drawn) (codes "}\n")
+    ∙ append_assoc front (codes ",\"tsumogiri\":") (truth c.args.drawn ++ codes "}\n")))
+    (c.in_ok-push_discard_front.ensures ▸ c.in_ok-push_tile.ensures ▸ c.in_ok-push_mark.ensures)
