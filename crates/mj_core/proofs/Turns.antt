@@ -1,6 +1,7 @@
 -- What a state does with what comes, over what its code holds.
 use Rattle.std.proofs.Common.{◌≡◌, ℕ, ◌<◌, ◌≤◌, ◌&&◌, List, [], ◌∷◌, ◌++◌, length, get_or, Bool, true, false, refl, ap, ◌∙◌, sym, subst, arith}
 use Rattle.std.specs.Prelude.{Option, Some, None, is_some, slice_get, slice_set}
+use Rattle.std.proofs.lemmas.Bool.{and_parts}
 use Rattle.mj_ports.specs.declared.entry.Entry.TheVariants.{Back, Gone, Expired}
 use Rattle.mj_ports.specs.declared.sitting.JoinLine.{JoinLine}
 use Rattle.mj_seating.specs.declared.desk.Placed.{Placed}
@@ -27,17 +28,19 @@ pub settled : (setting : Setting) (old mid : Position) (seat place : ℕ) (desk 
     → Settles setting (changed old desk (slice_set old.players seat player) slots) (position mid.rules mid.deeds desk (slice_set mid.players place player) empty_slots)
 settled setting old mid seat place desk player slots c m at h a =
     settles-closed setting old (position mid.rules mid.deeds desk (slice_set mid.players place player) empty_slots) seat desk player slots a.deed m c
-    (and_left (is_some (open_window old.deeds)) (closes slots (presence_at desk)) h) (and_right (is_some (open_window old.deeds)) (closes slots (presence_at desk)) h) a.adds.follows
+    (and_parts (is_some (open_window old.deeds)) (closes slots (presence_at desk)) h).0 (and_parts (is_some (open_window old.deeds)) (closes slots (presence_at desk)) h).1 a.adds.follows
     (ap (λ (n : ℕ). position mid.rules mid.deeds desk (slice_set mid.players n player) empty_slots) at
     ∙ ap (λ (p : Position). position p.rules p.deeds desk (slice_set p.players seat player) empty_slots) a.adds.new_is)
-  where
-    and_left : (a b : Bool) → (a && b) ≡ true → a ≡ true
-    and_left true b e = refl
-    and_left false b e = e
 
-    and_right : (a b : Bool) → (a && b) ≡ true → b ≡ true
-    and_right true b e = e
-    and_right false b e = cc
+-- The same of a seat that stays at the desk as it is.
+pub settled_here : (setting : Setting) (old mid : Position) (seat place : ℕ) (player : Player) (slots : Four (Option Answer)) → CanSettle setting old seat old.desk player slots → length old.players ≡ length old.desk → place ≡ seat
+    → (is_some (open_window old.deeds) && closes slots (presence_at old.desk)) ≡ true → Advances setting old mid slots
+    → Settles setting (changed old old.desk (slice_set old.players seat player) slots) (position mid.rules mid.deeds mid.desk (slice_set mid.players place player) empty_slots)
+settled_here setting old mid seat place player slots c m at h a =
+    settles-closed setting old (position mid.rules mid.deeds mid.desk (slice_set mid.players place player) empty_slots) seat old.desk player slots a.deed m c
+    (and_parts (is_some (open_window old.deeds)) (closes slots (presence_at old.desk)) h).0 (and_parts (is_some (open_window old.deeds)) (closes slots (presence_at old.desk)) h).1 a.adds.follows
+    (ap (λ (n : ℕ). position mid.rules mid.deeds mid.desk (slice_set mid.players n player) empty_slots) at
+    ∙ ap (λ (p : Position). position p.rules p.deeds p.desk (slice_set p.players seat player) empty_slots) a.adds.new_is)
 
 -- The time of the open window has run out.
 pub expired : (setting : Setting) (old mid : Position) → CanExpire setting old → Advances setting old mid old.slots → (author window t1 t2 : ℕ)

@@ -16,7 +16,7 @@ use crate::chair::Chair;
 use crate::verdict::Verdict;
 use crate::window::{answers_in, slots_after};
 use mj_deeds::{Answer, Answers, Deed, Four};
-use mj_judge::possible;
+use mj_judge::possible_over;
 use mj_machine::next;
 use mj_ports::{JoinLine, Name};
 use mj_seating::{Desk, Placed};
@@ -26,14 +26,19 @@ use mj_wall::{Rules, Setting};
 use mj_window::Window;
 use std::alloc::{AllocError, Global};
 use std::marker::Model;
+use std::mem;
 
 // What the entries of a game come to: the deeds so far, the table that they make and the lines that the seats are told of
-// them, the seats as they are held and how far each has come, and the window on the newest deed.
+// them, the seats as they are held and how far each has come, and the window on the newest deed. A second table stands by: a
+// deed is added to it, made the same as the first, and they change places once the deed is told, since that may want memory.
 #[derive(Drop)]
 pub struct State {
     table: Table,
+    spare: Table,
     deeds: Vec<Deed>,
     streams: Streams,
+    // the answers that each seat may give to the deed that was told last, kept for their memory alone
+    lists: Four<Answers>,
     desk: Desk,
     chairs: Vec<Chair>,
     window: Window,
@@ -61,10 +66,19 @@ impl State {
     pub fn new(alloc: Global, rules: Rules) -> Result<State, AllocError>
         ensures { IfOk result (λ state. state ≡ nobody rules) }
     {
+        let table = Table::new(rules)?;
+        let spare = table.copy()?;
         Ok(State {
-            table: Table::new(rules)?,
+            table,
+            spare,
             deeds: Vec::new(alloc),
             streams: Streams::new(alloc)?,
+            lists: Four {
+                first: Answers::pass_alone(),
+                second: Answers::pass_alone(),
+                third: Answers::pass_alone(),
+                fourth: Answers::pass_alone(),
+            },
             desk: Desk::new(),
             chairs: Vec::with_capacity(alloc, 4)?,
             window: Window::new(),
@@ -154,11 +168,11 @@ impl State {
             let deed = Deed::StartGame {
                 names: names(&desk),
             };
-            let mut table = self.table.copy()?;
-            table.push(&deed)?;
-            let possible = possible_of(alloc, &table)?;
-            self.streams.push_alone(alloc, &deed, &possible)?;
-            self.table = table;
+            self.table.copy_over(&mut self.spare)?;
+            self.spare.push(&deed)?;
+            list_possible(alloc, &self.spare, &mut self.lists)?;
+            self.streams.push_alone(alloc, &deed, &self.lists)?;
+            mem::swap(&mut self.table, &mut self.spare);
             self.deeds.push_reserved(deed);
             self.chairs.push_reserved(Chair::new(author));
             self.desk = desk;
@@ -188,7 +202,7 @@ impl State {
         let mut chair = self.chairs[usize::from(seat)];
         chair.come_back(author, self.due_on_return(seat));
         let window = self.window;
-        self.settle(alloc, setting, seat, desk, chair, window)
+        self.settle(alloc, setting, seat, &desk, chair, &window)
     }
 
     // The deed that a seat answers next where it comes back: the newest one where its slot is empty, else the one after
@@ -219,9 +233,13 @@ impl State {
         let mut chair = self.chairs[usize::from(seat)];
         let verdict = chair.verdict(&self.table, self.deeds.len(), seat, answer);
         chair.go_on(&verdict);
-        let desk = desk_after(&self.desk, &verdict, seat);
         let window = slots_after(&self.window, &verdict, seat, answer);
-        self.settle(alloc, setting, seat, desk, chair, window)?;
+        if !verdict.is_closing() {
+            self.settle_here(alloc, setting, seat, chair, &window)?;
+            return Ok(verdict);
+        }
+        let desk = desk_after(&self.desk, &verdict, seat);
+        self.settle(alloc, setting, seat, &desk, chair, &window)?;
         Ok(verdict)
     }
 
@@ -237,7 +255,7 @@ impl State {
         let mut chair = self.chairs[usize::from(seat)];
         chair.leave();
         let window = self.window;
-        self.settle(alloc, setting, seat, desk, chair, window)
+        self.settle(alloc, setting, seat, &desk, chair, &window)
     }
 
     // The time of the open window has run out.
@@ -259,25 +277,52 @@ impl State {
         alloc: Global,
         setting: &Setting,
         seat: u8,
-        desk: Desk,
+        desk: &Desk,
         chair: Chair,
-        window: Window,
+        window: &Window,
     ) -> Result<(), AllocError>
-        requires { CanSettle setting.now self.old seat desk chair window }
+        requires { CanSettle setting.now self.old seat desk.now chair window.now }
         ensures ok { OnOk result (Settles setting.now
-            (changed self.old desk (slice_set self.old.players seat chair) window) self.new) }
+            (changed self.old desk.now (slice_set self.old.players seat chair) window.now)
+            self.new) }
         ensures err { OnErr result (self.new ≡ self.old) }
     {
-        if self.is_closed(&desk, &window) {
-            self.advance(alloc, setting, &window)?;
+        if self.is_closed(desk, window) {
+            self.advance(alloc, setting, window)?;
             self.chairs[usize::from(seat)] = chair;
-            self.desk = desk;
+            self.desk = *desk;
             self.window = Window::new();
             return Ok(());
         }
         self.chairs[usize::from(seat)] = chair;
-        self.desk = desk;
-        self.window = window;
+        self.desk = *desk;
+        self.window = *window;
+        Ok(())
+    }
+
+    // The same of a seat that stays at the desk as it is.
+    fn settle_here(
+        &mut self,
+        alloc: Global,
+        setting: &Setting,
+        seat: u8,
+        chair: Chair,
+        window: &Window,
+    ) -> Result<(), AllocError>
+        requires { CanSettle setting.now self.old seat self.old.desk chair window.now }
+        ensures ok { OnOk result (Settles setting.now
+            (changed self.old self.old.desk (slice_set self.old.players seat chair) window.now)
+            self.new) }
+        ensures err { OnErr result (self.new ≡ self.old) }
+    {
+        if self.is_closed(&self.desk, window) {
+            self.advance(alloc, setting, window)?;
+            self.chairs[usize::from(seat)] = chair;
+            self.window = Window::new();
+            return Ok(());
+        }
+        self.chairs[usize::from(seat)] = chair;
+        self.window = *window;
         Ok(())
     }
 
@@ -304,26 +349,25 @@ impl State {
     {
         self.deeds.reserve(1)?;
         let answers = answers_in(&self.table, window);
-        let mut table = self.table.copy()?;
-        let deed = next(alloc, &mut table, setting.walls.as_slice(), &answers)?;
-        let possible = possible_of(alloc, &table)?;
-        self.streams.push_alone(alloc, &deed, &possible)?;
-        self.table = table;
+        self.table.copy_over(&mut self.spare)?;
+        let deed = next(alloc, &mut self.spare, setting.walls.as_slice(), &answers)?;
+        list_possible(alloc, &self.spare, &mut self.lists)?;
+        self.streams.push_alone(alloc, &deed, &self.lists)?;
+        mem::swap(&mut self.table, &mut self.spare);
         self.deeds.push_reserved(deed);
         Ok(())
     }
 }
 
-// What each of the four seats may answer to the newest deed of a table.
-fn possible_of(alloc: Global, table: &Table) -> Result<Four<Answers>, AllocError>
-    ensures { IfOk result (λ lists. lists ≡ possible_of_all table.now.rules table.now.deeds) }
+// What each of the four seats may answer to the newest deed of a table, in place of four lists.
+fn list_possible(alloc: Global, table: &Table, lists: &mut Four<Answers>) -> Result<(), AllocError>
+    ensures { OnOk result (lists.new ≡ possible_of_all table.now.rules table.now.deeds) }
 {
-    Ok(Four {
-        first: possible(alloc, table, 0)?,
-        second: possible(alloc, table, 1)?,
-        third: possible(alloc, table, 2)?,
-        fourth: possible(alloc, table, 3)?,
-    })
+    possible_over(alloc, table, 0, &mut lists.first)?;
+    possible_over(alloc, table, 1, &mut lists.second)?;
+    possible_over(alloc, table, 2, &mut lists.third)?;
+    possible_over(alloc, table, 3, &mut lists.fourth)?;
+    Ok(())
 }
 
 // The desk once an answer of a seat has this verdict: one that is refused for good makes the seat leave.

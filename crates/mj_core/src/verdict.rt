@@ -1,3 +1,8 @@
+ghost use Rattle.std.specs.Prelude.{◌≡◌, ℕ, List, false};
+ghost use Rattle.mj_seating.specs.Sitting.{Occupant};
+ghost use Rattle.mj_core.specs.Inner.States.{desk_after};
+ghost use Rattle.mj_core.specs.Inner.Verdicts.{verdict_given};
+
 use mj_deeds::Rule;
 
 // The verdict on an answer.
@@ -7,4 +12,19 @@ pub enum Verdict {
     Late,
     Refused(Rule),
     Closing(Rule),
+}
+
+impl Verdict {
+    // Whether the answer is refused for good. Any other leaves the desk as it is.
+    pub fn is_closing(&self) -> bool
+        ensures { result ≡ false → (desk : List Occupant) (seat : ℕ)
+            → desk ≡ desk_after (verdict_given self.now) desk seat }
+    {
+        match self {
+            Verdict::Taken => false,
+            Verdict::Late => false,
+            Verdict::Refused(_) => false,
+            Verdict::Closing(_) => true,
+        }
+    }
 }

@@ -104,7 +104,7 @@ impl Desk {
     pub fn present(&self, seat: u8) -> bool
         ensures { result ≡ is_present_at self.now seat }
     {
-        match self.at(seat) {
+        match self.taken().get(usize::from(seat)) {
             Some(held) => held.present,
             None => false,
         }

@@ -31,5 +31,6 @@ pub(crate) struct Stream {
     pub(crate) full: Vec<Page>,
     pub(crate) page: Vec<u8>,
     pub(crate) places: Vec<Place>,
+    pub(crate) text: Vec<u8>,
     ghost kept: { IsKept full.items page.items places.items },
 }

@@ -1,8 +1,11 @@
 ghost use Rattle.std.specs.Prelude.{◌≡◌, ◌+◌, ◌≤◌, Decides, [], ◌∷◌, ◌++◌, length, vec_len, vec_capacity, unwrap_or, slice_get, IfOk, OnOk, option_copied};
+ghost use Rattle.mj_forms.specs.Choices.{line_with};
 ghost use Rattle.mj_streams.specs.Inner.Pages.{Fits};
 ghost use Rattle.mj_streams.specs.Inner.Told.{told, HasRoom};
 
 use crate::pages::{Page, Place, Stream};
+use mj_deeds::Answers;
+use mjai_lines::write_listed;
 use std::alloc::{AllocError, Global};
 use std::mem;
 
@@ -19,12 +22,30 @@ impl Stream {
             full: Vec::new(alloc),
             page,
             places: Vec::new(alloc),
+            text: Vec::new(alloc),
         })
     }
 
-    // Takes the memory that a line of so many bytes wants. A page is turned only where the line does not fit it.
-    pub(crate) fn make_room(&mut self, alloc: Global, len: usize) -> Result<(), AllocError>
+    // Writes a line into the text, with the answers that it lists, and takes the memory that it wants on the page.
+    pub(crate) fn prepare(
+        &mut self,
+        alloc: Global,
+        line: &[u8],
+        answers: &Answers,
+    ) -> Result<(), AllocError>
         ensures lines { told self.new ≡ told self.old }
+        ensures text { OnOk result (self.new.text.items ≡ line_with answers.now line.now) }
+        ensures room { OnOk result (HasRoom self.new (vec_len self.new.text)) }
+    {
+        write_listed(&mut self.text, line, answers)?;
+        let len = self.text.len();
+        self.make_room(alloc, len)
+    }
+
+    // Takes the memory that a line of so many bytes wants. A page is turned only where the line does not fit it.
+    fn make_room(&mut self, alloc: Global, len: usize) -> Result<(), AllocError>
+        ensures lines { told self.new ≡ told self.old }
+        ensures text { self.new.text ≡ self.old.text }
         ensures room { OnOk result (HasRoom self.new len) }
         ensures pages { Fits self.old.page.items len → self.new.full.items ≡ self.old.full.items }
     {
@@ -40,12 +61,14 @@ impl Stream {
     fn turn_page(&mut self, alloc: Global) -> Result<(), AllocError>
         ensures lines { told self.new ≡ told self.old }
         ensures places { self.new.places ≡ self.old.places }
+        ensures text { self.new.text ≡ self.old.text }
         ensures empty { OnOk result (self.new.page.items ≡ []) }
     {
         let Stream {
             full,
             page,
             places: _,
+            text: _,
         } = self;
         full.reserve(1)?;
         let empty = Vec::with_capacity(alloc, PAGE)?;
@@ -53,14 +76,19 @@ impl Stream {
         Ok(())
     }
 
-    // Adds a line, for which there is room.
-    pub(crate) fn add(&mut self, line: &[u8])
-        requires { HasRoom self.old (length line.now) }
-        ensures { told self.new ≡ told self.old ++ line.now ∷ [] }
+    // Adds the line that stands in the text, for which there is room.
+    pub(crate) fn add(&mut self)
+        requires { HasRoom self.old (vec_len self.old.text) }
+        ensures { told self.new ≡ told self.old ++ self.old.text.items ∷ [] }
     {
-        let Stream { full, page, places } = self;
+        let Stream {
+            full,
+            page,
+            places,
+            text,
+        } = self;
         let start = page.len();
-        write_behind(page, line);
+        write_behind(page, text.as_slice());
         places.push_reserved(Place {
             page: full.len(),
             start,

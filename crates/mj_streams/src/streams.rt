@@ -2,24 +2,27 @@ ghost use Rattle.std.specs.Prelude.{◌≡◌, ◌≤◌, ◌<◌, ◌+◌, IfOk
 ghost use Rattle.mj_deeds.specs.declared.deed.Viewer.TheVariants.{Seat};
 ghost use Rattle.mj_deeds.specs.Four.{at_seat};
 ghost use Rattle.mj_forms.specs.Lines.{line as line_for};
-ghost use Rattle.mj_forms.specs.Choices.{line_with};
+ghost use Rattle.mj_streams.specs.Inner.Alike.{are_told_alike};
 ghost use Rattle.mj_streams.specs.Streams.{no_lines, with_deed};
 
 use crate::pages::Stream;
 use mj_deeds::{Answers, Deed, Four, Viewer};
-use mjai_lines::{Steps, write};
+use mjai_lines::{Steps, write_counted};
 use std::alloc::{AllocError, Global};
 use std::marker::{Brand, Model};
 use std::sync::ledger::{Blank, Ledger};
 
 /// The deeds of a game as the seats are told of them: the line of each deed for each seat with the answers that the seat may
-/// give to it, which was rendered once, as the deed was pushed. Neither the deeds nor the lists are kept.
+/// give to it, which was rendered once, as the deed was pushed: once for all seats that are told the same, and then with the
+/// list of each. Neither the deeds nor the lists are kept.
 #[derive(Drop)]
 pub struct Streams {
     first: Stream,
     second: Stream,
     third: Stream,
     fourth: Stream,
+    // the newest deed's line for one seat, as it is written without a list
+    front: Vec<u8>,
 }
 
 impl Model for Streams {
@@ -51,11 +54,12 @@ impl Streams {
             second,
             third,
             fourth,
+            front: Vec::new(alloc),
         })
     }
 
-    /// Adds a deed with the answers that each seat may give to it; its line is rendered once for each seat, and no other. Where
-    /// memory is wanting nothing changes but the counter.
+    /// Adds a deed with the answers that each seat may give to it; its line is rendered once for each seat at most, and no other.
+    /// Where memory is wanting nothing changes but the counter.
     pub fn push<L: Ledger>(
         &mut self,
         alloc: Global,
@@ -67,18 +71,22 @@ impl Streams {
         ensures err { OnErr result (self.new ≡ self.old) }
         ensures steps { steps.new ≤ steps.old + 4 }
     {
-        let first = rendered(alloc, 0, deed, &possible.first, steps)?;
-        let second = rendered(alloc, 1, deed, &possible.second, steps)?;
-        let third = rendered(alloc, 2, deed, &possible.third, steps)?;
-        let fourth = rendered(alloc, 3, deed, &possible.fourth, steps)?;
-        self.first.make_room(alloc, first.len())?;
-        self.second.make_room(alloc, second.len())?;
-        self.third.make_room(alloc, third.len())?;
-        self.fourth.make_room(alloc, fourth.len())?;
-        self.first.add(first.as_slice());
-        self.second.add(second.as_slice());
-        self.third.add(third.as_slice());
-        self.fourth.add(fourth.as_slice());
+        write_counted(&mut self.front, Viewer::Seat(0), deed, steps)?;
+        self.first
+            .prepare(alloc, self.front.as_slice(), &possible.first)?;
+        turn(&mut self.front, 0, 1, deed, steps)?;
+        self.second
+            .prepare(alloc, self.front.as_slice(), &possible.second)?;
+        turn(&mut self.front, 1, 2, deed, steps)?;
+        self.third
+            .prepare(alloc, self.front.as_slice(), &possible.third)?;
+        turn(&mut self.front, 2, 3, deed, steps)?;
+        self.fourth
+            .prepare(alloc, self.front.as_slice(), &possible.fourth)?;
+        self.first.add();
+        self.second.add();
+        self.third.add();
+        self.fourth.add();
         Ok(())
     }
 
@@ -109,28 +117,35 @@ impl Streams {
     }
 }
 
-// The line of a deed for a seat, with the answers that the seat may give to it.
-fn rendered<L: Ledger>(
-    alloc: Global,
+// From the line of a deed for a seat, that for another: it stays where the two are told the same.
+fn turn<L: Ledger>(
+    line: &mut Vec<u8>,
     seat: u8,
+    next: u8,
     deed: &Deed,
-    possible: &Answers,
     steps: &mut Steps<L>,
-) -> Result<Vec<u8>, AllocError>
-    ensures line { IfOk result (λ text. text.items
-        ≡ line_with possible.now (line_for (Seat seat) deed.now)) }
-    ensures steps { steps.new ≡ steps.old + 1 }
+) -> Result<(), AllocError>
+    requires { line.old.items ≡ line_for (Seat seat) deed.now }
+    ensures line { OnOk result (line.new.items ≡ line_for (Seat next) deed.now) }
+    ensures steps { steps.new ≤ steps.old + 1 }
 {
-    let mut text = Vec::new(alloc);
-    write(
-        alloc,
-        Viewer::Seat(seat),
-        deed,
-        Some(possible),
-        &mut text,
-        steps,
-    )?;
-    Ok(text)
+    if are_told_alike(seat, next, deed) {
+        return Ok(());
+    }
+    write_counted(line, Viewer::Seat(next), deed, steps)
+}
+
+// Whether two seats are told the same of a deed: the start of a game tells each its number, that of a hand its tiles, and a
+// draw is seen by its seat alone. All else hides nothing from a seat that another sees.
+fn are_told_alike(seat: u8, other: u8, deed: &Deed) -> bool
+    ensures { result ≡ are_told_alike seat other deed.now }
+{
+    match deed {
+        Deed::StartGame { .. } => false,
+        Deed::StartHand { .. } => false,
+        Deed::Draw { seat: who, .. } => *who != seat && *who != other,
+        _ => true,
+    }
 }
 
 // Adds a deed, counted on a new ledger.

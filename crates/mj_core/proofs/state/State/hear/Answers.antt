@@ -41,6 +41,47 @@ go_on-requires-clause-refused c =
 pub desk_after-desk-requires : goal.desk_after-desk-requires
 desk_after-desk-requires c = present-at-desk (the_view c.self.inside) c.args.seat c.self.invariant.seated (rw (← c.self.view_is) at c.requires.present)
 
+pub settle_here-requires : goal.settle_here-requires
+settle_here-requires c =
+    rw (← c.self.view_is)
+    (hear-settles c.args.setting.now (the_view c.self.inside) c.self.inside.table.deeds c.args.seat c.from.result c.len.result c.args.answer.now c.index.result.now c.go_on.new.self (verdict_given c.verdict-verdict.result) c.self.inside.desk c.slots_after-window.result
+    (record {
+      can = rw (← c.self.view_is) at c.requires;
+      told_is = c.self.invariant.same;
+      reads = record {
+        seated = c.self.invariant.seated;
+        within = due-within (the_view c.self.inside) c.args.seat c.self.invariant.seated (rw (← c.self.view_is) at c.requires.due);
+        place_is = c.from.ensures;
+        read = c.index.ensures;
+      };
+      many_is = c.len.ensures ∙ c.self.inside.deeds.ok.0;
+      judged = c.verdict-verdict.ensures;
+      on = c.go_on.ensures;
+      desk_is = c.is_closing.ensures c.if-not-is_closing.true c.self.inside.desk c.args.seat;
+      slots_is = c.slots_after-window.ensures;
+    }))
+
+pub returns-then-not-is_closing-clause-ok : goal.returns-then-not-is_closing-clause-ok
+returns-then-not-is_closing-clause-ok c =
+    rw (← c.self.view_is)
+    (hear-hears c.args.setting.now (the_view c.self.inside) c.settle_here.new.self c.self.inside.table.deeds c.args.seat c.from.result c.len.result c.args.answer.now c.index.result.now c.go_on.new.self (verdict_given c.verdict-verdict.result) c.self.inside.desk c.slots_after-window.result
+    (record {
+      can = rw (← c.self.view_is) at c.requires;
+      told_is = c.self.invariant.same;
+      reads = record {
+        seated = c.self.invariant.seated;
+        within = due-within (the_view c.self.inside) c.args.seat c.self.invariant.seated (rw (← c.self.view_is) at c.requires.due);
+        place_is = c.from.ensures;
+        read = c.index.ensures;
+      };
+      many_is = c.len.ensures ∙ c.self.inside.deeds.ok.0;
+      judged = c.verdict-verdict.ensures;
+      on = c.go_on.ensures;
+      desk_is = c.is_closing.ensures c.if-not-is_closing.true c.self.inside.desk c.args.seat;
+      slots_is = c.slots_after-window.ensures;
+    })
+    (rw (← c.self.view_is) at c.in_ok-settle_here.ensures.ok))
+
 pub settle-requires : goal.settle-requires
 settle-requires c =
     rw (← c.self.view_is)

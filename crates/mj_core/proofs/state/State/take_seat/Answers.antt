@@ -2,6 +2,7 @@ use Rattle.std.proofs.Common.{List, [], ◌∷◌, ◌++◌, ap, ◌∙◌, sym}
 use Rattle.std.proofs.lemmas.Result.{err_from_is_err_and}
 use Rattle.mj_deeds.specs.declared.deed.Deed.{Deed}
 use Rattle.mj_deeds.specs.declared.deed.Deed.TheVariants.{StartGame}
+use Rattle.mj_wall.specs.declared.setting.Rules.{Rules}
 use Rattle.mj_table.specs.Plays.{Play}
 use Rattle.mj_core.specs.contracts.state.State.{the_view}
 use Rattle.mj_core.proofs.Pieces.{takes-seated, seat-waits, seat-starts, start-fits, names-at-desk}
@@ -11,20 +12,22 @@ use Rattle.mj_core.proofs.Turns.{takes}
 use Rattle.mj_core.proofs.state.State.take_seat.Goals as goal
 
 pub push-requires : goal.push-requires
-push-requires c = rw (c.in_ok-table.ensures, c.self.invariant.same) (start-fits c.self.inside.table.rules.red c.self.inside.deeds.items c.names.result (rw (← c.self.view_is) at c.requires.unbegun))
+push-requires c = rw (c.in_ok-copy_over.ensures.ok, c.self.invariant.same) (start-fits c.self.inside.table.rules.red c.self.inside.deeds.items c.names.result (rw (← c.self.view_is) at c.requires.unbegun))
 
 pub invariant_of-self-then-held-eq4 : goal.invariant_of-self-then-held-eq4
 invariant_of-self-then-held-eq4 c = record {
   same =
-      ap (λ (p : Play). p.deeds) c.in_ok-push.ensures.ok ∙ ap (λ (p : Play). p.deeds ++ StartGame c.names.result ∷ []) c.in_ok-table.ensures
+      ap (λ (p : Play). p.deeds) c.swap.ensures.x_after
+      ∙ ap (λ (p : Play). p.deeds) c.in_ok-push.ensures.ok ∙ ap (λ (p : Play). p.deeds ++ StartGame c.names.result ∷ []) c.in_ok-copy_over.ensures.ok
       ∙ ap (λ (ds : List Deed). ds ++ StartGame c.names.result ∷ []) (c.self.invariant.same ∙ sym c.reserve.ensures.items)
       ∙ sym c.push_reserved.ensures.items;
   lines = told_next c.self.inside.table.rules c.push.new.self.rules c.self.inside.deeds.items _ c.push_reserved.new.self.items (StartGame c.names.result) _ _ _ c.self.invariant.lines
-      (ap (λ (p : Play). p.rules) c.in_ok-push.ensures.ok ∙ ap (λ (p : Play). p.rules) c.in_ok-table.ensures)
-      (ap (λ (p : Play). p.deeds) c.in_ok-push.ensures.ok ∙ ap (λ (p : Play). p.deeds ++ StartGame c.names.result ∷ []) c.in_ok-table.ensures
+      (ap (λ (p : Play). p.rules) c.in_ok-push.ensures.ok ∙ ap (λ (p : Play). p.rules) c.in_ok-copy_over.ensures.ok)
+      (ap (λ (p : Play). p.deeds) c.in_ok-push.ensures.ok ∙ ap (λ (p : Play). p.deeds ++ StartGame c.names.result ∷ []) c.in_ok-copy_over.ensures.ok
       ∙ ap (λ (ds : List Deed). ds ++ StartGame c.names.result ∷ []) c.self.invariant.same)
       (c.push_reserved.ensures.items ∙ ap (λ (ds : List Deed). ds ++ StartGame c.names.result ∷ []) c.reserve.ensures.items)
-      c.in_ok-possible.ensures c.in_ok-push_alone.ensures.ok;
+      c.in_ok-list_possible.ensures c.in_ok-push_alone.ensures.ok
+      ∙ ap (λ (r : Rules). lines_of_all r c.push_reserved.new.self.items) (sym (ap (λ (p : Play). p.rules) c.swap.ensures.x_after));
   seated = takes-seated c.self.inside.deeds.items c.self.inside.desk c.sit.new.self c.self.inside.chairs.items c.push_reserved-then-held-eq4.new.self.items c.args.author c.args.join.now
       (takes (the_view c.self.inside) c.args.author c.args.join.now c.sit.result c.sit.new.self c.push_reserved-then-held-eq4.new.self.items (rw (← c.self.view_is) at c.requires) c.self.invariant.seated c.sit.ensures.answer c.sit.ensures.desk
       (rw (c.reserve-2.ensures.items, c.new.ensures) at c.push_reserved-then-held-eq4.ensures.items));
@@ -33,8 +36,9 @@ invariant_of-self-then-held-eq4 c = record {
 pub returns-then-held-eq4-clause-ok : goal.returns-then-held-eq4-clause-ok
 returns-then-held-eq4-clause-ok c =
     rw (c.push_reserved.ensures.items, c.reserve.ensures.items, c.new-self-inside.ensures, ← c.self.view_is)
-    (seat-starts c.self.inside.table.rules c.push.new.self.rules c.self.inside.deeds.items c.self.inside.desk c.sit.new.self c.self.inside.chairs.items c.push_reserved-then-held-eq4.new.self.items c.self.inside.window c.args.author c.held.result
-    c.args.join.now c.names.result (ap (λ (p : Play). p.rules) c.in_ok-push.ensures.ok ∙ ap (λ (p : Play). p.rules) c.in_ok-table.ensures)
+    (seat-starts c.self.inside.table.rules c.swap.new.x.rules c.self.inside.deeds.items c.self.inside.desk c.sit.new.self c.self.inside.chairs.items c.push_reserved-then-held-eq4.new.self.items c.self.inside.window c.args.author c.held.result
+    c.args.join.now c.names.result
+    (ap (λ (p : Play). p.rules) c.swap.ensures.x_after ∙ ap (λ (p : Play). p.rules) c.in_ok-push.ensures.ok ∙ ap (λ (p : Play). p.rules) c.in_ok-copy_over.ensures.ok)
     (takes (the_view c.self.inside) c.args.author c.args.join.now c.sit.result c.sit.new.self c.push_reserved-then-held-eq4.new.self.items (rw (← c.self.view_is) at c.requires) c.self.invariant.seated c.sit.ensures.answer c.sit.ensures.desk
     (rw (c.reserve-2.ensures.items, c.new.ensures) at c.push_reserved-then-held-eq4.ensures.items))
     c.held.ensures.number c.if-held-eq4.true
