@@ -6,7 +6,7 @@ use Rattle.std.proofs.lemmas.List.Sorted.{IsPermutation-refl, IsPermutation-sym,
 use Rattle.std.proofs.lemmas.List.Elements.{All-nil, All-cons, All-head, All-tail}
 use mathlib.Core.Bool.{cond}
 use Rattle.turn_lock.specs.Notes.{notes_of}
-use Rattle.mj_ports.specs.declared.entry.Entry.{Entry}
+use Rattle.mj_connection.specs.Seating.{Entry}
 use Rattle.mj_ports.specs.declared.entry.Entry.TheVariants.{Sat, Back, Said, Gone, Expired}
 use Rattle.mj_ports.specs.Entries.{author_of}
 use Rattle.mj_seats.specs.Histories.{begins_one, places_from}

@@ -6,15 +6,8 @@ use Rattle.std.proofs.lemmas.List.{length-append, map-append}
 use Rattle.std.proofs.lemmas.List.Elements.{All-nil, All-push, All-pop}
 use Rattle.turn_lock.specs.Passes.{TurnState, PassState}
 use Rattle.turn_lock.specs.Turns.{IsIdle, new_pass, new_passes}
-use Rattle.mj_ports.specs.declared.entry.Entry.{Entry}
-use Rattle.mj_ports.specs.declared.sitting.JoinLine.{JoinLine}
-use Rattle.mj_ports.specs.declared.answers.SitAnswer.{SitAnswer}
-use Rattle.mj_ports.specs.declared.answers.Heard.{Heard}
-use Rattle.mj_ports.specs.declared.answers.Control.{Control}
-use Rattle.mj_ports.specs.Seats.{Showing}
-use Rattle.mj_seats.specs.declared.handle.HandlerEnd.{HandlerEnd}
-use Rattle.mj_seats.specs.declared.handle.Session.{Session}
-use Rattle.mj_seats.specs.Handlers.{WantsMemory}
+use Rattle.mj_connection.specs.Seating.{Entry, JoinLine, SitAnswer, Heard, Control, Showing}
+use Rattle.mj_seats.specs.Handlers.{HandlerEnd, Session, WantsMemory}
 use Rattle.mj_seats.specs.declared.worker.Done.{Done}
 use Rattle.mj_seats.specs.Inner.Joined.{IsLeft, IsDone, AllDone, AllLeft}
 use Rattle.mj_seats.specs.Wires.{WireState}
@@ -106,7 +99,7 @@ module _ {T A R L F S : Type 0} (after : List (Entry A) → Showing) (reads : Li
   pub left_idle : (n : ℕ) (ps : List (PassState T S (Entry A))) (sessions : List (Session L)) (ends : List (HandlerEnd F)) → AllLeft after reads joins sits hears says at made number setting turn n ps sessions ends → All (IsIdle setting turn) ps
   left_idle zero ps sessions ends (a, b, c) = subst (λ (l : List (PassState T S (Entry A))). All (IsIdle setting turn) l) (sym a) (All-nil (IsIdle setting turn))
   left_idle (suc n) all sessions ends (ps, p, before, own, es, end, a, b, c, left, one, memory) =
-      subst (λ (l : List (PassState T S (Entry A))). All (IsIdle setting turn) l) (sym a) (All-push (IsIdle setting turn) ps p (left_idle n ps before es left) one.back.idle)
+      subst (λ (l : List (PassState T S (Entry A))). All (IsIdle setting turn) l) (sym a) (All-push (IsIdle setting turn) ps p (left_idle n ps before es left) one.idle)
 
 module _ {T A R L F S : Type 0} (after : List (Entry A) → Showing) (reads : List ℕ → A) (joins : List ℕ → Option JoinLine) (sits : List (Entry A) → List ℕ → SitAnswer) (hears : List (Entry A) → ℕ → ℕ → A → Heard R) (says : Control R → List ℕ) (at : List ℕ → L → WireState) (made : F → Type 0) (number : F → ℕ) (setting : T → S) (turn : TurnState T) where
   -- what is left of all, put together

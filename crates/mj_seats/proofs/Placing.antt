@@ -6,21 +6,13 @@ use Rattle.std.proofs.lemmas.List.{append_cancel_left}
 use Rattle.mj_ports.specs.SeatCalls.{AnswersSit}
 use mathlib.Core.Bool.{cond}
 use Rattle.turn_lock.specs.Notes.{notes_of}
-use Rattle.mj_ports.specs.declared.entry.Entry.{Entry}
+use Rattle.mj_connection.specs.Seating.{Entry, JoinLine, SitAnswer, Heard, Control, Showing}
 use Rattle.mj_ports.specs.declared.entry.Entry.TheVariants.{Sat, Back}
-use Rattle.mj_ports.specs.declared.sitting.JoinLine.{JoinLine}
-use Rattle.mj_ports.specs.declared.answers.SitAnswer.{SitAnswer}
 use Rattle.mj_ports.specs.declared.answers.SitAnswer.TheVariants as sit
-use Rattle.mj_ports.specs.declared.answers.Heard.{Heard}
-use Rattle.mj_ports.specs.declared.answers.Control.{Control}
 use Rattle.mj_ports.specs.Entries.{author_of}
-use Rattle.mj_ports.specs.Seats.{Showing}
-use Rattle.mj_seats.specs.declared.served.Ended.{Ended}
-use Rattle.mj_seats.specs.declared.served.Ended.TheVariants.{GameOver, PeerEnded, LinkFault, LineTooLong, TooManyRefusals, NotSeated, NoMemory}
-use Rattle.mj_seats.specs.declared.handle.Session.{Session}
 use Rattle.mj_seats.specs.Histories.{Enters, begins_one, places_from, places_of}
-use Rattle.mj_seats.specs.Sessions.{SeatedSession, GivesSeat, said_by, last_entry}
-use Rattle.mj_seats.specs.Handlers.{Handled}
+use Rattle.mj_seats.specs.Sessions.{Ended, GameOver, PeerEnded, LinkFault, LineTooLong, TooManyRefusals, NotSeated, NoMemory, SeatedSession, GivesSeat, said_by, last_entry}
+use Rattle.mj_seats.specs.Handlers.{Session, Handled}
 use Rattle.mj_seats.specs.Wires.{WireState}
 
 module _ {A : Type 0} where

@@ -5,19 +5,13 @@ use Rattle.std.proofs.lemmas.List.{length-map}
 use Rattle.std.proofs.lemmas.List.Elements.{All-pop}
 use Rattle.turn_lock.specs.Passes.{TurnState, PassState}
 use Rattle.turn_lock.specs.Turns.{IsIdle, IsSeenIn}
-use Rattle.mj_ports.specs.declared.entry.Entry.{Entry}
+use Rattle.mj_connection.specs.Seating.{Entry, JoinLine, SitAnswer, Heard, Control, Showing}
 use Rattle.mj_ports.specs.declared.entry.Entry.TheVariants.{Said, Gone}
-use Rattle.mj_ports.specs.declared.sitting.JoinLine.{JoinLine}
-use Rattle.mj_ports.specs.declared.answers.SitAnswer.{SitAnswer}
-use Rattle.mj_ports.specs.declared.answers.Heard.{Heard}
-use Rattle.mj_ports.specs.declared.answers.Control.{Control}
 use Rattle.mj_ports.specs.Entries.{author_of, IsAside}
-use Rattle.mj_ports.specs.Seats.{Showing, Stays, StaysEnded, Unmoved, Answers, Leaves, Adds}
-use Rattle.mj_seats.specs.declared.handle.HandlerEnd.{HandlerEnd}
-use Rattle.mj_seats.specs.declared.handle.Session.{Session}
+use Rattle.mj_ports.specs.Seats.{Stays, StaysEnded, Unmoved, Answers, Leaves, Adds}
 use Rattle.mj_seats.specs.declared.worker.Done.{Done}
 use Rattle.mj_seats.specs.Histories.{Enters}
-use Rattle.mj_seats.specs.Handlers.{WantsMemory}
+use Rattle.mj_seats.specs.Handlers.{HandlerEnd, Session, WantsMemory}
 use Rattle.mj_seats.specs.Inner.Joined.{AllDone, AllLeft, IsPlayed}
 use Rattle.mj_seats.specs.Ticks.{Ticks}
 use Rattle.mj_seats.specs.Wires.{WireState}

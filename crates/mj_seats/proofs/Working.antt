@@ -7,27 +7,20 @@ use Rattle.std.proofs.lemmas.List.Elements.{All-nil, All-cons, All-append, All-p
 use Rattle.turn_lock.specs.Notes.{notes_of}
 use Rattle.turn_lock.specs.Passes.{TurnState, PassState}
 use Rattle.turn_lock.specs.Turns.{IsSeenIn}
-use Rattle.mj_ports.specs.declared.entry.Entry.{Entry}
+use Rattle.mj_connection.specs.Seating.{Entry, JoinLine, SitAnswer, Heard, Control, Showing}
 use Rattle.mj_ports.specs.declared.entry.Entry.TheVariants.{Sat, Back, Said, Gone, Expired}
-use Rattle.mj_ports.specs.declared.sitting.JoinLine.{JoinLine}
-use Rattle.mj_ports.specs.declared.answers.SitAnswer.{SitAnswer}
-use Rattle.mj_ports.specs.declared.answers.Heard.{Heard}
-use Rattle.mj_ports.specs.declared.answers.Control.{Control}
 use Rattle.mj_ports.specs.Entries.{author_of, IsAside}
-use Rattle.mj_ports.specs.Seats.{Showing, Stays, StaysEnded, Unmoved, Answers, Leaves, Adds}
-use Rattle.mj_seats.specs.declared.served.Ended.{Ended}
-use Rattle.mj_seats.specs.declared.served.Ended.TheVariants.{GameOver, PeerEnded, LinkFault, LineTooLong, TooManyRefusals, NotSeated, NoMemory}
-use Rattle.mj_seats.specs.declared.handle.HandlerEnd.{HandlerEnd}
+use Rattle.mj_ports.specs.Seats.{Stays, StaysEnded, Unmoved, Answers, Leaves, Adds}
 use Rattle.mj_seats.specs.declared.handle.HandlerEnd.TheVariants as end
-use Rattle.mj_seats.specs.declared.handle.Session.{Session}
 use Rattle.mj_seats.specs.Histories.{Enters, begins_one, places_of}
-use Rattle.mj_seats.specs.Sessions.{said_by, last_entry}
-use Rattle.mj_seats.specs.Handlers.{Handled, HandlerEnds, WantsMemory}
+use Rattle.mj_seats.specs.Sessions.{Ended, GameOver, PeerEnded, LinkFault, LineTooLong, TooManyRefusals, NotSeated, NoMemory, said_by, last_entry}
+use Rattle.mj_seats.specs.Handlers.{HandlerEnd, Session, Handled, HandlerEnds, WantsMemory}
 use Rattle.mj_seats.specs.Inner.Joined.{AllLeft}
 use Rattle.mj_seats.specs.Ticks.{Ticks, Timed}
 use Rattle.mj_seats.specs.Workers.{AllServe, AllEnd, EndsIn, ExpiresBy, begun}
 use Rattle.mj_seats.specs.Wires.{WireState}
-use Rattle.mj_seats.proofs.Entering.{enters_chain, enters_one, enters_seen}
+use Rattle.mj_connection.proofs.Growing.{enters_chain, enters_one}
+use Rattle.mj_seats.proofs.Entering.{enters_seen}
 use Rattle.mj_seats.proofs.Placing.{places_still, begins_by}
 use Rattle.mj_seats.proofs.Handling.{handled_excused}
 use Rattle.mj_seats.proofs.Whole.{stays_from, serves_all}
@@ -121,7 +114,7 @@ module _ {T A R L F S : Type 0} (after : List (Entry A) → Showing) (is_legal :
         own,
         b,
         all_serve n ps before es left parted.0,
-        serves_all after is_legal legal_before stays ended_law hears says others answers leaves reads joins sits at n [] p.seen all own legal (since_seen n p one.back.number_is parted.1)
+        serves_all after is_legal legal_before stays ended_law hears says others answers leaves reads joins sits at n [] p.seen all own legal (since_seen n p one.number_is parted.1)
             (handled_excused after reads joins sits hears says at (WantsMemory end) ⊥ memory n [] p.seen own one.handled),
       )
 
@@ -134,7 +127,7 @@ module _ {T A R L F S : Type 0} (after : List (Entry A) → Showing) (is_legal :
   all_end zero passes sessions ends (a, b, c) seen = c
   all_end (suc n) passes sessions ends (ps, p, before, own, es, end, a, b, c, left, one, memory) seen =
       let parted = All-pop (IsSeenIn author_of all) passes ps (Some p) a seen in
-      let since = since_seen n p one.back.number_is parted.1 in
+      let since = since_seen n p one.number_is parted.1 in
       (es, end, c, all_end n ps before es left parted.0, end_in n p.seen end memory (stays_from after is_legal legal_before stays p.seen all since.since legal since.grown) one.ended)
 
   all_places : (n : ℕ) (ps : List (PassState T S (Entry A))) (ss : List (Session L)) (es : List (HandlerEnd F)) → AllLeft after reads joins sits hears says at made number setting turn n ps ss es → All (IsSeenIn author_of all) ps
@@ -142,7 +135,7 @@ module _ {T A R L F S : Type 0} (after : List (Entry A) → Showing) (is_legal :
   all_places zero passes sessions ends (a, b, c) seen = sym (ap (λ (l : List (Session L)). map (λ (s : Session L). s.place) l) b)
   all_places (suc n) passes sessions ends (ps, p, before, own, es, end, a, b, c, left, one, memory) seen =
       let parted = All-pop (IsSeenIn author_of all) passes ps (Some p) a seen in
-      let mine : places_of n all ≡ map (λ (s : Session L). s.place) own = places_still n p.seen all (since_seen n p one.back.number_is parted.1) ∙ one.places in
+      let mine : places_of n all ≡ map (λ (s : Session L). s.place) own = places_still n p.seen all (since_seen n p one.number_is parted.1) ∙ one.places in
       (λ i. all_places n ps before es left parted.0 i ++ mine i)
       ∙ (sym (map-append (λ (s : Session L). s.place) before own)
       ∙ sym (ap (λ (l : List (Session L)). map (λ (s : Session L). s.place) l) b))
@@ -157,7 +150,7 @@ module _ {T A R L F S : Type 0} (after : List (Entry A) → Showing) (is_legal :
       here : IsSeenIn author_of all p → k ≡ n → All NoExpiry (notes_of author_of k all)
       here this e =
           let h = handled_notes after reads joins sits hears says at (WantsMemory end) n [] p.seen own one.handled in
-          let whole : Enters n [] all h.0 = subst (λ (l : List (Entry A)). Enters n [] all l) (append-nil h.0) (enters_chain n [] p.seen all h.0 [] h.1 (since_seen n p one.back.number_is this)) in
+          let whole : Enters n [] all h.0 = subst (λ (l : List (Entry A)). Enters n [] all l) (append-nil h.0) (enters_chain n [] p.seen all h.0 [] h.1 (since_seen n p one.number_is this)) in
           subst (λ (j : ℕ). All NoExpiry (notes_of author_of j all)) (sym e) (subst (λ (l : List (Entry A)). All NoExpiry l) (sym (mine_is n all h.0 whole)) h.2)
 
       less : (k ≡ n → ⊥) → k < n

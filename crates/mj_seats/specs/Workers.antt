@@ -2,18 +2,11 @@
 -- which has the number 8.
 use Rattle.std.specs.Prelude.{◌≡◌, ℕ, zero, suc, ◌+◌, true, List, [], ◌∷◌, ◌++◌, if◌then◌else◌, Option}
 use mathlib.Core.List.{IsPrefix}
-use Rattle.mj_ports.specs.declared.entry.Entry.{Entry}
-use Rattle.mj_ports.specs.declared.entry.Entry.TheVariants.{Sat, Back, Said, Gone, Expired}
-use Rattle.mj_ports.specs.declared.sitting.JoinLine.{JoinLine}
-use Rattle.mj_ports.specs.declared.answers.SitAnswer.{SitAnswer}
-use Rattle.mj_ports.specs.declared.answers.Heard.{Heard}
-use Rattle.mj_ports.specs.declared.answers.Control.{Control}
-use Rattle.mj_ports.specs.Seats.{Showing, script}
-use Rattle.mj_seats.specs.declared.handle.HandlerEnd.{HandlerEnd}
-use Rattle.mj_seats.specs.declared.handle.HandlerEnd.TheVariants.{Over, Host, NoMemory}
-use Rattle.mj_seats.specs.declared.handle.Session.{Session}
+use Rattle.mj_connection.specs.Seating.{Entry, JoinLine, SitAnswer, Heard, Control, Showing}
+use Rattle.mj_ports.specs.declared.entry.Entry.TheVariants.{Expired}
+use Rattle.mj_ports.specs.Seats.{script}
 use Rattle.mj_seats.specs.Histories.{Enters, begins_one}
-use Rattle.mj_seats.specs.Handlers.{Noted}
+use Rattle.mj_seats.specs.Handlers.{HandlerEnd, Over, Host, NoMemory, Session, Noted}
 use Rattle.mj_seats.specs.Wires.{WireState}
 
 module _ {A : Type 0} where
@@ -27,11 +20,8 @@ module _ {A : Type 0} where
 
   -- An expiry is of this author.
   abbrev pub ExpiresBy : ℕ → Entry A → Type 0
-  ExpiresBy number (Sat author name key) = Unit {0}
-  ExpiresBy number (Back author seat) = Unit {0}
-  ExpiresBy number (Said author seat answer) = Unit {0}
-  ExpiresBy number (Gone author seat) = Unit {0}
   ExpiresBy number (Expired author window t1 t2) = author ≡ number
+  ExpiresBy number _ = Unit {0}
 
 module _ {A R L : Type 0} (after : List (Entry A) → Showing) (reads : List ℕ → A) (joins : List ℕ → Option JoinLine) (sits : List (Entry A) → List ℕ → SitAnswer) (hears : List (Entry A) → ℕ → ℕ → A → Heard R) (says : Control R → List ℕ) (at : List ℕ → L → WireState) where
   -- A session in the whole history: it saw a beginning of it, from the old entries up to the new ones, without running out of memory,

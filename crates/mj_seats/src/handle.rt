@@ -1,9 +1,10 @@
 //! The worker that takes links from a host, and serves them one after the other.
 
-ghost use Rattle.std.specs.Prelude.{◌≡◌, ◌<◌, ◌+◌, ◌++◌, ◌≤◌, map, [], List, IfSome, vec_len, vec_capacity};
+ghost use Rattle.std.specs.Prelude.{◌≡◌, ◌<◌, ◌+◌, ◌++◌, ◌≤◌, map, [], List, IfSome, IsSomeAnd, true, false, vec_len, vec_capacity};
 ghost use Rattle.mj_links.specs.Hosts.{IsFresh, ComesFresh, CameFault};
 ghost use Rattle.mj_ports.specs.declared.entry.Entry.{Entry};
-ghost use Rattle.mj_seats.specs.Handlers.{Handled, HandlerEnds, HandlerEndsTo, Excuses, WantsMemory, IsOn, Finds, Asks, at_link};
+ghost use Rattle.mj_seats.specs.declared.handle.Finding.TheVariants as finding;
+ghost use Rattle.mj_seats.specs.Handlers.{Handled, HandlerEnds, WantsMemory, IsOn, at_link};
 ghost use Rattle.mj_seats.specs.Histories.{Enters, places_of};
 ghost use Rattle.mj_seats.specs.Sessions.{IsExcused};
 ghost use Rattle.turn_lock.specs.Turns.{IsIdle};
@@ -15,7 +16,6 @@ use crate::served::Ended;
 use crate::shared_game::SharedGame;
 use mj_links::{Came, Host, Link, Wire};
 use mj_ports::Seated;
-use std::alloc::Global;
 use std::sync::Wait;
 use turn_lock::{Noted, Pass, Turn};
 
@@ -50,7 +50,6 @@ pub(crate) enum Finding {
 pub fn handler<G: Seated, H: Host, R: Wait>(
     turn: &Turn<Room<G, H::Fault>>,
     rt: &R,
-    alloc: Global,
     pass: &mut Pass<Room<G, H::Fault>>,
     host: &H,
     sessions: &mut Vec<Session<H::Link>>,
@@ -69,14 +68,13 @@ pub fn handler<G: Seated, H: Host, R: Wait>(
     ensures ended { HandlerEnds (G.after (G.setting turn.now.opening.game)) (H.made_by host.now)
         H.Fault.number result pass.old.number pass.new.seen }
 {
-    handle_at(turn, rt, alloc, pass, host, sessions)
+    handle_at(turn, rt, pass, host, sessions)
 }
 
 // The same at any table.
 pub(crate) fn handle_at<T: SharedGame, H: Host<Fault = <T as SharedGame>::Fault>, R: Wait>(
     turn: &Turn<T>,
     rt: &R,
-    alloc: Global,
     pass: &mut Pass<T>,
     host: &H,
     sessions: &mut Vec<Session<H::Link>>,
@@ -95,7 +93,7 @@ pub(crate) fn handle_at<T: SharedGame, H: Host<Fault = <T as SharedGame>::Fault>
         T.Fault.number result pass.old.number pass.new.seen }
 {
     for _ in rt.forever() {
-        if let Some(end) = handle_once(turn, rt, alloc, pass, host, sessions) {
+        if let Some(end) = handle_once(turn, rt, pass, host, sessions) {
             return end;
         }
     }
@@ -106,7 +104,6 @@ pub(crate) fn handle_at<T: SharedGame, H: Host<Fault = <T as SharedGame>::Fault>
 fn handle_once<T: SharedGame, H: Host<Fault = <T as SharedGame>::Fault>, R: Wait>(
     turn: &Turn<T>,
     rt: &R,
-    alloc: Global,
     pass: &mut Pass<T>,
     host: &H,
     sessions: &mut Vec<Session<H::Link>>,
@@ -121,15 +118,15 @@ fn handle_once<T: SharedGame, H: Host<Fault = <T as SharedGame>::Fault>, R: Wait
         → Handled (T.after (T.Noted.setting turn.now.opening)) T.reads T.joins
         (T.sits (T.Noted.setting turn.now.opening)) (T.hears (T.Noted.setting turn.now.opening))
         T.says (at_link H.Link.was_read H.Link.left H.Link.written H.Link.read_faults
-        H.Link.write_faults) (Excuses result) pass.old.number first pass.new.seen sessions.new.items }
-    ensures ended { HandlerEndsTo (T.after (T.Noted.setting turn.now.opening)) (H.made_by host.now)
-        T.Fault.number result pass.old.number pass.new.seen }
+        H.Link.write_faults) (IsSomeAnd result WantsMemory) pass.old.number first pass.new.seen sessions.new.items }
+    ensures ended { IfSome result (λ end. HandlerEnds (T.after (T.Noted.setting turn.now.opening))
+        (H.made_by host.now) T.Fault.number end pass.old.number pass.new.seen) }
 {
     match ask(turn, rt, pass) {
         Finding::Over => Some(HandlerEnd::Over),
         Finding::NoMemory => Some(HandlerEnd::NoMemory),
         Finding::GoesOn => match sessions.reserve(1) {
-            Ok(()) => take_link(turn, rt, alloc, pass, host, sessions),
+            Ok(()) => take_link(turn, rt, pass, host, sessions),
             Err(_) => {
                 hold::give_up(turn, rt, pass);
                 Some(HandlerEnd::NoMemory)
@@ -142,7 +139,6 @@ fn handle_once<T: SharedGame, H: Host<Fault = <T as SharedGame>::Fault>, R: Wait
 fn take_link<T: SharedGame, H: Host<Fault = <T as SharedGame>::Fault>, R: Wait>(
     turn: &Turn<T>,
     rt: &R,
-    alloc: Global,
     pass: &mut Pass<T>,
     host: &H,
     sessions: &mut Vec<Session<H::Link>>,
@@ -159,12 +155,12 @@ fn take_link<T: SharedGame, H: Host<Fault = <T as SharedGame>::Fault>, R: Wait>(
         → Handled (T.after (T.Noted.setting turn.now.opening)) T.reads T.joins
         (T.sits (T.Noted.setting turn.now.opening)) (T.hears (T.Noted.setting turn.now.opening))
         T.says (at_link H.Link.was_read H.Link.left H.Link.written H.Link.read_faults
-        H.Link.write_faults) (Excuses result) pass.old.number first pass.new.seen sessions.new.items }
-    ensures ended { HandlerEndsTo (T.after (T.Noted.setting turn.now.opening)) (H.made_by host.now)
-        T.Fault.number result pass.old.number pass.new.seen }
+        H.Link.write_faults) (IsSomeAnd result WantsMemory) pass.old.number first pass.new.seen sessions.new.items }
+    ensures ended { IfSome result (λ end. HandlerEnds (T.after (T.Noted.setting turn.now.opening))
+        (H.made_by host.now) T.Fault.number end pass.old.number pass.new.seen) }
 {
     match next_link(turn, rt, pass, host) {
-        Came::Link(link) => serve_link(turn, rt, alloc, pass, link, sessions),
+        Came::Link(link) => serve_link(turn, rt, pass, link, sessions),
         Came::Nothing => None,
         Came::Failed(fault) => {
             if lose(turn, rt, pass, fault) {
@@ -205,7 +201,6 @@ fn next_link<T: SharedGame, H: Host<Fault = <T as SharedGame>::Fault>, R: Wait>(
 fn serve_link<T: SharedGame, L: Link + Drop, F, R: Wait>(
     turn: &Turn<T>,
     rt: &R,
-    alloc: Global,
     pass: &mut Pass<T>,
     link: L,
     sessions: &mut Vec<Session<L>>,
@@ -224,9 +219,10 @@ fn serve_link<T: SharedGame, L: Link + Drop, F, R: Wait>(
         → Handled (T.after (T.Noted.setting turn.now.opening)) T.reads T.joins
         (T.sits (T.Noted.setting turn.now.opening)) (T.hears (T.Noted.setting turn.now.opening))
         T.says (at_link L.was_read L.left L.written L.read_faults
-        L.write_faults) (Excuses result) pass.old.number first pass.new.seen sessions.new.items }
+        L.write_faults) (IsSomeAnd result WantsMemory) pass.old.number first pass.new.seen sessions.new.items }
     ensures ended { IfSome result WantsMemory }
 {
+    let alloc = *sessions.allocator();
     let mut wire = Wire::new(link);
     let served = serve_at(turn, rt, alloc, pass, &mut wire);
     let mut link = wire.into_link();
@@ -242,7 +238,7 @@ fn serve_link<T: SharedGame, L: Link + Drop, F, R: Wait>(
 
 // How a handler ends after a session: not at all, but where memory was wanting.
 fn end_after<F>(ended: Ended) -> Option<HandlerEnd<F>>
-    ensures excuses { IsExcused ended → Excuses result }
+    ensures excuses { IsExcused ended → IsSomeAnd result WantsMemory }
     ensures ended { IfSome result WantsMemory }
 {
     match ended {
@@ -261,7 +257,10 @@ fn ask<T: SharedGame, R: Wait>(turn: &Turn<T>, rt: &R, pass: &mut Pass<T>) -> Fi
     requires { IsIdle T.Noted.setting turn.now pass.old }
     ensures idle { IsIdle T.Noted.setting turn.now pass.new × (pass.new.number ≡ pass.old.number) }
     ensures nothing { Enters pass.old.number pass.old.seen pass.new.seen [] }
-    ensures asks { Asks result (T.after (T.Noted.setting turn.now.opening)) pass.new.seen }
+    ensures on { result ≡ finding.GoesOn
+        → IsOn (T.after (T.Noted.setting turn.now.opening)) pass.new.seen }
+    ensures over { result ≡ finding.Over
+        → (T.after (T.Noted.setting turn.now.opening) pass.new.seen).over ≡ true }
 {
     let mut held = hold::take(turn, rt, pass);
     let call = finding_of(held.value());
@@ -271,7 +270,10 @@ fn ask<T: SharedGame, R: Wait>(turn: &Turn<T>, rt: &R, pass: &mut Pass<T>) -> Fi
 
 fn finding_of<T: SharedGame>(table: &mut T) -> Finding
     ensures same { table.new ≡ table.old }
-    ensures finds { Finds result (T.after (T.Seated.setting table.old) (T.history table.old)) }
+    ensures on { result ≡ finding.GoesOn
+        → (T.after (T.Seated.setting table.old) (T.history table.old)).over ≡ false }
+    ensures over { result ≡ finding.Over
+        → (T.after (T.Seated.setting table.old) (T.history table.old)).over ≡ true }
 {
     if table.dry() {
         return Finding::NoMemory;

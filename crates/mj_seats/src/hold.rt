@@ -1,8 +1,8 @@
 // A turn of a table, in words of its game.
-ghost use Rattle.std.specs.Prelude.{◌≡◌, ◌<◌, ℕ, [], Some, All, length, if◌then◌else◌};
+ghost use Rattle.std.specs.Prelude.{◌≡◌, ◌<◌, ℕ, false, [], Some, All, length, if◌then◌else◌};
+ghost use Rattle.mj_connection.specs.Seating.{LeftAlone};
 ghost use Rattle.mj_ports.specs.Entries.{author_of};
 ghost use Rattle.mj_seats.specs.Histories.{Enters};
-ghost use Rattle.mj_seats.specs.Inner.Steps.{Watches};
 ghost use Rattle.turn_lock.specs.Notes.{Follows};
 ghost use Rattle.turn_lock.specs.Turns.{IsIdle, IsBusy, IsSeenIn, taken, given};
 
@@ -17,11 +17,8 @@ pub(crate) fn take<T: SharedGame, R: Wait>(turn: &Turn<T>, rt: &R, pass: &mut Pa
     ensures setting { T.Seated.setting result ≡ T.Noted.setting turn.now.opening }
     ensures legal { T.is_legal (T.Noted.setting turn.now.opening) (T.history result) }
     ensures nothing { Enters pass.old.number pass.old.seen (T.history result) [] }
-    ensures watches { (seat : ℕ)
-        → (T.after (T.Noted.setting turn.now.opening) pass.old.seen).present seat
-        ≡ Some pass.old.number
-        → Watches (T.after (T.Noted.setting turn.now.opening)) pass.old.number seat pass.old.seen
-        (T.history result) }
+    ensures others { LeftAlone (T.after (T.Noted.setting turn.now.opening)) pass.old.number
+        pass.old.seen (T.history result) }
 {
     let mut held = turn.take(rt, pass);
     let _entries = held.value().entries();
@@ -64,6 +61,28 @@ pub(crate) fn give_unchanged<T: SharedGame>(
     turn.give_unchanged(pass, held);
 }
 
+// Gives the table back, with at most one entry more, of the pass's number, and with none where nothing was changed. Then
+// nobody who waits for a change is woken, but by the mark where memory was wanting.
+pub(crate) fn give_back<T: SharedGame>(
+    turn: &Turn<T>,
+    pass: &mut Pass<T>,
+    held: Held<T>,
+    wanting: bool,
+    changed: bool,
+)
+    requires busy { IsBusy T.Noted.setting turn.now pass.old }
+    requires setting { T.Seated.setting held ≡ T.Noted.setting turn.now.opening }
+    requires entries { Follows author_of pass.old.number pass.old.seen (T.history held) }
+    requires same { changed ≡ false → T.history held ≡ pass.old.seen }
+    ensures { pass.new ≡ given pass.old (T.history held) (if wanting then T.dried held else held) }
+{
+    if changed {
+        give(turn, pass, held, wanting);
+    } else {
+        give_unchanged(turn, pass, held, wanting);
+    }
+}
+
 // Ends the turn of a table, with all of its passes.
 pub(crate) fn close<T: SharedGame>(turn: Turn<T>, passes: Vec<Pass<T>>) -> T
     requires all { length passes.items ≡ turn.passes }
@@ -83,11 +102,6 @@ pub(crate) fn give_up<T: SharedGame, R: Wait>(turn: &Turn<T>, rt: &R, pass: &mut
     requires { IsIdle T.Noted.setting turn.now pass.old }
     ensures idle { IsIdle T.Noted.setting turn.now pass.new × (pass.new.number ≡ pass.old.number) }
     ensures nothing { Enters pass.old.number pass.old.seen pass.new.seen [] }
-    ensures watches { (seat : ℕ)
-        → (T.after (T.Noted.setting turn.now.opening) pass.old.seen).present seat
-        ≡ Some pass.old.number
-        → Watches (T.after (T.Noted.setting turn.now.opening)) pass.old.number seat pass.old.seen
-        pass.new.seen }
 {
     let held = take(turn, rt, pass);
     give(turn, pass, held, true);

@@ -2,20 +2,15 @@
 //! that tells the time.
 #![tactic(auto)]
 
-mod due;
 mod gather;
 mod handle;
-mod hear;
 mod hold;
-mod leave;
 mod lost;
-mod play;
 mod room;
 mod serve;
 mod served;
 mod shared_game;
-mod sit;
-mod step;
+mod talk;
 mod ticker;
 mod worker;
 mod workers;

@@ -2,9 +2,9 @@
 ghost use Rattle.std.specs.Prelude.{◌≡◌, ◌≤◌, ◌+◌, [], length, vec_capacity, MatchOption};
 ghost use Rattle.std.specs.Thread.{IsSync};
 ghost use Rattle.mj_seats.specs.Handlers.{at_link};
-ghost use Rattle.mj_seats.specs.Inner.Joined.{IsBack, IsNewPass, AreNewPasses, IsDone, AllDone};
+ghost use Rattle.mj_seats.specs.Inner.Joined.{IsNewPass, AreNewPasses, IsDone, AllDone};
 ghost use Rattle.mj_seats.specs.Ticks.{Ticks};
-ghost use Rattle.turn_lock.specs.Turns.{new_pass};
+ghost use Rattle.turn_lock.specs.Turns.{IsIdle, new_pass};
 
 use crate::handle::{HandlerEnd, Session, handle_at};
 use crate::shared_game::SharedGame;
@@ -54,7 +54,7 @@ pub(crate) fn work<
         (H.made_by host.now) T.Fault.number T.Noted.setting turn.now (length passes.items)
         result.0.items }
     ensures count { length result.0.items ≡ length passes.items }
-    ensures last { IsBack T.Noted.setting turn.now last.number result.1 }
+    ensures last { IsIdle T.Noted.setting turn.now result.1 × (result.1.number ≡ last.number) }
     ensures ticks { Ticks last.number [] result.1.seen (C.readings clock.old) (C.readings clock.new) }
 {
     let (dones, (last, clock)) = join(
@@ -72,7 +72,8 @@ pub(crate) fn work<
         move || -> (Pass<T>, &mut C)
             requires { IsNewPass T.Noted.setting turn.now last × IsSync R.row }
             ensures { (result.1.ghost_name ≡ clock.entry.ghost_name)
-                × IsBack T.Noted.setting turn.entry.now last.number result.0
+                × IsIdle T.Noted.setting turn.entry.now result.0
+                × (result.0.number ≡ last.number)
                 × Ticks last.number [] result.0.seen (C.readings clock.entry.now)
                 (C.readings result.1.now) }
         { tick_one(turn, rt, alloc, clock, last) },
@@ -159,7 +160,7 @@ fn handle_one<T: SharedGame, H: Host<Fault = <T as SharedGame>::Fault>, R: Wait>
         (H.made_by host.now) T.Fault.number T.Noted.setting turn.now pass result }
 {
     let mut sessions = Vec::new(alloc);
-    let end = handle_at(turn, rt, alloc, &mut pass, host, &mut sessions);
+    let end = handle_at(turn, rt, &mut pass, host, &mut sessions);
     Done {
         pass,
         sessions,
@@ -176,7 +177,7 @@ fn tick_one<'a, T: SharedGame, C: Clock, R: Wait>(
 ) -> (Pass<T>, &'a mut C)
     requires { IsNewPass T.Noted.setting turn.now pass }
     ensures { (result.1.ghost_name ≡ clock.entry.ghost_name)
-        × IsBack T.Noted.setting turn.now pass.number result.0
+        × IsIdle T.Noted.setting turn.now result.0 × (result.0.number ≡ pass.number)
         × Ticks pass.number [] result.0.seen (C.readings clock.entry.now) (C.readings result.1.now) }
 {
     let _ticked = tick_at(turn, rt, alloc, &mut pass, clock);

@@ -60,7 +60,7 @@ fn handle<G: Seated, R: Wait>(
         return None;
     }
     let mut sessions = Vec::new(alloc);
-    let end = handler(&turn, rt, alloc, &mut pass, &host, &mut sessions);
+    let end = handler(&turn, rt, &mut pass, &host, &mut sessions);
     Some(Handled {
         end,
         lost: is_lost(&turn, rt, &mut player, 1),
@@ -175,7 +175,7 @@ fn handle_late<G: Seated, R: Wait>(
         return None;
     }
     let mut sessions = Vec::new(alloc);
-    Some(handler(&turn, rt, alloc, &mut pass, &host, &mut sessions))
+    Some(handler(&turn, rt, &mut pass, &host, &mut sessions))
 }
 
 fn ends_late<R: Wait>(rt: &R, alloc: Global) -> Result<bool, Fail> {

@@ -2,18 +2,11 @@
 use Rattle.std.specs.Prelude.{◌≡◌, ◌<◌, ℕ, zero, suc, All, IsPermutation, List, [], ◌∷◌, ◌++◌, length, map, Option}
 use Rattle.turn_lock.specs.Passes.{TurnState, PassState}
 use Rattle.turn_lock.specs.Turns.{IsIdle, new_pass, new_passes}
-use Rattle.mj_ports.specs.declared.entry.Entry.{Entry}
-use Rattle.mj_ports.specs.declared.sitting.JoinLine.{JoinLine}
-use Rattle.mj_ports.specs.declared.answers.SitAnswer.{SitAnswer}
-use Rattle.mj_ports.specs.declared.answers.Heard.{Heard}
-use Rattle.mj_ports.specs.declared.answers.Control.{Control}
+use Rattle.mj_connection.specs.Seating.{Entry, JoinLine, SitAnswer, Heard, Control, Showing}
 use Rattle.mj_ports.specs.Entries.{author_of}
-use Rattle.mj_ports.specs.Seats.{Showing}
-use Rattle.mj_seats.specs.declared.handle.HandlerEnd.{HandlerEnd}
-use Rattle.mj_seats.specs.declared.handle.Session.{Session}
 use Rattle.mj_seats.specs.declared.worker.Done.{Done}
 use Rattle.mj_seats.specs.Histories.{places_of}
-use Rattle.mj_seats.specs.Handlers.{Handled, HandlerEnds, WantsMemory}
+use Rattle.mj_seats.specs.Handlers.{HandlerEnd, Session, Handled, HandlerEnds, WantsMemory}
 use Rattle.mj_seats.specs.Ticks.{Ticks}
 use Rattle.mj_seats.specs.Workers.{AllServe, AllEnd, ExpiresBy, begun}
 use Rattle.mj_seats.specs.Wires.{WireState}
@@ -27,15 +20,11 @@ module _ {T S N : Type 0} (setting : T → S) (turn : TurnState T) where
   abbrev pub AreNewPasses : List (PassState T S N) → Type 0
   AreNewPasses ps = ps ≡ new_passes turn.id (setting turn.opening) (length ps)
 
--- A pass of a turn that is not busy, with this number.
-pub record IsBack {T S N : Type 0} (setting : T → S) (turn : TurnState T) (number : ℕ) (p : PassState T S N) : Type 0 where
-  pub idle : IsIdle setting turn p
-  pub number_is : p.number ≡ number
-
 module _ {T A R L F S : Type 0} (after : List (Entry A) → Showing) (reads : List ℕ → A) (joins : List ℕ → Option JoinLine) (sits : List (Entry A) → List ℕ → SitAnswer) (hears : List (Entry A) → ℕ → ℕ → A → Heard R) (says : Control R → List ℕ) (at : List ℕ → L → WireState) (made : F → Type 0) (number : F → ℕ) (setting : T → S) (turn : TurnState T) where
   -- What is left of the handler with this number: its pass, its sessions and how it ended.
   pub record IsLeft (by : ℕ) (p : PassState T S (Entry A)) (sessions : List (Session L)) (end : HandlerEnd F) : Type 0 where
-    pub back : IsBack setting turn by p
+    pub idle : IsIdle setting turn p
+    pub number_is : p.number ≡ by
     pub handled : Handled after reads joins sits hears says at (WantsMemory end) by [] p.seen sessions
     pub places : places_of by p.seen ≡ map (λ s. s.place) sessions
     pub ended : HandlerEnds after made number end by p.seen

@@ -89,5 +89,5 @@ returns-in-Ok-gather_all-clause-played g c =
     (is_played (g.T.Seated.after s) (g.T.Seated.is_legal s) (laws.legal_before s) (laws.stays s) (laws.ended s) (g.T.Seated.hears s) g.T.Seated.says (laws.others s) (laws.answers s) (laws.leaves s) g.T.Seated.reads g.T.Seated.joins (g.T.Seated.sits s) at made number g.T.Noted.setting turn
     c.work-dones.result.0.items done c.in-Ok-gather_all.ensures.memory c.in-Ok-gather_all.left.passes.items c.in-Ok-gather_all.ensures.passes
     (g.T.Seated.history x.game) x.sessions.items x.ends.items c.work-dones.result.1 turn.passes c.unwrap-last.result.number (g.C.Clock.readings c.args.clock.now) (g.C.Clock.readings c.work-dones.new.clock) legal seen c.in-Ok.ensures.turn.1 few
-    c.work-dones.ensures.last.number_is new.0 c.work-dones.ensures.ticks (ss ∙ c.in-Ok-gather_all.ensures.sessions) (es ∙ c.in-Ok-gather_all.ensures.ends)))
+    c.work-dones.ensures.last.1 new.0 c.work-dones.ensures.ticks (ss ∙ c.in-Ok-gather_all.ensures.sessions) (es ∙ c.in-Ok-gather_all.ensures.ends)))
     c.finish.ensures.legal c.finish.ensures.seen c.finish.ensures.below c.finish.ensures.sessions c.finish.ensures.ends
