@@ -72,6 +72,9 @@ module _ {G S A R : Type 0} (g : Ghosts G S A R) (s : S) (author : ℕ) where
     abbrev pub Told : List ℕ → List ℕ → Type 0
     Told before text = (out : List ℕ) → Tells g.says b (g.after s old) (out ++ before) → Tells g.says c (g.after s new) (out ++ text)
 
+    -- A step takes the connection from the one state to the other: it then stands in the game as its state says; the entries of its
+    -- author are those of its lines, the lines that this step heard among them; and what it was told is what it was told before and
+    -- what the step appended to the text.
     pub record Takes (before text : List ℕ) (heard : List (List ℕ)) : Type 0 where
       pub fits : Fits c author (g.after s new)
       pub hears : Hears heard

@@ -4,7 +4,8 @@
 
 mod gather;
 mod handle;
-mod hold;
+pub mod hold;
+mod joined;
 mod lost;
 mod room;
 mod serve;
@@ -15,11 +16,12 @@ mod ticker;
 mod worker;
 mod workers;
 
-pub use handle::{HandlerEnd, Session, handler};
+pub use handle::{Finding, HandlerEnd, Session, ask, handler, lose};
+pub use joined::serve_joined;
 pub use lost::Lost;
 pub use room::Room;
 pub use serve::serve_seat;
 pub use served::{Ended, Served};
 pub use shared_game::SharedGame;
-pub use ticker::{Ticked, tick};
+pub use ticker::{Ticked, Watch, tick};
 pub use workers::{Closed, ClosedGame, run_workers};
