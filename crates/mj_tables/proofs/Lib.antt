@@ -1,0 +1,11 @@
+pub mod Places
+pub mod Handing
+pub mod Joined
+pub mod Desking
+pub mod Staffing
+pub mod Matching
+pub mod Rows
+pub mod Closing
+pub mod Together
+pub mod Final
+pub mod Rooms

@@ -1,0 +1,5 @@
+pub mod Hands
+pub mod Columns
+pub mod Staffs
+pub mod Desks
+pub mod Joined
