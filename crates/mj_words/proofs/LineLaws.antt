@@ -1,40 +1,30 @@
 -- What clap reads in words, by its own definitions.
-use Rattle.std.proofs.Common.{◌≡◌, ℕ, Bor, List, [], ◌∷◌, true, false, refl, ap, ap₂, sym, subst, ◌∙◌, inl, inr}
-use Rattle.std.specs.Prelude.{Option, Some, None, is_some, option_map, MatchOption, IsSomeAnd}
+use Rattle.std.proofs.Common.{◌≡◌, ℕ, List, [], ◌∷◌, true, false, refl, ap, ap₂, sym, subst, ◌∙◌, inl, inr}
+use Rattle.std.specs.Prelude.{Option, Some, None, is_some, option_map, IsSomeAnd}
 use Rattle.std.proofs.lemmas.Bool.{and_parts}
 use Rattle.clap.specs.Lexer.{usize_max}
 use Rattle.clap.specs.Words.{AddsArg, App, HasKind, HasMatchesOf, Kinds, Rule, all_of, app_of, fault_of, first_of, first_value, found_of, is_simple, is_simple_and_free, kind_of, matched_of, new_app, raw_values, rule_of, with_rule}
 use Rattle.clap.specs.Simple.{built}
 use Rattle.clap.specs.Faults.{is_free_app}
-use Rattle.clap.specs.declared.builder.action.ArgAction.{ArgAction}
 use Rattle.clap.specs.declared.builder.arg.Arg.{Arg}
 use Rattle.clap.specs.declared.builder.command.Command.{Command}
 use Rattle.clap.specs.declared.builder.range.ValueRange.{ValueRange}
-use Rattle.clap.specs.declared.builder.texts.Texts.TheVariants.{One}
 use Rattle.clap.specs.declared.error.Error.{Error}
 use Rattle.clap.specs.declared.error.kind.ErrorKind.TheVariants.{OutOfMemory}
 use Rattle.clap.specs.declared.parser.matches.ArgMatches.{ArgMatches}
 use Rattle.clap.proofs.OnLiterals.{clap_on_literals}
 use Rattle.clap.proofs.WalkLemmas.{first_value-rows, raw_values-rows}
-use Rattle.mj_words.specs.Lines.{wanted, wanted_often, referee_line, keep_line, serve_line, replay_line, hand_line, self_play_line, observe_line, safe_line, are_none, is_taken, value_in, values_in}
-use Rattle.mj_words.specs.Inner.Parsing.{IsParse}
+use Rattle.mj_words.specs.Lines.{wanted, wanted_often, serve_line, tables_line, replay_line, hand_line, observe_line, are_none, is_taken, value_in, values_in}
+use Rattle.mj_words.specs.Inner.Parsing.{IsParse, Says}
 
 -- Each line is simple: clap's definitions tell its matches and its faults.
-pub referee_is_simple : is_simple_and_free referee_line ≡ true
-unfolding clap_on_literals referee_line
-referee_is_simple = refl
-
-pub keep_is_simple : is_simple_and_free keep_line ≡ true
-unfolding clap_on_literals keep_line
-keep_is_simple = refl
-
-pub safe_is_simple : is_simple_and_free safe_line ≡ true
-unfolding clap_on_literals safe_line
-safe_is_simple = refl
-
 pub serve_is_simple : is_simple_and_free serve_line ≡ true
 unfolding clap_on_literals serve_line
 serve_is_simple = refl
+
+pub tables_is_simple : is_simple_and_free tables_line ≡ true
+unfolding clap_on_literals tables_line
+tables_is_simple = refl
 
 pub replay_is_simple : is_simple_and_free replay_line ≡ true
 unfolding clap_on_literals replay_line
@@ -43,10 +33,6 @@ replay_is_simple = refl
 pub hand_is_simple : is_simple_and_free hand_line ≡ true
 unfolding clap_on_literals hand_line
 hand_is_simple = refl
-
-pub self_play_is_simple : is_simple_and_free self_play_line ≡ true
-unfolding clap_on_literals self_play_line
-self_play_is_simple = refl
 
 pub observe_is_simple : is_simple_and_free observe_line ≡ true
 unfolding clap_on_literals observe_line
@@ -58,22 +44,6 @@ with_more start command arg line rule s r g added = added.shape g ∙ ap₂ with
 
 pub with_one : (start command : Command) (arg : Arg) (name : List ℕ) (rule : Rule) → app_of start ≡ new_app name → rule_of arg ≡ rule → arg.global ≡ false → AddsArg start arg command → app_of command ≡ with_rule (new_app name) rule
 with_one start command arg name rule s r g added = with_more start command arg (new_app name) rule s r g added
-
--- An argument of one command, by what clap reads of it; and what a setting changes of that.
-abbrev pub Reads : Arg → Rule → Type 0
-Reads arg rule = (rule_of arg ≡ rule) × (arg.global ≡ false)
-
-pub named : (old arg : Arg) (name : Bor (List ℕ)) (rule : Rule) → Reads old rule → arg ≡ record old { long = Some name } → Reads arg (record rule { long = Some name.now })
-named old arg name rule r is = (ap rule_of is ∙ ap (λ (x : Rule). record x { long = Some name.now }) r.0, ap (λ (a : Arg). a.global) is ∙ r.1)
-
-pub needed : (old arg : Arg) (rule : Rule) → Reads old rule → arg ≡ record old { required = true } → Reads arg (record rule { required = true })
-needed old arg rule r is = (ap rule_of is ∙ ap (λ (x : Rule). record x { required = true }) r.0, ap (λ (a : Arg). a.global) is ∙ r.1)
-
-pub defaulting : (old arg : Arg) (value : Bor (List ℕ)) (rule : Rule) → Reads old rule → arg ≡ record old { default_vals = One value } → Reads arg (record rule { defaults = value.now ∷ [] })
-defaulting old arg value rule r is = (ap rule_of is ∙ ap (λ (x : Rule). record x { defaults = value.now ∷ [] }) r.0, ap (λ (a : Arg). a.global) is ∙ r.1)
-
-pub acting : (old arg : Arg) (action : ArgAction) (rule : Rule) → Reads old rule → arg ≡ record old { action = Some action } → Reads arg (record rule { action = Some action })
-acting old arg action rule r is = (ap rule_of is ∙ ap (λ (x : Rule). record x { action = Some action }) r.0, ap (λ (a : Arg). a.global) is ∙ r.1)
 
 -- An argument of one value or more.
 some_range : (o : Option ValueRange) (range : ValueRange) → IsSomeAnd o (λ r. r ≡ range) → o ≡ Some range
@@ -104,22 +74,18 @@ pub parse_refused : (line : App) (words : List (List ℕ)) (error : Error) → (
 unfolding is_taken
 parse_refused line words error other kinds = some_fault (fault_of line words) error other kinds
 
--- What clap says of words: nothing where it refuses them, else what it found.
-abbrev pub Says : App → List (List ℕ) → Option ArgMatches → Type 0
-Says line words found = MatchOption found (is_taken line words ≡ false) (IsParse line words)
-
 -- The value of an argument is the one that is found.
-pub value_found : (line app : App) (name : List ℕ) (words : List (List ℕ)) (said : Option ArgMatches) (found : ArgMatches) (value : Option (List ℕ)) →
-    app ≡ line → Says app words said → said ≡ Some found → value ≡ first_value (found_of found) name → value ≡ value_in line name words
+pub value_found : (line : App) (name : List ℕ) (words : List (List ℕ)) (said : Option ArgMatches) (found : ArgMatches) (value : Option (List ℕ)) →
+    said ≡ Some found → value ≡ first_value (found_of found) name → Says line words said → value ≡ value_in line name words
 unfolding value_in
-value_found line app name words said found value same says is e =
-    let p : IsParse line words found = subst (λ (o : Option ArgMatches). Says line words o) is (subst (λ (a : App). Says a words said) same says) in
+value_found line name words said found value is e says =
+    let p : IsParse line words found = subst (λ (o : Option ArgMatches). Says line words o) is says in
     rw p.taken (e ∙ first_value-rows (found_of found) name ∙ ap (first_of name) p.rows)
 
-pub value_refused : (line app : App) (name : List ℕ) (words : List (List ℕ)) (said : Option ArgMatches) → app ≡ line → Says app words said → said ≡ None → None ≡ value_in line name words
+pub value_refused : (line : App) (name : List ℕ) (words : List (List ℕ)) (said : Option ArgMatches) → said ≡ None → Says line words said → None ≡ value_in line name words
 unfolding value_in
-value_refused line app name words said same says is =
-    let refused : is_taken line words ≡ false = subst (λ (o : Option ArgMatches). Says line words o) is (subst (λ (a : App). Says a words said) same says) in
+value_refused line name words said is says =
+    let refused : is_taken line words ≡ false = subst (λ (o : Option ArgMatches). Says line words o) is says in
     rw refused refl
 
 -- So are all of them.

@@ -2,7 +2,7 @@
 use Rattle.std.specs.Prelude.{ℕ, ◌&&◌, nat_le, Bool, true, false, if◌then◌else◌, List, [], ◌∷◌, codes, bytes_eq, Option, Some, None, Result, Ok, Err, option_and_then}
 use Rattle.hex.specs.Hex.{decode_sized}
 use Rattle.mj_bytes.specs.Numbers.{decimal_of}
-use Rattle.mj_words.specs.Lines.{referee_line, keep_line, serve_line, replay_line, hand_line, self_play_line, observe_line, safe_line, is_taken, value_in, values_in}
+use Rattle.mj_words.specs.Lines.{referee_line, keep_line, serve_line, replay_line, hand_line, self_play_line, observe_line, safe_line, tables_line, is_taken, value_in, values_in}
 
 -- What a game is served with: the 32 bytes of its seed, the limit of a window in milliseconds, the port, whether the draw
 -- reasons are in force, and whether one five of each suit is red.
@@ -15,7 +15,7 @@ pub record ServedWith : Type 0 where
 
 -- The referee of a seat, a game that is served, the summary of a record, the lines of the hand that further words name, the
 -- self-played game of a number, the public view of a record, the referee of a seat whose game is kept on a disk, the kinds that are
--- safe for a seat, or nothing that there is.
+-- safe for a seat, a game in each of some rooms, all of them served with the same, or nothing that there is.
 pub data Asked : Type 0 where
   RefereeOf : (seat : ℕ) → Asked
   ServingOf : (with : ServedWith) → Asked
@@ -25,6 +25,7 @@ pub data Asked : Type 0 where
   ViewOfRecord : Asked
   KeepOf : (seat : ℕ) → Asked
   SafeOf : (seat : ℕ) → Asked
+  TablesOf : (rooms : ℕ) (with : ServedWith) → Asked
   Nothing : Asked
 
 -- The seat that a word names.
@@ -126,6 +127,24 @@ observe_by true = ViewOfRecord
 abbrev pub observe_asked : List (List ℕ) → Asked
 observe_asked words = observe_by (is_taken observe_line words)
 
+-- Those whose first is `tables` ask for games in as many rooms as their value names, 1 to 8, of the seed, the limit and the port
+-- that their other values name.
+abbrev pub tables_by : Option ℕ → Option (List ℕ) → Option ℕ → Option ℕ → Bool → Bool → Asked
+tables_by None seed limit port draws red = Nothing
+tables_by (Some rooms) None limit port draws red = Nothing
+tables_by (Some rooms) (Some seed) None port draws red = Nothing
+tables_by (Some rooms) (Some seed) (Some limit) None draws red = Nothing
+tables_by (Some rooms) (Some seed) (Some limit) (Some port) draws red = TablesOf rooms (record { seed = seed; limit = limit; port = port; draws = draws; red = red })
+
+abbrev pub tables_asked : List (List ℕ) → Asked
+tables_asked words =
+    tables_by (option_and_then (number_named 1 8) (value_in tables_line (codes "rooms") words))
+    (option_and_then seed_named (value_in tables_line (codes "seed") words))
+    (option_and_then (number_named 1 3600000) (value_in tables_line (codes "limit") words))
+    (option_and_then (number_named 1 65535) (value_in tables_line (codes "port") words))
+    (is_on (value_in tables_line (codes "draws") words))
+    (is_on (value_in tables_line (codes "red") words))
+
 -- Other words ask for nothing, and so do words that clap refuses.
 abbrev pub asked_by : List (List ℕ) → Asked
 asked_by [] = Nothing
@@ -137,4 +156,5 @@ asked_by (command ∷ words) =
     (if bytes_eq command (codes "selfplay") then self_play_asked (command ∷ words) else
     (if bytes_eq command (codes "observe") then observe_asked (command ∷ words) else
     (if bytes_eq command (codes "keep") then keep_asked (command ∷ words) else
-    (if bytes_eq command (codes "safe") then safe_asked (command ∷ words) else Nothing)))))))
+    (if bytes_eq command (codes "safe") then safe_asked (command ∷ words) else
+    (if bytes_eq command (codes "tables") then tables_asked (command ∷ words) else Nothing))))))))

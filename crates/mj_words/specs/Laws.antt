@@ -1,7 +1,7 @@
 -- Some words, and what they ask for.
 use Rattle.std.specs.Prelude.{◌≡◌, ℕ, ◌==◌, Bool, true, false, not, List, [], ◌∷◌, ◌++◌, replicate, codes, Some}
 use Rattle.mj_words.specs.Lines.{referee_line, self_play_line, value_in}
-use Rattle.mj_words.specs.Asked.{asked_by, RefereeOf, ServingOf, SummaryOfRecord, HandOf, SelfPlayOf, ViewOfRecord, KeepOf, SafeOf, Nothing}
+use Rattle.mj_words.specs.Asked.{asked_by, RefereeOf, ServingOf, SummaryOfRecord, HandOf, SelfPlayOf, ViewOfRecord, KeepOf, SafeOf, TablesOf, Nothing}
 
 -- A seed of 32 bytes, of which the last two are 170 and 255, and the word that names it.
 abbrev pub some_hex : List ℕ
@@ -52,6 +52,17 @@ pub record WordsAreRead : Type 0 where
   pub safe : asked_by (codes "safe" ∷ codes "2" ∷ []) ≡ SafeOf 2
   pub safe_of_none : asked_by (codes "safe" ∷ []) ≡ Nothing
   pub safe_of_the_fifth : asked_by (codes "safe" ∷ codes "4" ∷ []) ≡ Nothing
+  pub tables : asked_by (codes "tables" ∷ codes "--seed" ∷ some_hex ∷ codes "--rooms" ∷ codes "2" ∷ []) ≡ TablesOf 2 (record { seed = some_seed; limit = 10000; port = 11600; draws = false; red = false })
+  pub tables_with_all :
+      asked_by (codes "tables" ∷ codes "--red" ∷ codes "--rooms=8" ∷ codes "--draws" ∷ codes "--port" ∷ codes "65535" ∷ codes "--limit=3600000" ∷ codes "--seed" ∷ some_hex ∷ [])
+      ≡ TablesOf 8 (record { seed = some_seed; limit = 3600000; port = 65535; draws = true; red = true })
+  pub tables_without_rooms : asked_by (codes "tables" ∷ codes "--seed" ∷ some_hex ∷ []) ≡ Nothing
+  pub tables_of_no_room : asked_by (codes "tables" ∷ codes "--seed" ∷ some_hex ∷ codes "--rooms" ∷ codes "0" ∷ []) ≡ Nothing
+  pub tables_of_nine_rooms : asked_by (codes "tables" ∷ codes "--seed" ∷ some_hex ∷ codes "--rooms" ∷ codes "9" ∷ []) ≡ Nothing
+  pub tables_of_a_longer_number : asked_by (codes "tables" ∷ codes "--seed" ∷ some_hex ∷ codes "--rooms" ∷ codes "02" ∷ []) ≡ Nothing
+  pub tables_twice : asked_by (codes "tables" ∷ codes "--seed" ∷ some_hex ∷ codes "--rooms" ∷ codes "2" ∷ codes "--rooms" ∷ codes "2" ∷ []) ≡ Nothing
+  pub tables_without_a_seed : asked_by (codes "tables" ∷ codes "--rooms" ∷ codes "2" ∷ []) ≡ Nothing
+  pub serve_with_rooms : asked_by (codes "serve" ∷ codes "--seed" ∷ some_hex ∷ codes "--rooms" ∷ codes "2" ∷ []) ≡ Nothing
 
 -- A word doesn't begin with a hyphen.
 abbrev pub is_plain : List ℕ → Bool

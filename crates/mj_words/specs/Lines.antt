@@ -25,14 +25,17 @@ abbrev pub flag : List ℕ → Rule
 flag name = record (new_rule name) { long = Some name; action = Some SetTrue }
 
 -- One seat.
+abbrev pub seat_line : List ℕ → App
+seat_line command = with_rule (new_app command) (wanted (codes "seat"))
+
 unfoldable pub referee_line : App
-referee_line = with_rule (new_app (codes "referee")) (wanted (codes "seat"))
+referee_line = seat_line (codes "referee")
 
 unfoldable pub keep_line : App
-keep_line = with_rule (new_app (codes "keep")) (wanted (codes "seat"))
+keep_line = seat_line (codes "keep")
 
 unfoldable pub safe_line : App
-safe_line = with_rule (new_app (codes "safe")) (wanted (codes "seat"))
+safe_line = seat_line (codes "safe")
 
 -- Nothing after `replay` and after `observe`.
 unfoldable pub replay_line : App
@@ -54,6 +57,12 @@ unfoldable pub serve_line : App
 serve_line =
     with_rule (with_rule (with_rule (with_rule (with_rule (new_app (codes "serve"))
     (option_wanted (codes "seed"))) (option_or (codes "limit") (codes "10000"))) (option_or (codes "port") (codes "11600"))) (flag (codes "draws"))) (flag (codes "red"))
+
+-- A seed, how many rooms there are, and the rest of what stands after `serve`.
+unfoldable pub tables_line : App
+tables_line =
+    with_rule (with_rule (with_rule (with_rule (with_rule (with_rule (new_app (codes "tables"))
+    (option_wanted (codes "seed"))) (option_wanted (codes "rooms"))) (option_or (codes "limit") (codes "10000"))) (option_or (codes "port") (codes "11600"))) (flag (codes "draws"))) (flag (codes "red"))
 
 -- Clap finds no fault in words; a request for help is one.
 abbrev pub are_none : Kinds → Bool

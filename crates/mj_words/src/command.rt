@@ -1,15 +1,14 @@
 //! The command that words ask for.
 
-ghost use Rattle.std.specs.Prelude.{◌≡◌, map, IfOk};
+ghost use Rattle.std.specs.Prelude.{◌≡◌, map, codes, IfOk, option_and_then};
 ghost use Rattle.std.specs.String.{string_bytes};
-ghost use Rattle.mj_words.specs.Asked.{asked_by, seat_named, referee_asked, serve_asked, replay_asked, hand_asked, self_play_asked, observe_asked, keep_asked, safe_asked};
+ghost use Rattle.mj_words.specs.Asked.{asked_by, seat_named, referee_asked, serve_asked, replay_asked, hand_asked, self_play_asked, observe_asked, keep_asked, safe_asked, tables_asked};
 ghost use Rattle.mj_words.specs.Commands.{asked_by_command};
+ghost use Rattle.mj_words.specs.Lines.{seat_line, value_in};
 
-use crate::options::serving_of;
-use crate::parsing::{
-    hand_words, kept_seat_word, number_word, safe_seat_word, seat_word, takes_observe, takes_replay,
-};
-use crate::serving::Serving;
+use crate::options::{serving_of, tables_of};
+use crate::parsing::{hand_words, number_word, seat_word, takes_observe, takes_replay};
+use crate::serving::{Hosting, Serving};
 use mj_bytes::read_number;
 use std::alloc::{AllocError, Global};
 
@@ -32,13 +31,15 @@ pub enum Command {
     Keep(u8),
     /// The kinds that are safe for a seat, 0 to 3.
     Safe(u8),
+    /// A game in each of some rooms, all of them served.
+    Tables(Hosting),
     /// Nothing that there is.
     Unknown,
 }
 
 /// The command that words ask for, which leave out the program's name. The first is the command, and the others are read by
-/// clap: a seat after `referee`, `keep` and `safe`, options after `serve`, nothing after `replay` and `observe`, one word or more
-/// after `hand`, and a number after `selfplay`. The only error is running out of memory.
+/// clap: a seat after `referee`, `keep` and `safe`, options after `serve` and `tables`, nothing after `replay` and `observe`, one word
+/// or more after `hand`, and a number after `selfplay`. The only error is running out of memory.
 pub fn command_of(alloc: Global, words: &[String]) -> Result<Command, AllocError>
     ensures { IfOk result (λ command. asked_by_command command
         ≡ asked_by (map string_bytes words.now)) }
@@ -71,18 +72,19 @@ pub fn command_of(alloc: Global, words: &[String]) -> Result<Command, AllocError
     if name == "safe" {
         return safe_of(alloc, words);
     }
+    if name == "tables" {
+        return hosting_of(alloc, words);
+    }
     Ok(Command::Unknown)
 }
 
 // The referee of the seat that the words after the first say.
+#[tactic(auto, unfolding(crate::specs::Lines::referee_line))]
 fn referee_of(alloc: Global, words: &[String]) -> Result<Command, AllocError>
     ensures { IfOk result (λ command. asked_by_command command
         ≡ referee_asked (map string_bytes words.now)) }
 {
-    let Some(word) = seat_word(alloc, words)? else {
-        return Ok(Command::Unknown);
-    };
-    match named_seat(word) {
+    match seat_of(alloc, "referee", words)? {
         Some(seat) => Ok(Command::Referee(seat)),
         None => Ok(Command::Unknown),
     }
@@ -147,30 +149,48 @@ fn observe_of(alloc: Global, words: &[String]) -> Result<Command, AllocError>
 }
 
 // The kept game of the seat that the words after the first say.
+#[tactic(auto, unfolding(crate::specs::Lines::keep_line))]
 fn keep_of(alloc: Global, words: &[String]) -> Result<Command, AllocError>
     ensures { IfOk result (λ command. asked_by_command command
         ≡ keep_asked (map string_bytes words.now)) }
 {
-    let Some(word) = kept_seat_word(alloc, words)? else {
-        return Ok(Command::Unknown);
-    };
-    match named_seat(word) {
+    match seat_of(alloc, "keep", words)? {
         Some(seat) => Ok(Command::Keep(seat)),
         None => Ok(Command::Unknown),
     }
 }
 
 // The safe kinds of the seat that the words after the first say.
+#[tactic(auto, unfolding(crate::specs::Lines::safe_line))]
 fn safe_of(alloc: Global, words: &[String]) -> Result<Command, AllocError>
     ensures { IfOk result (λ command. asked_by_command command
         ≡ safe_asked (map string_bytes words.now)) }
 {
-    let Some(word) = safe_seat_word(alloc, words)? else {
-        return Ok(Command::Unknown);
-    };
-    match named_seat(word) {
+    match seat_of(alloc, "safe", words)? {
         Some(seat) => Ok(Command::Safe(seat)),
         None => Ok(Command::Unknown),
+    }
+}
+
+// The games in rooms that are served with what the words after the first say.
+fn hosting_of(alloc: Global, words: &[String]) -> Result<Command, AllocError>
+    ensures { IfOk result (λ command. asked_by_command command
+        ≡ tables_asked (map string_bytes words.now)) }
+{
+    match tables_of(alloc, words)? {
+        Some(hosting) => Ok(Command::Tables(hosting)),
+        None => Ok(Command::Unknown),
+    }
+}
+
+// The seat that the one word after a command names.
+fn seat_of<'a>(alloc: Global, name: &'a str, words: &'a [String]) -> Result<Option<u8>, AllocError>
+    ensures { IfOk result (λ seat. seat
+        ≡ option_and_then seat_named (value_in (seat_line name.now) (codes "seat") (map string_bytes words.now))) }
+{
+    match seat_word(alloc, name, words)? {
+        Some(word) => Ok(named_seat(word)),
+        None => Ok(None),
     }
 }
 

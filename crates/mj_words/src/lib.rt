@@ -9,5 +9,5 @@ mod serving;
 
 pub use command::{Command, command_of};
 pub use laws::{plain_words_are_values, words_are_read};
-pub use options::serving_of;
-pub use serving::Serving;
+pub use options::{serving_of, tables_of};
+pub use serving::{Hosting, Serving};

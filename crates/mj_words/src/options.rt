@@ -1,18 +1,20 @@
-//! What the words after `serve` say.
+//! What the words after `serve` and `tables` say.
 
 ghost use Rattle.std.specs.Prelude.{◌≡◌, ◌≤◌, map, IfOk, IfSome, option_map};
 ghost use Rattle.std.specs.String.{string_bytes};
-ghost use Rattle.mj_words.specs.Asked.{serve_asked, seed_named, number_named, is_on};
-ghost use Rattle.mj_words.specs.Commands.{asked_by_serving};
-ghost use Rattle.mj_words.specs.Inner.Parsing.{serving_of_words};
+ghost use Rattle.mj_words.specs.Asked.{serve_asked, tables_asked, seed_named, number_named, is_on};
+ghost use Rattle.mj_words.specs.Commands.{asked_by_serving, asked_by_hosting};
+ghost use Rattle.mj_words.specs.Inner.Parsing.{serving_of_words, tables_of_words};
 
-use crate::parsing::{ServeWords, serve_words};
-use crate::serving::Serving;
+use crate::parsing::{ServeWords, TablesWords, serve_words, tables_words};
+use crate::serving::{Hosting, Serving};
 use hex::FromHex;
 use mj_bytes::read_number;
 use std::alloc::{AllocError, Global};
 
 const LONGEST_LIMIT: u64 = 3_600_000;
+
+const MOST_ROOMS: u64 = 8;
 
 /// What words say whose first is `serve`; None where they are refused. The only error is running out of memory.
 pub fn serving_of(alloc: Global, words: &[String]) -> Result<Option<Serving>, AllocError>
@@ -21,6 +23,25 @@ pub fn serving_of(alloc: Global, words: &[String]) -> Result<Option<Serving>, Al
 {
     let found = serve_words(alloc, words)?;
     Ok(read_words(&found))
+}
+
+/// What words say whose first is `tables`; None where they are refused. The only error is running out of memory.
+pub fn tables_of(alloc: Global, words: &[String]) -> Result<Option<Hosting>, AllocError>
+    ensures { IfOk result (λ hosting. asked_by_hosting hosting
+        ≡ tables_asked (map string_bytes words.now)) }
+{
+    let found = tables_words(alloc, words)?;
+    Ok(read_tables(&found))
+}
+
+// What the words of `tables` say.
+fn read_tables(words: &TablesWords<'_>) -> Option<Hosting>
+    ensures { asked_by_hosting result ≡ tables_of_words words.now }
+{
+    Some(Hosting {
+        rooms: number_of(words.rooms?, 1, MOST_ROOMS)? as u8,
+        serving: read_words(&words.serving)?,
+    })
 }
 
 // What the words of the options and of the flags say.

@@ -1,65 +1,31 @@
 //! The words of each command as clap reads them. The first word is the command, and stands where clap has the name of a
 //! program.
 
-ghost use Rattle.std.specs.Prelude.{◌≡◌, true, false, map, codes, option_map, IfOk, MatchOption};
+ghost use Rattle.std.specs.Prelude.{◌≡◌, ℕ, List, true, map, codes, option_map, IfOk};
 ghost use Rattle.std.specs.String.{string_bytes};
-ghost use Rattle.clap.specs.Words.{app_of, found_of, is_simple_and_free, matched_of, raw_values};
-ghost use Rattle.mj_words.specs.Lines.{referee_line, keep_line, serve_line, replay_line, hand_line, self_play_line, observe_line, safe_line, is_taken, value_in, values_in};
-ghost use Rattle.mj_words.specs.Inner.Parsing.{IsParse, HasServeWords};
+ghost use Rattle.clap.specs.Words.{App, app_of, found_of, is_simple_and_free, matched_of, raw_values};
+ghost use Rattle.mj_words.specs.Lines.{seat_line, serve_line, tables_line, replay_line, hand_line, self_play_line, observe_line, option_wanted, option_or, flag, is_taken, value_in, values_in};
+ghost use Rattle.mj_words.specs.Inner.Parsing.{Reads, Says, HasServeWords, HasTablesWords, with_settings};
 
 use clap::error::ErrorKind;
 use clap::{Arg, ArgAction, ArgMatches, Command};
 use std::alloc::{AllocError, Global};
 
-/// The word of the seat after `referee`; none where clap refuses the words.
+/// The word of the seat after a command; none where clap refuses the words.
 pub(crate) fn seat_word<'a>(
     alloc: Global,
+    name: &'a str,
     words: &'a [String],
 ) -> Result<Option<&'a str>, AllocError>
     ensures { IfOk result (λ word. option_map (λ w. w.now) word
-        ≡ value_in referee_line (codes "seat") (map string_bytes words.now)) }
+        ≡ value_in (seat_line name.now) (codes "seat") (map string_bytes words.now)) }
 {
     let seat = Arg::new(alloc, "seat").required(true);
-    let command = Command::new(alloc, "referee").arg(seat)?;
-    match parse(command, words)? {
-        Some(matches) => Ok(matches.get_str("seat")),
-        None => Ok(None),
-    }
+    let found = parse(Command::new(alloc, name).arg(seat)?, words)?;
+    Ok(value_of(&found, "seat"))
 }
 
-/// The word of the seat after `keep`; none where clap refuses the words.
-pub(crate) fn kept_seat_word<'a>(
-    alloc: Global,
-    words: &'a [String],
-) -> Result<Option<&'a str>, AllocError>
-    ensures { IfOk result (λ word. option_map (λ w. w.now) word
-        ≡ value_in keep_line (codes "seat") (map string_bytes words.now)) }
-{
-    let seat = Arg::new(alloc, "seat").required(true);
-    let command = Command::new(alloc, "keep").arg(seat)?;
-    match parse(command, words)? {
-        Some(matches) => Ok(matches.get_str("seat")),
-        None => Ok(None),
-    }
-}
-
-/// The word of the seat after `safe`; none where clap refuses the words.
-pub(crate) fn safe_seat_word<'a>(
-    alloc: Global,
-    words: &'a [String],
-) -> Result<Option<&'a str>, AllocError>
-    ensures { IfOk result (λ word. option_map (λ w. w.now) word
-        ≡ value_in safe_line (codes "seat") (map string_bytes words.now)) }
-{
-    let seat = Arg::new(alloc, "seat").required(true);
-    let command = Command::new(alloc, "safe").arg(seat)?;
-    match parse(command, words)? {
-        Some(matches) => Ok(matches.get_str("seat")),
-        None => Ok(None),
-    }
-}
-
-/// The words of the options after `serve`, and of its flags, each where clap takes the words.
+/// The words of the options that `serve` and `tables` have in common, and of their flags, each where clap takes the words.
 #[derive(Clone, Copy)]
 pub(crate) struct ServeWords<'a> {
     pub seed: Option<&'a str>,
@@ -74,47 +40,81 @@ pub(crate) fn serve_words<'a>(
     alloc: Global,
     words: &'a [String],
 ) -> Result<ServeWords<'a>, AllocError>
-    ensures { IfOk result (λ found. HasServeWords found (map string_bytes words.now)) }
+    ensures { IfOk result (λ found. HasServeWords serve_line found (map string_bytes words.now)) }
 {
-    match parse(serve_command(alloc)?, words)? {
-        Some(matches) => Ok(ServeWords {
-            seed: matches.get_str("seed"),
-            limit: matches.get_str("limit"),
-            port: matches.get_str("port"),
-            draws: matches.get_str("draws"),
-            red: matches.get_str("red"),
-        }),
-        None => Ok(ServeWords {
-            seed: None,
-            limit: None,
-            port: None,
-            draws: None,
-            red: None,
-        }),
-    }
+    let found = parse(serve_command(alloc)?, words)?;
+    Ok(options_of(&found))
+}
+
+/// The words of the options and of the flags after `tables`, each where clap takes the words.
+#[derive(Clone, Copy)]
+pub(crate) struct TablesWords<'a> {
+    pub rooms: Option<&'a str>,
+    pub serving: ServeWords<'a>,
+}
+
+/// The words of the options and of the flags after `tables`.
+pub(crate) fn tables_words<'a>(
+    alloc: Global,
+    words: &'a [String],
+) -> Result<TablesWords<'a>, AllocError>
+    ensures { IfOk result (λ found. HasTablesWords found (map string_bytes words.now)) }
+{
+    let found = parse(tables_command(alloc)?, words)?;
+    Ok(TablesWords {
+        rooms: value_of(&found, "rooms"),
+        serving: options_of(&found),
+    })
 }
 
 // The command `serve` with its options.
 fn serve_command<'a>(alloc: Global) -> Result<Command<'a>, AllocError>
     ensures { IfOk result (λ command. app_of command ≡ serve_line) }
 {
-    let seed = Arg::new(alloc, "seed").long("seed").required(true);
-    let limit = Arg::new(alloc, "limit")
-        .long("limit")
-        .default_value("10000");
-    let port = Arg::new(alloc, "port").long("port").default_value("11600");
-    let draws = Arg::new(alloc, "draws")
-        .long("draws")
-        .action(ArgAction::SetTrue);
-    let red = Arg::new(alloc, "red")
-        .long("red")
-        .action(ArgAction::SetTrue);
-    Command::new(alloc, "serve")
-        .arg(seed)?
-        .arg(limit)?
-        .arg(port)?
-        .arg(draws)?
-        .arg(red)
+    let command = Command::new(alloc, "serve").arg(option_wanted(alloc, "seed"))?;
+    with_settings(alloc, command)
+}
+
+// The command `tables` with its options.
+fn tables_command<'a>(alloc: Global) -> Result<Command<'a>, AllocError>
+    ensures { IfOk result (λ command. app_of command ≡ tables_line) }
+{
+    let command = Command::new(alloc, "tables")
+        .arg(option_wanted(alloc, "seed"))?
+        .arg(option_wanted(alloc, "rooms"))?;
+    with_settings(alloc, command)
+}
+
+// A command with the options that `serve` and `tables` end with.
+fn with_settings<'a>(alloc: Global, command: Command<'a>) -> Result<Command<'a>, AllocError>
+    ensures { IfOk result (λ full. app_of full ≡ with_settings (app_of command.entry)) }
+{
+    command
+        .arg(option_or(alloc, "limit", "10000"))?
+        .arg(option_or(alloc, "port", "11600"))?
+        .arg(flag(alloc, "draws"))?
+        .arg(flag(alloc, "red"))
+}
+
+// An option with one value after its name, which must be there.
+fn option_wanted<'a>(alloc: Global, name: &'a str) -> Arg<'a>
+    ensures { Reads result (option_wanted name.now) }
+{
+    Arg::new(alloc, name).long(name).required(true)
+}
+
+// An option with one value after its name, which has a value of its own where it is left out.
+fn option_or<'a>(alloc: Global, name: &'a str, value: &'a str) -> Arg<'a>
+    ensures { Reads result (option_or name.now value.now) }
+{
+    Arg::new(alloc, name).long(name).default_value(value)
+}
+
+// A name that has no value after it.
+fn flag<'a>(alloc: Global, name: &'a str) -> Arg<'a>
+    ensures { Reads result (flag name.now) }
+{
+    Arg::new(alloc, name).long(name).action(ArgAction::SetTrue)
 }
 
 /// Whether clap takes the words after `replay`.
@@ -147,6 +147,7 @@ pub(crate) fn hand_words(alloc: Global, words: &[String]) -> Result<Option<Vec<S
 }
 
 /// The word of the number after `selfplay`; none where clap refuses the words.
+#[tactic(auto, unfolding(crate::specs::Lines::self_play_line))]
 pub(crate) fn number_word<'a>(
     alloc: Global,
     words: &'a [String],
@@ -155,11 +156,8 @@ pub(crate) fn number_word<'a>(
         ≡ value_in self_play_line (codes "n") (map string_bytes words.now)) }
 {
     let number = Arg::new(alloc, "n").required(true);
-    let command = Command::new(alloc, "selfplay").arg(number)?;
-    match parse(command, words)? {
-        Some(matches) => Ok(matches.get_str("n")),
-        None => Ok(None),
-    }
+    let found = parse(Command::new(alloc, "selfplay").arg(number)?, words)?;
+    Ok(value_of(&found, "n"))
 }
 
 // What a command of clap reads in words; none where it refuses them.
@@ -168,9 +166,7 @@ fn parse<'a>(
     words: &'a [String],
 ) -> Result<Option<ArgMatches<'a>>, AllocError>
     requires { is_simple_and_free (app_of command) ≡ true }
-    ensures { IfOk result (λ found. MatchOption found
-        (is_taken (app_of command.entry) (map string_bytes words.now) ≡ false)
-        (IsParse (app_of command.entry) (map string_bytes words.now))) }
+    ensures { IfOk result (λ found. Says (app_of command.entry) (map string_bytes words.now) found) }
 {
     match command.try_get_matches_from(words) {
         Ok(matches) => Ok(Some(matches)),
@@ -180,6 +176,31 @@ fn parse<'a>(
             }
             Ok(None)
         }
+    }
+}
+
+// The words of the options that `serve` and `tables` have in common, and of their flags, in what clap says of some words.
+fn options_of<'a>(found: &Option<ArgMatches<'a>>) -> ServeWords<'a>
+    ensures { (line : App) (words : List (List ℕ)) → Says line words found.now
+        → HasServeWords line result words }
+{
+    ServeWords {
+        seed: value_of(found, "seed"),
+        limit: value_of(found, "limit"),
+        port: value_of(found, "port"),
+        draws: value_of(found, "draws"),
+        red: value_of(found, "red"),
+    }
+}
+
+// The value of an argument in what clap says of some words; none where it refuses them.
+fn value_of<'a>(found: &Option<ArgMatches<'a>>, name: &str) -> Option<&'a str>
+    ensures { (line : App) (words : List (List ℕ)) → Says line words found.now
+        → option_map (λ w. w.now) result ≡ value_in line name.now words }
+{
+    match found {
+        Some(matches) => matches.get_str(name),
+        None => None,
     }
 }
 

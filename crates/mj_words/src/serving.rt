@@ -15,3 +15,13 @@ pub struct Serving {
     pub red: bool,
     ghost within: { (1 ≤ limit) × (limit ≤ 3600000) },
 }
+
+/// What the games of some rooms are served with.
+#[derive(Clone, Copy, Debug, PartialEq, Eq)]
+pub struct Hosting {
+    /// How many rooms there are, 1 to 8, with a game in each.
+    pub rooms: u8,
+    /// What each game is served with.
+    pub serving: Serving,
+    ghost within: { (1 ≤ rooms) × (rooms ≤ 8) },
+}

@@ -1,11 +1,11 @@
 use Rattle.std.proofs.Common.{refl}
 use Rattle.clap.proofs.OnLiterals.{clap_on_literals}
 use Rattle.hex.proofs.OnLiterals.{hex_on_literals}
-use Rattle.mj_words.specs.Lines.{referee_line, keep_line, serve_line, replay_line, hand_line, self_play_line, observe_line, safe_line, is_taken, value_in, values_in}
+use Rattle.mj_words.specs.Lines.{referee_line, keep_line, serve_line, replay_line, hand_line, self_play_line, observe_line, safe_line, tables_line, is_taken, value_in, values_in}
 use Rattle.mj_words.proofs.laws.words_are_read.Goals as goal
 
 pub returns : goal.returns
-unfolding clap_on_literals hex_on_literals referee_line keep_line serve_line replay_line hand_line self_play_line observe_line safe_line is_taken value_in values_in
+unfolding clap_on_literals hex_on_literals referee_line keep_line serve_line replay_line hand_line self_play_line observe_line safe_line tables_line is_taken value_in values_in
 returns c = record {
   none = refl;
   no_command = refl;
@@ -43,6 +43,15 @@ returns c = record {
   safe = refl;
   safe_of_none = refl;
   safe_of_the_fifth = refl;
+  tables = refl;
+  tables_with_all = refl;
+  tables_without_rooms = refl;
+  tables_of_no_room = refl;
+  tables_of_nine_rooms = refl;
+  tables_of_a_longer_number = refl;
+  tables_twice = refl;
+  tables_without_a_seed = refl;
+  serve_with_rooms = refl;
   observe = refl;
   observe_of_a_seat = refl;
 }
