@@ -12,6 +12,7 @@ pub mod ReplayLaws
 pub mod ObserveLaws
 pub mod ServeLaws
 pub mod WaitLaws
+pub mod TablesLaws
 pub mod WatchLaws
 pub mod PlayedLaws
 pub mod NoteLaws

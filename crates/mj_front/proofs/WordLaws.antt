@@ -8,12 +8,13 @@ use Rattle.mj_front.specs.declared.referee.RefereeEnd.TheVariants as referees
 use Rattle.mj_front.specs.declared.replay.ReplayEnd.TheVariants as replays
 use Rattle.mj_front.specs.declared.self_game.SelfPlayEnd.TheVariants as games
 use Rattle.mj_front.specs.declared.status.Status.TheVariants as statuses
-use Rattle.mj_front.specs.Run.{Asked, RefereeOf, ServingOf, SummaryOfRecord, HandOf, SelfPlayOf, ViewOfRecord, KeepOf, SafeOf, Nothing, Runs, RunsDisk, MeetsReadFaults, IsAlone}
+use Rattle.mj_front.specs.Run.{Asked, RefereeOf, ServingOf, SummaryOfRecord, HandOf, SelfPlayOf, ViewOfRecord, KeepOf, SafeOf, TablesOf, Nothing, Runs, RunsDisk, MeetsReadFaults, IsAlone}
 
 -- Where memory is wanting before the words were read, nothing is read or written, whatever they ask for.
 pub unheard : (asked : Asked) (left written : Option (List ℕ)) → IsAlone asked → Runs asked statuses.NoMemory left left written written
 unheard (RefereeOf seat) left written alone = record { end = referees.NoMemory; gives = refl; does = Keeps-refl written }
 unheard (ServingOf s) left written alone = absurd alone
+unheard (TablesOf rooms s) left written alone = absurd alone
 unheard SummaryOfRecord left written alone = record { end = replays.NoMemory; gives = refl; does = Keeps-refl written }
 unheard (HandOf words) left written alone = record { end = hands.NoMemory; gives = refl; unread = Keeps-refl left; does = Keeps-refl written }
 unheard (SelfPlayOf number) left written alone = record { end = games.NoMemory; gives = refl; unread = Keeps-refl left; does = Keeps-refl written }
@@ -26,6 +27,7 @@ unheard Nothing left written alone = record { words = tt; unread = Keeps-refl le
 pub untouched : {D : Type 0} (told : D → Option (List ℕ)) (may_leave : D → List ℕ → Type 0) (faults : D → ℕ) (disk : D) (asked : Asked) (left written : Option (List ℕ)) → RunsDisk told may_leave faults asked statuses.NoMemory left left written written disk disk
 untouched told may_leave faults disk (RefereeOf seat) left written = refl
 untouched told may_leave faults disk (ServingOf s) left written = refl
+untouched told may_leave faults disk (TablesOf rooms s) left written = refl
 untouched told may_leave faults disk SummaryOfRecord left written = refl
 untouched told may_leave faults disk (HandOf words) left written = refl
 untouched told may_leave faults disk (SelfPlayOf number) left written = refl
@@ -37,6 +39,7 @@ untouched told may_leave faults disk Nothing left written = refl
 pub unread : (asked : Asked) (count : ℕ) → MeetsReadFaults asked count count
 unread (RefereeOf seat) count = omega arith
 unread (ServingOf s) count = refl
+unread (TablesOf rooms s) count = refl
 unread SummaryOfRecord count = omega arith
 unread (HandOf words) count = refl
 unread (SelfPlayOf number) count = refl

@@ -6,6 +6,7 @@ pub mod Observing
 pub mod Refereeing
 pub mod Replaying
 pub mod Serving
+pub mod Hosting
 pub mod Watching
 pub mod Keeping
 pub mod Bases

@@ -7,6 +7,7 @@ pub mod Replay
 pub mod Hand
 pub mod SelfPlay
 pub mod Serve
+pub mod Tables
 pub mod Statuses
 pub mod Faults
 pub mod Run

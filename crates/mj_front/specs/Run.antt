@@ -1,7 +1,7 @@
 -- What a run does by what its words ask for.
-use Rattle.std.specs.Prelude.{◌≡◌, ℕ, ◌<◌, ◌≤◌, Bool, false, List, [], ◌∷◌, codes, bytes_eq, Option}
+use Rattle.std.specs.Prelude.{◌≡◌, ℕ, ◌<◌, ◌≤◌, Bool, false, List, [], ◌∷◌, ◌||◌, codes, bytes_eq, Option}
 use Rattle.std.specs.Io.KnownBytes.{Keeps}
-pub use Rattle.mj_words.specs.Asked.{Asked, ServedWith, RefereeOf, ServingOf, SummaryOfRecord, HandOf, SelfPlayOf, ViewOfRecord, KeepOf, SafeOf, Nothing, asked_by}
+pub use Rattle.mj_words.specs.Asked.{Asked, ServedWith, RefereeOf, ServingOf, SummaryOfRecord, HandOf, SelfPlayOf, ViewOfRecord, KeepOf, SafeOf, TablesOf, Nothing, asked_by}
 use Rattle.mj_front.specs.declared.hand.HandLinesEnd.{HandLinesEnd}
 use Rattle.mj_front.specs.declared.keep.KeepEnd.{KeepEnd}
 use Rattle.mj_front.specs.declared.referee.RefereeEnd.{RefereeEnd}
@@ -65,7 +65,7 @@ pub record RunsSelfPlay (status : Status) (number : ℕ) (old_left new_left old_
   pub unread : Keeps old_left new_left
   pub does : WritesSelfPlay end number old_written new_written
 
--- A game was served, which gives the status by its end, and nothing is read. What was served stands under `does`.
+-- A game was served, or many, which gives the status by its end, and nothing is read. What was served stands under `does`.
 pub record RunsServe (Does : ServeEnd → Type 0) (status : Status) (old_left new_left : Option (List ℕ)) : Type 0 where
   pub end : ServeEnd
   pub gives : status ≡ serve_status end
@@ -84,14 +84,19 @@ abbrev pub RunsDisk : {D : Type 0} → (D → Option (List ℕ)) → (D → List
 RunsDisk told may_leave faults (KeepOf seat) status old_left new_left old_written new_written old new = RunsKeep told may_leave faults status seat old_left new_left old_written new_written old new
 RunsDisk told may_leave faults asked status old_left new_left old_written new_written old new = new ≡ old
 
--- The first word is that of a command that waits for others.
-abbrev pub is_waiting : List (List ℕ) → Bool
-is_waiting [] = false
-is_waiting (command ∷ words) = bytes_eq command (codes "serve")
+-- The first word is this one.
+abbrev pub begins_with : List ℕ → List (List ℕ) → Bool
+begins_with word [] = false
+begins_with word (command ∷ words) = bytes_eq command word
 
--- No game is to be served, and a seat that is asked of is one of the four.
+-- It is that of a command that waits for others.
+abbrev pub is_waiting : List (List ℕ) → Bool
+is_waiting words = begins_with (codes "serve") words || begins_with (codes "tables") words
+
+-- No game is to be served, no tables either, and a seat that is asked of is one of the four.
 abbrev pub IsAlone : Asked → Type 0
 IsAlone (ServingOf s) = ⊥
+IsAlone (TablesOf rooms s) = ⊥
 IsAlone (RefereeOf seat) = seat < 4
 IsAlone (SafeOf seat) = seat < 4
 IsAlone asked = Unit {0}
@@ -101,6 +106,7 @@ abbrev pub Runs : Asked → Status → Option (List ℕ) → Option (List ℕ) �
 Runs Nothing status old_left new_left old_written new_written = IsUnheard status old_left new_left old_written new_written
 Runs (RefereeOf seat) status old_left new_left old_written new_written = RunsReferee IsTold status seat old_left new_left old_written new_written
 Runs (ServingOf s) status old_left new_left old_written new_written = ⊥
+Runs (TablesOf rooms s) status old_left new_left old_written new_written = ⊥
 Runs SummaryOfRecord status old_left new_left old_written new_written = RunsReplay status old_left new_left old_written new_written
 Runs (HandOf words) status old_left new_left old_written new_written = RunsHand status words old_left new_left old_written new_written
 Runs (SelfPlayOf number) status old_left new_left old_written new_written = RunsSelfPlay status number old_left new_left old_written new_written
@@ -114,6 +120,7 @@ abbrev pub MeetsReadFaults : Asked → ℕ → ℕ → Type 0
 MeetsReadFaults Nothing old new = old ≡ new
 MeetsReadFaults (RefereeOf seat) old new = old ≤ new
 MeetsReadFaults (ServingOf s) old new = old ≡ new
+MeetsReadFaults (TablesOf rooms s) old new = old ≡ new
 MeetsReadFaults SummaryOfRecord old new = old ≤ new
 MeetsReadFaults (HandOf words) old new = old ≡ new
 MeetsReadFaults (SelfPlayOf number) old new = old ≡ new
@@ -121,12 +128,14 @@ MeetsReadFaults ViewOfRecord old new = old ≤ new
 MeetsReadFaults (KeepOf seat) old new = old ≤ new
 MeetsReadFaults (SafeOf seat) old new = old ≤ new
 
--- What any run does: a game that is served goes by `Does`, and all else as where nobody is waited for.
-abbrev pub RunsAny : (ServeEnd → ServedWith → Type 0) → Asked → Status → Option (List ℕ) → Option (List ℕ) → Option (List ℕ) → Option (List ℕ) → Type 0
-RunsAny Does (ServingOf s) status old_left new_left old_written new_written = RunsServe (λ end. Does end s) status old_left new_left
-RunsAny Does asked status old_left new_left old_written new_written = Runs asked status old_left new_left old_written new_written
+-- What any run does: a game that is served goes by `Does`, many tables by `DoesAll`, and all else as where nobody is waited for.
+abbrev pub RunsAny : (ServeEnd → ServedWith → Type 0) → (ServeEnd → ℕ → ServedWith → Type 0) → Asked → Status → Option (List ℕ) → Option (List ℕ) → Option (List ℕ) → Option (List ℕ) → Type 0
+RunsAny Does DoesAll (ServingOf s) status old_left new_left old_written new_written = RunsServe (λ end. Does end s) status old_left new_left
+RunsAny Does DoesAll (TablesOf rooms s) status old_left new_left old_written new_written = RunsServe (λ end. DoesAll end rooms s) status old_left new_left
+RunsAny Does DoesAll asked status old_left new_left old_written new_written = Runs asked status old_left new_left old_written new_written
 
 -- A run that serves no game leaves the host and the clock as they were.
 abbrev pub LeavesAlone : Asked → Type 0 → Type 0
 LeavesAlone (ServingOf s) Same = Unit {0}
+LeavesAlone (TablesOf rooms s) Same = Unit {0}
 LeavesAlone asked Same = Same

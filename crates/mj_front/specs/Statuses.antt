@@ -51,7 +51,7 @@ self_play_status games.Written = statuses.Done
 self_play_status games.WriteFault = statuses.WriteFault
 self_play_status games.NoMemory = statuses.NoMemory
 
--- The status that the end of the command `serve` gives.
+-- The status that the end of the commands `serve` and `tables` gives.
 abbrev pub serve_status : ServeEnd → Status
 serve_status serving.Over = statuses.Done
 serve_status serving.HostLost = statuses.HostFault
@@ -88,7 +88,7 @@ code_of (statuses.BadJournal place) = 13
 
 -- How the program is called.
 unfoldable pub usage : List ℕ
-usage = codes "usage: riichi_table referee SEAT | serve --seed HEX [--limit MS] [--port N] [--draws] [--red] | replay | hand WORDS | selfplay N | observe | keep SEAT | safe SEAT\n"
+usage = codes "usage: riichi_table referee SEAT | serve --seed HEX [--limit MS] [--port N] [--draws] [--red] | replay | hand WORDS | selfplay N | observe | keep SEAT | safe SEAT | tables --seed HEX --rooms N [--limit MS] [--port N] [--draws] [--red]\n"
 
 -- A fault at a line of the input, counted from 1.
 unfoldable pub at_line : List ℕ → ℕ → List ℕ

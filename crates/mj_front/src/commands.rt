@@ -4,8 +4,9 @@ ghost use Rattle.std.specs.Prelude.{◌≡◌, false, map};
 ghost use Rattle.std.specs.String.{string_bytes};
 ghost use Rattle.mj_words.specs.Asked.{asked_by};
 ghost use Rattle.mj_words.specs.Commands.{asked_by_command};
-ghost use Rattle.mj_front.specs.Run.{Runs, RunsAny, RunsDisk, MeetsReadFaults, LeavesAlone, is_waiting, IsAlone};
+ghost use Rattle.mj_front.specs.Run.{Runs, RunsAny, RunsDisk, MeetsReadFaults, LeavesAlone, begins_with, is_waiting, IsAlone};
 ghost use Rattle.mj_front.specs.Serve.{Serves, outside};
+ghost use Rattle.mj_front.specs.Tables.{PlaysAll};
 ghost use Rattle.mj_front.specs.Faults.{CountsReadFaults, CountsWriteFaults};
 
 use crate::hand::write_hand;
@@ -20,9 +21,10 @@ use crate::status::{
     Status, status_of_hand, status_of_keep, status_of_referee, status_of_replay,
     status_of_self_play, status_of_serve,
 };
+use crate::tables::serve_tables;
 use mj_journal::Disk;
 use mj_links::{Clock, Host, Sink, Source};
-use mj_words::{Command, command_of, serving_of};
+use mj_words::{Command, command_of, serving_of, tables_of};
 use std::alloc::Global;
 use std::sync::Wait;
 use std::thread::Threads;
@@ -36,6 +38,11 @@ use std::thread::Threads;
 /// the draw reasons in force. Once the game is over, or the host has failed each handler, the links of all connections are given
 /// back to the host, each with the place of its connection among the entries, and the record is written. The source is left as it
 /// was. It may wait for others for ever.
+///
+/// `tables` has the words of `serve`, and `--rooms`, 1 to 8: so many games are played side by side over the one host, each at a
+/// table of its own with 200 walls of its own, the next ones of the seed. A join sits at the table whose room it names, `room1` and so
+/// on, and at the first where it names none or `default`. Before the record of each game stands a line with the number of its
+/// table.
 #[tactic(auto, using(crate::proofs::WaitLaws::any_of, crate::proofs::WaitLaws::left_alone, crate::proofs::WordLaws::unread))]
 pub fn run<S: Source, K: Sink, H: Host, C: Clock, D: Disk, R: Threads + Wait + Sync>(
     rt: &R,
@@ -49,6 +56,10 @@ pub fn run<S: Source, K: Sink, H: Host, C: Clock, D: Disk, R: Threads + Wait + S
 ) -> Status
     ensures run { RunsAny (λ end s. Serves H.Link.was_read H.Link.left H.Link.written
         H.Link.read_faults H.Link.write_faults (H.made_by host.new) H.Fault.number end s
+        (outside (H.ports host.old) (H.returned host.old) (C.readings clock.old) (K.written sink.old))
+        (outside (H.ports host.new) (H.returned host.new) (C.readings clock.new) (K.written sink.new)))
+        (λ end rooms s. PlaysAll H.Link.was_read H.Link.left H.Link.written
+        H.Link.read_faults H.Link.write_faults (H.made_by host.new) H.Fault.number end rooms s
         (outside (H.ports host.old) (H.returned host.old) (C.readings clock.old) (K.written sink.old))
         (outside (H.ports host.new) (H.returned host.new) (C.readings clock.new) (K.written sink.new)))
         (asked_by (map string_bytes words.now)) result (S.left source.old) (S.left source.new)
@@ -66,19 +77,33 @@ pub fn run<S: Source, K: Sink, H: Host, C: Clock, D: Disk, R: Threads + Wait + S
     if !is_for_waiting(words) {
         return run_alone(alloc, words, source, sink, disk);
     }
-    match serving_of(alloc, words) {
-        Ok(Some(serving)) => status_of_serve(serve(rt, alloc, &serving, sink, host, clock)),
+    if begins_with(words, "serve") {
+        return match serving_of(alloc, words) {
+            Ok(Some(serving)) => status_of_serve(serve(rt, alloc, &serving, sink, host, clock)),
+            Ok(None) => Status::Words,
+            Err(_) => Status::NoMemory,
+        };
+    }
+    match tables_of(alloc, words) {
+        Ok(Some(hosting)) => status_of_serve(serve_tables(rt, alloc, &hosting, sink, host, clock)),
         Ok(None) => Status::Words,
         Err(_) => Status::NoMemory,
     }
 }
 
-/// Whether the first word is that of a command that waits for others: `serve`.
+/// Whether the first word is that of a command that waits for others: `serve` or `tables`.
 pub fn is_for_waiting(words: &[String]) -> bool
     ensures { result ≡ is_waiting (map string_bytes words.now) }
 {
+    begins_with(words, "serve") || begins_with(words, "tables")
+}
+
+// Whether the first word is this one.
+fn begins_with(words: &[String], word: &str) -> bool
+    ensures { result ≡ begins_with word.now (map string_bytes words.now) }
+{
     match words {
-        [first, ..] => first.as_str() == "serve",
+        [first, ..] => first.as_str() == word,
         [] => false,
     }
 }
@@ -158,6 +183,7 @@ fn run_command<S: Source, K: Sink, D: Disk>(
             status_of_referee(referee_of(alloc, Question::Script, *seat, source, sink))
         }
         Command::Serve(_) => unreachable!(),
+        Command::Tables(_) => unreachable!(),
         Command::Replay => status_of_replay(replay_of(alloc, source, sink)),
         Command::Hand(words) => status_of_hand(write_hand(alloc, words.as_slice(), sink)),
         Command::SelfPlay(number) => status_of_self_play(write_self_play(alloc, *number, sink)),

@@ -35,7 +35,7 @@ pub(crate) enum ServeEnd {
 }
 
 /// The walls of a served game.
-const WALLS: u64 = 200;
+pub(crate) const WALLS: u64 = 200;
 
 /// Plays a game over the host, gives the links of its connections back, and writes its record.
 pub(crate) fn serve<K: Sink, H: Host, C: Clock, R: Threads + Wait + Sync>(
@@ -66,8 +66,8 @@ pub(crate) fn serve<K: Sink, H: Host, C: Clock, R: Threads + Wait + Sync>(
     }
 }
 
-// Whether the system gives a thread. Without one the workers would come one after another, and no game would begin.
-fn has_thread<R: Threads>(rt: &R) -> bool {
+/// Whether the system gives a thread. Without one the workers would come one after another, and no game would begin.
+pub(crate) fn has_thread<R: Threads>(rt: &R) -> bool {
     match spawn(rt, || {}) {
         Ok(handle) => {
             handle.join(rt);

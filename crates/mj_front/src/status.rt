@@ -160,7 +160,7 @@ pub fn status_text(alloc: Global, status: &Status) -> Result<Vec<u8>, AllocError
         Status::Done => Ok(Vec::new(alloc)),
         Status::Words => Vec::from_slice(
             alloc,
-            b"usage: riichi_table referee SEAT | serve --seed HEX [--limit MS] [--port N] [--draws] [--red] | replay | hand WORDS | selfplay N | observe | keep SEAT | safe SEAT\n",
+            b"usage: riichi_table referee SEAT | serve --seed HEX [--limit MS] [--port N] [--draws] [--red] | replay | hand WORDS | selfplay N | observe | keep SEAT | safe SEAT | tables --seed HEX --rooms N [--limit MS] [--port N] [--draws] [--red]\n",
         ),
         Status::ReadFault => Vec::from_slice(alloc, b"read fault\n"),
         Status::WriteFault => Vec::from_slice(alloc, b"write fault\n"),

@@ -11,7 +11,7 @@
 use mj_front::{Status, exit_code, run, status_text};
 use mj_journal::FileDisk;
 use mj_links::{MachineClock, ReaderSource, TcpHost, WriterSink};
-use mj_words::serving_of;
+use mj_words::{serving_of, tables_of};
 use std::alloc::{AllocError, Global};
 use std::env;
 use std::io::{ErrorKind, Write};
@@ -38,10 +38,13 @@ fn main(rt: HostRuntime) -> ExitCode {
     ExitCode::from(exit_code(&status))
 }
 
-// How many milliseconds a player of the game that the words ask for has for an answer; 0 where they ask for none.
+// How many milliseconds a player of the games that the words ask for has for an answer; 0 where they ask for none.
 fn limit_of(alloc: Global, words: &[String]) -> u64 {
-    match serving_of(alloc, words) {
-        Ok(Some(serving)) => serving.limit,
+    if let Ok(Some(serving)) = serving_of(alloc, words) {
+        return serving.limit;
+    }
+    match tables_of(alloc, words) {
+        Ok(Some(hosting)) => hosting.serving.limit,
         Ok(None) | Err(_) => 0,
     }
 }

@@ -221,7 +221,7 @@ const STATUSES: [(Status, u8, &str); 11] = [
     (
         Status::Words,
         2,
-        "usage: riichi_table referee SEAT | serve --seed HEX [--limit MS] [--port N] [--draws] [--red] | replay | hand WORDS | selfplay N | observe | keep SEAT | safe SEAT\n",
+        "usage: riichi_table referee SEAT | serve --seed HEX [--limit MS] [--port N] [--draws] [--red] | replay | hand WORDS | selfplay N | observe | keep SEAT | safe SEAT | tables --seed HEX --rooms N [--limit MS] [--port N] [--draws] [--red]\n",
     ),
 ];
 
