@@ -18,7 +18,7 @@ def answer(event, seat):
     return {"type": "none"}
 
 
-def play(name, key, port, events=-1, answer=answer):
+def play(name, key, port, events=-1, answer=answer, room="default"):
     """Plays one game, from the join to its end or for so many events, by a function that answers; says how it ended."""
     link = socket.create_connection(("127.0.0.1", port))
     lines = link.makefile("r", encoding="utf-8", newline="\n")
@@ -26,7 +26,7 @@ def play(name, key, port, events=-1, answer=answer):
     def send(value):
         link.sendall(json.dumps(value, separators=(",", ":")).encode() + b"\n")
 
-    join = {"type": "join", "name": name, "room": "default"}
+    join = {"type": "join", "name": name, "room": room}
     if key:
         join["key"] = key
     seat = None
@@ -62,9 +62,10 @@ def play(name, key, port, events=-1, answer=answer):
 
 if __name__ == "__main__":
     words = sys.argv[1:]
-    if not 1 <= len(words) <= 4:
+    if not 1 <= len(words) <= 5:
         sys.exit(__doc__)
     key = words[1] if len(words) > 1 else ""
     port = int(words[2]) if len(words) > 2 else 11600
     events = int(words[3]) if len(words) > 3 else -1
-    print(words[0] + ": " + play(words[0], key, port, events))
+    room = words[4] if len(words) > 4 else "default"
+    print(words[0] + ": " + play(words[0], key, port, events, room=room))

@@ -46,6 +46,7 @@ done << 'END'
 120 examples/tests/test_bridge.py
 200 examples/tests/test_play.py
 200 examples/tests/test_serve.py
+200 examples/tests/test_tables.py
 60 league/tests/test_results.py
 400 league/tests/test_league.py
 240 viewer/tests/test_viewer.py

@@ -55,7 +55,7 @@ fn the_first_reading_for_a_window_is_made_once_it_was_seen_open(
 ) -> Result<(), Fail> {
     let alloc = rt.alloc();
     for busy in [1, 2] {
-        let meeting = Meeting::new();
+        let meeting = Meeting::new(4, 27);
         let links = host(alloc, &[A_AND_PASS, B_AND_PASS, C_AND_PASS, D_AND_PASS], 0)?;
         let game = shuffled_game(alloc)?;
         let host = MeetingHost::new(&rt, &meeting, Sign::Asked, links);

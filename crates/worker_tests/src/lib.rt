@@ -25,6 +25,8 @@ mod serving_tests;
 #[cfg(test)]
 mod slow;
 #[cfg(test)]
+mod table_tests;
+#[cfg(test)]
 mod tick_tests;
 #[cfg(test)]
 mod turn_tests;

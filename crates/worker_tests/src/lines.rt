@@ -4,6 +4,9 @@ use std::alloc::{AllocError, Global};
 
 pub const HELLO: &str = "{\"type\":\"hello\",\"protocol\":\"mjsonp\",\"protocol_version\":3}\n";
 
+/// What is told to a join that names a room of which there is none.
+pub const NO_ROOM: &str = "{\"type\":\"error\",\"sit\":8,\"message\":\"NoRoom\"}\n";
+
 /// What comes after the hello line for a seat that came back once the first deed was answered.
 pub const HEAD: &str = "{\"type\":\"replay\",\"count\":1}\n";
 

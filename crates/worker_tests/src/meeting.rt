@@ -1,8 +1,9 @@
-//! A host whose four links wait for one another and for a clock, and that clock.
+//! A host whose links wait for one another and for a clock, and that clock.
 
 ghost use Rattle.std.specs.Prelude.{◌≡◌, None};
 ghost use Rattle.mj_links.specs.Links.{ReadingStays, WritingStays};
 
+use crate::lines::{HELLO, NO_ROOM, Part, are_made_of};
 use mj_links::{
     Came, Clock, FaultCount, Given, Got, Host, Link, MemHost, MemLink, Numbered, Opened, Put, Sink,
     Source,
@@ -11,14 +12,8 @@ use std::sync::atomic::{AtomicU32, Ordering};
 use std::time::Duration;
 use std::{thread, time};
 
-/// How many links wait for one another.
-const LINKS: u32 = 4;
-
 /// How many turns of a millisecond each waits at most.
 const TURNS: u32 = 10_000;
-
-/// How long the line of a join is, with its newline.
-const JOIN: usize = 27;
 
 /// What a link waits for.
 #[derive(Clone, Copy)]
@@ -31,32 +26,43 @@ pub enum Sign {
     Asked,
 }
 
-/// How far a meeting has come.
+/// How far a meeting of so many links has come, each of which has the line of a join of so many bytes with its newline.
 #[derive(Drop)]
 pub struct Meeting {
+    links: u32,
+    join: usize,
     given: AtomicU32,
     started: AtomicU32,
     dealt: AtomicU32,
     asked: AtomicU32,
     missed: AtomicU32,
+    refused: AtomicU32,
 }
 
 impl Meeting {
-    pub fn new() -> Meeting {
+    pub fn new(links: u32, join: usize) -> Meeting {
         Meeting {
+            links,
+            join,
             given: AtomicU32::new(0),
             started: AtomicU32::new(0),
             dealt: AtomicU32::new(0),
             asked: AtomicU32::new(0),
             missed: AtomicU32::new(0),
+            refused: AtomicU32::new(0),
         }
+    }
+
+    /// How many links were told the hello line and that there is no such room, and nothing else before.
+    pub fn refused(&self) -> u32 {
+        self.refused.load(Ordering::SeqCst)
     }
 
     // Waits for a sign; false, and noted, where the wait has run out.
     fn awaits<R: time::Clock>(&self, rt: &R, sign: Sign) -> bool {
         let came = match sign {
-            Sign::AllGiven => await_count(rt, &self.given, LINKS),
-            Sign::AllStarted => await_count(rt, &self.started, LINKS),
+            Sign::AllGiven => await_count(rt, &self.given, self.links),
+            Sign::AllStarted => await_count(rt, &self.started, self.links),
             Sign::Asked => await_count(rt, &self.asked, 1),
         };
         if !came {
@@ -65,13 +71,16 @@ impl Meeting {
         came
     }
 
-    // Counts what is written on a link.
-    fn note(&self, piece: &[u8]) {
+    // Counts what is written on a link, on which there is all this now.
+    fn note(&self, piece: &[u8], written: &[u8]) {
         if piece.starts_with(b"{\"type\":\"start_game\"") {
             self.started.fetch_add(1, Ordering::SeqCst);
         }
         if piece.starts_with(b"{\"type\":\"start_kyoku\"") {
             self.dealt.fetch_add(1, Ordering::SeqCst);
+        }
+        if are_made_of(written, &[Part(HELLO, 1), Part(NO_ROOM, 1)]) {
+            self.refused.fetch_add(1, Ordering::SeqCst);
         }
     }
 }
@@ -92,8 +101,8 @@ pub fn await_count<R: time::Clock>(rt: &R, count: &AtomicU32, wanted: u32) -> bo
     false
 }
 
-/// A link in memory which hands out at most 27 bytes a read, as long as the line of a join is, and whose first read and
-/// later ones wait for a sign. Where a wait runs out, the read fails. It tells nothing for proofs.
+/// A link in memory which hands out at most as many bytes a read as the line of a join has, and whose first read and later
+/// ones wait for a sign. Where a wait runs out, the read fails. It tells nothing for proofs.
 #[derive(Drop)]
 pub struct MeetingLink<'a, R> {
     link: MemLink,
@@ -119,7 +128,7 @@ impl<'a, R: time::Clock> Source for MeetingLink<'a, R> {
             return Got::Failed;
         }
         self.sign = self.later;
-        let room = into.len().min(JOIN);
+        let room = into.len().min(self.meeting.join.max(1));
         match self.link.read(&mut into[..room]) {
             Got::Bytes(count) => Got::Bytes(count),
             Got::End => Got::End,
@@ -142,7 +151,7 @@ impl<'a, R> Sink for MeetingLink<'a, R> {
     fn write(&mut self, piece: &[u8]) -> Put {
         match self.link.write(piece) {
             Put::Took(count) => {
-                self.meeting.note(piece);
+                self.meeting.note(piece, self.link.written());
                 Put::Took(count)
             }
             Put::Failed => {
@@ -198,6 +207,11 @@ impl<'a, R> MeetingHost<'a, R> {
             meeting,
             later,
         }
+    }
+
+    /// How many links were given back.
+    pub fn returned(&self) -> usize {
+        self.host.returned().len()
     }
 }
 
@@ -283,7 +297,7 @@ impl<'a, R: time::Clock + Sync> Clock for AskingClock<'a, R> {
         self.made = self.made.saturating_add(1);
         if self.made == self.busy {
             self.meeting.asked.store(1, Ordering::SeqCst);
-            let _came = await_count(self.rt, &self.meeting.dealt, LINKS);
+            let _came = await_count(self.rt, &self.meeting.dealt, self.meeting.links);
         }
         u64::from(self.made).saturating_mul(1000)
     }

@@ -25,7 +25,8 @@ const SERVE: [&str; 5] = [
     "1000",
 ];
 
-fn words_of(alloc: Global, texts: &[&str]) -> Result<Vec<String>, AllocError> {
+/// Texts as the words of a command.
+pub fn words_of(alloc: Global, texts: &[&str]) -> Result<Vec<String>, AllocError> {
     let mut words = Vec::new(alloc);
     for text in texts {
         words.push(String::from_str(alloc, *text)?)?;
@@ -56,8 +57,8 @@ fn serve<H: Host, K: Clock, R: Threads + Wait + Sync>(
     ))
 }
 
-// Whether a record is good.
-fn is_good(alloc: Global, record: &[u8]) -> Result<bool, AllocError> {
+/// Whether a record is good.
+pub fn is_good(alloc: Global, record: &[u8]) -> Result<bool, AllocError> {
     let words = words_of(alloc, &["replay"])?;
     let mut source = MemSource::new(record.to_vec(alloc)?, Vec::new(alloc));
     let mut sink = MemSink::new(Vec::new(alloc));
@@ -69,8 +70,8 @@ fn is_good(alloc: Global, record: &[u8]) -> Result<bool, AllocError> {
     )
 }
 
-// What the first deed tells after the seat, where a link holds the hello line and that of this deed alone.
-fn names_told(link: &MemLink, place: u64) -> Option<&[u8]> {
+/// What the first deed tells after the seat, where a link holds the hello line and that of this deed alone.
+pub fn names_told(link: &MemLink, place: u64) -> Option<&[u8]> {
     let start = link.written().strip_prefix(HELLO.as_bytes())?;
     let seat = start.strip_prefix(b"{\"type\":\"start_game\",\"id\":")?;
     let [digit, names @ ..] = seat else {
@@ -218,8 +219,8 @@ fn nothing_is_written_where_the_port_is_not_opened(rt: HostRuntime) -> Result<()
     Ok(())
 }
 
-// Whether the last line of a record is that of the game's end.
-fn is_ended(record: &[u8]) -> bool {
+/// Whether the last line of a record is that of the game's end.
+pub fn is_ended(record: &[u8]) -> bool {
     match record.strip_suffix(b"\n") {
         Some(lines) => match lines.rsplit(|byte| *byte == b'\n').next() {
             Some(last) => last.starts_with(b"{\"type\":\"end_game\","),
@@ -232,7 +233,7 @@ fn is_ended(record: &[u8]) -> bool {
 #[test]
 fn four_links_are_served_side_by_side(rt: HostRuntime) -> Result<(), Fail> {
     let alloc = rt.alloc();
-    let meeting = Meeting::new();
+    let meeting = Meeting::new(4, 27);
     let links = host(alloc, &[A, B, C, D], 0)?;
     let mut host = MeetingHost::new(&rt, &meeting, Sign::AllStarted, links);
     let mut sink = MemSink::new(Vec::new(alloc));
