@@ -46,10 +46,7 @@ fn fewer(numbers: &Counts, kind: Kind, count: u8) -> Counts
     let mut left = *numbers.numbers();
     let place = usize::from(kind.number());
     left[place] = left[place].saturating_sub(count);
-    match Counts::of(left) {
-        Some(counts) => counts,
-        None => unreachable!(),
-    }
+    Counts::from_numbers(left)
 }
 
 // In every reading of every hand that was waited for three tiles of the kind are a triplet.
@@ -98,10 +95,7 @@ fn with(counts: &Counts, kind: Kind) -> Counts
 {
     let mut numbers = *counts.numbers();
     numbers[usize::from(kind.number())] += 1;
-    match Counts::of(numbers) {
-        Some(counts) => counts,
-        None => unreachable!(),
-    }
+    Counts::from_numbers(numbers)
 }
 
 // In every reading of a hand, won on a kind, three tiles of another kind are a triplet.

@@ -156,8 +156,5 @@ fn room_left(melded: &Counts) -> Counts
     for kind in 0..KINDS {
         room[kind] = 4 - numbers[kind];
     }
-    match Counts::of(room) {
-        Some(counts) => counts,
-        None => unreachable!(),
-    }
+    Counts::from_numbers(room)
 }

@@ -39,6 +39,14 @@ impl Counts {
         Some(Counts { numbers })
     }
 
+    /// The counts that have these numbers, by kind. Condition: none of them is above 4.
+    pub fn from_numbers(numbers: [u8; KINDS]) -> Counts
+        requires { NoFifth numbers }
+        ensures { result ≡ numbers }
+    {
+        Counts { numbers }
+    }
+
     /// How many tiles of the kind there are, 0 to 4.
     pub fn get(&self, kind: Kind) -> u8
         ensures value { result ≡ slice_index self.now kind }

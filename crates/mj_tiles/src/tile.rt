@@ -62,6 +62,7 @@ impl Tile {
     }
 
     /// The tile that the text names, as `1m`, `E` or `5pr`; none exactly where the text is none of the 37.
+    #[inline(always)]
     #[tactic(auto, using(crate::proofs::Spelled::spelled))]
     pub fn read(text: &[u8]) -> Option<Tile>
         ensures { result ≡ face_of text.now }

@@ -7,4 +7,4 @@ pub loop-kind-init : goal.loop-kind-init
 loop-kind-init c = record { size = refl; written = λ k few. absurd (omega arith); bound = counts_none.1 }
 
 pub returns : goal.returns
-returns c = c.in-Some.ensures.1 ∙ room_is c.args.melded.now c.loop-kind.room c.loop-kind.kind c.loop-kind.invariant.size (omega arith) c.loop-kind.invariant.written
+returns c = c.from_numbers.ensures ∙ room_is c.args.melded.now c.loop-kind.room c.loop-kind.kind c.loop-kind.invariant.size (omega arith) c.loop-kind.invariant.written
