@@ -5,7 +5,8 @@ use Rattle.mj_suits.specs.Targets.{missing}
 use Rattle.mj_suits.specs.Left.{pairs, LeavesBy, Leaves, LeavesMost}
 use Rattle.mj_suits.specs.Inner.Walked.{AreCosts}
 use Rattle.mj_suits.specs.declared.walk.Costs.{Costs}
-use Rattle.mj_suits.proofs.Taken.{taken_none, taken_held}
+use Rattle.std.proofs.lemmas.Bool.{cases_lt}
+use Rattle.mj_suits.proofs.Taken.{taken_in, taken_none, taken_held, taken_few_sets, taken_few_pairs}
 use Rattle.mj_suits.proofs.Rows.{walked_at}
 use Rattle.mj_suits.specs.Inner.Ends.{Ends}
 use Rattle.mj_suits.proofs.Best.{OfFour, walked_bound, walked_few, walked_reached}
@@ -41,6 +42,30 @@ honours_step next triplet pair result after most have room held costs are holds 
     summed : (result next pair triplet pair_left triplet_left pair_begun triplet_begun none_begun cost_two cost_three one two : ℕ) → result ≡ max next (max pair triplet) → pair ≡ pair_left - cost_two → triplet ≡ triplet_left - cost_three → triplet_left ≡ triplet_begun → pair_left ≡ pair_begun → none_begun ≡ next → cost_two ≡ two → cost_three ≡ one
         → result ≡ max (none_begun - 0) (max (0 - price have most 1) (max (pair_begun - two) (max (triplet_begun - one) 0)))
     summed result next pair triplet pair_left triplet_left pair_begun triplet_begun none_begun cost_two cost_three one two a b c d e f g h = omega arith
+
+-- a number for which there is no room
+pub no_room : (next : List ℕ) (after : ℕ → ℕ → ℕ) (have : ℕ) (room held : List ℕ) → IsFew next → Holds next (walked false after room held 0 0) → Holds next (walked false after (0 ∷ room) (have ∷ held) 0 0)
+no_room next after have room held short holds = record {
+  at = λ s p few one.
+      let now = walked_at false after 0 have room held 0 0 s p in
+      let none : begun (λ begin. walked false after room held begin 0) 0 0 0 s p ≡ lane next s p = taken_none (walked false after room held 0 0) s p ∙ sym (holds.at s p few one) in
+      let a : taken 1 0 (lane next) s p ≡ begun (λ begin. walked false after room held begin 0) 0 1 0 s p = taken_held next (walked false after room held 0 0) 1 0 s p holds few one in
+      let b : taken 0 1 (lane next) s p ≡ begun (λ begin. walked false after room held begin 0) 0 0 1 s p = taken_held next (walked false after room held 0 0) 0 1 s p holds few one in
+      unpaid _ _ _ _ _ _ none a b (short_taken 1 0 s p few one) (short_taken 0 1 s p few one) ∙ sym now;
+}
+  where
+    short_taken : (sets pairs s p : ℕ) → s < 8 → p < 2 → taken sets pairs (lane next) s p ≤ 15
+    short_taken sets pairs s p few one = elim (cases_lt s sets) [
+      | inl less ↦ (let e = taken_few_sets sets pairs (lane next) s p less in omega arith)
+      | inr enough ↦ elim (cases_lt p pairs) [
+        | inl less ↦ (let e = taken_few_pairs sets pairs (lane next) s p less in omega arith)
+        | inr both ↦ (let e = taken_in sets pairs (lane next) s p enough both in let f = short (s - sets) (p - pairs) (omega arith) (omega arith) in omega arith)
+      ]
+    ]
+
+    unpaid : (next none_begun pair_begun triplet_begun pair triplet : ℕ) → none_begun ≡ next → triplet ≡ triplet_begun → pair ≡ pair_begun → triplet ≤ 15 → pair ≤ 15
+        → next ≡ max (none_begun - 0) (max (0 - price have 0 1) (max (pair_begun - price have 0 2) (max (triplet_begun - price have 0 3) 0)))
+    unpaid next none_begun pair_begun triplet_begun pair triplet a b c d e = omega arith
 
 of_four : (room : List ℕ) → ((n : ℕ) → n < length room → get_or room n 0 ≤ 4) → OfFour room
 of_four [] each = tt

@@ -4,7 +4,7 @@
 ghost use Rattle.std.specs.Prelude.{◌≡◌, ◌-◌, ◌*◌, ◌<◌, ◌≤◌, ◌∷◌, [], ℕ, List, true, false, max, drop, replicate, slice_index, EachIndex, IsTrue};
 ghost use Rattle.mj_suits.specs.Rows.{Holds, lane, most_left, walked, IsFew};
 ghost use Rattle.mj_suits.specs.Left.{LeavesMost};
-ghost use Rattle.mj_suits.specs.Inner.Walked.{AreCosts, AreBegun, begun_lanes, cost_lanes, row_at, AreRows};
+ghost use Rattle.mj_suits.specs.Inner.Walked.{AreCosts, AreBegun, begun_lanes, cost_lanes, row_at, AreRows, seven_full};
 
 use crate::row::Row;
 
@@ -268,7 +268,27 @@ pub(crate) fn honours_before(next: Row, held: u8, room: u8) -> Row
         → Holds next.lanes (walked false after rooms counts 0 0)
         → Holds result.lanes (walked false after (room ∷ rooms) (held ∷ counts) 0 0) }
 {
-    let costs = costs_of(held, room);
+    honours_at_cost(next, &costs_of(held, room))
+}
+
+// The same where there is room for four.
+#[inline(always)]
+fn honours_in_full_room(next: Row, held: u8) -> Row
+    ensures { (after : ℕ → ℕ → ℕ) (rooms counts : List ℕ)
+        → Holds next.lanes (walked false after rooms counts 0 0)
+        → Holds result.lanes (walked false after (4 ∷ rooms) (held ∷ counts) 0 0) }
+{
+    honours_at_cost(next, &costs_in_full_room(held))
+}
+
+// The same at these costs of the number.
+#[inline(always)]
+fn honours_at_cost(next: Row, costs: &Costs) -> Row
+    ensures { (after : ℕ → ℕ → ℕ) (rooms counts : List ℕ) (held room : ℕ)
+        → AreCosts held room costs.now
+        → Holds next.lanes (walked false after rooms counts 0 0)
+        → Holds result.lanes (walked false after (room ∷ rooms) (held ∷ counts) 0 0) }
+{
     let triplet = next.more_set().less(costs.three);
     let pair = next.more_pair().less(costs.two);
     next.greater(pair.greater(triplet))
@@ -327,8 +347,42 @@ fn runs_in_full_room(after: Row, counts: &[u8; 9]) -> Row
     first.none.none
 }
 
-// The row of honours.
+// The row of honours: most often there is room for four of each of the seven kinds, and none for the two numbers past
+// them.
 fn with_honours(after: Row, counts: &[u8; 9], room: &[u8; 9]) -> Row
+    requires room { EachIndex room.now (λ n. slice_index room.now n ≤ 4) }
+    requires few { IsFew after.lanes }
+    ensures { Holds result.lanes (walked false (lane after.lanes) room.now counts.now 0 0) }
+{
+    if has_seven_full(room) {
+        return seven_in_full_room(after, counts);
+    }
+    honours_within(after, counts, room)
+}
+
+// Whether there is room for four of each of the first seven numbers, and none for the other two.
+fn has_seven_full(room: &[u8; 9]) -> bool
+    ensures { IsTrue result → room.now ≡ seven_full }
+{
+    matches!(room, [4, 4, 4, 4, 4, 4, 4, 0, 0])
+}
+
+// The row of honours in such room.
+fn seven_in_full_room(after: Row, counts: &[u8; 9]) -> Row
+    requires { IsFew after.lanes }
+    ensures { Holds result.lanes (walked false (lane after.lanes) seven_full counts.now 0 0) }
+{
+    let seventh = honours_in_full_room(after, counts[6]);
+    let sixth = honours_in_full_room(seventh, counts[5]);
+    let fifth = honours_in_full_room(sixth, counts[4]);
+    let fourth = honours_in_full_room(fifth, counts[3]);
+    let third = honours_in_full_room(fourth, counts[2]);
+    let second = honours_in_full_room(third, counts[1]);
+    honours_in_full_room(second, counts[0])
+}
+
+// The row of honours within any room.
+fn honours_within(after: Row, counts: &[u8; 9], room: &[u8; 9]) -> Row
     requires { EachIndex room.now (λ n. slice_index room.now n ≤ 4) }
     ensures { Holds result.lanes (walked false (lane after.lanes) room.now counts.now 0 0) }
 {

@@ -47,3 +47,7 @@ row_at rows before earlier = (by_runs (by_earlier rows earlier) before).lanes
 -- the rows are those of the walk over these numbers, for up to two runs begun at each of the two numbers before
 pub record AreRows (after : ℕ → ℕ → ℕ) (room held : List ℕ) (rows : Rows) : Type 0 where
   pub at : (before earlier : ℕ) → before < 3 → earlier < 3 → Holds (row_at rows before earlier) (walked true after room held before earlier)
+
+-- the room of honours of which none stands in a meld: four of each of seven kinds, and none for the two numbers past them
+abbrev pub seven_full : List ℕ
+seven_full = 4 ∷ 4 ∷ 4 ∷ 4 ∷ 4 ∷ 4 ∷ 4 ∷ 0 ∷ 0 ∷ []

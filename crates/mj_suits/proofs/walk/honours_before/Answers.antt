@@ -1,11 +1,4 @@
-use Rattle.mj_suits.proofs.Nine.{honours_step}
-use Rattle.std.proofs.Common.{◌∙◌, ◌-◌, ap, max}
-use Rattle.mj_suits.specs.Rows.{lane}
 use Rattle.mj_suits.proofs.walk.honours_before.Goals as goal
 
 pub returns : goal.returns
-returns c after rooms counts holds =
-    honours_step c.args.next.lanes c.less-triplet.result.lanes c.less-pair.result.lanes _ after _ _ rooms counts c.costs_of-costs.result c.costs_of-costs.ensures holds
-    (λ s p few one. c.less-triplet.ensures.at s p few one ∙ ap (λ k. k - lane c.costs_of-costs.result.three.lanes s p) (c.more_set.ensures.at s p few one))
-    (λ s p few one. c.less-pair.ensures.at s p few one ∙ ap (λ k. k - lane c.costs_of-costs.result.two.lanes s p) (c.more_pair.ensures.at s p few one))
-    (λ s p few one. c.greater-2.ensures.at s p few one ∙ ap (max (lane c.args.next.lanes s p)) (c.greater.ensures.at s p few one))
+returns c after rooms counts holds = c.honours_at_cost.ensures after rooms counts c.args.held c.args.room c.costs_of.ensures holds

@@ -2,7 +2,7 @@ use Rattle.std.proofs.Common.{[], false, sym, arith}
 use Rattle.mj_suits.specs.Rows.{lane}
 use Rattle.mj_suits.proofs.Rows.{walked_past}
 use Rattle.mj_suits.proofs.Nine.{holds_whole}
-use Rattle.mj_suits.proofs.walk.with_honours.Goals as goal
+use Rattle.mj_suits.proofs.walk.honours_within.Goals as goal
 
 pub returns : goal.returns
 returns c =
