@@ -1,6 +1,6 @@
 -- The kinds below a number that pass a test, as a set that grows by one kind after another.
-use Rattle.std.proofs.Common.{ℕ, ◌≡◌, ◌<◌, ◌^◌, ◌+◌, ◌&&◌, ◌||◌, Bool, true, false, sym, ◌∙◌, ap, arith, eqb, ltb, ◌⊎◌, inl, inr, lit<}
-use Rattle.std.proofs.lemmas.Bool.{cases_eq, eq-eqb, ne_eqb, and_left, le-ltb, lt-ltb}
+use Rattle.std.proofs.Common.{ℕ, ◌≡◌, ◌<◌, ◌≤◌, ◌^◌, ◌+◌, ◌&&◌, ◌||◌, Bool, true, false, sym, ◌∙◌, ap, arith, eqb, ltb, ◌⊎◌, inl, inr, lit<}
+use Rattle.std.proofs.lemmas.Bool.{cases_eq, cases_lt, eq-eqb, ne_eqb, and_left, and_right, le-ltb, lt-ltb}
 use Rattle.std.proofs.lemmas.Bool.Decides.{nat_tests}
 use Rattle.mj_tiles.specs.Kinds.{no_kinds, with_kind, kinds_that}
 use Rattle.mj_tiles.proofs.KindSets.{with_kind-within, has_kind-none, has_kind-with, same_kinds, has_kind-kinds_that, kinds_that-within, kinds_that-is}
@@ -63,5 +63,19 @@ pub gathered-no : (test : ℕ → Bool) (kinds next n kind : ℕ) (result : Bool
 gathered-no test kinds next n kind result far here value is more =
     more ∙ far ∙ kinds_below-no test n (ap test (sym here) ∙ sym value ∙ is)
 
-pub gathered-all : (test : ℕ → Bool) (kinds n : ℕ) → kinds ≡ kinds_below test n → n ≡ 34 → kinds ≡ kinds_that test
-gathered-all test kinds n far last = far ∙ ap (kinds_below test) last ∙ kinds_below-all test
+-- Kinds that fail a test change nothing.
+pub kinds_below-stays : (test : ℕ → Bool) (n m : ℕ) → n ≤ m → ((kind : ℕ) → kind < 34 → n ≤ kind → kind < m → test kind ≡ false) → kinds_below test n ≡ kinds_below test m
+kinds_below-stays test n m more fails =
+    kinds_that-same (λ kind. ltb kind n && test kind) (λ kind. ltb kind m && test kind)
+    (λ kind within. at kind within (cases_lt kind n) (cases_lt kind m))
+  where
+    at : (kind : ℕ) → kind < 34 → (kind < n) ⊎ (n ≤ kind) → (kind < m) ⊎ (m ≤ kind) → (ltb kind n && test kind) ≡ (ltb kind m && test kind)
+    at kind within (inl below) z = ap (λ b. b && test kind) (lt-ltb kind n below ∙ sym (lt-ltb kind m (omega (arith, below, more))))
+    at kind within (inr past) (inl inside) =
+        and_right (ltb kind n) (test kind) (fails kind within past inside) ∙ sym (and_right (ltb kind m) (test kind) (fails kind within past inside))
+    at kind within (inr past) (inr out) = ap (λ b. b && test kind) (le-ltb kind n past ∙ sym (le-ltb kind m out))
+
+-- Past the last kind all are gathered.
+pub gathered-all : (test : ℕ → Bool) (kinds n : ℕ) → kinds ≡ kinds_below test n → 34 ≤ n → kinds ≡ kinds_that test
+gathered-all test kinds n far past =
+    far ∙ kinds_that-same (λ kind. ltb kind n && test kind) test (λ kind within. ap (λ b. b && test kind) (lt-ltb kind n (omega (arith, within, past))))

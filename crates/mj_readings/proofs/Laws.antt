@@ -123,7 +123,7 @@ unfolding tally all_kinds
 tally-is counts kinds size each = sym (fill_by_all (λ kind. count_by (λ other. eqb other kind) kinds) counts 34 0 size each)
 
 -- The tiles of sets and a pair.
-sets_and_pair : (sets : List Set) (pair kind : ℕ) →
+pub sets_and_pair : (sets : List Set) (pair kind : ℕ) →
     count_by (λ other. eqb other kind) (flat_map tiles_of_set sets ++ pair ∷ pair ∷ []) ≡ number_at kind sets + cond (eqb pair kind) 2 0
 sets_and_pair sets pair kind = count-flat_map kind sets (pair ∷ pair ∷ []) ∙ ap (λ n. number_at kind sets + n) (two (eqb pair kind))
   where

@@ -19,3 +19,5 @@ pub mod ReadingLaws
 pub mod SumLaws
 pub mod OneMore
 pub mod FarLaws
+pub mod Company
+pub mod Suits

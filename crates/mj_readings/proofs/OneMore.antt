@@ -1,15 +1,16 @@
 -- Which kinds complete a hand, and why others do not.
 use Rattle.std.proofs.Common.{ℕ, ◌≡◌, ◌<◌, ◌≤◌, ◌+◌, ◌-◌, ◌∷◌, [], Bool, true, false, cond, List, length, get_or, set, length-set, get_or-set_same, get_or-set_other, refl, sym, subst, ◌∙◌, ap, arith, eqb, leb, ltb, zero, suc, Option, Some, None, ◌⊎◌, inl, inr, ◌&&◌, ◌||◌}
-use Rattle.std.specs.List.{list_all, count_by}
+use Rattle.std.specs.List.{list_all, list_any, count_by}
 use Rattle.std.specs.Option.{is_some}
 use Rattle.std.specs.Prelude.{not}
-use Rattle.std.proofs.lemmas.Bool.{and_parts, and_from, and_left, and_right, or_from, le-ltb, lt-ltb, ltb-true, le-leb, lt-leb, eq-eqb, or_left, false≢true, ne_eqb, cases_eq, cases_lt, false_from_ne_true}
+use Rattle.std.proofs.lemmas.Bool.{and_parts, and_from, and_left, and_right, or_from, le-ltb, lt-ltb, ltb-true, le-leb, lt-leb, eqb-true, eq-eqb, or_left, false≢true, ne_eqb, cases_eq, cases_lt, false_from_ne_true}
 use Rattle.std.proofs.lemmas.Bool.Decides.{nat_tests}
 use Rattle.std.proofs.lemmas.Grind.{common_steps}
 use Rattle.std.proofs.lemmas.List.{set_past}
-use Rattle.mj_tiles.specs.Counts.{IsCounts, NoFifth}
+use Rattle.mj_tiles.specs.Counts.{IsCounts, NoFifth, all_kinds}
 use Rattle.mj_tiles.specs.Kinds.{has_kind, no_kinds, kinds_that}
-use Rattle.mj_tiles.proofs.KindSets.{has_kind-kinds_that}
+use Rattle.mj_tiles.proofs.EachKind.{no_kind}
+use Rattle.mj_tiles.proofs.KindSets.{has_kind-kinds_that, has_kind-none}
 use Rattle.mj_tiles.specs.Terminals.{is_terminal_or_honour}
 use Rattle.mj_readings.specs.Sets.{begins_run}
 use Rattle.mj_readings.specs.Complete.{is_seven_pairs, orphan_number}
@@ -101,6 +102,22 @@ sums_refuse_all counts melds kinds many has size special are is some none =
     (λ kind within. neither counts melds kind special within
     (not_sets (one_more counts kind) (4 - melds) (length-set counts kind (get_or counts kind 0 + 1) ∙ size)
     (λ fits total. omega (arith, fits, are, ltb-true 1 many (sym is ∙ some), singles_stay counts kind size within))))
+
+-- No kind of an empty set completes a hand, and none of any where the sums refuse all.
+pub none_among : (counts : List ℕ) (melds among : ℕ) (empty : Bool) → empty ≡ eqb among no_kinds → empty ≡ true →
+    false ≡ list_any (λ kind. has_kind among kind && is_completing counts melds kind) all_kinds
+none_among counts melds among empty is holds =
+    sym (no_kind (λ kind. has_kind among kind && is_completing counts melds kind)
+    (λ kind within. and_left (has_kind among kind) (is_completing counts melds kind)
+    (ap (λ ks. has_kind ks kind) (eqb-true among no_kinds (sym is ∙ holds)) ∙ has_kind-none kind)))
+
+pub sums_refuse_among : (counts : List ℕ) (melds among many : ℕ) (has : Bool) → length counts ≡ 34 → NoSpecial counts melds → many ≡ singles counts →
+    has ≡ ltb 1 many → has ≡ true → false ≡ list_any (λ kind. has_kind among kind && is_completing counts melds kind) all_kinds
+sums_refuse_among counts melds among many has size special are is some =
+    sym (no_kind (λ kind. has_kind among kind && is_completing counts melds kind)
+    (λ kind within. and_right (has_kind among kind) (is_completing counts melds kind) (neither counts melds kind special within
+    (not_sets (one_more counts kind) (4 - melds) (length-set counts kind (get_or counts kind 0 + 1) ∙ size)
+    (λ fits total. omega (arith, fits, are, ltb-true 1 many (sym is ∙ some), singles_stay counts kind size within))))))
 
 -- A kind that makes the hand sets and a pair, and one that doesn't, where another complete hand is or isn't in question.
 pub standard_yes : (counts : List ℕ) (melds kind : ℕ) (result : Bool) → get_or counts kind 0 < 4 →

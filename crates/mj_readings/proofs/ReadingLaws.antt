@@ -41,7 +41,7 @@ all_four : (melds : List Meld) (sets : List Set) → length melds ≤ 4 → leng
 all_four melds sets few so_many = omega (arith, length-append sets (map set_of_meld melds), length-map melds set_of_meld)
 
 -- A winning_way with the melds is a standard reading.
-standard_is : (counts : List ℕ) (melds : List Meld) (winning : ℕ) (winning_way : WinningWay) → length melds ≤ 4 →
+pub standard_is : (counts : List ℕ) (melds : List Meld) (winning : ℕ) (winning_way : WinningWay) → length melds ≤ 4 →
     IsWinningWay counts (4 - length melds) winning winning_way → IsReading counts melds winning (standard_of melds winning winning_way)
 standard_is counts melds winning winning_way few is =
     let all = winning_way.sets ++ map set_of_meld melds in

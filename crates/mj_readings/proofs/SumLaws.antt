@@ -1,5 +1,5 @@
 -- The sums of the suits of sets and a pair: no suit and no honour has a single tile over its threes.
-use Rattle.std.proofs.Common.{ℕ, ◌≡◌, ◌<◌, ◌≤◌, ◌+◌, ◌-◌, ◌*◌, ◌%◌, ◌++◌, ◌∷◌, [], Bool, true, false, cond, List, length, get_or, set, get_or-set_same, get_or-set_other, refl, sym, ◌∙◌, ap, arith, eqb, leb, ltb, zero, suc, ◌⊎◌, inl, inr, ◌&&◌}
+use Rattle.std.proofs.Common.{ℕ, ◌≡◌, ◌<◌, ◌≤◌, ◌+◌, ◌-◌, ◌*◌, ◌%◌, ◌++◌, ◌∷◌, [], Bool, true, false, cond, List, length, get_or, set, get_or-set_same, get_or-set_other, refl, sym, ◌∙◌, ap, arith, eqb, leb, ltb, zero, suc, add-zero, ◌⊎◌, inl, inr, ◌&&◌}
 use Rattle.std.specs.List.{list_all, count_by, flat_map}
 use Rattle.std.specs.Prelude.{not}
 use Rattle.std.proofs.lemmas.Bool.{and_parts, and_from, false_from_ne_true, false≢true, cases_lt, eq-eqb, ne_eqb, le-leb, lt-ltb, le-ltb, ltb-true}
@@ -38,6 +38,33 @@ changed_sum f h (suc n) place inside others = split (below_or_here place n (omeg
         let same : sum_below f n ≡ sum_below h n = same_sum f h n (λ i within. others i (omega (arith, within)) (λ e. omega (arith, e, within, here))) in
         omega (arith, same, ap f here, ap h here)
 
+-- The tiles of the suits and the honours are all tiles.
+sum_split : (f : ℕ → ℕ) (a b : ℕ) → sum_below f (a + b) ≡ sum_below f a + sum_below (λ i. f (a + i)) b
+unfolding sum_below
+sum_split f a zero = ap (sum_below f) (add-zero a) ∙ sym (add-zero (sum_below f a))
+sum_split f a (suc b) =
+    let next : a + suc b ≡ suc (a + b) = omega arith in
+    ap (sum_below f) next ∙ more (sum_split f a b)
+  where
+    more : sum_below f (a + b) ≡ sum_below f a + sum_below (λ i. f (a + i)) b → sum_below f (a + b) + f (a + b) ≡ sum_below f a + (sum_below (λ i. f (a + i)) b + f (a + b))
+    more e = omega (arith, e)
+
+tiles_split : (counts : List ℕ) (from a b : ℕ) → tiles_from counts from (a + b) ≡ tiles_from counts from a + tiles_from counts (from + a) b
+unfolding tiles_from
+tiles_split counts from a b =
+    sum_split (λ place. get_or counts (from + place) 0) a b
+    ∙ ap (λ n. sum_below (λ place. get_or counts (from + place) 0) a + n)
+    (same_sum (λ i. get_or counts (from + (a + i)) 0) (λ place. get_or counts (from + a + place) 0) b
+    (λ i inside. ap (λ k. get_or counts k 0) (along i)))
+  where
+    along : (i : ℕ) → from + (a + i) ≡ from + a + i
+    along i = omega arith
+
+pub tiles_together : (counts : List ℕ) →
+    tiles_from counts 0 9 + tiles_from counts 9 9 + tiles_from counts 18 9 + tiles_from counts 27 7 ≡ tiles_from counts 0 34
+tiles_together counts =
+    omega (arith, tiles_split counts 0 9 25, tiles_split counts 9 9 16, tiles_split counts 18 9 7)
+
 -- A kind is one of so many from one on.
 abbrev pub among : ℕ → ℕ → ℕ → Bool
 among from many kind = leb from kind && ltb kind (from + many)
@@ -64,11 +91,11 @@ tallied kinds from (suc many) inside =
 abbrev pub Whole : (ℕ → Bool) → Type 0
 Whole test = (low : ℕ) → begins_run low ≡ true → (test (low + 1) ≡ test low) × (test (low + 2) ≡ test low)
 
-run_low : (low : ℕ) → begins_run low ≡ true → (low < 27) × (low % 9 < 7)
+pub run_low : (low : ℕ) → begins_run low ≡ true → (low < 27) × (low % 9 < 7)
 unfolding begins_run
 run_low low begins = (let p = and_parts (ltb low 27) (ltb (low % 9) 7) begins in (ltb-true low 27 p.0, ltb-true (low % 9) 7 p.1))
 
-concealed_form : (set : Set) → is_concealed set ≡ true → is_concealed_form set.form set.low ≡ true
+pub concealed_form : (set : Set) → is_concealed set ≡ true → is_concealed_form set.form set.low ≡ true
 concealed_form set is = (and_parts (not set.shown) (is_concealed_form set.form set.low) is).1
 
 set_threes : (test : ℕ → Bool) → Whole test → (set : Set) → is_concealed set ≡ true → count_by test (tiles_of_set set) ≡ 3 * cond (test set.low) 1 0
@@ -87,7 +114,7 @@ sets_threes test whole (set ∷ others) more each =
     grind (arith, common_steps, set_threes test whole set parts.0, sets_threes test whole others more parts.1)
 
 -- Suits, honours and all kinds are whole.
-suit_whole : (from : ℕ) → from % 9 ≡ 0 → Whole (among from 9)
+pub suit_whole : (from : ℕ) → from % 9 ≡ 0 → Whole (among from 9)
 suit_whole from suit low begins = let r = run_low low begins in (here from low 1 suit r.1 (omega arith), here from low 2 suit r.1 (omega arith))
   where
     here : (from low more : ℕ) → from % 9 ≡ 0 → low % 9 < 7 → more ≤ 2 → among from 9 (low + more) ≡ among from 9 low
@@ -109,7 +136,7 @@ all_whole low begins = let r = run_low low begins in (here low 1 r.0 (omega arit
 pair_two : (test : ℕ → Bool) (pair : ℕ) → count_by test (pair ∷ pair ∷ []) ≡ 2 * cond (test pair) 1 0
 pair_two test pair = grind arith
 
-tiles_of_sets : (counts : List ℕ) (number : ℕ) (sets : List Set) (pair : ℕ) → AreSetsAndPair counts number sets pair →
+pub tiles_of_sets : (counts : List ℕ) (number : ℕ) (sets : List Set) (pair : ℕ) → AreSetsAndPair counts number sets pair →
     (from many : ℕ) → from + many ≤ 34 → Whole (among from many) →
     tiles_from counts from many ≡ 3 * count_by (λ set. among from many set.low) sets + 2 * cond (among from many pair) 1 0
 tiles_of_sets counts number sets pair are from many inside whole =
@@ -232,7 +259,7 @@ more_here counts kind from many size within low high =
     (λ i inside differ. get_or-set_other counts kind (from + i) (get_or counts kind 0 + 1) 0 (λ e. differ (omega (arith, e)))) in
     omega (arith, before, after, moved)
 
-more_elsewhere : (counts : List ℕ) (kind from many : ℕ) → (kind < from) ⊎ (from + many ≤ kind) → tiles_from (one_more counts kind) from many ≡ tiles_from counts from many
+pub more_elsewhere : (counts : List ℕ) (kind from many : ℕ) → (kind < from) ⊎ (from + many ≤ kind) → tiles_from (one_more counts kind) from many ≡ tiles_from counts from many
 unfolding tiles_from
 more_elsewhere counts kind from many apart =
     same_sum (λ place. get_or (one_more counts kind) (from + place) 0) (λ place. get_or counts (from + place) 0) many

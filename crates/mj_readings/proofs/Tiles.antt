@@ -66,7 +66,7 @@ abbrev pub triplet_tiles : ℕ → ℕ
 triplet_tiles zero = 3
 triplet_tiles (suc j) = 0
 
-run_at_place : (kind j : ℕ) → in_set (kind + j) (run_at kind) ≡ run_tiles j
+pub run_at_place : (kind j : ℕ) → in_set (kind + j) (run_at kind) ≡ run_tiles j
 run_at_place kind zero = rw in_run (grind (arith, nat_tests))
 run_at_place kind (suc zero) = rw in_run (grind (arith, nat_tests))
 run_at_place kind (suc (suc zero)) = rw in_run (grind (arith, nat_tests))

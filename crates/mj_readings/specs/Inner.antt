@@ -7,3 +7,4 @@ pub mod WinningWays
 pub mod ReadingLists
 pub mod OneMore
 pub mod Sums
+pub mod Suits

@@ -1,4 +1,4 @@
-ghost use Rattle.std.specs.Prelude.{slice_index, ◌≡◌, ◌∷◌, ℕ, ◌+◌, ◌-◌, ◌≤◌, ◌<◌, ◌↔◌, Bool, false, IsTrue, length, count_by, is_some, ◌==◌, ◌||◌, ◌&&◌, nat_le};
+ghost use Rattle.std.specs.Prelude.{slice_index, ◌≡◌, ◌∷◌, ℕ, ◌+◌, ◌-◌, ◌≤◌, ◌<◌, ◌↔◌, Bool, false, IsTrue, length, count_by, is_some, ◌==◌, ◌||◌, ◌&&◌, nat_le, not, true};
 ghost use Rattle.std.specs.List.{list_all};
 ghost use Rattle.mj_tiles.specs.Counts.{all_kinds};
 ghost use Rattle.mj_readings.specs.Sets.{begins_run};
@@ -126,13 +126,36 @@ fn completes_at(
         return false;
     }
     let free = count - (first + second);
+    if free < 2 {
+        return goes_on(others, kind, second, free, 0, left);
+    }
+    completes_with_more(others, kind, second, free, left)
+}
+
+/// The same where two tiles of the kind or more are free to begin runs or to be the triplet or the pair.
+#[cycle(completes)]
+fn completes_with_more(others: &[u8], kind: u8, second: u8, free: u8, left: StillWanted) -> bool
+    requires kinds { kind + length others.now < 34 }
+    requires second_few { second ≤ 4 }
+    requires more { 2 ≤ free }
+    requires few { left.sets ≤ 4 }
+    ensures { result ≡ (begins
+        (λ runs sets paired. has_way others.now (kind + 1) second runs sets paired)
+        kind free 0 left.sets left.paired
+        || nat_le 3 free && begins
+        (λ runs sets paired. has_way others.now (kind + 1) second runs sets paired)
+        kind (free - 3) 1 left.sets left.paired
+        || not left.paired && begins
+        (λ runs sets paired. has_way others.now (kind + 1) second runs sets paired)
+        kind (free - 2) 0 left.sets true) }
+{
     let with_pair = StillWanted {
         sets: left.sets,
         paired: true,
     };
     goes_on(others, kind, second, free, 0, left)
         || free >= 3 && goes_on(others, kind, second, free - 3, 1, left)
-        || free >= 2 && !left.paired && goes_on(others, kind, second, free - 2, 0, with_pair)
+        || !left.paired && goes_on(others, kind, second, free - 2, 0, with_pair)
 }
 
 /// The same after a kind at which so many runs and triplets begin.

@@ -11,6 +11,6 @@ mod sums;
 mod winning_way;
 
 pub use complete::{is_complete, is_complete_with};
-pub use completing_kinds::{completing, is_far};
+pub use completing_kinds::{completing, is_completed_by, is_far};
 pub use listing::{reading_at, readings};
 pub use reading::{Case, Reading, Riichi, Set, SetForm};

@@ -1,7 +1,7 @@
 //! What the sums of the suits say of a hand before any set is tried: in sets and a pair a suit or an honour has no
 //! tile over its threes, or the two of the pair.
 
-ghost use Rattle.std.specs.Prelude.{◌≡◌, ◌≤◌, ◌<◌, ◌+◌, ◌%◌, ◌==◌, false, length, nat_lt};
+ghost use Rattle.std.specs.Prelude.{◌≡◌, ◌≤◌, ◌<◌, ◌+◌, ◌%◌, ◌==◌, ◌||◌, ◌&&◌, not, true, false, length, nat_lt};
 ghost use Rattle.mj_readings.specs.Inner.Sums.{
   tiles_from,
   single_over,
@@ -9,24 +9,28 @@ ghost use Rattle.mj_readings.specs.Inner.Sums.{
   singles,
   tiles_beside,
   IsOver,
+  LacksPair,
+  ArePairless,
 };
 ghost use Rattle.mj_readings.specs.Inner.Ways.{has_way};
 ghost use Rattle.mj_readings.specs.Tests.{one_more};
 
-use mj_tiles::{EAST, KINDS, Kind};
+use mj_tiles::{EAST, Kind};
 
-/// How many tiles of each suit are over its threes, 0 to 2, and how many suits and honours have a single one over.
+/// How many tiles of each suit are over its threes, 0 to 2, how many suits and honours have a single one over, and how many
+/// tiles there are.
 #[derive(Clone, Copy, Debug)]
 pub(crate) struct Over {
     characters: u8,
     dots: u8,
     bamboos: u8,
     singles: u8,
+    tiles: u32,
 }
 
 impl Over {
     /// What is over in a hand with these numbers of tiles by kind.
-    #[tactic(auto, unfolding(crate::specs::Inner::Sums::singles))]
+    #[tactic(auto, using(crate::proofs::SumLaws::tiles_together), unfolding(crate::specs::Inner::Sums::singles))]
     pub(crate) fn of(numbers: &[u8]) -> Over
         requires { length numbers.now ≡ 34 }
         ensures { IsOver numbers.now result }
@@ -34,12 +38,14 @@ impl Over {
         let characters = tiles_from(numbers, 0, 9);
         let dots = tiles_from(numbers, 9, 9);
         let bamboos = tiles_from(numbers, 18, 9);
+        let honours = tiles_from(numbers, usize::from(EAST), 7);
         let singles = single_over(characters) + single_over(dots) + single_over(bamboos);
         Over {
             characters: (characters % 3) as u8,
             dots: (dots % 3) as u8,
             bamboos: (bamboos % 3) as u8,
             singles: singles + single_honours(numbers),
+            tiles: characters + dots + bamboos + honours,
         }
     }
 
@@ -94,16 +100,66 @@ impl Over {
     }
 }
 
+/// Which suits lack the pair: they are two tiles over their threes, though no kind of them stands twice. With a tile more in
+/// another suit the hand is not sets and a pair.
+#[derive(Clone, Copy, Debug)]
+pub(crate) struct Pairless {
+    characters: bool,
+    dots: bool,
+    bamboos: bool,
+}
+
+impl Pairless {
+    /// The suits that lack the pair in a hand with these numbers, where it is known what is over in it.
+    pub(crate) fn of(numbers: &[u8], over: &Over) -> Pairless
+        requires size { length numbers.now ≡ 34 }
+        requires hand { IsOver numbers.now over.now }
+        ensures { ArePairless numbers.now result }
+    {
+        Pairless {
+            characters: lacks_pair(numbers, 0, over.characters),
+            dots: lacks_pair(numbers, 9, over.dots),
+            bamboos: lacks_pair(numbers, 18, over.bamboos),
+        }
+    }
+
+    /// Whether another suit than this one lacks the pair. The suits are 0 to 2, and the honours are the suit 3.
+    pub(crate) fn has_other(&self, suit: u8) -> bool
+        ensures { result ≡ (self.now.characters && not (suit == 0) || self.now.dots && not (suit == 1)
+            || self.now.bamboos && not (suit == 2)) }
+    {
+        self.characters && suit != 0 || self.dots && suit != 1 || self.bamboos && suit != 2
+    }
+}
+
 /// Whether tiles with these numbers may be so many sets and a pair by their sums: false only where they are not.
 pub(crate) fn may_be_sets(numbers: &[u8], sets: u8) -> bool
     requires size { length numbers.now ≡ 34 }
     requires few { sets ≤ 4 }
     ensures { result ≡ false → has_way numbers.now 0 0 0 sets false ≡ false }
 {
-    if Over::of(numbers).singles > 0 {
+    let over = Over::of(numbers);
+    if over.singles > 0 {
         return false;
     }
-    tiles_from(numbers, 0, KINDS) == 3 * u32::from(sets) + 2
+    over.tiles == 3 * u32::from(sets) + 2
+}
+
+/// Whether the suit from this kind on, with so many tiles over its threes, has two over though no kind of it stands twice.
+fn lacks_pair(numbers: &[u8], from: usize, over: u8) -> bool
+    requires inside { from + 9 ≤ length numbers.now }
+    requires suit { over ≡ tiles_from numbers.now from 9 % 3 }
+    ensures { result ≡ true → LacksPair numbers.now from }
+{
+    if over != 2 {
+        return false;
+    }
+    for place in 0..9 {
+        if numbers[from + place] > 1 {
+            return false;
+        }
+    }
+    true
 }
 
 /// How many tiles stand among so many kinds from one on.

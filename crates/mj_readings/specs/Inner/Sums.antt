@@ -1,6 +1,7 @@
 -- What the sums of the suits say of a hand: the tiles of each suit and of each honour over its threes.
-use Rattle.std.specs.Prelude.{ℕ, zero, suc, ◌≡◌, ◌+◌, ◌%◌, ◌==◌, nat_lt, if◌then◌else◌, List, slice_index}
+use Rattle.std.specs.Prelude.{ℕ, zero, suc, ◌≡◌, ◌<◌, ◌+◌, ◌%◌, ◌==◌, true, nat_lt, if◌then◌else◌, List, slice_index}
 use Rattle.mj_readings.specs.declared.sums.Over.{Over}
+use Rattle.mj_readings.specs.declared.sums.Pairless.{Pairless}
 
 -- The sum of what the numbers below one give.
 unfoldable pub sum_below : (ℕ → ℕ) → ℕ → ℕ
@@ -39,3 +40,15 @@ pub record IsOver (counts : List ℕ) (over : Over) : Type 0 where
   pub dots : over.dots ≡ tiles_from counts 9 9 % 3
   pub bamboos : over.bamboos ≡ tiles_from counts 18 9 % 3
   pub all : over.singles ≡ singles counts
+  pub tiles : over.tiles ≡ tiles_from counts 0 34
+
+-- A suit, from its first kind on, that is two tiles over its threes though no kind of it stands twice.
+pub record LacksPair (counts : List ℕ) (from : ℕ) : Type 0 where
+  pub over : tiles_from counts from 9 % 3 ≡ 2
+  pub once : (place : ℕ) → place < 9 → slice_index counts (from + place) < 2
+
+-- Suits that are such.
+pub record ArePairless (counts : List ℕ) (pairless : Pairless) : Type 0 where
+  pub characters : pairless.characters ≡ true → LacksPair counts 0
+  pub dots : pairless.dots ≡ true → LacksPair counts 9
+  pub bamboos : pairless.bamboos ≡ true → LacksPair counts 18

@@ -1,10 +1,9 @@
-use Rattle.std.proofs.Common.{◌∙◌, ap, nat_eq}
-use Rattle.mj_readings.specs.Inner.Sums.{singles}
-use Rattle.mj_readings.specs.Tests.{one_more}
-use Rattle.mj_readings.proofs.OneMore.{sums_refuse}
+use Rattle.std.proofs.Common.{◌∙◌, ap, arith}
+use Rattle.mj_readings.specs.Inner.OneMore.{has_company}
+use Rattle.mj_readings.proofs.Company.{lonely_refuse}
 use Rattle.mj_readings.proofs.completing_kinds.is_standard_with.Goals as goal
 
-pub returns-then-not-takes : goal.returns-then-not-takes
-returns-then-not-takes c =
-    sums_refuse c.args.counts.now c.args.melds c.args.kind c.takes.result c.numbers.ensures.size
-    (c.takes.ensures ∙ ap (λ ns. nat_eq (singles (one_more ns c.args.kind)) 0) c.numbers.ensures.value) c.if-not-takes.true
+pub returns-then-not-has_company : goal.returns-then-not-has_company
+returns-then-not-has_company c =
+    lonely_refuse c.args.counts.now c.args.known.now.melds c.args.kind c.has_company.result c.numbers.ensures.size (omega arith)
+    (c.has_company.ensures ∙ ap (λ ns. has_company ns c.args.kind) c.numbers.ensures.value) c.if-not-has_company.true
