@@ -1,1 +1,2 @@
 pub mod WaitSteps
+pub mod Missed

@@ -1,7 +1,13 @@
-ghost use Rattle.std.specs.Prelude.{◌≡◌};
+ghost use Rattle.std.specs.Prelude.{◌≡◌, ℕ, ◌&&◌, ◌||◌, false, List};
+ghost use Rattle.std.specs.List.{list_any};
+ghost use Rattle.mj_tiles.specs.Counts.{NoFifth, all_kinds};
+ghost use Rattle.mj_tiles.specs.Kinds.{has_kind, kinds_that};
+ghost use Rattle.mj_readings.specs.Completing.{is_completing};
 ghost use Rattle.mj_waits.specs.Furiten.{is_missed, is_furiten};
+ghost use Rattle.mj_waits.specs.Waits.{is_wait};
 
-use mj_tiles::{KINDS, Kind, Kinds};
+use mj_readings::is_completed_by;
+use mj_tiles::{Counts, KINDS, Kind, Kinds};
 
 /// What decides whether a seat is furiten: its waits, the kinds of its own discards in the hand, those that other
 /// seats discarded or added to a kan since its own last discard, and those since its own riichi.
@@ -25,6 +31,36 @@ pub fn furiten(facts: &Facts) -> bool
         }
     }
     false
+}
+
+/// Whether some kind that a seat missed completes its hand of concealed tiles with these counts and so many melds: one of its own
+/// discards in the hand, or one that it let pass since its last discard or since its riichi. Where none does the seat isn't furiten,
+/// whatever its waits are, and they needn't be found.
+pub fn misses_some(
+    counts: &Counts,
+    melds: u8,
+    own: Kinds,
+    passed: Kinds,
+    passed_in_riichi: Kinds,
+) -> bool
+    ensures value { result ≡ list_any
+        (λ kind. (has_kind own kind || has_kind passed kind || has_kind passed_in_riichi kind)
+        && is_completing counts.now melds kind)
+        all_kinds }
+    ensures law { result ≡ false → (room : List ℕ) → NoFifth room → is_furiten (record {
+      waits = kinds_that (is_wait counts.now room melds);
+      own = own;
+      passed = passed;
+      passed_in_riichi = passed_in_riichi;
+    }) ≡ false }
+{
+    if is_completed_by(counts, melds, own) {
+        return true;
+    }
+    if is_completed_by(counts, melds, passed) {
+        return true;
+    }
+    is_completed_by(counts, melds, passed_in_riichi)
 }
 
 /// Whether the kind is a wait that the seat missed.

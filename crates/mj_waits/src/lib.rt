@@ -4,5 +4,5 @@
 mod furiten_rule;
 mod ready_hand;
 
-pub use furiten_rule::{Facts, furiten};
+pub use furiten_rule::{Facts, furiten, misses_some};
 pub use ready_hand::{ready, waits};
