@@ -72,6 +72,13 @@ not_held counts room held melds kinds most kind size is none discard =
 pub is_held : (counts held : List ℕ) (kind : ℕ) → length counts ≡ 34 → kind < 34 → held ≡ with_two counts → get_or held kind 0 ≢ 0 → 0 < get_or counts kind 0
 is_held counts held kind size low is some = (let a : get_or held kind 0 ≡ get_or counts kind 0 = ap (λ h. get_or h kind 0) is ∙ wide_low counts kind size low in omega arith)
 
+-- a kind of the set that is held
+pub discard_within : (counts room held : List ℕ) (melds kinds most kind : ℕ) (has found : Bool) → length counts ≡ 34 → kind < 34 → held ≡ with_two counts → has ≡ has_kind kinds kind → has ≡ true → get_or held kind 0 ≢ 0
+    → MatchBool found (LeavesAtMost counts room melds most kind) (LeavesMore counts room melds most kind)
+    → MatchBool found (IsDiscard counts kinds kind × LeavesAtMost counts room melds most kind) (IsDiscard counts kinds kind → LeavesMore counts room melds most kind)
+discard_within counts room held melds kinds most kind has true size low held_is is_in among some found = (record { kind_is = low; among = sym is_in ∙ among; held = is_held counts held kind size low held_is some }, found)
+discard_within counts room held melds kinds most kind has false size low held_is is_in among some found = λ discard. found
+
 -- ---- the answer
 
 -- of a discard that is the best no other has to be later and as near

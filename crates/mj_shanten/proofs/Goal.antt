@@ -49,7 +49,7 @@ wide_low c k size low = get_or_append_left c (0 ∷ 0 ∷ []) 0 k (omega arith)
 wide_past : (c : List ℕ) (k : ℕ) → length c ≡ 34 → 34 ≤ k → get_or (with_two c) k 0 ≡ 0
 wide_past c k size past = get_or-append_right c (0 ∷ 0 ∷ []) 34 k 0 size past ∙ zero_at 2 (k - 34)
 
-wide_size : (c : List ℕ) → length c ≡ 34 → length (with_two c) ≡ 36
+pub wide_size : (c : List ℕ) → length c ≡ 34 → length (with_two c) ≡ 36
 wide_size c size = length-append c (0 ∷ 0 ∷ []) ∙ ap (λ n. n + 2) size
 
 pub wide_missing : (c h : List ℕ) → length c ≡ 34 → length h ≡ 34 → missing (with_two c) (with_two h) ≡ missing c h

@@ -16,4 +16,5 @@ pub mod Least
 pub mod Closed
 mod Melded
 pub mod Special
+pub mod Fewest
 pub mod BestDiscard

@@ -1,21 +1,23 @@
 -- What seven pairs and thirteen orphans miss at least, and the fewest that a complete hand misses.
-use Rattle.std.proofs.Common.{◌≡◌, ◌⊎◌, cond, eqb, ℕ, ◌-◌, ◌<◌, ◌≤◌, Bool, true, false, Option, None, Some, List, [], ◌∷◌, ◌++◌, map, min, length, take, refl, sym, subst, ap, ◌∙◌, inl, inr, arith}
-use Rattle.std.specs.Prelude.{IsSomeAnd, MatchOption}
-use Rattle.std.proofs.lemmas.Bool.{cases_lt}
+use Rattle.std.proofs.Common.{◌≡◌, ◌⊎◌, cond, eqb, ℕ, zero, suc, ◌+◌, ◌-◌, ◌<◌, ◌≤◌, Bool, true, false, Option, None, Some, List, [], ◌∷◌, ◌++◌, map, min, length, take, get_or, set, get_or-set_other, get_or-set_same, refl, sym, subst, ap, ◌∙◌, inl, inr, arith}
+use Rattle.std.specs.Prelude.{IsSomeAnd}
+use Rattle.std.proofs.lemmas.Bool.{cases_eq, cases_lt, eq-eqb, ne_eqb}
+use Rattle.std.proofs.lemmas.List.{ext_get_or, length-set, length-take-le, get_or-take}
+use Rattle.std.proofs.lemmas.List.FromFn.{get_or-map-range_with_len, length-map-range_with_len}
 use Rattle.mj_tiles.specs.Counts.{all_kinds}
 use Rattle.mj_tiles.specs.Terminals.{is_terminal_or_honour}
 use Rattle.mj_readings.specs.Complete.{orphan_number}
 use Rattle.mj_suits.specs.Targets.{missing}
 use Rattle.mj_suits.specs.Improves.{Improves}
 use Rattle.mj_suits.specs.Tables.{IsLeast}
-use Rattle.mj_suits.specs.Targets.{IsNearest}
-use Rattle.mj_suits.proofs.Near.{Improves-not, best_is_nearest}
+use Rattle.mj_suits.proofs.Near.{Improves-not}
 use Rattle.mj_shanten.specs.Room.{IsRoom}
 use Rattle.mj_shanten.specs.Shanten.{IsGoal, IsShanten}
 use Rattle.mj_shanten.specs.Suits.{with_two, Padded, IsJoint, suits_of}
 use Rattle.mj_shanten.specs.Walked.{IsLeastOr}
-use Rattle.mj_shanten.specs.Inner.Special.{IsPairs, IsOrphans, IsSpecial, IsLeastWith, so_often}
+use Rattle.mj_shanten.specs.Inner.Special.{IsPairs, IsHeldTwice, IsOrphans, IsSpecial, IsLeastWith, so_often}
 use Rattle.mj_shanten.proofs.Hands.{missing_two}
+use Rattle.mj_shanten.proofs.Doubles.{orphans_size, orphans_at}
 use Rattle.mj_shanten.proofs.Pairs.{seven_parts, miss_least, least}
 use Rattle.mj_shanten.proofs.Exists.{some_goal}
 use Rattle.mj_shanten.proofs.Sums.{missing_few, sum_complete}
@@ -50,6 +52,93 @@ singles_are singles is held t h =
 the_singles : (1 ∷ 0 ∷ 0 ∷ 0 ∷ 0 ∷ 0 ∷ 0 ∷ 0 ∷ 1 ∷ 1 ∷ 0 ∷ 0 ∷ 0 ∷ 0 ∷ 0 ∷ 0 ∷ 0 ∷ 1 ∷ 1 ∷ 0 ∷ 0 ∷ 0 ∷ 0 ∷ 0 ∷ 0 ∷ 0 ∷ 1 ∷ 1 ∷ 1 ∷ 1 ∷ 1 ∷ 1 ∷ 1 ∷ 1 ∷ 0 ∷ 0 ∷ []) ≡ with_two (map each_orphan all_kinds)
 unfolding all_kinds is_terminal_or_honour
 the_singles = refl
+
+-- each orphan once, and one of them once more
+
+each_size : length (map each_orphan all_kinds) ≡ 34
+unfolding all_kinds
+each_size = length-map-range_with_len each_orphan 0 34
+
+each_at : (kind : ℕ) → kind < 34 → get_or (map each_orphan all_kinds) kind 0 ≡ each_orphan kind
+unfolding all_kinds
+each_at kind within = get_or-map-range_with_len each_orphan 0 34 kind kind 0 within (omega arith)
+
+once_more : (double : ℕ) → double < 34 → is_terminal_or_honour double ≡ true → map (orphan_number double) all_kinds ≡ set (map each_orphan all_kinds) double 2
+once_more double low orphan =
+    ext_get_or 0 (map (orphan_number double) all_kinds) (set (map each_orphan all_kinds) double 2) (orphans_size double ∙ sym (length-set (map each_orphan all_kinds) double 2 ∙ each_size))
+    (λ k inside. at k (let s = orphans_size double in omega arith))
+  where
+    at : (k : ℕ) → k < 34 → get_or (map (orphan_number double) all_kinds) k 0 ≡ get_or (set (map each_orphan all_kinds) double 2) k 0
+    at k small = elim (cases_eq k double) [
+      | inl same ↦ orphans_at double k small ∙ ap (λ b. cond (is_terminal_or_honour k) (cond b 2 1) 0) (eq-eqb k double same)
+          ∙ ap (λ b. cond b 2 0) (ap is_terminal_or_honour same ∙ orphan)
+          ∙ sym (ap (λ j. get_or (set (map each_orphan all_kinds) double 2) j 0) same ∙ get_or-set_same (map each_orphan all_kinds) double 2 0 (let s = each_size in omega arith))
+      | inr other ↦ orphans_at double k small ∙ ap (λ b. cond (is_terminal_or_honour k) (cond b 2 1) 0) (ne_eqb k double other)
+          ∙ sym (get_or-set_other (map each_orphan all_kinds) double k 2 0 other ∙ each_at k small)
+    ]
+
+missing_set : (t held : List ℕ) (n a : ℕ) → n < length t → length t ≤ length held → missing (set t n a) held + (get_or t n 0 - get_or held n 0) ≡ missing t held + (a - get_or held n 0)
+missing_set [] held n a inside wide = absurd (omega arith)
+missing_set (x ∷ t) [] n a inside wide = absurd (omega arith)
+missing_set (x ∷ t) (h ∷ held) zero a inside wide = (let e : (a - h) + missing t held + (x - h) ≡ (x - h) + missing t held + (a - h) = omega arith in e)
+missing_set (x ∷ t) (h ∷ held) (suc n) a inside wide =
+    let rest : missing (set t n a) held + (get_or t n 0 - get_or held n 0) ≡ missing t held + (a - get_or held n 0) = missing_set t held n a (omega arith) (omega arith) in
+    let e : (x - h) + missing (set t n a) held + (get_or t n 0 - get_or held n 0) ≡ (x - h) + missing t held + (a - get_or held n 0) = omega arith in e
+
+-- with one of them twice they miss one tile more, but where that is held twice
+orphans_miss : (singles held : List ℕ) (double : ℕ) → singles ≡ with_two (map each_orphan all_kinds) → length held ≡ 36 → double < 34 → is_terminal_or_honour double ≡ true
+    → missing (with_two (map (orphan_number double) all_kinds)) held + (1 - get_or held double 0) ≡ missing singles held + (2 - get_or held double 0)
+orphans_miss singles held double is wide low orphan =
+    let a : missing (with_two (map (orphan_number double) all_kinds)) held ≡ missing (set (map each_orphan all_kinds) double 2) (take 34 held) =
+    missing_two (map (orphan_number double) all_kinds) held (orphans_size double) wide ∙ ap (λ t. missing t (take 34 held)) (once_more double low orphan) in
+    let b : missing singles held ≡ missing (map each_orphan all_kinds) (take 34 held) = ap (λ s. missing s held) is ∙ missing_two (map each_orphan all_kinds) held each_size wide in
+    let s = each_size in
+    let l : length (take 34 held) ≡ 34 = length-take-le 34 held (omega arith) in
+    let c = missing_set (map each_orphan all_kinds) (take 34 held) double 2 (omega arith) (omega arith) in
+    let d : get_or (take 34 held) double 0 ≡ get_or held double 0 = get_or-take 34 held double 0 low in
+    let e : get_or (map each_orphan all_kinds) double 0 ≡ 1 = each_at double low ∙ ap (λ b. cond b 1 0) orphan in
+    omega arith
+
+pub singles_few : (held : List ℕ) → missing (1 ∷ 0 ∷ 0 ∷ 0 ∷ 0 ∷ 0 ∷ 0 ∷ 0 ∷ 1 ∷ 1 ∷ 0 ∷ 0 ∷ 0 ∷ 0 ∷ 0 ∷ 0 ∷ 0 ∷ 1 ∷ 1 ∷ 0 ∷ 0 ∷ 0 ∷ 0 ∷ 0 ∷ 0 ∷ 0 ∷ 1 ∷ 1 ∷ 1 ∷ 1 ∷ 1 ∷ 1 ∷ 1 ∷ 1 ∷ 0 ∷ 0 ∷ []) held ≤ 13
+singles_few held = missing_few (1 ∷ 0 ∷ 0 ∷ 0 ∷ 0 ∷ 0 ∷ 0 ∷ 0 ∷ 1 ∷ 1 ∷ 0 ∷ 0 ∷ 0 ∷ 0 ∷ 0 ∷ 0 ∷ 0 ∷ 1 ∷ 1 ∷ 0 ∷ 0 ∷ 0 ∷ 0 ∷ 0 ∷ 0 ∷ 0 ∷ 1 ∷ 1 ∷ 1 ∷ 1 ∷ 1 ∷ 1 ∷ 1 ∷ 1 ∷ 0 ∷ 0 ∷ []) held
+
+-- where one of them is held twice
+pub orphans_twice : (held : List ℕ) (singles : ℕ) → singles ≡ missing (1 ∷ 0 ∷ 0 ∷ 0 ∷ 0 ∷ 0 ∷ 0 ∷ 0 ∷ 1 ∷ 1 ∷ 0 ∷ 0 ∷ 0 ∷ 0 ∷ 0 ∷ 0 ∷ 0 ∷ 1 ∷ 1 ∷ 0 ∷ 0 ∷ 0 ∷ 0 ∷ 0 ∷ 0 ∷ 0 ∷ 1 ∷ 1 ∷ 1 ∷ 1 ∷ 1 ∷ 1 ∷ 1 ∷ 1 ∷ 0 ∷ 0 ∷ []) held → length held ≡ 36 → (kind : ℕ) × IsHeldTwice held kind → IsLeast held (Padded IsOrphans) singles
+orphans_twice held singles is wide found = record {
+  some = (
+    with_two (map (orphan_number found.0) all_kinds),
+    (
+      record { counts = map (orphan_number found.0) all_kinds; is = record { double = found.0; are = record { kind = found.1.kind_is; orphan = found.1.orphan; tiles = refl } }; numbers_are = refl },
+      (let m = orphans_miss (1 ∷ 0 ∷ 0 ∷ 0 ∷ 0 ∷ 0 ∷ 0 ∷ 0 ∷ 1 ∷ 1 ∷ 0 ∷ 0 ∷ 0 ∷ 0 ∷ 0 ∷ 0 ∷ 0 ∷ 1 ∷ 1 ∷ 0 ∷ 0 ∷ 0 ∷ 0 ∷ 0 ∷ 0 ∷ 0 ∷ 1 ∷ 1 ∷ 1 ∷ 1 ∷ 1 ∷ 1 ∷ 1 ∷ 1 ∷ 0 ∷ 0 ∷ []) held found.0 the_singles wide found.1.kind_is found.1.orphan in let t = found.1.twice in omega arith),
+    ),
+  );
+  least = λ t orphans. (let m = singles_are _ the_singles held t orphans in omega arith);
+}
+
+-- where none is
+pub orphans_single : (held : List ℕ) (singles : ℕ) → singles ≡ missing (1 ∷ 0 ∷ 0 ∷ 0 ∷ 0 ∷ 0 ∷ 0 ∷ 0 ∷ 1 ∷ 1 ∷ 0 ∷ 0 ∷ 0 ∷ 0 ∷ 0 ∷ 0 ∷ 0 ∷ 1 ∷ 1 ∷ 0 ∷ 0 ∷ 0 ∷ 0 ∷ 0 ∷ 0 ∷ 0 ∷ 1 ∷ 1 ∷ 1 ∷ 1 ∷ 1 ∷ 1 ∷ 1 ∷ 1 ∷ 0 ∷ 0 ∷ []) held → length held ≡ 36 → ((kind : ℕ) → IsHeldTwice held kind → ⊥) → IsLeast held (Padded IsOrphans) (singles + 1)
+unfolding is_terminal_or_honour
+orphans_single held singles is wide none = record {
+  some = (
+    with_two (map (orphan_number 0) all_kinds),
+    (
+      record { counts = map (orphan_number 0) all_kinds; is = record { double = 0; are = record { kind = omega arith; orphan = refl; tiles = refl } }; numbers_are = refl },
+      sym (one_more 0 (omega arith) refl),
+    ),
+  );
+  least = λ t orphans.
+      (let m = one_more orphans.is.double orphans.is.are.kind orphans.is.are.orphan in
+      let e : missing t held ≡ missing (with_two (map (orphan_number orphans.is.double) all_kinds)) held = ap (λ s. missing s held) (orphans.numbers_are ∙ ap with_two orphans.is.are.tiles) in
+      omega arith);
+}
+  where
+    one_more : (double : ℕ) → double < 34 → is_terminal_or_honour double ≡ true → missing (with_two (map (orphan_number double) all_kinds)) held ≡ singles + 1
+    one_more double low orphan =
+        let m = orphans_miss (1 ∷ 0 ∷ 0 ∷ 0 ∷ 0 ∷ 0 ∷ 0 ∷ 0 ∷ 1 ∷ 1 ∷ 0 ∷ 0 ∷ 0 ∷ 0 ∷ 0 ∷ 0 ∷ 0 ∷ 1 ∷ 1 ∷ 0 ∷ 0 ∷ 0 ∷ 0 ∷ 0 ∷ 0 ∷ 0 ∷ 1 ∷ 1 ∷ 1 ∷ 1 ∷ 1 ∷ 1 ∷ 1 ∷ 1 ∷ 0 ∷ 0 ∷ []) held double the_singles wide low orphan in
+        elim (cases_lt (get_or held double 0) 2) [
+          | inl few ↦ omega arith
+          | inr twice ↦ absurd (none double record { kind_is = low; orphan = orphan; twice = twice })
+        ]
 
 -- ---- seven pairs
 
@@ -112,22 +201,14 @@ orphans_no_less held sets pairs nearest singles is pairs_are few singles_is =
     special_least held sets pairs nearest nearest is pairs_are (omega arith) (λ t orphans. (let m = singles_are _ the_singles held t orphans in omega arith)) (inl refl)
 
 -- the nearest orphans, or what is nearer
-pub orphans_found : (held : List ℕ) (sets pairs nearest number : ℕ) (answer : ℕ × List ℕ) (b : Option (ℕ × List ℕ)) → nearest ≡ min sets pairs → IsLeast held (Padded IsPairs) pairs → number ≡ min nearest answer.0
-    → Improves held (Padded IsOrphans) None b → b ≡ Some answer → IsLeastWith held (IsSpecial 0) sets number
-orphans_found held sets pairs nearest number answer b is pairs_are number_is found same =
-    let n : IsNearest held (Padded IsOrphans) answer.0 answer.1 =
-    subst (λ o. MatchOption o ((t : List ℕ) → Padded IsOrphans t → ⊥) (λ (x : ℕ × List ℕ). IsNearest held (Padded IsOrphans) x.0 x.1)) same (best_is_nearest held (Padded IsOrphans) b found) in
-    special_least held sets pairs nearest number is pairs_are (omega arith) (λ t orphans. (let l = n.least t orphans in omega arith))
-    (elim (cases_lt answer.0 nearest) [
-      | inl less ↦ inr (answer.1, (n.is_one, (let e = n.number_is in omega arith)))
+pub both_least : (held : List ℕ) (sets pairs nearest orphans number : ℕ) → nearest ≡ min sets pairs → IsLeast held (Padded IsPairs) pairs → IsLeast held (Padded IsOrphans) orphans → number ≡ min nearest orphans
+    → IsLeastWith held (IsSpecial 0) sets number
+both_least held sets pairs nearest orphans number is pairs_are orphans_are number_is =
+    special_least held sets pairs nearest number is pairs_are (omega arith) (λ t far. (let l = orphans_are.least t far in omega arith))
+    (elim (cases_lt orphans nearest) [
+      | inl less ↦ inr (orphans_are.some.0, (orphans_are.some.1.0, (let e = orphans_are.some.1.1 in omega arith)))
       | inr more ↦ inl (omega arith)
     ])
-
-pub orphans_none : (held : List ℕ) (sets pairs nearest : ℕ) (b : Option (ℕ × List ℕ)) → nearest ≡ min sets pairs → IsLeast held (Padded IsPairs) pairs → Improves held (Padded IsOrphans) None b → b ≡ None → IsLeastWith held (IsSpecial 0) sets nearest
-orphans_none held sets pairs nearest b is pairs_are found same =
-    let none : (t : List ℕ) → Padded IsOrphans t → ⊥ =
-    subst (λ o. MatchOption o ((t : List ℕ) → Padded IsOrphans t → ⊥) (λ (x : ℕ × List ℕ). IsNearest held (Padded IsOrphans) x.0 x.1)) same (best_is_nearest held (Padded IsOrphans) b found) in
-    special_least held sets pairs nearest nearest is pairs_are (omega arith) (λ t orphans. absurd (none t orphans)) (inl refl)
 
 -- with melds there are none of these
 pub special_melds : (held : List ℕ) (melds sets : ℕ) → 0 < melds → IsLeastWith held (IsSpecial melds) sets sets

@@ -20,14 +20,22 @@ pub record IsBestDiscard (counts room : List ℕ) (melds kinds kind : ℕ) : Typ
   pub best : (other others : ℕ) → IsDiscard counts kinds other → IsLeast (one_less counts other) (IsGoal room melds) others
       → (number < others) ⊎ ((number ≡ others) × (other ≤ kind))
 
--- Without a tile of the kind the nearest complete hand misses at most so many tiles.
-pub record LeavesAtMost (counts room : List ℕ) (melds most kind : ℕ) : Type 0 where
+-- The nearest complete hand misses at most so many tiles.
+pub record MissesAtMost (counts room : List ℕ) (melds most : ℕ) : Type 0 where
   pub number : ℕ
-  pub least : IsLeast (one_less counts kind) (IsGoal room melds) number
+  pub least : IsLeast counts (IsGoal room melds) number
   pub few : number ≤ most
 
 -- It misses more.
-pub record LeavesMore (counts room : List ℕ) (melds most kind : ℕ) : Type 0 where
+pub record MissesMore (counts room : List ℕ) (melds most : ℕ) : Type 0 where
   pub number : ℕ
-  pub least : IsLeast (one_less counts kind) (IsGoal room melds) number
+  pub least : IsLeast counts (IsGoal room melds) number
   pub more : most < number
+
+-- Without a tile of the kind it misses at most so many.
+abbrev pub LeavesAtMost : List ℕ → List ℕ → ℕ → ℕ → ℕ → Type 0
+LeavesAtMost counts room melds most kind = MissesAtMost (one_less counts kind) room melds most
+
+-- It misses more.
+abbrev pub LeavesMore : List ℕ → List ℕ → ℕ → ℕ → ℕ → Type 0
+LeavesMore counts room melds most kind = MissesMore (one_less counts kind) room melds most

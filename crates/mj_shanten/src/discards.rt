@@ -1,13 +1,12 @@
 //! Which tile to discard.
 
-ghost use Rattle.std.specs.Prelude.{◌≡◌, ◌<◌, ◌≤◌, ℕ, MatchOption, MatchBool, slice_index};
+ghost use Rattle.std.specs.Prelude.{◌≡◌, ◌<◌, ◌≤◌, ℕ, MatchOption, MatchBool, length, slice_index};
 ghost use Rattle.mj_suits.specs.Tables.{IsLeast};
 ghost use Rattle.mj_shanten.specs.Room.{IsRoom};
 ghost use Rattle.mj_shanten.specs.Shanten.{IsGoal};
-ghost use Rattle.mj_shanten.specs.Exchanges.{one_less};
 ghost use Rattle.mj_shanten.specs.Discards.{IsDiscard, IsBestDiscard, LeavesAtMost, LeavesMore};
 
-use crate::nearest_hand::least_missing;
+use crate::nearest_hand::{least_missing, misses_at_most};
 use crate::suits::Suits;
 use mj_tiles::{Kind, Kinds};
 
@@ -25,7 +24,22 @@ impl Suits {
             ((kind : ℕ) → IsDiscard self.now.counts kinds kind → ⊥)
             (λ kind. IsBestDiscard self.now.counts self.now.room melds kinds kind) }
     {
-        let least = u16::from(least_missing(self, melds));
+        let missing = least_missing(self, melds);
+        self.best_discard_of(kinds, melds, missing)
+    }
+
+    /// The same where it is known how many tiles the nearest complete hand misses. Conditions: `missing` is that number, the
+    /// least of all; the tiles are counted by the 34 kinds; the melds are at most four, and the room is what they leave.
+    pub fn best_discard_of(&self, kinds: Kinds, melds: u8, missing: u8) -> Option<Kind>
+        requires few { melds ≤ 4 }
+        requires room { IsRoom self.now.room melds }
+        requires missing { IsLeast self.now.counts (IsGoal self.now.room melds) missing }
+        requires size { length self.now.counts ≡ 34 }
+        ensures { MatchOption result
+            ((kind : ℕ) → IsDiscard self.now.counts kinds kind → ⊥)
+            (λ kind. IsBestDiscard self.now.counts self.now.room melds kinds kind) }
+    {
+        let least = u16::from(missing);
         match last_within(self, kinds, melds, least) {
             Some(kind) => Some(kind),
             None => last_within(self, kinds, melds, least + 1),
@@ -72,16 +86,17 @@ fn is_within(suits: &Suits, kinds: Kinds, melds: u8, most: u16, kind: Kind) -> b
     if suits.held()[kind.number() as usize] == 0 {
         return false;
     }
-    let number = missing_without(suits, kind, melds);
-    u16::from(number) <= most
+    leaves_at_most(suits, melds, most, kind)
 }
 
-// How many tiles the nearest complete hand misses where a tile of the kind is discarded.
-fn missing_without(suits: &Suits, kind: Kind, melds: u8) -> u8
+// Whether the nearest complete hand misses at most so many tiles where a tile of the kind is discarded.
+fn leaves_at_most(suits: &Suits, melds: u8, most: u16, kind: Kind) -> bool
     requires held { 0 < slice_index suits.now.counts kind }
     requires few { melds ≤ 4 }
     requires room { IsRoom suits.now.room melds }
-    ensures { IsLeast (one_less suits.now.counts kind) (IsGoal suits.now.room melds) result }
+    ensures { MatchBool result
+        (LeavesAtMost suits.now.counts suits.now.room melds most kind)
+        (LeavesMore suits.now.counts suits.now.room melds most kind) }
 {
-    least_missing(&suits.without(kind), melds)
+    misses_at_most(&suits.without(kind), melds, most)
 }

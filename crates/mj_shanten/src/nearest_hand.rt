@@ -1,15 +1,16 @@
-ghost use Rattle.std.specs.Prelude.{◌≡◌, ◌<◌, ◌≤◌, ℕ, List, IsTrue, IsSomeAnd, take, length};
+ghost use Rattle.std.specs.Prelude.{◌≡◌, ◌<◌, ◌≤◌, ℕ, List, IsTrue, IsSomeAnd, MatchBool, take, length};
 ghost use Rattle.mj_suits.specs.Targets.{missing};
 ghost use Rattle.mj_suits.specs.Tables.{IsLeast};
 ghost use Rattle.mj_tiles.specs.Counts.{IsCounts};
 ghost use Rattle.mj_suits.specs.Improves.{Improves};
 ghost use Rattle.mj_shanten.specs.Room.{IsHand, IsRoom};
 ghost use Rattle.mj_shanten.specs.Shanten.{IsGoal, IsShanten};
+ghost use Rattle.mj_shanten.specs.Discards.{MissesAtMost, MissesMore};
 ghost use Rattle.mj_shanten.specs.Exchanges.{AreLeastExchanges};
 ghost use Rattle.mj_shanten.specs.Inner.Special.{IsSpecial, IsLeastWith};
 
 use crate::nearest_sets::{WideHand, take_sets};
-use crate::orphans::take_orphans;
+use crate::orphans::{missing_of_orphans, take_orphans};
 use crate::seven_pairs::{kinds_held, missing_of_pairs, take_pairs};
 use crate::suits::{Suits, missing_of_sets, missing_tiles};
 use mj_tiles::{Counts, KINDS};
@@ -117,7 +118,26 @@ pub(crate) fn least_missing(suits: &Suits, melds: u8) -> u8
     with_special(held, sets)
 }
 
-// The same of these hands of sets and a pair, of which the nearest misses so many tiles, or of seven pairs or thirteen
+/// Whether the nearest complete hand misses at most so many tiles. Where that of sets and a pair does, no other is asked.
+pub(crate) fn misses_at_most(suits: &Suits, melds: u8, most: u16) -> bool
+    requires few { melds ≤ 4 }
+    requires room { IsRoom suits.now.room melds }
+    ensures { MatchBool result
+        (MissesAtMost suits.now.counts suits.now.room melds most)
+        (MissesMore suits.now.counts suits.now.room melds most) }
+{
+    let held = suits.held();
+    let sets = missing_of_sets(suits, 4 - melds);
+    if u16::from(sets) <= most {
+        return true;
+    }
+    if melds > 0 {
+        return false;
+    }
+    u16::from(with_special(held, sets)) <= most
+}
+
+// How many tiles the nearest of these hands misses: of sets and a pair, of which the nearest misses so many tiles, or of seven pairs or thirteen
 // orphans.
 fn with_special(held: &[u8; 36], sets: u8) -> u8
     requires { sets ≤ 15 }
@@ -127,12 +147,7 @@ fn with_special(held: &[u8; 36], sets: u8) -> u8
     if u16::from(nearest) <= missing_tiles(held, &EACH_ORPHAN) {
         return nearest;
     }
-    let mut best = None;
-    take_orphans(held, &mut best);
-    match best {
-        Some(answer) => u16::from(nearest).min(answer.0) as u8,
-        None => nearest,
-    }
+    u16::from(nearest).min(missing_of_orphans(held)) as u8
 }
 
 // Takes into the best hand the nearest seven pairs and thirteen orphans, where there are no melds.
@@ -179,8 +194,5 @@ fn counts_among(wide: &[u8; 36]) -> Counts
     for kind in 0..KINDS {
         numbers[kind] = wide[kind];
     }
-    match Counts::of(numbers) {
-        Some(counts) => counts,
-        None => unreachable!(),
-    }
+    Counts::from_numbers(numbers)
 }

@@ -1,12 +1,13 @@
 //! The nearest thirteen orphans.
 
-ghost use Rattle.std.specs.Prelude.{◌≡◌, ◌+◌, ◌<◌, map};
+ghost use Rattle.std.specs.Prelude.{◌≡◌, ◌+◌, ◌<◌, ℕ, MatchBool, map};
 ghost use Rattle.mj_tiles.specs.Counts.{all_kinds};
 ghost use Rattle.mj_tiles.specs.Terminals.{is_terminal_or_honour};
 ghost use Rattle.mj_readings.specs.Complete.{orphan_number};
 ghost use Rattle.mj_suits.specs.Improves.{Improves};
+ghost use Rattle.mj_suits.specs.Tables.{IsLeast};
 ghost use Rattle.mj_shanten.specs.Suits.{Padded, with_two};
-ghost use Rattle.mj_shanten.specs.Inner.Special.{IsOrphans, IsOrphansWith};
+ghost use Rattle.mj_shanten.specs.Inner.Special.{IsHeldTwice, IsOrphans, IsOrphansWith};
 
 use crate::nearest_hand::{EACH_ORPHAN, is_nearer};
 use crate::suits::{keep_nearer, missing_tiles};
@@ -23,6 +24,41 @@ pub(crate) fn take_orphans(held: &[u8; 36], best: &mut Option<(u16, [u8; 36])>)
     for double in 0..KINDS as u8 {
         take_double(held, double, best);
     }
+}
+
+/// How many tiles the nearest thirteen orphans miss: the terminals and honours that are not held, and one more where none
+/// of them is held twice.
+pub(crate) fn missing_of_orphans(held: &[u8; 36]) -> u16
+    ensures { IsLeast held.now (Padded IsOrphans) result }
+{
+    let singles = missing_tiles(held, &EACH_ORPHAN);
+    if holds_double(held) {
+        singles
+    } else {
+        singles + 1
+    }
+}
+
+// Whether a terminal or an honour is held twice.
+fn holds_double(held: &[u8; 36]) -> bool
+    ensures { MatchBool result
+        ((kind : ℕ) × IsHeldTwice held.now kind)
+        ((kind : ℕ) → IsHeldTwice held.now kind → ⊥) }
+{
+    for kind in 0..KINDS as u8 {
+        if is_held_twice(held, kind) {
+            return true;
+        }
+    }
+    false
+}
+
+// Whether the kind is one of them and is held twice.
+fn is_held_twice(held: &[u8; 36], kind: u8) -> bool
+    requires { kind < 34 }
+    ensures { MatchBool result (IsHeldTwice held.now kind) (IsHeldTwice held.now kind → ⊥) }
+{
+    held[kind as usize] >= 2 && is_terminal_or_honour(kind)
 }
 
 // Takes into the best hand the thirteen orphans with this kind twice.

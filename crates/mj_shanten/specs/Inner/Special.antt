@@ -1,5 +1,5 @@
 -- Seven pairs and thirteen orphans with two numbers more, and the choice of the pairs.
-use Rattle.std.specs.Prelude.{ℕ, ◌≡◌, ◌-◌, ◌≤◌, ◌==◌, ◌⊎◌, true, nat_le, nat_lt, if◌then◌else◌, List, [], ◌∷◌, length, map, count_by, IsTrue}
+use Rattle.std.specs.Prelude.{ℕ, ◌≡◌, ◌-◌, ◌<◌, ◌≤◌, ◌==◌, ◌⊎◌, true, nat_le, nat_lt, if◌then◌else◌, List, [], ◌∷◌, length, map, count_by, slice_index, IsTrue}
 use Rattle.mj_tiles.specs.Counts.{all_kinds}
 use Rattle.mj_tiles.specs.Terminals.{is_terminal_or_honour}
 use Rattle.mj_readings.specs.Complete.{is_seven_pairs, orphan_number, AreOrphans}
@@ -15,6 +15,12 @@ pub record IsPairs (counts : List ℕ) : Type 0 where
 pub record IsOrphans (counts : List ℕ) : Type 0 where
   pub double : ℕ
   pub are : AreOrphans counts double
+
+-- a terminal or an honour that is held twice
+pub record IsHeldTwice (held : List ℕ) (kind : ℕ) : Type 0 where
+  pub kind_is : kind < 34
+  pub orphan : is_terminal_or_honour kind ≡ true
+  pub twice : 2 ≤ slice_index held kind
 
 -- thirteen orphans with this kind twice, where it is a terminal or an honour
 pub record IsOrphansWith (double : ℕ) (numbers : List ℕ) : Type 0 where

@@ -10,12 +10,12 @@ loop-kind-preserved c = record {
   written = copied_more c.args.wide.now c.loop-kind.numbers c.loop-kind.kind (let s = c.loop-kind.invariant.size in omega arith) c.loop-kind.invariant.written;
 }
 
-pub unreachable-requires : goal.unreachable-requires
-unreachable-requires c =
+pub from_numbers-requires : goal.from_numbers-requires
+from_numbers-requires c =
     let same : c.loop-kind.numbers ≡ take 34 c.args.wide.now = copied_all c.args.wide.now c.loop-kind.numbers c.loop-kind.kind c.loop-kind.invariant.size (omega arith) (omega arith) c.loop-kind.invariant.written in
-    c.in-None.ensures (subst NoFifth (sym same) c.requires.within)
+    subst NoFifth (sym same) c.requires.within
 
 pub returns : goal.returns
 returns c =
     let same : c.loop-kind.numbers ≡ take 34 c.args.wide.now = copied_all c.args.wide.now c.loop-kind.numbers c.loop-kind.kind c.loop-kind.invariant.size (omega arith) (omega arith) c.loop-kind.invariant.written in
-    c.in-Some.ensures.1 ∙ same
+    c.from_numbers.ensures ∙ same
