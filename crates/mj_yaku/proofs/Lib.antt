@@ -5,3 +5,5 @@ mod RowMembers
 mod Lists
 pub mod SomeHan
 mod SomeReading
+mod Existence
+mod Plain

@@ -15,6 +15,6 @@ mod yaku_set;
 
 pub use han::han_of;
 pub use rows::{DORA, RED_DORA, ROWS, UNDER_DORA, YAKUMAN};
-pub use some_yaku::has_yaku;
+pub use some_yaku::{complete_has_yaku, has_yaku};
 pub use table::{is_closed, yaku};
 pub use yaku_set::YakuSet;
