@@ -14,8 +14,7 @@ pub fn concealed(alloc: Global, deeds: &[Deed], seat: u8) -> Result<Tiles, Alloc
 {
     let given = all_gained(alloc, deeds, seat)?;
     let put_down = all_lost(alloc, deeds, seat)?;
-    let tiles = less(alloc, given.as_slice(), put_down.as_slice())?;
-    Ok(Tiles::from_vec(tiles))
+    less(alloc, given.as_slice(), put_down.as_slice())
 }
 
 /// The river of a seat in one hand: all its discards, in order.

@@ -17,7 +17,7 @@ mod Readers
 mod RedFives
 pub mod OneLess
 mod OneMore
-mod RoomSteps
+pub mod RoomSteps
 mod SeatsKept
 mod SeatTurns
 mod Sights

@@ -12,10 +12,7 @@ pub(crate) fn room_beside(melds: &[Meld]) -> Counts
     for meld in melds {
         take_meld(&mut room, *meld);
     }
-    match Counts::of(room) {
-        Some(counts) => counts,
-        None => unreachable!(),
-    }
+    Counts::from_numbers(room)
 }
 
 // The room that is left besides the tiles of a meld too.

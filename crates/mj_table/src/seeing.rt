@@ -16,10 +16,7 @@ pub(crate) fn kinds_seen(brought: &[u8; KINDS], held: &Four<[u8; FACES]>, seat: 
     hide(&mut numbers, &held.second, seat == 1);
     hide(&mut numbers, &held.third, seat == 2);
     hide(&mut numbers, &held.fourth, seat == 3);
-    match Counts::of(numbers) {
-        Some(counts) => counts,
-        None => unreachable!(),
-    }
+    Counts::from_numbers(numbers)
 }
 
 // Takes away the tiles of a seat, of which there are so many of each face, unless they are the own ones: of each kind those of its

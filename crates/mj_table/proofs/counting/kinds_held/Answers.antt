@@ -18,12 +18,12 @@ overflow_add-numbers-3 c =
     let copied = c.copy_from_slice.ensures in
     omega (arith, third_few c.args.held.now c.copy_from_slice.new.self copied.after copied.len c.requires)
 
-pub unreachable-requires : goal.unreachable-requires
-unreachable-requires c =
+pub from_numbers-requires : goal.from_numbers-requires
+from_numbers-requires c =
     let copied = c.copy_from_slice.ensures in
-    c.in-None.ensures (subst NoFifth (sym (reds_added c.args.held.now c.copy_from_slice.new.self copied.after copied.len)) c.requires)
+    subst NoFifth (sym (reds_added c.args.held.now c.copy_from_slice.new.self copied.after copied.len)) c.requires
 
 pub returns : goal.returns
 returns c =
     let copied = c.copy_from_slice.ensures in
-    c.in-Some.ensures.1 ∙ reds_added c.args.held.now c.copy_from_slice.new.self copied.after copied.len
+    c.from_numbers.ensures ∙ reds_added c.args.held.now c.copy_from_slice.new.self copied.after copied.len

@@ -4,4 +4,4 @@ use Rattle.mj_table.proofs.HeldKinds.{copies_of}
 use Rattle.mj_table.proofs.counting.tiles_held.Given as goal
 
 abbrev pub invariant-loop-place : goal.invariant-loop-place
-invariant-loop-place l = l.tiles.items ≡ copies_of (λ face. get_or l.held face 0) (take l.place tile_order)
+invariant-loop-place l = l.tiles ≡ copies_of (λ face. get_or l.held face 0) (take l.place tile_order)

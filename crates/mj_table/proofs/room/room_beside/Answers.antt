@@ -8,6 +8,6 @@ use Rattle.mj_table.proofs.room.room_beside.Goals as goal
 pub loop-meld-init : goal.loop-meld-init
 loop-meld-init c = room_none
 
-pub unreachable-requires : goal.unreachable-requires
-unreachable-requires c =
-    c.in-None.ensures (subst (λ (xs : List ℕ). NoFifth xs) (sym c.loop-meld.invariant) (room_within (flat_map tiles_of_meld (take c.loop-meld.meld-index c.args.melds.now))))
+pub from_numbers-requires : goal.from_numbers-requires
+from_numbers-requires c =
+    subst (λ (xs : List ℕ). NoFifth xs) (sym c.loop-meld.invariant) (room_within (flat_map tiles_of_meld (take c.loop-meld.meld-index c.args.melds.now)))
