@@ -1,8 +1,10 @@
 -- Tiles of which none is one too many: one tile more, and how many there can be.
-use Rattle.std.proofs.Common.{◌≡◌, ℕ, ◌+◌, ◌<◌, ◌≤◌, ◌^◌, Bool, true, false, Option, Some, None, List, [], ◌∷◌, ◌++◌, length, take, drop, get_or, set, replicate, length-set, get_or-set_same, get_or-set_other, arith, ◌⊎◌, inl, inr, refl, sym, ap, ◌∙◌, cond, leb, eqb}
+use Rattle.std.proofs.Common.{◌≡◌, ℕ, ◌+◌, ◌-◌, ◌<◌, ◌≤◌, ◌^◌, Bool, true, false, Option, Some, None, List, [], ◌∷◌, ◌++◌, length, take, drop, get_or, set, map, length-set, get_or-set_same, get_or-set_other, arith, ◌⊎◌, inl, inr, refl, sym, ap, ◌∙◌, cond, leb, eqb}
 use Rattle.std.specs.Prelude.{All}
+use Rattle.std.specs.List.{range_with_len}
 use Rattle.std.proofs.lemmas.Bool.{cases_eq, cases_lt, le-ltb, eq-eqb, ne_eqb, leb-false, lt-leb, le-leb}
-use Rattle.std.proofs.lemmas.List.{take_more, drop_more, length-take-le, get_or-replicate}
+use Rattle.std.proofs.lemmas.List.{take_more, drop_more, length-take-le}
+use Rattle.std.proofs.lemmas.List.FromFn.{get_or-map-range_with_len}
 use Rattle.std.proofs.lemmas.List.Sums.{sum_by_push}
 use Rattle.std.proofs.lemmas.List.Elements.{All-nil, All-push}
 use Rattle.mj_tiles.specs.Faces.{number_in, tile_order}
@@ -126,33 +128,39 @@ extra_passed red tiles i t most before inside is most_is before_is under same wi
     let found = rw passed at here in
     rw (take_at tiles i t inside is) (found, within-push red (take i tiles) t within passed)
 
--- For each face of the game how often it stands among tiles.
-pub record AreCounts (numbers tiles : List ℕ) : Type 0 where
-  pub size : length numbers ≡ 37
-  pub each : (face : ℕ) → face < 37 → get_or numbers face 0 ≡ number_in tiles face
+-- For each face of the game how many of it a wall has beside these tiles.
+pub record AreLeft (red : Bool) (left tiles : List ℕ) : Type 0 where
+  pub size : length left ≡ 37
+  pub each : (face : ℕ) → face < 37 → get_or left face 0 + number_in tiles face ≡ number_in_wall red face
 
--- No tiles, and no counts.
-pub counts-none : AreCounts (replicate 37 0) []
-counts-none = record { size = refl; each = λ face inside. get_or-replicate 37 face 0 0 inside }
-
--- The count at the face of a tile.
-pub counted : (numbers tiles : List ℕ) (t place : ℕ) → place ≡ t → t < 37 → AreCounts numbers tiles → get_or numbers place 0 ≡ number_in tiles t
-counted numbers tiles t place at below counts = rw at (counts.each t below)
-
--- The tile at the next place counts.
-pub counts-next : (numbers tiles : List ℕ) (i t place : ℕ) → i < length tiles → t ≡ get_or tiles i t → place ≡ t → t < 37 →
-    AreCounts numbers (take i tiles) → AreCounts (set numbers place (get_or numbers place 0 + 1)) (take (i + 1) tiles)
-counts-next numbers tiles i t place inside is at below counts = rw (take_at tiles i t inside is) (rw at (push numbers (take i tiles) t below counts))
+-- Beside no tiles all of them.
+pub left-all : (red : Bool) → AreLeft red (map (number_in_wall red) (range_with_len 0 37)) []
+left-all red = record {
+  size = refl;
+  each = λ face inside. plus_none _ _ (get_or-map-range_with_len (number_in_wall red) 0 37 face face 0 inside (omega arith));
+}
   where
-    one : (numbers before : List ℕ) (t face : ℕ) → t < 37 → face < 37 → AreCounts numbers before → (t ≡ face) ⊎ (t ≡ face → ⊥) →
-        get_or (set numbers t (get_or numbers t 0 + 1)) face 0 ≡ number_in (before ++ t ∷ []) face
-    one numbers before t face below inside counts (inl same) =
-        grind (arith, same, counts.each face inside, counts.size, number_push before t face, eq-eqb t face same, get_or-set_same numbers t (get_or numbers t 0 + 1) 0)
-    one numbers before t face below inside counts (inr other) =
-        grind (arith, counts.each face inside, number_push before t face, ne_eqb t face other, get_or-set_other numbers t face (get_or numbers t 0 + 1) 0)
+    plus_none : (a b : ℕ) → a ≡ b → a + 0 ≡ b
+    plus_none a b e = omega (arith, e)
 
-    push : (numbers before : List ℕ) (t : ℕ) → t < 37 → AreCounts numbers before → AreCounts (set numbers t (get_or numbers t 0 + 1)) (before ++ t ∷ [])
-    push numbers before t below counts = record {
-      size = length-set numbers t (get_or numbers t 0 + 1) ∙ counts.size;
-      each = λ face inside. one numbers before t face below inside counts (cases_eq t face);
+-- How many are left of the face of a tile.
+pub left_of : (red : Bool) (left tiles : List ℕ) (t place : ℕ) → place ≡ t → t < 37 → AreLeft red left tiles → get_or left place 0 + number_in tiles t ≡ number_in_wall red t
+left_of red left tiles t place at below are = rw at (are.each t below)
+
+-- The tile at the next place is one of them.
+pub left-next : (red : Bool) (left tiles : List ℕ) (i t place : ℕ) → i < length tiles → t ≡ get_or tiles i t → place ≡ t → t < 37 → 0 < get_or left place 0 →
+    AreLeft red left (take i tiles) → AreLeft red (set left place (get_or left place 0 - 1)) (take (i + 1) tiles)
+left-next red left tiles i t place inside is at below some are = rw (take_at tiles i t inside is) (rw at (push left (take i tiles) t below (rw at at some) are))
+  where
+    one : (left before : List ℕ) (t face : ℕ) → t < 37 → face < 37 → 0 < get_or left t 0 → AreLeft red left before → (t ≡ face) ⊎ (t ≡ face → ⊥) →
+        get_or (set left t (get_or left t 0 - 1)) face 0 + number_in (before ++ t ∷ []) face ≡ number_in_wall red face
+    one left before t face below inside some are (inl same) =
+        grind (arith, same, are.each face inside, are.size, some, number_push before t face, eq-eqb t face same, get_or-set_same left t (get_or left t 0 - 1) 0)
+    one left before t face below inside some are (inr other) =
+        grind (arith, are.each face inside, number_push before t face, ne_eqb t face other, get_or-set_other left t face (get_or left t 0 - 1) 0)
+
+    push : (left before : List ℕ) (t : ℕ) → t < 37 → 0 < get_or left t 0 → AreLeft red left before → AreLeft red (set left t (get_or left t 0 - 1)) (before ++ t ∷ [])
+    push left before t below some are = record {
+      size = length-set left t (get_or left t 0 - 1) ∙ are.size;
+      each = λ face inside. one left before t face below inside some are (cases_eq t face);
     }

@@ -1,4 +1,5 @@
-ghost use Rattle.std.specs.Prelude.{◌≡◌, [], ◌≤◌, ◌*◌, ◌+◌, true, false, length, Some, None, IfOk, IfErr, OnOk, OnErr, SomeIff, slice_index, option_map, take, drop};
+ghost use Rattle.std.specs.Prelude.{◌≡◌, [], ◌≤◌, ◌*◌, ◌+◌, true, false, length, Some, None, IfOk, IfErr, OnOk, OnErr, SomeIff, slice_index, option_map, map, take, drop};
+ghost use Rattle.std.specs.List.{range_with_len};
 ghost use Rattle.mj_wall.specs.Places.{dealt_tile, live_tile, replacement_tile, indicator_tile, under_tile, number_in_wall, first_extra, bad_place, is_wall};
 
 use mj_tiles::{FACES, Tile};
@@ -106,28 +107,33 @@ impl Wall {
     }
 }
 
-// How often a wall has the face of a tile.
-fn copies(tile: Tile, red: bool) -> u8
-    ensures { result ≡ number_in_wall red tile }
+// How many tiles of each face a wall has.
+fn copies(red: bool) -> [u8; FACES]
+    ensures { result ≡ map (number_in_wall red) (range_with_len 0 37) }
 {
-    match tile.face() {
-        4 | 13 | 22 if red => 3,
-        34 | 35 | 36 => u8::from(red),
-        _ => 4,
-    }
+    let five = if red { 3 } else { 4 };
+    let red_five = u8::from(red);
+    let mut copies = [4; FACES];
+    copies[4] = five;
+    copies[13] = five;
+    copies[22] = five;
+    copies[34] = red_five;
+    copies[35] = red_five;
+    copies[36] = red_five;
+    copies
 }
 
 // The first place of a tile that is one too many of its face.
 fn extra_tile(tiles: &[Tile], red: bool) -> Option<u32>
     ensures value { result ≡ first_extra red [] tiles.now }
 {
-    let mut numbers = [0; FACES];
+    let mut left = copies(red);
     for (i, tile) in tiles.iter().enumerate() {
         let face = usize::from(tile.face());
-        if copies(*tile, red) <= numbers[face] {
+        if left[face] == 0 {
             return Some(i as u32);
         }
-        numbers[face] += 1;
+        left[face] -= 1;
     }
     None
 }
