@@ -1,8 +1,11 @@
+pub mod Calls
 pub mod Discards
+pub mod Drawn
 pub mod FarHands
 pub mod FewHeld
 pub mod Measured
 pub mod Missed
+pub mod Near
 pub mod Outer
 pub mod Places
 pub mod Pons

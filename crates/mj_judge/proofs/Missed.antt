@@ -1,7 +1,10 @@
 -- What decides whether a seat is furiten, as it is read.
-use Rattle.std.proofs.Common.{◌≡◌, ℕ, List, length, ap, ◌∙◌}
-use Rattle.mj_tiles.specs.Counts.{kind_counts}
+use Rattle.std.proofs.Common.{◌≡◌, ℕ, List, false, length, refl, sym, ap, ◌∙◌}
+use Rattle.std.specs.List.{flat_map}
+use Rattle.mj_tiles.specs.Counts.{NoFifth, kind_counts}
 use Rattle.mj_tiles.specs.Kinds.{kinds_that}
+use Rattle.mj_tiles.specs.Melds.{tiles_of_meld}
+use Rattle.mj_table.proofs.RoomSteps.{room_within}
 use Rattle.mj_waits.specs.Waits.{is_wait}
 use Rattle.mj_waits.specs.Furiten.{is_furiten}
 use Rattle.mj_rules.specs.Broken.{waits_of}
@@ -18,3 +21,12 @@ facts_are view waits own passed since counts left melds e f g h k l m =
   where
     same : waits ≡ waits_of view
     same = e ∙ (λ i. kinds_that (is_wait (k i) (l i) (m i)))
+
+-- Where no kind that it missed completes its hand, a seat isn't furiten.
+pub not_missing : (view : SeatView) (own passed since : ℕ) (counts : List ℕ) (melds : ℕ) → own ≡ view.own → passed ≡ view.passed → since ≡ view.passed_in_riichi →
+    counts ≡ kind_counts (concealed view) → melds ≡ length view.melds →
+    ((left : List ℕ) → NoFifth left → is_furiten (record { waits = kinds_that (is_wait counts left melds); own = own; passed = passed; passed_in_riichi = since }) ≡ false) →
+    false ≡ is_furiten (facts_of view)
+not_missing view own passed since counts melds e f g k m none =
+    sym (none (room view) (room_within (flat_map tiles_of_meld view.melds)))
+    ∙ facts_are view (kinds_that (is_wait counts (room view) melds)) own passed since counts (room view) melds refl e f g k refl m

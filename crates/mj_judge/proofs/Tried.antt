@@ -1,8 +1,8 @@
 -- What is tried of the answers that a seat may give, and why no other is lawful.
-use Rattle.std.proofs.Common.{◌≡◌, ℕ, ◌+◌, ◌-◌, ◌%◌, ◌<◌, ◌≤◌, ◌==◌, ◌&&◌, ◌||◌, ◌⊎◌, inl, inr, Bool, true, false, not, cond, eqb, ltb, List, [], ◌∷◌, ◌++◌, length, map, take, get_or, refl, sym, ap, ◌∙◌, arith, append-nil, append_assoc}
+use Rattle.std.proofs.Common.{◌≡◌, ℕ, ◌+◌, ◌-◌, ◌%◌, ◌<◌, ◌≤◌, ◌==◌, ◌&&◌, ◌||◌, ◌⊎◌, inl, inr, Bool, true, false, not, cond, eqb, ltb, List, [], ◌∷◌, ◌++◌, length, map, take, drop, get_or, refl, sym, ap, ◌∙◌, arith, append-nil, append_assoc}
 use Rattle.std.specs.List.{list_any}
-use Rattle.std.specs.Prelude.{Option, Some, None, nat_lt, filter, flat_map, slice_index, All, bytes_eq, option_to_list, min}
-use Rattle.std.proofs.lemmas.Bool.{both_ways, false_from_ne_true, and_parts, and_from, or_parts, or_cases, not-false, eq-eqb, eqb-true, ltb-false, le-leb, agree_below_at}
+use Rattle.std.specs.Prelude.{Option, Some, None, is_none, nat_lt, filter, flat_map, slice_index, All, bytes_eq, option_to_list, min}
+use Rattle.std.proofs.lemmas.Bool.{both_ways, false≢true, false_from_ne_true, and_parts, and_from, or_parts, or_cases, not-false, eq-eqb, eqb-true, ltb-false, le-leb, agree_below_at}
 use Rattle.std.proofs.lemmas.List.{take_more, take_all, flat_map_more, map-append}
 use Rattle.std.proofs.lemmas.List.Elements.{All-head, All-tail, All-nil, All-cons, All-map, filter-append}
 use Rattle.std.proofs.lemmas.List.Sums.{sum_by-cons}
@@ -14,15 +14,19 @@ use Rattle.mj_calls.specs.Shapes.{is_among, is_run_of, makes_run}
 use Rattle.mj_deeds.specs.declared.answer.Pai.TheVariants.{Known}
 use Rattle.mj_deeds.specs.declared.answer.Answer.{Answer}
 use Rattle.mj_deeds.specs.declared.answer.Answer.TheVariants.{Pass, Discard, Chi, ClosedKan, AddedKan, Reach, Win, NineKinds}
+use Rattle.mj_deeds.specs.declared.answer.Pai.{Pai}
 use Rattle.mj_deeds.specs.declared.deed.Deed.{Deed}
+use Rattle.mj_deeds.specs.declared.rule.Rule.{Rule}
+use Rattle.mj_deeds.specs.declared.rule.Rule.TheVariants.{NotNow, Locked}
 use Rattle.mj_deeds.specs.Facts.{is_pon}
 use Rattle.mj_wall.specs.declared.setting.Rules.{Rules}
 use Rattle.mj_rules.specs.View.{WindowTurn, Drew, Discarded, Added, Reached, Called, Nobodys, SeatView, view_of, held_count}
-use Rattle.mj_rules.specs.Broken.{is_open, is_before, is_wrongly_marked}
+use Rattle.mj_rules.specs.Broken.{is_open, is_before, is_wrongly_marked, questions, first_broken, broken_by}
 use Rattle.mj_rules.specs.Possible.{is_lawful, faces_of, discards_of, all_discards, chis_with, all_chis, all_calls, closed_kans_of, all_closed_kans, added_kans_of, all_added_kans, triplets, all_wins, possible_by, possible}
 use Rattle.mj_rules.proofs.Listed.{lawful_clear}
 use Rattle.mj_rules.proofs.ListedOrder.{of_all, all_mapped, all_joined}
 use Rattle.mj_judge.specs.Inner.Tried.{lawful_among, is_own_draw, is_discarding, is_winning, is_near, red_of}
+use Rattle.mj_judge.proofs.Verdicts.{others_decide}
 
 -- where nothing is lawful
 
@@ -40,7 +44,7 @@ unfolding lawful_among
 one_fails rules ds seat answer fails = none_pass (is_lawful rules seat (view_of ds seat)) (answer ∷ []) (All-cons (Fails rules seat (view_of ds seat)) answer [] fails (All-nil (Fails rules seat (view_of ds seat))))
 
 -- It is not open to the seat.
-not_open : (rules : Rules) (seat : ℕ) (view : SeatView) (answer : Answer) → is_open rules seat view.turn view.accepted answer ≡ false → Fails rules seat view answer
+pub not_open : (rules : Rules) (seat : ℕ) (view : SeatView) (answer : Answer) → is_open rules seat view.turn view.accepted answer ≡ false → Fails rules seat view answer
 not_open rules seat view answer shut = false_from_ne_true (is_lawful rules seat view answer)
     (λ lawful. both_ways (is_open rules seat view.turn view.accepted answer) shut
     (not-false (is_open rules seat view.turn view.accepted answer) (lawful_clear rules seat view answer lawful).1.1.0))
@@ -76,7 +80,7 @@ added_shut rules seat (Added who tile) accepted face a b c h = both_false (who =
 added_shut rules seat Nobodys accepted face a b c h = refl
 
 -- Nor are a reach and nine kinds.
-reach_shut : (rules : Rules) (seat : ℕ) (turn : WindowTurn) (accepted : Bool) → is_own_draw seat turn ≡ false → is_open rules seat turn accepted (Reach seat) ≡ false
+pub reach_shut : (rules : Rules) (seat : ℕ) (turn : WindowTurn) (accepted : Bool) → is_own_draw seat turn ≡ false → is_open rules seat turn accepted (Reach seat) ≡ false
 reach_shut rules seat (Drew who) accepted h = ap (λ b. cond b (not accepted) false) h
 reach_shut rules seat (Reached who) accepted h = both_false (who == seat)
 reach_shut rules seat (Called who banned) accepted h = both_false (who == seat)
@@ -121,6 +125,53 @@ no_wins rules ds seat shut = by_turn (view_of ds seat).turn refl shut
     by_turn (Reached who) is h = refl
     by_turn (Called who banned) is h = refl
     by_turn Nobodys is h = refl
+
+-- A pass is open, and so lawful, where the seat may not discard.
+pass_open : (rules : Rules) (seat : ℕ) (turn : WindowTurn) (accepted : Bool) → is_open rules seat turn accepted (Pass None) ≡ not (is_discarding seat turn)
+pass_open rules seat turn accepted = at turn
+  where
+    other : (b : Bool) → cond b false true ≡ not b
+    other true = refl
+    other false = refl
+
+    always : (b : Bool) → cond b true true ≡ true
+    always true = refl
+    always false = refl
+
+    at : (turn : WindowTurn) → is_open rules seat turn accepted (Pass None) ≡ not (is_discarding seat turn)
+    at (Drew who) = other (who == seat)
+    at (Reached who) = other (who == seat)
+    at (Called who banned) = other (who == seat)
+    at (Discarded who tile) = always (who == seat)
+    at (Added who tile) = always (who == seat)
+    at Nobodys = refl
+
+pub pass_lawful : (rules : Rules) (seat : ℕ) (view : SeatView) → is_lawful rules seat view (Pass None) ≡ not (is_discarding seat view.turn)
+unfolding is_lawful broken_by
+pass_lawful rules seat view = refused_alone (is_open rules seat view.turn view.accepted (Pass None)) view.accepted ∙ pass_open rules seat view.turn view.accepted
+  where
+    refused_alone : (b a : Bool) → is_none {T = Rule} (cond (not b) (Some NotNow) (cond (a && false) (Some Locked) None)) ≡ b
+    refused_alone true true = refl
+    refused_alone true false = refl
+    refused_alone false a = refl
+
+-- A discard that is open to the seat breaks at most a rule that comes after.
+discard_open : (rules : Rules) (seat : ℕ) (turn : WindowTurn) (accepted : Bool) (face : Pai) (drawn : Bool) → is_discarding seat turn ≡ true → is_open rules seat turn accepted (Discard seat face drawn) ≡ true
+discard_open rules seat (Drew who) accepted face drawn h = ap (λ b. cond b true false) h
+discard_open rules seat (Reached who) accepted face drawn h = ap (λ b. cond b true false) h
+discard_open rules seat (Called who banned) accepted face drawn h = ap (λ b. cond b true false) h
+discard_open rules seat (Discarded who tile) accepted face drawn h = absurd (false≢true h)
+discard_open rules seat (Added who tile) accepted face drawn h = absurd (false≢true h)
+discard_open rules seat Nobodys accepted face drawn h = absurd (false≢true h)
+
+pub discard_judged : (rules : Rules) (seat actor : ℕ) (view : SeatView) (tile : Pai) (drawn : Bool) → actor ≡ seat → is_discarding seat view.turn ≡ true →
+    is_lawful rules seat view (Discard actor tile drawn) ≡ is_none (first_broken (drop 3 (questions rules seat view (Discard actor tile drawn))))
+unfolding is_lawful broken_by
+discard_judged rules seat actor view tile drawn own may =
+    let asked : List (Bool × Rule) = questions rules seat view (Discard actor tile drawn) in
+    ap is_none
+    (others_decide (take 3 asked) (drop 3 asked)
+    (refl, (ap not (eq-eqb actor seat own), (ap not (ap (λ (who : ℕ). is_open rules seat view.turn view.accepted (Discard who tile drawn)) own ∙ discard_open rules seat view.turn view.accepted tile drawn may), tt))))
 
 pub no_discards : (rules : Rules) (ds : List Deed) (seat : ℕ) → is_discarding seat (view_of ds seat).turn ≡ false → lawful_among rules ds seat (all_discards seat) ≡ []
 unfolding lawful_among all_discards
@@ -277,7 +328,7 @@ pub no_run : (rules : Rules) (ds : List Deed) (seat who tile a b : ℕ) → make
 no_run rules ds seat who tile a b none = one_fails rules ds seat (Chi seat who (Known tile) (Known a) (Known b)) (not_run-chi rules seat (view_of ds seat) who tile a b none)
 
 -- The tiles of a run are near one another.
-near_run : (x y z : ℕ) → is_run_of x y z ≡ true → (y ≤ x + 2) × (x ≤ y + 2)
+near_run : (x y z : ℕ) → is_run_of x y z ≡ true → ((y ≤ x + 2) × (x ≤ y + 2)) × ((z ≤ x + 2) × (x ≤ z + 2))
 unfolding is_run_of
 near_run x y z run =
     let low = min x (min y z) in
@@ -291,21 +342,30 @@ near_run x y z run =
       | inr e ↦ inr (inr (eqb-true kind z e))
     ]
 
-    by_places : (low next last x y z : ℕ) → low ≡ min x (min y z) → next ≡ low + 1 → last ≡ low + 2 → (next ≡ x) ⊎ ((next ≡ y) ⊎ (next ≡ z)) → (last ≡ x) ⊎ ((last ≡ y) ⊎ (last ≡ z)) → (y ≤ x + 2) × (x ≤ y + 2)
-    by_places low next last x y z a b c (inl d) (inl e) = (omega (arith, a, b, c, d, e), omega (arith, a, b, c, d, e))
-    by_places low next last x y z a b c (inl d) (inr (inl e)) = (omega (arith, a, b, c, d, e), omega (arith, a, b, c, d, e))
-    by_places low next last x y z a b c (inl d) (inr (inr e)) = (omega (arith, a, b, c, d, e), omega (arith, a, b, c, d, e))
-    by_places low next last x y z a b c (inr (inl d)) (inl e) = (omega (arith, a, b, c, d, e), omega (arith, a, b, c, d, e))
-    by_places low next last x y z a b c (inr (inl d)) (inr (inl e)) = (omega (arith, a, b, c, d, e), omega (arith, a, b, c, d, e))
-    by_places low next last x y z a b c (inr (inl d)) (inr (inr e)) = (omega (arith, a, b, c, d, e), omega (arith, a, b, c, d, e))
-    by_places low next last x y z a b c (inr (inr d)) (inl e) = (omega (arith, a, b, c, d, e), omega (arith, a, b, c, d, e))
-    by_places low next last x y z a b c (inr (inr d)) (inr (inl e)) = (omega (arith, a, b, c, d, e), omega (arith, a, b, c, d, e))
-    by_places low next last x y z a b c (inr (inr d)) (inr (inr e)) = (omega (arith, a, b, c, d, e), omega (arith, a, b, c, d, e))
+    by_places : (low next last x y z : ℕ) → low ≡ min x (min y z) → next ≡ low + 1 → last ≡ low + 2 → (next ≡ x) ⊎ ((next ≡ y) ⊎ (next ≡ z)) → (last ≡ x) ⊎ ((last ≡ y) ⊎ (last ≡ z)) →
+        ((y ≤ x + 2) × (x ≤ y + 2)) × ((z ≤ x + 2) × (x ≤ z + 2))
+    by_places low next last x y z a b c (inl d) (inl e) = ((omega (arith, a, b, c, d, e), omega (arith, a, b, c, d, e)), (omega (arith, a, b, c, d, e), omega (arith, a, b, c, d, e)))
+    by_places low next last x y z a b c (inl d) (inr (inl e)) = ((omega (arith, a, b, c, d, e), omega (arith, a, b, c, d, e)), (omega (arith, a, b, c, d, e), omega (arith, a, b, c, d, e)))
+    by_places low next last x y z a b c (inl d) (inr (inr e)) = ((omega (arith, a, b, c, d, e), omega (arith, a, b, c, d, e)), (omega (arith, a, b, c, d, e), omega (arith, a, b, c, d, e)))
+    by_places low next last x y z a b c (inr (inl d)) (inl e) = ((omega (arith, a, b, c, d, e), omega (arith, a, b, c, d, e)), (omega (arith, a, b, c, d, e), omega (arith, a, b, c, d, e)))
+    by_places low next last x y z a b c (inr (inl d)) (inr (inl e)) = ((omega (arith, a, b, c, d, e), omega (arith, a, b, c, d, e)), (omega (arith, a, b, c, d, e), omega (arith, a, b, c, d, e)))
+    by_places low next last x y z a b c (inr (inl d)) (inr (inr e)) = ((omega (arith, a, b, c, d, e), omega (arith, a, b, c, d, e)), (omega (arith, a, b, c, d, e), omega (arith, a, b, c, d, e)))
+    by_places low next last x y z a b c (inr (inr d)) (inl e) = ((omega (arith, a, b, c, d, e), omega (arith, a, b, c, d, e)), (omega (arith, a, b, c, d, e), omega (arith, a, b, c, d, e)))
+    by_places low next last x y z a b c (inr (inr d)) (inr (inl e)) = ((omega (arith, a, b, c, d, e), omega (arith, a, b, c, d, e)), (omega (arith, a, b, c, d, e), omega (arith, a, b, c, d, e)))
+    by_places low next last x y z a b c (inr (inr d)) (inr (inr e)) = ((omega (arith, a, b, c, d, e), omega (arith, a, b, c, d, e)), (omega (arith, a, b, c, d, e), omega (arith, a, b, c, d, e)))
 
 far_run : (tile a b : ℕ) → is_near tile a ≡ false → makes_run tile a b ≡ false
 far_run tile a b far = false_from_ne_true (makes_run tile a b)
-    (λ run. let near = near_run (kind_of tile) (kind_of a) (kind_of b) run in
+    (λ run. let near = (near_run (kind_of tile) (kind_of a) (kind_of b) run).0 in
     both_ways (is_near tile a) far (and_from _ _ (le-leb _ _ near.0) (le-leb _ _ near.1)))
+
+far_other : (tile a b : ℕ) → is_near tile b ≡ false → makes_run tile a b ≡ false
+far_other tile a b far = false_from_ne_true (makes_run tile a b)
+    (λ run. let near = (near_run (kind_of tile) (kind_of a) (kind_of b) run).1 in
+    both_ways (is_near tile b) far (and_from _ _ (le-leb _ _ near.0) (le-leb _ _ near.1)))
+
+pub no_far_chi : (rules : Rules) (ds : List Deed) (seat who tile a b : ℕ) → is_near tile b ≡ false → lawful_among rules ds seat (Chi seat who (Known tile) (Known a) (Known b) ∷ []) ≡ []
+no_far_chi rules ds seat who tile a b far = no_run rules ds seat who tile a b (far_other tile a b far)
 
 pub no_far_chis : (rules : Rules) (ds : List Deed) (seat who tile a : ℕ) → is_near tile a ≡ false → lawful_among rules ds seat (chis_with seat who tile a) ≡ []
 unfolding lawful_among

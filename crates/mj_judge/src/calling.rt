@@ -1,11 +1,11 @@
-ghost use Rattle.std.specs.Prelude.{◌≡◌, ◌≤◌, ◌+◌, ◌++◌, ◌∷◌, [], OnOk, min, option_map};
-ghost use Rattle.mj_tiles.specs.Faces.{kind_of};
+ghost use Rattle.std.specs.Prelude.{◌≡◌, ◌≤◌, ◌<◌, ◌+◌, ◌++◌, ◌∷◌, [], ℕ, false, OnOk, min, option_map, slice_index};
+ghost use Rattle.mj_tiles.specs.Faces.{kind_of, tile_order};
 ghost use Rattle.mj_deeds.specs.declared.answer.Answer.TheVariants as answers;
 ghost use Rattle.mj_deeds.specs.declared.answer.Pai.TheVariants.{Known};
 ghost use Rattle.mj_deeds.specs.Facts.{newest};
 ghost use Rattle.mj_rules.specs.View.{view_of, held_count, turn_by, turn_in};
 ghost use Rattle.mj_rules.specs.Possible.{faces_of, chis_with, all_chis, pons_of, open_kans_of, all_calls};
-ghost use Rattle.mj_judge.specs.Inner.Tried.{lawful_among, is_near, red_of, red_held};
+ghost use Rattle.mj_judge.specs.Inner.Tried.{lawful_among, may_call, is_near, red_of, red_held};
 
 use crate::listing::push_lawful;
 use crate::questions::is_before;
@@ -52,9 +52,21 @@ fn push_calls_of(
         ++ (pons_of seat who tile (faces_of (kind_of tile))
         ++ open_kans_of seat who tile (faces_of (kind_of tile))))) }
 {
+    if !may_call(table, seat) {
+        return Ok(());
+    }
     push_chis(table, seat, who, tile, items)?;
     push_same(table, seat, who, tile, items)?;
     Ok(())
+}
+
+// A seat may call a discard where a live tile is left and its hand isn't in riichi.
+#[tactic(auto, unfolding(mj_rules::specs::View::view_of))]
+fn may_call(table: &Table, seat: u8) -> bool
+    requires { seat ≤ 3 }
+    ensures { result ≡ may_call (view_of table.now.deeds seat) }
+{
+    table.live() != 0 && !table.is_in_riichi(seat)
 }
 
 // Adds the lawful pons and kans of the discard: none where fewer than two tiles of its kind are held.
@@ -116,7 +128,7 @@ fn push_chis(
     if !is_before(table, seat) {
         return Ok(());
     }
-    for place in 0..FACES {
+    for place in first_near(tile)..after_near(tile) {
         push_chis_with(table, seat, who, tile, ordered(place), items)?;
     }
     Ok(())
@@ -141,7 +153,7 @@ fn push_chis_with(
     if table.held_count(seat, a) == 0 {
         return Ok(());
     }
-    for place in 0..FACES {
+    for place in first_near(tile)..after_near(tile) {
         push_chi(table, seat, who, tile, a, ordered(place), items)?;
     }
     Ok(())
@@ -185,6 +197,24 @@ fn is_near(tile: Tile, a: Tile) -> bool
 {
     let (low, high) = (tile.kind().number(), a.kind().number());
     high <= low + 2 && low <= high + 2
+}
+
+// The first place in tile order at which a tile may be near this one.
+fn first_near(tile: Tile) -> usize
+    ensures within { result ≤ kind_of tile }
+    ensures far { (place : ℕ) → place < result → is_near tile (slice_index tile_order place) ≡ false }
+{
+    usize::from(tile.kind().number()).saturating_sub(2)
+}
+
+// The place in tile order from which on no tile is near this one.
+fn after_near(tile: Tile) -> usize
+    ensures within { result ≤ 37 }
+    ensures beyond { kind_of tile < result }
+    ensures far { (place : ℕ) → result ≤ place → place < 37
+        → is_near tile (slice_index tile_order place) ≡ false }
+{
+    (usize::from(tile.kind().number()) + 6).min(FACES)
 }
 
 // Adds the lawful pons: with plain tiles of the kind, and where it has a red five with that.

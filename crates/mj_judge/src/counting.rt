@@ -29,10 +29,7 @@ pub(crate) fn without(counts: &Counts, kind: Kind) -> Counts
     let mut numbers = *counts.numbers();
     let place = usize::from(kind.number());
     numbers[place] = numbers[place].saturating_sub(1);
-    match Counts::of(numbers) {
-        Some(counts) => counts,
-        None => unreachable!(),
-    }
+    Counts::from_numbers(numbers)
 }
 
 // The counts with one tile more of a kind, of which there are fewer than four.
@@ -42,8 +39,5 @@ pub(crate) fn with(counts: &Counts, kind: Kind) -> Counts
 {
     let mut numbers = *counts.numbers();
     numbers[usize::from(kind.number())] += 1;
-    match Counts::of(numbers) {
-        Some(counts) => counts,
-        None => unreachable!(),
-    }
+    Counts::from_numbers(numbers)
 }

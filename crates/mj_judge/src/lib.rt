@@ -6,6 +6,7 @@ mod calling;
 mod case;
 mod counting;
 mod discarding;
+mod drawing;
 mod holding;
 mod listing;
 mod measure;

@@ -1,13 +1,19 @@
-ghost use Rattle.std.specs.Prelude.{◌≡◌, ◌≤◌, ◌++◌, ◌∷◌, [], None, IfOk, OnOk, option_map};
+ghost use Rattle.std.specs.Prelude.{◌≡◌, ◌≤◌, ◌++◌, ◌∷◌, [], true, not, ◌&&◌, None, IfOk, OnOk, option_map};
 ghost use Rattle.mj_deeds.specs.declared.answer.Answer.TheVariants as answers;
 ghost use Rattle.mj_deeds.specs.Facts.{newest};
+ghost use Rattle.mj_rules.specs.Broken.{is_reach_open, is_reach_poor, is_reach_late, is_reach_unready};
 ghost use Rattle.mj_rules.specs.View.{view_of, turn_by, turn_in};
 ghost use Rattle.mj_rules.specs.Possible.{possible, is_lawful, all_discards, all_calls, all_closed_kans, all_added_kans, triplets, all_wins};
 ghost use Rattle.mj_judge.specs.Inner.Tried.{lawful_among, is_winning};
 
 use crate::calling::push_calls;
-use crate::turning::{is_own_draw, push_added_kans, push_closed_kans, push_discards};
+use crate::discarding::judge_discard;
+use crate::riichi::{is_reach_late, is_reach_open, is_reach_poor, is_reach_unready};
+use crate::turning::{
+    is_discarding, is_own_draw, push_added_kans, push_closed_kans, push_discards,
+};
 use crate::verdict::judge;
+use crate::winning::judge_winning;
 use mj_deeds::{Answer, Answers, Deed, is_in_form};
 use mj_table::Table;
 use std::alloc::{AllocError, Global};
@@ -60,8 +66,7 @@ fn set_after_pass(
         ++ items.items) }
 {
     let mut items = items;
-    let pass = Answer::Pass { actor: None };
-    if !is_lawful(table, seat, &pass) {
+    if !may_pass(table, seat) {
         *list = Answers::from_vec(items);
         return Ok(());
     }
@@ -69,22 +74,55 @@ fn set_after_pass(
         list.set_pass(items);
         return Ok(());
     }
-    items.insert(0, pass)?;
+    items.insert(0, Answer::Pass { actor: None })?;
     *list = Answers::from_vec(items);
     Ok(())
 }
 
-// Adds a reach where it is lawful: at the own draw alone.
+// A pass is open to the seat, and so breaks no rule, in each window in which it has not to discard.
+fn may_pass(table: &Table, seat: u8) -> bool
+    ensures { result ≡ is_lawful table.now.rules seat (view_of table.now.deeds seat)
+        (answers.Pass None) }
+{
+    !is_discarding(table, seat)
+}
+
+// Adds a reach where it is lawful.
 fn push_reach(table: &Table, seat: u8, items: &mut Vec<Answer>) -> Result<(), AllocError>
     requires { seat ≤ 3 }
     ensures { OnOk result (items.new.items ≡ items.old.items
         ++ lawful_among table.now.rules table.now.deeds seat (answers.Reach seat ∷ [])) }
 {
-    if !is_own_draw(table, seat) {
+    if !may_reach(table, seat) {
         return Ok(());
     }
     push_lawful(table, seat, &[Answer::Reach { actor: seat }], items)?;
     Ok(())
+}
+
+// A reach is lawful: at the own draw of a hand that isn't in riichi, where it breaks no rule of reaches.
+#[tactic(auto, using(crate::proofs::Drawn::reach_judged), unfolding(mj_rules::specs::View::view_of))]
+fn may_reach(table: &Table, seat: u8) -> bool
+    requires { seat ≤ 3 }
+    ensures { result ≡ is_lawful table.now.rules seat (view_of table.now.deeds seat)
+        (answers.Reach seat) }
+{
+    is_own_draw(table, seat) && !table.is_in_riichi(seat) && keeps_reach_rules(table, seat)
+}
+
+// The hand is closed, the points and the live tiles are enough, and some discard leaves it ready.
+fn keeps_reach_rules(table: &Table, seat: u8) -> bool
+    requires { seat ≤ 3 }
+    ensures { let view = view_of table.now.deeds seat in
+        let reach = answers.Reach seat in
+        result ≡ (not (is_reach_open view reach) && (not (is_reach_poor view reach)
+        && (not (is_reach_late view reach) && not (is_reach_unready view reach)))) }
+{
+    let reach = Answer::Reach { actor: seat };
+    !is_reach_open(table, seat, &reach)
+        && !is_reach_poor(table, seat, &reach)
+        && !is_reach_late(table, seat, &reach)
+        && !is_reach_unready(table, seat, &reach)
 }
 
 // Adds nine kinds where they are lawful: at the own draw alone.
@@ -147,7 +185,8 @@ fn push_win_from(
     target: u8,
     items: &mut Vec<Answer>,
 ) -> Result<(), AllocError>
-    requires { seat ≤ 3 }
+    requires seat { seat ≤ 3 }
+    requires offered { is_winning seat (turn_in (option_map turn_by (newest table.now.deeds))) ≡ true }
     ensures { OnOk result (items.new.items ≡ items.old.items
         ++ lawful_among table.now.rules table.now.deeds seat
         (answers.Win seat target None ∷ [])) }
@@ -157,6 +196,9 @@ fn push_win_from(
         target,
         tile: None,
     };
+    if judge_winning(table, seat, target, None).is_err() {
+        return Ok(());
+    }
     push_lawful(table, seat, &[win], items)?;
     Ok(())
 }
@@ -181,11 +223,17 @@ pub(crate) fn push_lawful(
     Ok(())
 }
 
-// The answer is in form and breaks no rule.
+// The answer is in form and breaks no rule. A discard in a window in which the seat may discard is asked the rules of discards
+// alone.
 #[tactic(auto, unfolding(mj_rules::specs::Possible::is_lawful))]
 fn is_lawful(table: &Table, seat: u8, answer: &Answer) -> bool
     requires { seat ≤ 3 }
     ensures { result ≡ is_lawful table.now.rules seat (view_of table.now.deeds seat) answer.now }
 {
-    is_in_form(answer) && judge(table, seat, answer).is_ok()
+    match answer {
+        Answer::Discard { actor, tile, drawn } if *actor == seat && is_discarding(table, seat) => {
+            judge_discard(table, seat, tile, *drawn).is_ok()
+        }
+        _ => is_in_form(answer) && judge(table, seat, answer).is_ok(),
+    }
 }

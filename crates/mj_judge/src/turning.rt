@@ -9,6 +9,7 @@ ghost use Rattle.mj_rules.specs.Possible.{faces_of, discards_of, all_discards, c
 ghost use Rattle.mj_judge.specs.Inner.Tried.{lawful_among, is_own_draw, is_discarding, red_of, red_held};
 
 use crate::calling::{held_of, plain_of, red_of};
+use crate::drawing::push_drawn_discards;
 use crate::holding::is_wrongly_marked;
 use crate::listing::push_lawful;
 use mj_deeds::{Answer, Deed, Pai, ordered};
@@ -26,6 +27,10 @@ pub(crate) fn push_discards(
     ensures { OnOk result (items.new.items ≡ items.old.items
         ++ lawful_among table.now.rules table.now.deeds seat (all_discards seat)) }
 {
+    if is_own_draw(table, seat) {
+        push_drawn_discards(table, seat, items)?;
+        return Ok(());
+    }
     if !is_discarding(table, seat) {
         return Ok(());
     }
@@ -292,7 +297,7 @@ pub(crate) fn is_own_draw(table: &Table, seat: u8) -> bool
 }
 
 // In the window the seat may discard: after its draw, its reach, its chi or its pon.
-fn is_discarding(table: &Table, seat: u8) -> bool
+pub(crate) fn is_discarding(table: &Table, seat: u8) -> bool
     ensures { result ≡ is_discarding seat (turn_in (option_map turn_by (newest table.now.deeds))) }
 {
     match table.newest() {

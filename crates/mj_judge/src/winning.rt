@@ -19,11 +19,11 @@ use crate::holding::names_no_tile;
 use crate::questions::{is_win, misses_winning};
 use crate::verdict::refuse_if;
 use mj_deeds::{Answer, Deed, Pai, Rule};
-use mj_readings::{Case, is_complete};
+use mj_readings::{Case, is_complete, is_complete_with};
 use mj_table::Table;
 use mj_tiles::{Counts, Kind, Meld, Tile};
-use mj_waits::{Facts, furiten, waits};
-use mj_yaku::has_yaku;
+use mj_waits::{Facts, furiten, misses_some, waits};
+use mj_yaku::complete_has_yaku;
 
 // Refuses a win by the first rule of wins that it breaks: the tiles are not complete, it is on the tile of another
 // seat while furiten, or no reading of the hand has a yaku. Any other answer breaks none of them.
@@ -75,10 +75,25 @@ fn judge_tiles(table: &Table, seat: u8) -> Result<(), Rule>
     let held = table.holds(seat);
     let melds = table.melds(seat);
     let melds = melds.as_slice();
-    let won = won_counts(&held, offered(table));
-    refuse_if(!is_complete(&won, melds.len() as u8), Rule::NotComplete)?;
+    refuse_if(
+        !is_won(&held, offered(table), melds.len() as u8),
+        Rule::NotComplete,
+    )?;
     refuse_if(is_missing_out(table, seat, &held, melds), Rule::Furiten)?;
+    let won = won_counts(&held, offered(table));
     refuse_if(has_no_yaku(table, seat, &won, melds), Rule::NoYaku)
+}
+
+// Whether the concealed tiles with the one that is won on, where another seat gives it, and so many melds are complete.
+fn is_won(held: &Counts, offered: Option<Tile>, melds: u8) -> bool
+    requires { (tile : ℕ) → offered ≡ Some tile → slice_index held.now (kind_of tile) < 4 }
+    ensures { (tiles : List ℕ) → held.now ≡ kind_counts tiles → result
+        ≡ complete (kind_counts (tiles ++ option_to_list offered)) melds }
+{
+    match offered {
+        Some(tile) => is_complete_with(held, tile.kind(), melds),
+        None => is_complete(held, melds),
+    }
 }
 
 // The tile of another seat that may be won on in the window on the newest deed.
@@ -126,26 +141,33 @@ fn is_furiten(table: &Table, seat: u8, held: &Counts, melds: &[Meld]) -> bool
     requires melds { melds.now ≡ (view_of table.now.deeds seat).melds }
     ensures { result ≡ is_furiten (facts_of (view_of table.now.deeds seat)) }
 {
+    let own = table.own(seat);
+    let passed = table.passed(seat);
+    let passed_in_riichi = table.passed_in_riichi(seat);
+    if !misses_some(held, melds.len() as u8, own, passed, passed_in_riichi) {
+        return false;
+    }
     let room = table.room(seat);
     furiten(&Facts {
         waits: waits(held, &room, melds.len() as u8),
-        own: table.own(seat),
-        passed: table.passed(seat),
-        passed_in_riichi: table.passed_in_riichi(seat),
+        own,
+        passed,
+        passed_in_riichi,
     })
 }
 
-// No reading of the hand, won on the tile in question, has a yaku.
+// No reading of a complete hand, won on the tile in question, has a yaku.
 #[tactic(auto, unfolding(mj_rules::specs::Broken::has_no_yaku))]
 fn has_no_yaku(table: &Table, seat: u8, won: &Counts, melds: &[Meld]) -> bool
     requires seat { seat ≤ 3 }
     requires won { won.now ≡ kind_counts (won_tiles (view_of table.now.deeds seat)) }
     requires melds { melds.now ≡ (view_of table.now.deeds seat).melds }
+    requires complete { complete won.now (length melds.now) ≡ true }
     ensures { let view = view_of table.now.deeds seat in
         result ≡ list_all (has_no_yaku view) (winning_kinds view) }
 {
     match winning_kind(table, seat) {
-        Some(winning) => !has_yaku(won, melds, winning, &case_now(table, seat)),
+        Some(winning) => !complete_has_yaku(won, melds, winning, &case_now(table, seat)),
         None => true,
     }
 }

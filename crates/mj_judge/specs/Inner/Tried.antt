@@ -30,6 +30,10 @@ is_winning seat (Discarded who tile) = not (who == seat)
 is_winning seat (Added who tile) = not (who == seat)
 is_winning seat other = false
 
+-- A seat may call a discard where a live tile is left and its hand isn't in riichi.
+abbrev pub may_call : SeatView → Bool
+may_call view = not (view.live == 0) && not view.accepted
+
 -- The kinds of two tiles are at most two apart.
 abbrev pub is_near : ℕ → ℕ → Bool
 is_near tile a = nat_le (kind_of a) (kind_of tile + 2) && nat_le (kind_of tile) (kind_of a + 2)
