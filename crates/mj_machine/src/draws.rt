@@ -120,13 +120,12 @@ fn hands_at_draw(alloc: Global, table: &Table, shown: [bool; 4]) -> Result<Shown
         third: number_hidden(shown[2], &third),
         fourth: number_hidden(shown[3], &fourth),
     };
-    let hands = Hands::of(
-        alloc,
-        first.as_slice(),
-        second.as_slice(),
-        third.as_slice(),
-        fourth.as_slice(),
-    )?;
+    let hands = Hands::from_four(Four {
+        first,
+        second,
+        third,
+        fourth,
+    });
     Ok(ShownHands::of(hands, hidden))
 }
 

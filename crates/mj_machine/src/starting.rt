@@ -6,7 +6,7 @@ ghost use Rattle.mj_deeds.specs.Standings.{standing};
 ghost use Rattle.mj_rules.specs.Outcome.{wall_of, hand_start, hand_dealt, next_start};
 ghost use Rattle.mj_machine.specs.Inner.Steps.{AreSmall};
 
-use mj_deeds::{Deed, Hands, Tiles};
+use mj_deeds::{Deed, Four, Hands, Tiles};
 use mj_rounds::{Standing, next_hand};
 use mj_table::Table;
 use mj_wall::Wall;
@@ -63,17 +63,12 @@ fn hands_dealt(alloc: Global, wall: &Wall, dealer: u8) -> Result<Hands, AllocErr
     requires { dealer ≤ 3 }
     ensures { IfOk result (λ h. h ≡ for_each_seat (hand_dealt wall.now dealer)) }
 {
-    let first = hand_dealt(alloc, wall, dealer, 0)?;
-    let second = hand_dealt(alloc, wall, dealer, 1)?;
-    let third = hand_dealt(alloc, wall, dealer, 2)?;
-    let fourth = hand_dealt(alloc, wall, dealer, 3)?;
-    Hands::of(
-        alloc,
-        first.as_slice(),
-        second.as_slice(),
-        third.as_slice(),
-        fourth.as_slice(),
-    )
+    Ok(Hands::from_four(Four {
+        first: hand_dealt(alloc, wall, dealer, 0)?,
+        second: hand_dealt(alloc, wall, dealer, 1)?,
+        third: hand_dealt(alloc, wall, dealer, 2)?,
+        fourth: hand_dealt(alloc, wall, dealer, 3)?,
+    }))
 }
 
 // The thirteen tiles of a seat, 0 to 3, in tile order: the dealer is the first that is dealt to.

@@ -234,11 +234,11 @@ fn unders(alloc: Global, wall: &Wall, table: &Table, seat: u8) -> Result<Tiles, 
     ensures few { IfOk result (λ t. length t ≤ 5) }
 {
     if !table.is_in_riichi(seat) {
-        return Ok(Tiles::from_vec(Vec::new(alloc)));
+        return Ok(Tiles::new(alloc));
     }
-    let mut unders = Vec::new(alloc);
+    let mut unders = Tiles::new(alloc);
     for place in 0..table.shown() {
         unders.push(wall.under(place as u8))?;
     }
-    Ok(Tiles::from_vec(unders))
+    Ok(unders)
 }

@@ -12,7 +12,7 @@ ghost use Rattle.mj_score.specs.Worth.{worth_of};
 ghost use Rattle.mj_rules.specs.Wins.{dora_by, extra_by, no_score, dora_row, rows_of_win};
 ghost use Rattle.mj_machine.specs.Inner.Steps.{all_tiles, AreFew};
 
-use mj_deeds::YakuList;
+use mj_deeds::{Tiles, YakuList};
 use mj_readings::Case;
 use mj_score::{Extra, Score, worth};
 use mj_table::Table;
@@ -116,6 +116,7 @@ fn no_score() -> Score
 
 // The rows of a win with their han, and after them the rows of dora with their numbers; beside a yakuman no dora
 // counts.
+#[tactic(auto, unfolding(mj_rules::specs::Wins::rows_of_win))]
 fn rows_of_win(
     alloc: Global,
     score: &Score,
@@ -124,21 +125,7 @@ fn rows_of_win(
 ) -> Result<YakuList, AllocError>
     ensures { IfOk result (λ rows. rows ≡ rows_of_win score.now closed extra) }
 {
-    let rows = gathered_rows(alloc, score, closed, extra)?;
-    Ok(YakuList::from_vec(rows))
-}
-
-// The same rows as they are gathered.
-#[tactic(auto, unfolding(mj_rules::specs::Wins::rows_of_win))]
-fn gathered_rows(
-    alloc: Global,
-    score: &Score,
-    closed: bool,
-    extra: Extra,
-) -> Result<Vec<(u8, u8)>, AllocError>
-    ensures { IfOk result (λ rows. rows.items ≡ rows_of_win score.now closed extra) }
-{
-    let mut rows = Vec::new(alloc);
+    let mut rows = YakuList::new(alloc);
     push_rows(&mut rows, score.yaku, closed)?;
     if !score.yaku.is_yakuman() {
         push_dora(&mut rows, DORA, extra.dora)?;
@@ -149,8 +136,8 @@ fn gathered_rows(
 }
 
 // Adds the rows of a set with their han, in order.
-fn push_rows(rows: &mut Vec<(u8, u8)>, yaku: YakuSet, closed: bool) -> Result<(), AllocError>
-    ensures { OnOk result (rows.new.items ≡ rows.old.items
+fn push_rows(rows: &mut YakuList, yaku: YakuSet, closed: bool) -> Result<(), AllocError>
+    ensures { OnOk result (rows.new ≡ rows.old
         ++ map (λ row. (row, han row closed)) (rows_of yaku)) }
 {
     for row in 0..ROWS {
@@ -160,18 +147,13 @@ fn push_rows(rows: &mut Vec<(u8, u8)>, yaku: YakuSet, closed: bool) -> Result<()
 }
 
 // Adds a row of a set with its han, where the set has it.
-fn push_row(
-    rows: &mut Vec<(u8, u8)>,
-    yaku: YakuSet,
-    row: u8,
-    closed: bool,
-) -> Result<(), AllocError>
+fn push_row(rows: &mut YakuList, yaku: YakuSet, row: u8, closed: bool) -> Result<(), AllocError>
     requires { row < 45 }
-    ensures { OnOk result (rows.new.items ≡ rows.old.items
+    ensures { OnOk result (rows.new ≡ rows.old
         ++ (if has_row yaku row then (row, han row closed) ∷ [] else [])) }
 {
     if yaku.has(row) {
-        rows.push((row, han_in(row, closed)))?;
+        rows.push(row, han_in(row, closed))?;
     }
     Ok(())
 }
@@ -191,28 +173,28 @@ fn han_in(row: u8, closed: bool) -> u8
 }
 
 // Adds a row of dora, where there are any.
-fn push_dora(rows: &mut Vec<(u8, u8)>, row: u8, number: u8) -> Result<(), AllocError>
-    ensures { OnOk result (rows.new.items ≡ rows.old.items ++ dora_row row number) }
+fn push_dora(rows: &mut YakuList, row: u8, number: u8) -> Result<(), AllocError>
+    requires { row < 45 }
+    ensures { OnOk result (rows.new ≡ rows.old ++ dora_row row number) }
 {
     if number > 0 {
-        rows.push((row, number))?;
+        rows.push(row, number)?;
     }
     Ok(())
 }
 
 // The concealed tiles of a winner, the winning one last.
-fn concealed(alloc: Global, shown: &Shown) -> Result<Vec<Tile>, AllocError>
-    ensures { IfOk result (λ tiles. tiles.items ≡ shown.now.own.now ++ shown.now.tile ∷ []) }
+fn concealed(alloc: Global, shown: &Shown) -> Result<Tiles, AllocError>
+    ensures { IfOk result (λ tiles. tiles ≡ shown.now.own.now ++ shown.now.tile ∷ []) }
 {
-    let mut tiles = Vec::new(alloc);
-    tiles.extend_from_slice(shown.own)?;
+    let mut tiles = Tiles::of(alloc, shown.own)?;
     tiles.push(shown.tile)?;
     Ok(tiles)
 }
 
 // All tiles of a winner.
-fn all_tiles(alloc: Global, shown: &Shown) -> Result<Vec<Tile>, AllocError>
-    ensures { IfOk result (λ tiles. tiles.items
+fn all_tiles(alloc: Global, shown: &Shown) -> Result<Tiles, AllocError>
+    ensures { IfOk result (λ tiles. tiles
         ≡ all_tiles shown.now.own.now shown.now.tile shown.now.melds.now) }
 {
     let mut tiles = concealed(alloc, shown)?;
@@ -223,10 +205,12 @@ fn all_tiles(alloc: Global, shown: &Shown) -> Result<Vec<Tile>, AllocError>
 }
 
 // Adds the tiles of a meld.
-fn push_meld(tiles: &mut Vec<Tile>, meld: &Meld) -> Result<(), AllocError>
-    ensures { OnOk result (tiles.new.items ≡ tiles.old.items ++ tiles_of_meld meld.now) }
+fn push_meld(tiles: &mut Tiles, meld: &Meld) -> Result<(), AllocError>
+    ensures { OnOk result (tiles.new ≡ tiles.old ++ tiles_of_meld meld.now) }
 {
-    tiles.extend_from_slice(&[meld.a, meld.b, meld.c])?;
+    tiles.push(meld.a)?;
+    tiles.push(meld.b)?;
+    tiles.push(meld.c)?;
     if let Some(tile) = meld.d {
         tiles.push(tile)?;
     }
