@@ -1,16 +1,19 @@
 -- Which discards are lawful: their kinds, the last of them, and the best.
-use Rattle.std.proofs.Common.{◌≡◌, ℕ, zero, suc, ◌+◌, ◌-◌, ◌<◌, ◌≤◌, ◌==◌, ◌&&◌, ◌||◌, not, Bool, true, false, cond, eqb, ltb, List, [], ◌∷◌, length, drop, get_or, min, Option, Some, None, refl, sym, ap, ◌∙◌, subst, arith}
-use Rattle.std.specs.Prelude.{nat_lt, is_none, filter, map, slice_get, slice_index, MatchOption, MatchBool}
+use Rattle.std.proofs.Common.{◌≡◌, ℕ, zero, suc, ◌+◌, ◌-◌, ◌<◌, ◌≤◌, ◌==◌, ◌&&◌, ◌||◌, not, inl, inr, Bool, true, false, cond, eqb, ltb, List, [], ◌∷◌, ◌++◌, append-nil, length, take, drop, get_or, min, Option, Some, None, refl, sym, ap, ◌∙◌, subst, arith}
+use Rattle.std.specs.Prelude.{nat_lt, is_none, filter, map, slice_get, slice_index, IsTrue, MatchOption, MatchBool}
 use Rattle.std.specs.List.{list_all}
-use Rattle.std.proofs.lemmas.Bool.{and_parts, and_from, ltb-true, lt-leb, true≢false, false≢true, eqb-true, eq-eqb}
+use Rattle.std.proofs.lemmas.Bool.{and_parts, and_from, ltb-true, lt-leb, true≢false, false≢true, cases_eq, eqb-true, eq-eqb}
 use Rattle.std.proofs.lemmas.Bool.Decides.{nat_tests}
-use Rattle.std.proofs.lemmas.List.{drop_more, drop_all}
+use Rattle.std.proofs.lemmas.List.{drop_more, drop_all, take-append-drop}
+use Rattle.std.proofs.lemmas.List.Elements.{filter-append}
 use Rattle.std.proofs.lemmas.Option.{slice_get-get_or}
 use Rattle.mj_tiles.specs.Faces.{is_red, kind_of, number_in, tile_order}
-use Rattle.mj_tiles.specs.Counts.{kind_counts}
+use Rattle.mj_tiles.specs.Counts.{all_kinds, kind_counts}
 use Rattle.mj_tiles.specs.Kinds.{has_kind, no_kinds, with_kind, set_of}
 use Rattle.mj_tiles.proofs.Faces.{all_faces, either_way}
 use Rattle.mj_tiles.proofs.CountSteps.{get_or-kind_counts}
+use Rattle.mj_tiles.proofs.EachKind.{each_kind}
+use Rattle.mj_tiles.proofs.KindSets.{has_kind-with}
 use Rattle.mj_calls.specs.Bans.{is_banned}
 use Rattle.mj_readings.specs.declared.reading.Set.{Set}
 use Rattle.mj_readings.specs.Sets.{set_of_meld}
@@ -26,16 +29,18 @@ use Rattle.mj_rules.specs.Broken.{is_open, is_that, is_wrongly_marked, is_banned
 use Rattle.mj_rules.specs.View.{SeatView, WindowTurn, Drew, Discarded, Added, Reached, Called, Nobodys, held_count, concealed, room}
 use Rattle.mj_rules.specs.Default.{discard_of, lawful_faces, last_face}
 use Rattle.mj_rules.proofs.Questions.{all_no, none_broken}
+use Rattle.mj_judge.proofs.Places.{last_passes}
 use Rattle.mj_judge.proofs.Swaps.{swap_of}
 use Rattle.mj_judge.specs.Measured.{is_measured}
 use Rattle.mj_bot.specs.Choice.{lawful_of, IsBestLawful, IsBest}
+use Rattle.mj_bot.specs.Inner.Measured.{IsMeasuredHand}
 use Rattle.mj_bot.specs.Inner.Turns.{is_own_turn, is_own_draw, is_free, is_among}
 
 -- The discard of a face breaks no rule.
 abbrev pub passes : Rules → ℕ → SeatView → ℕ → Bool
 passes rules seat view face = is_none (broken_by rules seat view (discard_of seat view face))
 
-none_is : (o : Option Rule) → is_none o ≡ true → o ≡ None
+pub none_is : (o : Option Rule) → is_none o ≡ true → o ≡ None
 none_is None h = refl
 none_is (Some rule) h = cc
 
@@ -236,14 +241,14 @@ both_filters p q (x ∷ xs) = by_tests (p x) (q x) refl refl (both_filters p q x
         ∙ same
         ∙ sym (ap (λ a. filter q (cond a (x ∷ filter p xs) (filter p xs))) e)
 
-all_kept : (q : ℕ → Bool) (xs : List ℕ) → list_all q xs ≡ true → filter q xs ≡ xs
+pub all_kept : (q : ℕ → Bool) (xs : List ℕ) → list_all q xs ≡ true → filter q xs ≡ xs
 all_kept q [] each = refl
 all_kept q (x ∷ xs) each =
     let parts = and_parts (q x) (list_all q xs) each in
     ap (λ b. cond b (x ∷ filter q xs) (filter q xs)) parts.0 ∙ ap (λ (ys : List ℕ). x ∷ ys) (all_kept q xs parts.1)
 
 -- Each is of its own kind.
-weaker : (p q : ℕ → Bool) (xs : List ℕ) → ((x : ℕ) → p x ≡ true → q x ≡ true) → list_all p xs ≡ true → list_all q xs ≡ true
+pub weaker : (p q : ℕ → Bool) (xs : List ℕ) → ((x : ℕ) → p x ≡ true → q x ≡ true) → list_all p xs ≡ true → list_all q xs ≡ true
 weaker p q [] more each = refl
 weaker p q (x ∷ xs) more each =
     let parts = and_parts (p x) (list_all p xs) each in
@@ -278,7 +283,7 @@ of_one kind xs i = filter (λ (face : ℕ). one_kind face i) xs
     one_kind face = swap_of (kind ∷ []) (kind_of face) ∙ or-false (eqb kind (kind_of face)) ∙ either_way kind (kind_of face)
 
 -- A tile that is picked out of a list by a test passes it.
-picked : (p : ℕ → Bool) (xs : List ℕ) (i tile : ℕ) → slice_get (filter p xs) i ≡ Some tile → p tile ≡ true
+pub picked : (p : ℕ → Bool) (xs : List ℕ) (i tile : ℕ) → slice_get (filter p xs) i ≡ Some tile → p tile ≡ true
 picked p [] i tile h = cc
 picked p (x ∷ xs) i tile h = by_test (p x) refl (λ k. picked p xs k tile) i h
   where
@@ -290,7 +295,7 @@ picked p (x ∷ xs) i tile h = by_test (p x) refl (λ k. picked p xs k tile) i h
     by_test true e others (suc i) k = others i k
     by_test false e others i k = others i k
 
-some_last : (xs : List ℕ) → last_face xs ≡ None → xs ≡ []
+pub some_last : (xs : List ℕ) → last_face xs ≡ None → xs ≡ []
 some_last [] h = refl
 some_last (x ∷ xs) h = absurd (never (get_or (x ∷ xs) (length (x ∷ xs) - 1) 0) (sym (slice_get-get_or (x ∷ xs) (length (x ∷ xs) - 1) 0 (omega arith)) ∙ h))
   where
@@ -374,25 +379,17 @@ no_kind_lawful rules seat kinds view counts is set none = by_list (lawful_faces 
           held = subst (λ (ns : List ℕ). 0 < get_or ns (kind_of face) 0) (sym is) (counted_of_lawful rules seat view face small first.0);
         }))
 
--- What the code asks for, read of the view.
-pub measured_best : (rules : Rules) (seat kinds kind one number : ℕ) (view : SeatView) (counts left counts_of left_of : List ℕ) (melds : List Set) (measured : Bool) (last : Option ℕ) →
-    counts ≡ kind_counts (concealed view) → left ≡ room view → melds ≡ map set_of_meld view.melds → measured ≡ is_measured counts left melds → measured ≡ true → counts_of ≡ counts → left_of ≡ left → number ≡ length view.melds →
-    kinds ≡ set_of (map kind_of (lawful_faces rules seat view)) → IsBestDiscard counts_of left_of number kinds kind → one ≡ with_kind no_kinds kind → last ≡ last_face (filter (is_among one) (lawful_faces rules seat view)) →
-    MatchOption last (lawful_faces rules seat view ≡ []) (IsBest rules seat view)
-measured_best rules seat kinds kind one number view counts left counts_of left_of melds measured last is beside sets told so same_counts same_room many set best one_is last_told = by_last last refl
+-- What the code asks for, read of the view: the last of the best lawful kind.
+pub measured_best : (rules : Rules) (seat kinds kind number missing : ℕ) (view : SeatView) (counts left : List ℕ) (last : Option ℕ) → IsMeasuredHand view counts left number missing → kinds ≡ set_of (map kind_of (lawful_faces rules seat view)) →
+    IsBestDiscard counts left number kinds kind → last ≡ last_face (lawful_of rules seat view kind) → MatchOption last (lawful_faces rules seat view ≡ []) (IsBest rules seat view)
+measured_best rules seat kinds kind number missing view counts left last hand set best last_is = by_last last refl
   where
-    yes : is_measured (kind_counts (concealed view)) (room view) (map set_of_meld view.melds) ≡ true
-    yes = sym (told ∙ (λ i. is_measured (is i) (beside i) (sets i))) ∙ so
-
     here : IsBestDiscard (kind_counts (concealed view)) (room view) (length view.melds) (set_of (map kind_of (lawful_faces rules seat view))) kind
     here =
         subst (λ (s : ℕ). IsBestDiscard (kind_counts (concealed view)) (room view) (length view.melds) s kind) set
-        (subst (λ (m : ℕ). IsBestDiscard (kind_counts (concealed view)) (room view) m kinds kind) many
-        (subst (λ (r : List ℕ). IsBestDiscard (kind_counts (concealed view)) r number kinds kind) (same_room ∙ beside)
-        (subst (λ (ns : List ℕ). IsBestDiscard ns left_of number kinds kind) (same_counts ∙ is) best)))
-
-    last_is : last ≡ last_face (lawful_of rules seat view kind)
-    last_is = last_told ∙ ap (λ s. last_face (filter (is_among s) (lawful_faces rules seat view))) one_is ∙ ap last_face (of_one kind (lawful_faces rules seat view))
+        (subst (λ (m : ℕ). IsBestDiscard (kind_counts (concealed view)) (room view) m kinds kind) hand.melds_are
+        (subst (λ (r : List ℕ). IsBestDiscard (kind_counts (concealed view)) r number kinds kind) hand.left_is
+        (subst (λ (ns : List ℕ). IsBestDiscard ns left number kinds kind) hand.counts_are best)))
 
     some : lawful_of rules seat view kind ≡ [] → ⊥
     some = any_of kind (lawful_faces rules seat view) (sym (swap_of (map kind_of (lawful_faces rules seat view)) kind) ∙ here.is_discard.among)
@@ -401,7 +398,88 @@ measured_best rules seat kinds kind one number view counts left counts_of left_o
     by_last None e = absurd (some (some_last (lawful_of rules seat view kind) (sym last_is ∙ e)))
     by_last (Some face) e =
         let at : kind_of face ≡ kind = eqb-true (kind_of face) kind (picked (λ other. kind_of other == kind) (lawful_faces rules seat view) (length (lawful_of rules seat view kind) - 1) face (sym last_is ∙ e)) in
-        subst (λ b. MatchBool b (IsBestLawful rules seat view face) (last_face (lawful_faces rules seat view) ≡ Some face)) (sym yes) (record {
+        subst (λ b. MatchBool b (IsBestLawful rules seat view face) (last_face (lawful_faces rules seat view) ≡ Some face)) (sym hand.measured) (record {
           kind_is = subst (IsBestDiscard (kind_counts (concealed view)) (room view) (length view.melds) (set_of (map kind_of (lawful_faces rules seat view)))) (sym at) here;
           face_is = ap (λ k. last_face (lawful_of rules seat view k)) at ∙ sym last_is ∙ e;
         })
+
+-- The best of all kinds is the best of those among which it is.
+narrowed : (counts room : List ℕ) (melds all some kind : ℕ) → ((k : ℕ) → k < 34 → IsTrue (has_kind all k)) → has_kind some kind ≡ true → IsBestDiscard counts room melds all kind → IsBestDiscard counts room melds some kind
+narrowed counts room melds all some kind each among best = record {
+  is_discard = record { kind_is = best.is_discard.kind_is; among = among; held = best.is_discard.held };
+  number = best.number;
+  leaves = best.leaves;
+  best = λ other others discard theirs. best.best other others record { kind_is = discard.kind_is; among = each other discard.kind_is; held = discard.held } theirs;
+}
+
+-- A kind of which some face is picked is among them.
+pub one_among : (kind : ℕ) (xs : List ℕ) (i tile : ℕ) → slice_get (filter (λ other. kind_of other == kind) xs) i ≡ Some tile → is_banned (map kind_of xs) kind ≡ true
+one_among kind [] i tile h = cc
+one_among kind (x ∷ xs) i tile h = by_test (eqb (kind_of x) kind) (λ k. one_among kind xs i tile k) h
+  where
+    by_test : (b : Bool) → (slice_get (filter (λ other. kind_of other == kind) xs) i ≡ Some tile → is_banned (map kind_of xs) kind ≡ true) →
+        slice_get (cond b (x ∷ filter (λ other. kind_of other == kind) xs) (filter (λ other. kind_of other == kind) xs)) i ≡ Some tile → (b || is_banned (map kind_of xs) kind) ≡ true
+    by_test true f k = refl
+    by_test false f k = f k
+
+-- The best of all kinds, where a discard of it is lawful.
+pub held_best : (rules : Rules) (seat all kind number missing : ℕ) (view : SeatView) (counts left : List ℕ) (last : Option ℕ) (tile : ℕ) → IsMeasuredHand view counts left number missing → ((k : ℕ) → k < 34 → IsTrue (has_kind all k)) →
+    IsBestDiscard counts left number all kind → last ≡ last_face (lawful_of rules seat view kind) → last ≡ Some tile → IsBest rules seat view tile
+held_best rules seat all kind number missing view counts left last tile hand each best last_is some =
+    subst (λ o. MatchOption o (lawful_faces rules seat view ≡ []) (IsBest rules seat view)) some
+    (measured_best rules seat (set_of (map kind_of (lawful_faces rules seat view))) kind number missing view counts left last hand refl
+    (narrowed counts left number all (set_of (map kind_of (lawful_faces rules seat view))) kind each among best) last_is)
+  where
+    among : has_kind (set_of (map kind_of (lawful_faces rules seat view))) kind ≡ true
+    among = swap_of (map kind_of (lawful_faces rules seat view)) kind ∙ one_among kind (lawful_faces rules seat view) (length (lawful_of rules seat view kind) - 1) tile (sym last_is ∙ some)
+
+-- ---- the walk down from the last place of a kind
+
+-- The face is of the kind, and its discard breaks no rule.
+abbrev pub is_of : Rules → ℕ → SeatView → ℕ → ℕ → Bool
+is_of rules seat view kind face = (kind_of face == kind) && passes rules seat view face
+
+far_off : list_all (λ kind. list_all (λ face. not (kind_of face == kind)) (drop (kind + 4) tile_order)) all_kinds ≡ true
+unfolding tile_order all_kinds
+far_off = refl
+
+filter_off : (p q : ℕ → Bool) (xs : List ℕ) → list_all (λ x. not (q x)) xs ≡ true → filter (λ x. q x && p x) xs ≡ []
+filter_off p q [] each = refl
+filter_off p q (x ∷ xs) each = by_test (q x) (and_parts (not (q x)) (list_all (λ x. not (q x)) xs) each).0 (filter_off p q xs (and_parts (not (q x)) (list_all (λ x. not (q x)) xs) each).1)
+  where
+    by_test : (b : Bool) → not b ≡ true → filter (λ x. q x && p x) xs ≡ [] → cond (b && p x) (x ∷ filter (λ x. q x && p x) xs) (filter (λ x. q x && p x) xs) ≡ []
+    by_test true k none = absurd (false≢true k)
+    by_test false k none = none
+
+-- Past it none is of the kind.
+pub none_past : (p : ℕ → Bool) (kind place : ℕ) → kind < 34 → place ≡ kind + 4 → filter (λ face. (kind_of face == kind) && p face) (drop place tile_order) ≡ []
+none_past p kind place low at =
+    ap (λ n. filter (λ face. (kind_of face == kind) && p face) (drop n tile_order)) at
+    ∙ filter_off p (λ face. kind_of face == kind) (drop (kind + 4) tile_order) (each_kind (λ k. list_all (λ face. not (kind_of face == k)) (drop (k + 4) tile_order)) kind low far_off)
+
+pub none_here : (p : ℕ → Bool) (place next tile : ℕ) → 0 < place → place ≤ 37 → next ≡ place - 1 → tile ≡ slice_index tile_order next → p tile ≡ false → filter p (drop place tile_order) ≡ [] → filter p (drop next tile_order) ≡ []
+none_here p place next tile some low at_next is test none =
+    ap (λ (xs : List ℕ). filter p xs) (drop_more tile_order next 0 (omega (arith, some, low, at_next, all_faces)) ∙ ap (λ (t : ℕ). t ∷ drop (next + 1) tile_order) (sym is))
+    ∙ ap (λ b. cond b (tile ∷ filter p (drop (next + 1) tile_order)) (filter p (drop (next + 1) tile_order))) test
+    ∙ ap (λ n. filter p (drop n tile_order)) (sym (one_more place next some at_next)) ∙ none
+
+pub last_here : (p : ℕ → Bool) (place next tile : ℕ) → 0 < place → place ≤ 37 → next ≡ place - 1 → tile ≡ slice_index tile_order next → p tile ≡ true → filter p (drop place tile_order) ≡ [] → Some tile ≡ last_face (filter p tile_order)
+last_here p place next tile some low at_next is test none =
+    last_passes p next tile (omega (arith, some, low, at_next)) is test
+    ∙ ap (λ n. last_face (filter p (take n tile_order))) (sym (one_more place next some at_next))
+    ∙ ap last_face (sym (append-nil (filter p (take place tile_order))) ∙ ap (λ (xs : List ℕ). filter p (take place tile_order) ++ xs) (sym none) ∙ sym (filter-append p (take place tile_order) (drop place tile_order)) ∙ ap (filter p) (take-append-drop place tile_order))
+
+pub none_at_all : (p : ℕ → Bool) (place : ℕ) → place ≡ 0 → filter p (drop place tile_order) ≡ [] → None ≡ last_face (filter p tile_order)
+none_at_all p place first none = sym (ap last_face (ap (λ n. filter p (drop n tile_order)) (sym first) ∙ none))
+
+-- ---- all kinds
+
+pub every_more : (kinds next number kind : ℕ) → next ≡ with_kind kinds kind → kind ≡ number → ((k : ℕ) → k < number → IsTrue (has_kind kinds k)) → (k : ℕ) → k < number + 1 → IsTrue (has_kind next k)
+every_more kinds next number kind is at before k low = ap (λ s. has_kind s k) is ∙ has_kind-with kinds kind k ∙ elim (cases_eq kind k) [
+  | inl same ↦ ap (λ b. b || has_kind kinds k) (eq-eqb kind k same)
+  | inr other ↦ either (eqb kind k) (before k (let apart : number ≡ k → ⊥ = λ e. other (at ∙ e) in omega (arith, low, apart)))
+]
+  where
+    either : {b : Bool} (a : Bool) → b ≡ true → (a || b) ≡ true
+    either true h = refl
+    either false h = h

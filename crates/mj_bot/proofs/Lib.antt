@@ -1,5 +1,6 @@
 pub mod Chosen
 pub mod Lawful
+pub mod Locked
 pub mod Unready
 pub mod Offered
 pub mod Promises

@@ -1,3 +1,4 @@
 -- What the walks of this crate keep while they go, with the definitions that only they and their proofs need. No definition
 -- outside the crate names them, and no public clause.
+pub mod Measured
 pub mod Turns

@@ -6,7 +6,7 @@ ghost use Rattle.mj_rules.specs.View.{view_of};
 ghost use Rattle.mj_bot.specs.Choice.{win_in, pon_in, first_lawful, IsChoice};
 ghost use Rattle.mj_bot.specs.Inner.Turns.{IsNeverReady};
 
-use crate::discards::best_discard;
+use crate::discards::{best_discard, has_drawn};
 use mj_deeds::{Answer, Deed, Pai};
 use mj_fu::is_dragon;
 use mj_judge::{discard, judge, seat_wind};
@@ -52,7 +52,8 @@ fn lawful_win(table: &Table, seat: u8) -> Option<Answer>
     }
 }
 
-// A reach, where it is lawful: it isn't where it is known that no discard leaves the hand ready.
+// A reach, where it is lawful: it isn't out of the seat's own draw, nor where it is known that no discard leaves the hand
+// ready.
 fn lawful_reach(table: &Table, seat: u8, unready: bool) -> Option<Answer>
     requires seat { seat ≤ 3 }
     requires unready { IsTrue unready → IsNeverReady (view_of table.now.deeds seat) }
@@ -60,6 +61,9 @@ fn lawful_reach(table: &Table, seat: u8, unready: bool) -> Option<Answer>
         (answers.Reach seat ∷ []) }
 {
     if unready {
+        return None;
+    }
+    if !has_drawn(table, seat) {
         return None;
     }
     if_lawful(table, seat, &Answer::Reach { actor: seat })

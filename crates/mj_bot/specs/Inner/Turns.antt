@@ -1,7 +1,6 @@
 -- Whose turn it is to discard, and of which kinds.
-use Rattle.std.specs.Prelude.{ℕ, ◌≡◌, ◌==◌, ◌&&◌, ◌||◌, Bool, false, not, List, slice_index}
-use Rattle.std.specs.List.{list_all, list_any}
-use Rattle.mj_tiles.specs.Counts.{all_kinds}
+use Rattle.std.specs.Prelude.{ℕ, ◌≡◌, ◌==◌, ◌&&◌, Bool, false, not}
+use Rattle.std.specs.List.{list_any}
 use Rattle.mj_tiles.specs.Faces.{kind_of}
 use Rattle.mj_tiles.specs.Kinds.{has_kind}
 use Rattle.mj_rules.specs.Broken.{is_ready_without}

@@ -1,7 +1,8 @@
-use Rattle.std.proofs.Common.{map, sym, ap, ◌∙◌}
+use Rattle.std.proofs.Common.{◌≤◌, map, length, sym, ap, subst, ◌∙◌}
 use Rattle.mj_readings.specs.Sets.{set_of_meld}
 use Rattle.mj_rules.specs.View.{view_of}
 use Rattle.mj_bot.proofs.Lawful.{none_lawful, unmeasured}
+use Rattle.mj_bot.proofs.Locked.{locked_best}
 use Rattle.mj_bot.proofs.discards.best_discard.Goals as goal
 
 pub returns-then-not-has_turn-clause-tile : goal.returns-then-not-has_turn-clause-tile
@@ -24,3 +25,9 @@ measured_discard-requires-clause-left c = c.room-room.ensures
 pub measured_discard-requires-clause-melds : goal.measured_discard-requires-clause-melds
 unfolding view_of
 measured_discard-requires-clause-melds c = c.as_slice-melds.ensures.value ∙ c.melds-melds.ensures
+
+pub returns-in-Some-clause-tile : goal.returns-in-Some-clause-tile
+unfolding view_of
+returns-in-Some-clause-tile c =
+    locked_best c.args.table.now.rules c.args.seat c.in-Some.tile (view_of c.args.table.now.deeds c.args.seat)
+    (subst (λ n. n ≤ 4) (ap length (c.as_slice-melds.ensures.value ∙ c.melds-melds.ensures)) c.as_slice-melds.ensures.within) (c.locked_discard.ensures c.in-Some.tile c.in-Some.is)

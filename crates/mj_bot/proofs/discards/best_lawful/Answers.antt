@@ -1,0 +1,25 @@
+use Rattle.mj_rules.specs.View.{view_of}
+use Rattle.mj_bot.proofs.Lawful.{measured_best, no_kind_lawful}
+use Rattle.mj_bot.proofs.discards.best_lawful.Goals as goal
+
+pub best_discard_of-requires-clause-few : goal.best_discard_of-requires-clause-few
+best_discard_of-requires-clause-few c = c.requires.hand.few
+
+pub best_discard_of-requires-clause-room : goal.best_discard_of-requires-clause-room
+best_discard_of-requires-clause-room c = c.requires.hand.is_room
+
+pub best_discard_of-requires-clause-missing : goal.best_discard_of-requires-clause-missing
+best_discard_of-requires-clause-missing c = c.requires.hand.least
+
+pub best_discard_of-requires-clause-size : goal.best_discard_of-requires-clause-size
+best_discard_of-requires-clause-size c = c.requires.hand.size
+
+pub returns-in-Some : goal.returns-in-Some
+returns-in-Some c =
+    measured_best c.args.table.now.rules c.args.seat c.lawful_kinds-kinds.result c.in-Some.kind c.args.number c.args.missing (view_of c.args.table.now.deeds c.args.seat) c.args.suits.now.counts c.args.suits.now.room c.last_of.result
+    c.requires.hand c.lawful_kinds-kinds.ensures c.in-Some.ensures c.last_of.ensures
+
+pub returns-in-None : goal.returns-in-None
+returns-in-None c =
+    no_kind_lawful c.args.table.now.rules c.args.seat c.lawful_kinds-kinds.result (view_of c.args.table.now.deeds c.args.seat) c.args.suits.now.counts c.requires.hand.counts_are
+    c.lawful_kinds-kinds.ensures c.in-None.ensures
