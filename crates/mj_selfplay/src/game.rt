@@ -36,19 +36,27 @@ fn seed(number: u64) -> [u8; 32]
     seed
 }
 
-// What the game with the walls of a seed comes to. More of them are shuffled only where its hands go on.
+// What the game with the walls of a seed comes to.
 fn play(alloc: Global, seed: [u8; 32]) -> Result<Summary, AllocError>
     ensures { IfOk result (λ summary. IsSummary self_rules (game_walls seed) summary) }
 {
-    let mut walls = first_walls(alloc, seed)?;
     let mut table = started()?;
-    let mut tally = Tally::none().with(&start());
-    while goes_on(&table) {
+    play_on(alloc, seed, &mut table)
+}
+
+// Plays it on the table, on which it has started. More walls are shuffled only where its hands go on.
+fn play_on(alloc: Global, seed: [u8; 32], table: &mut Table) -> Result<Summary, AllocError>
+    requires { table.old ≡ record { rules = self_rules; deeds = self_start ∷ [] } }
+    ensures { IfOk result (λ summary. IsSummary self_rules (game_walls seed) summary) }
+{
+    let mut walls = first_walls(alloc, seed)?;
+    let mut tally = Tally::none().with(start());
+    while goes_on(table) {
         walls = enough_walls(alloc, seed, walls, tally.hands)?;
-        let deed = step(alloc, &mut table, &walls)?;
-        tally = tally.with(&deed);
+        let deed = step(alloc, table, &walls)?;
+        tally = tally.with(deed);
     }
-    Ok(tally.summary(&table))
+    Ok(tally.summary(table))
 }
 
 // A table on which the game has started.

@@ -44,17 +44,17 @@ impl Tally {
 
     // With one deed more.
     #[tactic(auto, unfolding(crate::specs::Inner::Tallies::with_one))]
-    pub(crate) fn with(self, deed: &Deed) -> Tally
+    pub(crate) fn with(self, deed: Deed) -> Tally
         requires few { self.deeds ≤ 60002 }
         requires hands { self.hands ≤ self.deeds }
         requires wins { self.wins ≤ self.deeds }
         requires draws { self.draws ≤ self.deeds }
-        ensures { result ≡ with_one self deed.now }
+        ensures { result ≡ with_one self deed }
     {
         Tally {
-            hands: self.hands + u32::from(is_start(deed)),
-            wins: self.wins + u32::from(is_win(deed)),
-            draws: self.draws + u32::from(is_drawn_hand(deed)),
+            hands: self.hands + u32::from(is_start(&deed)),
+            wins: self.wins + u32::from(is_win(&deed)),
+            draws: self.draws + u32::from(is_drawn_hand(&deed)),
             deeds: self.deeds + 1,
         }
     }

@@ -1,7 +1,7 @@
 use Rattle.std.proofs.Common.{[]}
 use Rattle.mj_selfplay.specs.Inner.Supplies.{game_walls}
 use Rattle.mj_selfplay.proofs.Played.{begins, comes_to, goes, nearer, none_within, played_at_hand, tally_few, tally_within, whole_walls}
-use Rattle.mj_selfplay.proofs.game.play.Goals as goal
+use Rattle.mj_selfplay.proofs.game.play_on.Goals as goal
 
 pub with-tally-requires-clause-few : goal.with-tally-requires-clause-few
 with-tally-requires-clause-few c = none_within c.none.result c.none.ensures
@@ -17,7 +17,7 @@ with-tally-requires-clause-draws c = (tally_few c.none.result [] c.none.ensures)
 
 pub loop-alloc-init : goal.loop-alloc-init
 loop-alloc-init c =
-    (c.in_ok-walls.ensures, begins (game_walls c.args.seed) c.in_ok-table.table c.none.result c.with-tally.result c.start.result c.in_ok-table.ensures c.none.ensures c.start.ensures c.with-tally.ensures)
+    (c.in_ok-walls.ensures, begins (game_walls c.args.seed) c.args.table.now c.none.result c.with-tally.result c.start.result c.requires c.none.ensures c.start.ensures c.with-tally.ensures)
 
 pub step-requires-clause-played : goal.step-requires-clause-played
 step-requires-clause-played c =
@@ -42,30 +42,6 @@ with-tally-requires-in-loop-alloc-clause-wins c =
 pub with-tally-requires-in-loop-alloc-clause-draws : goal.with-tally-requires-in-loop-alloc-clause-draws
 with-tally-requires-in-loop-alloc-clause-draws c =
     (tally_few c.loop-alloc.tally c.loop-alloc.table.deeds c.loop-alloc.invariant.1.tally_is).draws
-
-pub loop-alloc-smaller-in_ok-deed : goal.loop-alloc-smaller-in_ok-deed
-loop-alloc-smaller-in_ok-deed c =
-    nearer c.args.seed c.in_ok-walls-2.walls c.loop-alloc.table c.step.new.table c.loop-alloc.tally c.in_ok-deed.deed c.in_ok-walls-2.ensures.at_hand c.in_ok-walls-2.ensures.enough c.loop-alloc.invariant.1 c.in_ok-deed.ensures.pushed
-
-pub loop-alloc-preserved-in_ok-deed : goal.loop-alloc-preserved-in_ok-deed
-loop-alloc-preserved-in_ok-deed c =
-    (c.in_ok-walls-2.ensures.at_hand, goes c.args.seed c.in_ok-walls-2.walls c.loop-alloc.table c.step.new.table c.loop-alloc.tally c.with-tally-in-loop-alloc.result c.in_ok-deed.deed c.in_ok-walls-2.ensures.enough c.loop-alloc.invariant.1 c.in_ok-deed.ensures.chosen c.in_ok-deed.ensures.pushed c.in_ok-deed.ensures.played c.with-tally-in-loop-alloc.ensures)
-
-pub loop-alloc-smaller-in_ok-deed-2 : goal.loop-alloc-smaller-in_ok-deed-2
-loop-alloc-smaller-in_ok-deed-2 c =
-    nearer c.args.seed c.in_ok-walls-2.walls c.loop-alloc.table c.step.new.table c.loop-alloc.tally c.in_ok-deed.deed c.in_ok-walls-2.ensures.at_hand c.in_ok-walls-2.ensures.enough c.loop-alloc.invariant.1 c.in_ok-deed.ensures.pushed
-
-pub loop-alloc-preserved-in_ok-deed-2 : goal.loop-alloc-preserved-in_ok-deed-2
-loop-alloc-preserved-in_ok-deed-2 c =
-    (c.in_ok-walls-2.ensures.at_hand, goes c.args.seed c.in_ok-walls-2.walls c.loop-alloc.table c.step.new.table c.loop-alloc.tally c.with-tally-in-loop-alloc.result c.in_ok-deed.deed c.in_ok-walls-2.ensures.enough c.loop-alloc.invariant.1 c.in_ok-deed.ensures.chosen c.in_ok-deed.ensures.pushed c.in_ok-deed.ensures.played c.with-tally-in-loop-alloc.ensures)
-
-pub loop-alloc-smaller-in_ok-deed-3 : goal.loop-alloc-smaller-in_ok-deed-3
-loop-alloc-smaller-in_ok-deed-3 c =
-    nearer c.args.seed c.in_ok-walls-2.walls c.loop-alloc.table c.step.new.table c.loop-alloc.tally c.in_ok-deed.deed c.in_ok-walls-2.ensures.at_hand c.in_ok-walls-2.ensures.enough c.loop-alloc.invariant.1 c.in_ok-deed.ensures.pushed
-
-pub loop-alloc-preserved-in_ok-deed-3 : goal.loop-alloc-preserved-in_ok-deed-3
-loop-alloc-preserved-in_ok-deed-3 c =
-    (c.in_ok-walls-2.ensures.at_hand, goes c.args.seed c.in_ok-walls-2.walls c.loop-alloc.table c.step.new.table c.loop-alloc.tally c.with-tally-in-loop-alloc.result c.in_ok-deed.deed c.in_ok-walls-2.ensures.enough c.loop-alloc.invariant.1 c.in_ok-deed.ensures.chosen c.in_ok-deed.ensures.pushed c.in_ok-deed.ensures.played c.with-tally-in-loop-alloc.ensures)
 
 pub loop-alloc-smaller : goal.loop-alloc-smaller
 loop-alloc-smaller c =
