@@ -1,11 +1,12 @@
 -- Texts of three fields and of other numbers of fields, and tiles read field by field.
-use Rattle.std.proofs.Common.{◌≡◌, ℕ, ◌==◌, List, [], ◌∷◌, ◌++◌, true, false, Bool, refl, sym, ◌∙◌, cond, arith}
+use Rattle.std.proofs.Common.{◌≡◌, ℕ, ◌==◌, ◌<◌, ◌≤◌, ◌+◌, List, [], ◌∷◌, ◌++◌, true, false, Bool, refl, sym, ap, ◌∙◌, cond, length, length-append, arith}
 use Rattle.std.specs.Prelude.{Option, Some, None}
+use Rattle.std.proofs.lemmas.Bool.{ne_eqb}
 use Rattle.mj_lists.proofs.Onto.{onto, onto-more, onto-nothing}
 use Rattle.mj_bytes.specs.Parts.{fields, onto_first, BeginsWithField}
-use Rattle.mj_tiles.specs.Faces.{face_of}
+use Rattle.mj_tiles.specs.Faces.{face_of, texts}
 use Rattle.mj_forms.specs.Headers.{rules_of, tiles_in}
-use Rattle.mjai_lines.specs.Settings.{three_of}
+use Rattle.mjai_lines.specs.Settings.{three_of, BeginsWithTile}
 
 -- a text has at least one field
 has_first : (text : List ℕ) → fields text ≡ [] → ⊥
@@ -44,17 +45,47 @@ rules_of_others (a ∷ b ∷ []) h = refl
 rules_of_others (a ∷ b ∷ c ∷ []) h = cc h
 rules_of_others (a ∷ b ∷ c ∷ d ∷ ds) h = refl
 
--- a field of one byte, and of two
-pub one_ahead : (a : ℕ) (rest : List ℕ) → (a == 32) ≡ false → BeginsWithField (a ∷ 32 ∷ rest) (a ∷ []) rest
-one_ahead a rest h = record { parts = refl; plain = rw h; all = rw h; shorter = omega arith }
+-- a tile of one byte, and of two
+one_byte : (a : ℕ) (rest : List ℕ) → (a == 32) ≡ false → BeginsWithField (a ∷ 32 ∷ rest) (a ∷ []) rest
+one_byte a rest h = record { parts = refl; plain = rw h; all = rw h; shorter = omega arith }
 
-pub two_ahead : (a b : ℕ) (rest : List ℕ) → (a == 32) ≡ false → (b == 32) ≡ false → BeginsWithField (a ∷ b ∷ 32 ∷ rest) (a ∷ b ∷ []) rest
-two_ahead a b rest h k = record { parts = refl; plain = rw (h, k); all = rw (h, k); shorter = omega arith }
+two_bytes : (a b : ℕ) (rest : List ℕ) → (a == 32) ≡ false → (b == 32) ≡ false → BeginsWithField (a ∷ b ∷ 32 ∷ rest) (a ∷ b ∷ []) rest
+two_bytes a b rest h k = record { parts = refl; plain = rw (h, k); all = rw (h, k); shorter = omega arith }
+
+no_space : (a : ℕ) → 32 < a → (a == 32) ≡ false
+no_space a h = ne_eqb a 32 (λ e. omega (arith, h, e))
+
+pub one_ahead : (a : ℕ) (rest : List ℕ) (tile : Option ℕ) → 65 ≤ a → tile ≡ face_of (a ∷ []) → BeginsWithTile (a ∷ 32 ∷ rest) tile rest
+one_ahead a rest tile h e = record { field = a ∷ []; begins = one_byte a rest (no_space a (omega (arith, h))); named = e }
+
+pub two_ahead : (a b : ℕ) (rest : List ℕ) (tile : Option ℕ) → 49 ≤ a → 109 ≤ b → tile ≡ face_of (a ∷ b ∷ []) → BeginsWithTile (a ∷ b ∷ 32 ∷ rest) tile rest
+two_ahead a b rest tile h k e = record { field = a ∷ b ∷ []; begins = two_bytes a b rest (no_space a (omega (arith, h))) (no_space b (omega (arith, k))); named = e }
+
+pub any_ahead : (text field rest : List ℕ) (tile : Option ℕ) → BeginsWithField text field rest → tile ≡ face_of field → BeginsWithTile text tile rest
+any_ahead text field rest tile b e = record { field = field; begins = b; named = e }
+
+pub ruleset ahead = (one_ahead, two_ahead, any_ahead)
+
+pub shorter_behind : (text rest : List ℕ) (tile : Option ℕ) → BeginsWithTile text tile rest → length rest < length text
+shorter_behind text rest tile b = b.begins.shorter
+
+-- a tile has a text, so with the space behind it two bytes or more are read
+pub two_shorter : (text rest : List ℕ) (tile : ℕ) → BeginsWithTile text (Some tile) rest → length rest + 2 ≤ length text
+unfolding face_of texts
+two_shorter text rest tile b = sized b.field b.begins.parts b.named
+  where
+    sized : (field : List ℕ) → text ≡ field ++ 32 ∷ rest → Some tile ≡ face_of field → length rest + 2 ≤ length text
+    sized [] parts named = cc named
+    sized (x ∷ xs) parts named = omega (arith, ap length parts, length-append xs (32 ∷ rest))
 
 -- a tile more was read
-pub onto-step : (whole : Option (List ℕ)) (tiles rest field others : List ℕ) (tile : ℕ) → whole ≡ onto tiles (tiles_in (fields rest)) → fields rest ≡ field ∷ fields others → Some tile ≡ face_of field → whole ≡ onto (tiles ++ tile ∷ []) (tiles_in (fields others))
-onto-step whole tiles rest field others tile h e f =
-    let k = rw (e, ← f) at h in k ∙ onto-more tiles tile (tiles_in (fields others))
+pub onto-step : (whole : Option (List ℕ)) (tiles rest others : List ℕ) (tile : ℕ) → whole ≡ onto tiles (tiles_in (fields rest)) → BeginsWithTile rest (Some tile) others → whole ≡ onto (tiles ++ tile ∷ []) (tiles_in (fields others))
+onto-step whole tiles rest others tile h b =
+    let k = rw (b.begins.all, sym b.named) at h in k ∙ onto-more tiles tile (tiles_in (fields others))
+
+-- the next field names no tile
+pub onto-stop : (whole : Option (List ℕ)) (tiles rest others : List ℕ) → whole ≡ onto tiles (tiles_in (fields rest)) → BeginsWithTile rest None others → None ≡ whole
+onto-stop whole tiles rest others h b = let k = rw (b.begins.all, sym b.named) at h in sym k
 
 -- the last tile was read
 pub onto-last : (whole : Option (List ℕ)) (tiles rest : List ℕ) (tile : ℕ) → whole ≡ onto tiles (tiles_in (fields rest)) → fields rest ≡ rest ∷ [] → Some tile ≡ face_of rest → Some (tiles ++ tile ∷ []) ≡ whole
@@ -64,4 +95,4 @@ onto-last whole tiles rest tile h e f = let k = rw (e, ← f) at h in sym k
 pub onto-none : (whole : Option (List ℕ)) (tiles rest field : List ℕ) (others : List (List ℕ)) → whole ≡ onto tiles (tiles_in (fields rest)) → fields rest ≡ field ∷ others → None ≡ face_of field → None ≡ whole
 onto-none whole tiles rest field others h e f = let k = rw (e, ← f) at h in sym k
 
-pub ruleset reading = (onto-nothing, onto-step, onto-last, onto-none)
+pub ruleset reading = (shorter_behind, two_shorter, onto-nothing, onto-step, onto-stop, onto-last, onto-none)

@@ -2,9 +2,9 @@
 
 ghost use Rattle.std.specs.Prelude.{◌≡◌, ◌≤◌, IfOk, IfSome, MatchOption, codes, option_and_then, option_map};
 ghost use Rattle.mj_bytes.specs.Numbers.{decimal_of};
-ghost use Rattle.mj_bytes.specs.Parts.{fields, behind, BeginsWithField, IsOneField};
+ghost use Rattle.mj_bytes.specs.Parts.{fields, behind, IsOneField};
 ghost use Rattle.mj_forms.specs.Headers.{rules_of, tiles_in, limit_of, switch_of};
-ghost use Rattle.mjai_lines.specs.Settings.{three_of, IsLimited};
+ghost use Rattle.mjai_lines.specs.Settings.{three_of, BeginsWithTile, IsLimited};
 
 use mj_bytes::{read_number, split_space, strip};
 use mj_tiles::Tile;
@@ -33,17 +33,17 @@ pub fn read_tiles(alloc: Global, text: &[u8]) -> Result<Option<Vec<Tile>>, Alloc
 {
     let mut tiles = Vec::with_capacity(alloc, text.len() / 2 + 1)?;
     let mut rest = text;
-    while let Some((field, others)) = split_tile(rest) {
-        let Some(tile) = Tile::read(field) else {
+    while let Some((named, others)) = next_tile(rest) {
+        let Some(tile) = named else {
             return Ok(None);
         };
-        tiles.push(tile)?;
+        tiles.push_reserved(tile);
         rest = others;
     }
     let Some(tile) = Tile::read(rest) else {
         return Ok(None);
     };
-    tiles.push(tile)?;
+    tiles.push_reserved(tile);
     Ok(Some(tiles))
 }
 
@@ -60,19 +60,19 @@ pub fn three_fields(text: &[u8]) -> Option<(&[u8], &[u8], &[u8])>
     }
 }
 
-// The first field of a text and all that follows its space, as `split_space` gives them: a field of one byte or two, as the
-// text of most tiles is, is seen without a search.
-#[tactic(auto, using(crate::proofs::Settings::one_ahead, crate::proofs::Settings::two_ahead))]
-fn split_tile(text: &[u8]) -> Option<(&[u8], &[u8])>
-    ensures { MatchOption result (IsOneField text.now)
-        (λ x. BeginsWithField text.now x.0.now x.1.now) }
+// The tile that the first field of a text names, where it names one, and all that follows its space; none where the text is
+// one field. A field of one byte or two, as the text of most tiles is, is seen without a search.
+#[tactic(auto, using(crate::proofs::Settings::ahead))]
+fn next_tile(text: &[u8]) -> Option<(Option<Tile>, &[u8])>
+    ensures { MatchOption result (IsOneField text.now) (λ x. BeginsWithTile text.now x.0 x.1.now) }
 {
     match text {
-        [first, b' ', rest @ ..] if *first != b' ' => Some((&text[..1], rest)),
-        [first, second, b' ', rest @ ..] if *first != b' ' && *second != b' ' => {
-            Some((&text[..2], rest))
+        [b'A'..=b'Z', b' ', rest @ ..] => Some((Tile::read(&text[..1]), rest)),
+        [b'1'..=b'9', b'm'..=b's', b' ', rest @ ..] => Some((Tile::read(&text[..2]), rest)),
+        _ => {
+            let (field, rest) = split_space(text)?;
+            Some((Tile::read(field), rest))
         }
-        _ => split_space(text),
     }
 }
 
