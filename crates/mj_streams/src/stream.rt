@@ -12,17 +12,24 @@ use std::mem;
 // The bytes of a page.
 const PAGE: usize = 65_536;
 
+// The lines of most games, and the bytes of most lines, for which there is room from the start.
+const LINES: usize = 2_048;
+
+const LINE: usize = 1_024;
+
 impl Stream {
     // No line.
     pub(crate) fn new(alloc: Global) -> Result<Stream, AllocError>
         ensures { IfOk result (λ stream. told stream ≡ []) }
     {
         let page = Vec::with_capacity(alloc, PAGE)?;
+        let places = Vec::with_capacity(alloc, LINES)?;
+        let text = Vec::with_capacity(alloc, LINE)?;
         Ok(Stream {
             full: Vec::new(alloc),
             page,
-            places: Vec::new(alloc),
-            text: Vec::new(alloc),
+            places,
+            text,
         })
     }
 
