@@ -6,6 +6,7 @@ pub mod Steps
 pub mod Order
 pub mod Games
 pub mod Pieces
+pub mod Spare
 pub mod Turns
 pub mod Readers
 pub mod KeptLines

@@ -27,6 +27,9 @@ use mjai_lines::{read_answer, read_join, write_record};
 use std::alloc::{AllocError, Global};
 use std::marker::Model;
 
+// For so many entries there is room from the start.
+const ENTRIES: usize = 2_048;
+
 /// One game: what it is played with, and all that was entered so far.
 #[derive(Drop)]
 pub struct Core {
@@ -73,7 +76,7 @@ impl Core {
     {
         Ok(Core {
             setting: Setting { walls, rules },
-            entries: Vec::new(alloc),
+            entries: Vec::with_capacity(alloc, ENTRIES)?,
             state: State::new(alloc, rules)?,
         })
     }

@@ -9,7 +9,7 @@ ghost use Rattle.mj_deeds.specs.Facts.{newest};
 ghost use Rattle.mj_history.specs.After.{due_on_return, lines_for};
 ghost use Rattle.mj_history.specs.Legal.{is_over};
 ghost use Rattle.mj_core.specs.Calls.{open_window};
-ghost use Rattle.mj_core.specs.Inner.States.{Steps, Hears, Advances, Settles, CanTakeSeat, CanTakeBack, CanHear, CanLeave, CanExpire, CanSettle, HasWalls, MayAdd, changed, now_of, nobody, desk_after, player_in, placed_in, presence_at, desk_name, desk_names, possible_of_all};
+ghost use Rattle.mj_core.specs.Inner.States.{Steps, Hears, Advances, Settles, CanTakeSeat, CanTakeBack, CanHear, CanLeave, CanExpire, CanSettle, HasWalls, MayAdd, CanCatchUp, changed, now_of, nobody, desk_after, player_in, placed_in, presence_at, desk_name, desk_names, possible_of_all};
 ghost use Rattle.mj_core.specs.Inner.Verdicts.{verdict_given};
 
 use crate::chair::Chair;
@@ -28,13 +28,19 @@ use std::alloc::{AllocError, Global};
 use std::marker::Model;
 use std::mem;
 
+// For so many deeds there is room from the start.
+const DEEDS: usize = 512;
+
 // What the entries of a game come to: the deeds so far, the table that they make and the lines that the seats are told of
 // them, the seats as they are held and how far each has come, and the window on the newest deed. A second table stands by: a
 // deed is added to it, made the same as the first, and they change places once the deed is told, since that may want memory.
+// So it then lacks the newest deed alone, and becomes the same by that one.
 #[derive(Drop)]
 pub struct State {
     table: Table,
     spare: Table,
+    // the spare table lacks the newest deed alone; else it may have any deeds
+    is_behind: bool,
     deeds: Vec<Deed>,
     streams: Streams,
     // the answers that each seat may give to the deed that was told last, kept for their memory alone
@@ -58,7 +64,7 @@ impl Model for State {
     } };
 
     ghost invariant = { λ s. AreKept s.table.rules s.table.deeds s.streams s.deeds.items s.desk
-        s.chairs.items };
+        s.chairs.items s.is_behind s.spare };
 }
 
 impl State {
@@ -66,21 +72,20 @@ impl State {
     pub fn new(alloc: Global, rules: Rules) -> Result<State, AllocError>
         ensures { IfOk result (λ state. state ≡ nobody rules) }
     {
+        let deeds = Vec::with_capacity(alloc, DEEDS)?;
+        let chairs = Vec::with_capacity(alloc, 4)?;
+        let streams = Streams::new(alloc)?;
         let table = Table::new(rules)?;
         let spare = table.copy()?;
         Ok(State {
             table,
             spare,
-            deeds: Vec::new(alloc),
-            streams: Streams::new(alloc)?,
-            lists: Four {
-                first: Answers::pass_alone(),
-                second: Answers::pass_alone(),
-                third: Answers::pass_alone(),
-                fourth: Answers::pass_alone(),
-            },
+            is_behind: false,
+            deeds,
+            streams,
+            lists: passes(),
             desk: Desk::new(),
-            chairs: Vec::with_capacity(alloc, 4)?,
+            chairs,
             window: Window::new(),
         })
     }
@@ -160,6 +165,7 @@ impl State {
             (Sat author join.now.name join.now.key)) }
         ensures err { OnErr result (self.new ≡ self.old) }
     {
+        self.is_behind = false;
         self.deeds.reserve(1)?;
         self.chairs.reserve(1)?;
         let mut desk = self.desk;
@@ -347,15 +353,45 @@ impl State {
         ensures ok { OnOk result (Advances setting.now self.old self.new window.now) }
         ensures err { OnErr result (self.new ≡ self.old) }
     {
+        let is_behind = self.is_behind;
+        self.is_behind = false;
         self.deeds.reserve(1)?;
         let answers = answers_in(&self.table, window);
-        self.table.copy_over(&mut self.spare)?;
+        let newest = self.deeds.as_slice().last();
+        catch_up(&self.table, &mut self.spare, is_behind, newest)?;
         let deed = next(alloc, &mut self.spare, setting.walls.as_slice(), &answers)?;
         list_possible(alloc, &self.spare, &mut self.lists)?;
         self.streams.push_alone(alloc, &deed, &self.lists)?;
         mem::swap(&mut self.table, &mut self.spare);
         self.deeds.push_reserved(deed);
+        self.is_behind = true;
         Ok(())
+    }
+}
+
+// The list of a pass alone, four times.
+fn passes() -> Four<Answers> {
+    Four {
+        first: Answers::pass_alone(),
+        second: Answers::pass_alone(),
+        third: Answers::pass_alone(),
+        fourth: Answers::pass_alone(),
+    }
+}
+
+// Makes the spare table the same as the first: where it lacks the newest deed alone, that is added to it.
+fn catch_up(
+    table: &Table,
+    spare: &mut Table,
+    is_behind: bool,
+    newest: Option<&Deed>,
+) -> Result<(), AllocError>
+    requires { CanCatchUp is_behind spare.old table.now (option_copied newest) }
+    ensures { OnOk result (spare.new ≡ table.now) }
+{
+    match newest {
+        Some(deed) if is_behind => spare.push(deed),
+        _ => table.copy_over(spare),
     }
 }
 

@@ -12,6 +12,8 @@ use Rattle.mj_deeds.specs.declared.four.Four.{Four}
 use Rattle.mj_deeds.specs.Four.{at_seat}
 use Rattle.mj_deeds.specs.declared.answer.Answer.{Answer}
 use Rattle.mj_deeds.specs.declared.deed.Deed.{Deed}
+use Rattle.mj_deeds.specs.Fits.{fits}
+use Rattle.mj_table.specs.Plays.{Play}
 use Rattle.mj_wall.specs.declared.setting.Rules.{Rules}
 use Rattle.mj_wall.specs.declared.setting.Setting.{Setting}
 use Rattle.mj_wall.specs.Places.{is_wall}
@@ -66,11 +68,33 @@ lines_of_all rules deeds = record { first = lines_for rules 0 deeds; second = li
 abbrev pub possible_of_all : Rules → List Deed → Four (List Answer)
 possible_of_all rules deeds = record { first = possible rules deeds 0; second = possible rules deeds 1; third = possible rules deeds 2; fourth = possible rules deeds 3 }
 
--- What a state keeps: its table has the deeds, its streams the lines of these, and its desk the seats.
-pub record AreKept (rules : Rules) (told : List Deed) (streamed : Four (List (List ℕ))) (deeds : List Deed) (desk : List Occupant) (players : List Player) : Type 0 where
+-- A table of these rules lacks the newest of the deeds alone.
+pub record LacksNewest (spare : Play) (rules : Rules) (deeds : List Deed) : Type 0 where
+  pub newest : Deed
+  pub same_rules : spare.rules ≡ rules
+  pub others : deeds ≡ spare.deeds ++ newest ∷ []
+
+-- It does where a state says so.
+abbrev pub Follows : Bool → Play → Rules → List Deed → Type 0
+Follows true spare rules deeds = LacksNewest spare rules deeds
+Follows false spare rules deeds = Unit {0}
+
+-- It becomes the same as a table that has them all by its newest deed, which fits.
+pub record CatchesUp (spare table : Play) (deed : Deed) : Type 0 where
+  pub fit : IsTrue (fits spare.rules.red spare.deeds deed)
+  pub same : table ≡ record { rules = spare.rules; deeds = spare.deeds ++ deed ∷ [] }
+
+abbrev pub CanCatchUp : Bool → Play → Play → Option Deed → Type 0
+CanCatchUp true spare table (Some deed) = CatchesUp spare table deed
+CanCatchUp other spare table newest = Unit {0}
+
+-- What a state keeps: its table has the deeds, its streams the lines of these, and its desk the seats; and its spare table
+-- lacks the newest deed alone, where it says so.
+pub record AreKept (rules : Rules) (told : List Deed) (streamed : Four (List (List ℕ))) (deeds : List Deed) (desk : List Occupant) (players : List Player) (is_behind : Bool) (spare : Play) : Type 0 where
   pub same : told ≡ deeds
   pub lines : streamed ≡ lines_of_all rules deeds
   pub seated : AreSeated desk players
+  pub follows : Follows is_behind spare rules deeds
 
 -- How far a player has come, and the player that has come so far.
 abbrev pub progress_of : Player → Progress

@@ -31,6 +31,7 @@ invariant_of-self-then-held-eq4 c = record {
   seated = takes-seated c.self.inside.deeds.items c.self.inside.desk c.sit.new.self c.self.inside.chairs.items c.push_reserved-then-held-eq4.new.self.items c.args.author c.args.join.now
       (takes (the_view c.self.inside) c.args.author c.args.join.now c.sit.result c.sit.new.self c.push_reserved-then-held-eq4.new.self.items (rw (← c.self.view_is) at c.requires) c.self.invariant.seated c.sit.ensures.answer c.sit.ensures.desk
       (rw (c.reserve-2.ensures.items, c.new.ensures) at c.push_reserved-then-held-eq4.ensures.items));
+  follows = tt;
 }
 
 pub returns-then-held-eq4-clause-ok : goal.returns-then-held-eq4-clause-ok
@@ -55,6 +56,7 @@ invariant_of-self-2 c = record {
   seated = takes-seated c.self.inside.deeds.items c.self.inside.desk c.sit.new.self c.self.inside.chairs.items c.push_reserved-2.new.self.items c.args.author c.args.join.now
       (takes (the_view c.self.inside) c.args.author c.args.join.now c.sit.result c.sit.new.self c.push_reserved-2.new.self.items (rw (← c.self.view_is) at c.requires) c.self.invariant.seated c.sit.ensures.answer c.sit.ensures.desk
       (rw (c.reserve-2.ensures.items, c.new-2.ensures) at c.push_reserved-2.ensures.items));
+  follows = tt;
 }
 
 pub returns-clause-ok : goal.returns-clause-ok
