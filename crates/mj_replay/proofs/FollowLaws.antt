@@ -1,6 +1,6 @@
 -- Whether the deed that a line tells may follow.
 use Rattle.std.proofs.Common.{◌≡◌, ℕ, ◌≤◌, List, [], ◌∷◌, ◌++◌, Bool, true, false, refl, ap, sym, ◌∙◌, ◌-◌, arith, subst, length, ◌<◌, zero, suc}
-use Rattle.std.specs.Prelude.{Some, None, bytes_eq, ◌&&◌, ◌↔◌, IsTrue, slice_get}
+use Rattle.std.specs.Prelude.{Option, Some, None, bytes_eq, ◌&&◌, ◌↔◌, IsTrue, slice_get}
 use Rattle.std.specs.List.{list_all}
 use Rattle.std.proofs.lemmas.Bool.{false≢true}
 use Rattle.std.proofs.lemmas.Slice.Eq.{bytes_eq-Decides}
@@ -26,7 +26,10 @@ use Rattle.mj_history.proofs.Ended.{no_outcome}
 use Rattle.mj_history.proofs.Told.{told_answers_give}
 use Rattle.mj_replay.specs.Inner.Deeds.{deed_in}
 use Rattle.mj_replay.specs.Inner.Laws.{as_read}
-use Rattle.mj_replay.specs.Inner.Steps.{Follows, has_different_names}
+use Rattle.mj_replay.specs.declared.usual.Act.{Act}
+use Rattle.mj_replay.specs.declared.usual.Act.TheVariants as acts
+use Rattle.mj_replay.specs.Inner.Usual.{deed_of}
+use Rattle.mj_replay.specs.Inner.Steps.{Follows, FollowsBy, has_different_names}
 use Rattle.mj_replay.proofs.PointLaws.{and-parts}
 use Rattle.mj_replay.proofs.ReadLaws.{read_deeds_tell_the_same}
 use Rattle.mj_replay.proofs.ValueLaws.{read_is_value}
@@ -97,6 +100,11 @@ pub followed_by : (walls : List (List ℕ)) (before after : Play) (text : List �
     after ≡ record { rules = before.rules; deeds = before.deeds ++ followed ∷ [] } → IsPlayed before.rules walls after.deeds → Follows walls before after text
 followed_by walls before after text followed same e y more played = record { deed = followed; line_is = line_is text followed same e y; more = more; played = played }
 
+pub followed_if : (walls : List (List ℕ)) (before after : Play) (given : Four Answer) (text : List ℕ) (followed : Deed) (yes : Bool) → Some followed ≡ outcome before.rules walls before.deeds given → yes ≡ bytes_eq (line Record followed) text →
+    after ≡ record { rules = before.rules; deeds = before.deeds ++ followed ∷ [] } → IsPlayed before.rules walls after.deeds → FollowsBy yes walls before after given text
+followed_if walls before after given text followed true e s more played = followed_by walls before after text followed true s refl more played
+followed_if walls before after given text followed false e s more played = other_given before.rules walls before.deeds given text followed false e s refl
+
 -- a start of a game
 some_at : {A : Type 0} (xs : List A) (i : ℕ) → i < length xs → slice_get xs i ≡ None → ⊥
 some_at [] i h e = absurd (omega (arith, h))
@@ -166,9 +174,36 @@ start_fits rules walls deeds text deed some whole n r d =
     subst (λ (xs : List Deed). fits rules.red xs deed ≡ true) (sym (no_newest deeds n))
     (behind_fits rules walls [] deed (each_is_wall rules.red walls some whole) tt (starts_game deed (read_is_value text deed r) d))
 
+-- a draw or a discard is no start of a game, and tells of the same answers after whatever deed
+no_names : (act : Act) → has_different_names (deed_of act) ≡ false
+no_names (acts.Draw seat tile) = refl
+no_names (acts.Discard seat tile drawn) = refl
+
+act_tells : (last : Option Deed) (act : Act) (seat : ℕ) → told_of None (deed_of act) seat ≡ told_of last (deed_of act) seat
+act_tells last (acts.Draw who tile) seat = refl
+act_tells last (acts.Discard who tile drawn) seat = refl
+
+act_told : (last : Option Deed) (act : Act) → for_each_seat (told_of None (deed_of act)) ≡ for_each_seat (told_of last (deed_of act))
+act_told last act =
+    let at = λ (seat : ℕ). act_tells last act seat in
+    rw (at 0, at 1, at 2, at 3) refl
+
+pub act_over : (rules : Rules) (walls : List (List ℕ)) (deeds : List Deed) (text : List ℕ) (act : Act) → goes_on (newest deeds) ≡ false → deed_in text ≡ Some (deed_of act) → (other : Deed) → IsLineOf text other → IsPlayedBehind rules walls deeds other → ⊥
+act_over rules walls [] text act h r other l p = no_start rules walls [] text (deed_of act) refl (sym r) (no_names act) other l p
+act_over rules walls (first ∷ others) text act h r other l p = over rules walls (first ∷ others) other h (has_newest first others) p
+
+pub act_none : (rules : Rules) (walls : List (List ℕ)) (deeds : List Deed) (text : List ℕ) (act : Act) (answers : Four Answer) → 1 ≤ length walls → list_all (is_wall rules.red) walls ≡ true → IsPlayed rules walls deeds →
+    deed_in text ≡ Some (deed_of act) → goes_on (newest deeds) ≡ true → answers ≡ for_each_seat (told_of None (deed_of act)) →
+    ((other : Deed) → line Record other ≡ text → AllLawful rules deeds answers → outcome rules walls deeds answers ≡ Some other → ⊥) →
+    (other : Deed) → IsLineOf text other → IsPlayedBehind rules walls deeds other → ⊥
+act_none rules walls deeds text act answers some whole played r on e none = none_told rules walls deeds text (deed_of act) answers some whole played (sym r) on (e ∙ act_told (newest deeds) act) none
+
+pub act_next : (rules : Rules) (walls : List (List ℕ)) (deeds : List Deed) (text : List ℕ) (act : Act) → IsLineOf text (deed_of act) → ((other : Deed) → IsLineOf text other → IsPlayedBehind rules walls deeds other → ⊥) → IsOfNoNext rules walls deeds text
+act_next rules walls deeds text act l never = record { deed = deed_of act; line_of = l; never = never }
+
 pub ruleset following = (over)
 
-pub ruleset by_answers = (not_lawful, other_given, followed_by)
+pub ruleset by_answers = (not_lawful)
 
 pub started : (walls : List (List ℕ)) (before after : Play) (text : List ℕ) (deed : Deed) (same : Bool) → newest before.deeds ≡ None → Some deed ≡ deed_in text → has_different_names deed ≡ true → same ≡ bytes_eq (line Record deed) text → same ≡ true →
     after ≡ record { rules = before.rules; deeds = before.deeds ++ deed ∷ [] } → Follows walls before after text

@@ -20,6 +20,7 @@ mod SizeLaws
 mod StartLaws
 mod StepLaws
 mod TextLaws
+mod UsualLaws
 mod ValueLaws
 mod WinLaws
 mod WorthLaws

@@ -21,7 +21,8 @@ use Rattle.mj_deeds.specs.declared.deed.Deed.TheVariants.{Chi, Pon, OpenKan, End
 use Rattle.mj_history.specs.Records.{is_byte, is_word, is_signed_word, is_tile, are_points, are_hands, is_shown, are_shown, is_bid, is_row, is_deed}
 use Rattle.mj_replay.specs.Inner.Fields.{and_rest, below, number_at, below_at, quoted_at, tile_at, negative_of, signed_by, signed_at, points_at, byte_field, word_field, tile_field, truth_field, signed_field, points_field}
 use Rattle.mj_replay.specs.Inner.Lists.{behind_item, items_from, items_in, list_at, tiles_at, tiles_field, row_of, row_at, rows_field, marks_by, marks_from, marks_at, hidden_at, seats_with, seats_by, seats_field}
-use Rattle.mj_replay.specs.Inner.Deeds.{draw_in, discard_in, dora_in, reach_in, end_game_in, call_by, call_in, closed_kan_in, added_kan_in, name_of, name_field, start_game_in, bid_by, bid_in, reach_accepted_in, hands_at, start_by, kind_field, start_hand_in, win_by, win_with, win_in, reason_at, shown_at, shown_field, drawn_by, drawn_with, drawn_hand_in, small_by, deed_by, deed_in}
+use Rattle.mj_replay.specs.declared.results.Worth.{Worth}
+use Rattle.mj_replay.specs.Inner.Deeds.{draw_in, discard_in, dora_in, reach_in, end_game_in, call_by, call_in, closed_kan_in, added_kan_in, name_of, name_field, start_game_in, bid_by, bid_in, reach_accepted_in, hands_at, start_by, kind_field, start_hand_in, worth_at, win_by, win_with, win_in, reason_at, shown_at, shown_field, drawn_by, drawn_with, drawn_hand_in, small_by, deed_by, deed_in}
 
 -- what is read, if anything, has a property
 unfoldable IfRead : {A : Type 0} → Option A → (A → Type 0) → Type 0
@@ -404,17 +405,30 @@ joined : (a b c : Bool) → a ≡ true → (b && c) ≡ true → (a && b && c) �
 joined true b c h k = k
 joined false b c h k = h
 
+record FitsWin (w : Worth) : Type 0 where
+  fu : is_byte w.fu ≡ true
+  han : is_byte w.han ≡ true
+  value : is_word w.value ≡ true
+  deltas : are_points w.deltas ≡ true
+  points : are_points w.points ≡ true
+  rest : Seats w.rest
+
+worth_ok : (text : List ℕ) → IfRead (worth_at text) FitsWin
+unfolding worth_at
+worth_ok text =
+    onward Byte FitsWin _ _ (byte_ok (codes ",\"fu\":") text) (λ fu hf.
+    onward Byte FitsWin _ _ (byte_ok (codes ",\"fan\":") fu.1) (λ han hh.
+    onward Word FitsWin _ _ (word_ok (codes ",\"hora_points\":") han.1) (λ value hv.
+    onward Points FitsWin _ _ (points_ok (codes ",\"deltas\":") value.1) (λ deltas hd.
+    onward Points FitsWin _ _ (points_ok (codes ",\"scores\":") deltas.1) (λ points hp.
+    last Seats FitsWin _ _ (seats_ok (codes ",\"rest\":") points.1) (λ rest hr. record { fu = hf; han = hh; value = hv; deltas = hd; points = hp; rest = hr }))))))
+
 win_by_ok : (seat target tile : ℕ) (unders hand : List ℕ) (yaku : List (ℕ × ℕ)) (text : List ℕ) → begun seat target tile unders hand yaku ≡ true → IfRead (win_by seat target tile unders hand yaku text) Value
 unfolding win_by
 win_by_ok seat target tile unders hand yaku text h =
-    onward Byte Value _ _ (byte_ok (codes ",\"fu\":") text) (λ fu hf.
-    onward Byte Value _ _ (byte_ok (codes ",\"fan\":") fu.1) (λ han hh.
-    onward Word Value _ _ (word_ok (codes ",\"hora_points\":") han.1) (λ value hv.
-    onward Points Value _ _ (points_ok (codes ",\"deltas\":") value.1) (λ deltas hd.
-    onward Points Value _ _ (points_ok (codes ",\"scores\":") deltas.1) (λ points hp.
-    last Seats Value _ _ (seats_ok (codes ",\"rest\":") points.1) (λ rest hr.
-    joined _ (nat_le (length rest) 2) (list_all is_byte rest)
-    (both _ (are_points points.0) (both _ (are_points deltas.0) (both _ (is_word value.0) (both _ (is_byte han.0) (both (begun seat target tile unders hand yaku) (is_byte fu.0) h hf) hh) hv) hd) hp) hr))))))
+    last FitsWin Value _ _ (worth_ok text) (λ w f.
+    joined _ (nat_le (length w.rest) 2) (list_all is_byte w.rest)
+    (both _ (are_points w.points) (both _ (are_points w.deltas) (both _ (is_word w.value) (both _ (is_byte w.han) (both (begun seat target tile unders hand yaku) (is_byte w.fu) h f.fu) f.han) f.value) f.deltas) f.points) f.rest)
 
 win_with_ok : (seat target tile : ℕ) (text : List ℕ) → (is_byte seat && is_byte target && is_tile tile) ≡ true → IfRead (win_with seat target tile text) Value
 unfolding win_with

@@ -7,7 +7,7 @@ use Rattle.mj_deeds.specs.declared.deed.Viewer.TheVariants.{Record}
 use Rattle.mj_forms.specs.Lines.{line, quoted_tile, bracketed, row_text, points_text, win_line}
 use Rattle.mj_history.specs.Records.{is_byte, is_tile, is_row, are_points}
 use Rattle.mj_replay.specs.Inner.Fields.{quoted_at}
-use Rattle.mj_replay.specs.Inner.Deeds.{deed_in, deed_by, win_by, win_with, win_in}
+use Rattle.mj_replay.specs.Inner.Deeds.{deed_in, deed_by, worth_at, win_by, win_with, win_in}
 use Rattle.mj_replay.specs.Inner.Laws.{WinsAreRead}
 use Rattle.mj_replay.proofs.Shapes.{group24}
 use Rattle.mj_replay.proofs.FieldLaws.{byte_read, word_read, tile_field_read}
@@ -17,7 +17,7 @@ use Rattle.mj_replay.proofs.RowLaws.{rows_field_read, seats_field_read}
 
 worth : (seat target tile : ℕ) (unders hand : List ℕ) (yaku : List (ℕ × ℕ)) (fu han value : ℕ) (deltas points : List ℤ) (others rest : List ℕ) → fu < 256 → han < 256 → value < 4294967296 → are_points deltas ≡ true → are_points points ≡ true → nat_le (length others) 2 ≡ true → list_all is_byte others ≡ true →
     win_by seat target tile unders hand yaku (codes ",\"fu\":" ++ (decimal fu ++ (codes ",\"fan\":" ++ (decimal han ++ (codes ",\"hora_points\":" ++ (decimal value ++ (codes ",\"deltas\":" ++ (points_text deltas ++ (codes ",\"scores\":" ++ (points_text points ++ (codes ",\"rest\":" ++ (bracketed (map decimal others) ++ (rest))))))))))))) ≡ Some (Win seat target tile unders hand yaku fu han value deltas points others)
-unfolding win_by
+unfolding win_by worth_at
 worth seat target tile unders hand yaku fu han value deltas points others rest hf ha hv hd hp hw ho =
     rw (
       byte_read (codes ",\"fu\":") (codes ",\"fan\":" ++ (decimal han ++ (codes ",\"hora_points\":" ++ (decimal value ++ (codes ",\"deltas\":" ++ (points_text deltas ++ (codes ",\"scores\":" ++ (points_text points ++ (codes ",\"rest\":" ++ (bracketed (map decimal others) ++ (rest))))))))))) fu hf refl,

@@ -4,3 +4,4 @@ pub mod Laws
 pub mod Lists
 pub mod Settings
 pub mod Steps
+pub mod Usual

@@ -178,15 +178,38 @@ fn behind_walls(
 {
     let mut table = Table::new(rules)?;
     let mut room = Vec::new(alloc);
+    put_deeds(alloc, &mut table, walls, text, &mut room, keeps, kept)
+}
+
+// The same for the table, on which the deeds of the text are put in turn. The room is for their lines.
+fn put_deeds(
+    alloc: Global,
+    table: &mut Table,
+    walls: &[Wall],
+    text: &[u8],
+    room: &mut Vec<u8>,
+    keeps: bool,
+    kept: &mut Vec<Deed>,
+) -> Result<Checked, AllocError>
+    requires new { table.old ≡ record { rules = table.old.rules; deeds = [] } }
+    requires rules { are_rules table.old.rules ≡ true }
+    requires some { 1 ≤ length walls.now }
+    requires few { length walls.now ≤ 200 }
+    requires whole { IsTrue (list_all (is_wall table.old.rules.red) walls.now) }
+    requires other { NoneNeeded walls.now [] text.now }
+    requires none { kept.old.items ≡ [] }
+    ensures { IfOk result (λ answer. TellsKept (record_text table.old.rules walls.now [] ++ text.now)
+        answer keeps kept.new.items) }
+{
     let mut deeds = 0;
     let mut rest = text;
     let first = walls.len() as u32 + 2;
     while let Some((line, others)) = split_line(rest) {
         let line = &rest[..line.len() + 1];
-        if let Some(cause) = follow(alloc, &mut table, walls, line, &mut room)? {
+        if let Some(cause) = follow(alloc, table, walls, line, room)? {
             return Ok(Checked::Bad(first + deeds, cause));
         }
-        keep_newest(&table, keeps, kept)?;
+        keep_newest(table, keeps, kept)?;
         deeds += 1;
         rest = others;
     }

@@ -1,6 +1,6 @@
 //! Whether the deed that a line tells may follow the deeds on a table.
 
-ghost use Rattle.std.specs.Prelude.{◌≡◌, ◌≤◌, ◌↔◌, [], length, Some, None, Bool, IfOk, IsTrue, bytes_eq, is_none};
+ghost use Rattle.std.specs.Prelude.{◌≡◌, ◌≤◌, ◌↔◌, [], length, Some, None, IfOk, IfSome, IsTrue, bytes_eq, is_none};
 ghost use Rattle.std.specs.List.{list_all};
 ghost use Rattle.mj_wall.specs.Places.{is_wall};
 ghost use Rattle.mj_deeds.specs.Facts.{newest};
@@ -9,11 +9,13 @@ ghost use Rattle.mj_rules.specs.Outcome.{goes_on};
 ghost use Rattle.mj_rules.specs.Played.{IsPlayed, IsLawful, AllLawful};
 ghost use Rattle.mj_forms.specs.Lines.{line as line_for};
 ghost use Rattle.mj_replay.specs.Inner.Deeds.{deed_in};
+ghost use Rattle.mj_replay.specs.Inner.Usual.{deed_of};
 ghost use Rattle.mj_replay.specs.Inner.Steps.{FollowsOr, FollowsIf, FollowsBy, has_different_names};
 
 use crate::checking::Cause;
 use crate::reading::deed_in;
-use crate::told::told;
+use crate::told::{act_told, told};
+use crate::usual::{Act, act_in, has_line_of};
 use mj_deeds::{Answer, Deed, Four, Viewer, is_in_form};
 use mj_judge::judge;
 use mj_machine::next;
@@ -37,13 +39,38 @@ pub(crate) fn follow(
     requires played { IsPlayed table.old.rules walls.now table.old.deeds }
     ensures { IfOk result (λ cause. FollowsOr cause walls.now table.old table.new line.now) }
 {
-    let Some(deed) = deed_in(alloc, line)? else {
-        return Ok(Some(Cause::Line));
-    };
-    if follows(alloc, table, walls, &deed, line, room)? {
+    if let Some(act) = act_in(line) {
+        if acts(alloc, table, walls, act, line, room)? {
+            return Ok(None);
+        }
+        return Ok(Some(Cause::Next));
+    }
+    match &deed_in(alloc, line)? {
+        Some(deed) => follow_deed(alloc, table, walls, deed, line, room),
+        None => Ok(Some(Cause::Line)),
+    }
+}
+
+// The same for a line of which this deed was read.
+fn follow_deed(
+    alloc: Global,
+    table: &mut Table,
+    walls: &[Wall],
+    deed: &Deed,
+    line: &[u8],
+    room: &mut Vec<u8>,
+) -> Result<Option<Cause>, AllocError>
+    requires some { 1 ≤ length walls.now }
+    requires few { length walls.now ≤ 200 }
+    requires whole { IsTrue (list_all (is_wall table.old.rules.red) walls.now) }
+    requires played { IsPlayed table.old.rules walls.now table.old.deeds }
+    requires read { deed_in line.now ≡ Some deed.now }
+    ensures { IfOk result (λ cause. FollowsOr cause walls.now table.old table.new line.now) }
+{
+    if follows(alloc, table, walls, deed, line, room)? {
         return Ok(None);
     }
-    if is_line_of(room, &deed, line)? {
+    if is_line_of(room, deed, line)? {
         return Ok(Some(Cause::Next));
     }
     Ok(Some(Cause::Line))
@@ -55,6 +82,53 @@ fn is_line_of(room: &mut Vec<u8>, deed: &Deed, line: &[u8]) -> Result<bool, Allo
 {
     write_over(room, Viewer::Record, deed)?;
     Ok(room.as_slice() == line)
+}
+
+// The same where the text may be known to be the line of an act: the deed is compared with that one first.
+#[tactic(auto, using(crate::proofs::UsualLaws::same_line))]
+fn is_known_line(
+    room: &mut Vec<u8>,
+    deed: &Deed,
+    known: &Option<Act>,
+    line: &[u8],
+) -> Result<bool, AllocError>
+    requires known { IfSome known.now (λ act. line_for Record (deed_of act) ≡ line.now) }
+    ensures { IfOk result (λ same. same ≡ bytes_eq (line_for Record deed.now) line.now) }
+{
+    if let Some(act) = known {
+        if has_line_of(deed, act) {
+            return Ok(true);
+        }
+    }
+    is_line_of(room, deed, line)
+}
+
+// Puts the draw or the discard whose line a text is on the table, where some four lawful answers give one with this line;
+// says whether they do.
+fn acts(
+    alloc: Global,
+    table: &mut Table,
+    walls: &[Wall],
+    act: Act,
+    line: &[u8],
+    room: &mut Vec<u8>,
+) -> Result<bool, AllocError>
+    requires some { 1 ≤ length walls.now }
+    requires few { length walls.now ≤ 200 }
+    requires whole { IsTrue (list_all (is_wall table.old.rules.red) walls.now) }
+    requires played { IsPlayed table.old.rules walls.now table.old.deeds }
+    requires read { deed_in line.now ≡ Some (deed_of act) }
+    requires known { line_for Record (deed_of act) ≡ line.now }
+    ensures { IfOk result (λ yes. FollowsIf yes walls.now table.old table.new line.now) }
+{
+    if !can_go_on(table) {
+        return Ok(false);
+    }
+    let answers = act_told(&act);
+    if follows_by(alloc, table, walls, &answers, &Some(act), line, room)? {
+        return Ok(true);
+    }
+    Ok(false)
 }
 
 // Puts the deed that a line tells on the table, where some four lawful answers give one with this line; says whether they
@@ -82,7 +156,7 @@ fn follows(
         return Ok(false);
     }
     let answers = told(table.newest(), deed);
-    if follows_by(alloc, table, walls, &answers, line, room)? {
+    if follows_by(alloc, table, walls, &answers, &None, line, room)? {
         return Ok(true);
     }
     Ok(false)
@@ -99,13 +173,15 @@ fn can_go_on(table: &Table) -> bool
     }
 }
 
-// Puts the deed that the four answers give on the table, where they are lawful; says whether it has the line.
+// Puts the deed that the four answers give on the table, where they are lawful; says whether it has the line, which may be
+// known to be that of an act.
 #[tactic(auto, using(crate::proofs::FollowLaws::by_answers))]
 fn follows_by(
     alloc: Global,
     table: &mut Table,
     walls: &[Wall],
     answers: &Four<Answer>,
+    known: &Option<Act>,
     line: &[u8],
     room: &mut Vec<u8>,
 ) -> Result<bool, AllocError>
@@ -114,18 +190,14 @@ fn follows_by(
     requires whole { IsTrue (list_all (is_wall table.old.rules.red) walls.now) }
     requires played { IsPlayed table.old.rules walls.now table.old.deeds }
     requires on { IsTrue (goes_on (newest table.old.deeds)) }
+    requires known { IfSome known.now (λ act. line_for Record (deed_of act) ≡ line.now) }
     ensures { IfOk result (λ yes. FollowsBy yes walls.now table.old table.new answers.now line.now) }
 {
     if !are_lawful(table, answers) {
         return Ok(false);
     }
     match &next(alloc, table, walls, answers) {
-        Ok(followed) => {
-            if is_line_of(room, followed, line)? {
-                return Ok(true);
-            }
-            Ok(false)
-        }
+        Ok(followed) => is_known_line(room, followed, known, line),
         Err(error) => Err(*error),
     }
 }

@@ -16,6 +16,7 @@ mod results;
 mod setting;
 mod starts;
 mod told;
+mod usual;
 mod yaku;
 
 pub use checking::{Cause, Checked, Summary, check};

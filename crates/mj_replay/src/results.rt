@@ -1,15 +1,28 @@
 //! Wins and drawn hands of a record.
 
 ghost use Rattle.std.specs.Prelude.{◌≡◌, [], IfOk, option_map};
-ghost use Rattle.mj_deeds.specs.Shown.{shown_or_hidden};
-ghost use Rattle.mj_replay.specs.Inner.Deeds.{win_in, win_with, win_by, drawn_hand_in, drawn_with, drawn_by, shown_at, shown_field, reason_at, reason_of};
+ghost use Rattle.mj_deeds.specs.Shown.{Shown, shown_or_hidden};
+ghost use Rattle.mj_deeds.specs.declared.four.Four.{Four};
+ghost use Rattle.mj_deeds.specs.declared.reason.Reason.{Reason};
+ghost use Rattle.mj_deeds.specs.declared.deed.Deed.TheVariants.{DrawnHand};
+ghost use Rattle.mj_replay.specs.Inner.Deeds.{win_in, win_with, win_by, worth_at, drawn_hand_in, drawn_with, drawn_by, shown_at, shown_field, reason_at, reason_of};
 
 use crate::fields::{byte_field, points_field, quoted_at, tile_field, truth_field, word_field};
 use crate::lists::{hidden_at, rows_field, seats_field, tiles_at, tiles_field};
 use mj_bytes::strip;
-use mj_deeds::{Deed, Four, Hands, Reason, ShownHands, Tiles, YakuList};
+use mj_deeds::{Deed, Four, Hands, Reason, SeatList, ShownHands, Tiles, YakuList};
 use mj_tiles::Tile;
 use std::alloc::{AllocError, Global};
+
+// What the last fields of a win say.
+struct Worth {
+    fu: u8,
+    han: u8,
+    value: u32,
+    deltas: [i32; 4],
+    points: [i32; 4],
+    rest: SeatList,
+}
 
 /// The win, read from the fields after its type.
 #[tactic(auto, unfolding(crate::specs::Inner::Deeds::win_in))]
@@ -70,12 +83,14 @@ fn win_by(
 ) -> Option<Deed>
     ensures { result ≡ win_by seat target tile unders hand yaku text.now }
 {
-    let (fu, rest) = byte_field(text, b",\"fu\":")?;
-    let (han, rest) = byte_field(rest, b",\"fan\":")?;
-    let (value, rest) = word_field(rest, b",\"hora_points\":")?;
-    let (deltas, rest) = points_field(rest, b",\"deltas\":")?;
-    let (points, rest) = points_field(rest, b",\"scores\":")?;
-    let rest = seats_field(rest, b",\"rest\":")?;
+    let Worth {
+        fu,
+        han,
+        value,
+        deltas,
+        points,
+        rest,
+    } = worth_at(text)?;
     Some(Deed::Win {
         seat,
         target,
@@ -83,6 +98,27 @@ fn win_by(
         unders,
         hand,
         yaku,
+        fu,
+        han,
+        value,
+        deltas,
+        points,
+        rest,
+    })
+}
+
+// What a win is worth, what each seat gains by it and has then, and who wins after it.
+#[tactic(auto, unfolding(crate::specs::Inner::Deeds::worth_at))]
+fn worth_at(text: &[u8]) -> Option<Worth>
+    ensures { result ≡ worth_at text.now }
+{
+    let (fu, rest) = byte_field(text, b",\"fu\":")?;
+    let (han, rest) = byte_field(rest, b",\"fan\":")?;
+    let (value, rest) = word_field(rest, b",\"hora_points\":")?;
+    let (deltas, rest) = points_field(rest, b",\"deltas\":")?;
+    let (points, rest) = points_field(rest, b",\"scores\":")?;
+    let rest = seats_field(rest, b",\"rest\":")?;
+    Some(Worth {
         fu,
         han,
         value,
@@ -141,9 +177,24 @@ fn drawn_with(alloc: Global, reason: Reason, text: &[u8]) -> Result<Option<Deed>
 }
 
 // The drawn hand with its reason and what is shown, and what stands after these.
-#[tactic(auto, unfolding(crate::specs::Inner::Deeds::drawn_by))]
 fn drawn_by(reason: Reason, hands: ShownHands, text: &[u8]) -> Option<Deed>
     ensures { result ≡ drawn_by reason hands text.now }
+{
+    let (ready, deltas, points) = behind_hands(text)?;
+    Some(Deed::DrawnHand {
+        reason,
+        hands,
+        ready,
+        deltas,
+        points,
+    })
+}
+
+// What stands behind the hands of a drawn hand: which seats are ready, what each gains, and the points after it.
+#[tactic(auto, unfolding(crate::specs::Inner::Deeds::drawn_by))]
+fn behind_hands(text: &[u8]) -> Option<([bool; 4], [i32; 4], [i32; 4])>
+    ensures { (reason : Reason) (hands : Four Shown) → drawn_by reason hands text.now
+        ≡ option_map (λ x. DrawnHand reason hands x.0 x.1 x.2) result }
 {
     let (first, rest) = truth_field(text, b"],\"tenpais\":[")?;
     let (second, rest) = truth_field(rest, b",")?;
@@ -151,13 +202,7 @@ fn drawn_by(reason: Reason, hands: ShownHands, text: &[u8]) -> Option<Deed>
     let (fourth, rest) = truth_field(rest, b",")?;
     let (deltas, rest) = points_field(rest, b"],\"deltas\":")?;
     let (points, _) = points_field(rest, b",\"scores\":")?;
-    Some(Deed::DrawnHand {
-        reason,
-        hands,
-        ready: [first, second, third, fourth],
-        deltas,
-        points,
-    })
+    Some(([first, second, third, fourth], deltas, points))
 }
 
 // A hand at a draw after a key: its tiles, or how many stay hidden.

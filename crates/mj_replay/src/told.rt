@@ -1,13 +1,15 @@
 //! The four answers that a deed tells of.
 
-ghost use Rattle.std.specs.Prelude.{◌≡◌, ◌==◌, ◌∷◌, option_and_then};
+ghost use Rattle.std.specs.Prelude.{◌≡◌, ◌==◌, ◌∷◌, None, option_and_then};
 ghost use Rattle.std.specs.List.{list_any};
 ghost use Rattle.std.specs.Option.{option_copied};
 ghost use Rattle.mj_deeds.specs.declared.answer.Pai.TheVariants.{Known};
 ghost use Rattle.mj_deeds.specs.declared.answer.Answer.TheVariants as answers;
 ghost use Rattle.mj_deeds.specs.Four.{for_each_seat};
 ghost use Rattle.mj_history.specs.Told.{told_of, only_of, bid_told, call_told, win_told, wins_told, nine_told, drawn_told, own_seat};
+ghost use Rattle.mj_replay.specs.Inner.Usual.{deed_of};
 
+use crate::usual::Act;
 use mj_deeds::{Answer, Bid, Deed, Four, Pai, Reason, SeatList};
 use mj_tiles::Tile;
 
@@ -20,6 +22,26 @@ pub(crate) fn told(last: Option<&Deed>, deed: &Deed) -> Four<Answer>
         second: told_of(last, deed, 1),
         third: told_of(last, deed, 2),
         fourth: told_of(last, deed, 3),
+    }
+}
+
+/// The four answers that a draw or a discard tells of, after whatever deed.
+pub(crate) fn act_told(act: &Act) -> Four<Answer>
+    ensures { result ≡ for_each_seat (told_of None (deed_of act.now)) }
+{
+    match act {
+        Act::Draw { .. } => Four {
+            first: Answer::Pass { actor: None },
+            second: Answer::Pass { actor: None },
+            third: Answer::Pass { actor: None },
+            fourth: Answer::Pass { actor: None },
+        },
+        Act::Discard { seat, tile, drawn } => Four {
+            first: discard_told(*seat, *tile, *drawn, 0),
+            second: discard_told(*seat, *tile, *drawn, 1),
+            third: discard_told(*seat, *tile, *drawn, 2),
+            fourth: discard_told(*seat, *tile, *drawn, 3),
+        },
     }
 }
 

@@ -12,6 +12,7 @@ use Rattle.mj_deeds.specs.Bids.{call_of_bid}
 use Rattle.mj_deeds.specs.Shown.{Shown, Tiles, Hidden}
 use Rattle.mj_deeds.specs.declared.deed.Deed.{Deed}
 use Rattle.mj_deeds.specs.declared.deed.Deed.TheVariants.{StartGame, StartHand, Draw, Discard, ClosedKan, AddedKan, Dora, Reach, ReachAccepted, Win, DrawnHand, EndHand, EndGame}
+use Rattle.mj_replay.specs.declared.results.Worth.{Worth}
 use Rattle.mj_replay.specs.Inner.Fields.{and_rest, below, quoted_at, byte_field, word_field, tile_field, truth_field, points_field}
 use Rattle.mj_replay.specs.Inner.Lists.{tiles_at, tiles_field, rows_field, hidden_at, seats_field}
 
@@ -164,21 +165,25 @@ start_hand_in text =
     (byte_field (codes ",\"kyoku\":") round.1))
     (kind_field (codes ",\"bakaze\":") text)
 
--- What a win comes to.
-unfoldable pub win_by : ℕ → ℕ → ℕ → List ℕ → List ℕ → List (ℕ × ℕ) → List ℕ → Option Deed
-win_by seat target tile unders hand yaku text =
+-- What a win is worth, what each seat gains by it and has then, and who wins after it.
+unfoldable pub worth_at : List ℕ → Option Worth
+worth_at text =
     option_and_then (λ fu.
     option_and_then (λ han.
     option_and_then (λ value.
     option_and_then (λ deltas.
     option_and_then (λ points.
-    option_map (λ rest. Win seat target tile unders hand yaku fu.0 han.0 value.0 deltas.0 points.0 rest)
+    option_map (λ rest. record { fu = fu.0; han = han.0; value = value.0; deltas = deltas.0; points = points.0; rest = rest })
     (seats_field (codes ",\"rest\":") points.1))
     (points_field (codes ",\"scores\":") deltas.1))
     (points_field (codes ",\"deltas\":") value.1))
     (word_field (codes ",\"hora_points\":") han.1))
     (byte_field (codes ",\"fan\":") fu.1))
     (byte_field (codes ",\"fu\":") text)
+
+-- What a win comes to.
+unfoldable pub win_by : ℕ → ℕ → ℕ → List ℕ → List ℕ → List (ℕ × ℕ) → List ℕ → Option Deed
+win_by seat target tile unders hand yaku text = option_map (λ w. Win seat target tile unders hand yaku w.fu w.han w.value w.deltas w.points w.rest) (worth_at text)
 
 -- The tiles and the yaku of a win.
 unfoldable pub win_with : ℕ → ℕ → ℕ → List ℕ → Option Deed

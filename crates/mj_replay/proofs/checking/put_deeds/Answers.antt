@@ -1,12 +1,12 @@
 use Rattle.std.proofs.Common.{rules, ◌≡◌, true, false, refl, arith}
 use Rattle.mj_replay.specs.Inner.Steps.{Follows}
 use Rattle.mj_replay.proofs.CheckLaws.{Walled, few_played, play_begins, nothing_kept, bad_deed, play_goes_on, list_more, cut, good}
-use Rattle.mj_replay.proofs.checking.behind_walls.Goals as goal
+use Rattle.mj_replay.proofs.checking.put_deeds.Goals as goal
 
 pub loop-line-init : goal.loop-line-init
 loop-line-init c = record {
-  play = play_begins _ _ _ _ c.in_ok-table.ensures c.requires.other;
-  list = nothing_kept _ _ _ c.args.rules c.requires.none c.in_ok-table.ensures;
+  play = play_begins _ _ _ _ c.requires.new c.requires.other;
+  list = nothing_kept _ _ _ c.args.table.now.rules c.requires.none c.requires.new;
 }
 
 pub overflow_add-result : goal.overflow_add-result
@@ -14,7 +14,7 @@ overflow_add-result c = let small = few_played _ _ _ _ _ _ c.requires.some c.req
 
 pub returns-in-Some-2 : goal.returns-in-Some-2
 returns-in-Some-2 c =
-    let walled : Walled c.args.rules c.args.walls.now = record { rules_fit = c.requires.rules; some = c.requires.some; few = c.requires.few; whole = c.requires.whole } in
+    let walled : Walled c.args.table.now.rules c.args.walls.now = record { rules_fit = c.requires.rules; some = c.requires.some; few = c.requires.few; whole = c.requires.whole } in
     bad_deed _ _ _ _ _ _ _ _ _ _ _ _ walled c.loop-line.invariant.play refl c.in-Some.ensures refl (rw c.in-Some-2.is at c.in_ok-cause.ensures)
 
 pub overflow_add-deeds : goal.overflow_add-deeds
@@ -33,12 +33,12 @@ overflow_add-result-then-not-is_empty c = let small = few_played _ _ _ _ _ _ c.r
 
 pub returns-then-not-is_empty : goal.returns-then-not-is_empty
 returns-then-not-is_empty c =
-    let walled : Walled c.args.rules c.args.walls.now = record { rules_fit = c.requires.rules; some = c.requires.some; few = c.requires.few; whole = c.requires.whole } in
+    let walled : Walled c.args.table.now.rules c.args.walls.now = record { rules_fit = c.requires.rules; some = c.requires.some; few = c.requires.few; whole = c.requires.whole } in
     let some : c.is_empty.result ≡ false = search rules in
     cut _ _ _ _ _ _ _ _ walled c.loop-line.invariant.play refl c.in_default.ensures c.is_empty.ensures some
 
 pub returns : goal.returns
 returns c =
-    let walled : Walled c.args.rules c.args.walls.now = record { rules_fit = c.requires.rules; some = c.requires.some; few = c.requires.few; whole = c.requires.whole } in
+    let walled : Walled c.args.table.now.rules c.args.walls.now = record { rules_fit = c.requires.rules; some = c.requires.some; few = c.requires.few; whole = c.requires.whole } in
     let none : c.is_empty.result ≡ true = search rules in
     good _ _ _ _ _ _ _ _ _ _ _ walled c.loop-line.invariant.play c.loop-line.invariant.list c.is_empty.ensures none c.points.ensures c.deposits.ensures
