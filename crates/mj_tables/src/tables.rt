@@ -29,7 +29,8 @@ pub type Tables<G, H> = ClosedTables<G, <H as Host>::Link, <H as Host>::Fault>;
 /// Plays 1 to 8 games without entries, each at a table of its own, to their ends, or until the host has failed each handler.
 /// There are two handlers more than four a table, numbered from 0: each takes links and serves them at the tables that their
 /// first lines are for, as the picker says. The ticker, which has the number after theirs, closes windows whose time has run
-/// out. Err where memory was wanting of a worker.
+/// out. Conditions: no game has an entry yet, and for each line the picker names one of their tables, or none. `Err` where
+/// memory was wanting of a worker.
 pub fn run_tables<G: Seated, H: Host, C: Clock, P: Picker, R: Threads + Wait + Sync>(
     rt: &R,
     alloc: Global,
