@@ -1,5 +1,5 @@
 -- What answers a question of a game.
-use Rattle.std.proofs.Common.{◌≡◌, ℕ, List, [], ◌∷◌, ◌++◌, refl, ap, sym, ◌∙◌}
+use Rattle.std.proofs.Common.{◌≡◌, ℕ, List, [], ◌++◌, refl, ap, sym, ◌∙◌}
 use Rattle.std.specs.Prelude.{Result, Ok, Err, IfOk}
 use Rattle.std.specs.declared.alloc.AllocError.{AllocError}
 use Rattle.mj_bytes.specs.Adds.{Adds}
@@ -7,7 +7,7 @@ use Rattle.mj_ports.specs.declared.entry.Entry.{Entry}
 use Rattle.mj_deeds.specs.declared.answer.Answer.{Answer}
 use Rattle.mj_history.specs.After.{scripts}
 use Rattle.mj_history.specs.Legal.{Game}
-use Rattle.mj_history.specs.Arrivals.{Ending, Input, Intake, at_end, game_of, intake_from, setting_of}
+use Rattle.mj_history.specs.Arrivals.{Input, Intake, at_end, intake_from, setting_of}
 use Rattle.mj_core.specs.Calls.{pending_at}
 use Rattle.mj_front.specs.declared.intake.End.{End}
 use Rattle.mj_front.specs.declared.intake.Question.{Question}

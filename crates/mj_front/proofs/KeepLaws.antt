@@ -1,5 +1,5 @@
 -- What the lines of a kept game come to.
-use Rattle.std.proofs.Common.{◌≡◌, ◌⊎◌, inl, inr, ⊎_elim, ℕ, ◌+◌, ◌==◌, ◌<◌, ◌≤◌, ◌&&◌, not, Bool, true, false, List, [], ◌∷◌, ◌++◌, length, refl, ap, sym, ◌∙◌, subst, arith, append-nil, append_assoc, rules}
+use Rattle.std.proofs.Common.{◌≡◌, ℕ, ◌+◌, ◌==◌, ◌≤◌, ◌&&◌, not, Bool, true, false, List, [], ◌∷◌, ◌++◌, length, refl, ap, sym, ◌∙◌, arith, append-nil, append_assoc, rules}
 use Rattle.std.specs.Prelude.{Option, Some, None, if◌then◌else◌, is_some, option_map, nat_lt, bytes_eq, codes, ◌^◌}
 use Rattle.std.specs.Option.{option_map_or}
 use Rattle.std.proofs.lemmas.Bool.Decides.{nat_tests}
@@ -13,9 +13,9 @@ use Rattle.mj_wall.specs.Places.{is_wall}
 use Rattle.mj_forms.specs.AnswerForms.{answer_of, join_of}
 use Rattle.mj_forms.specs.Headers.{rules_of, tiles_in}
 use Rattle.mj_deeds.specs.declared.answer.Answer.{Answer}
-use Rattle.mj_history.specs.Legal.{Game, can_say, can_expire}
+use Rattle.mj_history.specs.Legal.{can_say, can_expire}
 use Rattle.mj_history.specs.Sitting.{author_at, placing, entries_of_placing}
-use Rattle.mj_history.specs.Arrivals.{ArrivalForm, Header, WallOf, Sit, Say, Leave, Expire, NoForm, form_of, form_by, sit_form, say_form, expire_form, numbers_in, is_short, Intake, Arrival, Leads, Bad, Input, at_end, intake_on, intake_from, arrives, first_line, behind_header, header_arrives, wall_arrives, sit_arrives, say_arrives, gone_arrives, expiry_arrives, with_entries, now_of, setting_of}
+use Rattle.mj_history.specs.Arrivals.{ArrivalForm, Header, WallOf, Sit, Say, Leave, Expire, NoForm, form_of, form_by, sit_form, say_form, expire_form, numbers_in, is_short, Intake, Arrival, Leads, Bad, at_end, intake_on, intake_from, arrives, first_line, behind_header, header_arrives, wall_arrives, sit_arrives, say_arrives, gone_arrives, expiry_arrives, with_entries, now_of, setting_of}
 use Rattle.mj_journal.specs.Calls.{IsLine}
 
 -- One list begins with another.

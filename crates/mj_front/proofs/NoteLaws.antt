@@ -1,7 +1,6 @@
 -- What becomes of a line of a kept game, by what its call answers.
-use Rattle.std.proofs.Common.{◌≡◌, ◌⊎◌, ℕ, ◌==◌, ◌<◌, ◌≤◌, Bool, true, false, List, [], ◌∷◌, ◌++◌, length, refl, ap, sym, ◌∙◌, subst, arith, append-nil}
+use Rattle.std.proofs.Common.{◌≡◌, ℕ, ◌==◌, ◌<◌, ◌≤◌, Bool, true, false, List, [], ◌∷◌, ◌++◌, length, refl, ap, sym, ◌∙◌, subst, append-nil}
 use Rattle.std.specs.Prelude.{Option, Some, None, slice_get, if◌then◌else◌}
-use Rattle.std.specs.Option.{option_map_or}
 use Rattle.mj_ports.specs.declared.entry.Entry.{Entry}
 use Rattle.mj_ports.specs.declared.entry.Entry.TheVariants.{Said, Gone, Expired}
 use Rattle.mj_ports.specs.declared.sitting.JoinLine.{JoinLine}
@@ -20,16 +19,16 @@ use Rattle.mj_deeds.specs.declared.answer.Answer.{Answer}
 use Rattle.mj_deeds.specs.declared.rule.Rule.{Rule}
 use Rattle.mj_wall.specs.declared.setting.Setting.{Setting}
 use Rattle.mj_forms.specs.AnswerForms.{answer_of, join_of}
-use Rattle.mj_history.specs.After.{After, Chair, Verdict, Taken, Late, Refused, Closing, verdict_on}
+use Rattle.mj_history.specs.After.{Chair, Verdict, Taken, Late, Refused, Closing, verdict_on}
 use Rattle.mj_history.specs.Legal.{Game, can_say, is_open}
-use Rattle.mj_history.specs.Sitting.{placing, entries_of_placing, author_at}
-use Rattle.mj_history.specs.Shown.{shown_of, sits_of, sit_answer, heard_of, hears_of, expires_of, due_at}
+use Rattle.mj_history.specs.Sitting.{placing, entries_of_placing}
+use Rattle.mj_history.specs.Shown.{shown_of, sits_of, sit_answer, heard_of, hears_of, expires_of}
 use Rattle.mj_history.specs.Arrivals.{ArrivalForm, form_of, Arrival, Leads, Bad, with_entries, arrives, behind_header, sit_arrives, say_arrives, gone_arrives, expiry_arrives}
 use Rattle.mj_core.specs.Calls.{after_of, author_of_seat, may_expire}
 use Rattle.mj_core.proofs.ByEntries.{said-can}
 use Rattle.mj_journal.specs.Calls.{GameCall, Sit, Say, Leave, Expire}
 use Rattle.mj_journal.specs.Journals.{IsAtRest}
-use Rattle.mj_journal.specs.Keeping.{game_of, end_of, Answers, HadMemory, IfKept, IfBoth, AnyMoment, Acknowledged, CountsAnswerFault, TellsGame}
+use Rattle.mj_journal.specs.Keeping.{game_of, end_of, Answers, HadMemory, IfKept, IfBoth, AnyMoment, Acknowledged, TellsGame}
 use Rattle.mj_journal.specs.Outcomes.{of_sit, of_said, of_gone, of_expiry}
 use Rattle.mj_journal.specs.Playing.{entered, sat, said, expired, is_by, is_asked, opens}
 use Rattle.mj_journal.specs.declared.answered.Answered.{Answered}
@@ -41,7 +40,7 @@ use Rattle.mj_front.specs.Keep.{play_of}
 use Rattle.mj_front.specs.declared.keeping.Noted.{Noted}
 use Rattle.mj_front.specs.declared.keeping.Noted.TheVariants as notes
 use Rattle.mj_front.specs.Inner.Intake.{intake_of, present_in}
-use Rattle.mj_front.specs.Inner.Keeping.{list_of, noted_by, asked_in, Notes, NotesOne, FailsOne, NotesNone, GoesOn}
+use Rattle.mj_front.specs.Inner.Keeping.{list_of, noted_by, asked_in, Notes, NotesNone, GoesOn}
 use Rattle.mj_front.proofs.PlayLaws.{sits-by, says, goes, expires-by, stale, present-is}
 use Rattle.mj_front.proofs.PlayedLaws.{IsAsked, is-asked}
 use Rattle.mj_front.proofs.Telling.{has_chair}

@@ -14,7 +14,7 @@ use Rattle.mj_rules.specs.Played.{IsPlayed}
 use Rattle.mj_rules.proofs.Playing.{each_is_wall}
 use Rattle.mj_rules.proofs.Lengths.{few_deeds}
 use Rattle.mj_observe.specs.Views.{public_view}
-use Rattle.mj_observe.specs.Traces.{ArePlayed, public_trace}
+use Rattle.mj_observe.specs.Traces.{ArePlayed}
 use Rattle.mj_observe.proofs.Watching.{learn_no_more}
 use Rattle.mj_replay.specs.Checks.{IsRecordOf}
 use Rattle.mj_front.specs.declared.replay.ReplayEnd.{ReplayEnd}

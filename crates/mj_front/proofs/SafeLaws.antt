@@ -1,7 +1,7 @@
 -- What a run of `keep` leaves of its journal.
-use Rattle.std.proofs.Common.{◌≡◌, ◌⊎◌, inl, inr, ⊎_elim, ℕ, ◌+◌, ◌≤◌, ◌==◌, Bool, true, false, List, [], ◌∷◌, ◌++◌, length, refl, ap, sym, ◌∙◌, subst, arith, append-nil, append_assoc}
-use Rattle.std.specs.Prelude.{Option, Some, None, if◌then◌else◌}
-use Rattle.std.specs.Io.KnownBytes.{Appends, Keeps}
+use Rattle.std.proofs.Common.{◌≡◌, inl, inr, ⊎_elim, ℕ, ◌≤◌, ◌==◌, Bool, true, false, List, [], ◌∷◌, ◌++◌, length, refl, ap, sym, ◌∙◌, subst, arith, append-nil}
+use Rattle.std.specs.Prelude.{Option, Some, None}
+use Rattle.std.specs.Io.KnownBytes.{Appends}
 use Rattle.mj_links.specs.Sinks.{WritesPrefix}
 use Rattle.mj_bytes.specs.Parts.{whole_lines, unfinished}
 use Rattle.mj_ports.specs.declared.entry.Entry.{Entry}
@@ -13,14 +13,13 @@ use Rattle.mj_history.specs.Arrivals.{Input, Ending, intake_from, game_of as gam
 use Rattle.mj_history.proofs.Fitting.{legal_games_are_played}
 use Rattle.mj_history.proofs.Windows.{windows_decide}
 use Rattle.mj_secrecy.proofs.OneWorld.{agreeing_scripts}
-use Rattle.mj_core.specs.Calls.{after_of}
 use Rattle.mj_journal.specs.Disks.{Only, LeavesOnly}
-use Rattle.mj_journal.specs.Journals.{IsJournalOf, IsAtRest}
+use Rattle.mj_journal.specs.Journals.{IsAtRest}
 use Rattle.mj_journal.specs.Looking.{OnlyLooks}
 use Rattle.mj_journal.specs.Openings.{Opening, Fresh, Other, Bad, Open, is_fresh, IsNewOrTag}
 use Rattle.mj_journal.specs.Playing.{opens}
 use Rattle.mj_journal.specs.Founding.{GivesEntries, IsInPlay, OpensGame}
-use Rattle.mj_journal.specs.Keeping.{game_of, end_of, IfKept, TellsGame, TellsOn, OpensTo, OpensWith}
+use Rattle.mj_journal.specs.Keeping.{game_of, end_of, IfKept, TellsGame, OpensTo, OpensWith}
 use Rattle.mj_journal.specs.declared.kept.Kept.{Kept}
 use Rattle.mj_journal.proofs.Firsts.{opens_tag}
 use Rattle.mj_front.specs.declared.intake.End.{End}
@@ -28,7 +27,7 @@ use Rattle.mj_front.specs.declared.keep.KeepEnd.{KeepEnd}
 use Rattle.mj_front.specs.declared.keep.KeepEnd.TheVariants as ends
 use Rattle.mj_front.specs.declared.watched.Watched.{Watched}
 use Rattle.mj_front.specs.Referee.{IsTold, ending}
-use Rattle.mj_front.specs.Keep.{Base, Gives, IsSafe, HasAll, KeepsGame, play_of, opens_for, heard_after, all_entries, intake_after}
+use Rattle.mj_front.specs.Keep.{Base, Gives, IsSafe, play_of, opens_for, heard_after, intake_after}
 use Rattle.mj_front.specs.Inner.Intake.{intake_of}
 use Rattle.mj_front.specs.Inner.Keeping.{list_of, GoesOn, NotesEach, NotesPart, WritesScript, KeepsLines, StaysSafe, KeepsOn}
 use Rattle.mj_front.proofs.KeepLaws.{heard-begins}

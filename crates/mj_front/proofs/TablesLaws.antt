@@ -1,12 +1,12 @@
 -- What comes of many tables.
-use Rattle.std.proofs.Common.{◌≡◌, ◌⊎◌, ℕ, zero, suc, ◌+◌, ◌*◌, ◌<◌, ◌≤◌, Bool, true, false, cond, eqb, List, [], ◌∷◌, ◌++◌, length, get_or, refl, ap, sym, subst, ◌∙◌, inl, inr, arith, map, reverse}
+use Rattle.std.proofs.Common.{◌≡◌, ◌⊎◌, ℕ, zero, suc, ◌+◌, ◌<◌, ◌≤◌, Bool, true, false, cond, List, [], ◌∷◌, ◌++◌, length, get_or, refl, ap, sym, subst, ◌∙◌, inl, inr, arith, map, reverse}
 use Rattle.std.specs.Prelude.{Option, Some, None, All, IsPermutation, slice_get, flat_map, codes, nat_lt, if◌then◌else◌, option_and_then}
 use Rattle.std.specs.Option.{option_map_or}
 use Rattle.std.specs.Io.KnownBytes.{Appends}
 use Rattle.std.proofs.lemmas.Bool.{cases_eq, eq-eqb, ne_eqb, ltb-true, and_parts, and_from, false≢true}
 use Rattle.std.proofs.lemmas.Bool.Decides.{eqb_tells}
 use Rattle.std.proofs.lemmas.Option.{slice_get-get_or, slice_get_within}
-use Rattle.std.proofs.lemmas.List.{append_assoc, map-append, length_push}
+use Rattle.std.proofs.lemmas.List.{length_push}
 use Rattle.std.proofs.lemmas.List.Concat.{flat_map-cons}
 use Rattle.std.proofs.lemmas.List.Elements.{All-nil, All-cons, All-head, All-tail, All-get_or, All-from_get_or}
 use Rattle.std.proofs.lemmas.List.Sorted.{IsPermutation-refl, IsPermutation-trans, IsPermutation-cons, IsPermutation-middle, IsPermutation-append_right, IsPermutation-reverse}
@@ -16,14 +16,12 @@ use Rattle.serde_json.specs.Find.{get, as_str}
 use Rattle.mj_words.specs.Asked.{ServedWith}
 use Rattle.mj_ports.specs.declared.sitting.JoinLine.{JoinLine}
 use Rattle.mj_ports.specs.declared.picking.Picked.TheVariants.{BadName}
-use Rattle.mj_wall.specs.declared.setting.Setting.{Setting}
 use Rattle.mj_history.specs.After.{after}
 use Rattle.mj_forms.specs.AnswerForms.{answer_of, join_of, join_in, value_of, picked_of, picked_in, picked_by, room_by, room_below, room_number}
 use Rattle.mj_history.specs.Shown.{shown_of, sits_of, hears_of, control_line}
 use Rattle.mj_history.specs.Legal.{Game, IsLegal, is_over}
 use Rattle.mj_seats.specs.declared.handle.HandlerEnd.{HandlerEnd}
 use Rattle.mj_seats.specs.declared.handle.HandlerEnd.TheVariants as handled
-use Rattle.mj_seats.specs.declared.handle.Session.{Session}
 use Rattle.mj_seats.specs.Handlers.{at_link}
 use Rattle.mj_tables.specs.declared.closed.TableSession.{TableSession}
 use Rattle.mj_tables.specs.Tables.{handlers_of, sessions_at, sits_at, IsBelow, IsPlayedBy, AllEndWith, EndsWith}

@@ -1,14 +1,14 @@
 -- The lines of a kept game, one after the other.
-use Rattle.std.proofs.Common.{◌≡◌, ◌⊎◌, inl, inr, ⊎_elim, ℕ, ◌+◌, ◌==◌, ◌<◌, ◌≤◌, true, false, List, [], ◌∷◌, ◌++◌, length, refl, ap, sym, ◌∙◌, subst, arith, append-nil, append_assoc}
+use Rattle.std.proofs.Common.{◌≡◌, inl, inr, ⊎_elim, ℕ, ◌+◌, ◌<◌, ◌≤◌, List, [], ◌∷◌, ◌++◌, refl, ap, sym, ◌∙◌, subst, arith, append-nil}
 use Rattle.std.specs.Prelude.{Option, Some, None}
 use Rattle.mj_bytes.specs.Parts.{whole_lines, unfinished, BeginsWithLine, HasNoLine}
 use Rattle.mj_ports.specs.declared.entry.Entry.{Entry}
 use Rattle.mj_deeds.specs.declared.answer.Answer.{Answer}
 use Rattle.mj_history.specs.Legal.{Game}
-use Rattle.mj_history.specs.Arrivals.{Intake, Arrival, Leads, Bad, Input, Ending, BadAt, intake_on, intake_from, arrives, at_end}
+use Rattle.mj_history.specs.Arrivals.{Intake, Arrival, Leads, Bad, Input, BadAt, intake_on, intake_from, arrives, at_end}
 use Rattle.mj_journal.specs.Openings.{Opening, Open}
 use Rattle.mj_journal.specs.Playing.{opens}
-use Rattle.mj_journal.specs.Keeping.{game_of, end_of, TellsOn, OpensTo, OpensWith}
+use Rattle.mj_journal.specs.Keeping.{end_of, TellsOn, OpensTo, OpensWith}
 use Rattle.mj_journal.specs.declared.kept.Kept.{Kept}
 use Rattle.mj_front.specs.declared.intake.End.{End}
 use Rattle.mj_front.specs.declared.watched.Watched.{Watched}

@@ -4,6 +4,8 @@ use Rattle.std.specs.Prelude.{Option, Some, None, nat_lt, if◌then◌else◌}
 use Rattle.std.specs.List.{list_all}
 use Rattle.std.proofs.lemmas.Bool.Decides.{nat_tests}
 use Rattle.std.proofs.lemmas.List.{length-append}
+use Rattle.mj_ports.specs.declared.entry.Entry.{Entry}
+use Rattle.mj_deeds.specs.declared.answer.Answer.{Answer}
 use Rattle.mj_wall.specs.declared.setting.Rules.{Rules}
 use Rattle.mj_wall.specs.Places.{is_wall}
 use Rattle.mj_history.specs.Legal.{Game}
@@ -183,6 +185,10 @@ begun-alike rules walls number (line ∷ lines) rest some h =
 begun-game : (rules : Rules) (walls : List (List ℕ)) (start : Game) → start ≡ record { setting = record { walls = walls; rules = rules }; entries = [] } → begun_with rules walls ≡ intake_of start
 unfolding begun_with
 begun-game rules walls start s = rw s
+
+-- A game without an entry is its setting alone.
+pub unbegun : (game : Game) → game.entries ≡ [] → game ≡ record { setting = record { walls = game.setting.walls; rules = game.setting.rules }; entries = [] }
+unbegun game none = let with : List (Entry Answer) → Game = λ entries. record { setting = game.setting; entries = entries } in ap with none
 
 pub tells-walls : (question : Question) (seat number : ℕ) (end : End) (rules : Rules) (walls : List (List ℕ)) (start game : Game) (lines : List (List ℕ)) (rest told all : List ℕ) →
     start ≡ record { setting = record { walls = walls; rules = rules }; entries = [] } → (length lines == 0) ≡ false → begin_with_wall lines ≡ false →

@@ -1,12 +1,12 @@
 -- What the calls on a game tell a seat that is watched.
-use Rattle.std.proofs.Common.{◌≡◌, ◌≢◌, ℕ, ◌==◌, ◌<◌, ◌≤◌, Bool, true, false, List, [], ◌∷◌, ◌++◌, length, refl, ap, sym, ◌∙◌, subst, arith, append-nil, append_assoc, inl, inr, true≢false}
+use Rattle.std.proofs.Common.{◌≡◌, ℕ, ◌==◌, ◌<◌, ◌≤◌, Bool, true, false, List, [], ◌++◌, length, refl, ap, sym, ◌∙◌, subst, arith, append-nil, append_assoc, inl, inr, true≢false}
 use Rattle.std.specs.Prelude.{Option, Some, None, slice_get, if◌then◌else◌, ◌&&◌, Result, Ok, Err, OnOk, is_ok}
 use Rattle.std.specs.Option.{option_map_or}
 use Rattle.std.specs.declared.alloc.AllocError.{AllocError}
 use Rattle.std.proofs.lemmas.Option.{slice_get_within}
 use Rattle.std.proofs.lemmas.Bool.Decides.{nat_tests, eqb_tells}
 use Rattle.mj_bytes.specs.Adds.{Adds}
-use Rattle.mj_ports.specs.declared.entry.Entry.TheVariants.{Sat, Back, Said, Gone, Expired}
+use Rattle.mj_ports.specs.declared.entry.Entry.TheVariants.{Back, Said, Gone}
 use Rattle.mj_ports.specs.declared.sitting.JoinLine.{JoinLine}
 use Rattle.mj_ports.specs.declared.answers.SitAnswer.{SitAnswer}
 use Rattle.mj_ports.specs.declared.answers.SitAnswer.TheVariants as sits
@@ -20,7 +20,7 @@ use Rattle.mj_seating.specs.declared.desk.Placed.TheVariants as places
 use Rattle.mj_deeds.specs.declared.answer.Answer.{Answer}
 use Rattle.mj_deeds.specs.declared.rule.Rule.{Rule}
 use Rattle.mj_forms.specs.AnswerForms.{join_of}
-use Rattle.mj_history.specs.After.{After, Chair, Verdict, Taken, Late, Refused, Closing, is_present}
+use Rattle.mj_history.specs.After.{Chair, Verdict, Taken, Late, Refused, Closing, is_present}
 use Rattle.mj_history.specs.Legal.{Game}
 use Rattle.mj_history.specs.Sitting.{placing}
 use Rattle.mj_core.specs.Calls.{after_of, Enters, TakesSeat, IsSitAnswer, IsHeard, IsLeft, IsExpiry, author_of_seat, pending_at, verdict_at}

@@ -14,7 +14,6 @@ use Rattle.mj_history.specs.Arrivals.{ArrivalForm, Header, WallOf, Sit, Say, Lea
 use Rattle.mj_journal.specs.Disks.{Only}
 use Rattle.mj_journal.specs.Openings.{Opening, Fresh, Other, Bad as BadAt, Open}
 use Rattle.mj_journal.specs.Playing.{Play, play, opens}
-use Rattle.mj_front.specs.declared.intake.End.{End}
 use Rattle.mj_front.specs.declared.keep.KeepEnd.{KeepEnd}
 use Rattle.mj_front.specs.declared.keep.KeepEnd.TheVariants as ends
 use Rattle.mj_front.specs.Inputs.{IsRead, IsTooLong}

@@ -181,9 +181,33 @@ fn take_walled(
         return nothing_told(alloc, question, End::Bad(number));
     }
     let mut core = Core::new(alloc, walls, rules)?;
+    let told = take_game(alloc, question, seat, &mut core, input, number);
+    drop(core);
+    told
+}
+
+// The same of a game before its first entry.
+fn take_game(
+    alloc: Global,
+    question: Question,
+    seat: u8,
+    core: &mut Core,
+    input: &[u8],
+    number: u32,
+) -> Result<Told, AllocError>
+    requires new { core.old.entries ≡ [] }
+    requires some { (length core.old.setting.walls == 0) ≡ false }
+    requires fits { number + length input.now ≤ u32.MAX }
+    requires seat { seat ≤ 3 }
+    requires line { (length (whole_lines input.now) == 0) ≡ false }
+    requires other { begin_with_wall (whole_lines input.now) ≡ false }
+    ensures { IfOk result (λ told. Tells question
+        (intake_from (intake_with_walls core.old.setting.rules core.old.setting.walls) number
+        (whole_lines input.now) (unfinished input.now)) seat told.end told.bytes.items) }
+{
     let mut told = Vec::new(alloc);
-    let end = take_lines(alloc, seat, &mut core, &mut told, input, number)?;
-    let bytes = answer(alloc, question, seat, &core, told)?;
+    let end = take_lines(alloc, seat, core, &mut told, input, number)?;
+    let bytes = answer(alloc, question, seat, core, told)?;
     Ok(Told { end, bytes })
 }
 

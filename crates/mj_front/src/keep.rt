@@ -147,9 +147,19 @@ fn keep_on<K: Sink, D: Disk>(
         (D.disk_faults disk.new) }
 {
     match keep_lines(alloc, &mut kept, disk, rest, number) {
-        AllNoted::Whole(end) => write_script(alloc, &kept, end, sink),
-        AllNoted::DiskFault => KeepEnd::DiskFault,
-        AllNoted::NoMemory => KeepEnd::NoMemory,
+        AllNoted::Whole(end) => {
+            let told = write_script(alloc, &kept, end, sink);
+            drop(kept);
+            told
+        }
+        AllNoted::DiskFault => {
+            drop(kept);
+            KeepEnd::DiskFault
+        }
+        AllNoted::NoMemory => {
+            drop(kept);
+            KeepEnd::NoMemory
+        }
     }
 }
 

@@ -12,7 +12,7 @@ ghost use Rattle.mj_front.specs.Inner.Serving.{GivesAllBack, WritesRecordOf, pla
 
 use mj_core::Core;
 use mj_links::{Clock, Given, Host, Opened, Sink, WriteAll, write_all};
-use mj_seats::{Session, run_workers};
+use mj_seats::{ClosedGame, Session, run_workers};
 use mj_wall::{Rules, Walls};
 use mj_words::Serving;
 use std::alloc::{AllocError, Global};
@@ -62,7 +62,10 @@ pub(crate) fn serve<K: Sink, H: Host, C: Clock, R: Threads + Wait + Sync>(
     };
     match host.open(serving.port) {
         Opened::Ready => play(rt, alloc, game, sink, host, clock),
-        Opened::Failed(_) => ServeEnd::NotOpened,
+        Opened::Failed(_) => {
+            drop(game);
+            ServeEnd::NotOpened
+        }
     }
 }
 
@@ -91,7 +94,8 @@ fn new_game(alloc: Global, serving: &Serving) -> Result<Core, AllocError>
     Core::with_walls(alloc, walls, rules)
 }
 
-// Plays the game to its end over an open host, and gives back and writes what there is of it.
+// Plays the game to its end over an open host, and gives back and writes what there is of it. The game is let go by a call,
+// here and in `serve`, so that no proof of theirs follows each way in which its parts are dropped.
 fn play<K: Sink, H: Host, C: Clock, R: Threads + Wait + Sync>(
     rt: &R,
     alloc: Global,
@@ -113,9 +117,21 @@ fn play<K: Sink, H: Host, C: Clock, R: Threads + Wait + Sync>(
     let Ok(closed) = run_workers(rt, alloc, game, host, clock) else {
         return ServeEnd::NoMemory;
     };
-    match give_all(host, closed.sessions) {
-        Given::Kept => write_record(alloc, &closed.game, sink),
-        Given::NoMemory => ServeEnd::NoMemory,
+    let ClosedGame {
+        game,
+        sessions,
+        ends: _,
+    } = closed;
+    match give_all(host, sessions) {
+        Given::Kept => {
+            let end = write_record(alloc, &game, sink);
+            drop(game);
+            end
+        }
+        Given::NoMemory => {
+            drop(game);
+            ServeEnd::NoMemory
+        }
     }
 }
 

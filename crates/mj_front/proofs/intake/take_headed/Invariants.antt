@@ -1,4 +1,4 @@
-use Rattle.std.proofs.Common.{◌≡◌, ◌+◌, ◌≤◌, true, false, [], length}
+use Rattle.std.proofs.Common.{◌≡◌, ◌+◌, ◌≤◌, true, [], length}
 use Rattle.std.specs.List.{list_all}
 use Rattle.mj_bytes.specs.Parts.{whole_lines, unfinished}
 use Rattle.mj_wall.specs.Places.{is_wall}

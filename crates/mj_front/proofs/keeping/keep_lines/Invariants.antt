@@ -1,4 +1,4 @@
-use Rattle.std.proofs.Common.{◌≡◌, ◌+◌, ◌≤◌, ℕ, List, length}
+use Rattle.std.proofs.Common.{◌+◌, ◌≤◌, ℕ, List, length}
 use Rattle.mj_bytes.specs.Parts.{whole_lines, unfinished}
 use Rattle.mj_history.specs.Legal.{Game}
 use Rattle.mj_history.specs.Arrivals.{intake_from}
