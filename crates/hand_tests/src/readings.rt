@@ -1,6 +1,8 @@
 use crate::words::{counts, fields, kind, kinds, meld, number, reading};
-use mj_readings::{Reading, completing, is_complete, is_complete_with, reading_at, readings};
-use mj_tiles::Form;
+use mj_readings::{
+    Reading, completing, is_complete, is_complete_with, is_completed_by, reading_at, readings,
+};
+use mj_tiles::{Form, Kind, Kinds};
 use std::alloc::{AllocError, Global};
 
 /// Concealed tiles, the number of melds, and whether they are a complete hand.
@@ -60,6 +62,26 @@ fn is_completed(line: &str) -> Option<bool> {
 fn kinds_complete_a_hand(rt: HostRuntime) {
     for line in COMPLETING.lines() {
         assert!(rt; is_completed(line) == Some(true), "{line}");
+    }
+}
+
+/// Whether each kind that completes the hand is told to by itself, no other is, and some kind of all these is.
+fn is_completed_by_these(line: &str) -> Option<bool> {
+    let [hand, melds, wanted, ..] = fields(line);
+    let (held, melds, wanted) = (counts(hand)?, number(melds)?, kinds(wanted)?);
+    for number in 0..34 {
+        let kind = Kind::at(number);
+        if is_completed_by(&held, melds, Kinds::none().with(kind)) != wanted.has(kind) {
+            return Some(false);
+        }
+    }
+    Some(is_completed_by(&held, melds, wanted) != wanted.is_empty())
+}
+
+#[test]
+fn a_set_of_kinds_completes_a_hand_by_one_of_them(rt: HostRuntime) {
+    for line in COMPLETING.lines() {
+        assert!(rt; is_completed_by_these(line) == Some(true), "{line}");
     }
 }
 

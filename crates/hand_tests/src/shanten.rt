@@ -125,8 +125,8 @@ const DISCARDS: &str = "\
 
 fn is_best(line: &str) -> Option<bool> {
     let [hand, among, wanted, ..] = fields(line);
-    let best = best_discard(&counts(hand)?, kinds(among)?)?;
-    Some(best == kinds(wanted)?)
+    let (held, among, wanted) = (counts(hand)?, kinds(among)?, kinds(wanted)?);
+    Some(best_discard(&held, among)? == wanted && best_discard_of(&held, among)? == wanted)
 }
 
 /// The best discard as a set of one kind.
@@ -135,6 +135,18 @@ fn best_discard(counts: &Counts, among: Kinds) -> Option<Kinds> {
         return None;
     };
     match suits.best_discard(among, 0) {
+        Some(kind) => Some(Kinds::none().with(kind)),
+        None => Some(Kinds::none()),
+    }
+}
+
+/// The same by the number of missing tiles, which is asked before.
+fn best_discard_of(counts: &Counts, among: Kinds) -> Option<Kinds> {
+    let Some(suits) = walked_closed(counts, 14) else {
+        return None;
+    };
+    let missing = suits.missing(0);
+    match suits.best_discard_of(among, 0, missing) {
         Some(kind) => Some(Kinds::none().with(kind)),
         None => Some(Kinds::none()),
     }

@@ -100,7 +100,8 @@ fn fives_easts_ones(held: &Counts) -> [u8; 3] {
 
 fn has_numbers(text: &str, wanted: [u8; 3]) -> Option<bool> {
     let held = counts(text)?;
-    Some(fives_easts_ones(&held) == wanted && Counts::of(*held.numbers())? == held)
+    let again = Counts::from_numbers(*held.numbers());
+    Some(fives_easts_ones(&held) == wanted && Counts::of(*held.numbers())? == held && again == held)
 }
 
 #[test]

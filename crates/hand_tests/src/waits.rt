@@ -1,6 +1,6 @@
 use crate::words::{counts, fields, kinds, number};
 use mj_tiles::Counts;
-use mj_waits::{Facts, furiten, ready, waits};
+use mj_waits::{Facts, furiten, misses_some, ready, waits};
 
 /// Concealed tiles, those of melds, how many melds they are, and the waits.
 const WAITS: &str = "\
@@ -60,6 +60,21 @@ fn is_furiten(line: &str) -> Option<bool> {
             passed_in_riichi,
         }) == (wanted == "yes"),
     )
+}
+
+/// Whether the same is told of a hand with these waits that are not found.
+fn misses_a_tile(line: &str) -> Option<bool> {
+    let [own, passed, passed_in_riichi, wanted, ..] = fields(line);
+    let (hand, own) = (counts("34s 55m 777p")?, kinds(own)?);
+    let (passed, passed_in_riichi) = (kinds(passed)?, kinds(passed_in_riichi)?);
+    Some(misses_some(&hand, 2, own, passed, passed_in_riichi) == (wanted == "yes"))
+}
+
+#[test]
+fn a_missed_wait_is_told_without_the_waits(rt: HostRuntime) {
+    for line in FURITEN.lines() {
+        assert!(rt; misses_a_tile(line) == Some(true), "{line}");
+    }
 }
 
 #[test]

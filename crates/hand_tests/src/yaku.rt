@@ -1,6 +1,7 @@
 use crate::words::{bit, case, counts, fields, kind, meld, number, numbers, reading};
+use mj_readings::is_complete;
 use mj_tiles::{Form, Meld};
-use mj_yaku::{YakuSet, han_of, has_yaku, is_closed, yaku};
+use mj_yaku::{YakuSet, complete_has_yaku, han_of, has_yaku, is_closed, yaku};
 
 /// Of each row its han in a closed and in an open hand, 100 for a yakuman and 0 where it asks for a closed hand, a hand that has the
 /// row, and one near to it that doesn't. A hand is its circumstances, or `-`, and its reading, with `q` for a concealed kan among its
@@ -185,4 +186,46 @@ fn some_yaku(hand: &str, win: &str, open: bool) -> Option<bool> {
 fn some_reading_has_a_yaku(rt: HostRuntime) {
     assert!(rt; some_yaku("234567m 456p 33678s", "7m", false) == Some(true));
     assert!(rt; some_yaku("234m 456p 78933s", "9s", true) == Some(false));
+}
+
+/// Complete hands, the winning tile, how it was won, whether a pon stands beside, and whether they have a yaku: by the draw, by
+/// twos to eights, by riichi, or by nothing; and where the winning tile is none of theirs.
+const COMPLETE: &str = "\
+234567m 456p 33678s|7m|d|no|yes
+234567m 456p 33678s|7m|-|no|yes
+234567m 456p 33678s|9m|-|no|no
+123m 456p 234789s EE|2m|-|no|no
+123m 456p 234789s EE|2m|r|no|yes
+234m 456p 33789s|9s|d|pon|no
+234m 456p 33678s|8s|d|pon|no";
+
+/// None where the hand is not complete.
+fn complete_yaku(hand: &str, win: &str, marks: &str, open: bool) -> Option<bool> {
+    let (held, win, pon) = (counts(hand)?, kind(win)?, meld(Form::Pon, "1m")?);
+    let mut case = case(marks);
+    if open {
+        let melds = [pon];
+        case.closed = is_closed(&melds);
+        if is_complete(&held, 1) {
+            return Some(complete_has_yaku(&held, &melds, win, &case));
+        }
+        return None;
+    }
+    case.closed = is_closed(&[]);
+    if is_complete(&held, 0) {
+        return Some(complete_has_yaku(&held, &[], win, &case));
+    }
+    None
+}
+
+fn is_worth_a_win(line: &str) -> Option<bool> {
+    let [hand, win, marks, pon, wanted, ..] = fields(line);
+    Some(complete_yaku(hand, win, marks, pon == "pon")? == (wanted == "yes"))
+}
+
+#[test]
+fn a_complete_hand_has_a_yaku_or_none(rt: HostRuntime) {
+    for line in COMPLETE.lines() {
+        assert!(rt; is_worth_a_win(line) == Some(true), "{line}");
+    }
 }

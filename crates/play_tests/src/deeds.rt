@@ -2,9 +2,10 @@ use crate::deed_words::deed;
 use crate::play::meld;
 use crate::words::{are, number, tile, tiles, words};
 use mj_deeds::{
-    Deed, Four, Pai, Tiles, YakuList, concealed, is_call, is_hand_start, is_kan, melds, next_seat,
-    ordered, river, seat_of_kan,
+    Deed, Four, Hands, Pai, Tiles, YakuList, concealed, is_call, is_hand_start, is_kan, melds,
+    next_seat, ordered, river, seat_of_kan,
 };
+use mj_tiles::Tile;
 use std::alloc::{AllocError, Global};
 
 /// Deeds, whether they fit or not, and questions about those before.
@@ -95,6 +96,54 @@ fn a_red_five_stands_behind_the_plain_ones(rt: HostRuntime) {
     assert!(rt; Some(ordered(5)) == tile("5mr"));
 }
 
+/// Whether a list keeps so many tiles and one more behind them, and so do a copy of it and a list of its tiles.
+fn keeps_so_many(alloc: Global, number: usize) -> Result<bool, AllocError> {
+    let (one, white) = (Tile::at(0), Tile::at(31));
+    let mut list = Tiles::new(alloc);
+    list.put_copies(one, number)?;
+    list.push(white)?;
+    let (copied, listed) = (list.copy()?, Tiles::of(alloc, list.as_slice())?);
+    let tiles = list.as_slice();
+    Ok(
+        tiles.len() == number.saturating_add(1)
+            && tiles.get(number) == Some(&white)
+            && copied.as_slice() == tiles
+            && listed.as_slice() == tiles,
+    )
+}
+
+#[test]
+fn a_list_of_tiles_has_no_bound(rt: HostRuntime) -> Result<(), AllocError> {
+    for number in [0, 16, 17, 18, 19, 40] {
+        assert!(rt; keeps_so_many(rt.alloc(), number)?, "{number}");
+    }
+    Ok(())
+}
+
+/// Whether four hands and a copy of them stand at their seats.
+fn stand_at_their_seats(alloc: Global, texts: [&str; 4]) -> Option<bool> {
+    let hands = Hands::from_four(Four {
+        first: tiles(alloc, texts[0])?,
+        second: tiles(alloc, texts[1])?,
+        third: tiles(alloc, texts[2])?,
+        fourth: tiles(alloc, texts[3])?,
+    });
+    let copied = hands.copy().ok()?;
+    for seat in 0..4 {
+        let wanted = tiles(alloc, texts[usize::from(seat)])?;
+        if hands.at(seat) != wanted.as_slice() || copied.at(seat) != wanted.as_slice() {
+            return Some(false);
+        }
+    }
+    Some(true)
+}
+
+#[test]
+fn each_seat_has_its_own_hand(rt: HostRuntime) {
+    let texts = ["123m", "055p", "", "EESC"];
+    assert!(rt; stand_at_their_seats(rt.alloc(), texts) == Some(true));
+}
+
 #[test]
 fn each_seat_has_its_own_and_its_next(rt: HostRuntime) {
     let four = Four {
@@ -151,5 +200,27 @@ fn a_hidden_tile_is_not_known(rt: HostRuntime) {
 fn a_list_keeps_its_rows(rt: HostRuntime) -> Result<(), AllocError> {
     let list = YakuList::from_vec([(3, 1), (28, 2)].to_vec(rt.alloc())?);
     assert!(rt; list.as_slice() == [(3, 1), (28, 2)].as_slice());
+    Ok(())
+}
+
+/// Whether a list keeps so many rows, at most 45, and so does a copy of it.
+fn keeps_rows(alloc: Global, number: u8) -> Result<bool, AllocError> {
+    let mut list = YakuList::new(alloc);
+    let mut wanted = Vec::new(alloc);
+    for row in 0..45 {
+        if row < number {
+            list.push(row, 1)?;
+            wanted.push((row, 1))?;
+        }
+    }
+    let copied = list.copy()?;
+    Ok(list.as_slice() == wanted.as_slice() && copied.as_slice() == wanted.as_slice())
+}
+
+#[test]
+fn a_list_of_rows_has_no_bound(rt: HostRuntime) -> Result<(), AllocError> {
+    for number in [0, 15, 16, 17, 45] {
+        assert!(rt; keeps_rows(rt.alloc(), number)?, "{number}");
+    }
     Ok(())
 }
