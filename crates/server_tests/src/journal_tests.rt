@@ -136,6 +136,7 @@ fn a_journal_stands_in_a_file(rt: HostRuntime) -> Result<(), Fail> {
     match opened(alloc, &mut disk) {
         Ok(mut kept) => {
             assert!(rt; matches!(kept.sit(&mut disk, 1, JOIN), Answered::Done(_)));
+            drop(kept);
         }
         Err(_) => return Err("a new file opens".into()),
     }
@@ -151,6 +152,7 @@ fn a_journal_stands_in_a_file(rt: HostRuntime) -> Result<(), Fail> {
                 )
             );
             assert!(rt; entries(&kept) == Some(2));
+            drop(kept);
         }
         Err(_) => return Err("the file opens again".into()),
     }
