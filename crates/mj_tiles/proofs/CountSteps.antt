@@ -2,12 +2,12 @@
 use Rattle.std.proofs.Common.{ℕ, ◌≡◌, ◌<◌, ◌≤◌, ◌+◌, ◌++◌, ◌∷◌, [], Bool, true, false, cond, List, length, get_or, set, take, drop, refl, sym, ◌∙◌, arith, eqb, length-set, get_or-set_same, get_or-set_other, ap, replicate, ◌⊎◌, inl, inr}
 use Rattle.std.proofs.lemmas.Bool.{cases_eq, cases_lt, eq-eqb}
 use Rattle.std.proofs.lemmas.List.{take-append-drop, take_more, set_past}
-use Rattle.std.proofs.lemmas.List.Sums.{sum_by-append}
+use Rattle.std.proofs.lemmas.List.Sums.{sum_by-append, sum_by_push}
 use Rattle.std.proofs.lemmas.List.FromFn.{length-map-range_with_len, get_or-map-range_with_len}
 use Rattle.std.proofs.lemmas.Bool.Decides.{Decides-eqb, not_from_Decides}
 use Rattle.std.proofs.lemmas.Grind.{common_steps, same_number_lists}
 use Rattle.mj_lists.proofs.Fronts.{zero_at}
-use Rattle.mj_tiles.specs.Faces.{kind_of}
+use Rattle.mj_tiles.specs.Faces.{kind_of, number_in}
 use Rattle.mj_tiles.specs.Counts.{all_kinds, number_of, kind_counts, NoFifth, IsCounts}
 
 -- There are 34 counts.
@@ -27,6 +27,10 @@ number_of-append xs ys kind = sum_by-append (λ tile. cond (eqb (kind_of tile) k
 -- One tile more is one more of its kind.
 pub number_of-push : (tiles : List ℕ) (tile kind : ℕ) → number_of (tiles ++ tile ∷ []) kind ≡ number_of tiles kind + cond (eqb (kind_of tile) kind) 1 0
 number_of-push tiles tile kind = grind (arith, common_steps)
+
+-- And one more of its face.
+pub number_in-push : (tiles : List ℕ) (tile face : ℕ) → number_in (tiles ++ tile ∷ []) face ≡ number_in tiles face + cond (eqb tile face) 1 0
+number_in-push tiles tile face = sum_by_push (λ other. cond (eqb other face) 1 0) tiles tile
 
 -- The counts after one tile more.
 pub kind_counts-push : (tiles : List ℕ) (tile : ℕ) → kind_of tile < 34 →

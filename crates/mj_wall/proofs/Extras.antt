@@ -5,9 +5,9 @@ use Rattle.std.specs.List.{range_with_len}
 use Rattle.std.proofs.lemmas.Bool.{cases_eq, cases_lt, le-ltb, eq-eqb, ne_eqb, leb-false, lt-leb, le-leb}
 use Rattle.std.proofs.lemmas.List.{take_more, drop_more, length-take-le}
 use Rattle.std.proofs.lemmas.List.FromFn.{get_or-map-range_with_len}
-use Rattle.std.proofs.lemmas.List.Sums.{sum_by_push}
 use Rattle.std.proofs.lemmas.List.Elements.{All-nil, All-push}
 use Rattle.mj_tiles.specs.Faces.{number_in, tile_order}
+use Rattle.mj_tiles.proofs.CountSteps.{number_in-push}
 use Rattle.mj_wall.specs.Places.{number_in_wall, first_extra}
 use Rattle.mj_wall.proofs.TileOrder.{total, total-all}
 
@@ -36,14 +36,11 @@ pub record AreWithin (red : Bool) (tiles : List ℕ) : Type 0 where
 pub within-none : (red : Bool) → AreWithin red []
 within-none red = record { known = All-nil (λ t. t < 37); few = λ face. omega arith }
 
-pub number_push : (tiles : List ℕ) (t face : ℕ) → number_in (tiles ++ t ∷ []) face ≡ number_in tiles face + cond (eqb t face) 1 0
-number_push tiles t face = sum_by_push (λ x. cond (eqb x face) 1 0) tiles t
-
 few-push : (red : Bool) (tiles : List ℕ) (t face : ℕ) → number_in tiles t < number_in_wall red t → number_in tiles face ≤ number_in_wall red face →
     number_in (tiles ++ t ∷ []) face ≤ number_in_wall red face
 few-push red tiles t face room before = elim (cases_eq t face) [
-  | inl e ↦ few_same red tiles t face e room (number_push tiles t face) (eq-eqb t face e)
-  | inr n ↦ few_other red tiles t face before (number_push tiles t face) (ne_eqb t face n)
+  | inl e ↦ few_same red tiles t face e room (number_in-push tiles t face) (eq-eqb t face e)
+  | inr n ↦ few_other red tiles t face before (number_in-push tiles t face) (ne_eqb t face n)
 ]
   where
     few_same : (red : Bool) (tiles : List ℕ) (t face : ℕ) → t ≡ face → number_in tiles t < number_in_wall red t →
@@ -155,9 +152,9 @@ left-next red left tiles i t place inside is at below some are = rw (take_at til
     one : (left before : List ℕ) (t face : ℕ) → t < 37 → face < 37 → 0 < get_or left t 0 → AreLeft red left before → (t ≡ face) ⊎ (t ≡ face → ⊥) →
         get_or (set left t (get_or left t 0 - 1)) face 0 + number_in (before ++ t ∷ []) face ≡ number_in_wall red face
     one left before t face below inside some are (inl same) =
-        grind (arith, same, are.each face inside, are.size, some, number_push before t face, eq-eqb t face same, get_or-set_same left t (get_or left t 0 - 1) 0)
+        grind (arith, same, are.each face inside, are.size, some, number_in-push before t face, eq-eqb t face same, get_or-set_same left t (get_or left t 0 - 1) 0)
     one left before t face below inside some are (inr other) =
-        grind (arith, are.each face inside, number_push before t face, ne_eqb t face other, get_or-set_other left t face (get_or left t 0 - 1) 0)
+        grind (arith, are.each face inside, number_in-push before t face, ne_eqb t face other, get_or-set_other left t face (get_or left t 0 - 1) 0)
 
     push : (left before : List ℕ) (t : ℕ) → t < 37 → 0 < get_or left t 0 → AreLeft red left before → AreLeft red (set left t (get_or left t 0 - 1)) (before ++ t ∷ [])
     push left before t below some are = record {

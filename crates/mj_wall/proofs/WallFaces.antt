@@ -8,7 +8,8 @@ use Rattle.std.proofs.lemmas.List.Elements.{All-nil, All-cons, All-head, All-tai
 use Rattle.mj_tiles.specs.Faces.{number_in, tile_order}
 use Rattle.mj_wall.specs.Places.{number_in_wall, first_extra, wrong_length, bad_place_by, bad_place, is_wall}
 use Rattle.mj_wall.proofs.TileOrder.{total, total-all, number-cons, passes_face, known-total}
-use Rattle.mj_wall.proofs.Extras.{AreWithin, none_above, not_found, within-none, within-push, number_push, allowed, allowed-all, total-le}
+use Rattle.mj_tiles.proofs.CountSteps.{number_in-push}
+use Rattle.mj_wall.proofs.Extras.{AreWithin, none_above, not_found, within-none, within-push, allowed, allowed-all, total-le}
 
 -- A wall has 136 tiles.
 pub wall_has_136 : (red : Bool) (wall : List ℕ) → is_wall red wall ≡ true → length wall ≡ 136
@@ -85,7 +86,7 @@ none_extra : (red : Bool) (before tiles : List ℕ) → ((face : ℕ) → number
 none_extra red before [] few = refl
 none_extra red before (t ∷ ts) few =
     let passed = lt-leb (number_in_wall red t) (number_in before t) (room (eqb t t) _ _ _ _ (eq-eqb t t refl) (number-cons t t ts) (few t)) in
-    rw passed (none_extra red (before ++ t ∷ []) ts (λ face. moved _ _ _ _ _ _ (number_push before t face) (number-cons t face ts) (few face)))
+    rw passed (none_extra red (before ++ t ∷ []) ts (λ face. moved _ _ _ _ _ _ (number_in-push before t face) (number-cons t face ts) (few face)))
   where
     room : (b : Bool) (before n m most : ℕ) → b ≡ true → m ≡ cond b 1 0 + n → before + m ≤ most → before < most
     room true before n m most e h k = omega (arith, h, k)
