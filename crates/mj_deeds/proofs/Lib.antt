@@ -6,6 +6,7 @@ pub mod HandSteps
 pub mod Mapped
 pub mod Masked
 pub mod Newest
+pub mod Numbers
 pub mod PointLaws
 pub mod RealTiles
 pub mod RiichiLaws

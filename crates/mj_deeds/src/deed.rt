@@ -2,14 +2,13 @@ ghost use Rattle.std.specs.Prelude.{◌≡◌, IfOk};
 ghost use Rattle.mj_deeds.specs.declared.deed.Deed.TheVariants as deeds;
 
 use crate::bid::Bid;
-use crate::four::Four;
 use crate::hands::Hands;
+use crate::names::Names;
 use crate::reason::Reason;
 use crate::seat_list::SeatList;
 use crate::shown_hands::ShownHands;
 use crate::tiles::Tiles;
 use crate::yaku_list::YakuList;
-use mj_ports::Name;
 use mj_tiles::{Kind, Tile};
 use std::alloc::AllocError;
 
@@ -27,7 +26,7 @@ pub enum Viewer {
 pub enum Deed {
     /// The game starts, with the names of the four seats.
     StartGame {
-        names: Four<Name>,
+        names: Names,
     },
     /// A hand starts: the wind of the round, the dealer's number from 1 on, the honba and the deposits on the table,
     /// the dealer's seat, the first indicator, and the thirteen tiles dealt to each seat, in tile order.
@@ -150,7 +149,7 @@ impl Deed {
         ensures { IfOk result (λ d. d ≡ self.now) }
     {
         match self {
-            Deed::StartGame { names } => Ok(Deed::StartGame { names: *names }),
+            Deed::StartGame { names } => start_game(names),
             Deed::StartHand {
                 round,
                 number,
@@ -275,6 +274,14 @@ impl Deed {
             }),
         }
     }
+}
+
+fn start_game(names: &Names) -> Result<Deed, AllocError>
+    ensures { IfOk result (λ d. d ≡ deeds.StartGame names.now) }
+{
+    Ok(Deed::StartGame {
+        names: names.copy()?,
+    })
 }
 
 fn start_hand(

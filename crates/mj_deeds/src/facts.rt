@@ -21,13 +21,13 @@ pub fn concealed(alloc: Global, deeds: &[Deed], seat: u8) -> Result<Tiles, Alloc
 pub fn river(alloc: Global, deeds: &[Deed], seat: u8) -> Result<Tiles, AllocError>
     ensures { IfOk result (λ t. t ≡ river_tiles deeds.now seat) }
 {
-    let mut tiles = Vec::new(alloc);
+    let mut tiles = Tiles::new(alloc);
     for deed in deeds {
         if let Some(tile) = discarded_by(deed, seat) {
             tiles.push(tile)?;
         }
     }
-    Ok(Tiles::from_vec(tiles))
+    Ok(tiles)
 }
 
 // The tile that a seat discards by a deed; none where the deed is no discard of the seat.

@@ -5,12 +5,18 @@ ghost use Rattle.mj_deeds.specs.Shown.{shown_or_hidden, tiles_shown, number_hidd
 use crate::four::Four;
 use crate::hands::Hands;
 use mj_tiles::Tile;
-use std::alloc::AllocError;
+use std::alloc::{AllocError, Global};
 use std::marker::Model;
 
 /// What is seen of four hands at a draw, in order of the seats 0 to 3: of each its tiles, or how many tiles stay hidden.
 #[derive(Drop)]
 pub struct ShownHands {
+    parts: Box<Parts>,
+}
+
+// The tiles of each hand, and how many stay hidden, where they do.
+#[derive(Drop)]
+struct Parts {
     tiles: Hands,
     hidden: Four<Option<u8>>,
 }
@@ -23,28 +29,29 @@ impl Model for ShownHands {
     ghost Value = { Four Shown };
 
     ghost view = { λ s. record {
-      first = shown_or_hidden s.hidden.first s.tiles.first;
-      second =
-          shown_or_hidden s.hidden.second s.tiles.second;
-      third = shown_or_hidden s.hidden.third
-          s.tiles.third;
-      fourth = shown_or_hidden s.hidden.fourth s.tiles.fourth;
+      first = shown_or_hidden s.parts.value.hidden.first s.parts.value.tiles.first;
+      second = shown_or_hidden s.parts.value.hidden.second s.parts.value.tiles.second;
+      third = shown_or_hidden s.parts.value.hidden.third s.parts.value.tiles.third;
+      fourth = shown_or_hidden s.parts.value.hidden.fourth s.parts.value.tiles.fourth;
     } };
 }
 
 impl ShownHands {
-    /// Of each seat its tiles, or where a number stands for it so many hidden ones.
-    pub fn of(tiles: Hands, hidden: Four<Option<u8>>) -> ShownHands
-        ensures { result ≡ record {
+    /// Of each seat its tiles, or where a number stands for it so many hidden ones. `Err` is running out of memory.
+    pub fn of(
+        alloc: Global,
+        tiles: Hands,
+        hidden: Four<Option<u8>>,
+    ) -> Result<ShownHands, AllocError>
+        ensures { IfOk result (λ s. s ≡ record {
           first = shown_or_hidden hidden.first tiles.first;
-          second =
-              shown_or_hidden hidden.second tiles.second;
-          third = shown_or_hidden hidden.third
-              tiles.third;
+          second = shown_or_hidden hidden.second tiles.second;
+          third = shown_or_hidden hidden.third tiles.third;
           fourth = shown_or_hidden hidden.fourth tiles.fourth;
-        } }
+        }) }
     {
-        ShownHands { tiles, hidden }
+        let parts = Box::new(alloc, Parts { tiles, hidden })?;
+        Ok(ShownHands { parts })
     }
 
     /// How many tiles of a seat, 0 to 3, stay hidden; None exactly where its hand is shown.
@@ -52,7 +59,7 @@ impl ShownHands {
         requires { seat ≤ 3 }
         ensures { result ≡ number_hidden (at_seat self.now seat) }
     {
-        *self.hidden.at(seat)
+        *self.parts.hidden.at(seat)
     }
 
     /// The tiles that are shown of a seat, 0 to 3; none where its hand stays hidden.
@@ -60,8 +67,8 @@ impl ShownHands {
         requires { seat ≤ 3 }
         ensures { result.now ≡ tiles_shown (at_seat self.now seat) }
     {
-        match self.hidden.at(seat) {
-            None => self.tiles.at(seat),
+        match self.parts.hidden.at(seat) {
+            None => self.parts.tiles.at(seat),
             Some(_) => &[],
         }
     }
@@ -70,9 +77,7 @@ impl ShownHands {
     pub fn copy(&self) -> Result<ShownHands, AllocError>
         ensures { IfOk result (λ s. s ≡ self.now) }
     {
-        Ok(ShownHands {
-            tiles: self.tiles.copy()?,
-            hidden: self.hidden,
-        })
+        let alloc = *Box::allocator(&self.parts);
+        ShownHands::of(alloc, self.parts.tiles.copy()?, self.parts.hidden)
     }
 }

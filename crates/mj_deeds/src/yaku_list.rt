@@ -1,26 +1,24 @@
 ghost use Rattle.std.specs.Prelude.{◌≡◌, ◌≤◌, ◌++◌, ◌∷◌, [], All, IfOk, OnOk};
 
-use arrayvec::ArrayVec;
+use crate::small_list::SmallList;
 use std::alloc::{AllocError, Global};
 use std::marker::Model;
 
 /// A list of rows of the table of yaku, 0 to 44, each with its number: the han of a yaku, or the number of dora. Up to
-/// sixteen take no memory.
+/// seven take no memory.
 #[derive(Drop)]
 pub struct YakuList {
-    few: ArrayVec<(u8, u8), 16>,
-    many: Vec<(u8, u8)>,
+    list: SmallList<(u8, u8), 7>,
 }
 
 impl Model for YakuList {
-    ghost use Rattle.std.specs.Prelude.{ℕ, List, ◌++◌};
-    ghost use Rattle.mj_deeds.specs.Inner.Places.{AreRows};
+    ghost use Rattle.std.specs.Prelude.{ℕ, List, ◌≤◌, All};
 
     ghost Value = { List (ℕ × ℕ) };
 
-    ghost view = { λ l. l.few.items ++ l.many.items };
+    ghost view = { λ l. l.list };
 
-    ghost invariant = { λ l. AreRows l.few.items l.many.items };
+    ghost invariant = { λ l. All (λ item. item.0 ≤ 44) l.list };
 }
 
 impl YakuList {
@@ -29,20 +27,20 @@ impl YakuList {
         ensures { result ≡ [] }
     {
         YakuList {
-            few: ArrayVec::new(),
-            many: Vec::new(alloc),
+            list: SmallList::new(alloc, (0, 0)),
         }
     }
 
     /// The list of these rows and numbers. Condition: no row is above 44.
-    pub fn from_vec(items: Vec<(u8, u8)>) -> YakuList
-        requires { All (λ item. item.0 ≤ 44) items.items }
-        ensures { result ≡ items.items }
+    pub fn of(alloc: Global, rows: &[(u8, u8)]) -> Result<YakuList, AllocError>
+        requires { All (λ item. item.0 ≤ 44) rows.now }
+        ensures { IfOk result (λ l. l ≡ rows.now) }
     {
-        YakuList {
-            few: ArrayVec::new(),
-            many: items,
+        let mut list = YakuList::new(alloc);
+        for row in rows {
+            list.push(row.0, row.1)?;
         }
+        Ok(list)
     }
 
     /// Adds a row with its number. Condition: it is no row above 44. `Err` is running out of memory.
@@ -50,15 +48,7 @@ impl YakuList {
         requires { row ≤ 44 }
         ensures { OnOk result (self.new ≡ self.old ++ (row, number) ∷ []) }
     {
-        if self.many.is_empty() {
-            if !self.few.is_full() {
-                self.few.push((row, number));
-                return Ok(());
-            }
-            self.many.extend_from_slice(self.few.as_slice())?;
-            self.few = ArrayVec::new();
-        }
-        self.many.push((row, number))?;
+        self.list.push((row, number))?;
         Ok(())
     }
 
@@ -67,10 +57,7 @@ impl YakuList {
         ensures value { result.now ≡ self.now }
         ensures within { All (λ item. item.0 ≤ 44) self.now }
     {
-        if self.many.is_empty() {
-            return self.few.as_slice();
-        }
-        self.many.as_slice()
+        self.list.as_slice()
     }
 
     /// The same list once more.
@@ -78,8 +65,7 @@ impl YakuList {
         ensures { IfOk result (λ l. l ≡ self.now) }
     {
         Ok(YakuList {
-            few: self.few.clone()?,
-            many: self.many.clone()?,
+            list: self.list.copy()?,
         })
     }
 }

@@ -19,7 +19,7 @@ pub(crate) fn write_public(line: &mut Vec<u8>, deed: &Deed) -> Result<(), AllocE
     match deed {
         Deed::StartGame { names } => {
             line.clear();
-            push_names_line(line, names)
+            push_names_line(line, names.four())
         }
         Deed::StartHand {
             round,

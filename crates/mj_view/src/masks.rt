@@ -18,7 +18,9 @@ pub fn mask(alloc: Global, viewer: Viewer, deed: &Deed) -> Result<Masked, AllocE
     ensures { IfOk result (λ m. m ≡ mask viewer deed.now) }
 {
     match deed {
-        Deed::StartGame { names } => Ok(Masked::StartGame { names: *names }),
+        Deed::StartGame { names } => Ok(Masked::StartGame {
+            names: *names.four(),
+        }),
         Deed::StartHand {
             round,
             number,

@@ -14,7 +14,9 @@ pub fn token(alloc: Global, seat: u8, deed: &Deed) -> Result<Token, AllocError>
     ensures { IfOk result (λ t. t ≡ token seat deed.now) }
 {
     match deed {
-        Deed::StartGame { names } => Ok(Token::StartGame { names: *names }),
+        Deed::StartGame { names } => Ok(Token::StartGame {
+            names: *names.four(),
+        }),
         Deed::StartHand {
             indicator,
             hands,
@@ -136,11 +138,9 @@ fn hand_of(hands: &Hands, seat: u8) -> &[Tile]
 fn start_hand(alloc: Global, indicator: Tile, hand: &[Tile]) -> Result<Token, AllocError>
     ensures { IfOk result (λ t. t ≡ tokens.StartHand indicator hand.now) }
 {
-    let mut tiles = Vec::new(alloc);
-    tiles.extend_from_slice(hand)?;
     Ok(Token::StartHand {
         indicator,
-        hand: Tiles::from_vec(tiles),
+        hand: Tiles::of(alloc, hand)?,
     })
 }
 
