@@ -8,6 +8,7 @@ use Rattle.std.proofs.lemmas.List.Sums.{sum_by-cons}
 use Rattle.mj_lists.proofs.Fronts.{zero_at}
 use Rattle.mj_tiles.specs.Faces.{kind_of, number_in, less, tile_order}
 use Rattle.mj_tiles.specs.Counts.{number_of, has_no_fifth, kind_counts, NoFifth}
+use Rattle.mj_tiles.proofs.CountSteps.{number_in-push}
 use Rattle.mj_tiles.proofs.EachKind.{each_kind}
 use Rattle.mj_wall.proofs.TileOrder.{number-cons, passes_each}
 use Rattle.mj_deeds.specs.declared.deed.Deed.{Deed}
@@ -21,7 +22,6 @@ use Rattle.mj_deeds.proofs.HandSteps.{hand_with}
 use Rattle.mj_deeds.proofs.Totals.{number_more}
 use Rattle.mj_deeds.proofs.Fitted.{Parts, parts_of, past_of, some_hand, of_four, four_of_kind}
 use Rattle.mj_table.proofs.OneMore.{one_counted}
-use Rattle.mj_table.proofs.OneLess.{number_push}
 use Rattle.mj_table.proofs.OneLess.{none_left, some_left}
 use Rattle.mj_table.proofs.Readers.{gained_within, holds_few}
 use Rattle.mj_table.specs.Plays.{Play}
@@ -32,7 +32,7 @@ use Rattle.mj_table.specs.Inner.Kept.{Holds, Moves, tiles_held, held_before}
 
 number_next : (tiles : List ℕ) (i tile face : ℕ) → i < length tiles → tile ≡ get_or tiles i tile → number_in (take (i + 1) tiles) face ≡ number_in (take i tiles) face + cond (eqb tile face) 1 0
 number_next tiles i tile face h is =
-    ap (λ (xs : List ℕ). number_in xs face) (take_more tiles i tile h ∙ ap (λ x. take i tiles ++ x ∷ []) (sym is)) ∙ number_push (take i tiles) tile face
+    ap (λ (xs : List ℕ). number_in xs face) (take_more tiles i tile h ∙ ap (λ x. take i tiles ++ x ∷ []) (sym is)) ∙ number_in-push (take i tiles) tile face
 
 pub more_there : (held now tiles : List ℕ) (i tile place v : ℕ) → i < length tiles → tile ≡ get_or tiles i tile → place ≡ tile → place < length now → v ≡ min (get_or now place 0 + 1) 255 →
     ((face : ℕ) → get_or held face 0 + number_in (take i tiles) face ≤ 255 → get_or now face 0 ≡ get_or held face 0 + number_in (take i tiles) face) →

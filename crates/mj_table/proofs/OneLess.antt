@@ -8,7 +8,7 @@ use Rattle.std.proofs.lemmas.List.Folds.{sum_by-replicate}
 use Rattle.std.proofs.lemmas.List.Sums.{sum_by-append, sum_by-cons}
 use Rattle.mj_tiles.specs.Faces.{kind_of, number_in, less, in_tile_order, tile_order}
 use Rattle.mj_tiles.specs.Counts.{all_kinds, number_of, kind_counts}
-use Rattle.mj_tiles.proofs.CountSteps.{length-kind_counts, get_or-kind_counts}
+use Rattle.mj_tiles.proofs.CountSteps.{length-kind_counts, get_or-kind_counts, number_in-push}
 use Rattle.mj_wall.proofs.TileOrder.{number-cons, passes_each, passes_face, count_by-in_tile_order}
 
 -- A list without its first tile of a face.
@@ -41,9 +41,6 @@ count_without p (t ∷ ts) tile h = elim (cases_eq t tile) [
     behind true n m e h k = cc
     behind false n m e h k = omega (arith, h, k)
 
-pub number_push : (ts : List ℕ) (tile face : ℕ) → number_in (ts ++ tile ∷ []) face ≡ number_in ts face + cond (eqb tile face) 1 0
-number_push ts tile face = grind (arith, common_steps)
-
 -- Where a tile more is put down, the others are left.
 pub less_without : (got gone : List ℕ) (tile : ℕ) → 0 < number_in got tile → less got (gone ++ tile ∷ []) ≡ less (without got tile) gone
 unfolding less
@@ -53,7 +50,7 @@ less_without got gone tile h = λ i. flat_map (λ (face : ℕ). replicate (same 
     diff a b c d x e f = omega (arith, e, f)
 
     same : (face : ℕ) → number_in got face - number_in (gone ++ tile ∷ []) face ≡ number_in (without got tile) face - number_in gone face
-    same face = diff _ _ _ _ (cond (eqb tile face) 1 0) (count_without (λ t. eqb t face) got tile h) (number_push gone tile face)
+    same face = diff _ _ _ _ (cond (eqb tile face) 1 0) (count_without (λ t. eqb t face) got tile h) (number_in-push gone tile face)
 
 -- tiles in tile order
 

@@ -7,11 +7,23 @@ use std::alloc::AllocError;
 
 // The newest deed, and the one before it in its hand, before wins the newest that is none. They stand in two places, and the
 // newest in the second one where these are turned, so that a further deed moves neither.
-#[derive(Drop)]
 pub(crate) struct Latest {
     pub first: Option<Deed>,
     pub second: Option<Deed>,
     pub turned: bool,
+}
+
+// A call of its own, so that where a table is dropped a proof has one way, and not one for each two kinds of deeds.
+impl Drop for Latest {
+    fn drop(self) {
+        let Latest {
+            first,
+            second,
+            turned: _,
+        } = self;
+        drop(first);
+        drop(second);
+    }
 }
 
 impl Latest {
