@@ -181,17 +181,23 @@ reach_judged rules seat view = by_draw (is_own_draw seat view.turn) refl
         ∙ sym (ap (λ b. b && others) draws)
 
 -- A win that the turn offers is asked its own rules alone.
-win_open : (rules : Rules) (seat target : ℕ) (turn : WindowTurn) (accepted : Bool) → is_winning seat turn ≡ true → is_open rules seat turn accepted (Win seat target None) ≡ true
-win_open rules seat target (Drew who) accepted h = ap (λ b. cond b true false) h
-win_open rules seat target (Discarded who tile) accepted h = ap (λ b. cond b false true) (not-true (who == seat) h)
-win_open rules seat target (Added who tile) accepted h = ap (λ b. cond b false true) (not-true (who == seat) h)
-win_open rules seat target (Reached who) accepted h = absurd (false≢true h)
-win_open rules seat target (Called who banned) accepted h = absurd (false≢true h)
-win_open rules seat target Nobodys accepted h = absurd (false≢true h)
+win_open : (rules : Rules) (seat target : ℕ) (tile : Option Pai) (turn : WindowTurn) (accepted : Bool) → is_winning seat turn ≡ true → is_open rules seat turn accepted (Win seat target tile) ≡ true
+win_open rules seat target tile (Drew who) accepted h = ap (λ b. cond b true false) h
+win_open rules seat target tile (Discarded who face) accepted h = ap (λ b. cond b false true) (not-true (who == seat) h)
+win_open rules seat target tile (Added who face) accepted h = ap (λ b. cond b false true) (not-true (who == seat) h)
+win_open rules seat target tile (Reached who) accepted h = absurd (false≢true h)
+win_open rules seat target tile (Called who banned) accepted h = absurd (false≢true h)
+win_open rules seat target tile Nobodys accepted h = absurd (false≢true h)
+
+pub win_decided : (rules : Rules) (seat actor target : ℕ) (tile : Option Pai) (view : SeatView) → actor ≡ seat → is_winning seat view.turn ≡ true →
+    first_broken (drop 3 (questions rules seat view (Win actor target tile))) ≡ broken_by rules seat view (Win actor target tile)
+unfolding broken_by
+win_decided rules seat actor target tile view own offered =
+    let asked : List (Bool × Rule) = questions rules seat view (Win actor target tile) in
+    sym (others_decide (take 3 asked) (drop 3 asked)
+    (refl, (ap not (eq-eqb actor seat own), (ap not (ap (λ (who : ℕ). is_open rules seat view.turn view.accepted (Win who target tile)) own ∙ win_open rules seat target tile view.turn view.accepted offered), tt))))
 
 pub win_judged : (rules : Rules) (seat target : ℕ) (view : SeatView) → is_winning seat view.turn ≡ true →
     is_lawful rules seat view (Win seat target None) ≡ is_none (first_broken (drop 3 (questions rules seat view (Win seat target None))))
-unfolding is_lawful broken_by
-win_judged rules seat target view offered =
-    let asked : List (Bool × Rule) = questions rules seat view (Win seat target None) in
-    ap is_none (others_decide (take 3 asked) (drop 3 asked) (refl, (ap not (eq-eqb seat seat refl), (ap not (win_open rules seat target view.turn view.accepted offered), tt))))
+unfolding is_lawful
+win_judged rules seat target view offered = ap is_none (sym (win_decided rules seat seat target None view refl offered))

@@ -155,6 +155,15 @@ pass_lawful rules seat view = refused_alone (is_open rules seat view.turn view.a
     refused_alone true false = refl
     refused_alone false a = refl
 
+-- A pass that is lawful breaks no rule.
+pub pass_unbroken : (rules : Rules) (seat : ℕ) (view : SeatView) → is_lawful rules seat view (Pass None) ≡ true → None ≡ broken_by rules seat view (Pass None)
+unfolding is_lawful
+pass_unbroken rules seat view h = none_of (broken_by rules seat view (Pass None)) h
+  where
+    none_of : (o : Option Rule) → is_none o ≡ true → None ≡ o
+    none_of None h = refl
+    none_of (Some rule) h = absurd (false≢true h)
+
 -- A discard that is open to the seat breaks at most a rule that comes after.
 discard_open : (rules : Rules) (seat : ℕ) (turn : WindowTurn) (accepted : Bool) (face : Pai) (drawn : Bool) → is_discarding seat turn ≡ true → is_open rules seat turn accepted (Discard seat face drawn) ≡ true
 discard_open rules seat (Drew who) accepted face drawn h = ap (λ b. cond b true false) h
@@ -164,14 +173,19 @@ discard_open rules seat (Discarded who tile) accepted face drawn h = absurd (fal
 discard_open rules seat (Added who tile) accepted face drawn h = absurd (false≢true h)
 discard_open rules seat Nobodys accepted face drawn h = absurd (false≢true h)
 
+-- So the rules of discards decide.
+pub discard_decided : (rules : Rules) (seat actor : ℕ) (view : SeatView) (tile : Pai) (drawn : Bool) → actor ≡ seat → is_discarding seat view.turn ≡ true →
+    first_broken (drop 3 (questions rules seat view (Discard actor tile drawn))) ≡ broken_by rules seat view (Discard actor tile drawn)
+unfolding broken_by
+discard_decided rules seat actor view tile drawn own may =
+    let asked : List (Bool × Rule) = questions rules seat view (Discard actor tile drawn) in
+    sym (others_decide (take 3 asked) (drop 3 asked)
+    (refl, (ap not (eq-eqb actor seat own), (ap not (ap (λ (who : ℕ). is_open rules seat view.turn view.accepted (Discard who tile drawn)) own ∙ discard_open rules seat view.turn view.accepted tile drawn may), tt))))
+
 pub discard_judged : (rules : Rules) (seat actor : ℕ) (view : SeatView) (tile : Pai) (drawn : Bool) → actor ≡ seat → is_discarding seat view.turn ≡ true →
     is_lawful rules seat view (Discard actor tile drawn) ≡ is_none (first_broken (drop 3 (questions rules seat view (Discard actor tile drawn))))
-unfolding is_lawful broken_by
-discard_judged rules seat actor view tile drawn own may =
-    let asked : List (Bool × Rule) = questions rules seat view (Discard actor tile drawn) in
-    ap is_none
-    (others_decide (take 3 asked) (drop 3 asked)
-    (refl, (ap not (eq-eqb actor seat own), (ap not (ap (λ (who : ℕ). is_open rules seat view.turn view.accepted (Discard who tile drawn)) own ∙ discard_open rules seat view.turn view.accepted tile drawn may), tt))))
+unfolding is_lawful
+discard_judged rules seat actor view tile drawn own may = ap is_none (sym (discard_decided rules seat actor view tile drawn own may))
 
 pub no_discards : (rules : Rules) (ds : List Deed) (seat : ℕ) → is_discarding seat (view_of ds seat).turn ≡ false → lawful_among rules ds seat (all_discards seat) ≡ []
 unfolding lawful_among all_discards

@@ -25,4 +25,4 @@ pub use case::{case_of, seat_wind};
 pub use listing::{possible, possible_over};
 pub use measure::is_measured;
 pub use unanswered::{default, discard};
-pub use verdict::judge;
+pub use verdict::{is_lawful, judge};

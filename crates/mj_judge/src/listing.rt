@@ -7,14 +7,13 @@ ghost use Rattle.mj_rules.specs.Possible.{possible, is_lawful, all_discards, all
 ghost use Rattle.mj_judge.specs.Inner.Tried.{lawful_among, is_winning};
 
 use crate::calling::push_calls;
-use crate::discarding::judge_discard;
 use crate::riichi::{is_reach_late, is_reach_open, is_reach_poor, is_reach_unready};
 use crate::turning::{
-    is_discarding, is_own_draw, push_added_kans, push_closed_kans, push_discards,
+    is_discarding, is_own_draw, may_pass, may_win, push_added_kans, push_closed_kans, push_discards,
 };
-use crate::verdict::judge;
+use crate::verdict::is_lawful;
 use crate::winning::judge_winning;
-use mj_deeds::{Answer, Answers, Deed, is_in_form};
+use mj_deeds::{Answer, Answers, Deed};
 use mj_table::Table;
 use std::alloc::{AllocError, Global};
 
@@ -42,6 +41,10 @@ pub fn possible_over(
     ensures { OnOk result (list.new ≡ possible table.now.rules table.now.deeds seat) }
 {
     let mut items = list.take(alloc);
+    if !is_discarding(table, seat) && !may_win(table, seat) {
+        list.set_pass(items);
+        return Ok(());
+    }
     push_discards(table, seat, &mut items)?;
     push_calls(table, seat, &mut items)?;
     push_closed_kans(table, seat, &mut items)?;
@@ -77,14 +80,6 @@ fn set_after_pass(
     items.insert(0, Answer::Pass { actor: None })?;
     *list = Answers::from_vec(items);
     Ok(())
-}
-
-// A pass is open to the seat, and so breaks no rule, in each window in which it has not to discard.
-fn may_pass(table: &Table, seat: u8) -> bool
-    ensures { result ≡ is_lawful table.now.rules seat (view_of table.now.deeds seat)
-        (answers.Pass None) }
-{
-    !is_discarding(table, seat)
 }
 
 // Adds a reach where it is lawful.
@@ -166,18 +161,6 @@ fn push_win(table: &Table, seat: u8, items: &mut Vec<Answer>) -> Result<(), Allo
     }
 }
 
-// The window is on a draw of the seat, or on a tile of another that may be won on.
-fn may_win(table: &Table, seat: u8) -> bool
-    ensures { result ≡ is_winning seat (turn_in (option_map turn_by (newest table.now.deeds))) }
-{
-    match table.newest() {
-        Some(Deed::Draw { seat: who, .. }) => *who == seat,
-        Some(Deed::Discard { seat: who, .. }) => *who != seat,
-        Some(Deed::AddedKan { seat: who, .. }) => *who != seat,
-        _ => false,
-    }
-}
-
 // The same of the seat that gives the tile.
 fn push_win_from(
     table: &Table,
@@ -221,19 +204,4 @@ pub(crate) fn push_lawful(
         }
     }
     Ok(())
-}
-
-// The answer is in form and breaks no rule. A discard in a window in which the seat may discard is asked the rules of discards
-// alone.
-#[tactic(auto, unfolding(mj_rules::specs::Possible::is_lawful))]
-fn is_lawful(table: &Table, seat: u8, answer: &Answer) -> bool
-    requires { seat ≤ 3 }
-    ensures { result ≡ is_lawful table.now.rules seat (view_of table.now.deeds seat) answer.now }
-{
-    match answer {
-        Answer::Discard { actor, tile, drawn } if *actor == seat && is_discarding(table, seat) => {
-            judge_discard(table, seat, tile, *drawn).is_ok()
-        }
-        _ => is_in_form(answer) && judge(table, seat, answer).is_ok(),
-    }
 }

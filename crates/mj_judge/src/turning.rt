@@ -1,12 +1,12 @@
-ghost use Rattle.std.specs.Prelude.{◌≡◌, ◌≤◌, ◌<◌, ◌+◌, ◌++◌, ◌∷◌, [], ℕ, false, min, OnOk, filter, option_map};
+ghost use Rattle.std.specs.Prelude.{◌≡◌, ◌≤◌, ◌<◌, ◌+◌, ◌++◌, ◌∷◌, [], ℕ, false, min, None, OnOk, filter, option_map};
 ghost use Rattle.std.specs.List.{list_any};
 ghost use Rattle.mj_tiles.specs.Faces.{kind_of};
 ghost use Rattle.mj_deeds.specs.declared.answer.Answer.TheVariants as answers;
 ghost use Rattle.mj_deeds.specs.declared.answer.Pai.TheVariants.{Known};
 ghost use Rattle.mj_deeds.specs.Facts.{newest, is_pon};
 ghost use Rattle.mj_rules.specs.View.{view_of, held_count, turn_by, turn_in};
-ghost use Rattle.mj_rules.specs.Possible.{faces_of, discards_of, all_discards, closed_kans_of, all_closed_kans, added_kans_of, all_added_kans, triplets};
-ghost use Rattle.mj_judge.specs.Inner.Tried.{lawful_among, is_own_draw, is_discarding, red_of, red_held};
+ghost use Rattle.mj_rules.specs.Possible.{is_lawful, faces_of, discards_of, all_discards, closed_kans_of, all_closed_kans, added_kans_of, all_added_kans, triplets};
+ghost use Rattle.mj_judge.specs.Inner.Tried.{lawful_among, is_own_draw, is_discarding, is_winning, red_of, red_held};
 
 use crate::calling::{held_of, plain_of, red_of};
 use crate::drawing::push_drawn_discards;
@@ -305,6 +305,26 @@ pub(crate) fn is_discarding(table: &Table, seat: u8) -> bool
         Some(Deed::Reach { seat: who }) => *who == seat,
         Some(Deed::Chi { seat: who, .. }) => *who == seat,
         Some(Deed::Pon { seat: who, .. }) => *who == seat,
+        _ => false,
+    }
+}
+
+// A pass is open to the seat, and so breaks no rule, in each window in which it has not to discard.
+pub(crate) fn may_pass(table: &Table, seat: u8) -> bool
+    ensures { result ≡ is_lawful table.now.rules seat (view_of table.now.deeds seat)
+        (answers.Pass None) }
+{
+    !is_discarding(table, seat)
+}
+
+// The window is on a draw of the seat, or on a tile of another that may be won on.
+pub(crate) fn may_win(table: &Table, seat: u8) -> bool
+    ensures { result ≡ is_winning seat (turn_in (option_map turn_by (newest table.now.deeds))) }
+{
+    match table.newest() {
+        Some(Deed::Draw { seat: who, .. }) => *who == seat,
+        Some(Deed::Discard { seat: who, .. }) => *who != seat,
+        Some(Deed::AddedKan { seat: who, .. }) => *who != seat,
         _ => false,
     }
 }

@@ -3,6 +3,7 @@ ghost use Rattle.std.specs.Result.{result_err};
 ghost use Rattle.mj_deeds.specs.declared.rule.Rule.TheVariants as refusal;
 ghost use Rattle.mj_rules.specs.Broken.{broken_rule, questions, first_broken, is_not_complete, is_furiten_win, is_no_yaku, is_not_nine};
 ghost use Rattle.mj_rules.specs.View.{view_of};
+ghost use Rattle.mj_rules.specs.Possible.{is_lawful};
 
 use crate::discarding::judge_discard;
 use crate::holding::{is_no_such_tile, is_not_drawn, is_not_held};
@@ -16,39 +17,60 @@ use crate::riichi::{
 };
 use crate::sets::is_bad_set;
 use crate::swap::{is_stuck_call, is_swap_call};
+use crate::turning::{is_discarding, may_pass, may_win};
 use crate::winning::{judge_win, judge_winning};
-use mj_deeds::{Answer, Rule};
+use mj_deeds::{Answer, Rule, is_in_form};
 use mj_table::Table;
 
-/// Whether an answer of a seat, 0 to 3, is lawful in the window on the newest deed; the error is the first rule in the
+/// Whether an answer of a seat, 0 to 3, is lawful in the window on the newest deed: it is in form and breaks no rule.
+#[tactic(auto, unfolding(mj_rules::specs::Possible::is_lawful))]
+pub fn is_lawful(table: &Table, seat: u8, answer: &Answer) -> bool
+    requires { seat ≤ 3 }
+    ensures { result ≡ is_lawful table.now.rules seat (view_of table.now.deeds seat) answer.now }
+{
+    match answer {
+        Answer::Pass { actor: None } => may_pass(table, seat),
+        _ => is_in_form(answer) && judge(table, seat, answer).is_ok(),
+    }
+}
+
+/// Whether an answer of a seat, 0 to 3, breaks no rule in the window on the newest deed; the error is the first rule in the
 /// order of refusal that it breaks.
 #[tactic(auto, unfolding(mj_rules::specs::Broken::broken_by))]
 pub fn judge(table: &Table, seat: u8, answer: &Answer) -> Result<(), Rule>
     requires { seat ≤ 3 }
     ensures { result_err result ≡ broken_rule table.now.rules table.now.deeds seat answer.now }
 {
-    refuse_if(is_unreadable(answer), Rule::Unreadable)?;
-    refuse_if(is_not_yours(seat, answer), Rule::NotYours)?;
-    refuse_if(is_not_now(table, seat, answer), Rule::NotNow)?;
-    judge_open(table, seat, answer)
-}
-
-// Refuses an answer that is open to the seat by the first rule that it breaks: a pass breaks none, and a discard and a
-// win only rules of their own.
-fn judge_open(table: &Table, seat: u8, answer: &Answer) -> Result<(), Rule>
-    requires { seat ≤ 3 }
-    ensures { result_err result ≡ first_broken (drop 3 (questions table.now.rules seat
-        (view_of table.now.deeds seat) answer.now)) }
-{
     match answer {
-        Answer::Pass { .. } => Ok(()),
-        Answer::Discard { tile, drawn, .. } => judge_discard(table, seat, tile, *drawn),
-        Answer::Win { target, tile, .. } => judge_winning(table, seat, *target, tile.as_ref()),
-        _ => judge_act(table, seat, answer),
+        Answer::Pass { actor: None } if may_pass(table, seat) => Ok(()),
+        Answer::Discard { actor, tile, drawn } if *actor == seat && is_discarding(table, seat) => {
+            judge_discard(table, seat, tile, *drawn)
+        }
+        Answer::Win {
+            actor,
+            target,
+            tile,
+        } if *actor == seat && may_win(table, seat) => {
+            judge_winning(table, seat, *target, tile.as_ref())
+        }
+        _ => judge_in_order(table, seat, answer),
     }
 }
 
-// The same by all rules, whatever the answer.
+// The same by all rules in their order, whatever the answer: a pass, a discard and a win that are open to the seat are asked rules of
+// their own alone.
+#[tactic(auto, unfolding(mj_rules::specs::Broken::broken_by))]
+fn judge_in_order(table: &Table, seat: u8, answer: &Answer) -> Result<(), Rule>
+    requires { seat ≤ 3 }
+    ensures { result_err result ≡ broken_rule table.now.rules table.now.deeds seat answer.now }
+{
+    refuse_if(is_unreadable(answer), Rule::Unreadable)?;
+    refuse_if(is_not_yours(seat, answer), Rule::NotYours)?;
+    refuse_if(is_not_now(table, seat, answer), Rule::NotNow)?;
+    judge_act(table, seat, answer)
+}
+
+// The same of an answer that is open to the seat.
 fn judge_act(table: &Table, seat: u8, answer: &Answer) -> Result<(), Rule>
     requires { seat ≤ 3 }
     ensures { result_err result ≡ first_broken (drop 3 (questions table.now.rules seat

@@ -126,7 +126,7 @@ fn hands_at_draw(alloc: Global, table: &Table, shown: [bool; 4]) -> Result<Shown
         third,
         fourth,
     });
-    Ok(ShownHands::of(hands, hidden))
+    ShownHands::of(alloc, hands, hidden)
 }
 
 // How many tiles of a hand stay hidden; none where it is shown.

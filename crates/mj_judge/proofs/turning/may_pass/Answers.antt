@@ -1,7 +1,7 @@
 use Rattle.std.proofs.Common.{not, sym, ap, ◌∙◌}
 use Rattle.mj_rules.specs.View.{view_of}
 use Rattle.mj_judge.proofs.Tried.{pass_lawful}
-use Rattle.mj_judge.proofs.listing.may_pass.Goals as goal
+use Rattle.mj_judge.proofs.turning.may_pass.Goals as goal
 
 pub returns : goal.returns
 unfolding view_of
