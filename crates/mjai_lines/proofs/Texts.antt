@@ -1,14 +1,16 @@
 -- Texts that are read.
-use Rattle.std.proofs.Common.{◌≡◌, ◌≤◌, ◌<◌, ◌+◌, ◌-◌, ℕ, Bool, true, false, List, ◌++◌, length, take, drop, Decides, refl, sym, ap, ◌∙◌, arith}
-use Rattle.std.specs.Prelude.{None, IsUtf8, bytes_eq, nat_lt, nat_le, not, ◌==◌, ◌&&◌}
+use Rattle.std.proofs.Common.{◌≡◌, ◌≤◌, ◌<◌, ◌+◌, ◌-◌, ℕ, Bool, true, false, List, [], ◌∷◌, ◌++◌, length, take, drop, get_or, Decides, refl, sym, ap, ◌∙◌, arith}
+use Rattle.std.specs.Prelude.{None, codes, IsUtf8, bytes_eq, nat_lt, nat_le, not, ◌==◌, ◌&&◌}
 use Rattle.std.specs.List.{list_all}
 use Rattle.std.specs.Str.Lossy.{utf8_valid_len}
 use Rattle.std.proofs.lemmas.Str.{utf8_valid_len-IsUtf8, is_utf8-from_IsUtf8}
-use Rattle.std.proofs.lemmas.List.{take-append-drop}
+use Rattle.std.proofs.lemmas.List.{take-append-drop, take_all}
 use Rattle.std.proofs.lemmas.Slice.Eq.{bytes_eq-Decides}
 use Rattle.serde_json.specs.Read.{read}
 use Rattle.mj_ports.specs.Names.{is_name}
 use Rattle.mj_forms.specs.AnswerForms.{value_of}
+use Rattle.mj_forms.specs.Lines.{truth}
+use Rattle.mjai_lines.specs.Inner.Spellings.{mark_text}
 
 -- what is text is read as JSON
 pub value_of_text : (bytes : List ℕ) → IsUtf8 bytes → value_of bytes ≡ read bytes
@@ -53,3 +55,23 @@ pub ended : (text end rest : List ℕ) → (bytes_eq (drop (length text - length
 ended text end rest h =
     let same = (bytes_eq-Decides (drop (length text - length end) text) end).0 h.0 in
     sym (take-append-drop (length text - length end) text) ∙ ap (λ t. take (length text - length end) text ++ t) same ∙ ap (λ t. t ++ end) (sym h.1)
+
+-- Three letters before a quotation mark.
+pub quoted_three : (text : List ℕ) → get_or text 3 0 ≡ 34 → 4 ≤ length text → text ≡ take 3 text ++ 34 ∷ take (length text - 4) (drop 4 text)
+quoted_three (a ∷ b ∷ c ∷ d ∷ rest) mark many = λ i. a ∷ b ∷ c ∷ mark i ∷ sym (take_all (length (a ∷ b ∷ c ∷ d ∷ rest) - 4) rest (omega arith)) i
+quoted_three (a ∷ b ∷ c ∷ []) mark many = absurd (omega (arith, many))
+quoted_three (a ∷ b ∷ []) mark many = absurd (omega (arith, many))
+quoted_three (a ∷ []) mark many = absurd (omega (arith, many))
+quoted_three [] mark many = absurd (omega (arith, many))
+
+-- The mark that a discard ends with, by its key and its value.
+pub mark_ends : (text named rest value : List ℕ) (drawn : Bool) → text ≡ named ++ 34 ∷ rest → rest ≡ codes ",\"tsumogiri\":" ++ value → value ≡ truth drawn ++ codes "}" → text ≡ named ++ mark_text drawn
+mark_ends text named rest value true parts key ends = parts ∙ ap (λ t. named ++ 34 ∷ t) (key ∙ ap (λ t. codes ",\"tsumogiri\":" ++ t) ends)
+mark_ends text named rest value false parts key ends = parts ∙ ap (λ t. named ++ 34 ∷ t) (key ∙ ap (λ t. codes ",\"tsumogiri\":" ++ t) ends)
+
+-- A line by its type and what stands behind that.
+pub typed_alone : (line text rest name : List ℕ) → line ≡ codes "{\"type\":\"" ++ text → text ≡ name ++ rest → rest ≡ codes "}" → line ≡ codes "{\"type\":\"" ++ (name ++ codes "}")
+typed_alone line text rest name key type closing = key ∙ ap (λ t. codes "{\"type\":\"" ++ t) (type ∙ ap (λ t. name ++ t) closing)
+
+pub typed : (line text rest behind name : List ℕ) → line ≡ codes "{\"type\":\"" ++ text → text ≡ name ++ rest → rest ≡ codes ",\"actor\":" ++ behind → line ≡ codes "{\"type\":\"" ++ (name ++ (codes ",\"actor\":" ++ behind))
+typed line text rest behind name key type actor = key ∙ ap (λ t. codes "{\"type\":\"" ++ t) (type ∙ ap (λ t. name ++ t) actor)

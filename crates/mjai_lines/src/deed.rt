@@ -117,7 +117,7 @@ fn push_deed(line: &mut Vec<u8>, viewer: Viewer, deed: &Deed) -> Result<(), Allo
     ensures { OnOk result (Adds line.old.items line.new.items (line_for viewer deed.now)) }
 {
     match deed {
-        Deed::StartGame { names } => push_start_game(line, seat_in_line(viewer), names),
+        Deed::StartGame { names } => push_start_game(line, seat_in_line(viewer), names.four()),
         Deed::StartHand {
             round,
             number,

@@ -1,9 +1,10 @@
-use Rattle.mjai_lines.specs.Inner.Spellings.{discard_front, tile_front}
+use Rattle.std.proofs.Common.{ap, ◌∙◌, ◌++◌}
+use Rattle.std.specs.Prelude.{codes}
 use Rattle.mjai_lines.proofs.Spellings.{discard_read}
-use Rattle.mjai_lines.proofs.Texts.{begun}
+use Rattle.mjai_lines.proofs.Texts.{typed}
 use Rattle.mjai_lines.proofs.usual.usual_discard.Goals as goal
 
 pub returns : goal.returns
 returns c =
-    discard_read _ _ _ _ _ _ _ _ (begun _ discard_front _ c.in_ok-rest.ensures.cases) c.in_ok-actor.ensures
-    (begun _ tile_front _ c.in_ok-rest-2.ensures.cases) c.in_ok-text.ensures c.in_ok-tile.ensures
+    discard_read _ _ _ _ _ _ _ _ (typed _ _ _ _ (codes "dahai\"") c.in_ok-rest.ensures c.in_ok-rest-2.ensures c.in_ok-rest-3.ensures) c.in_ok-actor.ensures
+    c.in_ok-rest-4.ensures c.in_ok-text.ensures c.in_ok-tile.ensures
