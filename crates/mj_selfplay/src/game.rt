@@ -10,7 +10,7 @@ ghost use Rattle.mj_selfplay.specs.Inner.Supplies.{game_walls};
 use crate::supply::{enough_walls, first_walls};
 use crate::tally::{Summary, Tally};
 use mj_bot::choose;
-use mj_deeds::{Answer, Deed, Four};
+use mj_deeds::{Answer, Deed, Four, Names};
 use mj_machine::next;
 use mj_ports::Name;
 use mj_table::Table;
@@ -40,7 +40,7 @@ fn seed(number: u64) -> [u8; 32]
 fn play(alloc: Global, seed: [u8; 32]) -> Result<Summary, AllocError>
     ensures { IfOk result (λ summary. IsSummary self_rules (game_walls seed) summary) }
 {
-    let mut table = started()?;
+    let mut table = started(alloc)?;
     play_on(alloc, seed, &mut table)
 }
 
@@ -50,7 +50,8 @@ fn play_on(alloc: Global, seed: [u8; 32], table: &mut Table) -> Result<Summary, 
     ensures { IfOk result (λ summary. IsSummary self_rules (game_walls seed) summary) }
 {
     let mut walls = first_walls(alloc, seed)?;
-    let mut tally = Tally::none().with(start());
+    let begun = start(alloc)?;
+    let mut tally = Tally::none().with(begun);
     while goes_on(table) {
         walls = enough_walls(alloc, seed, walls, tally.hands)?;
         let deed = step(alloc, table, &walls)?;
@@ -61,12 +62,13 @@ fn play_on(alloc: Global, seed: [u8; 32], table: &mut Table) -> Result<Summary, 
 
 // A table on which the game has started.
 #[tactic(auto, unfolding(crate::specs::SelfGame::self_rules))]
-fn started() -> Result<Table, AllocError>
+fn started(alloc: Global) -> Result<Table, AllocError>
     ensures { IfOk result (λ table. table
         ≡ record { rules = self_rules; deeds = self_start ∷ [] }) }
 {
     let mut table = Table::new(rules())?;
-    table.push(&start())?;
+    let begun = start(alloc)?;
+    table.push(&begun)?;
     Ok(table)
 }
 
@@ -123,15 +125,16 @@ fn rules() -> Rules
 
 // The start of the game.
 #[tactic(auto, unfolding(crate::specs::SelfGame::self_start))]
-fn start() -> Deed
-    ensures { result ≡ self_start }
+fn start(alloc: Global) -> Result<Deed, AllocError>
+    ensures { IfOk result (λ deed. deed ≡ self_start) }
 {
-    Deed::StartGame {
-        names: Four {
-            first: Name::of(b"a"),
-            second: Name::of(b"b"),
-            third: Name::of(b"c"),
-            fourth: Name::of(b"d"),
-        },
-    }
+    let names = Four {
+        first: Name::of(b"a"),
+        second: Name::of(b"b"),
+        third: Name::of(b"c"),
+        fourth: Name::of(b"d"),
+    };
+    Ok(Deed::StartGame {
+        names: Names::of(alloc, names)?,
+    })
 }

@@ -17,7 +17,7 @@ with-tally-requires-clause-draws c = (tally_few c.none.result [] c.none.ensures)
 
 pub loop-alloc-init : goal.loop-alloc-init
 loop-alloc-init c =
-    (c.in_ok-walls.ensures, begins (game_walls c.args.seed) c.args.table.now c.none.result c.with-tally.result c.start.result c.requires c.none.ensures c.start.ensures c.with-tally.ensures)
+    (c.in_ok-walls.ensures, begins (game_walls c.args.seed) c.args.table.now c.none.result c.with-tally.result c.in_ok-begun.begun c.requires c.none.ensures c.in_ok-begun.ensures c.with-tally.ensures)
 
 pub step-requires-clause-played : goal.step-requires-clause-played
 step-requires-clause-played c =
