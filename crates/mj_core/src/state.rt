@@ -15,7 +15,7 @@ ghost use Rattle.mj_core.specs.Inner.Verdicts.{verdict_given};
 use crate::chair::Chair;
 use crate::verdict::Verdict;
 use crate::window::{answers_in, slots_after};
-use mj_deeds::{Answer, Answers, Deed, Four};
+use mj_deeds::{Answer, Answers, Deed, Four, Names};
 use mj_judge::possible_over;
 use mj_machine::next;
 use mj_ports::{JoinLine, Name};
@@ -37,8 +37,8 @@ const DEEDS: usize = 512;
 // So it then lacks the newest deed alone, and becomes the same by that one.
 #[derive(Drop)]
 pub struct State {
-    table: Table,
-    spare: Table,
+    table: Box<Table>,
+    spare: Box<Table>,
     // the spare table lacks the newest deed alone; else it may have any deeds
     is_behind: bool,
     deeds: Vec<Deed>,
@@ -56,15 +56,15 @@ impl Model for State {
     ghost Value = { Position };
 
     ghost view = { λ s. record {
-      rules = s.table.rules;
+      rules = s.table.value.rules;
       deeds = s.deeds.items;
       desk = s.desk;
       players = s.chairs.items;
       slots = s.window;
     } };
 
-    ghost invariant = { λ s. AreKept s.table.rules s.table.deeds s.streams s.deeds.items s.desk
-        s.chairs.items s.is_behind s.spare };
+    ghost invariant = { λ s. AreKept s.table.value.rules s.table.value.deeds s.streams s.deeds.items
+        s.desk s.chairs.items s.is_behind s.spare.value };
 }
 
 impl State {
@@ -75,8 +75,8 @@ impl State {
         let deeds = Vec::with_capacity(alloc, DEEDS)?;
         let chairs = Vec::with_capacity(alloc, 4)?;
         let streams = Streams::new(alloc)?;
-        let table = Table::new(rules)?;
-        let spare = table.copy()?;
+        let table = Box::new(alloc, Table::new(rules)?)?;
+        let spare = Box::new(alloc, Table::new(rules)?)?;
         Ok(State {
             table,
             spare,
@@ -171,9 +171,8 @@ impl State {
         let mut desk = self.desk;
         desk.sit(join);
         if desk.held() == 4 {
-            let deed = Deed::StartGame {
-                names: names(&desk),
-            };
+            let seated = Names::of(alloc, names(&desk))?;
+            let deed = Deed::StartGame { names: seated };
             self.table.copy_over(&mut self.spare)?;
             self.spare.push(&deed)?;
             list_possible(alloc, &self.spare, &mut self.lists)?;
@@ -244,8 +243,7 @@ impl State {
             self.settle_here(alloc, setting, seat, chair, &window)?;
             return Ok(verdict);
         }
-        let desk = desk_after(&self.desk, &verdict, seat);
-        self.settle(alloc, setting, seat, &desk, chair, &window)?;
+        self.settle_closing(alloc, setting, seat, &verdict, chair, &window)?;
         Ok(verdict)
     }
 
@@ -304,6 +302,28 @@ impl State {
         self.desk = *desk;
         self.window = *window;
         Ok(())
+    }
+
+    // The same of a seat whose answer is refused for good, so that it leaves the desk.
+    fn settle_closing(
+        &mut self,
+        alloc: Global,
+        setting: &Setting,
+        seat: u8,
+        verdict: &Verdict,
+        chair: Chair,
+        window: &Window,
+    ) -> Result<(), AllocError>
+        requires present { is_present_at self.old.desk seat ≡ true }
+        requires can { CanSettle setting.now self.old seat
+            (desk_after (verdict_given verdict.now) self.old.desk seat) chair window.now }
+        ensures ok { OnOk result (Settles setting.now
+            (changed self.old (desk_after (verdict_given verdict.now) self.old.desk seat)
+            (slice_set self.old.players seat chair) window.now) self.new) }
+        ensures err { OnErr result (self.new ≡ self.old) }
+    {
+        let desk = desk_after(&self.desk, verdict, seat);
+        self.settle(alloc, setting, seat, &desk, chair, window)
     }
 
     // The same of a seat that stays at the desk as it is.

@@ -1,4 +1,5 @@
-use Rattle.std.proofs.Common.{arith, ◌∙◌}
+use Rattle.std.proofs.Common.{arith, refl, ◌∙◌}
+use Rattle.mj_core.specs.Inner.States.{desk_after}
 use Rattle.mj_core.specs.Inner.Verdicts.{verdict_given}
 use Rattle.mj_core.specs.contracts.state.State.{the_view}
 use Rattle.mj_core.proofs.Pieces.{due-within, present-at-desk}
@@ -38,13 +39,14 @@ go_on-requires-clause-refused c =
       read = c.index.ensures;
     })
 
-pub desk_after-desk-requires : goal.desk_after-desk-requires
-desk_after-desk-requires c = present-at-desk (the_view c.self.inside) c.args.seat c.self.invariant.seated (rw (← c.self.view_is) at c.requires.present)
+pub settle_closing-requires-clause-present : goal.settle_closing-requires-clause-present
+settle_closing-requires-clause-present c =
+    rw (← c.self.view_is) (present-at-desk (the_view c.self.inside) c.args.seat c.self.invariant.seated (rw (← c.self.view_is) at c.requires.present))
 
 pub settle_here-requires : goal.settle_here-requires
 settle_here-requires c =
     rw (← c.self.view_is)
-    (hear-settles c.args.setting.now (the_view c.self.inside) c.self.inside.table.deeds c.args.seat c.from.result c.len.result c.args.answer.now c.index.result.now c.go_on.new.self (verdict_given c.verdict-verdict.result) c.self.inside.desk c.slots_after-window.result
+    (hear-settles c.args.setting.now (the_view c.self.inside) c.self.inside.table.value.deeds c.args.seat c.from.result c.len.result c.args.answer.now c.index.result.now c.go_on.new.self (verdict_given c.verdict-verdict.result) c.self.inside.desk c.slots_after-window.result
     (record {
       can = rw (← c.self.view_is) at c.requires;
       told_is = c.self.invariant.same;
@@ -55,7 +57,7 @@ settle_here-requires c =
         read = c.index.ensures;
       };
       many_is = c.len.ensures ∙ c.self.inside.deeds.ok.0;
-      judged = c.verdict-verdict.ensures;
+      judged = rw c.deref.ensures at c.verdict-verdict.ensures;
       on = c.go_on.ensures;
       desk_is = c.is_closing.ensures c.if-not-is_closing.true c.self.inside.desk c.args.seat;
       slots_is = c.slots_after-window.ensures;
@@ -64,7 +66,7 @@ settle_here-requires c =
 pub returns-then-not-is_closing-clause-ok : goal.returns-then-not-is_closing-clause-ok
 returns-then-not-is_closing-clause-ok c =
     rw (← c.self.view_is)
-    (hear-hears c.args.setting.now (the_view c.self.inside) c.settle_here.new.self c.self.inside.table.deeds c.args.seat c.from.result c.len.result c.args.answer.now c.index.result.now c.go_on.new.self (verdict_given c.verdict-verdict.result) c.self.inside.desk c.slots_after-window.result
+    (hear-hears c.args.setting.now (the_view c.self.inside) c.settle_here.new.self c.self.inside.table.value.deeds c.args.seat c.from.result c.len.result c.args.answer.now c.index.result.now c.go_on.new.self (verdict_given c.verdict-verdict.result) c.self.inside.desk c.slots_after-window.result
     (record {
       can = rw (← c.self.view_is) at c.requires;
       told_is = c.self.invariant.same;
@@ -75,17 +77,17 @@ returns-then-not-is_closing-clause-ok c =
         read = c.index.ensures;
       };
       many_is = c.len.ensures ∙ c.self.inside.deeds.ok.0;
-      judged = c.verdict-verdict.ensures;
+      judged = rw c.deref.ensures at c.verdict-verdict.ensures;
       on = c.go_on.ensures;
       desk_is = c.is_closing.ensures c.if-not-is_closing.true c.self.inside.desk c.args.seat;
       slots_is = c.slots_after-window.ensures;
     })
     (rw (← c.self.view_is) at c.in_ok-settle_here.ensures.ok))
 
-pub settle-requires : goal.settle-requires
-settle-requires c =
+pub settle_closing-requires-clause-can : goal.settle_closing-requires-clause-can
+settle_closing-requires-clause-can c =
     rw (← c.self.view_is)
-    (hear-settles c.args.setting.now (the_view c.self.inside) c.self.inside.table.deeds c.args.seat c.from.result c.len.result c.args.answer.now c.index.result.now c.go_on.new.self (verdict_given c.verdict-verdict.result) c.desk_after-desk.result c.slots_after-window.result
+    (hear-settles c.args.setting.now (the_view c.self.inside) c.self.inside.table.value.deeds c.args.seat c.from.result c.len.result c.args.answer.now c.index.result.now c.go_on.new.self (verdict_given c.verdict-verdict.result) (desk_after (verdict_given c.verdict-verdict.result) c.self.inside.desk c.args.seat) c.slots_after-window.result
     (record {
       can = rw (← c.self.view_is) at c.requires;
       told_is = c.self.invariant.same;
@@ -96,16 +98,16 @@ settle-requires c =
         read = c.index.ensures;
       };
       many_is = c.len.ensures ∙ c.self.inside.deeds.ok.0;
-      judged = c.verdict-verdict.ensures;
+      judged = rw c.deref.ensures at c.verdict-verdict.ensures;
       on = c.go_on.ensures;
-      desk_is = c.desk_after-desk.ensures;
+      desk_is = refl;
       slots_is = c.slots_after-window.ensures;
     }))
 
 pub returns-clause-ok : goal.returns-clause-ok
 returns-clause-ok c =
     rw (← c.self.view_is)
-    (hear-hears c.args.setting.now (the_view c.self.inside) c.settle.new.self c.self.inside.table.deeds c.args.seat c.from.result c.len.result c.args.answer.now c.index.result.now c.go_on.new.self (verdict_given c.verdict-verdict.result) c.desk_after-desk.result c.slots_after-window.result
+    (hear-hears c.args.setting.now (the_view c.self.inside) c.settle_closing.new.self c.self.inside.table.value.deeds c.args.seat c.from.result c.len.result c.args.answer.now c.index.result.now c.go_on.new.self (verdict_given c.verdict-verdict.result) (desk_after (verdict_given c.verdict-verdict.result) c.self.inside.desk c.args.seat) c.slots_after-window.result
     (record {
       can = rw (← c.self.view_is) at c.requires;
       told_is = c.self.invariant.same;
@@ -116,9 +118,9 @@ returns-clause-ok c =
         read = c.index.ensures;
       };
       many_is = c.len.ensures ∙ c.self.inside.deeds.ok.0;
-      judged = c.verdict-verdict.ensures;
+      judged = rw c.deref.ensures at c.verdict-verdict.ensures;
       on = c.go_on.ensures;
-      desk_is = c.desk_after-desk.ensures;
+      desk_is = refl;
       slots_is = c.slots_after-window.ensures;
     })
-    (rw (← c.self.view_is) at c.in_ok-settle.ensures.ok))
+    (rw (← c.self.view_is) at c.in_ok-settle_closing.ensures.ok))

@@ -10,4 +10,4 @@ returns c =
     rw (← c.self.view_is)
     (c.line.ensures
     ∙ ap (λ (lines : Four (List (List ℕ))). slice_get (at_seat lines c.args.seat) c.args.k) c.self.invariant.lines
-    ∙ ap (λ (lines : List (List ℕ)). slice_get lines c.args.k) (lines_of_seat c.self.inside.table.rules c.self.inside.deeds.items c.args.seat c.requires))
+    ∙ ap (λ (lines : List (List ℕ)). slice_get lines c.args.k) (lines_of_seat c.self.inside.table.value.rules c.self.inside.deeds.items c.args.seat c.requires))

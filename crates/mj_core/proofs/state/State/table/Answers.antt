@@ -1,4 +1,4 @@
-use Rattle.std.proofs.Common.{◌≡◌, List, ap}
+use Rattle.std.proofs.Common.{◌≡◌, ◌∙◌, List}
 use Rattle.mj_deeds.specs.declared.deed.Deed.{Deed}
 use Rattle.mj_table.specs.Plays.{Play}
 use Rattle.mj_core.proofs.state.State.table.Goals as goal
@@ -7,4 +7,4 @@ table_of : (table : Play) (deeds : List Deed) → table.deeds ≡ deeds → tabl
 table_of table deeds same = λ i. record { rules = table.rules; deeds = same i }
 
 pub returns : goal.returns
-returns c = rw (← c.self.view_is) (table_of c.self.inside.table c.self.inside.deeds.items c.self.invariant.same)
+returns c = rw (← c.self.view_is) (c.deref.ensures ∙ (table_of c.self.inside.table.value c.self.inside.deeds.items c.self.invariant.same))
