@@ -10,7 +10,7 @@ use Rattle.mj_deeds.specs.declared.deed.Deed.TheVariants.{StartGame}
 use Rattle.mj_deeds.specs.declared.deed.Viewer.TheVariants.{Record}
 use Rattle.mj_forms.specs.Lines.{line, quoted, bracketed, start_game_line}
 use Rattle.mj_replay.specs.Inner.Fields.{quoted_at, and_rest}
-use Rattle.mj_replay.specs.Inner.Deeds.{deed_in, deed_by, small_by, name_of, name_field, start_game_in}
+use Rattle.mj_replay.specs.Inner.Deeds.{deed_in, deed_by, name_of, name_field, start_game_in}
 use Rattle.mj_replay.specs.Inner.Laws.{GameStartsAreRead}
 use Rattle.mj_replay.proofs.Shapes.{group5, four_shape}
 use Rattle.mj_replay.proofs.FieldLaws.{not_true, behind_key, quoted_read}
@@ -55,7 +55,7 @@ start_game_fields a b c d rest ha hb hc hd =
 
 pub game_starts : (a b c d : List ℕ) → is_name a ≡ true → is_name b ≡ true → is_name c ≡ true → is_name d ≡ true →
     deed_in (line Record (StartGame (record { first = a; second = b; third = c; fourth = d }))) ≡ Some (StartGame (record { first = a; second = b; third = c; fourth = d }))
-unfolding start_game_line deed_in deed_by small_by quoted_at
+unfolding start_game_line deed_in deed_by quoted_at
 game_starts a b c d ha hb hc hd =
     ap (λ zero. deed_in (codes "{\"type\":\"start_game\",\"id\":" ++ zero ++ codes ",\"names\":" ++ bracketed (quoted a ∷ quoted b ∷ quoted c ∷ quoted d ∷ []) ++ codes "}\n")) (decimal_digit 0 (lit< tt))
     ∙ ap deed_in (group5 (codes "{\"type\":\"start_game\",\"id\":") (codes "0") (codes ",\"names\":") (bracketed (quoted a ∷ quoted b ∷ quoted c ∷ quoted d ∷ [])) (codes "}\n"))

@@ -489,15 +489,15 @@ small_ok kind text =
     (choose Value (bytes_eq kind (codes "reach")) _ _ (reach_ok text)
     (choose Value (bytes_eq kind (codes "reach_accepted")) _ _ (reach_accepted_ok text)
     (choose Value (bytes_eq kind (codes "end_kyoku")) _ _ (something Value EndHand refl)
-    (choose Value (bytes_eq kind (codes "end_game")) _ _ (end_game_ok text)
-    (choose Value (bytes_eq kind (codes "start_game")) _ _ (start_game_ok text) (nothing Value)))))))))))))
+    (choose Value (bytes_eq kind (codes "end_game")) _ _ (end_game_ok text) (nothing Value))))))))))))
 
 deed_by_ok : (kind text : List ℕ) → IfRead (deed_by kind text) Value
 unfolding deed_by
 deed_by_ok kind text =
     choose Value (bytes_eq kind (codes "start_kyoku")) _ _ (start_hand_ok text)
     (choose Value (bytes_eq kind (codes "hora")) _ _ (win_ok text)
-    (choose Value (bytes_eq kind (codes "ryukyoku")) _ _ (drawn_hand_ok text) (small_ok kind text)))
+    (choose Value (bytes_eq kind (codes "ryukyoku")) _ _ (drawn_hand_ok text)
+    (choose Value (bytes_eq kind (codes "start_game")) _ _ (start_game_ok text) (small_ok kind text))))
 
 deed_ok : (text : List ℕ) → IfRead (deed_in text) Value
 unfolding deed_in

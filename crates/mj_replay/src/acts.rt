@@ -1,4 +1,4 @@
-//! Draws, discards, reaches, indicators and ends of a record, and the deeds that have no list of tiles.
+//! Draws, discards, reaches, indicators and ends of a record, and the deeds that take no memory.
 
 ghost use Rattle.std.specs.Prelude.{◌≡◌};
 ghost use Rattle.mj_replay.specs.Inner.Deeds.{small_by, draw_in, discard_in, dora_in, reach_in, end_game_in};
@@ -6,10 +6,9 @@ ghost use Rattle.mj_replay.specs.Inner.Deeds.{small_by, draw_in, discard_in, dor
 use crate::calls::{added_kan_in, call_in, closed_kan_in};
 use crate::fields::{byte_field, points_field, tile_field, truth_field, word_field};
 use crate::reaches::reach_accepted_in;
-use crate::starts::start_game_in;
 use mj_deeds::Deed;
 
-/// The deed of a kind that has no list of tiles, read from the fields after it.
+/// The deed of a kind that takes no memory, read from the fields after it.
 #[tactic(auto, unfolding(crate::specs::Inner::Deeds::small_by))]
 pub(crate) fn small_by(kind: &[u8], fields: &[u8]) -> Option<Deed>
     ensures { result ≡ small_by kind.now fields.now }
@@ -49,9 +48,6 @@ pub(crate) fn small_by(kind: &[u8], fields: &[u8]) -> Option<Deed>
     }
     if kind == b"end_game".as_slice() {
         return end_game_in(fields);
-    }
-    if kind == b"start_game".as_slice() {
-        return start_game_in(fields);
     }
     None
 }

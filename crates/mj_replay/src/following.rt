@@ -6,7 +6,7 @@ ghost use Rattle.mj_wall.specs.Places.{is_wall};
 ghost use Rattle.mj_deeds.specs.Facts.{newest};
 ghost use Rattle.mj_deeds.specs.declared.deed.Viewer.TheVariants.{Record};
 ghost use Rattle.mj_rules.specs.Outcome.{goes_on};
-ghost use Rattle.mj_rules.specs.Played.{IsPlayed, IsLawful, AllLawful};
+ghost use Rattle.mj_rules.specs.Played.{IsPlayed, AllLawful};
 ghost use Rattle.mj_forms.specs.Lines.{line as line_for};
 ghost use Rattle.mj_replay.specs.Inner.Deeds.{deed_in};
 ghost use Rattle.mj_replay.specs.Inner.Usual.{deed_of};
@@ -16,8 +16,8 @@ use crate::checking::Cause;
 use crate::reading::deed_in;
 use crate::told::{act_told, told};
 use crate::usual::{Act, act_in, has_line_of};
-use mj_deeds::{Answer, Deed, Four, Viewer, is_in_form};
-use mj_judge::judge;
+use mj_deeds::{Answer, Deed, Four, Viewer};
+use mj_judge::is_lawful;
 use mj_machine::next;
 use mj_table::Table;
 use mj_wall::Wall;
@@ -203,6 +203,7 @@ fn follows_by(
 }
 
 // Whether each of the four answers is lawful.
+#[tactic(auto, unfolding(mj_rules::specs::Possible::is_lawful))]
 fn are_lawful(table: &Table, answers: &Four<Answer>) -> bool
     ensures { IsTrue result ↔ AllLawful table.now.rules table.now.deeds answers.now }
 {
@@ -210,13 +211,6 @@ fn are_lawful(table: &Table, answers: &Four<Answer>) -> bool
         && is_lawful(table, 1, &answers.second)
         && is_lawful(table, 2, &answers.third)
         && is_lawful(table, 3, &answers.fourth)
-}
-
-fn is_lawful(table: &Table, seat: u8, answer: &Answer) -> bool
-    requires { seat ≤ 3 }
-    ensures { IsTrue result ↔ IsLawful table.now.rules table.now.deeds seat answer.now }
-{
-    is_in_form(answer) && judge(table, seat, answer).is_ok()
 }
 
 // Puts a start of a game with four different names on the table, which has no deed; says whether the deed that was read of
@@ -250,6 +244,7 @@ fn has_different_names(deed: &Deed) -> bool
 {
     match deed {
         Deed::StartGame { names } => {
+            let names = names.four();
             let first = names.first.as_slice();
             let second = names.second.as_slice();
             let third = names.third.as_slice();

@@ -8,6 +8,7 @@ use crate::acts::small_by;
 use crate::fields::quoted_at;
 use crate::hands::start_hand_in;
 use crate::results::{drawn_hand_in, win_in};
+use crate::starts::start_game_in;
 use mj_bytes::strip;
 use mj_deeds::Deed;
 use std::alloc::{AllocError, Global};
@@ -39,6 +40,9 @@ fn deed_by(alloc: Global, kind: &[u8], fields: &[u8]) -> Result<Option<Deed>, Al
     }
     if kind == b"ryukyoku".as_slice() {
         return drawn_hand_in(alloc, fields);
+    }
+    if kind == b"start_game".as_slice() {
+        return start_game_in(alloc, fields);
     }
     Ok(small_by(kind, fields))
 }

@@ -64,9 +64,9 @@ fn win_with(
     let Some(rest) = rows_field(rest, b",\"yakus\":", &mut yaku)? else {
         return Ok(None);
     };
-    let unders = Tiles::from_vec(unders);
-    let hand = Tiles::from_vec(hand);
-    let yaku = YakuList::from_vec(yaku);
+    let unders = Tiles::of(alloc, unders.as_slice())?;
+    let hand = Tiles::of(alloc, hand.as_slice())?;
+    let yaku = YakuList::of(alloc, yaku.as_slice())?;
     Ok(win_by(seat, target, tile, unders, hand, yaku, rest))
 }
 
@@ -173,7 +173,8 @@ fn drawn_with(alloc: Global, reason: Reason, text: &[u8]) -> Result<Option<Deed>
         third: c,
         fourth: d,
     };
-    Ok(drawn_by(reason, ShownHands::of(tiles, hidden), rest))
+    let hands = ShownHands::of(alloc, tiles, hidden)?;
+    Ok(drawn_by(reason, hands, rest))
 }
 
 // The drawn hand with its reason and what is shown, and what stands after these.

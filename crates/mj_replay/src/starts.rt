@@ -4,19 +4,33 @@ ghost use Rattle.std.specs.Prelude.{◌≡◌, ◌==◌, ◌&&◌, not, nat_le, 
 ghost use Rattle.std.specs.List.{list_all};
 ghost use Rattle.std.specs.Str.{is_utf8};
 ghost use Rattle.mj_ports.specs.Names.{is_name};
+ghost use Rattle.mj_deeds.specs.declared.deed.Deed.TheVariants.{StartGame};
 ghost use Rattle.mj_replay.specs.Inner.Deeds.{name_of, name_field, kind_field, start_game_in};
 
 use crate::fields::{quoted_at, tile_field};
 use mj_bytes::strip;
-use mj_deeds::{Deed, Four};
+use mj_deeds::{Deed, Four, Names};
 use mj_ports::Name;
 use mj_tiles::Kind;
+use std::alloc::{AllocError, Global};
 use std::str;
 
 /// The start of a game, read from the fields after its type.
+pub(crate) fn start_game_in(alloc: Global, fields: &[u8]) -> Result<Option<Deed>, AllocError>
+    ensures { IfOk result (λ deed. deed ≡ start_game_in fields.now) }
+{
+    match names_in(fields) {
+        Some(names) => Ok(Some(Deed::StartGame {
+            names: Names::of(alloc, names)?,
+        })),
+        None => Ok(None),
+    }
+}
+
+// The names of the four seats in these fields.
 #[tactic(auto, unfolding(crate::specs::Inner::Deeds::start_game_in))]
-pub(crate) fn start_game_in(fields: &[u8]) -> Option<Deed>
-    ensures { result ≡ start_game_in fields.now }
+fn names_in(fields: &[u8]) -> Option<Four<Name>>
+    ensures { start_game_in fields.now ≡ option_map StartGame result }
 {
     let Some((first, rest)) = name_field(fields, b",\"id\":0,\"names\":[") else {
         return None;
@@ -30,13 +44,11 @@ pub(crate) fn start_game_in(fields: &[u8]) -> Option<Deed>
     let Some((fourth, _)) = name_field(rest, b",") else {
         return None;
     };
-    Some(Deed::StartGame {
-        names: Four {
-            first,
-            second,
-            third,
-            fourth,
-        },
+    Some(Four {
+        first,
+        second,
+        third,
+        fourth,
     })
 }
 

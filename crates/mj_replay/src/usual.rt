@@ -23,14 +23,16 @@ pub(crate) enum Act {
     Discard { seat: u8, tile: Tile, drawn: bool },
 }
 
-/// The draw or the discard whose line a text is; none where it is another line, or one of a seat above 3.
+/// The draw or the discard whose line a text is; none where it is another line, or one of a seat above 3. Which of them it may
+/// be is seen by the first letter of its type.
 pub(crate) fn act_in(line: &[u8]) -> Option<Act>
     ensures line { IfSome result (λ act. IsLineOf line.now (deed_of act)) }
     ensures read { IfSome result (λ act. deed_in line.now ≡ Some (deed_of act)) }
 {
-    match draw_in(line) {
-        Some(act) => Some(act),
-        None => discard_in(line),
+    match line {
+        [_, _, _, _, _, _, _, _, _, b't', ..] => draw_in(line),
+        [_, _, _, _, _, _, _, _, _, b'd', ..] => discard_in(line),
+        _ => None,
     }
 }
 
@@ -136,9 +138,24 @@ fn face_first(text: &[u8]) -> Option<(u8, &[u8])>
     ensures within { IfSome result (λ x. x.0 < 37) }
     ensures parts { IfSome result (λ x. text.now ≡ text_of x.0 ++ 34 ∷ x.1.now) }
 {
-    let (name, rest) = split_at_first(text, b'"')?;
+    let (name, rest) = name_first(text)?;
     let tile = Tile::read(name)?;
     Some((tile.face(), rest))
+}
+
+// The text before the first quotation mark, as that of a tile is, and what stands after the mark. One of one letter or two, as
+// most are, is seen without a search.
+fn name_first(text: &[u8]) -> Option<(&[u8], &[u8])>
+    ensures { IfSome result (λ x. text.now ≡ x.0.now ++ 34 ∷ x.1.now) }
+{
+    match text {
+        [_, b'"', rest @ ..] => Some((&text[..1], rest)),
+        [_, _, b'"', rest @ ..] => Some((&text[..2], rest)),
+        _ => {
+            let (name, rest) = split_at_first(text, b'"')?;
+            Some((name, rest))
+        }
+    }
 }
 
 // The end of the line of a draw.

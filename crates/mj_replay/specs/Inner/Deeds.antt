@@ -254,7 +254,7 @@ drawn_with reason text =
 unfoldable pub drawn_hand_in : List ℕ → Option Deed
 drawn_hand_in text = option_and_then (λ reason. drawn_with reason.0 reason.1) (reason_at text)
 
--- The deed of a kind that has no list of tiles.
+-- The deed of a kind that takes no memory.
 unfoldable pub small_by : List ℕ → List ℕ → Option Deed
 small_by kind text =
     if bytes_eq kind (codes "tsumo") then draw_in text else
@@ -268,15 +268,15 @@ small_by kind text =
     (if bytes_eq kind (codes "reach") then reach_in text else
     (if bytes_eq kind (codes "reach_accepted") then reach_accepted_in text else
     (if bytes_eq kind (codes "end_kyoku") then Some EndHand else
-    (if bytes_eq kind (codes "end_game") then end_game_in text else
-    (if bytes_eq kind (codes "start_game") then start_game_in text else None))))))))))))
+    (if bytes_eq kind (codes "end_game") then end_game_in text else None)))))))))))
 
 -- The deed of a kind.
 unfoldable pub deed_by : List ℕ → List ℕ → Option Deed
 deed_by kind text =
     if bytes_eq kind (codes "start_kyoku") then start_hand_in text else
     (if bytes_eq kind (codes "hora") then win_in text else
-    (if bytes_eq kind (codes "ryukyoku") then drawn_hand_in text else small_by kind text))
+    (if bytes_eq kind (codes "ryukyoku") then drawn_hand_in text else
+    (if bytes_eq kind (codes "start_game") then start_game_in text else small_by kind text)))
 
 -- The deed that a line tells, where it tells one.
 unfoldable pub deed_in : List ℕ → Option Deed

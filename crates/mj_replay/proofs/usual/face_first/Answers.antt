@@ -7,4 +7,4 @@ use Rattle.mj_replay.proofs.usual.face_first.Goals as goal
 pub returns-clause-parts : goal.returns-clause-parts
 returns-clause-parts c =
     let named : face_of c.in_ok-name.name.now ≡ Some c.face.result = search rules in
-    c.in_ok-name.ensures.parts ∙ ap (λ t. t ++ 34 ∷ c.in_ok-name.rest.now) (text_of-face_of _ _ named).1
+    c.in_ok-name.ensures ∙ ap (λ t. t ++ 34 ∷ c.in_ok-name.rest.now) (text_of-face_of _ _ named).1
