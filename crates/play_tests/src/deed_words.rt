@@ -9,7 +9,7 @@
 
 use crate::words::{fields, kind, number, points, tile, tiles, truths, words};
 use mj_deeds::{
-    Answer, Bid, Deed, Four, Hands, Pai, Reason, SeatList, ShownHands, Tiles, YakuList,
+    Answer, Bid, Deed, Four, Hands, Names, Pai, Reason, SeatList, ShownHands, Tiles, YakuList,
 };
 use mj_ports::Name;
 use std::alloc::Global;
@@ -21,7 +21,7 @@ pub(crate) fn deed(alloc: Global, line: &str) -> Option<Deed> {
     }
     let words = words(line);
     match words[0] {
-        "game" => Some(start_game()),
+        "game" => start_game(alloc),
         "draw" => draw(&words, false),
         "replace" => draw(&words, true),
         "discard" | "cut" | "closed" | "added" => deed_by_itself(&words),
@@ -63,7 +63,7 @@ fn win(alloc: Global, fields: &[&str; 8]) -> Option<Deed> {
         seat,
         target,
         tile,
-        unders: Tiles::from_vec(Vec::new(alloc)),
+        unders: Tiles::new(alloc),
         hand: tiles(alloc, fields[7])?,
         yaku,
         fu,
@@ -87,10 +87,9 @@ fn worth(hand: &str) -> (u8, u8, u32) {
 /// A hand that is shown was drawn and has pinfu and tanyao.
 fn yaku(alloc: Global, hand: &str) -> Option<YakuList> {
     if hand.is_empty() {
-        return Some(YakuList::from_vec(Vec::new(alloc)));
+        return Some(YakuList::new(alloc));
     }
-    let rows = [(3, 1), (4, 1), (6, 1)].to_vec(alloc).ok()?;
-    Some(YakuList::from_vec(rows))
+    YakuList::of(alloc, &[(3, 1), (4, 1), (6, 1)]).ok()
 }
 
 /// At most two seats.
@@ -110,7 +109,7 @@ fn drawn_hand(alloc: Global, fields: &[&str; 8]) -> Option<Deed> {
     let hands = first_hand(alloc, fields[5])?;
     Some(Deed::DrawnHand {
         reason: reason(fields[4]),
-        hands: ShownHands::of(hands, hidden(fields[6])),
+        hands: ShownHands::of(alloc, hands, hidden(fields[6])).ok()?,
         ready,
         deltas,
         points,
@@ -153,15 +152,16 @@ pub(crate) fn reason(text: &str) -> Reason {
     }
 }
 
-fn start_game() -> Deed {
-    Deed::StartGame {
-        names: Four {
-            first: Name::of(b"a"),
-            second: Name::of(b"b"),
-            third: Name::of(b"c"),
-            fourth: Name::of(b"d"),
-        },
-    }
+fn start_game(alloc: Global) -> Option<Deed> {
+    let names = Four {
+        first: Name::of(b"a"),
+        second: Name::of(b"b"),
+        third: Name::of(b"c"),
+        fourth: Name::of(b"d"),
+    };
+    Some(Deed::StartGame {
+        names: Names::of(alloc, names).ok()?,
+    })
 }
 
 fn start_hand(alloc: Global, fields: &[&str; 8]) -> Option<Deed> {

@@ -2,9 +2,10 @@ use crate::deed_words::deed;
 use crate::play::meld;
 use crate::words::{are, number, tile, tiles, words};
 use mj_deeds::{
-    Deed, Four, Hands, Pai, Tiles, YakuList, concealed, is_call, is_hand_start, is_kan, melds,
-    next_seat, ordered, river, seat_of_kan,
+    Deed, Four, Hands, Names, Pai, ShownHands, Tiles, YakuList, concealed, is_call, is_hand_start,
+    is_kan, melds, next_seat, ordered, river, seat_of_kan,
 };
+use mj_ports::Name;
 use mj_tiles::Tile;
 use std::alloc::{AllocError, Global};
 
@@ -80,11 +81,10 @@ fn deeds_tell_what_a_seat_has(rt: HostRuntime) {
 
 /// Whether a list keeps tiles in their order, and stands so in tile order.
 fn stand_so(alloc: Global, text: &str, wanted: &str) -> Option<bool> {
-    let mut items = Vec::new(alloc);
+    let mut list = Tiles::new(alloc);
     for word in text.split_whitespace() {
-        items.push(tile(word)?).ok()?;
+        list.push(tile(word)?).ok()?;
     }
-    let list = Tiles::from_vec(items);
     let sorted = Tiles::sorted(alloc, list.as_slice()).ok()?;
     Some(are(list.as_slice(), text) && are(sorted.as_slice(), wanted))
 }
@@ -114,7 +114,7 @@ fn keeps_so_many(alloc: Global, number: usize) -> Result<bool, AllocError> {
 
 #[test]
 fn a_list_of_tiles_has_no_bound(rt: HostRuntime) -> Result<(), AllocError> {
-    for number in [0, 16, 17, 18, 19, 40] {
+    for number in [0, 12, 13, 14, 15, 40] {
         assert!(rt; keeps_so_many(rt.alloc(), number)?, "{number}");
     }
     Ok(())
@@ -142,6 +142,57 @@ fn stand_at_their_seats(alloc: Global, texts: [&str; 4]) -> Option<bool> {
 fn each_seat_has_its_own_hand(rt: HostRuntime) {
     let texts = ["123m", "055p", "", "EESC"];
     assert!(rt; stand_at_their_seats(rt.alloc(), texts) == Some(true));
+}
+
+/// Whether the first hand and the last are shown, the others hidden, and so in a copy.
+fn are_shown(alloc: Global, texts: [&str; 4]) -> Option<bool> {
+    let hands = Hands::from_four(Four {
+        first: tiles(alloc, texts[0])?,
+        second: tiles(alloc, texts[1])?,
+        third: tiles(alloc, texts[2])?,
+        fourth: tiles(alloc, texts[3])?,
+    });
+    let hidden = Four {
+        first: None,
+        second: Some(13),
+        third: Some(0),
+        fourth: None,
+    };
+    let shown = ShownHands::of(alloc, hands, hidden).ok()?;
+    let copied = shown.copy().ok()?;
+    let (first, last) = (tiles(alloc, texts[0])?, tiles(alloc, texts[3])?);
+    for hands in [&shown, &copied] {
+        let numbers = [hands.hidden(0), hands.hidden(1), hands.hidden(2)];
+        let are_hidden = hands.at(1).is_empty() && hands.at(2).is_empty();
+        let are_seen = hands.at(0) == first.as_slice() && hands.at(3) == last.as_slice();
+        if numbers != [None, Some(13), Some(0)] || !are_hidden || !are_seen {
+            return Some(false);
+        }
+    }
+    Some(true)
+}
+
+#[test]
+fn each_hand_is_shown_or_hidden(rt: HostRuntime) {
+    let texts = ["123m", "055p", "", "EESC"];
+    assert!(rt; are_shown(rt.alloc(), texts) == Some(true));
+}
+
+#[test]
+fn each_seat_has_its_own_name(rt: HostRuntime) -> Result<(), AllocError> {
+    let four = Four {
+        first: Name::of(b"a"),
+        second: Name::of(b"b"),
+        third: Name::of(b"c"),
+        fourth: Name::of(b"d"),
+    };
+    let names = Names::of(rt.alloc(), four)?;
+    let copied = names.copy()?;
+    for seat in 0..4 {
+        assert!(rt; names.four().at(seat) == four.at(seat));
+        assert!(rt; copied.four().at(seat) == four.at(seat));
+    }
+    Ok(())
 }
 
 #[test]
@@ -198,7 +249,7 @@ fn a_hidden_tile_is_not_known(rt: HostRuntime) {
 
 #[test]
 fn a_list_keeps_its_rows(rt: HostRuntime) -> Result<(), AllocError> {
-    let list = YakuList::from_vec([(3, 1), (28, 2)].to_vec(rt.alloc())?);
+    let list = YakuList::of(rt.alloc(), &[(3, 1), (28, 2)])?;
     assert!(rt; list.as_slice() == [(3, 1), (28, 2)].as_slice());
     Ok(())
 }
@@ -219,7 +270,7 @@ fn keeps_rows(alloc: Global, number: u8) -> Result<bool, AllocError> {
 
 #[test]
 fn a_list_of_rows_has_no_bound(rt: HostRuntime) -> Result<(), AllocError> {
-    for number in [0, 15, 16, 17, 45] {
+    for number in [0, 6, 7, 8, 45] {
         assert!(rt; keeps_rows(rt.alloc(), number)?, "{number}");
     }
     Ok(())

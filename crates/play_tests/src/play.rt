@@ -9,7 +9,7 @@ use crate::safety::why;
 use crate::words::{are, counts, kind, kinds, number, points, tile, tile_or_none, words, yes};
 use mj_bot::choose;
 use mj_deeds::{Answer, Deed, Reason, Rule};
-use mj_judge::{case_of, default, judge, possible};
+use mj_judge::{case_of, default, is_lawful, judge, possible};
 use mj_readings::Riichi;
 use mj_table::Table;
 use mj_tiles::{Form, Kinds, Meld, Tile};
@@ -341,9 +341,10 @@ fn judges(table: &Table, line: &str, told: &str) -> Option<bool> {
     let Some(answer) = answer(line) else {
         return None;
     };
+    let stands = is_lawful(table, seat, &answer);
     match judge(table, seat, &answer) {
-        Ok(()) => Some(told == "lawful"),
-        Err(broken_rule) => Some(rule(broken_rule) == told),
+        Ok(()) => Some(stands && told == "lawful"),
+        Err(broken_rule) => Some(!stands && rule(broken_rule) == told),
     }
 }
 

@@ -1,6 +1,6 @@
 //! A hand that is played half, whose answers are judged.
 
-use mj_deeds::{Answer, Deed, Four, Hands, Pai};
+use mj_deeds::{Answer, Deed, Four, Hands, Names, Pai};
 use mj_judge::judge;
 use mj_ports::Name;
 use mj_safe::{has_to_discard, safe};
@@ -25,7 +25,7 @@ pub fn half_played(alloc: Global) -> Result<Table, AllocError> {
 }
 
 fn play_half(alloc: Global, table: &mut Table) -> Result<(), AllocError> {
-    add(table, start_of_game())?;
+    add(table, start_of_game(alloc)?)?;
     if let Some(round) = Kind::of(27) {
         add(table, start_of_hand(alloc, round)?)?;
     }
@@ -86,15 +86,16 @@ fn placed(place: u8) -> Tile {
     tile(place / 4)
 }
 
-pub fn start_of_game() -> Deed {
-    Deed::StartGame {
-        names: Four {
-            first: Name::of(b"a"),
-            second: Name::of(b"b"),
-            third: Name::of(b"c"),
-            fourth: Name::of(b"d"),
-        },
-    }
+pub fn start_of_game(alloc: Global) -> Result<Deed, AllocError> {
+    let names = Four {
+        first: Name::of(b"a"),
+        second: Name::of(b"b"),
+        third: Name::of(b"c"),
+        fourth: Name::of(b"d"),
+    };
+    Ok(Deed::StartGame {
+        names: Names::of(alloc, names)?,
+    })
 }
 
 fn start_of_hand(alloc: Global, round: Kind) -> Result<Deed, AllocError> {

@@ -37,7 +37,7 @@ pub fn awaited(alloc: Global) -> Result<Table, AllocError> {
 }
 
 fn play_to_it(alloc: Global, table: &mut Table) -> Result<(), AllocError> {
-    add(table, start_of_game())?;
+    add(table, start_of_game(alloc)?)?;
     if let Some(round) = Kind::of(27) {
         add(table, start_of_hand(alloc, round)?)?;
     }

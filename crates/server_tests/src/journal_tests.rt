@@ -136,7 +136,6 @@ fn a_journal_stands_in_a_file(rt: HostRuntime) -> Result<(), Fail> {
     match opened(alloc, &mut disk) {
         Ok(mut kept) => {
             assert!(rt; matches!(kept.sit(&mut disk, 1, JOIN), Answered::Done(_)));
-            drop(kept);
         }
         Err(_) => return Err("a new file opens".into()),
     }
@@ -152,7 +151,6 @@ fn a_journal_stands_in_a_file(rt: HostRuntime) -> Result<(), Fail> {
                 )
             );
             assert!(rt; entries(&kept) == Some(2));
-            drop(kept);
         }
         Err(_) => return Err("the file opens again".into()),
     }
