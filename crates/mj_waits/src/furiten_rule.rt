@@ -57,10 +57,21 @@ pub fn misses_some(
     if is_completed_by(counts, melds, own) {
         return true;
     }
-    if is_completed_by(counts, melds, passed) {
+    if misses_passed(counts, melds, passed) {
         return true;
     }
-    is_completed_by(counts, melds, passed_in_riichi)
+    misses_passed(counts, melds, passed_in_riichi)
+}
+
+/// Whether one of the kinds that a seat let pass completes its hand. Mostly it let none pass, and then nothing is asked of the hand.
+fn misses_passed(counts: &Counts, melds: u8, passed: Kinds) -> bool
+    ensures { result ≡ list_any (λ kind. has_kind passed kind && is_completing counts.now melds kind)
+        all_kinds }
+{
+    if passed.is_empty() {
+        return false;
+    }
+    is_completed_by(counts, melds, passed)
 }
 
 /// Whether the kind is a wait that the seat missed.
