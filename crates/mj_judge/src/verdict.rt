@@ -30,7 +30,9 @@ pub fn is_lawful(table: &Table, seat: u8, answer: &Answer) -> bool
 {
     match answer {
         Answer::Pass { actor: None } => may_pass(table, seat),
-        _ => is_in_form(answer) && judge(table, seat, answer).is_ok(),
+        Answer::Discard { .. } => is_in_form(answer) && judge(table, seat, answer).is_ok(),
+        Answer::Win { .. } => is_in_form(answer) && judge(table, seat, answer).is_ok(),
+        _ => is_in_form(answer) && judge_in_order(table, seat, answer).is_ok(),
     }
 }
 
