@@ -1,10 +1,10 @@
 -- Texts that are read.
-use Rattle.std.proofs.Common.{◌≡◌, ◌≤◌, ◌<◌, ◌+◌, ◌-◌, ℕ, Bool, true, false, List, [], ◌∷◌, ◌++◌, length, take, drop, get_or, Decides, refl, sym, ap, ◌∙◌, arith}
+use Rattle.std.proofs.Common.{◌≡◌, ◌≤◌, ◌<◌, ◌+◌, ◌-◌, ℕ, Bool, true, false, List, [], ◌∷◌, ◌++◌, length, take, drop, Decides, refl, sym, ap, ◌∙◌, arith}
 use Rattle.std.specs.Prelude.{None, codes, IsUtf8, bytes_eq, nat_lt, nat_le, not, ◌==◌, ◌&&◌}
 use Rattle.std.specs.List.{list_all}
 use Rattle.std.specs.Str.Lossy.{utf8_valid_len}
 use Rattle.std.proofs.lemmas.Str.{utf8_valid_len-IsUtf8, is_utf8-from_IsUtf8}
-use Rattle.std.proofs.lemmas.List.{take-append-drop, take_all}
+use Rattle.std.proofs.lemmas.List.{take-append-drop}
 use Rattle.std.proofs.lemmas.Slice.Eq.{bytes_eq-Decides}
 use Rattle.serde_json.specs.Read.{read}
 use Rattle.mj_ports.specs.Names.{is_name}
@@ -55,14 +55,6 @@ pub ended : (text end rest : List ℕ) → (bytes_eq (drop (length text - length
 ended text end rest h =
     let same = (bytes_eq-Decides (drop (length text - length end) text) end).0 h.0 in
     sym (take-append-drop (length text - length end) text) ∙ ap (λ t. take (length text - length end) text ++ t) same ∙ ap (λ t. t ++ end) (sym h.1)
-
--- Three letters before a quotation mark.
-pub quoted_three : (text : List ℕ) → get_or text 3 0 ≡ 34 → 4 ≤ length text → text ≡ take 3 text ++ 34 ∷ take (length text - 4) (drop 4 text)
-quoted_three (a ∷ b ∷ c ∷ d ∷ rest) mark many = λ i. a ∷ b ∷ c ∷ mark i ∷ sym (take_all (length (a ∷ b ∷ c ∷ d ∷ rest) - 4) rest (omega arith)) i
-quoted_three (a ∷ b ∷ c ∷ []) mark many = absurd (omega (arith, many))
-quoted_three (a ∷ b ∷ []) mark many = absurd (omega (arith, many))
-quoted_three (a ∷ []) mark many = absurd (omega (arith, many))
-quoted_three [] mark many = absurd (omega (arith, many))
 
 -- The mark that a discard ends with, by its key and its value.
 pub mark_ends : (text named rest value : List ℕ) (drawn : Bool) → text ≡ named ++ 34 ∷ rest → rest ≡ codes ",\"tsumogiri\":" ++ value → value ≡ truth drawn ++ codes "}" → text ≡ named ++ mark_text drawn

@@ -67,8 +67,10 @@ fn next_tile(text: &[u8]) -> Option<(Option<Tile>, &[u8])>
     ensures { MatchOption result (IsOneField text.now) (λ x. BeginsWithTile text.now x.0 x.1.now) }
 {
     match text {
+        [b'1'..=b'9', b'm', b' ', rest @ ..] => Some((Tile::read(&text[..2]), rest)),
+        [b'1'..=b'9', b'p', b' ', rest @ ..] => Some((Tile::read(&text[..2]), rest)),
+        [b'1'..=b'9', b's', b' ', rest @ ..] => Some((Tile::read(&text[..2]), rest)),
         [b'A'..=b'Z', b' ', rest @ ..] => Some((Tile::read(&text[..1]), rest)),
-        [b'1'..=b'9', b'm'..=b's', b' ', rest @ ..] => Some((Tile::read(&text[..2]), rest)),
         _ => {
             let (field, rest) = split_space(text)?;
             Some((Tile::read(field), rest))

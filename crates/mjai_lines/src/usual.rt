@@ -7,6 +7,7 @@ ghost use Rattle.mj_forms.specs.Lines.{truth};
 ghost use Rattle.mjai_lines.specs.Inner.Spellings.{BeginsWithSeat, tile_front, mark_text};
 
 use crate::answer::pai_of;
+use mj_bytes::split_at_first;
 use mj_deeds::Answer;
 
 // The answer of a line in its usual spelling; none where it is spelled in another way.
@@ -197,16 +198,12 @@ fn usual_pon(line: &[u8]) -> Option<Answer>
     None
 }
 
-// A text of one letter to three before a quotation mark, as that of a tile is, and what stands after the mark.
+// The text before the first quotation mark, as that of a tile is, and what stands after the mark.
 fn text_first(text: &[u8]) -> Option<(&[u8], &[u8])>
     ensures { IfSome result (λ x. text.now ≡ x.0.now ++ 34 ∷ x.1.now) }
 {
-    match text {
-        [_, b'"', rest @ ..] => Some((&text[..1], rest)),
-        [_, _, b'"', rest @ ..] => Some((&text[..2], rest)),
-        [_, _, _, b'"', rest @ ..] => Some((&text[..3], rest)),
-        _ => None,
-    }
+    let (first, rest) = split_at_first(text, b'"')?;
+    Some((first, rest))
 }
 
 // The seat that a text begins with, and the rest after it.
