@@ -28,7 +28,7 @@ use std::alloc::{AllocError, Global};
 use std::marker::Model;
 
 // For so many entries there is room from the start.
-const ENTRIES: usize = 2_048;
+const ENTRIES: usize = 8_192;
 
 /// One game: what it is played with, and all that was entered so far.
 #[derive(Drop)]

@@ -29,7 +29,7 @@ use std::marker::Model;
 use std::mem;
 
 // For so many deeds there is room from the start.
-const DEEDS: usize = 512;
+const DEEDS: usize = 2_048;
 
 // What the entries of a game come to: the deeds so far, the table that they make and the lines that the seats are told of
 // them, the seats as they are held and how far each has come, and the window on the newest deed. A second table stands by: a
