@@ -1,10 +1,10 @@
 -- The end of a window, said by three fields and by other numbers of fields.
-use Rattle.std.proofs.Common.{◌≡◌, ℕ, ◌^◌, ◌<◌, List, [], ◌∷◌, true, refl, ap, sym}
-use Rattle.std.specs.Prelude.{Option, Some, None, option_map, option_and_then, nat_lt}
+use Rattle.std.proofs.Common.{◌≡◌, ℕ, zero, suc, ◌+◌, ◌^◌, ◌<◌, Bool, List, [], ◌∷◌, ◌++◌, true, refl, ap, sym, ◌∙◌}
+use Rattle.std.specs.Prelude.{Option, Some, None, codes, if◌then◌else◌, option_map, option_and_then, nat_lt}
 use Rattle.std.proofs.Common.{arith}
 use Rattle.std.proofs.lemmas.Bool.Decides.{nat_tests}
 use Rattle.mj_bytes.specs.Numbers.{decimal_of}
-use Rattle.mj_history.specs.Arrivals.{NoForm, Expire, expire_form, numbers_in}
+use Rattle.mj_history.specs.Arrivals.{NoForm, Say, Expire, expire_form, numbers_in, is_short, form_by, form_of}
 use Rattle.mjai_lines.specs.Settings.{three_of}
 
 -- other numbers of fields say no end of a window
@@ -49,3 +49,18 @@ expire_form_of_three texts a b c window t1 t2 h f g k below =
     rw (three_texts texts a b c h, ← f, ← g, ← k, small)
 
 pub ruleset expiries = (expire_form_of_others, expire_form_of_three)
+
+-- A line that a seat says, in its shortest spelling.
+pub say_is : (line said : List ℕ) (seat : ℕ) → seat < 4 → line ≡ codes "say " ++ (48 + seat) ∷ 32 ∷ said → is_short said ≡ true → Say seat said ≡ form_of line
+unfolding form_of form_by
+say_is line said seat few is short = by_seat seat few ∙ ap form_of (sym is)
+  where
+    kept : (seat : ℕ) → Say seat said ≡ (if is_short said then Say seat said else NoForm)
+    kept seat = ap (λ (b : Bool). if b then Say seat said else NoForm) (sym short)
+
+    by_seat : (seat : ℕ) → seat < 4 → Say seat said ≡ form_of (codes "say " ++ (48 + seat) ∷ 32 ∷ said)
+    by_seat zero few = kept 0
+    by_seat (suc zero) few = kept 1
+    by_seat (suc (suc zero)) few = kept 2
+    by_seat (suc (suc (suc zero))) few = kept 3
+    by_seat (suc (suc (suc (suc n)))) few = absurd (omega (arith, few))

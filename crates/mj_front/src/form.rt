@@ -1,6 +1,6 @@
 //! The forms that a line of the arrivals may have.
 
-ghost use Rattle.std.specs.Prelude.{◌≡◌, ◌<◌, ◌^◌, IfOk};
+ghost use Rattle.std.specs.Prelude.{◌≡◌, ◌<◌, ◌^◌, ◌+◌, ◌++◌, ◌∷◌, IfOk, IfSome, codes};
 ghost use Rattle.std.specs.Option.{SomeIff, option_map_or};
 ghost use Rattle.mj_bytes.specs.Numbers.{decimal_of};
 ghost use Rattle.mj_bytes.specs.Parts.{fields, parted};
@@ -43,9 +43,29 @@ pub(crate) fn read_form(alloc: Global, line: &[u8]) -> Result<ArrivalForm<'_>, A
     ensures form { IfOk result (λ form. meaning form ≡ form_of line.now) }
     ensures limit { IfOk result (λ form. HasLimit form) }
 {
+    if let Some((seat, said)) = say_first(line) {
+        if said.len() <= LINE_LIMIT {
+            let seat = u64::from(seat);
+            return Ok(ArrivalForm::Say { seat, line: said });
+        }
+    }
     match split_space(line) {
         Some((word, text)) => form_by(alloc, word, text),
         None => Ok(ArrivalForm::NoForm),
+    }
+}
+
+// The seat and the line of a seat that says one, as most arrivals do: these are seen byte by byte.
+fn say_first(line: &[u8]) -> Option<(u8, &[u8])>
+    ensures within { IfSome result (λ x. x.0 < 4) }
+    ensures parts { IfSome result (λ x. line.now ≡ codes "say " ++ (48 + x.0) ∷ 32 ∷ x.1.now) }
+{
+    match line {
+        [b's', b'a', b'y', b' ', digit @ b'0'..=b'3', b' ', said @ ..] => Some((
+            *digit - b'0',
+            said,
+        )),
+        _ => None,
     }
 }
 

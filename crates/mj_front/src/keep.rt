@@ -14,7 +14,7 @@ ghost use Rattle.mj_front.specs.Statuses.{keep_status};
 ghost use Rattle.mj_front.specs.Faults.{CountsReadFaults, CountsWriteFaults, CountsDiskFaults};
 
 use crate::base::{Base, Founded, read_base};
-use crate::input::LONGEST;
+use crate::input::{LONGEST, with_room};
 use crate::intake::End;
 use crate::keeping::{AllNoted, keep_lines};
 use crate::watched::Watched;
@@ -61,7 +61,7 @@ pub(crate) fn keep_of<S: Source, K: Sink, D: Disk>(
     ensures disk { CountsDiskFaults (keep_status result) (D.disk_faults disk.old)
         (D.disk_faults disk.new) }
 {
-    let mut input = Vec::new(alloc);
+    let mut input = with_room(alloc);
     match read_all(source, LONGEST, &mut input) {
         ReadAll::Whole => keep_input(alloc, seat, input.as_slice(), sink, disk),
         ReadAll::Fault => KeepEnd::ReadFault,

@@ -8,7 +8,7 @@ ghost use Rattle.mj_front.specs.Inner.Observing.{WritesView};
 ghost use Rattle.mj_front.specs.Statuses.{replay_status};
 ghost use Rattle.mj_front.specs.Faults.{CountsReadFaults, CountsWriteFaults};
 
-use crate::input::LONGEST;
+use crate::input::{LONGEST, with_room};
 use crate::replay::ReplayEnd;
 use mj_links::{ReadAll, Sink, Source, WriteAll, read_all, write_all};
 use mj_observe::Observer;
@@ -29,7 +29,7 @@ pub(crate) fn observe_of<S: Source, K: Sink>(
     ensures writes { CountsWriteFaults (replay_status result) (K.write_faults sink.old)
         (K.write_faults sink.new) }
 {
-    let mut input = Vec::new(alloc);
+    let mut input = with_room(alloc);
     match read_all(source, LONGEST, &mut input) {
         ReadAll::Whole => observe(alloc, input.as_slice(), sink),
         ReadAll::Fault => ReplayEnd::ReadFault,

@@ -7,7 +7,7 @@ ghost use Rattle.mj_front.specs.Inner.Refereeing.{RefereesInput, said_by};
 ghost use Rattle.mj_front.specs.Statuses.{referee_status};
 ghost use Rattle.mj_front.specs.Faults.{CountsReadFaults, CountsWriteFaults};
 
-use crate::input::LONGEST;
+use crate::input::{LONGEST, with_room};
 use crate::intake::{End, Question, take_in};
 use mj_links::{ReadAll, Sink, Source, WriteAll, read_all, write_all};
 use std::alloc::Global;
@@ -43,7 +43,7 @@ pub(crate) fn referee_of<S: Source, K: Sink>(
     ensures writes { CountsWriteFaults (referee_status result) (K.write_faults sink.old)
         (K.write_faults sink.new) }
 {
-    let mut input = Vec::new(alloc);
+    let mut input = with_room(alloc);
     match read_all(source, LONGEST, &mut input) {
         ReadAll::Whole => referee(alloc, question, seat, input.as_slice(), sink),
         ReadAll::Fault => RefereeEnd::ReadFault,

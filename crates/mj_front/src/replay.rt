@@ -6,7 +6,7 @@ ghost use Rattle.mj_front.specs.Inner.Replaying.{WritesSummary};
 ghost use Rattle.mj_front.specs.Statuses.{replay_status};
 ghost use Rattle.mj_front.specs.Faults.{CountsReadFaults, CountsWriteFaults};
 
-use crate::input::LONGEST;
+use crate::input::{LONGEST, with_room};
 use mj_links::{ReadAll, Sink, Source, WriteAll, read_all, write_all};
 use mj_replay::{Cause, Checked, Summary, check};
 use mj_selfplay::result_lines;
@@ -43,7 +43,7 @@ pub(crate) fn replay_of<S: Source, K: Sink>(
     ensures writes { CountsWriteFaults (replay_status result) (K.write_faults sink.old)
         (K.write_faults sink.new) }
 {
-    let mut input = Vec::new(alloc);
+    let mut input = with_room(alloc);
     match read_all(source, LONGEST, &mut input) {
         ReadAll::Whole => replay(alloc, input.as_slice(), sink),
         ReadAll::Fault => ReplayEnd::ReadFault,
