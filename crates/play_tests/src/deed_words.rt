@@ -193,7 +193,8 @@ fn start_later(alloc: Global, fields: &[&str; 8]) -> Option<Deed> {
     })
 }
 
-fn hands(alloc: Global, texts: [&str; 4]) -> Option<Hands> {
+/// The tiles of the four seats, each told by a text.
+pub(crate) fn hands(alloc: Global, texts: [&str; 4]) -> Option<Hands> {
     let mut hands = Vec::new(alloc);
     for text in texts {
         hands.push(tiles(alloc, text)?).ok()?;

@@ -1,4 +1,4 @@
-use crate::deed_words::deed;
+use crate::deed_words::{deed, hands};
 use crate::play::meld;
 use crate::words::{are, number, tile, tiles, words};
 use mj_deeds::{
@@ -96,20 +96,26 @@ fn a_red_five_stands_behind_the_plain_ones(rt: HostRuntime) {
     assert!(rt; Some(ordered(5)) == tile("5mr"));
 }
 
+/// So many tiles of one face, and one of another behind them.
+fn alike(alloc: Global, number: usize) -> Result<Tiles, AllocError> {
+    let mut list = Tiles::new(alloc);
+    list.put_copies(Tile::at(0), number)?;
+    list.push(Tile::at(31))?;
+    Ok(list)
+}
+
+/// Whether there are so many tiles and one more, which is another.
+fn are_so_many(tiles: &[Tile], number: usize) -> bool {
+    tiles.len() == number.saturating_add(1) && tiles.get(number) == Some(&Tile::at(31))
+}
+
 /// Whether a list keeps so many tiles and one more behind them, and so do a copy of it and a list of its tiles.
 fn keeps_so_many(alloc: Global, number: usize) -> Result<bool, AllocError> {
-    let (one, white) = (Tile::at(0), Tile::at(31));
-    let mut list = Tiles::new(alloc);
-    list.put_copies(one, number)?;
-    list.push(white)?;
-    let (copied, listed) = (list.copy()?, Tiles::of(alloc, list.as_slice())?);
+    let list = alike(alloc, number)?;
+    let copied = list.copy()?;
+    let listed = Tiles::of(alloc, list.as_slice())?;
     let tiles = list.as_slice();
-    Ok(
-        tiles.len() == number.saturating_add(1)
-            && tiles.get(number) == Some(&white)
-            && copied.as_slice() == tiles
-            && listed.as_slice() == tiles,
-    )
+    Ok(are_so_many(tiles, number) && copied.as_slice() == tiles && listed.as_slice() == tiles)
 }
 
 #[test]
@@ -120,62 +126,76 @@ fn a_list_of_tiles_has_no_bound(rt: HostRuntime) -> Result<(), AllocError> {
     Ok(())
 }
 
-/// Whether four hands and a copy of them stand at their seats.
-fn stand_at_their_seats(alloc: Global, texts: [&str; 4]) -> Option<bool> {
-    let hands = Hands::from_four(Four {
-        first: tiles(alloc, texts[0])?,
-        second: tiles(alloc, texts[1])?,
-        third: tiles(alloc, texts[2])?,
-        fourth: tiles(alloc, texts[3])?,
-    });
-    let copied = hands.copy().ok()?;
-    for seat in 0..4 {
-        let wanted = tiles(alloc, texts[usize::from(seat)])?;
-        if hands.at(seat) != wanted.as_slice() || copied.at(seat) != wanted.as_slice() {
-            return Some(false);
-        }
-    }
-    Some(true)
+/// Whether these hands stand at their seats.
+fn stand_at_their_seats(hands: &Hands, texts: [&str; 4]) -> bool {
+    are(hands.at(0), texts[0])
+        && are(hands.at(1), texts[1])
+        && are(hands.at(2), texts[2])
+        && are(hands.at(3), texts[3])
+}
+
+/// Whether four hands stand at their seats, and so do copies of them.
+fn keep_their_seats(alloc: Global, texts: [&str; 4]) -> Option<bool> {
+    let four = hands(alloc, texts)?;
+    let copied = four.copy().ok()?;
+    Some(stand_at_their_seats(&four, texts) && stand_at_their_seats(&copied, texts))
 }
 
 #[test]
 fn each_seat_has_its_own_hand(rt: HostRuntime) {
-    let texts = ["123m", "055p", "", "EESC"];
-    assert!(rt; stand_at_their_seats(rt.alloc(), texts) == Some(true));
+    let texts = ["1m 2m 3m", "5p 5p 6p", "", "E E S C"];
+    assert!(rt; keep_their_seats(rt.alloc(), texts) == Some(true));
 }
 
-/// Whether the first hand and the last are shown, the others hidden, and so in a copy.
-fn are_shown(alloc: Global, texts: [&str; 4]) -> Option<bool> {
-    let hands = Hands::from_four(Four {
-        first: tiles(alloc, texts[0])?,
-        second: tiles(alloc, texts[1])?,
-        third: tiles(alloc, texts[2])?,
-        fourth: tiles(alloc, texts[3])?,
-    });
+/// Whether the first hand and the last are shown, and of the others the numbers alone.
+fn are_shown(shown: &ShownHands, texts: [&str; 4]) -> bool {
+    let numbers = [
+        shown.hidden(0),
+        shown.hidden(1),
+        shown.hidden(2),
+        shown.hidden(3),
+    ];
+    numbers == [None, Some(13), Some(0), None]
+        && are(shown.at(0), texts[0])
+        && shown.at(1).is_empty()
+        && shown.at(2).is_empty()
+        && are(shown.at(3), texts[3])
+}
+
+/// Whether hands are shown or hidden so, and so are copies of them.
+fn stay_shown(alloc: Global, texts: [&str; 4]) -> Option<bool> {
     let hidden = Four {
         first: None,
         second: Some(13),
         third: Some(0),
         fourth: None,
     };
-    let shown = ShownHands::of(alloc, hands, hidden).ok()?;
+    let shown = ShownHands::of(alloc, hands(alloc, texts)?, hidden).ok()?;
     let copied = shown.copy().ok()?;
-    let (first, last) = (tiles(alloc, texts[0])?, tiles(alloc, texts[3])?);
-    for hands in [&shown, &copied] {
-        let numbers = [hands.hidden(0), hands.hidden(1), hands.hidden(2)];
-        let are_hidden = hands.at(1).is_empty() && hands.at(2).is_empty();
-        let are_seen = hands.at(0) == first.as_slice() && hands.at(3) == last.as_slice();
-        if numbers != [None, Some(13), Some(0)] || !are_hidden || !are_seen {
-            return Some(false);
-        }
-    }
-    Some(true)
+    Some(are_shown(&shown, texts) && are_shown(&copied, texts))
 }
 
 #[test]
 fn each_hand_is_shown_or_hidden(rt: HostRuntime) {
-    let texts = ["123m", "055p", "", "EESC"];
-    assert!(rt; are_shown(rt.alloc(), texts) == Some(true));
+    let texts = ["1m 2m 3m", "5p 5p 6p", "", "E E S C"];
+    assert!(rt; stay_shown(rt.alloc(), texts) == Some(true));
+}
+
+/// Whether each seat has its name.
+fn are_named(names: &Names, four: &Four<Name>) -> bool {
+    for seat in 0..4 {
+        if names.four().at(seat) != four.at(seat) {
+            return false;
+        }
+    }
+    true
+}
+
+/// Whether four names stay at their seats, and so do copies of them.
+fn stay_named(alloc: Global, four: Four<Name>) -> Result<bool, AllocError> {
+    let names = Names::of(alloc, four)?;
+    let copied = names.copy()?;
+    Ok(are_named(&names, &four) && are_named(&copied, &four))
 }
 
 #[test]
@@ -186,12 +206,7 @@ fn each_seat_has_its_own_name(rt: HostRuntime) -> Result<(), AllocError> {
         third: Name::of(b"c"),
         fourth: Name::of(b"d"),
     };
-    let names = Names::of(rt.alloc(), four)?;
-    let copied = names.copy()?;
-    for seat in 0..4 {
-        assert!(rt; names.four().at(seat) == four.at(seat));
-        assert!(rt; copied.four().at(seat) == four.at(seat));
-    }
+    assert!(rt; stay_named(rt.alloc(), four)?);
     Ok(())
 }
 
