@@ -442,3 +442,20 @@ pub winners_wait : (rules : Rules) (walls : List (List ℕ)) (ds : List Deed) (w
     ((number : ℕ) → is_wall rules.red (wall_of walls number) ≡ true) → IsPlayed rules walls ds → newest ds ≡ Some (Win who target tile unders own yaku fu han value deltas said (next ∷ rest)) →
     Offered ds target tile
 winners_wait rules walls ds who target tile unders own yaku fu han value deltas said next rest h played e = (subst (IfAny (Behind ds)) e (played_balanced rules walls ds h played).last).offered
+
+-- Nobody has won in the hand until its first win: a deed is none, nor the end of the hand or of the game.
+abbrev pub is_unwon : Deed → Bool
+is_unwon (Win who target tile unders own yaku fu han value deltas points rest) = false
+is_unwon EndHand = false
+is_unwon (EndGame points deposits) = false
+is_unwon other = true
+
+pub nobody_yet : (rules : Rules) (walls : List (List ℕ)) (ds : List Deed) (last : Deed) → ((number : ℕ) → is_wall rules.red (wall_of walls number) ≡ true) → IsPlayed rules walls ds → newest ds ≡ Some last →
+    is_unwon last ≡ true → winners (hand ds) ≡ []
+nobody_yet rules walls ds last h played e unwon = by_deed last unwon (subst (IfAny (Behind ds)) e (played_balanced rules walls ds h played).last)
+  where
+    by_deed : (d : Deed) → is_unwon d ≡ true → Behind ds d → winners (hand ds) ≡ []
+    by_deed (Win who target tile unders own yaku fu han value deltas points rest) unwon u = cc
+    by_deed EndHand unwon u = cc
+    by_deed (EndGame points deposits) unwon u = cc
+    by_deed other unwon u = u.none

@@ -14,7 +14,7 @@ use Rattle.mj_score.specs.Worth.{IsGreatest, IsWorth}
 use Rattle.mj_deeds.specs.declared.answer.Answer.{Answer}
 use Rattle.mj_deeds.specs.declared.answer.Answer.TheVariants as answers
 use Rattle.mj_deeds.specs.declared.deed.Deed.{Deed}
-use Rattle.mj_deeds.specs.declared.deed.Deed.TheVariants.{Draw, Discard, Chi, Pon, AddedKan, Reach}
+use Rattle.mj_deeds.specs.declared.deed.Deed.TheVariants.{Draw, Discard, Chi, Pon, AddedKan, Reach, Win, EndHand, EndGame}
 use Rattle.mj_deeds.specs.Course.{before_wins}
 use Rattle.mj_deeds.specs.Facts.{newest}
 use Rattle.mj_deeds.specs.Fits.{is_in_hand}
@@ -26,6 +26,7 @@ use Rattle.mj_rules.specs.Outcome.{won_tile, seat_of}
 use Rattle.mj_rules.specs.Paid.{worth_by}
 use Rattle.mj_rules.specs.View.{WindowTurn, turn_by, view_of}
 use Rattle.mj_rules.specs.Wins.{own_tiles_of}
+use Rattle.mj_rules.proofs.Balance.{is_unwon, nobody_yet}
 use Rattle.mj_rules.proofs.Hands.{worth_is_found}
 use Rattle.mj_rules.proofs.Paid.{Offers, Wins, lawful_wins, lawful_wins_are_worth, none_won, ron_counts, drawn_counts, newest_there}
 use Rattle.mj_rules.proofs.Playing.{Sound, played_sound}
@@ -99,6 +100,13 @@ won_few rules walls deeds (Pon who from tile a b) seat accepted (answers.Win act
 won_few rules walls deeds other seat accepted (answers.Win actor target t) f e low w h = cc
 won_few rules walls deeds other seat accepted another f e low w h = cc
 
+-- No win is open after a win or the end of a hand.
+won_unwon : (rules : Rules) (seat : ℕ) (last : Deed) (accepted : Bool) (answer : Answer) → is_win answer ≡ true → is_open rules seat (turn_by last) accepted answer ≡ true → is_unwon last ≡ true
+won_unwon rules seat (Win who target tile unders own yaku fu han value deltas said rest) accepted answer w h = absurd (no_pass answer w h)
+won_unwon rules seat EndHand accepted answer w h = absurd (no_pass answer w h)
+won_unwon rules seat (EndGame said laid) accepted answer w h = absurd (no_pass answer w h)
+won_unwon rules seat other accepted answer w h = refl
+
 -- What a worth is, where there is one, is the greatest.
 greatest_is : (counts : List ℕ) (melds : List Meld) (winning : ℕ) (case : Case) (extra : Extra) (o : Option Score) → IsWorth counts melds winning case extra o → is_some o ≡ true →
     (score : Score) × ((o ≡ Some score) × IsGreatest counts melds winning case extra score)
@@ -111,17 +119,19 @@ both_hold true false h e = cc
 both_hold false b h e = cc
 
 pub lawful_wins_are_greatest : LawfulWinsAreGreatest
-lawful_wins_are_greatest rules walls deeds last seat answer whole played e nobody low win lawful =
+lawful_wins_are_greatest rules walls deeds last seat answer whole played e low win lawful =
+    let wins : Wins rules deeds seat answer = lawful_wins rules deeds seat answer lawful in
+    let opens : is_open rules seat (turn_by last) (view_of deeds seat).accepted answer ≡ true =
+    ap (λ (turn : WindowTurn). is_open rules seat turn (view_of deeds seat).accepted answer) (sym (turn_is deeds seat last e)) ∙ wins.opens in
     let f : Fresh rules.red walls deeds = record {
       sound = played_sound rules walls deeds whole played;
       there = newest_there rules walls deeds whole played;
-      before = none_won (hand deeds) nobody;
+      before = none_won (hand deeds) (nobody_yet rules walls deeds last whole played e (won_unwon rules seat last (view_of deeds seat).accepted answer win opens));
     } in
-    let wins : Wins rules deeds seat answer = lawful_wins rules deeds seat answer lawful in
     let counts : IsCounts (kind_counts (won_tiles (view_of deeds seat))) = record {
       size = length-kind_counts (won_tiles (view_of deeds seat));
       within = won_few rules walls deeds last seat (view_of deeds seat).accepted answer f e low win
-          (ap (λ (turn : WindowTurn). is_open rules seat turn (view_of deeds seat).accepted answer) (sym (turn_is deeds seat last e)) ∙ wins.opens);
+          opens;
     } in
     record {
       complete = complete-are (kind_counts (won_tiles (view_of deeds seat))) (length (view_of deeds seat).melds) counts (both_hold (is_win answer) _ wins.complete win);

@@ -1,10 +1,11 @@
 -- What a win is worth, and what is paid for it.
-use Rattle.std.proofs.Common.{◌≡◌, ℕ, zero, suc, ◌+◌, ◌-◌, ◌<◌, ◌==◌, ◌&&◌, not, Bool, true, false, cond, eqb, ltb, List, [], ◌∷◌, ◌++◌, length, refl, ap, sym, ◌∙◌, arith, append-nil, append_assoc}
-use Rattle.std.specs.Prelude.{if◌then◌else◌, Option, Some, None, is_some, option_and_then, option_to_list, unwrap_or, count_by, filter, flat_map, fold, map, All, ℤ}
-use Rattle.std.specs.List.{list_all}
-use Rattle.std.proofs.lemmas.Bool.{and_from, and_parts, ne_eqb, not-false, ltb-true, lt-ltb}
+use Rattle.std.proofs.Common.{◌≡◌, ℕ, zero, suc, ◌+◌, ◌-◌, ◌<◌, ◌==◌, ◌&&◌, not, Bool, true, false, cond, eqb, ltb, List, [], ◌∷◌, ◌++◌, length, refl, ap, sym, ◌∙◌, subst, arith, append-nil, append_assoc}
+use Rattle.std.specs.Prelude.{if◌then◌else◌, Option, Some, None, is_some, option_and_then, option_to_list, unwrap_or, count_by, filter, flat_map, fold, map, All, ℤ, pos}
+use Rattle.std.specs.List.{list_all, range_with_len, slice_index_or}
+use Rattle.std.proofs.lemmas.Bool.{and_from, and_parts, ne_eqb, not-false, ltb-true, lt-ltb, true≢false}
 use Rattle.std.proofs.lemmas.Grind.{flat_map-append}
 use Rattle.std.proofs.lemmas.List.{length-append}
+use Rattle.std.proofs.lemmas.List.FromFn.{length-map-range_with_len, get_or-map-range_with_len}
 use Rattle.std.proofs.lemmas.List.Elements.{All-nil, All-cons, filter-append}
 use Rattle.mj_tiles.specs.Faces.{kind_of, number_in, less, in_tile_order}
 use Rattle.mj_tiles.specs.Counts.{all_kinds, number_of, kind_counts}
@@ -16,11 +17,12 @@ use Rattle.mj_rounds.specs.declared.rounds.Standing.{Standing}
 use Rattle.mj_readings.specs.declared.reading.Case.{Case}
 use Rattle.mj_readings.specs.declared.reading.Reading.{Reading}
 use Rattle.mj_readings.specs.AllReadings.{readings_of}
+use Rattle.mj_yaku.specs.Han.{has_yakuman, han}
 use Rattle.mj_yaku.specs.SomeYaku.{gives_yaku}
-use Rattle.mj_pay.specs.Payments.{ron_changes, drawn_changes}
+use Rattle.mj_pay.specs.Payments.{ron_change, ron_changes, drawn_change, drawn_changes}
 use Rattle.mj_score.specs.declared.score.Extra.{Extra}
 use Rattle.mj_score.specs.declared.score.Score.{Score}
-use Rattle.mj_score.specs.Scores.{score_of, is_better}
+use Rattle.mj_score.specs.Scores.{score_of, rows_of, is_better}
 use Rattle.mj_score.specs.Worth.{worth_of}
 use Rattle.mj_score.specs.Inner.BestAmong.{better_of, with_reading, best_among}
 use Rattle.mj_deeds.specs.declared.four.Four.{Four}
@@ -34,22 +36,24 @@ use Rattle.mj_deeds.specs.Facts.{newest, before_newest, indicators, holds_drawn,
 use Rattle.mj_deeds.specs.Fits.{all_fit, is_face, is_in_hand}
 use Rattle.mj_deeds.specs.Four.{at_seat}
 use Rattle.mj_deeds.specs.Hand.{hand}
-use Rattle.mj_deeds.specs.Points.{points, deposits}
+use Rattle.mj_deeds.specs.Points.{deposits}
 use Rattle.mj_deeds.specs.Points.{is_win as is_win_deed}
+use Rattle.mj_deeds.specs.Riichi.{is_in_riichi}
 use Rattle.mj_deeds.specs.Standings.{standing}
 use Rattle.mj_deeds.proofs.Fitted.{hand_begun, hand_real}
 use Rattle.mj_deeds.proofs.HandSteps.{hand_is, standing_stays}
 use Rattle.mj_deeds.proofs.RealTiles.{less_passes, gained_real}
-use Rattle.mj_wall.specs.Places.{is_wall}
+use Rattle.mj_wall.specs.Places.{is_wall, under_tile}
 use Rattle.mj_wall.specs.declared.setting.Rules.{Rules}
 use Rattle.mj_window.specs.Decided.{decision_by}
 use Rattle.mj_rules.specs.Broken.{is_win, is_open, is_not_complete, is_no_yaku, has_no_yaku, winning_kinds, won_tiles, offered_in, questions, broken_by}
 use Rattle.mj_rules.specs.Outcome.{own_act, won_tile, follows, outcome, wall_of, wall_now}
-use Rattle.mj_rules.specs.Paid.{worth_by, LawfulWinsAreWorth, IsPaid, FirstRonIsPaid, FurtherRonsArePaid, OwnWinIsPaid}
+use Rattle.mj_rules.specs.Paid.{worth_by, LawfulWinsAreWorth, ShowsUnders, extra_shown, dora_listed, rows_listed, points_then, IsPaid, FirstRonIsPaid, FurtherRonsArePaid, OwnWinIsPaid}
 use Rattle.mj_rules.specs.Played.{IsLawful, AllLawful, IsPlayed}
 use Rattle.mj_rules.specs.Precedence.{wins_by, behind, winners_behind, offer_of}
 use Rattle.mj_rules.specs.View.{WindowTurn, turn_by, view_of}
-use Rattle.mj_rules.specs.Wins.{is_draw, case_of, own_tiles_of, unders_of, Shows, extra_by, extra_of, no_score, score_of_win, rows_of_win, win_changes, value_of_win, for_first, points_with, win_shown, win_deed}
+use Rattle.mj_rules.specs.Wins.{is_draw, case_of, own_tiles_of, unders_of, Shows, extra_by, extra_of, dora_row, dora_rows, no_score, score_of_win, rows_of_win, win_changes, value_of_win, for_first, win_shown, win_deed}
+use Rattle.mj_rules.proofs.Balance.{is_unwon, nobody_yet}
 use Rattle.mj_rules.proofs.Given.{small_face}
 use Rattle.mj_rules.proofs.Questions.{all_no}
 use Rattle.mj_rules.proofs.Playing.{played_sound}
@@ -207,6 +211,12 @@ offer_no_draw : (d : Deed) → is_offer d ≡ true → is_draw (Some d) ≡ fals
 offer_no_draw (Draw who t replacement) h = cc
 offer_no_draw other h = refl
 
+-- Nobody has won in a hand in which a tile is offered.
+offer_unwon : (d : Deed) → is_offer d ≡ true → is_unwon d ≡ true
+offer_unwon (Discard who t drawn) h = refl
+offer_unwon (AddedKan who t a b c) h = refl
+offer_unwon other h = cc
+
 pub there_is : {A : Type 0} (o : Option A) → is_some o ≡ true → (x : A) × (o ≡ Some x)
 there_is None h = cc
 there_is (Some x) h = (x, refl)
@@ -215,47 +225,117 @@ there_is (Some x) h = (x, refl)
 abbrev shows_at : List ℕ → List Deed → ℕ → ℕ → Shows
 shows_at wall deeds seat tile = record { own = own_tiles_of (before_wins (hand deeds)) seat tile; tile = tile; unders = unders_of wall (before_wins (hand deeds)) seat }
 
+-- The hidden indicators are those under the shown ones, in riichi alone.
+unders_are : (wall : List ℕ) (hs : List Deed) (seat : ℕ) → ShowsUnders wall hs seat (unders_of wall hs seat)
+unders_are wall hs seat = by_riichi (is_in_riichi hs seat) refl
+  where
+    shown : List ℕ
+    shown = map (under_tile wall) (range_with_len 0 (length (indicators hs)))
+
+    by_riichi : (b : Bool) → is_in_riichi hs seat ≡ b → ShowsUnders wall hs seat (cond b shown [])
+    by_riichi true is = record {
+      as_many = λ _. length-map-range_with_len (under_tile wall) 0 (length (indicators hs));
+      each = λ _ place low. get_or-map-range_with_len (under_tile wall) 0 (length (indicators hs)) place place 0 low (omega arith);
+      without_riichi = λ no. absurd (true≢false (sym is ∙ no));
+    }
+    by_riichi false is = record {
+      as_many = λ yes. absurd (true≢false (sym yes ∙ is));
+      each = λ yes. absurd (true≢false (sym yes ∙ is));
+      without_riichi = λ _. refl;
+    }
+
+-- The rows are listed as the law says.
+rows_are : (score : Score) (closed : Bool) (extra : Extra) → rows_of_win score closed extra ≡ rows_listed score closed extra
+unfolding rows_of_win
+rows_are score closed extra = ap (λ (rows : List (ℕ × ℕ)). map (λ row. (row, han row closed)) (rows_of score.yaku) ++ rows) (by_yakuman (has_yakuman score.yaku))
+  where
+    one : (row number : ℕ) (rows others : List (ℕ × ℕ)) → rows ≡ others → dora_row row number ++ rows ≡ cond (ltb 0 number) ((row, number) ∷ others) others
+    one row number rows others e = by_test (ltb 0 number)
+      where
+        by_test : (b : Bool) → cond b ((row, number) ∷ []) [] ++ rows ≡ cond b ((row, number) ∷ others) others
+        by_test true = ap (λ (xs : List (ℕ × ℕ)). (row, number) ∷ xs) e
+        by_test false = e
+
+    by_yakuman : (b : Bool) → cond b [] (dora_rows extra) ≡ dora_listed b extra
+    by_yakuman true = refl
+    by_yakuman false =
+        append_assoc (dora_row 28 extra.dora) (dora_row 29 extra.under) (dora_row 30 extra.red)
+        ∙ one 28 extra.dora _ _ (one 29 extra.under _ _ (sym (append-nil (dora_row 30 extra.red)) ∙ one 30 extra.red [] [] refl))
+
+-- Without honba and deposits a win costs its winner nothing, and its value is what it brings.
+gained_is : (by_draw : Bool) (seat target dealer base : ℕ) → slice_index_or (win_changes by_draw seat target dealer base 0 0) seat (pos 0) ≡ pos (value_of_win by_draw seat target dealer base)
+unfolding win_changes ron_changes ron_change drawn_changes drawn_change
+gained_is true zero target dealer base = refl
+gained_is true (suc zero) target dealer base = refl
+gained_is true (suc (suc zero)) target dealer base = refl
+gained_is true (suc (suc (suc zero))) target dealer base = refl
+gained_is true (suc (suc (suc (suc seat)))) target dealer base = refl
+gained_is false zero target dealer base = refl
+gained_is false (suc zero) target dealer base = refl
+gained_is false (suc (suc zero)) target dealer base = refl
+gained_is false (suc (suc (suc zero))) target dealer base = refl
+gained_is false (suc (suc (suc (suc seat)))) target dealer base = refl
+
 -- What a win is paid, where the hand before the winners is that of the window in which its seat said so: its worth there.
-record Settles (wall : List ℕ) (window deeds : List Deed) (seat target tile : ℕ) (payments : ℕ → List ℤ) : Type 0 where
+record Settles (wall : List ℕ) (window deeds : List Deed) (seat target tile : ℕ) (own : List ℕ) (payments : ℕ → ℕ → ℕ → List ℤ) (honba laid : ℕ) : Type 0 where
   before : before_wins (hand deeds) ≡ hand window
   now_is : standing deeds ≡ standing window
+  own_is : own_tiles_of (before_wins (hand deeds)) seat tile ≡ own
   counts : kind_counts (own_tiles_of (before_wins (hand deeds)) seat tile ++ tile ∷ []) ≡ kind_counts (won_tiles (view_of window seat))
   worth : (extra : Extra) → is_some (worth_by (view_of window seat) tile extra) ≡ true
-  pays : (base : ℕ) → win_changes (case_of (standing deeds) (before_wins (hand deeds)) seat).by_draw seat target (standing deeds).dealer base (for_first (hand deeds) (standing deeds).honba) (for_first (hand deeds) (deposits deeds)) ≡ payments base
+  honba_is : for_first (hand deeds) (standing deeds).honba ≡ honba
+  laid_is : for_first (hand deeds) (deposits deeds) ≡ laid
+  pays : (base number sum : ℕ) → win_changes (case_of (standing deeds) (before_wins (hand deeds)) seat).by_draw seat target (standing deeds).dealer base number sum ≡ payments base number sum
 
-same_worth : (wall : List ℕ) (window deeds : List Deed) (seat target tile : ℕ) (payments : ℕ → List ℤ) → Settles wall window deeds seat target tile payments → let shows = shows_at wall deeds seat tile in
-    worth_of (kind_counts (shows.own ++ tile ∷ [])) (seat_melds (before_wins (hand deeds)) seat) (kind_of tile) (case_of (standing deeds) (before_wins (hand deeds)) seat) (extra_of (before_wins (hand deeds)) seat shows)
-    ≡ worth_by (view_of window seat) tile (extra_by (indicators (hand window)) shows.unders (shows.own ++ tile ∷ flat_map tiles_of_meld (view_of window seat).melds))
+same_extra : (wall : List ℕ) (window deeds : List Deed) (seat tile : ℕ) (own : List ℕ) → before_wins (hand deeds) ≡ hand window → own_tiles_of (before_wins (hand deeds)) seat tile ≡ own →
+    extra_of (before_wins (hand deeds)) seat (shows_at wall deeds seat tile) ≡ extra_shown window seat tile (unders_of wall (before_wins (hand deeds)) seat) own
 unfolding view_of
-same_worth wall window deeds seat target tile payments s =
-    let shows : Shows = shows_at wall deeds seat tile in
-    (λ i. worth_of (s.counts i) (seat_melds (s.before i) seat) (kind_of tile) (case_of (s.now_is i) (s.before i) seat)
-    (extra_by (indicators (s.before i)) shows.unders (shows.own ++ tile ∷ flat_map tiles_of_meld (seat_melds (s.before i) seat))))
+same_extra wall window deeds seat tile own before own_is =
+    let unders : List ℕ = unders_of wall (before_wins (hand deeds)) seat in
+    (λ i. extra_by (indicators (before i)) unders (own_is i ++ tile ∷ flat_map tiles_of_meld (seat_melds (before i) seat)))
 
-settled : (wall : List ℕ) (window deeds : List Deed) (seat target tile : ℕ) (payments : ℕ → List ℤ) (rest : List ℕ) → Settles wall window deeds seat target tile payments → IsPaid window seat target tile payments rest (win_deed wall deeds seat target tile rest)
+same_worth : (wall : List ℕ) (window deeds : List Deed) (seat target tile : ℕ) (own : List ℕ) (payments : ℕ → ℕ → ℕ → List ℤ) (honba laid : ℕ) → Settles wall window deeds seat target tile own payments honba laid →
+    let shows = shows_at wall deeds seat tile in
+    worth_of (kind_counts (shows.own ++ tile ∷ [])) (seat_melds (before_wins (hand deeds)) seat) (kind_of tile) (case_of (standing deeds) (before_wins (hand deeds)) seat) (extra_of (before_wins (hand deeds)) seat shows)
+    ≡ worth_by (view_of window seat) tile (extra_shown window seat tile shows.unders own)
+unfolding view_of
+same_worth wall window deeds seat target tile own payments honba laid s =
+    let extra_is = same_extra wall window deeds seat tile own s.before s.own_is in
+    (λ i. worth_of (s.counts i) (seat_melds (s.before i) seat) (kind_of tile) (case_of (s.now_is i) (s.before i) seat) (extra_is i))
+
+closed_is : (window deeds : List Deed) (seat : ℕ) → before_wins (hand deeds) ≡ hand window → standing deeds ≡ standing window → (case_of (standing deeds) (before_wins (hand deeds)) seat).closed ≡ (view_of window seat).case.closed
+unfolding view_of
+closed_is window deeds seat before now_is = (λ i. (case_of (now_is i) (before i) seat).closed)
+
+settled : (wall : List ℕ) (window deeds : List Deed) (seat target tile : ℕ) (own : List ℕ) (payments : ℕ → ℕ → ℕ → List ℤ) (honba laid : ℕ) (rest : List ℕ) →
+    Settles wall window deeds seat target tile own payments honba laid → IsPaid wall window deeds seat target tile own payments honba laid rest (win_deed wall deeds seat target tile rest)
 unfolding win_shown score_of_win
-settled wall window deeds seat target tile payments rest s =
+settled wall window deeds seat target tile own payments honba laid rest s =
     let shows : Shows = shows_at wall deeds seat tile in
     let now = standing deeds in
     let before : List Deed = before_wins (hand deeds) in
-    let extra : Extra = extra_by (indicators (hand window)) shows.unders (shows.own ++ tile ∷ flat_map tiles_of_meld (view_of window seat).melds) in
+    let extra : Extra = extra_shown window seat tile shows.unders own in
+    let extra_is : extra_of before seat shows ≡ extra = same_extra wall window deeds seat tile own s.before s.own_is in
     let some = there_is (worth_by (view_of window seat) tile extra) (s.worth extra) in
     let score : Score = score_of_win now before seat shows in
-    let score_is : score ≡ some.0 = ap (λ (o : Option Score). unwrap_or o no_score) (same_worth wall window deeds seat target tile payments s ∙ some.1) in
-    let changes : ℕ → List ℤ = λ base. win_changes (case_of now before seat).by_draw seat target now.dealer base (for_first (hand deeds) now.honba) (for_first (hand deeds) (deposits deeds)) in
-    let yaku : List (ℕ × ℕ) = rows_of_win score (case_of now before seat).closed (extra_of before seat shows) in
-    let value : ℕ = value_of_win (case_of now before seat).by_draw seat target now.dealer score.base in
-    let said : List ℤ = points_with (points deeds) (changes score.base) in
+    let score_is : score ≡ some.0 = ap (λ (o : Option Score). unwrap_or o no_score) (same_worth wall window deeds seat target tile own payments honba laid s ∙ some.1) in
+    let by_draw : Bool = (case_of now before seat).by_draw in
+    let closed : (case_of now before seat).closed ≡ (view_of window seat).case.closed = closed_is window deeds seat s.before s.now_is in
+    let changes : ℕ → List ℤ = λ base. win_changes by_draw seat target now.dealer base (for_first (hand deeds) now.honba) (for_first (hand deeds) (deposits deeds)) in
+    let changes_are : changes score.base ≡ payments some.0.base honba laid =
+    (λ i. win_changes by_draw seat target now.dealer (score_is i).base (s.honba_is i) (s.laid_is i)) ∙ s.pays some.0.base honba laid in
+    let rows : rows_of_win score (case_of now before seat).closed (extra_of before seat shows) ≡ rows_listed some.0 (view_of window seat).case.closed extra =
+    (λ i. rows_of_win (score_is i) (closed i) (extra_is i)) ∙ rows_are some.0 (view_of window seat).case.closed extra in
+    let value_is : value_of_win by_draw seat target now.dealer score.base ≡ value_of_win by_draw seat target now.dealer some.0.base =
+    (λ i. value_of_win by_draw seat target now.dealer (score_is i).base) in
     record {
       unders = shows.unders;
-      own = shows.own;
-      yaku = yaku;
-      value = value;
-      said = said;
+      shown = subst (λ (hs : List Deed). ShowsUnders wall hs seat shows.unders) s.before (unders_are wall before seat);
       score = some.0;
       worth = some.1;
-      is = (λ i. Win seat target tile shows.unders shows.own yaku (score_is i).fu (score_is i).han value (changes (score_is i).base) said rest)
-          ∙ (λ i. Win seat target tile shows.unders shows.own yaku some.0.fu some.0.han value (s.pays some.0.base i) said rest);
+      value = value_of_win by_draw seat target now.dealer some.0.base;
+      brings = ap (λ (gains : List ℤ). slice_index_or gains seat (pos 0)) (sym (s.pays some.0.base 0 0)) ∙ gained_is by_draw seat target now.dealer some.0.base;
+      is = (λ i. Win seat target tile shows.unders (s.own_is i) (rows i) (score_is i).fu (score_is i).han (value_is i) (changes_are i) (points_then deeds (changes_are i)) rest);
     }
 
 no_draw_case : (now : Standing) (hs : List Deed) (seat : ℕ) (d : Deed) → newest hs ≡ Some d → is_offer d ≡ true → (case_of now hs seat).by_draw ≡ false
@@ -269,19 +349,23 @@ draw_case now hs seat who tile replacement e = ap is_draw e
 for_first_none : (hs : List Deed) (n : ℕ) → winners hs ≡ [] → for_first hs n ≡ n
 for_first_none hs n e = ap (λ (xs : List ℕ). if length xs == 0 then n else 0) e
 
+-- The own tiles of a ron are all that its seat holds.
+ron_own : (window deeds : List Deed) (seat who tile : ℕ) → Offers window who tile → newest (hand window) ≡ newest window → before_wins (hand deeds) ≡ hand window →
+    own_tiles_of (before_wins (hand deeds)) seat tile ≡ concealed_tiles (hand window) seat
+ron_own window deeds seat who tile offer there before =
+    own_offered (before_wins (hand deeds)) offer.last seat tile (ap newest before ∙ there ∙ offer.newest_is) offer.offers ∙ ap (λ (hs : List Deed). concealed_tiles hs seat) before
+
 -- The tiles of a ron are those that are looked at in its window.
 pub ron_counts : (window deeds : List Deed) (seat who tile : ℕ) → Offers window who tile → newest (hand window) ≡ newest window → before_wins (hand deeds) ≡ hand window →
     kind_counts (own_tiles_of (before_wins (hand deeds)) seat tile ++ tile ∷ []) ≡ kind_counts (won_tiles (view_of window seat))
 unfolding view_of
 ron_counts window deeds seat who tile offer there before =
-    let own_is : own_tiles_of (before_wins (hand deeds)) seat tile ≡ concealed_tiles (hand window) seat =
-    own_offered (before_wins (hand deeds)) offer.last seat tile (ap newest before ∙ there ∙ offer.newest_is) offer.offers ∙ ap (λ (hs : List Deed). concealed_tiles hs seat) before in
-    (λ i. kind_counts (own_is i ++ sym (ap offered_in (turn_is window seat offer.last offer.newest_is) ∙ offer.offered) i))
+    (λ i. kind_counts (ron_own window deeds seat who tile offer there before i ++ sym (ap offered_in (turn_is window seat offer.last offer.newest_is) ∙ offer.offered) i))
 
-ron_pays : (deeds : List Deed) (seat who honba sum : ℕ) → (case_of (standing deeds) (before_wins (hand deeds)) seat).by_draw ≡ false → for_first (hand deeds) (standing deeds).honba ≡ honba → for_first (hand deeds) (deposits deeds) ≡ sum → (base : ℕ) →
-    win_changes (case_of (standing deeds) (before_wins (hand deeds)) seat).by_draw seat who (standing deeds).dealer base (for_first (hand deeds) (standing deeds).honba) (for_first (hand deeds) (deposits deeds)) ≡ ron_changes seat who (standing deeds).dealer base honba sum
+ron_pays : (now : Standing) (hs : List Deed) (seat who : ℕ) → (case_of now hs seat).by_draw ≡ false → (base number sum : ℕ) →
+    win_changes (case_of now hs seat).by_draw seat who now.dealer base number sum ≡ ron_changes seat who now.dealer base number sum
 unfolding win_changes
-ron_pays deeds seat who honba sum no_draw h d base = (λ i. win_changes (no_draw i) seat who (standing deeds).dealer base (h i) (d i))
+ron_pays now hs seat who no_draw base number sum = (λ i. win_changes (no_draw i) seat who now.dealer base number sum)
 
 -- What is known of a window in which a tile is offered, after played deeds.
 pub newest_there : (rules : Rules) (walls : List (List ℕ)) (deeds : List Deed) → ((number : ℕ) → is_wall rules.red (wall_of walls number) ≡ true) → IsPlayed rules walls deeds → is_in_hand (newest deeds) ≡ true → newest (hand deeds) ≡ newest deeds
@@ -292,8 +376,9 @@ offer_worth rules deeds seat who tile answer offer win lawful extra =
     ap (λ (t : ℕ). is_some (worth_by (view_of deeds seat) t extra)) (sym offer.tile_is) ∙ lawful_wins_are_worth rules deeds offer.last seat answer extra offer.newest_is win lawful
 
 pub first_ron_is_paid : FirstRonIsPaid
-first_ron_is_paid rules walls deeds given who tile first others whole played lawful offered nobody winners_are =
+first_ron_is_paid rules walls deeds given who tile first others whole played lawful offered winners_are =
     let offer : Offers deeds who tile = offers_of deeds who tile offered in
+    let nobody : winners (hand deeds) ≡ [] = nobody_yet rules walls deeds offer.last whole played offer.newest_is (offer_unwon offer.last offer.offers) in
     let there : newest (hand deeds) ≡ newest deeds = newest_there rules walls deeds whole played (ap is_in_hand offer.newest_is ∙ offer.goes_on) in
     let before : before_wins (hand deeds) ≡ hand deeds = none_won (hand deeds) nobody in
     let win : is_win (at_seat given first) ≡ true = first_passes (wins_by given) (behind who) first others winners_are in
@@ -301,13 +386,15 @@ first_ron_is_paid rules walls deeds given who tile first others whole played law
     record {
       deed = win_deed (wall_now walls deeds) deeds first who tile others;
       comes = all_wins_come rules walls deeds given who tile first others offered winners_are;
-      paid = settled (wall_now walls deeds) deeds deeds first who tile _ others (record {
+      paid = settled (wall_now walls deeds) deeds deeds first who tile _ _ _ _ others (record {
         before = before;
         now_is = refl;
+        own_is = ron_own deeds deeds first who tile offer there before;
         counts = ron_counts deeds deeds first who tile offer there before;
         worth = offer_worth rules deeds first who tile (at_seat given first) offer win own;
-        pays = ron_pays deeds first who (standing deeds).honba (deposits deeds) (no_draw_case (standing deeds) (before_wins (hand deeds)) first offer.last (ap newest before ∙ there ∙ offer.newest_is) offer.offers)
-            (for_first_none (hand deeds) (standing deeds).honba nobody) (for_first_none (hand deeds) (deposits deeds) nobody);
+        honba_is = for_first_none (hand deeds) (standing deeds).honba nobody;
+        laid_is = for_first_none (hand deeds) (deposits deeds) nobody;
+        pays = ron_pays (standing deeds) (before_wins (hand deeds)) first who (no_draw_case (standing deeds) (before_wins (hand deeds)) first offer.last (ap newest before ∙ there ∙ offer.newest_is) offer.offers);
       });
     }
 
@@ -349,9 +436,10 @@ some_won hs other more h = cc
 
 pub further_rons_are_paid : FurtherRonsArePaid
 unfolding outcome
-further_rons_are_paid rules walls window first more given who tile seat answer winner unders own yaku fu han value deltas said rest whole played offered nobody win lawful wins e =
+further_rons_are_paid rules walls window first more given who tile seat answer winner unders own yaku fu han value deltas said rest whole played offered win lawful wins e =
     let deeds : List Deed = window ++ first ∷ more in
     let offer : Offers window who tile = offers_of window who tile offered in
+    let nobody : winners (hand window) ≡ [] = nobody_yet rules walls window offer.last whole played offer.newest_is (offer_unwon offer.last offer.offers) in
     let begun : is_in_hand (newest window) ≡ true = ap is_in_hand offer.newest_is ∙ offer.goes_on in
     let there : newest (hand window) ≡ newest window = newest_there rules walls window whole played begun in
     let b : Behind window (first ∷ more) = behind_wins window (first ∷ more) (hand_begun rules.red window (played_sound rules walls window whole played).fit begun) wins in
@@ -362,14 +450,17 @@ further_rons_are_paid rules walls window first more given who tile seat answer w
     record {
       deed = win_deed (wall_now walls deeds) deeds seat who tile rest;
       comes = ap (option_and_then (λ last. follows rules walls deeds last (decision_by last given))) e;
-      paid = settled (wall_now walls deeds) window deeds seat who tile _ rest (record {
+      paid = settled (wall_now walls deeds) window deeds seat who tile _ _ _ _ rest (record {
         before = before;
         now_is = b.now_is;
+        own_is = ron_own window deeds seat who tile offer there before;
         counts = ron_counts window deeds seat who tile offer there before;
         worth = offer_worth rules window seat who tile answer offer win lawful;
-        pays = λ base. ron_pays deeds seat who 0 0 (no_draw_case (standing deeds) (before_wins (hand deeds)) seat offer.last (ap newest before ∙ there ∙ offer.newest_is) offer.offers)
-            (ap (λ (t : Bool). if t then (standing deeds).honba else 0) some) (ap (λ (t : Bool). if t then deposits deeds else 0) some) base
-            ∙ ap (λ (now : Standing). ron_changes seat who now.dealer base 0 0) b.now_is;
+        honba_is = ap (λ (t : Bool). if t then (standing deeds).honba else 0) some;
+        laid_is = ap (λ (t : Bool). if t then deposits deeds else 0) some;
+        pays = λ base number sum.
+            ron_pays (standing deeds) (before_wins (hand deeds)) seat who (no_draw_case (standing deeds) (before_wins (hand deeds)) seat offer.last (ap newest before ∙ there ∙ offer.newest_is) offer.offers) base number sum
+            ∙ ap (λ (now : Standing). ron_changes seat who now.dealer base number sum) b.now_is;
       });
     }
 
@@ -447,15 +538,16 @@ own_wins : (wall : List ℕ) (ds : List Deed) (seat tile : ℕ) (replacement : B
 own_wins wall ds seat tile replacement (answers.Win actor target t) h = refl
 own_wins wall ds seat tile replacement other h = cc
 
-own_pays : (deeds : List Deed) (seat honba sum : ℕ) → (case_of (standing deeds) (before_wins (hand deeds)) seat).by_draw ≡ true → for_first (hand deeds) (standing deeds).honba ≡ honba → for_first (hand deeds) (deposits deeds) ≡ sum → (base : ℕ) →
-    win_changes (case_of (standing deeds) (before_wins (hand deeds)) seat).by_draw seat seat (standing deeds).dealer base (for_first (hand deeds) (standing deeds).honba) (for_first (hand deeds) (deposits deeds)) ≡ drawn_changes seat (standing deeds).dealer base honba sum
+own_pays : (now : Standing) (hs : List Deed) (seat : ℕ) → (case_of now hs seat).by_draw ≡ true → (base number sum : ℕ) →
+    win_changes (case_of now hs seat).by_draw seat seat now.dealer base number sum ≡ drawn_changes seat now.dealer base number sum
 unfolding win_changes
-own_pays deeds seat honba sum drew h d base = (λ i. win_changes (drew i) seat seat (standing deeds).dealer base (h i) (d i))
+own_pays now hs seat drew base number sum = (λ i. win_changes (drew i) seat seat now.dealer base number sum)
 
 pub own_win_is_paid : OwnWinIsPaid
 unfolding outcome
-own_win_is_paid rules walls deeds given seat tile replacement whole played lawful e nobody win =
+own_win_is_paid rules walls deeds given seat tile replacement whole played lawful e win =
     let sound = played_sound rules walls deeds whole played in
+    let nobody : winners (hand deeds) ≡ [] = nobody_yet rules walls deeds (Draw seat tile replacement) whole played e refl in
     let there : newest (hand deeds) ≡ newest deeds = newest_there rules walls deeds whole played (ap is_in_hand e) in
     let before : before_wins (hand deeds) ≡ hand deeds = none_won (hand deeds) nobody in
     let at : newest (before_wins (hand deeds)) ≡ Some (Draw seat tile replacement) = ap newest before ∙ there ∙ e in
@@ -463,12 +555,14 @@ own_win_is_paid rules walls deeds given seat tile replacement whole played lawfu
     record {
       deed = win_deed (wall_now walls deeds) deeds seat seat tile [];
       comes = ap (option_and_then (λ last. follows rules walls deeds last (decision_by last given))) e ∙ own_wins (wall_now walls deeds) deeds seat tile replacement (at_seat given seat) win;
-      paid = settled (wall_now walls deeds) deeds deeds seat seat tile _ [] (record {
+      paid = settled (wall_now walls deeds) deeds deeds seat seat tile _ _ _ _ [] (record {
         before = before;
         now_is = refl;
+        own_is = own_drawn (before_wins (hand deeds)) seat tile replacement at ∙ ap (λ (hs : List Deed). less (concealed_tiles hs seat) (tile ∷ [])) before;
         counts = drawn_counts rules.red deeds seat tile replacement sound.fit e there before;
         worth = λ extra. lawful_wins_are_worth rules deeds (Draw seat tile replacement) seat (at_seat given seat) extra e win (lawful_at rules deeds given seat small lawful);
-        pays = own_pays deeds seat (standing deeds).honba (deposits deeds) (draw_case (standing deeds) (before_wins (hand deeds)) seat seat tile replacement at)
-            (for_first_none (hand deeds) (standing deeds).honba nobody) (for_first_none (hand deeds) (deposits deeds) nobody);
+        honba_is = for_first_none (hand deeds) (standing deeds).honba nobody;
+        laid_is = for_first_none (hand deeds) (deposits deeds) nobody;
+        pays = own_pays (standing deeds) (before_wins (hand deeds)) seat (draw_case (standing deeds) (before_wins (hand deeds)) seat seat tile replacement at);
       });
     }

@@ -1,5 +1,5 @@
 -- The laws of the walks over the counts of a hand: what they find is what the sentences on hands say.
-use Rattle.std.specs.Prelude.{◌≡◌, ◌↔◌, ◌<◌, ◌≤◌, ◌+◌, ℕ, true, false, List, [], length, slice_index, Some, IsTrue}
+use Rattle.std.specs.Prelude.{◌≡◌, ◌↔◌, ◌<◌, ◌≤◌, ◌+◌, ℕ, true, false, List, length, slice_index, Some, IsTrue}
 use Rattle.mj_tiles.specs.declared.meld.Meld.{Meld}
 use Rattle.mj_tiles.specs.Faces.{kind_of}
 use Rattle.mj_tiles.specs.Counts.{kind_counts, NoFifth, IsCounts}
@@ -18,9 +18,7 @@ use Rattle.mj_score.specs.declared.score.Score.{Score}
 use Rattle.mj_score.specs.Worth.{IsGreatest, IsWorth, worth_of}
 use Rattle.mj_deeds.specs.declared.answer.Answer.{Answer}
 use Rattle.mj_deeds.specs.declared.deed.Deed.{Deed}
-use Rattle.mj_deeds.specs.Ends.{winners}
 use Rattle.mj_deeds.specs.Facts.{newest}
-use Rattle.mj_deeds.specs.Hand.{hand}
 use Rattle.mj_wall.specs.Places.{is_wall}
 use Rattle.mj_wall.specs.declared.setting.Rules.{Rules}
 use Rattle.mj_rules.specs.Broken.{is_win, won_tiles, waits_of, has_no_yaku}
@@ -91,10 +89,10 @@ pub record IsGreatestWin (view : SeatView) (tile : ℕ) : Type 0 where
   pub greatest : (extra : Extra) → (score : Score) × ((worth_by view tile extra ≡ Some score) ×
       IsGreatest (kind_counts (won_tiles view)) view.melds (kind_of tile) view.case extra score)
 
--- So is every lawful win, after played deeds and where nobody has won in the hand yet.
+-- So is every lawful win, after played deeds.
 abbrev pub LawfulWinsAreGreatest : Type 0
 LawfulWinsAreGreatest =
     (rules : Rules) (walls : List (List ℕ)) (deeds : List Deed) (last : Deed) (seat : ℕ) (answer : Answer) →
     ((number : ℕ) → is_wall rules.red (wall_of walls number) ≡ true) → IsPlayed rules walls deeds →
-    newest deeds ≡ Some last → winners (hand deeds) ≡ [] → seat < 4 → is_win answer ≡ true → IsLawful rules deeds seat answer →
+    newest deeds ≡ Some last → seat < 4 → is_win answer ≡ true → IsLawful rules deeds seat answer →
     IsGreatestWin (view_of deeds seat) (won_tile last)

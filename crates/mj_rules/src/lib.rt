@@ -97,7 +97,9 @@ pub fn lawful_wins_are_worth()
 {}
 
 /// A lawful win is paid by what it is worth by the view by which its answer is judged: the first on a tile and a win on the own
-/// draw with the honba and the deposits, and each further one on a tile without them.
+/// draw with the honba and the deposits, and each further one on a tile without them. The winner shows its concealed tiles but for the
+/// one that is won on, and in riichi the hidden indicators under the shown ones; the deed lists each yaku with its han and the dora,
+/// and its value is what the winner gets without honba and deposits.
 pub fn wins_are_paid()
     ensures first { FirstRonIsPaid }
     ensures further { FurtherRonsArePaid }
@@ -132,8 +134,7 @@ pub fn walks_find_hands()
     ensures worth { WorthIsFound }
 {}
 
-/// A lawful win, where nobody has won in the hand yet, is of a complete hand, and worth the greatest score of the readings of its
-/// tiles that have a yaku.
+/// A lawful win is of a complete hand, and worth the greatest score of the readings of its tiles that have a yaku.
 pub fn lawful_wins_are_greatest()
     ensures { LawfulWinsAreGreatest }
 {}
