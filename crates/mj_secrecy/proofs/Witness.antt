@@ -27,7 +27,7 @@ use Rattle.mj_rules.specs.Outcome.{outcome, hand_start, next_draw}
 use Rattle.mj_history.specs.After.{before_all, own_part, after_said, after_gone, after_back, step, next_deed, after}
 use Rattle.mj_history.specs.Legal.{Game, IsLegal, can_sit, can_return, may_say, can_expire, all_permitted}
 use Rattle.mj_secrecy.specs.Trace.{trace}
-use Rattle.mj_secrecy.specs.Witness.{answers_of_others, tiles_drawn, refusals, bids, AgreeApart, SomeAgreeApart}
+use Rattle.mj_secrecy.specs.Witness.{answers_of_others, tiles_drawn, refusals, bids, lost_bids, AgreeApart, SomeAgreeApart}
 
 -- So many of each tile, in order.
 abbrev tiles : List (ℕ × ℕ) → List ℕ
@@ -213,33 +213,33 @@ same_trace_3 = refl
 differ : {A : Type 0} (test : A → Bool) (a b : A) → test a ≡ true → test b ≡ false → a ≢ b
 differ test a b h k e = true≢false (sym h ∙ ap test e ∙ k)
 
--- Of a game the tiles that are drawn, the seats of refused answers and those of taken bids, and how many tiles of a kind a seat is
--- given.
+-- Of a game the tiles that are drawn, the seats of refused answers, those of taken bids and those of lost ones, and how many tiles of
+-- a kind a seat is given.
 abbrev Facts : Type 0
-Facts = List ℕ × (List ℕ × (List ℕ × ℕ))
+Facts = List ℕ × (List ℕ × (List ℕ × (List ℕ × ℕ)))
 
 abbrev facts_of : ℕ → ℕ → Game → Facts
-facts_of seat kind game = (tiles_drawn game, (refusals game, (bids game, number_in (tiles_gained (after game.setting game.entries).deeds seat) kind)))
+facts_of seat kind game = (tiles_drawn game, (refusals game, (bids game, (lost_bids game, number_in (tiles_gained (after game.setting game.entries).deeds seat) kind))))
 
-first_facts : facts_of 1 3 first ≡ (13 ∷ 13 ∷ [], ([], (3 ∷ [], 3)))
+first_facts : facts_of 1 3 first ≡ (13 ∷ 13 ∷ [], ([], (3 ∷ [], ([], 3))))
 unfolding own_part after_said after_gone after_back step next_deed can_sit can_return may_say can_expire default_by broken_by
     outcome hand_start view_of hand in_tile_order less tile_order next_draw best_bid has_nothing_else banned_by_chi is_run_of
     run_kinds all_kinds
 first_facts = refl
 
-first_other_facts : facts_of 1 3 first_other ≡ (13 ∷ 14 ∷ [], (1 ∷ [], (3 ∷ 2 ∷ [], 0)))
+first_other_facts : facts_of 1 3 first_other ≡ (13 ∷ 14 ∷ [], (1 ∷ [], (3 ∷ 2 ∷ [], (2 ∷ [], 0))))
 unfolding own_part after_said after_gone after_back step next_deed can_sit can_return may_say can_expire default_by broken_by
     outcome hand_start view_of hand in_tile_order less tile_order next_draw best_bid has_nothing_else banned_by_chi is_run_of
     run_kinds all_kinds
 first_other_facts = refl
 
-second_facts : facts_of 0 2 second ≡ (13 ∷ [], ([], (3 ∷ 2 ∷ [], 4)))
+second_facts : facts_of 0 2 second ≡ (13 ∷ [], ([], (3 ∷ 2 ∷ [], ([], 4))))
 unfolding own_part after_said after_gone after_back step next_deed can_sit can_return may_say can_expire default_by broken_by
     outcome hand_start view_of hand in_tile_order less tile_order next_draw best_bid has_nothing_else banned_by_chi is_run_of
     run_kinds all_kinds
 second_facts = refl
 
-second_other_facts : facts_of 0 2 second_other ≡ (14 ∷ [], (0 ∷ [], (3 ∷ 0 ∷ 2 ∷ [], 2)))
+second_other_facts : facts_of 0 2 second_other ≡ (14 ∷ [], (0 ∷ [], (3 ∷ 0 ∷ 2 ∷ [], (0 ∷ [], 2))))
 unfolding own_part after_said after_gone after_back step next_deed can_sit can_return may_say can_expire default_by broken_by
     outcome hand_start view_of hand in_tile_order less tile_order next_draw best_bid has_nothing_else banned_by_chi is_run_of
     run_kinds all_kinds
@@ -278,13 +278,14 @@ first_apart = record {
   agree = record { legal = first_legal; other_legal = first_other_legal; draws = refl; red = refl; same = same_trace_0 };
   walls = differ (λ walls. length walls == 1) _ _ refl refl;
   number = differ (λ n. n == 1) _ _ refl refl;
-  deeds = differ (λ ds. number_in (tiles_gained ds 1) 3 == 3) _ _ (ap (λ (f : Facts). f.1.1.1 == 3) first_facts) (ap (λ (f : Facts). f.1.1.1 == 3) first_other_facts);
+  deeds = differ (λ ds. number_in (tiles_gained ds 1) 3 == 3) _ _ (ap (λ (f : Facts). f.1.1.1.1 == 3) first_facts) (ap (λ (f : Facts). f.1.1.1.1 == 3) first_other_facts);
   drawn = differ (λ tiles. slice_index_or tiles 1 0 == 13) _ _ (ap (λ (f : Facts). slice_index_or f.0 1 0 == 13) first_facts) (ap (λ (f : Facts). slice_index_or f.0 1 0 == 13) first_other_facts);
   limits = differ (λ limit. limit == 1000) _ _ refl refl;
   writers = differ (λ authors. slice_index_or authors 1 0 == 1) _ _ refl refl;
   order = differ (λ seats. slice_index_or seats 1 0 == 2) _ _ refl refl;
   refused = differ (λ n. n == 0) _ _ (ap (λ (f : Facts). length f.1.0 == 0) first_facts) (ap (λ (f : Facts). length f.1.0 == 0) first_other_facts);
-  bidding = differ (λ n. n == 1) _ _ (ap (λ (f : Facts). length f.1.1.0 == 1) first_facts) (ap (λ (f : Facts). length f.1.1.0 == 1) first_other_facts);
+  taken = differ (λ n. n == 1) _ _ (ap (λ (f : Facts). length f.1.1.0 == 1) first_facts) (ap (λ (f : Facts). length f.1.1.0 == 1) first_other_facts);
+  bidding = differ (λ n. n == 0) _ _ (ap (λ (f : Facts). length f.1.1.1.0 == 0) first_facts) (ap (λ (f : Facts). length f.1.1.1.0 == 0) first_other_facts);
   leaving = differ (λ seats. length seats == 0) _ _ refl refl;
   coming = differ (λ seats. length seats == 0) _ _ refl refl;
   time = differ (λ windows. length windows == 0) _ _ refl refl;
@@ -298,13 +299,14 @@ second_apart seat same order = record {
   agree = record { legal = second_legal; other_legal = second_other_legal; draws = refl; red = refl; same = same };
   walls = differ (λ walls. length walls == 1) _ _ refl refl;
   number = differ (λ n. n == 1) _ _ refl refl;
-  deeds = differ (λ ds. number_in (tiles_gained ds 0) 2 == 4) _ _ (ap (λ (f : Facts). f.1.1.1 == 4) second_facts) (ap (λ (f : Facts). f.1.1.1 == 4) second_other_facts);
+  deeds = differ (λ ds. number_in (tiles_gained ds 0) 2 == 4) _ _ (ap (λ (f : Facts). f.1.1.1.1 == 4) second_facts) (ap (λ (f : Facts). f.1.1.1.1 == 4) second_other_facts);
   drawn = differ (λ tiles. slice_index_or tiles 0 0 == 13) _ _ (ap (λ (f : Facts). slice_index_or f.0 0 0 == 13) second_facts) (ap (λ (f : Facts). slice_index_or f.0 0 0 == 13) second_other_facts);
   limits = differ (λ limit. limit == 1000) _ _ refl refl;
   writers = differ (λ authors. slice_index_or authors 1 0 == 1) _ _ refl refl;
   order = order;
   refused = differ (λ n. n == 0) _ _ (ap (λ (f : Facts). length f.1.0 == 0) second_facts) (ap (λ (f : Facts). length f.1.0 == 0) second_other_facts);
-  bidding = differ (λ n. n == 2) _ _ (ap (λ (f : Facts). length f.1.1.0 == 2) second_facts) (ap (λ (f : Facts). length f.1.1.0 == 2) second_other_facts);
+  taken = differ (λ n. n == 2) _ _ (ap (λ (f : Facts). length f.1.1.0 == 2) second_facts) (ap (λ (f : Facts). length f.1.1.0 == 2) second_other_facts);
+  bidding = differ (λ n. n == 0) _ _ (ap (λ (f : Facts). length f.1.1.1.0 == 0) second_facts) (ap (λ (f : Facts). length f.1.1.1.0 == 0) second_other_facts);
   leaving = differ (λ seats. length seats == 0) _ _ refl refl;
   coming = differ (λ seats. length seats == 0) _ _ refl refl;
   time = differ (λ windows. length windows == 0) _ _ refl refl;

@@ -1,13 +1,15 @@
 -- Two games that agree for a seat and differ in what the seat is not told.
-use Rattle.std.specs.Prelude.{◌≢◌, ℕ, ◌<◌, ◌==◌, Bool, true, false, if◌then◌else◌, List, [], ◌∷◌, ◌++◌, length, map, flat_map, Option, Some}
+use Rattle.std.specs.Prelude.{◌≢◌, ℕ, ◌<◌, ◌==◌, not, Bool, true, false, if◌then◌else◌, List, [], ◌∷◌, ◌++◌, length, map, filter, flat_map, Option, Some, None}
+use Rattle.std.specs.Option.{option_or, option_map_or}
 use Rattle.mj_ports.specs.declared.entry.Entry.{Entry}
 use Rattle.mj_ports.specs.declared.entry.Entry.TheVariants.{Sat, Back, Said, Gone, Expired}
 use Rattle.mj_deeds.specs.declared.answer.Answer.{Answer}
 use Rattle.mj_deeds.specs.declared.deed.Deed.{Deed}
-use Rattle.mj_deeds.specs.declared.deed.Deed.TheVariants.{Draw}
+use Rattle.mj_deeds.specs.declared.deed.Deed.TheVariants.{Draw, Chi, Pon, OpenKan, ReachAccepted}
+use Rattle.mj_deeds.specs.Bids.{call_of_bid}
 use Rattle.mj_wall.specs.declared.setting.Setting.{Setting}
 use Rattle.mj_rules.specs.Broken.{is_call_answer}
-use Rattle.mj_history.specs.After.{After, Verdict, Taken, Refused, Closing, before_all, step, after}
+use Rattle.mj_history.specs.After.{After, Verdict, Taken, Refused, Closing, before_all, own_part, next_deed, step, after}
 use Rattle.mj_history.specs.Shown.{verdict_at}
 use Rattle.mj_history.specs.Legal.{Game}
 use Rattle.mj_secrecy.specs.Trace.{Agree}
@@ -94,10 +96,41 @@ refusals game = seats_from is_refused game.setting before_all game.entries
 abbrev pub bids : Game → List ℕ
 bids game = seats_from is_bid game.setting before_all game.entries
 
+-- The deed that closes the window which is open: the next that comes of the entries, where any comes.
+abbrev pub closing : Setting → After → List (Entry Answer) → Option Deed
+closing setting now [] = None
+closing setting now (entry ∷ entries) = option_or (next_deed setting (own_part setting now entry) entry) (closing setting (step setting now entry) entries)
+
+-- A deed is a call of a seat; and a call is given to a seat by its deed, or by an accepted reach that keeps it.
+abbrev pub is_call_by : ℕ → Deed → Bool
+is_call_by seat (Chi who target tile a b) = who == seat
+is_call_by seat (Pon who target tile a b) = who == seat
+is_call_by seat (OpenKan who target tile a b c) = who == seat
+is_call_by seat other = false
+
+abbrev pub is_given : ℕ → Deed → Bool
+is_given seat (ReachAccepted who points bid) = option_map_or (is_call_by seat) (call_of_bid bid) false
+is_given seat deed = is_call_by seat deed
+
+-- A bid of a seat is lost where its window closes with another deed than that call: with no call of the seat.
+abbrev pub is_lost : Option Deed → ℕ → Bool
+is_lost None seat = false
+is_lost (Some deed) seat = not (is_given seat deed)
+
+-- The seats of the bids that were taken and lost their window, in order.
+abbrev pub lost_from : Setting → After → List (Entry Answer) → List ℕ
+lost_from setting now [] = []
+lost_from setting now (entry ∷ entries) =
+    filter (λ seat. is_lost (closing setting now (entry ∷ entries)) seat) (seat_that is_bid setting now entry) ++ lost_from setting (step setting now entry) entries
+
+abbrev pub lost_bids : Game → List ℕ
+lost_bids game = lost_from game.setting before_all game.entries
+
 -- Two games agree for a seat, and differ in the walls and their number, in the deeds that come of them and the tiles that are drawn,
--- in the limit of a window, in the authors, in what the other seats said and in which order, in how many answers were refused and in
--- how many bids were taken, in who left, in who came back, and in which windows the time ran out. The seat's own answers have the
--- same verdicts in both, and both have the same calls, since the seat sees them: so what was refused is another's, and a bid was lost.
+-- in the limit of a window, in the authors, in what the other seats said and in which order, in how many answers were refused, in
+-- how many bids were taken and how many of them lost their window, in who left, in who came back, and in which windows the time ran
+-- out. The seat's own answers have the same verdicts in both, and both have the same calls, since the seat sees them: so what was
+-- refused is another's, and so is the bid that was lost.
 pub record AgreeApart (seat : ℕ) : Type 0 where
   pub one : Game
   pub other : Game
@@ -110,7 +143,8 @@ pub record AgreeApart (seat : ℕ) : Type 0 where
   pub writers : authors one ≢ authors other
   pub order : answers_of_others seat one ≢ answers_of_others seat other
   pub refused : length (refusals one) ≢ length (refusals other)
-  pub bidding : length (bids one) ≢ length (bids other)
+  pub taken : length (bids one) ≢ length (bids other)
+  pub bidding : length (lost_bids one) ≢ length (lost_bids other)
   pub leaving : departures one ≢ departures other
   pub coming : returns one ≢ returns other
   pub time : expiries one ≢ expiries other
