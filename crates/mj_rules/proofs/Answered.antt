@@ -16,6 +16,7 @@ use Rattle.mj_deeds.specs.Four.{at_seat}
 use Rattle.mj_deeds.specs.Facts.{newest, tiles_gained, tiles_lost, seat_melds, is_pon, kans, live_tiles}
 use Rattle.mj_deeds.specs.Fits.{ground_of, is_in_hand, taken_from, is_discard_of, are_held, is_triplet_of, is_face, has_tiles}
 use Rattle.mj_deeds.proofs.RealTiles.{member_passes, all_members, gained_real, melds_real, triplet_passes}
+use Rattle.mj_calls.specs.Shapes.{are_alike}
 use Rattle.mj_rules.specs.Broken.{is_not_now, is_reach_unready, questions, broken_by, is_stuck_call, is_no_such_tile, misses_discard, is_wrong_target, is_last_tile, is_not_held, is_locked, is_own_pon, is_bad_set, is_kan_full, is_kan_dry}
 use Rattle.mj_rules.specs.View.{WindowTurn, Discarded, turn_by, turn_in, SeatView, view_of, held_count}
 use Rattle.mj_deeds.specs.declared.bid.Bid.{Bid}
@@ -145,6 +146,7 @@ act_next rules walls ds n who (answers.Discard actor (Known t) drawn) e acts beg
   seats = seat_there who small;
   held = λ seat. answer_held (hand ds) who seat (t ∷ []) c.held;
   triplet = refl;
+  even = refl;
   tiles = held_real rules.red (hand ds) who (t ∷ []) real c.held;
   live = refl;
   once = refl;
@@ -157,6 +159,7 @@ act_next rules walls ds n who (answers.ClosedKan actor (Known x) (Known y) (Know
   seats = seat_there who small;
   held = λ seat. answer_held (hand ds) who seat (x ∷ y ∷ z ∷ w ∷ []) c.held;
   triplet = refl;
+  even = refl;
   tiles = held_real rules.red (hand ds) who (x ∷ y ∷ z ∷ w ∷ []) real c.held;
   live = kan_may (kans (hand ds)) (live_tiles (hand ds)) c.fifth c.dry;
   once = refl;
@@ -169,6 +172,7 @@ act_next rules walls ds n who (answers.AddedKan actor (Known t) (Known x) (Known
   seats = seat_there who small;
   held = λ seat. answer_held (hand ds) who seat (t ∷ []) c.held;
   triplet = own_triplet t x y z (seat_melds (hand ds) who) c.good;
+  even = refl;
   tiles = added_real rules.red (hand ds) who t x y z real (held_real rules.red (hand ds) who (t ∷ []) real c.held) (own_triplet t x y z (seat_melds (hand ds) who) c.good);
   live = kan_may (kans (hand ds)) (live_tiles (hand ds)) c.fifth c.dry;
   once = refl;
@@ -181,6 +185,7 @@ act_next rules walls ds n who (answers.Reach actor) e acts begun small real c = 
   seats = seat_there who small;
   held = λ seat. refl;
   triplet = refl;
+  even = refl;
   tiles = refl;
   live = refl;
   once = refl;
@@ -225,19 +230,20 @@ taken_real : (red : Bool) (hs : List Deed) (seat who target tile t : ℕ) (tiles
 taken_real red hs seat who target tile t tiles real offered hit held =
     and_from (is_face red t) _ (subst (λ x. is_face red x ≡ true) (eqb-true tile t (and_parts (who == target) (tile == t) hit).1) offered) (held_real red hs seat tiles real held)
 
--- A pon of a discard.
-pon_next : (rules : Rules) (walls : List (List ℕ)) (ds : List Deed) (who tile : ℕ) (drawn : Bool) (seat target t x y : ℕ) → newest ds ≡ Some (Discard who tile drawn) → who < 4 → seat < 4 →
+-- A chi of a discard.
+chi_next : (rules : Rules) (walls : List (List ℕ)) (ds : List Deed) (who tile : ℕ) (drawn : Bool) (seat target t x y : ℕ) → newest ds ≡ Some (Discard who tile drawn) → who < 4 → seat < 4 →
     misses_discard (view_of ds seat).turn target (Known t) ≡ false →
     list_any (λ face. nat_lt (held_count (view_of ds seat) face) (number_in (x ∷ y ∷ []) face)) (x ∷ y ∷ []) ≡ false →
-    list_all (has_tiles rules.red) (hand ds) ≡ true → is_face rules.red tile ≡ true → IsNext rules.red walls ds (Pon seat target t x y)
+    list_all (has_tiles rules.red) (hand ds) ≡ true → is_face rules.red tile ≡ true → IsNext rules.red walls ds (Chi seat target t x y)
 unfolding view_of ground_of
-pon_next rules walls ds who tile drawn seat target t x y e small there takes held real offered =
+chi_next rules walls ds who tile drawn seat target t x y e small there takes held real offered =
     let hit = hits who tile target t (ap (λ (turn : WindowTurn). misses_discard turn target (Known t)) (sym (turn_is ds seat who tile drawn e)) ∙ takes) in
     record {
       place = ap (λ o. is_discard_of (taken_from (hand ds) o) target t) e ∙ hit;
       seats = caller_seats seat target who t tile there small hit;
       held = λ other. answer_held (hand ds) seat other (x ∷ y ∷ []) held;
       triplet = refl;
+      even = refl;
       tiles = taken_real rules.red (hand ds) seat who target tile t (x ∷ y ∷ []) real offered hit held;
       live = refl;
       once = refl;
@@ -246,14 +252,15 @@ pon_next rules walls ds who tile drawn seat target t x y e small there takes hel
       brings = tt;
     }
 
--- A chi of a discard owes what a pon of the same tiles owes.
-chi_next : (red : Bool) (walls : List (List ℕ)) (ds : List Deed) (seat target t x y : ℕ) → IsNext red walls ds (Pon seat target t x y) → IsNext red walls ds (Chi seat target t x y)
+-- A pon of one kind owes what a chi of the same tiles owes.
+pon_next : (red : Bool) (walls : List (List ℕ)) (ds : List Deed) (seat target t x y : ℕ) → (are_alike t x && are_alike t y) ≡ true → IsNext red walls ds (Chi seat target t x y) → IsNext red walls ds (Pon seat target t x y)
 unfolding ground_of
-chi_next red walls ds seat target t x y n = record {
+pon_next red walls ds seat target t x y alike n = record {
   place = n.place;
   seats = n.seats;
   held = n.held;
   triplet = n.triplet;
+  even = alike;
   tiles = n.tiles;
   live = n.live;
   once = n.once;
@@ -267,7 +274,7 @@ triplet_next : (rules : Rules) (walls : List (List ℕ)) (ds : List Deed) (who t
     list_all (has_tiles rules.red) (hand ds) ≡ true → is_face rules.red tile ≡ true → Clean rules seat (view_of ds seat) answer → IfAny (IsNext rules.red walls ds) (call_of_bid (triplet_bid seat answer))
 unfolding view_of ground_of
 triplet_next rules walls ds who tile drawn seat (answers.Pon actor target (Known t) (Known x) (Known y)) e small there real offered c =
-    pon_next rules walls ds who tile drawn seat target t x y e small there c.target c.held real offered
+    pon_next rules.red walls ds seat target t x y (not-false (are_alike t x && are_alike t y) c.good) (chi_next rules walls ds who tile drawn seat target t x y e small there c.target c.held real offered)
 triplet_next rules walls ds who tile drawn seat (answers.OpenKan actor target (Known t) (Known x) (Known y) (Known z)) e small there real offered c =
     let hit = hits who tile target t (ap (λ (turn : WindowTurn). misses_discard turn target (Known t)) (sym (turn_is ds seat who tile drawn e)) ∙ c.target) in
     record {
@@ -275,6 +282,7 @@ triplet_next rules walls ds who tile drawn seat (answers.OpenKan actor target (K
       seats = caller_seats seat target who t tile there small hit;
       held = λ other. answer_held (hand ds) seat other (x ∷ y ∷ z ∷ []) c.held;
       triplet = refl;
+      even = refl;
       tiles = taken_real rules.red (hand ds) seat who target tile t (x ∷ y ∷ z ∷ []) real offered hit c.held;
       live = kan_may (kans (hand ds)) (live_tiles (hand ds)) c.fifth c.early;
       once = refl;
@@ -304,7 +312,7 @@ run_next : (rules : Rules) (walls : List (List ℕ)) (ds : List Deed) (who tile 
     list_all (has_tiles rules.red) (hand ds) ≡ true → is_face rules.red tile ≡ true → Clean rules seat (view_of ds seat) answer → IfAny (IsNext rules.red walls ds) (call_of_bid (run_bid seat answer))
 unfolding view_of
 run_next rules walls ds who tile drawn seat (answers.Chi actor target (Known t) (Known x) (Known y)) e small there real offered c =
-    chi_next rules.red walls ds seat target t x y (pon_next rules walls ds who tile drawn seat target t x y e small there c.target c.held real offered)
+    chi_next rules walls ds who tile drawn seat target t x y e small there c.target c.held real offered
 run_next rules walls ds who tile drawn seat (answers.Chi actor target Hidden b c) e small there real offered k = tt
 run_next rules walls ds who tile drawn seat (answers.Chi actor target (Known x) Hidden c) e small there real offered k = tt
 run_next rules walls ds who tile drawn seat (answers.Chi actor target (Known x) (Known y) Hidden) e small there real offered k = tt

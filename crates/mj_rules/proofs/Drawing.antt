@@ -38,6 +38,7 @@ drawn_next red walls ds why fair begun = record {
   seats = refl;
   held = λ seat. refl;
   triplet = refl;
+  even = refl;
   tiles = hands_real red why (hand ds) fair.real;
   live = refl;
   once = refl;

@@ -14,6 +14,7 @@ use Rattle.mj_deeds.specs.Four.{for_each_seat}
 use Rattle.mj_deeds.specs.Facts.{gains_by, losses_by, tiles_gained, tiles_lost, makes_by, is_kan, kans, kan_seats_by, kan_seats, indicators_by, indicators, is_live_draw, live_draws}
 use Rattle.mj_deeds.specs.Fits.{ground_of, is_in_place, are_held, has_seats, has_triplet, has_tiles, brought_by, has_live, is_first_riichi, has_points}
 use Rattle.mj_deeds.specs.Points.{points}
+use Rattle.mj_calls.specs.Shapes.{are_alike}
 use Rattle.mj_deeds.proofs.Totals.{sum_more, held_room}
 use Rattle.mj_wall.specs.Places.{replacement_tile}
 use Rattle.mj_wall.proofs.WallKinds.{up}
@@ -129,12 +130,18 @@ wall_for walls ds d = wall_of walls (cond (is_hand_start d) (length (starts ds))
 abbrev pub stage_for : Stage → Deed → Stage
 stage_for stage d = cond (is_hand_start d) NoHand stage
 
+-- The three tiles of a pon are of one kind.
+abbrev pub is_even : Deed → Bool
+is_even (Pon who target tile a b) = are_alike tile a && are_alike tile b
+is_even other = true
+
 -- What a deed owes to those before it, other than that there is room.
 pub record IsNext (red : Bool) (walls : List (List ℕ)) (ds : List Deed) (d : Deed) : Type 0 where
   pub place : is_in_place (ground_of ds) d ≡ true
   pub seats : has_seats d ≡ true
   pub held : (seat : ℕ) → are_held (tiles_gained (before_in (hand ds) d) seat) (tiles_lost (before_in (hand ds) d) seat) (losses_by seat d) ≡ true
   pub triplet : has_triplet (before_in (hand ds) d) d ≡ true
+  pub even : is_even d ≡ true
   pub tiles : has_tiles red d ≡ true
   pub live : has_live (before_in (hand ds) d) d ≡ true
   pub once : is_first_riichi (before_in (hand ds) d) d ≡ true

@@ -34,6 +34,7 @@ pub mod Precedence
 pub mod Paid
 pub mod Said
 pub mod Accepted
+pub mod Apart
 pub mod Hands
 pub mod Greatest
 pub mod HandRules

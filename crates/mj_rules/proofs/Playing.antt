@@ -207,7 +207,7 @@ sound_more red walls ds d h s adds = record {
 
 start_next : (red : Bool) (walls : List (List ℕ)) (d : Deed) → IsTrue (is_game_start d) → IsNext red walls [] d
 unfolding hand ground_of
-start_next red walls (StartGame names) h = record { place = refl; seats = refl; held = λ seat. refl; triplet = refl; tiles = refl; live = refl; once = refl; pointed = refl; stage = refl; brings = tt }
+start_next red walls (StartGame names) h = record { place = refl; seats = refl; held = λ seat. refl; triplet = refl; even = refl; tiles = refl; live = refl; once = refl; pointed = refl; stage = refl; brings = tt }
 start_next red walls (StartHand round number honba deposits dealer indicator hands) h = cc
 start_next red walls (Draw who tile replacement) h = cc
 start_next red walls (Discard who tile drawn) h = cc

@@ -108,7 +108,7 @@ discarder rules walls ds given who tile a =
     first_seat who _ (subst (λ (o : Option Deed). IfAny (λ d. has_seats d ≡ true) o) a.discarded (sound_of rules walls ds given who tile a).seated)
 
 -- The tile is of a kind.
-small_kind : (face : ℕ) → face < 37 → kind_of face < 34
+pub small_kind : (face : ℕ) → face < 37 → kind_of face < 34
 small_kind face h = by_test (nat_lt face 34) refl
   where
     by_test : (b : Bool) → nat_lt face 34 ≡ b → (if b then face else 4 + 9 * (face - 34)) < 34

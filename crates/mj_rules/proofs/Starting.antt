@@ -57,6 +57,7 @@ start_next red walls ds names h none e = record {
   seats = refl;
   held = λ seat. refl;
   triplet = refl;
+  even = refl;
   tiles = start_is_real red (wall_of walls 0) first_standing 0 (h 0);
   live = refl;
   once = refl;
@@ -122,6 +123,7 @@ hand_next red walls ds next h e after stands = record {
   seats = and_from (nat_lt next.dealer 4) true (lt-ltb next.dealer 4 stands.0) refl;
   held = λ seat. refl;
   triplet = refl;
+  even = refl;
   tiles = start_is_real red (wall_of walls next.hand) next (deposits ds) (h next.hand);
   live = refl;
   once = refl;
@@ -134,7 +136,7 @@ hand_next red walls ds next h e after stands = record {
 
 pub end_next : (red : Bool) (walls : List (List ℕ)) (ds : List Deed) → is_after_result (newest ds) ≡ true → IsNext red walls ds EndHand
 unfolding ground_of
-end_next red walls ds h = record { place = h; seats = refl; held = λ seat. refl; triplet = refl; tiles = refl; live = refl; once = refl; pointed = refl; stage = refl; brings = tt }
+end_next red walls ds h = record { place = h; seats = refl; held = λ seat. refl; triplet = refl; even = refl; tiles = refl; live = refl; once = refl; pointed = refl; stage = refl; brings = tt }
 
 -- The game ends with the points as they stand.
 pub game_end_next : (red : Bool) (walls : List (List ℕ)) (ds : List Deed) → Fair red walls ds → is_after_hand (newest ds) ≡ true → IsNext red walls ds (EndGame (points ds) (deposits ds))
@@ -144,6 +146,7 @@ game_end_next red walls ds fair over = record {
   seats = refl;
   held = λ seat. refl;
   triplet = refl;
+  even = refl;
   tiles = refl;
   live = refl;
   once = refl;

@@ -108,6 +108,7 @@ win_next red walls ds seat target tile rest fair begun small there others real =
   seats = and_from (ltb seat 4) _ (lt-ltb seat 4 small) (and_from (ltb target 4) _ (lt-ltb target 4 there) others);
   held = λ other. refl;
   triplet = refl;
+  even = refl;
   tiles = shown_real red (wall_now walls ds) (before_wins (hand ds)) seat tile (fair.whole _)
       (ap (λ (tiles : List ℕ). list_all (is_face red) tiles) (gained_before_wins (hand ds) seat) ∙ gained_real red (hand ds) seat fair.real) real;
   live = refl;
@@ -155,6 +156,7 @@ accept_next red walls ds who bid fair begun small free waits call = record {
   seats = and_from (ltb who 4) _ (lt-ltb who 4 small) (bid_seats red walls ds bid call);
   held = λ other. refl;
   triplet = refl;
+  even = refl;
   tiles = bid_tiles red walls ds bid call;
   live = refl;
   once = ap not free;

@@ -92,6 +92,12 @@ ListedInTurn =
     (rules : Rules) (deeds : List Deed) (seat : ℕ) → AllPairs (λ one other. kind_of one.a ≢ kind_of other.a) (triplets (view_of deeds seat)) →
     AllPairs (λ one other. comes_before (key_of one) (key_of other) ≡ true) (possible rules deeds seat)
 
+-- After played deeds they always do: no two triplets of a seat are of one kind there.
+abbrev pub PlayedInTurn : Type 0
+PlayedInTurn =
+    (rules : Rules) (walls : List (List ℕ)) (deeds : List Deed) (seat : ℕ) → ((number : ℕ) → is_wall rules.red (wall_of walls number) ≡ true) → IsPlayed rules walls deeds →
+    AllPairs (λ one other. comes_before (key_of one) (key_of other) ≡ true) (possible rules deeds seat)
+
 -- In played deeds the live draws and the kans of a hand are at most 70 together, the kans at most four, and so are the melds of a
 -- seat.
 pub record IsWithin (deeds : List Deed) : Type 0 where

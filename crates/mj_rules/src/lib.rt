@@ -5,7 +5,7 @@
 ghost use Rattle.mj_rules.specs.Accepted.{AcceptedOfDiscard};
 ghost use Rattle.mj_rules.specs.Hands.{CompleteIsFound, WaitsAreFound, ReadyIsFound, ReadingsAreFound, WorthIsFound};
 ghost use Rattle.mj_rules.specs.Hands.{KansAreFound, SeatWaitsAreFound, NoYakuIsFound, LawfulWinsAreGreatest};
-ghost use Rattle.mj_rules.specs.Laws.{EachIsWall, PlayedWithOneMore, PlayedWithoutTheLast, PlayedDeedsFit, NextOfPlayedFits, SomeDeedFollows, SomeDiscardIsLawful, FittingDefaultIsLawful, PlayedDefaultIsLawful, TotalStays, FewDeeds, FewDraws, PlainIsListed, ListedIsPlain, ListedInTurn};
+ghost use Rattle.mj_rules.specs.Laws.{EachIsWall, PlayedWithOneMore, PlayedWithoutTheLast, PlayedDeedsFit, NextOfPlayedFits, SomeDeedFollows, SomeDiscardIsLawful, FittingDefaultIsLawful, PlayedDefaultIsLawful, TotalStays, FewDeeds, FewDraws, PlainIsListed, ListedIsPlain, ListedInTurn, PlayedInTurn};
 ghost use Rattle.mj_rules.specs.Paid.{LawfulWinsAreWorth, FirstRonIsPaid, FurtherRonsArePaid, OwnWinIsPaid};
 ghost use Rattle.mj_rules.specs.Precedence.{AllWinsCome, OnePonOrKan, OneChi, PonOrKanComes, ChiComes, NothingIsCalled, KeptCallComes};
 ghost use Rattle.mj_rules.specs.Said.{PointsAreRead};
@@ -64,11 +64,13 @@ pub fn few_deeds()
 {}
 
 /// A plain answer is in the list of possible answers of a seat exactly where it is lawful, and no other answer is there. The
-/// list stands in turn: by type, within a type by the tiles in tile order, so that no answer stands there twice.
+/// list stands in turn: by type, within a type by the tiles in tile order, so that no answer stands there twice. That asks that no two
+/// triplets of the seat are of one kind, as they never are after played deeds.
 pub fn lawful_answers_are_listed()
     ensures listed { PlainIsListed }
     ensures plain { ListedIsPlain }
     ensures in_turn { ListedInTurn }
+    ensures played { PlayedInTurn }
 {}
 
 /// All who win on a discard or on the tile of an added kan win, in turn order after its seat, and nothing else comes.
