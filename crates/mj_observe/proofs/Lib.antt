@@ -4,3 +4,4 @@ pub mod Secrets
 pub mod Watching
 pub mod Keeping
 pub mod Pieces
+pub mod Alike

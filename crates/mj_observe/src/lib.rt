@@ -5,5 +5,8 @@ mod laws;
 mod observer;
 mod public;
 
-pub use laws::{others_are_told_all, views_grow, watchers_learn_no_more};
+pub use laws::{
+    others_are_told_all, public_tokens_hold_no_secret, some_deeds_are_alike_in_public, views_grow,
+    watchers_learn_no_more,
+};
 pub use observer::Observer;
