@@ -24,6 +24,63 @@ d|r2m r5p r3s qW N 0 2m|60|no
 d|pairs 12m 35p 79s E|25|no
 d|orphans E|0|no";
 
+/// The same of sums that are whole tens, and then of sums that are 2 above: of each form and place of a triplet and of a kan, of each
+/// pair and wait, of each way to win.
+const PARTS: &str = "\
+o|T2m t9p r3s r6s W 2 5s|30|no
+o|T2m t9p r3s r6s W 2 4s|40|no
+do|t2m T9p r3s r6s W 2 5s|30|no
+do|t2m T9p r3s r6s W 2 4s|40|no
+do|t8m T1p r3s r6s W 2 5s|30|no
+do|t8m T1p r3s r6s W 2 4s|40|no
+do|t9p R2m r3s r6s W 2 5s|30|no
+do|t9p R2m r3s r6s W 2 4s|40|no
+do|t1s R2m r3s r6s W 2 5s|30|no
+do|tN R2m r3s r6s 5p 2 5s|30|no
+do|tN R2m r3s r6s 5p 2 4s|40|no
+do|TC t2m r3s r6s 5p 2 5s|30|no
+do|TC t2m r3s r6s 5p 2 4s|40|no
+do|Q2m R2p r3s r6s W 2 5s|30|no
+do|Q2m R2p r3s r6s W 2 4s|40|no
+d|q2m r2p r3s r6s W 2 4s|40|no
+d|q2m r2p r3s r6s P 2 4s|50|no
+do|Q1m R2p r3s r6s W 2 4s|40|no
+do|Q1m R2p r3s r6s P 2 4s|50|no
+do|QF R2p r3s r6s W 2 4s|40|no
+do|QF R2p r3s r6s P 2 4s|50|no
+de|q9s r2p r3s r6s E 1 3p|60|no
+d|q9s tC r3s r6m W 2 5s|70|no
+de|qW r2p r3s r6s E 1 3p|60|no
+d|qW tC r3s r6s 5m 2 5s|70|no
+do|t2m r5p r3s R6s P 1 6p|30|no
+|r2m r5p r3s r6s P 0 2m|40|no
+do|t2m r5p r3s R6s F 1 6p|30|no
+|r2m r5p r3s r6s F 0 2m|40|no
+do|t2m r5p r3s R6s C 1 6p|30|no
+|r2m r5p r3s r6s C 0 2m|40|no
+do|t2m r5p r3s R6s S 1 6p|30|no
+|r2m r5p r3s r6s S 0 2m|40|no
+do|t2m r5p r3s R6s E 1 6p|30|no
+|r2m r5p r3s r6s E 0 2m|40|no
+dos|t2m r5p r3s R6s S 1 5p|30|no
+dos|t2m r5p r3s R6s S 1 6p|40|no
+des|t9m r5p r3s r6s N 1 5p|30|no
+|r2m r5p r3s r6s N 0 2m|30|pinfu
+|r2m r5p r3s r6s N 4 N|40|no
+|r2m r5p r3s r6s N 0 3m|40|no
+|r1m r5p r3s r6s N 0 3m|40|no
+|r1m r5p r3s r6s N 0 1m|30|pinfu
+|r7m r5p r3s r6s N 0 7m|40|no
+|r7m r5p r3s r6s N 0 9m|30|pinfu
+|r6p r5m r3s r6s N 0 6p|30|pinfu
+do|t2m T9p r3s r6s W 0 2m|30|no
+do|t7m T9p r3s r6s W 0 7m|30|no
+o|t9p R2m r3s t2s W 3 2s|30|no
+do|r2m r5p r3s R6s W 0 2m|30|no
+d|r2m r5p r3s r6s W 0 3m|30|no
+d|pairs 12m 35p 79s E|25|no
+|pairs 12m 35p 79s E|25|no";
+
 fn has_fu(line: &str) -> Option<bool> {
     let [marks, text, wanted, pinfu, ..] = fields(line);
     let (reading, case, wanted) = (reading(text)?, case(marks), number(wanted)?);
@@ -32,8 +89,10 @@ fn has_fu(line: &str) -> Option<bool> {
 
 #[test]
 fn the_parts_of_a_hand_are_added_and_rounded_up(rt: HostRuntime) {
-    for line in FU.lines() {
-        assert!(rt; has_fu(line) == Some(true), "{line}");
+    for rows in [FU, PARTS] {
+        for line in rows.lines() {
+            assert!(rt; has_fu(line) == Some(true), "{line}");
+        }
     }
 }
 

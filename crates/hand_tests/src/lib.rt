@@ -26,3 +26,5 @@ mod waits;
 mod words;
 #[cfg(test)]
 mod yaku;
+#[cfg(test)]
+mod yaku_bounds;

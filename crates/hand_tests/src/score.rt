@@ -40,14 +40,19 @@ fn has_just(score: &Score, rows: u64) -> bool {
     true
 }
 
-/// Circumstances, tiles, the winning one, dora, and the han, the fu, the base points in tens and all rows. Both readings of the last
-/// hand have 3,000 base points: two pairs of equal runs have 7 han, seven pairs 6.
+/// Circumstances, tiles, the winning one, the dora of the three sorts, and the han, the fu, the base points in tens and all rows. As
+/// triplets the third of these hands has 50 fu and as runs 30, both with 5 han. Both readings of the fifth have 3,000 base
+/// points: two pairs of equal runs have 7 han, seven pairs 6. The last one is both four concealed triplets and green.
 const WORTH: &str = "\
-d|234567m 456p 33678s|7m|0|3|20|64|3 4 6
-|223344m 556677p 88s|8s|0|4|40|200|6 31
-|222333444m 567p 88s|7p|2|5|50|200|6 18
-|119m 19p 19s ESWNPFC|C|2|100|0|800|33
-|223344556677m EE|E|1|7|40|300|26 31";
+d|234567m 456p 33678s|7m|0 0 0|3|20|64|3 4 6
+|223344m 556677p 88s|8s|0 0 0|4|40|200|6 31
+|222333444m 567p 88s|7p|2 0 0|5|50|200|6 18
+|119m 19p 19s ESWNPFC|C|2 1 1|100|0|800|33
+|223344556677m EE|E|1 0 0|7|40|300|26 31
+d|234567m 456p 33678s|7m|0 0 1|4|20|128|3 4 6
+d|234567m 456p 33678s|7m|0 0 3|6|20|300|3 4 6
+d|234567m 456p 33678s|7m|4 4 2|13|20|800|3 4 6
+d|222333444666s 88s|2s|0 0 0|100|0|800|34";
 
 fn is_worth(score: &Score, line: &str) -> Option<bool> {
     let [_, _, _, _, han, fu, base, rows] = fields(line);
@@ -62,12 +67,19 @@ fn is_worth(score: &Score, line: &str) -> Option<bool> {
     )
 }
 
+/// Three numbers that spaces part.
+fn three(text: &str) -> Option<[u8; 3]> {
+    let (first, others) = text.split_once(' ')?;
+    let (second, third) = others.split_once(' ')?;
+    Some([number(first)?, number(second)?, number(third)?])
+}
+
 fn has_worth(alloc: Global, line: &str) -> Result<bool, AllocError> {
     let [marks, hand, win, dora, ..] = fields(line);
-    let Some(dora) = number(dora) else {
+    let Some(dora) = three(dora) else {
         return Ok(false);
     };
-    match score(alloc, marks, hand, win, [dora, 0, 0])? {
+    match score(alloc, marks, hand, win, dora)? {
         Some(score) => Ok(is_worth(&score, line) == Some(true)),
         None => Ok(false),
     }
@@ -102,6 +114,9 @@ fn each_dora_of_whatever_sort_is_one_han(rt: HostRuntime) -> Result<(), AllocErr
         ([1, 0, 0], 4),
         ([0, 1, 0], 4),
         ([0, 0, 1], 4),
+        ([0, 0, 2], 5),
+        ([0, 0, 3], 6),
+        ([2, 3, 1], 9),
     ] {
         assert!(rt; han(rt.alloc(), dora)? == wanted);
     }

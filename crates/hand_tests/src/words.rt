@@ -1,5 +1,7 @@
 //! Hands as texts, read for the tests. A case is a line, and bars part its fields.
 
+ghost use Rattle.std.specs.Prelude.{◌<◌};
+
 use mj_readings::{Case, Reading, Riichi, Set, SetForm};
 use mj_tiles::{Counts, Form, Kind, Kinds, Meld, Tile};
 
@@ -157,12 +159,12 @@ fn is_shown(letter: &str) -> bool {
 }
 
 /// The circumstances of a win by their marks: `d` drawn, `o` open, `r` riichi, `R` double riichi, `i` ippatsu, `l` the last tile,
-/// `k` a replacement, `c` a robbed kan, `f` the first turn, `e` seat wind E, else S. The round wind is E.
+/// `k` a replacement, `c` a robbed kan, `f` the first turn; `e`, `w` and `n` seat wind E, W and N, else S; `s` round wind S, else E.
 pub(crate) fn case(marks: &str) -> Case {
     let marks = marks.as_bytes();
     Case {
-        seat_wind: Kind::at(if marks.contains(&b'e') { 27 } else { 28 }),
-        round_wind: Kind::at(27),
+        seat_wind: Kind::at(seat_wind(marks)),
+        round_wind: Kind::at(if marks.contains(&b's') { 28 } else { 27 }),
         by_draw: marks.contains(&b'd'),
         closed: !marks.contains(&b'o'),
         riichi: riichi(marks),
@@ -172,6 +174,22 @@ pub(crate) fn case(marks: &str) -> Case {
         robbed: marks.contains(&b'c'),
         first: marks.contains(&b'f'),
     }
+}
+
+/// The number of the seat wind.
+fn seat_wind(marks: &[u8]) -> u8
+    ensures { result < 34 }
+{
+    if marks.contains(&b'e') {
+        return 27;
+    }
+    if marks.contains(&b'w') {
+        return 29;
+    }
+    if marks.contains(&b'n') {
+        return 30;
+    }
+    28
 }
 
 fn riichi(marks: &[u8]) -> Riichi {

@@ -61,7 +61,7 @@ fn meld_of(marks: &str) -> Option<Meld> {
     None
 }
 
-fn yaku_of(hand: &str) -> Option<YakuSet> {
+pub(crate) fn yaku_of(hand: &str) -> Option<YakuSet> {
     let (marks, text) = hand.split_once(' ')?;
     yaku_by(marks, text)
 }
@@ -114,7 +114,18 @@ d r2m r5m r4p r6s 3s 1 7m|3 4 6
 o r2m r5p r3s R7s 2p 0 2m|
 r r2m tP tF tC W 0 2m|35
 d t1m t9m t1p t9p 1s 4 1s|34
-- orphans E|33";
+- orphans E|33
+o T1m T9p tW TN 9s 4 9s|17 21
+o T1m t9p t1s R7p 9s 4 9s|27
+o T1m T9p tW R7p 9s 4 9s|25
+- pairs 19m 19p 1s EC|16 21
+o tP tF TC TE W 4 W|35
+o tE tS tW TN P 4 P|37
+d t2s t3s t4s t6s F 4 F|34
+- r1m r1m r4m r7m 9m 0 1m|4 5 24 32
+o r2m r5p tP TF C 0 2m|9 10 22
+R t1m t1p t1s r7s 9m 0 1m|1 20 27
+- r2s r2s r6s tC F 0 2s|5 11 26";
 
 fn has_all_rows(line: &str) -> Option<bool> {
     let [hand, rows, ..] = fields(line);
