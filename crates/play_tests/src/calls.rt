@@ -9,6 +9,12 @@ const BANS: &str = "\
 chi 1 0 3m 4m 5m|36m
 chi 1 0 3m 4m 5mr|36m
 chi 1 0 3m 1m 2m|3m
+chi 1 0 4m 2m 3m|14m
+chi 1 0 8s 7s 9s|8s
+chi 1 0 2s 3s 4s|25s
+chi 1 0 6s 7s 8s|69s
+chi 1 0 6m 7m 8m|69m
+chi 1 0 2m 3m 4m|25m
 chi 1 0 3m 2m 4m|3m
 chi 1 0 7m 8m 9m|7m
 chi 1 0 9m 7m 8m|69m
@@ -84,7 +90,10 @@ const KANS: &str = "\
 123m 22233344p 55s||2p|2p|no
 111222333m 45p 99s||1m|1m|no
 2223334445556m||6m|6m|no
-123p 11m 77s EEE|1p|E|E|yes";
+123p 11m 77s EEE|1p|E|E|yes
+123456m 7p 555s EEE||5s|5s|yes
+123456m 7p 555s EEE||E|5s|no
+123456m 7p 555s EEE||5s|E|no";
 
 fn is_lawful(line: &str) -> Option<bool> {
     let [before, made, drawn, kan, wanted, ..] = fields(line);
