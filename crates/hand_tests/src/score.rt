@@ -42,7 +42,8 @@ fn has_just(score: &Score, rows: u64) -> bool {
 
 /// Circumstances, tiles, the winning one, the dora of the three sorts, and the han, the fu, the base points in tens and all rows. As
 /// triplets the third of these hands has 50 fu and as runs 30, both with 5 han. Both readings of the fifth have 3,000 base
-/// points: two pairs of equal runs have 7 han, seven pairs 6. The last one is both four concealed triplets and green.
+/// points: two pairs of equal runs have 7 han, seven pairs 6. The last but one is both four concealed triplets and green; the last one
+/// has 16 han and 30 fu as runs, 13 han and 50 fu as triplets.
 const WORTH: &str = "\
 d|234567m 456p 33678s|7m|0 0 0|3|20|64|3 4 6
 |223344m 556677p 88s|8s|0 0 0|4|40|200|6 31
@@ -52,7 +53,8 @@ d|234567m 456p 33678s|7m|0 0 0|3|20|64|3 4 6
 d|234567m 456p 33678s|7m|0 0 1|4|20|128|3 4 6
 d|234567m 456p 33678s|7m|0 0 3|6|20|300|3 4 6
 d|234567m 456p 33678s|7m|4 4 2|13|20|800|3 4 6
-d|222333444666s 88s|2s|0 0 0|100|0|800|34";
+d|222333444666s 88s|2s|0 0 0|100|0|800|34
+|111222333m 789p 99s|9p|11 0 0|16|30|800|4 5 27";
 
 fn is_worth(score: &Score, line: &str) -> Option<bool> {
     let [_, _, _, _, han, fu, base, rows] = fields(line);
