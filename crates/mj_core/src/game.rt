@@ -23,9 +23,10 @@ use mj_ports::{Control, JoinLine, SitRefused};
 use mj_seating::Placed;
 use mj_table::Table;
 use mj_wall::{Rules, Setting, Wall, Walls};
-use mjai_lines::{read_answer, read_join, write_record};
+use mjai_lines::{Steps, read_answer, read_join, write_record};
 use std::alloc::{AllocError, Global};
-use std::marker::Model;
+use std::marker::{Brand, Model};
+use std::sync::ledger::{Blank, Ledger};
 
 // For so many entries there is room from the start.
 const ENTRIES: usize = 8_192;
@@ -363,12 +364,30 @@ impl Core {
         ensures ok { OnOk result (Adds into.old.items into.new.items (record_of self.now)) }
         ensures err { OnErr result (into.new.items ≡ into.old.items) }
     {
+        self.record_on::<Brand>(alloc, into, Blank::new(1))
+    }
+
+    // Writes the record, its lines counted on a new ledger.
+    fn record_on<L: Ledger>(
+        &self,
+        alloc: Global,
+        into: &mut Vec<u8>,
+        blank: Blank,
+    ) -> Result<(), AllocError>
+        requires name { blank.name ≡ L.name }
+        requires parts { blank.parts ≡ L.parts }
+        requires some { 0 < blank.parts }
+        ensures ok { OnOk result (Adds into.old.items into.new.items (record_of self.now)) }
+        ensures err { OnErr result (into.new.items ≡ into.old.items) }
+    {
+        let mut steps = Steps::<L>::new(blank);
         write_record(
             alloc,
             self.setting.rules,
             self.setting.walls.as_slice(),
             self.state.deeds(),
             into,
+            &mut steps,
         )
     }
 

@@ -4,6 +4,7 @@
 mod laws;
 mod observer;
 mod public;
+mod rendering;
 
 pub use laws::{
     others_are_told_all, public_tokens_hold_no_secret, some_deeds_are_alike_in_public, views_grow,

@@ -4,10 +4,10 @@ ghost use Rattle.mj_observe.specs.Views.{public_part, is_hand_end};
 ghost use Rattle.mj_observe.specs.Inner.Kept.{one_more, of_hand, shown_at};
 
 use crate::public::{push_in_full, write_public};
+use crate::rendering::write_over;
 use mj_bytes::push_all;
 use mj_deeds::{Deed, Viewer, is_hand_start};
 use mj_past::Past;
-use mjai_lines::write_over;
 use std::alloc::{AllocError, Global};
 use std::marker::Model;
 use std::mem;
@@ -16,6 +16,7 @@ use std::mem;
 /// record's lines of the newest hand alone.
 #[derive(Drop)]
 pub struct Observer {
+    alloc: Global,
     // the record's lines of the newest hand, and their number
     kept: Vec<u8>,
     count: usize,
@@ -44,6 +45,7 @@ impl Observer {
         ensures { IfOk result (λ observer. observer ≡ []) }
     {
         Ok(Observer {
+            alloc,
             kept: Vec::new(alloc),
             count: 0,
             line: Vec::new(alloc),
@@ -63,14 +65,15 @@ impl Observer {
         ensures untold { OnErr result (into.new.items ≡ into.old.items) }
     {
         let Observer {
+            alloc,
             kept,
             count,
             line,
             text,
             past,
         } = self;
-        write_over(line, Viewer::Record, deed)?;
-        write_public(text, deed)?;
+        write_over(*alloc, line, Viewer::Record, deed)?;
+        write_public(*alloc, text, deed)?;
         if is_hand_start(deed) {
             push_all(into, text.as_slice())?;
             mem::swap(kept, line);

@@ -5,15 +5,15 @@ ghost use Rattle.mj_bytes.specs.Adds.{Adds};
 ghost use Rattle.mj_forms.specs.Lines.{bracketed, quoted, quoted_tile, hidden_tile};
 ghost use Rattle.mj_observe.specs.Views.{public_line, names_line, all_hidden, hand_shown_line};
 
+use crate::rendering::write_over;
 use mj_bytes::{push_all, push_number};
 use mj_deeds::{Deed, Four, Hands, Viewer};
 use mj_ports::Name;
 use mj_tiles::{Kind, Tile};
-use mjai_lines::write_over;
-use std::alloc::AllocError;
+use std::alloc::{AllocError, Global};
 
 // Writes the public line of a deed in place of a text. The only error is running out of memory, and then the text may be any.
-pub(crate) fn write_public(line: &mut Vec<u8>, deed: &Deed) -> Result<(), AllocError>
+pub(crate) fn write_public(alloc: Global, line: &mut Vec<u8>, deed: &Deed) -> Result<(), AllocError>
     ensures { OnOk result (line.new.items ≡ public_line deed.now) }
 {
     match deed {
@@ -39,8 +39,8 @@ pub(crate) fn write_public(line: &mut Vec<u8>, deed: &Deed) -> Result<(), AllocE
             push_all(line, b"}\n")?;
             Ok(())
         }
-        Deed::Draw { seat: 0, .. } => write_over(line, Viewer::Seat(1), deed),
-        _ => write_over(line, Viewer::Seat(0), deed),
+        Deed::Draw { seat: 0, .. } => write_over(alloc, line, Viewer::Seat(1), deed),
+        _ => write_over(alloc, line, Viewer::Seat(0), deed),
     }
 }
 

@@ -1,6 +1,6 @@
 //! Whether the deed that a line tells may follow the deeds on a table.
 
-ghost use Rattle.std.specs.Prelude.{◌≡◌, ◌≤◌, ◌↔◌, [], length, Some, None, IfOk, IfSome, IsTrue, bytes_eq, is_none};
+ghost use Rattle.std.specs.Prelude.{◌≡◌, ◌<◌, ◌≤◌, ◌↔◌, [], length, Some, None, IfOk, OnOk, IfSome, IsTrue, bytes_eq, is_none};
 ghost use Rattle.std.specs.List.{list_all};
 ghost use Rattle.mj_wall.specs.Places.{is_wall};
 ghost use Rattle.mj_deeds.specs.Facts.{newest};
@@ -21,8 +21,10 @@ use mj_judge::is_lawful;
 use mj_machine::next;
 use mj_table::Table;
 use mj_wall::Wall;
-use mjai_lines::write_over;
+use mjai_lines::{Steps, write};
 use std::alloc::{AllocError, Global};
+use std::marker::Brand;
+use std::sync::ledger::{Blank, Ledger};
 
 /// Puts the deed of a line, which ends with its newline, on the table, where some four lawful answers give it; else says
 /// what is wrong with the line. The room is for the lines of deeds that are compared with it.
@@ -70,23 +72,46 @@ fn follow_deed(
     if follows(alloc, table, walls, deed, line, room)? {
         return Ok(None);
     }
-    if is_line_of(room, deed, line)? {
+    if is_line_of(alloc, room, deed, line)? {
         return Ok(Some(Cause::Next));
     }
     Ok(Some(Cause::Line))
 }
 
 // Whether a text is the record's line of a deed, which is written in the room for one.
-fn is_line_of(room: &mut Vec<u8>, deed: &Deed, line: &[u8]) -> Result<bool, AllocError>
+fn is_line_of(
+    alloc: Global,
+    room: &mut Vec<u8>,
+    deed: &Deed,
+    line: &[u8],
+) -> Result<bool, AllocError>
     ensures { IfOk result (λ same. same ≡ bytes_eq (line_for Record deed.now) line.now) }
 {
-    write_over(room, Viewer::Record, deed)?;
+    write_over::<Brand>(alloc, room, deed, Blank::new(1))?;
     Ok(room.as_slice() == line)
+}
+
+// Writes the record's line of a deed in place of a text, counted on a new ledger.
+fn write_over<L: Ledger>(
+    alloc: Global,
+    room: &mut Vec<u8>,
+    deed: &Deed,
+    blank: Blank,
+) -> Result<(), AllocError>
+    requires name { blank.name ≡ L.name }
+    requires parts { blank.parts ≡ L.parts }
+    requires some { 0 < blank.parts }
+    ensures { OnOk result (room.new.items ≡ line_for Record deed.now) }
+{
+    let mut steps = Steps::<L>::new(blank);
+    room.clear();
+    write(alloc, Viewer::Record, deed, None, room, &mut steps)
 }
 
 // The same where the text may be known to be the line of an act: the deed is compared with that one first.
 #[tactic(auto, using(crate::proofs::UsualLaws::same_line))]
 fn is_known_line(
+    alloc: Global,
     room: &mut Vec<u8>,
     deed: &Deed,
     known: &Option<Act>,
@@ -100,7 +125,7 @@ fn is_known_line(
             return Ok(true);
         }
     }
-    is_line_of(room, deed, line)
+    is_line_of(alloc, room, deed, line)
 }
 
 // Puts the draw or the discard whose line a text is on the table, where some four lawful answers give one with this line;
@@ -150,7 +175,7 @@ fn follows(
     ensures { IfOk result (λ yes. FollowsIf yes walls.now table.old table.new line.now) }
 {
     if table.newest().is_none() {
-        return starts(table, walls, deed, line, room);
+        return starts(alloc, table, walls, deed, line, room);
     }
     if !can_go_on(table) {
         return Ok(false);
@@ -197,7 +222,7 @@ fn follows_by(
         return Ok(false);
     }
     match &next(alloc, table, walls, answers) {
-        Ok(followed) => is_known_line(room, followed, known, line),
+        Ok(followed) => is_known_line(alloc, room, followed, known, line),
         Err(error) => Err(*error),
     }
 }
@@ -216,6 +241,7 @@ fn are_lawful(table: &Table, answers: &Four<Answer>) -> bool
 // Puts a start of a game with four different names on the table, which has no deed; says whether the deed that was read of
 // the line is one and has the line.
 fn starts(
+    alloc: Global,
     table: &mut Table,
     walls: &[Wall],
     deed: &Deed,
@@ -231,7 +257,7 @@ fn starts(
     if !has_different_names(deed) {
         return Ok(false);
     }
-    if !is_line_of(room, deed, line)? {
+    if !is_line_of(alloc, room, deed, line)? {
         return Ok(false);
     }
     table.push(deed)?;

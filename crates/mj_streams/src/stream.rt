@@ -44,7 +44,8 @@ impl Stream {
         ensures text { OnOk result (self.new.text.items ≡ line_with answers.now line.now) }
         ensures room { OnOk result (HasRoom self.new (vec_len self.new.text)) }
     {
-        write_listed(&mut self.text, line, answers)?;
+        self.text.clear();
+        write_listed(alloc, line, answers, &mut self.text)?;
         let len = self.text.len();
         self.make_room(alloc, len)
     }

@@ -7,7 +7,7 @@ ghost use Rattle.mj_streams.specs.Streams.{no_lines, with_deed};
 
 use crate::pages::Stream;
 use mj_deeds::{Answers, Deed, Four, Viewer};
-use mjai_lines::{Steps, write_counted};
+use mjai_lines::{Steps, write};
 use std::alloc::{AllocError, Global};
 use std::marker::{Brand, Model};
 use std::sync::ledger::{Blank, Ledger};
@@ -71,16 +71,16 @@ impl Streams {
         ensures err { OnErr result (self.new ≡ self.old) }
         ensures steps { steps.new ≤ steps.old + 4 }
     {
-        write_counted(&mut self.front, Viewer::Seat(0), deed, steps)?;
+        write_over(alloc, &mut self.front, 0, deed, steps)?;
         self.first
             .prepare(alloc, self.front.as_slice(), &possible.first)?;
-        turn(&mut self.front, 0, 1, deed, steps)?;
+        turn(alloc, &mut self.front, 0, 1, deed, steps)?;
         self.second
             .prepare(alloc, self.front.as_slice(), &possible.second)?;
-        turn(&mut self.front, 1, 2, deed, steps)?;
+        turn(alloc, &mut self.front, 1, 2, deed, steps)?;
         self.third
             .prepare(alloc, self.front.as_slice(), &possible.third)?;
-        turn(&mut self.front, 2, 3, deed, steps)?;
+        turn(alloc, &mut self.front, 2, 3, deed, steps)?;
         self.fourth
             .prepare(alloc, self.front.as_slice(), &possible.fourth)?;
         self.first.add();
@@ -119,6 +119,7 @@ impl Streams {
 
 // From the line of a deed for a seat, that for another: it stays where the two are told the same.
 fn turn<L: Ledger>(
+    alloc: Global,
     line: &mut Vec<u8>,
     seat: u8,
     next: u8,
@@ -132,7 +133,22 @@ fn turn<L: Ledger>(
     if are_told_alike(seat, next, deed) {
         return Ok(());
     }
-    write_counted(line, Viewer::Seat(next), deed, steps)
+    write_over(alloc, line, next, deed, steps)
+}
+
+// Writes the line of a deed for a seat in place of another.
+fn write_over<L: Ledger>(
+    alloc: Global,
+    line: &mut Vec<u8>,
+    seat: u8,
+    deed: &Deed,
+    steps: &mut Steps<L>,
+) -> Result<(), AllocError>
+    ensures line { OnOk result (line.new.items ≡ line_for (Seat seat) deed.now) }
+    ensures steps { steps.new ≡ steps.old + 1 }
+{
+    line.clear();
+    write(alloc, Viewer::Seat(seat), deed, None, line, steps)
 }
 
 // Whether two seats are told the same of a deed: the start of a game tells each its number, that of a hand its tiles, and a

@@ -1,5 +1,5 @@
 // The answers that a seat may give, as its line lists them.
-ghost use Rattle.std.specs.Prelude.{◌≡◌, ◌∷◌, ◌++◌, [], true, None, map, flat_map, codes, OnOk};
+ghost use Rattle.std.specs.Prelude.{◌≡◌, ◌∷◌, ◌++◌, [], true, None, map, flat_map, codes, OnOk, OnErr};
 ghost use Rattle.mj_bytes.specs.Adds.{Adds};
 ghost use Rattle.mj_deeds.specs.declared.answer.Answer.TheVariants as answers;
 ghost use Rattle.mj_forms.specs.Lines.{bracketed, joined};
@@ -8,7 +8,7 @@ ghost use Rattle.mj_forms.specs.Choices.{pai_text, type_field, actor_field, targ
 use crate::pieces::{push_quoted, push_tile};
 use mj_bytes::{push_all, push_number};
 use mj_deeds::{Answer, Answers, Pai};
-use std::alloc::AllocError;
+use std::alloc::{AllocError, Global};
 
 // Writes a list of answers into a line, as its last field.
 #[tactic(auto, unfolding(mj_forms::specs::Choices::line_with))]
@@ -19,16 +19,66 @@ pub(crate) fn list_answers(line: &mut Vec<u8>, answers: &[Answer]) -> Result<(),
     push_list(line, answers)
 }
 
-/// Writes a line with a list of answers as its last field in place of a text, whose memory it takes. The only error is want of
-/// memory, and then the text may be any.
-#[tactic(auto, unfolding(mj_forms::specs::Choices::line_with))]
-pub fn write_listed(text: &mut Vec<u8>, line: &[u8], answers: &Answers) -> Result<(), AllocError>
-    ensures { OnOk result (text.new.items ≡ line_with answers.now line.now) }
+/// Writes a line with a list of answers as its last field after a text. The only error is running out of memory, and then the
+/// text stays as it was. After an empty text it takes no memory but the text's.
+#[inline(always)]
+pub fn write_listed(
+    alloc: Global,
+    line: &[u8],
+    answers: &Answers,
+    into: &mut Vec<u8>,
+) -> Result<(), AllocError>
+    ensures ok { OnOk result (Adds into.old.items into.new.items
+        (line_with answers.now line.now)) }
+    ensures err { OnErr result (into.new.items ≡ into.old.items) }
+{
+    if into.is_empty() {
+        return list_first(line, answers.as_slice(), into);
+    }
+    list_behind(alloc, line, answers.as_slice(), into)
+}
+
+// Writes a line with a list of answers after a text: it has memory of its own, so that the text stays where that is wanting.
+#[inline(never)]
+fn list_behind(
+    alloc: Global,
+    line: &[u8],
+    answers: &[Answer],
+    into: &mut Vec<u8>,
+) -> Result<(), AllocError>
+    ensures ok { OnOk result (Adds into.old.items into.new.items
+        (line_with answers.now line.now)) }
+    ensures err { OnErr result (into.new.items ≡ into.old.items) }
+{
+    let mut text = Vec::new(alloc);
+    push_listed(&mut text, line, answers)?;
+    push_all(into, text.as_slice())
+}
+
+// Writes a line with a list of answers where no text stands before it, and leaves none where memory is wanting.
+#[inline(always)]
+fn list_first(line: &[u8], answers: &[Answer], text: &mut Vec<u8>) -> Result<(), AllocError>
+    ensures ok { OnOk result (text.new.items ≡ line_with answers.now line.now) }
+    ensures err { OnErr result (text.new.items ≡ []) }
 {
     text.clear();
+    let done = push_listed(text, line, answers);
+    if done.is_err() {
+        text.clear();
+    }
+    done
+}
+
+// Writes a line with a list of answers as its last field.
+#[inline(always)]
+#[tactic(auto, unfolding(mj_forms::specs::Choices::line_with))]
+fn push_listed(text: &mut Vec<u8>, line: &[u8], answers: &[Answer]) -> Result<(), AllocError>
+    ensures { OnOk result (Adds text.old.items text.new.items (line_with answers.now line.now)) }
+{
     let end = line.len().saturating_sub(2);
     push_all(text, &line[..end])?;
-    push_list(text, answers.as_slice())
+    push_list(text, answers)?;
+    Ok(())
 }
 
 // Writes the field with the list, and the end of the line. A pass alone is the list of most seats at most deeds.

@@ -15,13 +15,14 @@ use mj_ports::Name;
 use mj_tiles::{Kind, Tile};
 use mj_view::sees;
 use std::alloc::{AllocError, Global};
-use std::marker::Brand;
-use std::sync::ledger::{Blank, Ledger};
+use std::sync::ledger::Ledger;
 
 /// Writes the line of a deed, as the viewer sees it, after a text: a seat sees its own tiles and a question mark for
 /// each hidden tile of another, the record sees all, and it alone has the call that is kept at an accepted reach and the
 /// seats that win next. Where a list of answers is given it is the last field of the line; the record's lines have none. The
-/// only error is running out of memory, and then the text stays as it was. It counts one line.
+/// only error is running out of memory, and then the text stays as it was. It counts one line. After an empty text it takes
+/// no memory but the text's.
+#[inline(always)]
 pub fn write<L: Ledger>(
     alloc: Global,
     viewer: Viewer,
@@ -35,77 +36,70 @@ pub fn write<L: Ledger>(
     ensures err { OnErr result (into.new.items ≡ into.old.items) }
     ensures steps { steps.new ≡ steps.old + 1 }
 {
-    steps.take();
+    if into.is_empty() {
+        return write_first(viewer, deed, possible, into, steps);
+    }
+    write_behind(alloc, viewer, deed, possible, into, steps)
+}
+
+// Writes the line of a deed after a text: the line has memory of its own, so that the text stays where that is wanting.
+#[inline(never)]
+fn write_behind<L: Ledger>(
+    alloc: Global,
+    viewer: Viewer,
+    deed: &Deed,
+    possible: Option<&Answers>,
+    into: &mut Vec<u8>,
+    steps: &mut Steps<L>,
+) -> Result<(), AllocError>
+    ensures ok { OnOk result (Adds into.old.items into.new.items
+        (line_listing (option_copied possible.entry) viewer deed.now)) }
+    ensures err { OnErr result (into.new.items ≡ into.old.items) }
+    ensures steps { steps.new ≡ steps.old + 1 }
+{
     let mut line = Vec::new(alloc);
-    push_listing(&mut line, viewer, deed, possible)?;
+    render(&mut line, viewer, deed, possible, steps)?;
     push_all(into, line.as_slice())
 }
 
-/// Writes the line of a deed as `write` does, without a list of answers, with a counter that is made for this call.
-pub fn write_alone(
-    alloc: Global,
+// Writes the line of a deed where no text stands before it, and leaves none where memory is wanting.
+#[inline(always)]
+fn write_first<L: Ledger>(
     viewer: Viewer,
     deed: &Deed,
-    into: &mut Vec<u8>,
-) -> Result<(), AllocError>
-    ensures ok { OnOk result (Adds into.old.items into.new.items (line_for viewer deed.now)) }
-    ensures err { OnErr result (into.new.items ≡ into.old.items) }
-{
-    write_on::<Brand>(alloc, viewer, deed, into, Blank::new(1))
-}
-
-/// Writes the line of a deed, as the viewer sees it, in place of a text, whose memory it takes. The only error is want of
-/// memory, and then the text may be any.
-pub fn write_over(line: &mut Vec<u8>, viewer: Viewer, deed: &Deed) -> Result<(), AllocError>
-    ensures { OnOk result (line.new.items ≡ line_for viewer deed.now) }
-{
-    line.clear();
-    push_deed(line, viewer, deed)
-}
-
-/// Writes the line of a deed as `write_over` does, and counts one line.
-pub fn write_counted<L: Ledger>(
+    possible: Option<&Answers>,
     line: &mut Vec<u8>,
-    viewer: Viewer,
-    deed: &Deed,
     steps: &mut Steps<L>,
 ) -> Result<(), AllocError>
-    ensures line { OnOk result (line.new.items ≡ line_for viewer deed.now) }
+    ensures ok { OnOk result (line.new.items
+        ≡ line_listing (option_copied possible.entry) viewer deed.now) }
+    ensures err { OnErr result (line.new.items ≡ []) }
     ensures steps { steps.new ≡ steps.old + 1 }
 {
-    steps.take();
-    write_over(line, viewer, deed)
+    let done = render(line, viewer, deed, possible, steps);
+    if done.is_err() {
+        line.clear();
+    }
+    done
 }
 
-// Writes the line of a deed, counted on a new ledger.
-fn write_on<L: Ledger>(
-    alloc: Global,
-    viewer: Viewer,
-    deed: &Deed,
-    into: &mut Vec<u8>,
-    blank: Blank,
-) -> Result<(), AllocError>
-    requires name { blank.name ≡ L.name }
-    requires parts { blank.parts ≡ L.parts }
-    requires some { 0 < blank.parts }
-    ensures ok { OnOk result (Adds into.old.items into.new.items (line_for viewer deed.now)) }
-    ensures err { OnErr result (into.new.items ≡ into.old.items) }
-{
-    let mut steps = Steps::<L>::new(blank);
-    write(alloc, viewer, deed, None, into, &mut steps)
-}
-
-// Writes the line of a deed in place of a text, with a list of answers where one is given.
-fn push_listing(
+// Writes the line of a deed in place of a text, with a list of answers where one is given. Whatever renders the line of a
+// deed does it here, and so is counted. Where memory is wanting the text may be any.
+#[inline(always)]
+fn render<L: Ledger>(
     line: &mut Vec<u8>,
     viewer: Viewer,
     deed: &Deed,
     possible: Option<&Answers>,
+    steps: &mut Steps<L>,
 ) -> Result<(), AllocError>
-    ensures { OnOk result (line.new.items
+    ensures line { OnOk result (line.new.items
         ≡ line_listing (option_copied possible.entry) viewer deed.now) }
+    ensures steps { steps.new ≡ steps.old + 1 }
 {
-    write_over(line, viewer, deed)?;
+    steps.take();
+    line.clear();
+    push_deed(line, viewer, deed)?;
     match possible {
         Some(answers) => list_answers(line, answers.as_slice()),
         None => Ok(()),

@@ -24,7 +24,7 @@ mod yaku;
 
 pub use answer::read_answer;
 pub use choices::write_listed;
-pub use deed::{write, write_alone, write_counted, write_over};
+pub use deed::write;
 pub use error::{error_line, refusal_line};
 pub use join::read_join;
 pub use record::write_record;

@@ -4,7 +4,8 @@ use std::marker::Model;
 use std::sync::ledger::{Blank, Book, Ledger, Share};
 
 /// How many lines of deeds were rendered, counted in the ledger `L`. It takes no bytes, and does nothing when the program
-/// runs: contracts see the number. Only `write` and `write_counted` count, so a call that is lent the counter says by it how often it renders.
+/// runs: contracts see the number. Whatever renders the line of a deed is lent a counter and makes a step of it, so a call that
+/// is lent one says by it how often it renders; one that is lent none makes its own.
 #[derive(Drop)]
 pub struct Steps<L: Ledger> {
     lines: Book<L>,

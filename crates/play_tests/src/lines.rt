@@ -1,11 +1,15 @@
 //! Lines of mjai: of deeds as each viewer sees them, of refusals, and what a player's line reads as.
 
+ghost use Rattle.std.specs.Prelude.{◌≡◌, ◌<◌};
+
 use crate::deed_words::{answer, deed};
 use crate::views::viewer_of;
 use mj_deeds::{Answer, Deed, Rule, Viewer};
 use mj_ports::{JoinLine, Picked, SitRefused};
-use mjai_lines::{error_line, read_answer, read_join, read_room, refusal_line, write_alone};
+use mjai_lines::{Steps, error_line, read_answer, read_join, read_room, refusal_line, write};
 use std::alloc::Global;
+use std::marker::Brand;
+use std::sync::ledger::{Blank, Ledger};
 
 /// A viewer, a seat or the record, a deed, and its line. A start of a hand shows a seat its own tiles alone and the record
 /// all, a draw hides its tile from others, and the record alone is told the call that is kept and the winners that follow.
@@ -58,8 +62,23 @@ fn both_written(alloc: Global, viewer: Viewer, deed: Deed, line: &str) -> bool {
 }
 
 fn writes(alloc: Global, viewer: Viewer, deed: &Deed, line: &str) -> bool {
+    writes_on::<Brand>(alloc, viewer, deed, line, Blank::new(1))
+}
+
+fn writes_on<L: Ledger>(
+    alloc: Global,
+    viewer: Viewer,
+    deed: &Deed,
+    line: &str,
+    blank: Blank,
+) -> bool
+    requires name { blank.name ≡ L.name }
+    requires parts { blank.parts ≡ L.parts }
+    requires some { 0 < blank.parts }
+{
+    let mut steps = Steps::<L>::new(blank);
     let mut written = Vec::new(alloc);
-    write_alone(alloc, viewer, deed, &mut written).is_ok()
+    write(alloc, viewer, deed, None, &mut written, &mut steps).is_ok()
         && written.as_slice().strip_suffix(b"\n") == Some(line.as_bytes())
 }
 

@@ -4,8 +4,8 @@ use Rattle.mj_forms.specs.Choices.{line_with}
 use Rattle.mj_streams.proofs.Fours.{four_is, one_more}
 use Rattle.mj_streams.proofs.streams.Streams.push.Goals as goal
 
-pub returns-in_err-write_counted-clause-err : goal.returns-in_err-write_counted-clause-err
-returns-in_err-write_counted-clause-err g c =
+pub returns-in_err-write_over-clause-err : goal.returns-in_err-write_over-clause-err
+returns-in_err-write_over-clause-err g c =
     let p = err_from_is_err_and c.from_residual.result c.from_residual.ensures.1 in
     rw (p.1, ← c.self.view_is) (four_is _ _ _ _ _ _ _ _ refl refl refl refl)
 
@@ -49,7 +49,7 @@ returns-clause-ok g c =
     rw (← c.self.view_is)
     (four_is _ _ _ _ _ _ _ _
     (one_more _ _ _ _ _ _ c.prepare.ensures.lines c.add.ensures c.in_ok-prepare.ensures.text
-    (ap (line_with c.args.possible.now.first) (c.as_slice.ensures.value ∙ c.in_ok-write_counted.ensures.line)))
+    (ap (line_with c.args.possible.now.first) (c.as_slice.ensures.value ∙ c.in_ok-write_over.ensures.line)))
     (one_more _ _ _ _ _ _ c.prepare-2.ensures.lines c.add-2.ensures c.in_ok-prepare-2.ensures.text
     (ap (line_with c.args.possible.now.second) (c.as_slice-2.ensures.value ∙ c.in_ok-turn.ensures.line)))
     (one_more _ _ _ _ _ _ c.prepare-3.ensures.lines c.add-3.ensures c.in_ok-prepare-3.ensures.text
