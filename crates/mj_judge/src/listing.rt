@@ -1,4 +1,4 @@
-ghost use Rattle.std.specs.Prelude.{◌≡◌, ◌≤◌, ◌++◌, ◌∷◌, [], true, not, ◌&&◌, None, IfOk, OnOk, option_map};
+ghost use Rattle.std.specs.Prelude.{◌≡◌, ◌≤◌, ◌++◌, ◌∷◌, [], true, not, ◌&&◌, None, IfOk, OnOk, OnErr, option_map};
 ghost use Rattle.mj_deeds.specs.declared.answer.Answer.TheVariants as answers;
 ghost use Rattle.mj_deeds.specs.Facts.{newest};
 ghost use Rattle.mj_rules.specs.Broken.{is_reach_open, is_reach_poor, is_reach_late, is_reach_unready};
@@ -17,6 +17,9 @@ use mj_deeds::{Answer, Answers, Deed};
 use mj_table::Table;
 use std::alloc::{AllocError, Global};
 
+// For so many answers there is room where a list has new memory.
+const ANSWERS: usize = 32;
+
 /// The answers that a seat, 0 to 3, may give in the window on the newest deed: all that are in form, break no rule and name
 /// no more than they have to. They stand by type in the order pass, discard, chi, pon, open kan, concealed kan, added kan,
 /// reach, win, nine kinds, within a type by their tiles in tile order, and a discard unmarked before it is marked. A pass
@@ -30,7 +33,8 @@ pub fn possible(alloc: Global, table: &Table, seat: u8) -> Result<Answers, Alloc
     Ok(list)
 }
 
-/// The same in place of another list, whose memory they take. Where memory is wanting the list may be any.
+/// The same in place of another list, whose memory they take. The only error is running out of memory, and then the list stays
+/// as it was.
 pub fn possible_over(
     alloc: Global,
     table: &Table,
@@ -38,13 +42,14 @@ pub fn possible_over(
     list: &mut Answers,
 ) -> Result<(), AllocError>
     requires { seat ≤ 3 }
-    ensures { OnOk result (list.new ≡ possible table.now.rules table.now.deeds seat) }
+    ensures ok { OnOk result (list.new ≡ possible table.now.rules table.now.deeds seat) }
+    ensures err { OnErr result (list.new ≡ list.old) }
 {
-    let mut items = list.take(alloc);
     if !is_discarding(table, seat) && !may_win(table, seat) {
-        list.set_pass(items);
+        set_pass_alone(alloc, list);
         return Ok(());
     }
+    let mut items = spare_memory(alloc, list)?;
     push_discards(table, seat, &mut items)?;
     push_calls(table, seat, &mut items)?;
     push_closed_kans(table, seat, &mut items)?;
@@ -56,6 +61,37 @@ pub fn possible_over(
     Ok(())
 }
 
+// Lists a pass alone; the memory of another list is kept for the next one.
+fn set_pass_alone(alloc: Global, list: &mut Answers)
+    ensures { list.new ≡ answers.Pass None ∷ [] }
+{
+    if !is_pass_alone(list) {
+        let memory = list.take(alloc);
+        list.set_pass(memory);
+    }
+}
+
+// The memory that a pass alone keeps for the next list, as a vector without items. Another list is not touched: it has to stand
+// until the next one is whole, so that one has new memory.
+fn spare_memory(alloc: Global, list: &mut Answers) -> Result<Vec<Answer>, AllocError>
+    ensures empty { IfOk result (λ memory. memory.items ≡ []) }
+    ensures same { list.new ≡ list.old }
+{
+    if !is_pass_alone(list) {
+        return Vec::with_capacity(alloc, ANSWERS);
+    }
+    let memory = list.take(alloc);
+    *list = Answers::pass_alone();
+    Ok(memory)
+}
+
+// Whether the list is a pass alone, which names no actor.
+fn is_pass_alone(list: &Answers) -> bool
+    ensures { result ≡ true → list.now ≡ answers.Pass None ∷ [] }
+{
+    matches!(list.as_slice(), [Answer::Pass { actor: None }])
+}
+
 // Lists the answers after a pass, where a pass is lawful.
 fn set_after_pass(
     table: &Table,
@@ -64,9 +100,10 @@ fn set_after_pass(
     list: &mut Answers,
 ) -> Result<(), AllocError>
     requires { seat ≤ 3 }
-    ensures { OnOk result (list.new
+    ensures ok { OnOk result (list.new
         ≡ lawful_among table.now.rules table.now.deeds seat (answers.Pass None ∷ [])
         ++ items.items) }
+    ensures err { OnErr result (list.new ≡ list.old) }
 {
     let mut items = items;
     if !may_pass(table, seat) {
