@@ -25,7 +25,8 @@ pub dropped : (bytes : List ℕ) (count all : ℕ) → count ≤ all → all ≤
 dropped bytes count all some fits =
     let whole : count + (all - count) ≡ all = omega arith in
     let none : 0 + (all - count) ≡ all - count = omega arith in
-    let left = subst (λ (k : ℕ). take k (copy_within bytes count all 0) ≡ take (all - count) (drop count bytes)) none (take-paste bytes 0 (drop count bytes) (all - count) (omega arith) (omega (arith, length-drop count bytes))) in
+    let left = subst (λ (k : ℕ). take k (copy_within bytes count all 0) ≡ take (all - count) (drop count bytes)) none
+    (take-paste bytes 0 (drop count bytes) (all - count) (omega arith) (omega (arith, length-drop count bytes))) in
     left ∙ (sym (drop-take count (all - count) bytes) ∙ ap (λ (k : ℕ). drop count (take k bytes)) whole)
 
 abbrev newline : ℕ → Bool

@@ -42,6 +42,10 @@ passes_front l l' r r' h h' front rest p e = record { bytes = p.bytes; taken = p
 pub still_no_line : (l l' r r' : Option (List ℕ)) (h h' : List ℕ) → Fills Failed l l' (λ into. ReadsOn Failed into r r') h h' → has_newline h ≡ false → has_newline h' ≡ false
 still_no_line l l' r r' h h' fill none = subst (λ (x : List ℕ). has_newline x ≡ false) (sym (fill.added ∙ append-nil h)) none
 
+-- nor is there less room after it
+pub still_short : (l l' r r' : Option (List ℕ)) (h h' : List ℕ) → Fills Failed l l' (λ into. ReadsOn Failed into r r') h h' → length h < 4096 → length h' < 4096
+still_short l l' r r' h h' fill short = subst (λ (x : List ℕ). length x < 4096) (sym (fill.added ∙ append-nil h)) short
+
 module _ (l l' r r' w w' : Option (List ℕ)) (h h' line line' : List ℕ) (f f' v v' : ℕ) where
   pub reading_line-start : ReadingLine l l r r w w h h line line f f v v
   reading_line-start = record { passes = passes_nothing l r h; line = refl; writing = record { written = refl; faults = refl }; risen = omega arith }
@@ -83,7 +87,8 @@ module _ (l l' r r' w w' : Option (List ℕ)) (h h' line line' : List ℕ) (f f'
   pub reading_line-line : (n : ℕ) (h2 line2 : List ℕ) → ReadingLine l l' r r' w w' h h' line line' f f' v v' → Parts h' n → length h' ≤ 4096 → line2 ≡ take n h' → h2 ≡ drop (n + 1) h'
       → GivesLine l l' r r' h h2 line2
   reading_line-line n h2 line2 s part room is rest = record {
-    passes = passes_front l l' r r' h h' (line2 ++ 10 ∷ []) h2 s.passes (part.split ∙ (sym (append_assoc (take n h') (10 ∷ []) (drop (n + 1) h')) ∙ (ap (λ (x : List ℕ). (x ++ 10 ∷ []) ++ drop (n + 1) h') (sym is) ∙ ap (λ (x : List ℕ). (line2 ++ 10 ∷ []) ++ x) (sym rest))));
+    passes = passes_front l l' r r' h h' (line2 ++ 10 ∷ []) h2 s.passes (part.split ∙ (sym (append_assoc (take n h') (10 ∷ []) (drop (n + 1) h'))
+        ∙ (ap (λ (x : List ℕ). (x ++ 10 ∷ []) ++ drop (n + 1) h') (sym is) ∙ ap (λ (x : List ℕ). (line2 ++ 10 ∷ []) ++ x) (sym rest))));
     first = subst (λ (x : List ℕ). has_newline x ≡ false) (sym is) part.first;
     short = omega (arith, ap length is, length-take n h', part.within, room);
   }

@@ -1,5 +1,5 @@
 -- What a host does to its ports and to the links that were given back, and what its faults are.
-use Rattle.std.specs.Prelude.{◌≡◌, ◌⊎◌, ℕ, List, [], ◌∷◌, ◌++◌, Option, None, Some}
+use Rattle.std.specs.Prelude.{◌≡◌, ◌⊎◌, ℕ, ◌+◌, List, [], ◌∷◌, ◌++◌, Option, None, Some}
 use Rattle.std.specs.Io.KnownBytes.{Appends, Keeps}
 use Rattle.mj_links.specs.declared.host.Opened.{Opened}
 use Rattle.mj_links.specs.declared.host.Opened.TheVariants.{Ready, Failed}
@@ -18,6 +18,11 @@ OpensPort (Failed f) old new port = Appends old new (port ∷ []) ⊎ Keeps old 
 abbrev pub OpenFault : {F : Type 0} → (F → Type 0) → (F → ℕ) → Opened F → Type 0
 OpenFault made number Ready = Unit {0}
 OpenFault made number (Failed f) = made f × (number f ≡ 255)
+
+-- a failed opening is one fault of opening more
+abbrev pub CountsOpenFault : {F : Type 0} → Opened F → ℕ → ℕ → Type 0
+CountsOpenFault Ready old new = new ≡ old
+CountsOpenFault (Failed f) old new = new ≡ old + 1
 
 -- where a text is known, it is empty
 abbrev pub IsEmpty : Option (List ℕ) → Type 0

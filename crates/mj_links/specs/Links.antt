@@ -56,12 +56,12 @@ pub record KeepsAll (old_left new_left old_read new_read : Option (List ℕ)) (o
   pub passes : Passes old_left new_left old_read new_read old_held new_held []
   pub line : new_line ≡ old_line
 
--- what each answer of a reading says of the bytes: too long exactly where 4,096 bytes without a newline are held, and a fault only
--- where no whole line is held
+-- what each answer of a reading says of the bytes: too long where 4,096 bytes without a newline are held, and a fault only where
+-- fewer are, without a newline too
 abbrev pub ReadsLine : LineRead → Option (List ℕ) → Option (List ℕ) → Option (List ℕ) → Option (List ℕ) → List ℕ → List ℕ → List ℕ → List ℕ → Type 0
 ReadsLine Line ol nl or nr oh nh old new = GivesLine ol nl or nr oh nh new
 ReadsLine Ended ol nl or nr oh nh old new = EndsFirst ol nl or nr oh nh × (new ≡ old)
-ReadsLine Fault ol nl or nr oh nh old new = KeepsAll ol nl or nr oh nh old new × (has_newline nh ≡ false)
+ReadsLine Fault ol nl or nr oh nh old new = KeepsAll ol nl or nr oh nh old new × (has_newline nh ≡ false) × (length nh < 4096)
 ReadsLine TooLong ol nl or nr oh nh old new = KeepsAll ol nl or nr oh nh old new × (length nh ≡ 4096) × (has_newline nh ≡ false)
 ReadsLine NoMemory ol nl or nr oh nh old new = KeepsAll ol nl or nr oh nh old new
 

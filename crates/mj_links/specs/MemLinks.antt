@@ -37,7 +37,9 @@ link_writes l = write_plan l.sink
 
 -- a read puts its bytes after what was read, and leaves the writing half alone
 abbrev pub MemReadsApart : Got → List ℕ → MemLink → MemLink → Type 0
-MemReadsApart got into old new = ReadsOn got into (Some (link_gone old)) (Some (link_gone new)) × WritingStays (Some (link_written old)) (Some (link_written new)) (link_write_faults old) (link_write_faults new)
+MemReadsApart got into old new =
+    ReadsOn got into (Some (link_gone old)) (Some (link_gone new))
+    × WritingStays (Some (link_written old)) (Some (link_written new)) (link_write_faults old) (link_write_faults new)
 
 -- a write leaves the reading half alone
 abbrev pub MemWritesApart : Put → List ℕ → MemLink → MemLink → Type 0

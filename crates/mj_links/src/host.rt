@@ -1,7 +1,7 @@
 //! Where connections come from.
 
 ghost use Rattle.std.specs.Prelude.{◌≡◌, ℕ, [], ◌∷◌, List, Option};
-ghost use Rattle.mj_links.specs.Hosts.{OpensPort, OpenFault, ComesFresh, CameFault, GivesBack};
+ghost use Rattle.mj_links.specs.Hosts.{OpensPort, OpenFault, CountsOpenFault, ComesFresh, CameFault, GivesBack};
 
 use crate::link::Link;
 
@@ -46,7 +46,8 @@ pub trait Numbered: Copy + Send {
 /// Where connections come from, such as a listener on a port.
 ///
 /// For proofs it tells its `ports` and the links that were `returned` with their connections' places,
-/// oldest first, where these are known, and which faults were `made_by` it.
+/// oldest first, where these are known, and which faults were `made_by` it, and counts its failed
+/// openings, `open_faults`. Only `open` changes the count, so a fault of opening is one of its calls.
 pub trait Host: Sync {
     type Link: Link + Send + Drop;
 
@@ -58,10 +59,13 @@ pub trait Host: Sync {
 
     ghost made_by: { Self → Self.Fault → Type 0 };
 
+    ghost open_faults: { Self → ℕ };
+
     /// Opens a port, which is put after the host's ports.
     fn open(&mut self, port: u16) -> Opened<Self::Fault>
         ensures ports { OpensPort result (ports self.old) (ports self.new) port }
         ensures fault { OpenFault (made_by self.new) Self.Fault.number result }
+        ensures counted { CountsOpenFault result (open_faults self.old) (open_faults self.new) }
         ensures returned { returned self.new ≡ returned self.old }
         ensures made { (f : Self.Fault) → made_by self.old f → made_by self.new f };
 
@@ -76,5 +80,6 @@ pub trait Host: Sync {
     fn give_back(&mut self, link: Self::Link, place: u64) -> Given
         ensures links { GivesBack result (returned self.old) (returned self.new) (link, place) }
         ensures ports { ports self.new ≡ ports self.old }
+        ensures openings { open_faults self.new ≡ open_faults self.old }
         ensures made { (f : Self.Fault) → made_by self.old f → made_by self.new f };
 }

@@ -66,7 +66,7 @@ impl MemHost {
 
 impl Host for MemHost {
     ghost use Rattle.std.specs.Prelude.{◌∷◌, List};
-    ghost use Rattle.mj_links.specs.Hosts.{OpensPort, OpenFault, GivesBack};
+    ghost use Rattle.mj_links.specs.Hosts.{OpensPort, OpenFault, CountsOpenFault, GivesBack};
     ghost use Rattle.mj_links.specs.MemFaults.{fault_number};
     ghost use Rattle.mj_links.specs.MemHosts.{OpensAsPlanned, KeepsPlan};
     ghost use Rattle.mj_links.specs.declared.mem_fault.MemFault.{MemFault};
@@ -81,9 +81,12 @@ impl Host for MemHost {
 
     ghost made_by = { IsMadeBy };
 
+    ghost open_faults = { failed_openings };
+
     fn open(&mut self, port: u16) -> Opened<MemFault>
         ensures ports { OpensPort result (Some (host_ports self.old)) (Some (host_ports self.new)) port }
         ensures fault { OpenFault (IsMadeBy self.new) fault_number result }
+        ensures counted { CountsOpenFault result (failed_openings self.old) (failed_openings self.new) }
         ensures returned { Some (host_returned self.new) ≡ Some (host_returned self.old) }
         ensures made { (f : MemFault) → IsMadeBy self.old f → IsMadeBy self.new f }
         ensures exact { OpensAsPlanned result (host_open_fails self.old) (host_ports self.old)
@@ -121,6 +124,7 @@ impl Host for MemHost {
         ensures links { GivesBack result (Some (host_returned self.old))
             (Some (host_returned self.new)) (link, place) }
         ensures ports { Some (host_ports self.new) ≡ Some (host_ports self.old) }
+        ensures openings { failed_openings self.new ≡ failed_openings self.old }
         ensures made { (f : MemFault) → IsMadeBy self.old f → IsMadeBy self.new f }
         ensures plan { KeepsPlan self.old self.new }
     {

@@ -27,13 +27,14 @@ impl Numbered for TcpFault {
     }
 }
 
-/// A host that listens on a port of 127.0.0.1. It tells nothing for proofs, and a link that is given
-/// back is closed.
+/// A host that listens on a port of 127.0.0.1. For proofs it counts its failed openings and tells nothing
+/// else, and a link that is given back is closed.
 #[derive(Drop)]
 pub struct TcpHost<'a, R> {
     rt: &'a R,
     limit: u64,
     listener: Option<TcpListener>,
+    open_faults: FaultCount,
 }
 
 impl<'a, R: Net<Listener = TcpListener, Stream = TcpStream> + Clock + Sync> TcpHost<'a, R> {
@@ -44,6 +45,7 @@ impl<'a, R: Net<Listener = TcpListener, Stream = TcpStream> + Clock + Sync> TcpH
             rt,
             limit,
             listener: None,
+            open_faults: FaultCount::new(),
         }
     }
 }
@@ -61,13 +63,18 @@ impl<'a, R: Net<Listener = TcpListener, Stream = TcpStream> + Clock + Sync> Host
     // what the system did is not known to a proof
     ghost made_by = { λ _ _. Unit {0} };
 
+    ghost open_faults = { λ h. h.open_faults.count };
+
     fn open(&mut self, port: u16) -> Opened<TcpFault> {
         match listen(self.rt, port) {
             Ok(listener) => {
                 self.listener = Some(listener);
                 Opened::Ready
             }
-            Err(_) => Opened::Failed(TcpFault { by: u8::MAX }),
+            Err(_) => {
+                self.open_faults = self.open_faults.more();
+                Opened::Failed(TcpFault { by: u8::MAX })
+            }
         }
     }
 

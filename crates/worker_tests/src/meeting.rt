@@ -226,6 +226,8 @@ impl<'a, R: time::Clock + Sync> Host for MeetingHost<'a, R> {
 
     ghost made_by = { λ _ _. Unit {0} };
 
+    ghost open_faults = { λ h. ⟦<MemHost as Host>⟧.open_faults h.host };
+
     fn open(&mut self, port: u16) -> Opened<Missed> {
         match self.host.open(port) {
             Opened::Ready => Opened::Ready,
