@@ -40,7 +40,8 @@ module _ {A F : Type 0} (after_all : List (Entry A) → Showing) (made : F → T
   lost_by by all handled.NoMemory go h = absurd h
 
   -- Where the game goes on, each handler lost its host.
-  pub all_lost : (count : ℕ) (all : List (Entry A)) (ends : List (HandlerEnd F)) → (after_all all).over ≡ false → AllEnd after_all made number count all ends → (k : ℕ) → k < count → (fault : F) × made fault × (number fault ≡ k)
+  pub all_lost : (count : ℕ) (all : List (Entry A)) (ends : List (HandlerEnd F)) → (after_all all).over ≡ false → AllEnd after_all made number count all ends → (k : ℕ) → k < count
+      → (fault : F) × made fault × (number fault ≡ k)
   all_lost zero all ends go h k low = absurd (omega (arith, low))
   all_lost (suc by) all ends go (before, end, e, rest, last) k low = elim (eqb_tells k by) [
     | inl s ↦ subst (λ (n : ℕ). (fault : F) × made fault × (number fault ≡ n)) (sym s.1) (lost_by by all end go last)
@@ -51,7 +52,8 @@ module _ {A F : Type 0} (after_all : List (Entry A) → Showing) (made : F → T
       below a b l n = omega (arith, l, n)
 
 -- The same of the game that the workers hand back.
-pub lost_all : {F : Type 0} (made : F → Type 0) (number : F → ℕ) (setting : Setting) (game : Game) (ends : List (HandlerEnd F)) → game.setting ≡ setting → AllEnd (shown_of setting) made number 8 game.entries ends
+pub lost_all : {F : Type 0} (made : F → Type 0) (number : F → ℕ) (setting : Setting) (game : Game) (ends : List (HandlerEnd F)) → game.setting ≡ setting → AllEnd
+    (shown_of setting) made number 8 game.entries ends
     → is_over (after game.setting game.entries).deeds ≡ false → (k : ℕ) → k < 8 → (fault : F) × made fault × (number fault ≡ k)
 lost_all made number setting game ends e h go k low = all_lost (shown_of setting) made number 8 game.entries ends (ap (λ (x : Setting). is_over (after x game.entries).deeds) (sym e) ∙ go) h k low
 
@@ -59,8 +61,10 @@ pub more_made : {F : Type 0} (old new : F → Type 0) (number : F → ℕ) → (
 more_made old new number more all k low = let h = all k low in (h.0, more h.0 h.1, h.2)
 
 module _ {L : Type 0} (read left written : L → Option (List ℕ)) (read_faults write_faults : L → ℕ) where
-  are_played : (setting : Setting) (game : Game) (sessions : List (Session L)) (old_readings new_readings : Option (List ℕ)) → game.setting ≡ setting → IsLegal setting game.entries → All (λ e. author_of e < 9) game.entries
-      → AllServe (shown_of setting) answer_of join_of (sits_of setting) (λ before author seat answer. hears_of setting before seat answer) control_line (at_link read left written read_faults write_faults) 8 game.entries sessions
+  are_played : (setting : Setting) (game : Game) (sessions : List (Session L)) (old_readings new_readings : Option (List ℕ)) → game.setting ≡ setting → IsLegal setting game.entries
+      → All (λ e. author_of e < 9) game.entries
+      → AllServe (shown_of setting) answer_of join_of (sits_of setting) (λ before author seat answer. hears_of setting before seat answer) control_line
+      (at_link read left written read_faults write_faults) 8 game.entries sessions
       → IsPermutation (begun game.entries) (map (λ s. s.place) sessions) → Ticks 8 [] game.entries old_readings new_readings → All (ExpiresBy 8) game.entries
       → ArePlayed read left written read_faults write_faults game sessions old_readings new_readings
   are_played setting game sessions old_readings new_readings e legal authors serve places ticks expiries =
@@ -68,8 +72,10 @@ module _ {L : Type 0} (read left written : L → Option (List ℕ)) (read_faults
       (record { legal = legal; authors = authors; sessions_serve = serve; places = places; ticks = ticks; expiries = expiries })
 
   -- What the workers played is a served game, with the links of their sessions turned round.
-  pub is_served : (s : ServedWith) (setting : Setting) (game : Game) (sessions : List (Session L)) (old_readings new_readings : Option (List ℕ)) → setting ≡ served_setting s → game.setting ≡ setting → IsLegal setting game.entries → All (λ e. author_of e < 9) game.entries
-      → AllServe (shown_of setting) answer_of join_of (sits_of setting) (λ before author seat answer. hears_of setting before seat answer) control_line (at_link read left written read_faults write_faults) 8 game.entries sessions
+  pub is_served : (s : ServedWith) (setting : Setting) (game : Game) (sessions : List (Session L)) (old_readings new_readings : Option (List ℕ)) → setting ≡ served_setting s
+      → game.setting ≡ setting → IsLegal setting game.entries → All (λ e. author_of e < 9) game.entries
+      → AllServe (shown_of setting) answer_of join_of (sits_of setting) (λ before author seat answer. hears_of setting before seat answer) control_line
+      (at_link read left written read_faults write_faults) 8 game.entries sessions
       → IsPermutation (begun game.entries) (map (λ s. s.place) sessions) → Ticks 8 [] game.entries old_readings new_readings → All (ExpiresBy 8) game.entries
       → IsServed read left written read_faults write_faults s game (reverse (map placed_link sessions)) old_readings new_readings
   is_served s setting game sessions old_readings new_readings is e legal authors serve places ticks expiries =
@@ -79,22 +85,42 @@ module _ {L : Type 0} (read left written : L → Option (List ℕ)) (read_faults
   -- The end of the command, by what was written of the record.
   module _ {F : Type 0} (made : F → Type 0) (number : F → ℕ) where
     pub serves_by : (end : ServeEnd) (s : ServedWith) (game : Game) (links : List (L × ℕ)) (old new : Outside L)
-        → Appends old.ports new.ports (s.port ∷ []) → IsServed read left written read_faults write_faults s game links old.readings new.readings → AppendsLinks old.returned new.returned links
+        → Appends old.ports new.ports (s.port ∷ []) → new.open_faults ≡ old.open_faults → IsServed read left written read_faults write_faults s game links old.readings new.readings
+        → AppendsLinks old.returned new.returned links
         → (is_over (after game.setting game.entries).deeds ≡ false → HasLostAll made number) → WritesRecordOf end game old.written new.written
         → Serves read left written read_faults write_faults made number end s old new
-    serves_by ends.Over s game links old new opened is back lost h = record { game = game; links = links; opened = opened; served = is; back = back; record_is = h.0; ends = h.1 }
-    serves_by ends.HostLost s game links old new opened is back lost h = record { game = game; links = links; opened = opened; served = is; back = back; record_is = h.0; ends = (h.1, lost h.1) }
-    serves_by ends.NotOpened s game links old new opened is back lost h = absurd h
-    serves_by ends.WriteFault s game links old new opened is back lost h = record { game = game; links = links; opened = opened; served = is; back = back; record_is = h; ends = either (is_over (after game.setting game.entries).deeds) refl }
+    serves_by ends.Over s game links old new opened none is back lost h = record { game = game; links = links; opened = opened; none_failed = none; served = is; back = back; record_is = h.0; ends = h.1 }
+    serves_by ends.HostLost s game links old new opened none is back lost h = record {
+      game = game;
+      links = links;
+      opened = opened;
+      none_failed = none;
+      served = is;
+      back = back;
+      record_is = h.0;
+      ends = (h.1, lost h.1);
+    }
+    serves_by ends.NotOpened s game links old new opened none is back lost h = absurd h
+    serves_by ends.WriteFault s game links old new opened none is back lost h = record {
+      game = game;
+      links = links;
+      opened = opened;
+      none_failed = none;
+      served = is;
+      back = back;
+      record_is = h;
+      ends = either (is_over (after game.setting game.entries).deeds) refl;
+    }
       where
         either : (b : Bool) → is_over (after game.setting game.entries).deeds ≡ b → has_ended game ⊎ ((is_over (after game.setting game.entries).deeds ≡ false) × HasLostAll made number)
         either true e = inl e
         either false e = inr (e, lost e)
-    serves_by ends.NoMemory s game links old new opened is back lost h = h
+    serves_by ends.NoMemory s game links old new opened none is back lost h = h
 
 -- The giving back of links, one after the other.
 module _ {L : Type 0} where
-  appends_on : (old now next : Option (List (L × ℕ))) (taken : List (L × ℕ)) (back : L × ℕ) → AppendsLinks old now taken → GivesBack given.Kept now next back → AppendsLinks old next (taken ++ back ∷ [])
+  appends_on : (old now next : Option (List (L × ℕ))) (taken : List (L × ℕ)) (back : L × ℕ) → AppendsLinks old now taken → GivesBack given.Kept now next back
+      → AppendsLinks old next (taken ++ back ∷ [])
   appends_on None now next taken back a g = tt
   appends_on (Some xs) None next taken back a g = absurd a
   appends_on (Some xs) (Some ys) None taken back a g = absurd g
@@ -107,12 +133,15 @@ module _ {L : Type 0} where
   pub giving_start : (returned : Option (List (L × ℕ))) (sessions : List (Session L)) → Giving returned returned sessions sessions
   giving_start returned sessions = record { taken = []; back = appends_none returned; left = refl }
 
-  pub giving_more : (old now next : Option (List (L × ℕ))) (all more rest : List (Session L)) (session : Session L) → more ≡ rest ++ session ∷ [] → Giving old now all more → GivesBack given.Kept now next (session.link, session.place) → Giving old next all rest
+  pub giving_more : (old now next : Option (List (L × ℕ))) (all more rest : List (Session L)) (session : Session L) → more ≡ rest ++ session ∷ [] → Giving old now all more
+      → GivesBack given.Kept now next (session.link, session.place) → Giving old next all rest
   giving_more old now next all more rest session e g h = record {
     taken = g.taken ++ placed_link session ∷ [];
     back = appends_on old now next g.taken (placed_link session) g.back h;
     left = g.left ∙ (ap (λ (l : List (Session L)). g.taken ++ reverse (map placed_link l)) e
-        ∙ (ap (λ (l : List (L × ℕ)). g.taken ++ reverse l) (map-append placed_link rest (session ∷ [])) ∙ (ap (λ (l : List (L × ℕ)). g.taken ++ l) (reverse-append (map placed_link rest) (placed_link session ∷ [])) ∙ sym (append_assoc g.taken (placed_link session ∷ []) (reverse (map placed_link rest))))));
+        ∙ (ap (λ (l : List (L × ℕ)). g.taken ++ reverse l) (map-append placed_link rest (session ∷ []))
+        ∙ (ap (λ (l : List (L × ℕ)). g.taken ++ l) (reverse-append (map placed_link rest) (placed_link session ∷ [])) ∙ sym
+        (append_assoc g.taken (placed_link session ∷ []) (reverse (map placed_link rest))))));
   }
 
   pub given_all : (old now : Option (List (L × ℕ))) (all : List (Session L)) → Giving old now all [] → AppendsLinks old now (reverse (map placed_link all))

@@ -102,7 +102,8 @@ none_new s games e = record {
   each = λ t game at. absurd (in_none t game (subst (λ (gs : List Game). slice_get gs t ≡ Some game) e at));
 }
 
-pub one_new : (s : ServedWith) (rooms next : ℕ) (games more : List Game) (game : Game) → next ≡ rooms + 1 → game ≡ record { setting = table_setting s rooms; entries = [] } → more ≡ games ++ game ∷ [] → AreNew s rooms games → AreNew s next more
+pub one_new : (s : ServedWith) (rooms next : ℕ) (games more : List Game) (game : Game) → next ≡ rooms + 1 → game ≡ record { setting = table_setting s rooms; entries = [] }
+    → more ≡ games ++ game ∷ [] → AreNew s rooms games → AreNew s next more
 one_new s rooms next games more game n is e old = record {
   many = ap length e ∙ length_push games game ∙ ap (λ k. k + 1) old.many ∙ sym n;
   each = λ t g at. elim (of_more games game t g (subst (λ (gs : List Game). slice_get gs t ≡ Some g) e at)) [
@@ -155,7 +156,8 @@ module _ {L : Type 0} where
       ∙ sym (links_cons game games sessions t)
 
   -- A session at one of them adds its link.
-  one_link : (games : List Game) (s : TableSession L) (sessions : List (TableSession L)) (t : ℕ) → t ≤ s.table → s.table < t + length games → IsPermutation (all_links games (s ∷ sessions) t) (placed s ∷ all_links games sessions t)
+  one_link : (games : List Game) (s : TableSession L) (sessions : List (TableSession L)) (t : ℕ) → t ≤ s.table → s.table < t + length games → IsPermutation
+      (all_links games (s ∷ sessions) t) (placed s ∷ all_links games sessions t)
   one_link [] s sessions t low high = absurd (omega (arith, low, high))
   one_link (game ∷ games) s sessions t low high =
       subst (λ (l : List (L × ℕ)). IsPermutation l (placed s ∷ all_links (game ∷ games) sessions t)) (sym (links_cons game games (s ∷ sessions) t))
@@ -165,14 +167,16 @@ module _ {L : Type 0} where
       next : (a b : ℕ) → b ≤ a → (a ≡ b → ⊥) → b + 1 ≤ a
       next a b l n = omega (arith, l, n)
 
-      by_table : ((s.table ≡ t → ⊥) → IsPermutation (all_links games (s ∷ sessions) (t + 1)) (placed s ∷ all_links games sessions (t + 1))) → (s.table ≡ t) ⊎ (s.table ≡ t → ⊥) → IsPermutation (links_at t (s ∷ sessions) ++ all_links games (s ∷ sessions) (t + 1)) (placed s ∷ (links_at t sessions ++ all_links games sessions (t + 1)))
+      by_table : ((s.table ≡ t → ⊥) → IsPermutation (all_links games (s ∷ sessions) (t + 1)) (placed s ∷ all_links games sessions (t + 1))) → (s.table ≡ t) ⊎ (s.table ≡ t → ⊥)
+          → IsPermutation (links_at t (s ∷ sessions) ++ all_links games (s ∷ sessions) (t + 1)) (placed s ∷ (links_at t sessions ++ all_links games sessions (t + 1)))
       by_table later (inl same) =
           subst (λ (l : List (L × ℕ)). IsPermutation l (placed s ∷ (links_at t sessions ++ all_links games sessions (t + 1))))
           (sym (ap (λ (l : List (L × ℕ)). l ++ all_links games (s ∷ sessions) (t + 1)) (here t s sessions same)
           ∙ ap (λ (l : List (L × ℕ)). placed s ∷ (links_at t sessions ++ l)) (before_all games s sessions (t + 1) (omega (arith, same)))))
           (IsPermutation-refl _)
       by_table later (inr differ) =
-          subst (λ (l : List (L × ℕ)). IsPermutation (l ++ all_links games (s ∷ sessions) (t + 1)) (placed s ∷ (links_at t sessions ++ all_links games sessions (t + 1)))) (sym (elsewhere t s sessions differ))
+          subst (λ (l : List (L × ℕ)). IsPermutation (l ++ all_links games (s ∷ sessions) (t + 1)) (placed s ∷ (links_at t sessions ++ all_links games sessions (t + 1))))
+          (sym (elsewhere t s sessions differ))
           (IsPermutation-trans _ _ _
           (IsPermutation-append_right (links_at t sessions) _ _ (later differ))
           (IsPermutation-middle (links_at t sessions) (placed s) (all_links games sessions (t + 1))))
@@ -183,7 +187,8 @@ module _ {L : Type 0} where
   no_links (game ∷ games) t = links_cons game games [] t ∙ no_links games (t + 1)
 
   -- The links of all tables are those of all sessions.
-  links_apart : (games : List Game) (sessions : List (TableSession L)) → All (λ (s : TableSession L). s.table < length games) sessions → IsPermutation (all_links games sessions 0) (map placed sessions)
+  links_apart : (games : List Game) (sessions : List (TableSession L)) → All (λ (s : TableSession L). s.table < length games) sessions → IsPermutation (all_links games sessions 0)
+      (map placed sessions)
   links_apart games [] within = subst (λ (l : List (L × ℕ)). IsPermutation l []) (sym (no_links games 0)) (IsPermutation-refl [])
   links_apart games (s ∷ sessions) within =
       IsPermutation-trans _ _ _
@@ -271,22 +276,27 @@ not_ended games off all = false≢true (sym off ∙ over games all)
 -- the command
 
 module _ {L F : Type 0} (read left written : L → Option (List ℕ)) (read_faults write_faults : L → ℕ) (made : F → Type 0) (number : F → ℕ) where
-  pub served_each : (s : ServedWith) (rooms handlers : ℕ) (was games : List Game) (sessions : List (TableSession L)) (old_readings new_readings : Option (List ℕ)) → AreNew s rooms was → length games ≡ length was
+  pub served_each : (s : ServedWith) (rooms handlers : ℕ) (was games : List Game) (sessions : List (TableSession L)) (old_readings new_readings : Option (List ℕ))
+      → AreNew s rooms was → length games ≡ length was
       → ((t : ℕ) (before game : Game) → slice_get was t ≡ Some before → slice_get games t ≡ Some game → game.setting ≡ before.setting)
       → All (λ (g : Game). IsLegal g.setting g.entries) games
-      → ((t : ℕ) (game : Game) → slice_get games t ≡ Some game → IsPlayedBy (shown_of game.setting) answer_of join_of (sits_at (picked_of rooms) t (sits_of game.setting)) (λ before author seat answer. hears_of game.setting before seat answer) control_line
+      → ((t : ℕ) (game : Game) → slice_get games t ≡ Some game → IsPlayedBy (shown_of game.setting) answer_of join_of (sits_at (picked_of rooms) t (sits_of game.setting))
+      (λ before author seat answer. hears_of game.setting before seat answer) control_line
       (at_link read left written read_faults write_faults) handlers game.entries (sessions_at t sessions) old_readings new_readings)
       → handlers ≡ handlers_of rooms
-      → (t : ℕ) (table : TableGame L) → slice_get (tables_of games sessions 0) t ≡ Some table → IsServedAt read left written read_faults write_faults s rooms t table.game table.links old_readings new_readings
+      → (t : ℕ) (table : TableGame L) → slice_get (tables_of games sessions 0) t ≡ Some table
+      → IsServedAt read left written read_faults write_faults s rooms t table.game table.links old_readings new_readings
   served_each s rooms handlers was games sessions old_readings new_readings new size same legal played are t table at =
       let found = table_at games sessions 0 t table at in
       let before = beside games was t table.game (sym size) found.0 in
       let setting : table.game.setting ≡ table_setting s t = same t before.0 table.game before.1 found.0 ∙ ap (λ (g : Game). g.setting) (new.each t before.0 before.1) in
       let is_legal : IsLegal table.game.setting table.game.entries = legal_at games t table.game legal found.0 in
       served_at read left written read_faults write_faults s rooms t table.game (sessions_at t sessions) table.links old_readings new_readings setting is_legal
-      (subst (λ (n : ℕ). IsPlayedBy (shown_of table.game.setting) answer_of join_of (sits_at (picked_of rooms) t (sits_of table.game.setting)) (λ before author seat answer. hears_of table.game.setting before seat answer) control_line
+      (subst (λ (n : ℕ). IsPlayedBy (shown_of table.game.setting) answer_of join_of (sits_at (picked_of rooms) t (sits_of table.game.setting))
+      (λ before author seat answer. hears_of table.game.setting before seat answer) control_line
       (at_link read left written read_faults write_faults) n table.game.entries (sessions_at t sessions) old_readings new_readings) are (played t table.game found.0))
-      (subst (λ (l : List (L × ℕ)). IsPermutation (map placed_link (sessions_at t sessions)) l) (sym (found.1 ∙ ap (λ n. map placed_link (sessions_at n sessions)) (first t))) (IsPermutation-refl (map placed_link (sessions_at t sessions))))
+      (subst (λ (l : List (L × ℕ)). IsPermutation (map placed_link (sessions_at t sessions)) l) (sym (found.1 ∙ ap (λ n. map placed_link (sessions_at n sessions)) (first t)))
+      (IsPermutation-refl (map placed_link (sessions_at t sessions))))
     where
       first : (n : ℕ) → 0 + n ≡ n
       first n = omega arith
@@ -301,40 +311,45 @@ module _ {L F : Type 0} (read left written : L → Option (List ℕ)) (read_faul
 
   -- The end of the command, by what was written of the records.
   pub plays_by : (end : ServeEnd) (rooms : ℕ) (s : ServedWith) (games : List Game) (sessions : List (TableSession L)) (old new : Outside L)
-      → length games ≡ rooms → Appends old.ports new.ports (s.port ∷ [])
-      → ((t : ℕ) (table : TableGame L) → slice_get (tables_of games sessions 0) t ≡ Some table → IsServedAt read left written read_faults write_faults s rooms t table.game table.links old.readings new.readings)
+      → length games ≡ rooms → Appends old.ports new.ports (s.port ∷ []) → new.open_faults ≡ old.open_faults
+      → ((t : ℕ) (table : TableGame L) → slice_get (tables_of games sessions 0) t ≡ Some table
+      → IsServedAt read left written read_faults write_faults s rooms t table.game table.links old.readings new.readings)
       → All (λ (x : TableSession L). x.table < length games) sessions
       → AppendsLinks old.returned new.returned (reverse (map placed_link (map (λ (x : TableSession L). x.session) sessions)))
       → ((have_ended games → ⊥) → HasLostEach made number (handlers_of rooms)) → WritesRecordsOf end games old.written new.written
       → PlaysAll read left written read_faults write_faults made number end rooms s old new
-  plays_by ends.Over rooms s games sessions old new many opened is within back lost h = record {
+  plays_by ends.Over rooms s games sessions old new many opened none is within back lost h = record {
     tables = tables_of games sessions 0;
     links = _;
     many = same_many games sessions 0 ∙ many;
     opened = opened;
+    none_failed = none;
     served = is;
     back = back;
     apart = apart games sessions within;
     records_are = subst (λ (gs : List Game). Appends old.written new.written (records_from gs 0)) (sym (same_games games sessions 0)) h.0;
     ends = subst (λ (gs : List Game). have_ended gs) (sym (same_games games sessions 0)) (ended games h.1);
   }
-  plays_by ends.HostLost rooms s games sessions old new many opened is within back lost h = record {
+  plays_by ends.HostLost rooms s games sessions old new many opened none is within back lost h = record {
     tables = tables_of games sessions 0;
     links = _;
     many = same_many games sessions 0 ∙ many;
     opened = opened;
+    none_failed = none;
     served = is;
     back = back;
     apart = apart games sessions within;
     records_are = subst (λ (gs : List Game). Appends old.written new.written (records_from gs 0)) (sym (same_games games sessions 0)) h.0;
-    ends = subst (λ (gs : List Game). AreAbandoned read left written read_faults write_faults made number rooms gs) (sym (same_games games sessions 0)) (not_ended games h.1, lost (not_ended games h.1));
+    ends = subst (λ (gs : List Game). AreAbandoned read left written read_faults write_faults made number rooms gs) (sym (same_games games sessions 0))
+        (not_ended games h.1, lost (not_ended games h.1));
   }
-  plays_by ends.NotOpened rooms s games sessions old new many opened is within back lost h = absurd h
-  plays_by ends.WriteFault rooms s games sessions old new many opened is within back lost h = record {
+  plays_by ends.NotOpened rooms s games sessions old new many opened none is within back lost h = absurd h
+  plays_by ends.WriteFault rooms s games sessions old new many opened none is within back lost h = record {
     tables = tables_of games sessions 0;
     links = _;
     many = same_many games sessions 0 ∙ many;
     opened = opened;
+    none_failed = none;
     served = is;
     back = back;
     apart = apart games sessions within;
@@ -345,4 +360,4 @@ module _ {L F : Type 0} (read left written : L → Option (List ℕ)) (read_faul
       either : (b : Bool) → all_over games ≡ b → have_ended games ⊎ AreAbandoned read left written read_faults write_faults made number rooms games
       either true e = inl (ended games e)
       either false e = inr (not_ended games e, lost (not_ended games e))
-  plays_by ends.NoMemory rooms s games sessions old new many opened is within back lost h = h
+  plays_by ends.NoMemory rooms s games sessions old new many opened none is within back lost h = h

@@ -43,6 +43,7 @@ module _ {L F : Type 0} (read left written : L → Option (List ℕ)) (read_faul
     pub links : List (L × ℕ)
     pub many : length tables ≡ rooms
     pub opened : Appends old.ports new.ports (s.port ∷ [])
+    pub none_failed : new.open_faults ≡ old.open_faults
     pub served : (t : ℕ) (table : TableGame L) → slice_get tables t ≡ Some table → IsServedAt read left written read_faults write_faults s rooms t table.game table.links old.readings new.readings
     pub back : AppendsLinks old.returned new.returned links
     pub apart : IsPermutation (flat_map (λ (t : TableGame L). t.links) tables) links

@@ -56,12 +56,12 @@ pub fn run<S: Source, K: Sink, H: Host, C: Clock, D: Disk, R: Threads + Wait + S
 ) -> Status
     ensures run { RunsAny (λ end s. Serves H.Link.was_read H.Link.left H.Link.written
         H.Link.read_faults H.Link.write_faults (H.made_by host.new) H.Fault.number end s
-        (outside (H.ports host.old) (H.returned host.old) (C.readings clock.old) (K.written sink.old))
-        (outside (H.ports host.new) (H.returned host.new) (C.readings clock.new) (K.written sink.new)))
+        (outside (H.ports host.old) (H.open_faults host.old) (H.returned host.old) (C.readings clock.old) (K.written sink.old))
+        (outside (H.ports host.new) (H.open_faults host.new) (H.returned host.new) (C.readings clock.new) (K.written sink.new)))
         (λ end rooms s. PlaysAll H.Link.was_read H.Link.left H.Link.written
         H.Link.read_faults H.Link.write_faults (H.made_by host.new) H.Fault.number end rooms s
-        (outside (H.ports host.old) (H.returned host.old) (C.readings clock.old) (K.written sink.old))
-        (outside (H.ports host.new) (H.returned host.new) (C.readings clock.new) (K.written sink.new)))
+        (outside (H.ports host.old) (H.open_faults host.old) (H.returned host.old) (C.readings clock.old) (K.written sink.old))
+        (outside (H.ports host.new) (H.open_faults host.new) (H.returned host.new) (C.readings clock.new) (K.written sink.new)))
         (asked_by (map string_bytes words.now)) result (S.left source.old) (S.left source.new)
         (K.written sink.old) (K.written sink.new) }
     ensures reads { CountsReadFaults result (S.read_faults source.old) (S.read_faults source.new) }

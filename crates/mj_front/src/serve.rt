@@ -49,8 +49,8 @@ pub(crate) fn serve<K: Sink, H: Host, C: Clock, R: Threads + Wait + Sync>(
     ensures serves { Serves H.Link.was_read H.Link.left H.Link.written H.Link.read_faults
         H.Link.write_faults (H.made_by host.new) H.Fault.number result
         (served_with serving.now)
-        (outside (H.ports host.old) (H.returned host.old) (C.readings clock.old) (K.written sink.old))
-        (outside (H.ports host.new) (H.returned host.new) (C.readings clock.new) (K.written sink.new)) }
+        (outside (H.ports host.old) (H.open_faults host.old) (H.returned host.old) (C.readings clock.old) (K.written sink.old))
+        (outside (H.ports host.new) (H.open_faults host.new) (H.returned host.new) (C.readings clock.new) (K.written sink.new)) }
     ensures writes { CountsWriteFaults (serve_status result) (K.write_faults sink.old)
         (K.write_faults sink.new) }
 {
@@ -109,8 +109,8 @@ fn play<K: Sink, H: Host, C: Clock, R: Threads + Wait + Sync>(
         → game.setting ≡ served_setting s → Appends first (H.ports host.old) (s.port ∷ [])
         → Serves H.Link.was_read H.Link.left H.Link.written H.Link.read_faults
         H.Link.write_faults (H.made_by host.new) H.Fault.number result s
-        (outside first (H.returned host.old) (C.readings clock.old) (K.written sink.old))
-        (outside (H.ports host.new) (H.returned host.new) (C.readings clock.new) (K.written sink.new)) }
+        (outside first (H.open_faults host.old) (H.returned host.old) (C.readings clock.old) (K.written sink.old))
+        (outside (H.ports host.new) (H.open_faults host.new) (H.returned host.new) (C.readings clock.new) (K.written sink.new)) }
     ensures writes { CountsWriteFaults (serve_status result) (K.write_faults sink.old)
         (K.write_faults sink.new) }
 {
@@ -140,6 +140,7 @@ fn give_all<H: Host>(host: &mut H, mut sessions: Vec<Session<H::Link>>) -> Given
     ensures back { GivesAllBack result (H.returned host.old) (H.returned host.new)
         (reverse (map placed_link sessions.items)) }
     ensures ports { H.ports host.new ≡ H.ports host.old }
+    ensures openings { H.open_faults host.new ≡ H.open_faults host.old }
     ensures made { (f : H.Fault) → H.made_by host.old f → H.made_by host.new f }
 {
     while let Some(session) = sessions.pop() {

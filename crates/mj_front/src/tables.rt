@@ -57,8 +57,8 @@ pub(crate) fn serve_tables<K: Sink, H: Host, C: Clock, R: Threads + Wait + Sync>
     ensures plays { PlaysAll H.Link.was_read H.Link.left H.Link.written H.Link.read_faults
         H.Link.write_faults (H.made_by host.new) H.Fault.number result hosting.now.rooms
         (served_with hosting.now.serving)
-        (outside (H.ports host.old) (H.returned host.old) (C.readings clock.old) (K.written sink.old))
-        (outside (H.ports host.new) (H.returned host.new) (C.readings clock.new) (K.written sink.new)) }
+        (outside (H.ports host.old) (H.open_faults host.old) (H.returned host.old) (C.readings clock.old) (K.written sink.old))
+        (outside (H.ports host.new) (H.open_faults host.new) (H.returned host.new) (C.readings clock.new) (K.written sink.new)) }
     ensures writes { CountsWriteFaults (serve_status result) (K.write_faults sink.old)
         (K.write_faults sink.new) }
 {
@@ -118,8 +118,8 @@ fn play<K: Sink, H: Host, C: Clock, R: Threads + Wait + Sync>(
         → AreNew s rooms games.items → Appends first (H.ports host.old) (s.port ∷ [])
         → PlaysAll H.Link.was_read H.Link.left H.Link.written H.Link.read_faults
         H.Link.write_faults (H.made_by host.new) H.Fault.number result rooms s
-        (outside first (H.returned host.old) (C.readings clock.old) (K.written sink.old))
-        (outside (H.ports host.new) (H.returned host.new) (C.readings clock.new) (K.written sink.new)) }
+        (outside first (H.open_faults host.old) (H.returned host.old) (C.readings clock.old) (K.written sink.old))
+        (outside (H.ports host.new) (H.open_faults host.new) (H.returned host.new) (C.readings clock.new) (K.written sink.new)) }
     ensures writes { CountsWriteFaults (serve_status result) (K.write_faults sink.old)
         (K.write_faults sink.new) }
 {
@@ -143,6 +143,7 @@ fn give_all<H: Host>(host: &mut H, mut sessions: Vec<TableSession<H::Link>>) -> 
     ensures back { GivesAllBack result (H.returned host.old) (H.returned host.new)
         (reverse (map placed_link (map (λ s. s.session) sessions.items))) }
     ensures ports { H.ports host.new ≡ H.ports host.old }
+    ensures openings { H.open_faults host.new ≡ H.open_faults host.old }
     ensures made { (f : H.Fault) → H.made_by host.old f → H.made_by host.new f }
 {
     while let Some(at_table) = sessions.pop() {

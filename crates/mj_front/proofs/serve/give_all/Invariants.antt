@@ -6,6 +6,7 @@ abbrev pub invariant-loop-session : goal.invariant-loop-session
 invariant-loop-session g l = record {
   given : Giving (g.H.Host.returned l.initial.host) (g.H.Host.returned l.host) l.fn.sessions.items l.sessions.items;
   ports : g.H.Host.ports l.host ≡ g.H.Host.ports l.initial.host;
+  openings : g.H.Host.open_faults l.host ≡ g.H.Host.open_faults l.initial.host;
   made : (f : _) → g.H.Host.made_by l.initial.host f → g.H.Host.made_by l.host f;
 }
 

@@ -6,6 +6,7 @@ abbrev pub invariant-loop-at_table : goal.invariant-loop-at_table
 invariant-loop-at_table g l = record {
   given : Giving (g.H.Host.returned l.initial.host) (g.H.Host.returned l.host) (map (λ s. s.session) l.fn.sessions.items) (map (λ s. s.session) l.sessions.items);
   ports : g.H.Host.ports l.host ≡ g.H.Host.ports l.initial.host;
+  openings : g.H.Host.open_faults l.host ≡ g.H.Host.open_faults l.initial.host;
   made : (f : _) → g.H.Host.made_by l.initial.host f → g.H.Host.made_by l.host f;
 }
 

@@ -28,12 +28,15 @@ returns-in-Kept-clause-plays g c = λ s first new opened.
     (g.H.Host.made_by c.give_all.new.host) g.H.Fault.Numbered.number c.write_records.result c.args.rooms s c.in-Ok.closed.games.items c.in-Ok.closed.sessions.items _ _
     (c.in-Ok.ensures.tables ∙ new.many)
     (subst (λ (o : Option (List ℕ)). Appends first o (s.port ∷ [])) (sym c.in-Kept.ensures.ports) opened)
+    c.in-Kept.ensures.openings
     (served_each g.H.Link.Link.was_read g.H.Link.Source.left g.H.Link.Sink.written g.H.Link.Source.read_faults g.H.Link.Sink.write_faults
-    (g.H.Host.made_by c.give_all.new.host) g.H.Fault.Numbered.number s c.args.rooms (handlers_of (length c.args.games.items)) c.args.games.items c.in-Ok.closed.games.items c.in-Ok.closed.sessions.items _ _
+    (g.H.Host.made_by c.give_all.new.host) g.H.Fault.Numbered.number s c.args.rooms (handlers_of
+    (length c.args.games.items)) c.args.games.items c.in-Ok.closed.games.items c.in-Ok.closed.sessions.items _ _
     new c.in-Ok.ensures.tables c.in-Ok.ensures.setting c.in-Ok.ensures.legal c.in-Ok.ensures.played (ap handlers_of new.many))
     (subst (λ (n : ℕ). All (λ (x : TableSession _). x.table < n) c.in-Ok.closed.sessions.items) (sym c.in-Ok.ensures.tables) c.in-Ok.ensures.rooms)
     c.in-Kept.ensures.back
     (λ go. more_lost (g.H.Host.made_by c.args.host.now) (g.H.Host.made_by c.give_all.new.host) g.H.Fault.Numbered.number _ c.in-Kept.ensures.made
     (subst (λ (n : ℕ). HasLostEach (g.H.Host.made_by c.args.host.now) g.H.Fault.Numbered.number (handlers_of n)) new.many
     (each_lost (have_ended c.in-Ok.closed.games.items) (g.H.Host.made_by c.args.host.now) g.H.Fault.Numbered.number _ c.in-Ok.closed.ends.items go c.in-Ok.ensures.ends)))
-    (subst (λ (gs : List Game). WritesRecordsOf c.write_records.result gs (g.K.Sink.written c.args.sink.now) (g.K.Sink.written c.write_records.new.sink)) (search rules) c.write_records.ensures.records)
+    (subst (λ (gs : List Game). WritesRecordsOf c.write_records.result gs (g.K.Sink.written c.args.sink.now) (g.K.Sink.written c.write_records.new.sink))
+    (search rules) c.write_records.ensures.records)
