@@ -1,5 +1,6 @@
 pub mod Places
 pub mod Handing
+pub mod Receiving
 pub mod Joined
 pub mod Desking
 pub mod Staffing

@@ -12,7 +12,7 @@ ghost use Rattle.mj_tables.specs.Tables.{IsBelow};
 
 use crate::closed::TableSession;
 use crate::door::Door;
-use crate::lobby::{Lobby, Received, receive};
+use crate::lobby::{Lobby, Received, receive, refuse};
 use mj_links::{Came, Link, Wire};
 use mj_ports::Picker;
 use mj_seats::{Ended, Finding, HandlerEnd, Session, SharedGame, ask, hold, lose, serve_joined};
@@ -222,7 +222,7 @@ fn seat_link<T: SharedGame, L: Link + Drop, F, R: Wait>(
     let t = usize::from(table);
     match ask(&turns[t], rt, &mut hand.passes[t]) {
         Finding::Over => {
-            wire.send(lobby.over.as_slice());
+            refuse(&mut wire, lobby.over.as_slice());
             wire.into_link().shut();
             None
         }
@@ -265,7 +265,9 @@ fn play_link<T: SharedGame, L: Link + Drop, R: Wait>(
     ensures number { hand.new.number ≡ hand.old.number }
 {
     let t = usize::from(table);
-    let served = serve_joined(&turns[t], rt, &mut hand.passes[t], &mut wire, line);
+    let alloc = *line.allocator();
+    let first = line.as_slice();
+    let served = serve_joined(&turns[t], rt, alloc, &mut hand.passes[t], &mut wire, first);
     let mut link = wire.into_link();
     link.shut();
     match served.place {

@@ -2,7 +2,7 @@
 ghost use Rattle.std.specs.Prelude.{◌≡◌, [], ◌∷◌, IfOk};
 ghost use Rattle.mj_ports.specs.declared.answers.Control.TheVariants.{Hello};
 ghost use Rattle.mj_seats.specs.Wires.{WireState, Took, Wrote, at_wire};
-ghost use Rattle.mj_tables.specs.Inner.Hands.{IsLobby, Receives, PicksFor};
+ghost use Rattle.mj_tables.specs.Inner.Hands.{IsLobby, Receives, Refuses};
 
 use mj_links::{LineRead, Link, Sent, Wire};
 use mj_ports::{Control, Picked, Picker, Seated, SitRefused};
@@ -22,7 +22,7 @@ pub(crate) struct Lobby {
 pub(crate) enum Received {
     // The link was greeted, and this line came, which is for the table.
     At(u8, Vec<u8>),
-    // The link is for no table, or it is lost.
+    // The link is for no table, and was refused, or it was lost before its first line came.
     Nowhere,
     NoMemory,
 }
@@ -60,7 +60,7 @@ pub(crate) fn receive<P: Picker, L: Link>(
     picker: &P,
     wire: &mut Wire<L>,
 ) -> Received
-    ensures { Receives (P.picks picker.now) lobby.now.hello.items result
+    ensures { Receives (P.picks picker.now) lobby.now result
         (at_wire L.was_read L.left L.written L.read_faults L.write_faults wire.old)
         (at_wire L.was_read L.left L.written L.read_faults L.write_faults wire.new) }
 {
@@ -85,18 +85,33 @@ fn pick<P: Picker, L: Link>(
     wire: &mut Wire<L>,
     line: Vec<u8>,
 ) -> Received
-    ensures { PicksFor (P.picks picker.now) result line.items (wire.new ≡ wire.old) }
+    ensures { (x : WireState)
+        → Took x (at_wire L.was_read L.left L.written L.read_faults L.write_faults wire.old)
+        (line.items ∷ []) []
+        → Wrote x (at_wire L.was_read L.left L.written L.read_faults L.write_faults wire.old)
+        lobby.now.hello.items
+        → Receives (P.picks picker.now) lobby.now result x
+        (at_wire L.was_read L.left L.written L.read_faults L.write_faults wire.new) }
 {
     match picker.pick(alloc, line.as_slice()) {
         Ok(Picked::Table(table)) => Received::At(table, line),
         Ok(Picked::BadName) => {
-            wire.send(lobby.bad_name.as_slice());
+            refuse(wire, lobby.bad_name.as_slice());
             Received::Nowhere
         }
         Ok(Picked::NoRoom) => {
-            wire.send(lobby.no_room.as_slice());
+            refuse(wire, lobby.no_room.as_slice());
             Received::Nowhere
         }
         Err(_) => Received::NoMemory,
     }
+}
+
+// Writes the line of its refusal on a link that was greeted, and one line of which came.
+pub(crate) fn refuse<L: Link>(wire: &mut Wire<L>, refusal: &[u8])
+    ensures { Refuses refusal.now
+        (at_wire L.was_read L.left L.written L.read_faults L.write_faults wire.old)
+        (at_wire L.was_read L.left L.written L.read_faults L.write_faults wire.new) }
+{
+    wire.send(refusal);
 }

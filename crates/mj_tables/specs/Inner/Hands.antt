@@ -1,20 +1,24 @@
 -- What a handler has come to at many tables.
-use Rattle.std.specs.Prelude.{◌≡◌, ℕ, ◌<◌, true, All, List, [], ◌∷◌, length, Option, Some, None, slice_get}
+use Rattle.std.specs.Prelude.{◌≡◌, ℕ, ◌<◌, true, All, List, [], ◌∷◌, ◌++◌, length, Option, Some, None, slice_get}
 use Rattle.turn_lock.specs.Passes.{TurnState, PassState}
 use Rattle.turn_lock.specs.Turns.{IsIdle}
 use Rattle.mj_ports.specs.declared.entry.Entry.{Entry}
 use Rattle.mj_ports.specs.declared.picking.Picked.{Picked}
 use Rattle.mj_ports.specs.declared.picking.Picked.TheVariants as picked
+use Rattle.mj_ports.specs.declared.sitting.SitRefused.{SitRefused}
 use Rattle.mj_ports.specs.declared.sitting.SitRefused.TheVariants as refused
 use Rattle.mj_ports.specs.declared.answers.Control.{Control}
-use Rattle.mj_ports.specs.declared.answers.Control.TheVariants.{Hello, SitRefused}
+use Rattle.mj_ports.specs.declared.answers.Control.TheVariants as control
 use Rattle.mj_ports.specs.declared.seated.Seated.{Ghosts}
 use Rattle.mj_seats.specs.declared.handle.HandlerEnd.{HandlerEnd}
 use Rattle.mj_seats.specs.declared.handle.HandlerEnd.TheVariants.{Over, Host, NoMemory}
 use Rattle.mj_seats.specs.declared.handle.Finding.{Finding}
 use Rattle.mj_seats.specs.declared.handle.Finding.TheVariants as finding
 use Rattle.mj_seats.specs.Handlers.{Handled, IsNew, IsOn}
-use Rattle.mj_seats.specs.Wires.{WireState, Took, Wrote}
+use Rattle.mj_seats.specs.declared.served.Ended.{Ended}
+use Rattle.mj_seats.specs.declared.served.Ended.TheVariants.{PeerEnded, LinkFault, LineTooLong, NotSeated}
+use Rattle.mj_seats.specs.Sessions.{WireEnds}
+use Rattle.mj_seats.specs.Wires.{WireState, Took, Wrote, ToldInPart}
 use Rattle.mj_tables.specs.declared.closed.TableSession.{TableSession}
 use Rattle.mj_tables.specs.declared.hand.Hand.{Hand}
 use Rattle.mj_tables.specs.declared.lobby.Lobby.{Lobby}
@@ -24,22 +28,52 @@ use Rattle.mj_tables.specs.Tables.{sessions_at, sits_at}
 
 -- These are the lines of games that write lines so.
 pub record IsLobby {R : Type 0} (says : Control R → List ℕ) (l : Lobby) : Type 0 where
-  pub hello : l.hello.items ≡ says Hello
-  pub bad_name : l.bad_name.items ≡ says (SitRefused refused.BadName)
-  pub no_room : l.no_room.items ≡ says (SitRefused refused.NoRoom)
-  pub over : l.over.items ≡ says (SitRefused refused.Over)
+  pub hello : l.hello.items ≡ says control.Hello
+  pub bad_name : l.bad_name.items ≡ says (control.SitRefused refused.BadName)
+  pub no_room : l.no_room.items ≡ says (control.SitRefused refused.NoRoom)
+  pub over : l.over.items ≡ says (control.SitRefused refused.Over)
 
--- A link that was received was greeted, and one line came that is for the table.
-abbrev pub Receives : (List ℕ → Picked) → List ℕ → Received → WireState → WireState → Type 0
-Receives picks hello (received.At table line) x y = (picks line.items ≡ picked.Table table) × Took x y (line.items ∷ []) [] × Wrote x y hello
-Receives picks hello received.Nowhere x y = Unit {0}
-Receives picks hello received.NoMemory x y = Unit {0}
+-- A line is refused so that is for no table.
+abbrev pub RefusedBy : Picked → SitRefused → Type 0
+RefusedBy (picked.Table table) why = ⊥
+RefusedBy picked.BadName why = why ≡ refused.BadName
+RefusedBy picked.NoRoom why = why ≡ refused.NoRoom
 
--- A line is for the table that was picked, and nothing was done to its wire.
-abbrev pub PicksFor : (List ℕ → Picked) → Received → List ℕ → Type 0 → Type 0
-PicksFor picks (received.At table of) line same = (picks line ≡ picked.Table table) × (of.items ≡ line) × same
-PicksFor picks received.Nowhere line same = Unit {0}
-PicksFor picks received.NoMemory line same = Unit {0}
+-- The session of a link without a table ended before its first line came, or by the refusal of this line.
+abbrev pub NoTableFor : (List ℕ → Picked) → Ended → List (List ℕ) → Type 0
+NoTableFor picks PeerEnded lines = lines ≡ []
+NoTableFor picks LinkFault lines = lines ≡ []
+NoTableFor picks LineTooLong lines = lines ≡ []
+NoTableFor picks (NotSeated why) lines = (line : List ℕ) × (lines ≡ line ∷ []) × RefusedBy (picks line) why
+NoTableFor picks _ lines = ⊥
+
+-- What is written on such a link: the hello line, and the line of its refusal.
+abbrev pub turned_away_by : Lobby → Ended → List ℕ
+turned_away_by l (NotSeated refused.BadName) = l.hello.items ++ l.bad_name.items
+turned_away_by l (NotSeated refused.NoRoom) = l.hello.items ++ l.no_room.items
+turned_away_by l _ = l.hello.items
+
+-- The session of a link without a table. After a failed write a prefix is written.
+pub record IsTurnedAway (picks : List ℕ → Picked) (l : Lobby) (x y : WireState) : Type 0 where
+  pub ended : Ended
+  pub lines : List (List ℕ)
+  pub rest : List ℕ
+  pub took : Took x y lines rest
+  pub no_table : NoTableFor picks ended lines
+  pub wrote : ToldInPart ⊥ x y [] (turned_away_by l ended)
+  pub wire_ends : WireEnds ended x y rest
+
+-- A link that was received was greeted, and one line came that is for the table; or its session ended without a table.
+abbrev pub Receives : (List ℕ → Picked) → Lobby → Received → WireState → WireState → Type 0
+Receives picks l (received.At table line) x y = (picks line.items ≡ picked.Table table) × Took x y (line.items ∷ []) [] × Wrote x y l.hello.items
+Receives picks l received.Nowhere x y = IsTurnedAway picks l x y
+Receives picks l received.NoMemory x y = Unit {0}
+
+-- A link that was greeted, and one line of which came, is told a refusal.
+abbrev pub Refuses : List ℕ → WireState → WireState → Type 0
+Refuses refusal y z =
+    (x : WireState) (hello line : List ℕ) → Took x y (line ∷ []) [] → Wrote x y hello
+    → Took x z (line ∷ []) [] × ToldInPart ⊥ x z [] (hello ++ refusal)
 
 -- The link of a wire was received: from when it came on it was greeted, and this line came alone.
 pub record WasReceived {L : Type 0} (at : List ℕ → L → WireState) (hello line : List ℕ) (y : WireState) : Type 0 where
