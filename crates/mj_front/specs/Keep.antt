@@ -16,7 +16,7 @@ use Rattle.mj_journal.specs.Openings.{Opening, Fresh, Other, Bad as BadAt, Open}
 use Rattle.mj_journal.specs.Playing.{Play, play, opens}
 use Rattle.mj_front.specs.declared.keep.KeepEnd.{KeepEnd}
 use Rattle.mj_front.specs.declared.keep.KeepEnd.TheVariants as ends
-use Rattle.mj_front.specs.Inputs.{IsRead, IsTooLong}
+use Rattle.mj_front.specs.Inputs.{IsRead, IsCutOff, IsTooLong}
 use Rattle.mj_front.specs.Referee.{IsTold, ending}
 
 -- What founds a kept game: its setting, the tag of its journal, and the lines after these, with the number of the first.
@@ -184,5 +184,5 @@ module _ {D : Type 0} (told : D → Option (List ℕ)) (may_leave : D → List �
   KeepsAll ends.OtherGame seat old_left new_left old_written new_written old new = KeepsRead ends.OtherGame seat old_left new_left old_written new_written old new
   KeepsAll (ends.BadJournal place) seat old_left new_left old_written new_written old new = KeepsRead (ends.BadJournal place) seat old_left new_left old_written new_written old new
   KeepsAll ends.NoMemory seat old_left new_left old_written new_written old new = KeepsWanting seat old_left new_left old_written new_written old new
-  KeepsAll ends.ReadFault seat old_left new_left old_written new_written old new = Keeps old_written new_written × (new ≡ old)
+  KeepsAll ends.ReadFault seat old_left new_left old_written new_written old new = IsCutOff old_left new_left old_written new_written × (new ≡ old)
   KeepsAll ends.TooLong seat old_left new_left old_written new_written old new = IsTooLong old_left new_left old_written new_written × (new ≡ old)
