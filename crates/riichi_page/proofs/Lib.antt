@@ -1,0 +1,3 @@
+mod Hands
+mod Said
+mod Bits
