@@ -8,7 +8,7 @@ use Rattle.mj_streams.proofs.pages.Stream.prepare.Goals as goal
 pub returns-clause-text : goal.returns-clause-text
 returns-clause-text c =
     let text = c.in_ok-write_listed.ensures.ok.is
-        ∙ ap (λ (before : List ℕ). before ++ line_with c.args.answers.now c.args.line.now) c.clear.ensures.items in
+    ∙ ap (λ (before : List ℕ). before ++ line_with c.args.answers.now c.args.line.now) c.clear.ensures.items in
     on_ok_weaker c.make_room.result (λ room. rw c.make_room.ensures.text text) c.make_room.ensures.room
 
 pub returns-clause-room : goal.returns-clause-room
