@@ -11,6 +11,7 @@ START_HAND = {
     "type": "start_kyoku", "bakaze": "E", "kyoku": 1, "honba": 0, "kyotaku": 0, "oya": 0, "dora_marker": "F",
     "tehais": [["?"] * 13, HAND, ["?"] * 13, ["?"] * 13],
 }
+END_HAND = {"type": "end_kyoku"}
 END_GAME = {"type": "end_game", "scores": [30000, 30000, 30000, 30000], "kyotaku": 0}
 
 

@@ -8,10 +8,15 @@ import unittest
 
 HERE = pathlib.Path(__file__).parent
 sys.path.insert(0, str(HERE))
-from table import END_GAME, HAND, NONE, START_GAME, START_HAND, Table, discard, draw
+from table import END_GAME, END_HAND, HAND, NONE, START_GAME, START_HAND, Table, discard, draw
 
 BRIDGE = HERE.parent / "bridge.py"
 BOT = HERE / "bot.py"
+
+
+def as_told(*events):
+    """The events as a program is told them: a hand begins with the points, here always those of the start."""
+    return [{**event, "scores": [30000] * 4} if event["type"] == "start_kyoku" else event for event in events]
 
 
 class Bridge(unittest.TestCase):
@@ -20,11 +25,12 @@ class Bridge(unittest.TestCase):
         self.addCleanup(folder.cleanup)
         self.folder = pathlib.Path(folder.name)
 
-    def bridge(self, table, *bot, style="line", words=(), port=None):
-        """Runs the bridge to its end; its exit code, and what it wrote."""
+    def bridge(self, table, *bot, style="line", words=(), port=None, command=None):
+        """Runs the bridge to its end, with the tests' bot or a command; its exit code, and what it wrote."""
+        program = command or [sys.executable, BOT, style, self.folder / "read", *bot]
         command = [sys.executable, BRIDGE, "--name", "anna", "--key", "k", "--port", str(port or table.port), "--style", style]
         command += ["--log", self.folder / "log", "--report", self.folder / "report", *words]
-        command += ["--", sys.executable, BOT, style, self.folder / "read", *bot]
+        command += ["--", *program]
         ended = subprocess.run(command, capture_output=True, text=True, timeout=60)
         if table:
             table.join(10)
@@ -49,15 +55,20 @@ class Bridge(unittest.TestCase):
         self.assertEqual(ended.stdout, "anna joins\nanna has seat 1\nanna: scores 30000 30000 30000 30000\n")
         self.assertEqual(table.joins, [{"type": "join", "name": "anna", "key": "k", "room": "default"}])
         self.assertEqual(table.answers, [NONE, NONE, NONE, NONE, discard(1, "N"), NONE, NONE])
-        self.assertEqual(self.read(), game)
-        self.assertEqual(self.report()["answers"], 7)
+        self.assertEqual(self.read(), as_told(*game))
+        self.assertIn('told at event 2 (start_kyoku): {"scores":[30000,30000,30000,30000]}', self.log())
+        report = self.report()
+        self.assertEqual((report["answers"], report["asked"], report["starts"], report["never_answered"]), (7, 7, 1, False))
+        self.assertEqual({report[name] for name in ("refusals", "stood_in", "restarts", "run_out", "late")}, {0})
+        self.assertEqual(report["ended"], [])
 
     def test_a_batch_has_all_events_since_the_last_answer(self):
-        game = [START_GAME, START_HAND, draw(0, "?"), discard(0, "C"), draw(1, "N"), discard(1, "N"), draw(2, "?"), END_GAME]
+        game = [START_GAME, START_HAND, draw(0, "?"), discard(0, "C"), draw(1, "N"), discard(1, "N"), draw(2, "?"), END_HAND, END_GAME]
         table = Table(lambda it: it.ask(*game))
         self.assertEqual(self.bridge(table, style="batch").returncode, 0)
-        self.assertEqual(table.answers, [NONE, NONE, NONE, NONE, discard(1, "N"), NONE, NONE, NONE])
-        self.assertEqual(self.read(), [game[:4], game[4:5], game[5:]])
+        self.assertEqual(table.answers, [NONE, NONE, NONE, NONE, discard(1, "N"), NONE, NONE, NONE, NONE])
+        game = as_told(*game)
+        self.assertEqual(self.read(), [game[:1], game[1:4], game[4:5], game[5:8], game[8:]])
 
     def test_a_batch_asks_where_the_table_says_that_something_is_possible(self):
         only_none = {"possible_actions": [NONE]}
@@ -65,40 +76,55 @@ class Bridge(unittest.TestCase):
         game = [START_GAME, {**START_HAND, **only_none}, {**discard(0, "C"), **only_none}, {**discard(0, "1m"), **pon}, END_GAME]
         table = Table(lambda it: it.ask(*game))
         self.assertEqual(self.bridge(table, style="batch").returncode, 0)
-        self.assertEqual(self.read(), [game[:4], game[4:]])
+        game = as_told(*game)
+        self.assertEqual(self.read(), [game[:1], game[1:4], game[4:]])
 
     def test_a_silent_program_is_stood_in_for_and_its_late_answer_dropped(self):
         game = [START_GAME, START_HAND, draw(1, "N"), discard(1, "N"), draw(1, "P"), END_GAME]
         table = Table(lambda it: it.ask(*game))
         ended = self.bridge(table, "slow", "3", "0.6", words=["--think", "300", "--limit", "250", "--patience", "99"])
-        self.assertEqual(ended.returncode, 0)
         self.assertEqual(table.answers, [NONE, NONE, discard(1, "N"), NONE, discard(1, "P"), NONE])
         self.assertIn('no answer in time to {"type":"tsumo","actor":1,"pai":"N"}', self.log())
-        self.assertGreaterEqual(self.report()["silences"], 1)
-        self.assertGreaterEqual(self.report()["expired"], 1)
-        self.assertEqual(self.report()["starts"], 1)
+        self.assertIn('too late, before event 5 (tsumo): {"type": "none", "late": true}', self.log())
+        report = self.report()
+        self.assertGreaterEqual(report["silences"], 1)
+        self.assertEqual((report["stood_in"], report["run_out"], report["starts"]), (report["silences"], report["expired"], 1))
+        self.assertGreaterEqual(report["expired"], 1)
+        self.assertGreaterEqual(report["late"], 1)
+        self.assertEqual((ended.returncode, ended.stderr), (1, (
+            "anna: the program was silent at event 3 (tsumo) for 0.3 s\n"
+            f"anna: the program was stood in for at {report['stood_in']} of 6 events\n")))
 
     def test_a_program_that_hangs_is_started_again_and_then_given_up(self):
         game = [START_GAME, START_HAND, *[draw(1, "N"), discard(1, "N")] * 6, END_GAME]
         table = Table(lambda it: it.ask(*game))
         ended = self.bridge(table, "hang", "3", words=["--think", "200", "--start", "400", "--patience", "2", "--restarts", "1"])
-        self.assertEqual(ended.returncode, 0)
+        self.assertEqual(ended.returncode, 1)
         self.assertEqual(table.answers, [NONE, NONE, *[discard(1, "N"), NONE] * 6, NONE])
-        self.assertEqual(self.report()["starts"], 2)
+        report = self.report()
+        self.assertEqual((report["starts"], report["restarts"], report["stood_in"]), (2, 1, 13))
         self.assertIn("that was the last time", self.log())
 
     def test_a_program_that_dies_is_started_again_and_told_the_game_so_far(self):
         game = [START_GAME, START_HAND, draw(1, "N"), discard(1, "N"), discard(2, "P"), END_GAME]
-        faults = [("line", "3", [*game[:3], *game]), ("batch", "2", [game[:3], game[3:5], game[:5], game[5:]])]
-        for style, at, told in faults:
+        seen = as_told(*game)
+        faults = [
+            ("line", "3", "3 (tsumo)", [*seen[:3], *seen]),
+            ("batch", "3", "5 (dahai)", [seen[:1], seen[1:3], seen[3:5], seen[:5], seen[5:]]),
+        ]
+        for style, at, where, told in faults:
             with self.subTest(style):
                 for path in self.folder.glob("read*"):
                     path.unlink()
                 table = Table(lambda it: it.ask(*game))
-                self.assertEqual(self.bridge(table, "crash", at, "1", style=style).returncode, 0)
+                ended = self.bridge(table, "crash", at, "1", style=style)
+                self.assertEqual((ended.returncode, ended.stderr), (
+                    0, f"anna: the program ended with exit code 1 at event {where}; it said last: I fall\n"))
                 self.assertEqual(table.answers, [NONE, NONE, discard(1, "N"), NONE, NONE, NONE])
                 self.assertEqual(self.read(), told)
-                self.assertEqual(self.report()["starts"], 2)
+                report = self.report()
+                self.assertEqual((report["starts"], report["restarts"], report["stood_in"]), (2, 1, 0))
+                self.assertEqual(report["ended"], [{"event": int(where.split()[0]), "code": 1, "stderr": "I fall"}])
                 self.assertIn("I fall", self.log())
 
     def test_a_refused_answer_is_stood_in_for(self):
@@ -109,10 +135,29 @@ class Bridge(unittest.TestCase):
             it.ask(discard(1, "N"), END_GAME)
 
         table = Table(script)
-        self.assertEqual(self.bridge(table, "wrong", "3").returncode, 0)
+        ended = self.bridge(table, "wrong", "3")
         self.assertEqual(table.answers[2:4], [discard(1, "C", False), discard(1, "N")])
-        self.assertEqual(self.report()["refusals"], 1)
+        report = self.report()
+        self.assertEqual((report["refusals"], report["stood_in"], report["answers"]), (1, 1, 5))
         self.assertIn("NotHeld: ", self.log())
+        line = '{"type": "dahai", "actor": 1, "pai": "C", "tsumogiri": false}'
+        self.assertEqual((ended.returncode, ended.stderr), (1, (
+            f"anna: the program's answer to event 3 (tsumo) was refused, NotHeld: {line}\n"
+            "anna: the program was stood in for at 1 of 5 events\n")))
+
+    def test_a_program_that_never_answers_is_told_so(self):
+        game = [START_GAME, START_HAND, draw(1, "N"), END_GAME]
+        table = Table(lambda it: it.ask(*game))
+        ended = self.bridge(table, command=[sys.executable, "-c", "x = ("], words=["--restarts", "1"])
+        self.assertEqual(table.answers, [NONE, NONE, discard(1, "N"), NONE])
+        said = ended.stderr.splitlines()
+        self.assertEqual((ended.returncode, len(said)), (1, 2), said)
+        self.assertTrue(said[0].startswith("anna: the program ended with exit code 1 at event 1 (start_game); it said last: "), said)
+        self.assertTrue(said[0].endswith("SyntaxError: '(' was never closed"), said)
+        self.assertEqual(said[1], "anna: the program was stood in for at 4 of 4 events, and never answered")
+        report = self.report()
+        self.assertEqual((report["never_answered"], report["stood_in"], report["restarts"], report["answers"]), (True, 4, 1, 0))
+        self.assertEqual([(it["event"], it["code"]) for it in report["ended"]], [(1, 1), (1, 1)])
 
     def test_after_an_own_call_held_tiles_are_tried_until_one_is_lawful(self):
         pon = {"type": "pon", "actor": 1, "target": 0, "pai": "1m", "consumed": ["1m", "1m"]}
@@ -145,7 +190,7 @@ class Bridge(unittest.TestCase):
         self.assertEqual(self.bridge(table).returncode, 0)
         self.assertEqual(table.joins[0], table.joins[1])
         self.assertEqual(table.answers[2:], [discard(1, "N"), NONE, NONE])
-        self.assertEqual(self.read(), [START_GAME, START_HAND, draw(1, "N"), discard(1, "N"), END_GAME])
+        self.assertEqual(self.read(), as_told(START_GAME, START_HAND, draw(1, "N"), discard(1, "N"), END_GAME))
         self.assertEqual(self.report()["returns"], 1)
 
     def test_missed_events_are_told_without_wanting_an_answer(self):
@@ -158,7 +203,7 @@ class Bridge(unittest.TestCase):
         table = Table(lambda it: it.ask(START_GAME, START_HAND), after_it)
         self.assertEqual(self.bridge(table).returncode, 0)
         self.assertEqual(table.answers[2:], [discard(1, "N"), NONE])
-        self.assertEqual(self.read(), [START_GAME, START_HAND, draw(0, "?"), discard(0, "C"), draw(1, "N"), END_GAME])
+        self.assertEqual(self.read(), as_told(START_GAME, START_HAND, draw(0, "?"), discard(0, "C"), draw(1, "N"), END_GAME))
 
     def test_what_goes_wrong_is_said(self):
         table = Table(lambda it: it.send({"type": "error", "sit": 3, "message": "WrongKey"}))
@@ -166,7 +211,7 @@ class Bridge(unittest.TestCase):
         self.assertEqual((ended.returncode, ended.stderr), (1, "anna: no seat: WrongKey\n"))
         ended = self.bridge(None, words=["--wait", "1"], port=9)
         self.assertEqual(ended.returncode, 1)
-        self.assertIn("anna: nobody listens on port 9", ended.stderr)
+        self.assertEqual(ended.stderr, "anna: nobody listens on 127.0.0.1 port 9: Connection refused\n")
         command = [sys.executable, BRIDGE, "--name", "anna", "--log", self.folder / "log", "--", "no-such-program"]
         ended = subprocess.run(command, capture_output=True, text=True, timeout=60)
         self.assertEqual((ended.returncode, ended.stderr), (1, "anna: no-such-program: No such file or directory\n"))
