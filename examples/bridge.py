@@ -113,15 +113,25 @@ class Program:
         self.owed += wants_answer
 
     def read(self, deadline: float, dropped: Callable[[str], None], fits: Callable[[str], bool] | None = None) -> str:
-        """Its answer to the last line. Those that it owed before that are dropped; where not each line need be answered, an
-        answer that fits is never one of them."""
-        while True:
-            answer = self.lines.read(deadline)
-            self.owed -= 1
-            if self.owed == 0 or (fits and fits(answer)):
-                self.owed = 0
-                return answer
-            dropped(answer)
+        """Its answer to the last line; those that it owed before that are dropped. Where it may owe fewer than was thought, the
+        last one that fits is the answer when the time is over."""
+        answer = None
+        try:
+            while self.owed > 0:
+                newer = self.lines.read(deadline)
+                self.owed -= 1
+                if answer is not None:
+                    dropped(answer)
+                answer = newer
+        except TimeoutError:
+            if answer is None:
+                raise
+            if not fits or not fits(answer):
+                dropped(answer)
+                raise
+            self.owed = 0
+        assert answer is not None
+        return answer
 
     def unasked(self) -> list[str]:
         """The lines that it wrote without being asked."""

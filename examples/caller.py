@@ -2,21 +2,22 @@
 """A player for riichi_table that calls, reaches and wins, in Python without any library.
 
 It chooses among the answers that an event lists as possible_actions. Where an event has no such list it discards the tile
-that it draws and passes otherwise.
-
-usage: caller.py NAME [KEY [PORT]]   plays over TCP
-       caller.py --stdio             reads events from standard input and writes answers, for bridge.py
+that it draws and passes otherwise. With --stdio instead of a name it reads events from standard input and writes answers, for
+bridge.py.
 """
+from __future__ import annotations
+
 import json
 import sys
 
 import player
+from player import Event
 
 DRAGONS = "PFC"
-NONE = {"type": "none"}
+NONE: Event = {"type": "none"}
 
 
-def nearness(tile, others):
+def nearness(tile: str, others: list[str]) -> float:
     """How well a tile fits the others of a hand: the lower, the sooner it goes."""
     if len(tile) == 1:
         return 3 * (others.count(tile) - 1) + (tile in DRAGONS) / 2
@@ -28,18 +29,18 @@ def nearness(tile, others):
 class Caller:
     """Plays for one seat."""
 
-    def __init__(self):
-        self.seat = None
-        self.hand = []
+    def __init__(self) -> None:
+        self.seat: int | None = None
+        self.hand: list[str] = []
         self.valued = DRAGONS
         self.is_open = False
 
-    def hear(self, event):
+    def hear(self, event: Event) -> None:
         """Keeps the own tiles, the kinds of which a triplet is worth something, and whether such a triplet is called."""
         kind = event["type"]
         if kind == "start_game":
             self.seat = event["id"]
-        elif kind == "start_kyoku":
+        elif kind == "start_kyoku" and self.seat is not None:
             self.hand = list(event["tehais"][self.seat])
             self.valued = DRAGONS + event["bakaze"] + "ESWN"[(self.seat - event["oya"]) % 4]
             self.is_open = False
@@ -55,10 +56,10 @@ class Caller:
         if kind == "pon" and event["pai"] in self.valued:
             self.is_open = True
 
-    def answer(self, event, _seat=None):
+    def answer(self, event: Event, _seat: int | None = None) -> Event:
         """The answer to an event."""
         self.hear(event)
-        listed = {}
+        listed: dict[str, list[Event]] = {}
         for action in event.get("possible_actions", []):
             listed.setdefault(action["type"], []).append(action)
         if not listed:
@@ -72,20 +73,19 @@ class Caller:
         return next((it for it in calls if self.is_open or it["pai"] in self.valued), NONE)
 
 
-def answer_lines():
+def answer_lines() -> None:
     """Answers each line of standard input by one line."""
     caller = Caller()
-    for line in sys.stdin:
-        print(json.dumps(caller.answer(json.loads(line)), separators=(",", ":")), flush=True)
+    for number, line in enumerate(sys.stdin, 1):
+        try:
+            event = json.loads(line)
+        except ValueError as error:
+            sys.exit(f"caller.py: line {number} is no event: {error}")
+        print(json.dumps(caller.answer(event), separators=(",", ":")), flush=True)
 
 
 if __name__ == "__main__":
-    words = sys.argv[1:]
-    if words == ["--stdio"]:
+    if sys.argv[1:] == ["--stdio"]:
         answer_lines()
-    elif 1 <= len(words) <= 3 and not words[0].startswith("-"):
-        key = words[1] if len(words) > 1 else ""
-        port = int(words[2]) if len(words) > 2 else 11600
-        print(words[0] + ": " + player.play(words[0], key, port, answer=Caller().answer))
     else:
-        sys.exit(__doc__)
+        player.play_as(player.parser_of(__doc__).parse_args(), -1, Caller().answer)

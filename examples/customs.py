@@ -28,6 +28,8 @@ REASONS = {
     "fanpai": "fanpai", "kyushukyuhai": "kyushukyuhai", "suufonrenta": "sufonrenta", "suuchareach": "suchareach",
     "suukaikan": "sukaikan",
 }
+# The answers that name their seat.
+ACTS = ("dahai", "chi", "pon", "daiminkan", "ankan", "kakan", "reach", "hora", "ryukyoku")
 # The fields of answers that the table reads.
 READ = ("type", "actor", "target", "pai", "consumed", "tsumogiri", "reason")
 
@@ -69,7 +71,7 @@ class Customs:
             return answer
         kind = value.get("type")
         whole = dict(value)
-        if kind != "none":
+        if kind in ACTS:
             whole.setdefault("actor", seat)
         if kind in ("chi", "pon", "daiminkan", "hora") and "actor" in event:
             whole.setdefault("target", event["actor"])

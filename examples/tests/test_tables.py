@@ -2,42 +2,23 @@
 
 It wants the environment's RIICHI_TABLE, the path of the program.
 """
-import os
+from __future__ import annotations
+
 import pathlib
-import socket
 import subprocess
 import sys
-import time
 import unittest
 
-PLAYER = pathlib.Path(__file__).parent.parent / "player.py"
-PROGRAM = os.environ.get("RIICHI_TABLE")
+sys.path.insert(0, str(pathlib.Path(__file__).resolve().parent))
+import helpers
+
+BRIDGE = helpers.EXAMPLES / "bridge.py"
 SEED = "07" * 32
 
 
-def free_port():
-    with socket.create_server(("127.0.0.1", 0)) as listener:
-        return listener.getsockname()[1]
-
-
-def connect(port):
-    """A connection whose hello line has come, as a file of lines."""
-    for _ in range(200):
-        try:
-            link = socket.create_connection(("127.0.0.1", port))
-            break
-        except ConnectionRefusedError:
-            time.sleep(0.05)
-    else:
-        raise AssertionError("nobody listens")
-    lines = link.makefile("rwb", buffering=0)
-    lines.readline()
-    return lines
-
-
-def records(text):
+def records(text: bytes) -> list[bytes]:
     """The records by table, each behind its line."""
-    tables = []
+    tables: list[bytes] = []
     for line in text.splitlines(keepends=True):
         if line.startswith(b"table "):
             assert line == b"table %d\n" % len(tables)
@@ -47,46 +28,59 @@ def records(text):
     return tables
 
 
-@unittest.skipUnless(PROGRAM, "no program: set RIICHI_TABLE to its path")
+@helpers.wants_program
 class Tables(unittest.TestCase):
-    def serve(self, rooms):
-        self.port = free_port()
+    def serve(self, rooms: int) -> None:
+        self.port = helpers.free_port()
         self.server = subprocess.Popen(
-            [PROGRAM, "tables", "--seed", SEED, "--rooms", str(rooms), "--limit", "5000", "--port", str(self.port)],
+            [helpers.PROGRAM, "tables", "--seed", SEED, "--rooms", str(rooms), "--limit", "5000", "--port", str(self.port)],
             stdout=subprocess.PIPE)
         self.addCleanup(self.server.kill)
-        connect(self.port).close()
+        helpers.connect(self.port).close()
 
-    def players(self, rooms):
-        """Four players in each room, under the same names."""
-        return [
-            subprocess.Popen(
-                [sys.executable, PLAYER, name, "k", str(self.port), "-1", f"room{room}"], stdout=subprocess.PIPE, text=True)
-            for room in range(1, rooms + 1)
-            for name in "abcd"
+    def players(self, rooms: int) -> list[subprocess.Popen[str]]:
+        """Four players in each room, under the same names, one of each sort."""
+        port = str(self.port)
+        words: list[list[object]] = [
+            [sys.executable, helpers.EXAMPLES / "player.py", "a", "k", port],
+            [sys.executable, helpers.EXAMPLES / "caller.py", "b", "k", port],
+            ["bash", helpers.EXAMPLES / "player.sh", "c", "k", port],
+            [sys.executable, BRIDGE, "--name", "d", "--port", port, "--log", "/dev/null"],
         ]
+        program = ["--", sys.executable, str(helpers.EXAMPLES / "caller.py"), "--stdio"]
+        players = []
+        for room in [f"room{number}" for number in range(1, rooms + 1)]:
+            for script, path, *more in words:
+                command = [script, path, "--room", room, "--host", "localhost", *more, *(program if path == BRIDGE else [])]
+                players.append(subprocess.Popen([str(it) for it in command], stdout=subprocess.PIPE, text=True))
+        return players
 
-    def check_games(self, rooms, players):
+    def check_games(self, rooms: int, players: list[subprocess.Popen[str]]) -> None:
         """Each player was there to the end, and each table's record is sound and of walls of its own."""
         for player in players:
-            self.assertIn(": scores ", player.communicate(timeout=150)[0])
+            self.assertIn("scores", player.communicate(timeout=150)[0])
+            self.assertEqual(player.returncode, 0)
         written = records(self.server.communicate(timeout=60)[0])
         self.assertEqual(self.server.returncode, 0)
         self.assertEqual(len(written), rooms)
         self.assertEqual(len(set(written)), rooms)
         for record in written:
-            self.assertEqual(subprocess.run([PROGRAM, "replay"], input=record, stdout=subprocess.DEVNULL).returncode, 0)
+            self.assertTrue(helpers.is_sound(record))
 
-    def test_two_rooms_and_none_of_another_name(self):
+    def test_two_rooms_and_none_of_another_name(self) -> None:
         self.serve(2)
-        link = connect(self.port)
-        link.write(b'{"type":"join","name":"e","room":"x"}\n')
-        self.assertEqual(link.readline(), b'{"type":"error","sit":8,"message":"NoRoom"}\n')
-        self.assertEqual(link.readline(), b"")
+        with helpers.connect(self.port) as link, link.makefile("rb") as lines:
+            link.sendall(b'{"type":"join","name":"e","room":"x"}\n')
+            self.assertEqual(lines.readline(), b'{"type":"error","sit":8,"message":"NoRoom"}\n')
+            self.assertEqual(lines.readline(), b"")
+        for script, name in ((sys.executable, "player.py"), ("bash", "player.sh")):
+            command = [script, str(helpers.EXAMPLES / name)]
+            told = subprocess.run([*command, "--room", "x", "e", "", str(self.port)], capture_output=True, text=True, timeout=60)
+            self.assertEqual((told.returncode, told.stdout, told.stderr), (1, "", "e: no seat: NoRoom\n"))
         self.check_games(2, self.players(2))
 
-    def test_no_ninth_room(self):
-        told = subprocess.run([PROGRAM, "tables", "--seed", SEED, "--rooms", "9"], stderr=subprocess.PIPE)
+    def test_no_ninth_room(self) -> None:
+        told = subprocess.run([helpers.PROGRAM, "tables", "--seed", SEED, "--rooms", "9"], stderr=subprocess.PIPE)
         self.assertEqual(told.returncode, 2)
         self.assertTrue(told.stderr.startswith(b"usage: riichi_table "))
 
