@@ -10,6 +10,8 @@ After each stop the game goes on with the first arrival that the journal doesn't
 may be missing, and at the end the journal tells each seat what an unbroken `referee` tells it. The exit code is 0 where all
 this holds.
 """
+from __future__ import annotations
+
 import os
 import random
 import subprocess
@@ -21,7 +23,7 @@ CASES = os.path.join(os.path.dirname(os.path.abspath(__file__)), "../crates/riic
 DISK_FAULT = 11
 
 
-def game(name):
+def game(name: str) -> tuple[list[str], list[str]]:
     """The setting of a stored game, its header and walls, and its arrivals."""
     text = open(os.path.join(CASES, name), encoding="utf-8").read()
     lines = text.split("-- input\n", 1)[1].split("\n-- ", 1)[0].splitlines(keepends=True)
@@ -30,7 +32,7 @@ def game(name):
     return lines[:count], lines[count:]
 
 
-def records(folder):
+def records(folder: str) -> int:
     """How many whole records the journal has, up to its first gate that isn't open."""
     try:
         data = open(os.path.join(folder, "riichi.journal"), "rb").read()
@@ -44,18 +46,18 @@ def records(folder):
 
 
 class Keeper:
-    def __init__(self, program, folder, setting, arrivals):
+    def __init__(self, program: str, folder: str, setting: list[str], arrivals: list[str]) -> None:
         self.program, self.folder, self.setting, self.arrivals = program, folder, setting, arrivals
         self.stops = 0
 
-    def kept(self):
+    def kept(self) -> int:
         return max(0, records(self.folder) - 1)
 
-    def command(self, name, seat, lines):
+    def command(self, name: str, seat: int, lines: list[str]) -> subprocess.CompletedProcess[bytes]:
         text = "".join(lines).encode()
         return subprocess.run([self.program, name, str(seat)], cwd=self.folder, input=text, capture_output=True)
 
-    def run_and_kill(self, seconds, size):
+    def run_and_kill(self, seconds: float, size: int) -> int:
         """Keeps a piece, and kills the run after so long. All must be there where it ended before."""
         before = self.kept()
         piece = self.setting + self.arrivals[before:before + size]
@@ -74,7 +76,7 @@ class Keeper:
             assert after == min(before + size, len(self.arrivals)), f"{after} arrivals are kept of a run that ended well"
         return run.returncode
 
-    def check(self):
+    def check(self) -> None:
         for seat in range(4):
             kept = self.command("keep", seat, self.setting)
             told = self.command("referee", seat, self.setting + self.arrivals)
@@ -82,7 +84,7 @@ class Keeper:
             assert kept.stdout == told.stdout, f"seat {seat} is told other bytes"
 
 
-def pace(program, setting, arrivals):
+def pace(program: str, setting: list[str], arrivals: list[str]) -> float:
     """How many seconds a run takes here that keeps forty arrivals."""
     with tempfile.TemporaryDirectory() as folder:
         began = time.monotonic()
@@ -90,7 +92,7 @@ def pace(program, setting, arrivals):
         return time.monotonic() - began
 
 
-def killed(program, stops, chance):
+def killed(program: str, stops: int, chance: random.Random) -> None:
     setting, arrivals = game("game_of_two_rounds")
     seconds = pace(program, setting, arrivals)
     total = 0
@@ -106,15 +108,15 @@ def killed(program, stops, chance):
     print(f"{games} games of {len(arrivals)} arrivals: {total} runs were killed, and nothing that was acknowledged is lost")
 
 
-def mounted(folder, options):
+def mounted(folder: str, options: str) -> bool:
     return subprocess.run(["mount", "-t", "tmpfs", "-o", options, "tmpfs", folder], capture_output=True).returncode == 0
 
 
-def remount(folder, options):
+def remount(folder: str, options: str) -> None:
     subprocess.run(["mount", "-o", "remount," + options, folder], check=True, capture_output=True)
 
 
-def full(program, chance):
+def full(program: str, chance: random.Random) -> None:
     """The file system gets full again and again, and more room each time; then it is read-only for a run."""
     setting, arrivals = game("game_of_two_rounds")
     with tempfile.TemporaryDirectory() as folder:
@@ -142,7 +144,7 @@ def full(program, chance):
             subprocess.run(["umount", folder], check=True)
 
 
-def main():
+def main() -> None:
     program = os.path.abspath(sys.argv[1])
     stops = int(sys.argv[2]) if len(sys.argv) > 2 else 200
     chance = random.Random(int(sys.argv[3]) if len(sys.argv) > 3 else 1)

@@ -1,54 +1,102 @@
 #!/usr/bin/env bash
-# Tests what stands outside crates/: the example players, the bridge, the league and the viewer. It proves nothing.
+# Tests what stands outside crates/: the example players, the bridge, the league, the viewer and the release, and checks the
+# types of their Python. It proves nothing.
 #
 # usage: test-outside.sh [PROGRAM]
 #
 # PROGRAM is the built riichi_table; without it that of this repository, where it is built. What is skipped for want of
-# python3, chromium or the program is said. The exit code is 0 where no test failed.
+# python3, mypy, chromium or the program is said. A file of tests that fails is run once more, since these play by the clock
+# of a machine that may have other work: that it failed is said with what it wrote, and counted on the last line. The exit
+# code is 0 where each file passed in the end.
 cd "$(dirname "$0")/.." || exit 1
 program=${1:-crates/riichi_table/out/riichi_table}
 export PYTHONDONTWRITEBYTECODE=1
 
+# The Python that `mypy --strict` takes, as patterns, and the folders that it imports from.
+TYPED="examples/*.py examples/tests/*.py league/export.py league/tests/test_export.py viewer/page.py tools/*.py tools/tests/*.py"
+export MYPYPATH=examples:examples/tests:league:viewer:viewer/tests
+
+# The files of tests, and the seconds that each may take.
+TESTS='
+60 examples/tests/test_players.py
+120 examples/tests/test_bridge.py
+200 examples/tests/test_customs.py
+200 examples/tests/test_play.py
+200 examples/tests/test_serve.py
+200 examples/tests/test_tables.py
+60 league/tests/test_export.py
+60 league/tests/test_results.py
+400 league/tests/test_league.py
+200 tools/tests/test_release.py
+240 viewer/tests/test_viewer.py
+'
+
+say() {
+    echo "outside crates/: $*"
+}
+
 if ! command -v python3 > /dev/null; then
-    echo "outside crates/: all tests are skipped, since there is no python3"
+    say "all tests are skipped, since there is no python3"
     exit 0
 fi
 if [ -x "$program" ]; then
     RIICHI_TABLE=$(realpath "$program")
     export RIICHI_TABLE
 elif [ $# -gt 0 ]; then
-    echo "outside crates/: $program is no program that can be run" >&2
+    say "$program is no program that can be run" >&2
     exit 2
 else
     unset RIICHI_TABLE
 fi
 
-# Runs the tests of a file, for at most so many seconds; what they write is in the log.
-try() {
-    timeout "$1" python3 "$2" -v > "$log" 2>&1
-}
-
-failed=0
+passed=0 failed=() again=()
 log=$(mktemp)
 trap 'rm -f "$log"' EXIT
-while read -r seconds file; do
-    # (once more, since these play by the clock of a machine that may have other work)
-    if try "$seconds" "$file" || try "$seconds" "$file"; then
-        echo "outside crates/: $file: $(grep '^Ran ' "$log"), $(tail -n 1 "$log")"
-        sed -n "s/.* skipped '\(.*\)'$/    skipped: \1/p" "$log" | sort -u
+
+# Runs a command for at most so many seconds; what it writes is in the log, how long it took in $took.
+try() {
+    local since=$SECONDS status
+    timeout "$1" "${@:2}" > "$log" 2>&1
+    status=$?
+    took="$((SECONDS - since)) s"
+    [ $status -ne 124 ] || echo "it took more than $1 seconds" >> "$log"
+    return $status
+}
+
+check_types() {
+    if ! command -v mypy > /dev/null; then
+        say "the types are skipped, since there is no mypy"
+    elif try 300 mypy --strict --cache-dir=/dev/null $TYPED; then
+        passed=$((passed + 1))
+        say "types: $(tail -n 1 "$log"), $took"
     else
-        failed=1
-        echo "outside crates/: $file FAILED"
+        failed+=("types")
+        say "types FAILED, $took"
         cat "$log"
     fi
-done << 'END'
-60 examples/tests/test_players.py
-120 examples/tests/test_bridge.py
-200 examples/tests/test_play.py
-200 examples/tests/test_serve.py
-200 examples/tests/test_tables.py
-60 league/tests/test_results.py
-400 league/tests/test_league.py
-240 viewer/tests/test_viewer.py
-END
-exit $failed
+}
+
+test_file() {
+    if ! try "$1" python3 "$2" -v; then
+        again+=("$2")
+        say "$2 FAILED at its first try, $took"
+        cat "$log"
+        if ! try "$1" python3 "$2" -v; then
+            failed+=("$2")
+            say "$2 FAILED at its second try, $took"
+            cat "$log"
+            return
+        fi
+    fi
+    passed=$((passed + 1))
+    say "$2: $(grep '^Ran ' "$log"), $(tail -n 1 "$log")"
+    sed -n "s/.* skipped ['\"]\(.*\)['\"]$/    skipped: \1/p" "$log" | sort -u
+}
+
+check_types
+while read -r seconds file; do
+    [ -z "$file" ] || test_file "$seconds" "$file"
+done <<< "$TESTS"
+
+say "$passed passed, ${#failed[@]} failed${failed:+ (${failed[*]})}, ${#again[@]} failed at the first try${again:+ (${again[*]})}, $SECONDS s"
+[ ${#failed[@]} -eq 0 ]

@@ -8,6 +8,8 @@ PROGRAM is the built riichi_table; TABLES 0 plays one game by its command `serve
 seconds of the server and of the players, the most descriptors that the server had in use, and for each table the deeds of its
 record, or BAD where `replay` refuses it. It ends with 1 where not all is as it should be.
 """
+from __future__ import annotations
+
 import os
 import resource
 import selectors
@@ -17,7 +19,7 @@ import sys
 import time
 
 
-def answer(line, seat):
+def answer(line: bytes, seat: int) -> bytes:
     """The answer to a line: each drawn tile is discarded, and all else passed."""
     if line.startswith(b'{"type":"tsumo","actor":%d,' % seat):
         pai = line.split(b'"pai":"', 1)[1].split(b'"', 1)[0]
@@ -26,12 +28,12 @@ def answer(line, seat):
 
 
 class Player:
-    def __init__(self, port, name, room):
+    def __init__(self, port: int, name: bytes, room: bytes) -> None:
         self.link = socket.create_connection(("127.0.0.1", port))
         self.link.setsockopt(socket.IPPROTO_TCP, socket.TCP_NODELAY, 1)
-        self.name, self.room, self.seat, self.held, self.told, self.ended = name, room, None, b"", 0, False
+        self.name, self.room, self.seat, self.held, self.told, self.ended = name, room, -1, b"", 0, False
 
-    def hear(self):
+    def hear(self) -> bool:
         data = self.link.recv(65536)
         if not data:
             return False
@@ -53,7 +55,7 @@ class Player:
         return True
 
 
-def wait_for(port):
+def wait_for(port: int) -> None:
     for _ in range(500):
         try:
             socket.create_connection(("127.0.0.1", port)).close()
@@ -63,20 +65,20 @@ def wait_for(port):
     raise SystemExit("the server does not listen")
 
 
-def descriptors(pid):
+def descriptors(pid: int) -> int:
     try:
         return len(os.listdir(f"/proc/{pid}/fd"))
     except OSError:
         return 0
 
 
-def deeds_of(program, record):
+def deeds_of(program: str, record: bytes) -> str:
     checked = subprocess.run([*program.split(), "replay"], input=record, stdout=subprocess.PIPE)
     first = checked.stdout.split(b"\n")[0].decode()
     return first.removeprefix("deeds ") if checked.returncode == 0 and first.startswith("deeds ") else "BAD"
 
 
-def main(program, tables, port):
+def main(program: str, tables: int, port: int) -> int:
     seed = "07" * 32
     words = ["tables", "--rooms", str(tables)] if tables else ["serve"]
     words += ["--seed", seed, "--port", str(port)]

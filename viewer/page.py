@@ -3,13 +3,15 @@
 
 usage: page.py RECORD PAGE
 """
+from __future__ import annotations
+
 import pathlib
 import sys
 
 VIEWER = pathlib.Path(__file__).resolve().parent / "index.html"
 
 
-def page_of(record):
+def page_of(record: str) -> str:
     """The viewer's page with the text of a record in it."""
     before, script, after = VIEWER.read_text(encoding="utf-8").partition('<script>\n"use strict";')
     # Only texts within JSON may have this sign; written so, it can't end the element that holds the record.
@@ -17,7 +19,7 @@ def page_of(record):
     return f'{before}<script type="text/plain" id="record">{safe}</script>\n{script}{after}'
 
 
-def main():
+def main() -> None:
     if len(sys.argv) != 3:
         sys.exit(__doc__)
     record = pathlib.Path(sys.argv[1]).read_text(encoding="utf-8")
