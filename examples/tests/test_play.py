@@ -18,7 +18,9 @@ class Play(unittest.TestCase):
         self.folder = helpers.folder_of(self)
 
     def play(self, *words: str) -> subprocess.CompletedProcess[str]:
-        return subprocess.run(["bash", PLAY, *words], cwd=self.folder, capture_output=True, text=True, timeout=200)
+        """Plays a game where there is no screen."""
+        env = {name: value for name, value in os.environ.items() if name not in ("DISPLAY", "WAYLAND_DISPLAY")}
+        return subprocess.run(["bash", PLAY, *words], cwd=self.folder, env=env, capture_output=True, text=True, timeout=200)
 
     @helpers.wants_program
     def test_a_game_is_played_checked_and_shown(self) -> None:
@@ -32,11 +34,16 @@ class Play(unittest.TestCase):
         for name in ("anna", "bert", "carl", "dora"):
             self.assertIn(f"{name}: ", ended.stdout)
         self.assertIn(record.splitlines()[-1], page)
+        self.assertIn(f"open {self.folder.resolve()}/record.html in a browser.\n", ended.stdout)
 
     def test_a_program_that_is_not_there_is_named(self) -> None:
         ended = self.play("./none")
         self.assertEqual((ended.returncode, ended.stderr), (1, "play.sh: ./none is no program that can be run\n"))
         self.assertEqual(os.listdir(self.folder), [])
+
+    def test_a_word_that_it_does_not_know(self) -> None:
+        ended = self.play("--help")
+        self.assertEqual((ended.returncode, ended.stderr), (2, "usage: play.sh [PROGRAM [SEED [PORT]]]\n"))
 
 
 if __name__ == "__main__":
