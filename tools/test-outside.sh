@@ -13,21 +13,21 @@ program=${1:-crates/riichi_table/out/riichi_table}
 export PYTHONDONTWRITEBYTECODE=1
 
 # The Python that `mypy --strict` takes, as patterns, and the folders that it imports from.
-TYPED="examples/*.py examples/tests/*.py league/export.py league/tests/test_export.py viewer/page.py tools/*.py tools/tests/*.py"
+TYPED="examples/*.py examples/tests/*.py league/export.py league/tests/test_export.py viewer/*.py viewer/tests/*.py tools/*.py tools/tests/*.py"
 export MYPYPATH=examples:examples/tests:league:viewer:viewer/tests
 
 # The files of tests, and the seconds that each may take.
 TESTS='
-60 examples/tests/test_players.py
-120 examples/tests/test_bridge.py
-200 examples/tests/test_customs.py
+120 examples/tests/test_players.py
+240 examples/tests/test_bridge.py
+300 examples/tests/test_customs.py
 200 examples/tests/test_play.py
 200 examples/tests/test_serve.py
 200 examples/tests/test_tables.py
-60 league/tests/test_export.py
+120 league/tests/test_export.py
 60 league/tests/test_results.py
 400 league/tests/test_league.py
-200 tools/tests/test_release.py
+300 tools/tests/test_release.py
 240 viewer/tests/test_viewer.py
 '
 

@@ -46,13 +46,15 @@ def main() -> None:
     start = start_of(path)
     copy = open(path, "a", buffering=1, encoding="utf-8")
     for number, line in enumerate(sys.stdin, 1):
+        is_at = number == int(at)
+        if is_at and fault == "chatty":
+            print('{"type":"none","chatty":true}', flush=True)
         copy.write(line)
         events = json.loads(line) if style == "batch" else [json.loads(line)]
         for event in events:
             if event["type"] == "start_game":
                 seat = event["id"]
         told = answer(events[-1], seat)
-        is_at = number == int(at)
         if is_at and fault == "crash" and start == int(more):
             sys.exit("I fall")
         if fault == "hang" and number >= int(at):
@@ -62,8 +64,6 @@ def main() -> None:
             told = {"type": "none", "late": True}
         if is_at and fault == "wrong":
             told = {"type": "dahai", "actor": seat, "pai": "C", "tsumogiri": False}
-        if is_at and fault == "chatty":
-            print('{"type":"none","chatty":true}', flush=True)
         if wants_answer(style, events[-1]) and not (is_at and fault == "mute"):
             print(json.dumps(told), flush=True)
 

@@ -1,16 +1,21 @@
 """What a record says of the table after each of its deeds, by a model of its own."""
+from __future__ import annotations
+
 import json
 from collections import Counter
+from typing import Any, Iterator
+
+Event = dict[str, Any]
 
 
-def events_of(text):
+def events_of(text: str) -> list[Event]:
     """The events of a record, without its header and walls."""
     return [json.loads(line) for line in text.splitlines() if line.startswith("{")]
 
 
-def hands_of(text):
+def hands_of(text: str) -> list[list[Event]]:
     """The events of each hand, hand after hand."""
-    hands = []
+    hands: list[list[Event]] = []
     for event in events_of(text):
         if event["type"] == "start_kyoku":
             hands.append([])
@@ -22,23 +27,23 @@ def hands_of(text):
 class Table:
     """One hand after some of its events."""
 
-    def __init__(self, start, points):
-        self.held = [Counter(hand) for hand in start["tehais"]]
-        self.melds = [[], [], [], []]
-        self.rivers = [[], [], [], []]
+    def __init__(self, start: Event, points: list[int]) -> None:
+        self.held: list[Counter[str]] = [Counter(hand) for hand in start["tehais"]]
+        self.melds: list[list[list[Any]]] = [[], [], [], []]
+        self.rivers: list[list[list[Any]]] = [[], [], [], []]
         self.points = list(points)
         self.honba = start["honba"]
         self.deposits = start["kyotaku"]
         self.indicators = [start["dora_marker"]]
         self.left = 70
-        self.says_riichi = None
+        self.says_riichi: int | None = None
 
-    def lay(self, seat, tiles):
+    def lay(self, seat: int, tiles: list[str]) -> None:
         for tile in tiles:
             self.held[seat][tile if self.held[seat][tile] else "?"] -= 1
 
-    def apply(self, event):
-        kind, seat = event["type"], event.get("actor")
+    def apply(self, event: Event) -> None:
+        kind, seat = event["type"], event.get("actor", -1)
         if kind == "tsumo":
             self.held[seat][event["pai"]] += 1
             self.left -= 1
@@ -69,7 +74,7 @@ class Table:
         self.deposits += kind == "reach_accepted"
         self.points = event.get("scores", self.points)
 
-    def seen(self):
+    def seen(self) -> dict[str, Any]:
         """The table as plain lists, which the page's are compared with."""
         return {
             "hands": [sorted((+hand).elements()) for hand in self.held],
@@ -82,7 +87,7 @@ class Table:
         }
 
 
-def tables_of(text):
+def tables_of(text: str) -> Iterator[dict[str, Any]]:
     """The table after each deed of each hand, in order."""
     points = [30000] * 4
     for hand in hands_of(text):

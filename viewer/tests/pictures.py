@@ -3,6 +3,8 @@
 
 usage: pictures.py
 """
+from __future__ import annotations
+
 import pathlib
 import time
 
@@ -20,7 +22,7 @@ SHOTS = [
 ]
 
 
-def main():
+def main() -> None:
     PICTURES.mkdir(exist_ok=True)
     with browser.Browser() as page:
         for name, record, moment, width, height, dark in SHOTS:

@@ -2,8 +2,9 @@
 
 With the environment's RIICHI_TABLE, the path of the program, each record is checked by it too.
 """
+from __future__ import annotations
+
 import json
-import os
 import pathlib
 import signal
 import subprocess
@@ -11,15 +12,18 @@ import sys
 import tempfile
 import time
 import unittest
+from typing import Any
 
-sys.path.insert(0, str(pathlib.Path(__file__).parent))
+HERE = pathlib.Path(__file__).resolve().parent
+ROOT = HERE.parent.parent
+sys.path[:0] = [str(HERE), str(ROOT / "examples" / "tests"), str(ROOT / "league")]
 import browser
+import export
+import helpers
 import model
 
-HERE = pathlib.Path(__file__).parent
 PAGE = (HERE.parent / "index.html").as_uri()
 RECORDS = {path.stem: path.read_text() for path in sorted((HERE / "records").glob("*.txt"))}
-PROGRAM = os.environ.get("RIICHI_TABLE")
 
 # Reads the table from the page's own elements, seat after seat.
 SEEN = """
@@ -46,11 +50,11 @@ const press = key => document.body.dispatchEvent(new KeyboardEvent('keydown', {k
 """
 
 
-def page_script(body):
+def page_script(body: str) -> str:
     return "(() => {" + SEEN + body + "})()"
 
 
-def drop_script(text):
+def drop_script(text: str) -> str:
     """A script that drops a file with this text on the page, as a user's browser does."""
     return (
         "(() => { const data = new DataTransfer(); data.items.add(new File([" + json.dumps(text) + "], 'record.txt'));"
@@ -58,14 +62,14 @@ def drop_script(text):
     )
 
 
-@unittest.skipUnless(PROGRAM, "no program: set RIICHI_TABLE to its path")
+@helpers.wants_program
 class Records(unittest.TestCase):
     """The records that the page is tried on are records of the program."""
 
-    def replay(self, text):
-        return subprocess.run([PROGRAM, "replay"], input=text.encode(), capture_output=True, timeout=60)
+    def replay(self, text: str) -> subprocess.CompletedProcess[bytes]:
+        return subprocess.run([helpers.PROGRAM, "replay"], input=text.encode(), capture_output=True, timeout=60)
 
-    def test_each_record_is_sound(self):
+    def test_each_record_is_sound(self) -> None:
         takes_red = self.replay(RECORDS["red_fives"]).stderr != b"bad record at line 1: 1\n"
         for name, text in RECORDS.items():
             if name == "observed" or ("red=1" in text.split("\n")[0] and not takes_red):
@@ -80,31 +84,33 @@ class Records(unittest.TestCase):
 class Page(unittest.TestCase):
     """The page, driven as a user does it."""
 
+    browser: browser.Browser
+
     @classmethod
-    def setUpClass(cls):
+    def setUpClass(cls) -> None:
         cls.browser = browser.Browser(seconds=120)
         cls.addClassCleanup(cls.browser.__exit__)
 
-    def setUp(self):
+    def setUp(self) -> None:
         self.browser.size(1100, 800)
 
-    def wait(self, script):
+    def wait(self, script: str) -> None:
         """Waits until a script is true in the page."""
         deadline = time.monotonic() + 60
         while not self.browser.run(script):
             self.assertLess(time.monotonic(), deadline, f"never true: {script}")
             time.sleep(0.05)
 
-    def drop(self, text, moment=""):
+    def drop(self, text: str, moment: str = "") -> None:
         self.browser.open("about:blank")
         self.browser.open(PAGE + moment)
         self.browser.run(drop_script(text))
         self.wait("!document.getElementById('game').hidden || !document.getElementById('problem').hidden")
 
-    def text(self, name):
-        return self.browser.run(f"document.getElementById('{name}').innerText")
+    def text(self, name: str) -> str:
+        return str(self.browser.run(f"document.getElementById('{name}').innerText"))
 
-    def tables(self):
+    def tables(self) -> list[Any]:
         """The tables that the page shows from the first deed to the last, a step at a time."""
         self.browser.run(page_script("press('Home');"))
         all_seen = [self.browser.run(page_script("return seen();"))]
@@ -115,7 +121,7 @@ class Page(unittest.TestCase):
             ))
         return all_seen
 
-    def test_the_table_is_the_record_at_each_deed(self):
+    def test_the_table_is_the_record_at_each_deed(self) -> None:
         for name, text in RECORDS.items():
             if name == "observed":
                 continue
@@ -127,7 +133,7 @@ class Page(unittest.TestCase):
                 for place, (left, right) in enumerate(zip(shown, told)):
                     self.assertEqual(left, right, f"deed {place + 1}")
 
-    def test_an_observed_game_is_shown_as_far_as_it_is_told(self):
+    def test_an_observed_game_is_shown_as_far_as_it_is_told(self) -> None:
         text = RECORDS["observed"]
         self.drop(text)
         *ended, begun = self.tables()
@@ -143,7 +149,7 @@ class Page(unittest.TestCase):
         self.assertEqual(tables[0]["hands"], [["?"] * 13] * 4)
         self.assertEqual(tables, list(model.tables_of(hidden)))
 
-    def test_the_lines_of_a_seat_that_came_back(self):
+    def test_the_lines_of_a_seat_that_came_back(self) -> None:
         text = RECORDS["each_call"]
         deeds = [line for line in text.split("\n") if line.startswith("{")]
         hello, error = '{"type":"hello","protocol":"mjsonp","protocol_version":3}', '{"type":"error","rule":1,"message":"Unreadable"}'
@@ -152,7 +158,15 @@ class Page(unittest.TestCase):
         self.assertEqual(self.text("problem"), "")
         self.assertEqual(self.tables(), list(model.tables_of(text)))
 
-    def test_results_are_those_of_the_record(self):
+    def test_a_game_in_ordinary_mjai_is_shown_as_its_record_is(self) -> None:
+        for name in ["double_ron", "four_riichis", "red_fives"]:
+            for is_plain in (False, True):
+                with self.subTest(name, plain=is_plain):
+                    self.drop(export.written(RECORDS[name], is_plain))
+                    self.assertEqual(self.text("problem"), "")
+                    self.assertEqual(self.tables(), list(model.tables_of(RECORDS[name])))
+
+    def test_results_are_those_of_the_record(self) -> None:
         for name in ["whole_game", "double_ron", "robbed_kan", "red_fives", "four_winds"]:
             text = RECORDS[name]
             for place, hand in enumerate(model.hands_of(text)):
@@ -165,10 +179,10 @@ class Page(unittest.TestCase):
                         if event["type"] == "hora":
                             self.assertIn(f"{event['fan']} han, {event['fu']} fu\t{event['hora_points']:,}", shown)
                         if event["type"] in ("hora", "ryukyoku"):
-                            for change in filter(None, event["deltas"]):
+                            for change in [it for it in event["deltas"] if it]:
                                 self.assertIn(f"\t{change:+,}", shown)
 
-    def test_a_bad_line_is_named_and_nothing_is_drawn_past_it(self):
+    def test_a_bad_line_is_named_and_nothing_is_drawn_past_it(self) -> None:
         lines = RECORDS["four_riichis"].split("\n")
         first = next(place for place, line in enumerate(lines) if '"tsumo"' in line)
         reach = next(place for place, line in enumerate(lines) if '"reach_accepted"' in line)
@@ -196,9 +210,11 @@ class Page(unittest.TestCase):
                 else:
                     self.assertEqual(self.tables(), list(model.tables_of(RECORDS["four_riichis"]))[:deeds])
 
-    def test_keys_wheel_buttons_strip_and_links(self):
+    def test_keys_wheel_buttons_strip_and_links(self) -> None:
         self.drop(RECORDS["whole_game"], "#hand=3&deed=41")
-        where = lambda: self.text("where").split(", line")[0]
+        def where() -> str:
+            return self.text("where").split(", line")[0]
+
         self.assertEqual(where(), "Hand 3 of 9, deed 41 of 144")
         self.browser.press("ArrowRight")
         self.assertEqual(where(), "Hand 3 of 9, deed 42 of 144")
@@ -228,7 +244,7 @@ class Page(unittest.TestCase):
         self.assertEqual(len(strip), 9)
         self.assertEqual(strip[0].split("\n"), ["East 1", "b tsumo 16,000"])
 
-    def test_a_file_can_be_chosen_and_the_table_turned(self):
+    def test_a_file_can_be_chosen_and_the_table_turned(self) -> None:
         self.browser.open("about:blank")
         self.browser.open(PAGE)
         self.browser.choose("#file", HERE / "records" / "each_call.txt")
@@ -240,7 +256,7 @@ class Page(unittest.TestCase):
         self.browser.choose("#file", HERE / "records" / "none.txt")
         self.wait("document.getElementById('problem').textContent === \"none.txt can't be read.\"")
 
-    def test_a_page_that_holds_its_record(self):
+    def test_a_page_that_holds_its_record(self) -> None:
         text = RECORDS["each_call"].replace('"names":["a"', '"names":["</script>a"')
         with tempfile.TemporaryDirectory() as folder:
             record, page = pathlib.Path(folder, "record.txt"), pathlib.Path(folder, "page.html")
@@ -251,7 +267,7 @@ class Page(unittest.TestCase):
         self.assertEqual(self.tables(), list(model.tables_of(text)))
         self.assertIn("</script>a", self.browser.run("document.getElementById('bottom').innerText"))
 
-    def test_each_control_has_a_name(self):
+    def test_each_control_has_a_name(self) -> None:
         self.drop(RECORDS["whole_game"])
         nodes = self.browser.call("Accessibility.getFullAXTree")["nodes"]
         self.browser.call("Accessibility.disable")
@@ -261,7 +277,7 @@ class Page(unittest.TestCase):
         self.assertGreater(len(found), 30)
         self.assertEqual(without, [])
 
-    def test_a_narrow_window_and_dark_mode(self):
+    def test_a_narrow_window_and_dark_mode(self) -> None:
         for dark in [False, True]:
             with self.subTest(dark=dark):
                 self.browser.size(375, 812, dark=dark)
@@ -277,7 +293,7 @@ class Page(unittest.TestCase):
                 )
                 self.assertGreater(ink - page if dark else page - ink, 400)
 
-    def test_a_record_of_two_thousand_deeds_opens_in_below_a_second(self):
+    def test_a_record_of_two_thousand_deeds_opens_in_below_a_second(self) -> None:
         lines = RECORDS["whole_game"].splitlines()
         begin = next(place for place, line in enumerate(lines) if '"start_kyoku"' in line)
         hand = lines[begin:next(place for place, line in enumerate(lines) if '"end_kyoku"' in line) + 1]
