@@ -256,6 +256,12 @@ class Told:
     is_asked: bool
 
 
+def how_it_ended(code: int | None) -> str:
+    if code is None:
+        return "closed its standard output"
+    return f"ended with exit code {code}" if code >= 0 else f"was ended by signal {-code} ({signal.Signals(-code).name})"
+
+
 class Player:
     """The program's side of the bridge: what it was told, what it answers, and how often it failed to."""
 
@@ -430,9 +436,8 @@ class Player:
             return
         last = list(program.last_errors)
         self.report.ended.append({"event": len(self.events), "code": code, "stderr": "\n".join(last)})
-        how = f"ended with exit code {code}" if code is not None else "closed its standard output"
         words = "; it said last: " + " | ".join(last) if last else ""
-        self.warn("ended", f"the program {how} at {self.newest()}{words}")
+        self.warn("ended", f"the program {how_it_ended(code)} at {self.newest()}{words}")
 
     def start(self) -> bool:
         """Starts the program; False where it was started too often or can't be started again."""
@@ -634,6 +639,8 @@ def run(words: argparse.Namespace, player: Player, table: Table) -> None:
         player.report.problem = str(lost)
     except OSError as error:
         player.report.problem = f"{error.filename or words.command[0]}: {error.strerror or error}"
+    except KeyboardInterrupt:
+        player.report.problem = "stopped"
     finally:
         table.close()
         player.close()
@@ -652,8 +659,11 @@ def main() -> None:
         run(words, player, Table(words))
     report = player.report
     if words.report:
-        with open(words.report, "w", encoding="utf-8") as file:
-            json.dump(dataclasses.asdict(report), file)
+        try:
+            with open(words.report, "w", encoding="utf-8") as file:
+                json.dump(dataclasses.asdict(report), file)
+        except OSError as error:
+            report.problem = report.problem or f"the report {error.filename}: {error.strerror}"
     if report.problem or report.scores is None:
         sys.exit(f"{words.name}: {report.problem}")
     print(f"{words.name}: scores", *report.scores)

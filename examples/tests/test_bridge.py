@@ -170,6 +170,19 @@ class Bridge(Seated):
         self.assertEqual((report["never_answered"], report["stood_in"], report["restarts"], report["answers"]), (True, 4, 1, 0))
         self.assertEqual([(it["event"], it["code"]) for it in report["ended"]], [(1, 1), (1, 1)])
 
+    def test_how_a_program_ended_is_said(self) -> None:
+        scripts = [
+            ("import os; os.kill(os.getpid(), 9)", -9, "was ended by signal 9 (SIGKILL)"),
+            ("import sys; sys.exit(3)", 3, "ended with exit code 3"),
+            ("import os, time; os.close(1); time.sleep(60)", None, "closed its standard output"),
+        ]
+        for script, code, how in scripts:
+            with self.subTest(how):
+                table = Table(lambda it: it.ask(START_GAME, END_GAME))
+                ended = self.bridge(table, command=[sys.executable, "-c", script], words=["--restarts", "0"])
+                self.assertEqual(ended.stderr.splitlines()[0], f"anna: the program {how} at event 1 (start_game)")
+                self.assertEqual(self.report()["ended"], [{"event": 1, "code": code, "stderr": ""}])
+
     def test_after_an_own_call_held_tiles_are_tried_until_one_is_lawful(self) -> None:
         pon = {"type": "pon", "actor": 1, "target": 0, "pai": "1m", "consumed": ["1m", "1m"]}
         refusal = {"type": "error", "rule": 1, "message": "Unreadable"}
@@ -231,6 +244,9 @@ class Bridge(Seated):
             self.assertEqual((ended.returncode, ended.stderr), (1, "anna: no-such-program: No such file or directory\n"))
         ended = self.run_bridge("--log", "/no/log", "--", "true")
         self.assertEqual((ended.returncode, ended.stderr), (1, "anna: the log /no/log: No such file or directory\n"))
+        table = Table(lambda it: it.ask(START_GAME, END_GAME))
+        ended = self.bridge(table, words=["--report", "/no/report"])
+        self.assertEqual((ended.returncode, ended.stderr), (1, "anna: the report /no/report: No such file or directory\n"))
         self.assertEqual(self.run_bridge().returncode, 2)
 
     def test_a_server_that_speaks_otherwise_is_named(self) -> None:
