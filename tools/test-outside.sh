@@ -19,9 +19,9 @@ export MYPYPATH=examples:examples/tests:league:viewer:viewer/tests
 # The files of tests, and the seconds that each may take.
 TESTS='
 120 examples/tests/test_players.py
-240 examples/tests/test_bridge.py
+400 examples/tests/test_bridge.py
 300 examples/tests/test_customs.py
-200 examples/tests/test_play.py
+300 examples/tests/test_play.py
 200 examples/tests/test_serve.py
 200 examples/tests/test_tables.py
 120 league/tests/test_export.py
