@@ -49,12 +49,20 @@ class Release(unittest.TestCase):
         cls.told = [cls.make("one", umask=0o077), cls.make("two", umask=0o002)]
         cls.package, cls.archive = [next((cls.folder / "one").glob(ending)) for ending in ("*.deb", "*.tar.gz")]
         cls.root = cls.folder / "root"
+        cls.usr = cls.root / "usr"
+        if os.geteuid() == 0:
+            cls.install()
+        else:  # who may install nothing unpacks it
+            subprocess.run(["dpkg-deb", "-x", cls.package, cls.root], check=True)
+
+    @classmethod
+    def install(cls) -> None:
+        """Installs the package in the root, to be removed at the end."""
         (cls.root / "var/lib/dpkg/info").mkdir(parents=True)
         (cls.root / "var/lib/dpkg/updates").mkdir()
         (cls.root / "var/lib/dpkg/status").touch()
         cls.dpkg("--install", str(cls.package))
         cls.addClassCleanup(cls.remove)
-        cls.usr = cls.root / "usr"
 
     @classmethod
     def dpkg(cls, *words: str) -> None:
