@@ -4,6 +4,7 @@ from __future__ import annotations
 import hashlib
 import os
 import pathlib
+import re
 import shutil
 import subprocess
 import sys
@@ -98,7 +99,7 @@ class Release(unittest.TestCase):
 
     def test_it_says_from_what_it_was_made(self) -> None:
         commit = subprocess.run(["git", "rev-parse", "HEAD"], cwd=helpers.ROOT, capture_output=True, text=True, check=True).stdout.strip()
-        logic = (helpers.ROOT / "README.md").read_text(encoding="utf-8").split(" logic ")[1].split("`")[0]
+        logic = re.findall(r"`\S+ logic ([0-9a-f]{16})`", (helpers.ROOT / "README.md").read_text(encoding="utf-8"))[0]
         program = hashlib.sha256(pathlib.Path(helpers.PROGRAM).read_bytes()).hexdigest()
         told = (self.usr / "share/doc/riichi-table/RELEASE").read_text()
         control = subprocess.run(["dpkg-deb", "-f", self.package], capture_output=True, text=True, check=True).stdout
