@@ -28,7 +28,7 @@ TESTS='
 60 league/tests/test_results.py
 400 league/tests/test_league.py
 300 tools/tests/test_release.py
-240 viewer/tests/test_viewer.py
+400 viewer/tests/test_viewer.py
 '
 
 say() {
