@@ -1,9 +1,10 @@
-"""A league of four programs, of which one crashes and one falls silent, is killed in the middle and goes on.
+"""A league of four programs, of which one crashes and one falls silent, is killed in the middle and goes on; and one of twelve.
 
 It wants the environment's RIICHI_TABLE, the path of the program.
 """
+from __future__ import annotations
+
 import json
-import os
 import pathlib
 import re
 import shutil
@@ -13,139 +14,132 @@ import sys
 import tempfile
 import time
 import unittest
+from typing import Callable
 
 HERE = pathlib.Path(__file__).parent
-sys.path.insert(0, str(HERE.parent))
+sys.path[:0] = [str(HERE), str(HERE.parent)]
 import walls
+from leagues import CALLER, EXAMPLES, PROGRAM, SEED, Folder, Said, faulty, processes_with
 
-LEAGUE = HERE.parent / "league.py"
-EXAMPLES = HERE.parent.parent / "examples"
 BOT = EXAMPLES / "tests" / "bot.py"
-CALLER = EXAMPLES / "caller.py"
-PROGRAM = os.environ.get("RIICHI_TABLE")
-SEED = "5e" * 32
 GAMES = 8
-
-
-def processes_with(*words):
-    """The command lines of running processes that have one of these words in them."""
-    found = []
-    for path in pathlib.Path("/proc").glob("[0-9]*/cmdline"):
-        try:
-            line = path.read_bytes().replace(b"\0", b" ").decode("utf-8", "replace")
-        except OSError:
-            continue
-        if any(word in line for word in words):
-            found.append(line)
-    return found
+NAMES = ["anna", "bert", "carl", "dora"]
 
 
 @unittest.skipUnless(PROGRAM, "no program: set RIICHI_TABLE to its path")
-class League(unittest.TestCase):
+class Killed(unittest.TestCase):
+    """A league that is killed in its first block, begun again, and checked."""
+    league: Folder
+    out: pathlib.Path
+    first: str
+    second: Said
+    left_behind: dict[int, str]
+    before: dict[str, bytes]
+
     @classmethod
-    def setUpClass(cls):
-        folder = tempfile.TemporaryDirectory(prefix="league-")
-        cls.addClassCleanup(folder.cleanup)
-        cls.folder = pathlib.Path(folder.name)
-        cls.out = cls.folder / "out"
-        # carl's ninth start is always in the run after the kill: up to seven come before it, and at least five with it or behind it
-        bots = [
-            {"name": "anna", "command": [sys.executable, str(CALLER), "--stdio"]},
+    def setUpClass(cls) -> None:
+        # carl's sixth start is always in the run after the kill: at most four come before it
+        cls.league = Folder(cls, [
+            {"name": "anna", "command": CALLER},
             {"name": "bert", "command": [sys.executable, str(BOT), "batch", "bert.read"], "style": "batch"},
-            {"name": "carl", "command": [sys.executable, str(BOT), "line", "carl.read", "crash", "60", "9"]},
-            {"name": "dora", "command": [sys.executable, str(BOT), "line", "dora.read", "hang", "300"], "think": 200, "start": 1000},
-        ]
-        (cls.folder / "bots.json").write_text(json.dumps(bots))
-        cls.outputs = cls.played()
+            {"name": "carl", "command": faulty("carl", "crash", "60", "6")},
+            {"name": "dora", "command": faulty("dora", "hang", "300"), "think": 200, "start": 1000},
+        ])
+        cls.out = cls.league.out
+        cls.first, cls.second = cls.played()
 
     @classmethod
-    def command(cls, *words):
-        command = [sys.executable, LEAGUE, "--program", PROGRAM, "--games", str(GAMES), "--seed", SEED, "--jobs", "4"]
-        return [*command, "--bots", cls.folder / "bots.json", "--out", cls.out, *words]
-
-    @classmethod
-    def played(cls):
+    def played(cls) -> tuple[str, Said]:
         """Plays the league, killed in the middle and begun again; what both runs wrote."""
-        with open(cls.folder / "first", "w+", encoding="utf-8") as output:
-            first = subprocess.Popen(cls.command(), stdout=output, stderr=subprocess.STDOUT)
+        with open(cls.league.path / "first", "w+", encoding="utf-8") as output:
+            first = subprocess.Popen(cls.league.words(GAMES, "--jobs", "4"), stdout=output, stderr=subprocess.STDOUT)
             deadline = time.monotonic() + 200
-            while len(list(cls.out.glob("games/*.json"))) < 2 and time.monotonic() < deadline and first.poll() is None:
+            while not list(cls.out.glob("games/*.json")) and time.monotonic() < deadline and first.poll() is None:
                 time.sleep(0.05)
             first.send_signal(signal.SIGKILL)
             first.wait()
             output.seek(0)
             told = output.read()
-        words = [str(cls.folder), *(walls.seed_of(SEED, block) for block in range(GAMES // 4))]
+        words = [str(cls.league.path), *(walls.seed_of(SEED, block) for block in range(GAMES // 4))]
         deadline = time.monotonic() + 20
         while processes_with(*words) and time.monotonic() < deadline:
             time.sleep(0.05)
         cls.left_behind = processes_with(*words)
         cls.before = {path.name: path.read_bytes() for path in cls.out.glob("games/*.json")}
-        cls.settings = json.loads((cls.out / "league.json").read_text())
-        second = subprocess.run(cls.command("--publish", "--pages"), capture_output=True, text=True, timeout=280)
-        return told, second
+        return told, cls.league.play(GAMES, "--jobs", "4", "--publish", "--pages")
 
-    def test_killed_and_begun_again_no_game_is_played_twice(self):
-        first, second = self.outputs
-        self.assertEqual(second.returncode, 0, second.stderr)
-        self.assertEqual(self.left_behind, [])
-        self.assertGreaterEqual(len(self.before), 2)
+    def test_killed_and_begun_again_no_game_is_played_twice(self) -> None:
+        self.assertEqual(self.second.returncode, 1, self.second.stderr)
+        self.assertEqual(self.left_behind, {})
+        self.assertGreaterEqual(len(self.before), 1)
         self.assertLess(len(self.before), GAMES)
         for name, data in self.before.items():
             self.assertEqual((self.out / "games" / name).read_bytes(), data)
-        told = [line.split(":")[0] for line in (first + second.stdout).splitlines() if line.startswith("game ")]
-        again = [line for line in told if told.count(line) > 1]
-        self.assertEqual(again, [])
-        self.assertEqual(len(list(self.out.glob("games/*.record"))), GAMES)
-        self.assertEqual(json.loads((self.out / "league.json").read_text()), self.settings)
+        told = re.findall(r"^(game \d+): anna ", "".join(re.sub(r"\b(bert|carl|dora)\b", "anna", self.first + self.second.stdout)), re.M)
+        self.assertEqual(sorted(told), sorted(set(told)))
+        self.assertEqual(len(self.league.records()), GAMES)
 
-    def test_it_ends_with_a_table(self):
-        table = json.loads((self.out / "table.json").read_text())
+    def test_it_says_what_it_does(self) -> None:
+        said = self.second.stdout
+        self.assertTrue(said.startswith("8 games of 4 programs, in which all pairs meet equally often\n"))
+        self.assertRegex(said, r"(?m)^game 8: (\w+, ){3}\w+ joined on port \d+ of ")
+        self.assertRegex(said, r"(?m)^[4-7] of 8 games are played, about \d+ (s|min) left$")
+        self.assertRegex(said, r"(?m)^8 of 8 games are played$")
+        log = self.league.log()
+        for number in range(1, GAMES + 1):
+            for text in ("port", "anna joins", "bert has seat"):
+                self.assertRegex(log, rf"(?m)^\d{{4}}-\d\d-\d\dT[\d:.]+Z game {number}: {text}")
+
+    def test_it_ends_with_a_table(self) -> None:
+        table = self.league.table()
         self.assertEqual((table["games"], table["blocks"]), (GAMES, 2))
-        self.assertEqual(sorted(row["name"] for row in table["rows"]), ["anna", "bert", "carl", "dora"])
+        self.assertEqual(sorted(row["name"] for row in table["rows"]), NAMES)
         self.assertAlmostEqual(sum(row["place"] for row in table["rows"]), 10)
-        text = (self.out / "table.txt").read_text()
-        self.assertTrue(self.outputs[1].stdout.startswith("game "))
-        self.assertIn(text, self.outputs[1].stdout)
+        for place in range(4):
+            self.assertEqual(sum(row["places"][place] for row in table["rows"]), GAMES)
+        self.assertIn((self.out / "table.txt").read_text(), self.second.stdout)
         page = (self.out / "index.html").read_text()
         for number in range(1, GAMES + 1):
             self.assertIn(f'href="games/{number:04}.', page)
+        self.assertIn('id="record"', (self.out / "games" / "0008.html").read_text())
 
-    def test_programs_that_crash_and_fall_silent_are_told_of(self):
-        games = [json.loads(path.read_text())["programs"] for path in sorted(self.out.glob("games/*.json"))]
-        self.assertEqual([game["anna"]["starts"] for game in games], [1] * GAMES)
-        self.assertGreater(sum(game["carl"]["starts"] for game in games), GAMES)
+    def test_programs_that_crash_and_fall_silent_are_told_of(self) -> None:
+        games = [game["programs"] for game in self.league.games()]
+        self.assertEqual([game["anna"]["restarts"] for game in games], [0] * GAMES)
+        self.assertEqual(sum(game["carl"]["restarts"] for game in games), 1)
         self.assertGreater(min(game["dora"]["silences"] for game in games), 0)
         self.assertEqual({game[name]["problem"] for game in games for name in game}, {None})
 
-    def test_each_program_has_each_seat_on_each_wall(self):
-        orders_of = {}
-        for number, path in enumerate(sorted(self.out.glob("games/*.record"))):
-            lines = path.read_text().split("\n")
+    def test_each_program_has_each_seat_on_each_wall(self) -> None:
+        orders_of: dict[tuple[str, ...], list[list[str]]] = {}
+        for record in self.league.records():
+            lines = record.split("\n")
             names = json.loads(next(line for line in lines if line.startswith("{")))["names"]
             orders_of.setdefault(tuple(lines[1:201]), []).append(names)
         self.assertEqual(len(orders_of), 2)
         for orders in orders_of.values():
             for seats in zip(*orders):
-                self.assertEqual(sorted(seats), ["anna", "bert", "carl", "dora"])
+                self.assertEqual(sorted(seats), NAMES)
 
-    def check(self, folder, *words):
-        return subprocess.run([sys.executable, LEAGUE, "--check", folder, *words], capture_output=True, text=True, timeout=120)
-
-    def test_anyone_can_check_it(self):
-        told = self.check(self.out, "--program", PROGRAM)
+    def test_anyone_can_check_it(self) -> None:
+        told = self.league.check("--program", PROGRAM)
         self.assertEqual((told.returncode, told.stderr), (0, ""))
-        self.assertEqual(told.stdout, "8 games are sound: seeds, walls, results and table; their records are replayed\n")
+        self.assertEqual(told.stdout, "8 games are sound: seeds, walls, seats, results and table; their records are replayed\n")
 
-    def test_what_was_changed_is_found(self):
-        change = lambda old, new: lambda text: text.replace(old, new, 1)
-        other_points = lambda text: re.sub('"points": -?', '"points": 1', text, count=1)
+    def test_what_was_changed_is_found(self) -> None:
+        def change(old: str, new: str) -> Callable[[str], str]:
+            return lambda text: text.replace(old, new, 1)
+
+        def other_points(text: str) -> str:
+            return re.sub('"points": -?', '"points": 1', text, count=1)
+
         faults = [
             ("games/0003.record", change('"type":"dahai"', '"type":"dahai" '), "game 3: the record isn't the one that was kept"),
             ("games/0002.json", other_points, "game 2: the result of "),
             ("table.json", other_points, "the table isn't what the games come to"),
             ("seeds.json", change("5e", "5f"), "the league's seed isn't the one that was promised"),
             ("league.json", change('"limit": 10000', '"limit": 9999'), "game 1: the record is of a game with other rules"),
+            ("league.json", change('"anna"', '"otto"'), "game 1: the programs have other seats than they should"),
         ]
         for name, fault, problem in faults:
             with self.subTest(name), tempfile.TemporaryDirectory() as folder:
@@ -154,30 +148,44 @@ class League(unittest.TestCase):
                 text = (copy / name).read_text()
                 self.assertNotEqual(fault(text), text)
                 (copy / name).write_text(fault(text))
-                told = self.check(copy)
+                told = self.league.check(folder=copy)
                 self.assertEqual(told.returncode, 1)
                 self.assertIn(problem, told.stderr)
 
-    def test_a_server_that_fails_is_said_and_tried_again(self):
-        command = self.command("--program", "/bin/false", "--out", self.folder / "failed", "--tries", "2")
-        told = subprocess.run(command, capture_output=True, text=True, timeout=60)
-        self.assertEqual(told.returncode, 1)
-        self.assertIn("game 1 broke, try 2 of 2: the server ended with 1: \n", told.stderr)
-        self.assertIn(" broke 2 times\n", told.stderr)
-
-    def test_other_words_are_refused(self):
-        told = subprocess.run(self.command("--limit", "9000"), capture_output=True, text=True, timeout=60)
-        self.assertEqual(told.returncode, 1)
-        self.assertIn("holds a league with other limit", told.stderr)
-        for bots, problem in [("[]", "no list of four programs"), ("[1,1,1,1]", "program 1 has no printable name"), ("{", "bots.json: ")]:
-            path = self.folder / "other" / "bots.json"
-            path.parent.mkdir(exist_ok=True)
-            path.write_text(bots)
-            told = subprocess.run(self.command("--bots", path), capture_output=True, text=True, timeout=60)
+    def test_other_words_are_refused(self) -> None:
+        for words, problem in [
+            (["--limit", "9000"], "holds a league with other limit"),
+            (["--red"], "holds a league with other red"),
+            (["--games", "4"], "holds a league of 8 games: it can get more games, and none fewer"),
+            (["--games", "6"], "a multiple of 4"),
+        ]:
+            told = self.league.play(GAMES, *words)
             self.assertEqual(told.returncode, 1)
             self.assertIn(problem, told.stderr)
-        told = subprocess.run(self.command("--games", "6"), capture_output=True, text=True, timeout=60)
-        self.assertIn("a multiple of 4", told.stderr)
+
+
+@unittest.skipUnless(PROGRAM, "no program: set RIICHI_TABLE to its path")
+class Twelve(unittest.TestCase):
+    """A league of twelve programs with red fives, abortive draws and an uma, which gets more games."""
+
+    def test_it_grows_and_is_sound(self) -> None:
+        names = [f"p{number:02}" for number in range(12)]
+        league = Folder(type(self), [{"name": name, "command": faulty(name)} for name in names])
+        words = ["--jobs", "4", "--red", "--draws", "--uma=15,5,-5,-15"]
+        told = league.play(8, *words)
+        self.assertEqual((told.returncode, told.stderr), (0, ""))
+        self.assertIn("8 games of 12 programs, as even as may be; all pairs meet equally often in each multiple of 132 games\n", told.stdout)
+        first = league.records()
+        told = league.play(12, *words, "--publish")
+        self.assertEqual((told.returncode, told.stderr), (0, ""))
+        self.assertEqual(league.records()[:8], first)
+        table = league.table()
+        self.assertEqual((table["games"], [row["games"] for row in table["rows"]]), (12, [4] * 12))
+        self.assertEqual(sorted(row["name"] for row in table["rows"]), names)
+        self.assertLessEqual(abs(sum(row["score"] for row in table["rows"])), 12)
+        told = league.check("--program", PROGRAM)
+        self.assertEqual((told.returncode, told.stderr), (0, ""))
+        self.assertIn("12 games are sound", told.stdout)
 
 
 if __name__ == "__main__":
