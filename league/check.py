@@ -49,8 +49,11 @@ def problem_of_record(league: League, number: int, seed: str, record: str, progr
         return "the walls aren't those of the seed"
     if program and (problem := replayed(program, record)):
         return f"replay refuses the record: {problem}"
-    if results.events_of(record)[0]["names"] != league.names_of(number):
-        return "the programs have other seats than they should"
+    try:
+        if list(results.counted(record)) != league.names_of(number):
+            return "the programs have other seats than they should"
+    except (LookupError, TypeError, ValueError):
+        return "the record isn't that of a whole game"
     return None
 
 
@@ -68,7 +71,7 @@ def problem_of_game(league: League, number: int, seed: str, program: str | None)
         return problem
     kept = league.programs_in(number)
     for name, row in results.counted(record).items():
-        if any(kept[name][key] != value for key, value in row.items()):
+        if any(kept.get(name, {}).get(key) != value for key, value in row.items()):
             return f"the result of {name} isn't what the record says"
     return None
 
@@ -79,14 +82,16 @@ def check(folder: pathlib.Path, program: str | None) -> None:
     try:
         seeds = json.loads((folder / "seeds.json").read_text(encoding="utf-8"))
         table = json.loads((folder / "table.json").read_text(encoding="utf-8"))
-    except (OSError, ValueError) as error:
-        raise Wrong(f"{folder} isn't published: {error}") from None
+        own, listed = seeds["league"], seeds["blocks"]
+        commitment = walls.commitment_of(own)
+    except (OSError, LookupError, TypeError, ValueError) as error:
+        raise Wrong(f"{folder} isn't published, or not whole: {error}") from None
     wrong = []
-    if walls.commitment_of(seeds["league"]) != league.settings["commitment"]:
+    if commitment != league.settings["commitment"]:
         wrong.append("the league's seed isn't the one that was promised")
     for block in range(league.settings["games"] // 4):
-        games, seed = games_of(block), walls.seed_of(seeds["league"], block)
-        if seeds["blocks"][block:block + 1] != [seed]:
+        games, seed = games_of(block), walls.seed_of(own, block)
+        if listed[block:block + 1] != [seed]:
             wrong.append(f"the seed of games {games[0] + 1} to {games[-1] + 1} doesn't follow from the league's")
         for number in games:
             if problem := problem_of_game(league, number, seed, program):

@@ -6,6 +6,7 @@ files: this folder, examples/ beside it, the server and the programs, under the 
 from __future__ import annotations
 
 import asyncio
+import concurrent.futures
 import importlib
 import json
 import os
@@ -73,7 +74,10 @@ class Cluster:
                 await future.cancel()
         if ended.returncode:
             raise Broken(f"play.py ended with {ended.returncode} on a worker: {ended.stderr.strip()}")
-        told = json.loads(ended.stdout)
+        try:
+            told = json.loads(ended.stdout)
+        except ValueError:
+            raise Broken(f"play.py told no outcome on a worker: {ended.stderr.strip()}") from None
         for text, level, at in told["said"]:
             say(text, level, at)
         if "broken" in told:
@@ -82,9 +86,10 @@ class Cluster:
 
     async def result_of(self, future: Any) -> Any:
         """What a task came to. Raises Broken where the workers that had it ended again and again, Wrong where the cluster did."""
-        await self.dask.wait(future)
-        if future.status in ("cancelled", "lost"):
-            raise Wrong(f"the cluster at {self.address} is lost")
+        try:
+            await self.dask.wait(future)
+        except concurrent.futures.CancelledError:
+            raise Wrong(f"the scheduler at {self.address} is lost") from None
         if future.status == "error":
             raise Broken(str(await future.exception()))
         return await future

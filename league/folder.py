@@ -49,7 +49,7 @@ class League:
         for number in range(settings["games"]):
             path = self.file(number, ".json")
             if path.exists():
-                self.games[number] = json.loads(path.read_text(encoding="utf-8"))
+                self.games[number] = self.result_in(path)
 
     @classmethod
     def open(cls, folder: pathlib.Path) -> League:
@@ -63,6 +63,13 @@ class League:
     def names_of(self, number: int) -> list[str]:
         """The names by seat in a game."""
         return [self.names[place] for place in self.schedule.seats(number)]
+
+    def result_in(self, path: pathlib.Path) -> dict[str, Any]:
+        try:
+            result: dict[str, Any] = json.loads(path.read_text(encoding="utf-8"))
+            return result
+        except (OSError, ValueError) as error:
+            raise Wrong(f"{path}: {error}") from None
 
     def is_whole(self, block: int) -> bool:
         """Whether all games of a block were played."""

@@ -139,7 +139,7 @@ def read_words() -> argparse.Namespace:
     add("--bots", type=pathlib.Path, metavar="FILE", help="the programs")
     add("--out", type=pathlib.Path, metavar="DIR", help="the league's folder")
     add("--seed", metavar="HEX", help="the league's seed, 64 hex digits (default: a fresh one)")
-    add("--jobs", type=int, default=2, metavar="K", help="games at a time (default: %(default)s)")
+    add("--jobs", type=int, default=2, metavar="K", help="games at a time on this machine (default: %(default)s)")
     add("--cluster", metavar="ADDRESS", help="have the games played by the workers of the Dask scheduler there")
     add("--limit", type=int, default=10000, metavar="MS", help="the server's limit for an answer (default: %(default)s)")
     add("--draws", action="store_true", help="with abortive draws")

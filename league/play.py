@@ -19,7 +19,7 @@ import socket
 import subprocess
 import sys
 import tempfile
-from typing import Any, Coroutine, TypedDict
+from typing import Any, TypedDict
 
 from console import Level, Say, now
 from processes import end_with_parent, free_port
@@ -214,16 +214,6 @@ class Game:
         return found
 
 
-def until_the_end(playing: Coroutine[Any, Any, Outcome]) -> Outcome:
-    """Runs a game, which is ended with all its processes where this one is asked to end."""
-    async def play() -> Outcome:
-        task = asyncio.create_task(playing)
-        asyncio.get_running_loop().add_signal_handler(signal.SIGTERM, task.cancel)
-        return await task
-
-    return asyncio.run(play())
-
-
 def main() -> None:
     end_with_parent(os.getppid())
     task: Task = json.load(sys.stdin)
@@ -236,7 +226,7 @@ def main() -> None:
         game = Game(task, pathlib.Path(folder), say)
         told: dict[str, Any]
         try:
-            told = {**until_the_end(game.play())}
+            told = {**asyncio.run(game.play())}
         except Broken as why:
             told = {"broken": str(why)}
         logs = pathlib.Path(folder).glob("*.log")

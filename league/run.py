@@ -109,11 +109,13 @@ class Run:
         """Stops a league in which a program never answered in all the games of its blocks."""
         if self.words.go_on:
             return
-        for name in self.league.names:
+        told = []
+        for place, name in enumerate(self.league.names, 1):
             rows = {number: row for number, row in self.league.rows_of(name).items() if self.league.is_whole(number // 4)}
             if rows and all(row["never_answered"] for row in rows.values()):
-                log = self.league.file(min(rows), f".{self.league.names.index(name) + 1}.log")
-                raise Wrong(f"stopped, since {name} never answered in {len(rows)} games: see {log}; --go-on plays on without it")
+                told.append(f"{name} never answered in {len(rows)} games (see {self.league.file(min(rows), f'.{place}.log')})")
+        if told:
+            raise Wrong(f"stopped, since {', and '.join(told)}: mend it and take another folder, or play on with --go-on")
 
     async def play_together(self, numbers: list[int]) -> None:
         """Plays games, as many at a time as there is room for."""

@@ -43,8 +43,9 @@ class Folder:
         command = self.words(games, *words, python=python, program=program)
         return subprocess.run(command, capture_output=True, text=True, timeout=280)
 
-    def check(self, *words: str, folder: pathlib.Path | None = None) -> Said:
-        return subprocess.run([sys.executable, str(LEAGUE), "--check", str(folder or self.out), *words], capture_output=True, text=True, timeout=200)
+    def check(self, *words: str) -> Said:
+        command = [sys.executable, str(LEAGUE), "--check", str(self.out), *words]
+        return subprocess.run(command, capture_output=True, text=True, timeout=200)
 
     def games(self) -> list[dict[str, Any]]:
         """The results of the games, by their numbers."""

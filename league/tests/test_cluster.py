@@ -36,16 +36,16 @@ def parent_of(process: int) -> int:
         return 0
 
 
-def processes_under(process: int) -> list[str]:
-    """The command lines of the processes that a process started, and these."""
+def processes_under(process: int) -> dict[int, str]:
+    """The command lines of the processes that a process started, and these, by their ids."""
     children: dict[int, list[int]] = {}
     for path in pathlib.Path("/proc").glob("[0-9]*"):
         children.setdefault(parent_of(int(path.name)), []).append(int(path.name))
-    found, left = [], children.get(process, [])
+    found, left = {}, children.get(process, [])
     while left:
         left += children.get(left[0], [])
         with contextlib.suppress(OSError):
-            found.append(pathlib.Path(f"/proc/{left[0]}/cmdline").read_bytes().replace(b"\0", b" ").decode())
+            found[left[0]] = pathlib.Path(f"/proc/{left[0]}/cmdline").read_bytes().replace(b"\0", b" ").decode()
         del left[0]
     return found
 
@@ -79,13 +79,18 @@ class Cluster(unittest.TestCase):
     def worker(self, address: str, name: str) -> subprocess.Popen[bytes]:
         return self.start(name, *WORKER, "--name", name, "--local-directory", str(self.folder / name), address)
 
-    def wait_for_a_game(self, worker: subprocess.Popen[bytes], playing: subprocess.Popen[str]) -> None:
-        """Waits until a worker has a game, with all four programs in it."""
-        deadline = time.monotonic() + 100
-        while sum("caller.py" in line and "bridge.py" not in line for line in processes_under(worker.pid)) < 4:
+    def kill_in_a_game(self, worker: subprocess.Popen[bytes], playing: subprocess.Popen[str]) -> None:
+        """Waits until a worker has a game, with all four programs in it, and kills it; what it had started ends with it."""
+        deadline = time.monotonic() + 200
+        under: dict[int, str] = {}
+        while sum("caller.py" in line and "bridge.py" not in line for line in under.values()) < 4:
             self.assertLess(time.monotonic(), deadline, (self.folder / "first.log").read_text())
             self.assertIsNone(playing.poll())
-            time.sleep(0.02)
+            under = processes_under(worker.pid)
+        worker.send_signal(signal.SIGKILL)
+        while left := [line for process, line in under.items() if parent_of(process)]:
+            self.assertLess(time.monotonic(), deadline, left)
+            time.sleep(0.05)
 
     def test_a_worker_is_killed_and_the_table_is_that_of_one_machine(self) -> None:
         here = Folder(type(self), self.programs)
@@ -96,8 +101,7 @@ class Cluster(unittest.TestCase):
         first, _ = self.worker(address, "first"), self.worker(address, "second")
         words = there.words(4, "--cluster", address, "--publish", python=PYTHON)
         with subprocess.Popen(words, stdout=subprocess.PIPE, stderr=subprocess.PIPE, text=True) as playing:
-            self.wait_for_a_game(first, playing)
-            first.send_signal(signal.SIGKILL)
+            self.kill_in_a_game(first, playing)
             said, faults = playing.communicate(timeout=200)
         self.assertEqual((playing.returncode, faults), (0, ""), said)
         self.assertIn("4 of 4 games are played\n", said)

@@ -73,7 +73,7 @@ class Faults(unittest.TestCase):
     def test_it_then_stops_before_the_second_block_unless_it_is_to_go_on(self) -> None:
         told = self.league.play(8, "--jobs", "4")
         self.assertEqual(told.returncode, 1)
-        self.assertRegex(told.stderr, r"league.py: stopped, since anna never answered in 4 games: see .*0001\.1\.log; --go-on plays on")
+        self.assertRegex(told.stderr, r"league.py: stopped, since anna never answered in 4 games \(see .*0001\.1\.log\): mend it")
         self.assertEqual(len(self.league.games()), 4)
         told = self.league.play(8, "--jobs", "4", "--go-on")
         self.assertEqual((told.returncode, len(self.league.games())), (1, 8), told.stderr)

@@ -19,7 +19,9 @@ from typing import Callable
 HERE = pathlib.Path(__file__).parent
 sys.path[:0] = [str(HERE), str(HERE.parent)]
 import walls
+from check import check
 from leagues import CALLER, EXAMPLES, PROGRAM, SEED, Folder, Said, faulty, processes_with
+from programs import Wrong
 
 BOT = EXAMPLES / "tests" / "bot.py"
 GAMES = 8
@@ -148,9 +150,9 @@ class Killed(unittest.TestCase):
                 text = (copy / name).read_text()
                 self.assertNotEqual(fault(text), text)
                 (copy / name).write_text(fault(text))
-                told = self.league.check(folder=copy)
-                self.assertEqual(told.returncode, 1)
-                self.assertIn(problem, told.stderr)
+                with self.assertRaises(Wrong) as wrong:
+                    check(copy, None)
+                self.assertIn(problem, str(wrong.exception))
 
     def test_other_words_are_refused(self) -> None:
         for words, problem in [
