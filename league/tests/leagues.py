@@ -41,11 +41,11 @@ class Folder:
 
     def play(self, games: int, *words: str, python: str = sys.executable, program: str = PROGRAM) -> Said:
         command = self.words(games, *words, python=python, program=program)
-        return subprocess.run(command, capture_output=True, text=True, timeout=280)
+        return subprocess.run(command, capture_output=True, text=True, timeout=900)
 
     def check(self, *words: str) -> Said:
         command = [sys.executable, str(LEAGUE), "--check", str(self.out), *words]
-        return subprocess.run(command, capture_output=True, text=True, timeout=200)
+        return subprocess.run(command, capture_output=True, text=True, timeout=600)
 
     def games(self) -> list[dict[str, Any]]:
         """The results of the games, by their numbers."""

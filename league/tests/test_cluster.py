@@ -81,7 +81,7 @@ class Cluster(unittest.TestCase):
 
     def kill_in_a_game(self, worker: subprocess.Popen[bytes], playing: subprocess.Popen[str]) -> None:
         """Waits until a worker has a game, with all four programs in it, and kills it; what it had started ends with it."""
-        deadline = time.monotonic() + 200
+        deadline = time.monotonic() + 600
         under: dict[int, str] = {}
         while sum("caller.py" in line and "bridge.py" not in line for line in under.values()) < 4:
             self.assertLess(time.monotonic(), deadline, (self.folder / "first.log").read_text())
@@ -102,7 +102,7 @@ class Cluster(unittest.TestCase):
         words = there.words(4, "--cluster", address, "--publish", python=PYTHON)
         with subprocess.Popen(words, stdout=subprocess.PIPE, stderr=subprocess.PIPE, text=True) as playing:
             self.kill_in_a_game(first, playing)
-            said, faults = playing.communicate(timeout=200)
+            said, faults = playing.communicate(timeout=900)
         self.assertEqual((playing.returncode, faults), (0, ""), said)
         self.assertIn("4 of 4 games are played\n", said)
         self.assertEqual(there.records(), here.records())

@@ -57,7 +57,7 @@ class Killed(unittest.TestCase):
         """Plays the league, killed in the middle and begun again; what both runs wrote."""
         with open(cls.league.path / "first", "w+", encoding="utf-8") as output:
             first = subprocess.Popen(cls.league.words(GAMES, "--jobs", "4"), stdout=output, stderr=subprocess.STDOUT)
-            deadline = time.monotonic() + 200
+            deadline = time.monotonic() + 600
             while not list(cls.out.glob("games/*.json")) and time.monotonic() < deadline and first.poll() is None:
                 time.sleep(0.05)
             first.send_signal(signal.SIGKILL)
@@ -65,7 +65,7 @@ class Killed(unittest.TestCase):
             output.seek(0)
             told = output.read()
         words = [str(cls.league.path), *(walls.seed_of(SEED, block) for block in range(GAMES // 4))]
-        deadline = time.monotonic() + 20
+        deadline = time.monotonic() + 100
         while processes_with(*words) and time.monotonic() < deadline:
             time.sleep(0.05)
         cls.left_behind = processes_with(*words)
