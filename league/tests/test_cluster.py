@@ -58,7 +58,7 @@ class Cluster(unittest.TestCase):
         self.addCleanup(folder.cleanup)
         self.folder = pathlib.Path(folder.name)
         names = ("anna", "bert", "carl", "dora")
-        self.programs = [{"name": name, "command": CALLER} for name in names]
+        self.programs = [{"name": name, "command": CALLER, "think": 60000} for name in names]
 
     def start(self, name: str, *command: str) -> subprocess.Popen[bytes]:
         with open(self.folder / f"{name}.log", "wb") as log:
@@ -94,12 +94,12 @@ class Cluster(unittest.TestCase):
 
     def test_a_worker_is_killed_and_the_table_is_that_of_one_machine(self) -> None:
         here = Folder(type(self), self.programs)
-        told = here.play(4, "--jobs", "2", "--publish")
+        told = here.play(4, "--jobs", "2", "--limit", "60000", "--publish")
         self.assertEqual((told.returncode, told.stderr), (0, ""))
 
         address, there = self.scheduler(), Folder(type(self), self.programs)
         first, _ = self.worker(address, "first"), self.worker(address, "second")
-        words = there.words(4, "--cluster", address, "--publish", python=PYTHON)
+        words = there.words(4, "--cluster", address, "--limit", "60000", "--publish", python=PYTHON)
         with subprocess.Popen(words, stdout=subprocess.PIPE, stderr=subprocess.PIPE, text=True) as playing:
             self.kill_in_a_game(first, playing)
             said, faults = playing.communicate(timeout=900)

@@ -32,11 +32,11 @@ class Faults(unittest.TestCase):
     def setUpClass(cls) -> None:
         cls.league = Folder(cls, [
             {"name": "anna", "command": [sys.executable, "-c", "this is no python"]},
-            {"name": "bert", "command": faulty("bert", "kill", "60", "2")},
-            {"name": "carl", "command": faulty("carl", "late", "40", "1"), "think": 500},
-            {"name": "dora", "command": faulty("dora")},
+            {"name": "bert", "command": faulty("bert", "kill", "60", "2"), "think": 60000},
+            {"name": "carl", "command": faulty("carl", "late", "40", "4"), "think": 2000},
+            {"name": "dora", "command": faulty("dora"), "think": 60000},
         ])
-        cls.told = cls.league.play(4, "--jobs", "1")
+        cls.told = cls.league.play(4, "--jobs", "1", "--limit", "60000")
         cls.rows = {row["name"]: row for row in cls.league.table()["rows"]}
         cls.text, cls.page = ((cls.league.out / name).read_text() for name in ("table.txt", "index.html"))
 
@@ -71,11 +71,11 @@ class Faults(unittest.TestCase):
         self.assertIn(f'<th scope="row">carl</th>{cells}</tr>', self.page)
 
     def test_it_then_stops_before_the_second_block_unless_it_is_to_go_on(self) -> None:
-        told = self.league.play(8, "--jobs", "4")
+        told = self.league.play(8, "--jobs", "4", "--limit", "60000")
         self.assertEqual(told.returncode, 1)
         self.assertRegex(told.stderr, r"league.py: stopped, since anna never answered in 4 games \(see .*0001\.1\.log\): mend it")
         self.assertEqual(len(self.league.games()), 4)
-        told = self.league.play(8, "--jobs", "4", "--go-on")
+        told = self.league.play(8, "--jobs", "4", "--limit", "60000", "--go-on")
         self.assertEqual((told.returncode, len(self.league.games())), (1, 8), told.stderr)
         self.assertIn("anna was stood in for in 8 of 8 games", told.stderr)
 

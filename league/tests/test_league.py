@@ -174,8 +174,8 @@ class Twelve(unittest.TestCase):
 
     def test_it_grows_and_is_sound(self) -> None:
         names = [f"p{number:02}" for number in range(12)]
-        league = Folder(type(self), [{"name": name, "command": faulty(name)} for name in names])
-        words = ["--jobs", "4", "--red", "--draws", "--uma=15,5,-5,-15"]
+        league = Folder(type(self), [{"name": name, "command": faulty(name), "think": 60000} for name in names])
+        words = ["--jobs", "4", "--limit", "60000", "--red", "--draws", "--uma=15,5,-5,-15"]
         told = league.play(8, *words)
         self.assertEqual((told.returncode, told.stderr), (0, ""))
         self.assertIn("8 games of 12 programs, as even as may be; all pairs meet equally often in each multiple of 132 games\n", told.stdout)
