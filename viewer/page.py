@@ -13,7 +13,7 @@ VIEWER = pathlib.Path(__file__).resolve().parent / "index.html"
 
 def page_of(record: str) -> str:
     """The viewer's page with the text of a record in it."""
-    before, script, after = VIEWER.read_text(encoding="utf-8").partition('<script>\n"use strict";')
+    before, script, after = VIEWER.read_text(encoding="utf-8").partition('<script type="module">')
     # Only texts within JSON may have this sign; written so, it can't end the element that holds the record.
     safe = record.replace("<", "\\u003c")
     return f'{before}<script type="text/plain" id="record">{safe}</script>\n{script}{after}'

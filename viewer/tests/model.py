@@ -1,21 +1,16 @@
 """What a record says of the table after each of its deeds, by a model of its own."""
-from __future__ import annotations
-
 import json
 from collections import Counter
-from typing import Any, Iterator
-
-Event = dict[str, Any]
 
 
-def events_of(text: str) -> list[Event]:
+def events_of(text):
     """The events of a record, without its header and walls."""
     return [json.loads(line) for line in text.splitlines() if line.startswith("{")]
 
 
-def hands_of(text: str) -> list[list[Event]]:
+def hands_of(text):
     """The events of each hand, hand after hand."""
-    hands: list[list[Event]] = []
+    hands = []
     for event in events_of(text):
         if event["type"] == "start_kyoku":
             hands.append([])
@@ -24,26 +19,34 @@ def hands_of(text: str) -> list[list[Event]]:
     return hands
 
 
+def dora_of(indicator):
+    """The kind that an indicator makes a dora: the next one of its suit, of the winds or of the dragons, round and round."""
+    row = next(row for row in ["ESWN", "PFC"] if indicator in row) if len(indicator) == 1 else "123456789"
+    return row[(row.index(indicator[0]) + 1) % len(row)] + indicator[1:2]
+
+
 class Table:
     """One hand after some of its events."""
 
-    def __init__(self, start: Event, points: list[int]) -> None:
-        self.held: list[Counter[str]] = [Counter(hand) for hand in start["tehais"]]
-        self.melds: list[list[list[Any]]] = [[], [], [], []]
-        self.rivers: list[list[list[Any]]] = [[], [], [], []]
+    def __init__(self, start, points):
+        self.held = [Counter(hand) for hand in start["tehais"]]
+        self.melds = [[], [], [], []]
+        self.rivers = [[], [], [], []]
         self.points = list(points)
         self.honba = start["honba"]
         self.deposits = start["kyotaku"]
         self.indicators = [start["dora_marker"]]
+        self.hidden = []
         self.left = 70
-        self.says_riichi: int | None = None
+        self.says_riichi = None
+        self.newest = None
 
-    def lay(self, seat: int, tiles: list[str]) -> None:
+    def lay(self, seat, tiles):
         for tile in tiles:
             self.held[seat][tile if self.held[seat][tile] else "?"] -= 1
 
-    def apply(self, event: Event) -> None:
-        kind, seat = event["type"], event.get("actor", -1)
+    def apply(self, event):
+        kind, seat = event["type"], event.get("actor")
         if kind == "tsumo":
             self.held[seat][event["pai"]] += 1
             self.left -= 1
@@ -51,7 +54,8 @@ class Table:
             self.says_riichi = seat
         elif kind == "dahai":
             self.lay(seat, [event["pai"]])
-            self.rivers[seat].append([event["pai"], self.says_riichi == seat, False])
+            self.rivers[seat].append([event["pai"], self.says_riichi == seat, False, event["tsumogiri"]])
+            self.newest = [seat, len(self.rivers[seat]) - 1]
             self.says_riichi = None
         elif kind in ("chi", "pon", "daiminkan"):
             self.lay(seat, event["consumed"])
@@ -70,11 +74,12 @@ class Table:
             self.indicators.append(event["dora_marker"])
         elif kind == "hora":
             self.held[seat] = Counter([*event["hora_tehais"], event["pai"]])
+            self.hidden = event["uradora_markers"] or self.hidden
             self.deposits = 0
         self.deposits += kind == "reach_accepted"
         self.points = event.get("scores", self.points)
 
-    def seen(self) -> dict[str, Any]:
+    def seen(self):
         """The table as plain lists, which the page's are compared with."""
         return {
             "hands": [sorted((+hand).elements()) for hand in self.held],
@@ -84,10 +89,32 @@ class Table:
             "state": f"honba {self.honba} · deposits {self.deposits}",
             "indicators": list(self.indicators),
             "left": f"{self.left} tiles left",
+            "newest": self.newest,
+            "dora": sum(self.is_bright(tile) for tile in self.on_the_table()),
         }
 
+    def on_the_table(self):
+        """Every tile that lies face up outside the middle; of a concealed kan the two inner ones do, and a called one lies twice."""
+        yield from (tile for hand in self.held for tile in (+hand).elements() if tile != "?")
+        yield from (tile[0] for river in self.rivers for tile in river)
+        for melds in self.melds:
+            for kind, tiles, _ in melds:
+                yield from sorted(tiles, key=len)[2:] if kind == "ankan" else tiles
 
-def tables_of(text: str) -> Iterator[dict[str, Any]]:
+    def is_bright(self, tile):
+        """Whether a tile is red or dora."""
+        return len(tile) == 3 or any(tile[:2] == dora_of(indicator) for indicator in [*self.indicators, *self.hidden])
+
+
+    def left_for(self, seat, kind):
+        """How many tiles of a kind the seat doesn't see."""
+        seen = [tile for tile in self.held[seat].elements()]
+        seen += [tile for melds in self.melds for meld in melds for tile in meld[1]]
+        seen += [tile for river in self.rivers for tile, _, is_called, _ in river if not is_called]
+        return 4 - sum(tile[:2] == kind for tile in seen + self.indicators + self.hidden)
+
+
+def tables_of(text):
     """The table after each deed of each hand, in order."""
     points = [30000] * 4
     for hand in hands_of(text):

@@ -16,9 +16,10 @@ PICTURES = HERE.parent.parent / "docs" / "pictures"
 
 # Name, record, moment, width and height in pixels, and whether it is dark.
 SHOTS = [
-    ("table.png", "whole_game.txt", "#hand=6&deed=999", 1040, 740, False),
-    ("robbed-kan.png", "robbed_kan.txt", "#hand=1&deed=20", 1040, 740, True),
-    ("narrow.png", "whole_game.txt", "#hand=8&deed=75", 375, 700, False),
+    ("table.png", "whole_game.txt", "#hand=6&deed=999&seat=0&lang=en", 1280, 800, False),
+    ("robbed-kan.png", "robbed_kan.txt", "#hand=1&deed=20&seat=0&lang=en", 1280, 800, True),
+    ("narrow.png", "whole_game.txt", "#hand=8&deed=75&seat=0&lang=en", 375, 812, False),
+    ("side.png", "whole_game.txt", "#hand=3&deed=100&seat=0&lang=en", 812, 375, True),
 ]
 
 
@@ -26,7 +27,7 @@ def main() -> None:
     PICTURES.mkdir(exist_ok=True)
     with browser.Browser() as page:
         for name, record, moment, width, height, dark in SHOTS:
-            page.size(width, height, dark=dark)
+            page.size(width, height, dark=dark, still=True)
             page.open("about:blank")
             page.open(PAGE + moment)
             page.choose("#file", HERE / "records" / record)

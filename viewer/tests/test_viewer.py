@@ -2,28 +2,28 @@
 
 With the environment's RIICHI_TABLE, the path of the program, each record is checked by it too.
 """
-from __future__ import annotations
-
+import gzip
 import json
+import os
 import pathlib
+import re
 import signal
 import subprocess
 import sys
 import tempfile
 import time
 import unittest
-from typing import Any
 
-HERE = pathlib.Path(__file__).resolve().parent
-ROOT = HERE.parent.parent
-sys.path[:0] = [str(HERE), str(ROOT / "examples" / "tests"), str(ROOT / "league")]
+sys.path.insert(0, str(pathlib.Path(__file__).parent))
 import browser
-import export
-import helpers
 import model
+from driver import ADDRESS, Page, drop_script
 
-PAGE = (HERE.parent / "index.html").as_uri()
+HERE = pathlib.Path(__file__).parent
 RECORDS = {path.stem: path.read_text() for path in sorted((HERE / "records").glob("*.txt"))}
+WILD = {path.name.split(".")[0]: gzip.decompress(path.read_bytes()).decode() for path in sorted((HERE / "records").glob("*.txt.gz"))}
+PROGRAM = os.environ.get("RIICHI_TABLE")
+KINDS = [f"{number}{suit}" for suit in "mps" for number in range(1, 10)] + list("ESWNPFC")
 
 # Reads the table from the page's own elements, seat after seat.
 SEEN = """
@@ -39,39 +39,34 @@ const seen = () => {
       return [meld.dataset.type, all.map(tile => tile.dataset.tile).sort(), all.findIndex(tile => 'called' in tile.dataset)];
     })),
     rivers: seats.map(seat => tiles(seat, '.river').map(tile =>
-      [tile.dataset.tile, 'side' in tile.dataset && 'riichi' in tile.dataset, 'called' in tile.dataset])),
-    points: seats.map(seat => +seat.querySelectorAll('.plate text')[2].textContent.replace(',', '')),
+      [tile.dataset.tile, 'side' in tile.dataset && 'riichi' in tile.dataset, 'called' in tile.dataset, 'drawn' in tile.dataset])),
+    points: seats.map(seat => +seat.querySelector('.plate .points').textContent.replace(',', '').replace('−', '-')),
     state,
     indicators: tiles(centre, '.indicators').map(tile => tile.dataset.tile).filter(tile => tile !== '?'),
     left,
+    newest: seats.flatMap((seat, index) => tiles(seat, '.river').flatMap((tile, place) => 'newest' in tile.dataset ? [index, place] : []))
+      .reduce((found, it) => [...(found || []), it], null),
+    dora: document.querySelectorAll('#table .seat [data-dora]').length,
   };
 };
 const press = key => document.body.dispatchEvent(new KeyboardEvent('keydown', {key, bubbles: true, cancelable: true}));
 """
 
 
-def page_script(body: str) -> str:
+def page_script(body):
     return "(() => {" + SEEN + body + "})()"
 
 
-def drop_script(text: str) -> str:
-    """A script that drops a file with this text on the page, as a user's browser does."""
-    return (
-        "(() => { const data = new DataTransfer(); data.items.add(new File([" + json.dumps(text) + "], 'record.txt'));"
-        "document.body.dispatchEvent(new DragEvent('drop', {dataTransfer: data, bubbles: true, cancelable: true})); })()"
-    )
-
-
-@helpers.wants_program
+@unittest.skipUnless(PROGRAM, "no program: set RIICHI_TABLE to its path")
 class Records(unittest.TestCase):
     """The records that the page is tried on are records of the program."""
 
-    def replay(self, text: str) -> subprocess.CompletedProcess[bytes]:
-        return subprocess.run([helpers.PROGRAM, "replay"], input=text.encode(), capture_output=True, timeout=60)
+    def replay(self, text):
+        return subprocess.run([PROGRAM, "replay"], input=text.encode(), capture_output=True, timeout=60)
 
-    def test_each_record_is_sound(self) -> None:
+    def test_each_record_is_sound(self):
         takes_red = self.replay(RECORDS["red_fives"]).stderr != b"bad record at line 1: 1\n"
-        for name, text in RECORDS.items():
+        for name, text in {**RECORDS, **WILD}.items():
             if name == "observed" or ("red=1" in text.split("\n")[0] and not takes_red):
                 continue
             with self.subTest(name):
@@ -81,36 +76,10 @@ class Records(unittest.TestCase):
 
 
 @unittest.skipUnless(browser.chromium(), "no Chromium")
-class Page(unittest.TestCase):
+class Viewer(Page):
     """The page, driven as a user does it."""
 
-    browser: browser.Browser
-
-    @classmethod
-    def setUpClass(cls) -> None:
-        cls.browser = browser.Browser(seconds=120)
-        cls.addClassCleanup(cls.browser.__exit__)
-
-    def setUp(self) -> None:
-        self.browser.size(1100, 800)
-
-    def wait(self, script: str) -> None:
-        """Waits until a script is true in the page."""
-        deadline = time.monotonic() + 60
-        while not self.browser.run(script):
-            self.assertLess(time.monotonic(), deadline, f"never true: {script}")
-            time.sleep(0.05)
-
-    def drop(self, text: str, moment: str = "") -> None:
-        self.browser.open("about:blank")
-        self.browser.open(PAGE + moment)
-        self.browser.run(drop_script(text))
-        self.wait("!document.getElementById('game').hidden || !document.getElementById('problem').hidden")
-
-    def text(self, name: str) -> str:
-        return str(self.browser.run(f"document.getElementById('{name}').innerText"))
-
-    def tables(self) -> list[Any]:
+    def tables(self):
         """The tables that the page shows from the first deed to the last, a step at a time."""
         self.browser.run(page_script("press('Home');"))
         all_seen = [self.browser.run(page_script("return seen();"))]
@@ -121,7 +90,7 @@ class Page(unittest.TestCase):
             ))
         return all_seen
 
-    def test_the_table_is_the_record_at_each_deed(self) -> None:
+    def test_the_table_is_the_record_at_each_deed(self):
         for name, text in RECORDS.items():
             if name == "observed":
                 continue
@@ -133,13 +102,13 @@ class Page(unittest.TestCase):
                 for place, (left, right) in enumerate(zip(shown, told)):
                     self.assertEqual(left, right, f"deed {place + 1}")
 
-    def test_an_observed_game_is_shown_as_far_as_it_is_told(self) -> None:
+    def test_an_observed_game_is_shown_as_far_as_it_is_told(self):
         text = RECORDS["observed"]
         self.drop(text)
         *ended, begun = self.tables()
         *record, last = model.tables_of(RECORDS["observed.record"])
         self.assertEqual(ended, record)
-        self.assertEqual(begun, {**last, "hands": [["?"] * 13] * 4})
+        self.assertEqual(begun, {**last, "hands": [["?"] * 13] * 4, "dora": 0})
         hidden = text.split('{"type":"hand_shown"')[0]
         for fault in ['{"type":"hand_shown","count":3}', '{"type":"hand_shown"}']:
             self.drop(hidden + fault)
@@ -149,7 +118,7 @@ class Page(unittest.TestCase):
         self.assertEqual(tables[0]["hands"], [["?"] * 13] * 4)
         self.assertEqual(tables, list(model.tables_of(hidden)))
 
-    def test_the_lines_of_a_seat_that_came_back(self) -> None:
+    def test_the_lines_of_a_seat_that_came_back(self):
         text = RECORDS["each_call"]
         deeds = [line for line in text.split("\n") if line.startswith("{")]
         hello, error = '{"type":"hello","protocol":"mjsonp","protocol_version":3}', '{"type":"error","rule":1,"message":"Unreadable"}'
@@ -158,15 +127,7 @@ class Page(unittest.TestCase):
         self.assertEqual(self.text("problem"), "")
         self.assertEqual(self.tables(), list(model.tables_of(text)))
 
-    def test_a_game_in_ordinary_mjai_is_shown_as_its_record_is(self) -> None:
-        for name in ["double_ron", "four_riichis", "red_fives"]:
-            for is_plain in (False, True):
-                with self.subTest(name, plain=is_plain):
-                    self.drop(export.written(RECORDS[name], is_plain))
-                    self.assertEqual(self.text("problem"), "")
-                    self.assertEqual(self.tables(), list(model.tables_of(RECORDS[name])))
-
-    def test_results_are_those_of_the_record(self) -> None:
+    def test_results_are_those_of_the_record(self):
         for name in ["whole_game", "double_ron", "robbed_kan", "red_fives", "four_winds"]:
             text = RECORDS[name]
             for place, hand in enumerate(model.hands_of(text)):
@@ -179,10 +140,10 @@ class Page(unittest.TestCase):
                         if event["type"] == "hora":
                             self.assertIn(f"{event['fan']} han, {event['fu']} fu\t{event['hora_points']:,}", shown)
                         if event["type"] in ("hora", "ryukyoku"):
-                            for change in [it for it in event["deltas"] if it]:
+                            for change in filter(None, event["deltas"]):
                                 self.assertIn(f"\t{change:+,}", shown)
 
-    def test_a_bad_line_is_named_and_nothing_is_drawn_past_it(self) -> None:
+    def test_a_bad_line_is_named_and_nothing_is_drawn_past_it(self):
         lines = RECORDS["four_riichis"].split("\n")
         first = next(place for place, line in enumerate(lines) if '"tsumo"' in line)
         reach = next(place for place, line in enumerate(lines) if '"reach_accepted"' in line)
@@ -195,7 +156,7 @@ class Page(unittest.TestCase):
             (first, '{"type":"tsumo","actor":0,"pai":"0m"}', '"pai"'),
             (first + 1, '{"type":"dahai","actor":0,"pai":"5mr","tsumogiri":false}', "holds no 5mr"),
             (first + 2, '{"type":"chi","actor":1,"target":0,"pai":"5mr","consumed":["6m","7m"]}', "discarded last"),
-            (reach, lines[reach].replace("29000", "28000", 1), "scores"),
+            (reach, lines[reach].replace("29000", "null", 1), '"scores"'),
             (first, lines[first] + lines[first], "no JSON"),
         ]
         for place, line, why in faults:
@@ -210,11 +171,9 @@ class Page(unittest.TestCase):
                 else:
                     self.assertEqual(self.tables(), list(model.tables_of(RECORDS["four_riichis"]))[:deeds])
 
-    def test_keys_wheel_buttons_strip_and_links(self) -> None:
+    def test_keys_wheel_buttons_strip_and_links(self):
         self.drop(RECORDS["whole_game"], "#hand=3&deed=41")
-        def where() -> str:
-            return self.text("where").split(", line")[0]
-
+        where = lambda: self.text("where").split(", line")[0]
         self.assertEqual(where(), "Hand 3 of 9, deed 41 of 144")
         self.browser.press("ArrowRight")
         self.assertEqual(where(), "Hand 3 of 9, deed 42 of 144")
@@ -232,7 +191,7 @@ class Page(unittest.TestCase):
         self.wait("document.getElementById('where').textContent.startsWith('Hand 4 of 9, deed 1 ')")
         self.browser.run("document.getElementById('forward').click()")
         self.assertTrue(where().startswith("Hand 4 of 9, deed 2 of "))
-        self.assertEqual(self.browser.run("location.hash"), "#hand=4&deed=2")
+        self.wait("location.hash === '#hand=4&deed=2&seat=0'")
         self.browser.run("document.querySelectorAll('#strip button')[8].click()")
         self.assertTrue(where().startswith("Hand 9 of 9, deed 1 of "))
         self.browser.run("location.hash = '#hand=2&deed=7'")
@@ -244,9 +203,9 @@ class Page(unittest.TestCase):
         self.assertEqual(len(strip), 9)
         self.assertEqual(strip[0].split("\n"), ["East 1", "b tsumo 16,000"])
 
-    def test_a_file_can_be_chosen_and_the_table_turned(self) -> None:
+    def test_a_file_can_be_chosen_and_the_table_turned(self):
         self.browser.open("about:blank")
-        self.browser.open(PAGE)
+        self.browser.open(ADDRESS)
         self.browser.choose("#file", HERE / "records" / "each_call.txt")
         self.wait("!document.getElementById('game').hidden")
         foot = "document.querySelector('[data-seat=\"2\"] .hand').getBoundingClientRect().top"
@@ -256,7 +215,7 @@ class Page(unittest.TestCase):
         self.browser.choose("#file", HERE / "records" / "none.txt")
         self.wait("document.getElementById('problem').textContent === \"none.txt can't be read.\"")
 
-    def test_a_page_that_holds_its_record(self) -> None:
+    def test_a_page_that_holds_its_record(self):
         text = RECORDS["each_call"].replace('"names":["a"', '"names":["</script>a"')
         with tempfile.TemporaryDirectory() as folder:
             record, page = pathlib.Path(folder, "record.txt"), pathlib.Path(folder, "page.html")
@@ -267,7 +226,7 @@ class Page(unittest.TestCase):
         self.assertEqual(self.tables(), list(model.tables_of(text)))
         self.assertIn("</script>a", self.browser.run("document.getElementById('bottom').innerText"))
 
-    def test_each_control_has_a_name(self) -> None:
+    def test_each_control_has_a_name(self):
         self.drop(RECORDS["whole_game"])
         nodes = self.browser.call("Accessibility.getFullAXTree")["nodes"]
         self.browser.call("Accessibility.disable")
@@ -277,7 +236,7 @@ class Page(unittest.TestCase):
         self.assertGreater(len(found), 30)
         self.assertEqual(without, [])
 
-    def test_a_narrow_window_and_dark_mode(self) -> None:
+    def test_a_narrow_window_and_dark_mode(self):
         for dark in [False, True]:
             with self.subTest(dark=dark):
                 self.browser.size(375, 812, dark=dark)
@@ -293,20 +252,271 @@ class Page(unittest.TestCase):
                 )
                 self.assertGreater(ink - page if dark else page - ink, 400)
 
-    def test_a_record_of_two_thousand_deeds_opens_in_below_a_second(self) -> None:
-        lines = RECORDS["whole_game"].splitlines()
-        begin = next(place for place, line in enumerate(lines) if '"start_kyoku"' in line)
-        hand = lines[begin:next(place for place, line in enumerate(lines) if '"end_kyoku"' in line) + 1]
-        hand = [line for line in hand if '"scores"' not in line]
-        text = "\n".join([*lines[:begin], *hand * (2000 // len(hand) + 1)]) + "\n"
+    def test_a_record_of_two_thousand_deeds_opens_in_a_second_and_steps_in_a_frame(self):
+        text = WILD["wild_1101"]
         self.assertGreaterEqual(len(model.events_of(text)), 2000)
-        self.browser.open("about:blank")
-        self.browser.open(PAGE)
-        opened = f"(() => {{ const before = performance.now(); open({json.dumps(text)}); return performance.now() - before; }})()"
-        # the best of three, since other programs may have the processor
-        self.assertLess(min(self.browser.run(opened) for _ in range(3)), 1000)
-        self.assertEqual(self.text("problem"), "")
+        opened = min(self.opening(text) for _ in range(3))
+        # each step with the layout that follows from it
+        step = "press('ArrowRight'); document.getElementById('side').getBoundingClientRect();"
+        steps = sorted(self.browser.run(page_script(
+            f"const all = []; for (let place = 0; place < 400; place += 1) {{ const before = performance.now(); {step} all.push(performance.now() - before); }} return all;"
+        )))
+        print(f"[opened in {opened:.0f} ms; steps of {steps[0]:.1f}, {steps[200]:.1f}, {steps[360]:.1f} ms: least, half, nine tenths]", file=sys.stderr)
+        self.assertLess(opened, 1000)
+        # (where other programs have the processors, most steps wait for one)
+        is_busy = os.getloadavg()[0] > os.cpu_count() / 2
+        self.assertLess(steps[20 if is_busy else 360], 16)
 
+    def opening(self, text):
+        """The milliseconds from the drop of a file to its first table."""
+        self.browser.open("about:blank")
+        self.browser.open(ADDRESS)
+        return self.browser.run(
+            "(async () => { const shown = new Promise(done => new MutationObserver(done).observe(document.getElementById('where'), {childList: true}));"
+            f"const drop = () => {drop_script(text)}; const before = performance.now(); drop(); await shown;"
+            "document.body.getBoundingClientRect(); return performance.now() - before; })()"
+        )
+
+    def test_the_steps_are_those_of_the_arrow_keys_after_a_seat_was_chosen(self):
+        self.drop(RECORDS["whole_game"], "#hand=3&deed=41")
+        for control in ["bottom", "view", "speed", "place"]:
+            with self.subTest(control):
+                self.browser.run(f"document.getElementById('{control}').focus()")
+                value = f"document.getElementById('{control}').value"
+                before = self.browser.run(value)
+                self.browser.press("ArrowRight")
+                self.assertIn("deed 42 of", self.text("where"))
+                self.browser.press("ArrowLeft")
+                self.assertIn("deed 41 of", self.text("where"))
+                self.assertEqual(self.browser.run(value), before)
+
+    def test_a_finger(self):
+        self.browser.size(375, 812)
+        self.drop(RECORDS["whole_game"], "#hand=3&deed=41")
+        left, top, wide = self.browser.run("(() => { const it = document.getElementById('table').getBoundingClientRect(); return [it.left, it.top, it.width]; })()")
+        at = lambda part: (left + part * wide, top + wide / 2)
+        for places, deed in [
+            ([at(.8), at(.5), at(.3)], 42), ([at(.2), at(.5), at(.7)], 41), ([at(.9)], 42), ([at(.1)], 41),
+        ]:
+            self.browser.touch(*places)
+            self.wait(f"document.getElementById('where').textContent.includes('deed {deed} ')", 10)
+        self.browser.click(*at(.9))
+        self.wait("document.getElementById('where').textContent.includes('deed 42 ')", 10)
+        # up and down the page is scrolled
+        self.browser.touch(at(.5), (at(.5)[0], top + 60), (at(.5)[0], top + 5))
+        self.assertIn("deed 42 ", self.text("where"))
+
+    def test_the_list_of_deeds_and_the_graph(self):
+        text = RECORDS["whole_game"]
+        self.drop(text, "#hand=3&deed=41&lang=en")
+        hands = model.hands_of(text)
+        said = self.browser.run("[...document.querySelectorAll('#deeds button')].map(it => it.textContent)")
+        self.assertEqual(len(said), len(hands[2]))
+        self.assertIn("discards", said[40])
+        current = "[...document.querySelectorAll('#deeds [aria-current]')].map(it => +it.dataset.deed)"
+        self.assertEqual(self.browser.run(current), [41])
+        self.browser.run("document.querySelector('#deeds [data-deed=\"90\"]').click()")
+        self.assertTrue(self.text("where").startswith("Hand 3 of 9, deed 90 of 144"))
+        self.assertEqual(self.text("deed"), said[89])
+        box = "(() => { const list = document.getElementById('deeds').getBoundingClientRect(), it = document.querySelector('#deeds [aria-current]').getBoundingClientRect();"
+        self.assertTrue(self.browser.run(box + " return it.top >= list.top && it.bottom <= list.bottom + 1; })()"))
+        self.browser.press("ArrowRight")
+        self.assertEqual(self.browser.run(current), [91])
+        points = self.browser.run("[...document.querySelectorAll('#graph .column')].map(it => it.getAttribute('aria-label'))")
+        self.assertEqual(len(points), len(hands))
+        for hand, words in zip(hands, points):
+            scores = [event["scores"] for event in hand if "scores" in event][-1]
+            for score in scores:
+                self.assertIn(f"{score:,}", words)
+        self.browser.run("document.querySelectorAll('#graph .column')[6].dispatchEvent(new MouseEvent('click', {bubbles: true}))")
+        self.assertTrue(self.text("where").startswith("Hand 7 of 9, deed 1 of "))
+        self.browser.run("document.querySelectorAll('#graph .column')[4].focus()")
+        self.browser.press("Enter")
+        self.assertTrue(self.text("where").startswith("Hand 5 of 9, deed 1 of "))
+
+    def test_the_page_plays_by_itself_at_three_speeds(self):
+        self.drop(RECORDS["whole_game"], "#hand=1&deed=1&lang=en")
+        names = self.browser.run("[...document.getElementById('speed').options].map(it => it.value)")
+        self.assertEqual(names, ["slow", "medium", "fast"])
+        # the times that the page asks to be woken after
+        self.browser.run("window.asked = []; window.later = window.setTimeout; window.setTimeout = (act, wait) => { window.asked.push(wait); return later(act, Math.min(wait, 30)); };")
+        asked = {}
+        for speed in names:
+            self.browser.run(f"(() => {{ const it = document.getElementById('speed'); it.value = '{speed}'; it.dispatchEvent(new Event('change')); }})()")
+            self.browser.run("window.asked.length = 0; document.getElementById('play').click()")
+            before = self.text("where")
+            self.wait(f"document.getElementById('where').textContent !== {json.dumps(before)}", 20)
+            self.assertEqual(self.browser.run("document.getElementById('play').getAttribute('aria-label')"), "Pause (space)")
+            self.browser.run("document.getElementById('play').click()")
+            asked[speed] = self.browser.run("Math.max(...window.asked)")
+        self.assertTrue(asked["slow"] > asked["medium"] > asked["fast"] >= 200, asked)
+        self.browser.run("location.hash = '#hand=9&deed=60'")
+        self.wait("document.getElementById('where').textContent.startsWith('Hand 9 of 9, deed 60 ')")
+        self.browser.run("document.activeElement.blur()")
+        self.browser.press(" ")
+        self.wait("document.getElementById('forward').disabled", 60)
+        self.wait("document.getElementById('play').getAttribute('aria-label') === 'Play (space)'", 10)
+
+    def test_the_address_names_hand_deed_seat_and_view(self):
+        self.drop(RECORDS["whole_game"], "#hand=3&deed=41&seat=2&view=seat&lang=de")
+        where = self.text("where")
+        self.assertTrue(where.startswith("Spiel 3 von 9, Zug 41 von 144"), where)
+        self.assertEqual(self.browser.run("[document.getElementById('bottom').value, document.getElementById('view').value]"), ["2", "seat"])
+        self.browser.press("ArrowRight")
+        self.wait("location.hash === '#hand=3&deed=42&seat=2&view=seat&lang=de'", 10)
+
+    def test_one_seats_view_shows_no_other_hand(self):
+        for name in ["each_call", "robbed_kan", "four_riichis"]:
+            self.drop(RECORDS[name], "#hand=1&deed=1&seat=1&view=seat&lang=en")
+            seen, told = self.tables(), list(model.tables_of(RECORDS[name]))
+            flat = [event for hand in model.hands_of(RECORDS[name]) for event in hand]
+            shown = set()
+            for event, left, right in zip(flat, seen, told):
+                if event["type"] == "start_kyoku":
+                    shown = set()
+                elif event["type"] == "hora":
+                    shown.add(event["actor"])
+                elif event["type"] == "ryukyoku":
+                    shown |= {seat for seat in range(4) if "?" not in event["tehais"][seat] and event["tehais"][seat]}
+                for seat in range(4):
+                    wanted = right["hands"][seat]
+                    self.assertEqual(left["hands"][seat], wanted if seat == 1 or seat in shown else ["?"] * len(wanted))
+        self.drop(RECORDS["whole_game"], "#hand=2&deed=1&seat=1&view=seat&lang=en")
+        names = model.events_of(RECORDS["whole_game"])[0]["names"]
+        said = self.browser.run("[...document.querySelectorAll('#deeds button')].map(it => it.textContent)")
+        for event, words in zip(model.hands_of(RECORDS["whole_game"])[1], said):
+            if event["type"] == "tsumo":
+                self.assertEqual(words == f"{names[event['actor']]} draws", event["actor"] != 1)
+        rows = self.browser.run("[...document.querySelectorAll('#seat-rows tr')].map(it => it.children[1].textContent)")
+        self.assertEqual([row == "hidden" for row in rows], [True, False, True, True])
+
+    @unittest.skipUnless(PROGRAM, "no program: set RIICHI_TABLE to its path")
+    def test_shanten_waits_and_what_is_left_at_each_draw(self):
+        answers = {}
+        script = """
+        const rows = [...document.querySelectorAll('#seat-rows tr')];
+        return rows.map(row => [+row.querySelector('[data-shanten]').dataset.shanten,
+          [...row.querySelectorAll('[data-wait]')].map(it => [it.dataset.wait, +it.dataset.left])]);
+        """
+        for name, every in [("whole_game", 1), ("wild_1127", 5), ("wild_31", 9)]:
+            text = {**RECORDS, **WILD}[name]
+            self.drop(text, "#hand=1&deed=1&lang=en")
+            for place, hand in enumerate(model.hands_of(text)):
+                table, moments, wanted = model.Table(hand[0], [0] * 4), [], []
+                for deed, event in enumerate(hand[1:]):
+                    if event["type"] == "tsumo" and deed % every == 0:
+                        moments.append(deed + 2)
+                        before = [(sorted((+table.held[seat]).elements()), [tuple(meld[1]) for meld in table.melds[seat]]) for seat in range(4)]
+                        table.apply(event)
+                        wanted.append([(tiles, melds, lambda kind, seat=seat, left={k: table.left_for(seat, k) for k in KINDS}: left[kind])
+                                       for seat, (tiles, melds) in enumerate(before)])
+                    else:
+                        table.apply(event)
+                shown = self.browser.run(page_script(
+                    f"document.querySelector('#strip [data-hand=\"{place}\"]').click();"
+                    f"return {json.dumps(moments)}.map(deed => {{ document.querySelector(`#deeds [data-deed=\"${{deed}}\"]`).click(); {script} }});"
+                ))
+                for deed, seats, told in zip(moments, wanted, shown):
+                    for seat, ((tiles, melds, left), (shanten, waits)) in enumerate(zip(seats, told)):
+                        words = (*tiles, *("+".join(meld) for meld in melds))
+                        if words not in answers:
+                            said = subprocess.run([PROGRAM, "hand", *words], capture_output=True, text=True, check=True, timeout=60).stdout
+                            answers[words] = re.fullmatch(r"shanten (\d+)\ntarget .*\nwaits (.*)\n", said).groups()
+                        right = answers[words]
+                        self.assertEqual((str(shanten), " ".join(kind for kind, _ in waits) or "-"), right, f"{name} hand {place + 1} deed {deed} seat {seat}")
+                        for kind, count in waits:
+                            self.assertEqual(count, left(kind), f"{name} hand {place + 1} deed {deed} seat {seat} {kind}")
+        self.assertGreater(len(answers), 500)
+
+    def test_words_in_each_language(self):
+        self.drop(RECORDS["whole_game"], "#hand=8&deed=75&lang=en")
+        said = {}
+        for language in ["en", "de", "ja"]:
+            self.browser.run(f"(() => {{ const it = document.getElementById('lang'); it.value = '{language}'; it.dispatchEvent(new Event('change')); }})()")
+            said[language] = self.text("deed")
+            self.assertEqual(self.browser.run("document.documentElement.lang"), language)
+            words = self.browser.run("document.body.innerText")
+            self.assertNotIn("undefined", words)
+            if language != "en":
+                for english in ["Open a record", "tiles left", "Waits", "Deeds of", "line "]:
+                    self.assertNotIn(english, words)
+        self.assertEqual(said, {"en": "b discards North, the drawn tile", "de": "b wirft Nord ab, den gezogenen Stein", "ja": "b 打 北（ツモ切り）"})
+
+    def test_each_deed_is_said_in_words(self):
+        self.drop(RECORDS["each_call"], "#hand=1&deed=1&lang=en")
+        live = self.browser.run("(() => { const it = document.getElementById('deed'); return [it.getAttribute('aria-live'), it.getAttribute('aria-atomic')]; })()")
+        self.assertEqual(live, ["polite", "true"])
+        names = model.events_of(RECORDS["each_call"])[0]["names"]
+        for event in model.hands_of(RECORDS["each_call"])[0][1:]:
+            self.browser.press("ArrowRight")
+            words = self.text("deed")
+            if "actor" in event:
+                self.assertIn(names[event["actor"]], words)
+            for word, kind in [("chi of", "chi"), ("pon of", "pon"), ("open kan of", "daiminkan"), ("concealed kan of", "ankan"),
+                               ("to the pon", "kakan"), ("indicator", "dora"), ("riichi", "reach"), ("discards", "dahai"), ("draws", "tsumo")]:
+                if event["type"] == kind:
+                    self.assertIn(word, words)
+
+    def test_contrast(self):
+        script = """
+        const rgb = text => (text.match(/[0-9.]+/g) || []).map(Number);
+        const light = ([r, g, b]) => [r, g, b].map(it => it / 255).map(it => it <= .04045 ? it / 12.92 : ((it + .055) / 1.055) ** 2.4)
+          .reduce((sum, it, place) => sum + it * [.2126, .7152, .0722][place], 0);
+        const ratio = (a, b) => { const [x, y] = [light(a), light(b)].sort((p, q) => q - p); return (x + .05) / (y + .05); };
+        const groundOf = node => {
+          for (let at = node; at; at = at.parentElement) {
+            const colour = rgb(getComputedStyle(at).backgroundColor);
+            if (colour.length && colour[3] !== 0) return colour;
+          }
+        };
+        const low = [];
+        const check = (name, ink, ground) => { const it = ratio(rgb(ink), ground); if (it < 4.5) low.push(`${name}: ${it.toFixed(2)}`); };
+        const walker = document.createTreeWalker(document.body, NodeFilter.SHOW_TEXT);
+        let count = 0;
+        while (walker.nextNode()) {
+          const node = walker.currentNode.parentElement;
+          if (!walker.currentNode.textContent.trim() || node.closest('script, style, title, #table, :disabled') || !node.getClientRects().length) continue;
+          count += 1;
+          check(walker.currentNode.textContent, getComputedStyle(node)[node.closest('#graph') ? 'fill' : 'color'], groundOf(node));
+        }
+        for (const node of document.querySelectorAll('#table text')) {
+          const group = node.parentNode;
+          const ground = node.classList.contains('letter') ? group.querySelector('.wind') : group.querySelector('.ground');
+          count += 1;
+          check(node.textContent, getComputedStyle(node).fill, rgb(getComputedStyle(ground).fill));
+        }
+        return [count, low];
+        """
+        for dark in [False, True]:
+            for name, moment in [("whole_game", "#hand=6&deed=999"), ("double_ron", "#hand=1&deed=999"), ("four_riichis", "#hand=1&deed=20")]:
+                with self.subTest(name, dark=dark):
+                    self.browser.size(1280, 1600, dark=dark)
+                    self.drop(RECORDS[name], moment + "&lang=en")
+                    count, low = self.browser.run(page_script(script))
+                    self.assertGreater(count, 40)
+                    self.assertEqual(low, [])
+
+    def test_nothing_moves_for_who_wants_no_motion(self):
+        for still in [True, False]:
+            self.browser.size(1100, 800, still=still)
+            self.drop(RECORDS["whole_game"], "#hand=3&deed=41")
+            moves = self.browser.run(page_script("press('ArrowRight'); press('ArrowRight'); return document.getAnimations().length;"))
+            self.assertEqual(moves > 0, not still)
+
+    def test_each_control_is_reached_by_the_keyboard(self):
+        self.drop(RECORDS["whole_game"], "#hand=3&deed=41&lang=en")
+        reached = set()
+        for _ in range(60):
+            self.browser.press("Tab")
+            reached.add(self.browser.run("(at => at.id || at.parentElement?.parentElement?.id || at.parentElement?.id)(document.activeElement)"))
+        for control in ["file", "view", "bottom", "lang", "strip", "hand-back", "back", "play", "forward", "hand-forward", "place", "speed", "deeds"]:
+            self.assertIn(control, reached)
+
+
+# The other tests of the viewer, so that this file runs them all.
+from test_layout import Layout
+from test_parts import Parts
+from test_reading import Reading
 
 if __name__ == "__main__":
     # so that the browser and its folder go too where the tests are told to stop

@@ -1,0 +1,3 @@
+import {start} from "./page.js";
+
+start();

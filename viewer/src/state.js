@@ -1,0 +1,241 @@
+// The state of a hand, and what each deed changes in it.
+import {HIDDEN, kindOf, placeOf, sorted} from "./tiles.js";
+import {countsOf, readingOf} from "./waits.js";
+
+/**
+ * A deed as its line tells it. The fields are those of mjai.
+ * @typedef {{type: string, [field: string]: any}} Deed
+ * @typedef {{pai: string, seat: number, isDrawn: boolean, isRiichi: boolean, isCalled: boolean, isWon: boolean}} Discard
+ * @typedef {{type: string, tiles: string[], called: string | null, target: number, added: string | null}} Meld
+ * @typedef {{
+ *   hand: string[], drawn: string | null, melds: Meld[], river: Discard[],
+ *   riichi: boolean, isReaching: boolean, isReady: boolean, isWinner: boolean, isShown: boolean,
+ *   passed: Set<string>, passedInRiichi: Set<string>,
+ * }} Seat
+ * @typedef {{
+ *   round: string, number: number, honba: number, deposits: number, dealer: number, indicators: string[], hidden: string[],
+ *   left: number, points: number[], deltas: number[], seats: Seat[], turn: number | null,
+ *   last: Discard | null, newest: Discard | null, offered: {pai: string, seat: number} | null, isOver: boolean,
+ * }} State
+ */
+
+/** @param {unknown} value @returns {value is number} */
+export const isSeat = value => typeof value === "number" && Number.isInteger(value) && value >= 0 && value < 4;
+
+/**
+ * The state after the start of a hand.
+ * @param {Deed} deed @param {number[]} points @param {number} deposits @returns {State}
+ */
+export function begin(deed, points, deposits) {
+  /** @param {string[]} hand @returns {Seat} */
+  const seatOf = hand => ({
+    hand: sorted(hand), drawn: null, melds: [], river: [], riichi: false, isReaching: false, isReady: false,
+    isWinner: false, isShown: false, passed: new Set(), passedInRiichi: new Set(),
+  });
+  return {
+    round: deed.bakaze, number: deed.kyoku, honba: deed.honba, deposits: deed.kyotaku ?? deposits, dealer: deed.oya,
+    indicators: [deed.dora_marker], hidden: [], left: 70, points: [...points], deltas: [0, 0, 0, 0],
+    seats: deed.tehais.map(seatOf), turn: null, last: null, newest: null, offered: null, isOver: false,
+  };
+}
+
+/**
+ * Changes the state by the next deed of the hand; throws where the state doesn't allow it.
+ * @param {State} state @param {Deed} deed
+ */
+export function apply(state, deed) {
+  if (state.isOver) throw new Error("the hand is over");
+  state.deltas = [0, 0, 0, 0];
+  if (deed.type !== "hora" && deed.type !== "end_kyoku") letPass(state);
+  DEEDS[deed.type](state, deed, state.seats[deed.actor]);
+  if (isSeat(deed.actor)) state.turn = deed.actor;
+}
+
+/**
+ * Nobody won on the tile that was offered last, so others let it pass.
+ * @param {State} state
+ */
+function letPass(state) {
+  const {offered} = state;
+  if (!offered) return;
+  state.seats.forEach((seat, index) => {
+    if (index === offered.seat) return;
+    seat.passed.add(kindOf(offered.pai));
+    if (seat.riichi || seat.isReaching) seat.passedInRiichi.add(kindOf(offered.pai));
+  });
+  state.offered = null;
+}
+
+/**
+ * Takes a tile of the seat's hand away, or a hidden one where the hand is hidden.
+ * @param {Seat} seat @param {string} tile
+ */
+function take(seat, tile) {
+  const place = [tile, HIDDEN].map(wanted => seat.hand.indexOf(wanted)).find(found => found >= 0);
+  if (place !== undefined) seat.hand.splice(place, 1);
+  else if (seat.drawn === tile || seat.drawn === HIDDEN) seat.drawn = null;
+  else throw new Error(`the seat holds no ${tile}`);
+}
+
+/**
+ * The drawn tile goes among the others.
+ * @param {Seat} seat
+ */
+function settle(seat) {
+  if (seat.drawn) seat.hand = sorted([...seat.hand, seat.drawn]);
+  seat.drawn = null;
+}
+
+/** @param {State} state @param {Deed} deed @param {Seat} seat */
+function call(state, deed, seat) {
+  const tile = state.last;
+  if (!tile || tile.seat !== deed.target || tile.pai !== deed.pai || tile.isCalled) throw new Error(`no such ${deed.pai} was discarded last`);
+  for (const held of deed.consumed) take(seat, held);
+  tile.isCalled = true;
+  seat.melds.push({type: deed.type, tiles: deed.consumed, called: deed.pai, target: deed.target, added: null});
+}
+
+/** @param {State} state @param {Deed} deed */
+function settlePoints(state, deed) {
+  state.points = deed.scores;
+  state.deltas = deed.deltas;
+}
+
+/** @type {Record<string, (state: State, deed: Deed, seat: Seat) => void>} */
+const DEEDS = {
+  start_kyoku() { throw new Error("the hand has begun already"); },
+  tsumo(state, deed, seat) {
+    if (seat.drawn) throw new Error("the seat has drawn already");
+    seat.drawn = deed.pai;
+    state.left -= 1;
+    state.last = null;
+  },
+  dahai(state, deed, seat) {
+    if (deed.tsumogiri && seat.drawn !== deed.pai && seat.drawn !== HIDDEN) throw new Error(`the seat hasn't drawn this ${deed.pai}`);
+    if (deed.tsumogiri) seat.drawn = null;
+    else take(seat, deed.pai);
+    settle(seat);
+    state.last = {pai: deed.pai, seat: deed.actor, isDrawn: deed.tsumogiri, isRiichi: seat.isReaching, isCalled: false, isWon: false};
+    state.newest = state.last;
+    state.offered = {pai: deed.pai, seat: deed.actor};
+    seat.passed.clear();
+    if (seat.isReaching) seat.riichi = true;
+    seat.isReaching = false;
+    seat.river.push(state.last);
+  },
+  chi: call,
+  pon: call,
+  daiminkan: call,
+  ankan(state, deed, seat) {
+    settle(seat);
+    for (const tile of deed.consumed) take(seat, tile);
+    seat.melds.push({type: "ankan", tiles: deed.consumed, called: null, target: deed.actor, added: null});
+  },
+  kakan(state, deed, seat) {
+    settle(seat);
+    const meld = seat.melds.find(it => it.type === "pon" && it.called && kindOf(it.called) === kindOf(deed.pai));
+    if (!meld) throw new Error(`the seat has no pon of ${deed.pai}`);
+    take(seat, deed.pai);
+    Object.assign(meld, {type: "kakan", added: deed.pai});
+    state.last = null;
+    state.offered = {pai: deed.pai, seat: deed.actor};
+  },
+  dora(state, deed) {
+    if (state.indicators.length === 5) throw new Error("there are five indicators already");
+    state.indicators.push(deed.dora_marker);
+  },
+  reach(state, deed, seat) {
+    seat.isReaching = true;
+  },
+  reach_accepted(state, deed, seat) {
+    seat.riichi = true;
+    state.deposits += 1;
+    settlePoints(state, deed);
+  },
+  hora(state, deed, seat) {
+    if (seat.isWinner) throw new Error("the seat has won already");
+    if (deed.hora_tehais) seat.hand = sorted(deed.hora_tehais);
+    seat.drawn = deed.pai;
+    seat.isWinner = seat.isShown = true;
+    if (state.last && deed.target !== deed.actor) state.last.isWon = true;
+    if (deed.uradora_markers.length) state.hidden = deed.uradora_markers;
+    state.deposits = 0;
+    settlePoints(state, deed);
+  },
+  ryukyoku(state, deed) {
+    state.seats.forEach((seat, index) => {
+      const hand = deed.tehais?.[index] ?? [];
+      seat.isReady = deed.tenpais?.[index] ?? false;
+      seat.isShown = hand.length > 0 && !hand.includes(HIDDEN);
+      if (seat.isShown && seat.hand.includes(HIDDEN)) Object.assign(seat, {hand: sorted(hand), drawn: null});
+    });
+    settlePoints(state, deed);
+  },
+  end_kyoku(state) {
+    state.isOver = true;
+  },
+};
+
+/**
+ * The state of a hand after so many of its deeds.
+ * @param {import("./read.js").Hand} hand @param {number} deed @returns {State}
+ */
+export function stateAt(hand, deed) {
+  const state = begin(hand.deeds[0].deed, hand.start, hand.deposits);
+  for (const {deed: next} of hand.deeds.slice(1, deed)) apply(state, next);
+  return state;
+}
+
+/**
+ * The tiles of a meld.
+ * @param {Meld} meld @returns {string[]}
+ */
+export const tilesOf = meld => [...meld.tiles, ...[meld.called, meld.added].flatMap(tile => tile === null ? [] : [tile])];
+
+/**
+ * What is left of each kind as a seat sees it: of its own tiles, of all melds, of the rivers and of the indicators.
+ * @param {State} state @param {number} index
+ */
+function leftFor(state, index) {
+  const own = state.seats[index];
+  const seen = [...own.hand, ...(own.drawn ? [own.drawn] : []), ...state.indicators, ...state.hidden];
+  for (const seat of state.seats) {
+    seen.push(...seat.melds.flatMap(tilesOf), ...seat.river.filter(tile => !tile.isCalled).map(tile => tile.pai));
+  }
+  return countsOf(seen.filter(tile => tile !== HIDDEN)).map(count => Math.max(0, 4 - count));
+}
+
+/**
+ * How near a seat's hand is: shanten and the waits of its thirteen tiles, of who has drawn before the draw, with the
+ * tiles of each wait that it doesn't see. Null where the hand is hidden. After a call the hand has a tile too many: its
+ * shanten is that after the best discard, and it has no waits.
+ * @typedef {{shanten: number, waits: {kind: string, left: number}[], isFuriten: boolean}} Nearness
+ * @param {State} state @param {number} index @returns {Nearness | null}
+ */
+export function nearnessOf(state, index) {
+  const seat = state.seats[index];
+  if (seat.hand.includes(HIDDEN)) return null;
+  const {shanten, waits} = readingOf(seat.hand, seat.melds.map(tilesOf));
+  const left = leftFor(state, index);
+  const own = new Set(seat.river.map(tile => kindOf(tile.pai)));
+  const isFuriten = waits.some(kind => own.has(kind) || seat.passed.has(kind) || seat.passedInRiichi.has(kind));
+  return {shanten, waits: waits.map(kind => ({kind, left: left[placeOf(kind)]})), isFuriten};
+}
+
+
+/**
+ * The state as one seat sees it: others' hands are hidden, but those that were shown.
+ * @param {State} state @param {number} viewer @returns {State}
+ */
+export function seenBy(state, viewer) {
+  const seats = state.seats.map((seat, index) => index === viewer || seat.isShown ? seat : {
+    ...seat, hand: seat.hand.map(() => HIDDEN), drawn: seat.drawn && HIDDEN,
+  });
+  return {...state, seats};
+}
+
+/**
+ * A deed as one seat is told it.
+ * @param {Deed} deed @param {number} viewer @returns {Deed}
+ */
+export const toldTo = (deed, viewer) => deed.type === "tsumo" && deed.actor !== viewer ? {...deed, pai: HIDDEN} : deed;
