@@ -515,6 +515,7 @@ class Viewer(Page):
 
 # The other tests of the viewer, so that this file runs them all.
 from test_layout import Layout
+from test_live import Live
 from test_parts import Parts
 from test_reading import Reading
 
