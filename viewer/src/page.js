@@ -243,9 +243,14 @@ function drawChoices() {
   [...choice("tables").options].forEach((option, index) => { option.disabled = page.games[index].hands.length === 0; });
 }
 
-/** @param {string} id @param {string[][]} options @param {string} value */
+/**
+ * Gives a choice its options; one that has them already stays as it is, since it may be open.
+ * @param {string} id @param {string[][]} options @param {string} value
+ */
 function fill(id, options, value) {
-  choice(id).replaceChildren(...options.map(([key, words]) => element("option", words, {value: key})));
+  const key = JSON.stringify(options);
+  if (find(id).dataset.drawn !== key) choice(id).replaceChildren(...options.map(([name, words]) => element("option", words, {value: name})));
+  find(id).dataset.drawn = key;
   choice(id).value = value;
 }
 
