@@ -1,5 +1,5 @@
 #!/usr/bin/env bash
-# Tests what stands outside crates/: the example players, the bridge, the league, the viewer and the release, and checks the
+# Tests what stands outside crates/: the example players, the bridge, the league, the viewer, the page's library and the release, and checks the
 # types of their Python. It proves nothing.
 #
 # usage: test-outside.sh [PROGRAM]
@@ -13,7 +13,7 @@ program=${1:-crates/riichi_table/out/riichi_table}
 export PYTHONDONTWRITEBYTECODE=1
 
 # The Python that `mypy --strict` takes, as patterns, and the folders that it imports from.
-TYPED="examples/*.py examples/tests/*.py league/export.py league/tests/test_export.py viewer/*.py viewer/tests/*.py tools/*.py tools/tests/*.py"
+TYPED="examples/*.py examples/tests/*.py league/*.py league/tests/*.py viewer/*.py viewer/tests/*.py bindings/page/tests/*.py tools/*.py tools/tests/*.py"
 export MYPYPATH=examples:examples/tests:league:viewer:viewer/tests
 
 # The files of tests, and the seconds that each may take.
@@ -26,9 +26,14 @@ TESTS='
 200 examples/tests/test_tables.py
 120 league/tests/test_export.py
 60 league/tests/test_results.py
+60 league/tests/test_schedule.py
+60 league/tests/test_split.py
 400 league/tests/test_league.py
+400 league/tests/test_faults.py
+400 league/tests/test_cluster.py
 300 tools/tests/test_release.py
-400 viewer/tests/test_viewer.py
+600 viewer/tests/test_viewer.py
+60 bindings/page/tests/test_page.py
 '
 
 say() {
