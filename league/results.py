@@ -34,7 +34,7 @@ def t95(freedom: int) -> float:
 
 def events_of(record: str) -> list[dict[str, Any]]:
     """The events of a record, without its header and walls."""
-    return [json.loads(line) for line in record.splitlines() if line.startswith("{")]
+    return [json.loads(line) for line in record.split("\n") if line.startswith("{")]
 
 
 def counted(record: str) -> dict[str, Row]:

@@ -9,6 +9,7 @@ names of the rooms. The exit code is 1 where the file isn't one of `tables`, and
 from __future__ import annotations
 
 import pathlib
+import re
 import sys
 
 
@@ -19,7 +20,7 @@ class Malformed(Exception):
 def split(text: str) -> list[str]:
     """The records of the tables, in their order."""
     records: list[list[str]] = []
-    for number, line in enumerate(text.splitlines(keepends=True), 1):
+    for number, line in enumerate(re.findall(r"[^\n]*\n|[^\n]+", text), 1):
         if line == f"table {len(records)}\n":
             records.append([])
         elif line.startswith("table "):

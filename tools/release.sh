@@ -29,7 +29,7 @@ changed=$(git status --porcelain -- README.md docs examples league viewer)
 SOURCE_DATE_EPOCH=$(git log -1 --format=%ct)
 export SOURCE_DATE_EPOCH
 version=0.$(date -d "@$SOURCE_DATE_EPOCH" +%Y%m%d)+git${commit:0:10}${changed:+.changed}
-logic=$(sed -n 's/.*`[^`]* logic \([0-9a-f]*\)`.*/\1/p' README.md | head -n 1)
+logic=$(sed -n 's/.*the logic `\([0-9a-f]\{16\}\)`.*/\1/p' README.md | head -n 1)
 [ -n "$logic" ] || fail "README.md names no logic"
 sum=$(sha256sum "$program" | cut -d ' ' -f 1)
 architecture=$(dpkg --print-architecture)
@@ -46,7 +46,7 @@ mkdir -p "$root/DEBIAN" "$usr/bin" "$share" "$doc" "$usr/share/man/man1" "$folde
 # The program, the scripts with their commands, the pages to read.
 install -m 755 "$program" "$usr/bin/riichi_table"
 git ls-files -z examples league viewer | grep -zv '/tests/' | tar -cf - --null -T - | tar -xf - -C "$share"
-for script in examples/play.sh examples/bridge.py league/league.py league/export.py viewer/page.py; do
+for script in examples/play.sh examples/bridge.py league/league.py league/export.py league/split.py viewer/page.py viewer/live.py; do
     base=${script##*/}
     ln -s "../share/$name/$script" "$usr/bin/$name-${base%.*}"
 done

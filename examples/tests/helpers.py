@@ -8,21 +8,18 @@ import os
 import pathlib
 import socket
 import subprocess
+import sys
 import tempfile
 import time
 import unittest
 
 EXAMPLES = pathlib.Path(__file__).resolve().parent.parent
 ROOT = EXAMPLES.parent
+sys.path.insert(0, str(ROOT / "league"))
+from processes import free_port as free_port
+
 PROGRAM = os.environ.get("RIICHI_TABLE", "")
 wants_program = unittest.skipUnless(PROGRAM, "no program: set RIICHI_TABLE to its path")
-
-
-def free_port() -> int:
-    """A port of this machine that nobody listens on."""
-    with socket.create_server(("127.0.0.1", 0)) as listener:
-        port: int = listener.getsockname()[1]
-        return port
 
 
 def connect(port: int) -> socket.socket:

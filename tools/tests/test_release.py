@@ -99,7 +99,7 @@ class Release(unittest.TestCase):
 
     def test_it_says_from_what_it_was_made(self) -> None:
         commit = subprocess.run(["git", "rev-parse", "HEAD"], cwd=helpers.ROOT, capture_output=True, text=True, check=True).stdout.strip()
-        logic = re.findall(r"`\S+ logic ([0-9a-f]{16})`", (helpers.ROOT / "README.md").read_text(encoding="utf-8"))[0]
+        logic = re.findall(r"the logic `([0-9a-f]{16})`", (helpers.ROOT / "README.md").read_text(encoding="utf-8"))[0]
         program = hashlib.sha256(pathlib.Path(helpers.PROGRAM).read_bytes()).hexdigest()
         told = (self.usr / "share/doc/riichi-table/RELEASE").read_text()
         control = subprocess.run(["dpkg-deb", "-f", self.package], capture_output=True, text=True, check=True).stdout
@@ -125,7 +125,7 @@ class Release(unittest.TestCase):
         for name in ("examples/customs.py", "examples/caller.py", "league/walls.py", "league/bots.json", "viewer/index.html"):
             self.assertIn(f"share/riichi-table/{name}", held)
         commands = sorted(name for name in held if name.startswith("bin/"))
-        wanted = ["bridge", "export", "league", "page", "play"]
+        wanted = ["bridge", "export", "league", "live", "page", "play", "split"]
         self.assertEqual(commands, [*(f"bin/riichi-table-{name}" for name in wanted), "bin/riichi_table"])
         for name in commands:
             self.assertTrue(os.access(self.usr / name, os.X_OK), name)
@@ -151,7 +151,7 @@ class Release(unittest.TestCase):
         record = (folder / "record.txt").read_bytes()
         self.assertTrue(helpers.is_sound(record))
         self.assertIn(record.split(b"\n")[-2].decode(), (folder / "record.html").read_text(encoding="utf-8"))
-        for command in ("bridge", "league", "export"):
+        for command in ("bridge", "league", "export", "live"):
             told = subprocess.run([f"riichi-table-{command}", "--help"], cwd=folder, env=env, capture_output=True, text=True, timeout=60)
             self.assertEqual((told.returncode, told.stderr), (0, ""))
         with open(folder / "game.mjson", "wb") as file:

@@ -5,7 +5,7 @@ from collections import Counter
 
 def events_of(text):
     """The events of a record, without its header and walls."""
-    return [json.loads(line) for line in text.splitlines() if line.startswith("{")]
+    return [json.loads(line) for line in text.split("\n") if line.startswith("{")]
 
 
 def hands_of(text):
