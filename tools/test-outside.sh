@@ -1,6 +1,6 @@
 #!/usr/bin/env bash
-# Tests what stands outside crates/: the example players, the bridge, the league, the viewer, the page's library and the release, and checks the
-# types of their Python. It proves nothing.
+# Tests what stands outside crates/: the example players, the bridge, the league, the viewer, the page's library and the
+# release, and checks the types of their Python. It proves nothing.
 #
 # usage: test-outside.sh [PROGRAM]
 #

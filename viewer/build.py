@@ -3,6 +3,8 @@
 
 usage: build.py
 """
+from __future__ import annotations
+
 import pathlib
 import re
 
@@ -11,14 +13,14 @@ HERE = pathlib.Path(__file__).resolve().parent
 PARTS = ["tiles", "waits", "state", "read", "texts", "tell", "dom", "faces", "table", "panels", "page", "main"]
 
 
-def part(name):
+def part(name: str) -> str:
     """The text of a part, without the words that tie it to the others."""
     text = (HERE / "src" / f"{name}.js").read_text(encoding="utf-8")
     text = re.sub(r'^import \{.*?\} from ".*?";\n', "", text, flags=re.MULTILINE | re.DOTALL)
     return re.sub(r"^export ", "", text, flags=re.MULTILINE).strip()
 
 
-def page():
+def page() -> str:
     """The text of index.html."""
     shell, style = ((HERE / "src" / name).read_text(encoding="utf-8") for name in ["page.html", "style.css"])
     script = "\n\n".join(map(part, PARTS))

@@ -7,10 +7,13 @@ Open http://127.0.0.1:PORT/ in a browser. FILE is a record, what `riichi_table o
 it may not be there yet. All that stands in it is shown. With --observe, PROGRAM (riichi_table) makes the public stream of the
 record: of a hand that is being played no hidden tile leaves this program.
 """
+from __future__ import annotations
+
 import argparse
 import http.server
 import os
 import pathlib
+import socket
 import subprocess
 import sys
 import time
@@ -27,11 +30,11 @@ class Refused(Exception):
 class Source:
     """The lines of a file that grows, as they may be shown."""
 
-    def __init__(self, record, program=None):
+    def __init__(self, record: str, program: str | None = None) -> None:
         self.record = pathlib.Path(record)
         self.program = program
 
-    def state(self):
+    def state(self) -> tuple[int, ...] | None:
         """What changes whenever the file does."""
         try:
             stat = self.record.stat()
@@ -39,7 +42,7 @@ class Source:
             return None
         return stat.st_ino, stat.st_size, stat.st_mtime_ns
 
-    def lines(self):
+    def lines(self) -> list[str]:
         """The whole lines of the file, or of its public stream."""
         try:
             text = self.record.read_bytes()
@@ -61,8 +64,9 @@ class Handler(http.server.BaseHTTPRequestHandler):
     """Gives the page at /, and the lines as server-sent events at /events."""
 
     protocol_version = "HTTP/1.1"
+    server: Server
 
-    def do_GET(self):
+    def do_GET(self) -> None:
         # A page of another site that got this address by another name is told nothing.
         if self.headers.get("Host", "").rsplit(":", 1)[0] not in ("127.0.0.1", "localhost"):
             self.send_error(403)
@@ -73,7 +77,7 @@ class Handler(http.server.BaseHTTPRequestHandler):
         else:
             self.send_error(404)
 
-    def give_page(self):
+    def give_page(self) -> None:
         page = VIEWER.read_text(encoding="utf-8").replace("<head>", '<head>\n<meta name="live" content="events">', 1).encode()
         self.send_response(200)
         self.send_header("Content-Type", "text/html; charset=utf-8")
@@ -82,7 +86,7 @@ class Handler(http.server.BaseHTTPRequestHandler):
         self.end_headers()
         self.wfile.write(page)
 
-    def give_events(self):
+    def give_events(self) -> None:
         self.send_response(200)
         self.send_header("Content-Type", "text/event-stream; charset=utf-8")
         self.send_header("Cache-Control", "no-store")
@@ -94,9 +98,11 @@ class Handler(http.server.BaseHTTPRequestHandler):
         except (BrokenPipeError, ConnectionResetError):
             pass
 
-    def follow(self, source):
+    def follow(self, source: Source) -> None:
         """Tells all lines, and then each that comes; where the told lines are there no more, all from the first one again."""
-        told, seen, breath = None, (), 0
+        told: list[str] | None = None
+        seen: tuple[int, ...] | None = ()
+        breath = 0.0
         while True:
             state = source.state()
             if state != seen:
@@ -108,7 +114,7 @@ class Handler(http.server.BaseHTTPRequestHandler):
                 breath = time.monotonic()
             time.sleep(LOOK)
 
-    def tell(self, source, told):
+    def tell(self, source: Source, told: list[str] | None) -> list[str] | None:
         """Tells what came since `told`; the lines that are told now."""
         try:
             lines = source.lines()
@@ -122,10 +128,10 @@ class Handler(http.server.BaseHTTPRequestHandler):
             self.event("message", lines[len(told):])
         return lines
 
-    def event(self, kind, lines):
+    def event(self, kind: str, lines: list[str]) -> None:
         self.wfile.write((f"event: {kind}\n" + "".join(f"data: {line}\n" for line in lines) + "\n").encode())
 
-    def log_message(self, *_):
+    def log_message(self, *_: object) -> None:
         pass
 
 
@@ -134,17 +140,17 @@ class Server(http.server.ThreadingHTTPServer):
 
     daemon_threads = True
 
-    def __init__(self, port, source):
+    def __init__(self, port: int, source: Source) -> None:
         self.source = source
         super().__init__(("127.0.0.1", port), Handler)
 
-    def handle_error(self, request, client_address):
+    def handle_error(self, request: socket.socket | tuple[bytes, socket.socket], client_address: tuple[str, int]) -> None:
         """A browser may go at any time."""
         if not isinstance(sys.exc_info()[1], ConnectionError):
             super().handle_error(request, client_address)
 
 
-def main():
+def main() -> None:
     parser = argparse.ArgumentParser(usage=__doc__.split("usage: ")[1].split("\n")[0], add_help=True)
     parser.add_argument("port", type=int)
     parser.add_argument("--record", required=True)

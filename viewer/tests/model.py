@@ -1,16 +1,21 @@
 """What a record says of the table after each of its deeds, by a model of its own."""
+from __future__ import annotations
+
 import json
 from collections import Counter
+from typing import Any, Iterator
+
+Event = dict[str, Any]
 
 
-def events_of(text):
+def events_of(text: str) -> list[Event]:
     """The events of a record, without its header and walls."""
     return [json.loads(line) for line in text.split("\n") if line.startswith("{")]
 
 
-def hands_of(text):
+def hands_of(text: str) -> list[list[Event]]:
     """The events of each hand, hand after hand."""
-    hands = []
+    hands: list[list[Event]] = []
     for event in events_of(text):
         if event["type"] == "start_kyoku":
             hands.append([])
@@ -19,7 +24,7 @@ def hands_of(text):
     return hands
 
 
-def dora_of(indicator):
+def dora_of(indicator: str) -> str:
     """The kind that an indicator makes a dora: the next one of its suit, of the winds or of the dragons, round and round."""
     row = next(row for row in ["ESWN", "PFC"] if indicator in row) if len(indicator) == 1 else "123456789"
     return row[(row.index(indicator[0]) + 1) % len(row)] + indicator[1:2]
@@ -28,25 +33,25 @@ def dora_of(indicator):
 class Table:
     """One hand after some of its events."""
 
-    def __init__(self, start, points):
-        self.held = [Counter(hand) for hand in start["tehais"]]
-        self.melds = [[], [], [], []]
-        self.rivers = [[], [], [], []]
+    def __init__(self, start: Event, points: list[int]) -> None:
+        self.held: list[Counter[str]] = [Counter(hand) for hand in start["tehais"]]
+        self.melds: list[list[list[Any]]] = [[], [], [], []]
+        self.rivers: list[list[list[Any]]] = [[], [], [], []]
         self.points = list(points)
         self.honba = start["honba"]
         self.deposits = start["kyotaku"]
-        self.indicators = [start["dora_marker"]]
-        self.hidden = []
+        self.indicators: list[str] = [start["dora_marker"]]
+        self.hidden: list[str] = []
         self.left = 70
-        self.says_riichi = None
-        self.newest = None
+        self.says_riichi: int | None = None
+        self.newest: list[int] | None = None
 
-    def lay(self, seat, tiles):
+    def lay(self, seat: int, tiles: list[str]) -> None:
         for tile in tiles:
             self.held[seat][tile if self.held[seat][tile] else "?"] -= 1
 
-    def apply(self, event):
-        kind, seat = event["type"], event.get("actor")
+    def apply(self, event: Event) -> None:
+        kind, seat = event["type"], event.get("actor", -1)
         if kind == "tsumo":
             self.held[seat][event["pai"]] += 1
             self.left -= 1
@@ -79,7 +84,7 @@ class Table:
         self.deposits += kind == "reach_accepted"
         self.points = event.get("scores", self.points)
 
-    def seen(self):
+    def seen(self) -> dict[str, Any]:
         """The table as plain lists, which the page's are compared with."""
         return {
             "hands": [sorted((+hand).elements()) for hand in self.held],
@@ -93,7 +98,7 @@ class Table:
             "dora": sum(self.is_bright(tile) for tile in self.on_the_table()),
         }
 
-    def on_the_table(self):
+    def on_the_table(self) -> Iterator[str]:
         """Every tile that lies face up outside the middle; of a concealed kan the two inner ones do, and a called one lies twice."""
         yield from (tile for hand in self.held for tile in (+hand).elements() if tile != "?")
         yield from (tile[0] for river in self.rivers for tile in river)
@@ -101,12 +106,11 @@ class Table:
             for kind, tiles, _ in melds:
                 yield from sorted(tiles, key=len)[2:] if kind == "ankan" else tiles
 
-    def is_bright(self, tile):
+    def is_bright(self, tile: str) -> bool:
         """Whether a tile is red or dora."""
         return len(tile) == 3 or any(tile[:2] == dora_of(indicator) for indicator in [*self.indicators, *self.hidden])
 
-
-    def left_for(self, seat, kind):
+    def left_for(self, seat: int, kind: str) -> int:
         """How many tiles of a kind the seat doesn't see."""
         seen = [tile for tile in self.held[seat].elements()]
         seen += [tile for melds in self.melds for meld in melds for tile in meld[1]]
@@ -114,7 +118,7 @@ class Table:
         return 4 - sum(tile[:2] == kind for tile in seen + self.indicators + self.hidden)
 
 
-def tables_of(text):
+def tables_of(text: str) -> Iterator[dict[str, Any]]:
     """The table after each deed of each hand, in order."""
     points = [30000] * 4
     for hand in hands_of(text):

@@ -6,11 +6,14 @@ can be played. Usually some moments of each are measured; with the word `--every
 size, which takes an hour: the table at each, the whole page at each tenth, and in dark mode, where nothing but colours differs, the
 usual moments.
 """
+from __future__ import annotations
+
 import gzip
 import json
 import pathlib
 import sys
 import unittest
+from typing import Iterator, Sequence
 
 sys.path.insert(0, str(pathlib.Path(__file__).parent))
 import browser
@@ -91,11 +94,11 @@ const goTo = (hand, deed) => {
 """
 
 
-def worst_hand():
+def worst_hand() -> str:
     """An mjai log of one hand that no game has: four kans of each seat, twenty-seven discards of each, all in riichi."""
     names = ["W" * 64, "雀" * 21, "a name of sixty-four bytes, with some spaces in it, and an end..", "ﷺ" * 21]
     kinds = [f"{number}{suit}" for suit in "mps" for number in range(1, 10)] + list("ESWNPFC")
-    events = [{"type": "start_game", "names": names}]
+    events: list[model.Event] = [{"type": "start_game", "names": names}]
     hands = [[kind for kind in kinds[4 * seat:4 * seat + 4] for _ in range(3)] + [kinds[16 + seat]] for seat in range(4)]
     events.append({"type": "start_kyoku", "bakaze": "S", "dora_marker": "5mr", "kyoku": 4, "honba": 12, "kyotaku": 11, "oya": 3,
                    "scores": [-110800, -10800, 233000, -20900], "tehais": hands})
@@ -132,7 +135,7 @@ def worst_hand():
     return "".join(json.dumps(event, ensure_ascii=False) + "\n" for event in events)
 
 
-def moments_of(text):
+def moments_of(text: str) -> Iterator[list[int]]:
     """The moments of a record to look at: of each hand the end, and where a seat has most discards or melds."""
     for place, hand in enumerate(model.hands_of(text)):
         deeds = {len(hand)} if place % 4 == 0 else set()
@@ -156,15 +159,15 @@ class Layout(Page):
 
     every_deed = False
 
-    def script(self, body):
+    def script(self, body: str) -> str:
         return "(() => {" + MEASURE + body + "})()"
 
-    def moments(self, text):
+    def moments(self, text: str) -> list[list[int]]:
         if self.every_deed:
             return [[place, deed + 1] for place, hand in enumerate(model.hands_of(text)) for deed in range(len(hand))]
         return list(moments_of(text))
 
-    def check(self, text, moments, sizes=tuple(SIZES), language="en"):
+    def check(self, text: str, moments: list[list[int]], sizes: Sequence[tuple[int, int]] = tuple(SIZES), language: str = "en") -> None:
         """Goes to each moment and measures it, in each size, light and dark."""
         for width, height in sizes:
             for dark in [False, True]:
@@ -179,7 +182,7 @@ class Layout(Page):
                     ))
                     self.assertEqual(found, [])
 
-    def test_wild_games(self):
+    def test_wild_games(self) -> None:
         self.assertEqual(len(WILD), 12)
         for place, path in enumerate(WILD):
             with self.subTest(path.name):
@@ -189,7 +192,7 @@ class Layout(Page):
                 if self.every_deed:
                     print(f"[{path.name}: each of {len(self.moments(text))} deeds]", file=sys.stderr, flush=True)
 
-    def test_the_worst_hand_in_each_language(self):
+    def test_the_worst_hand_in_each_language(self) -> None:
         text = worst_hand()
         count = len(model.hands_of(text)[0])
         for language in ["en", "de", "ja"]:
@@ -197,7 +200,7 @@ class Layout(Page):
                 moments = [[0, deed] for deed in range(1, count + 1, 1 if self.every_deed else 31)] + [[0, count]]
                 self.check(text, moments, SIZES if self.every_deed or language == "en" else SIZES[1:2], language=language)
 
-    def test_kans_lie_apart(self):
+    def test_kans_lie_apart(self) -> None:
         for name in ["four_kans", "each_call", "robbed_kan"]:
             text = (HERE / "records" / f"{name}.txt").read_text()
             self.check(text, self.moments(text), SIZES[:1])

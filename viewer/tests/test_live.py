@@ -2,22 +2,22 @@
 
 It wants the environment's RIICHI_TABLE, the path of the program, for the public stream.
 """
+from __future__ import annotations
+
 import http.client
-import os
 import pathlib
 import re
 import subprocess
 import sys
-import tempfile
 import unittest
 
-sys.path.insert(0, str(pathlib.Path(__file__).parent))
+HERE = pathlib.Path(__file__).resolve().parent
+sys.path[:0] = [str(HERE), str(HERE.parent.parent / "examples" / "tests")]
 import browser
+import helpers
 import model
 from driver import Page
 
-HERE = pathlib.Path(__file__).parent
-PROGRAM = os.environ.get("RIICHI_TABLE")
 RECORD = (HERE / "records" / "observed.record.txt").read_text()
 FORWARD = "document.getElementById('forward').disabled"
 HANDS = "[...document.querySelectorAll('#table .hand [data-tile]')].map(it => it.dataset.tile)"
@@ -27,26 +27,27 @@ HANDS = "[...document.querySelectorAll('#table .hand [data-tile]')].map(it => it
 class Live(Page):
     """A game that is looked at while it is played."""
 
-    def serve(self, *words):
-        folder = tempfile.TemporaryDirectory()
-        self.addCleanup(folder.cleanup)
-        self.record = pathlib.Path(folder.name, "record.txt")
+    def serve(self, *words: str) -> None:
+        self.record = helpers.folder_of(self) / "record.txt"
         server = subprocess.Popen(
             [sys.executable, HERE.parent / "live.py", "0", "--record", self.record, *words], stdout=subprocess.PIPE, text=True)
+        assert server.stdout
         self.addCleanup(server.stdout.close)
         self.addCleanup(server.wait)
         self.addCleanup(server.kill)
         self.address = server.stdout.readline().strip()
-        self.port = int(re.fullmatch(r"http://127.0.0.1:(\d+)/", self.address).group(1))
+        found = re.fullmatch(r"http://127.0.0.1:(\d+)/", self.address)
+        assert found
+        self.port = int(found[1])
 
-    def grow(self, text):
+    def grow(self, text: str) -> None:
         with self.record.open("a") as file:
             file.write(text)
 
-    def at(self, hand, deed):
+    def at(self, hand: int, deed: int) -> None:
         self.wait(f"document.getElementById('where').textContent.startsWith('Hand {hand} of {hand}, deed {deed} of {deed},')", 20)
 
-    def test_a_record_that_grows(self):
+    def test_a_record_that_grows(self) -> None:
         self.serve()
         self.browser.open(self.address + "#lang=en")
         self.assertTrue(self.browser.run("!document.getElementById('empty').hidden"))
@@ -70,9 +71,9 @@ class Live(Page):
         self.record.write_text("".join(lines[:first + 2]))
         self.wait("document.getElementById('where').textContent.startsWith('Hand 1 of 1, deed 2 of 2,')", 20)
 
-    @unittest.skipUnless(PROGRAM, "no program: set RIICHI_TABLE to its path")
-    def test_the_public_stream_of_a_record_shows_no_hand_before_its_end(self):
-        self.serve("--observe", PROGRAM)
+    @helpers.wants_program
+    def test_the_public_stream_of_a_record_shows_no_hand_before_its_end(self) -> None:
+        self.serve("--observe", helpers.PROGRAM)
         self.browser.open(self.address + "#lang=en")
         hands = model.hands_of(RECORD)
         head = RECORD[:RECORD.index('{"type":"start_kyoku"')]
@@ -91,7 +92,7 @@ class Live(Page):
         self.grow("{}\n")
         self.wait("document.getElementById('problem').textContent.startsWith('bad record at line ')", 20)
 
-    def test_only_this_machine_and_this_name_are_answered(self):
+    def test_only_this_machine_and_this_name_are_answered(self) -> None:
         self.serve()
         for host, path, status in [("127.0.0.1", "/", 200), ("localhost:80", "/", 200), ("example.org", "/", 403), ("127.0.0.1", "/record", 404)]:
             link = http.client.HTTPConnection("127.0.0.1", self.port, timeout=30)

@@ -1,4 +1,6 @@
-"""What the page reads beside records: other programs' mjai logs, gzipped files, and the records of several tables."""
+"""What the page reads beside records: ordinary mjai, other programs' logs, gzipped files, and the records of several tables."""
+from __future__ import annotations
+
 import gzip
 import json
 import pathlib
@@ -6,22 +8,23 @@ import sys
 import tempfile
 import unittest
 
-sys.path.insert(0, str(pathlib.Path(__file__).parent))
+HERE = pathlib.Path(__file__).resolve().parent
+sys.path[:0] = [str(HERE), str(HERE.parent.parent / "league")]
 import browser
+import export
 import model
 from driver import ADDRESS, Page
 
-HERE = pathlib.Path(__file__).parent
 RECORD = (HERE / "records" / "four_riichis.txt").read_text()
 KAN = (HERE / "records" / "robbed_kan.txt").read_text()
 POINTS = "[...document.querySelectorAll('#table .points')].map(it => +it.textContent.replace(',', '').replace('−', '-'))"
 
 
-def line_of(event):
+def line_of(event: model.Event) -> str:
     return json.dumps(event) + "\n"
 
 
-def as_mortal(text, start):
+def as_mortal(text: str, start: int) -> str:
     """A record as Mortal's logs have it: points at the start of hands, and few fields in what moves points."""
     points, lines = [start] * 4, []
     for event in model.events_of(text):
@@ -43,7 +46,7 @@ def as_mortal(text, start):
     return "".join(lines)
 
 
-def as_mjai(text, start):
+def as_mjai(text: str, start: int) -> str:
     """A record as mjai's own server writes it: no deposits at the start of hands, and other points."""
     lines = []
     for event in model.events_of(text):
@@ -59,12 +62,12 @@ def as_mjai(text, start):
 class Reading(Page):
     """Files that others wrote."""
 
-    def points(self, hand, deed):
+    def points(self, hand: int, deed: int) -> list[int]:
         self.browser.run(f"location.hash = '#hand={hand}&deed={deed}&seat=0&lang=en'")
         self.wait(f"document.getElementById('where').textContent.startsWith('Hand {hand} ')")
-        return self.browser.run(POINTS)
+        return list(self.browser.run(POINTS))
 
-    def test_logs_of_other_programs(self):
+    def test_logs_of_other_programs(self) -> None:
         for text in [RECORD, KAN]:
             hands = model.hands_of(text)
             for write, start in [(as_mortal, 25000), (as_mortal, 30000), (as_mjai, 25000), (as_mjai, 35000)]:
@@ -75,7 +78,16 @@ class Reading(Page):
                     last = [event["scores"] for event in hands[0] if "scores" in event][-1]
                     self.assertEqual(self.points(1, 999), [score - 30000 + start for score in last])
 
-    def test_points_that_do_not_add_up_are_said_and_it_goes_on(self):
+    def test_a_game_in_ordinary_mjai_is_shown_as_its_record_is(self) -> None:
+        for name in ["double_ron", "four_riichis", "red_fives"]:
+            record = (HERE / "records" / f"{name}.txt").read_text()
+            for is_plain in [False, True]:
+                with self.subTest(name, plain=is_plain):
+                    self.drop(export.written(record, is_plain))
+                    self.assertEqual(self.text("problem"), "")
+                    self.assertEqual(self.tables(), list(model.tables_of(record)))
+
+    def test_points_that_do_not_add_up_are_said_and_it_goes_on(self) -> None:
         lines = RECORD.split("\n")
         place = next(place for place, line in enumerate(lines) if '"reach_accepted"' in line)
         lines[place] = lines[place].replace("29000", "28000", 1)
@@ -85,7 +97,7 @@ class Reading(Page):
         hands = model.hands_of(RECORD)
         self.assertTrue(self.text("where").startswith(f"Hand 1 of {len(hands)}, deed {len(hands[0])} of {len(hands[0])},"), self.text("where"))
 
-    def test_a_gzipped_file(self):
+    def test_a_gzipped_file(self) -> None:
         with tempfile.TemporaryDirectory() as folder:
             for name, data in [("a.json.gz", gzip.compress(RECORD.encode())), ("b.json", RECORD.encode())]:
                 path = pathlib.Path(folder, name)
@@ -100,7 +112,7 @@ class Reading(Page):
             self.browser.choose("#file", broken)
             self.wait("document.getElementById('problem').textContent === \"broken.gz can't be read.\"")
 
-    def test_the_records_of_several_tables(self):
+    def test_the_records_of_several_tables(self) -> None:
         whole = "table 0\n" + RECORD + "table 1\n" + KAN + "table 2\n" + RECORD.replace('"reach"', '"rich"', 1) + "table 3\n" + KAN
         self.drop(whole, "#table=2&hand=1&deed=3&lang=en")
         options = self.browser.run("[...document.getElementById('tables').options].map(it => it.textContent)")
@@ -116,7 +128,7 @@ class Reading(Page):
         self.assertLess(counts[2], counts[0])
         self.wait("location.hash.startsWith('#table=4&hand=1&deed=1&')", 10)
 
-    def test_games_one_after_the_other(self):
+    def test_games_one_after_the_other(self) -> None:
         game = as_mortal((HERE / "records" / "whole_game.txt").read_text(), 25000)
         self.drop(game * 2, "#lang=en")
         self.assertEqual(self.text("problem"), "")

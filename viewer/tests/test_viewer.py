@@ -2,6 +2,8 @@
 
 With the environment's RIICHI_TABLE, the path of the program, each record is checked by it too.
 """
+from __future__ import annotations
+
 import gzip
 import json
 import os
@@ -11,60 +13,27 @@ import signal
 import subprocess
 import sys
 import tempfile
-import time
 import unittest
 
-sys.path.insert(0, str(pathlib.Path(__file__).parent))
+HERE = pathlib.Path(__file__).resolve().parent
+sys.path[:0] = [str(HERE), str(HERE.parent.parent / "examples" / "tests")]
 import browser
+import helpers
 import model
-from driver import ADDRESS, Page, drop_script
+from driver import ADDRESS, Page, drop_script, page_script
 
-HERE = pathlib.Path(__file__).parent
 RECORDS = {path.stem: path.read_text() for path in sorted((HERE / "records").glob("*.txt"))}
 WILD = {path.name.split(".")[0]: gzip.decompress(path.read_bytes()).decode() for path in sorted((HERE / "records").glob("*.txt.gz"))}
-PROGRAM = os.environ.get("RIICHI_TABLE")
 KINDS = [f"{number}{suit}" for suit in "mps" for number in range(1, 10)] + list("ESWNPFC")
 
-# Reads the table from the page's own elements, seat after seat.
-SEEN = """
-const tiles = (node, kind) => [...node.querySelectorAll(kind + ' [data-tile]')];
-const seen = () => {
-  const seats = [0, 1, 2, 3].map(seat => document.querySelector(`#table [data-seat="${seat}"]`));
-  const centre = document.getElementById('centre');
-  const [, state, left] = [...centre.querySelectorAll('text')].map(it => it.textContent);
-  return {
-    hands: seats.map(seat => tiles(seat, '.hand').map(tile => tile.dataset.tile).sort()),
-    melds: seats.map(seat => [...seat.querySelectorAll('.meld')].map(meld => {
-      const all = tiles(meld, '');
-      return [meld.dataset.type, all.map(tile => tile.dataset.tile).sort(), all.findIndex(tile => 'called' in tile.dataset)];
-    })),
-    rivers: seats.map(seat => tiles(seat, '.river').map(tile =>
-      [tile.dataset.tile, 'side' in tile.dataset && 'riichi' in tile.dataset, 'called' in tile.dataset, 'drawn' in tile.dataset])),
-    points: seats.map(seat => +seat.querySelector('.plate .points').textContent.replace(',', '').replace('−', '-')),
-    state,
-    indicators: tiles(centre, '.indicators').map(tile => tile.dataset.tile).filter(tile => tile !== '?'),
-    left,
-    newest: seats.flatMap((seat, index) => tiles(seat, '.river').flatMap((tile, place) => 'newest' in tile.dataset ? [index, place] : []))
-      .reduce((found, it) => [...(found || []), it], null),
-    dora: document.querySelectorAll('#table .seat [data-dora]').length,
-  };
-};
-const press = key => document.body.dispatchEvent(new KeyboardEvent('keydown', {key, bubbles: true, cancelable: true}));
-"""
-
-
-def page_script(body):
-    return "(() => {" + SEEN + body + "})()"
-
-
-@unittest.skipUnless(PROGRAM, "no program: set RIICHI_TABLE to its path")
+@helpers.wants_program
 class Records(unittest.TestCase):
     """The records that the page is tried on are records of the program."""
 
-    def replay(self, text):
-        return subprocess.run([PROGRAM, "replay"], input=text.encode(), capture_output=True, timeout=60)
+    def replay(self, text: str) -> subprocess.CompletedProcess[bytes]:
+        return subprocess.run([helpers.PROGRAM, "replay"], input=text.encode(), capture_output=True, timeout=60)
 
-    def test_each_record_is_sound(self):
+    def test_each_record_is_sound(self) -> None:
         takes_red = self.replay(RECORDS["red_fives"]).stderr != b"bad record at line 1: 1\n"
         for name, text in {**RECORDS, **WILD}.items():
             if name == "observed" or ("red=1" in text.split("\n")[0] and not takes_red):
@@ -79,18 +48,7 @@ class Records(unittest.TestCase):
 class Viewer(Page):
     """The page, driven as a user does it."""
 
-    def tables(self):
-        """The tables that the page shows from the first deed to the last, a step at a time."""
-        self.browser.run(page_script("press('Home');"))
-        all_seen = [self.browser.run(page_script("return seen();"))]
-        while not self.browser.run("document.getElementById('forward').disabled"):
-            all_seen += self.browser.run(page_script(
-                "const some = []; const forward = document.getElementById('forward');"
-                "while (some.length < 100 && !forward.disabled) { press('ArrowRight'); some.push(seen()); } return some;"
-            ))
-        return all_seen
-
-    def test_the_table_is_the_record_at_each_deed(self):
+    def test_the_table_is_the_record_at_each_deed(self) -> None:
         for name, text in RECORDS.items():
             if name == "observed":
                 continue
@@ -102,7 +60,7 @@ class Viewer(Page):
                 for place, (left, right) in enumerate(zip(shown, told)):
                     self.assertEqual(left, right, f"deed {place + 1}")
 
-    def test_an_observed_game_is_shown_as_far_as_it_is_told(self):
+    def test_an_observed_game_is_shown_as_far_as_it_is_told(self) -> None:
         text = RECORDS["observed"]
         self.drop(text)
         *ended, begun = self.tables()
@@ -118,7 +76,7 @@ class Viewer(Page):
         self.assertEqual(tables[0]["hands"], [["?"] * 13] * 4)
         self.assertEqual(tables, list(model.tables_of(hidden)))
 
-    def test_the_lines_of_a_seat_that_came_back(self):
+    def test_the_lines_of_a_seat_that_came_back(self) -> None:
         text = RECORDS["each_call"]
         deeds = [line for line in text.split("\n") if line.startswith("{")]
         hello, error = '{"type":"hello","protocol":"mjsonp","protocol_version":3}', '{"type":"error","rule":1,"message":"Unreadable"}'
@@ -127,7 +85,7 @@ class Viewer(Page):
         self.assertEqual(self.text("problem"), "")
         self.assertEqual(self.tables(), list(model.tables_of(text)))
 
-    def test_results_are_those_of_the_record(self):
+    def test_results_are_those_of_the_record(self) -> None:
         for name in ["whole_game", "double_ron", "robbed_kan", "red_fives", "four_winds"]:
             text = RECORDS[name]
             for place, hand in enumerate(model.hands_of(text)):
@@ -140,10 +98,10 @@ class Viewer(Page):
                         if event["type"] == "hora":
                             self.assertIn(f"{event['fan']} han, {event['fu']} fu\t{event['hora_points']:,}", shown)
                         if event["type"] in ("hora", "ryukyoku"):
-                            for change in filter(None, event["deltas"]):
+                            for change in [it for it in event["deltas"] if it]:
                                 self.assertIn(f"\t{change:+,}", shown)
 
-    def test_a_bad_line_is_named_and_nothing_is_drawn_past_it(self):
+    def test_a_bad_line_is_named_and_nothing_is_drawn_past_it(self) -> None:
         lines = RECORDS["four_riichis"].split("\n")
         first = next(place for place, line in enumerate(lines) if '"tsumo"' in line)
         reach = next(place for place, line in enumerate(lines) if '"reach_accepted"' in line)
@@ -171,9 +129,11 @@ class Viewer(Page):
                 else:
                     self.assertEqual(self.tables(), list(model.tables_of(RECORDS["four_riichis"]))[:deeds])
 
-    def test_keys_wheel_buttons_strip_and_links(self):
+    def test_keys_wheel_buttons_strip_and_links(self) -> None:
         self.drop(RECORDS["whole_game"], "#hand=3&deed=41")
-        where = lambda: self.text("where").split(", line")[0]
+        def where() -> str:
+            return self.text("where").split(", line")[0]
+
         self.assertEqual(where(), "Hand 3 of 9, deed 41 of 144")
         self.browser.press("ArrowRight")
         self.assertEqual(where(), "Hand 3 of 9, deed 42 of 144")
@@ -203,7 +163,7 @@ class Viewer(Page):
         self.assertEqual(len(strip), 9)
         self.assertEqual(strip[0].split("\n"), ["East 1", "b tsumo 16,000"])
 
-    def test_a_file_can_be_chosen_and_the_table_turned(self):
+    def test_a_file_can_be_chosen_and_the_table_turned(self) -> None:
         self.browser.open("about:blank")
         self.browser.open(ADDRESS)
         self.browser.choose("#file", HERE / "records" / "each_call.txt")
@@ -215,7 +175,7 @@ class Viewer(Page):
         self.browser.choose("#file", HERE / "records" / "none.txt")
         self.wait("document.getElementById('problem').textContent === \"none.txt can't be read.\"")
 
-    def test_a_page_that_holds_its_record(self):
+    def test_a_page_that_holds_its_record(self) -> None:
         text = RECORDS["each_call"].replace('"names":["a"', '"names":["</script>a"')
         with tempfile.TemporaryDirectory() as folder:
             record, page = pathlib.Path(folder, "record.txt"), pathlib.Path(folder, "page.html")
@@ -226,7 +186,7 @@ class Viewer(Page):
         self.assertEqual(self.tables(), list(model.tables_of(text)))
         self.assertIn("</script>a", self.browser.run("document.getElementById('bottom').innerText"))
 
-    def test_each_control_has_a_name(self):
+    def test_each_control_has_a_name(self) -> None:
         self.drop(RECORDS["whole_game"])
         nodes = self.browser.call("Accessibility.getFullAXTree")["nodes"]
         self.browser.call("Accessibility.disable")
@@ -236,7 +196,7 @@ class Viewer(Page):
         self.assertGreater(len(found), 30)
         self.assertEqual(without, [])
 
-    def test_a_narrow_window_and_dark_mode(self):
+    def test_a_narrow_window_and_dark_mode(self) -> None:
         for dark in [False, True]:
             with self.subTest(dark=dark):
                 self.browser.size(375, 812, dark=dark)
@@ -252,7 +212,7 @@ class Viewer(Page):
                 )
                 self.assertGreater(ink - page if dark else page - ink, 400)
 
-    def test_a_record_of_two_thousand_deeds_opens_in_a_second_and_steps_in_a_frame(self):
+    def test_a_record_of_two_thousand_deeds_opens_in_a_second_and_steps_in_a_frame(self) -> None:
         text = WILD["wild_1101"]
         self.assertGreaterEqual(len(model.events_of(text)), 2000)
         opened = min(self.opening(text) for _ in range(3))
@@ -264,20 +224,20 @@ class Viewer(Page):
         print(f"[opened in {opened:.0f} ms; steps of {steps[0]:.1f}, {steps[200]:.1f}, {steps[360]:.1f} ms: least, half, nine tenths]", file=sys.stderr)
         self.assertLess(opened, 1000)
         # (where other programs have the processors, most steps wait for one)
-        is_busy = os.getloadavg()[0] > os.cpu_count() / 2
+        is_busy = os.getloadavg()[0] > (os.cpu_count() or 1) / 2
         self.assertLess(steps[20 if is_busy else 360], 16)
 
-    def opening(self, text):
+    def opening(self, text: str) -> float:
         """The milliseconds from the drop of a file to its first table."""
         self.browser.open("about:blank")
         self.browser.open(ADDRESS)
-        return self.browser.run(
+        return float(self.browser.run(
             "(async () => { const shown = new Promise(done => new MutationObserver(done).observe(document.getElementById('where'), {childList: true}));"
             f"const drop = () => {drop_script(text)}; const before = performance.now(); drop(); await shown;"
             "document.body.getBoundingClientRect(); return performance.now() - before; })()"
-        )
+        ))
 
-    def test_the_steps_are_those_of_the_arrow_keys_after_a_seat_was_chosen(self):
+    def test_the_steps_are_those_of_the_arrow_keys_after_a_seat_was_chosen(self) -> None:
         self.drop(RECORDS["whole_game"], "#hand=3&deed=41")
         for control in ["bottom", "view", "speed", "place"]:
             with self.subTest(control):
@@ -290,11 +250,13 @@ class Viewer(Page):
                 self.assertIn("deed 41 of", self.text("where"))
                 self.assertEqual(self.browser.run(value), before)
 
-    def test_a_finger(self):
+    def test_a_finger(self) -> None:
         self.browser.size(375, 812)
         self.drop(RECORDS["whole_game"], "#hand=3&deed=41")
         left, top, wide = self.browser.run("(() => { const it = document.getElementById('table').getBoundingClientRect(); return [it.left, it.top, it.width]; })()")
-        at = lambda part: (left + part * wide, top + wide / 2)
+        def at(part: float) -> tuple[float, float]:
+            return left + part * wide, top + wide / 2
+
         for places, deed in [
             ([at(.8), at(.5), at(.3)], 42), ([at(.2), at(.5), at(.7)], 41), ([at(.9)], 42), ([at(.1)], 41),
         ]:
@@ -306,7 +268,7 @@ class Viewer(Page):
         self.browser.touch(at(.5), (at(.5)[0], top + 60), (at(.5)[0], top + 5))
         self.assertIn("deed 42 ", self.text("where"))
 
-    def test_the_list_of_deeds_and_the_graph(self):
+    def test_the_list_of_deeds_and_the_graph(self) -> None:
         text = RECORDS["whole_game"]
         self.drop(text, "#hand=3&deed=41&lang=en")
         hands = model.hands_of(text)
@@ -334,7 +296,7 @@ class Viewer(Page):
         self.browser.press("Enter")
         self.assertTrue(self.text("where").startswith("Hand 5 of 9, deed 1 of "))
 
-    def test_the_page_plays_by_itself_at_three_speeds(self):
+    def test_the_page_plays_by_itself_at_three_speeds(self) -> None:
         self.drop(RECORDS["whole_game"], "#hand=1&deed=1&lang=en")
         names = self.browser.run("[...document.getElementById('speed').options].map(it => it.value)")
         self.assertEqual(names, ["slow", "medium", "fast"])
@@ -357,7 +319,7 @@ class Viewer(Page):
         self.wait("document.getElementById('forward').disabled", 60)
         self.wait("document.getElementById('play').getAttribute('aria-label') === 'Play (space)'", 10)
 
-    def test_the_address_names_hand_deed_seat_and_view(self):
+    def test_the_address_names_hand_deed_seat_and_view(self) -> None:
         self.drop(RECORDS["whole_game"], "#hand=3&deed=41&seat=2&view=seat&lang=de")
         where = self.text("where")
         self.assertTrue(where.startswith("Spiel 3 von 9, Zug 41 von 144"), where)
@@ -365,12 +327,12 @@ class Viewer(Page):
         self.browser.press("ArrowRight")
         self.wait("location.hash === '#hand=3&deed=42&seat=2&view=seat&lang=de'", 10)
 
-    def test_one_seats_view_shows_no_other_hand(self):
+    def test_one_seats_view_shows_no_other_hand(self) -> None:
         for name in ["each_call", "robbed_kan", "four_riichis"]:
             self.drop(RECORDS[name], "#hand=1&deed=1&seat=1&view=seat&lang=en")
             seen, told = self.tables(), list(model.tables_of(RECORDS[name]))
             flat = [event for hand in model.hands_of(RECORDS[name]) for event in hand]
-            shown = set()
+            shown: set[int] = set()
             for event, left, right in zip(flat, seen, told):
                 if event["type"] == "start_kyoku":
                     shown = set()
@@ -390,9 +352,9 @@ class Viewer(Page):
         rows = self.browser.run("[...document.querySelectorAll('#seat-rows tr')].map(it => it.children[1].textContent)")
         self.assertEqual([row == "hidden" for row in rows], [True, False, True, True])
 
-    @unittest.skipUnless(PROGRAM, "no program: set RIICHI_TABLE to its path")
-    def test_shanten_waits_and_what_is_left_at_each_draw(self):
-        answers = {}
+    @helpers.wants_program
+    def test_shanten_waits_and_what_is_left_at_each_draw(self) -> None:
+        answers: dict[tuple[str, ...], tuple[str, ...]] = {}
         script = """
         const rows = [...document.querySelectorAll('#seat-rows tr')];
         return rows.map(row => [+row.querySelector('[data-shanten]').dataset.shanten,
@@ -408,7 +370,7 @@ class Viewer(Page):
                         moments.append(deed + 2)
                         before = [(sorted((+table.held[seat]).elements()), [tuple(meld[1]) for meld in table.melds[seat]]) for seat in range(4)]
                         table.apply(event)
-                        wanted.append([(tiles, melds, lambda kind, seat=seat, left={k: table.left_for(seat, k) for k in KINDS}: left[kind])
+                        wanted.append([(tiles, melds, {kind: table.left_for(seat, kind) for kind in KINDS})
                                        for seat, (tiles, melds) in enumerate(before)])
                     else:
                         table.apply(event)
@@ -420,15 +382,17 @@ class Viewer(Page):
                     for seat, ((tiles, melds, left), (shanten, waits)) in enumerate(zip(seats, told)):
                         words = (*tiles, *("+".join(meld) for meld in melds))
                         if words not in answers:
-                            said = subprocess.run([PROGRAM, "hand", *words], capture_output=True, text=True, check=True, timeout=60).stdout
-                            answers[words] = re.fullmatch(r"shanten (\d+)\ntarget .*\nwaits (.*)\n", said).groups()
+                            said = subprocess.run([helpers.PROGRAM, "hand", *words], capture_output=True, text=True, check=True, timeout=60).stdout
+                            found = re.fullmatch(r"shanten (\d+)\ntarget .*\nwaits (.*)\n", said)
+                            assert found
+                            answers[words] = found.groups()
                         right = answers[words]
                         self.assertEqual((str(shanten), " ".join(kind for kind, _ in waits) or "-"), right, f"{name} hand {place + 1} deed {deed} seat {seat}")
                         for kind, count in waits:
-                            self.assertEqual(count, left(kind), f"{name} hand {place + 1} deed {deed} seat {seat} {kind}")
+                            self.assertEqual(count, left[kind], f"{name} hand {place + 1} deed {deed} seat {seat} {kind}")
         self.assertGreater(len(answers), 500)
 
-    def test_words_in_each_language(self):
+    def test_words_in_each_language(self) -> None:
         self.drop(RECORDS["whole_game"], "#hand=8&deed=75&lang=en")
         said = {}
         for language in ["en", "de", "ja"]:
@@ -442,7 +406,7 @@ class Viewer(Page):
                     self.assertNotIn(english, words)
         self.assertEqual(said, {"en": "b discards North, the drawn tile", "de": "b wirft Nord ab, den gezogenen Stein", "ja": "b 打 北（ツモ切り）"})
 
-    def test_each_deed_is_said_in_words(self):
+    def test_each_deed_is_said_in_words(self) -> None:
         self.drop(RECORDS["each_call"], "#hand=1&deed=1&lang=en")
         live = self.browser.run("(() => { const it = document.getElementById('deed'); return [it.getAttribute('aria-live'), it.getAttribute('aria-atomic')]; })()")
         self.assertEqual(live, ["polite", "true"])
@@ -457,7 +421,7 @@ class Viewer(Page):
                 if event["type"] == kind:
                     self.assertIn(word, words)
 
-    def test_contrast(self):
+    def test_contrast(self) -> None:
         script = """
         const rgb = text => (text.match(/[0-9.]+/g) || []).map(Number);
         const light = ([r, g, b]) => [r, g, b].map(it => it / 255).map(it => it <= .04045 ? it / 12.92 : ((it + .055) / 1.055) ** 2.4)
@@ -496,14 +460,14 @@ class Viewer(Page):
                     self.assertGreater(count, 40)
                     self.assertEqual(low, [])
 
-    def test_nothing_moves_for_who_wants_no_motion(self):
+    def test_nothing_moves_for_who_wants_no_motion(self) -> None:
         for still in [True, False]:
             self.browser.size(1100, 800, still=still)
             self.drop(RECORDS["whole_game"], "#hand=3&deed=41")
             moves = self.browser.run(page_script("press('ArrowRight'); press('ArrowRight'); return document.getAnimations().length;"))
             self.assertEqual(moves > 0, not still)
 
-    def test_each_control_is_reached_by_the_keyboard(self):
+    def test_each_control_is_reached_by_the_keyboard(self) -> None:
         self.drop(RECORDS["whole_game"], "#hand=3&deed=41&lang=en")
         reached = set()
         for _ in range(60):
