@@ -57,7 +57,7 @@ class Source:
             text = told.stdout
         elif self.program:
             return []
-        return text.decode(errors="replace").splitlines()
+        return text.decode(errors="replace").split("\n")[:-1]
 
 
 class Handler(http.server.BaseHTTPRequestHandler):
