@@ -62,14 +62,14 @@ fn both_written(alloc: Global, viewer: Viewer, deed: Deed, line: &str) -> bool {
 }
 
 fn writes(alloc: Global, viewer: Viewer, deed: &Deed, line: &str) -> bool {
-    writes_on::<Brand>(alloc, viewer, deed, line, Blank::new(1))
+    writes_on::<Brand>(alloc, viewer, deed, line.as_bytes(), Blank::new(1))
 }
 
 fn writes_on<L: Ledger>(
     alloc: Global,
     viewer: Viewer,
     deed: &Deed,
-    line: &str,
+    line: &[u8],
     blank: Blank,
 ) -> bool
     requires name { blank.name ≡ L.name }
@@ -79,7 +79,7 @@ fn writes_on<L: Ledger>(
     let mut steps = Steps::<L>::new(blank);
     let mut written = Vec::new(alloc);
     write(alloc, viewer, deed, None, &mut written, &mut steps).is_ok()
-        && written.as_slice().strip_suffix(b"\n") == Some(line.as_bytes())
+        && written.as_slice().strip_suffix(b"\n") == Some(line)
 }
 
 #[test]
