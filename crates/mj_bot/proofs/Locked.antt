@@ -136,7 +136,11 @@ locked_best rules seat face view few locked = by_test (is_measured (kind_counts 
       leaves = least.1;
       best = λ other others discard theirs.
           (let same : other ≡ kind = among_same face other lawful each (sym (swap_of (map kind_of lawful) other) ∙ discard.among) in
-          inr (one_least (one_less counts kind) (IsGoal (room view) (length view.melds)) least.0 others least.1 (subst (λ k. IsLeast (one_less counts k) (IsGoal (room view) (length view.melds)) others) same theirs), omega (arith, same)));
+          inr (
+            one_least (one_less counts kind) (IsGoal (room view) (length view.melds)) least.0 others least.1
+                (subst (λ k. IsLeast (one_less counts k) (IsGoal (room view) (length view.melds)) others) same theirs),
+            omega (arith, same),
+          ));
     })
 
     by_test : (b : Bool) → is_measured counts (room view) (map set_of_meld view.melds) ≡ b → MatchBool b (IsBestLawful rules seat view face) (last_face lawful ≡ Some face)

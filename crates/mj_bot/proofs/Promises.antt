@@ -37,7 +37,8 @@ found_clean rules seat view (x ∷ xs) answer h = by_test (broken_by rules seat 
     by_test (Some rule) e later k = later k
 
 -- It is one of them.
-found_form : (rules : Rules) (seat : ℕ) (view : SeatView) (xs : List Answer) (answer : Answer) → first_lawful rules seat view xs ≡ Some answer → list_all is_in_form xs ≡ true → is_in_form answer ≡ true
+found_form : (rules : Rules) (seat : ℕ) (view : SeatView) (xs : List Answer) (answer : Answer) → first_lawful rules seat view xs ≡ Some answer →
+    list_all is_in_form xs ≡ true → is_in_form answer ≡ true
 found_form rules seat view [] answer h each = cc
 found_form rules seat view (x ∷ xs) answer h each =
     by_test (is_none (broken_by rules seat view x)) (λ k. found_form rules seat view xs answer k (and_parts (is_in_form x) (list_all is_in_form xs) each).1) h
@@ -93,7 +94,8 @@ wanted_form seat view best =
 -- a pass
 
 -- Where nothing is found, there is no lawful discard.
-none_best : (rules : Rules) (seat : ℕ) (view : SeatView) (best : Option ℕ) → first_lawful rules seat view (wanted seat view best) ≡ None → MatchOption best (lawful_faces rules seat view ≡ []) (IsBest rules seat view) → lawful_faces rules seat view ≡ []
+none_best : (rules : Rules) (seat : ℕ) (view : SeatView) (best : Option ℕ) → first_lawful rules seat view (wanted seat view best) ≡ None →
+    MatchOption best (lawful_faces rules seat view ≡ []) (IsBest rules seat view) → lawful_faces rules seat view ≡ []
 none_best rules seat view None h k = k
 none_best rules seat view (Some face) h k = absurd (by_win (first_lawful rules seat view (win_in seat view view.turn)) refl)
   where
@@ -109,7 +111,9 @@ none_best rules seat view (Some face) h k = absurd (by_win (first_lawful rules s
       where
         by_reach : (b : Bool) → cond b (Some (Reach seat)) (first_lawful rules seat view (discard_of seat view face ∷ pon_in seat view view.turn)) ≡ None → ⊥
         by_reach true l = some (Reach seat) l
-        by_reach false l = some (discard_of seat view face) (sym (ap (λ b. cond b (Some (discard_of seat view face)) (first_lawful rules seat view (pon_in seat view view.turn))) (best_passes rules seat view face k)) ∙ l)
+        by_reach false l = some (discard_of seat view face)
+            (sym (ap (λ b. cond b (Some (discard_of seat view face)) (first_lawful rules seat view (pon_in seat view view.turn)))
+            (best_passes rules seat view face k)) ∙ l)
 
 -- A face of the game that passes is picked.
 not_none : (p : ℕ → Bool) (face : ℕ) (xs : List ℕ) → 0 < number_in xs face → p face ≡ true → filter p xs ≡ [] → ⊥
@@ -176,6 +180,7 @@ choice_is_lawful rules ds seat answer small fit can choice = by_found (first_law
         let is : answer ≡ Pass None = choice.chosen_is ∙ ap (λ o. unwrap_or o (Pass None)) e in
         record {
           form = ap is_in_form is;
-          clean = ap (broken_by rules seat (view_of ds seat)) is ∙ pass_or_drawn rules seat (view_of ds seat) (view_of ds seat).turn (none_best rules seat (view_of ds seat) choice.best e choice.best_is) (λ tile. drawn_small rules.red ds seat tile small fit)
+          clean = ap (broken_by rules seat (view_of ds seat)) is ∙ pass_or_drawn rules seat (view_of ds seat) (view_of ds seat).turn
+              (none_best rules seat (view_of ds seat) choice.best e choice.best_is) (λ tile. drawn_small rules.red ds seat tile small fit)
               (fitting_default_is_lawful rules ds seat small fit can).clean;
         }

@@ -19,7 +19,8 @@ use Rattle.mj_bot.specs.Inner.Turns.{is_own_draw, IsNeverReady}
 
 -- the seat's view
 
-pub never_ready : (view : SeatView) (counts left counts_of left_of : List ℕ) (melds number : ℕ) → counts ≡ kind_counts (concealed view) → left ≡ room view → melds ≡ length view.melds → counts_of ≡ counts → left_of ≡ left → length counts ≡ 34 →
+pub never_ready : (view : SeatView) (counts left counts_of left_of : List ℕ) (melds number : ℕ) → counts ≡ kind_counts (concealed view) →
+    left ≡ room view → melds ≡ length view.melds → counts_of ≡ counts → left_of ≡ left → length counts ≡ 34 →
     IsRoom left melds → IsWithinRoom counts left → IsLeast counts_of (IsGoal left_of melds) number → 1 < number → IsNeverReady view
 never_ready view counts left counts_of left_of melds number is beside many same_counts same_room size is_room within least far =
     let here : IsLeast counts (IsGoal left melds) number =

@@ -14,7 +14,8 @@ use Rattle.mj_connection.proofs.Speaking.{spoke_on}
 pub others_entered : {A : Type 0} → (after : List (Entry A) → Showing) (is_legal : List (Entry A) → Type 0)
     → ((es fs : List (Entry A)) → is_legal (es ++ fs) → is_legal es)
     → ((es : List (Entry A)) (e : Entry A) → is_legal (es ++ e ∷ []) → Stays (after es) (after (es ++ e ∷ [])))
-    → ((es : List (Entry A)) (e : Entry A) (author seat : ℕ) → is_legal (es ++ e ∷ []) → (after es).present seat ≡ Some author → IsAside author seat es e → Unmoved seat (after es) (after (es ++ e ∷ [])))
+    → ((es : List (Entry A)) (e : Entry A) (author seat : ℕ) → is_legal (es ++ e ∷ []) → (after es).present seat ≡ Some author →
+    IsAside author seat es e → Unmoved seat (after es) (after (es ++ e ∷ [])))
     → (author : ℕ) (old new : List (Entry A)) → is_legal new → Enters author old new [] → LeftAlone after author old new
 others_entered {A} after is_legal legal_before stays others author old new legal nothing = record {
   nothing = nothing;
@@ -48,7 +49,8 @@ module _ {G S A R : Type 0} (g : Ghosts G S A R) (s : S) (author : ℕ) (old unt
   entered_on _ start lines o (none, before) = (none, enters_chain author start old until [] [] before others.nothing)
 
   -- a call after what others entered
-  pub takes_on : (b c : Connection) (before text : List ℕ) (heard : List (List ℕ)) → IsOpen b → Fits b author (g.after s old) → Takes g s author b c until new before text heard → Takes g s author b c old new before text heard
+  pub takes_on : (b c : Connection) (before text : List ℕ) (heard : List (List ℕ)) → IsOpen b → Fits b author (g.after s old) →
+      Takes g s author b c until new before text heard → Takes g s author b c old new before text heard
   takes_on b c before text heard o f k = record {
     fits = k.fits;
     hears = λ start lines i. k.hears start lines (entered_on b start lines o i);

@@ -14,7 +14,8 @@ lines_more w seat k = let e : k + 1 ≡ suc k = omega arith in ap (lines_to w se
 pub replay_start : (w : Showing) (seat : ℕ) (before head told : List ℕ) → told ≡ before ++ head → told ≡ before ++ (head ++ lines_to w seat 0)
 replay_start w seat before head told e = e ∙ ap (λ (l : List ℕ). before ++ l) (sym (append-nil head))
 
-pub replay_more : (w : Showing) (seat k : ℕ) (before head told text told' : List ℕ) → told ≡ before ++ (head ++ lines_to w seat k) → text ≡ w.text seat k → told' ≡ told ++ text → told' ≡ before ++ (head ++ lines_to w seat (k + 1))
+pub replay_more : (w : Showing) (seat k : ℕ) (before head told text told' : List ℕ) → told ≡ before ++ (head ++ lines_to w seat k) →
+    text ≡ w.text seat k → told' ≡ told ++ text → told' ≡ before ++ (head ++ lines_to w seat (k + 1))
 replay_more w seat k before head told text told' e t f =
     f
     ∙ (ap (λ (l : List ℕ). l ++ text) e
@@ -33,17 +34,20 @@ lines_begin w seat k (suc more) =
 behind : (first head lines rest before old new : List ℕ) → before ++ old ≡ first → new ≡ old ++ (head ++ lines) → first ++ head ++ (lines ++ rest) ≡ (before ++ new) ++ rest
 behind first head lines rest before old new is e =
     sym (append_assoc (first ++ head) lines rest)
-    ∙ ap (λ (l : List ℕ). l ++ rest) (append_assoc first head lines ∙ (ap (λ (l : List ℕ). l ++ (head ++ lines)) (sym is) ∙ (append_assoc before old (head ++ lines) ∙ ap (λ (l : List ℕ). before ++ l) (sym e))))
+    ∙ ap (λ (l : List ℕ). l ++ rest) (append_assoc first head lines ∙ (ap (λ (l : List ℕ). l ++ (head ++ lines)) (sym is)
+    ∙ (append_assoc before old (head ++ lines) ∙ ap (λ (l : List ℕ). before ++ l) (sym e))))
 
 module _ {R : Type 0} (says : Control R → List ℕ) (w : Showing) (seat : ℕ) where
   -- what of the script of a connection a text is that was told behind another one
   abbrev pub IsBegun : List ℕ → List ℕ → Type 0
   IsBegun old new = (before : List ℕ) → before ++ old ≡ hello says → (more : List ℕ) × (replay says w seat ≡ (before ++ new) ++ more)
 
-  pub replay_whole : (old new : List ℕ) → new ≡ old ++ (says (control.Head (w.due seat)) ++ lines_to w seat (w.due seat)) → (before : List ℕ) → before ++ old ≡ hello says → before ++ new ≡ replay says w seat
+  pub replay_whole : (old new : List ℕ) → new ≡ old ++ (says (control.Head (w.due seat)) ++ lines_to w seat (w.due seat)) → (before : List ℕ) →
+      before ++ old ≡ hello says → before ++ new ≡ replay says w seat
   replay_whole old new e before is =
       let lines : List ℕ = lines_to w seat (w.due seat) in
-      sym (append-nil (before ++ new)) ∙ (sym (behind (hello says) (says (control.Head (w.due seat))) lines [] before old new is e) ∙ ap (λ (l : List ℕ). hello says ++ says (control.Head (w.due seat)) ++ l) (append-nil lines))
+      sym (append-nil (before ++ new)) ∙ (sym (behind (hello says) (says (control.Head (w.due seat))) lines [] before old new is e)
+      ∙ ap (λ (l : List ℕ). hello says ++ says (control.Head (w.due seat)) ++ l) (append-nil lines))
 
   pub replay_none : (old new : List ℕ) → new ≡ old → IsBegun old new
   replay_none old new e before is =
@@ -59,11 +63,15 @@ module _ {R : Type 0} (says : Control R → List ℕ) (w : Showing) (seat : ℕ)
       (begin.0, ap (λ (l : List ℕ). hello says ++ head ++ l) (sym (ap (lines_to w seat) whole) ∙ begin.1) ∙ behind (hello says) head (lines_to w seat k) begin.0 before old new is (same ∙ told))
 
 -- what a connection was told that was told a part of what it is told again is a beginning of its script
-pub told_back : {A R : Type 0} → (says : Control R → List ℕ) (after : List (Entry A) → Showing) (author seat place : ℕ) (es es' : List (Entry A)) (told : List ℕ) → es' ≡ es ++ Back author seat ∷ [] → place ≡ length es
+pub told_back : {A R : Type 0} → (says : Control R → List ℕ) (after : List (Entry A) → Showing) (author seat place : ℕ) (es es' : List (Entry A))
+    (told : List ℕ) → es' ≡ es ++ Back author seat ∷ [] → place ≡ length es
     → Begins author seat (length es) ((after (es ++ Back author seat ∷ [])).due seat) (replay says (after (es ++ Back author seat ∷ [])) seat) (after (es ++ Back author seat ∷ []))
     → (more : List ℕ) × (replay says (after es') seat ≡ told ++ more) → (more : List ℕ) × (script (after es') place ≡ told ++ more)
 told_back {A} says after author seat place es es' told added at begins (more, is) =
     let b : Begins author seat place ((after es').due seat) (replay says (after es') seat) (after es') =
     subst (λ (n : ℕ). Begins author seat n ((after es').due seat) (replay says (after es') seat) (after es')) (sym at)
-    (subst (λ (l : List (Entry A)). Begins author seat (length es) ((after l).due seat) (replay says (after l) seat) (after l)) (sym added) begins) in
-    (more ++ pending (after es') seat, script_at (after es') place seat b.seat_of ∙ (ap (λ (l : List ℕ). l ++ pending (after es') seat) (b.told ∙ is) ∙ append_assoc told more (pending (after es') seat)))
+    (subst (λ (l : List (Entry A)). Begins author seat (length es) ((after l).due seat) (replay says (after l) seat) (after l)) (sym added) begins) in (
+      more ++ pending (after es') seat,
+      script_at (after es') place seat b.seat_of ∙ (ap (λ (l : List ℕ). l ++ pending (after es') seat) (b.told ∙ is)
+          ∙ append_assoc told more (pending (after es') seat)),
+    )

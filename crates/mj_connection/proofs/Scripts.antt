@@ -51,7 +51,8 @@ module _ {A : Type 0} where
   module _ (after : List (Entry A) → Showing) (is_legal : List (Entry A) → Type 0)
       (legal_before : (es fs : List (Entry A)) → is_legal (es ++ fs) → is_legal es)
       (stays : (es : List (Entry A)) (e : Entry A) → is_legal (es ++ e ∷ []) → Stays (after es) (after (es ++ e ∷ [])))
-      (others : (es : List (Entry A)) (e : Entry A) (author seat : ℕ) → is_legal (es ++ e ∷ []) → (after es).present seat ≡ Some author → IsAside author seat es e → Unmoved seat (after es) (after (es ++ e ∷ []))) where
+      (others : (es : List (Entry A)) (e : Entry A) (author seat : ℕ) → is_legal (es ++ e ∷ []) → (after es).present seat ≡ Some author →
+      IsAside author seat es e → Unmoved seat (after es) (after (es ++ e ∷ []))) where
     -- what others enter leaves a present seat alone
     pub between : (author seat : ℕ) (es gap : List (Entry A)) → is_legal (es ++ gap) → own_of author gap ≡ [] → (after es).present seat ≡ Some author
         → Unmoved seat (after es) (after (es ++ gap)) × Stays (after es) (after (es ++ gap))
@@ -90,10 +91,13 @@ module _ (w : Showing) (place seat : ℕ) (mine : w.seat_of place ≡ Some seat)
   script_told t = script_at w place seat mine ∙ (ap (λ (b : Bool). w.told place ++ shown b (nat_lt (w.due seat) w.deeds) (w.text seat (w.due seat))) t ∙ append-nil (w.told place))
 
   pub script_due : w.is_told seat ≡ false → w.due seat < w.deeds → script w place ≡ w.told place ++ w.text seat (w.due seat)
-  script_due t lt = script_at w place seat mine ∙ (ap (λ (b : Bool). w.told place ++ shown b (nat_lt (w.due seat) w.deeds) (w.text seat (w.due seat))) t ∙ ap (λ (b : Bool). w.told place ++ shown false b (w.text seat (w.due seat))) (there (w.due seat) w.deeds lt))
+  script_due t lt = script_at w place seat mine ∙ (ap (λ (b : Bool). w.told place ++ shown b (nat_lt (w.due seat) w.deeds) (w.text seat (w.due seat)))
+      t ∙ ap (λ (b : Bool). w.told place ++ shown false b (w.text seat (w.due seat))) (there (w.due seat) w.deeds lt))
 
   pub script_none_due : w.is_told seat ≡ false → w.deeds ≤ w.due seat → script w place ≡ w.told place
-  script_none_due t le = script_at w place seat mine ∙ (ap (λ (b : Bool). w.told place ++ shown b (nat_lt (w.due seat) w.deeds) (w.text seat (w.due seat))) t ∙ (ap (λ (b : Bool). w.told place ++ shown false b (w.text seat (w.due seat))) (not_there (w.due seat) w.deeds le) ∙ append-nil (w.told place)))
+  script_none_due t le = script_at w place seat mine
+      ∙ (ap (λ (b : Bool). w.told place ++ shown b (nat_lt (w.due seat) w.deeds) (w.text seat (w.due seat))) t
+      ∙ (ap (λ (b : Bool). w.told place ++ shown false b (w.text seat (w.due seat))) (not_there (w.due seat) w.deeds le) ∙ append-nil (w.told place)))
 
   pub script_kept : (w' : Showing) → Unmoved seat w w' → Stays w w' → w.due seat < w.deeds → script w' place ≡ script w place
   script_kept w' u s lt =
@@ -112,7 +116,8 @@ pub still_stands : (w w' : Showing) (author : ℕ) (at : SeatAt) → Unmoved at.
 still_stands w w' author at u s = record { within = s.within; present = u.present ∙ s.present; mine = u.seat_of at.place s.mine }
 
 -- what a connection was told that waits for a look is a beginning of its script
-pub told_begins : (w : Showing) (place seat : ℕ) (before old new : List ℕ) → w.seat_of place ≡ Some seat → new ≡ old → before ++ old ≡ w.told place → (more : List ℕ) × (script w place ≡ (before ++ new) ++ more)
+pub told_begins : (w : Showing) (place seat : ℕ) (before old new : List ℕ) → w.seat_of place ≡ Some seat → new ≡ old → before ++ old ≡ w.told place →
+    (more : List ℕ) × (script w place ≡ (before ++ new) ++ more)
 told_begins w place seat before old new mine same t = (pending w seat, script_at w place seat mine ∙ ap (λ (l : List ℕ). l ++ pending w seat) (sym t ∙ ap (λ (l : List ℕ). before ++ l) (sym same)))
 
 -- what a connection was told that was told all is a beginning of its script

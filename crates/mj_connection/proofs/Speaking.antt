@@ -12,7 +12,8 @@ module _ {G S A R : Type 0} (g : Ghosts G S A R) (s : S) (author : ℕ) (start o
   Has es lines left_out last = Spoke g s author start es at lines left_out last
 
   -- the first line
-  pub spoke_first : (line : List ℕ) (lines : List (List ℕ)) (first : Entry A) → GetsSeat (g.sits s) g.joins old line author at.seat first → at.place ≡ length old → new ≡ old ++ first ∷ [] → (lines ≡ []) × Enters author start old [] → Has new (lines ++ line ∷ []) [] []
+  pub spoke_first : (line : List ℕ) (lines : List (List ℕ)) (first : Entry A) → GetsSeat (g.sits s) g.joins old line author at.seat first →
+      at.place ≡ length old → new ≡ old ++ first ∷ [] → (lines ≡ []) × Enters author start old [] → Has new (lines ++ line ∷ []) [] []
   spoke_first line lines first gets place added (none, nothing) = record {
     before = old;
     first = first;
@@ -45,7 +46,8 @@ module _ {G S A R : Type 0} (g : Ghosts G S A R) (s : S) (author : ℕ) (start o
 
   -- what was entered since
   spoke_then : (lines : List (List ℕ)) (mine : List (Entry A)) (k : Has old lines [] []) → Enters author old new mine → Enters author (k.before ++ k.first ∷ []) new (own k.said ++ mine)
-  spoke_then lines mine k e = subst (λ (l : List (Entry A)). Enters author (k.before ++ k.first ∷ []) new (l ++ mine)) (append-nil (own k.said)) (enters_chain author (k.before ++ k.first ∷ []) old new (own k.said ++ []) mine k.entered e)
+  spoke_then lines mine k e = subst (λ (l : List (Entry A)). Enters author (k.before ++ k.first ∷ []) new (l ++ mine)) (append-nil (own k.said))
+      (enters_chain author (k.before ++ k.first ∷ []) old new (own k.said ++ []) mine k.entered e)
 
   -- a history that the author left alone
   pub spoke_on : (lines : List (List ℕ)) → Enters author old new [] → Has old lines [] [] → Has new lines [] []
@@ -56,12 +58,14 @@ module _ {G S A R : Type 0} (g : Ghosts G S A R) (s : S) (author : ℕ) (start o
   spoke_more line lines added k =
       let one : Entry A = Said author at.seat (g.reads line) in
       spoke_as lines (lines ++ line ∷ []) [] new [] k (k.said ++ line ∷ [])
-      (ap (λ (l : List (List ℕ)). l ++ line ∷ []) k.lines_are ∙ ap (λ (l : List (List ℕ)). k.line ∷ l) (ap (λ (l : List (List ℕ)). l ++ line ∷ []) (append-nil k.said) ∙ sym (append-nil (k.said ++ line ∷ []))))
+      (ap (λ (l : List (List ℕ)). l ++ line ∷ []) k.lines_are ∙ ap (λ (l : List (List ℕ)). k.line ∷ l) (ap (λ (l : List (List ℕ)). l ++ line ∷ [])
+      (append-nil k.said) ∙ sym (append-nil (k.said ++ line ∷ []))))
       (subst (λ (l : List (Entry A)). Enters author (k.before ++ k.first ∷ []) new l) (sym (said_append g.reads author at.seat k.said (line ∷ [])) ∙ sym (append-nil (own (k.said ++ line ∷ []))))
       (spoke_then lines (one ∷ []) k (enters_one author old new one refl added)))
 
   -- a later line that was not entered
   pub spoke_less : (line : List ℕ) (lines : List (List ℕ)) → new ≡ old → Has old lines [] [] → Has new (lines ++ line ∷ []) (line ∷ []) []
   spoke_less line lines same k =
-      spoke_as lines (lines ++ line ∷ []) (line ∷ []) new [] k k.said (ap (λ (l : List (List ℕ)). l ++ line ∷ []) k.lines_are ∙ ap (λ (l : List (List ℕ)). k.line ∷ (l ++ line ∷ [])) (append-nil k.said))
+      spoke_as lines (lines ++ line ∷ []) (line ∷ []) new [] k k.said (ap (λ (l : List (List ℕ)). l ++ line ∷ []) k.lines_are
+      ∙ ap (λ (l : List (List ℕ)). k.line ∷ (l ++ line ∷ [])) (append-nil k.said))
       (subst (λ (l : List (Entry A)). Enters author (k.before ++ k.first ∷ []) l (own k.said ++ [])) (sym same) k.entered)

@@ -27,8 +27,15 @@ short_cut _ o = tt
 
 -- a seat that leaves had a deed to answer, unless this excuses it
 module _ {A : Type 0} (after : List (Entry A) → Showing) (author : ℕ) (old new : List (Entry A)) (at : SeatAt) (c : Connection) where
-  lost_parted : (unless : Type 0) → Stands (after old) author at → unless ⊎ Owes (after old) at.seat → ((c ≡ Ended (Left at)) × (new ≡ old ++ Gone author at.seat ∷ [])) ⊎ IsShort c → IsLost after author unless c new ⊎ IsShort c
-  lost_parted unless s right (inl (same, added)) = inl (subst (λ (k : Connection). IsLost after author unless k new) (sym same) (record { before = old; last_is = added; was_of = s.mine; right = right }))
+  lost_parted : (unless : Type 0) → Stands (after old) author at → unless ⊎ Owes (after old) at.seat →
+      ((c ≡ Ended (Left at)) × (new ≡ old ++ Gone author at.seat ∷ [])) ⊎ IsShort c → IsLost after author unless c new ⊎ IsShort c
+  lost_parted unless s right (inl (same, added)) =
+      inl (subst (λ (k : Connection). IsLost after author unless k new) (sym same) (record {
+        before = old;
+        last_is = added;
+        was_of = s.mine;
+        right = right;
+      }))
   lost_parted unless s right (inr short) = inr short
 
   pub lost_free : Fits (Free at) author (after old) → ((c ≡ Ended (Left at)) × (new ≡ old ++ Gone author at.seat ∷ [])) ⊎ IsShort c → IsLost after author (Listens (Free at) → ⊥) c new ⊎ IsShort c
@@ -38,9 +45,11 @@ module _ {A : Type 0} (after : List (Entry A) → Showing) (author : ℕ) (old n
   lost_asked f h = lost_parted (Listens (Asked at) → ⊥) f.0 (inr f.1) h
 
 -- the line of the due deed was told, if there is one
-pub told_due : (w : Showing) (at : SeatAt) (author : ℕ) (found : Bool) (before old new : List ℕ) → Fits (Free at) author w → FindsDue found w at.seat old new → before ++ old ≡ w.told at.place → before ++ new ≡ script w at.place
+pub told_due : (w : Showing) (at : SeatAt) (author : ℕ) (found : Bool) (before old new : List ℕ) → Fits (Free at) author w →
+    FindsDue found w at.seat old new → before ++ old ≡ w.told at.place → before ++ new ≡ script w at.place
 told_due w at author true before old new f (near, e) t =
-    ap (λ (l : List ℕ). before ++ l) e ∙ (sym (append_assoc before old (w.text at.seat (w.due at.seat))) ∙ (ap (λ (l : List ℕ). l ++ w.text at.seat (w.due at.seat)) t ∙ sym (script_due w at.place at.seat f.0.mine f.1 near)))
+    ap (λ (l : List ℕ). before ++ l) e ∙ (sym (append_assoc before old (w.text at.seat (w.due at.seat)))
+    ∙ (ap (λ (l : List ℕ). l ++ w.text at.seat (w.due at.seat)) t ∙ sym (script_due w at.place at.seat f.0.mine f.1 near)))
 told_due w at author false before old new f (none, e) t = ap (λ (l : List ℕ). before ++ l) e ∙ (t ∙ sym (script_none_due w at.place at.seat f.0.mine f.1 none))
 
 module _ {G S A R : Type 0} (g : Ghosts G S A R) (s : S) (author : ℕ) where
@@ -75,7 +84,8 @@ module _ {G S A R : Type 0} (g : Ghosts G S A R) (s : S) (author : ℕ) where
     entered_unheard _ line o i = absurd o
 
   module _ (c : Connection) (es : List (Entry A)) (before : List ℕ) (f : Fits c author (g.after s es)) where
-    takes_short : (heard : List (List ℕ)) → ((start : List (Entry A)) (lines : List (List ℕ)) → Entered g s author c start es lines → Entered g s author (cut_off c) start es (lines ++ heard)) → Takes g s author c (cut_off c) es es before before heard
+    takes_short : (heard : List (List ℕ)) → ((start : List (Entry A)) (lines : List (List ℕ)) → Entered g s author c start es lines →
+        Entered g s author (cut_off c) start es (lines ++ heard)) → Takes g s author c (cut_off c) es es before before heard
     takes_short heard h = record { fits = fits_cut (g.after s es) c f; hears = h; tells = λ out t. tells_cut (g.after s es) c (out ++ before) f t }
 
     pub takes_cut : Takes g s author c (cut_off c) es es before before []

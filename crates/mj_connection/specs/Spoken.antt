@@ -52,7 +52,8 @@ module _ {G S A R : Type 0} (g : Ghosts G S A R) (s : S) (author : ℕ) where
   Entered (Ended (Refused why)) start es lines = (line : List ℕ) × (lines ≡ line ∷ []) × (g.sits s es line ≡ sit.Refused why) × Enters author start es []
   Entered (Ended (Over at)) start es lines = Spoke start es at lines [] []
   Entered (Ended (Closed at)) start es lines = Spoke start es at lines [] [] × EndsByRefusal (g.after s) (g.hears s) author at.seat at.place es
-  Entered (Ended (Left at)) start es lines = Spoke start es at lines [] (Gone author at.seat ∷ []) × EndsBy (g.after s) at.seat at.place es (Gone author at.seat) (λ before. Stands (g.after s before) author at)
+  Entered (Ended (Left at)) start es lines = Spoke start es at lines [] (Gone author at.seat ∷ []) × EndsBy (g.after s) at.seat at.place es
+      (Gone author at.seat) (λ before. Stands (g.after s before) author at)
   Entered (Ended Dry) start es lines = (length lines ≤ 1) × Enters author start es []
   Entered (Ended (Cut at)) start es lines = (left_out : List (List ℕ)) × (length left_out ≤ 1) × Spoke start es at lines left_out []
   Entered _ start es lines = (lines ≡ []) × Enters author start es []

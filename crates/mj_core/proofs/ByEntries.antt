@@ -62,7 +62,8 @@ next-from number (one ∷ held) join seat h = by (λ e. next-from (number + 1) h
     longer : (s n m : ℕ) → s ≡ n + 1 + m → s ≡ n + suc m
     longer s n m e = omega (arith, e)
 
-    by : (placed_from (number + 1) held join ≡ places.Sat seat → seat ≡ number + 1 + length held) → (named : Bool) → (if named then at_held number one join.key else placed_from (number + 1) held join) ≡ places.Sat seat → seat ≡ number + suc (length held)
+    by : (placed_from (number + 1) held join ≡ places.Sat seat → seat ≡ number + 1 + length held) → (named : Bool) →
+        (if named then at_held number one join.key else placed_from (number + 1) held join) ≡ places.Sat seat → seat ≡ number + suc (length held)
     by rest true e = not-next number one join.key seat e
     by rest false e = longer seat number (length held) (rest e)
 

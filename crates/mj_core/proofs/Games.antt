@@ -53,7 +53,8 @@ kept-deeds setting entries state k = ap (λ (n : After). n.deeds) k.same
 kept-slots : (setting : Setting) (entries : List (Entry Answer)) (state : Position) → IsKept setting entries state → state.slots ≡ (after setting entries).slots
 kept-slots setting entries state k = ap (λ (n : After). n.slots) k.same
 
-kept-chairs : (setting : Setting) (entries : List (Entry Answer)) (state : Position) → IsKept setting entries state → map untold_chair (now_of state).chairs ≡ map untold_chair (after setting entries).chairs
+kept-chairs : (setting : Setting) (entries : List (Entry Answer)) (state : Position) → IsKept setting entries state →
+    map untold_chair (now_of state).chairs ≡ map untold_chair (after setting entries).chairs
 kept-chairs setting entries state k = ap (λ (n : After). n.chairs) k.same
 
 pub kept-order : (setting : Setting) (entries : List (Entry Answer)) (state : Position) → IsKept setting entries state → IsInOrder (now_of state)
@@ -82,7 +83,8 @@ more-ground : (walls : List (List ℕ)) (entries : List (Entry Answer)) (entry :
 more-ground walls [] entry h = some-wall walls h
 more-ground walls (first ∷ entries) entry h = some-wall walls h
 
-legal-more : (setting : Setting) (entries : List (Entry Answer)) (entry : Entry Answer) → 1 ≤ length setting.walls → is_permitted setting (after setting entries) entry ≡ true → IsLegal setting entries → IsLegal setting (entries ++ entry ∷ [])
+legal-more : (setting : Setting) (entries : List (Entry Answer)) (entry : Entry Answer) → 1 ≤ length setting.walls →
+    is_permitted setting (after setting entries) entry ≡ true → IsLegal setting entries → IsLegal setting (entries ++ entry ∷ [])
 legal-more setting entries entry some p l = record {
   few = l.few;
   whole = l.whole;
@@ -91,7 +93,8 @@ legal-more setting entries entry some p l = record {
 }
 
 -- A permitted entry is made.
-pub kept-more : (setting : Setting) (entries all : List (Entry Answer)) (state next : Position) (entry : Entry Answer) → IsKept setting entries state → is_permitted setting (after setting entries) entry ≡ true
+pub kept-more : (setting : Setting) (entries all : List (Entry Answer)) (state next : Position) (entry : Entry Answer) →
+    IsKept setting entries state → is_permitted setting (after setting entries) entry ≡ true
     → Steps setting state next entry → all ≡ entries ++ entry ∷ [] → IsKept setting all next
 kept-more setting entries all state next entry k p t e =
     subst (λ (es : List (Entry Answer)). IsKept setting es next) (sym e) (record {
@@ -102,7 +105,8 @@ kept-more setting entries all state next entry k p t e =
     })
 
 -- A game before its first entry.
-pub new-kept : (setting : Setting) (state : Position) → state ≡ nobody setting.rules → 1 ≤ length setting.walls → length setting.walls ≤ 200 → list_all (is_wall setting.rules.red) setting.walls ≡ true → IsKept setting [] state
+pub new-kept : (setting : Setting) (state : Position) → state ≡ nobody setting.rules → 1 ≤ length setting.walls → length setting.walls ≤ 200 →
+    list_all (is_wall setting.rules.red) setting.walls ≡ true → IsKept setting [] state
 new-kept setting state e some few whole =
     subst (λ (s : Position). IsKept setting [] s) (sym e) (record {
       legal = record { few = few; whole = whole; ground = refl; permitted = refl };
@@ -114,7 +118,8 @@ new-kept setting state e some few whole =
 -- A game has few deeds.
 pub kept-few : (setting : Setting) (entries : List (Entry Answer)) (state : Position) → IsKept setting entries state → length state.deeds ≤ 60002
 kept-few setting entries state k =
-    let few = few_deeds setting.rules setting.walls (after setting entries).deeds (each_is_wall setting.rules.red setting.walls k.some k.legal.whole) (legal_games_are_played setting entries k.legal) in
+    let few = few_deeds setting.rules setting.walls (after setting entries).deeds (each_is_wall setting.rules.red setting.walls k.some k.legal.whole)
+    (legal_games_are_played setting entries k.legal) in
     subst (λ (ds : List Deed). length ds ≤ 60002) (sym (kept-deeds setting entries state k)) few.1
 
 -- A join.
@@ -142,7 +147,8 @@ placing-back now join seat h = by (is_over now.deeds) h
     by true h = cc
     by false h = h
 
-kept-placed : (setting : Setting) (entries : List (Entry Answer)) (state : Position) (join : JoinLine) → IsKept setting entries state → placed_in (now_of state) join ≡ placed (map held_of (after setting entries).chairs) join
+kept-placed : (setting : Setting) (entries : List (Entry Answer)) (state : Position) (join : JoinLine) → IsKept setting entries state →
+    placed_in (now_of state) join ≡ placed (map held_of (after setting entries).chairs) join
 kept-placed setting entries state join k = ap (λ (hs : List Occupant). placed hs join) (held-same (now_of state).chairs (after setting entries).chairs (kept-chairs setting entries state k))
 
 pub bad-name : (now : After) → placing now None ≡ places.Refused BadName
@@ -153,12 +159,14 @@ pub sit-over : (setting : Setting) (entries : List (Entry Answer)) (state : Posi
     → IsSitAnswer (sits.Refused Over) (game setting entries) (game setting entries) author (Some join)
 sit-over setting entries state author join k h = (placing-over (after setting entries) join (ap is_over (sym (kept-deeds setting entries state k)) ∙ h), refl)
 
-pub sit-placed : (setting : Setting) (entries : List (Entry Answer)) (state : Position) (join : JoinLine) (place : Placed) → IsKept setting entries state → is_over state.deeds ≡ false → place ≡ placed_in (now_of state) join
+pub sit-placed : (setting : Setting) (entries : List (Entry Answer)) (state : Position) (join : JoinLine) (place : Placed) →
+    IsKept setting entries state → is_over state.deeds ≡ false → place ≡ placed_in (now_of state) join
     → placing (after_of (game setting entries)) (Some join) ≡ place
 sit-placed setting entries state join place k h e =
     placing-open (after setting entries) join (ap is_over (sym (kept-deeds setting entries state k)) ∙ h) ∙ sym (kept-placed setting entries state join k) ∙ sym e
 
-pub sat-may : (setting : Setting) (entries : List (Entry Answer)) (state : Position) (author seat : ℕ) (join : JoinLine) → IsKept setting entries state → is_name join.name ≡ true → placing (after_of (game setting entries)) (Some join) ≡ places.Sat seat
+pub sat-may : (setting : Setting) (entries : List (Entry Answer)) (state : Position) (author seat : ℕ) (join : JoinLine) →
+    IsKept setting entries state → is_name join.name ≡ true → placing (after_of (game setting entries)) (Some join) ≡ places.Sat seat
     → is_permitted setting (after setting entries) (Sat author join.name join.key) ≡ true
 sat-may setting entries state author seat join k named h = sat-permitted setting (after setting entries) author seat join (legal-in-order setting entries k.legal).few named h
 
@@ -170,7 +178,8 @@ unbegun now name o p = early (length now.deeds == 0) (length now.chairs) o.start
     early true n e h = refl
     early false n e h = let k : n < 4 = ltb-true n 4 h in grind (arith, e)
 
-pub sat-can : (setting : Setting) (entries : List (Entry Answer)) (state : Position) (seat : ℕ) (join : JoinLine) → IsKept setting entries state → is_name join.name ≡ true → placing (after_of (game setting entries)) (Some join) ≡ places.Sat seat
+pub sat-can : (setting : Setting) (entries : List (Entry Answer)) (state : Position) (seat : ℕ) (join : JoinLine) → IsKept setting entries state →
+    is_name join.name ≡ true → placing (after_of (game setting entries)) (Some join) ≡ places.Sat seat
     → CanTakeSeat state join
 sat-can setting entries state seat join k named h =
     let may = and_parts (is_name join.name) (can_sit (after setting entries).chairs join.name) (sat-may setting entries state 0 seat join k named h) in
@@ -190,11 +199,13 @@ within chairs seat test h =
     let k = held-by (slice_get chairs seat) test h in
     slice_get_within chairs seat k.0 k.1
 
-pub back-may : (setting : Setting) (entries : List (Entry Answer)) (state : Position) (author seat : ℕ) (join : JoinLine) → IsKept setting entries state → is_name join.name ≡ true → placing (after_of (game setting entries)) (Some join) ≡ places.Back seat
+pub back-may : (setting : Setting) (entries : List (Entry Answer)) (state : Position) (author seat : ℕ) (join : JoinLine) →
+    IsKept setting entries state → is_name join.name ≡ true → placing (after_of (game setting entries)) (Some join) ≡ places.Back seat
     → is_permitted setting (after setting entries) (Back author seat) ≡ true
 back-may setting entries state author seat join k named h = back-permitted setting (after setting entries) author seat join (legal-in-order setting entries k.legal).few named h
 
-pub back-can : (setting : Setting) (entries : List (Entry Answer)) (state : Position) (seat : ℕ) (join : JoinLine) → IsKept setting entries state → is_name join.name ≡ true → placing (after_of (game setting entries)) (Some join) ≡ places.Back seat
+pub back-can : (setting : Setting) (entries : List (Entry Answer)) (state : Position) (seat : ℕ) (join : JoinLine) → IsKept setting entries state →
+    is_name join.name ≡ true → placing (after_of (game setting entries)) (Some join) ≡ places.Back seat
     → CanTakeBack setting state seat join
 back-can setting entries state seat join k named h = record {
   ground = kept-ground setting entries state k;
@@ -207,7 +218,8 @@ back-can setting entries state seat join k named h = record {
 }
 
 -- An answer.
-said-due : (now : After) (author : ℕ) (o : Option Chair) → option_map_or (may_say now author) o false ≡ true → option_map_or (λ (chair : Chair). nat_lt chair.progress.due (length now.deeds)) o false ≡ true
+said-due : (now : After) (author : ℕ) (o : Option Chair) → option_map_or (may_say now author) o false ≡ true →
+    option_map_or (λ (chair : Chair). nat_lt chair.progress.due (length now.deeds)) o false ≡ true
 unfolding may_say
 said-due now author None h = cc
 said-due now author (Some chair) h = (and_parts (is_present_by author chair) (nat_lt chair.progress.due (length now.deeds)) h).1
@@ -229,9 +241,11 @@ kept-due : (setting : Setting) (entries : List (Entry Answer)) (state : Position
     → is_due (now_of state) seat ≡ option_map_or (λ (chair : Chair). nat_lt chair.progress.due (length (after setting entries).deeds)) (slice_get (after setting entries).chairs seat) false
 kept-due setting entries state seat k =
     ap (λ (deeds : List Deed). option_map_or (λ (chair : Chair). nat_lt chair.progress.due (length deeds)) (slice_get (now_of state).chairs seat) false) (kept-deeds setting entries state k)
-    ∙ seat_or-same (λ (chair : Chair). nat_lt chair.progress.due (length (after setting entries).deeds)) (λ chair. refl) false (now_of state).chairs (after setting entries).chairs seat (kept-chairs setting entries state k)
+    ∙ seat_or-same (λ (chair : Chair). nat_lt chair.progress.due (length (after setting entries).deeds)) (λ chair. refl) false (now_of state).chairs
+    (after setting entries).chairs seat (kept-chairs setting entries state k)
 
-kept-present : (setting : Setting) (entries : List (Entry Answer)) (state : Position) (author seat : ℕ) → IsKept setting entries state → option_map_or (is_present_by author) (slice_get (after setting entries).chairs seat) false ≡ true
+kept-present : (setting : Setting) (entries : List (Entry Answer)) (state : Position) (author seat : ℕ) → IsKept setting entries state →
+    option_map_or (is_present_by author) (slice_get (after setting entries).chairs seat) false ≡ true
     → is_present_in (now_of state) seat ≡ true
 kept-present setting entries state author seat k h =
     seat_or-same is_present (λ chair. refl) false (now_of state).chairs (after setting entries).chairs seat (kept-chairs setting entries state k)
@@ -240,26 +254,32 @@ kept-present setting entries state author seat k h =
 pub heard-form : (text : List ℕ) (answer : Answer) → answer ≡ answer_of text → is_in_form answer ≡ true
 heard-form text answer e = subst (λ (said : Answer). is_in_form said ≡ true) (sym e) (answers_that_are_read_are_in_form text)
 
-pub hear-can : (setting : Setting) (entries : List (Entry Answer)) (state : Position) (author seat : ℕ) (answer : Answer) → IsKept setting entries state → can_say (after_of (game setting entries)) author seat ≡ true → is_in_form answer ≡ true
+pub hear-can : (setting : Setting) (entries : List (Entry Answer)) (state : Position) (author seat : ℕ) (answer : Answer) →
+    IsKept setting entries state → can_say (after_of (game setting entries)) author seat ≡ true → is_in_form answer ≡ true
     → CanHear setting state seat answer
 hear-can setting entries state author seat answer k may form = record {
   ground = kept-ground setting entries state k;
   order = kept-order setting entries state k;
   due = kept-due setting entries state seat k ∙ said-due (after setting entries) author (slice_get (after setting entries).chairs seat) may;
   present = kept-present setting entries state author seat k (said-here (after setting entries) author (slice_get (after setting entries).chairs seat) may);
-  going = λ by. can_go_on-same setting _ _ (own_part-same setting (now_of state) (after setting entries) (Said by seat answer) k.same) (own_part_can_go_on setting entries (Said by seat answer) k.legal form);
+  going = λ by. can_go_on-same setting _ _ (own_part-same setting (now_of state) (after setting entries) (Said by seat answer) k.same)
+      (own_part_can_go_on setting entries (Said by seat answer) k.legal form);
 }
 
-pub said-may : (setting : Setting) (now : After) (author seat : ℕ) (answer : Answer) → can_say now author seat ≡ true → is_in_form answer ≡ true → is_permitted setting now (Said author seat answer) ≡ true
+pub said-may : (setting : Setting) (now : After) (author seat : ℕ) (answer : Answer) → can_say now author seat ≡ true → is_in_form answer ≡ true →
+    is_permitted setting now (Said author seat answer) ≡ true
 said-may setting now author seat answer may form = and_from (is_in_form answer) (can_say now author seat) form may
 
-kept-verdict : (setting : Setting) (entries : List (Entry Answer)) (state : Position) (seat : ℕ) (answer : Answer) → IsKept setting entries state → state_verdict setting.rules (now_of state) seat answer ≡ verdict_at (game setting entries) seat answer
+kept-verdict : (setting : Setting) (entries : List (Entry Answer)) (state : Position) (seat : ℕ) (answer : Answer) → IsKept setting entries state →
+    state_verdict setting.rules (now_of state) seat answer ≡ verdict_at (game setting entries) seat answer
 kept-verdict setting entries state seat answer k =
     ap (λ (deeds : List Deed). option_map (λ (chair : Chair). verdict_on setting.rules deeds seat answer chair.progress) (slice_get (now_of state).chairs seat)) (kept-deeds setting entries state k)
-    ∙ seat-same (λ (chair : Chair). verdict_on setting.rules (after setting entries).deeds seat answer chair.progress) (λ chair. refl) (now_of state).chairs (after setting entries).chairs seat (kept-chairs setting entries state k)
+    ∙ seat-same (λ (chair : Chair). verdict_on setting.rules (after setting entries).deeds seat answer chair.progress) (λ chair. refl)
+    (now_of state).chairs (after setting entries).chairs seat (kept-chairs setting entries state k)
 
 pub hear-entered : (setting : Setting) (entries all : List (Entry Answer)) (state next : Position) (author seat : ℕ) (answer : Answer) (verdict : Judged) → IsKept setting entries state
-    → Hears setting state next seat answer (verdict_given verdict) → all ≡ entries ++ Said author seat answer ∷ [] → IsHeard (heard_by verdict) (game setting entries) (game setting all) author seat answer
+    → Hears setting state next seat answer (verdict_given verdict) → all ≡ entries ++ Said author seat answer ∷ [] →
+    IsHeard (heard_by verdict) (game setting entries) (game setting all) author seat answer
 hear-entered setting entries all state next author seat answer verdict k t e =
     by verdict (sym (kept-verdict setting entries state seat answer k) ∙ t.judged, record { setting = refl; entries = e })
   where
@@ -270,7 +290,8 @@ hear-entered setting entries all state next author seat answer verdict k t e =
     by (judged.Closing rule) h = h
 
 -- A seat leaves.
-pub gone-can : (setting : Setting) (entries : List (Entry Answer)) (state : Position) (author seat : ℕ) → IsKept setting entries state → is_permitted setting (after setting entries) (Gone author seat) ≡ true → CanLeave setting state seat
+pub gone-can : (setting : Setting) (entries : List (Entry Answer)) (state : Position) (author seat : ℕ) → IsKept setting entries state →
+    is_permitted setting (after setting entries) (Gone author seat) ≡ true → CanLeave setting state seat
 gone-can setting entries state author seat k h = record {
   ground = kept-ground setting entries state k;
   order = kept-order setting entries state k;
@@ -291,7 +312,8 @@ pub expire-open : (limit : ℕ) (deeds : List Deed) (window t1 t2 : ℕ) → can
 unfolding can_expire
 expire-open limit deeds window t1 t2 h = (and_parts (is_open deeds window) (nat_le t1 t2) (and_parts (is_open deeds window && nat_le t1 t2) (nat_le limit (t2 - t1)) h).0).0
 
-pub expire-can : (setting : Setting) (entries : List (Entry Answer)) (state : Position) (author window t1 t2 : ℕ) → IsKept setting entries state → is_permitted setting (after setting entries) (Expired author window t1 t2) ≡ true → CanExpire setting state
+pub expire-can : (setting : Setting) (entries : List (Entry Answer)) (state : Position) (author window t1 t2 : ℕ) → IsKept setting entries state →
+    is_permitted setting (after setting entries) (Expired author window t1 t2) ≡ true → CanExpire setting state
 expire-can setting entries state author window t1 t2 k h = record {
   ground = kept-ground setting entries state k;
   window =
@@ -396,11 +418,14 @@ reads-none f d setting entries state seat k e =
 abbrev pending_by : List (List ℕ) → Player → List ℕ
 pending_by lines p = if is_some p.author then (if p.refused == 0 then unwrap_or (slice_get lines p.due) [] else []) else []
 
-pending_at-by : (game : Game) (seat : ℕ) → pending_at game seat ≡ option_map_or (λ (chair : Chair). pending_by (lines_for game.setting.rules seat (after_of game).deeds) (player_in chair)) (slice_get (after_of game).chairs seat) []
+pending_at-by : (game : Game) (seat : ℕ) → pending_at game seat ≡ option_map_or
+    (λ (chair : Chair). pending_by (lines_for game.setting.rules seat (after_of game).deeds) (player_in chair))
+    (slice_get (after_of game).chairs seat) []
 unfolding pending
 pending_at-by game seat = refl
 
-pub pending-some : (setting : Setting) (entries : List (Entry Answer)) (state : Position) (seat : ℕ) (held : Player) → IsKept setting entries state → Some held ≡ option_map player_in (slice_get (now_of state).chairs seat) → is_some held.author ≡ true
+pub pending-some : (setting : Setting) (entries : List (Entry Answer)) (state : Position) (seat : ℕ) (held : Player) → IsKept setting entries state →
+    Some held ≡ option_map player_in (slice_get (now_of state).chairs seat) → is_some held.author ≡ true
     → (held.refused == 0) ≡ true → pending_at (game setting entries) seat ≡ line_of (game setting entries) seat held.due
 pending-some setting entries state seat held k e a r =
     let lines : List (List ℕ) = lines_for setting.rules seat (after setting entries).deeds in
@@ -408,26 +433,32 @@ pending-some setting entries state seat held k e a r =
     ∙ ap (λ (b : Bool). if b then (if held.refused == 0 then unwrap_or (slice_get lines held.due) [] else []) else []) a
     ∙ ap (λ (b : Bool). if b then unwrap_or (slice_get lines held.due) [] else []) r
 
-pub pending-stale : (setting : Setting) (entries : List (Entry Answer)) (state : Position) (seat : ℕ) (held : Player) → IsKept setting entries state → Some held ≡ option_map player_in (slice_get (now_of state).chairs seat)
+pub pending-stale : (setting : Setting) (entries : List (Entry Answer)) (state : Position) (seat : ℕ) (held : Player) → IsKept setting entries state →
+    Some held ≡ option_map player_in (slice_get (now_of state).chairs seat)
     → (is_some held.author && held.refused == 0) ≡ false → pending_at (game setting entries) seat ≡ []
 pending-stale setting entries state seat held k e h =
     let lines : List (List ℕ) = lines_for setting.rules seat (after setting entries).deeds in
-    pending_at-by (game setting entries) seat ∙ sym (reads-some (pending_by lines) [] setting entries state seat held k e) ∙ by (is_some held.author) (held.refused == 0) (unwrap_or (slice_get lines held.due) []) h
+    pending_at-by (game setting entries) seat ∙ sym (reads-some (pending_by lines) [] setting entries state seat held k e)
+    ∙ by (is_some held.author) (held.refused == 0) (unwrap_or (slice_get lines held.due) []) h
   where
     by : (a r : Bool) (told : List ℕ) → (a && r) ≡ false → (if a then (if r then told else []) else []) ≡ []
     by true true told e = cc
     by true false told e = refl
     by false r told e = refl
 
-pub pending-none : (setting : Setting) (entries : List (Entry Answer)) (state : Position) (seat : ℕ) → IsKept setting entries state → None ≡ option_map player_in (slice_get (now_of state).chairs seat) → pending_at (game setting entries) seat ≡ []
-pending-none setting entries state seat k e = pending_at-by (game setting entries) seat ∙ sym (reads-none (pending_by (lines_for setting.rules seat (after setting entries).deeds)) [] setting entries state seat k e)
+pub pending-none : (setting : Setting) (entries : List (Entry Answer)) (state : Position) (seat : ℕ) → IsKept setting entries state →
+    None ≡ option_map player_in (slice_get (now_of state).chairs seat) → pending_at (game setting entries) seat ≡ []
+pending-none setting entries state seat k e = pending_at-by (game setting entries) seat
+    ∙ sym (reads-none (pending_by (lines_for setting.rules seat (after setting entries).deeds)) [] setting entries state seat k e)
 
 -- What was entered.
-pub sat-entered : (setting : Setting) (entries all : List (Entry Answer)) (author seat : ℕ) (join : JoinLine) → placing (after_of (game setting entries)) (Some join) ≡ places.Sat seat → all ≡ entries ++ Sat author join.name join.key ∷ []
+pub sat-entered : (setting : Setting) (entries all : List (Entry Answer)) (author seat : ℕ) (join : JoinLine) →
+    placing (after_of (game setting entries)) (Some join) ≡ places.Sat seat → all ≡ entries ++ Sat author join.name join.key ∷ []
     → IsSitAnswer (sits.Sat seat) (game setting entries) (game setting all) author (Some join)
 sat-entered setting entries all author seat join h e = (h, record { setting = refl; entries = e })
 
-pub back-entered : (setting : Setting) (entries all : List (Entry Answer)) (author seat : ℕ) (join : JoinLine) → placing (after_of (game setting entries)) (Some join) ≡ places.Back seat → all ≡ entries ++ Back author seat ∷ []
+pub back-entered : (setting : Setting) (entries all : List (Entry Answer)) (author seat : ℕ) (join : JoinLine) →
+    placing (after_of (game setting entries)) (Some join) ≡ places.Back seat → all ≡ entries ++ Back author seat ∷ []
     → IsSitAnswer (sits.Back seat) (game setting entries) (game setting all) author (Some join)
 back-entered setting entries all author seat join h e = (h, record { setting = refl; entries = e })
 
@@ -436,7 +467,8 @@ some-held : (o : Option Chair) (held : Player) → Some held ≡ option_map play
 some-held None held e = cc
 some-held (Some chair) held e = (chair, refl)
 
-pub held-small : (setting : Setting) (entries : List (Entry Answer)) (state : Position) (seat : ℕ) (held : Player) → IsKept setting entries state → Some held ≡ option_map player_in (slice_get (now_of state).chairs seat) → seat < 4
+pub held-small : (setting : Setting) (entries : List (Entry Answer)) (state : Position) (seat : ℕ) (held : Player) → IsKept setting entries state →
+    Some held ≡ option_map player_in (slice_get (now_of state).chairs seat) → seat < 4
 held-small setting entries state seat held k e =
     let few : length (now_of state).chairs ≤ 4 = (kept-order setting entries state k).few in
     let chair : (chair : Chair) × (slice_get (now_of state).chairs seat ≡ Some chair) = some-held (slice_get (now_of state).chairs seat) held e in
@@ -448,14 +480,16 @@ due-few : (o : Option Chair) (deeds : List Deed) (held : Player) → IsPatientAt
 due-few None deeds held p e = cc
 due-few (Some chair) deeds held p e = subst (λ (n : ℕ). n ≤ length deeds) (sym (ap (λ (q : Player). q.due) (same_Some held (player_in chair) e))) p.due
 
-pub due-small : (setting : Setting) (entries : List (Entry Answer)) (state : Position) (seat : ℕ) (held : Player) → IsKept setting entries state → Some held ≡ option_map player_in (slice_get (now_of state).chairs seat) → held.due ≤ 60002
+pub due-small : (setting : Setting) (entries : List (Entry Answer)) (state : Position) (seat : ℕ) (held : Player) → IsKept setting entries state →
+    Some held ≡ option_map player_in (slice_get (now_of state).chairs seat) → held.due ≤ 60002
 due-small setting entries state seat held k e =
     let few : length state.deeds ≤ 60002 = kept-few setting entries state k in
     let due : held.due ≤ length state.deeds = due-few (slice_get (now_of state).chairs seat) state.deeds held ((kept-order setting entries state k).patient seat) e in
     omega arith
 
 -- A seat that may say something, by the author by whom it is present.
-asked-by : (now : After) (author : ℕ) (o : Option Chair) → option_map_or (λ (chair : Chair). is_present chair && nat_lt chair.progress.due (length now.deeds)) o false ≡ true → option_map_or (λ (chair : Chair). chair.author) o None ≡ Some author
+asked-by : (now : After) (author : ℕ) (o : Option Chair) → option_map_or (λ (chair : Chair). is_present chair && nat_lt chair.progress.due
+    (length now.deeds)) o false ≡ true → option_map_or (λ (chair : Chair). chair.author) o None ≡ Some author
     → option_map_or (may_say now author) o false ≡ true
 unfolding may_say
 asked-by now author None h a = cc

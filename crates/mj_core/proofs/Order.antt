@@ -117,7 +117,8 @@ chair_in_order now seat old new slots o c = record {
     | inr p ↦ c.others other (below_four other (length now.chairs) (due_within now other (apart other p.1 due)) o.few) p.1 ∙ o.empty other (apart other p.1 due)
   ];
   patient = λ other. elim (eqb_tells seat other) [
-    | inl p ↦ subst (λ (n : ℕ). IsPatientAt now.deeds (slice_get (slice_set now.chairs seat new) n)) p.1 (subst (IsPatientAt now.deeds) (sym (slice_get-set_at now.chairs seat new old c.held)) c.patient)
+    | inl p ↦ subst (λ (n : ℕ). IsPatientAt now.deeds (slice_get (slice_set now.chairs seat new) n)) p.1
+        (subst (IsPatientAt now.deeds) (sym (slice_get-set_at now.chairs seat new old c.held)) c.patient)
     | inr p ↦ subst (IsPatientAt now.deeds) (sym (slice_get-set_other now.chairs seat other new p.1)) (o.patient other)
   ];
 }
@@ -165,7 +166,8 @@ said_chair lines v chair = record chair { author = author_after v chair.author; 
 abbrev SaidChanges : (rules : Rules) → After → ℕ → Answer → Chair → Verdict → Type 0
 SaidChanges rules now seat answer chair v = Changes now seat chair (said_chair (lines_for rules seat now.deeds) v chair) (slots_after v now.slots seat answer)
 
-said_changes : (rules : Rules) (now : After) (seat : ℕ) (answer : Answer) (chair : Chair) (rule : Option Rule) → IsInOrder now → slice_get now.chairs seat ≡ Some chair → nat_lt chair.progress.due (length now.deeds) ≡ true
+said_changes : (rules : Rules) (now : After) (seat : ℕ) (answer : Answer) (chair : Chair) (rule : Option Rule) → IsInOrder now →
+    slice_get now.chairs seat ≡ Some chair → nat_lt chair.progress.due (length now.deeds) ≡ true
     → SaidChanges rules now seat answer chair (verdict chair.progress.due chair.progress.refused (length now.deeds) rule)
 said_changes rules now seat answer chair rule o e h = by rule
   where
@@ -196,7 +198,15 @@ said_changes rules now seat answer chair rule o e h = by rule
     }
 
     refused : (rule : Rule) → nat_lt chair.progress.refused 15 ≡ true → SaidChanges rules now seat answer chair (Refused rule)
-    refused rule r = record { held = e; slot = λ _. slot; others = λ other k ne. refl; patient = record { due = (patient_at now seat chair o e).due; refused = λ _. one_more chair.progress.refused r } }
+    refused rule r = record {
+      held = e;
+      slot = λ _. slot;
+      others = λ other k ne. refl;
+      patient = record {
+        due = (patient_at now seat chair o e).due;
+        refused = λ _. one_more chair.progress.refused r;
+      };
+    }
 
     closing : (rule : Rule) → SaidChanges rules now seat answer chair (Closing rule)
     closing rule = record { held = e; slot = λ _. slot; others = λ other k ne. refl; patient = record { due = (patient_at now seat chair o e).due; refused = λ t. absurd (true≢false (sym t)) } }
@@ -217,12 +227,14 @@ said_changes rules now seat answer chair rule o e h = by rule
     by None = no_rule (nat_lt (chair.progress.due + 1) (length now.deeds)) refl
     by (Some rule) = some_rule rule (nat_lt (chair.progress.due + 1) (length now.deeds))
 
-said_midway : (setting : Setting) (now : After) (author seat : ℕ) (answer : Answer) (held : Option Chair) → IsInOrder now → slice_get now.chairs seat ≡ held → option_map_or (may_say now author) held false ≡ true
+said_midway : (setting : Setting) (now : After) (author seat : ℕ) (answer : Answer) (held : Option Chair) → IsInOrder now →
+    slice_get now.chairs seat ≡ held → option_map_or (may_say now author) held false ≡ true
     → IsMidway (option_map_or (after_said setting.rules now seat answer) held now)
 unfolding after_said may_say
 said_midway setting now author seat answer None o e p = cc
 said_midway setting now author seat answer (Some chair) o e p =
-    chair_in_order now seat chair _ _ o (said_changes setting.rules now seat answer chair (broken_rule setting.rules now.deeds seat answer) o e (and_parts (is_present_by author chair) (nat_lt chair.progress.due (length now.deeds)) p).1)
+    chair_in_order now seat chair _ _ o (said_changes setting.rules now seat answer chair (broken_rule setting.rules now.deeds seat answer) o e
+    (and_parts (is_present_by author chair) (nat_lt chair.progress.due (length now.deeds)) p).1)
 
 -- A seat that leaves.
 gone_midway : (rules : Rules) (now : After) (author seat : ℕ) (held : Option Chair) → IsInOrder now → slice_get now.chairs seat ≡ held → option_map_or (is_present_by author) held false ≡ true
@@ -257,7 +269,8 @@ back_midway rules now author seat (Some chair) o e p = chair_in_order now seat c
 })
 
 -- A seat that is taken.
-patient_append : (deeds : List Deed) (chairs : List Chair) (new : Chair) (seat : ℕ) → IsPatient deeds new → ((s : ℕ) → IsPatientAt deeds (slice_get chairs s)) → IsPatientAt deeds (slice_get (chairs ++ new ∷ []) seat)
+patient_append : (deeds : List Deed) (chairs : List Chair) (new : Chair) (seat : ℕ) → IsPatient deeds new →
+    ((s : ℕ) → IsPatientAt deeds (slice_get chairs s)) → IsPatientAt deeds (slice_get (chairs ++ new ∷ []) seat)
 patient_append deeds [] new zero p h = p
 patient_append deeds [] new (suc seat) p h = h 0
 patient_append deeds (chair ∷ chairs) new zero p h = h 0
@@ -274,7 +287,8 @@ unbegun_open now d seat h = absurd (begun (slice_get now.chairs seat) h)
     begun None k = cc
     begun (Some chair) k = none_due chair.progress.due (length now.deeds) d k
 
-sat_midway : (now : After) (author : ℕ) (name : List ℕ) (key : Option (List ℕ)) → IsInOrder now → can_sit now.chairs name ≡ true → IsMidway (record now { chairs = now.chairs ++ new_chair now.entered author name key ∷ [] })
+sat_midway : (now : After) (author : ℕ) (name : List ℕ) (key : Option (List ℕ)) → IsInOrder now → can_sit now.chairs name ≡ true →
+    IsMidway (record now { chairs = now.chairs ++ new_chair now.entered author name key ∷ [] })
 unfolding can_sit
 sat_midway now author name key o p =
     let new : Chair = new_chair now.entered author name key in

@@ -49,7 +49,8 @@ player-at (d ∷ desk) (q ∷ players) (suc seat) e = player-at desk players sea
     less a b e = omega arith
 
 -- The desk after a join.
-pub desk-behind : (desk after_desk : List Occupant) (players : List Player) (join : JoinLine) (place right : Placed) → AreSeated desk players → placed (map held_of (chairs_of desk players)) join ≡ right → place ≡ placed desk join
+pub desk-behind : (desk after_desk : List Occupant) (players : List Player) (join : JoinLine) (place right : Placed) → AreSeated desk players →
+    placed (map held_of (chairs_of desk players)) join ≡ right → place ≡ placed desk join
     → after_desk ≡ seated desk join place → after_desk ≡ seated desk join right
 desk-behind desk after_desk players join place right s p e d = d ∙ ap (seated desk join) (e ∙ ap (λ (hs : List Occupant). placed hs join) (sym s.held) ∙ p)
 
@@ -67,33 +68,42 @@ pub record TakesChair (deeds : List Deed) (desk after_desk : List Occupant) (pla
   pub desk_is : after_desk ≡ desk ++ new_held join ∷ []
   pub all_is : all ≡ players ++ first_player author ∷ []
 
-pub takes-seated : (deeds : List Deed) (desk after_desk : List Occupant) (players all : List Player) (author : ℕ) (join : JoinLine) → TakesChair deeds desk after_desk players all author join → AreSeated after_desk all
+pub takes-seated : (deeds : List Deed) (desk after_desk : List Occupant) (players all : List Player) (author : ℕ) (join : JoinLine) →
+    TakesChair deeds desk after_desk players all author join → AreSeated after_desk all
 takes-seated deeds desk after_desk players all author join t =
     subst (λ (ds : List Occupant). AreSeated ds all) (sym t.desk_is)
     (subst (λ (ps : List Player). AreSeated (desk ++ new_held join ∷ []) ps) (sym t.all_is) (seated-append desk players (new_held join) (first_player author) t.seats refl))
 
-takes-own : (setting : Setting) (rules : Rules) (deeds : List Deed) (desk after_desk : List Occupant) (players all : List Player) (slots : Four (Option Answer)) (author : ℕ) (join : JoinLine) → TakesChair deeds desk after_desk players all author join
+takes-own : (setting : Setting) (rules : Rules) (deeds : List Deed) (desk after_desk : List Occupant) (players all : List Player)
+    (slots : Four (Option Answer)) (author : ℕ) (join : JoinLine) → TakesChair deeds desk after_desk players all author join
     → untold (now_of (position rules deeds after_desk all slots)) ≡ untold (own_part setting (now_of (position rules deeds desk players slots)) (Sat author join.name join.key))
 takes-own setting rules deeds desk after_desk players all slots author join t =
     ap (λ (ds : List Occupant). untold (now_of (position rules deeds ds all slots))) t.desk_is
     ∙ ap (λ (ps : List Player). untold (now_of (position rules deeds (desk ++ new_held join ∷ []) ps slots))) t.all_is
     ∙ sat-own setting (position rules deeds desk players slots) author join t.seats.many
 
-pub seat-waits : (rules : Rules) (deeds : List Deed) (desk after_desk : List Occupant) (players all : List Player) (slots : Four (Option Answer)) (author held : ℕ) (join : JoinLine) → TakesChair deeds desk after_desk players all author join
-    → held ≡ length after_desk → (held ≡ 4 → ⊥) → (setting : Setting) → Steps setting (position rules deeds desk players slots) (position rules deeds after_desk all slots) (Sat author join.name join.key)
+pub seat-waits : (rules : Rules) (deeds : List Deed) (desk after_desk : List Occupant) (players all : List Player) (slots : Four (Option Answer))
+    (author held : ℕ) (join : JoinLine) → TakesChair deeds desk after_desk players all author join
+    → held ≡ length after_desk → (held ≡ 4 → ⊥) → (setting : Setting) → Steps setting (position rules deeds desk players slots)
+    (position rules deeds after_desk all slots) (Sat author join.name join.key)
 seat-waits rules deeds desk after_desk players all slots author held join t h ne setting =
     let middle : Position = position rules deeds after_desk all slots in
-    let four : (length (now_of middle).chairs == 4) ≡ false = not_four held (length (chairs_of after_desk all)) (h ∙ sym (chairs_of-length after_desk all (takes-seated deeds desk after_desk players all author join t).many)) ne in
+    let four : (length (now_of middle).chairs == 4) ≡ false =
+    not_four held (length (chairs_of after_desk all))
+    (h ∙ sym (chairs_of-length after_desk all (takes-seated deeds desk after_desk players all author join t).many)) ne in
     makes-step setting (position rules deeds desk players slots) middle middle (Sat author join.name join.key) refl
     (takes-own setting rules deeds desk after_desk players all slots author join t)
     (sym (ap (with_next middle) (next-waits setting (now_of middle) (Sat author join.name join.key) t.unbegun four)))
 
-pub seat-starts : (rules after_rules : Rules) (deeds : List Deed) (desk after_desk : List Occupant) (players all : List Player) (slots : Four (Option Answer)) (author held : ℕ) (join : JoinLine) (names : Four (List ℕ)) → after_rules ≡ rules
+pub seat-starts : (rules after_rules : Rules) (deeds : List Deed) (desk after_desk : List Occupant) (players all : List Player)
+    (slots : Four (Option Answer)) (author held : ℕ) (join : JoinLine) (names : Four (List ℕ)) → after_rules ≡ rules
     → TakesChair deeds desk after_desk players all author join → held ≡ length after_desk → held ≡ 4 → names ≡ names_of (chairs_of after_desk all)
     → (setting : Setting) → Steps setting (position rules deeds desk players slots) (position after_rules (deeds ++ StartGame names ∷ []) after_desk all empty_slots) (Sat author join.name join.key)
 seat-starts rules after_rules deeds desk after_desk players all slots author held join names r t h f n setting =
     let middle : Position = position rules deeds after_desk all slots in
-    let four : (length (now_of middle).chairs == 4) ≡ true = is_four held (length (chairs_of after_desk all)) (h ∙ sym (chairs_of-length after_desk all (takes-seated deeds desk after_desk players all author join t).many)) f in
+    let four : (length (now_of middle).chairs == 4) ≡ true =
+    is_four held (length (chairs_of after_desk all))
+    (h ∙ sym (chairs_of-length after_desk all (takes-seated deeds desk after_desk players all author join t).many)) f in
     makes-step setting (position rules deeds desk players slots) middle (position after_rules (deeds ++ StartGame names ∷ []) after_desk all empty_slots) (Sat author join.name join.key) refl
     (takes-own setting rules deeds desk after_desk players all slots author join t)
     (ap (λ (x : Rules). position x (deeds ++ StartGame names ∷ []) after_desk all empty_slots) r
@@ -123,10 +133,12 @@ start-fits red (deed ∷ deeds) names h = absurd (more (length deeds) h)
     more n h = grind (arith, h)
 
 -- No deed comes where no window is open, or the open one isn't closed.
-next-none : (setting : Setting) (now : After) (entry : Entry Answer) → is_expiry entry ≡ false → IsStarted now → (is_some (open_window now.deeds) && closes now.slots (map is_present now.chairs)) ≡ false → next_deed setting now entry ≡ None
+next-none : (setting : Setting) (now : After) (entry : Entry Answer) → is_expiry entry ≡ false → IsStarted now →
+    (is_some (open_window now.deeds) && closes now.slots (map is_present now.chairs)) ≡ false → next_deed setting now entry ≡ None
 next-none setting now entry x s h = by (length now.deeds == 0) refl
   where
-    shut : (shown ready : Bool) → is_some (open_window now.deeds) ≡ shown → closes now.slots (map is_present now.chairs) ≡ ready → (shown && ready) ≡ false → (length now.deeds == 0) ≡ false → next_deed setting now entry ≡ None
+    shut : (shown ready : Bool) → is_some (open_window now.deeds) ≡ shown → closes now.slots (map is_present now.chairs) ≡ ready →
+        (shown && ready) ≡ false → (length now.deeds == 0) ≡ false → next_deed setting now entry ≡ None
     shut shown false o r k d = next-plays setting now entry false d (by_closing (is_expiry entry) _ false x r)
     shut false true o r k d = next-plays setting now entry true d (by_closing (is_expiry entry) _ true x r) ∙ no_outcome setting.rules setting.walls now.deeds _ (no-window now.deeds o d)
     shut true true o r k d = cc
@@ -156,14 +168,17 @@ four-started : (n : ℕ) (none : Bool) → (n == 4) ≡ not none → none ≡ fa
 four-started n true h e = cc
 four-started n false h e = elim (eqb_tells n 4) [ inl p ↦ p.1 | inr p ↦ absurd (true≢false (sym h ∙ p.0)) ]
 
-settled-presence : (setting : Setting) (old : Position) (seat : ℕ) (desk : List Occupant) (player : Player) (slots : Four (Option Answer)) → length old.players ≡ length old.desk → CanSettle setting old seat desk player slots
+settled-presence : (setting : Setting) (old : Position) (seat : ℕ) (desk : List Occupant) (player : Player) (slots : Four (Option Answer)) →
+    length old.players ≡ length old.desk → CanSettle setting old seat desk player slots
     → (length old.deeds == 0) ≡ false → presence_at desk ≡ map is_present (chairs_of desk (slice_set old.players seat player))
 settled-presence setting old seat desk player slots m c d =
     presence-is desk (slice_set old.players seat player) c.seated
-    (sym (chairs_of-length desk (slice_set old.players seat player) c.seated.many) ∙ settled-many old seat desk player m c.seated ∙ four-started (length (chairs_of old.desk old.players)) (length old.deeds == 0) c.started d)
+    (sym (chairs_of-length desk (slice_set old.players seat player) c.seated.many) ∙ settled-many old seat desk player m c.seated
+    ∙ four-started (length (chairs_of old.desk old.players)) (length old.deeds == 0) c.started d)
 
 -- The window stays open.
-pub settles-open : (setting : Setting) (old : Position) (seat : ℕ) (desk : List Occupant) (player : Player) (slots : Four (Option Answer)) → length old.players ≡ length old.desk → CanSettle setting old seat desk player slots
+pub settles-open : (setting : Setting) (old : Position) (seat : ℕ) (desk : List Occupant) (player : Player) (slots : Four (Option Answer)) →
+    length old.players ≡ length old.desk → CanSettle setting old seat desk player slots
     → (is_some (open_window old.deeds) && closes slots (presence_at desk)) ≡ false
     → Settles setting (changed old desk (slice_set old.players seat player) slots) (changed old desk (slice_set old.players seat player) slots)
 settles-open setting old seat desk player slots m c h entry x =
@@ -179,7 +194,8 @@ settles-open setting old seat desk player slots m c h entry x =
         ∙ ap (closes slots) (sym (settled-presence setting old seat desk player slots m c (open-begun old.deeds o))) ∙ k
 
 -- The window closes, and the next deed comes.
-pub settles-closed : (setting : Setting) (old new : Position) (seat : ℕ) (desk : List Occupant) (player : Player) (slots : Four (Option Answer)) (deed : Deed) → length old.players ≡ length old.desk → CanSettle setting old seat desk player slots
+pub settles-closed : (setting : Setting) (old new : Position) (seat : ℕ) (desk : List Occupant) (player : Player) (slots : Four (Option Answer))
+    (deed : Deed) → length old.players ≡ length old.desk → CanSettle setting old seat desk player slots
     → is_some (open_window old.deeds) ≡ true → closes slots (presence_at desk) ≡ true
     → outcome setting.rules setting.walls old.deeds (answers_in setting.rules old.deeds slots) ≡ Some deed
     → new ≡ with_next (changed old desk (slice_set old.players seat player) slots) (Some deed)
@@ -196,7 +212,8 @@ expired-own : (setting : Setting) (now : After) (author window t1 t2 : ℕ) → 
 unfolding own_part
 expired-own setting now author window t1 t2 = refl
 
-pub expires : (setting : Setting) (old new : Position) (deed : Deed) → is_some (open_window old.deeds) ≡ true → outcome setting.rules setting.walls old.deeds (answers_in setting.rules old.deeds old.slots) ≡ Some deed
+pub expires : (setting : Setting) (old new : Position) (deed : Deed) → is_some (open_window old.deeds) ≡ true → outcome setting.rules setting.walls
+    old.deeds (answers_in setting.rules old.deeds old.slots) ≡ Some deed
     → new ≡ with_next old (Some deed) → (author window t1 t2 : ℕ) → Steps setting old new (Expired author window t1 t2)
 expires setting old new deed o f e author window t1 t2 =
     makes-step setting old old new (Expired author window t1 t2) refl (ap untold (sym (expired-own setting (now_of old) author window t1 t2)))
@@ -235,7 +252,8 @@ read-chair players seat place player h at read =
     slice_get-get_or players seat player h ∙ ap Some (ap (λ (i : ℕ). get_or players i player) (sym at) ∙ sym read)
 
 -- A seat that leaves, and one that is taken back.
-pub leaves-can : (setting : Setting) (old : Position) (seat : ℕ) (h : Occupant) (player next : Player) (desk : List Occupant) (change : Occupant → Occupant) → HasWalls setting old → IsInOrder (now_of old) → MayAdd setting old.deeds old.slots → AreSeated old.desk old.players
+pub leaves-can : (setting : Setting) (old : Position) (seat : ℕ) (h : Occupant) (player next : Player) (desk : List Occupant) (change : Occupant →
+    Occupant) → HasWalls setting old → IsInOrder (now_of old) → MayAdd setting old.deeds old.slots → AreSeated old.desk old.players
     → slice_get old.desk seat ≡ Some h → seat < length old.players → desk ≡ changed_at old.desk seat change → (change h).present ≡ is_some next.author → CanSettle setting old seat desk next old.slots
 leaves-can setting old seat h player next desk change g o m s at k d p = record {
   ground = g;
@@ -246,12 +264,14 @@ leaves-can setting old seat h player next desk change g o m s at k d p = record 
 }
 
 -- An answer of a seat.
-pub due-at : (old : Position) (seat : ℕ) (h : Occupant) (p : Player) → slice_get old.desk seat ≡ Some h → slice_get old.players seat ≡ Some p → is_due (now_of old) seat ≡ true → p.due < length old.deeds
+pub due-at : (old : Position) (seat : ℕ) (h : Occupant) (p : Player) → slice_get old.desk seat ≡ Some h → slice_get old.players seat ≡ Some p →
+    is_due (now_of old) seat ≡ true → p.due < length old.deeds
 due-at old seat h p d c due =
     ltb-true p.due (length old.deeds)
     (sym (ap (λ (o : Option Chair). option_map_or (λ (chair : Chair). nat_lt chair.progress.due (length old.deeds)) o false) (chairs_of-get old.desk old.players seat h p d c)) ∙ due)
 
-pub refused-at : (old : Position) (seat : ℕ) (h : Occupant) (p : Player) → slice_get old.desk seat ≡ Some h → slice_get old.players seat ≡ Some p → IsInOrder (now_of old) → is_present_in (now_of old) seat ≡ true → p.refused ≤ 15
+pub refused-at : (old : Position) (seat : ℕ) (h : Occupant) (p : Player) → slice_get old.desk seat ≡ Some h → slice_get old.players seat ≡ Some p →
+    IsInOrder (now_of old) → is_present_in (now_of old) seat ≡ true → p.refused ≤ 15
 refused-at old seat h p d c o here =
     let is : slice_get (chairs_of old.desk old.players) seat ≡ Some (chair_of h p) = chairs_of-get old.desk old.players seat h p d c in
     let patient : IsPatient old.deeds (chair_of h p) = subst (IsPatientAt old.deeds) is (o.patient seat) in
@@ -266,7 +286,8 @@ pub record IsSaid (setting : Setting) (old : Position) (seat : ℕ) (answer : An
   pub on : (lines : List (List ℕ)) → next ≡ player_of (author_after v p.author) (progress_after lines v (progress_of p))
   pub filled : slots ≡ slots_after v old.slots seat answer
 
-said-middle : (setting : Setting) (old : Position) (author seat : ℕ) (answer : Answer) (h : Occupant) (p next : Player) (v : Verdict) (slots : Four (Option Answer)) → IsSaid setting old seat answer h p next v slots
+said-middle : (setting : Setting) (old : Position) (author seat : ℕ) (answer : Answer) (h : Occupant) (p next : Player) (v : Verdict)
+    (slots : Four (Option Answer)) → IsSaid setting old seat answer h p next v slots
     → untold (now_of (changed old (desk_after v old.desk seat) (slice_set old.players seat next) slots)) ≡ untold (own_part setting (now_of old) (Said author seat answer))
 said-middle setting old author seat answer h p next v slots s = said-own setting old author seat answer h p next v slots s.at_desk s.at_chair s.judged s.on s.filled
 
@@ -279,7 +300,8 @@ may-add-same setting now other e c =
 next-author : (v : Verdict) (lines : List (List ℕ)) (p next : Player) → next ≡ player_of (author_after v p.author) (progress_after lines v (progress_of p)) → author_after v p.author ≡ next.author
 next-author v lines p next e = sym (ap (λ (q : Player). q.author) e)
 
-pub hears-can : (setting : Setting) (old : Position) (seat : ℕ) (answer : Answer) (h : Occupant) (p next : Player) (v : Verdict) (desk : List Occupant) (slots : Four (Option Answer)) → CanHear setting old seat answer → AreSeated old.desk old.players
+pub hears-can : (setting : Setting) (old : Position) (seat : ℕ) (answer : Answer) (h : Occupant) (p next : Player) (v : Verdict)
+    (desk : List Occupant) (slots : Four (Option Answer)) → CanHear setting old seat answer → AreSeated old.desk old.players
     → IsSaid setting old seat answer h p next v slots → desk ≡ desk_after v old.desk seat → CanSettle setting old seat desk next slots
 hears-can setting old seat answer h p next v desk slots k a s d =
     let middle : Position = changed old (desk_after v old.desk seat) (slice_set old.players seat next) slots in
@@ -293,10 +315,12 @@ hears-can setting old seat answer h p next v desk slots k a s d =
       may = may-add-same setting (now_of middle) (own_part setting (now_of old) (Said 0 seat answer)) (said-middle setting old 0 seat answer h p next v slots s) (k.going 0);
     }
 
-pub hears : (setting : Setting) (old new : Position) (seat : ℕ) (answer : Answer) (h : Occupant) (p next : Player) (v : Verdict) (desk : List Occupant) (slots : Four (Option Answer)) → IsSaid setting old seat answer h p next v slots → desk ≡ desk_after v old.desk seat
+pub hears : (setting : Setting) (old new : Position) (seat : ℕ) (answer : Answer) (h : Occupant) (p next : Player) (v : Verdict)
+    (desk : List Occupant) (slots : Four (Option Answer)) → IsSaid setting old seat answer h p next v slots → desk ≡ desk_after v old.desk seat
     → Settles setting (changed old desk (slice_set old.players seat next) slots) new → Hears setting old new seat answer v
 hears setting old new seat answer h p next v desk slots s d settled = record {
-  judged = ap (option_map (λ (chair : Chair). verdict_on setting.rules old.deeds seat answer chair.progress)) (chairs_of-get old.desk old.players seat h p s.at_desk s.at_chair) ∙ ap Some (sym s.judged);
+  judged = ap (option_map (λ (chair : Chair). verdict_on setting.rules old.deeds seat answer chair.progress)) (chairs_of-get old.desk old.players seat
+      h p s.at_desk s.at_chair) ∙ ap Some (sym s.judged);
   entered = λ author.
       let middle : Position = changed old desk (slice_set old.players seat next) slots in
       makes-step setting old middle new (Said author seat answer) refl
@@ -305,8 +329,10 @@ hears setting old new seat answer h p next v desk slots s d settled = record {
 }
 
 -- A seat leaves.
-pub leaves : (setting : Setting) (old new : Position) (seat : ℕ) (h : Occupant) (p next : Player) (desk : List Occupant) → slice_get old.desk seat ≡ Some h → slice_get old.players seat ≡ Some p → desk ≡ changed_at old.desk seat gone
-    → next ≡ (let q : Player = record { author = None; due = p.due; refused = p.refused } in q) → Settles setting (changed old desk (slice_set old.players seat next) old.slots) new → (author : ℕ) → Steps setting old new (Gone author seat)
+pub leaves : (setting : Setting) (old new : Position) (seat : ℕ) (h : Occupant) (p next : Player) (desk : List Occupant) →
+    slice_get old.desk seat ≡ Some h → slice_get old.players seat ≡ Some p → desk ≡ changed_at old.desk seat gone
+    → next ≡ (let q : Player = record { author = None; due = p.due; refused = p.refused } in q) →
+    Settles setting (changed old desk (slice_set old.players seat next) old.slots) new → (author : ℕ) → Steps setting old new (Gone author seat)
 leaves setting old new seat h p next desk d c e n settled author =
     makes-step setting old (changed old desk (slice_set old.players seat next) old.slots) new (Gone author seat) refl
     (ap (λ (ds : List Occupant). untold (now_of (changed old ds (slice_set old.players seat next) old.slots))) e
@@ -315,8 +341,10 @@ leaves setting old new seat h p next desk d c e n settled author =
     (settled (Gone author seat) refl)
 
 -- A seat is taken back.
-pub returns : (setting : Setting) (old new : Position) (author seat due : ℕ) (h : Occupant) (p next : Player) (desk : List Occupant) → slice_get old.desk seat ≡ Some h → slice_get old.players seat ≡ Some p → desk ≡ changed_at old.desk seat came_back
-    → due ≡ due_on_return (now_of old) seat → next ≡ (let q : Player = record { author = Some author; due = due; refused = 0 } in q) → Settles setting (changed old desk (slice_set old.players seat next) old.slots) new
+pub returns : (setting : Setting) (old new : Position) (author seat due : ℕ) (h : Occupant) (p next : Player) (desk : List Occupant) →
+    slice_get old.desk seat ≡ Some h → slice_get old.players seat ≡ Some p → desk ≡ changed_at old.desk seat came_back
+    → due ≡ due_on_return (now_of old) seat → next ≡ (let q : Player = record { author = Some author; due = due; refused = 0 } in q) →
+    Settles setting (changed old desk (slice_set old.players seat next) old.slots) new
     → Steps setting old new (Back author seat)
 returns setting old new author seat due h p next desk d c e n q settled =
     makes-step setting old (changed old desk (slice_set old.players seat next) old.slots) new (Back author seat) refl

@@ -35,14 +35,16 @@ window-few deeds window e few = by (length deeds == 0) (is_over deeds) e
     by false false e = less (length deeds) window (sym (same_Some window (length deeds - 1) e)) few
 
 -- Whether a seat may say something.
-pub asked-here : (setting : Setting) (entries : List (Entry Answer)) (state : Position) (seat : ℕ) (held : Player) (due count : ℕ) → IsKept setting entries state → Some held ≡ option_map player_in (slice_get (now_of state).chairs seat)
+pub asked-here : (setting : Setting) (entries : List (Entry Answer)) (state : Position) (seat : ℕ) (held : Player) (due count : ℕ) →
+    IsKept setting entries state → Some held ≡ option_map player_in (slice_get (now_of state).chairs seat)
     → is_some held.author ≡ true → due ≡ held.due → count ≡ length state.deeds → nat_lt due count ≡ may_say_at (game setting entries) seat
 asked-here setting entries state seat held due count k e a d l =
     (λ i. nat_lt (d i) (l i)) ∙ ap (λ (ds : List Deed). nat_lt held.due (length ds)) (kept-deeds setting entries state k)
     ∙ ap (λ (b : Bool). b && nat_lt held.due (length (after setting entries).deeds)) (sym a)
     ∙ reads-some (λ (p : Player). is_some p.author && nat_lt p.due (length (after setting entries).deeds)) false setting entries state seat held k e
 
-pub asked-away : (setting : Setting) (entries : List (Entry Answer)) (state : Position) (seat : ℕ) (held : Player) → IsKept setting entries state → Some held ≡ option_map player_in (slice_get (now_of state).chairs seat)
+pub asked-away : (setting : Setting) (entries : List (Entry Answer)) (state : Position) (seat : ℕ) (held : Player) → IsKept setting entries state →
+    Some held ≡ option_map player_in (slice_get (now_of state).chairs seat)
     → is_some held.author ≡ false → false ≡ may_say_at (game setting entries) seat
 asked-away setting entries state seat held k e a =
     ap (λ (b : Bool). b && nat_lt held.due (length (after setting entries).deeds)) (sym a)
@@ -59,11 +61,13 @@ asked-may g seat b e t author a = asked-can g author seat (sym e ∙ t) a
 pub adds-none : (old piece : List ℕ) → piece ≡ [] → Adds old old piece
 adds-none old piece e = record { is = sym (append-nil old) ∙ ap (λ (l : List ℕ). old ++ l) (sym e) }
 
-pub pending-away : (setting : Setting) (entries : List (Entry Answer)) (state : Position) (seat : ℕ) (held : Player) → IsKept setting entries state → Some held ≡ option_map player_in (slice_get (now_of state).chairs seat)
+pub pending-away : (setting : Setting) (entries : List (Entry Answer)) (state : Position) (seat : ℕ) (held : Player) → IsKept setting entries state →
+    Some held ≡ option_map player_in (slice_get (now_of state).chairs seat)
     → is_some held.author ≡ false → pending_at (game setting entries) seat ≡ []
 pending-away setting entries state seat held k e a = pending-stale setting entries state seat held k e (ap (λ (b : Bool). b && held.refused == 0) a)
 
-pub pending-told : (setting : Setting) (entries : List (Entry Answer)) (state : Position) (seat : ℕ) (held : Player) → IsKept setting entries state → Some held ≡ option_map player_in (slice_get (now_of state).chairs seat)
+pub pending-told : (setting : Setting) (entries : List (Entry Answer)) (state : Position) (seat : ℕ) (held : Player) → IsKept setting entries state →
+    Some held ≡ option_map player_in (slice_get (now_of state).chairs seat)
     → (held.refused == 0) ≡ false → pending_at (game setting entries) seat ≡ []
 pending-told setting entries state seat held k e r = pending-stale setting entries state seat held k e (off (is_some held.author) (held.refused == 0) r)
   where

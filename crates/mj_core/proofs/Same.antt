@@ -59,7 +59,8 @@ next_by setting entry deeds many names presence slots =
     then (if many == 4 then Some (StartGame names) else None)
     else (if is_expiry entry || closes slots presence then outcome setting.rules setting.walls deeds (answers_in setting.rules deeds slots) else None)
 
-next_deed-is : (setting : Setting) (now : After) (entry : Entry Answer) → next_deed setting now entry ≡ next_by setting entry now.deeds (length now.chairs) (names_of now.chairs) (map is_present now.chairs) now.slots
+next_deed-is : (setting : Setting) (now : After) (entry : Entry Answer) → next_deed setting now entry ≡ next_by setting entry now.deeds
+    (length now.chairs) (names_of now.chairs) (map is_present now.chairs) now.slots
 unfolding next_deed
 next_deed-is setting now entry = refl
 
@@ -81,7 +82,8 @@ pub with_deed-same : (now other : After) (deed : Option Deed) → untold now ≡
 with_deed-same now other deed e = with_deed-untold now deed ∙ ap (λ (n : After). with_deed n deed) e ∙ sym (with_deed-untold other deed)
 
 -- A seat that is changed, told or untold.
-set-untold : (chairs : List Chair) (seat : ℕ) (chair other : Chair) → untold_chair chair ≡ untold_chair other → map untold_chair (slice_set (map untold_chair chairs) seat chair) ≡ map untold_chair (slice_set chairs seat other)
+set-untold : (chairs : List Chair) (seat : ℕ) (chair other : Chair) → untold_chair chair ≡ untold_chair other →
+    map untold_chair (slice_set (map untold_chair chairs) seat chair) ≡ map untold_chair (slice_set chairs seat other)
 set-untold chairs seat chair other e =
     map-set untold_chair (map untold_chair chairs) seat chair
     ∙ ap (λ (cs : List Chair). slice_set cs seat (untold_chair chair)) (untold-twice chairs)
@@ -96,7 +98,8 @@ said-untold lines Late chair = refl
 said-untold lines (Refused rule) chair = refl
 said-untold lines (Closing rule) chair = refl
 
-after_said-untold : (rules : Rules) (now : After) (seat : ℕ) (answer : Answer) (chair : Chair) → untold (after_said rules (untold now) seat answer (untold_chair chair)) ≡ untold (after_said rules now seat answer chair)
+after_said-untold : (rules : Rules) (now : After) (seat : ℕ) (answer : Answer) (chair : Chair) →
+    untold (after_said rules (untold now) seat answer (untold_chair chair)) ≡ untold (after_said rules now seat answer chair)
 unfolding after_said
 after_said-untold rules now seat answer chair =
     let v : Verdict = verdict_on rules now.deeds seat answer chair.progress in
@@ -106,26 +109,34 @@ after_gone-untold : (rules : Rules) (now : After) (seat : ℕ) (chair : Chair) �
 unfolding after_gone
 after_gone-untold rules now seat chair = ap (λ (cs : List Chair). pieces now.deeds cs now.slots) (set-untold now.chairs seat _ _ refl)
 
-after_back-untold : (rules : Rules) (now : After) (author seat : ℕ) (chair : Chair) → untold (after_back rules (untold now) author seat (untold_chair chair)) ≡ untold (after_back rules now author seat chair)
+after_back-untold : (rules : Rules) (now : After) (author seat : ℕ) (chair : Chair) →
+    untold (after_back rules (untold now) author seat (untold_chair chair)) ≡ untold (after_back rules now author seat chair)
 unfolding after_back
 after_back-untold rules now author seat chair = ap (λ (cs : List Chair). pieces now.deeds cs now.slots) (set-untold now.chairs seat _ _ refl)
 
 pub untold-untold : (now : After) → untold (untold now) ≡ untold now
 untold-untold now = ap (λ (cs : List Chair). pieces now.deeds cs now.slots) (untold-twice now.chairs)
 
-said-option : (rules : Rules) (now : After) (seat : ℕ) (answer : Answer) (o : Option Chair) → untold (option_map_or (after_said rules (untold now) seat answer) (option_map untold_chair o) (untold now)) ≡ untold (option_map_or (after_said rules now seat answer) o now)
+said-option : (rules : Rules) (now : After) (seat : ℕ) (answer : Answer) (o : Option Chair) →
+    untold (option_map_or (after_said rules (untold now) seat answer) (option_map untold_chair o) (untold now)) ≡ untold
+    (option_map_or (after_said rules now seat answer) o now)
 said-option rules now seat answer None = untold-untold now
 said-option rules now seat answer (Some chair) = after_said-untold rules now seat answer chair
 
-gone-option : (rules : Rules) (now : After) (seat : ℕ) (o : Option Chair) → untold (option_map_or (after_gone rules (untold now) seat) (option_map untold_chair o) (untold now)) ≡ untold (option_map_or (after_gone rules now seat) o now)
+gone-option : (rules : Rules) (now : After) (seat : ℕ) (o : Option Chair) →
+    untold (option_map_or (after_gone rules (untold now) seat) (option_map untold_chair o) (untold now)) ≡ untold
+    (option_map_or (after_gone rules now seat) o now)
 gone-option rules now seat None = untold-untold now
 gone-option rules now seat (Some chair) = after_gone-untold rules now seat chair
 
-back-option : (rules : Rules) (now : After) (author seat : ℕ) (o : Option Chair) → untold (option_map_or (after_back rules (untold now) author seat) (option_map untold_chair o) (untold now)) ≡ untold (option_map_or (after_back rules now author seat) o now)
+back-option : (rules : Rules) (now : After) (author seat : ℕ) (o : Option Chair) →
+    untold (option_map_or (after_back rules (untold now) author seat) (option_map untold_chair o) (untold now)) ≡ untold
+    (option_map_or (after_back rules now author seat) o now)
 back-option rules now author seat None = untold-untold now
 back-option rules now author seat (Some chair) = after_back-untold rules now author seat chair
 
-append-untold : (chairs : List Chair) (chair other : Chair) → untold_chair chair ≡ untold_chair other → map untold_chair (map untold_chair chairs ++ chair ∷ []) ≡ map untold_chair (chairs ++ other ∷ [])
+append-untold : (chairs : List Chair) (chair other : Chair) → untold_chair chair ≡ untold_chair other →
+    map untold_chair (map untold_chair chairs ++ chair ∷ []) ≡ map untold_chair (chairs ++ other ∷ [])
 append-untold chairs chair other e =
     map-append untold_chair (map untold_chair chairs) (chair ∷ [])
     ∙ ap (λ (cs : List Chair). cs ++ untold_chair chair ∷ []) (untold-twice chairs)
@@ -134,7 +145,8 @@ append-untold chairs chair other e =
 
 own_part-untold : (setting : Setting) (now : After) (entry : Entry Answer) → untold (own_part setting (untold now) entry) ≡ untold (own_part setting now entry)
 unfolding own_part
-own_part-untold setting now (Sat author name key) = ap (λ (cs : List Chair). pieces now.deeds cs now.slots) (append-untold now.chairs (new_chair 0 author name key) (new_chair now.entered author name key) refl)
+own_part-untold setting now (Sat author name key) = ap (λ (cs : List Chair). pieces now.deeds cs now.slots)
+    (append-untold now.chairs (new_chair 0 author name key) (new_chair now.entered author name key) refl)
 own_part-untold setting now (Said author seat answer) = rw (slice_get-map untold_chair now.chairs seat) (said-option setting.rules now seat answer (slice_get now.chairs seat))
 own_part-untold setting now (Back author seat) = rw (slice_get-map untold_chair now.chairs seat) (back-option setting.rules now author seat (slice_get now.chairs seat))
 own_part-untold setting now (Gone author seat) = rw (slice_get-map untold_chair now.chairs seat) (gone-option setting.rules now seat (slice_get now.chairs seat))
@@ -145,11 +157,13 @@ own_part-same setting now other entry e =
     sym (own_part-untold setting now entry) ∙ ap (λ (n : After). untold (own_part setting n entry)) e ∙ own_part-untold setting other entry
 
 -- A step is what an entry changes of its own seat, and then the next deed.
-pub step-is : (setting : Setting) (now : After) (entry : Entry Answer) → untold (step setting now entry) ≡ untold (with_deed (own_part setting now entry) (next_deed setting (own_part setting now entry) entry))
+pub step-is : (setting : Setting) (now : After) (entry : Entry Answer) → untold (step setting now entry) ≡ untold
+    (with_deed (own_part setting now entry) (next_deed setting (own_part setting now entry) entry))
 unfolding step
 step-is setting now entry = refl
 
-pub moved-same : (setting : Setting) (now other : After) (entry : Entry Answer) → untold now ≡ untold other → untold (with_deed now (next_deed setting now entry)) ≡ untold (with_deed other (next_deed setting other entry))
+pub moved-same : (setting : Setting) (now other : After) (entry : Entry Answer) → untold now ≡ untold other →
+    untold (with_deed now (next_deed setting now entry)) ≡ untold (with_deed other (next_deed setting other entry))
 moved-same setting now other entry e =
     with_deed-same now other (next_deed setting now entry) e
     ∙ ap (λ (d : Option Deed). untold (with_deed other d)) (next_deed-same setting now other entry e)
@@ -165,10 +179,13 @@ option_or-same : {A : Type 0} (f : Chair → A) → ((chair : Chair) → f (unto
 option_or-same f h d None = refl
 option_or-same f h d (Some chair) = h chair
 
-seat_or-untold : {A : Type 0} (f : Chair → A) → ((chair : Chair) → f (untold_chair chair) ≡ f chair) → (d : A) (chairs : List Chair) (seat : ℕ) → option_map_or f (slice_get (map untold_chair chairs) seat) d ≡ option_map_or f (slice_get chairs seat) d
+seat_or-untold : {A : Type 0} (f : Chair → A) → ((chair : Chair) → f (untold_chair chair) ≡ f chair) → (d : A) (chairs : List Chair) (seat : ℕ) →
+    option_map_or f (slice_get (map untold_chair chairs) seat) d ≡ option_map_or f (slice_get chairs seat) d
 seat_or-untold f h d chairs seat = ap (λ (o : Option Chair). option_map_or f o d) (slice_get-map untold_chair chairs seat) ∙ option_or-same f h d (slice_get chairs seat)
 
-pub seat_or-same : {A : Type 0} (f : Chair → A) → ((chair : Chair) → f (untold_chair chair) ≡ f chair) → (d : A) (chairs others : List Chair) (seat : ℕ) → map untold_chair chairs ≡ map untold_chair others → option_map_or f (slice_get chairs seat) d ≡ option_map_or f (slice_get others seat) d
+pub seat_or-same : {A : Type 0} (f : Chair → A) → ((chair : Chair) → f (untold_chair chair) ≡ f chair) → (d : A) (chairs others : List Chair)
+    (seat : ℕ) → map untold_chair chairs ≡ map untold_chair others → option_map_or f (slice_get chairs seat) d ≡ option_map_or f
+    (slice_get others seat) d
 seat_or-same f h d chairs others seat e =
     sym (seat_or-untold f h d chairs seat) ∙ ap (λ (cs : List Chair). option_map_or f (slice_get cs seat) d) e ∙ seat_or-untold f h d others seat
 
@@ -176,10 +193,12 @@ option-same : {A : Type 0} (f : Chair → A) → ((chair : Chair) → f (untold_
 option-same f h None = refl
 option-same f h (Some chair) = ap Some (h chair)
 
-seat-untold : {A : Type 0} (f : Chair → A) → ((chair : Chair) → f (untold_chair chair) ≡ f chair) → (chairs : List Chair) (seat : ℕ) → option_map f (slice_get (map untold_chair chairs) seat) ≡ option_map f (slice_get chairs seat)
+seat-untold : {A : Type 0} (f : Chair → A) → ((chair : Chair) → f (untold_chair chair) ≡ f chair) → (chairs : List Chair) (seat : ℕ) →
+    option_map f (slice_get (map untold_chair chairs) seat) ≡ option_map f (slice_get chairs seat)
 seat-untold f h chairs seat = ap (option_map f) (slice_get-map untold_chair chairs seat) ∙ option-same f h (slice_get chairs seat)
 
-pub seat-same : {A : Type 0} (f : Chair → A) → ((chair : Chair) → f (untold_chair chair) ≡ f chair) → (chairs others : List Chair) (seat : ℕ) → map untold_chair chairs ≡ map untold_chair others → option_map f (slice_get chairs seat) ≡ option_map f (slice_get others seat)
+pub seat-same : {A : Type 0} (f : Chair → A) → ((chair : Chair) → f (untold_chair chair) ≡ f chair) → (chairs others : List Chair) (seat : ℕ) →
+    map untold_chair chairs ≡ map untold_chair others → option_map f (slice_get chairs seat) ≡ option_map f (slice_get others seat)
 seat-same f h chairs others seat e =
     sym (seat-untold f h chairs seat) ∙ ap (λ (cs : List Chair). option_map f (slice_get cs seat)) e ∙ seat-untold f h others seat
 

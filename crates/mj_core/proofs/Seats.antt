@@ -35,14 +35,16 @@ chairs_of-get (d ∷ desk) [] seat h p e f = cc
 chairs_of-get (d ∷ desk) (q ∷ players) zero h p e f = ap (λ (x : Occupant). Some (chair_of x q)) (same_Some d h e) ∙ ap (λ (x : Player). Some (chair_of h x)) (same_Some q p f)
 chairs_of-get (d ∷ desk) (q ∷ players) (suc seat) h p e f = chairs_of-get desk players seat h p e f
 
-pub chairs_of-set : (desk : List Occupant) (players : List Player) (seat : ℕ) (h : Occupant) (p : Player) → chairs_of (slice_set desk seat h) (slice_set players seat p) ≡ slice_set (chairs_of desk players) seat (chair_of h p)
+pub chairs_of-set : (desk : List Occupant) (players : List Player) (seat : ℕ) (h : Occupant) (p : Player) →
+    chairs_of (slice_set desk seat h) (slice_set players seat p) ≡ slice_set (chairs_of desk players) seat (chair_of h p)
 chairs_of-set [] players seat h p = refl
 chairs_of-set (d ∷ desk) [] zero h p = refl
 chairs_of-set (d ∷ desk) [] (suc seat) h p = refl
 chairs_of-set (d ∷ desk) (q ∷ players) zero h p = refl
 chairs_of-set (d ∷ desk) (q ∷ players) (suc seat) h p = ap (λ (cs : List Chair). chair_of d q ∷ cs) (chairs_of-set desk players seat h p)
 
-pub chairs_of-append : (desk : List Occupant) (players : List Player) (h : Occupant) (p : Player) → length players ≡ length desk → chairs_of (desk ++ h ∷ []) (players ++ p ∷ []) ≡ chairs_of desk players ++ chair_of h p ∷ []
+pub chairs_of-append : (desk : List Occupant) (players : List Player) (h : Occupant) (p : Player) → length players ≡ length desk →
+    chairs_of (desk ++ h ∷ []) (players ++ p ∷ []) ≡ chairs_of desk players ++ chair_of h p ∷ []
 chairs_of-append [] [] h p e = refl
 chairs_of-append [] (q ∷ players) h p e = absurd (omega arith)
 chairs_of-append (d ∷ desk) [] h p e = absurd (omega arith)
@@ -57,7 +59,8 @@ chairs_of-length (d ∷ desk) (q ∷ players) e = ap suc (chairs_of-length desk 
 held_is : (h : Occupant) (p : Player) → h.present ≡ is_some p.author → held_of (chair_of h p) ≡ h
 held_is h p e = ap (λ (b : Bool). let r : Occupant = record { present = b; name = h.name; key = h.key; returns = h.returns } in r) (sym e)
 
-pub seated-set : (desk : List Occupant) (players : List Player) (seat : ℕ) (h : Occupant) (p : Player) → AreSeated desk players → h.present ≡ is_some p.author → AreSeated (slice_set desk seat h) (slice_set players seat p)
+pub seated-set : (desk : List Occupant) (players : List Player) (seat : ℕ) (h : Occupant) (p : Player) → AreSeated desk players →
+    h.present ≡ is_some p.author → AreSeated (slice_set desk seat h) (slice_set players seat p)
 seated-set desk players seat h p s e = record {
   many = length-set players seat p ∙ s.many ∙ sym (length-set desk seat h);
   held =
@@ -74,7 +77,8 @@ seated-append desk players h p s e = record {
 }
 
 -- Who is present at the desk is so by an author.
-pub present-is : (desk : List Occupant) (players : List Player) (seat : ℕ) (h : Occupant) (p : Player) → AreSeated desk players → slice_get desk seat ≡ Some h → slice_get players seat ≡ Some p → h.present ≡ is_some p.author
+pub present-is : (desk : List Occupant) (players : List Player) (seat : ℕ) (h : Occupant) (p : Player) → AreSeated desk players →
+    slice_get desk seat ≡ Some h → slice_get players seat ≡ Some p → h.present ≡ is_some p.author
 present-is desk players seat h p s e f =
     ap (λ (x : Occupant). x.present)
     (same_Some h (held_of (chair_of h p))

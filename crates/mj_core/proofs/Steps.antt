@@ -43,11 +43,13 @@ makes-step setting old middle new entry r own e = record {
 }
 
 -- Seats put together as the entry changes them.
-untold-set : (chairs : List Chair) (seat : ℕ) (chair other : Chair) → untold_chair chair ≡ untold_chair other → map untold_chair (slice_set chairs seat chair) ≡ map untold_chair (slice_set chairs seat other)
+untold-set : (chairs : List Chair) (seat : ℕ) (chair other : Chair) → untold_chair chair ≡ untold_chair other →
+    map untold_chair (slice_set chairs seat chair) ≡ map untold_chair (slice_set chairs seat other)
 untold-set chairs seat chair other e =
     map-set untold_chair chairs seat chair ∙ ap (λ (c : Chair). slice_set (map untold_chair chairs) seat c) e ∙ sym (map-set untold_chair chairs seat other)
 
-put-untold : (desk after_desk : List Occupant) (players : List Player) (seat : ℕ) (h : Occupant) (p : Player) (other : Chair) → after_desk ≡ slice_set desk seat h → untold_chair (chair_of h p) ≡ untold_chair other
+put-untold : (desk after_desk : List Occupant) (players : List Player) (seat : ℕ) (h : Occupant) (p : Player) (other : Chair) →
+    after_desk ≡ slice_set desk seat h → untold_chair (chair_of h p) ≡ untold_chair other
     → map untold_chair (chairs_of after_desk (slice_set players seat p)) ≡ map untold_chair (slice_set (chairs_of desk players) seat other)
 put-untold desk after_desk players seat h p other d e =
     ap (λ (ds : List Occupant). map untold_chair (chairs_of ds (slice_set players seat p))) d
@@ -63,7 +65,8 @@ said-chair lines Late h p = refl
 said-chair lines (Refused rule) h p = refl
 said-chair lines (Closing rule) h p = refl
 
-said-at : (setting : Setting) (now : After) (author seat : ℕ) (answer : Answer) (chair : Chair) → slice_get now.chairs seat ≡ Some chair → own_part setting now (Said author seat answer) ≡ after_said setting.rules now seat answer chair
+said-at : (setting : Setting) (now : After) (author seat : ℕ) (answer : Answer) (chair : Chair) → slice_get now.chairs seat ≡ Some chair →
+    own_part setting now (Said author seat answer) ≡ after_said setting.rules now seat answer chair
 unfolding own_part
 said-at setting now author seat answer chair e = ap (λ (o : Option Chair). option_map_or (after_said setting.rules now seat answer) o now) e
 
@@ -91,11 +94,13 @@ said-own setting old author seat answer h p next v slots d c judged on filled =
     ∙ ap untold (sym (said-at setting (now_of old) author seat answer (chair_of h p) (chairs_of-get old.desk old.players seat h p d c)))
 
 -- A seat leaves.
-gone-at : (setting : Setting) (now : After) (author seat : ℕ) (chair : Chair) → slice_get now.chairs seat ≡ Some chair → own_part setting now (Gone author seat) ≡ after_gone setting.rules now seat chair
+gone-at : (setting : Setting) (now : After) (author seat : ℕ) (chair : Chair) → slice_get now.chairs seat ≡ Some chair →
+    own_part setting now (Gone author seat) ≡ after_gone setting.rules now seat chair
 unfolding own_part
 gone-at setting now author seat chair e = ap (λ (o : Option Chair). option_map_or (after_gone setting.rules now seat) o now) e
 
-gone-is : (rules : Rules) (now : After) (seat : ℕ) (chair : Chair) → untold (after_gone rules now seat chair) ≡ pieces now.deeds (map untold_chair (slice_set now.chairs seat (untold_chair (record chair { author = None })))) now.slots
+gone-is : (rules : Rules) (now : After) (seat : ℕ) (chair : Chair) → untold (after_gone rules now seat chair) ≡ pieces now.deeds
+    (map untold_chair (slice_set now.chairs seat (untold_chair (record chair { author = None })))) now.slots
 unfolding after_gone
 gone-is rules now seat chair = ap (λ (cs : List Chair). pieces now.deeds cs now.slots) (untold-set now.chairs seat _ _ refl)
 
@@ -110,7 +115,8 @@ gone-own setting old author seat h p d c =
     ∙ ap untold (sym (gone-at setting (now_of old) author seat (chair_of h p) (chairs_of-get old.desk old.players seat h p d c)))
 
 -- A seat comes back.
-back-at : (setting : Setting) (now : After) (author seat : ℕ) (chair : Chair) → slice_get now.chairs seat ≡ Some chair → own_part setting now (Back author seat) ≡ after_back setting.rules now author seat chair
+back-at : (setting : Setting) (now : After) (author seat : ℕ) (chair : Chair) → slice_get now.chairs seat ≡ Some chair →
+    own_part setting now (Back author seat) ≡ after_back setting.rules now author seat chair
 unfolding own_part
 back-at setting now author seat chair e = ap (λ (o : Option Chair). option_map_or (after_back setting.rules now author seat) o now) e
 
@@ -125,7 +131,8 @@ back_chair now author seat chair = record {
   earlier = [];
 }
 
-back-is : (rules : Rules) (now : After) (author seat : ℕ) (chair : Chair) → untold (after_back rules now author seat chair) ≡ pieces now.deeds (map untold_chair (slice_set now.chairs seat (back_chair now author seat chair))) now.slots
+back-is : (rules : Rules) (now : After) (author seat : ℕ) (chair : Chair) → untold (after_back rules now author seat chair) ≡ pieces now.deeds
+    (map untold_chair (slice_set now.chairs seat (back_chair now author seat chair))) now.slots
 unfolding after_back
 back-is rules now author seat chair = ap (λ (cs : List Chair). pieces now.deeds cs now.slots) (untold-set now.chairs seat _ _ refl)
 
@@ -143,7 +150,8 @@ back-own setting old author seat h p d c =
 abbrev pub first_player : ℕ → Player
 first_player author = record { author = Some author; due = 0; refused = 0 }
 
-sat-is : (setting : Setting) (now : After) (author : ℕ) (join : JoinLine) → untold (own_part setting now (Sat author join.name join.key)) ≡ pieces now.deeds (map untold_chair (now.chairs ++ new_chair now.entered author join.name join.key ∷ [])) now.slots
+sat-is : (setting : Setting) (now : After) (author : ℕ) (join : JoinLine) → untold (own_part setting now (Sat author join.name join.key)) ≡ pieces
+    now.deeds (map untold_chair (now.chairs ++ new_chair now.entered author join.name join.key ∷ [])) now.slots
 unfolding own_part
 sat-is setting now author join = refl
 
@@ -164,7 +172,8 @@ pub next-waits : (setting : Setting) (now : After) (entry : Entry Answer) → (l
 unfolding next_deed
 next-waits setting now entry d c = rw (d, c)
 
-pub next-starts : (setting : Setting) (now : After) (entry : Entry Answer) → (length now.deeds == 0) ≡ true → (length now.chairs == 4) ≡ true → next_deed setting now entry ≡ Some (StartGame (names_of now.chairs))
+pub next-starts : (setting : Setting) (now : After) (entry : Entry Answer) → (length now.deeds == 0) ≡ true → (length now.chairs == 4) ≡ true →
+    next_deed setting now entry ≡ Some (StartGame (names_of now.chairs))
 unfolding next_deed
 next-starts setting now entry d c = rw (d, c)
 

@@ -23,7 +23,8 @@ use Rattle.mj_core.proofs.Steps.{first_player}
 use Rattle.mj_core.proofs.Pieces.{position, desk-behind, TakesChair, settles-closed, expires, read-chair, leaves-can, due-at, refused-at, IsSaid, hears-can, hears, leaves, returns}
 
 -- A window closes: the state has the deed that was added, and its seat as it has changed.
-pub settled : (setting : Setting) (old mid : Position) (seat place : ℕ) (desk : List Occupant) (player : Player) (slots : Four (Option Answer)) → CanSettle setting old seat desk player slots → length old.players ≡ length old.desk → place ≡ seat
+pub settled : (setting : Setting) (old mid : Position) (seat place : ℕ) (desk : List Occupant) (player : Player) (slots : Four (Option Answer)) →
+    CanSettle setting old seat desk player slots → length old.players ≡ length old.desk → place ≡ seat
     → (is_some (open_window old.deeds) && closes slots (presence_at desk)) ≡ true → Advances setting old mid slots
     → Settles setting (changed old desk (slice_set old.players seat player) slots) (position mid.rules mid.deeds desk (slice_set mid.players place player) empty_slots)
 settled setting old mid seat place desk player slots c m at h a =
@@ -33,7 +34,8 @@ settled setting old mid seat place desk player slots c m at h a =
     ∙ ap (λ (p : Position). position p.rules p.deeds desk (slice_set p.players seat player) empty_slots) a.adds.new_is)
 
 -- The same of a seat that stays at the desk as it is.
-pub settled_here : (setting : Setting) (old mid : Position) (seat place : ℕ) (player : Player) (slots : Four (Option Answer)) → CanSettle setting old seat old.desk player slots → length old.players ≡ length old.desk → place ≡ seat
+pub settled_here : (setting : Setting) (old mid : Position) (seat place : ℕ) (player : Player) (slots : Four (Option Answer)) →
+    CanSettle setting old seat old.desk player slots → length old.players ≡ length old.desk → place ≡ seat
     → (is_some (open_window old.deeds) && closes slots (presence_at old.desk)) ≡ true → Advances setting old mid slots
     → Settles setting (changed old old.desk (slice_set old.players seat player) slots) (position mid.rules mid.deeds mid.desk (slice_set mid.players place player) empty_slots)
 settled_here setting old mid seat place player slots c m at h a =
@@ -66,38 +68,50 @@ parts : (old : Position) (seat place : ℕ) (player : Player) → ReadsSeat old 
 parts old seat place player r = parts-at old.desk old.players seat r.seated r.within
 
 -- A seat leaves.
-pub leave-settles : (setting : Setting) (old : Position) (seat place : ℕ) (player next : Player) (desk : List Occupant) → CanLeave setting old seat → ReadsSeat old seat place player → desk ≡ changed_at old.desk seat gone
+pub leave-settles : (setting : Setting) (old : Position) (seat place : ℕ) (player next : Player) (desk : List Occupant) → CanLeave setting old seat →
+    ReadsSeat old seat place player → desk ≡ changed_at old.desk seat gone
     → next ≡ (let q : Player = record { author = None; due = player.due; refused = player.refused } in q) → CanSettle setting old seat desk next old.slots
 leave-settles setting old seat place player next desk c r d n =
     let held = parts old seat place player r in
     leaves-can setting old seat held.h player next desk gone c.ground c.order c.may r.seated held.at_desk r.within d (sym (ap (λ (q : Player). is_some q.author) n))
 
 pub leave-steps : (setting : Setting) (old new : Position) (seat place : ℕ) (player next : Player) (desk : List Occupant) → ReadsSeat old seat place player → desk ≡ changed_at old.desk seat gone
-    → next ≡ (let q : Player = record { author = None; due = player.due; refused = player.refused } in q) → Settles setting (changed old desk (slice_set old.players seat next) old.slots) new → (author : ℕ) → Steps setting old new (Gone author seat)
+    → next ≡ (let q : Player = record { author = None; due = player.due; refused = player.refused } in q) →
+    Settles setting (changed old desk (slice_set old.players seat next) old.slots) new → (author : ℕ) → Steps setting old new (Gone author seat)
 leave-steps setting old new seat place player next desk r d n settled author =
     let held = parts old seat place player r in
     leaves setting old new seat held.h player next desk held.at_desk (chair-is old seat place player r) d n settled author
 
 -- A seat is taken back.
-came-desk : (setting : Setting) (old : Position) (seat : ℕ) (join : JoinLine) (place : Placed) (desk : List Occupant) → CanTakeBack setting old seat join → AreSeated old.desk old.players → place ≡ placed old.desk join → desk ≡ seated old.desk join place
+came-desk : (setting : Setting) (old : Position) (seat : ℕ) (join : JoinLine) (place : Placed) (desk : List Occupant) →
+    CanTakeBack setting old seat join → AreSeated old.desk old.players → place ≡ placed old.desk join → desk ≡ seated old.desk join place
     → desk ≡ changed_at old.desk seat came_back
 came-desk setting old seat join place desk c s p d = desk-behind old.desk desk old.players join place (places.Back seat) s c.placing p d
 
-pub back-settles : (setting : Setting) (old : Position) (author seat place due : ℕ) (player next : Player) (join : JoinLine) (placing : Placed) (desk : List Occupant) → CanTakeBack setting old seat join → ReadsSeat old seat place player
-    → placing ≡ placed old.desk join → desk ≡ seated old.desk join placing → next ≡ (let q : Player = record { author = Some author; due = due; refused = 0 } in q) → CanSettle setting old seat desk next old.slots
+pub back-settles : (setting : Setting) (old : Position) (author seat place due : ℕ) (player next : Player) (join : JoinLine) (placing : Placed)
+    (desk : List Occupant) → CanTakeBack setting old seat join → ReadsSeat old seat place player
+    → placing ≡ placed old.desk join → desk ≡ seated old.desk join placing → next ≡ (let q : Player = record {
+      author = Some author;
+      due = due;
+      refused = 0;
+    } in q) → CanSettle setting old seat desk next old.slots
 back-settles setting old author seat place due player next join placing desk c r p d n =
     let held = parts old seat place player r in
-    leaves-can setting old seat held.h player next desk came_back c.ground c.order c.may r.seated held.at_desk r.within (came-desk setting old seat join placing desk c r.seated p d) (sym (ap (λ (q : Player). is_some q.author) n))
+    leaves-can setting old seat held.h player next desk came_back c.ground c.order c.may r.seated held.at_desk r.within
+    (came-desk setting old seat join placing desk c r.seated p d) (sym (ap (λ (q : Player). is_some q.author) n))
 
-pub back-steps : (setting : Setting) (old new : Position) (author seat place due : ℕ) (player next : Player) (join : JoinLine) (placing : Placed) (desk : List Occupant) → CanTakeBack setting old seat join → ReadsSeat old seat place player
-    → placing ≡ placed old.desk join → desk ≡ seated old.desk join placing → due ≡ due_on_return (now_of old) seat → next ≡ (let q : Player = record { author = Some author; due = due; refused = 0 } in q)
+pub back-steps : (setting : Setting) (old new : Position) (author seat place due : ℕ) (player next : Player) (join : JoinLine) (placing : Placed)
+    (desk : List Occupant) → CanTakeBack setting old seat join → ReadsSeat old seat place player
+    → placing ≡ placed old.desk join → desk ≡ seated old.desk join placing → due ≡ due_on_return (now_of old) seat → next ≡ (let q : Player =
+    record { author = Some author; due = due; refused = 0 } in q)
     → Settles setting (changed old desk (slice_set old.players seat next) old.slots) new → Steps setting old new (Back author seat)
 back-steps setting old new author seat place due player next join placing desk c r p d e n settled =
     let held = parts old seat place player r in
     returns setting old new author seat due held.h player next desk held.at_desk (chair-is old seat place player r) (came-desk setting old seat join placing desk c r.seated p d) e n settled
 
 -- A seat says something.
-pub hear-due : (setting : Setting) (old : Position) (seat place many : ℕ) (answer : Answer) (player : Player) → CanHear setting old seat answer → ReadsSeat old seat place player → many ≡ length old.deeds → player.due < many
+pub hear-due : (setting : Setting) (old : Position) (seat place many : ℕ) (answer : Answer) (player : Player) → CanHear setting old seat answer →
+    ReadsSeat old seat place player → many ≡ length old.deeds → player.due < many
 hear-due setting old seat place many answer player c r e =
     let held = parts old seat place player r in
     subst (λ (n : ℕ). player.due < n) (sym e) (due-at old seat held.h player held.at_desk (chair-is old seat place player r) c.due)
@@ -108,7 +122,8 @@ hear-refused setting old seat place answer player c r =
     refused-at old seat held.h player held.at_desk (chair-is old seat place player r) c.order c.present
 
 -- What the code has found of an answer: its verdict, and what it makes of the seat and the slots.
-pub record Finds (setting : Setting) (old : Position) (told : List Deed) (seat place many : ℕ) (answer : Answer) (player next : Player) (v : Verdict) (desk : List Occupant) (slots : Four (Option Answer)) : Type 0 where
+pub record Finds (setting : Setting) (old : Position) (told : List Deed) (seat place many : ℕ) (answer : Answer) (player next : Player) (v : Verdict)
+    (desk : List Occupant) (slots : Four (Option Answer)) : Type 0 where
   pub can : CanHear setting old seat answer
   pub told_is : told ≡ old.deeds
   pub reads : ReadsSeat old seat place player
@@ -118,7 +133,8 @@ pub record Finds (setting : Setting) (old : Position) (told : List Deed) (seat p
   pub desk_is : desk ≡ desk_after v old.desk seat
   pub slots_is : slots ≡ slots_after v old.slots seat answer
 
-found : (setting : Setting) (old : Position) (told : List Deed) (seat place many : ℕ) (answer : Answer) (player next : Player) (v : Verdict) (desk : List Occupant) (slots : Four (Option Answer)) → (f : Finds setting old told seat place many answer player next v desk slots)
+found : (setting : Setting) (old : Position) (told : List Deed) (seat place many : ℕ) (answer : Answer) (player next : Player) (v : Verdict)
+    (desk : List Occupant) (slots : Four (Option Answer)) → (f : Finds setting old told seat place many answer player next v desk slots)
     → IsSaid setting old seat answer (parts old seat place player f.reads).h player next v slots
 found setting old told seat place many answer player next v desk slots f =
     let held = parts old seat place player f.reads in
@@ -140,18 +156,22 @@ found setting old told seat place many answer player next v desk slots f =
     present-of : (old : Position) (seat : ℕ) (held : HasParts old.desk old.players seat) (player : Player) → slice_get old.players seat ≡ Some player → held.h.present ≡ is_some player.author
     present-of old seat held player e = held.present ∙ ap (λ (q : Player). is_some q.author) (same_some held.p player (sym held.at_chair ∙ e))
 
-pub hear-settles : (setting : Setting) (old : Position) (told : List Deed) (seat place many : ℕ) (answer : Answer) (player next : Player) (v : Verdict) (desk : List Occupant) (slots : Four (Option Answer)) → Finds setting old told seat place many answer player next v desk slots
+pub hear-settles : (setting : Setting) (old : Position) (told : List Deed) (seat place many : ℕ) (answer : Answer) (player next : Player)
+    (v : Verdict) (desk : List Occupant) (slots : Four (Option Answer)) → Finds setting old told seat place many answer player next v desk slots
     → CanSettle setting old seat desk next slots
 hear-settles setting old told seat place many answer player next v desk slots f =
-    hears-can setting old seat answer (parts old seat place player f.reads).h player next v desk slots f.can f.reads.seated (found setting old told seat place many answer player next v desk slots f) f.desk_is
+    hears-can setting old seat answer (parts old seat place player f.reads).h player next v desk slots f.can f.reads.seated
+    (found setting old told seat place many answer player next v desk slots f) f.desk_is
 
-pub hear-hears : (setting : Setting) (old new : Position) (told : List Deed) (seat place many : ℕ) (answer : Answer) (player next : Player) (v : Verdict) (desk : List Occupant) (slots : Four (Option Answer)) → Finds setting old told seat place many answer player next v desk slots
+pub hear-hears : (setting : Setting) (old new : Position) (told : List Deed) (seat place many : ℕ) (answer : Answer) (player next : Player)
+    (v : Verdict) (desk : List Occupant) (slots : Four (Option Answer)) → Finds setting old told seat place many answer player next v desk slots
     → Settles setting (changed old desk (slice_set old.players seat next) slots) new → Hears setting old new seat answer v
 hear-hears setting old new told seat place many answer player next v desk slots f settled =
     hears setting old new seat answer (parts old seat place player f.reads).h player next v desk slots (found setting old told seat place many answer player next v desk slots f) f.desk_is settled
 
 -- The next seat is taken.
-pub takes : (old : Position) (author : ℕ) (join : JoinLine) (place : Placed) (desk : List Occupant) (players : List Player) → CanTakeSeat old join → AreSeated old.desk old.players → place ≡ placed old.desk join → desk ≡ seated old.desk join place
+pub takes : (old : Position) (author : ℕ) (join : JoinLine) (place : Placed) (desk : List Occupant) (players : List Player) → CanTakeSeat old join →
+    AreSeated old.desk old.players → place ≡ placed old.desk join → desk ≡ seated old.desk join place
     → players ≡ old.players ++ first_player author ∷ [] → TakesChair old.deeds old.desk desk old.players players author join
 takes old author join place desk players c s p d a = record {
   unbegun = c.unbegun;

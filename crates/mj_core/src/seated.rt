@@ -1,7 +1,7 @@
 ghost use Rattle.mj_forms.specs.AnswerForms.{answer_of, join_of};
 ghost use Rattle.mj_history.specs.Legal.{IsLegal};
 ghost use Rattle.mj_history.specs.Shown.{shown_of, sits_of, hears_of, expires_of, control_line};
-ghost use Rattle.mj_history.proofs.Seated.{beginnings_are_legal, lines_stay, ended_connections_stay};
+ghost use Rattle.mj_history.proofs.Seated.{beginnings_are_legal, lines_stay, ended_connections_stay, seats_are_closed};
 ghost use Rattle.mj_history.proofs.Moves.{others_leave_alone, seats_begin, returns_begin, answers_go_by_verdict, seats_leave};
 
 use crate::game::Core;
@@ -114,4 +114,6 @@ impl Seated for Core {
         answers_go_by_verdict setting entries author seat answer l };
 
     ghost leaves = { λ setting entries author seat l. seats_leave setting entries author seat l };
+
+    ghost closed = { λ setting entries text over. seats_are_closed setting entries text over };
 }

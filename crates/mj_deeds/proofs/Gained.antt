@@ -15,10 +15,12 @@ use Rattle.mj_deeds.specs.Fits.{brought_by}
 use Rattle.mj_deeds.specs.Four.{at_seat}
 use Rattle.mj_deeds.proofs.FitSteps.{number_of_four}
 
-dealt : (f : List ℕ → ℕ) (hands : Four (List ℕ)) (seat : ℕ) → f (at_seat hands seat) ≡ cond (eqb seat 0) (f hands.first) (cond (eqb seat 1) (f hands.second) (cond (eqb seat 2) (f hands.third) (f hands.fourth)))
+dealt : (f : List ℕ → ℕ) (hands : Four (List ℕ)) (seat : ℕ) → f (at_seat hands seat) ≡ cond (eqb seat 0) (f hands.first)
+    (cond (eqb seat 1) (f hands.second) (cond (eqb seat 2) (f hands.third) (f hands.fourth)))
 dealt f hands seat = by_tests (eqb seat 0) (eqb seat 1) (eqb seat 2)
   where
-    by_tests : (p q r : Bool) → f (cond p hands.first (cond q hands.second (cond r hands.third hands.fourth))) ≡ cond p (f hands.first) (cond q (f hands.second) (cond r (f hands.third) (f hands.fourth)))
+    by_tests : (p q r : Bool) → f (cond p hands.first (cond q hands.second (cond r hands.third hands.fourth))) ≡ cond p (f hands.first)
+        (cond q (f hands.second) (cond r (f hands.third) (f hands.fourth)))
     by_tests true q r = refl
     by_tests false true r = refl
     by_tests false false true = refl
@@ -51,7 +53,9 @@ two_of_four x y z w n a (suc (suc (suc (suc m)))) h k l ne = absurd (omega (arit
 two_gain : (a b kind : ℕ) (d : Deed) → a < 4 → b < 4 → (a ≡ b → ⊥) → number_of (gains_by a d) kind + number_of (gains_by b d) kind ≤ number_of (brought_by d) kind
 two_gain a b kind (StartHand round number honba deposits dealer indicator hands) k l ne =
     sum _ _ _ _ _ (dealt f hands a) (dealt f hands b)
-    (two_of_four (f hands.first) (f hands.second) (f hands.third) (f hands.fourth) _ a b (all _ _ _ _ (sum_by-cons (λ t. cond (eqb (kind_of t) kind) 1 0) indicator (hands.first ++ hands.second ++ hands.third ++ hands.fourth)) (number_of_four hands.first hands.second hands.third hands.fourth kind)) k l ne)
+    (two_of_four (f hands.first) (f hands.second) (f hands.third) (f hands.fourth) _ a b
+    (all _ _ _ _ (sum_by-cons (λ t. cond (eqb (kind_of t) kind) 1 0) indicator (hands.first ++ hands.second ++ hands.third ++ hands.fourth))
+    (number_of_four hands.first hands.second hands.third hands.fourth kind)) k l ne)
   where
     f : List ℕ → ℕ
     f xs = number_of xs kind

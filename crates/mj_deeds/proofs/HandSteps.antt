@@ -105,7 +105,8 @@ kept_passes (x ∷ ds) i d h = by_test (is_hand_start x) refl (λ k. kept_passes
     some_is : (a b : Deed) → Some a ≡ Some b → a ≡ b
     some_is a b e = cc
 
-    by_test : (b : Bool) → is_hand_start x ≡ b → ((k : ℕ) → slice_get (starts ds) k ≡ Some d → is_hand_start d ≡ true) → (i : ℕ) → slice_get (cond b (x ∷ starts ds) (starts ds)) i ≡ Some d → is_hand_start d ≡ true
+    by_test : (b : Bool) → is_hand_start x ≡ b → ((k : ℕ) → slice_get (starts ds) k ≡ Some d → is_hand_start d ≡ true) → (i : ℕ) →
+        slice_get (cond b (x ∷ starts ds) (starts ds)) i ≡ Some d → is_hand_start d ≡ true
     by_test true e others zero k = ap is_hand_start (sym (some_is x d k)) ∙ e
     by_test true e others (suc i) k = others i k
     by_test false e others i k = others i k

@@ -240,7 +240,8 @@ without_robbed-masked seat ds = by_newest (newest ds) ∙ ap (without_robbed (al
 pub is_ippatsu-masked : (seat who : ℕ) (ds : List Deed) → is_ippatsu ds who ≡ is_ippatsu (all_masked seat ds) who
 is_ippatsu-masked seat who ds =
     let accepted : is_in_riichi ds who ≡ is_in_riichi (all_masked seat ds) who = is_in_riichi-masked seat who ds in
-    let broken : list_any (ends_first who) (behind_reach (without_robbed ds (newest ds)) who) ≡ list_any (ends_first who) (behind_reach (without_robbed (all_masked seat ds) (newest (all_masked seat ds))) who) =
+    let broken : list_any (ends_first who) (behind_reach (without_robbed ds (newest ds)) who) ≡ list_any (ends_first who)
+    (behind_reach (without_robbed (all_masked seat ds) (newest (all_masked seat ds))) who) =
     any-kept (ends_first who) (masked seat) (ends_first-masked seat who) (behind_reach (without_robbed ds (newest ds)) who)
     ∙ ap (list_any (ends_first who)) (behind_reach-masked seat who (without_robbed ds (newest ds)) ∙ ap (λ (xs : List Deed). behind_reach xs who) (without_robbed-masked seat ds)) in
     λ i. accepted i && not (broken i)

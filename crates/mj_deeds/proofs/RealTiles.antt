@@ -108,7 +108,8 @@ gains_pass p seat (Draw who tile replacement) h = at_one p (eqb who seat) tile (
 gains_pass p seat other h = refl
 
 -- What deeds give passes where what each of them gives does.
-gathered : {A : Type 0} (p : A → Bool) (f : Deed → List A) (red : Bool) (ds : List Deed) → ((d : Deed) → has_tiles red d ≡ true → list_all p (f d) ≡ true) → list_all (has_tiles red) ds ≡ true → list_all p (flat_map f ds) ≡ true
+gathered : {A : Type 0} (p : A → Bool) (f : Deed → List A) (red : Bool) (ds : List Deed) →
+    ((d : Deed) → has_tiles red d ≡ true → list_all p (f d) ≡ true) → list_all (has_tiles red) ds ≡ true → list_all p (flat_map f ds) ≡ true
 gathered p f red [] each h = refl
 gathered p f red (d ∷ ds) each h =
     let parts = and_parts (has_tiles red d) (list_all (has_tiles red) ds) h in
@@ -124,7 +125,8 @@ gained_real red ds seat h = gathered (is_face red) (gains_by seat) red ds (λ d 
 abbrev pub meld_passes : (ℕ → Bool) → Meld → Bool
 meld_passes p meld = p meld.a && p meld.b && p meld.c
 
-first_three : (p : ℕ → Bool) (tiles : List ℕ) → p 0 ≡ true → list_all p tiles ≡ true → (p (get_or (in_tile_order tiles) 0 0) && p (get_or (in_tile_order tiles) 1 0) && p (get_or (in_tile_order tiles) 2 0)) ≡ true
+first_three : (p : ℕ → Bool) (tiles : List ℕ) → p 0 ≡ true → list_all p tiles ≡ true →
+    (p (get_or (in_tile_order tiles) 0 0) && p (get_or (in_tile_order tiles) 1 0) && p (get_or (in_tile_order tiles) 2 0)) ≡ true
 first_three p tiles none h =
     let all = order_passes p tiles h in
     and_from (p (get_or (in_tile_order tiles) 0 0) && p (get_or (in_tile_order tiles) 1 0)) (p (get_or (in_tile_order tiles) 2 0))

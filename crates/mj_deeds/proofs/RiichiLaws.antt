@@ -62,7 +62,8 @@ double_more ds d seat =
     by_tests false true xs = ap (λ (ys : List Deed). is_first ys seat) (append-nil ds)
 
 -- What stands after the discard of a seat's reach, with one deed more.
-pub behind_reach-more : (ds : List Deed) (d : Deed) (seat : ℕ) → behind_reach (ds ++ d ∷ []) seat ≡ cond (list_any (is_discard_by seat) (behind_first (is_reach_by seat) ds)) (behind_reach ds seat ++ d ∷ []) []
+pub behind_reach-more : (ds : List Deed) (d : Deed) (seat : ℕ) → behind_reach (ds ++ d ∷ []) seat ≡ cond
+    (list_any (is_discard_by seat) (behind_first (is_reach_by seat) ds)) (behind_reach ds seat ++ d ∷ []) []
 behind_reach-more ds d seat =
     ap (behind_first (is_discard_by seat)) (behind_first-more (is_reach_by seat) ds d)
     ∙ by_test (list_any (is_reach_by seat) ds) refl
@@ -71,7 +72,8 @@ behind_reach-more ds d seat =
     none [] h = refl
     none (x ∷ xs) h = either (is_reach_by seat x) h (none xs)
       where
-        either : (b : Bool) → (b || list_any (is_reach_by seat) xs) ≡ false → (list_any (is_reach_by seat) xs ≡ false → behind_first (is_reach_by seat) xs ≡ []) → cond b xs (behind_first (is_reach_by seat) xs) ≡ []
+        either : (b : Bool) → (b || list_any (is_reach_by seat) xs) ≡ false → (list_any (is_reach_by seat) xs ≡ false →
+            behind_first (is_reach_by seat) xs ≡ []) → cond b xs (behind_first (is_reach_by seat) xs) ≡ []
         either true h k = cc
         either false h k = k h
 

@@ -78,7 +78,8 @@ stands_next now next end s e = whole (next_is now next end e)
     )
 
 -- A start of a hand says the standing that it is held against.
-start_says : (now : Standing) (lying number : ℕ) (d : Deed) → starts_with now lying d ≡ true → standing_by number (Some d) ≡ record { round = now.round; dealer = now.dealer; honba = now.honba; hand = number }
+start_says : (now : Standing) (lying number : ℕ) (d : Deed) → starts_with now lying d ≡ true →
+    standing_by number (Some d) ≡ record { round = now.round; dealer = now.dealer; honba = now.honba; hand = number }
 start_says now lying number (StartHand round dealer_number honba deposits dealer indicator hands) h =
     let a = round == now.round in
     let b = dealer_number == now.dealer + 1 in

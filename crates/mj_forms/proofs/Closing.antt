@@ -27,7 +27,8 @@ without front = ap (λ n. take (n - 2) (front ++ codes "}\n")) (length-append fr
     two n = omega arith
 
 pub line_closes : (viewer : Viewer) (d : Deed) → Closes (line viewer d)
-unfolding start_game_line start_hand_line draw_line discard_line call_object closed_kan_line added_kan_line dora_line reach_line reach_accepted_line win_line drawn_hand_line end_hand_line end_game_line
+unfolding start_game_line start_hand_line draw_line discard_line call_object closed_kan_line added_kan_line dora_line reach_line reach_accepted_line
+    win_line drawn_hand_line end_hand_line end_game_line
 line_closes viewer (deeds.StartGame names) = search closed
 line_closes viewer (deeds.StartHand round number honba deposits dealer indicator hands) = search closed
 line_closes viewer (deeds.Draw seat tile replacement) = search closed

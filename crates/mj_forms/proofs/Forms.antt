@@ -110,7 +110,8 @@ two_formed make same (a ∷ []) h = tt
 two_formed make same (a ∷ b ∷ []) h = same a b ∙ h
 two_formed make same (a ∷ b ∷ c ∷ pais) h = tt
 
-three_formed : (make : Pai → Pai → Pai → Answer) → ((a b c : Pai) → is_in_form (make a b c) ≡ are_in_order (a ∷ b ∷ c ∷ [])) → (pais : List Pai) → are_in_order pais ≡ true → IsFormed (with_three_tiles make pais)
+three_formed : (make : Pai → Pai → Pai → Answer) → ((a b c : Pai) → is_in_form (make a b c) ≡ are_in_order (a ∷ b ∷ c ∷ [])) → (pais : List Pai) →
+    are_in_order pais ≡ true → IsFormed (with_three_tiles make pais)
 three_formed make same [] h = tt
 three_formed make same (a ∷ []) h = tt
 three_formed make same (a ∷ b ∷ []) h = tt
@@ -128,7 +129,8 @@ four_formed make same (a ∷ b ∷ c ∷ d ∷ e ∷ pais) h = tt
 
 -- the kinds of answers
 
-call_formed : (make : ℕ → ℕ → Pai → List Pai → Option Answer) (value : Data) → ((actor target : ℕ) (tile : Pai) (pais : List Pai) → are_in_order pais ≡ true → IsFormed (make actor target tile pais)) → IsFormed (call_in make value)
+call_formed : (make : ℕ → ℕ → Pai → List Pai → Option Answer) (value : Data) → ((actor target : ℕ) (tile : Pai) (pais : List Pai) →
+    are_in_order pais ≡ true → IsFormed (make actor target tile pais)) → IsFormed (call_in make value)
 unfolding call_in
 call_formed make value h =
     then_formed _ (seat_in (codes "actor") value) (λ actor.
@@ -198,7 +200,9 @@ by_formed type value =
 -- The law.
 pub answers_that_are_read_are_in_form : AnswersThatAreReadAreInForm
 unfolding answer_of answer_in
-answers_that_are_read_are_in_form line = read _ (then_formed answer_in (value_of line) (λ value. then_formed (λ type. answer_by type value) (text_in (codes "type") value) (λ type. by_formed type value)))
+answers_that_are_read_are_in_form line =
+    read _ (then_formed answer_in (value_of line) (λ value. then_formed (λ type. answer_by type value) (text_in (codes "type") value)
+    (λ type. by_formed type value)))
   where
     read : (o : Option Answer) → IsFormed o → is_in_form (unwrap_or o Unread) ≡ true
     read None h = refl

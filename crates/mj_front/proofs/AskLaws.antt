@@ -30,12 +30,14 @@ nothing_begun question input seat end bytes is h = record {
     by_question SafeKinds = refl
 
 pub told_nothing : (question : Question) (end : End) (input : Input) (seat : ℕ) (result : Result Told AllocError) →
-    IfOk result (λ told. (i : Input) (s : ℕ) → HasNothing i end → Tells question i s told.end told.bytes.items) → HasNothing input end → IfOk result (λ told. Tells question input seat told.end told.bytes.items)
+    IfOk result (λ told. (i : Input) (s : ℕ) → HasNothing i end → Tells question i s told.end told.bytes.items) → HasNothing input end →
+    IfOk result (λ told. Tells question input seat told.end told.bytes.items)
 told_nothing question end input seat (Ok told) k h = k input seat h
 told_nothing question end input seat (Err e) k h = k
 
 -- An input that ends after its last whole line, of which nothing was entered.
-pub nothing_at_end : (input : Input) (reading : Intake) (number : ℕ) (lines : List (List ℕ)) (unread rest : List ℕ) (end : End) → input ≡ intake_from reading number lines unread → lines ≡ [] → unread ≡ rest →
+pub nothing_at_end : (input : Input) (reading : Intake) (number : ℕ) (lines : List (List ℕ)) (unread rest : List ℕ) (end : End) →
+    input ≡ intake_from reading number lines unread → lines ≡ [] → unread ≡ rest →
     at_end reading number rest ≡ record { reading = reading; ending = ending end } → reading.entries ≡ [] → HasNothing input end
 nothing_at_end input reading number lines unread rest end is none same at empty =
     let all : input ≡ record { reading = reading; ending = ending end } =

@@ -21,7 +21,8 @@ use Rattle.mj_front.specs.Inner.Forms.{meaning}
 use Rattle.mj_front.proofs.WallLaws.{IsWallLine, wall-more, wall-none, read-wall, heard-wall, few-more, whole-more, arrives-alone}
 
 -- One wall more.
-pub base-more : (rules : Rules) (walls : List (List ℕ)) (tag : List ℕ) (number : ℕ) (line tiles wall : List ℕ) (texts : List (List ℕ)) → WallOf tiles ≡ form_of line → arrives (intake_with_walls rules walls) line ≡ Leads (intake_with_walls rules (walls ++ wall ∷ []))
+pub base-more : (rules : Rules) (walls : List (List ℕ)) (tag : List ℕ) (number : ℕ) (line tiles wall : List ℕ) (texts : List (List ℕ)) →
+    WallOf tiles ≡ form_of line → arrives (intake_with_walls rules walls) line ≡ Leads (intake_with_walls rules (walls ++ wall ∷ []))
     → base_from rules walls tag number (line ∷ texts) ≡ base_from rules (walls ++ wall ∷ []) (tag ++ line ++ 10 ∷ []) (number + 1) texts
 base-more rules walls tag number line tiles wall texts e leads = rw (ap is_wall_form (sym e), leads) refl
 
@@ -63,7 +64,8 @@ pub record ReadsTo (rules : Rules) (input others : List ℕ) (walls : List (List
   pub numbered : number ≡ 2 + length walls
   pub unread : unfinished others ≡ unfinished rest
   pub is : (first : List ℕ) → input ≡ first ++ 10 ∷ others
-      → (input ≡ take (length input - length rest) input ++ rest) × (base_from rules [] (first ++ 10 ∷ []) 2 (whole_lines others) ≡ base_from rules walls (take (length input - length rest) input) number (whole_lines rest))
+      → (input ≡ take (length input - length rest) input ++ rest) × (base_from rules [] (first ++ 10 ∷ []) 2 (whole_lines others) ≡ base_from rules
+      walls (take (length input - length rest) input) number (whole_lines rest))
 
 pub reads-start : (rules : Rules) (input others : List ℕ) (walls : List (List ℕ)) → walls ≡ [] → ReadsTo rules input others walls others 2
 reads-start rules input others walls none = subst (λ (ws : List (List ℕ)). ReadsTo rules input others ws others 2) (sym none) (record {
@@ -123,13 +125,15 @@ stops-end rules walls rest none = subst (StopsAt rules walls) (sym none.lines) (
 base_with : List (List ℕ) → ℕ → List (List ℕ) → Rules → List ℕ → Base
 base_with walls number lines rules tag = record { setting = record { walls = walls; rules = rules }; tag = tag; number = number; lines = lines }
 
-reads-as : (rules : Rules) (input others : List ℕ) (walls longer : List (List ℕ)) (rest now : List ℕ) (number count : ℕ) → longer ≡ walls → now ≡ rest → count ≡ number → ReadsTo rules input others walls rest number → ReadsTo rules input others longer now count
+reads-as : (rules : Rules) (input others : List ℕ) (walls longer : List (List ℕ)) (rest now : List ℕ) (number count : ℕ) → longer ≡ walls →
+    now ≡ rest → count ≡ number → ReadsTo rules input others walls rest number → ReadsTo rules input others longer now count
 reads-as rules input others walls longer rest now number count p q r h =
     subst (λ (ws : List (List ℕ)). ReadsTo rules input others ws now count) (sym p)
     (subst (λ (l : List ℕ). ReadsTo rules input others walls l count) (sym q) (subst (λ (n : ℕ). ReadsTo rules input others walls rest n) (sym r) h))
 
 -- What was read once the walls end.
-module _ (g : Read) (rules : Rules) (input first others : List ℕ) (same : g.rules ≡ rules) (tag : g.tag.now ≡ take (length input - length g.rest.now) input) (r : ReadsTo rules input others g.walls.items g.rest.now g.number) (start : input ≡ first ++ 10 ∷ others) where
+module _ (g : Read) (rules : Rules) (input first others : List ℕ) (same : g.rules ≡ rules) (tag : g.tag.now ≡ take (length input - length g.rest.now)
+    input) (r : ReadsTo rules input others g.walls.items g.rest.now g.number) (start : input ≡ first ++ 10 ∷ others) where
   whole-tag : input ≡ g.tag.now ++ g.rest.now
   whole-tag = (r.is first start).0 ∙ ap (λ (t : List ℕ). t ++ g.rest.now) (sym tag)
 
@@ -140,7 +144,8 @@ module _ (g : Read) (rules : Rules) (input first others : List ℕ) (same : g.ru
       ∙ ap (λ (rs : Rules). base_with g.walls.items g.number (whole_lines g.rest.now) rs (take (length input - length g.rest.now) input)) (sym same)
       ∙ ap (base_with g.walls.items g.number (whole_lines g.rest.now) g.rules) (sym tag)
 
-  fits-as : 1 ≤ rules.limit → rules.limit ≤ 3600000 → length input ≤ longest → length g.rest.now < length input → g.number + length g.rest.now ≤ length others + 2 → length others < length input → IsFit g
+  fits-as : 1 ≤ rules.limit → rules.limit ≤ 3600000 → length input ≤ longest → length g.rest.now < length input →
+      g.number + length g.rest.now ≤ length others + 2 → length others < length input → IsFit g
   fits-as shortest most fits within count less =
       let long : length input ≡ length g.tag.now + length g.rest.now = ap length whole-tag ∙ length-append g.tag.now g.rest.now in record {
         few = r.few;
@@ -155,7 +160,8 @@ module _ (g : Read) (rules : Rules) (input first others : List ℕ) (same : g.ru
   walled-as : IsFit g → StopsAt rules g.walls.items (whole_lines g.rest.now) → IsWalled g rules first others
   walled-as fit stops = record { fit = fit; same_rules = same; is = base-is stops; unread = r.unread; heard = r.heard; number = r.numbered; stops = stops }
 
-pub walled : (g : Read) (rules : Rules) (input first others rest : List ℕ) (walls : List (List ℕ)) (number : ℕ) → g.rules ≡ rules → g.walls.items ≡ walls → g.tag.now ≡ take (length input - length rest) input → g.rest.now ≡ rest → g.number ≡ number
+pub walled : (g : Read) (rules : Rules) (input first others rest : List ℕ) (walls : List (List ℕ)) (number : ℕ) → g.rules ≡ rules →
+    g.walls.items ≡ walls → g.tag.now ≡ take (length input - length rest) input → g.rest.now ≡ rest → g.number ≡ number
     → 1 ≤ rules.limit → rules.limit ≤ 3600000 → length input ≤ longest → length others < length input → length rest < length input → number + length rest ≤ length others + 2
     → ReadsTo rules input others walls rest number → StopsAt rules walls (whole_lines rest) → input ≡ first ++ 10 ∷ others → IsWalled g rules first others
 walled g rules input first others rest walls number same same_walls tag same_rest same_number shortest most fits less within count r stops start =
@@ -167,7 +173,8 @@ walled g rules input first others rest walls number same same_walls tag same_res
     (fits-as g rules input first others same tag_now now start shortest most fits (omega (arith, long, within)) (omega (arith, long, same_number, count)) less) stops_now
 
 -- What is founded.
-module _ (g : Read) (rules : Rules) (first others input : List ℕ) (lines : whole_lines input ≡ first ∷ whole_lines others) (form : form_of first ≡ Header rules) (w : IsWalled g rules first others) where
+module _ (g : Read) (rules : Rules) (first others input : List ℕ) (lines : whole_lines input ≡ first ∷ whole_lines others)
+    (form : form_of first ≡ Header rules) (w : IsWalled g rules first others) where
   base-of : base_of input ≡ with_a_wall g.walls.items (base_meant g)
   base-of =
       ap base_in lines ∙ ap (λ (f : ArrivalForm). after_header_line f first (whole_lines others)) form ∙ ap (λ (b : Base). with_a_wall b.setting.walls b) w.is
@@ -195,9 +202,11 @@ module _ (g : Read) (rules : Rules) (first others input : List ℕ) (lines : who
   ends-at [] [] stops = refl
   ends-at [] (byte ∷ bytes) stops = refl
   ends-at (text ∷ texts) rest stops =
-      ap (λ (arrival : Arrival). (intake_on arrival (λ next. intake_from next 3 texts rest) (intake_with_walls rules []) 2).ending) (⊎_elim (λ other. arrives-alone rules text other) (λ bad. bad) stops)
+      ap (λ (arrival : Arrival). (intake_on arrival (λ next. intake_from next 3 texts rest) (intake_with_walls rules []) 2).ending)
+      (⊎_elim (λ other. arrives-alone rules text other) (λ bad. bad) stops)
 
-  pub founds-nothing : (end : End) → g.walls.items ≡ [] → unfinished input ≡ unfinished others → ending end ≡ end_without (whole_lines g.rest.now) (unfinished g.rest.now) → (base_of input ≡ None) × ((input_of input).ending ≡ ending end)
+  pub founds-nothing : (end : End) → g.walls.items ≡ [] → unfinished input ≡ unfinished others → ending end ≡ end_without (whole_lines g.rest.now)
+      (unfinished g.rest.now) → (base_of input ≡ None) × ((input_of input).ending ≡ ending end)
   founds-nothing end none unread is =
       let two : g.number ≡ 2 = w.number ∙ ap (λ (ws : List (List ℕ)). 2 + length ws) none in
       let stops = subst (λ (ws : List (List ℕ)). StopsAt rules ws (whole_lines g.rest.now)) none w.stops in
@@ -212,11 +221,13 @@ end-at : (rest : List ℕ) (e : Ending) → ((reading : Intake) → at_end readi
 end-at [] e h = sym (ap (λ (i : Input). i.ending) (h nothing_read))
 end-at (byte ∷ bytes) e h = sym (ap (λ (i : Input). i.ending) (h nothing_read))
 
-pub end-none : (rest : List ℕ) (e : Ending) → HasNoLine rest → ((reading : Intake) → at_end reading 2 rest ≡ record { reading = reading; ending = e }) → e ≡ end_without (whole_lines rest) (unfinished rest)
+pub end-none : (rest : List ℕ) (e : Ending) → HasNoLine rest → ((reading : Intake) → at_end reading 2 rest ≡ record { reading = reading; ending = e })
+    → e ≡ end_without (whole_lines rest) (unfinished rest)
 end-none rest e none h = end-at rest e h ∙ ap (end_without []) (sym none.ending) ∙ ap (λ (lines : List (List ℕ)). end_without lines (unfinished rest)) (sym none.lines)
 
 -- A first line that is no header founds nothing.
-no-header-form : (form : Form) (line : List ℕ) (texts : List (List ℕ)) → ((rules : Rules) → form ≡ forms.Header rules → ⊥) → (after_header_line (meaning form) line texts ≡ None) × (first_line nothing_read (meaning form) ≡ Bad)
+no-header-form : (form : Form) (line : List ℕ) (texts : List (List ℕ)) → ((rules : Rules) → form ≡ forms.Header rules → ⊥) →
+    (after_header_line (meaning form) line texts ≡ None) × (first_line nothing_read (meaning form) ≡ Bad)
 no-header-form (forms.Header rules) line texts h = absurd (h rules refl)
 no-header-form (forms.Wall tiles) line texts h = (refl, refl)
 no-header-form (forms.Sit text) line texts h = (refl, refl)

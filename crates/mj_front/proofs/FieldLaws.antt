@@ -24,7 +24,10 @@ expire_form_of_others (a ∷ b ∷ []) h = two (decimal_of a) (decimal_of b)
 expire_form_of_others (a ∷ b ∷ c ∷ []) h = cc h
 expire_form_of_others (a ∷ b ∷ c ∷ d ∷ ds) h = four (decimal_of a) (decimal_of b) (decimal_of c) (decimal_of d) (numbers_in ds)
   where
-    four : (o p q r : Option ℕ) (s : Option (List ℕ)) → expire_form (option_and_then (λ n. option_map (λ ns. n ∷ ns) (option_and_then (λ n. option_map (λ ns. n ∷ ns) (option_and_then (λ n. option_map (λ ns. n ∷ ns) (option_and_then (λ n. option_map (λ ns. n ∷ ns) s) r)) q)) p)) o) ≡ NoForm
+    four : (o p q r : Option ℕ) (s : Option (List ℕ)) →
+        expire_form (option_and_then (λ n. option_map (λ ns. n ∷ ns)
+        (option_and_then (λ n. option_map (λ ns. n ∷ ns)
+        (option_and_then (λ n. option_map (λ ns. n ∷ ns) (option_and_then (λ n. option_map (λ ns. n ∷ ns) s) r)) q)) p)) o) ≡ NoForm
     four None p q r s = refl
     four (Some n) None q r s = refl
     four (Some n) (Some m) None r s = refl
@@ -43,7 +46,9 @@ three_texts (x ∷ y ∷ []) a b c h = cc h
 three_texts (x ∷ y ∷ z ∷ []) a b c h = sym (ap texts_in h)
 three_texts (x ∷ y ∷ z ∷ v ∷ vs) a b c h = cc h
 
-pub expire_form_of_three : (texts : List (List ℕ)) (a b c : List ℕ) (window t1 t2 : ℕ) → Some (a, b, c) ≡ three_of texts → Some window ≡ decimal_of a → Some t1 ≡ decimal_of b → Some t2 ≡ decimal_of c → window < 2 ^ 32 → Expire window t1 t2 ≡ expire_form (numbers_in texts)
+pub expire_form_of_three : (texts : List (List ℕ)) (a b c : List ℕ) (window t1 t2 : ℕ) → Some (a, b, c) ≡ three_of texts →
+    Some window ≡ decimal_of a → Some t1 ≡ decimal_of b → Some t2 ≡ decimal_of c → window < 2 ^ 32 →
+    Expire window t1 t2 ≡ expire_form (numbers_in texts)
 expire_form_of_three texts a b c window t1 t2 h f g k below =
     let small : nat_lt window (2 ^ 32) ≡ true = grind (arith, nat_tests) in
     rw (three_texts texts a b c h, ← f, ← g, ← k, small)

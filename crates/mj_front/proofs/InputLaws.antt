@@ -42,7 +42,8 @@ Bytes = List ℕ
 
 module _ {D : Type 0} (told : D → Option Bytes) (may_leave : D → Bytes → Type 0) (seat : ℕ) (base : Base) (input : Bytes) (founds : base_of input ≡ Some base) (old : D) where
   -- Once the journal was opened.
-  module _ (kept : Entries) (old_written new_written : Option Bytes) (mid new : D) (had : (bytes : Bytes) → told old ≡ Some bytes → Gives (opens_for base bytes) kept) (on : TellsOn (told old) (told mid)) where
+  module _ (kept : Entries) (old_written new_written : Option Bytes) (mid new : D) (had : (bytes : Bytes) → told old ≡ Some bytes →
+      Gives (opens_for base bytes) kept) (on : TellsOn (told old) (told mid)) where
     safe_since : StaysSafe told may_leave base kept input mid new → LosesNothing told may_leave (base_of input) input old new
     safe_since safe =
         subst (λ (o : Option Base). LosesNothing told may_leave o input old new) (sym founds)
@@ -65,7 +66,8 @@ module _ {D : Type 0} (told : D → Option Bytes) (may_leave : D → Bytes → T
     keeps_input ends.TooLong k = absurd k
 
   -- Where it wasn't opened.
-  module _ (moment : D → ℕ) (left_since : D → ℕ → Bytes → Type 0) (counts_now : (disk : D) (t : ℕ) (image : Bytes) → t ≤ moment disk → may_leave disk image → left_since disk t image) (written : Option Bytes) (new : D)
+  module _ (moment : D → ℕ) (left_since : D → ℕ → Bytes → Type 0) (counts_now : (disk : D) (t : ℕ) (image : Bytes) → t ≤ moment disk →
+      may_leave disk image → left_since disk t image) (written : Option Bytes) (new : D)
       (looks : (bytes : Bytes) → told old ≡ Some bytes → is_fresh bytes ≡ false → OnlyLooks told may_leave moment left_since old new)
       (any_moment : (bytes : Bytes) → told old ≡ Some bytes → is_fresh bytes ≡ true → Only bytes (may_leave old) → LeavesOnly moment left_since old new (IsNewOrTag base.tag)) where
     loses_nothing : LosesNothing told may_leave (base_of input) input old new
@@ -94,14 +96,16 @@ module _ {D : Type 0} (told : D → Option Bytes) (may_leave : D → Bytes → T
 
 -- What becomes of an input that was read.
 module _ {D : Type 0} (told : D → Option Bytes) (may_leave : D → Bytes → Type 0) (seat : ℕ) (old_left new_left old_written new_written : Option Bytes) (old new : D) where
-  read-is : (start input : Bytes) (limit : ℕ) → start ≡ [] → limit ≡ longest → TakesOver old_left new_left start input → IsAtEnd new_left → length input ≤ length start + limit → IsRead old_left new_left input
+  read-is : (start input : Bytes) (limit : ℕ) → start ≡ [] → limit ≡ longest → TakesOver old_left new_left start input → IsAtEnd new_left →
+      length input ≤ length start + limit → IsRead old_left new_left input
   read-is start input limit none is takes ends fits = record {
     taken = subst (Consumes old_left new_left) (sym (takes.added ∙ ap (λ (s : Bytes). s ++ takes.bytes) none)) takes.taken;
     all = ends;
     fits = omega (arith, ap length none, is, fits);
   }
 
-  by-end : (end : KeepEnd) (input : Bytes) → IsRead old_left new_left input → KeepsInput told may_leave end seat input old_written new_written old new → KeepsAll told may_leave end seat old_left new_left old_written new_written old new
+  by-end : (end : KeepEnd) (input : Bytes) → IsRead old_left new_left input → KeepsInput told may_leave end seat input old_written new_written old new
+      → KeepsAll told may_leave end seat old_left new_left old_written new_written old new
   by-end (ends.Told e) input read does = record { input = input; read = read; does = does }
   by-end ends.WriteFault input read does = record { input = input; read = read; does = does }
   by-end ends.DiskFault input read does = record { input = input; read = read; does = does }
@@ -111,19 +115,22 @@ module _ {D : Type 0} (told : D → Option Bytes) (may_leave : D → Bytes → T
   by-end ends.ReadFault input read does = absurd does
   by-end ends.TooLong input read does = absurd does
 
-  pub keeps-all : (end : KeepEnd) (start input seen : Bytes) (limit : ℕ) → start ≡ [] → limit ≡ longest → seen ≡ input → TakesOver old_left new_left start input × IsAtEnd new_left × (length input ≤ length start + limit)
+  pub keeps-all : (end : KeepEnd) (start input seen : Bytes) (limit : ℕ) → start ≡ [] → limit ≡ longest → seen ≡ input →
+      TakesOver old_left new_left start input × IsAtEnd new_left × (length input ≤ length start + limit)
       → KeepsInput told may_leave end seat seen old_written new_written old new → KeepsAll told may_leave end seat old_left new_left old_written new_written old new
   keeps-all end start input seen limit none is same read does =
       by-end end input (read-is start input limit none is read.0 read.1 read.2) (subst (λ (i : Bytes). KeepsInput told may_leave end seat i old_written new_written old new) same does)
 
 -- An input that founds no game.
-pub keeps-nothing : {D : Type 0} (told : D → Option Bytes) (may_leave : D → Bytes → Type 0) (seat : ℕ) (input : Bytes) (end : End) (written : Option Bytes) (disk : D) → (base_of input ≡ None) × ((input_of input).ending ≡ ending end)
+pub keeps-nothing : {D : Type 0} (told : D → Option Bytes) (may_leave : D → Bytes → Type 0) (seat : ℕ) (input : Bytes) (end : End)
+    (written : Option Bytes) (disk : D) → (base_of input ≡ None) × ((input_of input).ending ≡ ending end)
     → KeepsInput told may_leave (ends.Told end) seat input written written disk disk
 keeps-nothing told may_leave seat input end written disk is =
     subst (λ (o : Option Base). KeepsWhole told may_leave o (ending end) seat input written written disk disk) (sym is.0) (record { ends = is.1; unwritten = Keeps-refl written; untouched = refl })
 
 -- A journal that was opened, and what then becomes of the lines after the tag.
-module _ {D : Type 0} (told : D → Option Bytes) (may_leave : D → Bytes → Type 0) (seat : ℕ) (base : Base) (input : Bytes) (founds : base_of input ≡ Some base) (old mid new : D) (kept : Kept Watched) (old_written new_written : Option Bytes)
+module _ {D : Type 0} (told : D → Option Bytes) (may_leave : D → Bytes → Type 0) (seat : ℕ) (base : Base) (input : Bytes)
+    (founds : base_of input ≡ Some base) (old mid new : D) (kept : Kept Watched) (old_written new_written : Option Bytes)
     (w : Watched) (start : w.core ≡ record { setting = base.setting; entries = [] }) (of_seat : w.seat ≡ seat) (wall : (length base.setting.walls == 0) ≡ false) where
   same : w.core.setting ≡ base.setting
   same = ap (λ (g : Game). g.setting) start
@@ -131,8 +138,10 @@ module _ {D : Type 0} (told : D → Option Bytes) (may_leave : D → Bytes → T
   both : setting_in w ≡ (base.setting, seat)
   both = λ i. (same i, of_seat i)
 
-  pub keeps-opened : IsInPlay setting_in (setting_in w) (game_of kept) → ((bytes : Bytes) → told old ≡ Some bytes → OpensGame setting_in entries_in (setting_in w) (opens (play_of w.core.setting) base.tag bytes) (game_of kept) (end_of kept))
-      → TellsOn (told old) (told mid) → IsAtRest (told mid) (may_leave mid) (end_of kept) → IfKept (game_of kept) (λ v. TellsGame (opens (play_of w.core.setting) base.tag) (told mid) v.core.entries (end_of kept)) → (end : KeepEnd)
+  pub keeps-opened : IsInPlay setting_in (setting_in w) (game_of kept) → ((bytes : Bytes) → told old ≡ Some bytes →
+      OpensGame setting_in entries_in (setting_in w) (opens (play_of w.core.setting) base.tag bytes) (game_of kept) (end_of kept))
+      → TellsOn (told old) (told mid) → IsAtRest (told mid) (may_leave mid) (end_of kept) →
+      IfKept (game_of kept) (λ v. TellsGame (opens (play_of w.core.setting) base.tag) (told mid) v.core.entries (end_of kept)) → (end : KeepEnd)
       → ((game : Game) → base.setting ≡ game.setting → GoesOn told may_leave base.tag seat kept mid game → KeepsOn told may_leave end base seat game.entries input old_written new_written mid new)
       → KeepsInput told may_leave end seat input old_written new_written old new
   keeps-opened play opened on rest tells end does =
@@ -145,11 +154,13 @@ module _ {D : Type 0} (told : D → Option Bytes) (may_leave : D → Bytes → T
       keeps_input told may_leave seat base input founds old o.game.entries old_written new_written mid new had on end (does o.game (sym o.same) o.goes)
 
 -- How the disk opens for a watched game without entries.
-pub opened-as : (setting : Setting) (w : Watched) (tag bytes : Bytes) (o : Opening Entries) → w.core ≡ record { setting = setting; entries = [] } → opens (play_of w.core.setting) tag bytes ≡ o → opens (play_of setting) tag bytes ≡ o
+pub opened-as : (setting : Setting) (w : Watched) (tag bytes : Bytes) (o : Opening Entries) → w.core ≡ record { setting = setting; entries = [] } →
+    opens (play_of w.core.setting) tag bytes ≡ o → opens (play_of setting) tag bytes ≡ o
 opened-as setting w tag bytes o start e = ap (λ (g : Game). opens (play_of g.setting) tag bytes) (sym start) ∙ e
 
 -- So where the journal is another game's, or bad.
-module _ (w : Watched) (setting : Setting) (tag bytes : Bytes) (result : Result (Kept Watched) NotOpened) (error : NotOpened) (start : w.core ≡ record { setting = setting; entries = [] }) (is : result ≡ Err error)
+module _ (w : Watched) (setting : Setting) (tag bytes : Bytes) (result : Result (Kept Watched) NotOpened) (error : NotOpened)
+    (start : w.core ≡ record { setting = setting; entries = [] }) (is : result ≡ Err error)
     (opened : OpensAs setting_in entries_in (setting_in w) (opens (play_of w.core.setting) tag bytes) result) where
   failed-as : OpensAs setting_in entries_in (setting_in w) (opens (play_of w.core.setting) tag bytes) (Err error)
   failed-as = subst (λ (r : Result (Kept Watched) NotOpened). OpensAs setting_in entries_in (setting_in w) (opens (play_of w.core.setting) tag bytes) r) is opened
@@ -158,10 +169,12 @@ module _ (w : Watched) (setting : Setting) (tag bytes : Bytes) (result : Result 
   other-as why = opened-as setting w tag bytes Other start (subst (λ (e : NotOpened). OpensAs setting_in entries_in (setting_in w) (opens (play_of w.core.setting) tag bytes) (Err e)) why failed-as)
 
   pub bad-as : (place : ℕ) → error ≡ not_opened.BadJournal place → opens (play_of setting) tag bytes ≡ Bad place
-  bad-as place why = opened-as setting w tag bytes (Bad place) start (subst (λ (e : NotOpened). OpensAs setting_in entries_in (setting_in w) (opens (play_of w.core.setting) tag bytes) (Err e)) why failed-as)
+  bad-as place why = opened-as setting w tag bytes (Bad place) start
+      (subst (λ (e : NotOpened). OpensAs setting_in entries_in (setting_in w) (opens (play_of w.core.setting) tag bytes) (Err e)) why failed-as)
 
 -- What writes a script counts no fault of the disk.
-pub counts-script : (result : KeepEnd) (end : End) (o : Option Watched) (old_written new_written : Option Bytes) (old new : ℕ) → IsPlayed o (Unit {0}) → ((w : Watched) → o ≡ Some w → WritesScript result end w.seat w.core old_written new_written) → old ≤ new
+pub counts-script : (result : KeepEnd) (end : End) (o : Option Watched) (old_written new_written : Option Bytes) (old new : ℕ) →
+    IsPlayed o (Unit {0}) → ((w : Watched) → o ≡ Some w → WritesScript result end w.seat w.core old_written new_written) → old ≤ new
     → CountsDiskFaults (keep_status result) old new
 counts-script (ends.Told known.Whole) end o ow nw old new played writes more = more
 counts-script (ends.Told (known.Bad line)) end o ow nw old new played writes more = more

@@ -53,7 +53,8 @@ extends-behind : (reading : Intake) (form : ArrivalForm) → Extends reading (be
 unfolding wall_arrives sit_arrives say_arrives gone_arrives expiry_arrives
 extends-behind reading (Header rules) = record {}
 extends-behind reading (WallOf tiles) =
-    extends-if reading (is_wall (setting_of reading).rules.red tiles && not reading.begun && nat_lt (length reading.walls) 200) (Leads (record reading { walls = reading.walls ++ tiles ∷ [] })) (begins-itself reading.entries)
+    extends-if reading (is_wall (setting_of reading).rules.red tiles && not reading.begun && nat_lt (length reading.walls) 200)
+    (Leads (record reading { walls = reading.walls ++ tiles ∷ [] })) (begins-itself reading.entries)
 extends-behind reading (Sit text) =
     let entries = entries_of_placing 1 (join_of text) (placing (now_of reading) (join_of text)) in
     extends-unless reading (length reading.walls == 0) (Leads (with_entries reading entries)) (extends-more reading entries)
@@ -61,7 +62,8 @@ extends-behind reading (Say seat text) = extends-by reading (author_at (now_of r
   where
     says : (author : ℕ) → Extends reading (if can_say (now_of reading) author seat then Leads (with_entries reading (Said author seat (answer_of text) ∷ [])) else Bad)
     says author =
-        extends-if reading (can_say (now_of reading) author seat) (Leads (with_entries reading (Said author seat (answer_of text) ∷ []))) (extends-more reading (Said author seat (answer_of text) ∷ []))
+        extends-if reading (can_say (now_of reading) author seat) (Leads (with_entries reading (Said author seat (answer_of text) ∷ [])))
+        (extends-more reading (Said author seat (answer_of text) ∷ []))
 extends-behind reading (Leave seat) = extends-by reading (author_at (now_of reading) seat) _ (λ author. extends-more reading (Gone author seat ∷ []))
 extends-behind reading (Expire window t1 t2) =
     let entries = if can_expire (setting_of reading).rules.limit (now_of reading).deeds window t1 t2 then Expired 0 window t1 t2 ∷ [] else [] in
@@ -95,7 +97,9 @@ pub heard-begins : (reading : Intake) (number : ℕ) (lines : List (List ℕ)) (
 heard-begins reading number [] rest = at-end-begins reading number rest
 heard-begins reading number (text ∷ texts) rest = by (λ next. heard-begins next (number + 1) texts rest) (arrives reading text) (extends reading text)
   where
-    by : ((next : Intake) → Begins next.entries (intake_from next (number + 1) texts rest).reading.entries) → (arrival : Arrival) → Extends reading arrival → Begins reading.entries (intake_on arrival (λ next. intake_from next (number + 1) texts rest) reading number).reading.entries
+    by : ((next : Intake) → Begins next.entries (intake_from next (number + 1) texts rest).reading.entries) → (arrival : Arrival) →
+        Extends reading arrival → Begins reading.entries (intake_on arrival (λ next. intake_from next (number + 1) texts rest) reading
+        number).reading.entries
     by more Bad h = begins-itself reading.entries
     by more (Leads next) h = begins-on reading.entries next.entries (intake_from next (number + 1) texts rest).reading.entries h (more next)
 
@@ -107,7 +111,8 @@ behind-plain c (b ∷ bs) parts p h = by (λ q e. behind-plain c bs q e (has_byt
     tail : has_byte c bs ≡ false
     tail = (has_byte-head c b bs h).1
 
-    rest : ((q : List ℕ × List ℕ) → parted bs ≡ Some q → has_byte c q.1 ≡ false) → (o : Option (List ℕ × List ℕ)) → parted bs ≡ o → option_map (λ (q : List ℕ × List ℕ). (b ∷ q.0, q.1)) o ≡ Some parts → has_byte c parts.1 ≡ false
+    rest : ((q : List ℕ × List ℕ) → parted bs ≡ Some q → has_byte c q.1 ≡ false) → (o : Option (List ℕ × List ℕ)) → parted bs ≡ o →
+        option_map (λ (q : List ℕ × List ℕ). (b ∷ q.0, q.1)) o ≡ Some parts → has_byte c parts.1 ≡ false
     rest more None e k = absurd (cc k)
     rest more (Some q) e k = let same : q.1 ≡ parts.1 = ap (λ (o : Option (List ℕ × List ℕ)). option_map_or (λ (r : List ℕ × List ℕ). r.1) o []) k in ap (has_byte c) (sym same) ∙ more q e
 

@@ -70,7 +70,8 @@ said-heard Late author seat answer = refl
 said-heard (Refused rule) author seat answer = refl
 said-heard (Closing rule) author seat answer = refl
 
-pub say-arrival : (game : Game) (author seat : ℕ) (text : List ℕ) → author_of_seat game seat ≡ Some author → can_say (after_of game) author seat ≡ true → is_asked (shown_of game.setting game.entries) author seat ≡ true
+pub say-arrival : (game : Game) (author seat : ℕ) (text : List ℕ) → author_of_seat game seat ≡ Some author → can_say (after_of game) author seat ≡
+    true → is_asked (shown_of game.setting game.entries) author seat ≡ true
     → IsArrivalOf (say_arrives (intake_of game) seat text) game (Say author seat text)
 say-arrival game author seat text by can asked =
     let c = has_chair (slice_get (after_of game).chairs seat) author by in
@@ -79,11 +80,14 @@ say-arrival game author seat text by can asked =
     whole : (chair : Chair) → slice_get (after_of game).chairs seat ≡ Some chair → list_of (entered (play_of game.setting) game.entries (Say author seat text)) ≡ Said author seat (answer_of text) ∷ []
     whole chair at = rw (asked, at) (said-heard (verdict_on game.setting.rules (after_of game).deeds seat (answer_of text) chair.progress) author seat (answer_of text))
 
-pub gone-arrival : (game : Game) (author seat : ℕ) → author_of_seat game seat ≡ Some author → is_by (shown_of game.setting game.entries) author seat ≡ true → IsArrivalOf (gone_arrives (intake_of game) seat) game (Leave author seat)
+pub gone-arrival : (game : Game) (author seat : ℕ) → author_of_seat game seat ≡ Some author → is_by (shown_of game.setting game.entries) author seat ≡
+    true → IsArrivalOf (gone_arrives (intake_of game) seat) game (Leave author seat)
 gone-arrival game author seat by here =
     goes game author seat by ∙ ap (λ (b : Bool). Leads (with_entries (intake_of game) (list_of (if b then Some (Gone author seat) else None)))) (sym here)
 
-expired-list : (opened can : Bool) (window t1 t2 : ℕ) → (opened ≡ false → can ≡ false) → ◌≡◌ {A = List (Entry Answer)} (if can then Expired 0 window t1 t2 ∷ [] else []) (list_of (expired (if opened then (if can then expiry.Closed else expiry.Early) else expiry.Stale) 0 window t1 t2))
+expired-list : (opened can : Bool) (window t1 t2 : ℕ) → (opened ≡ false → can ≡ false) →
+    ◌≡◌ {A = List (Entry Answer)} (if can then Expired 0 window t1 t2 ∷ [] else [])
+    (list_of (expired (if opened then (if can then expiry.Closed else expiry.Early) else expiry.Stale) 0 window t1 t2))
 expired-list true true window t1 t2 h = refl
 expired-list true false window t1 t2 h = refl
 expired-list false true window t1 t2 h = absurd (cc (h refl))
@@ -92,33 +96,39 @@ expired-list false false window t1 t2 h = refl
 pub expire-arrival : (game : Game) (window t1 t2 : ℕ) → (length game.setting.walls == 0) ≡ false → IsArrivalOf (expiry_arrives (intake_of game) window t1 t2) game (Expire 0 window t1 t2)
 expire-arrival game window t1 t2 wall =
     expires-by game window t1 t2 (may_expire game window t1 t2) wall refl
-    ∙ ap (λ (es : List (Entry Answer)). Leads (with_entries (intake_of game) es)) (expired-list (is_open (after_of game).deeds window) (may_expire game window t1 t2) window t1 t2 (stale game window t1 t2))
+    ∙ ap (λ (es : List (Entry Answer)). Leads (with_entries (intake_of game) es)) (expired-list (is_open (after_of game).deeds window)
+    (may_expire game window t1 t2) window t1 t2 (stale game window t1 t2))
 
 -- What the calls of a kept game answer, told by the entry alone.
-sit-adds : (answer right : SitAnswer) (author : ℕ) (join : Option JoinLine) (es fs : List (Entry Answer)) → HadMemory (of_sit answer) → AnswersSit es fs answer right author join → fs ≡ es ++ list_of (sat right author join)
+sit-adds : (answer right : SitAnswer) (author : ℕ) (join : Option JoinLine) (es fs : List (Entry Answer)) → HadMemory (of_sit answer) →
+    AnswersSit es fs answer right author join → fs ≡ es ++ list_of (sat right author join)
 sit-adds (sits.Sat seat) right author None es fs had is = absurd is.1
 sit-adds (sits.Sat seat) right author (Some join) es fs had is = is.1.1 ∙ ap (λ (r : SitAnswer). es ++ list_of (sat {A = Answer} r author (Some join))) (sym is.0)
 sit-adds (sits.Back seat) right author join es fs had is = is.1 ∙ ap (λ (r : SitAnswer). es ++ list_of (sat {A = Answer} r author join)) (sym is.0)
 sit-adds (sits.Refused why) right author join es fs had is = is.1 ∙ sym (append-nil es) ∙ ap (λ (r : SitAnswer). es ++ list_of (sat {A = Answer} r author join)) (sym is.0)
 sit-adds sits.NoMemory right author join es fs had is = absurd had
 
-said-right : (answer right : Heard Rule) (author seat : ℕ) (reads : Answer) (es fs : List (Entry Answer)) → HadMemory (of_said answer) → AnswersSaid es fs answer right author seat reads → fs ≡ es ++ list_of (said right author seat reads)
+said-right : (answer right : Heard Rule) (author seat : ℕ) (reads : Answer) (es fs : List (Entry Answer)) → HadMemory (of_said answer) →
+    AnswersSaid es fs answer right author seat reads → fs ≡ es ++ list_of (said right author seat reads)
 said-right heard.Taken right author seat reads es fs had is = is.1 ∙ ap (λ (r : Heard Rule). es ++ list_of (said r author seat reads)) (sym is.0)
 said-right heard.Late right author seat reads es fs had is = is.1 ∙ ap (λ (r : Heard Rule). es ++ list_of (said r author seat reads)) (sym is.0)
 said-right (heard.Refused rule) right author seat reads es fs had is = is.1 ∙ ap (λ (r : Heard Rule). es ++ list_of (said r author seat reads)) (sym is.0)
 said-right (heard.Closing rule) right author seat reads es fs had is = is.1 ∙ ap (λ (r : Heard Rule). es ++ list_of (said r author seat reads)) (sym is.0)
 said-right heard.NoMemory right author seat reads es fs had is = absurd had
 
-said-adds : (answer right : Heard Rule) (author seat : ℕ) (reads : Answer) (asked : Bool) (es fs : List (Entry Answer)) → asked ≡ true → HadMemory (of_said answer) → AnswersSaid es fs answer right author seat reads
+said-adds : (answer right : Heard Rule) (author seat : ℕ) (reads : Answer) (asked : Bool) (es fs : List (Entry Answer)) → asked ≡ true →
+    HadMemory (of_said answer) → AnswersSaid es fs answer right author seat reads
     → fs ≡ es ++ list_of (if asked then said right author seat reads else None)
 said-adds answer right author seat reads asked es fs so had is =
     said-right answer right author seat reads es fs had is ∙ ap (λ (b : Bool). es ++ list_of (if b then said right author seat reads else None)) (sym so)
 
-gone-adds : (answer : Left) (author seat : ℕ) (here : Bool) (es fs : List (Entry Answer)) → here ≡ true → HadMemory (of_gone answer) → AnswersGone es fs answer author seat → fs ≡ es ++ list_of (if here then Some (Gone author seat) else None)
+gone-adds : (answer : Left) (author seat : ℕ) (here : Bool) (es fs : List (Entry Answer)) → here ≡ true → HadMemory (of_gone answer) →
+    AnswersGone es fs answer author seat → fs ≡ es ++ list_of (if here then Some (Gone author seat) else None)
 gone-adds left.Gone author seat here es fs so had is = is ∙ ap (λ (b : Bool). es ++ list_of (if b then Some (Gone author seat) else None)) (sym so)
 gone-adds left.NoMemory author seat here es fs so had is = absurd had
 
-expiry-adds : (answer right : Expiry) (author window t1 t2 : ℕ) (es fs : List (Entry Answer)) → HadMemory (of_expiry answer) → AnswersExpiry es fs answer right author window t1 t2 → fs ≡ es ++ list_of (expired right author window t1 t2)
+expiry-adds : (answer right : Expiry) (author window t1 t2 : ℕ) (es fs : List (Entry Answer)) → HadMemory (of_expiry answer) →
+    AnswersExpiry es fs answer right author window t1 t2 → fs ≡ es ++ list_of (expired right author window t1 t2)
 expiry-adds expiry.Closed right author window t1 t2 es fs had is = is.1 ∙ ap (λ (r : Expiry). es ++ list_of (expired {A = Answer} r author window t1 t2)) (sym is.0)
 expiry-adds expiry.Stale right author window t1 t2 es fs had is = is.1 ∙ sym (append-nil es) ∙ ap (λ (r : Expiry). es ++ list_of (expired {A = Answer} r author window t1 t2)) (sym is.0)
 expiry-adds expiry.Early right author window t1 t2 es fs had is = is.1 ∙ sym (append-nil es) ∙ ap (λ (r : Expiry). es ++ list_of (expired {A = Answer} r author window t1 t2)) (sym is.0)
@@ -134,7 +144,9 @@ entries_in w = w.core.entries
 abbrev pub Adds_entry : {T : Type 0} → GameCall → T → Setting × ℕ → List (Entry Answer) → List (Entry Answer) → Type 0
 Adds_entry call answer s es fs = fs ≡ es ++ list_of (entered (play_of s.0) es call)
 
-answers-more : {T : Type 0} (result : Answered T) (P Q : T → Setting × ℕ → List (Entry Answer) → List (Entry Answer) → Type 0) (w : Watched) (b : Option Watched) → ((answer : T) (fs : List (Entry Answer)) → P answer (setting_in w) (entries_in w) fs → Q answer (setting_in w) (entries_in w) fs)
+answers-more : {T : Type 0} (result : Answered T) (P Q : T → Setting × ℕ → List (Entry Answer) → List (Entry Answer) → Type 0) (w : Watched)
+    (b : Option Watched) → ((answer : T) (fs : List (Entry Answer)) → P answer (setting_in w) (entries_in w) fs →
+    Q answer (setting_in w) (entries_in w) fs)
     → Answers setting_in entries_in result P (Some w) b → Answers setting_in entries_in result Q (Some w) b
 answers-more (answered.Done answer) P Q w None more h = absurd h
 answers-more (answered.Done answer) P Q w (Some v) more h = (h.0, more answer (entries_in v) h.1)
@@ -155,13 +167,15 @@ GoesSo author seat answer s es fs = HadMemory (of_gone answer) × AnswersGone es
 abbrev pub ExpiresSo : ℕ → ℕ → ℕ → ℕ → Expiry → Setting × ℕ → List (Entry Answer) → List (Entry Answer) → Type 0
 ExpiresSo author window t1 t2 answer s es fs = HadMemory (of_expiry answer) × AnswersExpiry es fs answer (expires_of s.0 es window t1 t2) author window t1 t2
 
-pub answers-sit : (result : Answered SitAnswer) (author : ℕ) (line : List ℕ) (w : Watched) (b : Option Watched) → Answers setting_in entries_in result (SitsSo author line) (Some w) b → Answers setting_in entries_in result (Adds_entry (Sit author line)) (Some w) b
+pub answers-sit : (result : Answered SitAnswer) (author : ℕ) (line : List ℕ) (w : Watched) (b : Option Watched) → Answers setting_in entries_in result
+    (SitsSo author line) (Some w) b → Answers setting_in entries_in result (Adds_entry (Sit author line)) (Some w) b
 answers-sit result author line w b h =
     let right = sits_of w.core.setting w.core.entries line in
     answers-more result (SitsSo author line) (Adds_entry (Sit author line)) w b
     (λ answer fs p. sit-adds answer right author (join_of line) (entries_in w) fs p.0 p.1) h
 
-pub answers-said : (result : Answered (Heard Rule)) (author seat : ℕ) (line : List ℕ) (w : Watched) (b : Option Watched) → is_asked (shown_of w.core.setting w.core.entries) author seat ≡ true → Answers setting_in entries_in result (SaysSo author seat line) (Some w) b
+pub answers-said : (result : Answered (Heard Rule)) (author seat : ℕ) (line : List ℕ) (w : Watched) (b : Option Watched) →
+    is_asked (shown_of w.core.setting w.core.entries) author seat ≡ true → Answers setting_in entries_in result (SaysSo author seat line) (Some w) b
     → Answers setting_in entries_in result (Adds_entry (Say author seat line)) (Some w) b
 answers-said result author seat line w b asked h =
     let right = hears_of w.core.setting w.core.entries seat (answer_of line) in
@@ -169,7 +183,8 @@ answers-said result author seat line w b asked h =
     answers-more result (SaysSo author seat line) (Adds_entry (Say author seat line)) w b
     (λ answer fs p. said-adds answer right author seat (answer_of line) is (entries_in w) fs asked p.0 p.1) h
 
-pub answers-gone : (result : Answered Left) (author seat : ℕ) (w : Watched) (b : Option Watched) → is_by (shown_of w.core.setting w.core.entries) author seat ≡ true → Answers setting_in entries_in result (GoesSo author seat) (Some w) b
+pub answers-gone : (result : Answered Left) (author seat : ℕ) (w : Watched) (b : Option Watched) → is_by (shown_of w.core.setting w.core.entries)
+    author seat ≡ true → Answers setting_in entries_in result (GoesSo author seat) (Some w) b
     → Answers setting_in entries_in result (Adds_entry (Leave author seat)) (Some w) b
 answers-gone result author seat w b here h =
     let is = is_by (shown_of w.core.setting w.core.entries) author seat in
@@ -205,8 +220,10 @@ module _ {D : Type 0} (told : D → Option (List ℕ)) (may_leave : D → List �
     tells = subst (λ (es : List (Entry Answer)). TellsGame (opens (play_of w.core.setting) tag) (told new) es (end_of new_kept)) entries tells;
   }
 
-  module _ (w : Watched) (of_seat : w.seat ≡ seat) (wall : (length w.core.setting.walls == 0) ≡ false) (tells : TellsGame (opens (play_of w.core.setting) tag) (told old) w.core.entries (end_of kept)) (leads : IsArrivalOf arrival w.core call) where
-    noted_at : (result : Answered T) (b : Option Watched) → game_of new_kept ≡ b → Answers setting_in entries_in result (Adds_entry call) (Some w) b → IfKept b (λ g. IsAtRest (told new) (may_leave new) (end_of new_kept))
+  module _ (w : Watched) (of_seat : w.seat ≡ seat) (wall : (length w.core.setting.walls == 0) ≡ false)
+      (tells : TellsGame (opens (play_of w.core.setting) tag) (told old) w.core.entries (end_of kept)) (leads : IsArrivalOf arrival w.core call) where
+    noted_at : (result : Answered T) (b : Option Watched) → game_of new_kept ≡ b → Answers setting_in entries_in result (Adds_entry call) (Some w) b →
+        IfKept b (λ g. IsAtRest (told new) (may_leave new) (end_of new_kept))
         → AnyMoment told moment left_since (play_of w.core.setting) w.core.entries (end_of kept) call old new
         → IfBoth (Some w) b (λ g h. Acknowledged told may_leave (play_of g.core.setting) old new g.core.entries (end_of kept) h.core.entries (end_of new_kept))
         → Notes told may_leave (noted_by result) tag seat w.core new_kept old new arrival
@@ -235,7 +252,8 @@ module _ {D : Type 0} (told : D → Option (List ℕ)) (may_leave : D → List �
 
   -- So for a game that goes on.
   pub noted : (result : Answered T) (game : Game) → GoesOn told may_leave tag seat kept old game → IsArrivalOf arrival game call
-      → ((w : Watched) → game_of kept ≡ Some w → Answers setting_in entries_in result (Adds_entry call) (Some w) (game_of new_kept)) → IfKept (game_of new_kept) (λ g. IsAtRest (told new) (may_leave new) (end_of new_kept))
+      → ((w : Watched) → game_of kept ≡ Some w → Answers setting_in entries_in result (Adds_entry call) (Some w) (game_of new_kept)) →
+      IfKept (game_of new_kept) (λ g. IsAtRest (told new) (may_leave new) (end_of new_kept))
       → IfKept (game_of kept) (λ g. AnyMoment told moment left_since (play_of g.core.setting) g.core.entries (end_of kept) call old new)
       → IfBoth (game_of kept) (game_of new_kept) (λ g h. Acknowledged told may_leave (play_of g.core.setting) old new g.core.entries (end_of kept) h.core.entries (end_of new_kept))
       → Notes told may_leave (noted_by result) tag seat game new_kept old new arrival
@@ -246,14 +264,16 @@ module _ {D : Type 0} (told : D → Option (List ℕ)) (may_leave : D → List �
       (subst (λ (x : Game). TellsGame (opens (play_of x.setting) tag) (told old) x.entries (end_of kept)) (sym g.core) g.tells)
       (subst (λ (x : Game). IsArrivalOf arrival x call) (sym g.core) leads) result (game_of new_kept) refl (answers w g.is) rest
       (subst (λ (x : Option Watched). IfKept x (λ g. AnyMoment told moment left_since (play_of g.core.setting) g.core.entries (end_of kept) call old new)) g.is any)
-      (subst (λ (x : Option Watched). IfBoth x (game_of new_kept) (λ g h. Acknowledged told may_leave (play_of g.core.setting) old new g.core.entries (end_of kept) h.core.entries (end_of new_kept))) g.is after))
+      (subst (λ (x : Option Watched). IfBoth x (game_of new_kept) (λ g h. Acknowledged told may_leave (play_of g.core.setting) old new g.core.entries
+      (end_of kept) h.core.entries (end_of new_kept))) g.is after))
 
 -- By the line that is heard.
 pub arrives-by : (game : Game) (line : List ℕ) (form : ArrivalForm) → form ≡ form_of line → arrives (intake_of game) line ≡ behind_header (intake_of game) form
 unfolding arrives
 arrives-by game line form e = ap (behind_header (intake_of game)) (sym e)
 
-module _ {D : Type 0} (told : D → Option (List ℕ)) (may_leave : D → List ℕ → Type 0) (kept : Kept Watched) (disk : D) (tag : List ℕ) (seat : ℕ) (game : Game) (goes : GoesOn told may_leave tag seat kept disk game) where
+module _ {D : Type 0} (told : D → Option (List ℕ)) (may_leave : D → List ℕ → Type 0) (kept : Kept Watched) (disk : D) (tag : List ℕ) (seat : ℕ)
+    (game : Game) (goes : GoesOn told may_leave tag seat kept disk game) where
   pub none-noted : NotesNone told may_leave tag seat game kept disk disk
   none-noted = record { goes = goes; on = λ bytes is. (bytes, is) }
 
@@ -270,7 +290,8 @@ module _ {D : Type 0} (told : D → Option (List ℕ)) (may_leave : D → List �
   abbrev AnswersAs : {T : Type 0} → Answered T → (T → Setting × ℕ → List (Entry Answer) → List (Entry Answer) → Type 0) → Option Watched → Type 0
   AnswersAs result P o = Answers setting_in entries_in result P o (game_of new_kept)
 
-  noted-as : {T : Type 0} (result : Answered T) (n : Noted) (call : GameCall) (arrival : Arrival) → n ≡ noted_by result → IsArrivalOf arrival game call → ((w : Watched) → game_of kept ≡ Some w → AnswersAs result (Adds_entry call) (Some w)) → AnyMomentOf call
+  noted-as : {T : Type 0} (result : Answered T) (n : Noted) (call : GameCall) (arrival : Arrival) → n ≡ noted_by result →
+      IsArrivalOf arrival game call → ((w : Watched) → game_of kept ≡ Some w → AnswersAs result (Adds_entry call) (Some w)) → AnyMomentOf call
       → Notes told may_leave n tag seat game new_kept old new arrival
   noted-as result n call arrival is leads answers any =
       subst (λ (m : Noted). Notes told may_leave m tag seat game new_kept old new arrival) (sym is)
@@ -287,7 +308,8 @@ module _ {D : Type 0} (told : D → Option (List ℕ)) (may_leave : D → List �
   asked-for : (author speaker : ℕ) (g : Game) → IsAsked g author speaker → is_asked (shown_of g.setting g.entries) author speaker ≡ true
   asked-for author speaker g a = asked_of (shown_of g.setting g.entries) author speaker a.within a.here a.due
 
-  pub noted-say : (result : Answered (Heard Rule)) (n : Noted) (who speaker author : ℕ) (line : List ℕ) → n ≡ noted_by result → ((w : Watched) → game_of kept ≡ Some w → ◌≡◌ {A = Option (ℕ × ℕ)} (Some (speaker, author)) (asked_in w.core who))
+  pub noted-say : (result : Answered (Heard Rule)) (n : Noted) (who speaker author : ℕ) (line : List ℕ) → n ≡ noted_by result →
+      ((w : Watched) → game_of kept ≡ Some w → ◌≡◌ {A = Option (ℕ × ℕ)} (Some (speaker, author)) (asked_in w.core who))
       → AnswersAs result (SaysSo author speaker line) (game_of kept)
       → AnyMomentOf (Say author speaker line) → Notes told may_leave n tag seat game new_kept old new (say_arrives (intake_of game) who line)
   noted-say result n who speaker author line is asked answers any =
@@ -303,13 +325,15 @@ module _ {D : Type 0} (told : D → Option (List ℕ)) (may_leave : D → List �
   by-for : (author leaver : ℕ) (g : Game) → leaver < 4 → author_of_seat g leaver ≡ Some author → is_by (shown_of g.setting g.entries) author leaver ≡ true
   by-for author leaver g within here = by_of (shown_of g.setting g.entries) author leaver within here
 
-  pub noted-gone : (result : Answered Left) (n : Noted) (who leaver author : ℕ) → n ≡ noted_by result → leaver < 4 → ((w : Watched) → game_of kept ≡ Some w → ◌≡◌ {A = Option (ℕ × ℕ)} (Some (leaver, author)) (present_in w.core who))
+  pub noted-gone : (result : Answered Left) (n : Noted) (who leaver author : ℕ) → n ≡ noted_by result → leaver < 4 →
+      ((w : Watched) → game_of kept ≡ Some w → ◌≡◌ {A = Option (ℕ × ℕ)} (Some (leaver, author)) (present_in w.core who))
       → AnswersAs result (GoesSo author leaver) (game_of kept)
       → AnyMomentOf (Leave author leaver) → Notes told may_leave n tag seat game new_kept old new (gone_arrives (intake_of game) who)
   noted-gone result n who leaver author is within here answers any =
       let w = goes.watched in
       let found = present-is (author_of_seat w.core who) leaver author who (here w goes.is) in
-      let of_game : author_of_seat game leaver ≡ Some author = subst (λ (m : ℕ). author_of_seat game m ≡ Some author) (sym found.1) (subst (λ (g : Game). author_of_seat g who ≡ Some author) goes.core found.0) in
+      let of_game : author_of_seat game leaver ≡ Some author = subst (λ (m : ℕ). author_of_seat game m ≡ Some author) (sym found.1)
+      (subst (λ (g : Game). author_of_seat g who ≡ Some author) goes.core found.0) in
       let leads = subst (λ (m : ℕ). IsArrivalOf (gone_arrives (intake_of game) m) game (Leave author leaver)) found.1
       (gone-arrival game author leaver of_game (by-for author leaver game within of_game)) in
       noted-as result n (Leave author leaver) (gone_arrives (intake_of game) who) is leads

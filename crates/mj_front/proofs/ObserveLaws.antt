@@ -63,7 +63,8 @@ observed ends.ReadFault input deeds old new r written = absurd written
 observed ends.TooLong input deeds old new r written = absurd written
 observed ends.NoMemory input deeds old new r written = written
 
-pub viewed : (end : ReplayEnd) (input : List ℕ) (old_left new_left old new : Option (List ℕ)) → IsRead old_left new_left input → TakesInput IsObserved end input old new → Observes end old_left new_left old new
+pub viewed : (end : ReplayEnd) (input : List ℕ) (old_left new_left old new : Option (List ℕ)) → IsRead old_left new_left input →
+    TakesInput IsObserved end input old new → Observes end old_left new_left old new
 viewed end input old_left new_left old new read written = taken IsObserved end input old_left new_left old new read written
 
 -- The deeds before a number, and the deed with that number.

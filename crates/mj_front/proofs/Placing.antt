@@ -81,11 +81,13 @@ held_at : (o : Option Chair) (f : Chair → Bool) → option_map_or f o false �
 held_at None f h = cc h
 held_at (Some chair) f h = (chair, refl)
 
-back-by : (setting : Setting) (now : After) (join : Option JoinLine) (seat : ℕ) → placing now join ≡ places.Back seat → MayAdd setting now (entries_of_placing 1 join (placing now join)) → (chair : Chair) × (slice_get now.chairs seat ≡ Some chair)
+back-by : (setting : Setting) (now : After) (join : Option JoinLine) (seat : ℕ) → placing now join ≡ places.Back seat →
+    MayAdd setting now (entries_of_placing 1 join (placing now join)) → (chair : Chair) × (slice_get now.chairs seat ≡ Some chair)
 unfolding placing
 back-by setting now None seat h may = cc h
 back-by setting now (Some join) seat h may =
     held_at (slice_get now.chairs seat) (can_return now) (subst (λ (place : Placed). MayAdd setting now (entries_of_placing 1 (Some join) place)) h may)
 
-pub back-held : (setting : Setting) (now : After) (text : List ℕ) (seat : ℕ) → length now.chairs ≤ 4 → placing now (join_of text) ≡ places.Back seat → (chair : Chair) × (slice_get now.chairs seat ≡ Some chair)
+pub back-held : (setting : Setting) (now : After) (text : List ℕ) (seat : ℕ) → length now.chairs ≤ 4 → placing now (join_of text) ≡ places.Back seat →
+    (chair : Chair) × (slice_get now.chairs seat ≡ Some chair)
 back-held setting now text seat few h = back-by setting now (join_of text) seat h (placing-may setting now 1 (join_of text) (join_of-named text) few)

@@ -42,7 +42,8 @@ leads-same old new h = ap (λ (entries : List (Entry Answer)). Leads (record (in
 stays-same : (seat : ℕ) (old new : Game) (told : List ℕ) → new ≡ old → InPlay seat old told → InPlay seat new told
 stays-same seat old new told h play = subst (λ (game : Game). InPlay seat game told) (sym h) play
 
-plays-on : (seat : ℕ) (old new : Game) (entry : Entry Answer) (told more : List ℕ) → InPlay seat old told → Enters old new entry → length (after_of new).chairs ≤ 4 → more ≡ told_in seat (after_of new) → InPlay seat new more
+plays-on : (seat : ℕ) (old new : Game) (entry : Entry Answer) (told more : List ℕ) → InPlay seat old told → Enters old new entry →
+    length (after_of new).chairs ≤ 4 → more ≡ told_in seat (after_of new) → InPlay seat new more
 plays-on seat old new entry told more play e few bytes = record {
   wall = rw e.setting play.wall;
   few = few;
@@ -51,7 +52,8 @@ plays-on seat old new entry told more play e few bytes = record {
 
 -- somebody wants a seat
 
-pub sits-by : (old : Game) (text : List ℕ) (entries : List (Entry Answer)) → (length old.setting.walls == 0) ≡ false → entries_of_placing 1 (join_of text) (placing (after_of old) (join_of text)) ≡ entries →
+pub sits-by : (old : Game) (text : List ℕ) (entries : List (Entry Answer)) → (length old.setting.walls == 0) ≡ false →
+    entries_of_placing 1 (join_of text) (placing (after_of old) (join_of text)) ≡ entries →
     sit_arrives (intake_of old) text ≡ Leads (with_entries (intake_of old) entries)
 unfolding sit_arrives
 sits-by old text entries w e = rw (w, e)
@@ -61,7 +63,8 @@ sat-entries : (old new : Game) (join : Option JoinLine) (taken : ℕ) → placin
 sat-entries old new None taken h t = absurd t
 sat-entries old new (Some join) taken h t = (join.name, join.key, ap (entries_of_placing 1 (Some join)) h, t)
 
-pub sits : (seat taken : ℕ) (old new : Game) (text told more : List ℕ) → InPlay seat old told → (placing (after_of old) (join_of text) ≡ places.Sat taken) × TakesSeat (join_of text) old new 1 → Adds told more (greeting taken seat) →
+pub sits : (seat taken : ℕ) (old new : Game) (text told more : List ℕ) → InPlay seat old told →
+    (placing (after_of old) (join_of text) ≡ places.Sat taken) × TakesSeat (join_of text) old new 1 → Adds told more (greeting taken seat) →
     LeadsOn seat new more (sit_arrives (intake_of old) text)
 sits seat taken old new text told more play h adds =
     let s = sat-entries old new (join_of text) taken h.0 h.1 in
@@ -80,7 +83,8 @@ unfolding placing
 back-entries now None seat h = cc h
 back-entries now (Some join) seat h = ap (entries_of_placing 1 (Some join)) h
 
-pub returns : (seat taken : ℕ) (old new : Game) (text told more : List ℕ) → InPlay seat old told → (placing (after_of old) (join_of text) ≡ places.Back taken) × Enters old new (Back 1 taken) → Adds told more (greeting_again taken seat new) →
+pub returns : (seat taken : ℕ) (old new : Game) (text told more : List ℕ) → InPlay seat old told →
+    (placing (after_of old) (join_of text) ≡ places.Back taken) × Enters old new (Back 1 taken) → Adds told more (greeting_again taken seat new) →
     LeadsOn seat new more (sit_arrives (intake_of old) text)
 returns seat taken old new text told more play h adds =
     let held = back-held old.setting (after_of old) text taken play.few h.0 in (
@@ -107,7 +111,8 @@ refused-entries : (now : After) (join : Option JoinLine) (why : SitRefused) → 
 refused-entries now None why h = ap (entries_of_placing 1 None) h
 refused-entries now (Some join) why h = ap (entries_of_placing 1 (Some join)) h
 
-pub sits-refused : (seat : ℕ) (old new : Game) (text told : List ℕ) (why : SitRefused) → InPlay seat old told → (placing (after_of old) (join_of text) ≡ places.Refused why) × (new ≡ old) → LeadsOn seat new told (sit_arrives (intake_of old) text)
+pub sits-refused : (seat : ℕ) (old new : Game) (text told : List ℕ) (why : SitRefused) → InPlay seat old told →
+    (placing (after_of old) (join_of text) ≡ places.Refused why) × (new ≡ old) → LeadsOn seat new told (sit_arrives (intake_of old) text)
 sits-refused seat old new text told why play h = (
   sits-by old text [] play.wall (refused-entries (after_of old) (join_of text) why h.0) ∙ leads-same old new h.1,
   stays-same seat old new told h.1 play,
@@ -115,7 +120,8 @@ sits-refused seat old new text told why play h = (
 
 -- who says a line
 
-pub says : (game : Game) (author who : ℕ) (text : List ℕ) → author_of_seat game who ≡ Some author → can_say (after_of game) author who ≡ true → say_arrives (intake_of game) who text ≡ Leads (with_entries (intake_of game) (Said author who (answer_of text) ∷ []))
+pub says : (game : Game) (author who : ℕ) (text : List ℕ) → author_of_seat game who ≡ Some author → can_say (after_of game) author who ≡ true →
+    say_arrives (intake_of game) who text ≡ Leads (with_entries (intake_of game) (Said author who (answer_of text) ∷ []))
 unfolding say_arrives
 says game author who text h k = rw (h, k)
 
@@ -143,7 +149,8 @@ pub absent-is : (o : Option ℕ) (who : ℕ) → ◌≡◌ {A = Option (ℕ × �
 absent-is None who h = refl
 absent-is (Some by) who h = cc h
 
-pub says-unasked : (game : Game) (author speaker who : ℕ) (text : List ℕ) → ◌≡◌ {A = Option (ℕ × ℕ)} (Some (speaker, author)) (present_in game who) → may_say_at game speaker ≡ false → say_arrives (intake_of game) who text ≡ Bad
+pub says-unasked : (game : Game) (author speaker who : ℕ) (text : List ℕ) → ◌≡◌ {A = Option (ℕ × ℕ)} (Some (speaker, author)) (present_in game who) →
+    may_say_at game speaker ≡ false → say_arrives (intake_of game) who text ≡ Bad
 says-unasked game author speaker who text p h =
     let is = present-is (author_of_seat game who) speaker author who p in
     says-not game author who text is.0
@@ -160,7 +167,8 @@ nobody-beyond game who few beyond = rw (none_behind (after_of game).chairs who (
     behind n h = omega (arith, beyond, h)
 
 -- the seat itself says a line: it is told what was pending, and the rule that it breaks
-pub own : (author seat : ℕ) (old new : Game) (text told more : List ℕ) (verdict : Verdict) → InPlay seat old told → author_of_seat old seat ≡ Some author → can_say (after_of old) author seat ≡ true → Answers (answer_of text) old new author seat verdict →
+pub own : (author seat : ℕ) (old new : Game) (text told more : List ℕ) (verdict : Verdict) → InPlay seat old told →
+    author_of_seat old seat ≡ Some author → can_say (after_of old) author seat ≡ true → Answers (answer_of text) old new author seat verdict →
     more ≡ told ++ pending_at old seat ++ error_of verdict → LeadsOn seat new more (say_arrives (intake_of old) seat text)
 own author seat old new text told more verdict play h k e bytes =
     let c = has_chair (slice_get (after_of old).chairs seat) author h in (
@@ -169,19 +177,23 @@ own author seat old new text told more verdict play h k e bytes =
           (bytes ∙ ap (λ (xs : List ℕ). xs ++ pending_at old seat ++ error_of verdict) play.bytes ∙ sym (told-own author seat (answer_of text) old new c.0 verdict e.1 c.1 c.2 e.0)),
     )
 
-pub own-taken : (author seat : ℕ) (old new : Game) (text told more : List ℕ) → InPlay seat old told → author_of_seat old seat ≡ Some author → can_say (after_of old) author seat ≡ true → Answers (answer_of text) old new author seat Taken →
+pub own-taken : (author seat : ℕ) (old new : Game) (text told more : List ℕ) → InPlay seat old told → author_of_seat old seat ≡ Some author →
+    can_say (after_of old) author seat ≡ true → Answers (answer_of text) old new author seat Taken →
     Adds told more (pending_at old seat) → LeadsOn seat new more (say_arrives (intake_of old) seat text)
 own-taken author seat old new text told more play h k e p = own author seat old new text told more Taken play h k e (p.is ∙ sym (append-nil (told ++ pending_at old seat)))
 
-pub own-late : (author seat : ℕ) (old new : Game) (text told more : List ℕ) → InPlay seat old told → author_of_seat old seat ≡ Some author → can_say (after_of old) author seat ≡ true → Answers (answer_of text) old new author seat Late →
+pub own-late : (author seat : ℕ) (old new : Game) (text told more : List ℕ) → InPlay seat old told → author_of_seat old seat ≡ Some author →
+    can_say (after_of old) author seat ≡ true → Answers (answer_of text) old new author seat Late →
     Adds told more (pending_at old seat) → LeadsOn seat new more (say_arrives (intake_of old) seat text)
 own-late author seat old new text told more play h k e p = own author seat old new text told more Late play h k e (p.is ∙ sym (append-nil (told ++ pending_at old seat)))
 
-pub own-refused : (author seat : ℕ) (old new : Game) (text told more most : List ℕ) (rule : Rule) → InPlay seat old told → author_of_seat old seat ≡ Some author → can_say (after_of old) author seat ≡ true → Answers (answer_of text) old new author seat (Refused rule) →
+pub own-refused : (author seat : ℕ) (old new : Game) (text told more most : List ℕ) (rule : Rule) → InPlay seat old told →
+    author_of_seat old seat ≡ Some author → can_say (after_of old) author seat ≡ true → Answers (answer_of text) old new author seat (Refused rule) →
     Adds told more (pending_at old seat) → Adds more most (error_text rule) → LeadsOn seat new most (say_arrives (intake_of old) seat text)
 own-refused author seat old new text told more most rule play h k e p q = own author seat old new text told most (Refused rule) play h k e (q.is ∙ ap (λ (xs : List ℕ). xs ++ error_text rule) p.is)
 
-pub own-closing : (author seat : ℕ) (old new : Game) (text told more most : List ℕ) (rule : Rule) → InPlay seat old told → author_of_seat old seat ≡ Some author → can_say (after_of old) author seat ≡ true → Answers (answer_of text) old new author seat (Closing rule) →
+pub own-closing : (author seat : ℕ) (old new : Game) (text told more most : List ℕ) (rule : Rule) → InPlay seat old told →
+    author_of_seat old seat ≡ Some author → can_say (after_of old) author seat ≡ true → Answers (answer_of text) old new author seat (Closing rule) →
     Adds told more (pending_at old seat) → Adds more most (error_text rule) → LeadsOn seat new most (say_arrives (intake_of old) seat text)
 own-closing author seat old new text told more most rule play h k e p q = own author seat old new text told most (Closing rule) play h k e (q.is ∙ ap (λ (xs : List ℕ). xs ++ error_text rule) p.is)
 
@@ -189,7 +201,8 @@ own-closing author seat old new text told more most rule play h k e p q = own au
 apart : (who seat : ℕ) → (who == seat) ≡ false → who ≢ seat
 apart who seat h same = grind (arith, nat_tests, h, same)
 
-pub others : (author who seat : ℕ) (old new : Game) (text told : List ℕ) (verdict : Verdict) → (who == seat) ≡ false → InPlay seat old told → author_of_seat old who ≡ Some author → can_say (after_of old) author who ≡ true → Answers (answer_of text) old new author who verdict →
+pub others : (author who seat : ℕ) (old new : Game) (text told : List ℕ) (verdict : Verdict) → (who == seat) ≡ false → InPlay seat old told →
+    author_of_seat old who ≡ Some author → can_say (after_of old) author who ≡ true → Answers (answer_of text) old new author who verdict →
     LeadsOn seat new told (say_arrives (intake_of old) who text)
 others author who seat old new text told verdict differs play h k e =
     let c = has_chair (slice_get (after_of old).chairs who) author h in (
@@ -208,7 +221,8 @@ pub goes-absent : (game : Game) (who : ℕ) → None ≡ present_in game who →
 unfolding gone_arrives
 goes-absent game who h = rw (absent-is (author_of_seat game who) who h)
 
-pub goes-on : (author leaver who seat : ℕ) (old new : Game) (told more : List ℕ) → ◌≡◌ {A = Option (ℕ × ℕ)} (Some (leaver, author)) (present_in old who) → InPlay seat old told → Enters old new (Gone author leaver) → Adds told more (last_lines leaver seat old) →
+pub goes-on : (author leaver who seat : ℕ) (old new : Game) (told more : List ℕ) → ◌≡◌ {A = Option (ℕ × ℕ)} (Some (leaver, author))
+    (present_in old who) → InPlay seat old told → Enters old new (Gone author leaver) → Adds told more (last_lines leaver seat old) →
     LeadsOn seat new more (gone_arrives (intake_of old) who)
 goes-on author leaver who seat old new told more p play e adds =
     let is = present-is (author_of_seat old who) leaver author who p in
@@ -219,9 +233,11 @@ goes-on author leaver who seat old new told more p play e adds =
           (adds.is ∙ ap (λ (bytes : List ℕ). bytes ++ last_lines leaver seat old) play.bytes ∙ own_or_not c.0 c.1 c.2),
     )
   where
-    own_or_not : (chair : Chair) → slice_get (after_of old).chairs leaver ≡ Some chair → is_present chair ≡ true → told_in seat (after_of old) ++ last_lines leaver seat old ≡ told_in seat (after_of new)
+    own_or_not : (chair : Chair) → slice_get (after_of old).chairs leaver ≡ Some chair → is_present chair ≡ true →
+        told_in seat (after_of old) ++ last_lines leaver seat old ≡ told_in seat (after_of new)
     own_or_not chair at here = elim (eqb_tells leaver seat) [
-      | inl p ↦ rw p.0 (sym (told-gone author seat old new chair (subst (λ (n : ℕ). Enters old new (Gone author n)) p.1 e) (subst (λ (n : ℕ). slice_get (after_of old).chairs n ≡ Some chair) p.1 at) here))
+      | inl p ↦ rw p.0 (sym (told-gone author seat old new chair (subst (λ (n : ℕ). Enters old new (Gone author n)) p.1 e)
+          (subst (λ (n : ℕ). slice_get (after_of old).chairs n ≡ Some chair) p.1 at) here))
       | inr p ↦ rw p.0 (append-nil (told_in seat (after_of old)) ∙ sym (told-gone_other author leaver seat old new chair p.1 e at))
     ]
 
@@ -232,7 +248,8 @@ pub expires-by : (old : Game) (window t1 t2 : ℕ) (b : Bool) → (length old.se
 unfolding expiry_arrives
 expires-by old window t1 t2 b w e = rw (w, e)
 
-pub closes : (seat : ℕ) (old new : Game) (told : List ℕ) (window t1 t2 : ℕ) → InPlay seat old told → (may_expire old window t1 t2 ≡ true) × Enters old new (Expired 0 window t1 t2) → LeadsOn seat new told (expiry_arrives (intake_of old) window t1 t2)
+pub closes : (seat : ℕ) (old new : Game) (told : List ℕ) (window t1 t2 : ℕ) → InPlay seat old told → (may_expire old window t1 t2 ≡ true) × Enters old
+    new (Expired 0 window t1 t2) → LeadsOn seat new told (expiry_arrives (intake_of old) window t1 t2)
 closes seat old new told window t1 t2 play h =
     let same = same-expired 0 window t1 t2 old new h.1 in (
       expires-by old window t1 t2 true play.wall h.0 ∙ leads-enters old new (Expired 0 window t1 t2) h.1,
@@ -240,7 +257,8 @@ closes seat old new told window t1 t2 play h =
           (play.bytes ∙ ap (λ (chairs : List Chair). option_map_or told_of (slice_get chairs seat) []) (sym same)),
     )
 
-pub waits : (seat : ℕ) (old new : Game) (told : List ℕ) (window t1 t2 : ℕ) → InPlay seat old told → may_expire old window t1 t2 ≡ false → new ≡ old → LeadsOn seat new told (expiry_arrives (intake_of old) window t1 t2)
+pub waits : (seat : ℕ) (old new : Game) (told : List ℕ) (window t1 t2 : ℕ) → InPlay seat old told → may_expire old window t1 t2 ≡ false → new ≡ old →
+    LeadsOn seat new told (expiry_arrives (intake_of old) window t1 t2)
 waits seat old new told window t1 t2 play h k = (
   expires-by old window t1 t2 false play.wall h ∙ leads-same old new k,
   stays-same seat old new told k play,

@@ -23,7 +23,8 @@ pub kept-played : {G : Type 0} (game : Option G) (Holds : Type 0) → IsPlayed g
 kept-played None Holds played = absurd played
 kept-played (Some g) Holds played = played
 
-goes-played : {G S E : Type 0} (setting : G → S) (history : G → List E) (P : S → List E → List E → Type 0) (old new : Option G) (Held Holds : Type 0) → IsPlayed old Held → Goes setting history P old new → IfKept new (λ g. Holds) → IsPlayed new Holds
+goes-played : {G S E : Type 0} (setting : G → S) (history : G → List E) (P : S → List E → List E → Type 0) (old new : Option G) (Held Holds : Type 0)
+    → IsPlayed old Held → Goes setting history P old new → IfKept new (λ g. Holds) → IsPlayed new Holds
 goes-played setting history P None new Held Holds played goes kept = absurd played
 goes-played setting history P (Some g) None Held Holds played goes kept = absurd goes
 goes-played setting history P (Some g) (Some h) Held Holds played goes kept = kept
@@ -48,14 +49,16 @@ module _ {G S E T : Type 0} (setting : G → S) (history : G → List E) (P : T 
   counts-at answered.Stopped before now answers counts = absurd (not-stopped old played answers.0)
   counts-at answered.NoMemory before now answers counts = counts
 
-  pub counts-noted : (result : Answered T) (noted : Noted) (before now : ℕ) → noted ≡ noted_by result → Answers setting history result P old new → CountsAnswerFault result before now → CountsNotedFault noted before now
+  pub counts-noted : (result : Answered T) (noted : Noted) (before now : ℕ) → noted ≡ noted_by result → Answers setting history result P old new →
+      CountsAnswerFault result before now → CountsNotedFault noted before now
   counts-noted result noted before now is answers counts = subst (λ (n : Noted). CountsNotedFault n before now) (sym is) (counts-at result before now answers counts)
 
 -- A seat that is asked, with its author.
 abbrev asked_of_author : Game → ℕ → Option ℕ → Option (ℕ × ℕ)
 asked_of_author game who o = option_and_then (if_asked game) (option_map (λ (by : ℕ). (who, by)) o)
 
-asked-by : (game : Game) (who speaker author : ℕ) (o : Option ℕ) (may : Bool) → author_of_seat game who ≡ o → may_say_at game who ≡ may → ◌≡◌ {A = Option (ℕ × ℕ)} (Some (speaker, author)) (asked_of_author game who o)
+asked-by : (game : Game) (who speaker author : ℕ) (o : Option ℕ) (may : Bool) → author_of_seat game who ≡ o → may_say_at game who ≡ may →
+    ◌≡◌ {A = Option (ℕ × ℕ)} (Some (speaker, author)) (asked_of_author game who o)
     → (speaker ≡ who) × (author_of_seat game who ≡ Some author) × (may_say_at game who ≡ true)
 asked-by game who speaker author None may p q h = cc h
 asked-by game who speaker author (Some by) false p q h = let none : Some (speaker, author) ≡ None = h ∙ ap (λ (b : Bool). if b then Some (who, by) else None) q in cc none
@@ -64,7 +67,8 @@ asked-by game who speaker author (Some by) true p q h =
     let same : author ≡ by = ap (λ (a : Option (ℕ × ℕ)). option_map_or (λ (x : ℕ × ℕ). x.1) a 0) is in
     (ap (λ (a : Option (ℕ × ℕ)). option_map_or (λ (x : ℕ × ℕ). x.0) a 0) is, p ∙ ap (λ (n : ℕ). Some n) (sym same), q)
 
-due-by : (o : Option Chair) (deeds : ℕ) → option_map_or (λ (chair : Chair). is_present chair && nat_lt chair.progress.due deeds) o false ≡ true → option_map_or (λ (chair : Chair). chair.progress.due) o 0 < deeds
+due-by : (o : Option Chair) (deeds : ℕ) → option_map_or (λ (chair : Chair). is_present chair && nat_lt chair.progress.due deeds) o false ≡ true →
+    option_map_or (λ (chair : Chair). chair.progress.due) o 0 < deeds
 due-by None deeds may = absurd (cc may)
 due-by (Some chair) deeds may = by (is_present chair) may
   where
@@ -86,7 +90,8 @@ pub record IsAsked (game : Game) (author seat : ℕ) : Type 0 where
   pub here : author_of_seat game seat ≡ Some author
   pub due : due_at (after_of game) seat < length (after_of game).deeds
 
-pub is-asked : (game : Game) (who speaker author : ℕ) → length (after_of game).chairs ≤ 4 → ◌≡◌ {A = Option (ℕ × ℕ)} (Some (speaker, author)) (asked_in game who) → (speaker ≡ who) × IsAsked game author speaker
+pub is-asked : (game : Game) (who speaker author : ℕ) → length (after_of game).chairs ≤ 4 → ◌≡◌ {A = Option (ℕ × ℕ)} (Some (speaker, author))
+    (asked_in game who) → (speaker ≡ who) × IsAsked game author speaker
 is-asked game who speaker author few h =
     let a = asked-by game who speaker author (author_of_seat game who) (may_say_at game who) refl refl h in (
       a.0,
@@ -101,17 +106,22 @@ is-asked game who speaker author few h =
 pub asked-not : (game : Game) (who : ℕ) (text : List ℕ) → ◌≡◌ {A = Option (ℕ × ℕ)} None (asked_in game who) → say_arrives (intake_of game) who text ≡ Bad
 asked-not game who text h = by (author_of_seat game who) (may_say_at game who) refl refl h
   where
-    by : (o : Option ℕ) (may : Bool) → author_of_seat game who ≡ o → may_say_at game who ≡ may → ◌≡◌ {A = Option (ℕ × ℕ)} None (asked_of_author game who o) → say_arrives (intake_of game) who text ≡ Bad
+    by : (o : Option ℕ) (may : Bool) → author_of_seat game who ≡ o → may_say_at game who ≡ may →
+        ◌≡◌ {A = Option (ℕ × ℕ)} None (asked_of_author game who o) → say_arrives (intake_of game) who text ≡ Bad
     by None may p q k = says-absent game who text (sym (ap (option_map (λ (by : ℕ). (who, by))) p))
     by (Some author) false p q k = says-unasked game author who who text (sym (ap (option_map (λ (by : ℕ). (who, by))) p)) q
     by (Some author) true p q k = let some : None ≡ Some (who, author) = k ∙ ap (λ (b : Bool). if b then Some (who, author) else None) q in absurd (cc some)
 
 -- So of the game of a journal that is in play.
-pub if-asked : (o : Option Watched) (Held : Type 0) (who speaker author : ℕ) → IsPlayed o Held → ((w : Watched) → o ≡ Some w → ◌≡◌ {A = Option (ℕ × ℕ)} (Some (speaker, author)) (asked_in w.core who)) → (speaker < 4) × IfKept o (λ w. IsAsked w.core author speaker)
+pub if-asked : (o : Option Watched) (Held : Type 0) (who speaker author : ℕ) → IsPlayed o Held →
+    ((w : Watched) → o ≡ Some w → ◌≡◌ {A = Option (ℕ × ℕ)} (Some (speaker, author)) (asked_in w.core who)) →
+    (speaker < 4) × IfKept o (λ w. IsAsked w.core author speaker)
 if-asked None Held who speaker author played asked = absurd played
 if-asked (Some w) Held who speaker author played asked = let a = is-asked w.core who speaker author w.few (asked w refl) in (a.1.within, a.1)
 
-pub if-present : (o : Option Watched) (Held : Type 0) (who leaver author : ℕ) → IsPlayed o Held → ((w : Watched) → o ≡ Some w → ◌≡◌ {A = Option (ℕ × ℕ)} (Some (leaver, author)) (present_in w.core who)) → (leaver < 4) × IfKept o (λ w. author_of_seat w.core leaver ≡ Some author)
+pub if-present : (o : Option Watched) (Held : Type 0) (who leaver author : ℕ) → IsPlayed o Held →
+    ((w : Watched) → o ≡ Some w → ◌≡◌ {A = Option (ℕ × ℕ)} (Some (leaver, author)) (present_in w.core who)) →
+    (leaver < 4) × IfKept o (λ w. author_of_seat w.core leaver ≡ Some author)
 if-present None Held who leaver author played here = absurd played
 if-present (Some w) Held who leaver author played here =
     let is = present-is (author_of_seat w.core who) leaver author who (here w refl) in

@@ -19,7 +19,8 @@ summed ends.TooLong input summary old new sums written = absurd written
 summed ends.NoMemory input summary old new sums written = written
 
 -- what is written of an input is written of what was read
-pub taken : (Says : Saying) (end : ReplayEnd) (input : List ℕ) (old_left new_left old new : Option (List ℕ)) → IsRead old_left new_left input → TakesInput Says end input old new → TakesRecord Says end old_left new_left old new
+pub taken : (Says : Saying) (end : ReplayEnd) (input : List ℕ) (old_left new_left old new : Option (List ℕ)) → IsRead old_left new_left input →
+    TakesInput Says end input old new → TakesRecord Says end old_left new_left old new
 taken Says ends.Written input old_left new_left old new read written = record { input = input; read = read; written = written }
 taken Says (ends.Bad line cause) input old_left new_left old new read written = record { input = input; read = read; written = written }
 taken Says ends.WriteFault input old_left new_left old new read written = record { input = input; read = read; written = written }
@@ -27,5 +28,6 @@ taken Says ends.ReadFault input old_left new_left old new read written = absurd 
 taken Says ends.TooLong input old_left new_left old new read written = absurd written
 taken Says ends.NoMemory input old_left new_left old new read written = written
 
-pub replayed : (end : ReplayEnd) (input : List ℕ) (old_left new_left old new : Option (List ℕ)) → IsRead old_left new_left input → TakesInput IsSummed end input old new → Replays end old_left new_left old new
+pub replayed : (end : ReplayEnd) (input : List ℕ) (old_left new_left old new : Option (List ℕ)) → IsRead old_left new_left input →
+    TakesInput IsSummed end input old new → Replays end old_left new_left old new
 replayed end input old_left new_left old new read written = taken IsSummed end input old_left new_left old new read written

@@ -33,14 +33,16 @@ back rules now author seat chair = record chair {
   earlier = chair.earlier ++ (record { place = chair.place; told = chair.progress.told }) ∷ [];
 }
 
-chairs-back : (setting : Setting) (now : After) (author seat : ℕ) (chair : Chair) → slice_get now.chairs seat ≡ Some chair → (own_part setting now (Back author seat)).chairs ≡ slice_set now.chairs seat (back setting.rules now author seat chair)
+chairs-back : (setting : Setting) (now : After) (author seat : ℕ) (chair : Chair) → slice_get now.chairs seat ≡ Some chair →
+    (own_part setting now (Back author seat)).chairs ≡ slice_set now.chairs seat (back setting.rules now author seat chair)
 unfolding own_part after_back back
 chairs-back setting now author seat chair e = rw e
 
 told_before : (earlier : List Connection) (last : Connection) → flat_map (λ (c : Connection). c.told) (earlier ++ last ∷ []) ≡ flat_map (λ (c : Connection). c.told) earlier ++ last.told
 told_before earlier last = flat_map-append (λ (c : Connection). c.told) earlier (last ∷ []) ∙ ap (λ (bytes : List ℕ). flat_map (λ (c : Connection). c.told) earlier ++ bytes) (append-nil last.told)
 
-told-back-of : (rules : Rules) (now : After) (author seat : ℕ) (chair : Chair) → told_of (back rules now author seat chair) ≡ told_of chair ++ told_again (lines_for rules seat now.deeds) (due_on_return now seat)
+told-back-of : (rules : Rules) (now : After) (author seat : ℕ) (chair : Chair) → told_of (back rules now author seat chair) ≡ told_of chair ++
+    told_again (lines_for rules seat now.deeds) (due_on_return now seat)
 unfolding back
 told-back-of rules now author seat chair =
     ap (λ (bytes : List ℕ). bytes ++ told_again (lines_for rules seat now.deeds) (due_on_return now seat)) (told_before chair.earlier (record { place = chair.place; told = chair.progress.told }))
@@ -50,13 +52,16 @@ deeds-own_part : (setting : Setting) (now : After) (author seat : ℕ) (chair : 
 unfolding own_part after_back
 deeds-own_part setting now author seat chair e = rw e
 
-lines-with_deed : (rules : Rules) (seat due : ℕ) (now : After) (added : Option Deed) → due ≤ length now.deeds → take due (lines_for rules seat (with_deed now added).deeds) ≡ take due (lines_for rules seat now.deeds)
+lines-with_deed : (rules : Rules) (seat due : ℕ) (now : After) (added : Option Deed) → due ≤ length now.deeds →
+    take due (lines_for rules seat (with_deed now added).deeds) ≡ take due (lines_for rules seat now.deeds)
 lines-with_deed rules seat due now None few = refl
 lines-with_deed rules seat due now (Some deed) few =
     ap (take due) (lines_for-more rules seat now.deeds deed)
     ∙ take-append-le due (lines_for rules seat now.deeds) (seat_line rules (now.deeds ++ deed ∷ []) seat deed ∷ []) (subst (λ (n : ℕ). due ≤ n) (sym (length-lines rules seat now.deeds)) few)
 
-lines-step : (setting : Setting) (now : After) (entry : Entry Answer) (seat due : ℕ) → (own_part setting now entry).deeds ≡ now.deeds → due ≤ length now.deeds → take due (lines_for setting.rules seat (step setting now entry).deeds) ≡ take due (lines_for setting.rules seat now.deeds)
+lines-step : (setting : Setting) (now : After) (entry : Entry Answer) (seat due : ℕ) → (own_part setting now entry).deeds ≡ now.deeds →
+    due ≤ length now.deeds → take due (lines_for setting.rules seat (step setting now entry).deeds) ≡ take due
+    (lines_for setting.rules seat now.deeds)
 unfolding step
 lines-step setting now entry seat due same few =
     lines-with_deed setting.rules seat due (own_part setting now entry) (next_deed setting (own_part setting now entry) entry) (subst (λ (deeds : List Deed). due ≤ length deeds) (sym same) few)
@@ -75,10 +80,12 @@ due-few now seat = by_slot (is_some (at_seat now.slots seat)) (length now.deeds)
     by_slot true n = none n
     by_slot false n = less n
 
-due-back : (author seat : ℕ) (old new : Game) (chair : Chair) → Enters old new (Back author seat) → slice_get (after_of old).chairs seat ≡ Some chair → due_of new seat ≡ due_on_return (after_of old) seat
+due-back : (author seat : ℕ) (old new : Game) (chair : Chair) → Enters old new (Back author seat) → slice_get (after_of old).chairs seat ≡ Some chair
+    → due_of new seat ≡ due_on_return (after_of old) seat
 unfolding back
 due-back author seat old new chair e h =
-    ap (λ (chairs : List Chair). option_map_or (λ (c : Chair). c.progress.due) (slice_get chairs seat) 0) (chairs-enters old new (Back author seat) e ∙ chairs-back old.setting (after_of old) author seat chair h)
+    ap (λ (chairs : List Chair). option_map_or (λ (c : Chair). c.progress.due) (slice_get chairs seat) 0) (chairs-enters old new (Back author seat) e
+    ∙ chairs-back old.setting (after_of old) author seat chair h)
     ∙ ap (λ (o : Option Chair). option_map_or (λ (c : Chair). c.progress.due) o 0) (slice_get-set_at (after_of old).chairs seat (back old.setting.rules (after_of old) author seat chair) chair h)
 
 again-back : (author seat : ℕ) (old new : Game) (chair : Chair) → Enters old new (Back author seat) → slice_get (after_of old).chairs seat ≡ Some chair →
@@ -100,19 +107,22 @@ told-back author seat old new chair e h =
     ∙ told-back-of old.setting.rules (after_of old) author seat chair
     ∙ (λ i. option_map_or told_of (sym h i) [] ++ again-back author seat old new chair e h i)
 
-pub told-back_other : (author who seat : ℕ) (old new : Game) (chair : Chair) → who ≢ seat → Enters old new (Back author who) → slice_get (after_of old).chairs who ≡ Some chair → told_in seat (after_of new) ≡ told_in seat (after_of old)
+pub told-back_other : (author who seat : ℕ) (old new : Game) (chair : Chair) → who ≢ seat → Enters old new (Back author who) →
+    slice_get (after_of old).chairs who ≡ Some chair → told_in seat (after_of new) ≡ told_in seat (after_of old)
 told-back_other author who seat old new chair apart e h =
     ap (told_at seat) (chairs-enters old new (Back author who) e ∙ chairs-back old.setting (after_of old) author who chair h)
     ∙ set-other who seat (after_of old).chairs (back old.setting.rules (after_of old) author who chair) apart
 
-pub few-back : (author who : ℕ) (old new : Game) (chair : Chair) → Enters old new (Back author who) → slice_get (after_of old).chairs who ≡ Some chair → length (after_of old).chairs ≤ 4 → length (after_of new).chairs ≤ 4
+pub few-back : (author who : ℕ) (old new : Game) (chair : Chair) → Enters old new (Back author who) → slice_get (after_of old).chairs who ≡ Some chair
+    → length (after_of old).chairs ≤ 4 → length (after_of new).chairs ≤ 4
 few-back author who old new chair e h few =
     subst (λ (chairs : List Chair). length chairs ≤ 4) (sym (chairs-enters old new (Back author who) e ∙ chairs-back old.setting (after_of old) author who chair h))
     (set-few (after_of old).chairs who (back old.setting.rules (after_of old) author who chair) few)
 
 -- the lines that are told again, one by one
 
-at_place : (lines : List (List ℕ)) (k : ℕ) → flat_map (λ (line : List ℕ). line) (take (suc k) lines) ≡ flat_map (λ (line : List ℕ). line) (take k lines) ++ option_map_or (λ (line : List ℕ). line) (slice_get lines k) []
+at_place : (lines : List (List ℕ)) (k : ℕ) → flat_map (λ (line : List ℕ). line) (take (suc k) lines) ≡ flat_map (λ (line : List ℕ). line)
+    (take k lines) ++ option_map_or (λ (line : List ℕ). line) (slice_get lines k) []
 at_place [] k = nothing (suc k) k
   where
     nothing : (n m : ℕ) → flat_map (λ (line : List ℕ). line) (take n []) ≡ flat_map (λ (line : List ℕ). line) (take m []) ++ []
@@ -121,7 +131,8 @@ at_place [] k = nothing (suc k) k
     nothing (suc n) zero = refl
     nothing (suc n) (suc m) = refl
 at_place (text ∷ texts) zero = append-nil text
-at_place (text ∷ texts) (suc k) = ap (λ (bytes : List ℕ). text ++ bytes) (at_place texts k) ∙ sym (append_assoc text (flat_map (λ (line : List ℕ). line) (take k texts)) (option_map_or (λ (line : List ℕ). line) (slice_get texts k) []))
+at_place (text ∷ texts) (suc k) = ap (λ (bytes : List ℕ). text ++ bytes) (at_place texts k)
+    ∙ sym (append_assoc text (flat_map (λ (line : List ℕ). line) (take k texts)) (option_map_or (λ (line : List ℕ). line) (slice_get texts k) []))
 
 line-at : (o : Option (List ℕ)) → option_map_or (λ (line : List ℕ). line) o [] ≡ unwrap_or o []
 line-at None = refl
@@ -131,7 +142,8 @@ line-at (Some line) = refl
 abbrev pub told_to : ℕ → ℕ → ℕ → Game → List ℕ
 told_to k due seat game = hello_line ++ replay_line due ++ flat_map (λ (line : List ℕ). line) (take k (lines_for game.setting.rules seat (after_of game).deeds))
 
-pub told-line : (k due seat : ℕ) (game : Game) (old told more : List ℕ) → told ≡ old ++ told_to k due seat game → Adds told more (line_at game.setting.rules (after_of game).deeds seat k) → more ≡ old ++ told_to (k + 1) due seat game
+pub told-line : (k due seat : ℕ) (game : Game) (old told more : List ℕ) → told ≡ old ++ told_to k due seat game →
+    Adds told more (line_at game.setting.rules (after_of game).deeds seat k) → more ≡ old ++ told_to (k + 1) due seat game
 told-line k due seat game old told more h adds =
     let head : List ℕ = hello_line ++ replay_line due in
     let before : List ℕ = flat_map (λ (line : List ℕ). line) (take k (lines_for game.setting.rules seat (after_of game).deeds)) in

@@ -24,7 +24,8 @@ use Rattle.mj_front.specs.Safe.{IsSafeTold, safe_text}
 use Rattle.mj_front.specs.Referee.{IsTold, TellsAll, ending}
 
 -- the bytes that the seat is told are written, whole or in part
-pub told : (IsWritten : List ℕ → Type 0) (seat : ℕ) (input bytes : List ℕ) (end : End) → Tells Script (input_of input) seat end bytes → IsWritten bytes → IsTold IsWritten seat (game_of (input_of input).reading)
+pub told : (IsWritten : List ℕ → Type 0) (seat : ℕ) (input bytes : List ℕ) (end : End) → Tells Script (input_of input) seat end bytes →
+    IsWritten bytes → IsTold IsWritten seat (game_of (input_of input).reading)
 told IsWritten seat input bytes end tells written =
     let game = game_of (input_of input).reading in
     let legal = read_game_is_legal input in
@@ -44,7 +45,8 @@ same-lines seat rules others one other facts = λ i.
     (codes "not to discard\n")
 
 -- the kinds that are safe for the seat are written, whole or in part
-safe-told : (IsWritten : List ℕ → Type 0) (seat : ℕ) (input bytes : List ℕ) (end : End) → seat ≤ 3 → Tells SafeKinds (input_of input) seat end bytes → IsWritten bytes → IsSafeTold IsWritten seat (game_of (input_of input).reading)
+safe-told : (IsWritten : List ℕ → Type 0) (seat : ℕ) (input bytes : List ℕ) (end : End) → seat ≤ 3 → Tells SafeKinds (input_of input) seat end bytes →
+    IsWritten bytes → IsSafeTold IsWritten seat (game_of (input_of input).reading)
 safe-told IsWritten seat input bytes end low tells written =
     let game = game_of (input_of input).reading in
     let legal = read_game_is_legal input in
@@ -68,6 +70,7 @@ pub said-all : (question : Question) (seat : ℕ) (input bytes : List ℕ) (end 
 said-all question seat input bytes end old new low tells written = record { ends = tells.ends; told = said question (Appends old new) seat input bytes end low tells written }
 
 -- a part of it is written
-pub said-part : (question : Question) (seat : ℕ) (input bytes : List ℕ) (end : End) (old new : Option (List ℕ)) → seat ≤ 3 → Tells question (input_of input) seat end bytes → WritesPrefix old new bytes →
+pub said-part : (question : Question) (seat : ℕ) (input bytes : List ℕ) (end : End) (old new : Option (List ℕ)) → seat ≤ 3 →
+    Tells question (input_of input) seat end bytes → WritesPrefix old new bytes →
     said_by question (WritesPrefix old new) seat (game_of (input_of input).reading)
 said-part question seat input bytes end old new low tells written = said question (WritesPrefix old new) seat input bytes end low tells written

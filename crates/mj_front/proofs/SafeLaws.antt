@@ -37,7 +37,8 @@ abbrev Entries : Type 0
 Entries = List (Entry Answer)
 
 -- What a legal game tells a seat, written whole or in part.
-pub tells-script : (IsWritten : List ℕ → Type 0) (seat : ℕ) (game : Game) (bytes : List ℕ) → IsLegal game.setting game.entries → bytes ≡ scripts seat game.setting game.entries → IsWritten bytes → IsTold IsWritten seat game
+pub tells-script : (IsWritten : List ℕ → Type 0) (seat : ℕ) (game : Game) (bytes : List ℕ) → IsLegal game.setting game.entries →
+    bytes ≡ scripts seat game.setting game.entries → IsWritten bytes → IsTold IsWritten seat game
 tells-script IsWritten seat game bytes legal is written = record {
   bytes = subst IsWritten is written;
   same = λ other agree. sym (agreeing_scripts seat game other agree);
@@ -47,7 +48,8 @@ tells-script IsWritten seat game bytes legal is written = record {
 }
 
 -- So of the game that is watched.
-pub script-told : (IsWritten : List ℕ → Type 0) (o : Option Watched) (v w : Watched) (bytes : List ℕ) → o ≡ Some v → o ≡ Some w → IsLegal v.core.setting v.core.entries → bytes ≡ scripts v.seat v.core.setting v.core.entries → IsWritten bytes → IsTold IsWritten w.seat w.core
+pub script-told : (IsWritten : List ℕ → Type 0) (o : Option Watched) (v w : Watched) (bytes : List ℕ) → o ≡ Some v → o ≡ Some w →
+    IsLegal v.core.setting v.core.entries → bytes ≡ scripts v.seat v.core.setting v.core.entries → IsWritten bytes → IsTold IsWritten w.seat w.core
 script-told IsWritten o v w bytes p q legal is written =
     let found : Some v ≡ Some w = sym p ∙ q in
     let same : v ≡ w = cc found in
@@ -65,7 +67,8 @@ module _ {D : Type 0} (told : D → Option (List ℕ)) (may_leave : D → List �
   opens-same : (image : List ℕ) → opens (play_of game.setting) base.tag image ≡ opens_for base image
   opens-same image = ap (λ (s : Setting). opens (play_of s) base.tag image) (sym setting)
 
-  module _ (IsWritten : List ℕ → Type 0) (Ends : Ending → Type 0) (end : End) (kept : Kept Watched) (n : NotesEach told may_leave base.tag seat end game kept old new (intake_from (intake_of game) base.number (whole_lines rest) (unfinished rest))) (ends_so : Ends (ending end)) where
+  module _ (IsWritten : List ℕ → Type 0) (Ends : Ending → Type 0) (end : End) (kept : Kept Watched) (n : NotesEach told may_leave base.tag seat end
+      game kept old new (intake_from (intake_of game) base.number (whole_lines rest) (unfinished rest))) (ends_so : Ends (ending end)) where
     reading-same : (heard_after base game.entries input).reading ≡ intake_of n.last
     reading-same = ap (λ (i : Input). i.reading) (sym heard-same) ∙ n.reading
 
@@ -92,11 +95,13 @@ module _ {D : Type 0} (told : D → Option (List ℕ)) (may_leave : D → List �
   gives-to : (entries : Entries) (image : List ℕ) → OpensTo (opens (play_of game.setting) base.tag) entries image → Gives (opens_for base image) entries
   gives-to entries image o = gives-open _ entries o.0 (sym (opens-same image) ∙ o.1)
 
-  gives-with : (entries : Entries) (e : Option (Entry Answer)) (image : List ℕ) → OpensWith (opens (play_of game.setting) base.tag) entries e image → Gives (opens_for base image) (entries ++ list_of e)
+  gives-with : (entries : Entries) (e : Option (Entry Answer)) (image : List ℕ) → OpensWith (opens (play_of game.setting) base.tag) entries e image →
+      Gives (opens_for base image) (entries ++ list_of e)
   gives-with entries None image o = absurd o
   gives-with entries (Some e) image o = gives-open _ (entries ++ e ∷ []) o.0 (sym (opens-same image) ∙ o.1)
 
-  pub stays-safe : NotesPart told may_leave base.tag game old new (intake_from (intake_of game) base.number (whole_lines rest) (unfinished rest)) → StaysSafe told may_leave base game.entries input old new
+  pub stays-safe : NotesPart told may_leave base.tag game old new (intake_from (intake_of game) base.number (whole_lines rest) (unfinished rest)) →
+      StaysSafe told may_leave base game.entries input old new
   stays-safe n bytes is = record {
     made = n.made;
     next = list_of n.next;
@@ -106,7 +111,8 @@ module _ {D : Type 0} (told : D → Option (List ℕ)) (may_leave : D → List �
     each = λ image left. ⊎_elim (λ o. inl (gives-to (game.entries ++ n.made) image o)) (λ o. inr (gives-with (game.entries ++ n.made) n.next image o)) (n.each bytes image is left);
   }
 
-  pub stays-whole : (end : End) (kept : Kept Watched) → NotesEach told may_leave base.tag seat end game kept old new (intake_from (intake_of game) base.number (whole_lines rest) (unfinished rest)) → StaysSafe told may_leave base game.entries input old new
+  pub stays-whole : (end : End) (kept : Kept Watched) → NotesEach told may_leave base.tag seat end game kept old new
+      (intake_from (intake_of game) base.number (whole_lines rest) (unfinished rest)) → StaysSafe told may_leave base game.entries input old new
   stays-whole end kept n bytes is =
       let now = n.on bytes is in
       let more = heard-begins (intake_of game) base.number (whole_lines rest) (unfinished rest) in record {
@@ -117,12 +123,14 @@ module _ {D : Type 0} (told : D → Option (List ℕ)) (may_leave : D → List �
         one = omega arith;
         each = λ image left.
             inl (gives-open _ _ (end_of kept)
-            (sym (opens-same image) ∙ ap (λ (s : Setting). opens (play_of s) base.tag image) (sym n.setting) ∙ ap (opens (play_of n.last.setting) base.tag) (n.goes.rest.kept now.0 now.1 image left) ∙ n.goes.tells now.0 now.1
+            (sym (opens-same image) ∙ ap (λ (s : Setting). opens (play_of s) base.tag image) (sym n.setting)
+            ∙ ap (opens (play_of n.last.setting) base.tag) (n.goes.rest.kept now.0 now.1 image left) ∙ n.goes.tells now.0 now.1
             ∙ ap (λ (es : Entries). Open es (end_of kept)) (sym (ap (λ r. r.entries) n.reading) ∙ more.is)));
       }
 
   -- By how the run ends once the lines were noted.
-  keeps-by : (result : KeepEnd) (end : End) (kept : Kept Watched) (n : NotesEach told may_leave base.tag seat end game kept old new (intake_from (intake_of game) base.number (whole_lines rest) (unfinished rest))) (old_written new_written : Option (List ℕ))
+  keeps-by : (result : KeepEnd) (end : End) (kept : Kept Watched) (n : NotesEach told may_leave base.tag seat end game kept old new
+      (intake_from (intake_of game) base.number (whole_lines rest) (unfinished rest))) (old_written new_written : Option (List ℕ))
       → WritesScript result end seat n.last old_written new_written → KeepsOn told may_leave result base seat game.entries input old_written new_written old new
   keeps-by (ends.Told given) end kept n ow nw writes = keeps-lines (Appends ow nw) (λ e. e ≡ ending given) end kept n (ap ending (sym writes.0)) writes.1
   keeps-by ends.WriteFault end kept n ow nw writes = keeps-lines (WritesPrefix ow nw) (λ e. Unit {0}) end kept n (record {}) writes
@@ -133,20 +141,26 @@ module _ {D : Type 0} (told : D → Option (List ℕ)) (may_leave : D → List �
   keeps-by ends.ReadFault end kept n ow nw writes = absurd writes
   keeps-by ends.TooLong end kept n ow nw writes = absurd writes
 
-  pub keeps-on : (result : KeepEnd) (end : End) (kept : Kept Watched) (old_written new_written : Option (List ℕ)) → NotesEach told may_leave base.tag seat end game kept old new (intake_from (intake_of game) base.number (whole_lines rest) (unfinished rest))
-      → ((w : Watched) → game_of kept ≡ Some w → WritesScript result end w.seat w.core old_written new_written) → KeepsOn told may_leave result base seat game.entries input old_written new_written old new
+  pub keeps-on : (result : KeepEnd) (end : End) (kept : Kept Watched) (old_written new_written : Option (List ℕ)) →
+      NotesEach told may_leave base.tag seat end game kept old new (intake_from (intake_of game) base.number (whole_lines rest) (unfinished rest))
+      → ((w : Watched) → game_of kept ≡ Some w → WritesScript result end w.seat w.core old_written new_written) → KeepsOn told may_leave result base
+      seat game.entries input old_written new_written old new
   keeps-on result end kept ow nw n writes =
       keeps-by result end kept n ow nw
       (subst (λ (g : Game). WritesScript result end seat g ow nw) n.goes.core (subst (λ (s : ℕ). WritesScript result end s n.goes.watched.core ow nw) n.goes.of_seat (writes n.goes.watched n.goes.is)))
 
   -- So of lines that were numbered from the first after the tag.
   module _ (number : ℕ) (numbered : base.number ≡ number) where
-    pub keeps-whole : (result : KeepEnd) (end : End) (kept : Kept Watched) (old_written new_written : Option (List ℕ)) → NotesEach told may_leave base.tag seat end game kept old new (intake_from (intake_of game) number (whole_lines rest) (unfinished rest))
-        → ((w : Watched) → game_of kept ≡ Some w → WritesScript result end w.seat w.core old_written new_written) → KeepsOn told may_leave result base seat game.entries input old_written new_written old new
+    pub keeps-whole : (result : KeepEnd) (end : End) (kept : Kept Watched) (old_written new_written : Option (List ℕ)) →
+        NotesEach told may_leave base.tag seat end game kept old new (intake_from (intake_of game) number (whole_lines rest) (unfinished rest))
+        → ((w : Watched) → game_of kept ≡ Some w → WritesScript result end w.seat w.core old_written new_written) → KeepsOn told may_leave result base
+        seat game.entries input old_written new_written old new
     keeps-whole result end kept ow nw n writes =
-        keeps-on result end kept ow nw (subst (λ (k : ℕ). NotesEach told may_leave base.tag seat end game kept old new (intake_from (intake_of game) k (whole_lines rest) (unfinished rest))) (sym numbered) n) writes
+        keeps-on result end kept ow nw (subst (λ (k : ℕ). NotesEach told may_leave base.tag seat end game kept old new
+        (intake_from (intake_of game) k (whole_lines rest) (unfinished rest))) (sym numbered) n) writes
 
-    pub keeps-safe : NotesPart told may_leave base.tag game old new (intake_from (intake_of game) number (whole_lines rest) (unfinished rest)) → StaysSafe told may_leave base game.entries input old new
+    pub keeps-safe : NotesPart told may_leave base.tag game old new (intake_from (intake_of game) number (whole_lines rest) (unfinished rest)) →
+        StaysSafe told may_leave base game.entries input old new
     keeps-safe n = stays-safe (subst (λ (k : ℕ). NotesPart told may_leave base.tag game old new (intake_from (intake_of game) k (whole_lines rest) (unfinished rest))) (sym numbered) n)
 
 -- A journal gives one list of entries.
@@ -175,7 +189,8 @@ module _ {D : Type 0} (told : D → Option (List ℕ)) (may_leave : D → List �
       ⊎_elim (λ fresh. subst (λ (o : Opening Entries). Gives o kept) (sym (opens-fresh image fresh)) none)
       (λ tag. subst (λ (o : Opening Entries). Gives o kept) (sym (opens_tag (play_of base.setting) base.tag image tag)) none) stands
 
-  each-by : (b : Bool) (bytes : List ℕ) (kept : Entries) → is_fresh bytes ≡ b → told old ≡ Some bytes → Only bytes (may_leave old) → Gives (opens_for base bytes) kept → (image : List ℕ) → may_leave new image → Gives (opens_for base image) kept
+  each-by : (b : Bool) (bytes : List ℕ) (kept : Entries) → is_fresh bytes ≡ b → told old ≡ Some bytes → Only bytes (may_leave old) →
+      Gives (opens_for base bytes) kept → (image : List ℕ) → may_leave new image → Gives (opens_for base image) kept
   each-by false bytes kept e is only gives image left =
       subst (λ (i : List ℕ). Gives (opens_for base i) kept) (sym (only image ((looks bytes is e).crash image left))) gives
   each-by true bytes kept e is only gives image left =
@@ -207,8 +222,11 @@ pub record IsOpened {D : Type 0} (told : D → Option (List ℕ)) (may_leave : D
   pub same : game.setting ≡ setting
   pub goes : GoesOn told may_leave tag seat kept new game
 
-module _ {D : Type 0} (told : D → Option (List ℕ)) (may_leave : D → List ℕ → Type 0) (tag : List ℕ) (seat : ℕ) (setting : Setting) (kept : Kept Watched) (new : D) (wall : (length setting.walls == 0) ≡ false) (rest : IsAtRest (told new) (may_leave new) (end_of kept)) where
-  goes-by : (o : Option Watched) → game_of kept ≡ o → IsInPlay setting_in (setting, seat) o → IfKept o (λ w. TellsGame (opens (play_of setting) tag) (told new) w.core.entries (end_of kept)) → IsOpened told may_leave tag seat setting kept new
+module _ {D : Type 0} (told : D → Option (List ℕ)) (may_leave : D → List ℕ → Type 0) (tag : List ℕ) (seat : ℕ) (setting : Setting)
+    (kept : Kept Watched) (new : D) (wall : (length setting.walls == 0) ≡ false) (rest : IsAtRest (told new) (may_leave new) (end_of kept)) where
+  goes-by : (o : Option Watched) → game_of kept ≡ o → IsInPlay setting_in (setting, seat) o →
+      IfKept o (λ w. TellsGame (opens (play_of setting) tag) (told new) w.core.entries (end_of kept)) → IsOpened told may_leave tag seat setting kept
+      new
   goes-by None is play tells = absurd play
   goes-by (Some w) is play tells =
       let same : w.core.setting ≡ setting = ap (λ (s : Setting × ℕ). s.0) play in record {
@@ -226,11 +244,14 @@ module _ {D : Type 0} (told : D → Option (List ℕ)) (may_leave : D → List �
         };
       }
 
-  pub opened-goes : IsInPlay setting_in (setting, seat) (game_of kept) → IfKept (game_of kept) (λ w. TellsGame (opens (play_of setting) tag) (told new) w.core.entries (end_of kept)) → IsOpened told may_leave tag seat setting kept new
+  pub opened-goes : IsInPlay setting_in (setting, seat) (game_of kept) →
+      IfKept (game_of kept) (λ w. TellsGame (opens (play_of setting) tag) (told new) w.core.entries (end_of kept)) →
+      IsOpened told may_leave tag seat setting kept new
   opened-goes play tells = goes-by (game_of kept) refl play tells
 
 -- And the entries that it gave.
-gives-by : (opening : Opening Entries) (setting : Setting) (seat end : ℕ) (o : Option Watched) (w : Watched) → o ≡ Some w → OpensGame setting_in entries_in (setting, seat) opening o end → Gives opening w.core.entries
+gives-by : (opening : Opening Entries) (setting : Setting) (seat end : ℕ) (o : Option Watched) (w : Watched) → o ≡ Some w →
+    OpensGame setting_in entries_in (setting, seat) opening o end → Gives opening w.core.entries
 gives-by opening setting seat end None w is opens = absurd (cc is)
 gives-by opening setting seat end (Some v) w is opens =
     let same : v ≡ w = cc is in subst (λ (x : Watched). Gives opening x.core.entries) same (gives-entries opening v.core.entries end opens.1)

@@ -89,7 +89,16 @@ module _ {L : Type 0} (read left written : L → Option (List ℕ)) (read_faults
         → AppendsLinks old.returned new.returned links
         → (is_over (after game.setting game.entries).deeds ≡ false → HasLostAll made number) → WritesRecordOf end game old.written new.written
         → Serves read left written read_faults write_faults made number end s old new
-    serves_by ends.Over s game links old new opened none is back lost h = record { game = game; links = links; opened = opened; none_failed = none; served = is; back = back; record_is = h.0; ends = h.1 }
+    serves_by ends.Over s game links old new opened none is back lost h = record {
+      game = game;
+      links = links;
+      opened = opened;
+      none_failed = none;
+      served = is;
+      back = back;
+      record_is = h.0;
+      ends = h.1;
+    }
     serves_by ends.HostLost s game links old new opened none is back lost h = record {
       game = game;
       links = links;

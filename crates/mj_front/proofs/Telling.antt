@@ -51,7 +51,8 @@ chairs-enters old new entry e = ap (λ (now : After). now.chairs) (after_of-ente
 
 -- a seat is taken
 
-chairs-sat : (setting : Setting) (now : After) (author : ℕ) (name : List ℕ) (key : Option (List ℕ)) → (own_part setting now (Sat author name key)).chairs ≡ now.chairs ++ new_chair now.entered author name key ∷ []
+chairs-sat : (setting : Setting) (now : After) (author : ℕ) (name : List ℕ) (key : Option (List ℕ)) →
+    (own_part setting now (Sat author name key)).chairs ≡ now.chairs ++ new_chair now.entered author name key ∷ []
 unfolding own_part
 chairs-sat setting now author name key = refl
 
@@ -59,7 +60,8 @@ nobody_behind : (chairs : List Chair) → slice_get chairs (length chairs) ≡ N
 nobody_behind [] = refl
 nobody_behind (c ∷ cs) = nobody_behind cs
 
-told-more : (seat place : ℕ) (chairs : List Chair) (author : ℕ) (name : List ℕ) (key : Option (List ℕ)) → told_at seat (chairs ++ new_chair place author name key ∷ []) ≡ told_at seat chairs ++ greeting (length chairs) seat
+told-more : (seat place : ℕ) (chairs : List Chair) (author : ℕ) (name : List ℕ) (key : Option (List ℕ)) →
+    told_at seat (chairs ++ new_chair place author name key ∷ []) ≡ told_at seat chairs ++ greeting (length chairs) seat
 told-more seat place chairs author name key =
     elim (eqb_tells (length chairs) seat) [
       | inl p ↦ rw (p.0, ← p.1, at_end chairs (new_chair place author name key), nobody_behind chairs)
@@ -131,7 +133,8 @@ has_chair None author h = cc h
 has_chair (Some chair) author h = (chair, refl, ap is_some h)
 
 -- what a seat is told by its own answer
-pub told-own : (author seat : ℕ) (answer : Answer) (old new : Game) (chair : Chair) (verdict : Verdict) → Enters old new (Said author seat answer) → slice_get (after_of old).chairs seat ≡ Some chair → is_present chair ≡ true → verdict_at old seat answer ≡ Some verdict →
+pub told-own : (author seat : ℕ) (answer : Answer) (old new : Game) (chair : Chair) (verdict : Verdict) → Enters old new (Said author seat answer) →
+    slice_get (after_of old).chairs seat ≡ Some chair → is_present chair ≡ true → verdict_at old seat answer ≡ Some verdict →
     told_in seat (after_of new) ≡ told_in seat (after_of old) ++ pending_at old seat ++ error_of verdict
 told-own author seat answer old new chair verdict e h present v =
     ap (told_at seat) (chairs-enters old new (Said author seat answer) e ∙ chairs-said old.setting (after_of old) author seat answer chair h)
@@ -146,7 +149,8 @@ told-other author who seat answer old new chair apart e h =
     ap (told_at seat) (chairs-enters old new (Said author who answer) e ∙ chairs-said old.setting (after_of old) author who answer chair h)
     ∙ set-other who seat (after_of old).chairs (said old.setting (after_of old) who answer chair) apart
 
-pub few-said : (author who : ℕ) (answer : Answer) (old new : Game) (chair : Chair) → Enters old new (Said author who answer) → slice_get (after_of old).chairs who ≡ Some chair → length (after_of old).chairs ≤ 4 → length (after_of new).chairs ≤ 4
+pub few-said : (author who : ℕ) (answer : Answer) (old new : Game) (chair : Chair) → Enters old new (Said author who answer) →
+    slice_get (after_of old).chairs who ≡ Some chair → length (after_of old).chairs ≤ 4 → length (after_of new).chairs ≤ 4
 few-said author who answer old new chair e h few =
     subst (λ (chairs : List Chair). length chairs ≤ 4) (sym (chairs-enters old new (Said author who answer) e ∙ chairs-said old.setting (after_of old) author who answer chair h))
     (set-few (after_of old).chairs who (said old.setting (after_of old) who answer chair) few)
@@ -156,7 +160,8 @@ few-said author who answer old new chair e h few =
 gone : (rules : Rules) (now : After) (seat : ℕ) (chair : Chair) → Chair
 gone rules now seat chair = record chair { author = None; progress = record chair.progress { told = chair.progress.told ++ pending (lines_for rules seat now.deeds) chair.progress } }
 
-chairs-gone : (setting : Setting) (now : After) (author seat : ℕ) (chair : Chair) → slice_get now.chairs seat ≡ Some chair → (own_part setting now (Gone author seat)).chairs ≡ slice_set now.chairs seat (gone setting.rules now seat chair)
+chairs-gone : (setting : Setting) (now : After) (author seat : ℕ) (chair : Chair) → slice_get now.chairs seat ≡ Some chair →
+    (own_part setting now (Gone author seat)).chairs ≡ slice_set now.chairs seat (gone setting.rules now seat chair)
 unfolding own_part after_gone gone
 chairs-gone setting now author seat chair e = rw e
 
@@ -172,12 +177,14 @@ told-gone author seat old new chair e h present =
     ∙ told-gone-of old.setting.rules (after_of old) seat chair
     ∙ (λ i. option_map_or told_of (sym h i) [] ++ sym (pending-present old.setting.rules (slice_get (after_of old).chairs seat) seat (after_of old).deeds chair h present) i)
 
-pub told-gone_other : (author who seat : ℕ) (old new : Game) (chair : Chair) → who ≢ seat → Enters old new (Gone author who) → slice_get (after_of old).chairs who ≡ Some chair → told_in seat (after_of new) ≡ told_in seat (after_of old)
+pub told-gone_other : (author who seat : ℕ) (old new : Game) (chair : Chair) → who ≢ seat → Enters old new (Gone author who) →
+    slice_get (after_of old).chairs who ≡ Some chair → told_in seat (after_of new) ≡ told_in seat (after_of old)
 told-gone_other author who seat old new chair apart e h =
     ap (told_at seat) (chairs-enters old new (Gone author who) e ∙ chairs-gone old.setting (after_of old) author who chair h)
     ∙ set-other who seat (after_of old).chairs (gone old.setting.rules (after_of old) who chair) apart
 
-pub few-gone : (author who : ℕ) (old new : Game) (chair : Chair) → Enters old new (Gone author who) → slice_get (after_of old).chairs who ≡ Some chair → length (after_of old).chairs ≤ 4 → length (after_of new).chairs ≤ 4
+pub few-gone : (author who : ℕ) (old new : Game) (chair : Chair) → Enters old new (Gone author who) → slice_get (after_of old).chairs who ≡ Some chair
+    → length (after_of old).chairs ≤ 4 → length (after_of new).chairs ≤ 4
 few-gone author who old new chair e h few =
     subst (λ (chairs : List Chair). length chairs ≤ 4) (sym (chairs-enters old new (Gone author who) e ∙ chairs-gone old.setting (after_of old) author who chair h))
     (set-few (after_of old).chairs who (gone old.setting.rules (after_of old) who chair) few)
@@ -193,7 +200,8 @@ same-expired author window t1 t2 old new e = chairs-enters old new (Expired auth
 
 -- what the connections of a seat get: what they were told, and what is pending
 parts : (rules : Rules) (seat : ℕ) (now : After) (o : Option Chair) →
-    option_map_or (scripts_at rules seat now) o [] ≡ option_map_or told_of o [] ++ option_map_or (λ (chair : Chair). if is_present chair then pending (lines_for rules seat now.deeds) chair.progress else []) o []
+    option_map_or (scripts_at rules seat now) o [] ≡ option_map_or told_of o [] ++ option_map_or (λ (chair : Chair). if is_present chair then pending
+    (lines_for rules seat now.deeds) chair.progress else []) o []
 unfolding scripts_at script_at
 parts rules seat now None = refl
 parts rules seat now (Some chair) =

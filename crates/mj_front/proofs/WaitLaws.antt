@@ -69,7 +69,11 @@ neither false b e = (refl, e)
 neither true b e = absurd (true≢false e)
 
 one_alone : (r s p h g o k a t : Bool) (words : List (List ℕ)) → s ≡ false → t ≡ false
-    → IsAlone (if r then referee_asked words else (if s then serve_asked words else (if p then replay_asked words else (if h then hand_asked words else (if g then self_play_asked words else (if o then observe_asked words else (if k then keep_asked words else (if a then safe_asked words else (if t then tables_asked words else Nothing)))))))))
+    → IsAlone (if r then referee_asked words
+    else (if s then serve_asked words else (if p then replay_asked words
+    else (if h then hand_asked words else (if g then self_play_asked words
+    else (if o then observe_asked words else (if k then keep_asked words
+    else (if a then safe_asked words else (if t then tables_asked words else Nothing)))))))))
 one_alone true s p h g o k a t words isnt none = referee_alone _ (named_within (value_in referee_line (codes "seat") words))
 one_alone false true p h g o k a t words isnt none = absurd (true≢false isnt)
 one_alone false false true h g o k a t words isnt none = replay_alone _
@@ -86,7 +90,8 @@ pub alone_of : (words : List (List ℕ)) → is_waiting words ≡ false → IsAl
 alone_of [] isnt = tt
 alone_of (first ∷ words) isnt =
     let both = neither (bytes_eq first (codes "serve")) (bytes_eq first (codes "tables")) isnt in
-    one_alone (bytes_eq first (codes "referee")) (bytes_eq first (codes "serve")) (bytes_eq first (codes "replay")) (bytes_eq first (codes "hand")) (bytes_eq first (codes "selfplay")) (bytes_eq first (codes "observe")) (bytes_eq first (codes "keep")) (bytes_eq first (codes "safe"))
+    one_alone (bytes_eq first (codes "referee")) (bytes_eq first (codes "serve")) (bytes_eq first (codes "replay")) (bytes_eq first (codes "hand"))
+    (bytes_eq first (codes "selfplay")) (bytes_eq first (codes "observe")) (bytes_eq first (codes "keep")) (bytes_eq first (codes "safe"))
     (bytes_eq first (codes "tables")) (first ∷ words) both.0 both.1
 
 pub alone_as : (asked other : Asked) → asked ≡ other → IsAlone other → IsAlone asked
@@ -108,10 +113,12 @@ pub tables_of : (words : List (List ℕ)) → begins_with (codes "tables") words
 tables_of [] is = absurd (false≢true is)
 tables_of (first ∷ words) is = subst (λ (w : List ℕ). asked_by (w ∷ words) ≡ tables_asked (w ∷ words)) (sym (same_bytes first (codes "tables") is)) refl
 
-pub asked_serving : (words : List (List ℕ)) (serving : Option Serving) → begins_with (codes "serve") words ≡ true → asked_by_serving serving ≡ serve_asked words → asked_by words ≡ asked_by_serving serving
+pub asked_serving : (words : List (List ℕ)) (serving : Option Serving) → begins_with (codes "serve") words ≡ true →
+    asked_by_serving serving ≡ serve_asked words → asked_by words ≡ asked_by_serving serving
 asked_serving words serving is e = serve_of words is ∙ sym e
 
-pub asked_hosting : (words : List (List ℕ)) (hosting : Option Hosting) → begins_with (codes "tables") words ≡ true → asked_by_hosting hosting ≡ tables_asked words → asked_by words ≡ asked_by_hosting hosting
+pub asked_hosting : (words : List (List ℕ)) (hosting : Option Hosting) → begins_with (codes "tables") words ≡ true →
+    asked_by_hosting hosting ≡ tables_asked words → asked_by words ≡ asked_by_hosting hosting
 asked_hosting words hosting is e = tables_of words is ∙ sym e
 
 -- Of two words that are waited for it is the other where it isn't the one.
@@ -120,7 +127,9 @@ the_other found first true two e h s n = absurd (true≢false (sym s ∙ n))
 the_other found first false two e h s n = sym e ∙ h
 
 -- What a run does without waiting it does as any run.
-pub any_of : (Does : ServeEnd → ServedWith → Type 0) (DoesAll : ServeEnd → ℕ → ServedWith → Type 0) (asked : Asked) (status : Status) (old_left new_left old_written new_written : Option (List ℕ)) → Runs asked status old_left new_left old_written new_written → RunsAny Does DoesAll asked status old_left new_left old_written new_written
+pub any_of : (Does : ServeEnd → ServedWith → Type 0) (DoesAll : ServeEnd → ℕ → ServedWith → Type 0) (asked : Asked) (status : Status)
+    (old_left new_left old_written new_written : Option (List ℕ)) → Runs asked status old_left new_left old_written new_written →
+    RunsAny Does DoesAll asked status old_left new_left old_written new_written
 any_of Does DoesAll (RefereeOf seat) status ol nl ow nw h = h
 any_of Does DoesAll (ServingOf s) status ol nl ow nw h = absurd h
 any_of Does DoesAll (TablesOf rooms s) status ol nl ow nw h = absurd h
@@ -146,20 +155,26 @@ left_alone Nothing Same h = h
 
 module _ (Does : ServeEnd → ServedWith → Type 0) (DoesAll : ServeEnd → ℕ → ServedWith → Type 0) where
   -- A run that serves a game, or many.
-  pub runs_serve : (asked : Asked) (serving : Serving) (status : Status) (end : ServeEnd) (left old_written new_written : Option (List ℕ)) → asked ≡ asked_by_serving (Some serving) → status ≡ serve_status end → Does end (served_with serving)
+  pub runs_serve : (asked : Asked) (serving : Serving) (status : Status) (end : ServeEnd) (left old_written new_written : Option (List ℕ)) →
+      asked ≡ asked_by_serving (Some serving) → status ≡ serve_status end → Does end (served_with serving)
       → RunsAny Does DoesAll asked status left left old_written new_written
-  runs_serve asked serving status end left ow nw e gives does = subst (λ (a : Asked). RunsAny Does DoesAll a status left left ow nw) (sym e) (record { end = end; gives = gives; unread = Keeps-refl left; does = does })
+  runs_serve asked serving status end left ow nw e gives does = subst (λ (a : Asked). RunsAny Does DoesAll a status left left ow nw) (sym e)
+      (record { end = end; gives = gives; unread = Keeps-refl left; does = does })
 
-  pub runs_tables : (asked : Asked) (hosting : Hosting) (status : Status) (end : ServeEnd) (left old_written new_written : Option (List ℕ)) → asked ≡ asked_by_hosting (Some hosting) → status ≡ serve_status end → DoesAll end hosting.rooms (served_with hosting.serving)
+  pub runs_tables : (asked : Asked) (hosting : Hosting) (status : Status) (end : ServeEnd) (left old_written new_written : Option (List ℕ)) →
+      asked ≡ asked_by_hosting (Some hosting) → status ≡ serve_status end → DoesAll end hosting.rooms (served_with hosting.serving)
       → RunsAny Does DoesAll asked status left left old_written new_written
-  runs_tables asked hosting status end left ow nw e gives does = subst (λ (a : Asked). RunsAny Does DoesAll a status left left ow nw) (sym e) (record { end = end; gives = gives; unread = Keeps-refl left; does = does })
+  runs_tables asked hosting status end left ow nw e gives does = subst (λ (a : Asked). RunsAny Does DoesAll a status left left ow nw) (sym e)
+      (record { end = end; gives = gives; unread = Keeps-refl left; does = does })
 
   -- A run whose words are refused.
   pub runs_words : (asked : Asked) (left written : Option (List ℕ)) → asked ≡ Nothing → RunsAny Does DoesAll asked statuses.Words left left written written
-  runs_words asked left written e = subst (λ (a : Asked). RunsAny Does DoesAll a statuses.Words left left written written) (sym e) (record { words = tt; unread = Keeps-refl left; unwritten = Keeps-refl written })
+  runs_words asked left written e = subst (λ (a : Asked). RunsAny Does DoesAll a statuses.Words left left written written) (sym e)
+      (record { words = tt; unread = Keeps-refl left; unwritten = Keeps-refl written })
 
   -- A run that finds no memory for its words.
-  pub runs_none : ((s : ServedWith) → Does ends.NoMemory s) → (words : List (List ℕ)) (left written : Option (List ℕ)) → begins_with (codes "serve") words ≡ true → RunsAny Does DoesAll (asked_by words) statuses.NoMemory left left written written
+  pub runs_none : ((s : ServedWith) → Does ends.NoMemory s) → (words : List (List ℕ)) (left written : Option (List ℕ)) →
+      begins_with (codes "serve") words ≡ true → RunsAny Does DoesAll (asked_by words) statuses.NoMemory left left written written
   runs_none none words left written is = subst (λ (a : Asked). RunsAny Does DoesAll a statuses.NoMemory left left written written) (sym (serve_of words is)) (by _ _ _ _ _)
     where
       by : (seed : Option (List ℕ)) (limit port : Option ℕ) (draws red : Bool) → RunsAny Does DoesAll (serving_by seed limit port draws red) statuses.NoMemory left left written written
@@ -168,10 +183,12 @@ module _ (Does : ServeEnd → ServedWith → Type 0) (DoesAll : ServeEnd → ℕ
       by (Some seed) (Some limit) None draws red = record { words = tt; unread = Keeps-refl left; unwritten = Keeps-refl written }
       by (Some seed) (Some limit) (Some port) draws red = record { end = ends.NoMemory; gives = refl; unread = Keeps-refl left; does = none _ }
 
-  pub runs_no_tables : ((rooms : ℕ) (s : ServedWith) → DoesAll ends.NoMemory rooms s) → (words : List (List ℕ)) (left written : Option (List ℕ)) → begins_with (codes "tables") words ≡ true → RunsAny Does DoesAll (asked_by words) statuses.NoMemory left left written written
+  pub runs_no_tables : ((rooms : ℕ) (s : ServedWith) → DoesAll ends.NoMemory rooms s) → (words : List (List ℕ)) (left written : Option (List ℕ)) →
+      begins_with (codes "tables") words ≡ true → RunsAny Does DoesAll (asked_by words) statuses.NoMemory left left written written
   runs_no_tables none words left written is = subst (λ (a : Asked). RunsAny Does DoesAll a statuses.NoMemory left left written written) (sym (tables_of words is)) (by _ _ _ _ _ _)
     where
-      by : (rooms : Option ℕ) (seed : Option (List ℕ)) (limit port : Option ℕ) (draws red : Bool) → RunsAny Does DoesAll (tables_by rooms seed limit port draws red) statuses.NoMemory left left written written
+      by : (rooms : Option ℕ) (seed : Option (List ℕ)) (limit port : Option ℕ) (draws red : Bool) →
+          RunsAny Does DoesAll (tables_by rooms seed limit port draws red) statuses.NoMemory left left written written
       by None seed limit port draws red = record { words = tt; unread = Keeps-refl left; unwritten = Keeps-refl written }
       by (Some rooms) None limit port draws red = record { words = tt; unread = Keeps-refl left; unwritten = Keeps-refl written }
       by (Some rooms) (Some seed) None port draws red = record { words = tt; unread = Keeps-refl left; unwritten = Keeps-refl written }
@@ -195,12 +212,14 @@ serve_unread status end count e = subst (λ (s : Status). CountsReadFaults s cou
     none ends.NoMemory = omega arith
 
 -- A game that is served leaves the disk alone, and so do words that are refused.
-pub serve_spares : {D : Type 0} (told : D → Option (List ℕ)) (may_leave : D → List ℕ → Type 0) (faults : D → ℕ) (disk : D) (asked : Asked) (serving : Option Serving) (status : Status) (ol nl ow nw : Option (List ℕ)) → asked ≡ asked_by_serving serving
+pub serve_spares : {D : Type 0} (told : D → Option (List ℕ)) (may_leave : D → List ℕ → Type 0) (faults : D → ℕ) (disk : D) (asked : Asked)
+    (serving : Option Serving) (status : Status) (ol nl ow nw : Option (List ℕ)) → asked ≡ asked_by_serving serving
     → RunsDisk told may_leave faults asked status ol nl ow nw disk disk
 serve_spares told may_leave faults disk asked None status ol nl ow nw e = subst (λ (a : Asked). RunsDisk told may_leave faults a status ol nl ow nw disk disk) (sym e) refl
 serve_spares told may_leave faults disk asked (Some serving) status ol nl ow nw e = subst (λ (a : Asked). RunsDisk told may_leave faults a status ol nl ow nw disk disk) (sym e) refl
 
-pub tables_spare : {D : Type 0} (told : D → Option (List ℕ)) (may_leave : D → List ℕ → Type 0) (faults : D → ℕ) (disk : D) (asked : Asked) (hosting : Option Hosting) (status : Status) (ol nl ow nw : Option (List ℕ)) → asked ≡ asked_by_hosting hosting
+pub tables_spare : {D : Type 0} (told : D → Option (List ℕ)) (may_leave : D → List ℕ → Type 0) (faults : D → ℕ) (disk : D) (asked : Asked)
+    (hosting : Option Hosting) (status : Status) (ol nl ow nw : Option (List ℕ)) → asked ≡ asked_by_hosting hosting
     → RunsDisk told may_leave faults asked status ol nl ow nw disk disk
 tables_spare told may_leave faults disk asked None status ol nl ow nw e = subst (λ (a : Asked). RunsDisk told may_leave faults a status ol nl ow nw disk disk) (sym e) refl
 tables_spare told may_leave faults disk asked (Some hosting) status ol nl ow nw e = subst (λ (a : Asked). RunsDisk told may_leave faults a status ol nl ow nw disk disk) (sym e) refl

@@ -45,10 +45,12 @@ module _ {D : Type 0} (told : D → Option (List ℕ)) (may_leave : D → List �
   begins-next : (at next : Game) (line : List ℕ) → arrives (intake_of at) line ≡ Leads (intake_of next) → Begins at.entries next.entries
   begins-next at next line leads = subst (λ (arrival : Arrival). Extends (intake_of at) arrival) leads (extends (intake_of at) line)
 
-  pub walks-start : (kept : Kept Watched) (number : ℕ) (rest : List ℕ) → GoesOn told may_leave tag seat kept old game → Walks kept old number rest (intake_from (intake_of game) number (whole_lines rest) (unfinished rest))
+  pub walks-start : (kept : Kept Watched) (number : ℕ) (rest : List ℕ) → GoesOn told may_leave tag seat kept old game →
+      Walks kept old number rest (intake_from (intake_of game) number (whole_lines rest) (unfinished rest))
   walks-start kept number rest goes = record { at = game; setting = refl; goes = goes; on = λ bytes is. (bytes, is); begins = begins-itself game.entries; same = refl }
 
-  module _ (kept : Kept Watched) (now : D) (number : ℕ) (rest line others : List ℕ) (input : Input) (w : Walks kept now number rest input) (b : BeginsWithLine rest line others) (new_kept : Kept Watched) (new : D) where
+  module _ (kept : Kept Watched) (now : D) (number : ℕ) (rest line others : List ℕ) (input : Input) (w : Walks kept now number rest input)
+      (b : BeginsWithLine rest line others) (new_kept : Kept Watched) (new : D) where
     heard : input ≡ intake_on (arrives (intake_of w.at) line) (λ next. intake_from next (number + 1) (whole_lines others) (unfinished others)) (intake_of w.at) number
     heard = w.same ∙ heard-line (intake_of w.at) number rest line others b
 
@@ -65,7 +67,8 @@ module _ {D : Type 0} (told : D → Option (List ℕ)) (may_leave : D → List �
       same = heard_as n.next n.leads;
     }
 
-    pub walks-bad : (end : End) → BadAt number ≡ ending end → (arrives (intake_of w.at) line ≡ Bad) × NotesNone told may_leave tag seat w.at new_kept now new → NotesEach told may_leave tag seat end game new_kept old new input
+    pub walks-bad : (end : End) → BadAt number ≡ ending end → (arrives (intake_of w.at) line ≡ Bad) × NotesNone told may_leave tag seat w.at new_kept
+        now new → NotesEach told may_leave tag seat end game new_kept old new input
     walks-bad end e n =
         let is = heard ∙ ap (λ (arrival : Arrival). intake_on arrival (λ next. intake_from next (number + 1) (whole_lines others) (unfinished others)) (intake_of w.at) number) n.0 in record {
           last = w.at;
@@ -82,7 +85,8 @@ module _ {D : Type 0} (told : D → Option (List ℕ)) (may_leave : D → List �
     opens-to : (image : List ℕ) → OpensTo (opens (play_of w.at.setting) tag) w.at.entries image → OpensTo (opens (play_of game.setting) tag) (game.entries ++ w.begins.rest) image
     opens-to image o = (o.0, sym (opens-at image) ∙ o.1 ∙ ap (λ (es : Entries). Open es o.0) w.begins.is)
 
-    opens-with : (image : List ℕ) (e : Option (Entry Answer)) → OpensWith (opens (play_of w.at.setting) tag) w.at.entries e image → OpensWith (opens (play_of game.setting) tag) (game.entries ++ w.begins.rest) e image
+    opens-with : (image : List ℕ) (e : Option (Entry Answer)) → OpensWith (opens (play_of w.at.setting) tag) w.at.entries e image →
+        OpensWith (opens (play_of game.setting) tag) (game.entries ++ w.begins.rest) e image
     opens-with image None o = absurd o
     opens-with image (Some e) o = (o.0, sym (opens-at image) ∙ o.1 ∙ ap (λ (es : Entries). Open (es ++ e ∷ []) o.0) w.begins.is)
 
@@ -92,7 +96,8 @@ module _ {D : Type 0} (told : D → Option (List ℕ)) (may_leave : D → List �
           made = w.begins.rest;
           next = f.entry;
           later = more.rest;
-          all = ap (λ (i : Input). i.reading.entries) (heard_as f.next f.leads) ∙ more.is ∙ ap (λ (es : Entries). es ++ more.rest) (f.entries ∙ ap (λ (es : Entries). es ++ list_of f.entry) w.begins.is);
+          all = ap (λ (i : Input). i.reading.entries) (heard_as f.next f.leads) ∙ more.is ∙ ap (λ (es : Entries). es ++ more.rest) (f.entries
+              ∙ ap (λ (es : Entries). es ++ list_of f.entry) w.begins.is);
           each = λ bytes image is left.
               let b = w.on bytes is in
               ⊎_elim (λ o. inl (opens-to image o)) (λ o. inr (opens-with image f.entry o)) (f.each b.0 image b.1 left);
@@ -110,7 +115,8 @@ module _ {D : Type 0} (told : D → Option (List ℕ)) (may_leave : D → List �
               inl (opens-to image (end_of new_kept, ap (opens (play_of w.at.setting) tag) (n.goes.rest.kept b.0 b.1 image left) ∙ n.goes.tells b.0 b.1));
         }
 
-  pub walks-end : (kept : Kept Watched) (now : D) (number : ℕ) (rest : List ℕ) (input : Input) (end : End) → Walks kept now number rest input → HasNoLine rest → ((reading : Intake) → at_end reading number rest ≡ record { reading = reading; ending = ending end })
+  pub walks-end : (kept : Kept Watched) (now : D) (number : ℕ) (rest : List ℕ) (input : Input) (end : End) → Walks kept now number rest input →
+      HasNoLine rest → ((reading : Intake) → at_end reading number rest ≡ record { reading = reading; ending = ending end })
       → NotesEach told may_leave tag seat end game kept old now input
   walks-end kept now number rest input end w none e =
       let is : input ≡ record { reading = intake_of w.at; ending = ending end } = w.same ∙ rw (none.lines, none.ending) (e (intake_of w.at)) in record {

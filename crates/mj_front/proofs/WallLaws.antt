@@ -22,21 +22,24 @@ unfolding wall_arrives
 wall-by reading tiles true few p q r = rw (p, q, r)
 wall-by reading tiles false few p q r = rw p
 
-arrives-wall : (rules : Rules) (walls : List (List ℕ)) (line tiles : List ℕ) → WallOf tiles ≡ form_of line → arrives (intake_with_walls rules walls) line ≡ wall_arrives (intake_with_walls rules walls) tiles
+arrives-wall : (rules : Rules) (walls : List (List ℕ)) (line tiles : List ℕ) → WallOf tiles ≡ form_of line → arrives (intake_with_walls rules walls)
+    line ≡ wall_arrives (intake_with_walls rules walls) tiles
 unfolding arrives
 arrives-wall rules walls line tiles e = ap (behind_header (intake_with_walls rules walls)) (sym e)
 
 below-many : (n : ℕ) → nat_lt n 200 ≡ true → n < 200
 below-many n q = grind (arith, nat_tests, q)
 
-pub wall-more : (rules : Rules) (walls : List (List ℕ)) (line tiles wall : List ℕ) → WallOf tiles ≡ form_of line → Some wall ≡ (if is_wall rules.red tiles && nat_lt (length walls) 200 then Some tiles else None)
+pub wall-more : (rules : Rules) (walls : List (List ℕ)) (line tiles wall : List ℕ) → WallOf tiles ≡ form_of line →
+    Some wall ≡ (if is_wall rules.red tiles && nat_lt (length walls) 200 then Some tiles else None)
     → (arrives (intake_with_walls rules walls) line ≡ Leads (intake_with_walls rules (walls ++ wall ∷ []))) × (is_wall rules.red wall ≡ true) × (length walls < 200)
 wall-more rules walls line tiles wall e h = by_tests (is_wall rules.red tiles) (nat_lt (length walls) 200) refl refl h
   where
     by_tests : (whole few : Bool) → is_wall rules.red tiles ≡ whole → nat_lt (length walls) 200 ≡ few → Some wall ≡ (if whole && few then Some tiles else None)
         → (arrives (intake_with_walls rules walls) line ≡ Leads (intake_with_walls rules (walls ++ wall ∷ []))) × (is_wall rules.red wall ≡ true) × (length walls < 200)
     by_tests true true p q k = let same : wall ≡ tiles = cc k in (
-      arrives-wall rules walls line tiles e ∙ wall-by (intake_with_walls rules walls) tiles true true p q refl ∙ ap (λ (given : List ℕ). Leads (intake_with_walls rules (walls ++ given ∷ []))) (sym same),
+      arrives-wall rules walls line tiles e ∙ wall-by (intake_with_walls rules walls) tiles true true p q refl
+          ∙ ap (λ (given : List ℕ). Leads (intake_with_walls rules (walls ++ given ∷ []))) (sym same),
       ap (is_wall rules.red) same ∙ p,
       below-many (length walls) q,
     )
@@ -47,7 +50,8 @@ pub wall-none : (rules : Rules) (walls : List (List ℕ)) (line tiles : List ℕ
     → arrives (intake_with_walls rules walls) line ≡ Bad
 wall-none rules walls line tiles e h = by_tests (is_wall rules.red tiles) (nat_lt (length walls) 200) refl refl h
   where
-    by_tests : (whole few : Bool) → is_wall rules.red tiles ≡ whole → nat_lt (length walls) 200 ≡ few → None ≡ (if whole && few then Some tiles else None) → arrives (intake_with_walls rules walls) line ≡ Bad
+    by_tests : (whole few : Bool) → is_wall rules.red tiles ≡ whole → nat_lt (length walls) 200 ≡ few →
+        None ≡ (if whole && few then Some tiles else None) → arrives (intake_with_walls rules walls) line ≡ Bad
     by_tests true true p q k = cc k
     by_tests true false p q k = arrives-wall rules walls line tiles e ∙ wall-by (intake_with_walls rules walls) tiles true false p q refl
     by_tests false few p q k = arrives-wall rules walls line tiles e ∙ wall-by (intake_with_walls rules walls) tiles false few p q refl
@@ -56,7 +60,9 @@ pub all-walls : (red : Bool) (walls : List (List ℕ)) (wall : List ℕ) → lis
 all-walls red [] wall h w = rw w
 all-walls red (first ∷ walls) wall h w = by_first (is_wall red first) h (λ k. all-walls red walls wall k w)
   where
-    by_first : (b : Bool) → (b && list_all (is_wall red) walls) ≡ true → (list_all (is_wall red) walls ≡ true → list_all (is_wall red) (walls ++ wall ∷ []) ≡ true) → (b && list_all (is_wall red) (walls ++ wall ∷ [])) ≡ true
+    by_first : (b : Bool) → (b && list_all (is_wall red) walls) ≡ true →
+        (list_all (is_wall red) walls ≡ true → list_all (is_wall red) (walls ++ wall ∷ []) ≡ true) →
+        (b && list_all (is_wall red) (walls ++ wall ∷ [])) ≡ true
     by_first true k more = more k
     by_first false k more = cc k
 
@@ -72,15 +78,18 @@ pub record IsWallLine (red : Bool) (walls : List (List ℕ)) (lines texts : List
   pub same : seen ≡ tiles
   pub read : given ≡ (if is_wall red seen && nat_lt before 200 then Some seen else None)
 
-pub read-wall : (red : Bool) (walls lines texts : List (List ℕ)) (given : Option (List ℕ)) → (w : IsWallLine red walls lines texts given) → given ≡ (if is_wall red w.tiles && nat_lt (length walls) 200 then Some w.tiles else None)
+pub read-wall : (red : Bool) (walls lines texts : List (List ℕ)) (given : Option (List ℕ)) → (w : IsWallLine red walls lines texts given) →
+    given ≡ (if is_wall red w.tiles && nat_lt (length walls) 200 then Some w.tiles else None)
 read-wall red walls lines texts given w = rw (← w.many, ← w.same) w.read
 
 -- one wall more
-pub heard-wall : (rules : Rules) (walls after lines texts : List (List ℕ)) (wall rest unread : List ℕ) (number : ℕ) → IsWallLine rules.red walls lines texts (Some wall) → unread ≡ rest → after ≡ walls ++ wall ∷ []
+pub heard-wall : (rules : Rules) (walls after lines texts : List (List ℕ)) (wall rest unread : List ℕ) (number : ℕ) →
+    IsWallLine rules.red walls lines texts (Some wall) → unread ≡ rest → after ≡ walls ++ wall ∷ []
     → intake_from (intake_with_walls rules walls) number lines unread ≡ intake_from (intake_with_walls rules after) (number + 1) texts rest
 heard-wall rules walls after lines texts wall rest unread number w u a =
     ap (λ (ls : List (List ℕ)). intake_from (intake_with_walls rules walls) number ls unread) w.lines_are
-    ∙ ap (λ (arrival : Arrival). intake_on arrival (λ next. intake_from next (number + 1) texts unread) (intake_with_walls rules walls) number) (wall-more rules walls w.line w.tiles wall w.form (read-wall rules.red walls lines texts (Some wall) w)).0
+    ∙ ap (λ (arrival : Arrival). intake_on arrival (λ next. intake_from next (number + 1) texts unread) (intake_with_walls rules walls) number)
+    (wall-more rules walls w.line w.tiles wall w.form (read-wall rules.red walls lines texts (Some wall) w)).0
     ∙ ap (λ (rs : List ℕ). intake_from (intake_with_walls rules (walls ++ wall ∷ [])) (number + 1) texts rs) u
     ∙ ap (λ (ws : List (List ℕ)). intake_from (intake_with_walls rules ws) (number + 1) texts rest) (sym a)
 
@@ -90,7 +99,8 @@ few-more rules walls after lines texts wall w a =
     let long : length after ≡ length walls + 1 = ap length a ∙ length-append walls (wall ∷ []) in
     omega arith
 
-pub whole-more : (rules : Rules) (walls after lines texts : List (List ℕ)) (wall : List ℕ) → IsWallLine rules.red walls lines texts (Some wall) → after ≡ walls ++ wall ∷ [] → list_all (is_wall rules.red) walls ≡ true → list_all (is_wall rules.red) after ≡ true
+pub whole-more : (rules : Rules) (walls after lines texts : List (List ℕ)) (wall : List ℕ) → IsWallLine rules.red walls lines texts (Some wall) →
+    after ≡ walls ++ wall ∷ [] → list_all (is_wall rules.red) walls ≡ true → list_all (is_wall rules.red) after ≡ true
 whole-more rules walls after lines texts wall w a h =
     ap (list_all (is_wall rules.red)) a ∙ all-walls rules.red walls wall h (wall-more rules walls w.line w.tiles wall w.form (read-wall rules.red walls lines texts (Some wall) w)).1
 
@@ -99,12 +109,14 @@ pub counted : (number rest others all : ℕ) → number + rest ≤ all → other
 counted number rest others all h k = omega arith
 
 -- tiles that are no wall, or one wall too many
-pub nothing-bad_wall : (number : ℕ) (end : End) (rules : Rules) (walls lines texts : List (List ℕ)) (unread : List ℕ) (input : Input) → input ≡ intake_from (intake_with_walls rules walls) number lines unread
+pub nothing-bad_wall : (number : ℕ) (end : End) (rules : Rules) (walls lines texts : List (List ℕ)) (unread : List ℕ) (input : Input) →
+    input ≡ intake_from (intake_with_walls rules walls) number lines unread
     → IsWallLine rules.red walls lines texts None → BadAt number ≡ ending end → HasNothing input end
 nothing-bad_wall number end rules walls lines texts unread input h w e =
     let same : input ≡ record { reading = intake_with_walls rules walls; ending = BadAt number } =
     h ∙ ap (λ (ls : List (List ℕ)). intake_from (intake_with_walls rules walls) number ls unread) w.lines_are
-    ∙ ap (λ (arrival : Arrival). intake_on arrival (λ next. intake_from next (number + 1) texts unread) (intake_with_walls rules walls) number) (wall-none rules walls w.line w.tiles w.form (read-wall rules.red walls lines texts None w)) in
+    ∙ ap (λ (arrival : Arrival). intake_on arrival (λ next. intake_from next (number + 1) texts unread) (intake_with_walls rules walls) number)
+    (wall-none rules walls w.line w.tiles w.form (read-wall rules.red walls lines texts None w)) in
     record {
       ends = ap (λ (input : Input). input.ending) same ∙ e;
       nothing = ap (λ (input : Input). input.reading.entries) same;
@@ -132,7 +144,8 @@ no-walls (wall ∷ walls) many none e = absurd (some (length walls) e)
     some : (n : ℕ) → many ≡ suc n → ⊥
     some n k = grind (arith, nat_tests, none, k)
 
-pub nothing-no_wall : (number : ℕ) (end : End) (rules : Rules) (walls lines : List (List ℕ)) (rest : List ℕ) → walls ≡ [] → (length lines == 0) ≡ false → begin_with_wall lines ≡ false → BadAt number ≡ ending end
+pub nothing-no_wall : (number : ℕ) (end : End) (rules : Rules) (walls lines : List (List ℕ)) (rest : List ℕ) → walls ≡ [] →
+    (length lines == 0) ≡ false → begin_with_wall lines ≡ false → BadAt number ≡ ending end
     → HasNothing (intake_from (intake_with_walls rules walls) number lines rest) end
 nothing-no_wall number end rules walls [] rest w none other e = cc
 nothing-no_wall number end rules walls (line ∷ lines) rest w none other e =
@@ -164,7 +177,8 @@ record Alike (a b : Input) : Type 0 where
   ends : a.ending ≡ b.ending
   game : game_of a.reading ≡ game_of b.reading
 
-alike-on : (rules : Rules) (walls : List (List ℕ)) (number : ℕ) (onwards : Intake → Input) (arrival : Arrival) → Alike (intake_on arrival onwards (intake_with_walls rules walls) number) (intake_on arrival onwards (begun_with rules walls) number)
+alike-on : (rules : Rules) (walls : List (List ℕ)) (number : ℕ) (onwards : Intake → Input) (arrival : Arrival) →
+    Alike (intake_on arrival onwards (intake_with_walls rules walls) number) (intake_on arrival onwards (begun_with rules walls) number)
 unfolding begun_with
 alike-on rules walls number onwards (Leads next) = record { ends = refl; game = refl }
 alike-on rules walls number onwards Bad = record { ends = refl; game = refl }
@@ -177,7 +191,8 @@ begun-alike : (rules : Rules) (walls : List (List ℕ)) (number : ℕ) (lines : 
     Alike (intake_from (intake_with_walls rules walls) number lines rest) (intake_from (begun_with rules walls) number lines rest)
 begun-alike rules walls number [] rest some h = cc some
 begun-alike rules walls number (line ∷ lines) rest some h =
-    subst (λ (arrival : Arrival). Alike (intake_on arrival (λ next. intake_from next (number + 1) lines rest) (intake_with_walls rules walls) number) (intake_from (begun_with rules walls) number (line ∷ lines) rest))
+    subst (λ (arrival : Arrival). Alike (intake_on arrival (λ next. intake_from next (number + 1) lines rest) (intake_with_walls rules walls) number)
+    (intake_from (begun_with rules walls) number (line ∷ lines) rest))
     (sym (begun-line rules walls line h))
     (alike-on rules walls number (λ next. intake_from next (number + 1) lines rest) (arrives (begun_with rules walls) line))
 
@@ -192,10 +207,12 @@ unbegun game none = let with : List (Entry Answer) → Game = λ entries. record
 
 pub tells-walls : (question : Question) (seat number : ℕ) (end : End) (rules : Rules) (walls : List (List ℕ)) (start game : Game) (lines : List (List ℕ)) (rest told all : List ℕ) →
     start ≡ record { setting = record { walls = walls; rules = rules }; entries = [] } → (length lines == 0) ≡ false → begin_with_wall lines ≡ false →
-    HearsAll (intake_from (intake_of start) number lines rest) seat end game told → all ≡ answer_to question seat game → Tells question (intake_from (intake_with_walls rules walls) number lines rest) seat end all
+    HearsAll (intake_from (intake_of start) number lines rest) seat end game told → all ≡ answer_to question seat game →
+    Tells question (intake_from (intake_with_walls rules walls) number lines rest) seat end all
 tells-walls question seat number end rules walls start game lines rest told all s some other h is =
     let alike = begun-alike rules walls number lines rest some other in
-    let same : intake_from (begun_with rules walls) number lines rest ≡ intake_from (intake_of start) number lines rest = ap (λ (reading : Intake). intake_from reading number lines rest) (begun-game rules walls start s) in
+    let same : intake_from (begun_with rules walls) number lines rest ≡ intake_from (intake_of start) number lines rest =
+    ap (λ (reading : Intake). intake_from reading number lines rest) (begun-game rules walls start s) in
     record {
       ends = alike.ends ∙ ap (λ (input : Input). input.ending) same ∙ h.ends;
       told = is ∙ ap (answer_to question seat) (sym (alike.game ∙ ap (λ (input : Input). game_of input.reading) same ∙ ap game_of h.reading));

@@ -39,7 +39,8 @@ watches-same : (seat : ℕ) (old new : Game) (told : List ℕ) → new ≡ old �
 watches-same seat old new told e w = subst (λ (game : Game). Watches seat game told) (sym e) w
 
 -- somebody wants a seat
-sat-by : (seat taken author : ℕ) (old new : Game) (join : Option JoinLine) (told more : List ℕ) → Watches seat old told → placing (after_of old) join ≡ places.Sat taken → TakesSeat join old new author → Adds told more (greeting taken seat) → Watches seat new more
+sat-by : (seat taken author : ℕ) (old new : Game) (join : Option JoinLine) (told more : List ℕ) → Watches seat old told →
+    placing (after_of old) join ≡ places.Sat taken → TakesSeat join old new author → Adds told more (greeting taken seat) → Watches seat new more
 sat-by seat taken author old new None told more w h t adds = absurd t
 sat-by seat taken author old new (Some join) told more w h t adds =
     let next = sat-next (after_of old) (Some join) taken h in record {
@@ -51,7 +52,9 @@ sat-by seat taken author old new (Some join) told more w h t adds =
     below : (n : ℕ) → n ≤ 4 → (n == 4) ≡ false → n < 4
     below n h k = grind (arith, nat_tests)
 
-back-by : (seat taken author : ℕ) (old new : Game) (chair : Chair) (told more : List ℕ) → Watches seat old told → slice_get (after_of old).chairs taken ≡ Some chair → Enters old new (Back author taken) → Adds told more (greeting_again taken seat new) → Watches seat new more
+back-by : (seat taken author : ℕ) (old new : Game) (chair : Chair) (told more : List ℕ) → Watches seat old told →
+    slice_get (after_of old).chairs taken ≡ Some chair → Enters old new (Back author taken) → Adds told more (greeting_again taken seat new) →
+    Watches seat new more
 back-by seat taken author old new chair told more w at e adds = record {
   few = few-back author taken old new chair e at w.few;
   bytes = adds.is ∙ ap (λ (bytes : List ℕ). bytes ++ greeting_again taken seat new) w.bytes ∙ own_or_not;
@@ -66,16 +69,20 @@ back-by seat taken author old new chair told more w at e adds = record {
 adds-none : (seat : ℕ) (game : Game) (told more : List ℕ) → Adds told more [] → Watches seat game told → Watches seat game more
 adds-none seat game told more adds w = record { few = w.few; bytes = adds.is ∙ append-nil told ∙ w.bytes }
 
-pub watches-sitting : (answer : SitAnswer) (seat author : ℕ) (old new : Game) (text told more : List ℕ) → IsSitAnswer answer old new author (join_of text) → Watches seat old told → Adds told more (told_by_sitting answer seat new) → Watches seat new more
+pub watches-sitting : (answer : SitAnswer) (seat author : ℕ) (old new : Game) (text told more : List ℕ) →
+    IsSitAnswer answer old new author (join_of text) → Watches seat old told → Adds told more (told_by_sitting answer seat new) →
+    Watches seat new more
 watches-sitting (sits.Sat taken) seat author old new text told more h w adds = sat-by seat taken author old new (join_of text) told more w h.0 h.1 adds
 watches-sitting (sits.Back taken) seat author old new text told more h w adds =
     let held = back-held old.setting (after_of old) text taken w.few h.0 in back-by seat taken author old new held.0 told more w held.1 h.1 adds
 watches-sitting (sits.Refused why) seat author old new text told more h w adds = watches-same seat old new more h.1 (adds-none seat old told more adds w)
 watches-sitting sits.NoMemory seat author old new text told more h w adds = watches-same seat old new more h (adds-none seat old told more adds w)
 
-pub few-sitting : (answer : SitAnswer) (author : ℕ) (old new : Game) (text : List ℕ) → IsSitAnswer answer old new author (join_of text) → length (after_of old).chairs ≤ 4 → length (after_of new).chairs ≤ 4
+pub few-sitting : (answer : SitAnswer) (author : ℕ) (old new : Game) (text : List ℕ) → IsSitAnswer answer old new author (join_of text) →
+    length (after_of old).chairs ≤ 4 → length (after_of new).chairs ≤ 4
 few-sitting answer author old new text h few =
-    (watches-sitting answer 0 author old new text (told_in 0 (after_of old)) (told_in 0 (after_of old) ++ told_by_sitting answer 0 new) h (record { few = few; bytes = refl }) (record { is = refl })).few
+    (watches-sitting answer 0 author old new text (told_in 0 (after_of old)) (told_in 0 (after_of old) ++ told_by_sitting answer 0 new) h
+    (record { few = few; bytes = refl }) (record { is = refl })).few
 
 pub below-four : (answer : SitAnswer) (author : ℕ) (old new : Game) (text : List ℕ) → IsSitAnswer answer old new author (join_of text) → length (after_of old).chairs ≤ 4 → IsBelowFour answer
 below-four (sits.Sat taken) author old new text h few = record {}
@@ -89,7 +96,8 @@ below-four (sits.Refused why) author old new text h few = record {}
 below-four sits.NoMemory author old new text h few = record {}
 
 -- a seat says a line
-said-by : (seat author who : ℕ) (old new : Game) (answer : Answer) (chair : Chair) (verdict : Verdict) (told more : List ℕ) → Watches seat old told → slice_get (after_of old).chairs who ≡ Some chair → is_present chair ≡ true
+said-by : (seat author who : ℕ) (old new : Game) (answer : Answer) (chair : Chair) (verdict : Verdict) (told more : List ℕ) → Watches seat old told →
+    slice_get (after_of old).chairs who ≡ Some chair → is_present chair ≡ true
     → verdict_at old who answer ≡ Some verdict → Enters old new (Said author who answer) → more ≡ told ++ (if who == seat then pending_at old seat ++ error_of verdict else []) → Watches seat new more
 said-by seat author who old new answer chair verdict told more w at here v e bytes = record {
   few = few-said author who answer old new chair e at w.few;
@@ -98,7 +106,8 @@ said-by seat author who old new answer chair verdict told more w at here v e byt
   where
     own_or_not : told_in seat (after_of old) ++ (if who == seat then pending_at old seat ++ error_of verdict else []) ≡ told_in seat (after_of new)
     own_or_not = elim (eqb_tells who seat) [
-      | inl p ↦ rw p.0 (sym (append_assoc (told_in seat (after_of old)) (pending_at old seat) (error_of verdict)) ∙ sym (told-own author seat answer old new chair verdict (subst (λ (n : ℕ). Enters old new (Said author n answer)) p.1 e)
+      | inl p ↦ rw p.0 (sym (append_assoc (told_in seat (after_of old)) (pending_at old seat) (error_of verdict))
+          ∙ sym (told-own author seat answer old new chair verdict (subst (λ (n : ℕ). Enters old new (Said author n answer)) p.1 e)
           (subst (λ (n : ℕ). slice_get (after_of old).chairs n ≡ Some chair) p.1 at) here (subst (λ (n : ℕ). verdict_at old n answer ≡ Some verdict) p.1 v)))
       | inr p ↦ rw p.0 (append-nil (told_in seat (after_of old)) ∙ sym (told-other author who seat answer old new chair p.1 e at))
     ]
@@ -108,7 +117,8 @@ silent-verdict : (b : Bool) (told mid more due : List ℕ) → Adds told mid (if
 silent-verdict false told mid more due a t = t ∙ a.is
 silent-verdict true told mid more due a t = t ∙ a.is ∙ ap (λ (xs : List ℕ). told ++ xs) (sym (append-nil due))
 
-spoken-verdict : (b : Bool) (told mid more due error : List ℕ) → Adds told mid (if b then due else []) → (b ≡ false → more ≡ mid) → (b ≡ true → Adds mid more error) → more ≡ told ++ (if b then due ++ error else [])
+spoken-verdict : (b : Bool) (told mid more due error : List ℕ) → Adds told mid (if b then due else []) → (b ≡ false → more ≡ mid) →
+    (b ≡ true → Adds mid more error) → more ≡ told ++ (if b then due ++ error else [])
 spoken-verdict false told mid more due error a apart own = apart refl ∙ a.is
 spoken-verdict true told mid more due error a apart own = (own refl).is ∙ ap (λ (xs : List ℕ). xs ++ error) a.is ∙ append_assoc told due error
 
@@ -136,7 +146,8 @@ nothing-so : (b : Bool) (told mid more due : List ℕ) → Adds told mid (if b t
 nothing-so false told mid more due a t = t ∙ a.is ∙ append-nil told
 nothing-so true told mid more due a t = absurd t
 
-pub watches-hearing : (verdict : Heard Rule) (seat author who : ℕ) (old new : Game) (answer : Answer) (told mid more : List ℕ) → IsHeard verdict old new author who answer → author_of_seat old who ≡ Some author → Watches seat old told
+pub watches-hearing : (verdict : Heard Rule) (seat author who : ℕ) (old new : Game) (answer : Answer) (told mid more : List ℕ) →
+    IsHeard verdict old new author who answer → author_of_seat old who ≡ Some author → Watches seat old told
     → Adds told mid (last_lines who seat old) → TellsVerdict (who == seat) verdict mid more → Watches seat new more
 watches-hearing heard.Taken seat author who old new answer told mid more h by w a t =
     let c = has_chair (slice_get (after_of old).chairs who) author by in
@@ -158,10 +169,12 @@ watches-hearing heard.NoMemory seat author who old new answer told mid more h by
 few-same : (old new : Game) → new ≡ old → length (after_of old).chairs ≤ 4 → length (after_of new).chairs ≤ 4
 few-same old new e few = subst (λ (game : Game). length (after_of game).chairs ≤ 4) (sym e) few
 
-few-one : (author who : ℕ) (old new : Game) (answer : Answer) → Enters old new (Said author who answer) → author_of_seat old who ≡ Some author → length (after_of old).chairs ≤ 4 → length (after_of new).chairs ≤ 4
+few-one : (author who : ℕ) (old new : Game) (answer : Answer) → Enters old new (Said author who answer) → author_of_seat old who ≡ Some author →
+    length (after_of old).chairs ≤ 4 → length (after_of new).chairs ≤ 4
 few-one author who old new answer e by few = let c = has_chair (slice_get (after_of old).chairs who) author by in few-said author who answer old new c.0 e c.1 few
 
-pub few-hearing : (verdict : Heard Rule) (author who : ℕ) (old new : Game) (answer : Answer) → IsHeard verdict old new author who answer → author_of_seat old who ≡ Some author → length (after_of old).chairs ≤ 4 → length (after_of new).chairs ≤ 4
+pub few-hearing : (verdict : Heard Rule) (author who : ℕ) (old new : Game) (answer : Answer) → IsHeard verdict old new author who answer →
+    author_of_seat old who ≡ Some author → length (after_of old).chairs ≤ 4 → length (after_of new).chairs ≤ 4
 few-hearing heard.Taken author who old new answer h by few = few-one author who old new answer h.1 by few
 few-hearing heard.Late author who old new answer h by few = few-one author who old new answer h.1 by few
 few-hearing (heard.Refused rule) author who old new answer h by few = few-one author who old new answer h.1 by few
@@ -169,11 +182,13 @@ few-hearing (heard.Closing rule) author who old new answer h by few = few-one au
 few-hearing heard.NoMemory author who old new answer h by few = few-same old new h few
 
 -- a seat leaves
-pub few-going : (answer : Left) (author who : ℕ) (old new : Game) → IsLeft answer old new author who → author_of_seat old who ≡ Some author → length (after_of old).chairs ≤ 4 → length (after_of new).chairs ≤ 4
+pub few-going : (answer : Left) (author who : ℕ) (old new : Game) → IsLeft answer old new author who → author_of_seat old who ≡ Some author →
+    length (after_of old).chairs ≤ 4 → length (after_of new).chairs ≤ 4
 few-going left.Gone author who old new h by few = let c = has_chair (slice_get (after_of old).chairs who) author by in few-gone author who old new c.0 h c.1 few
 few-going left.NoMemory author who old new h by few = few-same old new h few
 
-pub watches-going : (answer : Left) (seat author who : ℕ) (old new : Game) (told more : List ℕ) → IsLeft answer old new author who → has_left answer ≡ true → author_of_seat old who ≡ Some author → Watches seat old told
+pub watches-going : (answer : Left) (seat author who : ℕ) (old new : Game) (told more : List ℕ) → IsLeft answer old new author who →
+    has_left answer ≡ true → author_of_seat old who ≡ Some author → Watches seat old told
     → Adds told more (last_lines who seat old) → Watches seat new more
 watches-going left.NoMemory seat author who old new told more h gone by w a = absurd (cc gone)
 watches-going left.Gone seat author who old new told more h gone by w a =
@@ -184,7 +199,8 @@ watches-going left.Gone seat author who old new told more h gone by w a =
   where
     own_or_not : (chair : Chair) → slice_get (after_of old).chairs who ≡ Some chair → is_present chair ≡ true → told_in seat (after_of old) ++ last_lines who seat old ≡ told_in seat (after_of new)
     own_or_not chair at here = elim (eqb_tells who seat) [
-      | inl p ↦ rw p.0 (sym (told-gone author seat old new chair (subst (λ (n : ℕ). Enters old new (Gone author n)) p.1 h) (subst (λ (n : ℕ). slice_get (after_of old).chairs n ≡ Some chair) p.1 at) here))
+      | inl p ↦ rw p.0 (sym (told-gone author seat old new chair (subst (λ (n : ℕ). Enters old new (Gone author n)) p.1 h)
+          (subst (λ (n : ℕ). slice_get (after_of old).chairs n ≡ Some chair) p.1 at) here))
       | inr p ↦ rw p.0 (append-nil (told_in seat (after_of old)) ∙ sym (told-gone_other author who seat old new chair p.1 h at))
     ]
 
@@ -217,18 +233,22 @@ module _ (seat : ℕ) (old new : Game) (told : List ℕ) (before : Bool) (few : 
   watches-so : before ≡ true → Watches seat old told
   watches-so e = record { few = few; bytes = same e }
 
-  pub sitting-told : (answer : SitAnswer) (author : ℕ) (text more : List ℕ) (done : Result (Unit {0}) AllocError) (now : Bool) → IsSitAnswer answer old new author (join_of text) → OnOk done (Adds told more (told_by_sitting answer seat new)) → now ≡ (is_ok done && before)
+  pub sitting-told : (answer : SitAnswer) (author : ℕ) (text more : List ℕ) (done : Result (Unit {0}) AllocError) (now : Bool) →
+      IsSitAnswer answer old new author (join_of text) → OnOk done (Adds told more (told_by_sitting answer seat new)) → now ≡ (is_ok done && before)
       → now ≡ true → more ≡ told_in seat (after_of new)
   sitting-told answer author text more done now h adds is e =
       let t = told-whole done before now is e adds in (watches-sitting answer seat author old new text told more h (watches-so t.0) t.1).bytes
 
-  pub hearing-told : (verdict : Heard Rule) (author who : ℕ) (answer : Answer) (mid more : List ℕ) (first last : Result (Unit {0}) AllocError) (between now : Bool) → IsHeard verdict old new author who answer → author_of_seat old who ≡ Some author
-      → OnOk first (Adds told mid (last_lines who seat old)) → OnOk last (TellsVerdict (who == seat) verdict mid more) → between ≡ (is_ok first && before) → now ≡ (is_ok last && between) → now ≡ true → more ≡ told_in seat (after_of new)
+  pub hearing-told : (verdict : Heard Rule) (author who : ℕ) (answer : Answer) (mid more : List ℕ) (first last : Result (Unit {0}) AllocError)
+      (between now : Bool) → IsHeard verdict old new author who answer → author_of_seat old who ≡ Some author
+      → OnOk first (Adds told mid (last_lines who seat old)) → OnOk last (TellsVerdict (who == seat) verdict mid more) →
+      between ≡ (is_ok first && before) → now ≡ (is_ok last && between) → now ≡ true → more ≡ told_in seat (after_of new)
   hearing-told verdict author who answer mid more first last between now h by adds tells is_first is e =
       let t = told-whole last between now is e tells in
       let s = told-whole first before between is_first t.0 adds in (watches-hearing verdict seat author who old new answer told mid more h by (watches-so s.0) s.1 t.1).bytes
 
-  pub going-told : (answer : Left) (author who : ℕ) (more : List ℕ) (first : Result (Unit {0}) AllocError) (between now : Bool) → IsLeft answer old new author who → author_of_seat old who ≡ Some author → OnOk first (Adds told more (last_lines who seat old))
+  pub going-told : (answer : Left) (author who : ℕ) (more : List ℕ) (first : Result (Unit {0}) AllocError) (between now : Bool) →
+      IsLeft answer old new author who → author_of_seat old who ≡ Some author → OnOk first (Adds told more (last_lines who seat old))
       → between ≡ (is_ok first && before) → now ≡ (has_left answer && between) → now ≡ true → more ≡ told_in seat (after_of new)
   going-told answer author who more first between now h by adds is_first is e =
       let g = gone-whole answer between now is e in

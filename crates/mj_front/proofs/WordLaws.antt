@@ -24,7 +24,8 @@ unheard (SafeOf seat) left written alone = record { end = referees.NoMemory; giv
 unheard Nothing left written alone = record { words = tt; unread = Keeps-refl left; unwritten = Keeps-refl written }
 
 -- And the disk isn't touched.
-pub untouched : {D : Type 0} (told : D → Option (List ℕ)) (may_leave : D → List ℕ → Type 0) (faults : D → ℕ) (disk : D) (asked : Asked) (left written : Option (List ℕ)) → RunsDisk told may_leave faults asked statuses.NoMemory left left written written disk disk
+pub untouched : {D : Type 0} (told : D → Option (List ℕ)) (may_leave : D → List ℕ → Type 0) (faults : D → ℕ) (disk : D) (asked : Asked)
+    (left written : Option (List ℕ)) → RunsDisk told may_leave faults asked statuses.NoMemory left left written written disk disk
 untouched told may_leave faults disk (RefereeOf seat) left written = refl
 untouched told may_leave faults disk (ServingOf s) left written = refl
 untouched told may_leave faults disk (TablesOf rooms s) left written = refl

@@ -73,7 +73,8 @@ pub record RunsServe (Does : ServeEnd → Type 0) (status : Status) (old_left ne
   pub does : Does end
 
 -- The game of a seat was kept, which gives the status by its end.
-pub record RunsKeep {D : Type 0} (told : D → Option (List ℕ)) (may_leave : D → List ℕ → Type 0) (faults : D → ℕ) (status : Status) (seat : ℕ) (old_left new_left old_written new_written : Option (List ℕ)) (old new : D) : Type 0 where
+pub record RunsKeep {D : Type 0} (told : D → Option (List ℕ)) (may_leave : D → List ℕ → Type 0) (faults : D → ℕ) (status : Status) (seat : ℕ)
+    (old_left new_left old_written new_written : Option (List ℕ)) (old new : D) : Type 0 where
   pub end : KeepEnd
   pub gives : status ≡ keep_status end
   pub does : KeepsAll told may_leave end seat old_left new_left old_written new_written old new

@@ -6,7 +6,7 @@ ghost use Rattle.mj_forms.specs.AnswerForms.{answer_of, join_of};
 ghost use Rattle.mj_history.specs.After.{scripts};
 ghost use Rattle.mj_history.specs.Legal.{IsLegal};
 ghost use Rattle.mj_history.specs.Shown.{shown_of, sits_of, hears_of, expires_of, control_line};
-ghost use Rattle.mj_history.proofs.Seated.{beginnings_are_legal, lines_stay, ended_connections_stay};
+ghost use Rattle.mj_history.proofs.Seated.{beginnings_are_legal, lines_stay, ended_connections_stay, seats_are_closed};
 ghost use Rattle.mj_history.proofs.Moves.{others_leave_alone, seats_begin, returns_begin, answers_go_by_verdict, seats_leave};
 ghost use Rattle.mj_core.specs.Calls.{after_of};
 ghost use Rattle.mj_front.specs.Inner.Intake.{told_in};
@@ -187,6 +187,8 @@ impl Seated for Watched {
         answers_go_by_verdict s.0 entries author seat answer l };
 
     ghost leaves = { λ s entries author seat l. seats_leave s.0 entries author seat l };
+
+    ghost closed = { λ s entries text over. seats_are_closed s.0 entries text over };
 }
 
 // Tells a seat what the answer to a join tells it.

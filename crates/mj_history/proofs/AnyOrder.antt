@@ -115,23 +115,28 @@ by_next f false due refused = refl
 record HearsFirst (setting : Setting) (now : After) (who : ℕ) (answer : Answer) (answers : List Answer) : Type 0 where
   near : nat_lt (due_at now who) (length now.deeds) ≡ true
   stays : is_closing (verdict_now setting now who answer) ≡ false
-  rest : are_heard setting.rules now.deeds who (next_due (is_acceptance (verdict_now setting now who answer)) (due_at now who)) (next_refused (is_acceptance (verdict_now setting now who answer)) (refused_at now who)) answers ≡ true
+  rest : are_heard setting.rules now.deeds who (next_due (is_acceptance (verdict_now setting now who answer)) (due_at now who))
+      (next_refused (is_acceptance (verdict_now setting now who answer)) (refused_at now who)) answers ≡ true
 
-hears_first : (setting : Setting) (now : After) (who : ℕ) (answer : Answer) (answers : List Answer) → are_heard setting.rules now.deeds who (due_at now who) (refused_at now who) (answer ∷ answers) ≡ true → HearsFirst setting now who answer answers
+hears_first : (setting : Setting) (now : After) (who : ℕ) (answer : Answer) (answers : List Answer) → are_heard setting.rules now.deeds who
+    (due_at now who) (refused_at now who) (answer ∷ answers) ≡ true → HearsFirst setting now who answer answers
 hears_first setting now who answer answers h =
     let outer = and_parts (nat_lt (due_at now who) (length now.deeds) && not (is_closing (verdict_now setting now who answer))) _ h in
     let inner = and_parts (nat_lt (due_at now who) (length now.deeds)) (not (is_closing (verdict_now setting now who answer))) outer.0 in
     record {
       near = inner.0;
       stays = not-true (is_closing (verdict_now setting now who answer)) inner.1;
-      rest = sym (by_next (λ (due refused : ℕ). are_heard setting.rules now.deeds who due refused answers) (is_acceptance (verdict_now setting now who answer)) (due_at now who) (refused_at now who)) ∙ outer.1;
+      rest = sym (by_next (λ (due refused : ℕ). are_heard setting.rules now.deeds who due refused answers)
+          (is_acceptance (verdict_now setting now who answer)) (due_at now who) (refused_at now who)) ∙ outer.1;
     }
 
 -- The other entries could be said after the first.
-said_on : (setting : Setting) (now own : After) (author who : ℕ) (answer : Answer) (more : List (Entry Answer)) → own.deeds ≡ now.deeds → Goes setting now own who answer → HearsFirst setting now who answer (said_by who more)
+said_on : (setting : Setting) (now own : After) (author who : ℕ) (answer : Answer) (more : List (Entry Answer)) → own.deeds ≡ now.deeds →
+    Goes setting now own who answer → HearsFirst setting now who answer (said_by who more)
     → CanBeSaid setting now (Said author who answer ∷ more) → CanBeSaid setting own more
 said_on setting now own author who answer more same goes first can = record {
-  present = ap (λ (test : Entry Answer → Bool). list_all test more) (λ i entry. present_same entry i) ∙ (and_parts (is_said_by_present now (Said author who answer)) (list_all (is_said_by_present now) more) can.present).1;
+  present = ap (λ (test : Entry Answer → Bool). list_all test more) (λ i entry. present_same entry i)
+      ∙ (and_parts (is_said_by_present now (Said author who answer)) (list_all (is_said_by_present now) more) can.present).1;
   heard = λ seat. elim (eqb_tells who seat) [
     | inl p ↦ subst (λ (k : ℕ). are_heard setting.rules own.deeds k (due_at own k) (refused_at own k) (said_by k more) ≡ true) p.1
         ((λ i. are_heard setting.rules (same i) who (goes.due i) (goes.refused i) (said_by who more)) ∙ first.rest)
@@ -161,18 +166,22 @@ said_still setting now next entries d c can = record {
     present_same (Expired by window t1 t2) = refl
 
 -- While something could be said, the window isn't closed.
-may_speak : (now : After) (author : ℕ) (o : Option Chair) → option_map_or (is_present_by author) o false ≡ true → nat_lt (due_in o) (length now.deeds) ≡ true → option_map_or (may_say now author) o false ≡ true
+may_speak : (now : After) (author : ℕ) (o : Option Chair) → option_map_or (is_present_by author) o false ≡ true → nat_lt (due_in o) (length now.deeds)
+    ≡ true → option_map_or (may_say now author) o false ≡ true
 unfolding may_say
 may_speak now author None p n = cc
 may_speak now author (Some chair) p n = and_from (is_present_by author chair) (nat_lt chair.progress.due (length now.deeds)) p n
 
-first_may : (setting : Setting) (now : After) (author who : ℕ) (answer : Answer) (more : List (Entry Answer)) → CanBeSaid setting now (Said author who answer ∷ more) → (is_in_form answer ≡ true) × (can_say now author who ≡ true)
+first_may : (setting : Setting) (now : After) (author who : ℕ) (answer : Answer) (more : List (Entry Answer)) →
+    CanBeSaid setting now (Said author who answer ∷ more) → (is_in_form answer ≡ true) × (can_say now author who ≡ true)
 first_may setting now author who answer more can =
-    let first = hears_first setting now who answer (said_by who more) (ap (are_heard setting.rules now.deeds who (due_at now who) (refused_at now who)) (sym (said_own author who answer more)) ∙ can.heard who) in
+    let first = hears_first setting now who answer (said_by who more)
+    (ap (are_heard setting.rules now.deeds who (due_at now who) (refused_at now who)) (sym (said_own author who answer more)) ∙ can.heard who) in
     let parts = and_parts (is_in_form answer) _ (and_parts (is_said_by_present now (Said author who answer)) (list_all (is_said_by_present now) more) can.present).0 in
     (parts.0, may_speak now author (slice_get now.chairs who) parts.1 first.near)
 
-still_open : (setting : Setting) (now : After) (entry : Entry Answer) (more : List (Entry Answer)) → AreSeats now.chairs → AreFilled now → CanBeSaid setting now (entry ∷ more) → followed setting now ≡ None
+still_open : (setting : Setting) (now : After) (entry : Entry Answer) (more : List (Entry Answer)) → AreSeats now.chairs → AreFilled now →
+    CanBeSaid setting now (entry ∷ more) → followed setting now ≡ None
 still_open setting now (Said author who answer) more seats filled can =
     ap (λ (b : Bool). if b then outcome setting.rules setting.walls now.deeds (answers_in setting.rules now.deeds now.slots) else None)
     (not_closed now author who seats filled (first_may setting now author who answer more can).1)
@@ -195,7 +204,8 @@ still_open setting now (Expired author window t1 t2) more seats filled can = abs
 
 -- the first entry, and those after it
 
-own_said : (setting : Setting) (now : After) (author who : ℕ) (answer : Answer) (chair : Chair) → slice_get now.chairs who ≡ Some chair → own_part setting now (Said author who answer) ≡ option_map_or (after_said setting.rules now who answer) (Some chair) now
+own_said : (setting : Setting) (now : After) (author who : ℕ) (answer : Answer) (chair : Chair) → slice_get now.chairs who ≡ Some chair →
+    own_part setting now (Said author who answer) ≡ option_map_or (after_said setting.rules now who answer) (Some chair) now
 unfolding own_part
 own_said setting now author who answer chair e = ap (λ (o : Option Chair). option_map_or (after_said setting.rules now who answer) o now) e
 
@@ -213,7 +223,8 @@ verdict_is setting now who answer test chair e = by (slice_get now.chairs who) e
     by (Some c) e = refl
 
 -- What is accepted of the first answer of a seat, and of the others.
-first_accepted : (f : ℕ → ℕ → List Answer) (b : Bool) (answer : Answer) (due refused : ℕ) → (if b then answer ∷ f (due + 1) 0 else f due (refused + 1)) ≡ (if b then answer ∷ [] else []) ++ f (next_due b due) (next_refused b refused)
+first_accepted : (f : ℕ → ℕ → List Answer) (b : Bool) (answer : Answer) (due refused : ℕ) →
+    (if b then answer ∷ f (due + 1) 0 else f due (refused + 1)) ≡ (if b then answer ∷ [] else []) ++ f (next_due b due) (next_refused b refused)
 first_accepted f true answer due refused = refl
 first_accepted f false answer due refused = refl
 
@@ -222,7 +233,8 @@ record Starts (setting : Setting) (window : ℕ) (now own : After) (author who :
   can : CanBeSaid setting own more
   accepted : (seat : ℕ) → accepted_of setting now seat (Said author who answer ∷ more) ≡ accepted setting seat now (Said author who answer) ++ accepted_of setting own seat more
 
-starts : (setting : Setting) (window : ℕ) (now : After) (author who : ℕ) (answer : Answer) (more : List (Entry Answer)) → is_open now.deeds window ≡ true → CanBeSaid setting now (Said author who answer ∷ more)
+starts : (setting : Setting) (window : ℕ) (now : After) (author who : ℕ) (answer : Answer) (more : List (Entry Answer)) →
+    is_open now.deeds window ≡ true → CanBeSaid setting now (Said author who answer ∷ more)
     → Starts setting window now (own_part setting now (Said author who answer)) author who answer more
 starts setting window now author who answer more opens can = record {
   answers = and_from (is_permitted setting now (Said author who answer) && is_open now.deeds window) _
@@ -232,9 +244,11 @@ starts setting window now author who answer more opens can = record {
   accepted = λ seat. elim (eqb_tells who seat) [
     | inl p ↦ subst (λ (k : ℕ). accepted_of setting now k (Said author who answer ∷ more) ≡ accepted setting k now (Said author who answer) ++ accepted_of setting own k more) p.1
         (ap (accepted_alone setting.rules now.deeds who (due_at now who) (refused_at now who)) (said_own author who answer more)
-        ∙ first_accepted (λ (due refused : ℕ). accepted_alone setting.rules now.deeds who due refused (said_by who more)) (is_acceptance (verdict_now setting now who answer)) answer (due_at now who) (refused_at now who)
+        ∙ first_accepted (λ (due refused : ℕ). accepted_alone setting.rules now.deeds who due refused (said_by who more))
+        (is_acceptance (verdict_now setting now who answer)) answer (due_at now who) (refused_at now who)
         ∙ (λ i. sym own_accepted i ++ accepted_alone setting.rules (sym (own_deeds setting now (Said author who answer)) i) who (sym goes.due i) (sym goes.refused i) (said_by who more)))
-    | inr p ↦ (λ i. accepted_alone setting.rules (sym (own_deeds setting now (Said author who answer)) i) seat (sym (goes.others_due seat p.1) i) (sym (goes.others_refused seat p.1) i) (said_other author who seat answer more p.0 i))
+    | inr p ↦ (λ i. accepted_alone setting.rules (sym (own_deeds setting now (Said author who answer)) i) seat (sym (goes.others_due seat p.1) i)
+        (sym (goes.others_refused seat p.1) i) (said_other author who seat answer more p.0 i))
         ∙ ap (λ (b : Bool). (if b && option_map_or is_acceptance (verdict_at setting.rules now who answer) false then answer ∷ [] else []) ++ accepted_of setting own seat more) (sym p.0)
   ];
 }
@@ -249,7 +263,8 @@ starts setting window now author who answer more opens can = record {
     there = held (slice_get now.chairs who) (may_say now author) (first_may setting now author who answer more can).1
 
     first : HearsFirst setting now who answer (said_by who more)
-    first = hears_first setting now who answer (said_by who more) (ap (are_heard setting.rules now.deeds who (due_at now who) (refused_at now who)) (sym (said_own author who answer more)) ∙ can.heard who)
+    first = hears_first setting now who answer (said_by who more) (ap (are_heard setting.rules now.deeds who (due_at now who) (refused_at now who))
+        (sym (said_own author who answer more)) ∙ can.heard who)
 
     goes : Goes setting now (own_part setting now (Said author who answer)) who answer
     goes = subst (λ (a : After). Goes setting now a who answer) (sym (own_said setting now author who answer there.0 there.1)) (said_goes setting now who answer there.0 there.1 first.stays)
@@ -262,7 +277,8 @@ record IsIdle (own next : After) : Type 0 where
   deeds : next.deeds ≡ own.deeds
   chairs : next.chairs ≡ own.chairs
 
-idle : (setting : Setting) (window : ℕ) (now : After) (entry second : Entry Answer) (more : List (Entry Answer)) → AreSeats now.chairs → AreFilled now → is_open now.deeds window ≡ true → answers_in_window setting window now entry ≡ true
+idle : (setting : Setting) (window : ℕ) (now : After) (entry second : Entry Answer) (more : List (Entry Answer)) → AreSeats now.chairs →
+    AreFilled now → is_open now.deeds window ≡ true → answers_in_window setting window now entry ≡ true
     → is_permitted setting now entry ≡ true → CanBeSaid setting (own_part setting now entry) (second ∷ more) → IsIdle (own_part setting now entry) (step setting now entry)
 idle setting window now entry second more seats filled opens answers p can =
     let own : After = own_part setting now entry in
@@ -275,7 +291,8 @@ idle setting window now entry second more seats filled opens answers p can =
       chairs = s.chairs;
     }
 
-lie_from : (setting : Setting) (window : ℕ) (now : After) (entries : List (Entry Answer)) → AreSeats now.chairs → AreFilled now → is_open now.deeds window ≡ true → CanBeSaid setting now entries → LieIn setting window now entries
+lie_from : (setting : Setting) (window : ℕ) (now : After) (entries : List (Entry Answer)) → AreSeats now.chairs → AreFilled now →
+    is_open now.deeds window ≡ true → CanBeSaid setting now entries → LieIn setting window now entries
 lie_from setting window now [] seats filled opens can = record { all = refl; accepted = λ seat. refl }
 lie_from setting window now (Said author who answer ∷ []) seats filled opens can =
     let first = starts setting window now author who answer [] opens can in
@@ -297,7 +314,8 @@ lie_from setting window now (Said author who answer ∷ second ∷ more) seats f
       all = and_from (answers_in_window setting window now entry) _ first.answers later.all;
       accepted = λ seat.
           ap (λ (said : List Answer). accepted setting seat now entry ++ said)
-          (later.accepted seat ∙ (λ i. accepted_alone setting.rules (still.deeds i) seat (due_in (slice_get (still.chairs i) seat)) (refused_in (slice_get (still.chairs i) seat)) (said_by seat (second ∷ more))))
+          (later.accepted seat ∙ (λ i. accepted_alone setting.rules (still.deeds i) seat (due_in (slice_get (still.chairs i) seat))
+          (refused_in (slice_get (still.chairs i) seat)) (said_by seat (second ∷ more))))
           ∙ sym (first.accepted seat);
     }
 lie_from setting window now (Sat author name key ∷ more) seats filled opens can = absurd (never can.present)
@@ -318,7 +336,8 @@ lie_from setting window now (Expired author closed t1 t2 ∷ more) seats filled 
     never e = cc
 
 pub any_order_lies_in : AnyOrderLiesIn
-any_order_lies_in setting entries others window legal opens can = lie_from setting window (after setting entries) others (legal_seats setting entries legal) (legal_filled setting entries legal) opens can
+any_order_lies_in setting entries others window legal opens can = lie_from setting window (after setting entries) others
+    (legal_seats setting entries legal) (legal_filled setting entries legal) opens can
 
 pub any_order_is_free : AnyOrderIsFree
 any_order_is_free setting entries some others window legal opens all can same =

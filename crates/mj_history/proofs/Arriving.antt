@@ -50,13 +50,15 @@ newest_taken due refused n rule d r =
 pub lawful_answers_are_taken : LawfulAnswersAreTaken
 lawful_answers_are_taken setting entries author seat answer may due lawful = by (slice_get (after setting entries).chairs seat) may due
   where
-    by : (o : Option Chair) → option_map_or (may_say (after setting entries) author) o false ≡ true → option_map_or (λ (chair : Chair). chair.progress.due) o 0 + 1 ≡ length (after setting entries).deeds
+    by : (o : Option Chair) → option_map_or (may_say (after setting entries) author) o false ≡ true →
+        option_map_or (λ (chair : Chair). chair.progress.due) o 0 + 1 ≡ length (after setting entries).deeds
         → option_map_or heard_of (option_map (λ (chair : Chair). verdict_on setting.rules (after setting entries).deeds seat answer chair.progress) o) heard.NoMemory ≡ heard.Taken
     by None m d = cc
     by (Some chair) m d = ap heard_of (newest_taken chair.progress.due chair.progress.refused (length (after setting entries).deeds) _ d lawful.clean)
 
 -- A join under a new name.
-from_new : (n : ℕ) (chairs : List Chair) (join : JoinLine) → list_any (has_name join.name) chairs ≡ false → (n + length chairs == 4) ≡ false → placed_from n (map held_of chairs) join ≡ places.Sat (n + length chairs)
+from_new : (n : ℕ) (chairs : List Chair) (join : JoinLine) → list_any (has_name join.name) chairs ≡ false → (n + length chairs == 4) ≡ false →
+    placed_from n (map held_of chairs) join ≡ places.Sat (n + length chairs)
 from_new n [] join h f = ap (λ (b : Bool). if b then places.Refused Full else places.Sat n) (ap (λ (m : ℕ). m == 4) (none_more n) ∙ f) ∙ ap (λ (m : ℕ). places.Sat m) (none_more n)
   where
     none_more : (n : ℕ) → n ≡ n + 0

@@ -44,7 +44,8 @@ told-only p (d ∷ ds) (suc i) c few some e =
     ap (λ (l : List ℕ). l ++ told_at ds p) (untold-in p d own) ∙ told-only p ds i c rest some e
 
 -- An earlier connection of a seat, between others, was told what is kept of it.
-told-one : (xs ys : List Connection) (c : Connection) (chair : Chair) → chair.earlier ≡ xs ++ c ∷ ys → begun_in c.place chair ≤ 1 → (1 ≤ begun_in c.place chair) × ((chair.place == c.place) ≡ false) × (told_in c.place chair ≡ c.told)
+told-one : (xs ys : List Connection) (c : Connection) (chair : Chair) → chair.earlier ≡ xs ++ c ∷ ys → begun_in c.place chair ≤ 1 →
+    (1 ≤ begun_in c.place chair) × ((chair.place == c.place) ≡ false) × (told_in c.place chair ≡ c.told)
 told-one xs ys c chair e few =
     let k = parts (earlier_from c.place chair.earlier) (earlier_from c.place xs) (earlier_from c.place ys) (c.place == c.place) (chair.place == c.place) here number few in
     let before : flat_map (told_by c.place) xs ≡ [] = untold-earlier c.place xs k.2 in
@@ -79,7 +80,8 @@ ended p chairs i c few e some off = nobody-at p chairs (λ j d f. elim (eqb_tell
     none false n m k f g h = refl
 
 -- The scripts of a held seat's connections, by their places.
-earlier_scripts : (rules : Rules) (now : After) (seat : ℕ) (chair : Chair) → ArePlaced now.entered now.chairs → slice_get now.chairs seat ≡ Some chair → (xs ys : List Connection) → chair.earlier ≡ xs ++ ys
+earlier_scripts : (rules : Rules) (now : After) (seat : ℕ) (chair : Chair) → ArePlaced now.entered now.chairs → slice_get now.chairs seat ≡ Some chair
+    → (xs ys : List Connection) → chair.earlier ≡ xs ++ ys
     → map (script (shown rules now)) (map (λ (c : Connection). c.place) ys) ≡ map (λ (c : Connection). c.told) ys
 earlier_scripts rules now seat chair k e xs [] h = refl
 earlier_scripts rules now seat chair k e xs (c ∷ ys) h =
@@ -94,7 +96,8 @@ earlier_scripts rules now seat chair k e xs (c ∷ ys) h =
     below : {m n o : ℕ} → m ≤ n → n ≤ o → m ≤ o
     below {m} {n} {o} a b = omega arith
 
-own_script : (rules : Rules) (now : After) (seat : ℕ) (chair : Chair) → ArePlaced now.entered now.chairs → slice_get now.chairs seat ≡ Some chair → script (shown rules now) chair.place ≡ script_at rules seat now chair
+own_script : (rules : Rules) (now : After) (seat : ℕ) (chair : Chair) → ArePlaced now.entered now.chairs → slice_get now.chairs seat ≡ Some chair →
+    script (shown rules now) chair.place ≡ script_at rules seat now chair
 unfolding script_at
 own_script rules now seat chair k e = by (is_present chair) refl
   where
@@ -129,7 +132,8 @@ scripts_of rules now seat k (Some chair) e =
     map-append (script (shown rules now)) (map (λ (c : Connection). c.place) chair.earlier) (chair.place ∷ []) ∙ (λ i. before i ++ own i ∷ [])
 
 -- The places by the entries: each entry adds those that it begins.
-kept_places : (seat : ℕ) (chairs : List Chair) (who : ℕ) (old new : Chair) → slice_get chairs who ≡ Some old → places_at new ≡ places_at old → places_in seat (slice_set chairs who new) ≡ places_in seat chairs
+kept_places : (seat : ℕ) (chairs : List Chair) (who : ℕ) (old new : Chair) → slice_get chairs who ≡ Some old → places_at new ≡ places_at old →
+    places_in seat (slice_set chairs who new) ≡ places_in seat chairs
 kept_places seat chairs who old new e same = elim (eqb_tells who seat) [
   | inl s ↦ subst (λ (n : ℕ). places_in n (slice_set chairs who new) ≡ places_in n chairs) s.1
       (ap (λ (o : Option Chair). option_map_or places_at o []) (slice_get-set_at chairs who new old e) ∙ same ∙ sym (ap (λ (o : Option Chair). option_map_or places_at o []) e))
@@ -160,7 +164,10 @@ back_places seat setting now author who (Some chair) e may =
     ap (places_in seat) (back-chairs setting now author who chair e) ∙ elim (eqb_tells who seat) [
       | inl s ↦
           let at : slice_get now.chairs seat ≡ Some chair = ap (slice_get now.chairs) (sym s.1) ∙ e in
-          let set : slice_get (slice_set now.chairs who (back_chair setting.rules now author who chair)) seat ≡ Some (back_chair setting.rules now author who chair) = ap (slice_get (slice_set now.chairs who (back_chair setting.rules now author who chair))) (sym s.1) ∙ slice_get-set_at now.chairs who _ chair e in
+          let set : slice_get (slice_set now.chairs who (back_chair setting.rules now author who chair)) seat ≡ Some
+          (back_chair setting.rules now author who chair) =
+          ap (slice_get (slice_set now.chairs who (back_chair setting.rules now author who chair))) (sym s.1) ∙ slice_get-set_at now.chairs who _
+          chair e in
           ap (λ (o : Option Chair). option_map_or places_at o []) set
           ∙ ap (λ (l : List ℕ). l ++ now.entered ∷ []) (map-append (λ (c : Connection). c.place) chair.earlier (_ ∷ []))
           ∙ sym (λ i. option_map_or places_at (at i) [] ++ (if s.0 i then now.entered ∷ [] else []))
@@ -197,7 +204,8 @@ step_places seat setting now (Gone author who) may = no_more (places_in seat now
 step_places seat setting now (Expired author window t1 t2) may = no_more (places_in seat now.chairs) _ (ap (places_in seat) (step-chairs setting now (Expired author window t1 t2)))
 
 seats_step : (setting : Setting) (now : After) (entry : Entry Answer) → length (step setting now entry).chairs ≡ (if is_sat entry then length now.chairs + 1 else length now.chairs)
-seats_step setting now entry = by (is_sat entry) (length (step setting now entry).chairs) (length now.chairs) (ap (λ (cs : List Chair). length cs) (step-chairs setting now entry) ∙ own_seats setting now entry)
+seats_step setting now entry = by (is_sat entry) (length (step setting now entry).chairs) (length now.chairs)
+    (ap (λ (cs : List Chair). length cs) (step-chairs setting now entry) ∙ own_seats setting now entry)
   where
     by : (b : Bool) (m n : ℕ) → m ≡ n + one_if b → m ≡ (if b then n + 1 else n)
     by true m n e = e

@@ -63,14 +63,16 @@ counts p [] i c e h = cc
 counts p (d ∷ ds) zero c e h = let one : one_if (d.place == p) ≡ 1 = one_at p d c e h in omega (arith, one)
 counts p (d ∷ ds) (suc i) c e h = omega (arith, counts p ds i c e h)
 
-counts_two : (p : ℕ) (chairs : List Chair) (i j : ℕ) (c d : Chair) → i ≢ j → slice_get chairs i ≡ Some c → slice_get chairs j ≡ Some d → (c.place == p) ≡ true → (d.place == p) ≡ true → 2 ≤ begun_at p chairs
+counts_two : (p : ℕ) (chairs : List Chair) (i j : ℕ) (c d : Chair) → i ≢ j → slice_get chairs i ≡ Some c → slice_get chairs j ≡ Some d →
+    (c.place == p) ≡ true → (d.place == p) ≡ true → 2 ≤ begun_at p chairs
 counts_two p [] i j c d ne e f h k = cc
 counts_two p (x ∷ xs) zero zero c d ne e f h k = absurd (ne refl)
 counts_two p (x ∷ xs) zero (suc j) c d ne e f h k = let one : one_if (x.place == p) ≡ 1 = one_at p x c e h in omega (arith, one, counts p xs j d f k)
 counts_two p (x ∷ xs) (suc i) zero c d ne e f h k = let one : one_if (x.place == p) ≡ 1 = one_at p x d f k in omega (arith, one, counts p xs i c e h)
 counts_two p (x ∷ xs) (suc i) (suc j) c d ne e f h k = omega (arith, counts_two p xs i j c d (λ s. ne (ap (λ (n : ℕ). suc n) s)) e f h k)
 
-pub apart-at : (p : ℕ) (chairs : List Chair) (i j : ℕ) (c d : Chair) → begun_at p chairs ≤ 1 → i ≢ j → slice_get chairs i ≡ Some c → slice_get chairs j ≡ Some d → (c.place == p) ≡ true → (d.place == p) ≡ false
+pub apart-at : (p : ℕ) (chairs : List Chair) (i j : ℕ) (c d : Chair) → begun_at p chairs ≤ 1 → i ≢ j → slice_get chairs i ≡ Some c →
+    slice_get chairs j ≡ Some d → (c.place == p) ≡ true → (d.place == p) ≡ false
 apart-at p chairs i j c d few ne e f h = by (d.place == p) refl
   where
     more : (n : ℕ) → 2 ≤ n → n ≤ 1 → ⊥
@@ -158,7 +160,8 @@ connected-by p (c ∷ cs) seat h = by (is_connected p c) refl h (connected-by p 
         let k : IsConnected p n cs = f n refl in
         subst (λ (m : ℕ). IsConnected p m (c ∷ cs)) (same_Some (suc n) seat e) (record { chair = k.chair; held = k.held; present = k.present; place = k.place })
 
-    by : (b : Bool) → is_connected p c ≡ b → (if b then Some 0 else option_map (λ (n : ℕ). suc n) (seat_at cs p)) ≡ Some seat → ((n : ℕ) → seat_at cs p ≡ Some n → IsConnected p n cs) → IsConnected p seat (c ∷ cs)
+    by : (b : Bool) → is_connected p c ≡ b → (if b then Some 0 else option_map (λ (n : ℕ). suc n) (seat_at cs p)) ≡ Some seat →
+        ((n : ℕ) → seat_at cs p ≡ Some n → IsConnected p n cs) → IsConnected p seat (c ∷ cs)
     by true k e f =
         let parts = and_parts (is_present c) (c.place == p) k in
         subst (λ (m : ℕ). IsConnected p m (c ∷ cs)) (same_Some 0 seat e) (record { chair = c; held = refl; present = parts.0; place = parts.1 })
@@ -248,7 +251,8 @@ placed-more n chairs others k e = record {
     none_past m o false s z f = omega arith
 
 -- A seat keeps its connections, is new, or has a connection more.
-pub placed-kept : (n : ℕ) (chairs : List Chair) (i : ℕ) (old new : Chair) → ArePlaced n chairs → slice_get chairs i ≡ Some old → new.place ≡ old.place → new.earlier ≡ old.earlier → ArePlaced (n + 1) (slice_set chairs i new)
+pub placed-kept : (n : ℕ) (chairs : List Chair) (i : ℕ) (old new : Chair) → ArePlaced n chairs → slice_get chairs i ≡ Some old →
+    new.place ≡ old.place → new.earlier ≡ old.earlier → ArePlaced (n + 1) (slice_set chairs i new)
 placed-kept n chairs i old new k e same early = placed-same n chairs (slice_set chairs i new) k (λ p. same_number p (begun-set p chairs i old new e))
   where
     in_both : (p : ℕ) → begun_in p new ≡ begun_in p old
@@ -280,7 +284,8 @@ placed-again n chairs i old new k e at early = placed-more n chairs (slice_set c
 
     in_both : (p : ℕ) → begun_in p new ≡ begun_in p old + one_if (n == p)
     in_both p =
-        let parts : begun_in p new ≡ earlier_from p (old.earlier ++ (let c : Connection = record { place = old.place; told = old.progress.told } in c) ∷ []) + one_if (n == p) = λ j. earlier_from p (early j) + one_if (at j == p) in
+        let parts : begun_in p new ≡ earlier_from p (old.earlier ++ (let c : Connection = record { place = old.place; told = old.progress.told } in
+        c) ∷ []) + one_if (n == p) = λ j. earlier_from p (early j) + one_if (at j == p) in
         parts ∙ ap (λ (m : ℕ). m + one_if (n == p)) (earlier-more p old.earlier (record { place = old.place; told = old.progress.told }))
 
     cancel : (m o a b c : ℕ) → m + a ≡ o + b → b ≡ a + c → m ≡ o + c
@@ -290,7 +295,8 @@ placed-again n chairs i old new k e at early = placed-more n chairs (slice_set c
     one_more p s = cancel (begun_at p (slice_set chairs i new)) (begun_at p chairs) (begun_in p old) (begun_in p new) (one_if (n == p)) s (in_both p)
 
 -- No seat has a connection that began at a place, still where a seat changes or is new.
-pub nobody-set : (p : ℕ) (chairs : List Chair) (i : ℕ) (old new : Chair) → seat_at chairs p ≡ None → slice_get chairs i ≡ Some old → is_connected p new ≡ false → seat_at (slice_set chairs i new) p ≡ None
+pub nobody-set : (p : ℕ) (chairs : List Chair) (i : ℕ) (old new : Chair) → seat_at chairs p ≡ None → slice_get chairs i ≡ Some old →
+    is_connected p new ≡ false → seat_at (slice_set chairs i new) p ≡ None
 nobody-set p chairs i old new n e off = nobody-at p (slice_set chairs i new) (λ j d f. elim (eqb_tells i j) [
   | inl s ↦ ap (is_connected p) (same_Some d new (sym f ∙ ap (slice_get (slice_set chairs i new)) (sym s.1) ∙ slice_get-set_at chairs i new old e)) ∙ off
   | inr s ↦ not-connected p chairs j d n (sym (slice_get-set_other chairs i j new s.1) ∙ f)
@@ -314,7 +320,10 @@ told-last : (p : ℕ) (cs : List Connection) (c : Connection) → flat_map (told
 told-last p [] c = append-nil (told_by p c)
 told-last p (d ∷ cs) c = ap (λ (l : List ℕ). told_by p d ++ l) (told-last p cs c) ∙ sym (append_assoc (told_by p d) (flat_map (told_by p) cs) (told_by p c))
 
-pub told-again-elsewhere : (p : ℕ) (old new : Chair) → new.earlier ≡ old.earlier ++ (let c : Connection = record { place = old.place; told = old.progress.told } in c) ∷ [] → (new.place == p) ≡ false → told_in p new ≡ told_in p old
+pub told-again-elsewhere : (p : ℕ) (old new : Chair) → new.earlier ≡ old.earlier ++ (let c : Connection = record {
+  place = old.place;
+  told = old.progress.told;
+} in c) ∷ [] → (new.place == p) ≡ false → told_in p new ≡ told_in p old
 told-again-elsewhere p old new early off =
     let mine : told_in p new ≡ flat_map (told_by p) (old.earlier ++ (let c : Connection = record { place = old.place; told = old.progress.told } in c) ∷ []) ++ [] =
     λ i. flat_map (told_by p) (early i) ++ (if off i then new.progress.told else []) in

@@ -34,17 +34,20 @@ use Rattle.mj_history.proofs.Seats.{own_seats as own_are_seats}
 
 -- the names of the seats are those of the joins
 
-said_named : (rules : Rules) (now : After) (seat : ℕ) (answer : Answer) (held : Option Chair) → slice_get now.chairs seat ≡ held → names_in (option_map_or (after_said rules now seat answer) held now).chairs ≡ names_in now.chairs
+said_named : (rules : Rules) (now : After) (seat : ℕ) (answer : Answer) (held : Option Chair) → slice_get now.chairs seat ≡ held →
+    names_in (option_map_or (after_said rules now seat answer) held now).chairs ≡ names_in now.chairs
 unfolding after_said
 said_named rules now seat answer None e = refl
 said_named rules now seat answer (Some chair) e = names_said now.chairs seat chair _ e refl
 
-gone_named : (rules : Rules) (now : After) (seat : ℕ) (held : Option Chair) → slice_get now.chairs seat ≡ held → names_in (option_map_or (after_gone rules now seat) held now).chairs ≡ names_in now.chairs
+gone_named : (rules : Rules) (now : After) (seat : ℕ) (held : Option Chair) → slice_get now.chairs seat ≡ held →
+    names_in (option_map_or (after_gone rules now seat) held now).chairs ≡ names_in now.chairs
 unfolding after_gone
 gone_named rules now seat None e = refl
 gone_named rules now seat (Some chair) e = names_said now.chairs seat chair _ e refl
 
-back_named : (rules : Rules) (now : After) (author seat : ℕ) (held : Option Chair) → slice_get now.chairs seat ≡ held → names_in (option_map_or (after_back rules now author seat) held now).chairs ≡ names_in now.chairs
+back_named : (rules : Rules) (now : After) (author seat : ℕ) (held : Option Chair) → slice_get now.chairs seat ≡ held →
+    names_in (option_map_or (after_back rules now author seat) held now).chairs ≡ names_in now.chairs
 unfolding after_back
 back_named rules now author seat None e = refl
 back_named rules now author seat (Some chair) e = names_said now.chairs seat chair _ e refl
@@ -75,8 +78,10 @@ seats_named setting entries = ap (λ (names : List (List ℕ)). length names) (s
 abbrev HasBegun : After → Type 0
 HasBegun now = not (length now.deeds == 0) ≡ (length now.chairs == 4)
 
-four_stay : (setting : Setting) (now : After) (entry : Entry Answer) → is_permitted setting now entry ≡ true → AreSeats now.chairs → (length now.chairs == 4) ≡ true → (length (own_part setting now entry).chairs == 4) ≡ true
-four_stay setting now entry p seats e = eq-eqb (length (own_part setting now entry).chairs) 4 (four _ _ _ (own_seats setting now entry) (own_are_seats setting now entry p seats).few (is_four (length now.chairs) e))
+four_stay : (setting : Setting) (now : After) (entry : Entry Answer) → is_permitted setting now entry ≡ true → AreSeats now.chairs →
+    (length now.chairs == 4) ≡ true → (length (own_part setting now entry).chairs == 4) ≡ true
+four_stay setting now entry p seats e = eq-eqb (length (own_part setting now entry).chairs) 4 (four _ _ _ (own_seats setting now entry)
+    (own_are_seats setting now entry p seats).few (is_four (length now.chairs) e))
   where
     four : (n m k : ℕ) → n ≡ m + k → n ≤ 4 → m ≡ 4 → n ≡ 4
     four n m k e h f = omega arith
@@ -123,11 +128,13 @@ step_begun setting now entry p seats begun = by (length now.deeds == 0) refl
             apart n e = omega arith
     started false f e = ap not (ap (λ (ds : List Deed). length ds == 0) (append-nil now.deeds) ∙ e)
 
-    added : (length now.deeds == 0) ≡ true → next_deed setting (own_part setting now entry) entry ≡ (if length (own_part setting now entry).chairs == 4 then Some (StartGame (names_of (own_part setting now entry).chairs)) else None)
+    added : (length now.deeds == 0) ≡ true → next_deed setting (own_part setting now entry) entry ≡ (if length (own_part setting now entry).chairs ==
+        4 then Some (StartGame (names_of (own_part setting now entry).chairs)) else None)
     added e = ap (λ (b : Bool).
         if b
         then (if length (own_part setting now entry).chairs == 4 then Some (StartGame (names_of (own_part setting now entry).chairs)) else None)
-        else (if is_window_closed (own_part setting now entry) entry then outcome setting.rules setting.walls (own_part setting now entry).deeds (answers_in setting.rules (own_part setting now entry).deeds (own_part setting now entry).slots) else None)) (same ∙ e)
+        else (if is_window_closed (own_part setting now entry) entry then outcome setting.rules setting.walls (own_part setting now entry).deeds
+        (answers_in setting.rules (own_part setting now entry).deeds (own_part setting now entry).slots) else None)) (same ∙ e)
 
     by : (b : Bool) → (length now.deeds == 0) ≡ b → not (length (step setting now entry).deeds == 0) ≡ (length (step setting now entry).chairs == 4)
     by true e =
@@ -140,7 +147,8 @@ step_begun setting now entry p seats begun = by (length now.deeds == 0) refl
         ∙ sym (four_stay setting now entry p seats (sym begun ∙ ap not e))
         ∙ ap (λ (cs : List Chair). length cs == 4) (sym chairs_are)
 
-game_begun : (setting : Setting) (now : After) (entries : List (Entry Answer)) → all_permitted setting now entries ≡ true → AreSeats now.chairs → HasBegun now → HasBegun (after_from setting now entries)
+game_begun : (setting : Setting) (now : After) (entries : List (Entry Answer)) → all_permitted setting now entries ≡ true → AreSeats now.chairs →
+    HasBegun now → HasBegun (after_from setting now entries)
 game_begun setting now [] p seats begun = begun
 game_begun setting now (entry ∷ entries) p seats begun =
     let parts = and_parts (is_permitted setting now entry) (all_permitted setting (step setting now entry) entries) p in
@@ -190,7 +198,8 @@ the_fourth_starts setting entries author name key legal four =
     let next_is : after setting (entries ++ entry ∷ []) ≡ next = after-append setting entries entry in
     let chairs_are : (after setting (entries ++ entry ∷ [])).chairs ≡ own.chairs = ap (λ (a : After). a.chairs) next_is ∙ step-chairs setting now entry in
     let held : length own.chairs ≡ 4 = ap (λ (cs : List Chair). length cs) (sym chairs_are) ∙ sym (seats_named setting (entries ++ entry ∷ [])) ∙ four in
-    let none : (length now.deeds == 0) ≡ true = empty_now (length now.deeds == 0) (length now.chairs == 4) (legal_begun setting entries before) (ne_eqb (length now.chairs) 4 (fewer (length own.chairs) (length now.chairs) (own_seats setting now entry) held)) in
+    let none : (length now.deeds == 0) ≡ true = empty_now (length now.deeds == 0) (length now.chairs == 4) (legal_begun setting entries before)
+    (ne_eqb (length now.chairs) 4 (fewer (length own.chairs) (length now.chairs) (own_seats setting now entry) held)) in
     record {
       four = names_of own.chairs;
       in_order = sym (named setting (entries ++ entry ∷ [])) ∙ ap names_in chairs_are ∙ four_in_order own.chairs held;
@@ -220,13 +229,15 @@ named_at [] seat chair e = cc
 named_at (first ∷ chairs) zero chair e = ap (λ (c : Chair). Some c.name) (same_Some first chair e)
 named_at (first ∷ chairs) (suc seat) chair e = named_at chairs seat chair e
 
-back_at : (number : ℕ) (chair : Chair) (said : Option (List ℕ)) → is_present chair ≡ false → is_some chair.key ≡ true → nat_lt chair.returns 64 ≡ true → said ≡ chair.key → at_held number (held_of chair) said ≡ places.Back number
+back_at : (number : ℕ) (chair : Chair) (said : Option (List ℕ)) → is_present chair ≡ false → is_some chair.key ≡ true →
+    nat_lt chair.returns 64 ≡ true → said ≡ chair.key → at_held number (held_of chair) said ≡ places.Back number
 back_at number chair said out keyed few same = ap (λ (b : Bool). if b then places.Refused NameTaken else back number chair.returns chair.key said) out ∙ by chair.key keyed same
   where
     by : (key : Option (List ℕ)) → is_some key ≡ true → said ≡ key → back number chair.returns key said ≡ places.Back number
     by None k s = cc
     by (Some key) k s =
-        (λ i. if not ((ap (is_key key) s ∙ is_itself key) i) then places.Refused WrongKey else (if lt-leb 64 chair.returns (ltb-true chair.returns 64 few) i then places.Refused TooOften else places.Back number))
+        (λ i. if not ((ap (is_key key) s ∙ is_itself key) i) then places.Refused WrongKey
+        else (if lt-leb 64 chair.returns (ltb-true chair.returns 64 few) i then places.Refused TooOften else places.Back number))
 
 back_from : (number : ℕ) (chairs : List Chair) (seat : ℕ) (chair : Chair) (join : JoinLine) → are_different (names_in chairs) ≡ true → slice_get chairs seat ≡ Some chair → join.name ≡ chair.name
     → ((n : ℕ) → at_held n (held_of chair) join.key ≡ places.Back n) → placed_from number (map held_of chairs) join ≡ places.Back (number + seat)
@@ -247,7 +258,8 @@ back_from number (first ∷ chairs) (suc seat) chair join apart e name back =
     one : (n m : ℕ) → n + 1 + m ≡ n + suc m
     one n m = omega arith
 
-returned : (now : After) (seat : ℕ) (chair : Chair) (join : JoinLine) → AreSeats now.chairs → slice_get now.chairs seat ≡ Some chair → can_return now chair ≡ true → join.name ≡ chair.name → join.key ≡ chair.key
+returned : (now : After) (seat : ℕ) (chair : Chair) (join : JoinLine) → AreSeats now.chairs → slice_get now.chairs seat ≡ Some chair →
+    can_return now chair ≡ true → join.name ≡ chair.name → join.key ≡ chair.key
     → placing now (Some join) ≡ places.Back seat
 unfolding placing placed can_return
 returned now seat chair join seats e may name key =

@@ -15,7 +15,8 @@ use Rattle.mj_rules.specs.Outcome.{follows, outcome, goes_on}
 use Rattle.mj_history.specs.After.{After, names_of, answers_in, is_window_closed, next_deed}
 use Rattle.mj_history.specs.Legal.{is_over}
 
-nothing_follows : (rules : Rules) (walls : List (List ℕ)) (deeds : List Deed) (given : Four Answer) (newest_is : Option Deed) → goes_on newest_is ≡ false → option_and_then (λ last. follows rules walls deeds last (decision_by last given)) newest_is ≡ None
+nothing_follows : (rules : Rules) (walls : List (List ℕ)) (deeds : List Deed) (given : Four Answer) (newest_is : Option Deed) →
+    goes_on newest_is ≡ false → option_and_then (λ last. follows rules walls deeds last (decision_by last given)) newest_is ≡ None
 nothing_follows rules walls deeds given None h = refl
 nothing_follows rules walls deeds given (Some (StartGame names)) h = cc
 nothing_follows rules walls deeds given (Some (StartHand round number honba lying dealer indicator hands)) h = cc
@@ -43,10 +44,13 @@ pub no_more : (setting : Setting) (now : After) (entry : Entry Answer) → is_ov
 unfolding next_deed
 no_more setting now entry h =
     let parts = and_parts (not (length now.deeds == 0)) (not (goes_on (newest now.deeds))) h in
-    by (length now.deeds == 0) (is_window_closed now entry) (not-true (length now.deeds == 0) parts.0) (no_outcome setting.rules setting.walls now.deeds (answers_in setting.rules now.deeds now.slots) (not-true (goes_on (newest now.deeds)) parts.1))
+    by (length now.deeds == 0) (is_window_closed now entry) (not-true (length now.deeds == 0) parts.0)
+    (no_outcome setting.rules setting.walls now.deeds (answers_in setting.rules now.deeds now.slots)
+    (not-true (goes_on (newest now.deeds)) parts.1))
   where
     by : (none closed : Bool) → none ≡ false → outcome setting.rules setting.walls now.deeds (answers_in setting.rules now.deeds now.slots) ≡ None
-        → (if none then (if length now.chairs == 4 then Some (StartGame (names_of now.chairs)) else None) else (if closed then outcome setting.rules setting.walls now.deeds (answers_in setting.rules now.deeds now.slots) else None)) ≡ None
+        → (if none then (if length now.chairs == 4 then Some (StartGame (names_of now.chairs)) else None) else (if closed then outcome setting.rules
+        setting.walls now.deeds (answers_in setting.rules now.deeds now.slots) else None)) ≡ None
     by true closed e o = cc
     by false true e o = o
     by false false e o = refl

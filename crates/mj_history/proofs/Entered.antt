@@ -75,7 +75,8 @@ more_entered setting now [] = none now.entered
   where
     none : (n : ℕ) → n ≡ n + 0
     none n = omega arith
-more_entered setting now (entry ∷ entries) = one _ (step setting now entry).entered now.entered (length entries) (more_entered setting (step setting now entry) entries) (step-entered setting now entry)
+more_entered setting now (entry ∷ entries) = one _ (step setting now entry).entered now.entered (length entries)
+    (more_entered setting (step setting now entry) entries) (step-entered setting now entry)
   where
     one : (a b n m : ℕ) → a ≡ b + m → b ≡ n + 1 → a ≡ n + suc m
     one a b n m e f = omega arith
@@ -134,17 +135,20 @@ seats-are setting entries = more_seats setting before_all entries ∙ none (sats
     none n = omega arith
 
 -- The connections of the seats stay placed.
-said_placed : (rules : Rules) (now : After) (seat : ℕ) (answer : Answer) (held : Option Chair) → slice_get now.chairs seat ≡ held → ArePlaced now.entered now.chairs → ArePlaced (now.entered + 1) (option_map_or (after_said rules now seat answer) held now).chairs
+said_placed : (rules : Rules) (now : After) (seat : ℕ) (answer : Answer) (held : Option Chair) → slice_get now.chairs seat ≡ held →
+    ArePlaced now.entered now.chairs → ArePlaced (now.entered + 1) (option_map_or (after_said rules now seat answer) held now).chairs
 unfolding after_said
 said_placed rules now seat answer None e k = placed-idle now.entered now.chairs k
 said_placed rules now seat answer (Some chair) e k = placed-kept now.entered now.chairs seat chair _ k e refl refl
 
-gone_placed : (rules : Rules) (now : After) (seat : ℕ) (held : Option Chair) → slice_get now.chairs seat ≡ held → ArePlaced now.entered now.chairs → ArePlaced (now.entered + 1) (option_map_or (after_gone rules now seat) held now).chairs
+gone_placed : (rules : Rules) (now : After) (seat : ℕ) (held : Option Chair) → slice_get now.chairs seat ≡ held → ArePlaced now.entered now.chairs →
+    ArePlaced (now.entered + 1) (option_map_or (after_gone rules now seat) held now).chairs
 unfolding after_gone
 gone_placed rules now seat None e k = placed-idle now.entered now.chairs k
 gone_placed rules now seat (Some chair) e k = placed-kept now.entered now.chairs seat chair _ k e refl refl
 
-back_placed : (rules : Rules) (now : After) (author seat : ℕ) (held : Option Chair) → slice_get now.chairs seat ≡ held → ArePlaced now.entered now.chairs → ArePlaced (now.entered + 1) (option_map_or (after_back rules now author seat) held now).chairs
+back_placed : (rules : Rules) (now : After) (author seat : ℕ) (held : Option Chair) → slice_get now.chairs seat ≡ held →
+    ArePlaced now.entered now.chairs → ArePlaced (now.entered + 1) (option_map_or (after_back rules now author seat) held now).chairs
 unfolding after_back
 back_placed rules now author seat None e k = placed-idle now.entered now.chairs k
 back_placed rules now author seat (Some chair) e k = placed-again now.entered now.chairs seat chair _ k e refl refl
@@ -162,7 +166,8 @@ step-placed setting now entry k =
     subst (λ (n : ℕ). ArePlaced n (step setting now entry).chairs) (sym (step-entered setting now entry))
     (subst (λ (cs : List Chair). ArePlaced (now.entered + 1) cs) (sym (step-chairs setting now entry)) (own_placed setting now entry k))
 
-more_placed : (setting : Setting) (now : After) (entries : List (Entry Answer)) → ArePlaced now.entered now.chairs → ArePlaced (after_from setting now entries).entered (after_from setting now entries).chairs
+more_placed : (setting : Setting) (now : After) (entries : List (Entry Answer)) → ArePlaced now.entered now.chairs →
+    ArePlaced (after_from setting now entries).entered (after_from setting now entries).chairs
 more_placed setting now [] k = k
 more_placed setting now (entry ∷ entries) k = more_placed setting (step setting now entry) entries (step-placed setting now entry k)
 
@@ -189,7 +194,8 @@ gone_chair lines chair = record chair { author = None; progress = record chair.p
 
 -- The seats once a held seat has said something, has left, or has come back, and once one is new.
 pub said-chairs : (setting : Setting) (now : After) (author seat : ℕ) (answer : Answer) (chair : Chair) → slice_get now.chairs seat ≡ Some chair
-    → (step setting now (Said author seat answer)).chairs ≡ slice_set now.chairs seat (said_chair (lines_for setting.rules seat now.deeds) (verdict_on setting.rules now.deeds seat answer chair.progress) chair)
+    → (step setting now (Said author seat answer)).chairs ≡ slice_set now.chairs seat (said_chair (lines_for setting.rules seat now.deeds)
+    (verdict_on setting.rules now.deeds seat answer chair.progress) chair)
 unfolding own_part after_said
 said-chairs setting now author seat answer chair e =
     step-chairs setting now (Said author seat answer) ∙ ap (λ (o : Option Chair). (option_map_or (after_said setting.rules now seat answer) o now).chairs) e
@@ -204,7 +210,8 @@ pub back-chairs : (setting : Setting) (now : After) (author seat : ℕ) (chair :
 unfolding own_part after_back
 back-chairs setting now author seat chair e = step-chairs setting now (Back author seat) ∙ ap (λ (o : Option Chair). (option_map_or (after_back setting.rules now author seat) o now).chairs) e
 
-pub sat-chairs : (setting : Setting) (now : After) (author : ℕ) (name : List ℕ) (key : Option (List ℕ)) → (step setting now (Sat author name key)).chairs ≡ now.chairs ++ new_chair now.entered author name key ∷ []
+pub sat-chairs : (setting : Setting) (now : After) (author : ℕ) (name : List ℕ) (key : Option (List ℕ)) →
+    (step setting now (Sat author name key)).chairs ≡ now.chairs ++ new_chair now.entered author name key ∷ []
 unfolding own_part
 sat-chairs setting now author name key = step-chairs setting now (Sat author name key)
 

@@ -22,7 +22,8 @@ and-true : (b : Bool) → (b && true) ≡ b
 and-true true = refl
 and-true false = refl
 
-pub all_permitted-append : (setting : Setting) (now : After) (es : List (Entry Answer)) (e : Entry Answer) → all_permitted setting now (es ++ e ∷ []) ≡ (all_permitted setting now es && is_permitted setting (after_from setting now es) e)
+pub all_permitted-append : (setting : Setting) (now : After) (es : List (Entry Answer)) (e : Entry Answer) → all_permitted setting now (es ++ e ∷ [])
+    ≡ (all_permitted setting now es && is_permitted setting (after_from setting now es) e)
 all_permitted-append setting now [] e = and-true (is_permitted setting now e)
 all_permitted-append setting now (d ∷ es) e =
     ap (λ b. is_permitted setting now d && b) (all_permitted-append setting (step setting now d) es e)

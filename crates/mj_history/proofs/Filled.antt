@@ -45,7 +45,8 @@ AreFilled now = AreFilledBy (length now.deeds) now.chairs now.slots
 
 -- A seat changes.
 filled_set : (n : ℕ) (chairs : List Chair) (slots others : Four (Option Answer)) (who : ℕ) (old new : Chair) → slice_get chairs who ≡ Some old → AreFilledBy n chairs slots
-    → ((seat : ℕ) → seat < 4 → who ≢ seat → at_seat others seat ≡ at_seat slots seat) → (is_some (at_seat others who) ≡ true → nat_lt new.progress.due n ≡ false) → AreFilledBy n (slice_set chairs who new) others
+    → ((seat : ℕ) → seat < 4 → who ≢ seat → at_seat others seat ≡ at_seat slots seat) →
+    (is_some (at_seat others who) ≡ true → nat_lt new.progress.due n ≡ false) → AreFilledBy n (slice_set chairs who new) others
 filled_set n chairs slots others who old new e filled apart own seat small s = elim (eqb_tells who seat) [
   | inl p ↦ subst (λ (k : ℕ). is_past n (slice_get (slice_set chairs who new) k) ≡ true) p.1
       (ap (is_past n) (slice_get-set_at chairs who new old e) ∙ ap not (own (subst (λ (k : ℕ). is_some (at_seat others k) ≡ true) (sym p.1) s)))
@@ -59,7 +60,8 @@ held_past n (Some chair) h = (chair, refl)
 pub below_four : (n m : ℕ) → n < m → m ≤ 4 → n < 4
 below_four n m h k = omega arith
 
-pub past_at : (n : ℕ) (chairs : List Chair) (slots : Four (Option Answer)) (seat : ℕ) (chair : Chair) → slice_get chairs seat ≡ Some chair → length chairs ≤ 4 → AreFilledBy n chairs slots → is_some (at_seat slots seat) ≡ true → nat_lt chair.progress.due n ≡ false
+pub past_at : (n : ℕ) (chairs : List Chair) (slots : Four (Option Answer)) (seat : ℕ) (chair : Chair) → slice_get chairs seat ≡ Some chair →
+    length chairs ≤ 4 → AreFilledBy n chairs slots → is_some (at_seat slots seat) ≡ true → nat_lt chair.progress.due n ≡ false
 past_at n chairs slots seat chair e few filled s =
     not-true (nat_lt chair.progress.due n) (sym (ap (is_past n) e) ∙ filled seat (below_four seat (length chairs) (slice_get_within chairs seat chair e) few) s)
 
@@ -80,7 +82,8 @@ own_past lines n slots seat answer chair Late t none s = absurd (none s)
 own_past lines n slots seat answer chair (Refused rule) t none s = absurd (none s)
 own_past lines n slots seat answer chair (Closing rule) t none s = absurd (none s)
 
-said_filled : (rules : Rules) (now : After) (author seat : ℕ) (answer : Answer) (held : Option Chair) → slice_get now.chairs seat ≡ held → length now.chairs ≤ 4 → option_map_or (may_say now author) held false ≡ true → AreFilled now
+said_filled : (rules : Rules) (now : After) (author seat : ℕ) (answer : Answer) (held : Option Chair) → slice_get now.chairs seat ≡ held →
+    length now.chairs ≤ 4 → option_map_or (may_say now author) held false ≡ true → AreFilled now
     → AreFilledBy (length now.deeds) (option_map_or (after_said rules now seat answer) held now).chairs (option_map_or (after_said rules now seat answer) held now).slots
 unfolding after_said may_say
 said_filled rules now author seat answer None e few may filled = cc
@@ -126,7 +129,8 @@ pub own_filled : (setting : Setting) (now : After) (entry : Entry Answer) → is
     → AreFilledBy (length now.deeds) (own_part setting now entry).chairs (own_part setting now entry).slots
 unfolding own_part
 own_filled setting now (Sat author name key) p seats filled = sat_filled (length now.deeds) now.chairs now.slots (new_chair now.entered author name key) filled
-own_filled setting now (Said author seat answer) p seats filled = said_filled setting.rules now author seat answer (slice_get now.chairs seat) refl seats.few (and_parts (is_in_form answer) (can_say now author seat) p).1 filled
+own_filled setting now (Said author seat answer) p seats filled = said_filled setting.rules now author seat answer (slice_get now.chairs seat) refl
+    seats.few (and_parts (is_in_form answer) (can_say now author seat) p).1 filled
 own_filled setting now (Back author seat) p seats filled = back_filled setting.rules now author seat (slice_get now.chairs seat) refl filled
 own_filled setting now (Gone author seat) p seats filled = gone_filled setting.rules now seat (slice_get now.chairs seat) refl seats.few filled
 own_filled setting now (Expired author window t1 t2) p seats filled = filled
@@ -149,7 +153,8 @@ step_filled setting now entry p seats filled =
     (subst (λ (ds : List Deed). AreFilledBy (length ds) own.chairs own.slots) (sym (own_deeds setting now entry)) (own_filled setting now entry p seats filled))
 
 -- A whole game.
-game_filled : (setting : Setting) (now : After) (entries : List (Entry Answer)) → all_permitted setting now entries ≡ true → AreSeats now.chairs → AreFilled now → AreFilled (after_from setting now entries)
+game_filled : (setting : Setting) (now : After) (entries : List (Entry Answer)) → all_permitted setting now entries ≡ true → AreSeats now.chairs →
+    AreFilled now → AreFilled (after_from setting now entries)
 game_filled setting now [] p seats filled = filled
 game_filled setting now (entry ∷ entries) p seats filled =
     let parts = and_parts (is_permitted setting now entry) (all_permitted setting (step setting now entry) entries) p in
@@ -209,7 +214,8 @@ keeps_open slots (a ∷ b ∷ c ∷ d ∷ []) (suc (suc (suc zero))) e s =
 keeps_open slots (a ∷ b ∷ c ∷ d ∷ []) (suc (suc (suc (suc seat)))) e s = cc
 keeps_open slots (a ∷ b ∷ c ∷ d ∷ f ∷ more) seat e s = refl
 
-may_answer : (now : After) (author seat : ℕ) (held : Option Chair) → option_map_or (may_say now author) held false ≡ true → (option_map is_present held ≡ Some true) × (is_past (length now.deeds) held ≡ false)
+may_answer : (now : After) (author seat : ℕ) (held : Option Chair) → option_map_or (may_say now author) held false ≡ true →
+    (option_map is_present held ≡ Some true) × (is_past (length now.deeds) held ≡ false)
 unfolding may_say
 may_answer now author seat None h = cc
 may_answer now author seat (Some chair) h =
@@ -225,4 +231,5 @@ not_closed now author seat seats filled may =
     let held = held_here (slice_get now.chairs seat) (may_say now author) may in
     let k = may_answer now author seat (slice_get now.chairs seat) may in
     let small : seat < 4 = below_four seat (length now.chairs) (slice_get_within now.chairs seat held.0 held.1) seats.few in
-    keeps_open now.slots (map is_present now.chairs) seat (slice_get-map is_present now.chairs seat ∙ k.0) (not_some (is_some (at_seat now.slots seat)) (λ s. true≢false (sym (filled seat small s) ∙ k.1)))
+    keeps_open now.slots (map is_present now.chairs) seat (slice_get-map is_present now.chairs seat ∙ k.0)
+    (not_some (is_some (at_seat now.slots seat)) (λ s. true≢false (sym (filled seat small s) ∙ k.1)))

@@ -50,20 +50,23 @@ taken_clean true refused o h = cc
 taken_clean false refused None h = refl
 taken_clean false refused (Some rule) h = absurd (refused_or_closing (nat_lt refused 15) rule h)
 
-put_kept : (rules : Rules) (ds : List Deed) (slots : Four (Option Answer)) (seat : ℕ) (answer : Answer) → seat < 4 → IsLawful rules ds seat answer → AreLawfulIn rules ds slots → AreLawfulIn rules ds (put_at slots seat answer)
+put_kept : (rules : Rules) (ds : List Deed) (slots : Four (Option Answer)) (seat : ℕ) (answer : Answer) → seat < 4 → IsLawful rules ds seat answer →
+    AreLawfulIn rules ds slots → AreLawfulIn rules ds (put_at slots seat answer)
 put_kept rules ds slots zero answer small h s = record { first = h; second = s.second; third = s.third; fourth = s.fourth }
 put_kept rules ds slots (suc zero) answer small h s = record { first = s.first; second = h; third = s.third; fourth = s.fourth }
 put_kept rules ds slots (suc (suc zero)) answer small h s = record { first = s.first; second = s.second; third = h; fourth = s.fourth }
 put_kept rules ds slots (suc (suc (suc zero))) answer small h s = record { first = s.first; second = s.second; third = s.third; fourth = h }
 put_kept rules ds slots (suc (suc (suc (suc n)))) answer small h s = absurd (omega arith)
 
-filled_kept : (rules : Rules) (ds : List Deed) (slots : Four (Option Answer)) (seat : ℕ) (answer : Answer) (v : Verdict) → seat < 4 → (v ≡ Taken → IsLawful rules ds seat answer) → AreLawfulIn rules ds slots → AreLawfulIn rules ds (slots_after v slots seat answer)
+filled_kept : (rules : Rules) (ds : List Deed) (slots : Four (Option Answer)) (seat : ℕ) (answer : Answer) (v : Verdict) → seat < 4 →
+    (v ≡ Taken → IsLawful rules ds seat answer) → AreLawfulIn rules ds slots → AreLawfulIn rules ds (slots_after v slots seat answer)
 filled_kept rules ds slots seat answer Taken small h s = put_kept rules ds slots seat answer small (h refl) s
 filled_kept rules ds slots seat answer Late small h s = s
 filled_kept rules ds slots seat answer (Refused rule) small h s = s
 filled_kept rules ds slots seat answer (Closing rule) small h s = s
 
-said_slots : (rules : Rules) (now : After) (seat : ℕ) (answer : Answer) (held : Option Chair) → is_in_form answer ≡ true → slice_get now.chairs seat ≡ held → length now.chairs ≤ 4 → AreLawfulIn rules now.deeds now.slots →
+said_slots : (rules : Rules) (now : After) (seat : ℕ) (answer : Answer) (held : Option Chair) → is_in_form answer ≡ true →
+    slice_get now.chairs seat ≡ held → length now.chairs ≤ 4 → AreLawfulIn rules now.deeds now.slots →
     AreLawfulIn rules (option_map_or (after_said rules now seat answer) held now).deeds (option_map_or (after_said rules now seat answer) held now).slots
 unfolding after_said
 said_slots rules now seat answer None form e few s = s
@@ -86,7 +89,8 @@ unfolding after_back
 back_slots rules now author seat None s = s
 back_slots rules now author seat (Some chair) s = s
 
-own_slots : (setting : Setting) (now : After) (entry : Entry Answer) → says_in_form entry ≡ true → IsSound setting now → AreLawfulIn setting.rules (own_part setting now entry).deeds (own_part setting now entry).slots
+own_slots : (setting : Setting) (now : After) (entry : Entry Answer) → says_in_form entry ≡ true → IsSound setting now →
+    AreLawfulIn setting.rules (own_part setting now entry).deeds (own_part setting now entry).slots
 unfolding own_part
 own_slots setting now (Sat author name key) f s = s.slots
 own_slots setting now (Said author seat answer) f s = said_slots setting.rules now seat answer (slice_get now.chairs seat) f refl s.seats.few s.slots
@@ -174,14 +178,16 @@ start_behind : (rules : Rules) (walls : List (List ℕ)) (ds : List Deed) (names
 start_behind rules walls [] names e h = h
 start_behind rules walls (d ∷ ds) names e h = absurd (no_length d ds e)
 
-next_behind : (setting : Setting) (now : After) (entry : Entry Answer) (d : Deed) → EachIsWhole setting → IsSound setting now → next_deed setting now entry ≡ Some d → IsPlayedBehind setting.rules setting.walls now.deeds d
+next_behind : (setting : Setting) (now : After) (entry : Entry Answer) (d : Deed) → EachIsWhole setting → IsSound setting now →
+    next_deed setting now entry ≡ Some d → IsPlayedBehind setting.rules setting.walls now.deeds d
 unfolding next_deed
 next_behind setting now entry d whole s e = by_length (length now.deeds == 0) refl e
   where
     none_is : (d : Deed) → None ≡ Some d → ⊥
     none_is d e = cc
 
-    started : (b : Bool) → (length now.deeds == 0) ≡ true → (length now.chairs == 4) ≡ b → cond b (Some (StartGame (names_of now.chairs))) None ≡ Some d → IsPlayedBehind setting.rules setting.walls now.deeds d
+    started : (b : Bool) → (length now.deeds == 0) ≡ true → (length now.chairs == 4) ≡ b → cond b (Some (StartGame (names_of now.chairs))) None ≡ Some
+        d → IsPlayedBehind setting.rules setting.walls now.deeds d
     started true first four e =
         subst (IsPlayedBehind setting.rules setting.walls now.deeds) (some_is _ d e)
         (start_behind setting.rules setting.walls now.deeds (names_of now.chairs) first (four_names now.chairs four s.seats.named))
@@ -197,12 +203,15 @@ next_behind setting now entry d whole s e = by_length (length now.deeds == 0) re
     by_ready false e = absurd (none_is d e)
 
     by_length : (b : Bool) → (length now.deeds == 0) ≡ b →
-        cond b (cond (length now.chairs == 4) (Some (StartGame (names_of now.chairs))) None) (cond (is_window_closed now entry) (outcome setting.rules setting.walls now.deeds (answers_in setting.rules now.deeds now.slots)) None) ≡ Some d →
+        cond b (cond (length now.chairs == 4) (Some (StartGame (names_of now.chairs))) None)
+        (cond (is_window_closed now entry) (outcome setting.rules setting.walls now.deeds (answers_in setting.rules now.deeds now.slots)) None) ≡
+        Some d →
         IsPlayedBehind setting.rules setting.walls now.deeds d
     by_length true first e = started (length now.chairs == 4) first refl e
     by_length false later e = by_ready (is_window_closed now entry) e
 
-with_deed_sound : (setting : Setting) (now : After) (entry : Entry Answer) (added : Option Deed) → EachIsWhole setting → next_deed setting now entry ≡ added → IsSound setting now → IsSound setting (with_deed now added)
+with_deed_sound : (setting : Setting) (now : After) (entry : Entry Answer) (added : Option Deed) → EachIsWhole setting →
+    next_deed setting now entry ≡ added → IsSound setting now → IsSound setting (with_deed now added)
 with_deed_sound setting now entry None whole e s = s
 with_deed_sound setting now entry (Some d) whole e s = record {
   played = played_more setting.rules setting.walls now.deeds d s.played (next_behind setting now entry d whole s e);
@@ -218,7 +227,8 @@ step_sound setting now entry whole p s =
     let next = with_deed_sound setting (own_part setting now entry) entry (next_deed setting (own_part setting now entry) entry) whole refl (own_sound setting now entry p s) in
     record { played = next.played; slots = next.slots; seats = next.seats }
 
-game_sound : (setting : Setting) (now : After) (entries : List (Entry Answer)) → EachIsWhole setting → all_permitted setting now entries ≡ true → IsSound setting now → IsSound setting (after_from setting now entries)
+game_sound : (setting : Setting) (now : After) (entries : List (Entry Answer)) → EachIsWhole setting → all_permitted setting now entries ≡ true →
+    IsSound setting now → IsSound setting (after_from setting now entries)
 game_sound setting now [] whole p s = s
 game_sound setting now (entry ∷ entries) whole p s =
     let parts = and_parts (is_permitted setting now entry) (all_permitted setting (step setting now entry) entries) p in
@@ -247,7 +257,8 @@ taken_answers_are_lawful setting entries legal = (legal_sound setting entries le
 
 -- where a deed may be added
 
-own_defaults : (setting : Setting) (entries : List (Entry Answer)) (entry : Entry Answer) → IsLegal setting entries → AreDefaultsLawful setting.rules (own_part setting (after setting entries) entry).deeds
+own_defaults : (setting : Setting) (entries : List (Entry Answer)) (entry : Entry Answer) → IsLegal setting entries →
+    AreDefaultsLawful setting.rules (own_part setting (after setting entries) entry).deeds
 own_defaults setting [] entry legal = subst (AreDefaultsLawful setting.rules) (sym (own_deeds setting before_all entry)) (first_defaults setting.rules)
 own_defaults setting (first ∷ entries) entry legal =
     let now : After = after setting (first ∷ entries) in

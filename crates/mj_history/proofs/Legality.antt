@@ -59,7 +59,8 @@ and : (a b : Bool) → a ≡ true → b ≡ true → (a && b) ≡ true
 and true b h k = k
 and false b h k = h
 
-legal_at_start : (setting : Setting) (entries : List (Entry Answer)) → (length entries == 0) ≡ true → length setting.walls ≤ 200 → list_all (is_wall setting.rules.red) setting.walls ≡ true → IsLegal setting entries
+legal_at_start : (setting : Setting) (entries : List (Entry Answer)) → (length entries == 0) ≡ true → length setting.walls ≤ 200 →
+    list_all (is_wall setting.rules.red) setting.walls ≡ true → IsLegal setting entries
 legal_at_start setting [] e few whole = record { few = few; whole = whole; ground = refl; permitted = refl }
 legal_at_start setting (entry ∷ entries) e few whole = absurd (no_length entry entries e)
 
@@ -107,12 +108,14 @@ ground-more walls [] [] h = refl
 ground-more walls [] (entry ∷ more) h = h
 ground-more walls (e ∷ entries) more h = h
 
-permitted-more : (setting : Setting) (entries more : List (Entry Answer)) → all_permitted setting before_all entries ≡ true → MayAdd setting (after setting entries) more → all_permitted setting before_all (entries ++ more) ≡ true
+permitted-more : (setting : Setting) (entries more : List (Entry Answer)) → all_permitted setting before_all entries ≡ true →
+    MayAdd setting (after setting entries) more → all_permitted setting before_all (entries ++ more) ≡ true
 permitted-more setting entries [] h may = ap (all_permitted setting before_all) (append-nil entries) ∙ h
 permitted-more setting entries (entry ∷ []) h may = all_permitted-append setting before_all entries entry ∙ and (all_permitted setting before_all entries) _ h may
 permitted-more setting entries (entry ∷ other ∷ more) h may = absurd may
 
-entries-sound : (reading : Intake) (more : List (Entry Answer)) → IsSound reading → is_some reading.rules ≡ true → has_wall reading.walls ≡ true → MayAdd (setting_of reading) (now_of reading) more → IsSound (with_entries reading more)
+entries-sound : (reading : Intake) (more : List (Entry Answer)) → IsSound reading → is_some reading.rules ≡ true → has_wall reading.walls ≡ true →
+    MayAdd (setting_of reading) (now_of reading) more → IsSound (with_entries reading more)
 entries-sound reading more sound headed wall may = record {
   legal = record {
     few = sound.legal.few;
@@ -218,7 +221,8 @@ held-right number chair chairs name said = by_present (is_present chair) refl
     by_present false e = by_key chair.key e refl
 
 -- One seat more in front.
-right-more : (number : ℕ) (chair : Chair) (chairs : List Chair) (name : List ℕ) (place : Placed) → has_name name chair ≡ false → IsRight (number + 1) chairs name place → IsRight number (chair ∷ chairs) name place
+right-more : (number : ℕ) (chair : Chair) (chairs : List Chair) (name : List ℕ) (place : Placed) → has_name name chair ≡ false →
+    IsRight (number + 1) chairs name place → IsRight number (chair ∷ chairs) name place
 right-more number chair chairs name (places.Sat seat) apart r = (neither (has_name name chair) _ apart r.0, ap (λ n. n == 4) (longer number (length chairs)) ∙ r.1)
   where
     neither : (a b : Bool) → a ≡ false → b ≡ false → (a || b) ≡ false
@@ -258,7 +262,8 @@ fewer n few h = lt-ltb n 4 (below n few (eqb-false n 4 (ap (λ m. m == 4) (sym (
     below : (n : ℕ) → n ≤ 4 → (n ≡ 4 → ⊥) → n < 4
     below n few ne = omega (arith, few, ne)
 
-right-may : (setting : Setting) (now : After) (author : ℕ) (join : JoinLine) (place : Placed) → is_name join.name ≡ true → length now.chairs ≤ 4 → is_over now.deeds ≡ false → IsRight 0 now.chairs join.name place →
+right-may : (setting : Setting) (now : After) (author : ℕ) (join : JoinLine) (place : Placed) → is_name join.name ≡ true → length now.chairs ≤ 4 →
+    is_over now.deeds ≡ false → IsRight 0 now.chairs join.name place →
     MayAdd setting now (entries_of_placing author (Some join) place)
 unfolding can_sit can_return
 right-may setting now author join (places.Sat seat) named few goes r =
@@ -271,7 +276,8 @@ right-may setting now author join (places.Back seat) named few goes r =
     by_held (Some chair) h = and (may_come chair) _ h (ap not goes)
 right-may setting now author join (places.Refused why) named few goes r = tt
 
-pub placing-may : (setting : Setting) (now : After) (author : ℕ) (join : Option JoinLine) → IsNamed join → length now.chairs ≤ 4 → MayAdd setting now (entries_of_placing author join (placing now join))
+pub placing-may : (setting : Setting) (now : After) (author : ℕ) (join : Option JoinLine) → IsNamed join → length now.chairs ≤ 4 →
+    MayAdd setting now (entries_of_placing author join (placing now join))
 unfolding placing placed
 placing-may setting now author None named few = tt
 placing-may setting now author (Some join) named few = by_end (is_over now.deeds) refl
@@ -294,7 +300,8 @@ sit-sound reading text sound headed =
 -- who says a line or leaves
 
 -- A seat is held only where there was an entry, and so a wall.
-author-wall : (setting : Setting) (entries : List (Entry Answer)) (seat author : ℕ) → has_ground setting.walls entries ≡ true → author_at (after setting entries) seat ≡ Some author → has_wall setting.walls ≡ true
+author-wall : (setting : Setting) (entries : List (Entry Answer)) (seat author : ℕ) → has_ground setting.walls entries ≡ true →
+    author_at (after setting entries) seat ≡ Some author → has_wall setting.walls ≡ true
 author-wall setting [] seat author ground h = cc
 author-wall setting (entry ∷ entries) seat author ground h = ground
 
@@ -327,7 +334,8 @@ gone-sound reading seat sound headed =
 
 -- whose time runs out
 
-pub expiry-may : (setting : Setting) (now : After) (author window t1 t2 : ℕ) → MayAdd setting now (if can_expire setting.rules.limit now.deeds window t1 t2 then Expired author window t1 t2 ∷ [] else [])
+pub expiry-may : (setting : Setting) (now : After) (author window t1 t2 : ℕ) →
+    MayAdd setting now (if can_expire setting.rules.limit now.deeds window t1 t2 then Expired author window t1 t2 ∷ [] else [])
 expiry-may setting now author window t1 t2 = by_time (can_expire setting.rules.limit now.deeds window t1 t2) refl
   where
     by_time : (b : Bool) → can_expire setting.rules.limit now.deeds window t1 t2 ≡ b → MayAdd setting now (if b then Expired author window t1 t2 ∷ [] else [])
@@ -369,7 +377,8 @@ end-sound : (reading : Intake) (number : ℕ) (rest : List ℕ) → IsSound read
 end-sound reading number [] sound = sound
 end-sound reading number (byte ∷ bytes) sound = sound
 
-intake_on-sound : (arrival : Arrival) (onwards : Intake → Input) (reading : Intake) (number : ℕ) → LeadsSoundly arrival → ((next : Intake) → IsSound next → IsSound (onwards next).reading) → IsSound reading → IsSound (intake_on arrival onwards reading number).reading
+intake_on-sound : (arrival : Arrival) (onwards : Intake → Input) (reading : Intake) (number : ℕ) → LeadsSoundly arrival →
+    ((next : Intake) → IsSound next → IsSound (onwards next).reading) → IsSound reading → IsSound (intake_on arrival onwards reading number).reading
 intake_on-sound (Leads next) onwards reading number leads go sound = go next leads
 intake_on-sound Bad onwards reading number leads go sound = sound
 

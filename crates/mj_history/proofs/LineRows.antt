@@ -25,12 +25,16 @@ use Rattle.mj_history.specs.SeatLines.{seat_line}
 dealer_is_told :
     seat_line plain_rules first_draw 0 (Draw 0 13 false)
     ≡ codes "{\"type\":\"tsumo\",\"actor\":0,\"pai\":\"5p\",\"possible_actions\":[{\"type\":\"dahai\",\"actor\":0,\"pai\":\"1m\",\"tsumogiri\":false},{\"type\":\"dahai\",\"actor\":0,\"pai\":\"2m\",\"tsumogiri\":false},{\"type\":\"dahai\",\"actor\":0,\"pai\":\"3m\",\"tsumogiri\":false},{\"type\":\"dahai\",\"actor\":0,\"pai\":\"4m\",\"tsumogiri\":false},{\"type\":\"dahai\",\"actor\":0,\"pai\":\"5p\",\"tsumogiri\":true},{\"type\":\"ankan\",\"actor\":0,\"consumed\":[\"1m\",\"1m\",\"1m\",\"1m\"]},{\"type\":\"ankan\",\"actor\":0,\"consumed\":[\"2m\",\"2m\",\"2m\",\"2m\"]},{\"type\":\"ankan\",\"actor\":0,\"consumed\":[\"3m\",\"3m\",\"3m\",\"3m\"]},{\"type\":\"reach\",\"actor\":0}]}\n"
-unfolding texts text_of bracketed quoted_tile hidden_tile draw_line actor_field pai_field consumed_field tsumogiri_field type_field possible_text line_with possible_by is_lawful broken_by view_of is_ready_without faces_of all_discards all_closed_kans all_added_kans tile_order less kind_counts all_kinds room_beside hand is_ready complete has_way begins_run is_seven_pairs orphan_double has_orphans is_terminal_or_honour case_of
+unfolding texts text_of bracketed quoted_tile hidden_tile draw_line actor_field pai_field consumed_field tsumogiri_field type_field possible_text
+    line_with possible_by is_lawful broken_by view_of is_ready_without faces_of all_discards all_closed_kans all_added_kans tile_order less
+    kind_counts all_kinds room_beside hand is_ready complete has_way begins_run is_seven_pairs orphan_double has_orphans is_terminal_or_honour case_of
 dealer_is_told = rw (decimal_digit 0 (lit< tt)) refl
 
 -- Another seat sees no tile, and may pass alone.
 other_is_told :
     seat_line plain_rules first_draw 1 (Draw 0 13 false)
     ≡ codes "{\"type\":\"tsumo\",\"actor\":0,\"pai\":\"?\",\"possible_actions\":[{\"type\":\"none\"}]}\n"
-unfolding texts text_of bracketed quoted_tile hidden_tile draw_line actor_field pai_field consumed_field tsumogiri_field type_field possible_text line_with possible_by is_lawful broken_by view_of is_ready_without faces_of all_discards all_closed_kans all_added_kans tile_order less kind_counts all_kinds room_beside hand is_ready complete has_way begins_run is_seven_pairs orphan_double has_orphans is_terminal_or_honour case_of
+unfolding texts text_of bracketed quoted_tile hidden_tile draw_line actor_field pai_field consumed_field tsumogiri_field type_field possible_text
+    line_with possible_by is_lawful broken_by view_of is_ready_without faces_of all_discards all_closed_kans all_added_kans tile_order less
+    kind_counts all_kinds room_beside hand is_ready complete has_way begins_run is_seven_pairs orphan_double has_orphans is_terminal_or_honour case_of
 other_is_told = rw (decimal_digit 0 (lit< tt)) refl

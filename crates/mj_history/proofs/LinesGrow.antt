@@ -37,7 +37,8 @@ front (x ∷ xs) ys (suc k) h = front xs ys k (omega (arith, h))
 pub line_kept : (rules : Rules) (seat k : ℕ) (deeds more : List Deed) → k < length deeds → line_at rules (deeds ++ more) seat k ≡ line_at rules deeds seat k
 line_kept rules seat k deeds more h =
     ap (λ (ls : List (List ℕ)). unwrap_or (slice_get ls k) []) (lines_from-append rules seat [] deeds more)
-    ∙ ap (λ (o : Option (List ℕ)). unwrap_or o []) (front (lines_for rules seat deeds) (lines_from rules seat deeds more) k (within (length (lines_for rules seat deeds)) (length deeds) (length-lines rules seat deeds) h))
+    ∙ ap (λ (o : Option (List ℕ)). unwrap_or o []) (front (lines_for rules seat deeds) (lines_from rules seat deeds more) k
+    (within (length (lines_for rules seat deeds)) (length deeds) (length-lines rules seat deeds) h))
   where
     within : (n m : ℕ) → n ≡ m → k < m → k < n
     within n m e h = omega (arith, e, h)

@@ -37,14 +37,16 @@ abbrev Placed : After → Type 0
 Placed now = ArePlaced now.entered now.chairs
 
 -- The connection of a held seat, by its place.
-seat_there : (place seat : ℕ) (chairs : List Chair) (chair : Chair) → slice_get chairs seat ≡ Some chair → seat_at chairs place ≡ Some seat → (is_present chair ≡ true) × ((chair.place == place) ≡ true)
+seat_there : (place seat : ℕ) (chairs : List Chair) (chair : Chair) → slice_get chairs seat ≡ Some chair → seat_at chairs place ≡ Some seat →
+    (is_present chair ≡ true) × ((chair.place == place) ≡ true)
 seat_there place seat chairs chair e s =
     let k : IsConnected place seat chairs = connected-by place chairs seat s in
     let same : k.chair ≡ chair = same_Some k.chair chair (sym k.held ∙ e) in
     (ap is_present (sym same) ∙ k.present, ap (λ (c : Chair). c.place == place) (sym same) ∙ k.place)
 
 -- A held seat that is as it was has not moved.
-unmoved_if : (rules : Rules) (now next : After) (seat : ℕ) (chair : Chair) → Placed now → Placed next → slice_get now.chairs seat ≡ Some chair → slice_get next.chairs seat ≡ Some chair → Unmoved seat (shown rules now) (shown rules next)
+unmoved_if : (rules : Rules) (now next : After) (seat : ℕ) (chair : Chair) → Placed now → Placed next → slice_get now.chairs seat ≡ Some chair →
+    slice_get next.chairs seat ≡ Some chair → Unmoved seat (shown rules now) (shown rules next)
 unmoved_if rules now next seat chair k kn e f =
     let same : slice_get next.chairs seat ≡ slice_get now.chairs seat = f ∙ sym e in
     record {
@@ -52,7 +54,8 @@ unmoved_if rules now next seat chair k kn e f =
       due = ap (λ (o : Option Chair). option_map_or (λ (c : Chair). c.progress.due) o 0) same;
       is_told = ap (λ (o : Option Chair). option_map_or (λ (c : Chair). not (c.progress.refused == 0)) o false) same;
       seat_of = λ place s. let at = seat_there place seat now.chairs chair e s in seat-is place next.chairs seat chair (kn.once place) f at.0 at.1;
-      told = λ place s. let at = seat_there place seat now.chairs chair e s in told-is place next.chairs seat chair (kn.once place) f at.1 ∙ sym (told-is place now.chairs seat chair (k.once place) e at.1);
+      told = λ place s. let at = seat_there place seat now.chairs chair e s in told-is place next.chairs seat chair (kn.once place) f at.1
+          ∙ sym (told-is place now.chairs seat chair (k.once place) e at.1);
     }
 
 held_by : (o : Option Chair) (author : ℕ) → option_map_or (λ (c : Chair). c.author) o None ≡ Some author → (chair : Chair) × (o ≡ Some chair) × (chair.author ≡ Some author)
@@ -72,7 +75,8 @@ gone_is now chair author p a =
     true≢false (sym (ap is_some a) ∙ out)
 
 -- What an entry is not of stays as it was.
-said_other : (rules : Rules) (now : After) (who seat : ℕ) (answer : Answer) (held : Option Chair) → who ≢ seat → slice_get (option_map_or (after_said rules now who answer) held now).chairs seat ≡ slice_get now.chairs seat
+said_other : (rules : Rules) (now : After) (who seat : ℕ) (answer : Answer) (held : Option Chair) → who ≢ seat →
+    slice_get (option_map_or (after_said rules now who answer) held now).chairs seat ≡ slice_get now.chairs seat
 unfolding after_said
 said_other rules now who seat answer None ne = refl
 said_other rules now who seat answer (Some chair) ne = slice_get-set_other now.chairs who seat _ ne
@@ -82,7 +86,8 @@ unfolding after_gone
 gone_other rules now who seat None ne = refl
 gone_other rules now who seat (Some chair) ne = slice_get-set_other now.chairs who seat _ ne
 
-back_other : (rules : Rules) (now : After) (author who seat : ℕ) (held : Option Chair) → who ≢ seat → slice_get (option_map_or (after_back rules now author who) held now).chairs seat ≡ slice_get now.chairs seat
+back_other : (rules : Rules) (now : After) (author who seat : ℕ) (held : Option Chair) → who ≢ seat →
+    slice_get (option_map_or (after_back rules now author who) held now).chairs seat ≡ slice_get now.chairs seat
 unfolding after_back
 back_other rules now author who seat None ne = refl
 back_other rules now author who seat (Some chair) ne = slice_get-set_other now.chairs who seat _ ne
@@ -93,7 +98,8 @@ not_last seat n h e = omega arith
 aside_not : {A : Type 0} (by author who seat : ℕ) → ((by ≢ author) ⊎ (Some who ≢ Some seat)) → by ≡ author → who ≡ seat → A
 aside_not by author who seat aside b w = absurd (⊎_elim (λ (n : by ≢ author). n b) (λ (n : Some who ≢ Some seat). n (ap (λ (k : ℕ). Some k) w)) aside)
 
-same_there : (setting : Setting) (now : After) (before : List (Entry Answer)) (entry : Entry Answer) (author seat : ℕ) (chair : Chair) → is_permitted setting now entry ≡ true → IsAside author seat before entry → slice_get now.chairs seat ≡ Some chair
+same_there : (setting : Setting) (now : After) (before : List (Entry Answer)) (entry : Entry Answer) (author seat : ℕ) (chair : Chair) →
+    is_permitted setting now entry ≡ true → IsAside author seat before entry → slice_get now.chairs seat ≡ Some chair
     → chair.author ≡ Some author → slice_get (own_part setting now entry).chairs seat ≡ slice_get now.chairs seat
 unfolding own_part
 same_there setting now before (Sat by name key) author seat chair p aside e a = slice_get-append_other now.chairs _ seat (not_last seat (length now.chairs) (slice_get_within now.chairs seat chair e))
@@ -111,12 +117,15 @@ pub others_leave_alone : OthersLeaveAlone
 others_leave_alone setting entries entry author seat l here aside =
     let now : After = after setting entries in
     let c = held_by (slice_get now.chairs seat) author here in
-    let own : slice_get (own_part setting now entry).chairs seat ≡ slice_get now.chairs seat = same_there setting now entries entry author seat c.0 (last_permitted setting entries entry l) aside c.1 c.2 in
+    let own : slice_get (own_part setting now entry).chairs seat ≡ slice_get now.chairs seat = same_there setting now entries entry author seat c.0
+    (last_permitted setting entries entry l) aside c.1 c.2 in
     let there : slice_get (step setting now entry).chairs seat ≡ Some c.0 = ap (λ (cs : List Chair). slice_get cs seat) (step-chairs setting now entry) ∙ own ∙ c.1 in
-    stepped (Unmoved seat (shown setting.rules now)) setting entries entry (unmoved_if setting.rules now (step setting now entry) seat c.0 (after-placed setting entries) (step-placed setting now entry (after-placed setting entries)) c.1 there)
+    stepped (Unmoved seat (shown setting.rules now)) setting entries entry (unmoved_if setting.rules now (step setting now entry) seat c.0
+    (after-placed setting entries) (step-placed setting now entry (after-placed setting entries)) c.1 there)
 
 -- A connection begins.
-begins_if : (rules : Rules) (next : After) (seat place author : ℕ) (chair : Chair) (first : List ℕ) → Placed next → AreSeats next.chairs → slice_get next.chairs seat ≡ Some chair → chair.author ≡ Some author → chair.place ≡ place → chair.progress.due ≤ length next.deeds
+begins_if : (rules : Rules) (next : After) (seat place author : ℕ) (chair : Chair) (first : List ℕ) → Placed next → AreSeats next.chairs →
+    slice_get next.chairs seat ≡ Some chair → chair.author ≡ Some author → chair.place ≡ place → chair.progress.due ≤ length next.deeds
     → (chair.progress.refused == 0) ≡ true → chair.progress.told ≡ first → Begins author seat place chair.progress.due first (shown rules next)
 begins_if rules next seat place author chair first k s e a at d r t =
     let here : (chair.place == place) ≡ true = eq-eqb chair.place place at in
@@ -143,9 +152,12 @@ seats_begin setting entries author name key l =
     let now : After = after setting entries in
     let entry : Entry Answer = Sat author name key in
     let chair : Chair = new_chair now.entered author name key in
-    let there : slice_get (step setting now entry).chairs (length now.chairs) ≡ Some chair = ap (λ (cs : List Chair). slice_get cs (length now.chairs)) (sat-chairs setting now author name key) ∙ at_end now.chairs chair in
+    let there : slice_get (step setting now entry).chairs (length now.chairs) ≡ Some chair =
+    ap (λ (cs : List Chair). slice_get cs (length now.chairs)) (sat-chairs setting now author name key) ∙ at_end now.chairs chair in
     let begins : Begins author (length now.chairs) now.entered 0 (hello control_line) (shown setting.rules (step setting now entry)) =
-    begins_if setting.rules (step setting now entry) (length now.chairs) now.entered author chair _ (step-placed setting now entry (after-placed setting entries)) (seats_next setting entries entry l) there refl refl (least (length (step setting now entry).deeds)) refl refl in
+    begins_if setting.rules (step setting now entry) (length now.chairs) now.entered author chair _
+    (step-placed setting now entry (after-placed setting entries)) (seats_next setting entries entry l) there refl refl
+    (least (length (step setting now entry).deeds)) refl refl in
     stepped (Begins author (next_seat entries) (length entries) 0 (hello control_line)) setting entries entry
     (subst (λ (n : ℕ). Begins author (next_seat entries) n 0 (hello control_line) (shown setting.rules (step setting now entry))) (entered-is setting entries)
     (subst (λ (n : ℕ). Begins author n now.entered 0 (hello control_line) (shown setting.rules (step setting now entry))) (seats-are setting entries) begins))
@@ -165,7 +177,9 @@ flat_take [] (suc n) = refl
 flat_take (x ∷ xs) zero = append-nil x
 flat_take (x ∷ xs) (suc n) = ap (λ (l : List ℕ). x ++ l) (flat_take xs n) ∙ sym (append_assoc x (flat_map (λ (l : List ℕ). l) (take n xs)) (unwrap_or (slice_get xs n) []))
 
-lines_before : (rules : Rules) (w : Showing) (seat : ℕ) (deeds : List Deed) (n : ℕ) → ((k : ℕ) → k < length deeds → w.text seat k ≡ line_at rules deeds seat k) → n ≤ length deeds → flat_map (λ (l : List ℕ). l) (take n (lines_for rules seat deeds)) ≡ lines_to w seat n
+lines_before : (rules : Rules) (w : Showing) (seat : ℕ) (deeds : List Deed) (n : ℕ) →
+    ((k : ℕ) → k < length deeds → w.text seat k ≡ line_at rules deeds seat k) → n ≤ length deeds →
+    flat_map (λ (l : List ℕ). l) (take n (lines_for rules seat deeds)) ≡ lines_to w seat n
 lines_before rules w seat deeds zero same h = nothing (lines_for rules seat deeds)
   where
     nothing : (xs : List (List ℕ)) → flat_map (λ (l : List ℕ). l) (take 0 xs) ≡ []
@@ -201,11 +215,14 @@ returns_begin setting entries author seat l =
     ap (λ (ds : List Deed). line_at setting.rules ds seat k) (step-deeds setting now entry)
     ∙ line_kept setting.rules seat k now.deeds (listed (next_deed setting (own_part setting now entry) entry)) h in
     let told : chair.progress.told ≡ control_line control.Hello ++ control_line (control.Head (due_on_return now seat)) ++ lines_to (shown setting.rules next) seat (due_on_return now seat) =
-    ap (λ (t : List ℕ). control_line control.Hello ++ control_line (control.Head (due_on_return now seat)) ++ t) (lines_before setting.rules (shown setting.rules next) seat now.deeds (due_on_return now seat) same (due_within now seat)) in
+    ap (λ (t : List ℕ). control_line control.Hello ++ control_line (control.Head (due_on_return now seat)) ++ t)
+    (lines_before setting.rules (shown setting.rules next) seat now.deeds (due_on_return now seat) same (due_within now seat)) in
     let first : chair.progress.told ≡ replay control_line (shown setting.rules next) seat =
     told ∙ ap (λ (n : ℕ). control_line control.Hello ++ control_line (control.Head n) ++ lines_to (shown setting.rules next) seat n) (sym due) in
     let begins : Begins author seat now.entered (due_on_return now seat) (replay control_line (shown setting.rules next) seat) (shown setting.rules next) =
-    begins_if setting.rules next seat now.entered author chair _ (step-placed setting now entry (after-placed setting entries)) (seats_next setting entries entry l) there refl refl (still (due_on_return now seat) (length now.deeds) (length next.deeds) (due_within now seat) (stays_step setting now entry).deeds) refl first in
+    begins_if setting.rules next seat now.entered author chair _ (step-placed setting now entry (after-placed setting entries))
+    (seats_next setting entries entry l) there refl refl (still (due_on_return now seat) (length now.deeds) (length next.deeds)
+    (due_within now seat) (stays_step setting now entry).deeds) refl first in
     stepped (λ (w : Showing). Begins author seat (length entries) (w.due seat) (replay control_line w seat) w) setting entries entry
     (subst (λ (n : ℕ). Begins author seat n (due_at next seat) (replay control_line (shown setting.rules next) seat) (shown setting.rules next)) (entered-is setting entries)
     (subst (λ (n : ℕ). Begins author seat now.entered n (replay control_line (shown setting.rules next) seat) (shown setting.rules next)) (sym due) begins))
@@ -221,7 +238,8 @@ line_or_none rules deeds seat k = by (nat_lt k (length deeds)) refl
     by true e = refl
     by false e = sym (no_line_behind rules seat k deeds (ltb-false k (length deeds) e))
 
-pub waiting_is : (rules : Rules) (now : After) (seat : ℕ) (chair : Chair) → slice_get now.chairs seat ≡ Some chair → waiting (shown rules now) seat ≡ pending (lines_for rules seat now.deeds) chair.progress
+pub waiting_is : (rules : Rules) (now : After) (seat : ℕ) (chair : Chair) → slice_get now.chairs seat ≡ Some chair →
+    waiting (shown rules now) seat ≡ pending (lines_for rules seat now.deeds) chair.progress
 unfolding pending
 waiting_is rules now seat chair e =
     ap (λ (o : Option Chair). if option_map_or (λ (c : Chair). not (c.progress.refused == 0)) o false then [] else
@@ -234,7 +252,8 @@ waiting_is rules now seat chair e =
     by false = refl
 
 -- A connection is told what was pending, and then a reply.
-adds_if : (rules : Rules) (now next : After) (seat : ℕ) (old new : Chair) (reply : List ℕ) → Placed now → Placed next → slice_get now.chairs seat ≡ Some old → slice_get next.chairs seat ≡ Some new → new.place ≡ old.place
+adds_if : (rules : Rules) (now next : After) (seat : ℕ) (old new : Chair) (reply : List ℕ) → Placed now → Placed next →
+    slice_get now.chairs seat ≡ Some old → slice_get next.chairs seat ≡ Some new → new.place ≡ old.place
     → new.progress.told ≡ old.progress.told ++ pending (lines_for rules seat now.deeds) old.progress ++ reply → Adds seat reply (shown rules now) (shown rules next)
 adds_if rules now next seat old new reply k kn e f at t place s =
     let here = seat_there place seat now.chairs old e s in
@@ -245,26 +264,31 @@ adds_if rules now next seat old new reply k kn e f at t place s =
     ∙ (λ i. (sym told) i ++ (sym due) i ++ reply)
 
 -- A seat goes on, is asked again, or leaves.
-kept_seat : (now next : After) (seat : ℕ) (old new : Chair) (place : ℕ) → Placed next → slice_get now.chairs seat ≡ Some old → slice_get next.chairs seat ≡ Some new → new.place ≡ old.place → new.author ≡ old.author → seat_at now.chairs place ≡ Some seat
+kept_seat : (now next : After) (seat : ℕ) (old new : Chair) (place : ℕ) → Placed next → slice_get now.chairs seat ≡ Some old →
+    slice_get next.chairs seat ≡ Some new → new.place ≡ old.place → new.author ≡ old.author → seat_at now.chairs place ≡ Some seat
     → seat_at next.chairs place ≡ Some seat
 kept_seat now next seat old new place kn e f at a s =
     let here = seat_there place seat now.chairs old e s in
     seat-is place next.chairs seat new (kn.once place) f (ap is_some a ∙ here.0) (ap (λ (p : ℕ). p == place) at ∙ here.1)
 
-present_same : (now next : After) (seat : ℕ) (old new : Chair) → slice_get now.chairs seat ≡ Some old → slice_get next.chairs seat ≡ Some new → new.author ≡ old.author → author_at next seat ≡ author_at now seat
+present_same : (now next : After) (seat : ℕ) (old new : Chair) → slice_get now.chairs seat ≡ Some old → slice_get next.chairs seat ≡ Some new →
+    new.author ≡ old.author → author_at next seat ≡ author_at now seat
 present_same now next seat old new e f a =
     ap (λ (o : Option Chair). option_map_or (λ (c : Chair). c.author) o None) f ∙ a ∙ sym (ap (λ (o : Option Chair). option_map_or (λ (c : Chair). c.author) o None) e)
 
-goes_on_if : (rules : Rules) (now next : After) (seat : ℕ) (old new : Chair) → Placed next → slice_get now.chairs seat ≡ Some old → slice_get next.chairs seat ≡ Some new → new.place ≡ old.place → new.author ≡ old.author
+goes_on_if : (rules : Rules) (now next : After) (seat : ℕ) (old new : Chair) → Placed next → slice_get now.chairs seat ≡ Some old →
+    slice_get next.chairs seat ≡ Some new → new.place ≡ old.place → new.author ≡ old.author
     → new.progress.due ≡ old.progress.due + 1 → (new.progress.refused == 0) ≡ true → GoesOn seat (shown rules now) (shown rules next)
 goes_on_if rules now next seat old new kn e f at a d r = record {
   present = present_same now next seat old new e f a;
-  due = ap (λ (o : Option Chair). option_map_or (λ (c : Chair). c.progress.due) o 0) f ∙ d ∙ ap (λ (n : ℕ). n + 1) (sym (ap (λ (o : Option Chair). option_map_or (λ (c : Chair). c.progress.due) o 0) e));
+  due = ap (λ (o : Option Chair). option_map_or (λ (c : Chair). c.progress.due) o 0) f ∙ d
+      ∙ ap (λ (n : ℕ). n + 1) (sym (ap (λ (o : Option Chair). option_map_or (λ (c : Chair). c.progress.due) o 0) e));
   is_told = ap (λ (o : Option Chair). option_map_or (λ (c : Chair). not (c.progress.refused == 0)) o false) f ∙ ap not r;
   seat_of = λ place s. kept_seat now next seat old new place kn e f at a s;
 }
 
-asked_again_if : (rules : Rules) (now next : After) (seat : ℕ) (old new : Chair) → Placed next → slice_get now.chairs seat ≡ Some old → slice_get next.chairs seat ≡ Some new → new.place ≡ old.place → new.author ≡ old.author
+asked_again_if : (rules : Rules) (now next : After) (seat : ℕ) (old new : Chair) → Placed next → slice_get now.chairs seat ≡ Some old →
+    slice_get next.chairs seat ≡ Some new → new.place ≡ old.place → new.author ≡ old.author
     → new.progress.due ≡ old.progress.due → (new.progress.refused == 0) ≡ false → IsAskedAgain seat (shown rules now) (shown rules next)
 asked_again_if rules now next seat old new kn e f at a d r = record {
   present = present_same now next seat old new e f a;
@@ -273,7 +297,8 @@ asked_again_if rules now next seat old new kn e f at a d r = record {
   seat_of = λ place s. kept_seat now next seat old new place kn e f at a s;
 }
 
-leaves_if : (rules : Rules) (now next : After) (seat : ℕ) (old new : Chair) → Placed now → slice_get now.chairs seat ≡ Some old → next.chairs ≡ slice_set now.chairs seat new → new.author ≡ None → Leaves seat (shown rules now) (shown rules next)
+leaves_if : (rules : Rules) (now next : After) (seat : ℕ) (old new : Chair) → Placed now → slice_get now.chairs seat ≡ Some old →
+    next.chairs ≡ slice_set now.chairs seat new → new.author ≡ None → Leaves seat (shown rules now) (shown rules next)
 leaves_if rules now next seat old new k e set a =
     let there : slice_get next.chairs seat ≡ Some new = ap (λ (cs : List Chair). slice_get cs seat) set ∙ slice_get-set_at now.chairs seat new old e in
     record {
@@ -294,17 +319,28 @@ not_fresh n = elim (eqb_tells (n + 1) 0) [ inl s ↦ absurd (more n s.1) | inr s
     more : (n : ℕ) → n + 1 ≡ 0 → ⊥
     more n e = omega arith
 
-answers_if : (rules : Rules) (now next : After) (seat : ℕ) (old : Chair) (v : Verdict) → Placed now → Placed next → slice_get now.chairs seat ≡ Some old → next.chairs ≡ slice_set now.chairs seat (said_chair (lines_for rules seat now.deeds) v old)
+answers_if : (rules : Rules) (now next : After) (seat : ℕ) (old : Chair) (v : Verdict) → Placed now → Placed next →
+    slice_get now.chairs seat ≡ Some old → next.chairs ≡ slice_set now.chairs seat (said_chair (lines_for rules seat now.deeds) v old)
     → Answers control_line (heard_of v) seat (shown rules now) (shown rules next)
-answers_if rules now next seat old v k kn e set = by v set (ap (λ (cs : List Chair). slice_get cs seat) set ∙ slice_get-set_at now.chairs seat (said_chair (lines_for rules seat now.deeds) v old) old e)
+answers_if rules now next seat old v k kn e set = by v set (ap (λ (cs : List Chair). slice_get cs seat) set ∙ slice_get-set_at now.chairs seat
+    (said_chair (lines_for rules seat now.deeds) v old) old e)
   where
     lines : List (List ℕ)
     lines = lines_for rules seat now.deeds
 
-    by : (w : Verdict) → next.chairs ≡ slice_set now.chairs seat (said_chair (lines_for rules seat now.deeds) w old) → slice_get next.chairs seat ≡ Some (said_chair (lines_for rules seat now.deeds) w old)
+    by : (w : Verdict) → next.chairs ≡ slice_set now.chairs seat (said_chair (lines_for rules seat now.deeds) w old) →
+        slice_get next.chairs seat ≡ Some (said_chair (lines_for rules seat now.deeds) w old)
         → Answers control_line (heard_of w) seat (shown rules now) (shown rules next)
-    by Taken set f = (goes_on_if rules now next seat old _ kn e f refl refl refl refl, adds_if rules now next seat old _ [] k kn e f refl (no_reply old.progress.told (pending (lines_for rules seat now.deeds) old.progress)))
-    by Late set f = (goes_on_if rules now next seat old _ kn e f refl refl refl refl, adds_if rules now next seat old _ [] k kn e f refl (no_reply old.progress.told (pending (lines_for rules seat now.deeds) old.progress)))
+    by Taken set f = (
+      goes_on_if rules now next seat old _ kn e f refl refl refl refl,
+      adds_if rules now next seat old _ [] k kn e f refl
+          (no_reply old.progress.told (pending (lines_for rules seat now.deeds) old.progress)),
+    )
+    by Late set f = (
+      goes_on_if rules now next seat old _ kn e f refl refl refl refl,
+      adds_if rules now next seat old _ [] k kn e f refl
+          (no_reply old.progress.told (pending (lines_for rules seat now.deeds) old.progress)),
+    )
     by (Refused rule) set f = (asked_again_if rules now next seat old _ kn e f refl refl refl (not_fresh old.progress.refused), adds_if rules now next seat old _ (error_text rule) k kn e f refl refl)
     by (Closing rule) set f = (leaves_if rules now next seat old _ k e set refl, adds_if rules now next seat old _ (error_text rule) k kn e f refl refl)
 
@@ -318,7 +354,8 @@ answers_go_by_verdict setting entries author seat answer l =
     ap (λ (o : Option Chair). option_map_or heard_of (option_map (λ (chair : Chair). verdict_on setting.rules now.deeds seat answer chair.progress) o) heard.NoMemory) c.1 in
     stepped (Answers control_line (hears_of setting entries seat answer) seat (shown setting.rules now)) setting entries entry
     (subst (λ (h : Heard Rule). Answers control_line h seat (shown setting.rules now) (shown setting.rules (step setting now entry))) (sym told)
-    (answers_if setting.rules now (step setting now entry) seat c.0 v (after-placed setting entries) (step-placed setting now entry (after-placed setting entries)) c.1 (said-chairs setting now author seat answer c.0 c.1)))
+    (answers_if setting.rules now (step setting now entry) seat c.0 v (after-placed setting entries)
+    (step-placed setting now entry (after-placed setting entries)) c.1 (said-chairs setting now author seat answer c.0 c.1)))
 
 pub seats_leave : SeatsLeave
 seats_leave setting entries author seat l =
@@ -331,5 +368,6 @@ seats_leave setting entries author seat l =
     let there : slice_get next.chairs seat ≡ Some chair = ap (λ (cs : List Chair). slice_get cs seat) set ∙ slice_get-set_at now.chairs seat chair c.0 c.1 in
     stepped (λ (w : Showing). Leaves seat (shown setting.rules now) w × Adds seat [] (shown setting.rules now) w) setting entries entry (
       leaves_if setting.rules now next seat c.0 chair (after-placed setting entries) c.1 set refl,
-      adds_if setting.rules now next seat c.0 chair [] (after-placed setting entries) (step-placed setting now entry (after-placed setting entries)) c.1 there refl (no_reply c.0.progress.told (pending (lines_for setting.rules seat now.deeds) c.0.progress)),
+      adds_if setting.rules now next seat c.0 chair [] (after-placed setting entries) (step-placed setting now entry (after-placed setting entries))
+          c.1 there refl (no_reply c.0.progress.told (pending (lines_for setting.rules seat now.deeds) c.0.progress)),
     )

@@ -146,7 +146,8 @@ held_moves rules now who answer chair v e few stays t l = record {
   deeds = refl;
   authors = authors-set now.chairs who chair new e (author_by lines v chair stays);
   due = λ seat. elim (eqb_tells who seat) [
-    | inl p ↦ subst (λ (k : ℕ). due_at next k ≡ due_at now k + length (answer_if (is_acceptance v) answer)) p.1 own_due ∙ ap (λ (said : List Answer). due_at now seat + length said) (sym (is_said (who == seat) (is_acceptance v) answer p.0))
+    | inl p ↦ subst (λ (k : ℕ). due_at next k ≡ due_at now k + length (answer_if (is_acceptance v) answer)) p.1 own_due
+        ∙ ap (λ (said : List Answer). due_at now seat + length said) (sym (is_said (who == seat) (is_acceptance v) answer p.0))
     | inr p ↦ ap (λ (o : Option Chair). option_map_or (λ (c : Chair). c.progress.due) o 0) (slice_get-set_other now.chairs who seat new p.1) ∙ none_more (due_at now seat)
         ∙ ap (λ (said : List Answer). due_at now seat + length said) (sym (not_said (who == seat) (is_acceptance v) answer p.0))
   ];
@@ -206,7 +207,8 @@ said_moves rules now who answer (Some chair) e few stays =
     (taken_at chair.progress.due chair.progress.refused (length now.deeds) (broken_rule rules now.deeds who answer))
     (late_at chair.progress.due chair.progress.refused (length now.deeds) (broken_rule rules now.deeds who answer))
 
-answer_moves : (setting : Setting) (window : ℕ) (now : After) (entry : Entry Answer) → length now.chairs ≤ 4 → answers_in_window setting window now entry ≡ true → Moves now (own_part setting now entry) (λ seat. accepted setting seat now entry)
+answer_moves : (setting : Setting) (window : ℕ) (now : After) (entry : Entry Answer) → length now.chairs ≤ 4 → answers_in_window setting window now
+    entry ≡ true → Moves now (own_part setting now entry) (λ seat. accepted setting seat now entry)
 unfolding own_part
 answer_moves setting window now (Said author seat answer) few h = said_moves setting.rules now seat answer (slice_get now.chairs seat) refl few (not-true _ (and_parts _ _ h).1)
 answer_moves setting window now (Sat author name key) few h = cc
@@ -214,7 +216,8 @@ answer_moves setting window now (Back author seat) few h = cc
 answer_moves setting window now (Gone author seat) few h = cc
 answer_moves setting window now (Expired author window_now t1 t2) few h = cc
 
-answer_permitted : (setting : Setting) (window : ℕ) (now : After) (entry : Entry Answer) → answers_in_window setting window now entry ≡ true → (is_permitted setting now entry ≡ true) × (is_open now.deeds window ≡ true)
+answer_permitted : (setting : Setting) (window : ℕ) (now : After) (entry : Entry Answer) → answers_in_window setting window now entry ≡ true →
+    (is_permitted setting now entry ≡ true) × (is_open now.deeds window ≡ true)
 answer_permitted setting window now (Said author seat answer) h = and_parts (is_permitted setting now (Said author seat answer)) (is_open now.deeds window) (and_parts _ _ h).0
 answer_permitted setting window now (Sat author name key) h = cc
 answer_permitted setting window now (Back author seat) h = cc
@@ -234,7 +237,8 @@ following setting deeds presence slots = if closes slots presence then outcome s
 abbrev pub followed : Setting → After → Option Deed
 followed setting now = following setting now.deeds (map is_present now.chairs) now.slots
 
-pub next_follows : (setting : Setting) (window : ℕ) (now next : After) (entry : Entry Answer) → answers_in_window setting window now entry ≡ true → (length next.deeds == 0) ≡ false → next_deed setting next entry ≡ followed setting next
+pub next_follows : (setting : Setting) (window : ℕ) (now next : After) (entry : Entry Answer) → answers_in_window setting window now entry ≡ true →
+    (length next.deeds == 0) ≡ false → next_deed setting next entry ≡ followed setting next
 unfolding next_deed
 next_follows setting window now next (Said author seat answer) h begun =
     ap (λ (b : Bool). if b then (if length next.chairs == 4 then Some (StartGame (names_of next.chairs)) else None) else followed setting next) begun
@@ -282,11 +286,13 @@ record Ends (setting : Setting) (now : After) (entries : List (Entry Answer)) : 
   moves : Moves now rest (λ seat. accepted_from setting seat now entries)
   last : IsStep rest (after_from setting now entries) (followed setting rest)
 
-ends : (setting : Setting) (window : ℕ) (now : After) (entry : Entry Answer) (entries : List (Entry Answer)) → AreSeats now.chairs → all_answer setting window now (entry ∷ entries) ≡ true → Ends setting now (entry ∷ entries)
+ends : (setting : Setting) (window : ℕ) (now : After) (entry : Entry Answer) (entries : List (Entry Answer)) → AreSeats now.chairs →
+    all_answer setting window now (entry ∷ entries) ≡ true → Ends setting now (entry ∷ entries)
 ends setting window now entry [] seats h =
     let answers = (and_parts (answers_in_window setting window now entry) true h).0 in
     let own : After = own_part setting now entry in
-    let begun : (length own.deeds == 0) ≡ false = ap (λ (ds : List Deed). length ds == 0) (own_deeds setting now entry) ∙ (opened now.deeds window (answer_permitted setting window now entry answers).1).0 in
+    let begun : (length own.deeds == 0) ≡ false = ap (λ (ds : List Deed). length ds == 0) (own_deeds setting now entry)
+    ∙ (opened now.deeds window (answer_permitted setting window now entry answers).1).0 in
     record {
       rest = own;
       moves = moves_as now own (λ seat. accepted setting seat now entry) _ (λ seat. sym (append-nil (accepted setting seat now entry))) (answer_moves setting window now entry seats.few answers);
@@ -303,7 +309,8 @@ ends setting window now entry (second ∷ entries) seats h =
     record {
       rest = more.rest;
       moves = moves_on now next more.rest (λ seat. accepted setting seat now entry) (λ seat. accepted_from setting seat next (second ∷ entries))
-          (idle_step now own next (λ seat. accepted setting seat now entry) (next_deed setting own entry) (answer_moves setting window now entry seats.few parts.0) (step_is setting now entry) same) more.moves;
+          (idle_step now own next (λ seat. accepted setting seat now entry) (next_deed setting own entry)
+          (answer_moves setting window now entry seats.few parts.0) (step_is setting now entry) same) more.moves;
       last = more.last;
     }
 
@@ -338,7 +345,8 @@ added_slots now other (Some deed) e = refl
 same_due : (now next : After) (seat : ℕ) → next.chairs ≡ now.chairs → due_at next seat ≡ due_at now seat
 same_due now next seat e = ap (λ (cs : List Chair). option_map_or (λ (c : Chair). c.progress.due) (slice_get cs seat) 0) e
 
-same_authors : (now next other last : After) → next.chairs ≡ now.chairs → last.chairs ≡ other.chairs → authors now.chairs ≡ authors other.chairs → (seat : ℕ) → author_at next seat ≡ author_at last seat
+same_authors : (now next other last : After) → next.chairs ≡ now.chairs → last.chairs ≡ other.chairs → authors now.chairs ≡ authors other.chairs →
+    (seat : ℕ) → author_at next seat ≡ author_at last seat
 same_authors now next other last e f s seat =
     author-is next seat ∙ ap (λ (by : List (Option ℕ)). unwrap_or (slice_get by seat) None) (ap authors e ∙ s ∙ sym (ap authors f)) ∙ sym (author-is last seat)
 
@@ -351,7 +359,8 @@ same_game setting now next other last some added s k l e = record {
 }
 
 -- Refused answers alone add no deed: the first of them is of a seat that hasn't answered.
-first_open : (setting : Setting) (window : ℕ) (now : After) (entry : Entry Answer) → AreSeats now.chairs → AreFilled now → answers_in_window setting window now entry ≡ true → followed setting now ≡ None
+first_open : (setting : Setting) (window : ℕ) (now : After) (entry : Entry Answer) → AreSeats now.chairs → AreFilled now →
+    answers_in_window setting window now entry ≡ true → followed setting now ≡ None
 first_open setting window now (Said author seat answer) seats filled h =
     let may : can_say now author seat ≡ true = (and_parts (is_in_form answer) (can_say now author seat) (answer_permitted setting window now (Said author seat answer) h).0).1 in
     ap (λ (b : Bool). if b then outcome setting.rules setting.walls now.deeds (answers_in setting.rules now.deeds now.slots) else None) (not_closed now author seat seats filled may)
@@ -366,7 +375,8 @@ no_step now = record { deeds = sym (append-nil now.deeds); chairs = refl; slots 
 turned : (now other : After) → IsSameGame now other → IsSameGame other now
 turned now other s = record { deeds = sym s.deeds; slots = sym s.slots; due = λ seat. sym (s.due seat); present = λ seat. sym (s.present seat) }
 
-none_taken : (setting : Setting) (window : ℕ) (now : After) (entry : Entry Answer) (entries : List (Entry Answer)) → AreSeats now.chairs → AreFilled now → all_answer setting window now (entry ∷ entries) ≡ true
+none_taken : (setting : Setting) (window : ℕ) (now : After) (entry : Entry Answer) (entries : List (Entry Answer)) → AreSeats now.chairs →
+    AreFilled now → all_answer setting window now (entry ∷ entries) ≡ true
     → ((seat : ℕ) → accepted_from setting seat now [] ≡ accepted_from setting seat now (entry ∷ entries)) → IsSameGame now (after_from setting now (entry ∷ entries))
 none_taken setting window now entry entries seats filled h same =
     let there : Ends setting now (entry ∷ entries) = ends setting window now entry entries seats h in
@@ -375,16 +385,19 @@ none_taken setting window now entry entries seats filled h same =
     let none : followed setting now ≡ None = first_open setting window now entry seats filled (and_parts (answers_in_window setting window now entry) _ h).0 in
     same_game setting now now there.rest (after_from setting now (entry ∷ entries)) None (followed setting there.rest) s (no_step now) there.last (sym none ∙ same_followed setting now there.rest s)
 
-free_from : (setting : Setting) (window : ℕ) (now : After) (some others : List (Entry Answer)) → AreSeats now.chairs → AreFilled now → all_answer setting window now some ≡ true → all_answer setting window now others ≡ true
+free_from : (setting : Setting) (window : ℕ) (now : After) (some others : List (Entry Answer)) → AreSeats now.chairs → AreFilled now →
+    all_answer setting window now some ≡ true → all_answer setting window now others ≡ true
     → ((seat : ℕ) → accepted_from setting seat now some ≡ accepted_from setting seat now others) → IsSameGame (after_from setting now some) (after_from setting now others)
 free_from setting window now [] [] seats filled h k same = record { deeds = refl; slots = refl; due = λ seat. refl; present = λ seat. refl }
 free_from setting window now [] (other ∷ others) seats filled h k same = none_taken setting window now other others seats filled k same
-free_from setting window now (entry ∷ entries) [] seats filled h k same = turned now (after_from setting now (entry ∷ entries)) (none_taken setting window now entry entries seats filled h (λ seat. sym (same seat)))
+free_from setting window now (entry ∷ entries) [] seats filled h k same = turned now (after_from setting now (entry ∷ entries))
+    (none_taken setting window now entry entries seats filled h (λ seat. sym (same seat)))
 free_from setting window now (entry ∷ entries) (other ∷ others) seats filled h k same =
     let here : Ends setting now (entry ∷ entries) = ends setting window now entry entries seats h in
     let there : Ends setting now (other ∷ others) = ends setting window now other others seats k in
     let s : IsSameRest here.rest there.rest = same_rest now here.rest there.rest _ _ here.moves there.moves same in
-    same_game setting here.rest (after_from setting now (entry ∷ entries)) there.rest (after_from setting now (other ∷ others)) (followed setting here.rest) (followed setting there.rest) s here.last there.last
+    same_game setting here.rest (after_from setting now (entry ∷ entries)) there.rest (after_from setting now (other ∷ others))
+    (followed setting here.rest) (followed setting there.rest) s here.last there.last
     (same_followed setting here.rest there.rest s)
 
 pub order_is_free : OrderIsFree

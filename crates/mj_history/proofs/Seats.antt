@@ -47,7 +47,8 @@ different-append (first ∷ names) name h k =
     neither : (a b : Bool) → a ≡ false → b ≡ false → (a || (b || false)) ≡ false
     neither a b e f = rw (e, f) refl
 
-names-append : (names : List (List ℕ)) (name : List ℕ) → are_listed_names names ≡ true → is_name name ≡ true → list_any (λ other. bytes_eq other name) names ≡ false → are_listed_names (names ++ name ∷ []) ≡ true
+names-append : (names : List (List ℕ)) (name : List ℕ) → are_listed_names names ≡ true → is_name name ≡ true → list_any (λ other. bytes_eq other name)
+    names ≡ false → are_listed_names (names ++ name ∷ []) ≡ true
 names-append names name h good new =
     let parts = and_parts (list_all is_name names) (are_different names) h in
     and_from (list_all is_name (names ++ name ∷ [])) _
@@ -95,17 +96,20 @@ kept_seats chairs seat chair new e same s = record {
   named = ap are_listed_names (names_said chairs seat chair new e same) ∙ s.named;
 }
 
-said_seats : (rules : Rules) (now : After) (seat : ℕ) (answer : Answer) (held : Option Chair) → slice_get now.chairs seat ≡ held → AreSeats now.chairs → AreSeats (option_map_or (after_said rules now seat answer) held now).chairs
+said_seats : (rules : Rules) (now : After) (seat : ℕ) (answer : Answer) (held : Option Chair) → slice_get now.chairs seat ≡ held →
+    AreSeats now.chairs → AreSeats (option_map_or (after_said rules now seat answer) held now).chairs
 unfolding after_said
 said_seats rules now seat answer None e s = s
 said_seats rules now seat answer (Some chair) e s = kept_seats now.chairs seat chair _ e refl s
 
-gone_seats : (rules : Rules) (now : After) (seat : ℕ) (held : Option Chair) → slice_get now.chairs seat ≡ held → AreSeats now.chairs → AreSeats (option_map_or (after_gone rules now seat) held now).chairs
+gone_seats : (rules : Rules) (now : After) (seat : ℕ) (held : Option Chair) → slice_get now.chairs seat ≡ held → AreSeats now.chairs →
+    AreSeats (option_map_or (after_gone rules now seat) held now).chairs
 unfolding after_gone
 gone_seats rules now seat None e s = s
 gone_seats rules now seat (Some chair) e s = kept_seats now.chairs seat chair _ e refl s
 
-back_seats : (rules : Rules) (now : After) (author seat : ℕ) (held : Option Chair) → slice_get now.chairs seat ≡ held → AreSeats now.chairs → AreSeats (option_map_or (after_back rules now author seat) held now).chairs
+back_seats : (rules : Rules) (now : After) (author seat : ℕ) (held : Option Chair) → slice_get now.chairs seat ≡ held → AreSeats now.chairs →
+    AreSeats (option_map_or (after_back rules now author seat) held now).chairs
 unfolding after_back
 back_seats rules now author seat None e s = s
 back_seats rules now author seat (Some chair) e s = kept_seats now.chairs seat chair _ e refl s

@@ -25,13 +25,15 @@ use Rattle.mj_history.proofs.ToldCalls.{called_tells}
 use Rattle.mj_history.proofs.ToldPasses.{game_start_tells, hand_start_tells, open_kan_tells, closed_kan_tells, added_kan_tells, dora_tells, accepted_tells, later_win_tells, drawn_hand_tells, hand_end_tells}
 
 -- After a discard and an added kan, by who wins on the tile.
-discard_tells : (rules : Rules) (walls : List (List ℕ)) (ds : List Deed) (who tile : ℕ) (drawn : Bool) (given : Four Answer) (d : Deed) (winners : List ℕ) → newest ds ≡ Some (Discard who tile drawn) → AllLawful rules ds given →
+discard_tells : (rules : Rules) (walls : List (List ℕ)) (ds : List Deed) (who tile : ℕ) (drawn : Bool) (given : Four Answer) (d : Deed)
+    (winners : List ℕ) → newest ds ≡ Some (Discard who tile drawn) → AllLawful rules ds given →
     rons_on who given ≡ winners → follows rules walls ds (Discard who tile drawn) (decision_by (Discard who tile drawn) given) ≡ Some d → Tells rules walls ds (Discard who tile drawn) d
 discard_tells rules walls ds who tile drawn given d [] e c none gives = called_tells rules walls ds who tile drawn given d e c none gives
 discard_tells rules walls ds who tile drawn given d (x ∷ xs) e c won gives =
     won_tells rules walls ds (Discard who tile drawn) who given (λ y. call_or_pass (best_bid y)) x xs d e (discard_offers who tile drawn) (λ y. refl) c won gives
 
-added_tells : (rules : Rules) (walls : List (List ℕ)) (ds : List Deed) (who tile a b c : ℕ) (given : Four Answer) (d : Deed) (winners : List ℕ) → newest ds ≡ Some (AddedKan who tile a b c) → AllLawful rules ds given →
+added_tells : (rules : Rules) (walls : List (List ℕ)) (ds : List Deed) (who tile a b c : ℕ) (given : Four Answer) (d : Deed) (winners : List ℕ) →
+    newest ds ≡ Some (AddedKan who tile a b c) → AllLawful rules ds given →
     rons_on who given ≡ winners → follows rules walls ds (AddedKan who tile a b c) (decision_by (AddedKan who tile a b c) given) ≡ Some d → Tells rules walls ds (AddedKan who tile a b c) d
 added_tells rules walls ds who tile a b c given d [] e all none gives = added_kan_tells rules walls ds who tile a b c given d e none gives
 added_tells rules walls ds who tile a b c given d (x ∷ xs) e all won gives =
@@ -71,7 +73,8 @@ told_answers_give rules walls ds d whole played g = by_newest (newest ds) refl (
       gives = subst (λ (x : Option Deed). option_and_then (λ last. follows rules walls ds last (decision_by last (for_each_seat (told_of x d)))) x ≡ Some d) (sym e) gives;
     }
 
-    by_newest : (o : Option Deed) → newest ds ≡ o → IfAny (λ x. has_seats x ≡ true) o → option_and_then (λ last. follows rules walls ds last (decision_by last g.given)) o ≡ Some d → ToldGive rules walls ds d
+    by_newest : (o : Option Deed) → newest ds ≡ o → IfAny (λ x. has_seats x ≡ true) o →
+        option_and_then (λ last. follows rules walls ds last (decision_by last g.given)) o ≡ Some d → ToldGive rules walls ds d
     by_newest None e seated gives = cc
     by_newest (Some n) e seated gives =
         let t = tells rules walls ds g.given d n e seated g.lawful gives in

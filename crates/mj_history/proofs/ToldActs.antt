@@ -42,7 +42,8 @@ by_only rules wall ds n who d answer tells lawful gives = record {
 -- Of one winner on its own draw.
 one_winner : (who seat : ℕ) → wins_told (who ∷ []) who seat ≡ only_of who (answers.Win who who None) seat
 one_winner who seat = elim (cases_eq who seat) [
-  | inl e ↦ subst (λ s. wins_told (who ∷ []) who s ≡ only_of who (answers.Win who who None) s) e (ap (λ b. cond b (answers.Win who who None) (answers.Pass None)) (one who) ∙ sym (only_own who (answers.Win who who None)))
+  | inl e ↦ subst (λ s. wins_told (who ∷ []) who s ≡ only_of who (answers.Win who who None) s) e
+      (ap (λ b. cond b (answers.Win who who None) (answers.Pass None)) (one who) ∙ sym (only_own who (answers.Win who who None)))
   | inr ne ↦ ap (λ b. cond b (answers.Win seat who None) (answers.Pass None)) (none ne) ∙ sym (only_other who seat (answers.Win who who None) ne)
 ]
   where
@@ -53,7 +54,8 @@ one_winner who seat = elim (cases_eq who seat) [
     none ne = rw (ne_eqb who seat ne) refl
 
 -- What a seat does by its answer tells of that answer.
-does : (rules : Rules) (wall : List ℕ) (ds : List Deed) (n : Deed) (who : ℕ) (answer : Answer) (d : Deed) → newest ds ≡ Some n → own_seat n ≡ Some who → is_win n ≡ false → target_in who (turn_by n) ≡ who →
+does : (rules : Rules) (wall : List ℕ) (ds : List Deed) (n : Deed) (who : ℕ) (answer : Answer) (d : Deed) → newest ds ≡ Some n →
+    own_seat n ≡ Some who → is_win n ≡ false → target_in who (turn_by n) ≡ who →
     IsLawful rules ds who answer → own_act wall ds n who answer ≡ Some d → Does rules wall ds n who d
 unfolding win_shown draw_shown
 does rules wall ds n who (answers.Discard actor (Known t) drawn) d e own fresh target l given =
@@ -81,7 +83,8 @@ does rules wall ds n who (answers.NineKinds actor) d e own fresh target l given 
 does rules wall ds n who other d e own fresh target l given = cc
 
 -- So it tells where the answer of that seat decides, and every other may pass.
-acted : (rules : Rules) (walls : List (List ℕ)) (ds : List Deed) (n : Deed) (who : ℕ) (given : Four Answer) (d : Deed) → newest ds ≡ Some n → who < 4 → own_seat n ≡ Some who → is_win n ≡ false → target_in who (turn_by n) ≡ who →
+acted : (rules : Rules) (walls : List (List ℕ)) (ds : List Deed) (n : Deed) (who : ℕ) (given : Four Answer) (d : Deed) → newest ds ≡ Some n →
+    who < 4 → own_seat n ≡ Some who → is_win n ≡ false → target_in who (turn_by n) ≡ who →
     ((seat : ℕ) (accepted : Bool) → (who ≡ seat → ⊥) → is_open rules seat (turn_by n) accepted (answers.Pass None) ≡ true) →
     ((x : Four Answer) → follows rules walls ds n (decision_by n x) ≡ own_act (wall_now walls ds) ds n who (at_seat x who)) →
     AllLawful rules ds given → follows rules walls ds n (decision_by n given) ≡ Some d → Tells rules walls ds n d
@@ -97,7 +100,8 @@ acted rules walls ds n who given d e small own fresh target passes acts c gives 
     done = does rules (wall_now walls ds) ds n who (at_seat given who) d e own fresh target (lawful_at rules ds given who small c) (sym (acts given) ∙ gives)
 
 -- In the windows on a draw, a reach, a chi and a pon.
-pub draw_tells : (rules : Rules) (walls : List (List ℕ)) (ds : List Deed) (who tile : ℕ) (replacement : Bool) (given : Four Answer) (d : Deed) → newest ds ≡ Some (Draw who tile replacement) → who < 4 →
+pub draw_tells : (rules : Rules) (walls : List (List ℕ)) (ds : List Deed) (who tile : ℕ) (replacement : Bool) (given : Four Answer) (d : Deed) →
+    newest ds ≡ Some (Draw who tile replacement) → who < 4 →
     AllLawful rules ds given → follows rules walls ds (Draw who tile replacement) (decision_by (Draw who tile replacement) given) ≡ Some d → Tells rules walls ds (Draw who tile replacement) d
 draw_tells rules walls ds who tile replacement given d e small =
     acted rules walls ds (Draw who tile replacement) who given d e small refl refl refl (λ seat accepted ne. ap (λ b. cond b false true) (ne_eqb who seat ne)) (λ x. refl)

@@ -68,7 +68,8 @@ pass_is_lawful rules ds n seat e opens = record {
 }
 
 -- The answer of one seat alone is lawful where it is lawful for that and the others may pass.
-pub only_lawful : (rules : Rules) (ds : List Deed) (who : ℕ) (answer : Answer) (seat : ℕ) → IsLawful rules ds who answer → ((who ≡ seat → ⊥) → IsLawful rules ds seat (answers.Pass None)) → IsLawful rules ds seat (only_of who answer seat)
+pub only_lawful : (rules : Rules) (ds : List Deed) (who : ℕ) (answer : Answer) (seat : ℕ) → IsLawful rules ds who answer →
+    ((who ≡ seat → ⊥) → IsLawful rules ds seat (answers.Pass None)) → IsLawful rules ds seat (only_of who answer seat)
 only_lawful rules ds who answer seat own other = elim (cases_eq who seat) [
   | inl e ↦ subst (λ s. IsLawful rules ds s (only_of who answer s)) e (subst (IsLawful rules ds who) (sym (only_own who answer)) own)
   | inr ne ↦ subst (IsLawful rules ds seat) (sym (only_other who seat answer ne)) (other ne)
@@ -95,7 +96,8 @@ target_in seat (Discarded who tile) = who
 target_in seat (Added who tile) = who
 target_in seat other = seat
 
-hits_unnamed : (seat : ℕ) (view : SeatView) (target : ℕ) (tile : Option Pai) (turn : WindowTurn) → misses_winning seat view target tile turn ≡ false → misses_winning seat view (target_in seat turn) None turn ≡ false
+hits_unnamed : (seat : ℕ) (view : SeatView) (target : ℕ) (tile : Option Pai) (turn : WindowTurn) → misses_winning seat view target tile turn ≡ false →
+    misses_winning seat view (target_in seat turn) None turn ≡ false
 hits_unnamed seat view target tile (Drew who) h =
     ap (λ b. not b || option_map_or (λ drawn. is_other_tile drawn None) view.drawn true) (eq-eqb seat seat refl) ∙ some view.drawn (or_parts (not (target == seat)) _ h).1
   where
@@ -108,7 +110,8 @@ hits_unnamed seat view target tile (Reached who) h = cc
 hits_unnamed seat view target tile (Called who banned) h = cc
 hits_unnamed seat view target tile Nobodys h = cc
 
-win_opens : (rules : Rules) (seat : ℕ) (turn : WindowTurn) (accepted : Bool) (a t b u : ℕ) (p q : Option Pai) → is_open rules seat turn accepted (answers.Win a t p) ≡ is_open rules seat turn accepted (answers.Win b u q)
+win_opens : (rules : Rules) (seat : ℕ) (turn : WindowTurn) (accepted : Bool) (a t b u : ℕ) (p q : Option Pai) →
+    is_open rules seat turn accepted (answers.Win a t p) ≡ is_open rules seat turn accepted (answers.Win b u q)
 win_opens rules seat (Drew who) accepted a t b u p q = refl
 win_opens rules seat (Discarded who tile) accepted a t b u p q = refl
 win_opens rules seat (Added who tile) accepted a t b u p q = refl
@@ -124,8 +127,52 @@ unnamed rules seat view actor target tile h =
     let last = u.1.1.1.1.1.1.1.1.1.1.1.1.1.1.1.1.1.1.1.1 in
     let opens : not (is_open rules seat view.turn view.accepted (answers.Win seat (target_in seat view.turn) None)) ≡ false =
     ap not (win_opens rules seat view.turn view.accepted seat (target_in seat view.turn) actor target None tile) ∙ u.1.1.0 in
-    let each : AllNo (questions rules seat view (answers.Win seat (target_in seat view.turn) None)) =
-    (refl, (ap not (eq-eqb seat seat refl), (opens, (refl, (hits_unnamed seat view target tile view.turn u.1.1.1.1.0, (refl, (refl, (refl, (never view.accepted, (refl, (refl, (refl, (refl, (refl, (refl, (refl, (refl, (refl, (refl, (refl, (last.0, (last.1.0, (last.1.1.0, (refl, tt)))))))))))))))))))))))) in
+    let each : AllNo (questions rules seat view (answers.Win seat (target_in seat view.turn) None)) = (
+      refl,
+      (
+        ap not (eq-eqb seat seat refl),
+        (
+          opens,
+          (
+            refl,
+            (
+              hits_unnamed seat view target tile view.turn u.1.1.1.1.0,
+              (
+                refl,
+                (
+                  refl,
+                  (
+                    refl,
+                    (
+                      never view.accepted,
+                      (
+                        refl,
+                        (
+                          refl,
+                          (
+                            refl,
+                            (
+                              refl,
+                              (
+                                refl,
+                                (
+                                  refl,
+                                  (refl, (refl, (refl, (refl, (refl, (last.0, (last.1.0, (last.1.1.0, (refl, tt))))))))),
+                                ),
+                              ),
+                            ),
+                          ),
+                        ),
+                      ),
+                    ),
+                  ),
+                ),
+              ),
+            ),
+          ),
+        ),
+      ),
+    ) in
     none_broken (questions rules seat view (answers.Win seat (target_in seat view.turn) None)) each
   where
     never : (b : Bool) → (b && false) ≡ false
@@ -133,12 +180,14 @@ unnamed rules seat view actor target tile h =
     never false = refl
 
 -- A lawful win is lawful with its tile left unnamed.
-pub win_is_lawful : (rules : Rules) (ds : List Deed) (seat : ℕ) (answer : Answer) → IsLawful rules ds seat answer → is_win answer ≡ true → IsLawful rules ds seat (answers.Win seat (target_in seat (view_of ds seat).turn) None)
+pub win_is_lawful : (rules : Rules) (ds : List Deed) (seat : ℕ) (answer : Answer) → IsLawful rules ds seat answer → is_win answer ≡ true →
+    IsLawful rules ds seat (answers.Win seat (target_in seat (view_of ds seat).turn) None)
 win_is_lawful rules ds seat (answers.Win actor target tile) l h = record { form = refl; clean = unnamed rules seat (view_of ds seat) actor target tile l.clean }
 win_is_lawful rules ds seat other l h = cc
 
 -- The same where the window is told.
-pub win_in : (rules : Rules) (ds : List Deed) (n : Deed) (seat target : ℕ) (answer : Answer) → newest ds ≡ Some n → target_in seat (turn_by n) ≡ target → IsLawful rules ds seat answer → is_win answer ≡ true →
+pub win_in : (rules : Rules) (ds : List Deed) (n : Deed) (seat target : ℕ) (answer : Answer) → newest ds ≡ Some n →
+    target_in seat (turn_by n) ≡ target → IsLawful rules ds seat answer → is_win answer ≡ true →
     IsLawful rules ds seat (answers.Win seat target None)
 win_in rules ds n seat target answer e there l h =
     subst (λ t. IsLawful rules ds seat (answers.Win seat t None)) (ap (target_in seat) (turn_is ds seat n e) ∙ there) (win_is_lawful rules ds seat answer l h)

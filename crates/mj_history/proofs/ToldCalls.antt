@@ -181,19 +181,22 @@ unfolding accept
 behind rules wall ds who tile drawn bid e f = by_tests (option_map_or is_reach (before_newest (hand ds)) false) (reason rules.draws (hand ds)) (reason_is_nobodys rules.draws (hand ds))
   where
     by_tests : (r : Bool) (o : Option Reason) → IfAny IsNobodys o →
-        Behind rules ds (Discard who tile drawn) (λ b. cond r (accept ds who b) (option_map_or (drawn_hand ds) o (called_or_draw wall ds who b))) (cond r (accept ds who bid) (option_map_or (drawn_hand ds) o (called_or_draw wall ds who bid)))
+        Behind rules ds (Discard who tile drawn) (λ b. cond r (accept ds who b) (option_map_or (drawn_hand ds) o (called_or_draw wall ds who b)))
+        (cond r (accept ds who bid) (option_map_or (drawn_hand ds) o (called_or_draw wall ds who bid)))
     by_tests true o h = record { bid = bid; fine = f; tells = λ seat. refl; gives = refl }
     by_tests false (Some why) h = record { bid = bids.NoBid; fine = nothing_bid rules ds who tile drawn e; tells = λ seat. drawn_is_told (Some (Discard who tile drawn)) ds why seat h; gives = refl }
     by_tests false None h = called_behind rules wall ds who tile drawn bid f
 
-decided : (rules : Rules) (walls : List (List ℕ)) (ds : List Deed) (who tile : ℕ) (drawn : Bool) (bid : Bid) → follows rules walls ds (Discard who tile drawn) (call_or_pass bid) ≡ Some (behind_discard rules (wall_now walls ds) ds who bid)
+decided : (rules : Rules) (walls : List (List ℕ)) (ds : List Deed) (who tile : ℕ) (drawn : Bool) (bid : Bid) →
+    follows rules walls ds (Discard who tile drawn) (call_or_pass bid) ≡ Some (behind_discard rules (wall_now walls ds) ds who bid)
 decided rules walls ds who tile drawn bids.NoBid = refl
 decided rules walls ds who tile drawn (bids.Chi seat target t a b) = refl
 decided rules walls ds who tile drawn (bids.Pon seat target t a b) = refl
 decided rules walls ds who tile drawn (bids.OpenKan seat target t a b c) = refl
 
 -- By a bid that is told the deed comes.
-bid_gives : (rules : Rules) (walls : List (List ℕ)) (ds : List Deed) (who tile : ℕ) (drawn : Bool) (f : ℕ → Answer) (bid : Bid) → ((seat : ℕ) → f seat ≡ bid_told bid seat) → best_bid (for_each_seat (bid_told bid)) ≡ bid →
+bid_gives : (rules : Rules) (walls : List (List ℕ)) (ds : List Deed) (who tile : ℕ) (drawn : Bool) (f : ℕ → Answer) (bid : Bid) →
+    ((seat : ℕ) → f seat ≡ bid_told bid seat) → best_bid (for_each_seat (bid_told bid)) ≡ bid →
     follows rules walls ds (Discard who tile drawn) (decision_by (Discard who tile drawn) (for_each_seat f)) ≡ Some (behind_discard rules (wall_now walls ds) ds who bid)
 bid_gives rules walls ds who tile drawn f bid tells again =
     ap (λ r. follows rules walls ds (Discard who tile drawn) (rons_or r (call_or_pass (best_bid (for_each_seat f))))) (no_rons who f (λ seat. ap is_win (tells seat) ∙ no_win bid seat))
@@ -202,13 +205,15 @@ bid_gives rules walls ds who tile drawn f bid tells again =
     ∙ decided rules walls ds who tile drawn bid
 
 -- Where a discard is not won on, what comes after it tells of the call that was bid, if it matters.
-pub called_tells : (rules : Rules) (walls : List (List ℕ)) (ds : List Deed) (who tile : ℕ) (drawn : Bool) (given : Four Answer) (d : Deed) → newest ds ≡ Some (Discard who tile drawn) → AllLawful rules ds given →
+pub called_tells : (rules : Rules) (walls : List (List ℕ)) (ds : List Deed) (who tile : ℕ) (drawn : Bool) (given : Four Answer) (d : Deed) →
+    newest ds ≡ Some (Discard who tile drawn) → AllLawful rules ds given →
     rons_on who given ≡ [] → follows rules walls ds (Discard who tile drawn) (decision_by (Discard who tile drawn) given) ≡ Some d → Tells rules walls ds (Discard who tile drawn) d
 called_tells rules walls ds who tile drawn given d e c none gives =
     subst (Tells rules walls ds (Discard who tile drawn)) (some_is _ d (sym (decided rules walls ds who tile drawn (best_bid given)) ∙ without))
     (record {
       lawful = λ seat there. subst (IsLawful rules ds seat) (sym (told.tells seat)) (told.fine.lawful seat there);
-      gives = bid_gives rules walls ds who tile drawn (told_of (Some (Discard who tile drawn)) (behind_discard rules (wall_now walls ds) ds who (best_bid given))) told.bid told.tells told.fine.again ∙ ap (λ (x : Deed). Some x) told.gives;
+      gives = bid_gives rules walls ds who tile drawn (told_of (Some (Discard who tile drawn)) (behind_discard rules (wall_now walls ds) ds who
+          (best_bid given))) told.bid told.tells told.fine.again ∙ ap (λ (x : Deed). Some x) told.gives;
     })
   where
     without : follows rules walls ds (Discard who tile drawn) (call_or_pass (best_bid given)) ≡ Some d

@@ -63,7 +63,8 @@ unfolding hand_start
 game_start_tells rules walls ds names given d e gives = passed rules walls ds (StartGame names) given d e refl (λ x. refl) (λ seat. refl) gives
 
 pub hand_start_tells : (rules : Rules) (walls : List (List ℕ)) (ds : List Deed) (n : Deed) (dealer : ℕ) (given : Four Answer) (d : Deed) → newest ds ≡ Some n → turn_by n ≡ Nobodys →
-    ((x : Four Answer) → follows rules walls ds n (decision_by n x) ≡ after_pass rules walls (wall_now walls ds) ds n) → after_pass rules walls (wall_now walls ds) ds n ≡ Some (next_draw (wall_now walls ds) ds dealer) →
+    ((x : Four Answer) → follows rules walls ds n (decision_by n x) ≡ after_pass rules walls (wall_now walls ds) ds n) →
+    after_pass rules walls (wall_now walls ds) ds n ≡ Some (next_draw (wall_now walls ds) ds dealer) →
     follows rules walls ds n (decision_by n given) ≡ Some d → Tells rules walls ds n d
 hand_start_tells rules walls ds n dealer given d e turn passes is gives =
     passed rules walls ds n given d e turn passes (subst (IfAny (Silent n)) (sym is) (λ seat. draw_is_told (Some n) (wall_now walls ds) ds dealer seat)) gives
@@ -123,7 +124,8 @@ accepted_tells rules walls ds who said bid given d e gives =
 -- ends
 
 -- A later winner, or the end of the hand, after a win.
-pub later_win_tells : (rules : Rules) (walls : List (List ℕ)) (ds : List Deed) (n : Deed) (target tile : ℕ) (rest : List ℕ) (given : Four Answer) (d : Deed) → newest ds ≡ Some n → deed_facts.is_win n ≡ true → turn_by n ≡ Nobodys →
+pub later_win_tells : (rules : Rules) (walls : List (List ℕ)) (ds : List Deed) (n : Deed) (target tile : ℕ) (rest : List ℕ) (given : Four Answer)
+    (d : Deed) → newest ds ≡ Some n → deed_facts.is_win n ≡ true → turn_by n ≡ Nobodys →
     ((x : Four Answer) → follows rules walls ds n (decision_by n x) ≡ after_pass rules walls (wall_now walls ds) ds n) →
     after_pass rules walls (wall_now walls ds) ds n ≡ Some (next_winner (wall_now walls ds) ds target tile rest) → follows rules walls ds n (decision_by n given) ≡ Some d → Tells rules walls ds n d
 unfolding win_shown

@@ -133,7 +133,8 @@ pub added_offers : (who tile a b c : ℕ) → Offers (AddedKan who tile a b c) w
 added_offers who tile a b c = record { seat = refl; fresh = refl; target = λ seat. refl; passes = λ rules seat accepted. same (who == seat) }
 
 -- What the first win tells.
-win_is_told : (wall : List ℕ) (ds : List Deed) (n : Deed) (who x : ℕ) (xs : List ℕ) (seat : ℕ) → Offers n who → told_of (Some n) (win_deed wall ds x (seat_of n) (won_tile n) xs) seat ≡ wins_told (x ∷ xs) who seat
+win_is_told : (wall : List ℕ) (ds : List Deed) (n : Deed) (who x : ℕ) (xs : List ℕ) (seat : ℕ) → Offers n who →
+    told_of (Some n) (win_deed wall ds x (seat_of n) (won_tile n) xs) seat ≡ wins_told (x ∷ xs) who seat
 unfolding win_shown
 win_is_told wall ds n who x xs seat o =
     ap (λ b. cond b (answers.Pass None) (wins_told (x ∷ xs) (seat_of n) seat)) o.fresh ∙ ap (λ t. wins_told (x ∷ xs) t seat) o.seat
@@ -147,7 +148,8 @@ wins_lawful rules ds n who given seat e o c there = by_test (among (rons_on who 
     by_test false h = pass_is_lawful rules ds n seat e (λ accepted. o.passes rules seat accepted)
 
 -- Where a tile is won on, the win tells of all winners.
-pub won_tells : (rules : Rules) (walls : List (List ℕ)) (ds : List Deed) (n : Deed) (who : ℕ) (given : Four Answer) (other : Four Answer → Decision) (x : ℕ) (xs : List ℕ) (d : Deed) → newest ds ≡ Some n → Offers n who →
+pub won_tells : (rules : Rules) (walls : List (List ℕ)) (ds : List Deed) (n : Deed) (who : ℕ) (given : Four Answer) (other : Four Answer → Decision)
+    (x : ℕ) (xs : List ℕ) (d : Deed) → newest ds ≡ Some n → Offers n who →
     ((given : Four Answer) → decision_by n given ≡ rons_or (rons_on who given) (other given)) → AllLawful rules ds given → rons_on who given ≡ x ∷ xs →
     follows rules walls ds n (decision_by n given) ≡ Some d → Tells rules walls ds n d
 won_tells rules walls ds n who given other x xs d e o decides c won gives = record {

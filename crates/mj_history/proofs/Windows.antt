@@ -90,14 +90,17 @@ held_said n slots who answer v known empty seat small = elim (eqb_tells who seat
     own (Refused rule) = sym (append-nil (option_to_list (at_seat slots who)))
     own (Closing rule) = sym (append-nil (option_to_list (at_seat slots who)))
 
-said_holds : (rules : Rules) (now : After) (author who : ℕ) (answer : Answer) (held : Option Chair) → slice_get now.chairs who ≡ held → length now.chairs ≤ 4 → option_map_or (may_say now author) held false ≡ true → AreFilled now
+said_holds : (rules : Rules) (now : After) (author who : ℕ) (answer : Answer) (held : Option Chair) → slice_get now.chairs who ≡ held →
+    length now.chairs ≤ 4 → option_map_or (may_say now author) held false ≡ true → AreFilled now
     → Holds now.slots (option_map_or (after_said rules now who answer) held now).slots
-    (λ seat. if who == seat && length now.deeds == length now.deeds && option_map_or is_taken (option_map (λ (chair : Chair). verdict_on rules now.deeds who answer chair.progress) held) false then answer ∷ [] else [])
+    (λ seat. if who == seat && length now.deeds == length now.deeds && option_map_or is_taken
+    (option_map (λ (chair : Chair). verdict_on rules now.deeds who answer chair.progress) held) false then answer ∷ [] else [])
 unfolding after_said may_say
 said_holds rules now author who answer None e few may filled = cc
 said_holds rules now author who answer (Some chair) e few may filled =
     held_said (length now.deeds) now.slots who answer (verdict_on rules now.deeds who answer chair.progress) (below_four who (length now.chairs) (slice_get_within now.chairs who chair e) few)
-    (λ s. both (nat_lt chair.progress.due (length now.deeds)) (and_parts (is_present_by author chair) (nat_lt chair.progress.due (length now.deeds)) may).1 (past_at (length now.deeds) now.chairs now.slots who chair e few filled s))
+    (λ s. both (nat_lt chair.progress.due (length now.deeds)) (and_parts (is_present_by author chair) (nat_lt chair.progress.due (length now.deeds))
+    may).1 (past_at (length now.deeds) now.chairs now.slots who chair e few filled s))
   where
     both : (b : Bool) → b ≡ true → b ≡ false → ⊥
     both b h k = cc
@@ -116,7 +119,8 @@ own_holds : (setting : Setting) (now : After) (entry : Entry Answer) → is_perm
     → Holds now.slots (own_part setting now entry).slots (λ seat. taken setting (length now.deeds) seat now entry)
 unfolding own_part
 own_holds setting now (Sat author name key) p seats filled = as_before now.slots
-own_holds setting now (Said author who answer) p seats filled = said_holds setting.rules now author who answer (slice_get now.chairs who) refl seats.few (and_parts (is_in_form answer) (can_say now author who) p).1 filled
+own_holds setting now (Said author who answer) p seats filled = said_holds setting.rules now author who answer (slice_get now.chairs who) refl
+    seats.few (and_parts (is_in_form answer) (can_say now author who) p).1 filled
 own_holds setting now (Back author who) p seats filled = back_holds setting.rules now author who (slice_get now.chairs who)
 own_holds setting now (Gone author who) p seats filled = gone_holds setting.rules now who (slice_get now.chairs who)
 own_holds setting now (Expired author window t1 t2) p seats filled = as_before now.slots
@@ -129,7 +133,8 @@ longer n m h = ne_eqb n m (apart n m h)
     apart : (n m : ℕ) → n < m → n ≡ m → ⊥
     apart n m h e = omega arith
 
-given_same : (rules : Rules) (takes others : Takes) (deeds : List Deed) → ((seat : ℕ) → takes (length deeds) seat ≡ others (length deeds) seat) → given_by rules takes deeds ≡ given_by rules others deeds
+given_same : (rules : Rules) (takes others : Takes) (deeds : List Deed) → ((seat : ℕ) → takes (length deeds) seat ≡ others (length deeds) seat) →
+    given_by rules takes deeds ≡ given_by rules others deeds
 given_same rules takes others deeds same = λ i. for_each_seat (λ seat. unwrap_or (slice_get (same seat i) 0) (default_answer rules deeds seat))
 
 within : (deeds before later : List Deed) (deed : Deed) → deeds ≡ before ++ deed ∷ later → length before < length deeds
@@ -145,7 +150,8 @@ own_decided setting now entry takes p seats filled d = record {
   none = λ number seat past. (λ i. d.none number seat past i ++ elsewhere setting number seat now entry (longer (length now.deeds) number past) i);
   decided = λ before later deed some e.
       ap (outcome setting.rules setting.walls before) (given_same setting.rules (and_taken setting now entry takes) takes before (λ seat.
-      ap (λ (xs : List Answer). takes (length before) seat ++ xs) (elsewhere setting (length before) seat now entry (shorter (length now.deeds) (length before) (within now.deeds before later deed e))) ∙ append-nil (takes (length before) seat)))
+      ap (λ (xs : List Answer). takes (length before) seat ++ xs) (elsewhere setting (length before) seat now entry
+      (shorter (length now.deeds) (length before) (within now.deeds before later deed e))) ∙ append-nil (takes (length before) seat)))
       ∙ d.decided before later deed some e;
 }
   where
@@ -188,10 +194,12 @@ listed_first None answer = refl
 listed_first (Some said) answer = refl
 
 -- The answers in the slots are those that were taken.
-slots_given : (setting : Setting) (deeds : List Deed) (slots : Four (Option Answer)) (takes : Takes) → Decided setting deeds slots takes → answers_in setting.rules deeds slots ≡ given_by setting.rules takes deeds
+slots_given : (setting : Setting) (deeds : List Deed) (slots : Four (Option Answer)) (takes : Takes) → Decided setting deeds slots takes →
+    answers_in setting.rules deeds slots ≡ given_by setting.rules takes deeds
 slots_given setting deeds slots takes d = λ i. record { first = one 0 (omega arith) i; second = one 1 (omega arith) i; third = one 2 (omega arith) i; fourth = one 3 (omega arith) i }
   where
-    one : (seat : ℕ) → seat < 4 → unwrap_or (at_seat slots seat) (default_answer setting.rules deeds seat) ≡ unwrap_or (slice_get (takes (length deeds) seat) 0) (default_answer setting.rules deeds seat)
+    one : (seat : ℕ) → seat < 4 → unwrap_or (at_seat slots seat) (default_answer setting.rules deeds seat) ≡ unwrap_or
+        (slice_get (takes (length deeds) seat) 0) (default_answer setting.rules deeds seat)
     one seat small =
         listed_first (at_seat slots seat) (default_answer setting.rules deeds seat)
         ∙ ap (λ (xs : List Answer). unwrap_or (slice_get xs 0) (default_answer setting.rules deeds seat)) (d.slots seat small)
@@ -206,7 +214,8 @@ deed_decided setting deeds slots takes last d gives = record {
   none = λ number seat past. d.none number seat (further _ _ _ (length-append deeds (last ∷ [])) past);
   decided = λ before later deed some e. elim (last_or deeds last before deed later e) [
     | inl p ↦ subst (λ (ds : List Deed). outcome setting.rules setting.walls ds (given_by setting.rules takes ds) ≡ Some deed) (sym p.0)
-        (ap (outcome setting.rules setting.walls deeds) (sym (slots_given setting deeds slots takes d)) ∙ gives (subst (λ (ds : List Deed). 1 ≤ length ds) p.0 some) ∙ ap (λ (x : Deed). Some x) (sym p.1))
+        (ap (outcome setting.rules setting.walls deeds) (sym (slots_given setting deeds slots takes d))
+        ∙ gives (subst (λ (ds : List Deed). 1 ≤ length ds) p.0 some) ∙ ap (λ (x : Deed). Some x) (sym p.1))
     | inr p ↦ d.decided before p.0 deed some p.1
   ];
 }
@@ -214,7 +223,8 @@ deed_decided setting deeds slots takes last d gives = record {
     further : (n m k : ℕ) → n ≡ m + 1 → n < k → m < k
     further n m k e h = omega arith
 
-next_gives : (setting : Setting) (own : After) (entry : Entry Answer) (last : Deed) → next_deed setting own entry ≡ Some last → 1 ≤ length own.deeds → outcome setting.rules setting.walls own.deeds (answers_in setting.rules own.deeds own.slots) ≡ Some last
+next_gives : (setting : Setting) (own : After) (entry : Entry Answer) (last : Deed) → next_deed setting own entry ≡ Some last → 1 ≤ length own.deeds →
+    outcome setting.rules setting.walls own.deeds (answers_in setting.rules own.deeds own.slots) ≡ Some last
 unfolding next_deed
 next_gives setting own entry last e some = by_length (length own.deeds == 0) (is_window_closed own entry) (begun (length own.deeds) some) e
   where
@@ -225,7 +235,8 @@ next_gives setting own entry last e some = by_length (length own.deeds == 0) (is
         apart n h e = omega arith
 
     by_length : (b c : Bool) → b ≡ false
-        → (if b then (if length own.chairs == 4 then Some (StartGame (names_of own.chairs)) else None) else (if c then outcome setting.rules setting.walls own.deeds (answers_in setting.rules own.deeds own.slots) else None)) ≡ Some last
+        → (if b then (if length own.chairs == 4 then Some (StartGame (names_of own.chairs)) else None)
+        else (if c then outcome setting.rules setting.walls own.deeds (answers_in setting.rules own.deeds own.slots) else None)) ≡ Some last
         → outcome setting.rules setting.walls own.deeds (answers_in setting.rules own.deeds own.slots) ≡ Some last
     by_length true c h e = cc
     by_length false true h e = e
@@ -238,7 +249,8 @@ with_deed_decided setting own entry takes (Some last) e d = deed_decided setting
 
 -- a whole game
 
-step_decided : (setting : Setting) (now : After) (entry : Entry Answer) (takes : Takes) → is_permitted setting now entry ≡ true → AreSeats now.chairs → AreFilled now → Decided setting now.deeds now.slots takes
+step_decided : (setting : Setting) (now : After) (entry : Entry Answer) (takes : Takes) → is_permitted setting now entry ≡ true →
+    AreSeats now.chairs → AreFilled now → Decided setting now.deeds now.slots takes
     → Decided setting (step setting now entry).deeds (step setting now entry).slots (and_taken setting now entry takes)
 unfolding step
 step_decided setting now entry takes p seats filled d =
@@ -246,7 +258,8 @@ step_decided setting now entry takes p seats filled d =
     with_deed_decided setting own entry (and_taken setting now entry takes) (next_deed setting own entry) refl
     (subst (λ (ds : List Deed). Decided setting ds own.slots (and_taken setting now entry takes)) (sym (own_deeds setting now entry)) (own_decided setting now entry takes p seats filled d))
 
-game_decided : (setting : Setting) (now : After) (entries : List (Entry Answer)) (takes : Takes) → all_permitted setting now entries ≡ true → AreSeats now.chairs → AreFilled now → Decided setting now.deeds now.slots takes
+game_decided : (setting : Setting) (now : After) (entries : List (Entry Answer)) (takes : Takes) → all_permitted setting now entries ≡ true →
+    AreSeats now.chairs → AreFilled now → Decided setting now.deeds now.slots takes
     → Decided setting (after_from setting now entries).deeds (after_from setting now entries).slots (λ number seat. takes number seat ++ taken_from setting number seat now entries)
 game_decided setting now [] takes p seats filled d = subst (λ (t : Takes). Decided setting now.deeds now.slots t) (λ i number seat. sym (append-nil (takes number seat)) i) d
 game_decided setting now (entry ∷ entries) takes p seats filled d =

@@ -27,7 +27,8 @@ OneDeedAnEntry = (setting : Setting) (entries : List (Entry Answer)) (entry : En
 abbrev pub LawfulAnswersAreTaken : Type 0
 LawfulAnswersAreTaken =
     (setting : Setting) (entries : List (Entry Answer)) (author seat : ℕ) (answer : Answer) → can_say (after setting entries) author seat ≡ true →
-    due_at (after setting entries) seat + 1 ≡ length (after setting entries).deeds → IsLawful setting.rules (after setting entries).deeds seat answer → hears_of setting entries seat answer ≡ heard.Taken
+    due_at (after setting entries) seat + 1 ≡ length (after setting entries).deeds → IsLawful setting.rules (after setting entries).deeds seat answer
+    → hears_of setting entries seat answer ≡ heard.Taken
 
 -- Every join under a new name is given the next seat, as long as there is one and the game goes on. That `sit` of a core
 -- gives it, unless memory is wanting, is its clause.

@@ -1,14 +1,15 @@
 -- The laws by which a game is one that workers play by entries, over what it shows.
-use Rattle.std.specs.Prelude.{◌≡◌, ◌<◌, ℕ, ◌+◌, ◌==◌, if◌then◌else◌, List, [], ◌∷◌, ◌++◌, length, map, Option, Some, None}
+use Rattle.std.specs.Prelude.{◌≡◌, ◌<◌, ℕ, ◌+◌, ◌==◌, if◌then◌else◌, true, List, [], ◌∷◌, ◌++◌, length, map, Option, Some, None}
 use Rattle.mj_ports.specs.declared.entry.Entry.{Entry}
 use Rattle.mj_ports.specs.declared.entry.Entry.TheVariants.{Sat, Back, Said, Gone, Expired}
 use Rattle.mj_ports.specs.Entries.{is_sat, next_seat, IsAside}
+use Rattle.mj_ports.specs.SeatCalls.{IsRefused}
 use Rattle.mj_ports.specs.Seats.{Stays, StaysEnded, Unmoved, Begins, Answers, Leaves, Adds, script, hello, replay}
 use Rattle.mj_deeds.specs.declared.answer.Answer.{Answer}
 use Rattle.mj_wall.specs.declared.setting.Setting.{Setting}
 use Rattle.mj_history.specs.After.{Chair, Connection, connections}
 use Rattle.mj_history.specs.Legal.{IsLegal}
-use Rattle.mj_history.specs.Shown.{shown_of, hears_of, control_line}
+use Rattle.mj_history.specs.Shown.{shown_of, sits_of, hears_of, control_line}
 
 -- What was legal stays legal when later entries are left out.
 abbrev pub BeginningsAreLegal : Type 0
@@ -16,7 +17,8 @@ BeginningsAreLegal = (setting : Setting) (entries more : List (Entry Answer)) �
 
 -- Lines stay, and the game's end.
 abbrev pub LinesStay : Type 0
-LinesStay = (setting : Setting) (entries : List (Entry Answer)) (entry : Entry Answer) → IsLegal setting (entries ++ entry ∷ []) → Stays (shown_of setting entries) (shown_of setting (entries ++ entry ∷ []))
+LinesStay = (setting : Setting) (entries : List (Entry Answer)) (entry : Entry Answer) → IsLegal setting (entries ++ entry ∷ []) →
+    Stays (shown_of setting entries) (shown_of setting (entries ++ entry ∷ []))
 
 -- A connection that has ended is told nothing more.
 abbrev pub EndedConnectionsStay : Type 0
@@ -25,7 +27,8 @@ EndedConnectionsStay = (setting : Setting) (entries : List (Entry Answer)) (entr
 
 -- An entry of another author or seat leaves a present seat alone.
 abbrev pub OthersLeaveAlone : Type 0
-OthersLeaveAlone = (setting : Setting) (entries : List (Entry Answer)) (entry : Entry Answer) (author seat : ℕ) → IsLegal setting (entries ++ entry ∷ []) → (shown_of setting entries).present seat ≡ Some author →
+OthersLeaveAlone = (setting : Setting) (entries : List (Entry Answer)) (entry : Entry Answer) (author seat : ℕ) →
+    IsLegal setting (entries ++ entry ∷ []) → (shown_of setting entries).present seat ≡ Some author →
     IsAside author seat entries entry → Unmoved seat (shown_of setting entries) (shown_of setting (entries ++ entry ∷ []))
 
 -- A seat that is taken begins a connection with the hello line.
@@ -48,6 +51,10 @@ AnswersGoByVerdict = (setting : Setting) (entries : List (Entry Answer)) (author
 abbrev pub SeatsLeave : Type 0
 SeatsLeave = (setting : Setting) (entries : List (Entry Answer)) (author seat : ℕ) → IsLegal setting (entries ++ Gone author seat ∷ []) →
     Leaves seat (shown_of setting entries) (shown_of setting (entries ++ Gone author seat ∷ [])) × Adds seat [] (shown_of setting entries) (shown_of setting (entries ++ Gone author seat ∷ []))
+
+-- Once the game is over, each line that wants a seat is refused.
+abbrev pub SeatsAreClosed : Type 0
+SeatsAreClosed = (setting : Setting) (entries : List (Entry Answer)) (text : List ℕ) → (shown_of setting entries).over ≡ true → IsRefused (sits_of setting entries text)
 
 -- Where the connections of a seat began, by what the entries come to: the oldest first.
 abbrev pub places_at : Chair → List ℕ
@@ -72,4 +79,5 @@ begun_by seat entries = begun_from seat 0 0 entries
 
 -- The script of a connection, found by its place, is what the seat is told in it.
 abbrev pub ScriptsByPlace : Type 0
-ScriptsByPlace = (seat : ℕ) (setting : Setting) (entries : List (Entry Answer)) → IsLegal setting entries → map (script (shown_of setting entries)) (begun_by seat entries) ≡ connections seat setting entries
+ScriptsByPlace = (seat : ℕ) (setting : Setting) (entries : List (Entry Answer)) → IsLegal setting entries → map (script (shown_of setting entries))
+    (begun_by seat entries) ≡ connections seat setting entries

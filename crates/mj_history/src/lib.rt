@@ -5,7 +5,7 @@
 
 ghost use Rattle.mj_history.specs.Laws.{ReadGamesAreLegal, LegalGamesArePlayed, TakenAnswersAreLawful, OwnPartCanGoOn, NextDeedIsPlayed, LegalDeedsFit, NextDeedFits};
 ghost use Rattle.mj_history.specs.Told.{ToldAnswersGive, EachWinnerIsTold, NothingPlayed};
-ghost use Rattle.mj_history.specs.Seated.{BeginningsAreLegal, LinesStay, EndedConnectionsStay, OthersLeaveAlone, SeatsBegin, ReturnsBegin, AnswersGoByVerdict, SeatsLeave, ScriptsByPlace};
+ghost use Rattle.mj_history.specs.Seated.{BeginningsAreLegal, LinesStay, EndedConnectionsStay, OthersLeaveAlone, SeatsBegin, ReturnsBegin, AnswersGoByVerdict, SeatsLeave, SeatsAreClosed, ScriptsByPlace};
 ghost use Rattle.mj_history.specs.Arriving.{OneDeedAnEntry, LawfulAnswersAreTaken, NewNamesAreSeated, ExpiriesClose};
 ghost use Rattle.mj_history.specs.Edges.{FourStart, TheFourthStarts, ReturnsAreSeated};
 ghost use Rattle.mj_history.specs.Order.{OrderIsFree};
@@ -108,6 +108,11 @@ pub fn answers_go_by_verdict()
 /// A seat that is gone leaves, and its connection is told nothing but what was pending.
 pub fn seats_leave()
     ensures { SeatsLeave }
+{}
+
+/// Once the game is over, each line that wants a seat is refused.
+pub fn seats_are_closed()
+    ensures { SeatsAreClosed }
 {}
 
 /// An entry adds at most one deed.

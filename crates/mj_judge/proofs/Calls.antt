@@ -82,7 +82,8 @@ pub no_calls : (rules : Rules) (ds : List Deed) (seat who tile : ℕ) → may_ca
 no_calls rules ds seat who tile shut = calls_fail rules ds seat who tile (λ answer call. call_fails rules seat (view_of ds seat) answer shut call)
 
 -- A call of one's own discard is not open.
-own_call : (rules : Rules) (seat who tile : ℕ) (accepted : Bool) (answer : Answer) → not (who == seat) ≡ false → is_call_answer answer ≡ true → is_open rules seat (Discarded who tile) accepted answer ≡ false
+own_call : (rules : Rules) (seat who tile : ℕ) (accepted : Bool) (answer : Answer) → not (who == seat) ≡ false → is_call_answer answer ≡ true →
+    is_open rules seat (Discarded who tile) accepted answer ≡ false
 own_call rules seat who tile accepted answer own call = ap (λ b. cond b (is_pass answer) (is_pass_or_call answer)) (not-false (who == seat) own) ∙ no_pass answer call
   where
     no_pass : (answer : Answer) → is_call_answer answer ≡ true → is_pass answer ≡ false
@@ -106,7 +107,8 @@ no_own_calls rules ds seat shut = by_turn (view_of ds seat).turn refl shut
     by_turn Nobodys is h = refl
 
 -- A seat to which the turn offers neither a discard nor a win may pass alone.
-pub passes_alone : (rules : Rules) (ds : List Deed) (seat : ℕ) → is_discarding seat (view_of ds seat).turn ≡ false → is_winning seat (view_of ds seat).turn ≡ false → Pass None ∷ [] ≡ possible rules ds seat
+pub passes_alone : (rules : Rules) (ds : List Deed) (seat : ℕ) → is_discarding seat (view_of ds seat).turn ≡ false →
+    is_winning seat (view_of ds seat).turn ≡ false → Pass None ∷ [] ≡ possible rules ds seat
 passes_alone rules ds seat shut dull =
     let drawn = not_drawn (view_of ds seat).turn shut in
     all_tried rules ds seat [] [] [] [] [] [] [] [] (Pass None ∷ []) refl (sym (no_discards rules ds seat shut)) (sym (no_own_calls rules ds seat dull)) (sym (no_closed_kans rules ds seat drawn))

@@ -93,7 +93,8 @@ by_its_kind view face some =
     positive a b c d e f g = omega (arith, e, f, g)
 
 -- A kind that leaves the hand ready.
-pub some_ready : (view : SeatView) (counts room_left : List ℕ) (melds kind : ℕ) (result : Bool) → counts ≡ kind_counts (concealed view) → room_left ≡ room view → melds ≡ length view.melds → kind < 34 →
+pub some_ready : (view : SeatView) (counts room_left : List ℕ) (melds kind : ℕ) (result : Bool) → counts ≡ kind_counts (concealed view) →
+    room_left ≡ room view → melds ≡ length view.melds → kind < 34 →
     result ≡ leaves_ready counts room_left melds kind → result ≡ true → true ≡ list_any (is_ready_without view) (concealed view)
 some_ready view counts room_left melds kind result is beside made low told ready =
     sym (of_kind (is_ready_without view) kind (concealed view) (λ t some same. by_its_kind view t some ∙ ap (leaves_ready (kind_counts (concealed view)) (room view) (length view.melds)) same ∙ here)

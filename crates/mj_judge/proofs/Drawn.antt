@@ -48,7 +48,8 @@ added_where lawful answer old new is added = added ∙ ap (λ (b : Bool). old ++
 pub left_where : (lawful : Bool) (answer : Answer) (old new : List Answer) → lawful ≡ false → new ≡ old → new ≡ old ++ cond lawful (answer ∷ []) []
 left_where lawful answer old new is same = same ∙ sym (append-nil old) ∙ ap (λ (b : Bool). old ++ cond b (answer ∷ []) []) (sym is)
 
-pub one_refused : (rules : Rules) (ds : List Deed) (seat : ℕ) (answer : Answer) (old : List Answer) → is_lawful rules seat (view_of ds seat) answer ≡ false → old ≡ old ++ lawful_among rules ds seat (answer ∷ [])
+pub one_refused : (rules : Rules) (ds : List Deed) (seat : ℕ) (answer : Answer) (old : List Answer) → is_lawful rules seat (view_of ds seat) answer ≡
+    false → old ≡ old ++ lawful_among rules ds seat (answer ∷ [])
 one_refused rules ds seat answer old fails = one_asked rules ds seat answer false old old (sym fails) (sym (append-nil old))
 
 -- At the own draw the seat may discard, no kind is banned, and no reach is under way.
@@ -79,11 +80,14 @@ none_unready seat view Nobodys pai h = refl
 -- A discard at the own draw is lawful where there is such a tile, it is held, marked rightly, and the drawn one in riichi.
 drawn_discard : (rules : Rules) (seat : ℕ) (view : SeatView) (face : ℕ) (marked : Bool) → is_own_draw seat view.turn ≡ true →
     is_lawful rules seat view (Discard seat (Known face) marked)
-    ≡ (not (is_no_tile rules.red (Known face)) && (not (nat_lt (held_count view face) (number_in (face ∷ []) face)) && (not (is_wrongly_marked view (Known face) marked) && not (view.accepted && not marked))))
+    ≡ (not (is_no_tile rules.red (Known face)) && (not (nat_lt (held_count view face) (number_in (face ∷ []) face)) &&
+    (not (is_wrongly_marked view (Known face) marked) && not (view.accepted && not marked))))
 drawn_discard rules seat view face marked draws =
     discard_judged rules seat seat view (Known face) marked refl (discards_then seat view.turn draws)
     ∙ clean_is (drop 3 (questions rules seat view (Discard seat (Known face) marked)))
-    ∙ by_parts (is_no_tile rules.red (Known face)) (nat_lt (held_count view face) (number_in (face ∷ []) face)) (is_wrongly_marked view (Known face) marked) (view.accepted && not marked) (is_banned_tile (banned_in view.turn) (Known face)) (discards_unready view view.turn (Known face))
+    ∙ by_parts (is_no_tile rules.red (Known face)) (nat_lt (held_count view face) (number_in (face ∷ []) face))
+    (is_wrongly_marked view (Known face) marked) (view.accepted && not marked) (is_banned_tile (banned_in view.turn) (Known face))
+    (discards_unready view view.turn (Known face))
     (none_banned seat view.turn (Known face) draws) (none_unready seat view view.turn (Known face) draws)
   where
     by_parts : (a b c d e f : Bool) → e ≡ false → f ≡ false → (not (a || false) && (not (b || false) && (not c && (not d && (not e && (not f && true)))))) ≡ (not a && (not b && (not c && not d)))
@@ -98,16 +102,19 @@ one_in face = sum_by-cons (λ x. cond (eqb x face) 1 0) face [] ∙ ap (λ (b : 
 
 -- The answers of a face that is held, at the own draw.
 pub drawn_pushed : (rules : Rules) (ds : List Deed) (seat face held : ℕ) (marked locked plain : Bool) (old now new : List Answer) → is_own_draw seat (view_of ds seat).turn ≡ true →
-    held ≡ min (held_count (view_of ds seat) face) 4 → (held ≡ 0 → ⊥) → is_no_tile rules.red (Known face) ≡ false → marked ≡ is_that (view_of ds seat).drawn face → locked ≡ (view_of ds seat).accepted →
+    held ≡ min (held_count (view_of ds seat) face) 4 → (held ≡ 0 → ⊥) → is_no_tile rules.red (Known face) ≡ false →
+    marked ≡ is_that (view_of ds seat).drawn face → locked ≡ (view_of ds seat).accepted →
     plain ≡ (not (marked && held == 1) && not locked) → now ≡ old ++ cond plain (Discard seat (Known face) false ∷ []) [] → new ≡ now ++ cond marked (Discard seat (Known face) true ∷ []) [] →
     new ≡ old ++ lawful_among rules ds seat (discards_of seat face)
 drawn_pushed rules ds seat face held marked locked plain old now new draws is some known mark lock told first second =
     let view = view_of ds seat in
     added_after rules ds seat (Discard seat (Known face) false ∷ []) (Discard seat (Known face) true ∷ []) old now new
     (one_asked rules ds seat (Discard seat (Known face) false) plain old now
-    (told ∙ unmarked marked locked held (held_count view face) (number_in (face ∷ []) face) (is_no_tile rules.red (Known face)) (is_that view.drawn face) view.accepted known is some (one_in face) mark lock ∙ sym (drawn_discard rules seat view face false draws)) first)
+    (told ∙ unmarked marked locked held (held_count view face) (number_in (face ∷ []) face) (is_no_tile rules.red (Known face))
+    (is_that view.drawn face) view.accepted known is some (one_in face) mark lock ∙ sym (drawn_discard rules seat view face false draws)) first)
     (one_asked rules ds seat (Discard seat (Known face) true) marked now new
-    (drawn marked held (held_count view face) (number_in (face ∷ []) face) (is_no_tile rules.red (Known face)) (is_that view.drawn face) view.accepted known is some (one_in face) mark ∙ sym (drawn_discard rules seat view face true draws)) second)
+    (drawn marked held (held_count view face) (number_in (face ∷ []) face) (is_no_tile rules.red (Known face)) (is_that view.drawn face) view.accepted
+    known is some (one_in face) mark ∙ sym (drawn_discard rules seat view face true draws)) second)
   where
     enough : (held all one : ℕ) → held ≡ min all 4 → (held ≡ 0 → ⊥) → one ≡ 1 → nat_lt all one ≡ false
     enough held all one is some once = elim (cases_lt 0 all) [
@@ -160,15 +167,18 @@ own_reach rules seat Nobodys accepted h = absurd (false≢true h)
 
 -- It is lawful at the own draw of a hand that isn't in riichi, where no rule of reaches is broken.
 pub reach_judged : (rules : Rules) (seat : ℕ) (view : SeatView) → is_lawful rules seat view (Reach seat)
-    ≡ (is_own_draw seat view.turn && (not view.accepted && (not (is_reach_open view (Reach seat)) && (not (is_reach_poor view (Reach seat)) && (not (is_reach_late view (Reach seat)) && not (is_reach_unready view (Reach seat)))))))
+    ≡ (is_own_draw seat view.turn && (not view.accepted && (not (is_reach_open view (Reach seat)) && (not (is_reach_poor view (Reach seat)) &&
+    (not (is_reach_late view (Reach seat)) && not (is_reach_unready view (Reach seat)))))))
 unfolding is_lawful broken_by
 reach_judged rules seat view = by_draw (is_own_draw seat view.turn) refl
   where
     others : Bool
-    others = not view.accepted && (not (is_reach_open view (Reach seat)) && (not (is_reach_poor view (Reach seat)) && (not (is_reach_late view (Reach seat)) && not (is_reach_unready view (Reach seat)))))
+    others = not view.accepted && (not (is_reach_open view (Reach seat)) && (not (is_reach_poor view (Reach seat)) &&
+        (not (is_reach_late view (Reach seat)) && not (is_reach_unready view (Reach seat)))))
 
     by_parts : (own may accepted closed poor late ready : Bool) → own ≡ true → may ≡ not accepted →
-        (not (not own) && (not (not may) && (not (accepted && false) && (not closed && (not poor && (not late && (not ready && true))))))) ≡ (not accepted && (not closed && (not poor && (not late && not ready))))
+        (not (not own) && (not (not may) && (not (accepted && false) && (not closed && (not poor && (not late && (not ready && true))))))) ≡
+        (not accepted && (not closed && (not poor && (not late && not ready))))
     by_parts own may true closed poor late ready e f = λ i. not (not (e i)) && (not (not (f i)) && (not closed && (not poor && (not late && (not ready && true)))))
     by_parts own may false closed poor late ready e f = λ i. not (not (e i)) && (not (not (f i)) && (not closed && (not poor && (not late && and_true (not ready) i))))
 
@@ -176,7 +186,8 @@ reach_judged rules seat view = by_draw (is_own_draw seat view.turn) refl
     by_draw false shut = not_open rules seat view (Reach seat) (reach_shut rules seat view.turn view.accepted shut) ∙ sym (ap (λ b. b && others) shut)
     by_draw true draws =
         clean_is (questions rules seat view (Reach seat))
-        ∙ by_parts (seat == seat) (is_open rules seat view.turn view.accepted (Reach seat)) view.accepted (is_reach_open view (Reach seat)) (is_reach_poor view (Reach seat)) (is_reach_late view (Reach seat)) (is_reach_unready view (Reach seat))
+        ∙ by_parts (seat == seat) (is_open rules seat view.turn view.accepted (Reach seat)) view.accepted (is_reach_open view (Reach seat))
+        (is_reach_poor view (Reach seat)) (is_reach_late view (Reach seat)) (is_reach_unready view (Reach seat))
         (eq-eqb seat seat refl) (own_reach rules seat view.turn view.accepted draws)
         ∙ sym (ap (λ b. b && others) draws)
 
@@ -194,8 +205,17 @@ pub win_decided : (rules : Rules) (seat actor target : ℕ) (tile : Option Pai) 
 unfolding broken_by
 win_decided rules seat actor target tile view own offered =
     let asked : List (Bool × Rule) = questions rules seat view (Win actor target tile) in
-    sym (others_decide (take 3 asked) (drop 3 asked)
-    (refl, (ap not (eq-eqb actor seat own), (ap not (ap (λ (who : ℕ). is_open rules seat view.turn view.accepted (Win who target tile)) own ∙ win_open rules seat target tile view.turn view.accepted offered), tt))))
+    sym (others_decide (take 3 asked) (drop 3 asked) (
+      refl,
+      (
+        ap not (eq-eqb actor seat own),
+        (
+          ap not (ap (λ (who : ℕ). is_open rules seat view.turn view.accepted (Win who target tile)) own
+              ∙ win_open rules seat target tile view.turn view.accepted offered),
+          tt,
+        ),
+      ),
+    ))
 
 pub win_judged : (rules : Rules) (seat target : ℕ) (view : SeatView) → is_winning seat view.turn ≡ true →
     is_lawful rules seat view (Win seat target None) ≡ is_none (first_broken (drop 3 (questions rules seat view (Win seat target None))))

@@ -225,7 +225,8 @@ no_four rules ds seat a kind counted low same is few =
         (few_of (held_count (view_of ds seat) kind) (red_held (view_of ds seat) (red_of kind)) counted 3 (omega arith) is few)
 
 -- A list over faces of each of which nothing is lawful.
-none_joined : (rules : Rules) (ds : List Deed) (seat : ℕ) (f : ℕ → List Answer) (p : ℕ → Bool) (faces : List ℕ) → list_all p faces ≡ true → ((a : ℕ) → p a ≡ true → lawful_among rules ds seat (f a) ≡ []) →
+none_joined : (rules : Rules) (ds : List Deed) (seat : ℕ) (f : ℕ → List Answer) (p : ℕ → Bool) (faces : List ℕ) → list_all p faces ≡ true →
+    ((a : ℕ) → p a ≡ true → lawful_among rules ds seat (f a) ≡ []) →
     lawful_among rules ds seat (flat_map f faces) ≡ []
 unfolding lawful_among
 none_joined rules ds seat f p [] all each = refl

@@ -29,7 +29,8 @@ unfolding is_measured
 formed_of counts room sets h = (and_parts (list_all is_meld sets) (list_all (is_kind_within counts room sets) all_kinds) h).0
 
 -- Its room is that of its melds.
-pub room_of : (counts room : List ℕ) (melds : List Meld) (number : ℕ) (measured : Bool) → measured ≡ is_measured counts room (map set_of_meld melds) → measured ≡ true → number ≡ length melds → IsRoom room number
+pub room_of : (counts room : List ℕ) (melds : List Meld) (number : ℕ) (measured : Bool) → measured ≡ is_measured counts room (map set_of_meld melds) →
+    measured ≡ true → number ≡ length melds → IsRoom room number
 room_of counts room melds number measured told so many = record {
   sets = map set_of_meld melds;
   so_many = length_of melds ∙ sym many;

@@ -60,14 +60,16 @@ faces_pass : (rules : Rules) (ds : List Deed) (seat : ℕ) (f : ℕ → List Ans
     now ≡ old ++ lawful_among rules ds seat (flat_map f (take from tile_order)) → now ≡ old ++ lawful_among rules ds seat (flat_map f (take (from + number) tile_order))
 faces_pass rules ds seat f from number old now within none before =
     steps (λ n. now ≡ old ++ lawful_among rules ds seat (flat_map f (take n tile_order))) from number before
-    (λ i low high is. face_more rules ds seat f i (slice_index tile_order i) old now now (omega (arith, within, high)) refl is (none_added rules ds seat (f (slice_index tile_order i)) now (none i low high)))
+    (λ i low high is. face_more rules ds seat f i (slice_index tile_order i) old now now (omega (arith, within, high)) refl is
+    (none_added rules ds seat (f (slice_index tile_order i)) now (none i low high)))
 
 mapped_pass : (rules : Rules) (ds : List Deed) (seat : ℕ) (g : ℕ → Answer) (from number : ℕ) (old now : List Answer) → from + number ≤ 37 →
     ((i : ℕ) → from ≤ i → i < from + number → lawful_among rules ds seat (g (slice_index tile_order i) ∷ []) ≡ []) →
     now ≡ old ++ lawful_among rules ds seat (map g (take from tile_order)) → now ≡ old ++ lawful_among rules ds seat (map g (take (from + number) tile_order))
 mapped_pass rules ds seat g from number old now within none before =
     steps (λ n. now ≡ old ++ lawful_among rules ds seat (map g (take n tile_order))) from number before
-    (λ i low high is. mapped_more rules ds seat g i (slice_index tile_order i) old now now (omega (arith, within, high)) refl is (none_added rules ds seat (g (slice_index tile_order i) ∷ []) now (none i low high)))
+    (λ i low high is. mapped_more rules ds seat g i (slice_index tile_order i) old now now (omega (arith, within, high)) refl is
+    (none_added rules ds seat (g (slice_index tile_order i) ∷ []) now (none i low high)))
 
 from_none : (n : ℕ) → 0 + n ≡ n
 from_none n = omega arith
@@ -103,7 +105,8 @@ chi_start rules ds seat who tile a first old within far =
 
 pub chi_end : (rules : Rules) (ds : List Deed) (seat who tile a last place : ℕ) (old now : List Answer) → last ≤ place → place ≤ 37 →
     ((i : ℕ) → last ≤ i → i < 37 → is_near tile (slice_index tile_order i) ≡ false) →
-    now ≡ old ++ lawful_among rules ds seat (map (λ b. Chi seat who (Known tile) (Known a) (Known b)) (take place tile_order)) → now ≡ old ++ lawful_among rules ds seat (map (λ b. Chi seat who (Known tile) (Known a) (Known b)) tile_order)
+    now ≡ old ++ lawful_among rules ds seat (map (λ b. Chi seat who (Known tile) (Known a) (Known b)) (take place tile_order)) →
+    now ≡ old ++ lawful_among rules ds seat (map (λ b. Chi seat who (Known tile) (Known a) (Known b)) tile_order)
 chi_end rules ds seat who tile a last place old now past within far is =
     let chi : ℕ → Answer = λ b. Chi seat who (Known tile) (Known a) (Known b) in
     mapped_end rules ds seat chi (place + (37 - place)) old now (omega (arith, within))

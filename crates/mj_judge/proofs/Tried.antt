@@ -41,7 +41,8 @@ none_pass p (x ∷ xs) fail =
 
 one_fails : (rules : Rules) (ds : List Deed) (seat : ℕ) (answer : Answer) → Fails rules seat (view_of ds seat) answer → lawful_among rules ds seat (answer ∷ []) ≡ []
 unfolding lawful_among
-one_fails rules ds seat answer fails = none_pass (is_lawful rules seat (view_of ds seat)) (answer ∷ []) (All-cons (Fails rules seat (view_of ds seat)) answer [] fails (All-nil (Fails rules seat (view_of ds seat))))
+one_fails rules ds seat answer fails = none_pass (is_lawful rules seat (view_of ds seat)) (answer ∷ []) (All-cons (Fails rules seat (view_of ds seat))
+    answer [] fails (All-nil (Fails rules seat (view_of ds seat))))
 
 -- It is not open to the seat.
 pub not_open : (rules : Rules) (seat : ℕ) (view : SeatView) (answer : Answer) → is_open rules seat view.turn view.accepted answer ≡ false → Fails rules seat view answer
@@ -54,7 +55,8 @@ both_false true = refl
 both_false false = refl
 
 -- A discard is not where the seat may not discard.
-discard_shut : (rules : Rules) (seat : ℕ) (turn : WindowTurn) (accepted : Bool) (face : ℕ) (drawn : Bool) → is_discarding seat turn ≡ false → is_open rules seat turn accepted (Discard seat (Known face) drawn) ≡ false
+discard_shut : (rules : Rules) (seat : ℕ) (turn : WindowTurn) (accepted : Bool) (face : ℕ) (drawn : Bool) → is_discarding seat turn ≡ false →
+    is_open rules seat turn accepted (Discard seat (Known face) drawn) ≡ false
 discard_shut rules seat (Drew who) accepted face drawn h = ap (λ b. cond b true false) h
 discard_shut rules seat (Reached who) accepted face drawn h = ap (λ b. cond b true false) h
 discard_shut rules seat (Called who banned) accepted face drawn h = ap (λ b. cond b true false) h
@@ -63,7 +65,8 @@ discard_shut rules seat (Added who tile) accepted face drawn h = both_false (who
 discard_shut rules seat Nobodys accepted face drawn h = refl
 
 -- Nor is a kan of one's own tiles but at one's own draw.
-closed_shut : (rules : Rules) (seat : ℕ) (turn : WindowTurn) (accepted : Bool) (a b c d : ℕ) → is_own_draw seat turn ≡ false → is_open rules seat turn accepted (ClosedKan seat (Known a) (Known b) (Known c) (Known d)) ≡ false
+closed_shut : (rules : Rules) (seat : ℕ) (turn : WindowTurn) (accepted : Bool) (a b c d : ℕ) → is_own_draw seat turn ≡ false →
+    is_open rules seat turn accepted (ClosedKan seat (Known a) (Known b) (Known c) (Known d)) ≡ false
 closed_shut rules seat (Drew who) accepted a b c d h = ap (λ b. cond b true false) h
 closed_shut rules seat (Reached who) accepted a b c d h = both_false (who == seat)
 closed_shut rules seat (Called who banned) accepted a b c d h = both_false (who == seat)
@@ -71,7 +74,8 @@ closed_shut rules seat (Discarded who tile) accepted a b c d h = both_false (who
 closed_shut rules seat (Added who tile) accepted a b c d h = both_false (who == seat)
 closed_shut rules seat Nobodys accepted a b c d h = refl
 
-added_shut : (rules : Rules) (seat : ℕ) (turn : WindowTurn) (accepted : Bool) (face a b c : ℕ) → is_own_draw seat turn ≡ false → is_open rules seat turn accepted (AddedKan seat (Known face) (Known a) (Known b) (Known c)) ≡ false
+added_shut : (rules : Rules) (seat : ℕ) (turn : WindowTurn) (accepted : Bool) (face a b c : ℕ) → is_own_draw seat turn ≡ false →
+    is_open rules seat turn accepted (AddedKan seat (Known face) (Known a) (Known b) (Known c)) ≡ false
 added_shut rules seat (Drew who) accepted face a b c h = ap (λ b. cond b true false) h
 added_shut rules seat (Reached who) accepted face a b c h = both_false (who == seat)
 added_shut rules seat (Called who banned) accepted face a b c h = both_false (who == seat)
@@ -111,9 +115,11 @@ pub no_wins : (rules : Rules) (ds : List Deed) (seat : ℕ) → is_winning seat 
 unfolding lawful_among
 no_wins rules ds seat shut = by_turn (view_of ds seat).turn refl shut
   where
-    fails : (who : ℕ) (turn : WindowTurn) → (view_of ds seat).turn ≡ turn → is_open rules seat turn (view_of ds seat).accepted (Win seat who None) ≡ false → lawful_among rules ds seat (Win seat who None ∷ []) ≡ []
+    fails : (who : ℕ) (turn : WindowTurn) → (view_of ds seat).turn ≡ turn → is_open rules seat turn (view_of ds seat).accepted (Win seat who None) ≡
+        false → lawful_among rules ds seat (Win seat who None ∷ []) ≡ []
     fails who turn is closed =
-        one_fails rules ds seat (Win seat who None) (not_open rules seat (view_of ds seat) (Win seat who None) (ap (λ (t : WindowTurn). is_open rules seat t (view_of ds seat).accepted (Win seat who None)) is ∙ closed))
+        one_fails rules ds seat (Win seat who None) (not_open rules seat (view_of ds seat) (Win seat who None)
+        (ap (λ (t : WindowTurn). is_open rules seat t (view_of ds seat).accepted (Win seat who None)) is ∙ closed))
 
     own_alone : (b : Bool) → not b ≡ false → cond b false true ≡ false
     own_alone b h = ap (λ c. cond c false true) (not-false b h)
@@ -165,7 +171,8 @@ pass_unbroken rules seat view h = none_of (broken_by rules seat view (Pass None)
     none_of (Some rule) h = absurd (false≢true h)
 
 -- A discard that is open to the seat breaks at most a rule that comes after.
-discard_open : (rules : Rules) (seat : ℕ) (turn : WindowTurn) (accepted : Bool) (face : Pai) (drawn : Bool) → is_discarding seat turn ≡ true → is_open rules seat turn accepted (Discard seat face drawn) ≡ true
+discard_open : (rules : Rules) (seat : ℕ) (turn : WindowTurn) (accepted : Bool) (face : Pai) (drawn : Bool) → is_discarding seat turn ≡ true →
+    is_open rules seat turn accepted (Discard seat face drawn) ≡ true
 discard_open rules seat (Drew who) accepted face drawn h = ap (λ b. cond b true false) h
 discard_open rules seat (Reached who) accepted face drawn h = ap (λ b. cond b true false) h
 discard_open rules seat (Called who banned) accepted face drawn h = ap (λ b. cond b true false) h
@@ -179,8 +186,17 @@ pub discard_decided : (rules : Rules) (seat actor : ℕ) (view : SeatView) (tile
 unfolding broken_by
 discard_decided rules seat actor view tile drawn own may =
     let asked : List (Bool × Rule) = questions rules seat view (Discard actor tile drawn) in
-    sym (others_decide (take 3 asked) (drop 3 asked)
-    (refl, (ap not (eq-eqb actor seat own), (ap not (ap (λ (who : ℕ). is_open rules seat view.turn view.accepted (Discard who tile drawn)) own ∙ discard_open rules seat view.turn view.accepted tile drawn may), tt))))
+    sym (others_decide (take 3 asked) (drop 3 asked) (
+      refl,
+      (
+        ap not (eq-eqb actor seat own),
+        (
+          ap not (ap (λ (who : ℕ). is_open rules seat view.turn view.accepted (Discard who tile drawn)) own
+              ∙ discard_open rules seat view.turn view.accepted tile drawn may),
+          tt,
+        ),
+      ),
+    ))
 
 pub discard_judged : (rules : Rules) (seat actor : ℕ) (view : SeatView) (tile : Pai) (drawn : Bool) → actor ≡ seat → is_discarding seat view.turn ≡ true →
     is_lawful rules seat view (Discard actor tile drawn) ≡ is_none (first_broken (drop 3 (questions rules seat view (Discard actor tile drawn))))
@@ -204,13 +220,15 @@ no_closed_kans rules ds seat shut =
     let view = view_of ds seat in
     none_pass (is_lawful rules seat view) (flat_map (λ a. closed_kans_of seat a (faces_of (kind_of a))) tile_order)
     (all_joined (Fails rules seat view) (λ a. closed_kans_of seat a (faces_of (kind_of a))) tile_order
-    (λ a. all_joined (Fails rules seat view) (λ b. flat_map (λ c. map (λ d. ClosedKan seat (Known a) (Known b) (Known c) (Known d)) (faces_of (kind_of a))) (faces_of (kind_of a))) (faces_of (kind_of a))
+    (λ a. all_joined (Fails rules seat view) (λ b. flat_map (λ c. map (λ d. ClosedKan seat (Known a) (Known b) (Known c) (Known d))
+    (faces_of (kind_of a))) (faces_of (kind_of a))) (faces_of (kind_of a))
     (λ b. all_joined (Fails rules seat view) (λ c. map (λ d. ClosedKan seat (Known a) (Known b) (Known c) (Known d)) (faces_of (kind_of a))) (faces_of (kind_of a))
     (λ c. all_mapped (Fails rules seat view) (λ d. ClosedKan seat (Known a) (Known b) (Known c) (Known d)) (faces_of (kind_of a))
     (λ d. not_open rules seat view (ClosedKan seat (Known a) (Known b) (Known c) (Known d)) (closed_shut rules seat view.turn view.accepted a b c d shut))))))
 
 -- The kans by adding a tile of a face, where each fails.
-added_fail : (rules : Rules) (seat : ℕ) (view : SeatView) (face : ℕ) (melds : List Meld) → ((meld : Meld) → Fails rules seat view (AddedKan seat (Known face) (Known meld.a) (Known meld.b) (Known meld.c))) →
+added_fail : (rules : Rules) (seat : ℕ) (view : SeatView) (face : ℕ) (melds : List Meld) →
+    ((meld : Meld) → Fails rules seat view (AddedKan seat (Known face) (Known meld.a) (Known meld.b) (Known meld.c))) →
     All (Fails rules seat view) (added_kans_of seat face melds)
 added_fail rules seat view face melds each =
     All-map (Fails rules seat view) (λ (meld : Meld). AddedKan seat (Known face) (Known meld.a) (Known meld.b) (Known meld.c)) melds
@@ -418,7 +436,8 @@ few_held got gone counted is few = few_of (got - gone) counted is few
     few_of : (n m : ℕ) → m ≡ min n 4 → m < 3 → n < 3
     few_of n m e h = omega (arith, e, h)
 
-pub no_plain_kan : (rules : Rules) (ds : List Deed) (seat a plain : ℕ) → held_count (view_of ds seat) plain < 3 → lawful_among rules ds seat (ClosedKan seat (Known a) (Known plain) (Known plain) (Known plain) ∷ []) ≡ []
+pub no_plain_kan : (rules : Rules) (ds : List Deed) (seat a plain : ℕ) → held_count (view_of ds seat) plain < 3 →
+    lawful_among rules ds seat (ClosedKan seat (Known a) (Known plain) (Known plain) (Known plain) ∷ []) ≡ []
 no_plain_kan rules ds seat a plain few = one_fails rules ds seat (ClosedKan seat (Known a) (Known plain) (Known plain) (Known plain)) (not_held-plain rules seat (view_of ds seat) a plain few)
 
 pub no_closed_kans_of : (rules : Rules) (ds : List Deed) (seat a : ℕ) (faces : List ℕ) → held_count (view_of ds seat) a ≡ 0 → lawful_among rules ds seat (closed_kans_of seat a faces) ≡ []
@@ -448,7 +467,8 @@ nothing_added rules ds seat old = sym (append-nil old)
 
 -- a meld that is no triplet, and one that is
 
-pub no_triplet : (rules : Rules) (ds : List Deed) (seat face : ℕ) (meld : Meld) → is_pon meld.form ≡ false → lawful_among rules ds seat (added_kans_of seat face (filter (λ (m : Meld). is_pon m.form) (meld ∷ []))) ≡ []
+pub no_triplet : (rules : Rules) (ds : List Deed) (seat face : ℕ) (meld : Meld) → is_pon meld.form ≡ false →
+    lawful_among rules ds seat (added_kans_of seat face (filter (λ (m : Meld). is_pon m.form) (meld ∷ []))) ≡ []
 unfolding lawful_among
 no_triplet rules ds seat face meld other = ap (λ b. filter (is_lawful rules seat (view_of ds seat)) (added_kans_of seat face (cond b (meld ∷ []) []))) other
 
@@ -459,10 +479,12 @@ one_triplet rules ds seat face meld old new pon added = added ∙ ap (λ b. old 
 
 -- a pass before the others
 
-pub pass_fails : (rules : Rules) (ds : List Deed) (seat : ℕ) (others : List Answer) → is_lawful rules seat (view_of ds seat) (Pass None) ≡ false → others ≡ lawful_among rules ds seat (Pass None ∷ []) ++ others
+pub pass_fails : (rules : Rules) (ds : List Deed) (seat : ℕ) (others : List Answer) → is_lawful rules seat (view_of ds seat) (Pass None) ≡ false →
+    others ≡ lawful_among rules ds seat (Pass None ∷ []) ++ others
 pass_fails rules ds seat others fails = sym (ap (λ xs. xs ++ others) (one_fails rules ds seat (Pass None) fails))
 
-pub pass_stands : (rules : Rules) (ds : List Deed) (seat : ℕ) (others : List Answer) → is_lawful rules seat (view_of ds seat) (Pass None) ≡ true → Pass None ∷ others ≡ lawful_among rules ds seat (Pass None ∷ []) ++ others
+pub pass_stands : (rules : Rules) (ds : List Deed) (seat : ℕ) (others : List Answer) → is_lawful rules seat (view_of ds seat) (Pass None) ≡ true →
+    Pass None ∷ others ≡ lawful_among rules ds seat (Pass None ∷ []) ++ others
 unfolding lawful_among
 pass_stands rules ds seat others lawful = ap (λ b. cond b (Pass None ∷ []) [] ++ others) (sym lawful)
 
@@ -470,7 +492,8 @@ empty : (xs : List Answer) → length xs ≡ 0 → xs ≡ []
 empty [] h = refl
 empty (x ∷ xs) h = absurd (omega (arith, h))
 
-pub pass_alone : (rules : Rules) (ds : List Deed) (seat : ℕ) (others : List Answer) → is_lawful rules seat (view_of ds seat) (Pass None) ≡ true → length others ≡ 0 → Pass None ∷ [] ≡ lawful_among rules ds seat (Pass None ∷ []) ++ others
+pub pass_alone : (rules : Rules) (ds : List Deed) (seat : ℕ) (others : List Answer) → is_lawful rules seat (view_of ds seat) (Pass None) ≡ true →
+    length others ≡ 0 → Pass None ∷ [] ≡ lawful_among rules ds seat (Pass None ∷ []) ++ others
 pass_alone rules ds seat others lawful none = ap (λ xs. Pass None ∷ xs) (sym (empty others none)) ∙ pass_stands rules ds seat others lawful
 
 -- one list after another
@@ -479,7 +502,8 @@ pub lawful-append : (rules : Rules) (ds : List Deed) (seat : ℕ) (xs ys : List 
 unfolding lawful_among
 lawful-append rules ds seat xs ys = filter-append (is_lawful rules seat (view_of ds seat)) xs ys
 
-pub added_after : (rules : Rules) (ds : List Deed) (seat : ℕ) (xs ys old now new : List Answer) → now ≡ old ++ lawful_among rules ds seat xs → new ≡ now ++ lawful_among rules ds seat ys → new ≡ old ++ lawful_among rules ds seat (xs ++ ys)
+pub added_after : (rules : Rules) (ds : List Deed) (seat : ℕ) (xs ys old now new : List Answer) → now ≡ old ++ lawful_among rules ds seat xs →
+    new ≡ now ++ lawful_among rules ds seat ys → new ≡ old ++ lawful_among rules ds seat (xs ++ ys)
 added_after rules ds seat xs ys old now new first second =
     second ∙ ap (λ zs. zs ++ lawful_among rules ds seat ys) first
     ∙ append_assoc old (lawful_among rules ds seat xs) (lawful_among rules ds seat ys)
@@ -573,12 +597,14 @@ both_faces kind face red low is some = faces_are kind low ∙ ap (λ (o : Option
 
 -- What is tried of a list of faces, where they are those of a kind.
 
-pub of_plain : (rules : Rules) (ds : List Deed) (seat : ℕ) (f : List ℕ → List Answer) (kind plain : ℕ) (red : Option ℕ) (tried old new : List Answer) → kind < 34 → plain ≡ kind → red ≡ red_of kind → red ≡ None →
+pub of_plain : (rules : Rules) (ds : List Deed) (seat : ℕ) (f : List ℕ → List Answer) (kind plain : ℕ) (red : Option ℕ) (tried old new : List Answer)
+    → kind < 34 → plain ≡ kind → red ≡ red_of kind → red ≡ None →
     tried ≡ f (plain ∷ []) → new ≡ old ++ lawful_among rules ds seat tried → new ≡ old ++ lawful_among rules ds seat (f (faces_of kind))
 of_plain rules ds seat f kind plain red tried old new low same is none are added =
     added ∙ ap (λ xs. old ++ lawful_among rules ds seat xs) (are ∙ ap (λ (face : ℕ). f (face ∷ [])) same ∙ ap f (sym (plain_faces kind red low is none)))
 
-pub of_both : (rules : Rules) (ds : List Deed) (seat : ℕ) (f : List ℕ → List Answer) (kind plain face : ℕ) (red : Option ℕ) (tried old new : List Answer) → kind < 34 → plain ≡ kind → red ≡ red_of kind → red ≡ Some face →
+pub of_both : (rules : Rules) (ds : List Deed) (seat : ℕ) (f : List ℕ → List Answer) (kind plain face : ℕ) (red : Option ℕ)
+    (tried old new : List Answer) → kind < 34 → plain ≡ kind → red ≡ red_of kind → red ≡ Some face →
     tried ≡ f (plain ∷ face ∷ []) → new ≡ old ++ lawful_among rules ds seat tried → new ≡ old ++ lawful_among rules ds seat (f (faces_of kind))
 of_both rules ds seat f kind plain face red tried old new low same is some are added =
     added ∙ ap (λ xs. old ++ lawful_among rules ds seat xs) (are ∙ ap (λ (first : ℕ). f (first ∷ face ∷ [])) same ∙ ap f (sym (both_faces kind face red low is some)))

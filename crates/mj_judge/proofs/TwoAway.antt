@@ -138,7 +138,8 @@ ready_misses counts room melds size is_room within ready = by_wait (found_in (is
 
         at_most : missing (one_more counts f.kind) counts ≤ 1
         at_most =
-            let a = one_nearer f.kind (one_more counts f.kind) counts (one_more counts f.kind) (size ∙ sym whole) (λ k inside. (let b = one_more_at counts f.kind k (let l = f.low in omega arith) in omega arith)) in
+            let a = one_nearer f.kind (one_more counts f.kind) counts (one_more counts f.kind) (size ∙ sym whole)
+            (λ k inside. (let b = one_more_at counts f.kind k (let l = f.low in omega arith) in omega arith)) in
             let c = itself (one_more counts f.kind) in
             omega arith
 
@@ -206,8 +207,18 @@ some_over (x ∷ t) [] size = absurd (omega arith)
 some_over (x ∷ t) (y ∷ h) size = by_head (cases_lt x y) (some_over t h (omega (arith, size)))
   where
     by_head : (x < y) ⊎ (y ≤ x) → Over t h ⊎ (missing t h + sum h ≡ sum t) → Over (x ∷ t) (y ∷ h) ⊎ (missing (x ∷ t) (y ∷ h) + sum (y ∷ h) ≡ sum (x ∷ t))
-    by_head (inl less) rest = inl (record { at = 0; inside = omega arith; held = (let h0 : 0 < y = omega (arith, less) in h0); near = (let n : (x - (y - 1)) + missing t h ≤ (x - y) + missing t h = omega (arith, less) in n) })
-    by_head (inr most) (inl o) = inl (record { at = suc o.at; inside = (let i = o.inside in omega arith); held = o.held; near = (let n = o.near in let m : (x - y) + missing t (one_less h o.at) ≤ (x - y) + missing t h = omega (arith, n) in m) })
+    by_head (inl less) rest = inl (record {
+      at = 0;
+      inside = omega arith;
+      held = (let h0 : 0 < y = omega (arith, less) in h0);
+      near = (let n : (x - (y - 1)) + missing t h ≤ (x - y) + missing t h = omega (arith, less) in n);
+    })
+    by_head (inr most) (inl o) = inl (record {
+      at = suc o.at;
+      inside = (let i = o.inside in omega arith);
+      held = o.held;
+      near = (let n = o.near in let m : (x - y) + missing t (one_less h o.at) ≤ (x - y) + missing t h = omega (arith, n) in m);
+    })
     by_head (inr most) (inr e) = inr (let a = sum-cons x t in let b = sum-cons y h in let n : (x - y) + missing t h + sum (y ∷ h) ≡ sum (x ∷ t) = omega (arith, a, b, e, most) in n)
 
 -- A tile that is held.

@@ -23,10 +23,12 @@ one_of_list (rule ∷ list) others broken h = by_test rule.0 h (one_of_list list
     by_test false k later = later k
 
 -- One question more after a list.
-pub broken_before : (list : List (Bool × Rule)) (last : Bool × Rule) (refused : Option Rule) (broken : Rule) → refused ≡ Some broken → Some broken ≡ first_broken list → refused ≡ first_broken (list ++ last ∷ [])
+pub broken_before : (list : List (Bool × Rule)) (last : Bool × Rule) (refused : Option Rule) (broken : Rule) → refused ≡ Some broken →
+    Some broken ≡ first_broken list → refused ≡ first_broken (list ++ last ∷ [])
 broken_before list last refused broken is first = is ∙ sym (one_of_list list (last ∷ []) broken (sym first))
 
-pub last_decides : (list : List (Bool × Rule)) (last : Bool × Rule) (refused : Option Rule) → None ≡ first_broken list → refused ≡ cond last.0 (Some last.1) None → refused ≡ first_broken (list ++ last ∷ [])
+pub last_decides : (list : List (Bool × Rule)) (last : Bool × Rule) (refused : Option Rule) → None ≡ first_broken list →
+    refused ≡ cond last.0 (Some last.1) None → refused ≡ first_broken (list ++ last ∷ [])
 last_decides list last refused none is = is ∙ sym (none_of_list list (last ∷ []) (sym none))
 
 -- What was not refused is answered by no.

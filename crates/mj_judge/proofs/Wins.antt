@@ -125,7 +125,8 @@ offered_alone ds seat tiles e is =
     ∙ sym (ap (λ o. flat_map (λ tile. kind_of tile ∷ []) (option_to_list o ++ offered_in (turn_in (option_map turn_by (newest ds))))) e)
 
 -- One tile more is won on.
-pub won_with : (counts tiles result : List ℕ) (given : Option ℕ) (tile kind : ℕ) → given ≡ Some tile → kind ≡ kind_of tile → kind < 34 → result ≡ set counts kind (get_or counts kind 0 + 1) → counts ≡ kind_counts tiles →
+pub won_with : (counts tiles result : List ℕ) (given : Option ℕ) (tile kind : ℕ) → given ≡ Some tile → kind ≡ kind_of tile → kind < 34 →
+    result ≡ set counts kind (get_or counts kind 0 + 1) → counts ≡ kind_counts tiles →
     result ≡ kind_counts (tiles ++ option_to_list given)
 won_with counts tiles result given tile kind e at low told is =
     told ∙ (λ i. set (is i) (at i) (get_or (is i) (at i) 0 + 1))

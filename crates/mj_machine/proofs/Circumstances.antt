@@ -16,7 +16,8 @@ use Rattle.mj_table.proofs.WinSteps.{gained_without, lost_without, melds_without
 use Rattle.mj_rules.specs.Wins.{case_of, is_draw, own_tiles_of, extra_by, extra_of, no_score, score_of_win, win_shown, unders_of}
 use Rattle.mj_machine.specs.Inner.Steps.{all_tiles}
 
-pub closed_is : (now : Standing) (hs : List Deed) (seat : ℕ) (case : Case) (melds : List Meld) → case ≡ case_of now (before_wins hs) seat → melds ≡ seat_melds hs seat → case.closed ≡ are_concealed melds
+pub closed_is : (now : Standing) (hs : List Deed) (seat : ℕ) (case : Case) (melds : List Meld) → case ≡ case_of now (before_wins hs) seat →
+    melds ≡ seat_melds hs seat → case.closed ≡ are_concealed melds
 unfolding case_of
 closed_is now hs seat case melds e f = ap (λ (k : Case). k.closed) e ∙ ap are_concealed (melds_without hs seat ∙ sym f)
 
@@ -24,7 +25,8 @@ pub drawn_is : (now : Standing) (hs : List Deed) (seat : ℕ) (case : Case) → 
 unfolding case_of
 drawn_is now hs seat case e = ap (λ (k : Case). k.by_draw) e
 
-pub score_is : (now : Standing) (hs : List Deed) (seat tile : ℕ) (own unders : List ℕ) (case : Case) (melds : List Meld) (score : Score) → case ≡ case_of now (before_wins hs) seat → melds ≡ seat_melds hs seat →
+pub score_is : (now : Standing) (hs : List Deed) (seat tile : ℕ) (own unders : List ℕ) (case : Case) (melds : List Meld) (score : Score) →
+    case ≡ case_of now (before_wins hs) seat → melds ≡ seat_melds hs seat →
     score ≡ unwrap_or (worth_of (kind_counts (own ++ tile ∷ [])) melds (kind_of tile) case (extra_by (indicators hs) unders (all_tiles own tile melds))) no_score →
     score ≡ score_of_win now (before_wins hs) seat (record { own = own; tile = tile; unders = unders })
 unfolding score_of_win
@@ -47,7 +49,8 @@ own_is hs seat tile by_draw own e f =
     let lost = sym (lost_without hs seat) in
     f ∙ (λ i. cond (e i) (less (less (gained i) (lost i)) (tile ∷ [])) (less (gained i) (lost i)))
 
-pub win_is : (wall : List ℕ) (ds : List Deed) (hs : List Deed) (seat target tile : ℕ) (own unders rest : List ℕ) → own ≡ own_tiles_of (before_wins hs) seat tile → unders ≡ unders_of wall (before_wins hs) seat →
+pub win_is : (wall : List ℕ) (ds : List Deed) (hs : List Deed) (seat target tile : ℕ) (own unders rest : List ℕ) → own ≡ own_tiles_of (before_wins hs)
+    seat tile → unders ≡ unders_of wall (before_wins hs) seat →
     win_shown ds seat target (record { own = own; tile = tile; unders = unders }) rest
     ≡ win_shown ds seat target (record { own = own_tiles_of (before_wins hs) seat tile; tile = tile; unders = unders_of wall (before_wins hs) seat }) rest
 win_is wall ds hs seat target tile own unders rest e f = λ i. win_shown ds seat target (record { own = e i; tile = tile; unders = f i }) rest

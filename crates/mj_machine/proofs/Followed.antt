@@ -103,7 +103,8 @@ offers (AddedKan who tile a b c) h = refl
 offers other h = cc
 
 -- A seat that wins on the tile of another.
-can_ron : (ds : List Deed) (giver : Deed) (seat : ℕ) → FewWin (before_wins (hand ds)) → newest (before_wins (hand ds)) ≡ Some giver → is_offer giver ≡ true → seat_of giver < 4 → seat < 4 → not (seat == seat_of giver) ≡ true →
+can_ron : (ds : List Deed) (giver : Deed) (seat : ℕ) → FewWin (before_wins (hand ds)) → newest (before_wins (hand ds)) ≡ Some giver →
+    is_offer giver ≡ true → seat_of giver < 4 → seat < 4 → not (seat == seat_of giver) ≡ true →
     CanWin ds seat (seat_of giver) (won_tile giver)
 can_ron ds giver seat few e offer there low other =
     let differ = apart (seat_of giver) seat other in
@@ -155,7 +156,8 @@ next_can ds target tile seat few there low other o =
 -- What is known of played deeds.
 record Passed (ds : List Deed) : Type 0 where
   given : (n : Deed) → newest ds ≡ Some n → is_in_hand (Some n) ≡ true → is_win n ≡ false → newest (before_wins (hand ds)) ≡ Some n
-  apart : (who target tile : ℕ) (unders own : List ℕ) (yaku : List (ℕ × ℕ)) (fu han value : ℕ) (deltas said : List ℤ) (rest : List ℕ) → newest ds ≡ Some (Win who target tile unders own yaku fu han value deltas said rest) →
+  apart : (who target tile : ℕ) (unders own : List ℕ) (yaku : List (ℕ × ℕ)) (fu han value : ℕ) (deltas said : List ℤ) (rest : List ℕ) →
+      newest ds ≡ Some (Win who target tile unders own yaku fu han value deltas said rest) →
       list_all (λ seat. not (seat == target)) rest ≡ true
   offered : (who target tile : ℕ) (unders own : List ℕ) (yaku : List (ℕ × ℕ)) (fu han value : ℕ) (deltas said : List ℤ) (next : ℕ) (rest : List ℕ) →
       newest ds ≡ Some (Win who target tile unders own yaku fu han value deltas said (next ∷ rest)) → Offered ds target tile
@@ -166,14 +168,17 @@ follower_can rules ds given (Draw who tile replacement) e s p c =
     draw_can ds who tile replacement (at_seat given who) (can_draw ds who tile replacement p.few (p.given (Draw who tile replacement) e refl refl) (first_seat who true s))
 follower_can rules ds given (Discard who tile drawn) e s p c =
     ron_can ds (Discard who tile drawn) (rons_on who given) (call_or_pass (best_bid given)) (rons_seated who given) (rons_of_others who given (first_seat who true s))
-    (λ seat low other. can_ron ds (Discard who tile drawn) seat p.few (p.given (Discard who tile drawn) e refl refl) refl (first_seat who true s) low other) (call_can ds who tile drawn (best_bid given))
+    (λ seat low other. can_ron ds (Discard who tile drawn) seat p.few (p.given (Discard who tile drawn) e refl refl) refl (first_seat who true s) low
+    other) (call_can ds who tile drawn (best_bid given))
 follower_can rules ds given (AddedKan who tile x y z) e s p c =
     ron_can ds (AddedKan who tile x y z) (rons_on who given) Pass (rons_seated who given) (rons_of_others who given (first_seat who true s))
     (λ seat low other. can_ron ds (AddedKan who tile x y z) seat p.few (p.given (AddedKan who tile x y z) e refl refl) refl (first_seat who true s) low other) tt
 follower_can rules ds given (Chi who target tile x y) e s p c =
-    discard_can ds (Chi who target tile x y) who (at_seat given who) (called_opens rules ds (Chi who target tile x y) who _ (at_seat given who) e refl (clean_at rules ds given who (first_seat who _ s) c))
+    discard_can ds (Chi who target tile x y) who (at_seat given who) (called_opens rules ds (Chi who target tile x y) who _ (at_seat given who) e refl
+    (clean_at rules ds given who (first_seat who _ s) c))
 follower_can rules ds given (Pon who target tile x y) e s p c =
-    discard_can ds (Pon who target tile x y) who (at_seat given who) (called_opens rules ds (Pon who target tile x y) who _ (at_seat given who) e refl (clean_at rules ds given who (first_seat who _ s) c))
+    discard_can ds (Pon who target tile x y) who (at_seat given who) (called_opens rules ds (Pon who target tile x y) who _ (at_seat given who) e refl
+    (clean_at rules ds given who (first_seat who _ s) c))
 follower_can rules ds given (Reach who) e s p c =
     discard_can ds (Reach who) who (at_seat given who) (reached_opens rules ds (Reach who) who (at_seat given who) e refl (clean_at rules ds given who (first_seat who true s) c))
 follower_can rules ds given (Win who target tile unders own yaku fu han value deltas points []) e s p c = tt
@@ -186,7 +191,8 @@ follower_can rules ds given (Win who target tile unders own yaku fu han value de
 follower_can rules ds given other e s p c = tt
 
 -- After played deeds whoever wins can.
-pub can_follow : (rules : Rules) (walls : List (List ℕ)) (ds : List Deed) (given : Four Answer) (last : Deed) → ((number : ℕ) → is_wall rules.red (wall_of walls number) ≡ true) → IsPlayed rules walls ds → AllLawful rules ds given →
+pub can_follow : (rules : Rules) (walls : List (List ℕ)) (ds : List Deed) (given : Four Answer) (last : Deed) →
+    ((number : ℕ) → is_wall rules.red (wall_of walls number) ≡ true) → IsPlayed rules walls ds → AllLawful rules ds given →
     newest ds ≡ Some last → CanFollow ds last (decision_by last given)
 can_follow rules walls ds given last h played lawful e =
     let s = played_sound rules walls ds h played in

@@ -16,7 +16,8 @@ use Rattle.mj_wall.specs.Places.{under_tile}
 use Rattle.mj_rules.specs.Wins.{dora_by, unders_of}
 
 -- One indicator further.
-pub dora_more : (tiles shown : List ℕ) (place : ℕ) → place < length shown → dora_by (take (place + 1) shown) tiles ≡ dora_by (take place shown) tiles + dora_by (option_to_list (slice_get shown place)) tiles
+pub dora_more : (tiles shown : List ℕ) (place : ℕ) → place < length shown → dora_by (take (place + 1) shown) tiles ≡ dora_by (take place shown) tiles
+    + dora_by (option_to_list (slice_get shown place)) tiles
 dora_more tiles shown place h =
     sum_by_more by shown place 0 h
     ∙ ap (λ n. sum_by by (take place shown) + n) (one (by (get_or shown place 0)) _ (sum_by-cons by (get_or shown place 0) []))
@@ -40,7 +41,8 @@ dora_step tiles shown place dora more h inv e k = (sum _ _ _ _ _ inv.0 e (dora_m
 
 -- The hidden indicators of a seat in riichi, and of another.
 
-pub unders_in_riichi : (wall : List ℕ) (hs : List Deed) (seat : ℕ) → is_in_riichi hs seat ≡ true → map (under_tile wall) (range_with_len 0 (length (indicators hs))) ≡ unders_of wall (before_wins hs) seat
+pub unders_in_riichi : (wall : List ℕ) (hs : List Deed) (seat : ℕ) → is_in_riichi hs seat ≡ true →
+    map (under_tile wall) (range_with_len 0 (length (indicators hs))) ≡ unders_of wall (before_wins hs) seat
 unders_in_riichi wall hs seat e =
     ap (λ (xs : List ℕ). map (under_tile wall) (range_with_len 0 (length xs))) (sym (shown_without hs))
     ∙ ap (λ b. cond b (map (under_tile wall) (range_with_len 0 (length (indicators (before_wins hs))))) []) (sym (riichi_without hs seat ∙ e))
@@ -59,7 +61,8 @@ unders_few wall place all items e h k = few _ place all (ap length e ∙ length-
     few : (n m a : ℕ) → n ≡ m → m ≤ a → a ≤ 5 → n ≤ 5
     few n m a e h k = omega arith
 
-pub unders_whole : (wall : List ℕ) (hs : List Deed) (seat place all : ℕ) (items : List ℕ) → items ≡ map (under_tile wall) (range_with_len 0 place) → place ≤ all → all ≤ place → all ≡ length (indicators hs) →
+pub unders_whole : (wall : List ℕ) (hs : List Deed) (seat place all : ℕ) (items : List ℕ) → items ≡ map (under_tile wall) (range_with_len 0 place) →
+    place ≤ all → all ≤ place → all ≡ length (indicators hs) →
     is_in_riichi hs seat ≡ true → items ≡ unders_of wall (before_wins hs) seat
 unders_whole wall hs seat place all items e h k f r =
     e ∙ ap (λ n. map (under_tile wall) (range_with_len 0 n)) (same place all h k ∙ f) ∙ unders_in_riichi wall hs seat r

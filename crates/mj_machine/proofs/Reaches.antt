@@ -25,10 +25,12 @@ discarded_in_hand (Some (Discard who tile drawn)) h = refl
 discarded_in_hand (Some other) h = cc
 
 -- What a discard comes of is a reach exactly where the deed before it in its hand is one.
-pub of_reach : (red : Bool) (ds : List Deed) → all_fit red [] ds ≡ true → option_map_or is_discard (newest ds) false ≡ true → option_map_or is_reach (cause ds) false ≡ option_map_or is_reach (before_newest (hand ds)) false
+pub of_reach : (red : Bool) (ds : List Deed) → all_fit red [] ds ≡ true → option_map_or is_discard (newest ds) false ≡ true →
+    option_map_or is_reach (cause ds) false ≡ option_map_or is_reach (before_newest (hand ds)) false
 of_reach red ds fit h = ap (λ o. option_map_or is_reach o false) (sym (cause_in_hand red ds fit)) ∙ by_hand (hand ds) refl
   where
-    by_newest : (hs : List Deed) (o : Option Deed) → option_map_or is_discard o false ≡ true → option_map_or is_reach (option_and_then (comes_of (take (length hs - 1) hs)) o) false ≡ option_map_or is_reach (before_newest hs) false
+    by_newest : (hs : List Deed) (o : Option Deed) → option_map_or is_discard o false ≡ true →
+        option_map_or is_reach (option_and_then (comes_of (take (length hs - 1) hs)) o) false ≡ option_map_or is_reach (before_newest hs) false
     by_newest hs None k = cc
     by_newest hs (Some (Discard who tile drawn)) k = only_reaches (before_newest hs)
     by_newest hs (Some other) k = cc

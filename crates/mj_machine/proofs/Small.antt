@@ -36,7 +36,9 @@ all_small red walls wall stage ds fit fair s = record {
   dealer = (may_stand red ds fit).dealer;
   honba = one_more (standing ds).honba (may_stand red ds fit).honba;
   deposits = few_deposits red ds fit;
-  points = All-cons small (points_of ds 0) (points_of ds 1 ∷ points_of ds 2 ∷ points_of ds 3 ∷ []) (at 0) (All-cons small (points_of ds 1) (points_of ds 2 ∷ points_of ds 3 ∷ []) (at 1) (All-cons small (points_of ds 2) (points_of ds 3 ∷ []) (at 2) (All-cons small (points_of ds 3) [] (at 3) (All-nil small))));
+  points = All-cons small (points_of ds 0) (points_of ds 1 ∷ points_of ds 2 ∷ points_of ds 3 ∷ []) (at 0)
+      (All-cons small (points_of ds 1) (points_of ds 2 ∷ points_of ds 3 ∷ []) (at 1) (All-cons small (points_of ds 2) (points_of ds 3 ∷ []) (at 2)
+      (All-cons small (points_of ds 3) [] (at 3) (All-nil small))));
   shown = few_shown wall (hand ds) stage s;
   held = λ seat. few_held _ _ _ (few_tiles wall (hand ds) stage seat s) (few_more stage seat);
 }

@@ -94,13 +94,49 @@ unfolding broken_by outcome hand_start view_of hand is_name in_tile_order less t
 one_played = (
   refl,
   (
-    record { given = all_pass; lawful = record { first = record { form = refl; clean = refl }; second = record { form = refl; clean = refl }; third = record { form = refl; clean = refl }; fourth = record { form = refl; clean = refl } }; gives = refl },
+    record {
+      given = all_pass;
+      lawful = record {
+        first = record { form = refl; clean = refl };
+        second = record { form = refl; clean = refl };
+        third = record { form = refl; clean = refl };
+        fourth = record { form = refl; clean = refl };
+      };
+      gives = refl;
+    },
     (
-      record { given = all_pass; lawful = record { first = record { form = refl; clean = refl }; second = record { form = refl; clean = refl }; third = record { form = refl; clean = refl }; fourth = record { form = refl; clean = refl } }; gives = refl },
+      record {
+        given = all_pass;
+        lawful = record {
+          first = record { form = refl; clean = refl };
+          second = record { form = refl; clean = refl };
+          third = record { form = refl; clean = refl };
+          fourth = record { form = refl; clean = refl };
+        };
+        gives = refl;
+      },
       (
-        record { given = first_discards; lawful = record { first = record { form = refl; clean = refl }; second = record { form = refl; clean = refl }; third = record { form = refl; clean = refl }; fourth = record { form = refl; clean = refl } }; gives = refl },
+        record {
+          given = first_discards;
+          lawful = record {
+            first = record { form = refl; clean = refl };
+            second = record { form = refl; clean = refl };
+            third = record { form = refl; clean = refl };
+            fourth = record { form = refl; clean = refl };
+          };
+          gives = refl;
+        },
         (
-          record { given = all_pass; lawful = record { first = record { form = refl; clean = refl }; second = record { form = refl; clean = refl }; third = record { form = refl; clean = refl }; fourth = record { form = refl; clean = refl } }; gives = refl },
+          record {
+            given = all_pass;
+            lawful = record {
+              first = record { form = refl; clean = refl };
+              second = record { form = refl; clean = refl };
+              third = record { form = refl; clean = refl };
+              fourth = record { form = refl; clean = refl };
+            };
+            gives = refl;
+          },
           tt,
         ),
       ),
@@ -113,13 +149,49 @@ unfolding broken_by outcome hand_start view_of hand is_name in_tile_order less t
 other_played = (
   refl,
   (
-    record { given = all_pass; lawful = record { first = record { form = refl; clean = refl }; second = record { form = refl; clean = refl }; third = record { form = refl; clean = refl }; fourth = record { form = refl; clean = refl } }; gives = refl },
+    record {
+      given = all_pass;
+      lawful = record {
+        first = record { form = refl; clean = refl };
+        second = record { form = refl; clean = refl };
+        third = record { form = refl; clean = refl };
+        fourth = record { form = refl; clean = refl };
+      };
+      gives = refl;
+    },
     (
-      record { given = all_pass; lawful = record { first = record { form = refl; clean = refl }; second = record { form = refl; clean = refl }; third = record { form = refl; clean = refl }; fourth = record { form = refl; clean = refl } }; gives = refl },
+      record {
+        given = all_pass;
+        lawful = record {
+          first = record { form = refl; clean = refl };
+          second = record { form = refl; clean = refl };
+          third = record { form = refl; clean = refl };
+          fourth = record { form = refl; clean = refl };
+        };
+        gives = refl;
+      },
       (
-        record { given = first_discards; lawful = record { first = record { form = refl; clean = refl }; second = record { form = refl; clean = refl }; third = record { form = refl; clean = refl }; fourth = record { form = refl; clean = refl } }; gives = refl },
+        record {
+          given = first_discards;
+          lawful = record {
+            first = record { form = refl; clean = refl };
+            second = record { form = refl; clean = refl };
+            third = record { form = refl; clean = refl };
+            fourth = record { form = refl; clean = refl };
+          };
+          gives = refl;
+        },
         (
-          record { given = all_pass; lawful = record { first = record { form = refl; clean = refl }; second = record { form = refl; clean = refl }; third = record { form = refl; clean = refl }; fourth = record { form = refl; clean = refl } }; gives = refl },
+          record {
+            given = all_pass;
+            lawful = record {
+              first = record { form = refl; clean = refl };
+              second = record { form = refl; clean = refl };
+              third = record { form = refl; clean = refl };
+              fourth = record { form = refl; clean = refl };
+            };
+            gives = refl;
+          },
           tt,
         ),
       ),

@@ -175,6 +175,7 @@ begins_alike (deeds.StartGame names) h = refl
 begins_alike other h = cc
 
 -- A played deed comes so of its public token.
-pub bare_is_rebuilt : (rules : Rules) (walls : List (List ℕ)) (ds : List Deed) (d : Deed) → DealsThirteen walls → IsPlayedBehind rules walls ds d → bare d ≡ public_rebuilt (all_bare ds) (public_token d)
+pub bare_is_rebuilt : (rules : Rules) (walls : List (List ℕ)) (ds : List Deed) (d : Deed) → DealsThirteen walls → IsPlayedBehind rules walls ds d →
+    bare d ≡ public_rebuilt (all_bare ds) (public_token d)
 bare_is_rebuilt rules walls [] d deals p = begins_alike d p
 bare_is_rebuilt rules walls (first ∷ others) d deals p = given_alike rules walls first others d deals p

@@ -9,7 +9,8 @@ use Rattle.mj_observe.specs.Laws.{ViewsGrow, OthersAreToldAll}
 grows_from : (before ds : List Deed) (d : Deed) → view_from before (ds ++ d ∷ []) ≡ view_from before ds ++ public_part (before ++ ds) d
 grows_from before [] d = append-nil (public_part before d) ∙ ap (λ (xs : List Deed). public_part xs d) (sym (append-nil before))
 grows_from before (x ∷ ds) d =
-    ap (λ (text : List ℕ). public_part before x ++ text) (grows_from (before ++ x ∷ []) ds d ∙ ap (λ (xs : List Deed). view_from (before ++ x ∷ []) ds ++ public_part xs d) (append_assoc before (x ∷ []) ds))
+    ap (λ (text : List ℕ). public_part before x ++ text) (grows_from (before ++ x ∷ []) ds d
+    ∙ ap (λ (xs : List Deed). view_from (before ++ x ∷ []) ds ++ public_part xs d) (append_assoc before (x ∷ []) ds))
     ∙ sym (append_assoc (public_part before x) (view_from (before ++ x ∷ []) ds) (public_part (before ++ x ∷ ds) d))
 
 pub views_grow : ViewsGrow

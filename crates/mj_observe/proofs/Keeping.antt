@@ -44,7 +44,8 @@ number_of : (h : List Deed) (d : Deed) → length (behind h d) ≡ one_more (len
 number_of [] d = refl
 number_of (x ∷ h) d = length-append (x ∷ h) (d ∷ []) ∙ sym (ap (λ (b : Bool). cond b 0 (length (x ∷ h) + 1)) (not_none (length h)))
 
-pub kept_next : (before : List Deed) (d : Deed) (kept last : List ℕ) (count number : ℕ) → is_hand_start d ≡ false → KeepsHand kept count before → number ≡ one_more count → last ≡ of_hand count (line Record d) →
+pub kept_next : (before : List Deed) (d : Deed) (kept last : List ℕ) (count number : ℕ) → is_hand_start d ≡ false → KeepsHand kept count before →
+    number ≡ one_more count → last ≡ of_hand count (line Record d) →
     KeepsHand (kept ++ last) number (before ++ d ∷ [])
 kept_next before d kept last count number h k n l = record {
   lines_are =

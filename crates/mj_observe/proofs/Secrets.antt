@@ -26,7 +26,12 @@ filled s (deeds.Draw who tile replacement ∷ ds) =
 filled s (deeds.ReachAccepted who points bid ∷ ds) =
     deeds.ReachAccepted who points (first_or s.calls bid) ∷ filled (record { dealt = s.dealt; drawn = s.drawn; calls = others s.calls; winners = s.winners }) ds
 filled s (deeds.Win who target tile unders own yaku fu han value deltas points rest ∷ ds) =
-    deeds.Win who target tile unders own yaku fu han value deltas points (first_or s.winners rest) ∷ filled (record { dealt = s.dealt; drawn = s.drawn; calls = s.calls; winners = others s.winners }) ds
+    deeds.Win who target tile unders own yaku fu han value deltas points (first_or s.winners rest) ∷ filled (record {
+      dealt = s.dealt;
+      drawn = s.drawn;
+      calls = s.calls;
+      winners = others s.winners;
+    }) ds
 filled s (other ∷ ds) = other ∷ filled s ds
 
 are_filled : (ds : List Deed) → ds ≡ filled (secrets ds) (all_bare ds)

@@ -13,6 +13,13 @@ use Rattle.mj_ports.specs.declared.answers.Expiry.{Expiry}
 use Rattle.mj_ports.specs.declared.answers.Expiry.TheVariants as expiry
 use Rattle.mj_ports.specs.Entries.{next_seat}
 
+-- A line that wants a seat is refused.
+abbrev pub IsRefused : SitAnswer → Type 0
+IsRefused (sits.Sat seat) = ⊥
+IsRefused (sits.Back seat) = ⊥
+IsRefused (sits.Refused why) = Unit {0}
+IsRefused sits.NoMemory = ⊥
+
 module _ {A : Type 0} (old new : List (Entry A)) where
   -- One entry was added.
   abbrev pub Adding : Entry A → Type 0

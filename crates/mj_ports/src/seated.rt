@@ -1,4 +1,4 @@
-ghost use Rattle.std.specs.Prelude.{◌≡◌, ℕ, ◌+◌, ◌<◌, ◌≤◌, List, [], ◌∷◌, ◌++◌, length, Option, Some, None, MatchOption, is_some, OnOk, OnErr};
+ghost use Rattle.std.specs.Prelude.{◌≡◌, ℕ, ◌+◌, ◌<◌, ◌≤◌, true, List, [], ◌∷◌, ◌++◌, length, Option, Some, None, MatchOption, is_some, OnOk, OnErr};
 ghost use Rattle.mj_ports.specs.declared.entry.Entry.{Entry};
 ghost use Rattle.mj_ports.specs.declared.entry.Entry.TheVariants.{Sat, Back, Said, Gone};
 ghost use Rattle.mj_ports.specs.declared.sitting.JoinLine.{JoinLine};
@@ -7,7 +7,7 @@ ghost use Rattle.mj_ports.specs.declared.answers.Heard.{Heard};
 ghost use Rattle.mj_ports.specs.declared.answers.Expiry.{Expiry};
 ghost use Rattle.mj_ports.specs.declared.answers.Control.{Control};
 ghost use Rattle.mj_ports.specs.Entries.{next_seat, IsAside};
-ghost use Rattle.mj_ports.specs.SeatCalls.{AnswersSit, AnswersSaid, AnswersGone, AnswersExpiry};
+ghost use Rattle.mj_ports.specs.SeatCalls.{AnswersSit, AnswersSaid, AnswersGone, AnswersExpiry, IsRefused};
 ghost use Rattle.mj_ports.specs.Seats.{Showing, Stays, StaysEnded, Unmoved, Begins, Answers, Leaves, Adds, hello, replay};
 
 use crate::answers::{Control, Expiry, Heard, Left, SitAnswer};
@@ -178,4 +178,8 @@ pub trait Seated: Drop + Send {
         → is_legal s (es ++ Gone author seat ∷ [])
         → Leaves seat (after s es) (after s (es ++ Gone author seat ∷ []))
         × Adds seat [] (after s es) (after s (es ++ Gone author seat ∷ [])) };
+
+    // Once the game is over, each line that wants a seat is refused.
+    ghost closed: { (s : Self.Setting) (es : List (Entry Self.Answer)) (line : List ℕ)
+        → (after s es).over ≡ true → IsRefused (sits s es line) };
 }

@@ -166,6 +166,8 @@ impl Seated for Toy {
     ghost answers = { λ _ es author seat answer h. laws.answers es author seat answer h };
 
     ghost leaves = { λ _ es author seat h. laws.leaves es author seat h };
+
+    ghost closed = { λ _ es line over. laws.closed over };
 }
 
 // A seat that is given is present by whoever asked for it: a law of every seated game.

@@ -20,10 +20,13 @@ unfolding draw_line deed_in deed_by small_by quoted_at
 draws seat tile replacement hs ht =
     ap deed_in (group5 (codes "{\"type\":\"tsumo\",\"actor\":") (decimal seat) (codes ",\"pai\":") (quoted_tile tile) (codes "}\n")) ∙ draw_fields seat tile hs ht
 
-discard_fields : (seat tile : ℕ) (drawn : Bool) → seat < 256 → tile < 37 → discard_in (codes ",\"actor\":" ++ (decimal seat ++ (codes ",\"pai\":" ++ (quoted_tile tile ++ (codes ",\"tsumogiri\":" ++ (truth drawn ++ codes "}\n")))))) ≡ Some (Discard seat tile drawn)
+discard_fields : (seat tile : ℕ) (drawn : Bool) → seat < 256 → tile < 37 →
+    discard_in (codes ",\"actor\":" ++ (decimal seat ++
+    (codes ",\"pai\":" ++ (quoted_tile tile ++ (codes ",\"tsumogiri\":" ++ (truth drawn ++ codes "}\n")))))) ≡ Some (Discard seat tile drawn)
 unfolding discard_in
 discard_fields seat tile drawn hs ht =
-    ap (option_and_then (λ (s : ℕ × List ℕ). option_and_then (λ (t : ℕ × List ℕ). option_map (λ (d : Bool × List ℕ). Discard s.0 t.0 d.0) (truth_field (codes ",\"tsumogiri\":") t.1)) (tile_field (codes ",\"pai\":") s.1)))
+    ap (option_and_then (λ (s : ℕ × List ℕ). option_and_then (λ (t : ℕ × List ℕ). option_map (λ (d : Bool × List ℕ). Discard s.0 t.0 d.0)
+    (truth_field (codes ",\"tsumogiri\":") t.1)) (tile_field (codes ",\"pai\":") s.1)))
     (byte_read (codes ",\"actor\":") (codes ",\"pai\":" ++ (quoted_tile tile ++ (codes ",\"tsumogiri\":" ++ (truth drawn ++ codes "}\n")))) seat hs refl)
     ∙ ap (option_and_then (λ (t : ℕ × List ℕ). option_map (λ (d : Bool × List ℕ). Discard seat t.0 d.0) (truth_field (codes ",\"tsumogiri\":") t.1)))
     (tile_field_read (codes ",\"pai\":") (codes ",\"tsumogiri\":" ++ (truth drawn ++ codes "}\n")) tile ht)

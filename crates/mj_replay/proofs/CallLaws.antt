@@ -16,11 +16,16 @@ use Rattle.mj_replay.proofs.PointLaws.{points_field_read}
 
 -- the fields of a call up to its second own tile
 pub call_fields : (kind : List ℕ) (seat target tile a b : ℕ) (rest : List ℕ) → seat < 256 → target < 256 → tile < 37 → a < 37 → b < 37 →
-    call_in kind (codes ",\"actor\":" ++ (decimal seat ++ (codes ",\"target\":" ++ (decimal target ++ (codes ",\"pai\":" ++ (quoted_tile tile ++ (codes ",\"consumed\":[" ++ (quoted_tile a ++ (codes "," ++ (quoted_tile b ++ rest)))))))))) ≡ call_by kind seat target tile a b rest
+    call_in kind (codes ",\"actor\":" ++ (decimal seat ++
+    (codes ",\"target\":" ++ (decimal target ++
+    (codes ",\"pai\":" ++ (quoted_tile tile ++ (codes ",\"consumed\":[" ++ (quoted_tile a ++ (codes "," ++ (quoted_tile b ++ rest)))))))))) ≡
+    call_by kind seat target tile a b rest
 unfolding call_in
 call_fields kind seat target tile a b rest hs hg ht ha hb =
     rw (
-      byte_read (codes ",\"actor\":") (codes ",\"target\":" ++ (decimal target ++ (codes ",\"pai\":" ++ (quoted_tile tile ++ (codes ",\"consumed\":[" ++ (quoted_tile a ++ (codes "," ++ (quoted_tile b ++ rest)))))))) seat hs refl,
+      byte_read (codes ",\"actor\":") (codes ",\"target\":" ++
+          (decimal target ++ (codes ",\"pai\":" ++
+          (quoted_tile tile ++ (codes ",\"consumed\":[" ++ (quoted_tile a ++ (codes "," ++ (quoted_tile b ++ rest)))))))) seat hs refl,
       byte_read (codes ",\"target\":") (codes ",\"pai\":" ++ (quoted_tile tile ++ (codes ",\"consumed\":[" ++ (quoted_tile a ++ (codes "," ++ (quoted_tile b ++ rest)))))) target hg refl,
       tile_field_read (codes ",\"pai\":") (codes ",\"consumed\":[" ++ (quoted_tile a ++ (codes "," ++ (quoted_tile b ++ rest)))) tile ht,
       tile_field_read (codes ",\"consumed\":[") (codes "," ++ (quoted_tile b ++ rest)) a ha,
@@ -31,10 +36,12 @@ call_fields kind seat target tile a b rest hs hg ht ha hb =
 abbrev behind_type : ℕ → ℕ → ℕ → List ℕ → List ℕ
 behind_type seat target tile own = codes ",\"actor\":" ++ (decimal seat ++ (codes ",\"target\":" ++ (decimal target ++ (codes ",\"pai\":" ++ (quoted_tile tile ++ (codes ",\"consumed\":" ++ own))))))
 
-pub call_text : (type rest : List ℕ) (seat target tile : ℕ) (own : List ℕ) → call_object type seat target tile own ++ rest ≡ codes "{\"type\":" ++ (quoted type ++ behind_type seat target tile (bracketed (map quoted_tile own) ++ (codes "}" ++ rest)))
+pub call_text : (type rest : List ℕ) (seat target tile : ℕ) (own : List ℕ) → call_object type seat target tile own ++ rest ≡ codes "{\"type\":" ++
+    (quoted type ++ behind_type seat target tile (bracketed (map quoted_tile own) ++ (codes "}" ++ rest)))
 unfolding call_object
 call_text type rest seat target tile own =
-    group12 (codes "{\"type\":") (quoted type) (codes ",\"actor\":") (decimal seat) (codes ",\"target\":") (decimal target) (codes ",\"pai\":") (quoted_tile tile) (codes ",\"consumed\":") (bracketed (map quoted_tile own)) (codes "}") rest
+    group12 (codes "{\"type\":") (quoted type) (codes ",\"actor\":") (decimal seat) (codes ",\"target\":") (decimal target) (codes ",\"pai\":")
+    (quoted_tile tile) (codes ",\"consumed\":") (bracketed (map quoted_tile own)) (codes "}") rest
 
 pub two_tiles : (kind : List ℕ) (seat target tile a b : ℕ) (rest : List ℕ) → seat < 256 → target < 256 → tile < 37 → a < 37 → b < 37 →
     call_in kind (behind_type seat target tile (bracketed (map quoted_tile (a ∷ b ∷ [])) ++ rest)) ≡ call_by kind seat target tile a b (93 ∷ rest)
@@ -62,7 +69,8 @@ pons seat target tile a b hs hg ht ha hb =
     ap deed_in (call_text (codes "pon") (codes "\n") seat target tile (a ∷ b ∷ []))
     ∙ ap (option_and_then call_of_bid) (two_tiles (codes "pon") seat target tile a b (codes "}" ++ codes "\n") hs hg ht ha hb)
 
-open_kans : (seat target tile a b c : ℕ) → seat < 256 → target < 256 → tile < 37 → a < 37 → b < 37 → c < 37 → deed_in (line Record (OpenKan seat target tile a b c)) ≡ Some (OpenKan seat target tile a b c)
+open_kans : (seat target tile a b c : ℕ) → seat < 256 → target < 256 → tile < 37 → a < 37 → b < 37 → c < 37 →
+    deed_in (line Record (OpenKan seat target tile a b c)) ≡ Some (OpenKan seat target tile a b c)
 unfolding deed_in deed_by small_by quoted_at
 open_kans seat target tile a b c hs hg ht ha hb hc =
     ap deed_in (call_text (codes "daiminkan") (codes "\n") seat target tile (a ∷ b ∷ c ∷ []))
@@ -70,11 +78,14 @@ open_kans seat target tile a b c hs hg ht ha hb hc =
     (three_tiles (codes "daiminkan") seat target tile a b c (codes "}" ++ codes "\n") hs hg ht ha hb ∙ third seat target tile a b c (93 ∷ (codes "}" ++ codes "\n")) hc)
 
 closed_kan_fields : (seat a b c d : ℕ) (rest : List ℕ) → seat < 256 → a < 37 → b < 37 → c < 37 → d < 37 →
-    closed_kan_in (codes ",\"actor\":" ++ (decimal seat ++ (codes ",\"consumed\":[" ++ (quoted_tile a ++ (codes "," ++ (quoted_tile b ++ (codes "," ++ (quoted_tile c ++ (codes "," ++ (quoted_tile d ++ rest)))))))))) ≡ Some (ClosedKan seat a b c d)
+    closed_kan_in (codes ",\"actor\":" ++ (decimal seat ++
+    (codes ",\"consumed\":[" ++ (quoted_tile a ++
+    (codes "," ++ (quoted_tile b ++ (codes "," ++ (quoted_tile c ++ (codes "," ++ (quoted_tile d ++ rest)))))))))) ≡ Some (ClosedKan seat a b c d)
 unfolding closed_kan_in
 closed_kan_fields seat a b c d rest hs ha hb hc hd =
     rw (
-      byte_read (codes ",\"actor\":") (codes ",\"consumed\":[" ++ (quoted_tile a ++ (codes "," ++ (quoted_tile b ++ (codes "," ++ (quoted_tile c ++ (codes "," ++ (quoted_tile d ++ rest)))))))) seat hs refl,
+      byte_read (codes ",\"actor\":") (codes ",\"consumed\":[" ++
+          (quoted_tile a ++ (codes "," ++ (quoted_tile b ++ (codes "," ++ (quoted_tile c ++ (codes "," ++ (quoted_tile d ++ rest)))))))) seat hs refl,
       tile_field_read (codes ",\"consumed\":[") (codes "," ++ (quoted_tile b ++ (codes "," ++ (quoted_tile c ++ (codes "," ++ (quoted_tile d ++ rest)))))) a ha,
       tile_field_read (codes ",") (codes "," ++ (quoted_tile c ++ (codes "," ++ (quoted_tile d ++ rest)))) b hb,
       tile_field_read (codes ",") (codes "," ++ (quoted_tile d ++ rest)) c hc,
@@ -89,11 +100,16 @@ closed_kans seat a b c d hs ha hb hc hd =
     ∙ closed_kan_fields seat a b c d (93 ∷ codes "}\n") hs ha hb hc hd
 
 added_kan_fields : (seat tile a b c : ℕ) (rest : List ℕ) → seat < 256 → tile < 37 → a < 37 → b < 37 → c < 37 →
-    added_kan_in (codes ",\"actor\":" ++ (decimal seat ++ (codes ",\"pai\":" ++ (quoted_tile tile ++ (codes ",\"consumed\":[" ++ (quoted_tile a ++ (codes "," ++ (quoted_tile b ++ (codes "," ++ (quoted_tile c ++ rest)))))))))) ≡ Some (AddedKan seat tile a b c)
+    added_kan_in (codes ",\"actor\":" ++ (decimal seat ++
+    (codes ",\"pai\":" ++ (quoted_tile tile ++
+    (codes ",\"consumed\":[" ++ (quoted_tile a ++ (codes "," ++ (quoted_tile b ++ (codes "," ++ (quoted_tile c ++ rest)))))))))) ≡ Some
+    (AddedKan seat tile a b c)
 unfolding added_kan_in
 added_kan_fields seat tile a b c rest hs ht ha hb hc =
     rw (
-      byte_read (codes ",\"actor\":") (codes ",\"pai\":" ++ (quoted_tile tile ++ (codes ",\"consumed\":[" ++ (quoted_tile a ++ (codes "," ++ (quoted_tile b ++ (codes "," ++ (quoted_tile c ++ rest)))))))) seat hs refl,
+      byte_read (codes ",\"actor\":") (codes ",\"pai\":" ++
+          (quoted_tile tile ++ (codes ",\"consumed\":[" ++
+          (quoted_tile a ++ (codes "," ++ (quoted_tile b ++ (codes "," ++ (quoted_tile c ++ rest)))))))) seat hs refl,
       tile_field_read (codes ",\"pai\":") (codes ",\"consumed\":[" ++ (quoted_tile a ++ (codes "," ++ (quoted_tile b ++ (codes "," ++ (quoted_tile c ++ rest)))))) tile ht,
       tile_field_read (codes ",\"consumed\":[") (codes "," ++ (quoted_tile b ++ (codes "," ++ (quoted_tile c ++ rest)))) a ha,
       tile_field_read (codes ",") (codes "," ++ (quoted_tile c ++ rest)) b hb,
@@ -103,11 +119,15 @@ added_kan_fields seat tile a b c rest hs ht ha hb hc =
 added_kans : (seat tile a b c : ℕ) → seat < 256 → tile < 37 → a < 37 → b < 37 → c < 37 → deed_in (line Record (AddedKan seat tile a b c)) ≡ Some (AddedKan seat tile a b c)
 unfolding added_kan_line deed_in deed_by small_by quoted_at
 added_kans seat tile a b c hs ht ha hb hc =
-    ap deed_in (group7 (codes "{\"type\":\"kakan\",\"actor\":") (decimal seat) (codes ",\"pai\":") (quoted_tile tile) (codes ",\"consumed\":") (bracketed (map quoted_tile (a ∷ b ∷ c ∷ []))) (codes "}\n"))
-    ∙ ap (λ own. added_kan_in (codes ",\"actor\":" ++ (decimal seat ++ (codes ",\"pai\":" ++ (quoted_tile tile ++ (codes ",\"consumed\":" ++ own)))))) (three_shape (quoted_tile a) (quoted_tile b) (quoted_tile c) (codes "}\n"))
+    ap deed_in (group7 (codes "{\"type\":\"kakan\",\"actor\":") (decimal seat) (codes ",\"pai\":") (quoted_tile tile) (codes ",\"consumed\":")
+    (bracketed (map quoted_tile (a ∷ b ∷ c ∷ []))) (codes "}\n"))
+    ∙ ap (λ own. added_kan_in (codes ",\"actor\":" ++ (decimal seat ++ (codes ",\"pai\":" ++ (quoted_tile tile ++ (codes ",\"consumed\":" ++ own))))))
+    (three_shape (quoted_tile a) (quoted_tile b) (quoted_tile c) (codes "}\n"))
     ∙ added_kan_fields seat tile a b c (93 ∷ codes "}\n") hs ht ha hb hc
 
-end_game_fields : (points : List ℤ) (deposits : ℕ) → are_points points ≡ true → deposits < 4294967296 → end_game_in (codes ",\"scores\":" ++ (points_text points ++ (codes ",\"kyotaku\":" ++ (decimal deposits ++ codes "}\n")))) ≡ Some (EndGame points deposits)
+end_game_fields : (points : List ℤ) (deposits : ℕ) → are_points points ≡ true → deposits < 4294967296 →
+    end_game_in (codes ",\"scores\":" ++ (points_text points ++ (codes ",\"kyotaku\":" ++ (decimal deposits ++ codes "}\n")))) ≡ Some
+    (EndGame points deposits)
 unfolding end_game_in
 end_game_fields points deposits hp hd =
     rw (points_field_read (codes ",\"scores\":") (codes ",\"kyotaku\":" ++ (decimal deposits ++ codes "}\n")) points hp, word_read (codes ",\"kyotaku\":") (codes "}\n") deposits hd refl)

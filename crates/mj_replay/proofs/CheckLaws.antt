@@ -70,14 +70,17 @@ needs_not (wall ∷ walls) first n h = by_test (bytes_eq (take 4 (first ++ 10 �
 pub ruleset wall_needs = (needs_first, needs_by, needs_not)
 
 -- a text that ends, and one whose first line is bad
-ends_by : (before : Before) (rest : List ℕ) (cause : Cause) → EndBreaks before (fault_of cause) → (bytes : List ℕ) → unfinished rest ≡ bytes → whole_lines rest ≡ [] → Breaks before (whole_lines rest) (unfinished rest) (fault_of (cause_at_end bytes cause))
+ends_by : (before : Before) (rest : List ℕ) (cause : Cause) → EndBreaks before (fault_of cause) → (bytes : List ℕ) → unfinished rest ≡ bytes →
+    whole_lines rest ≡ [] → Breaks before (whole_lines rest) (unfinished rest) (fault_of (cause_at_end bytes cause))
 ends_by before rest cause h [] u w = rw (u, w) h
 ends_by before rest cause h (byte ∷ bytes) u w = rw (u, w) tt
 
-pub ends : (before : Before) (rest : List ℕ) (cause : Cause) → HasNoLine rest → EndBreaks before (fault_of cause) → Breaks before (whole_lines rest) (unfinished rest) (fault_of (cause_at_end rest cause))
+pub ends : (before : Before) (rest : List ℕ) (cause : Cause) → HasNoLine rest → EndBreaks before (fault_of cause) →
+    Breaks before (whole_lines rest) (unfinished rest) (fault_of (cause_at_end rest cause))
 ends before rest cause n h = ends_by before rest cause h rest n.ending n.lines
 
-breaks_at : (before : Before) (rest first others : List ℕ) (fault : Fault) → BeginsWithLine rest first others → LineBreaks before (first ++ 10 ∷ []) fault → Breaks before (whole_lines rest) (unfinished rest) fault
+breaks_at : (before : Before) (rest first others : List ℕ) (fault : Fault) → BeginsWithLine rest first others → LineBreaks before (first ++ 10 ∷ [])
+    fault → Breaks before (whole_lines rest) (unfinished rest) fault
 breaks_at before rest first others fault b h = rw b.lines h
 
 -- the header
@@ -87,7 +90,8 @@ no_header_line text answer keeps kept n e = rw e (record { before = Nothing; res
 pub bad_header : (text first rest : List ℕ) → BeginsWithLine text first rest → IsNoHeader first → Tells text (Bad 1 causes.Header)
 bad_header text first rest b n = record { before = Nothing; rest = text; sound = tt; is = refl; place = refl; breaks = breaks_at Nothing text first rest (fault_of causes.Header) b n }
 
-pub headed : (text first rest : List ℕ) (rules : Rules) (answer : Checked) (keeps : Bool) (kept : List Deed) → BeginsWithLine text first rest → IsHeader first rules → TellsKept (header_line rules ++ rest) answer keeps kept → TellsKept text answer keeps kept
+pub headed : (text first rest : List ℕ) (rules : Rules) (answer : Checked) (keeps : Bool) (kept : List Deed) → BeginsWithLine text first rest →
+    IsHeader first rules → TellsKept (header_line rules ++ rest) answer keeps kept → TellsKept text answer keeps kept
 headed text first rest rules answer keeps kept b h t =
     subst (λ xs. TellsKept xs answer keeps kept) (ap (λ xs. xs ++ rest) h.is ∙ append_assoc first (10 ∷ []) rest ∙ sym b.parts) t
 
@@ -113,10 +117,13 @@ record_more rules walls wall =
     ∙ sym (append_assoc (header_line rules) (flat_map wall_line walls) (wall_line wall))
     ∙ ap (λ xs. xs ++ wall_line wall) (sym (append-nil (header_line rules ++ flat_map wall_line walls)))
 
-pub said_wall : (rules : Rules) (walls after : List (List ℕ)) (wall text rest first others : List ℕ) (before : ℕ) → header_line rules ++ text ≡ record_text rules walls [] ++ rest → BeginsWithLine rest first others → IsNext rules.red before first wall → after ≡ walls ++ wall ∷ [] →
+pub said_wall : (rules : Rules) (walls after : List (List ℕ)) (wall text rest first others : List ℕ) (before : ℕ) →
+    header_line rules ++ text ≡ record_text rules walls [] ++ rest → BeginsWithLine rest first others → IsNext rules.red before first wall →
+    after ≡ walls ++ wall ∷ [] →
     header_line rules ++ text ≡ record_text rules after [] ++ others
 said_wall rules walls after wall text rest first others before said b n a =
-    said ∙ ap (λ xs. record_text rules walls [] ++ xs) (b.parts ∙ sym (append_assoc first (10 ∷ []) others) ∙ ap (λ xs. xs ++ others) (sym n.wall_is.is)) ∙ sym (append_assoc (record_text rules walls []) (wall_line wall) others)
+    said ∙ ap (λ xs. record_text rules walls [] ++ xs) (b.parts ∙ sym (append_assoc first (10 ∷ []) others)
+    ∙ ap (λ xs. xs ++ others) (sym n.wall_is.is)) ∙ sym (append_assoc (record_text rules walls []) (wall_line wall) others)
     ∙ ap (λ xs. xs ++ others) (sym (record_more rules walls wall)) ∙ ap (λ ws. record_text rules ws [] ++ others) (sym a)
 
 pub few_more : (red : Bool) (walls after : List (List ℕ)) (first wall : List ℕ) (before : ℕ) → before ≡ length walls → IsNext red before first wall → after ≡ walls ++ wall ∷ [] → length after ≤ 200
@@ -125,8 +132,10 @@ few_more red walls after first wall before e n a =
     let long : length after ≡ length walls + 1 = ap length a ∙ length-append walls (wall ∷ []) in
     omega (arith, below, long, e)
 
-pub whole_more : (red : Bool) (walls after : List (List ℕ)) (first wall : List ℕ) (before : ℕ) → IsNext red before first wall → after ≡ walls ++ wall ∷ [] → list_all (is_wall red) walls ≡ true → list_all (is_wall red) after ≡ true
-whole_more red walls after first wall before n a h = ap (list_all (is_wall red)) a ∙ list_all-append (is_wall red) walls (wall ∷ []) ∙ both (list_all (is_wall red) walls) (is_wall red wall && true) h (both (is_wall red wall) true n.wall_is.whole refl)
+pub whole_more : (red : Bool) (walls after : List (List ℕ)) (first wall : List ℕ) (before : ℕ) → IsNext red before first wall →
+    after ≡ walls ++ wall ∷ [] → list_all (is_wall red) walls ≡ true → list_all (is_wall red) after ≡ true
+whole_more red walls after first wall before n a h = ap (list_all (is_wall red)) a ∙ list_all-append (is_wall red) walls (wall ∷ [])
+    ∙ both (list_all (is_wall red) walls) (is_wall red wall && true) h (both (is_wall red wall) true n.wall_is.whole refl)
 
 few_walls : (walls : List (List ℕ)) → length walls ≤ 200 → nat_le (length walls) 200 ≡ true
 few_walls walls h = grind (arith, nat_tests)
@@ -137,26 +146,33 @@ lines_of_walls rules walls r few whole = record { rules_fit = r; walls_fit = bot
 no_next_wall : (rules : Rules) (walls : List (List ℕ)) (first : List ℕ) → IsNoNext rules.red (length walls) first → IsNextWall rules walls (first ++ 10 ∷ []) → ⊥
 no_next_wall rules walls first n w = let few = w.few in n (grind (arith, nat_tests)) w.tiles w.fits (sym w.is)
 
-wall_breaks : (needed : Bool) (rules : Rules) (walls : List (List ℕ)) (first : List ℕ) → needed ≡ true → IsNoNext rules.red (length walls) first → BreaksByWall needed rules walls [] (first ++ 10 ∷ []) WallFault
+wall_breaks : (needed : Bool) (rules : Rules) (walls : List (List ℕ)) (first : List ℕ) → needed ≡ true → IsNoNext rules.red (length walls) first →
+    BreaksByWall needed rules walls [] (first ++ 10 ∷ []) WallFault
 wall_breaks true rules walls first e n = no_next_wall rules walls first n
 wall_breaks false rules walls first e n = absurd (false≢true e)
 
-pub bad_wall : (rules : Rules) (walls : List (List ℕ)) (text rest first others : List ℕ) (before number : ℕ) (needed : Bool) → are_rules rules ≡ true → length walls ≤ 200 → list_all (is_wall rules.red) walls ≡ true → header_line rules ++ text ≡ record_text rules walls [] ++ rest → BeginsWithLine rest first others →
-    needed ≡ needs_wall walls [] (first ++ 10 ∷ []) → needed ≡ true → before ≡ length walls → IsNoNext rules.red before first → number ≡ length walls + 2 → Tells (header_line rules ++ text) (Bad number causes.Wall)
+pub bad_wall : (rules : Rules) (walls : List (List ℕ)) (text rest first others : List ℕ) (before number : ℕ) (needed : Bool) →
+    are_rules rules ≡ true → length walls ≤ 200 → list_all (is_wall rules.red) walls ≡ true → header_line rules ++ text ≡ record_text rules walls []
+    ++ rest → BeginsWithLine rest first others →
+    needed ≡ needs_wall walls [] (first ++ 10 ∷ []) → needed ≡ true → before ≡ length walls → IsNoNext rules.red before first →
+    number ≡ length walls + 2 → Tells (header_line rules ++ text) (Bad number causes.Wall)
 bad_wall rules walls text rest first others before number needed r few whole said b nd must e n num = record {
   before = Lines rules walls [];
   rest = rest;
   sound = lines_of_walls rules walls r few whole;
   is = said;
   place = omega (arith, num);
-  breaks = breaks_at (Lines rules walls []) rest first others WallFault b (wall_breaks (needs_wall walls [] (first ++ 10 ∷ [])) rules walls first (sym nd ∙ must) (subst (λ (n : ℕ). IsNoNext rules.red n first) e n));
+  breaks = breaks_at (Lines rules walls []) rest first others WallFault b (wall_breaks (needs_wall walls [] (first ++ 10 ∷ [])) rules walls first
+      (sym nd ∙ must) (subst (λ (n : ℕ). IsNoNext rules.red n first) e n));
 }
 
 no_walls : (walls : List (List ℕ)) → (length walls == 0) ≡ true → walls ≡ []
 no_walls [] h = refl
 no_walls (wall ∷ walls) h = absurd (not_empty (length walls) h)
 
-pub lacks_wall : (rules : Rules) (walls : List (List ℕ)) (text rest : List ℕ) (answer : Checked) (empty keeps : Bool) (kept : List Deed) → are_rules rules ≡ true → header_line rules ++ text ≡ record_text rules walls [] ++ rest → HasNoLine rest → empty ≡ (length walls == 0) → empty ≡ true → answer ≡ Bad 2 (cause_at_end rest causes.Wall) →
+pub lacks_wall : (rules : Rules) (walls : List (List ℕ)) (text rest : List ℕ) (answer : Checked) (empty keeps : Bool) (kept : List Deed) →
+    are_rules rules ≡ true → header_line rules ++ text ≡ record_text rules walls [] ++ rest → HasNoLine rest → empty ≡ (length walls == 0) →
+    empty ≡ true → answer ≡ Bad 2 (cause_at_end rest causes.Wall) →
     TellsKept (header_line rules ++ text) answer keeps kept
 lacks_wall rules walls text rest answer empty keeps kept r said n e y a =
     let none : walls ≡ [] = no_walls walls (sym e ∙ y) in
@@ -177,13 +193,16 @@ one_line : (text a b c d : List ℕ) → BeginsWithLine text a b → text ≡ c 
 one_line text a b c d h e n =
     let same : a ∷ whole_lines b ≡ c ∷ whole_lines d = sym h.lines ∙ ap whole_lines e ∙ whole_lines-at c d n in cc same
 
-pub none_needed : (walls : List (List ℕ)) (rest first others : List ℕ) (needed : Bool) → BeginsWithLine rest first others → needed ≡ needs_wall walls [] (first ++ 10 ∷ []) → needed ≡ false → NoneNeeded walls [] rest
+pub none_needed : (walls : List (List ℕ)) (rest first others : List ℕ) (needed : Bool) → BeginsWithLine rest first others →
+    needed ≡ needs_wall walls [] (first ++ 10 ∷ []) → needed ≡ false → NoneNeeded walls [] rest
 none_needed walls rest first others needed b e n one more is plain = rw (one_line rest first others one more b is plain) (sym e ∙ n)
 
 pub none_left : (walls : List (List ℕ)) (deeds : List Deed) (rest : List ℕ) → HasNoLine rest → NoneNeeded walls deeds rest
 none_left walls deeds rest n one more is plain = absurd (false≢true (sym n.plain ∙ ap (has_byte 10) is ∙ has_byte-at 10 one more))
 
-pub tells_from : (rules : Rules) (walls : List (List ℕ)) (text rest : List ℕ) (answer : Checked) (keeps : Bool) (kept : List Deed) → header_line rules ++ text ≡ record_text rules walls [] ++ rest → TellsKept (record_text rules walls [] ++ rest) answer keeps kept → TellsKept (header_line rules ++ text) answer keeps kept
+pub tells_from : (rules : Rules) (walls : List (List ℕ)) (text rest : List ℕ) (answer : Checked) (keeps : Bool) (kept : List Deed) →
+    header_line rules ++ text ≡ record_text rules walls [] ++ rest → TellsKept (record_text rules walls [] ++ rest) answer keeps kept →
+    TellsKept (header_line rules ++ text) answer keeps kept
 tells_from rules walls text rest answer keeps kept said t = subst (λ xs. TellsKept xs answer keeps kept) (sym said) t
 
 -- the deeds
@@ -202,7 +221,8 @@ deed_more rules walls deeds deed =
 
 whole_line : (rest first others : List ℕ) → rest ≡ first ++ 10 ∷ others → take (length first + 1) rest ≡ first ++ 10 ∷ []
 whole_line rest first others e =
-    ap (take (length first + 1)) (e ∙ sym (append_assoc first (10 ∷ []) others)) ∙ ap (λ n. take n (first ++ 10 ∷ [] ++ others)) (sym (length-append first (10 ∷ []))) ∙ take-append_seam (first ++ 10 ∷ []) others
+    ap (take (length first + 1)) (e ∙ sym (append_assoc first (10 ∷ []) others)) ∙ ap (λ n. take n (first ++ 10 ∷ [] ++ others))
+    (sym (length-append first (10 ∷ []))) ∙ take-append_seam (first ++ 10 ∷ []) others
 
 after_walls : (walls : List (List ℕ)) (deeds : List Deed) (deed : Deed) (text : List ℕ) → 1 ≤ length walls → needs_wall walls (deeds ++ deed ∷ []) text ≡ false
 after_walls [] deeds deed text h = absurd (omega (arith, h))
@@ -212,7 +232,9 @@ after_walls (wall ∷ walls) (first ∷ deeds) deed text h = refl
 pub play_begins : (rules : Rules) (walls : List (List ℕ)) (text : List ℕ) (play : Play) → play ≡ record { rules = rules; deeds = [] } → NoneNeeded walls [] text → InPlay rules walls text text play 0
 play_begins rules walls text play e n = rw e (record { said = refl; rules_are = refl; played = tt; count = refl; other = n })
 
-pub play_goes_on : (rules : Rules) (walls : List (List ℕ)) (text rest first others told : List ℕ) (before after : Play) (number : ℕ) → 1 ≤ length walls → InPlay rules walls text rest before number → BeginsWithLine rest first others → told ≡ take (length first + 1) rest → Follows walls before after told →
+pub play_goes_on : (rules : Rules) (walls : List (List ℕ)) (text rest first others told : List ℕ) (before after : Play) (number : ℕ) →
+    1 ≤ length walls → InPlay rules walls text rest before number → BeginsWithLine rest first others → told ≡ take (length first + 1) rest →
+    Follows walls before after told →
     InPlay rules walls text others after (number + 1)
 play_goes_on rules walls text rest first others told before after number some p b t f =
     let deeds : after.deeds ≡ before.deeds ++ f.deed ∷ [] = ap (λ (x : Play). x.deeds) f.more in
@@ -228,7 +250,8 @@ play_goes_on rules walls text rest first others told before after number some p 
       other = λ one more e plain. ap (λ ds. needs_wall walls ds (one ++ 10 ∷ [])) deeds ∙ after_walls walls before.deeds f.deed (one ++ 10 ∷ []) some;
     }
 
-pub few_played : (rules : Rules) (walls : List (List ℕ)) (text rest : List ℕ) (play : Play) (number : ℕ) → 1 ≤ length walls → list_all (is_wall rules.red) walls ≡ true → InPlay rules walls text rest play number → number ≤ 60002
+pub few_played : (rules : Rules) (walls : List (List ℕ)) (text rest : List ℕ) (play : Play) (number : ℕ) → 1 ≤ length walls →
+    list_all (is_wall rules.red) walls ≡ true → InPlay rules walls text rest play number → number ≤ 60002
 few_played rules walls text rest play number some whole p =
     let few = (few_deeds rules walls play.deeds (each_is_wall rules.red walls some whole) p.played).1 in
     omega (arith, few, p.count)
@@ -248,7 +271,9 @@ pub record Walled (rules : Rules) (walls : List (List ℕ)) : Type 0 where
   pub few : length walls ≤ 200
   pub whole : list_all (is_wall rules.red) walls ≡ true
 
-no_record : (rules : Rules) (walls : List (List ℕ)) (text rest : List ℕ) (play : Play) (number first : ℕ) (fault : Fault) → Walled rules walls → InPlay rules walls text rest play number → first ≡ length walls + 2 → Breaks (Lines rules walls play.deeds) (whole_lines rest) (unfinished rest) fault →
+no_record : (rules : Rules) (walls : List (List ℕ)) (text rest : List ℕ) (play : Play) (number first : ℕ) (fault : Fault) → Walled rules walls →
+    InPlay rules walls text rest play number → first ≡ length walls + 2 → Breaks (Lines rules walls play.deeds) (whole_lines rest) (unfinished rest)
+    fault →
     IsNoRecord (record_text rules walls [] ++ text) (first + number) fault
 no_record rules walls text rest play number first fault w p f breaks = record {
   before = Lines rules walls play.deeds;
@@ -259,7 +284,8 @@ no_record rules walls text rest play number first fault w p f breaks = record {
   breaks = breaks;
 }
 
-line_breaks : (needed : Bool) (rules : Rules) (walls : List (List ℕ)) (before after : Play) (told : List ℕ) (cause : Cause) → before.rules ≡ rules → needed ≡ false → FollowsOr (Some cause) walls before after told → BreaksByWall needed rules walls before.deeds told (fault_of cause)
+line_breaks : (needed : Bool) (rules : Rules) (walls : List (List ℕ)) (before after : Play) (told : List ℕ) (cause : Cause) → before.rules ≡ rules →
+    needed ≡ false → FollowsOr (Some cause) walls before after told → BreaksByWall needed rules walls before.deeds told (fault_of cause)
 line_breaks true rules walls before after told cause r n f = absurd (false≢true (sym n))
 line_breaks false rules walls before after told causes.Line r n f = f
 line_breaks false rules walls before after told causes.Next r n f = subst (λ (x : Rules). BreaksByWall false x walls before.deeds told (fault_of causes.Next)) r f
@@ -267,13 +293,16 @@ line_breaks false rules walls before after told causes.Header r n f = absurd f
 line_breaks false rules walls before after told causes.Wall r n f = absurd f
 line_breaks false rules walls before after told causes.Cut r n f = absurd f
 
-pub bad_deed : (rules : Rules) (walls : List (List ℕ)) (text rest one others told : List ℕ) (before after : Play) (number first : ℕ) (cause : Cause) → Walled rules walls → InPlay rules walls text rest before number → first ≡ length walls + 2 → BeginsWithLine rest one others → told ≡ take (length one + 1) rest →
+pub bad_deed : (rules : Rules) (walls : List (List ℕ)) (text rest one others told : List ℕ) (before after : Play) (number first : ℕ) (cause : Cause) →
+    Walled rules walls → InPlay rules walls text rest before number → first ≡ length walls + 2 → BeginsWithLine rest one others →
+    told ≡ take (length one + 1) rest →
     FollowsOr (Some cause) walls before after told → Tells (record_text rules walls [] ++ text) (Bad (first + number) cause)
 bad_deed rules walls text rest one others told before after number first cause w p f b t broken =
     let is : told ≡ one ++ 10 ∷ [] = t ∙ whole_line rest one others b.parts in
     no_record rules walls text rest before number first (fault_of cause) w p f
     (breaks_at (Lines rules walls before.deeds) rest one others (fault_of cause) b
-    (line_breaks (needs_wall walls before.deeds (one ++ 10 ∷ [])) rules walls before after (one ++ 10 ∷ []) cause p.rules_are (p.other one others b.parts b.plain) (subst (λ xs. FollowsOr (Some cause) walls before after xs) is broken)))
+    (line_breaks (needs_wall walls before.deeds (one ++ 10 ∷ [])) rules walls before after (one ++ 10 ∷ []) cause p.rules_are
+    (p.other one others b.parts b.plain) (subst (λ xs. FollowsOr (Some cause) walls before after xs) is broken)))
 
 cut_breaks : (before : Before) (rest : List ℕ) → HasNoLine rest → (length rest == 0) ≡ false → Breaks before (whole_lines rest) (unfinished rest) CutFault
 cut_breaks before rest n some = by_rest rest n.ending n.lines some
@@ -282,12 +311,16 @@ cut_breaks before rest n some = by_rest rest n.ending n.lines some
     by_rest [] u w some = cc some
     by_rest (byte ∷ bytes) u w some = rw (u, w) tt
 
-pub cut : (rules : Rules) (walls : List (List ℕ)) (text rest : List ℕ) (play : Play) (number first : ℕ) (empty : Bool) → Walled rules walls → InPlay rules walls text rest play number → first ≡ length walls + 2 → HasNoLine rest → empty ≡ (length rest == 0) → empty ≡ false →
+pub cut : (rules : Rules) (walls : List (List ℕ)) (text rest : List ℕ) (play : Play) (number first : ℕ) (empty : Bool) → Walled rules walls →
+    InPlay rules walls text rest play number → first ≡ length walls + 2 → HasNoLine rest → empty ≡ (length rest == 0) → empty ≡ false →
     Tells (record_text rules walls [] ++ text) (Bad (first + number) causes.Cut)
 cut rules walls text rest play number first empty w p f n e some = no_record rules walls text rest play number first CutFault w p f (cut_breaks (Lines rules walls play.deeds) rest n (sym e ∙ some))
 
-pub good : (rules : Rules) (walls : List (List ℕ)) (text rest : List ℕ) (play : Play) (number deposits_are : ℕ) (points_are : List ℤ) (empty keeps : Bool) (kept : List Deed) → Walled rules walls → InPlay rules walls text rest play number → IsList keeps kept play.deeds → empty ≡ (length rest == 0) → empty ≡ true →
-    points_are ≡ points play.deeds → deposits_are ≡ deposits play.deeds → TellsKept (record_text rules walls [] ++ text) (Good (record { deeds = number; points = points_are; deposits = deposits_are })) keeps kept
+pub good : (rules : Rules) (walls : List (List ℕ)) (text rest : List ℕ) (play : Play) (number deposits_are : ℕ) (points_are : List ℤ)
+    (empty keeps : Bool) (kept : List Deed) → Walled rules walls → InPlay rules walls text rest play number → IsList keeps kept play.deeds →
+    empty ≡ (length rest == 0) → empty ≡ true →
+    points_are ≡ points play.deeds → deposits_are ≡ deposits play.deeds → TellsKept (record_text rules walls [] ++ text)
+    (Good (record { deeds = number; points = points_are; deposits = deposits_are })) keeps kept
 good rules walls text rest play number deposits_are points_are empty keeps kept w p k e y pe de =
     let none : rest ≡ [] = no_bytes rest (sym e ∙ y) in
     record {

@@ -64,7 +64,8 @@ no_end text more e h = by_body e.body (h ∙ opened text more e)
 
 -- what a deed's line begins with
 begins : (deed : Deed) (more : List ℕ) → take 4 (line Record deed ++ more) ≡ codes "{\"ty"
-unfolding start_game_line start_hand_line draw_line discard_line call_object closed_kan_line added_kan_line dora_line reach_line reach_accepted_line win_line drawn_hand_line end_hand_line end_game_line
+unfolding start_game_line start_hand_line draw_line discard_line call_object closed_kan_line added_kan_line dora_line reach_line reach_accepted_line
+    win_line drawn_hand_line end_hand_line end_game_line
 begins (StartGame names) more = refl
 begins (StartHand round number honba deposits dealer indicator hands) more = refl
 begins (Draw seat tile replacement) more = refl
@@ -101,8 +102,10 @@ wall_needed (wall ∷ walls) tiles = ap (λ xs. bytes_eq xs (codes "wall")) (ap 
 -- a line that leads on: the next one of a record
 data Next (before : Before) (rest : List ℕ) : Type 0 where
   ByHeader : (rules : Rules) (others : List ℕ) → before ≡ Nothing → are_rules rules ≡ true → rest ≡ header_line rules ++ others → Next before rest
-  ByWall : (rules : Rules) (walls : List (List ℕ)) (tiles others : List ℕ) → before ≡ Lines rules walls [] → is_wall rules.red tiles ≡ true → length walls < 200 → rest ≡ wall_line tiles ++ others → Next before rest
-  ByDeed : (rules : Rules) (walls : List (List ℕ)) (deeds : List Deed) (deed : Deed) (others : List ℕ) → before ≡ Lines rules walls deeds → 1 ≤ length walls → is_deed deed ≡ true → IsPlayedBehind rules walls deeds deed →
+  ByWall : (rules : Rules) (walls : List (List ℕ)) (tiles others : List ℕ) → before ≡ Lines rules walls [] → is_wall rules.red tiles ≡ true →
+      length walls < 200 → rest ≡ wall_line tiles ++ others → Next before rest
+  ByDeed : (rules : Rules) (walls : List (List ℕ)) (deeds : List Deed) (deed : Deed) (others : List ℕ) → before ≡ Lines rules walls deeds →
+      1 ≤ length walls → is_deed deed ≡ true → IsPlayedBehind rules walls deeds deed →
       rest ≡ line Record deed ++ others → Next before rest
 
 next_ends : (before : Before) → Next before [] → ⊥
@@ -111,7 +114,8 @@ next_ends before (ByWall rules walls tiles others b h few e) = no_end (wall_line
 next_ends before (ByDeed rules walls deeds deed others b some h played e) = no_end (line Record deed) others (deed_ends deed h) e
 
 -- it doesn't break the form
-broken : (before after : Before) (rest text others : List ℕ) (fault : Fault) → Ended text → before ≡ after → rest ≡ text ++ others → Breaks before (whole_lines rest) (unfinished rest) fault → LineBreaks after text fault
+broken : (before after : Before) (rest text others : List ℕ) (fault : Fault) → Ended text → before ≡ after → rest ≡ text ++ others →
+    Breaks before (whole_lines rest) (unfinished rest) fault → LineBreaks after text fault
 broken before after rest text others fault e b r h =
     let lines : whole_lines rest ≡ e.body ∷ whole_lines others = ap whole_lines (r ∙ opened text others e) ∙ whole_lines-at e.body others e.plain in
     let first : LineBreaks before (e.body ++ 10 ∷ []) fault = subst (λ (xs : List (List ℕ)). Breaks before xs (unfinished rest) fault) lines h in
@@ -132,7 +136,8 @@ wall_holds true rules walls text LineFault n w b = b
 wall_holds true rules walls text NextFault n w b = b
 wall_holds true rules walls text CutFault n w b = b
 
-deed_holds : (needed : Bool) (rules : Rules) (walls : List (List ℕ)) (deeds : List Deed) (text : List ℕ) (deed : Deed) (fault : Fault) → needed ≡ false → IsLineOf text deed → IsPlayedBehind rules walls deeds deed → BreaksByWall needed rules walls deeds text fault → ⊥
+deed_holds : (needed : Bool) (rules : Rules) (walls : List (List ℕ)) (deeds : List Deed) (text : List ℕ) (deed : Deed) (fault : Fault) →
+    needed ≡ false → IsLineOf text deed → IsPlayedBehind rules walls deeds deed → BreaksByWall needed rules walls deeds text fault → ⊥
 deed_holds true rules walls deeds text deed fault n l p b = false≢true (sym n)
 deed_holds false rules walls deeds text deed HeaderFault n l p b = b
 deed_holds false rules walls deeds text deed WallFault n l p b = b
@@ -144,7 +149,12 @@ next_holds : (before : Before) (rest : List ℕ) (fault : Fault) → Next before
 next_holds before rest fault (ByHeader rules others b h e) k =
     header_holds rules fault h (broken before Nothing rest (header_line rules) others fault (header_ends rules h) b e k)
 next_holds before rest fault (ByWall rules walls tiles others b h few e) k =
-    wall_holds (needs_wall walls [] (wall_line tiles)) rules walls (wall_line tiles) fault (wall_needed walls tiles) (record { tiles = tiles; fits = h; few = lt-ltb (length walls) 200 few; is = refl })
+    wall_holds (needs_wall walls [] (wall_line tiles)) rules walls (wall_line tiles) fault (wall_needed walls tiles) (record {
+      tiles = tiles;
+      fits = h;
+      few = lt-ltb (length walls) 200 few;
+      is = refl;
+    })
     (broken before (Lines rules walls []) rest (wall_line tiles) others fault (wall_ends rules.red tiles h) b e k)
 next_holds before rest fault (ByDeed rules walls deeds deed others b some h played e) k =
     deed_holds (needs_wall walls deeds (line Record deed)) rules walls deeds (line Record deed) deed fault (deed_needs_none walls deeds deed some) (record { fits = h; is = refl }) played
@@ -158,7 +168,8 @@ wall_faults rules walls deeds text LineFault b = absurd b
 wall_faults rules walls deeds text NextFault b = absurd b
 wall_faults rules walls deeds text CutFault b = absurd b
 
-deed_faults : (rules : Rules) (walls : List (List ℕ)) (deeds : List Deed) (text : List ℕ) (one other : Fault) → BreaksByWall false rules walls deeds text one → BreaksByWall false rules walls deeds text other → one ≡ other
+deed_faults : (rules : Rules) (walls : List (List ℕ)) (deeds : List Deed) (text : List ℕ) (one other : Fault) → BreaksByWall false rules walls deeds
+    text one → BreaksByWall false rules walls deeds text other → one ≡ other
 deed_faults rules walls deeds text LineFault LineFault b c = refl
 deed_faults rules walls deeds text LineFault NextFault b c = absurd (b c.deed c.line_of)
 deed_faults rules walls deeds text LineFault HeaderFault b c = absurd c
@@ -173,7 +184,8 @@ deed_faults rules walls deeds text HeaderFault other b c = absurd b
 deed_faults rules walls deeds text WallFault other b c = absurd b
 deed_faults rules walls deeds text CutFault other b c = absurd b
 
-either_faults : (needed : Bool) (rules : Rules) (walls : List (List ℕ)) (deeds : List Deed) (text : List ℕ) (one other : Fault) → BreaksByWall needed rules walls deeds text one → BreaksByWall needed rules walls deeds text other → one ≡ other
+either_faults : (needed : Bool) (rules : Rules) (walls : List (List ℕ)) (deeds : List Deed) (text : List ℕ) (one other : Fault) →
+    BreaksByWall needed rules walls deeds text one → BreaksByWall needed rules walls deeds text other → one ≡ other
 either_faults true rules walls deeds text one other b c = wall_faults rules walls deeds text one b ∙ sym (wall_faults rules walls deeds text other c)
 either_faults false rules walls deeds text one other b c = deed_faults rules walls deeds text one other b c
 
@@ -240,10 +252,13 @@ wall_more red x y one other rest more e (Equal f g) = Equal (λ i. e i ∷ f i) 
 wall_more red x y one other rest more e (Fewer tiles others later f h g) = Fewer tiles others later (λ i. sym e i ∷ f i) h g
 wall_more red x y one other rest more e (Further tiles others later f h g) = Further tiles others later (λ i. e i ∷ f i) h g
 
-walls_compared : (red : Bool) (one other : List (List ℕ)) (rest more : List ℕ) → list_all (is_wall red) one ≡ true → list_all (is_wall red) other ≡ true → flat_map wall_line one ++ rest ≡ flat_map wall_line other ++ more → Walls red one rest other more
+walls_compared : (red : Bool) (one other : List (List ℕ)) (rest more : List ℕ) → list_all (is_wall red) one ≡ true →
+    list_all (is_wall red) other ≡ true → flat_map wall_line one ++ rest ≡ flat_map wall_line other ++ more → Walls red one rest other more
 walls_compared red [] [] rest more h k e = Equal refl e
-walls_compared red [] (y ∷ other) rest more h k e = Fewer y (flat_map wall_line other ++ more) other refl (and_parts (is_wall red y) (list_all (is_wall red) other) k).0 (e ∙ append_assoc (wall_line y) (flat_map wall_line other) more)
-walls_compared red (x ∷ one) [] rest more h k e = Further x (flat_map wall_line one ++ rest) one refl (and_parts (is_wall red x) (list_all (is_wall red) one) h).0 (sym e ∙ append_assoc (wall_line x) (flat_map wall_line one) rest)
+walls_compared red [] (y ∷ other) rest more h k e = Fewer y (flat_map wall_line other ++ more) other refl
+    (and_parts (is_wall red y) (list_all (is_wall red) other) k).0 (e ∙ append_assoc (wall_line y) (flat_map wall_line other) more)
+walls_compared red (x ∷ one) [] rest more h k e = Further x (flat_map wall_line one ++ rest) one refl
+    (and_parts (is_wall red x) (list_all (is_wall red) one) h).0 (sym e ∙ append_assoc (wall_line x) (flat_map wall_line one) rest)
 walls_compared red (x ∷ one) (y ∷ other) rest more h k e =
     let p = and_parts (is_wall red x) (list_all (is_wall red) one) h in
     let q = and_parts (is_wall red y) (list_all (is_wall red) other) k in
@@ -276,19 +291,23 @@ record Walled (rules : Rules) (walls : List (List ℕ)) : Type 0 where
   some : 1 ≤ length walls
   whole : (number : ℕ) → is_wall rules.red (wall_of walls number) ≡ true
 
-deeds_compared : (rules : Rules) (walls : List (List ℕ)) (before one other : List Deed) (rest more : List ℕ) → Walled rules walls → IsPlayed rules walls before → AllPlayed rules walls before one → AllPlayed rules walls before other →
+deeds_compared : (rules : Rules) (walls : List (List ℕ)) (before one other : List Deed) (rest more : List ℕ) → Walled rules walls →
+    IsPlayed rules walls before → AllPlayed rules walls before one → AllPlayed rules walls before other →
     flat_map (line Record) one ++ rest ≡ flat_map (line Record) other ++ more → Compared (Lines rules walls (before ++ one)) rest (Lines rules walls (before ++ other)) more
 deeds_compared rules walls before [] [] rest more w played p q e = Same refl e
 deeds_compared rules walls before [] (y ∷ other) rest more w played p q e =
-    Shorter (ByDeed rules walls before y (flat_map (line Record) other ++ more) (ap (Lines rules walls) (append-nil before)) w.some (played_value rules walls before y w.whole played q.0) q.0 (e ∙ append_assoc (line Record y) (flat_map (line Record) other) more))
+    Shorter (ByDeed rules walls before y (flat_map (line Record) other ++ more) (ap (Lines rules walls) (append-nil before)) w.some
+    (played_value rules walls before y w.whole played q.0) q.0 (e ∙ append_assoc (line Record y) (flat_map (line Record) other) more))
 deeds_compared rules walls before (x ∷ one) [] rest more w played p q e =
-    Longer (ByDeed rules walls before x (flat_map (line Record) one ++ rest) (ap (Lines rules walls) (append-nil before)) w.some (played_value rules walls before x w.whole played p.0) p.0 (sym e ∙ append_assoc (line Record x) (flat_map (line Record) one) rest))
+    Longer (ByDeed rules walls before x (flat_map (line Record) one ++ rest) (ap (Lines rules walls) (append-nil before)) w.some
+    (played_value rules walls before x w.whole played p.0) p.0 (sym e ∙ append_assoc (line Record x) (flat_map (line Record) one) rest))
 deeds_compared rules walls before (x ∷ one) (y ∷ other) rest more w played p q e =
     let c = cut (line Record x) (line Record y) (flat_map (line Record) one ++ rest) (flat_map (line Record) other ++ more)
     (deed_ends x (played_value rules walls before x w.whole played p.0)) (deed_ends y (played_value rules walls before y w.whole played q.0))
     (sym (append_assoc (line Record x) (flat_map (line Record) one) rest) ∙ e ∙ append_assoc (line Record y) (flat_map (line Record) other) more) in
     let same : x ≡ y = deed_same rules walls before x y w.whole played p.0 q.0 c.0 in
-    let others = deeds_compared rules walls (before ++ x ∷ []) one other rest more w (played_more rules walls before x played p.0) p.1 (subst (λ (d : Deed). AllPlayed rules walls (before ++ d ∷ []) other) (sym same) q.1) c.1 in
+    let others = deeds_compared rules walls (before ++ x ∷ []) one other rest more w (played_more rules walls before x played p.0) p.1
+    (subst (λ (d : Deed). AllPlayed rules walls (before ++ d ∷ []) other) (sym same) q.1) c.1 in
     subst (λ (d : Deed). Compared (Lines rules walls (before ++ x ∷ one)) rest (Lines rules walls (before ++ d ∷ other)) more) same
     (subst (λ (ds : List Deed). Compared (Lines rules walls (before ++ x ∷ one)) rest (Lines rules walls ds) more) (append_assoc before (x ∷ []) other)
     (subst (λ (ds : List Deed). Compared (Lines rules walls ds) rest (Lines rules walls (before ++ x ∷ [] ++ other)) more) (append_assoc before (x ∷ []) one) others))
@@ -310,7 +329,8 @@ walled rules walls h =
     let some = leb-true 1 (length walls) (and_parts (nat_le 1 (length walls)) (nat_le (length walls) 200) p.0).0 in
     record { some = some; whole = each_is_wall rules.red walls some p.1 }
 
-same_walls : (rules : Rules) (walls : List (List ℕ)) (one other : List Deed) (rest more : List ℕ) → AreLines rules walls one → AreLines rules walls other → flat_map (line Record) one ++ rest ≡ flat_map (line Record) other ++ more →
+same_walls : (rules : Rules) (walls : List (List ℕ)) (one other : List Deed) (rest more : List ℕ) → AreLines rules walls one →
+    AreLines rules walls other → flat_map (line Record) one ++ rest ≡ flat_map (line Record) other ++ more →
     Compared (Lines rules walls one) rest (Lines rules walls other) more
 same_walls rules walls [] [] rest more s t e = Same refl e
 same_walls rules walls [] (y ∷ other) rest more s t e = deeds_compared rules walls [] [] (y ∷ other) rest more (walled rules walls t.walls_fit) tt s.played t.played e
@@ -321,36 +341,50 @@ room one other tiles later e h =
     let long : length other ≡ length one + suc (length later) = ap length e ∙ length-append one (tiles ∷ later) in
     omega (arith, long, h)
 
-wall_leads : (rules : Rules) (walls : List (List ℕ)) (deeds : List Deed) (rest tiles others : List ℕ) → is_wall rules.red tiles ≡ true → length walls < 200 → flat_map (line Record) deeds ++ rest ≡ wall_line tiles ++ others → Next (Lines rules walls deeds) rest
+wall_leads : (rules : Rules) (walls : List (List ℕ)) (deeds : List Deed) (rest tiles others : List ℕ) → is_wall rules.red tiles ≡ true →
+    length walls < 200 → flat_map (line Record) deeds ++ rest ≡ wall_line tiles ++ others → Next (Lines rules walls deeds) rest
 wall_leads rules walls [] rest tiles others h few e = ByWall rules walls tiles others refl h few e
-wall_leads rules walls (deed ∷ deeds) rest tiles others h few e = absurd (no_deed_is_wall deed tiles (flat_map (line Record) deeds ++ rest) others (sym (append_assoc (line Record deed) (flat_map (line Record) deeds) rest) ∙ e))
+wall_leads rules walls (deed ∷ deeds) rest tiles others h few e =
+    absurd (no_deed_is_wall deed tiles (flat_map (line Record) deeds ++ rest) others
+    (sym (append_assoc (line Record deed) (flat_map (line Record) deeds) rest) ∙ e))
 
-by_walls : (rules : Rules) (walls others : List (List ℕ)) (one other : List Deed) (rest more : List ℕ) → AreLines rules walls one → AreLines rules others other → Walls rules.red walls (flat_map (line Record) one ++ rest) others (flat_map (line Record) other ++ more) →
+by_walls : (rules : Rules) (walls others : List (List ℕ)) (one other : List Deed) (rest more : List ℕ) → AreLines rules walls one →
+    AreLines rules others other → Walls rules.red walls (flat_map (line Record) one ++ rest) others (flat_map (line Record) other ++ more) →
     Compared (Lines rules walls one) rest (Lines rules others other) more
 by_walls rules walls others one other rest more s t (Equal f g) =
-    subst (λ (ws : List (List ℕ)). Compared (Lines rules walls one) rest (Lines rules ws other) more) f (same_walls rules walls one other rest more s (subst (λ (ws : List (List ℕ)). AreLines rules ws other) (sym f) t) g)
-by_walls rules walls others one other rest more s t (Fewer tiles behind later f h g) = Shorter (wall_leads rules walls one rest tiles behind h (room walls others tiles later f (wall_parts rules others other t.walls_fit).few) g)
-by_walls rules walls others one other rest more s t (Further tiles behind later f h g) = Longer (wall_leads rules others other more tiles behind h (room others walls tiles later f (wall_parts rules walls one s.walls_fit).few) g)
+    subst (λ (ws : List (List ℕ)). Compared (Lines rules walls one) rest (Lines rules ws other) more) f (same_walls rules walls one other rest more s
+    (subst (λ (ws : List (List ℕ)). AreLines rules ws other) (sym f) t) g)
+by_walls rules walls others one other rest more s t (Fewer tiles behind later f h g) =
+    Shorter (wall_leads rules walls one rest tiles behind h (room walls others tiles later f (wall_parts rules others other t.walls_fit).few) g)
+by_walls rules walls others one other rest more s t (Further tiles behind later f h g) =
+    Longer (wall_leads rules others other more tiles behind h (room others walls tiles later f (wall_parts rules walls one s.walls_fit).few) g)
 
-said : (rules : Rules) (walls : List (List ℕ)) (deeds : List Deed) (rest : List ℕ) → record_text rules walls deeds ++ rest ≡ header_line rules ++ (flat_map wall_line walls ++ (flat_map (line Record) deeds ++ rest))
+said : (rules : Rules) (walls : List (List ℕ)) (deeds : List Deed) (rest : List ℕ) → record_text rules walls deeds ++ rest ≡ header_line rules ++
+    (flat_map wall_line walls ++ (flat_map (line Record) deeds ++ rest))
 unfolding record_text
-said rules walls deeds rest = append_assoc (header_line rules ++ flat_map wall_line walls) (flat_map (line Record) deeds) rest ∙ append_assoc (header_line rules) (flat_map wall_line walls) (flat_map (line Record) deeds ++ rest)
+said rules walls deeds rest = append_assoc (header_line rules ++ flat_map wall_line walls) (flat_map (line Record) deeds) rest
+    ∙ append_assoc (header_line rules) (flat_map wall_line walls) (flat_map (line Record) deeds ++ rest)
 
 header_same : (one other : Rules) → are_rules one ≡ true → are_rules other ≡ true → header_line one ≡ header_line other → one ≡ other
 header_same one other h k e = let w = header_ends one h in one_header w.body one other h k w.is (sym e ∙ w.is)
 
 compare : (one : Before) (rest : List ℕ) (other : Before) (more : List ℕ) → IsSound one → IsSound other → text_before one ++ rest ≡ text_before other ++ more → Compared one rest other more
 compare Nothing rest Nothing more s t e = Same refl e
-compare Nothing rest (Lines rules walls deeds) more s t e = Shorter (ByHeader rules (flat_map wall_line walls ++ (flat_map (line Record) deeds ++ more)) refl t.rules_fit (e ∙ said rules walls deeds more))
-compare (Lines rules walls deeds) rest Nothing more s t e = Longer (ByHeader rules (flat_map wall_line walls ++ (flat_map (line Record) deeds ++ rest)) refl s.rules_fit (sym e ∙ said rules walls deeds rest))
+compare Nothing rest (Lines rules walls deeds) more s t e =
+    Shorter (ByHeader rules (flat_map wall_line walls ++ (flat_map (line Record) deeds ++ more)) refl t.rules_fit (e ∙ said rules walls deeds more))
+compare (Lines rules walls deeds) rest Nothing more s t e =
+    Longer (ByHeader rules (flat_map wall_line walls ++ (flat_map (line Record) deeds ++ rest)) refl s.rules_fit (sym e
+    ∙ said rules walls deeds rest))
 compare (Lines rules walls deeds) rest (Lines others tiles acts) more s t e =
-    let c = cut (header_line rules) (header_line others) (flat_map wall_line walls ++ (flat_map (line Record) deeds ++ rest)) (flat_map wall_line tiles ++ (flat_map (line Record) acts ++ more)) (header_ends rules s.rules_fit) (header_ends others t.rules_fit)
+    let c = cut (header_line rules) (header_line others) (flat_map wall_line walls ++ (flat_map (line Record) deeds ++ rest))
+    (flat_map wall_line tiles ++ (flat_map (line Record) acts ++ more)) (header_ends rules s.rules_fit) (header_ends others t.rules_fit)
     (sym (said rules walls deeds rest) ∙ e ∙ said others tiles acts more) in
     let same : rules ≡ others = header_same rules others s.rules_fit t.rules_fit c.0 in
     let there : AreLines rules tiles acts = subst (λ (r : Rules). AreLines r tiles acts) (sym same) t in
     subst (λ (r : Rules). Compared (Lines rules walls deeds) rest (Lines r tiles acts) more) same
     (by_walls rules walls tiles deeds acts rest more s there
-    (walls_compared rules.red walls tiles (flat_map (line Record) deeds ++ rest) (flat_map (line Record) acts ++ more) (wall_parts rules walls deeds s.walls_fit).whole (wall_parts rules tiles acts there.walls_fit).whole c.1))
+    (walls_compared rules.red walls tiles (flat_map (line Record) deeds ++ rest) (flat_map (line Record) acts ++ more)
+    (wall_parts rules walls deeds s.walls_fit).whole (wall_parts rules tiles acts there.walls_fit).whole c.1))
 
 -- a record
 first_walls : (rules : Rules) (walls : List (List ℕ)) (deeds : List Deed) → are_walls rules walls ≡ true → are_first_walls rules walls deeds ≡ true
@@ -404,7 +438,8 @@ one_fault text one other fault another a b = by (compare a.before a.rest b.befor
     by (Same e f) = (
       a.place ∙ ap (λ (x : Before). number_before x + 1) e ∙ sym b.place,
       one_break a.before (whole_lines a.rest) (unfinished a.rest) fault another a.breaks
-          (subst (λ (x : Before). Breaks x (whole_lines a.rest) (unfinished a.rest) another) (sym e) (subst (λ (xs : List ℕ). Breaks b.before (whole_lines xs) (unfinished xs) another) (sym f) b.breaks)),
+          (subst (λ (x : Before). Breaks x (whole_lines a.rest) (unfinished a.rest) another) (sym e)
+          (subst (λ (xs : List ℕ). Breaks b.before (whole_lines xs) (unfinished xs) another) (sym f) b.breaks)),
     )
     by (Shorter n) = absurd (next_holds a.before a.rest fault n a.breaks)
     by (Longer n) = absurd (next_holds b.before b.rest another n b.breaks)

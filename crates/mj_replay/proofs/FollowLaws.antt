@@ -54,7 +54,8 @@ no_deed text n deed l = let e = read_as text deed l in cc (n, e)
 pub other_line : (text : List ℕ) (deed : Deed) (same : Bool) → Some deed ≡ deed_in text → same ≡ bytes_eq (line Record deed) text → same ≡ false → (other : Deed) → IsLineOf text other → ⊥
 other_line text deed same r e n other l = lines_differ (line Record deed) text (sym e ∙ n) (line_read text deed other r l)
 
-pub is_next : (rules : Rules) (walls : List (List ℕ)) (deeds : List Deed) (text : List ℕ) (deed : Deed) (same : Bool) → Some deed ≡ deed_in text → same ≡ bytes_eq (line Record deed) text → same ≡ true →
+pub is_next : (rules : Rules) (walls : List (List ℕ)) (deeds : List Deed) (text : List ℕ) (deed : Deed) (same : Bool) → Some deed ≡ deed_in text →
+    same ≡ bytes_eq (line Record deed) text → same ≡ true →
     ((other : Deed) → IsLineOf text other → IsPlayedBehind rules walls deeds other → ⊥) → IsOfNoNext rules walls deeds text
 is_next rules walls deeds text deed same r e y none = record {
   deed = deed;
@@ -73,7 +74,8 @@ same_told deeds deed other e =
     let at = λ (seat : ℕ). ap (λ (d : Deed). told_of (newest deeds) d seat) e ∙ read_deeds_tell_the_same.tells (newest deeds) other seat in
     rw (at 0, at 1, at 2, at 3) refl
 
-pub none_told : (rules : Rules) (walls : List (List ℕ)) (deeds : List Deed) (text : List ℕ) (deed : Deed) (answers : Four Answer) → 1 ≤ length walls → list_all (is_wall rules.red) walls ≡ true → IsPlayed rules walls deeds →
+pub none_told : (rules : Rules) (walls : List (List ℕ)) (deeds : List Deed) (text : List ℕ) (deed : Deed) (answers : Four Answer) → 1 ≤ length walls →
+    list_all (is_wall rules.red) walls ≡ true → IsPlayed rules walls deeds →
     Some deed ≡ deed_in text → goes_on (newest deeds) ≡ true → answers ≡ for_each_seat (told_of (newest deeds) deed) →
     ((other : Deed) → line Record other ≡ text → AllLawful rules deeds answers → outcome rules walls deeds answers ≡ Some other → ⊥) →
     (other : Deed) → IsLineOf text other → IsPlayedBehind rules walls deeds other → ⊥
@@ -81,13 +83,15 @@ none_told rules walls [] text deed answers some whole played r on e none other l
 none_told rules walls (first ∷ others) text deed answers some whole played r on e none other l p =
     let give = told_answers_give rules walls (first ∷ others) other (each_is_wall rules.red walls some whole) played p in
     let same : told (first ∷ others) other ≡ answers = sym (e ∙ same_told (first ∷ others) deed other (is_read text deed other r l)) in
-    none other l.is (subst (λ (given : Four Answer). AllLawful rules (first ∷ others) given) same give.lawful) (ap (λ (given : Four Answer). outcome rules walls (first ∷ others) given) (sym same) ∙ give.gives)
+    none other l.is (subst (λ (given : Four Answer). AllLawful rules (first ∷ others) given) same give.lawful)
+    (ap (λ (given : Four Answer). outcome rules walls (first ∷ others) given) (sym same) ∙ give.gives)
 
 pub not_lawful : (rules : Rules) (walls : List (List ℕ)) (deeds : List Deed) (answers : Four Answer) (text : List ℕ) (all : Bool) → (IsTrue all ↔ AllLawful rules deeds answers) → all ≡ false →
     (other : Deed) → line Record other ≡ text → AllLawful rules deeds answers → outcome rules walls deeds answers ≡ Some other → ⊥
 not_lawful rules walls deeds answers text all h n other l lawful gives = false≢true (sym n ∙ h.1 lawful)
 
-pub other_given : (rules : Rules) (walls : List (List ℕ)) (deeds : List Deed) (answers : Four Answer) (text : List ℕ) (followed : Deed) (same : Bool) → Some followed ≡ outcome rules walls deeds answers → same ≡ bytes_eq (line Record followed) text → same ≡ false →
+pub other_given : (rules : Rules) (walls : List (List ℕ)) (deeds : List Deed) (answers : Four Answer) (text : List ℕ) (followed : Deed) (same : Bool)
+    → Some followed ≡ outcome rules walls deeds answers → same ≡ bytes_eq (line Record followed) text → same ≡ false →
     (other : Deed) → line Record other ≡ text → AllLawful rules deeds answers → outcome rules walls deeds answers ≡ Some other → ⊥
 other_given rules walls deeds answers text followed same e s n other l lawful gives =
     let is : followed ≡ other = cc (e, gives) in
@@ -100,7 +104,8 @@ pub followed_by : (walls : List (List ℕ)) (before after : Play) (text : List �
     after ≡ record { rules = before.rules; deeds = before.deeds ++ followed ∷ [] } → IsPlayed before.rules walls after.deeds → Follows walls before after text
 followed_by walls before after text followed same e y more played = record { deed = followed; line_is = line_is text followed same e y; more = more; played = played }
 
-pub followed_if : (walls : List (List ℕ)) (before after : Play) (given : Four Answer) (text : List ℕ) (followed : Deed) (yes : Bool) → Some followed ≡ outcome before.rules walls before.deeds given → yes ≡ bytes_eq (line Record followed) text →
+pub followed_if : (walls : List (List ℕ)) (before after : Play) (given : Four Answer) (text : List ℕ) (followed : Deed) (yes : Bool) →
+    Some followed ≡ outcome before.rules walls before.deeds given → yes ≡ bytes_eq (line Record followed) text →
     after ≡ record { rules = before.rules; deeds = before.deeds ++ followed ∷ [] } → IsPlayed before.rules walls after.deeds → FollowsBy yes walls before after given text
 followed_if walls before after given text followed true e s more played = followed_by walls before after text followed true s refl more played
 followed_if walls before after given text followed false e s more played = other_given before.rules walls before.deeds given text followed false e s refl
@@ -165,11 +170,14 @@ no_start rules walls deeds text deed n r d other l p =
     let k = start_is_read other start in
     false≢true (sym d ∙ ap has_different_names (is_read text deed other r l ∙ k.0) ∙ k.1)
 
-pub start_played : (rules : Rules) (walls : List (List ℕ)) (deeds : List Deed) (text : List ℕ) (deed : Deed) → newest deeds ≡ None → Some deed ≡ deed_in text → has_different_names deed ≡ true → IsPlayed rules walls (deeds ++ deed ∷ [])
+pub start_played : (rules : Rules) (walls : List (List ℕ)) (deeds : List Deed) (text : List ℕ) (deed : Deed) → newest deeds ≡ None →
+    Some deed ≡ deed_in text → has_different_names deed ≡ true → IsPlayed rules walls (deeds ++ deed ∷ [])
 start_played rules walls deeds text deed n r d =
     subst (λ (xs : List Deed). IsPlayed rules walls (xs ++ deed ∷ [])) (sym (no_newest deeds n)) (starts_game deed (read_is_value text deed r) d, tt)
 
-pub start_fits : (rules : Rules) (walls : List (List ℕ)) (deeds : List Deed) (text : List ℕ) (deed : Deed) → 1 ≤ length walls → list_all (is_wall rules.red) walls ≡ true → newest deeds ≡ None → Some deed ≡ deed_in text → has_different_names deed ≡ true → fits rules.red deeds deed ≡ true
+pub start_fits : (rules : Rules) (walls : List (List ℕ)) (deeds : List Deed) (text : List ℕ) (deed : Deed) → 1 ≤ length walls →
+    list_all (is_wall rules.red) walls ≡ true → newest deeds ≡ None → Some deed ≡ deed_in text → has_different_names deed ≡ true →
+    fits rules.red deeds deed ≡ true
 start_fits rules walls deeds text deed some whole n r d =
     subst (λ (xs : List Deed). fits rules.red xs deed ≡ true) (sym (no_newest deeds n))
     (behind_fits rules walls [] deed (each_is_wall rules.red walls some whole) tt (starts_game deed (read_is_value text deed r) d))
@@ -188,24 +196,28 @@ act_told last act =
     let at = λ (seat : ℕ). act_tells last act seat in
     rw (at 0, at 1, at 2, at 3) refl
 
-pub act_over : (rules : Rules) (walls : List (List ℕ)) (deeds : List Deed) (text : List ℕ) (act : Act) → goes_on (newest deeds) ≡ false → deed_in text ≡ Some (deed_of act) → (other : Deed) → IsLineOf text other → IsPlayedBehind rules walls deeds other → ⊥
+pub act_over : (rules : Rules) (walls : List (List ℕ)) (deeds : List Deed) (text : List ℕ) (act : Act) → goes_on (newest deeds) ≡ false →
+    deed_in text ≡ Some (deed_of act) → (other : Deed) → IsLineOf text other → IsPlayedBehind rules walls deeds other → ⊥
 act_over rules walls [] text act h r other l p = no_start rules walls [] text (deed_of act) refl (sym r) (no_names act) other l p
 act_over rules walls (first ∷ others) text act h r other l p = over rules walls (first ∷ others) other h (has_newest first others) p
 
-pub act_none : (rules : Rules) (walls : List (List ℕ)) (deeds : List Deed) (text : List ℕ) (act : Act) (answers : Four Answer) → 1 ≤ length walls → list_all (is_wall rules.red) walls ≡ true → IsPlayed rules walls deeds →
+pub act_none : (rules : Rules) (walls : List (List ℕ)) (deeds : List Deed) (text : List ℕ) (act : Act) (answers : Four Answer) → 1 ≤ length walls →
+    list_all (is_wall rules.red) walls ≡ true → IsPlayed rules walls deeds →
     deed_in text ≡ Some (deed_of act) → goes_on (newest deeds) ≡ true → answers ≡ for_each_seat (told_of None (deed_of act)) →
     ((other : Deed) → line Record other ≡ text → AllLawful rules deeds answers → outcome rules walls deeds answers ≡ Some other → ⊥) →
     (other : Deed) → IsLineOf text other → IsPlayedBehind rules walls deeds other → ⊥
 act_none rules walls deeds text act answers some whole played r on e none = none_told rules walls deeds text (deed_of act) answers some whole played (sym r) on (e ∙ act_told (newest deeds) act) none
 
-pub act_next : (rules : Rules) (walls : List (List ℕ)) (deeds : List Deed) (text : List ℕ) (act : Act) → IsLineOf text (deed_of act) → ((other : Deed) → IsLineOf text other → IsPlayedBehind rules walls deeds other → ⊥) → IsOfNoNext rules walls deeds text
+pub act_next : (rules : Rules) (walls : List (List ℕ)) (deeds : List Deed) (text : List ℕ) (act : Act) → IsLineOf text (deed_of act) →
+    ((other : Deed) → IsLineOf text other → IsPlayedBehind rules walls deeds other → ⊥) → IsOfNoNext rules walls deeds text
 act_next rules walls deeds text act l never = record { deed = deed_of act; line_of = l; never = never }
 
 pub ruleset following = (over)
 
 pub ruleset by_answers = (not_lawful)
 
-pub started : (walls : List (List ℕ)) (before after : Play) (text : List ℕ) (deed : Deed) (same : Bool) → newest before.deeds ≡ None → Some deed ≡ deed_in text → has_different_names deed ≡ true → same ≡ bytes_eq (line Record deed) text → same ≡ true →
+pub started : (walls : List (List ℕ)) (before after : Play) (text : List ℕ) (deed : Deed) (same : Bool) → newest before.deeds ≡ None →
+    Some deed ≡ deed_in text → has_different_names deed ≡ true → same ≡ bytes_eq (line Record deed) text → same ≡ true →
     after ≡ record { rules = before.rules; deeds = before.deeds ++ deed ∷ [] } → Follows walls before after text
 started walls before after text deed same n r d e y more = record {
   deed = deed;

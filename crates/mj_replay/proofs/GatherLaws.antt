@@ -31,20 +31,24 @@ behind_one b (c ∷ cs) rest h = elim (eqb_tells b c) [
 ]
 
 -- what all is, where the next item is read
-next_item : {A : Type 0} (item : List ℕ → Option (A × List ℕ)) (all : Option (List A × List ℕ)) (xs : List A) (n at : ℕ) (text : List ℕ) (r : Option (A × List ℕ)) → at < n → all ≡ ahead xs (items_from item (n - at) text) → item text ≡ r →
+next_item : {A : Type 0} (item : List ℕ → Option (A × List ℕ)) (all : Option (List A × List ℕ)) (xs : List A) (n at : ℕ) (text : List ℕ)
+    (r : Option (A × List ℕ)) → at < n → all ≡ ahead xs (items_from item (n - at) text) → item text ≡ r →
     all ≡ ahead xs (option_and_then (λ y. behind_item y.0 (items_from item (n - (at + 1))) y.1) r)
 next_item item all xs n at text r small so h =
     so ∙ ap (λ m. ahead xs (items_from item m text)) (left n at small) ∙ ap (λ o. ahead xs (option_and_then (λ y. behind_item y.0 (items_from item (n - (at + 1))) y.1) o)) h
 
 -- an item and a comma
-pub list_goes_on : {A : Type 0} (item : List ℕ → Option (A × List ℕ)) (all : Option (List A × List ℕ)) (xs ys : List A) (x : A) (n at : ℕ) (text back rest : List ℕ) → at < n → all ≡ ahead xs (items_from item (n - at) text) → Some (x, back) ≡ item text → ys ≡ xs ++ x ∷ [] → Some rest ≡ behind (codes ",") back →
+pub list_goes_on : {A : Type 0} (item : List ℕ → Option (A × List ℕ)) (all : Option (List A × List ℕ)) (xs ys : List A) (x : A) (n at : ℕ)
+    (text back rest : List ℕ) → at < n → all ≡ ahead xs (items_from item (n - at) text) → Some (x, back) ≡ item text → ys ≡ xs ++ x ∷ [] →
+    Some rest ≡ behind (codes ",") back →
     all ≡ ahead ys (items_from item (n - (at + 1)) rest)
 list_goes_on item all xs ys x n at text back rest small so h e comma =
     next_item item all xs n at text (Some (x, 44 ∷ rest)) small so (sym h ∙ ap (λ t. Some (x, t)) (behind_one 44 back rest comma)) ∙ one_more xs x (items_from item (n - (at + 1)) rest)
     ∙ ap (λ zs. ahead zs (items_from item (n - (at + 1)) rest)) (sym e)
 
 -- an item and the bracket, or neither
-ending : {A : Type 0} (xs : List A) (x : A) (others : List ℕ → Option (List A × List ℕ)) (back : List ℕ) → None ≡ behind (codes ",") back → ahead xs (behind_item x others back) ≡ option_map (λ rest. (xs ++ x ∷ [], rest)) (behind (codes "]") back)
+ending : {A : Type 0} (xs : List A) (x : A) (others : List ℕ → Option (List A × List ℕ)) (back : List ℕ) → None ≡ behind (codes ",") back →
+    ahead xs (behind_item x others back) ≡ option_map (λ rest. (xs ++ x ∷ [], rest)) (behind (codes "]") back)
 ending xs x others [] h = refl
 ending xs x others (b ∷ bs) h = elim (eqb_tells b 44) [
   | inl p ↦ absurd (false≢true (ap is_some (h ∙ ap (λ t. behind (codes ",") (t ∷ bs)) p.1)))
@@ -54,22 +58,28 @@ ending xs x others (b ∷ bs) h = elim (eqb_tells b 44) [
   ]
 ]
 
-pub list_ends : {A : Type 0} (item : List ℕ → Option (A × List ℕ)) (all : Option (List A × List ℕ)) (xs : List A) (x : A) (n at : ℕ) (text back : List ℕ) → at < n → all ≡ ahead xs (items_from item (n - at) text) → Some (x, back) ≡ item text → None ≡ behind (codes ",") back →
+pub list_ends : {A : Type 0} (item : List ℕ → Option (A × List ℕ)) (all : Option (List A × List ℕ)) (xs : List A) (x : A) (n at : ℕ)
+    (text back : List ℕ) → at < n → all ≡ ahead xs (items_from item (n - at) text) → Some (x, back) ≡ item text → None ≡ behind (codes ",") back →
     option_map (λ rest. (xs ++ x ∷ [], rest)) (behind (codes "]") back) ≡ all
 list_ends item all xs x n at text back small so h comma =
     sym (next_item item all xs n at text (Some (x, back)) small so (sym h) ∙ ending xs x (items_from item (n - (at + 1))) back comma)
 
-pub list_ends_here : {A : Type 0} (item : List ℕ → Option (A × List ℕ)) (all : Option (List A × List ℕ)) (xs ys : List A) (x : A) (n at : ℕ) (text back rest : List ℕ) → at < n → all ≡ ahead xs (items_from item (n - at) text) → Some (x, back) ≡ item text → ys ≡ xs ++ x ∷ [] → None ≡ behind (codes ",") back → Some rest ≡ behind (codes "]") back →
+pub list_ends_here : {A : Type 0} (item : List ℕ → Option (A × List ℕ)) (all : Option (List A × List ℕ)) (xs ys : List A) (x : A) (n at : ℕ)
+    (text back rest : List ℕ) → at < n → all ≡ ahead xs (items_from item (n - at) text) → Some (x, back) ≡ item text → ys ≡ xs ++ x ∷ [] →
+    None ≡ behind (codes ",") back → Some rest ≡ behind (codes "]") back →
     Some (ys, rest) ≡ all
 list_ends_here item all xs ys x n at text back rest small so h e comma bracket =
     ap (λ zs. Some (zs, rest)) e ∙ ap (option_map (λ others. (xs ++ x ∷ [], others))) bracket ∙ list_ends item all xs x n at text back small so h comma
 
-pub list_stops : {A : Type 0} (item : List ℕ → Option (A × List ℕ)) (all : Option (List A × List ℕ)) (xs : List A) (x : A) (n at : ℕ) (text back : List ℕ) → at < n → all ≡ ahead xs (items_from item (n - at) text) → Some (x, back) ≡ item text → None ≡ behind (codes ",") back → None ≡ behind (codes "]") back →
+pub list_stops : {A : Type 0} (item : List ℕ → Option (A × List ℕ)) (all : Option (List A × List ℕ)) (xs : List A) (x : A) (n at : ℕ)
+    (text back : List ℕ) → at < n → all ≡ ahead xs (items_from item (n - at) text) → Some (x, back) ≡ item text → None ≡ behind (codes ",") back →
+    None ≡ behind (codes "]") back →
     None ≡ all
 list_stops item all xs x n at text back small so h comma bracket = ap (option_map (λ others. (xs ++ x ∷ [], others))) bracket ∙ list_ends item all xs x n at text back small so h comma
 
 -- no item
-pub list_lacks : {A : Type 0} (item : List ℕ → Option (A × List ℕ)) (all : Option (List A × List ℕ)) (xs : List A) (n at : ℕ) (text : List ℕ) → at < n → all ≡ ahead xs (items_from item (n - at) text) → None ≡ item text → None ≡ all
+pub list_lacks : {A : Type 0} (item : List ℕ → Option (A × List ℕ)) (all : Option (List A × List ℕ)) (xs : List A) (n at : ℕ) (text : List ℕ) →
+    at < n → all ≡ ahead xs (items_from item (n - at) text) → None ≡ item text → None ≡ all
 list_lacks item all xs n at text small so h = sym (next_item item all xs n at text None small so (sym h))
 
 -- a question mark, and none
@@ -84,7 +94,8 @@ next_mark : (all : Option (ℕ × List ℕ)) (before : ℕ) (rest : List ℕ) �
     all ≡ marks_by (before + 1) (marks_from (255 - (before + 1)) (suc (before + 1))) (behind (codes "]") rest) (behind (codes ",\"?\"") rest)
 next_mark all before rest small so = so ∙ ap (λ m. marks_from m (before + 1) rest) (marks_left before small)
 
-pub marks_go_on : (all : Option (ℕ × List ℕ)) (before : ℕ) (rest more : List ℕ) → before < 255 → all ≡ marks_from (255 - before) (before + 1) rest → None ≡ behind (codes "]") rest → Some more ≡ behind (codes ",\"?\"") rest →
+pub marks_go_on : (all : Option (ℕ × List ℕ)) (before : ℕ) (rest more : List ℕ) → before < 255 → all ≡ marks_from (255 - before) (before + 1) rest →
+    None ≡ behind (codes "]") rest → Some more ≡ behind (codes ",\"?\"") rest →
     all ≡ marks_from (255 - (before + 1)) (before + 1 + 1) more
 marks_go_on all before rest more small so ends goes =
     let e : suc (before + 1) ≡ before + 1 + 1 = omega arith in
@@ -93,13 +104,15 @@ marks_go_on all before rest more small so ends goes =
     ∙ ap (option_and_then (marks_from (255 - (before + 1)) (suc (before + 1)))) (sym goes)
     ∙ ap (λ m. marks_from (255 - (before + 1)) m more) e
 
-pub marks_lack : (all : Option (ℕ × List ℕ)) (before : ℕ) (rest : List ℕ) → before < 255 → all ≡ marks_from (255 - before) (before + 1) rest → None ≡ behind (codes "]") rest → None ≡ behind (codes ",\"?\"") rest → None ≡ all
+pub marks_lack : (all : Option (ℕ × List ℕ)) (before : ℕ) (rest : List ℕ) → before < 255 → all ≡ marks_from (255 - before) (before + 1) rest →
+    None ≡ behind (codes "]") rest → None ≡ behind (codes ",\"?\"") rest → None ≡ all
 marks_lack all before rest small so ends lacks =
     sym (next_mark all before rest small so
     ∙ ap (λ o. marks_by (before + 1) (marks_from (255 - (before + 1)) (suc (before + 1))) o (behind (codes ",\"?\"") rest)) (sym ends)
     ∙ ap (option_and_then (marks_from (255 - (before + 1)) (suc (before + 1)))) (sym lacks))
 
-pub marks_end : (all : Option (ℕ × List ℕ)) (before : ℕ) (rest back : List ℕ) → before < 255 → all ≡ marks_from (255 - before) (before + 1) rest → Some back ≡ behind (codes "]") rest → Some (before + 1, back) ≡ all
+pub marks_end : (all : Option (ℕ × List ℕ)) (before : ℕ) (rest back : List ℕ) → before < 255 → all ≡ marks_from (255 - before) (before + 1) rest →
+    Some back ≡ behind (codes "]") rest → Some (before + 1, back) ≡ all
 marks_end all before rest back small so ends =
     sym (next_mark all before rest small so ∙ ap (λ o. marks_by (before + 1) (marks_from (255 - (before + 1)) (suc (before + 1))) o (behind (codes ",\"?\"") rest)) (sym ends))
 

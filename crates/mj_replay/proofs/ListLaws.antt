@@ -20,7 +20,8 @@ room : {A : Type 0} (w : A → List ℕ) (xs : List A) → length xs ≤ length 
 room w [] = omega arith
 room w (x ∷ xs) = omega (arith, room w xs, length-append (44 ∷ w x) (later w xs))
 
-pub items_read : {A : Type 0} (item : List ℕ → Option (A × List ℕ)) (w : A → List ℕ) (ok : A → Bool) → ((x : A) (rest : List ℕ) → ok x ≡ true → item (w x ++ rest) ≡ Some (x, rest)) → (x : A) (xs : List A) (most : ℕ) (rest : List ℕ) → ok x ≡ true → list_all ok xs ≡ true → length xs < most →
+pub items_read : {A : Type 0} (item : List ℕ → Option (A × List ℕ)) (w : A → List ℕ) (ok : A → Bool) → ((x : A) (rest : List ℕ) → ok x ≡ true →
+    item (w x ++ rest) ≡ Some (x, rest)) → (x : A) (xs : List A) (most : ℕ) (rest : List ℕ) → ok x ≡ true → list_all ok xs ≡ true → length xs < most →
     items_from item most (w x ++ (later w xs ++ (93 ∷ rest))) ≡ Some (x ∷ xs, rest)
 items_read item w ok reads x xs zero rest hx hs small = absurd (omega arith)
 items_read item w ok reads x [] (suc most) rest hx hs small = ap (option_and_then (λ y. behind_item y.0 (items_from item most) y.1)) (reads x (93 ∷ rest) hx)
@@ -30,7 +31,9 @@ items_read item w ok reads x (y ∷ ys) (suc most) rest hx hs small =
     ∙ ap (option_and_then (λ z. behind_item z.0 (items_from item most) z.1)) (reads x (44 ∷ (w y ++ (later w ys ++ (93 ∷ rest)))) hx)
     ∙ ap (option_map (λ more. (x ∷ more.0, more.1))) (items_read item w ok reads y ys most rest p.0 p.1 (omega arith))
 
-pub list_read : {A : Type 0} (item : List ℕ → Option (A × List ℕ)) (w : A → List ℕ) (ok : A → Bool) → ((x : A) (rest : List ℕ) → ok x ≡ true → item (w x ++ rest) ≡ Some (x, rest)) → ((x : A) (rest : List ℕ) → items_in item (w x ++ rest) ≡ items_from item (length (w x ++ rest)) (w x ++ rest)) → (xs : List A) (rest : List ℕ) → list_all ok xs ≡ true →
+pub list_read : {A : Type 0} (item : List ℕ → Option (A × List ℕ)) (w : A → List ℕ) (ok : A → Bool) → ((x : A) (rest : List ℕ) → ok x ≡ true →
+    item (w x ++ rest) ≡ Some (x, rest)) → ((x : A) (rest : List ℕ) → items_in item (w x ++ rest) ≡ items_from item (length (w x ++ rest))
+    (w x ++ rest)) → (xs : List A) (rest : List ℕ) → list_all ok xs ≡ true →
     list_at item (bracketed (map w xs) ++ rest) ≡ Some (xs, rest)
 unfolding bracketed
 list_read item w ok reads starts [] rest hs = refl

@@ -125,7 +125,9 @@ row_printed : (item : ℕ × ℕ) → is_row item ≡ true → Printed (row_text
 unfolding table
 row_printed item h =
     let p = and_parts (nat_lt item.0 45) (is_byte item.1) h in
-    both (both (both (written (91 ∷ []) refl) (written (quoted (row_name item.0)) (passes (λ row. list_all (λ byte. nat_le 32 byte) (quoted (row_name row))) 45 item.0 refl (ltb-true item.0 45 p.0)))) (both (written (44 ∷ []) refl) (byte item.1 p.1))) (written (93 ∷ []) refl)
+    both (both (both (written (91 ∷ []) refl)
+    (written (quoted (row_name item.0)) (passes (λ row. list_all (λ byte. nat_le 32 byte) (quoted (row_name row))) 45 item.0 refl
+    (ltb-true item.0 45 p.0)))) (both (written (44 ∷ []) refl) (byte item.1 p.1))) (written (93 ∷ []) refl)
 
 hidden : (n : ℕ) → Each (replicate n hidden_tile)
 unfolding hidden_tile
@@ -158,10 +160,13 @@ reason_printed reasons.Suuchareach = record { all = refl }
 reason_printed reasons.Suukaikan = record { all = refl }
 
 -- a call
-call_printed : (type : List ℕ) (seat target t : ℕ) (taken : List ℕ) → Printed (quoted type) → is_byte seat ≡ true → is_byte target ≡ true → is_tile t ≡ true → list_all is_tile taken ≡ true → Printed (call_object type seat target t taken)
+call_printed : (type : List ℕ) (seat target t : ℕ) (taken : List ℕ) → Printed (quoted type) → is_byte seat ≡ true → is_byte target ≡ true →
+    is_tile t ≡ true → list_all is_tile taken ≡ true → Printed (call_object type seat target t taken)
 unfolding call_object
 call_printed type seat target t taken k s g h o =
-    both (both (both (both (both (both (both (both (both (both (written (codes "{\"type\":") refl) k) (written (codes ",\"actor\":") refl)) (byte seat s)) (written (codes ",\"target\":") refl)) (byte target g)) (written (codes ",\"pai\":") refl)) (tile t h)) (written (codes ",\"consumed\":") refl)) (tiles taken o)) (written (codes "}") refl)
+    both (both (both (both (both (both (both (both (both (both (written (codes "{\"type\":") refl) k) (written (codes ",\"actor\":") refl))
+    (byte seat s)) (written (codes ",\"target\":") refl)) (byte target g)) (written (codes ",\"pai\":") refl)) (tile t h))
+    (written (codes ",\"consumed\":") refl)) (tiles taken o)) (written (codes "}") refl)
 
 bid_printed : (bid : Bid) → is_bid bid ≡ true → Printed (bid_text bid)
 bid_printed bids.NoBid h = record { all = refl }
@@ -197,7 +202,8 @@ pub header_ends : (rules : Rules) → are_rules rules ≡ true → Ended (header
 unfolding header_line
 header_ends rules h =
     let small : rules.limit < 2 ^ 64 = grind (arith, nat_tests) in
-    ended _ (both (both (both (both (both (written (codes "game limit=") refl) (numeral rules.limit small)) (written (codes " draws=") refl)) (switch_printed rules.draws)) (written (codes " red=") refl)) (switch_printed rules.red))
+    ended _ (both (both (both (both (both (written (codes "game limit=") refl) (numeral rules.limit small)) (written (codes " draws=") refl))
+    (switch_printed rules.draws)) (written (codes " red=") refl)) (switch_printed rules.red))
 
 named : (t : ℕ) → t < 37 → Printed (32 ∷ text_of t)
 unfolding text_of texts
@@ -226,7 +232,8 @@ deed_ends (StartGame four) h =
     let p2 = and_parts (is_name four.first && is_name four.second) (is_name four.third) p3.0 in
     let p1 = and_parts (is_name four.first) (is_name four.second) p2.0 in
     closed _ (both (both (both (written (codes "{\"type\":\"start_game\",\"id\":") refl) (numeral 0 (omega arith))) (written (codes ",\"names\":") refl))
-    (in_brackets (quoted four.first ∷ quoted four.second ∷ quoted four.third ∷ quoted four.fourth ∷ []) (More (name four.first p1.0) (More (name four.second p1.1) (More (name four.third p2.1) (More (name four.fourth p3.1) None))))))
+    (in_brackets (quoted four.first ∷ quoted four.second ∷ quoted four.third ∷ quoted four.fourth ∷ [])
+    (More (name four.first p1.0) (More (name four.second p1.1) (More (name four.third p2.1) (More (name four.fourth p3.1) None))))))
 deed_ends (StartHand round number honba deposits dealer indicator hands) h =
     let p6 = and_parts (nat_lt round 34 && is_byte number && is_word honba && is_word deposits && is_byte dealer && is_tile indicator) (are_hands hands) h in
     let p5 = and_parts (nat_lt round 34 && is_byte number && is_word honba && is_word deposits && is_byte dealer) (is_tile indicator) p6.0 in
@@ -237,7 +244,10 @@ deed_ends (StartHand round number honba deposits dealer indicator hands) h =
     let q3 = and_parts (list_all is_tile hands.first && list_all is_tile hands.second && list_all is_tile hands.third) (list_all is_tile hands.fourth) p6.1 in
     let q2 = and_parts (list_all is_tile hands.first && list_all is_tile hands.second) (list_all is_tile hands.third) q3.0 in
     let q1 = and_parts (list_all is_tile hands.first) (list_all is_tile hands.second) q2.0 in
-    closed _ (both (both (both (both (both (both (both (both (both (both (both (both (both (written (codes "{\"type\":\"start_kyoku\",\"bakaze\":") refl) (tile round (wind round p1.0))) (written (codes ",\"kyoku\":") refl)) (byte number p1.1)) (written (codes ",\"honba\":") refl)) (word honba p2.1)) (written (codes ",\"kyotaku\":") refl)) (word deposits p3.1))
+    closed _ (both (both (both (both (both (both
+    (both (both (both (both (both (both (both (written (codes "{\"type\":\"start_kyoku\",\"bakaze\":") refl) (tile round (wind round p1.0)))
+    (written (codes ",\"kyoku\":") refl)) (byte number p1.1)) (written (codes ",\"honba\":") refl)) (word honba p2.1))
+    (written (codes ",\"kyotaku\":") refl)) (word deposits p3.1))
     (written (codes ",\"oya\":") refl)) (byte dealer p4.1)) (written (codes ",\"dora_marker\":") refl)) (tile indicator p5.1)) (written (codes ",\"tehais\":") refl))
     (in_brackets (bracketed (map quoted_tile hands.first) ∷ bracketed (map quoted_tile hands.second) ∷ bracketed (map quoted_tile hands.third) ∷ bracketed (map quoted_tile hands.fourth) ∷ [])
     (More (tiles hands.first q1.0) (More (tiles hands.second q1.1) (More (tiles hands.third q2.1) (More (tiles hands.fourth q3.1) None))))))
@@ -246,7 +256,8 @@ deed_ends (Draw seat t replacement) h =
     closed _ (both (both (both (written (codes "{\"type\":\"tsumo\",\"actor\":") refl) (byte seat p.0)) (written (codes ",\"pai\":") refl)) (tile t p.1))
 deed_ends (Discard seat t drawn) h =
     let p = and_parts (is_byte seat) (is_tile t) h in
-    closed _ (both (both (both (both (both (written (codes "{\"type\":\"dahai\",\"actor\":") refl) (byte seat p.0)) (written (codes ",\"pai\":") refl)) (tile t p.1)) (written (codes ",\"tsumogiri\":") refl)) (true_or_false drawn))
+    closed _ (both (both (both (both (both (written (codes "{\"type\":\"dahai\",\"actor\":") refl) (byte seat p.0))
+    (written (codes ",\"pai\":") refl)) (tile t p.1)) (written (codes ",\"tsumogiri\":") refl)) (true_or_false drawn))
 deed_ends (Chi seat target t a b) h = called (bids.Chi seat target t a b) h
 deed_ends (Pon seat target t a b) h = called (bids.Pon seat target t a b) h
 deed_ends (OpenKan seat target t a b c) h = called (bids.OpenKan seat target t a b c) h
@@ -262,19 +273,26 @@ deed_ends (AddedKan seat t a b c) h =
     let p3 = and_parts (is_byte seat && is_tile t && is_tile a) (is_tile b) p4.0 in
     let p2 = and_parts (is_byte seat && is_tile t) (is_tile a) p3.0 in
     let p1 = and_parts (is_byte seat) (is_tile t) p2.0 in
-    closed _ (both (both (both (both (both (written (codes "{\"type\":\"kakan\",\"actor\":") refl) (byte seat p1.0)) (written (codes ",\"pai\":") refl)) (tile t p1.1)) (written (codes ",\"consumed\":") refl))
+    closed _ (both (both (both (both (both (written (codes "{\"type\":\"kakan\",\"actor\":") refl) (byte seat p1.0))
+    (written (codes ",\"pai\":") refl)) (tile t p1.1)) (written (codes ",\"consumed\":") refl))
     (tiles (a ∷ b ∷ c ∷ []) (and_from (is_tile a) _ p2.1 (and_from (is_tile b) _ p3.1 (and_from (is_tile c) true p4.1 refl)))))
 deed_ends (Dora t) h = closed _ (both (written (codes "{\"type\":\"dora\",\"dora_marker\":") refl) (tile t h))
 deed_ends (Reach seat) h = closed _ (both (written (codes "{\"type\":\"reach\",\"actor\":") refl) (byte seat h))
 deed_ends (ReachAccepted seat said bid) h =
     let p2 = and_parts (is_byte seat && are_points said) (is_bid bid) h in
     let p1 = and_parts (is_byte seat) (are_points said) p2.0 in
-    closed _ (both (both (both (both (both (both (written (codes "{\"type\":\"reach_accepted\",\"actor\":") refl) (byte seat p1.0)) (written (codes ",\"deltas\":") refl)) (points (deposit_changes seat) (changes_fit seat))) (written (codes ",\"scores\":") refl)) (points said p1.1)) (both (written (codes ",\"then\":") refl) (bid_printed bid p2.1)))
+    closed _ (both (both (both (both (both (both (written (codes "{\"type\":\"reach_accepted\",\"actor\":") refl) (byte seat p1.0))
+    (written (codes ",\"deltas\":") refl)) (points (deposit_changes seat) (changes_fit seat))) (written (codes ",\"scores\":") refl))
+    (points said p1.1)) (both (written (codes ",\"then\":") refl) (bid_printed bid p2.1)))
 deed_ends (Win seat target t unders held yaku fu han value deltas said rest) h =
-    let p12 = and_parts (is_byte seat && is_byte target && is_tile t && list_all is_tile unders && list_all is_tile held && list_all is_row yaku && is_byte fu && is_byte han && is_word value && are_points deltas && are_points said && nat_le (length rest) 2) (list_all is_byte rest) h in
-    let p11 = and_parts (is_byte seat && is_byte target && is_tile t && list_all is_tile unders && list_all is_tile held && list_all is_row yaku && is_byte fu && is_byte han && is_word value && are_points deltas && are_points said) (nat_le (length rest) 2) p12.0 in
-    let p10 = and_parts (is_byte seat && is_byte target && is_tile t && list_all is_tile unders && list_all is_tile held && list_all is_row yaku && is_byte fu && is_byte han && is_word value && are_points deltas) (are_points said) p11.0 in
-    let p9 = and_parts (is_byte seat && is_byte target && is_tile t && list_all is_tile unders && list_all is_tile held && list_all is_row yaku && is_byte fu && is_byte han && is_word value) (are_points deltas) p10.0 in
+    let p12 = and_parts (is_byte seat && is_byte target && is_tile t && list_all is_tile unders && list_all is_tile held && list_all is_row yaku &&
+    is_byte fu && is_byte han && is_word value && are_points deltas && are_points said && nat_le (length rest) 2) (list_all is_byte rest) h in
+    let p11 = and_parts (is_byte seat && is_byte target && is_tile t && list_all is_tile unders && list_all is_tile held && list_all is_row yaku &&
+    is_byte fu && is_byte han && is_word value && are_points deltas && are_points said) (nat_le (length rest) 2) p12.0 in
+    let p10 = and_parts (is_byte seat && is_byte target && is_tile t && list_all is_tile unders && list_all is_tile held && list_all is_row yaku &&
+    is_byte fu && is_byte han && is_word value && are_points deltas) (are_points said) p11.0 in
+    let p9 = and_parts (is_byte seat && is_byte target && is_tile t && list_all is_tile unders && list_all is_tile held && list_all is_row yaku &&
+    is_byte fu && is_byte han && is_word value) (are_points deltas) p10.0 in
     let p8 = and_parts (is_byte seat && is_byte target && is_tile t && list_all is_tile unders && list_all is_tile held && list_all is_row yaku && is_byte fu && is_byte han) (is_word value) p9.0 in
     let p7 = and_parts (is_byte seat && is_byte target && is_tile t && list_all is_tile unders && list_all is_tile held && list_all is_row yaku && is_byte fu) (is_byte han) p8.0 in
     let p6 = and_parts (is_byte seat && is_byte target && is_tile t && list_all is_tile unders && list_all is_tile held && list_all is_row yaku) (is_byte fu) p7.0 in
@@ -283,8 +301,13 @@ deed_ends (Win seat target t unders held yaku fu han value deltas said rest) h =
     let p3 = and_parts (is_byte seat && is_byte target && is_tile t) (list_all is_tile unders) p4.0 in
     let p2 = and_parts (is_byte seat && is_byte target) (is_tile t) p3.0 in
     let p1 = and_parts (is_byte seat) (is_byte target) p2.0 in
-    closed _ (both (both (both (both (both (both (both (both (both (both (both (both (both (both (both (both (both (both (both (both (both (both (written (codes "{\"type\":\"hora\",\"actor\":") refl) (byte seat p1.0)) (written (codes ",\"target\":") refl)) (byte target p1.1)) (written (codes ",\"pai\":") refl)) (tile t p2.1))
-    (written (codes ",\"uradora_markers\":") refl)) (tiles unders p3.1)) (written (codes ",\"hora_tehais\":") refl)) (tiles held p4.1)) (written (codes ",\"yakus\":") refl)) (in_brackets (map row_text yaku) (each is_row row_text row_printed yaku p5.1))) (written (codes ",\"fu\":") refl)) (byte fu p6.1)) (written (codes ",\"fan\":") refl)) (byte han p7.1))
+    closed _ (both (both (both (both (both (both
+    (both (both (both (both (both (both (both
+    (both (both (both (both (both (both (both (both (both (written (codes "{\"type\":\"hora\",\"actor\":") refl) (byte seat p1.0))
+    (written (codes ",\"target\":") refl)) (byte target p1.1)) (written (codes ",\"pai\":") refl)) (tile t p2.1))
+    (written (codes ",\"uradora_markers\":") refl)) (tiles unders p3.1)) (written (codes ",\"hora_tehais\":") refl)) (tiles held p4.1))
+    (written (codes ",\"yakus\":") refl)) (in_brackets (map row_text yaku) (each is_row row_text row_printed yaku p5.1)))
+    (written (codes ",\"fu\":") refl)) (byte fu p6.1)) (written (codes ",\"fan\":") refl)) (byte han p7.1))
     (written (codes ",\"hora_points\":") refl)) (word value p8.1)) (written (codes ",\"deltas\":") refl)) (points deltas p9.1)) (written (codes ",\"scores\":") refl)) (points said p10.1))
     (both (written (codes ",\"rest\":") refl) (in_brackets (map decimal rest) (each is_byte decimal byte rest p12.1))))
 deed_ends (DrawnHand why hands ready deltas said) h =
@@ -297,7 +320,8 @@ deed_ends (DrawnHand why hands ready deltas said) h =
     closed _ (both (both (both (both (both (both (both (both (both (written (codes "{\"type\":\"ryukyoku\",\"reason\":") refl) (reason_printed why)) (written (codes ",\"tehais\":") refl))
     (in_brackets (bracketed (hand_at_draw hands.first) ∷ bracketed (hand_at_draw hands.second) ∷ bracketed (hand_at_draw hands.third) ∷ bracketed (hand_at_draw hands.fourth) ∷ [])
     (More (shown hands.first q1.0) (More (shown hands.second q1.1) (More (shown hands.third q2.1) (More (shown hands.fourth q3.1) None))))))
-    (written (codes ",\"tenpais\":") refl)) (in_brackets (map truth ready) (all_truths ready))) (written (codes ",\"deltas\":") refl)) (points deltas p2.1)) (written (codes ",\"scores\":") refl)) (points said p3.1))
+    (written (codes ",\"tenpais\":") refl)) (in_brackets (map truth ready) (all_truths ready))) (written (codes ",\"deltas\":") refl))
+    (points deltas p2.1)) (written (codes ",\"scores\":") refl)) (points said p3.1))
 deed_ends EndHand h = record { body = codes "{\"type\":\"end_kyoku\"}"; plain = refl; is = refl }
 deed_ends (EndGame said deposits) h =
     let p = and_parts (are_points said) (is_word deposits) h in

@@ -71,10 +71,12 @@ list_fits (a ∷ []) e h = absurd (omega (arith, e))
 list_fits (a ∷ b ∷ []) e h = absurd (omega (arith, e))
 list_fits (a ∷ b ∷ c ∷ []) e h = absurd (omega (arith, e))
 list_fits (a ∷ b ∷ c ∷ d ∷ []) e h =
-    and_from (is_signed_word a) _ (small_word a (h 0)) (and_from (is_signed_word b) _ (small_word b (h 1)) (and_from (is_signed_word c) _ (small_word c (h 2)) (and_from (is_signed_word d) true (small_word d (h 3)) refl)))
+    and_from (is_signed_word a) _ (small_word a (h 0)) (and_from (is_signed_word b) _ (small_word b (h 1))
+    (and_from (is_signed_word c) _ (small_word c (h 2)) (and_from (is_signed_word d) true (small_word d (h 3)) refl)))
 list_fits (a ∷ b ∷ c ∷ d ∷ x ∷ xs) e h = absurd (omega (arith, e))
 
-with_fits : (before changes : List ℤ) (most : ℕ) → most ≤ 10000000 → ((seat : ℕ) → nat_abs (slice_index_or before seat (pos 0)) ≤ 90000000) → ((seat : ℕ) → nat_abs (slice_index_or changes seat (pos 0)) ≤ most) → are_points (points_with before changes) ≡ true
+with_fits : (before changes : List ℤ) (most : ℕ) → most ≤ 10000000 → ((seat : ℕ) → nat_abs (slice_index_or before seat (pos 0)) ≤ 90000000) →
+    ((seat : ℕ) → nat_abs (slice_index_or changes seat (pos 0)) ≤ most) → are_points (points_with before changes) ≡ true
 with_fits before changes most few h k =
     and_from (is_signed_word (sum 0)) _ (at 0) (and_from (is_signed_word (sum 1)) _ (at 1) (and_from (is_signed_word (sum 2)) _ (at 2) (and_from (is_signed_word (sum 3)) true (at 3) refl)))
   where
@@ -85,7 +87,9 @@ with_fits before changes most few h k =
     within n a b e f g = omega (arith, e, f, g, few)
 
     at : (seat : ℕ) → is_signed_word (slice_index_or before seat (pos 0) +ℤ slice_index_or changes seat (pos 0)) ≡ true
-    at seat = small_word (sum seat) (within (nat_abs (sum seat)) (nat_abs (slice_index_or before seat (pos 0))) (nat_abs (slice_index_or changes seat (pos 0))) (sum_size (slice_index_or before seat (pos 0)) (slice_index_or changes seat (pos 0))) (h seat) (k seat))
+    at seat = small_word (sum seat) (within (nat_abs (sum seat)) (nat_abs (slice_index_or before seat (pos 0)))
+        (nat_abs (slice_index_or changes seat (pos 0))) (sum_size (slice_index_or before seat (pos 0)) (slice_index_or changes seat (pos 0))) (h seat)
+        (k seat))
 
 -- what is known of played deeds
 record Known (red : Bool) (walls : List (List ℕ)) (ds : List Deed) : Type 0 where
@@ -116,12 +120,17 @@ unders_few wall hs seat h = by_test (is_in_riichi hs seat)
     by_test true = subst (λ n. n ≤ 5) (sym (length-map-range_with_len (under_tile wall) 0 (length (indicators hs)))) h
     by_test false = omega arith
 
-win_fits : (red : Bool) (walls : List (List ℕ)) (wall : List ℕ) (ds : List Deed) (seat target tile : ℕ) (rest : List ℕ) → Known red walls ds → CanWin ds seat target tile → length rest ≤ 2 → Fits (win_deed wall ds seat target tile rest)
+win_fits : (red : Bool) (walls : List (List ℕ)) (wall : List ℕ) (ds : List Deed) (seat target tile : ℕ) (rest : List ℕ) → Known red walls ds →
+    CanWin ds seat target tile → length rest ≤ 2 → Fits (win_deed wall ds seat target tile rest)
 unfolding win_shown
 win_fits red walls wall ds seat target tile rest k can few =
-    and_from a6 (nat_le (length rest) 2) (and_from a5 (are_points (points_with (points ds) changes)) (and_from a4 (are_points changes) (and_from a3 (is_word worth) (and_from a2 (is_byte score.han) (and_from a1 (is_byte score.fu)
-    (rows_fit score case.closed (extra_of hs seat shows) dora) (lt-ltb score.fu 256 little.fu)) (lt-ltb score.han 256 little.han)) (lt-ltb worth 4294967296 (most worth (win_size case.by_draw seat target (standing ds).dealer score.base 0 0 (base_few (standing ds) hs seat shows) (omega arith) seat))))
-    (list_fits changes (long_changes case.by_draw seat target (standing ds).dealer score.base (for_first (hand ds) (standing ds).honba) (for_first (hand ds) (deposits ds))) (λ other. more _ (deposits ds) (changed other) k.small.deposits)))
+    and_from a6 (nat_le (length rest) 2) (and_from a5 (are_points (points_with (points ds) changes))
+    (and_from a4 (are_points changes) (and_from a3 (is_word worth) (and_from a2 (is_byte score.han) (and_from a1 (is_byte score.fu)
+    (rows_fit score case.closed (extra_of hs seat shows) dora) (lt-ltb score.fu 256 little.fu)) (lt-ltb score.han 256 little.han))
+    (lt-ltb worth 4294967296 (most worth (win_size case.by_draw seat target (standing ds).dealer score.base 0 0
+    (base_few (standing ds) hs seat shows) (omega arith) seat))))
+    (list_fits changes (long_changes case.by_draw seat target (standing ds).dealer score.base (for_first (hand ds) (standing ds).honba)
+    (for_first (hand ds) (deposits ds))) (λ other. more _ (deposits ds) (changed other) k.small.deposits)))
     (with_fits (points ds) changes 10000000 (omega arith) (rich red walls ds k) (λ other. lots _ (deposits ds) (changed other) k.small.deposits))) (le-leb (length rest) 2 few)
   where
     hs : List Deed
@@ -202,7 +211,8 @@ few_hidden reason hs seat h = by_test (is_hand_shown reason hs seat)
 drawn_fits : (red : Bool) (walls : List (List ℕ)) (ds : List Deed) (reason : Reason) → Known red walls ds → Fits (drawn_hand ds reason)
 unfolding draw_shown
 drawn_fits red walls ds reason k =
-    and_from (four && length ready == 4 && are_points changes) (are_points (points_with (points ds) changes)) (and_from (four && length ready == 4) (are_points changes) (and_from four (length ready == 4)
+    and_from (four && length ready == 4 && are_points changes) (are_points (points_with (points ds) changes))
+    (and_from (four && length ready == 4) (are_points changes) (and_from four (length ready == 4)
     (and_from (hidden 0 && hidden 1 && hidden 2) (hidden 3) (and_from (hidden 0 && hidden 1) (hidden 2) (and_from (hidden 0) (hidden 1) (at 0) (at 1)) (at 2)) (at 3))
     (eq-eqb (length ready) 4 (ready_long reason hands)))
     (list_fits changes (pays_long reason hands) (λ seat. less _ (draw_size ready seat))))
@@ -273,7 +283,8 @@ start_fits : (wall : List ℕ) (now : Standing) (lying : ℕ) → Low now → ly
 unfolding hand_start
 start_fits wall now lying l h =
     and_from (nat_lt now.round 34 && is_byte (now.dealer + 1) && is_word now.honba) (is_word lying) (and_from (nat_lt now.round 34 && is_byte (now.dealer + 1)) (is_word now.honba)
-    (and_from (nat_lt now.round 34) (is_byte (now.dealer + 1)) l.round (lt-ltb (now.dealer + 1) 256 (byte now.dealer l.dealer))) (lt-ltb now.honba 4294967296 (word now.honba l.honba))) (lt-ltb lying 4294967296 (omega (arith, h)))
+    (and_from (nat_lt now.round 34) (is_byte (now.dealer + 1)) l.round (lt-ltb (now.dealer + 1) 256 (byte now.dealer l.dealer)))
+    (lt-ltb now.honba 4294967296 (word now.honba l.honba))) (lt-ltb lying 4294967296 (omega (arith, h)))
   where
     byte : (n : ℕ) → n ≤ 3 → n + 1 < 256
     byte n h = omega (arith, h)
@@ -284,7 +295,8 @@ start_fits wall now lying l h =
 -- the end of a game
 ended_fits : (red : Bool) (walls : List (List ℕ)) (ds : List Deed) → Known red walls ds → Fits (EndGame (points ds) (deposits ds))
 ended_fits red walls ds k =
-    and_from (are_points (points ds)) (is_word (deposits ds)) (list_fits (points ds) refl (λ seat. less _ (rich red walls ds k seat))) (lt-ltb (deposits ds) 4294967296 (few (deposits ds) k.small.deposits))
+    and_from (are_points (points ds)) (is_word (deposits ds)) (list_fits (points ds) refl (λ seat. less _ (rich red walls ds k seat)))
+    (lt-ltb (deposits ds) 4294967296 (few (deposits ds) k.small.deposits))
   where
     less : (n : ℕ) → n ≤ 90000000 → n ≤ 100000000
     less n h = omega (arith, h)
@@ -306,7 +318,8 @@ calls_fit (bids.Chi seat target tile a b) = refl
 calls_fit (bids.Pon seat target tile a b) = refl
 calls_fit (bids.OpenKan seat target tile a b c) = refl
 
-own_fits : (red : Bool) (walls : List (List ℕ)) (wall : List ℕ) (ds : List Deed) (last : Deed) (seat : ℕ) (answer : Answer) → Known red walls ds → CanWinBy ds last seat answer → IfAny Fits (own_act wall ds last seat answer)
+own_fits : (red : Bool) (walls : List (List ℕ)) (wall : List ℕ) (ds : List Deed) (last : Deed) (seat : ℕ) (answer : Answer) → Known red walls ds →
+    CanWinBy ds last seat answer → IfAny Fits (own_act wall ds last seat answer)
 own_fits red walls wall ds last seat (answers.Win actor target tile) k can = win_fits red walls wall ds seat seat (won_tile last) [] k can (omega arith)
 own_fits red walls wall ds last seat (answers.NineKinds actor) k can = drawn_fits red walls ds reasons.Kyushukyuhai k
 own_fits red walls wall ds last seat other k can = acts_fit seat other
@@ -316,18 +329,21 @@ draw_fits red walls wall ds seat k = draw_or Fits wall ds seat (drawn_fits red w
 
 discarded_fits : (rules : Rules) (walls : List (List ℕ)) (wall : List ℕ) (ds : List Deed) (seat : ℕ) (bid : Bid) → Known rules.red walls ds → Fits (behind_discard rules wall ds seat bid)
 discarded_fits rules walls wall ds seat bid k =
-    behind_or Fits rules wall ds seat bid (λ reached. accepted_fits rules.red walls ds seat bid k) (λ why. drawn_fits rules.red walls ds why k) (calls_fit bid) (draw_fits rules.red walls wall ds (next_seat seat) k)
+    behind_or Fits rules wall ds seat bid (λ reached. accepted_fits rules.red walls ds seat bid k) (λ why. drawn_fits rules.red walls ds why k)
+    (calls_fit bid) (draw_fits rules.red walls wall ds (next_seat seat) k)
 
 -- At most two win after a winner.
 abbrev FewRest : Deed → Type 0
 FewRest (Win who target tile unders own yaku fu han value deltas said rest) = length rest ≤ 2
 FewRest other = Unit {0}
 
-winner_fits : (red : Bool) (walls : List (List ℕ)) (wall : List ℕ) (ds : List Deed) (target tile : ℕ) (rest : List ℕ) → Known red walls ds → NextCanWin ds target tile rest → length rest ≤ 2 → Fits (next_winner wall ds target tile rest)
+winner_fits : (red : Bool) (walls : List (List ℕ)) (wall : List ℕ) (ds : List Deed) (target tile : ℕ) (rest : List ℕ) → Known red walls ds →
+    NextCanWin ds target tile rest → length rest ≤ 2 → Fits (next_winner wall ds target tile rest)
 winner_fits red walls wall ds target tile [] k can few = refl
 winner_fits red walls wall ds target tile (seat ∷ rest) k can few = win_fits red walls wall ds seat target tile rest k can (omega (arith, few))
 
-passed_fits : (rules : Rules) (walls : List (List ℕ)) (wall : List ℕ) (ds : List Deed) (last : Deed) → Known rules.red walls ds → FewRest last → CanWinAfter ds last → IfAny Fits (after_pass rules walls wall ds last)
+passed_fits : (rules : Rules) (walls : List (List ℕ)) (wall : List ℕ) (ds : List Deed) (last : Deed) → Known rules.red walls ds → FewRest last →
+    CanWinAfter ds last → IfAny Fits (after_pass rules walls wall ds last)
 unfolding next_dora next_replacement
 passed_fits rules walls wall ds (StartGame names) k few can = start_fits (wall_of walls 0) first_standing 0 (record { round = refl; dealer = omega arith; honba = omega arith }) (omega arith)
 passed_fits rules walls wall ds (StartHand round number honba lying dealer indicator hands) k few can = draw_fits rules.red walls wall ds dealer k
@@ -341,12 +357,14 @@ passed_fits rules walls wall ds (AddedKan who tile a b c) k few can = refl
 passed_fits rules walls wall ds (Dora tile) k few can = refl
 passed_fits rules walls wall ds (Reach who) k few can = tt
 passed_fits rules walls wall ds (ReachAccepted who said bid) k few can =
-    unless Fits rules ds (called_or_draw wall ds who bid) (λ why. drawn_fits rules.red walls ds why k) (called_or Fits wall ds who bid (calls_fit bid) (draw_fits rules.red walls wall ds (next_seat who) k))
+    unless Fits rules ds (called_or_draw wall ds who bid) (λ why. drawn_fits rules.red walls ds why k) (called_or Fits wall ds who bid (calls_fit bid)
+    (draw_fits rules.red walls wall ds (next_seat who) k))
 passed_fits rules walls wall ds (Win who target tile unders own yaku fu han value deltas said rest) k few can = winner_fits rules.red walls wall ds target tile rest k can few
 passed_fits rules walls wall ds (DrawnHand reason hands ready deltas said) k few can = refl
 passed_fits rules walls wall ds EndHand k few can =
     start_or_end Fits walls ds (standing_after (standing ds) (hand ds))
-    (λ next e. start_fits (wall_of walls next.hand) next (deposits ds) (next_low (standing ds) next (end_of (hand ds) (standing ds).dealer) k.stands e) k.small.deposits) (ended_fits rules.red walls ds k)
+    (λ next e. start_fits (wall_of walls next.hand) next (deposits ds) (next_low (standing ds) next (end_of (hand ds) (standing ds).dealer) k.stands
+    e) k.small.deposits) (ended_fits rules.red walls ds k)
 passed_fits rules walls wall ds (EndGame said lying) k few can = tt
 
 others_few : (a b : Option ℕ) → length (option_to_list a ++ option_to_list b) ≤ 2
@@ -355,13 +373,16 @@ others_few None (Some y) = omega arith
 others_few (Some x) None = omega arith
 others_few (Some x) (Some y) = omega arith
 
-follower_fits : (rules : Rules) (walls : List (List ℕ)) (ds : List Deed) (last : Deed) (decision : Decision) → Known rules.red walls ds → FewRest last → CanFollow ds last decision → IfAny Fits (follows rules walls ds last decision)
-follower_fits rules walls ds last (Rons seats) k few can = win_fits rules.red walls (wall_now walls ds) ds seats.first (seat_of last) (won_tile last) (others_of seats) k can (others_few seats.second seats.third)
+follower_fits : (rules : Rules) (walls : List (List ℕ)) (ds : List Deed) (last : Deed) (decision : Decision) → Known rules.red walls ds →
+    FewRest last → CanFollow ds last decision → IfAny Fits (follows rules walls ds last decision)
+follower_fits rules walls ds last (Rons seats) k few can = win_fits rules.red walls (wall_now walls ds) ds seats.first (seat_of last) (won_tile last)
+    (others_of seats) k can (others_few seats.second seats.third)
 follower_fits rules walls ds last (Call bid) k few can = discarded_fits rules walls (wall_now walls ds) ds (seat_of last) bid k
 follower_fits rules walls ds last (Act seat answer) k few can = own_fits rules.red walls (wall_now walls ds) ds last seat answer k can
 follower_fits rules walls ds last Pass k few can = passed_fits rules walls (wall_now walls ds) ds last k few can
 
-outcome_fits : (rules : Rules) (walls : List (List ℕ)) (ds : List Deed) (given : Four Answer) → Known rules.red walls ds → IfAny FewRest (newest ds) → ((last : Deed) → newest ds ≡ Some last → CanFollow ds last (decision_by last given)) → IfAny Fits (outcome rules walls ds given)
+outcome_fits : (rules : Rules) (walls : List (List ℕ)) (ds : List Deed) (given : Four Answer) → Known rules.red walls ds → IfAny FewRest (newest ds) →
+    ((last : Deed) → newest ds ≡ Some last → CanFollow ds last (decision_by last given)) → IfAny Fits (outcome rules walls ds given)
 unfolding outcome
 outcome_fits rules walls ds given k few can = by_newest (newest ds) refl few
   where
@@ -377,31 +398,43 @@ start_value (StartGame names) h =
     let b = and_parts (is_name names.second) (list_all is_name (names.third ∷ names.fourth ∷ [])) a.1 in
     let c = and_parts (is_name names.third) (list_all is_name (names.fourth ∷ [])) b.1 in
     let d = and_parts (is_name names.fourth) true c.1 in
-    and_from (is_name names.first && is_name names.second && is_name names.third) (is_name names.fourth) (and_from (is_name names.first && is_name names.second) (is_name names.third) (and_from (is_name names.first) (is_name names.second) a.0 b.0) c.0) d.0
+    and_from (is_name names.first && is_name names.second && is_name names.third) (is_name names.fourth)
+    (and_from (is_name names.first && is_name names.second) (is_name names.third) (and_from (is_name names.first) (is_name names.second) a.0 b.0)
+    c.0) d.0
 start_value other h = cc
 
 few_of : (deed : Deed) → is_deed deed ≡ true → FewRest deed
 few_of (Win who target tile unders own yaku fu han value deltas said rest) h =
-    let p = and_parts (is_byte who && is_byte target && is_tile tile && list_all is_tile unders && list_all is_tile own && list_all is_row yaku && is_byte fu && is_byte han && is_word value && are_points deltas && are_points said && nat_le (length rest) 2) (list_all is_byte rest) h in
-    let q = and_parts (is_byte who && is_byte target && is_tile tile && list_all is_tile unders && list_all is_tile own && list_all is_row yaku && is_byte fu && is_byte han && is_word value && are_points deltas && are_points said) (nat_le (length rest) 2) p.0 in
+    let p = and_parts (is_byte who && is_byte target && is_tile tile && list_all is_tile unders && list_all is_tile own && list_all is_row yaku &&
+    is_byte fu && is_byte han && is_word value && are_points deltas && are_points said && nat_le (length rest) 2) (list_all is_byte rest) h in
+    let q = and_parts (is_byte who && is_byte target && is_tile tile && list_all is_tile unders && list_all is_tile own && list_all is_row yaku &&
+    is_byte fu && is_byte han && is_word value && are_points deltas && are_points said) (nat_le (length rest) 2) p.0 in
     leb-true (length rest) 2 q.1
 few_of other h = tt
 
 if_some : {A : Type 0} (P : A → Type 0) (o : Option A) (d : A) → IfAny P o → o ≡ Some d → P d
 if_some P o d h e = subst (IfAny P) e h
 
-behind_value : (rules : Rules) (walls : List (List ℕ)) (ds : List Deed) (deed : Deed) → ((number : ℕ) → is_wall rules.red (wall_of walls number) ≡ true) → IsPlayed rules walls ds → IfAny FewRest (newest ds) → IsPlayedBehind rules walls ds deed → is_deed deed ≡ true
+behind_value : (rules : Rules) (walls : List (List ℕ)) (ds : List Deed) (deed : Deed) →
+    ((number : ℕ) → is_wall rules.red (wall_of walls number) ≡ true) → IsPlayed rules walls ds → IfAny FewRest (newest ds) →
+    IsPlayedBehind rules walls ds deed → is_deed deed ≡ true
 behind_value rules walls [] deed whole played few g = start_value deed g
 behind_value rules walls (first ∷ others) deed whole played few g =
     let ds : List Deed = first ∷ others in
     let s = played_sound rules walls ds whole played in
-    let k : Known rules.red walls ds = record { fair = s.known.fair; small = all_small rules.red walls (wall_now walls ds) (stage_of ds) ds s.fit s.known.fair s.standing; stands = may_stand rules.red ds s.fit } in
+    let k : Known rules.red walls ds = record {
+      fair = s.known.fair;
+      small = all_small rules.red walls (wall_now walls ds) (stage_of ds) ds s.fit
+          s.known.fair s.standing;
+      stands = may_stand rules.red ds s.fit;
+    } in
     let next = if_some (IsNext rules.red walls ds) (outcome rules walls ds g.given) deed (outcome_next rules walls ds g.given s.known g.lawful) g.gives in
     value deed
     (if_some Fits (outcome rules walls ds g.given) deed (outcome_fits rules walls ds g.given k few (λ last e. can_follow rules walls ds g.given last whole played g.lawful e)) g.gives)
     next.seats (are_real rules.red (faces_in deed) next.tiles)
 
-newest_few : (rules : Rules) (walls : List (List ℕ)) (before ds : List Deed) → ((number : ℕ) → is_wall rules.red (wall_of walls number) ≡ true) → IsPlayed rules walls before → IfAny FewRest (newest before) → AllPlayed rules walls before ds → IfAny FewRest (newest (before ++ ds))
+newest_few : (rules : Rules) (walls : List (List ℕ)) (before ds : List Deed) → ((number : ℕ) → is_wall rules.red (wall_of walls number) ≡ true) →
+    IsPlayed rules walls before → IfAny FewRest (newest before) → AllPlayed rules walls before ds → IfAny FewRest (newest (before ++ ds))
 newest_few rules walls before [] whole played few all = subst (λ (xs : List Deed). IfAny FewRest (newest xs)) (sym (append-nil before)) few
 newest_few rules walls before (d ∷ ds) whole played few all =
     subst (λ (xs : List Deed). IfAny FewRest (newest xs)) (append_assoc before (d ∷ []) ds)
@@ -409,5 +442,7 @@ newest_few rules walls before (d ∷ ds) whole played few all =
     (subst (IfAny FewRest) (sym (newest_more before d)) (few_of d (behind_value rules walls before d whole played few all.0))) all.1)
 
 -- What is played after played deeds is a value of the type of deeds.
-pub played_value : (rules : Rules) (walls : List (List ℕ)) (ds : List Deed) (deed : Deed) → ((number : ℕ) → is_wall rules.red (wall_of walls number) ≡ true) → IsPlayed rules walls ds → IsPlayedBehind rules walls ds deed → is_deed deed ≡ true
+pub played_value : (rules : Rules) (walls : List (List ℕ)) (ds : List Deed) (deed : Deed) →
+    ((number : ℕ) → is_wall rules.red (wall_of walls number) ≡ true) → IsPlayed rules walls ds → IsPlayedBehind rules walls ds deed →
+    is_deed deed ≡ true
 played_value rules walls ds deed whole played g = behind_value rules walls ds deed whole played (newest_few rules walls [] ds whole tt tt played) g

@@ -55,13 +55,16 @@ and-parts true t h = (refl, h)
 and-parts false t h = absurd (false≢true h)
 
 -- the points of the four seats
-pub four_read : (a b c d : ℤ) (rest : List ℕ) → is_signed_word a ≡ true → is_signed_word b ≡ true → is_signed_word c ≡ true → is_signed_word d ≡ true → points_at (points_text (a ∷ b ∷ c ∷ d ∷ []) ++ rest) ≡ Some (a ∷ b ∷ c ∷ d ∷ [], rest)
+pub four_read : (a b c d : ℤ) (rest : List ℕ) → is_signed_word a ≡ true → is_signed_word b ≡ true → is_signed_word c ≡ true →
+    is_signed_word d ≡ true → points_at (points_text (a ∷ b ∷ c ∷ d ∷ []) ++ rest) ≡ Some (a ∷ b ∷ c ∷ d ∷ [], rest)
 unfolding points_at
 four_read a b c d rest ha hb hc hd =
     ap points_at (four_shape (signed_decimal a) (signed_decimal b) (signed_decimal c) (signed_decimal d) rest)
     ∙ inner
   where
-    inner : points_at (codes "[" ++ (signed_decimal a ++ (codes "," ++ (signed_decimal b ++ (codes "," ++ (signed_decimal c ++ (codes "," ++ (signed_decimal d ++ (codes "]" ++ rest))))))))) ≡ Some (a ∷ b ∷ c ∷ d ∷ [], rest)
+    inner : points_at (codes "[" ++ (signed_decimal a ++
+        (codes "," ++ (signed_decimal b ++ (codes "," ++ (signed_decimal c ++ (codes "," ++ (signed_decimal d ++ (codes "]" ++ rest))))))))) ≡ Some
+        (a ∷ b ∷ c ∷ d ∷ [], rest)
     inner =
         rw (
           signed_field_read (codes "[") (codes "," ++ (signed_decimal b ++ (codes "," ++ (signed_decimal c ++ (codes "," ++ (signed_decimal d ++ (codes "]" ++ rest))))))) a ha refl,

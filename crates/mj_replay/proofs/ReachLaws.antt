@@ -57,7 +57,10 @@ unfolding deposit_changes
 changes_fit seat = four_changes (0 == seat) (1 == seat) (2 == seat) (3 == seat)
 
 accepted_fields : (seat : ℕ) (deltas points : List ℤ) (bid : Bid) (rest : List ℕ) → seat < 256 → are_points deltas ≡ true → are_points points ≡ true → is_bid bid ≡ true →
-    reach_accepted_in (codes ",\"actor\":" ++ (decimal seat ++ (codes ",\"deltas\":" ++ (points_text deltas ++ (codes ",\"scores\":" ++ (points_text points ++ (codes ",\"then\":" ++ (bid_text bid ++ rest)))))))) ≡ Some (ReachAccepted seat points bid)
+    reach_accepted_in (codes ",\"actor\":" ++
+    (decimal seat ++ (codes ",\"deltas\":" ++
+    (points_text deltas ++ (codes ",\"scores\":" ++ (points_text points ++ (codes ",\"then\":" ++ (bid_text bid ++ rest)))))))) ≡ Some
+    (ReachAccepted seat points bid)
 unfolding reach_accepted_in
 accepted_fields seat deltas points bid rest hs hd hp hb =
     rw (
@@ -67,10 +70,12 @@ accepted_fields seat deltas points bid rest hs hd hp hb =
       bid_read bid rest hb,
     )
 
-accepted : (seat : ℕ) (points : List ℤ) (bid : Bid) → seat < 256 → are_points points ≡ true → is_bid bid ≡ true → deed_in (line Record (ReachAccepted seat points bid)) ≡ Some (ReachAccepted seat points bid)
+accepted : (seat : ℕ) (points : List ℤ) (bid : Bid) → seat < 256 → are_points points ≡ true → is_bid bid ≡ true →
+    deed_in (line Record (ReachAccepted seat points bid)) ≡ Some (ReachAccepted seat points bid)
 unfolding reach_accepted_line deed_in deed_by small_by quoted_at
 accepted seat points bid hs hp hb =
-    ap deed_in (group8 (codes "{\"type\":\"reach_accepted\",\"actor\":") (decimal seat) (codes ",\"deltas\":") (points_text (deposit_changes seat)) (codes ",\"scores\":") (points_text points) (codes ",\"then\":" ++ bid_text bid) (codes "}\n"))
+    ap deed_in (group8 (codes "{\"type\":\"reach_accepted\",\"actor\":") (decimal seat) (codes ",\"deltas\":") (points_text (deposit_changes seat))
+    (codes ",\"scores\":") (points_text points) (codes ",\"then\":" ++ bid_text bid) (codes "}\n"))
     ∙ ap (λ t. reach_accepted_in (codes ",\"actor\":" ++ (decimal seat ++ (codes ",\"deltas\":" ++ (points_text (deposit_changes seat) ++ (codes ",\"scores\":" ++ (points_text points ++ t)))))))
     (append_assoc (codes ",\"then\":") (bid_text bid) (codes "}\n"))
     ∙ accepted_fields seat (deposit_changes seat) points bid (codes "}\n") hs (changes_fit seat) hp hb

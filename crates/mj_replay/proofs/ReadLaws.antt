@@ -67,7 +67,9 @@ tells last (DrawnHand reason hands ready deltas points) seat = refl
 tells last EndHand seat = refl
 tells last (EndGame points deposits) seat = refl
 
-drawn_read : (reason : Reason) (hands : Four Shown) (ready : List Bool) (deltas points : List ℤ) → (length ready == 4) ≡ true → is_shown hands.first ≡ true → is_shown hands.second ≡ true → is_shown hands.third ≡ true → is_shown hands.fourth ≡ true → are_points deltas ≡ true → are_points points ≡ true →
+drawn_read : (reason : Reason) (hands : Four Shown) (ready : List Bool) (deltas points : List ℤ) → (length ready == 4) ≡ true →
+    is_shown hands.first ≡ true → is_shown hands.second ≡ true → is_shown hands.third ≡ true → is_shown hands.fourth ≡ true →
+    are_points deltas ≡ true → are_points points ≡ true →
     deed_in (line Record (DrawnHand reason hands ready deltas points)) ≡ Some (as_read (DrawnHand reason hands ready deltas points))
 drawn_read reason hands [] deltas points n = absurd (false≢true n)
 drawn_read reason hands (a ∷ []) deltas points n = absurd (false≢true n)
@@ -95,7 +97,9 @@ read (StartHand round number honba deposits dealer indicator hands) h =
     let q3 = and-parts (list_all is_tile hands.first && list_all is_tile hands.second && list_all is_tile hands.third) (list_all is_tile hands.fourth) p6.1 in
     let q2 = and-parts (list_all is_tile hands.first && list_all is_tile hands.second) (list_all is_tile hands.third) q3.0 in
     let q1 = and-parts (list_all is_tile hands.first) (list_all is_tile hands.second) q2.0 in
-    hand_starts_are_read.starts round number honba deposits dealer indicator hands.first hands.second hands.third hands.fourth (ltb-true round 34 p1.0) (ltb-true number 256 p1.1) (ltb-true honba 4294967296 p2.1) (ltb-true deposits 4294967296 p3.1) (ltb-true dealer 256 p4.1) (ltb-true indicator 37 p5.1) q1.0 q1.1 q2.1 q3.1
+    hand_starts_are_read.starts round number honba deposits dealer indicator hands.first hands.second hands.third hands.fourth
+    (ltb-true round 34 p1.0) (ltb-true number 256 p1.1) (ltb-true honba 4294967296 p2.1) (ltb-true deposits 4294967296 p3.1)
+    (ltb-true dealer 256 p4.1) (ltb-true indicator 37 p5.1) q1.0 q1.1 q2.1 q3.1
 read (Draw seat tile replacement) h =
     let p1 = and-parts (is_byte seat) (is_tile tile) h in
     acts_are_read.draws seat tile replacement (ltb-true seat 256 p1.0) (ltb-true tile 37 p1.1)
@@ -140,10 +144,14 @@ read (ReachAccepted seat points bid) h =
     let p1 = and-parts (is_byte seat) (are_points points) p2.0 in
     reaches_are_read.accepted seat points bid (ltb-true seat 256 p1.0) p1.1 p2.1
 read (Win seat target tile unders hand yaku fu han value deltas points rest) h =
-    let p12 = and-parts (is_byte seat && is_byte target && is_tile tile && list_all is_tile unders && list_all is_tile hand && list_all is_row yaku && is_byte fu && is_byte han && is_word value && are_points deltas && are_points points && nat_le (length rest) 2) (list_all is_byte rest) h in
-    let p11 = and-parts (is_byte seat && is_byte target && is_tile tile && list_all is_tile unders && list_all is_tile hand && list_all is_row yaku && is_byte fu && is_byte han && is_word value && are_points deltas && are_points points) (nat_le (length rest) 2) p12.0 in
-    let p10 = and-parts (is_byte seat && is_byte target && is_tile tile && list_all is_tile unders && list_all is_tile hand && list_all is_row yaku && is_byte fu && is_byte han && is_word value && are_points deltas) (are_points points) p11.0 in
-    let p9 = and-parts (is_byte seat && is_byte target && is_tile tile && list_all is_tile unders && list_all is_tile hand && list_all is_row yaku && is_byte fu && is_byte han && is_word value) (are_points deltas) p10.0 in
+    let p12 = and-parts (is_byte seat && is_byte target && is_tile tile && list_all is_tile unders && list_all is_tile hand && list_all is_row yaku &&
+    is_byte fu && is_byte han && is_word value && are_points deltas && are_points points && nat_le (length rest) 2) (list_all is_byte rest) h in
+    let p11 = and-parts (is_byte seat && is_byte target && is_tile tile && list_all is_tile unders && list_all is_tile hand && list_all is_row yaku &&
+    is_byte fu && is_byte han && is_word value && are_points deltas && are_points points) (nat_le (length rest) 2) p12.0 in
+    let p10 = and-parts (is_byte seat && is_byte target && is_tile tile && list_all is_tile unders && list_all is_tile hand && list_all is_row yaku &&
+    is_byte fu && is_byte han && is_word value && are_points deltas) (are_points points) p11.0 in
+    let p9 = and-parts (is_byte seat && is_byte target && is_tile tile && list_all is_tile unders && list_all is_tile hand && list_all is_row yaku &&
+    is_byte fu && is_byte han && is_word value) (are_points deltas) p10.0 in
     let p8 = and-parts (is_byte seat && is_byte target && is_tile tile && list_all is_tile unders && list_all is_tile hand && list_all is_row yaku && is_byte fu && is_byte han) (is_word value) p9.0 in
     let p7 = and-parts (is_byte seat && is_byte target && is_tile tile && list_all is_tile unders && list_all is_tile hand && list_all is_row yaku && is_byte fu) (is_byte han) p8.0 in
     let p6 = and-parts (is_byte seat && is_byte target && is_tile tile && list_all is_tile unders && list_all is_tile hand && list_all is_row yaku) (is_byte fu) p7.0 in
@@ -152,7 +160,8 @@ read (Win seat target tile unders hand yaku fu han value deltas points rest) h =
     let p3 = and-parts (is_byte seat && is_byte target && is_tile tile) (list_all is_tile unders) p4.0 in
     let p2 = and-parts (is_byte seat && is_byte target) (is_tile tile) p3.0 in
     let p1 = and-parts (is_byte seat) (is_byte target) p2.0 in
-    wins_are_read.wins seat target tile unders hand yaku fu han value deltas points rest (ltb-true seat 256 p1.0) (ltb-true target 256 p1.1) (ltb-true tile 37 p2.1) p3.1 p4.1 p5.1 (ltb-true fu 256 p6.1) (ltb-true han 256 p7.1) (ltb-true value 4294967296 p8.1) p9.1 p10.1 p11.1 p12.1
+    wins_are_read.wins seat target tile unders hand yaku fu han value deltas points rest (ltb-true seat 256 p1.0) (ltb-true target 256 p1.1)
+    (ltb-true tile 37 p2.1) p3.1 p4.1 p5.1 (ltb-true fu 256 p6.1) (ltb-true han 256 p7.1) (ltb-true value 4294967296 p8.1) p9.1 p10.1 p11.1 p12.1
 read (DrawnHand reason hands ready deltas points) h =
     let p3 = and-parts (are_shown hands && length ready == 4 && are_points deltas) (are_points points) h in
     let p2 = and-parts (are_shown hands && length ready == 4) (are_points deltas) p3.0 in

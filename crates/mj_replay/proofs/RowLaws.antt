@@ -113,7 +113,8 @@ two_seats a b rest ha hb =
     ∙ ap (option_map (λ (first : ℕ × List ℕ). seats_with first.0 (byte_field (codes ",") first.1))) (byte_read (codes "[") (44 ∷ (decimal b ++ (93 ∷ rest))) a ha refl)
     ∙ ap (λ o. Some (seats_with a o)) (byte_read (codes ",") (93 ∷ rest) b hb refl)
 
-in_brackets : (seats rest : List ℕ) → nat_le (length seats) 2 ≡ true → list_all is_byte seats ≡ true → option_and_then (λ list. seats_by (behind (codes "[]") list) list) (Some (bracketed (map decimal seats) ++ rest)) ≡ Some seats
+in_brackets : (seats rest : List ℕ) → nat_le (length seats) 2 ≡ true → list_all is_byte seats ≡ true →
+    option_and_then (λ list. seats_by (behind (codes "[]") list) list) (Some (bracketed (map decimal seats) ++ rest)) ≡ Some seats
 unfolding bracketed
 in_brackets [] rest few h = refl
 in_brackets (a ∷ []) rest few h =

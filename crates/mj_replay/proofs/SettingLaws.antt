@@ -44,13 +44,15 @@ spaced (b ∷ bs) = either (b == 32) refl (fields bs) (spaced bs)
     tail_of [] = []
     tail_of (x ∷ xs) = xs
 
-    either : (t : Bool) → (b == 32) ≡ t → (parts : List (List ℕ)) → flat_map (λ field. 32 ∷ field) parts ≡ 32 ∷ bs → flat_map (λ field. 32 ∷ field) (cond t ([] ∷ parts) (onto_first b parts)) ≡ 32 ∷ b ∷ bs
+    either : (t : Bool) → (b == 32) ≡ t → (parts : List (List ℕ)) → flat_map (λ field. 32 ∷ field) parts ≡ 32 ∷ bs →
+        flat_map (λ field. 32 ∷ field) (cond t ([] ∷ parts) (onto_first b parts)) ≡ 32 ∷ b ∷ bs
     either true e parts h = let same : b ≡ 32 = (Decides-eqb b 32).0 e in rw same (ap (λ xs. 32 ∷ xs) h)
     either false e [] h = cc h
     either false e (x ∷ xs) h = ap (λ ys. 32 ∷ b ∷ tail_of ys) h
 
 -- the fields of a header
-limit_field : (field : List ℕ) (ms : ℕ) → Some ms ≡ option_and_then limit_of (option_and_then decimal_of (behind (codes "limit=") field)) → (field ≡ codes "limit=" ++ decimal ms) × (nat_le 1 ms && nat_le ms 3600000) ≡ true
+limit_field : (field : List ℕ) (ms : ℕ) → Some ms ≡ option_and_then limit_of (option_and_then decimal_of (behind (codes "limit=") field)) →
+    (field ≡ codes "limit=" ++ decimal ms) × (nat_le 1 ms && nat_le ms 3600000) ≡ true
 limit_field field ms h = by_key (behind (codes "limit=") field) refl h
   where
     by_bound : (n : ℕ) (t : Bool) → (nat_le 1 n && nat_le n 3600000) ≡ t → Some ms ≡ cond t (Some n) None → (n ≡ ms) × (nat_le 1 ms && nat_le ms 3600000) ≡ true
@@ -61,7 +63,8 @@ limit_field field ms h = by_key (behind (codes "limit=") field) refl h
     by_number text None e g = cc g
     by_number text (Some n) e g = let b = by_bound n _ refl g in (number_text-decimal_of text n e ∙ ap decimal b.0, b.1)
 
-    by_key : (o : Option (List ℕ)) → behind (codes "limit=") field ≡ o → Some ms ≡ option_and_then limit_of (option_and_then decimal_of o) → (field ≡ codes "limit=" ++ decimal ms) × (nat_le 1 ms && nat_le ms 3600000) ≡ true
+    by_key : (o : Option (List ℕ)) → behind (codes "limit=") field ≡ o → Some ms ≡ option_and_then limit_of (option_and_then decimal_of o) →
+        (field ≡ codes "limit=" ++ decimal ms) × (nat_le 1 ms && nat_le ms 3600000) ≡ true
     by_key None e g = cc g
     by_key (Some text) e g = let b = by_number text (decimal_of text) refl g in (behind-is (codes "limit=") field text (sym e) ∙ ap (λ xs. codes "limit=" ++ xs) b.0, b.1)
 
@@ -85,7 +88,9 @@ record Says (texts : List (List ℕ)) (rules : Rules) : Type 0 where
   bounds : (nat_le 1 rules.limit && nat_le rules.limit 3600000) ≡ true
   texts_are : texts ≡ (codes "limit=" ++ decimal rules.limit) ∷ (codes "draws=" ++ switch_text rules.draws) ∷ (codes "red=" ++ switch_text rules.red) ∷ []
 
-three_say : (a b c : List ℕ) (rules : Rules) (o : Option ℕ) (p q : Option Bool) → option_and_then limit_of (option_and_then decimal_of (behind (codes "limit=") a)) ≡ o → option_and_then switch_of (behind (codes "draws=") b) ≡ p → option_and_then switch_of (behind (codes "red=") c) ≡ q →
+three_say : (a b c : List ℕ) (rules : Rules) (o : Option ℕ) (p q : Option Bool) →
+    option_and_then limit_of (option_and_then decimal_of (behind (codes "limit=") a)) ≡ o → option_and_then switch_of (behind (codes "draws=") b) ≡ p
+    → option_and_then switch_of (behind (codes "red=") c) ≡ q →
     Some rules ≡ option_and_then (λ ms. option_and_then (λ d. option_map (λ r. record { limit = ms; draws = d; red = r }) q) p) o → Says (a ∷ b ∷ c ∷ []) rules
 three_say a b c rules None p q e f g h = cc h
 three_say a b c rules (Some ms) None q e f g h = cc h
@@ -145,7 +150,8 @@ header_is line text rules b r =
     let s = fields_say (fields text) rules r in
     record {
       fits = s.bounds;
-      is = line_is rules ∙ ap (λ xs. xs ++ 10 ∷ []) (body_is (decimal rules.limit) (switch_text rules.draws) (switch_text rules.red) ∙ ap (λ xs. codes "game " ++ xs) (sym (text_says text rules s)) ∙ sym (behind-is (codes "game ") line text b));
+      is = line_is rules ∙ ap (λ xs. xs ++ 10 ∷ []) (body_is (decimal rules.limit) (switch_text rules.draws) (switch_text rules.red)
+          ∙ ap (λ xs. codes "game " ++ xs) (sym (text_says text rules s)) ∙ sym (behind-is (codes "game ") line text b));
     }
 
 -- what stands before the last byte
@@ -184,21 +190,26 @@ record Reads (line : List ℕ) (rules : Rules) : Type 0 where
 limit_reads : (ms : ℕ) → (nat_le 1 ms && nat_le ms 3600000) ≡ true → option_and_then limit_of (option_and_then decimal_of (behind (codes "limit=") (codes "limit=" ++ decimal ms))) ≡ Some ms
 limit_reads ms h =
     let small : ms < 2 ^ 64 = grind (arith, nat_tests) in
-    ap (λ o. option_and_then limit_of (option_and_then decimal_of o)) (behind_key (codes "limit=") (decimal ms)) ∙ ap (option_and_then limit_of) (decimal_of-number_text ms small) ∙ ap (λ t. cond t (Some ms) None) h
+    ap (λ o. option_and_then limit_of (option_and_then decimal_of o)) (behind_key (codes "limit=") (decimal ms))
+    ∙ ap (option_and_then limit_of) (decimal_of-number_text ms small) ∙ ap (λ t. cond t (Some ms) None) h
 
 switch_reads : (key : List ℕ) (on : Bool) → option_and_then switch_of (behind key (key ++ switch_text on)) ≡ Some on
 switch_reads key true = ap (option_and_then switch_of) (behind_key key (codes "1"))
 switch_reads key false = ap (option_and_then switch_of) (behind_key key (codes "0"))
 
-three_read : (rules : Rules) → (nat_le 1 rules.limit && nat_le rules.limit 3600000) ≡ true → rules_of ((codes "limit=" ++ decimal rules.limit) ∷ (codes "draws=" ++ switch_text rules.draws) ∷ (codes "red=" ++ switch_text rules.red) ∷ []) ≡ Some rules
+three_read : (rules : Rules) → (nat_le 1 rules.limit && nat_le rules.limit 3600000) ≡ true →
+    rules_of ((codes "limit=" ++ decimal rules.limit) ∷ (codes "draws=" ++ switch_text rules.draws) ∷ (codes "red=" ++ switch_text rules.red) ∷ []) ≡
+    Some rules
 unfolding rules_of
 three_read rules h = rw (limit_reads rules.limit h, switch_reads (codes "draws=") rules.draws, switch_reads (codes "red=") rules.red) refl
 
-fields_are : (limit draws red : List ℕ) → has_byte 32 limit ≡ false → has_byte 32 draws ≡ false → has_byte 32 red ≡ false → fields (header_text limit draws red) ≡ (codes "limit=" ++ limit) ∷ (codes "draws=" ++ draws) ∷ (codes "red=" ++ red) ∷ []
+fields_are : (limit draws red : List ℕ) → has_byte 32 limit ≡ false → has_byte 32 draws ≡ false → has_byte 32 red ≡ false →
+    fields (header_text limit draws red) ≡ (codes "limit=" ++ limit) ∷ (codes "draws=" ++ draws) ∷ (codes "red=" ++ red) ∷ []
 unfolding header_text
 fields_are limit draws red l d r =
     parts_by-at 32 (codes "limit=" ++ limit) (codes "draws=" ++ (draws ++ (codes " red=" ++ red))) l
-    ∙ ap (λ ys. (codes "limit=" ++ limit) ∷ ys) (parts_by-at 32 (codes "draws=" ++ draws) (codes "red=" ++ red) d ∙ ap (λ ys. (codes "draws=" ++ draws) ∷ ys) (parts_by-none 32 (codes "red=" ++ red) r))
+    ∙ ap (λ ys. (codes "limit=" ++ limit) ∷ ys) (parts_by-at 32 (codes "draws=" ++ draws) (codes "red=" ++ red) d
+    ∙ ap (λ ys. (codes "draws=" ++ draws) ∷ ys) (parts_by-none 32 (codes "red=" ++ red) r))
 
 header_reads : (line : List ℕ) (rules : Rules) → are_rules rules ≡ true → header_line rules ≡ line ++ 10 ∷ [] → Reads line rules
 header_reads line rules h e =
@@ -224,7 +235,8 @@ pub no_rules : (line text : List ℕ) → Some text ≡ behind (codes "game ") l
 no_rules line text b n rules h e = let s = same_text line text rules b (header_reads line rules h e) in cc (n, s)
 
 -- The rules of the fields after the word are just what a header line says.
-pub header_says : (line text : List ℕ) (answer : Option Rules) → Some text ≡ behind (codes "game ") line → answer ≡ rules_of (fields text) → MatchOption answer (IsNoHeader line) (λ rules. IsHeader line rules)
+pub header_says : (line text : List ℕ) (answer : Option Rules) → Some text ≡ behind (codes "game ") line → answer ≡ rules_of (fields text) →
+    MatchOption answer (IsNoHeader line) (λ rules. IsHeader line rules)
 header_says line text None b r = no_rules line text b r
 header_says line text (Some rules) b r = header_is line text rules b r
 

@@ -23,10 +23,14 @@ group8 a b c d e f g h = simp append_assoc
 pub group11 : (a b c d e f g h i j k : List ℕ) → a ++ b ++ c ++ d ++ e ++ f ++ g ++ h ++ i ++ j ++ k ≡ a ++ (b ++ (c ++ (d ++ (e ++ (f ++ (g ++ (h ++ (i ++ (j ++ k)))))))))
 group11 a b c d e f g h i j k = simp append_assoc
 
-pub group15 : (a b c d e f g h i j k l m n o : List ℕ) → a ++ b ++ c ++ d ++ e ++ f ++ g ++ h ++ i ++ j ++ k ++ l ++ m ++ n ++ o ≡ a ++ (b ++ (c ++ (d ++ (e ++ (f ++ (g ++ (h ++ (i ++ (j ++ (k ++ (l ++ (m ++ (n ++ o)))))))))))))
+pub group15 : (a b c d e f g h i j k l m n o : List ℕ) → a ++ b ++ c ++ d ++ e ++ f ++ g ++ h ++ i ++ j ++ k ++ l ++ m ++ n ++ o ≡ a ++
+    (b ++ (c ++ (d ++ (e ++ (f ++ (g ++ (h ++ (i ++ (j ++ (k ++ (l ++ (m ++ (n ++ o)))))))))))))
 group15 a b c d e f g h i j k l m n o = simp append_assoc
 
-pub group24 : (a b c d e f g h i j k l m n o p q r s t u v w x : List ℕ) → a ++ b ++ c ++ d ++ e ++ f ++ g ++ h ++ i ++ j ++ k ++ l ++ m ++ n ++ o ++ p ++ q ++ r ++ s ++ t ++ u ++ v ++ w ++ x ≡ a ++ (b ++ (c ++ (d ++ (e ++ (f ++ (g ++ (h ++ (i ++ (j ++ (k ++ (l ++ (m ++ (n ++ (o ++ (p ++ (q ++ (r ++ (s ++ (t ++ (u ++ (v ++ (w ++ x))))))))))))))))))))))
+pub group24 : (a b c d e f g h i j k l m n o p q r s t u v w x : List ℕ) → a ++ b ++ c ++ d ++ e ++ f ++ g ++ h ++ i ++ j ++ k ++ l ++ m ++ n ++ o ++
+    p ++ q ++ r ++ s ++ t ++ u ++ v ++ w ++ x ≡ a ++
+    (b ++ (c ++ (d ++ (e ++ (f ++ (g ++ (h ++
+    (i ++ (j ++ (k ++ (l ++ (m ++ (n ++ (o ++ (p ++ (q ++ (r ++ (s ++ (t ++ (u ++ (v ++ (w ++ x))))))))))))))))))))))
 group24 a b c d e f g h i j k l m n o p q r s t u v w x = simp append_assoc
 
 -- the last piece, and pieces before others

@@ -58,7 +58,8 @@ unfolding marks_at hidden_at bracketed quoted_tile
 no_hidden [] rest h = refl
 no_hidden (tile ∷ tiles) rest h =
     let p = and-parts (is_tile tile) (list_all is_tile tiles) h in
-    ap hidden_at (list_shape (quoted_tile tile ++ later quoted_tile tiles) rest (quoted_tile tile ++ (later quoted_tile tiles ++ (93 ∷ rest))) (append_assoc (quoted_tile tile) (later quoted_tile tiles) (93 ∷ rest)))
+    ap hidden_at (list_shape (quoted_tile tile ++ later quoted_tile tiles) rest (quoted_tile tile ++ (later quoted_tile tiles ++ (93 ∷ rest)))
+    (append_assoc (quoted_tile tile) (later quoted_tile tiles) (93 ∷ rest)))
     ∙ ap (λ t. hidden_at (91 ∷ 34 ∷ t)) (append_assoc (text_of tile) (34 ∷ []) (later quoted_tile tiles ++ (93 ∷ rest)))
     ∙ ap (option_and_then (marks_from 255 1)) (no_mark tile (34 ∷ (later quoted_tile tiles ++ (93 ∷ rest))) (ltb-true tile 37 p.0))
 
@@ -76,7 +77,8 @@ shown_field_read : (key rest : List ℕ) (hand : Shown) → is_shown hand ≡ tr
 unfolding shown_field
 shown_field_read key rest hand h = ap (option_and_then shown_at) (behind_key key (bracketed (hand_at_draw hand) ++ rest)) ∙ hand_read hand rest h
 
-reason_read : (reason : Reason) (rest : List ℕ) → option_and_then (and_rest reason_of) (option_and_then quoted_at (behind (codes ",\"reason\":") (codes ",\"reason\":" ++ (quoted (reason_name reason) ++ rest)))) ≡ Some (reason, rest)
+reason_read : (reason : Reason) (rest : List ℕ) → option_and_then (and_rest reason_of)
+    (option_and_then quoted_at (behind (codes ",\"reason\":") (codes ",\"reason\":" ++ (quoted (reason_name reason) ++ rest)))) ≡ Some (reason, rest)
 unfolding quoted_at
 reason_read reasons.Fanpai rest = refl
 reason_read reasons.Kyushukyuhai rest = refl
@@ -85,12 +87,17 @@ reason_read reasons.Suuchareach rest = refl
 reason_read reasons.Suukaikan rest = refl
 
 ends : (reason : Reason) (hands : Four Shown) (a b c d : Bool) (deltas points : List ℤ) (rest : List ℕ) → are_points deltas ≡ true → are_points points ≡ true →
-    drawn_by reason hands (codes "],\"tenpais\":[" ++ (truth a ++ (codes "," ++ (truth b ++ (codes "," ++ (truth c ++ (codes "," ++ (truth d ++ (codes "],\"deltas\":" ++ (points_text deltas ++ (codes ",\"scores\":" ++ (points_text points ++ rest))))))))))))
+    drawn_by reason hands (codes "],\"tenpais\":[" ++
+    (truth a ++ (codes "," ++ (truth b ++ (codes "," ++
+    (truth c ++ (codes "," ++ (truth d ++ (codes "],\"deltas\":" ++
+    (points_text deltas ++ (codes ",\"scores\":" ++ (points_text points ++ rest))))))))))))
     ≡ Some (DrawnHand reason hands (a ∷ b ∷ c ∷ d ∷ []) deltas points)
 unfolding drawn_by
 ends reason hands a b c d deltas points rest hd hp =
     rw (
-      truth_field_read (codes "],\"tenpais\":[") (codes "," ++ (truth b ++ (codes "," ++ (truth c ++ (codes "," ++ (truth d ++ (codes "],\"deltas\":" ++ (points_text deltas ++ (codes ",\"scores\":" ++ (points_text points ++ rest)))))))))) a,
+      truth_field_read (codes "],\"tenpais\":[")
+          (codes "," ++ (truth b ++ (codes "," ++ (truth c ++
+          (codes "," ++ (truth d ++ (codes "],\"deltas\":" ++ (points_text deltas ++ (codes ",\"scores\":" ++ (points_text points ++ rest)))))))))) a,
       truth_field_read (codes ",") (codes "," ++ (truth c ++ (codes "," ++ (truth d ++ (codes "],\"deltas\":" ++ (points_text deltas ++ (codes ",\"scores\":" ++ (points_text points ++ rest)))))))) b,
       truth_field_read (codes ",") (codes "," ++ (truth d ++ (codes "],\"deltas\":" ++ (points_text deltas ++ (codes ",\"scores\":" ++ (points_text points ++ rest)))))) c,
       truth_field_read (codes ",") (codes "],\"deltas\":" ++ (points_text deltas ++ (codes ",\"scores\":" ++ (points_text points ++ rest)))) d,
@@ -99,29 +106,37 @@ ends reason hands a b c d deltas points rest hd hp =
     )
 
 fronts : (reason : Reason) (a b c d : Shown) (rest : List ℕ) → is_shown a ≡ true → is_shown b ≡ true → is_shown c ≡ true → is_shown d ≡ true →
-    drawn_hand_in (codes ",\"reason\":" ++ (quoted (reason_name reason) ++ (codes ",\"tehais\":[" ++ (bracketed (hand_at_draw a) ++ (codes "," ++ (bracketed (hand_at_draw b) ++ (codes "," ++ (bracketed (hand_at_draw c) ++ (codes "," ++ (bracketed (hand_at_draw d) ++ rest))))))))))
+    drawn_hand_in (codes ",\"reason\":" ++ (quoted (reason_name reason) ++
+    (codes ",\"tehais\":[" ++ (bracketed (hand_at_draw a) ++
+    (codes "," ++ (bracketed (hand_at_draw b) ++
+    (codes "," ++ (bracketed (hand_at_draw c) ++ (codes "," ++ (bracketed (hand_at_draw d) ++ rest))))))))))
     ≡ drawn_by reason (record { first = shown_read a; second = shown_read b; third = shown_read c; fourth = shown_read d }) rest
 unfolding drawn_hand_in drawn_with reason_at
 fronts reason a b c d rest ha hb hc hd =
     rw (
-      reason_read reason (codes ",\"tehais\":[" ++ (bracketed (hand_at_draw a) ++ (codes "," ++ (bracketed (hand_at_draw b) ++ (codes "," ++ (bracketed (hand_at_draw c) ++ (codes "," ++ (bracketed (hand_at_draw d) ++ rest)))))))),
+      reason_read reason (codes ",\"tehais\":[" ++
+          (bracketed (hand_at_draw a) ++ (codes "," ++
+          (bracketed (hand_at_draw b) ++ (codes "," ++ (bracketed (hand_at_draw c) ++ (codes "," ++ (bracketed (hand_at_draw d) ++ rest)))))))),
       shown_field_read (codes ",\"tehais\":[") (codes "," ++ (bracketed (hand_at_draw b) ++ (codes "," ++ (bracketed (hand_at_draw c) ++ (codes "," ++ (bracketed (hand_at_draw d) ++ rest)))))) a ha,
       shown_field_read (codes ",") (codes "," ++ (bracketed (hand_at_draw c) ++ (codes "," ++ (bracketed (hand_at_draw d) ++ rest)))) b hb,
       shown_field_read (codes ",") (codes "," ++ (bracketed (hand_at_draw d) ++ rest)) c hc,
       shown_field_read (codes ",") rest d hd,
     )
 
-drawn : (reason : Reason) (a b c d : Shown) (p q r s : Bool) (deltas points : List ℤ) → is_shown a ≡ true → is_shown b ≡ true → is_shown c ≡ true → is_shown d ≡ true → are_points deltas ≡ true → are_points points ≡ true →
+drawn : (reason : Reason) (a b c d : Shown) (p q r s : Bool) (deltas points : List ℤ) → is_shown a ≡ true → is_shown b ≡ true → is_shown c ≡ true →
+    is_shown d ≡ true → are_points deltas ≡ true → are_points points ≡ true →
     deed_in (line Record (DrawnHand reason (record { first = a; second = b; third = c; fourth = d }) (p ∷ q ∷ r ∷ s ∷ []) deltas points))
     ≡ Some (DrawnHand reason (record { first = shown_read a; second = shown_read b; third = shown_read c; fourth = shown_read d }) (p ∷ q ∷ r ∷ s ∷ []) deltas points)
 unfolding drawn_hand_line deed_in deed_by quoted_at
 drawn reason a b c d p q r s deltas points ha hb hc hd hx hy =
     let tail = codes ",\"deltas\":" ++ (points_text deltas ++ (codes ",\"scores\":" ++ (points_text points ++ codes "}\n"))) in
     let shown : Four Shown = record { first = shown_read a; second = shown_read b; third = shown_read c; fourth = shown_read d } in
-    ap deed_in (group11 (codes "{\"type\":\"ryukyoku\",\"reason\":") (quoted (reason_name reason)) (codes ",\"tehais\":") (bracketed (bracketed (hand_at_draw a) ∷ bracketed (hand_at_draw b) ∷ bracketed (hand_at_draw c) ∷ bracketed (hand_at_draw d) ∷ []))
+    ap deed_in (group11 (codes "{\"type\":\"ryukyoku\",\"reason\":") (quoted (reason_name reason)) (codes ",\"tehais\":")
+    (bracketed (bracketed (hand_at_draw a) ∷ bracketed (hand_at_draw b) ∷ bracketed (hand_at_draw c) ∷ bracketed (hand_at_draw d) ∷ []))
     (codes ",\"tenpais\":") (bracketed (truth p ∷ truth q ∷ truth r ∷ truth s ∷ [])) (codes ",\"deltas\":") (points_text deltas) (codes ",\"scores\":") (points_text points) (codes "}\n"))
     ∙ ap (λ hands. drawn_hand_in (codes ",\"reason\":" ++ (quoted (reason_name reason) ++ (codes ",\"tehais\":" ++ hands))))
-    (four_shape (bracketed (hand_at_draw a)) (bracketed (hand_at_draw b)) (bracketed (hand_at_draw c)) (bracketed (hand_at_draw d)) (codes ",\"tenpais\":" ++ (bracketed (truth p ∷ truth q ∷ truth r ∷ truth s ∷ []) ++ tail)))
+    (four_shape (bracketed (hand_at_draw a)) (bracketed (hand_at_draw b)) (bracketed (hand_at_draw c)) (bracketed (hand_at_draw d))
+    (codes ",\"tenpais\":" ++ (bracketed (truth p ∷ truth q ∷ truth r ∷ truth s ∷ []) ++ tail)))
     ∙ fronts reason a b c d (93 ∷ (codes ",\"tenpais\":" ++ (bracketed (truth p ∷ truth q ∷ truth r ∷ truth s ∷ []) ++ tail))) ha hb hc hd
     ∙ ap (λ ready. drawn_by reason shown (93 ∷ (codes ",\"tenpais\":" ++ ready))) (four_shape (truth p) (truth q) (truth r) (truth s) tail)
     ∙ ends reason shown p q r s deltas points (codes "}\n") hx hy

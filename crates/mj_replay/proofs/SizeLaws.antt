@@ -76,7 +76,8 @@ three_fit who target tile a b s x =
     let x1 = and_parts (is_tile tile) (list_all is_tile (a ∷ b ∷ [])) x in
     let x2 = and_parts (is_tile a) (list_all is_tile (b ∷ [])) x1.1 in
     let x3 = and_parts (is_tile b) true x2.1 in
-    and_from (is_byte who && is_byte target && is_tile tile && is_tile a) (is_tile b) (and_from (is_byte who && is_byte target && is_tile tile) (is_tile a) (and_from (is_byte who && is_byte target) (is_tile tile) (and_from (is_byte who) (is_byte target) s1.0 s2.0) x1.0) x2.0) x3.0
+    and_from (is_byte who && is_byte target && is_tile tile && is_tile a) (is_tile b) (and_from (is_byte who && is_byte target && is_tile tile)
+    (is_tile a) (and_from (is_byte who && is_byte target) (is_tile tile) (and_from (is_byte who) (is_byte target) s1.0 s2.0) x1.0) x2.0) x3.0
 
 four_fit : (who target tile a b c : ℕ) → AreSeats (who ∷ target ∷ []) → AreReal (tile ∷ a ∷ b ∷ c ∷ []) → (is_byte who && is_byte target && is_tile tile && is_tile a && is_tile b && is_tile c) ≡ true
 four_fit who target tile a b c s x =
@@ -109,7 +110,8 @@ value (StartHand round number honba lying dealer indicator hands) h s x =
     and_from (numbers && is_byte dealer && is_tile indicator) (list_all is_tile hands.first && list_all is_tile hands.second && list_all is_tile hands.third && list_all is_tile hands.fourth)
     (and_from (numbers && is_byte dealer) (is_tile indicator) (and_from numbers (is_byte dealer) h (seat_byte dealer (and_parts (nat_lt dealer 4) true s).0)) t.0)
     (and_from (list_all is_tile hands.first && list_all is_tile hands.second && list_all is_tile hands.third) (list_all is_tile hands.fourth)
-    (and_from (list_all is_tile hands.first && list_all is_tile hands.second) (list_all is_tile hands.third) (and_from (list_all is_tile hands.first) (list_all is_tile hands.second) q1.0 q1.1) q2.1) q3.1)
+    (and_from (list_all is_tile hands.first && list_all is_tile hands.second) (list_all is_tile hands.third) (and_from (list_all is_tile hands.first)
+    (list_all is_tile hands.second) q1.0 q1.1) q2.1) q3.1)
 value (Draw who tile replacement) h s x = and_from (is_byte who) (is_tile tile) (seat_byte who (and_parts (nat_lt who 4) true s).0) (and_parts (is_tile tile) true x).0
 value (Discard who tile drawn) h s x = and_from (is_byte who) (is_tile tile) (seat_byte who (and_parts (nat_lt who 4) true s).0) (and_parts (is_tile tile) true x).0
 value (Chi who target tile a b) h s x = three_fit who target tile a b s x
@@ -121,14 +123,16 @@ value (ClosedKan who a b c d) h s x =
     let x2 = and_parts (is_tile b) (list_all is_tile (c ∷ d ∷ [])) x1.1 in
     let x3 = and_parts (is_tile c) (list_all is_tile (d ∷ [])) x2.1 in
     let x4 = and_parts (is_tile d) true x3.1 in
-    and_from (is_byte who && is_tile a && is_tile b && is_tile c) (is_tile d) (and_from (is_byte who && is_tile a && is_tile b) (is_tile c) (and_from (is_byte who && is_tile a) (is_tile b) (and_from (is_byte who) (is_tile a) seat x1.0) x2.0) x3.0) x4.0
+    and_from (is_byte who && is_tile a && is_tile b && is_tile c) (is_tile d) (and_from (is_byte who && is_tile a && is_tile b) (is_tile c)
+    (and_from (is_byte who && is_tile a) (is_tile b) (and_from (is_byte who) (is_tile a) seat x1.0) x2.0) x3.0) x4.0
 value (AddedKan who tile a b c) h s x =
     let seat = seat_byte who (and_parts (nat_lt who 4) true s).0 in
     let x1 = and_parts (is_tile tile) (list_all is_tile (a ∷ b ∷ c ∷ [])) x in
     let x2 = and_parts (is_tile a) (list_all is_tile (b ∷ c ∷ [])) x1.1 in
     let x3 = and_parts (is_tile b) (list_all is_tile (c ∷ [])) x2.1 in
     let x4 = and_parts (is_tile c) true x3.1 in
-    and_from (is_byte who && is_tile tile && is_tile a && is_tile b) (is_tile c) (and_from (is_byte who && is_tile tile && is_tile a) (is_tile b) (and_from (is_byte who && is_tile tile) (is_tile a) (and_from (is_byte who) (is_tile tile) seat x1.0) x2.0) x3.0) x4.0
+    and_from (is_byte who && is_tile tile && is_tile a && is_tile b) (is_tile c) (and_from (is_byte who && is_tile tile && is_tile a) (is_tile b)
+    (and_from (is_byte who && is_tile tile) (is_tile a) (and_from (is_byte who) (is_tile tile) seat x1.0) x2.0) x3.0) x4.0
 value (Dora tile) h s x = (and_parts (is_tile tile) true x).0
 value (Reach who) h s x = seat_byte who (and_parts (nat_lt who 4) true s).0
 value (ReachAccepted who said bid) h s x =
@@ -155,8 +159,12 @@ value (Win who target tile unders own yaku fu han worth deltas said rest) h s x 
     let a9 = a8 && are_points deltas in
     let a10 = a9 && are_points said in
     let a11 = a10 && nat_le (length rest) 2 in
-    and_from a11 (list_all is_byte rest) (and_from a10 (nat_le (length rest) 2) (and_from a9 (are_points said) (and_from a8 (are_points deltas) (and_from a7 (is_word worth) (and_from a6 (is_byte han) (and_from a5 (is_byte fu) (and_from a4 (list_all is_row yaku)
-    (and_from a3 (list_all is_tile own) (and_from a2 (list_all is_tile unders) (and_from a1 (is_tile tile) (and_from (is_byte who) (is_byte target) s1.0 s2.0) x1.0) x2.0) x2.1) h1.0) h1.1) h2.1) h3.1) h4.1) h5.1) h6.1) s2.1
+    and_from a11 (list_all is_byte rest) (and_from a10 (nat_le (length rest) 2)
+    (and_from a9 (are_points said) (and_from a8 (are_points deltas)
+    (and_from a7 (is_word worth) (and_from a6 (is_byte han) (and_from a5 (is_byte fu) (and_from a4 (list_all is_row yaku)
+    (and_from a3 (list_all is_tile own) (and_from a2 (list_all is_tile unders)
+    (and_from a1 (is_tile tile) (and_from (is_byte who) (is_byte target) s1.0 s2.0) x1.0) x2.0) x2.1) h1.0) h1.1) h2.1) h3.1) h4.1) h5.1) h6.1)
+    s2.1
 value (DrawnHand reason hands ready deltas said) h s x =
     let h6 = and_parts (hidden_fits hands.first && hidden_fits hands.second && hidden_fits hands.third && hidden_fits hands.fourth && length ready == 4 && are_points deltas) (are_points said) h in
     let h5 = and_parts (hidden_fits hands.first && hidden_fits hands.second && hidden_fits hands.third && hidden_fits hands.fourth && length ready == 4) (are_points deltas) h6.0 in
@@ -170,6 +178,7 @@ value (DrawnHand reason hands ready deltas said) h s x =
     let four = is_shown hands.first && is_shown hands.second && is_shown hands.third && is_shown hands.fourth in
     and_from (four && length ready == 4 && are_points deltas) (are_points said) (and_from (four && length ready == 4) (are_points deltas) (and_from four (length ready == 4)
     (and_from (is_shown hands.first && is_shown hands.second && is_shown hands.third) (is_shown hands.fourth) (and_from (is_shown hands.first && is_shown hands.second) (is_shown hands.third)
-    (and_from (is_shown hands.first) (is_shown hands.second) (shown_fits hands.first h1.0 x1.0) (shown_fits hands.second h1.1 x1.1)) (shown_fits hands.third h2.1 x2.1)) (shown_fits hands.fourth h3.1 x3.1)) h4.1) h5.1) h6.1
+    (and_from (is_shown hands.first) (is_shown hands.second) (shown_fits hands.first h1.0 x1.0) (shown_fits hands.second h1.1 x1.1))
+    (shown_fits hands.third h2.1 x2.1)) (shown_fits hands.fourth h3.1 x3.1)) h4.1) h5.1) h6.1
 value EndHand h s x = refl
 value (EndGame said lying) h s x = h

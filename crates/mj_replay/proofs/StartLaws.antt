@@ -43,7 +43,9 @@ name_read key rest name h =
     ∙ ap (option_and_then (and_rest name_of)) (quoted_read name rest (no_quote_in name h)) ∙ named name rest h
 
 start_game_fields : (a b c d rest : List ℕ) → is_name a ≡ true → is_name b ≡ true → is_name c ≡ true → is_name d ≡ true →
-    start_game_in (codes ",\"id\":0,\"names\":[" ++ (quoted a ++ (codes "," ++ (quoted b ++ (codes "," ++ (quoted c ++ (codes "," ++ (quoted d ++ rest)))))))) ≡ Some (StartGame (record { first = a; second = b; third = c; fourth = d }))
+    start_game_in (codes ",\"id\":0,\"names\":[" ++
+    (quoted a ++ (codes "," ++ (quoted b ++ (codes "," ++ (quoted c ++ (codes "," ++ (quoted d ++ rest)))))))) ≡ Some
+    (StartGame (record { first = a; second = b; third = c; fourth = d }))
 unfolding start_game_in
 start_game_fields a b c d rest ha hb hc hd =
     rw (
@@ -57,7 +59,8 @@ pub game_starts : (a b c d : List ℕ) → is_name a ≡ true → is_name b ≡ 
     deed_in (line Record (StartGame (record { first = a; second = b; third = c; fourth = d }))) ≡ Some (StartGame (record { first = a; second = b; third = c; fourth = d }))
 unfolding start_game_line deed_in deed_by quoted_at
 game_starts a b c d ha hb hc hd =
-    ap (λ zero. deed_in (codes "{\"type\":\"start_game\",\"id\":" ++ zero ++ codes ",\"names\":" ++ bracketed (quoted a ∷ quoted b ∷ quoted c ∷ quoted d ∷ []) ++ codes "}\n")) (decimal_digit 0 (lit< tt))
+    ap (λ zero. deed_in (codes "{\"type\":\"start_game\",\"id\":" ++ zero ++ codes ",\"names\":" ++ bracketed (quoted a ∷ quoted b ∷ quoted c ∷ quoted
+    d ∷ []) ++ codes "}\n")) (decimal_digit 0 (lit< tt))
     ∙ ap deed_in (group5 (codes "{\"type\":\"start_game\",\"id\":") (codes "0") (codes ",\"names\":") (bracketed (quoted a ∷ quoted b ∷ quoted c ∷ quoted d ∷ [])) (codes "}\n"))
     ∙ ap (λ names. start_game_in (codes ",\"id\":0,\"names\":" ++ names)) (four_shape (quoted a) (quoted b) (quoted c) (quoted d) (codes "}\n"))
     ∙ start_game_fields a b c d (93 ∷ codes "}\n") ha hb hc hd

@@ -30,7 +30,8 @@ tile_shape : (tile : ℕ) (end : List ℕ) → codes ",\"pai\":" ++ (quoted_tile
 unfolding quoted_tile
 tile_shape tile end = ap (λ t. codes ",\"pai\":\"" ++ t) (append_assoc (text_of tile) (34 ∷ []) end)
 
-act_shape : (front : List ℕ) (seat tile : ℕ) (end : List ℕ) → seat < 4 → front ++ (decimal seat ++ (codes ",\"pai\":" ++ (quoted_tile tile ++ end))) ≡ front ++ ((48 + seat) ∷ (codes ",\"pai\":\"" ++ (text_of tile ++ 34 ∷ end)))
+act_shape : (front : List ℕ) (seat tile : ℕ) (end : List ℕ) → seat < 4 → front ++ (decimal seat ++ (codes ",\"pai\":" ++ (quoted_tile tile ++ end))) ≡
+    front ++ ((48 + seat) ∷ (codes ",\"pai\":\"" ++ (text_of tile ++ 34 ∷ end)))
 act_shape front seat tile end few =
     ap (λ d. front ++ (d ++ (codes ",\"pai\":" ++ (quoted_tile tile ++ end)))) (decimal_digit seat (omega (arith, few)))
     ∙ ap (λ t. front ++ ((48 + seat) ∷ t)) (tile_shape tile end)
@@ -52,7 +53,8 @@ draw_read text seat tile few small l = ap deed_in (sym l.is) ∙ acts_are_read.d
 
 -- a discard
 
-pub discard_is : (text act end : List ℕ) (seat tile : ℕ) (drawn : Bool) → text ≡ codes "{\"type\":\"dahai\",\"actor\":" ++ act → IsActOf act seat tile end → end ≡ codes ",\"tsumogiri\":" ++ (truth drawn ++ codes "}\n") → IsLineOf text (Discard seat tile drawn)
+pub discard_is : (text act end : List ℕ) (seat tile : ℕ) (drawn : Bool) → text ≡ codes "{\"type\":\"dahai\",\"actor\":" ++ act →
+    IsActOf act seat tile end → end ≡ codes ",\"tsumogiri\":" ++ (truth drawn ++ codes "}\n") → IsLineOf text (Discard seat tile drawn)
 unfolding discard_line
 discard_is text act end seat tile drawn is parts last = record {
   fits = and_from (nat_lt seat 256) (nat_lt tile 37) (lt-ltb seat 256 (let f = parts.seat_few in omega arith)) (lt-ltb tile 37 parts.tile_few);

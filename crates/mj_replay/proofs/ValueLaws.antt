@@ -142,7 +142,8 @@ negative_ok zero = nothing (λ z. is_signed_word z ≡ true)
 negative_ok (suc n) = last (λ m. nat_lt m (2 ^ 31) ≡ true) (λ z. is_signed_word z ≡ true) negsuc (below (2 ^ 31) n) (below_ok (2 ^ 31) n) (λ m h. h)
 
 signed_by_ok : (text : List ℕ) (o : Option (List ℕ)) → IfRead (signed_by text o) Signed
-signed_by_ok text None = onward-any Signed _ (number_at text) (λ x. rest_ok (λ z. is_signed_word z ≡ true) (λ n. option_map pos (below (2 ^ 31) n)) x (last (λ m. nat_lt m (2 ^ 31) ≡ true) (λ z. is_signed_word z ≡ true) pos (below (2 ^ 31) x.0) (below_ok (2 ^ 31) x.0) (λ m h. h)))
+signed_by_ok text None = onward-any Signed _ (number_at text) (λ x. rest_ok (λ z. is_signed_word z ≡ true) (λ n. option_map pos (below (2 ^ 31) n)) x
+    (last (λ m. nat_lt m (2 ^ 31) ≡ true) (λ z. is_signed_word z ≡ true) pos (below (2 ^ 31) x.0) (below_ok (2 ^ 31) x.0) (λ m h. h)))
 signed_by_ok text (Some size) = onward-any Signed (and_rest negative_of) (number_at size) (λ x. rest_ok (λ z. is_signed_word z ≡ true) negative_of x (negative_ok x.0))
 
 signed_ok : (key text : List ℕ) → IfRead (signed_field key text) Signed
@@ -172,22 +173,26 @@ name_ok key text = onward-any Name (and_rest name_of) _ (λ x. rest_ok (λ n. is
     by_test n false e = nothing (λ m. is_name m ≡ true)
 
 -- lists
-items_ok : {A : Type 0} (q : A → Bool) (item : List ℕ → Option (A × List ℕ)) → ((text : List ℕ) → IfRead (item text) (λ x. q x.0 ≡ true)) → (most : ℕ) (text : List ℕ) → IfRead (items_from item most text) (λ x. list_all q x.0 ≡ true)
+items_ok : {A : Type 0} (q : A → Bool) (item : List ℕ → Option (A × List ℕ)) → ((text : List ℕ) → IfRead (item text) (λ x. q x.0 ≡ true)) →
+    (most : ℕ) (text : List ℕ) → IfRead (items_from item most text) (λ x. list_all q x.0 ≡ true)
 items_ok q item h zero text = nothing (λ x. list_all q x.0 ≡ true)
 items_ok {A} q item h (suc most) text = onward (λ x. q x.0 ≡ true) (λ x. list_all q x.0 ≡ true) _ (item text) (h text) (λ x k. behind_ok x.0 k x.1 (items_ok q item h most))
   where
-    behind_ok : (x : A) → q x ≡ true → (rest : List ℕ) → ((t : List ℕ) → IfRead (items_from item most t) (λ x. list_all q x.0 ≡ true)) → IfRead (behind_item x (items_from item most) rest) (λ x. list_all q x.0 ≡ true)
+    behind_ok : (x : A) → q x ≡ true → (rest : List ℕ) → ((t : List ℕ) → IfRead (items_from item most t) (λ x. list_all q x.0 ≡ true)) →
+        IfRead (behind_item x (items_from item most) rest) (λ x. list_all q x.0 ≡ true)
     behind_ok x k [] more = nothing (λ x. list_all q x.0 ≡ true)
     behind_ok x k (b ∷ bs) more =
         choose (λ x. list_all q x.0 ≡ true) (b == 44) _ _
         (last (λ x. list_all q x.0 ≡ true) (λ x. list_all q x.0 ≡ true) _ (items_from item most bs) (more bs) (λ y m. both (q x) (list_all q y.0) k m))
         (choose (λ x. list_all q x.0 ≡ true) (b == 93) (Some (x ∷ [], bs)) None (something (λ x. list_all q x.0 ≡ true) (x ∷ [], bs) (both (q x) true k refl)) (nothing (λ x. list_all q x.0 ≡ true)))
 
-in_ok : {A : Type 0} (q : A → Bool) (item : List ℕ → Option (A × List ℕ)) → ((text : List ℕ) → IfRead (item text) (λ x. q x.0 ≡ true)) → (text : List ℕ) → IfRead (items_in item text) (λ x. list_all q x.0 ≡ true)
+in_ok : {A : Type 0} (q : A → Bool) (item : List ℕ → Option (A × List ℕ)) → ((text : List ℕ) → IfRead (item text) (λ x. q x.0 ≡ true)) →
+    (text : List ℕ) → IfRead (items_in item text) (λ x. list_all q x.0 ≡ true)
 in_ok q item h [] = nothing (λ x. list_all q x.0 ≡ true)
 in_ok q item h (b ∷ bs) = choose (λ x. list_all q x.0 ≡ true) (b == 93) (Some ([], bs)) _ (something (λ x. list_all q x.0 ≡ true) ([], bs) refl) (items_ok q item h (length (b ∷ bs)) (b ∷ bs))
 
-list_ok : {A : Type 0} (q : A → Bool) (item : List ℕ → Option (A × List ℕ)) → ((text : List ℕ) → IfRead (item text) (λ x. q x.0 ≡ true)) → (text : List ℕ) → IfRead (list_at item text) (λ x. list_all q x.0 ≡ true)
+list_ok : {A : Type 0} (q : A → Bool) (item : List ℕ → Option (A × List ℕ)) → ((text : List ℕ) → IfRead (item text) (λ x. q x.0 ≡ true)) →
+    (text : List ℕ) → IfRead (list_at item text) (λ x. list_all q x.0 ≡ true)
 list_ok q item h text = onward-any (λ x. list_all q x.0 ≡ true) (items_in item) (behind (codes "[") text) (in_ok q item h)
 
 tiles_at_ok : (text : List ℕ) → IfRead (tiles_at text) Faces
@@ -217,7 +222,8 @@ row_ok name = by_row (row_of name) refl
 row_at_ok : (text : List ℕ) → IfRead (row_at text) (λ x. is_row x.0 ≡ true)
 unfolding row_at
 row_at_ok text =
-    onward (λ x. nat_lt x.0 45 ≡ true) (λ x. is_row x.0 ≡ true) _ _ (onward-any (λ x. nat_lt x.0 45 ≡ true) (and_rest row_of) _ (λ x. rest_ok (λ row. nat_lt row 45 ≡ true) row_of x (row_ok x.0))) (λ row hr.
+    onward (λ x. nat_lt x.0 45 ≡ true) (λ x. is_row x.0 ≡ true) _ _ (onward-any (λ x. nat_lt x.0 45 ≡ true) (and_rest row_of) _
+    (λ x. rest_ok (λ row. nat_lt row 45 ≡ true) row_of x (row_ok x.0))) (λ row hr.
     onward Byte (λ x. is_row x.0 ≡ true) _ _ (byte_ok (codes ",") row.1) (λ number hn.
     last-any (λ x. is_row x.0 ≡ true) _ (behind (codes "]") number.1) (λ rest. both (nat_lt row.0 45) (is_byte number.0) hr hn)))
 
@@ -296,11 +302,13 @@ end_game_ok text =
     last Word Value _ _ (word_ok (codes ",\"kyotaku\":") points.1) (λ deposits k. both (are_points points.0) (is_word deposits.0) h k))
 
 -- calls and kans
-call_by_ok : (kind : List ℕ) (seat target tile a b : ℕ) (rest : List ℕ) → (is_byte seat && is_byte target && is_tile tile && is_tile a && is_tile b) ≡ true → IfRead (call_by kind seat target tile a b rest) Called
+call_by_ok : (kind : List ℕ) (seat target tile a b : ℕ) (rest : List ℕ) → (is_byte seat && is_byte target && is_tile tile && is_tile a && is_tile b) ≡
+    true → IfRead (call_by kind seat target tile a b rest) Called
 call_by_ok kind seat target tile a b rest h =
     choose Called (bytes_eq kind (codes "chi")) _ _ (something Called (bids.Chi seat target tile a b) h)
     (choose Called (bytes_eq kind (codes "pon")) _ _ (something Called (bids.Pon seat target tile a b) h)
-    (choose Called (bytes_eq kind (codes "daiminkan")) _ _ (last Tile Called _ _ (tile_ok (codes ",") rest) (λ c k. both (is_byte seat && is_byte target && is_tile tile && is_tile a && is_tile b) (is_tile c.0) h k)) (nothing Called)))
+    (choose Called (bytes_eq kind (codes "daiminkan")) _ _ (last Tile Called _ _ (tile_ok (codes ",") rest)
+    (λ c k. both (is_byte seat && is_byte target && is_tile tile && is_tile a && is_tile b) (is_tile c.0) h k)) (nothing Called)))
 
 call_ok : (kind text : List ℕ) → IfRead (call_in kind text) Called
 unfolding call_in
@@ -380,7 +388,8 @@ kind_ok : (key text : List ℕ) → IfRead (kind_field key text) (λ x. nat_lt x
 unfolding kind_field
 kind_ok key text = onward-any (λ x. nat_lt x.0 34 ≡ true) (and_rest (below 34)) (tile_field key text) (λ x. rest_ok (λ k. nat_lt k 34 ≡ true) (below 34) x (below_ok 34 x.0))
 
-start_by_ok : (round number honba deposits : ℕ) (text : List ℕ) → (nat_lt round 34 && is_byte number && is_word honba && is_word deposits) ≡ true → IfRead (start_by round number honba deposits text) Value
+start_by_ok : (round number honba deposits : ℕ) (text : List ℕ) → (nat_lt round 34 && is_byte number && is_word honba && is_word deposits) ≡ true →
+    IfRead (start_by round number honba deposits text) Value
 unfolding start_by
 start_by_ok round number honba deposits text h =
     onward Byte Value _ _ (byte_ok (codes ",\"oya\":") text) (λ dealer hd.
@@ -423,12 +432,15 @@ worth_ok text =
     onward Points FitsWin _ _ (points_ok (codes ",\"scores\":") deltas.1) (λ points hp.
     last Seats FitsWin _ _ (seats_ok (codes ",\"rest\":") points.1) (λ rest hr. record { fu = hf; han = hh; value = hv; deltas = hd; points = hp; rest = hr }))))))
 
-win_by_ok : (seat target tile : ℕ) (unders hand : List ℕ) (yaku : List (ℕ × ℕ)) (text : List ℕ) → begun seat target tile unders hand yaku ≡ true → IfRead (win_by seat target tile unders hand yaku text) Value
+win_by_ok : (seat target tile : ℕ) (unders hand : List ℕ) (yaku : List (ℕ × ℕ)) (text : List ℕ) → begun seat target tile unders hand yaku ≡ true →
+    IfRead (win_by seat target tile unders hand yaku text) Value
 unfolding win_by
 win_by_ok seat target tile unders hand yaku text h =
     last FitsWin Value _ _ (worth_ok text) (λ w f.
     joined _ (nat_le (length w.rest) 2) (list_all is_byte w.rest)
-    (both _ (are_points w.points) (both _ (are_points w.deltas) (both _ (is_word w.value) (both _ (is_byte w.han) (both (begun seat target tile unders hand yaku) (is_byte w.fu) h f.fu) f.han) f.value) f.deltas) f.points) f.rest)
+    (both _ (are_points w.points) (both _ (are_points w.deltas)
+    (both _ (is_word w.value) (both _ (is_byte w.han) (both (begun seat target tile unders hand yaku) (is_byte w.fu) h f.fu) f.han) f.value)
+    f.deltas) f.points) f.rest)
 
 win_with_ok : (seat target tile : ℕ) (text : List ℕ) → (is_byte seat && is_byte target && is_tile tile) ≡ true → IfRead (win_with seat target tile text) Value
 unfolding win_with
@@ -436,7 +448,9 @@ win_with_ok seat target tile text h =
     onward Faces Value _ _ (tiles_ok (codes ",\"uradora_markers\":") text) (λ unders hu.
     onward Faces Value _ _ (tiles_ok (codes ",\"hora_tehais\":") unders.1) (λ hand hh.
     onward Rows Value _ _ (rows_ok (codes ",\"yakus\":") hand.1) (λ yaku hy.
-    win_by_ok seat target tile unders.0 hand.0 yaku.0 yaku.1 (both _ (list_all is_row yaku.0) (both _ (list_all is_tile hand.0) (both (is_byte seat && is_byte target && is_tile tile) (list_all is_tile unders.0) h hu) hh) hy))))
+    win_by_ok seat target tile unders.0 hand.0 yaku.0 yaku.1
+    (both _ (list_all is_row yaku.0) (both _ (list_all is_tile hand.0) (both (is_byte seat && is_byte target && is_tile tile)
+    (list_all is_tile unders.0) h hu) hh) hy))))
 
 win_ok : (text : List ℕ) → IfRead (win_in text) Value
 unfolding win_in

@@ -87,7 +87,8 @@ wait_few sets win winning = by_test _
 parts_few : (a b c d : Set) (pair win winning : ℕ) (case : Case) → sum_of_parts a b c d pair win winning case ≤ 166
 unfolding sum_of_parts
 parts_few a b c d pair win winning case =
-    sum _ _ _ _ _ _ _ (win_few case) (set_few (is_concealed_at 0 win case a) a) (set_few (is_concealed_at 1 win case b) b) (set_few (is_concealed_at 2 win case c) c) (set_few (is_concealed_at 3 win case d) d)
+    sum _ _ _ _ _ _ _ (win_few case) (set_few (is_concealed_at 0 win case a) a) (set_few (is_concealed_at 1 win case b) b)
+    (set_few (is_concealed_at 2 win case c) c) (set_few (is_concealed_at 3 win case d) d)
     (pair_few pair case) (wait_few (a ∷ b ∷ c ∷ d ∷ []) win winning)
   where
     sum : (w p q r s n m : ℕ) → w ≤ 10 → p ≤ 32 → q ≤ 32 → r ≤ 32 → s ≤ 32 → n ≤ 6 → m ≤ 2 → 20 + w + (p + q + r + s) + n + m ≤ 166
@@ -104,7 +105,8 @@ rounded_few sum case h = by_test (sum == 20 && not case.closed && not case.by_dr
 fu_few : (reading : Reading) (case : Case) → fu_of reading case ≤ 170
 unfolding fu_of
 fu_few (Standard a b c d pair win winning) case =
-    by_test (is_pinfu (Standard a b c d pair win winning) case && case.by_draw) (rounded (sum_of_parts a b c d pair win winning case) case) (rounded_few (sum_of_parts a b c d pair win winning case) case (parts_few a b c d pair win winning case))
+    by_test (is_pinfu (Standard a b c d pair win winning) case && case.by_draw) (rounded (sum_of_parts a b c d pair win winning case) case)
+    (rounded_few (sum_of_parts a b c d pair win winning case) case (parts_few a b c d pair win winning case))
   where
     by_test : (t : Bool) (n : ℕ) → n ≤ 170 → cond t 20 n ≤ 170
     by_test true n h = omega arith
@@ -133,7 +135,8 @@ abbrev Few : Option Score → Type 0
 Few None = Unit {0}
 Few (Some score) = Small score
 
-best_small : (melds : List Meld) (case : Case) (extra : Extra) → all_dora extra ≤ 198 → (readings : List Reading) (best : Option Score) → Few best → Few (fold (with_reading melds case extra) best readings)
+best_small : (melds : List Meld) (case : Case) (extra : Extra) → all_dora extra ≤ 198 → (readings : List Reading) (best : Option Score) → Few best →
+    Few (fold (with_reading melds case extra) best readings)
 best_small melds case extra few [] best h = h
 best_small melds case extra few (reading ∷ readings) best h =
     best_small melds case extra few readings (with_reading melds case extra best reading) (one (gives_yaku melds case reading) best h)
@@ -203,7 +206,8 @@ han_byte row false h = passes (λ r. nat_lt (han r false) 256) 45 row refl h
 
 han_rows : (p : ℕ → Bool) (shut : Bool) (from n : ℕ) → from + n ≤ 45 → list_all is_row (map (λ row. (row, han row shut)) (filter p (range_with_len from n))) ≡ true
 han_rows p shut from zero h = refl
-han_rows p shut from (suc n) h = by_test (p from) (and_from (nat_lt from 45) (is_byte (han from shut)) (lt-ltb from 45 (omega (arith, h))) (han_byte from shut (omega (arith, h)))) (han_rows p shut (from + 1) n (omega (arith, h)))
+han_rows p shut from (suc n) h = by_test (p from) (and_from (nat_lt from 45) (is_byte (han from shut)) (lt-ltb from 45 (omega (arith, h)))
+    (han_byte from shut (omega (arith, h)))) (han_rows p shut (from + 1) n (omega (arith, h)))
   where
     by_test : (b : Bool) → is_row (from, han from shut) ≡ true → list_all is_row (map (λ row. (row, han row shut)) (filter p (range_with_len (from + 1) n))) ≡ true →
         list_all is_row (map (λ row. (row, han row shut)) (cond b (from ∷ filter p (range_with_len (from + 1) n)) (filter p (range_with_len (from + 1) n)))) ≡ true
@@ -221,7 +225,8 @@ all_dora_rows : (extra : Extra) → FewDora extra → list_all is_row (dora_rows
 all_dora_rows extra f =
     list_all-append is_row (dora_row 28 extra.dora ++ dora_row 29 extra.under) (dora_row 30 extra.red)
     ∙ and_from (list_all is_row (dora_row 28 extra.dora ++ dora_row 29 extra.under)) _
-    (list_all-append is_row (dora_row 28 extra.dora) (dora_row 29 extra.under) ∙ and_from (list_all is_row (dora_row 28 extra.dora)) _ (one_dora 28 extra.dora (omega arith) (less _ f.dora)) (one_dora 29 extra.under (omega arith) (less _ f.under)))
+    (list_all-append is_row (dora_row 28 extra.dora) (dora_row 29 extra.under) ∙ and_from (list_all is_row (dora_row 28 extra.dora)) _
+    (one_dora 28 extra.dora (omega arith) (less _ f.dora)) (one_dora 29 extra.under (omega arith) (less _ f.under)))
     (one_dora 30 extra.red (omega arith) (least _ f.red))
   where
     less : (n : ℕ) → n ≤ 90 → n < 256
@@ -234,7 +239,8 @@ pub rows_fit : (score : Score) (shut : Bool) (extra : Extra) → FewDora extra �
 unfolding rows_of_win rows_of
 rows_fit score shut extra f =
     list_all-append is_row (map (λ row. (row, han row shut)) (filter (has_row score.yaku) (range_with_len 0 45))) (cond (has_yakuman score.yaku) [] (dora_rows extra))
-    ∙ and_from (list_all is_row (map (λ row. (row, han row shut)) (filter (has_row score.yaku) (range_with_len 0 45)))) _ (han_rows (has_row score.yaku) shut 0 45 (omega arith)) (by_test (has_yakuman score.yaku))
+    ∙ and_from (list_all is_row (map (λ row. (row, han row shut)) (filter (has_row score.yaku) (range_with_len 0 45)))) _
+    (han_rows (has_row score.yaku) shut 0 45 (omega arith)) (by_test (has_yakuman score.yaku))
   where
     by_test : (b : Bool) → list_all is_row (cond b [] (dora_rows extra)) ≡ true
     by_test true = refl

@@ -46,7 +46,8 @@ own_in_played rules walls ds who tile drawn whole played h =
 own_before : (rules : Rules) (walls : List (List ℕ)) (ds : List Deed) (who tile : ℕ) (drawn : Bool) → ((number : ℕ) → is_wall rules.red (wall_of walls number) ≡ true) → IsPlayed rules walls ds →
     newest ds ≡ Some (Discard who tile drawn) → option_map_or is_reach (before_newest (hand ds)) false ≡ true → before_newest (hand ds) ≡ Some (Reach who)
 own_before rules walls ds who tile drawn whole played e =
-    subst (λ (xs : List Deed). IsPlayed rules walls xs → option_map_or is_reach (before_newest (hand xs)) false ≡ true → before_newest (hand xs) ≡ Some (Reach who)) (sym (newest_behind ds (Discard who tile drawn) e))
+    subst (λ (xs : List Deed). IsPlayed rules walls xs → option_map_or is_reach (before_newest (hand xs)) false ≡ true →
+    before_newest (hand xs) ≡ Some (Reach who)) (sym (newest_behind ds (Discard who tile drawn) e))
     (own_in_played rules walls (take (length ds - 1) ds) who tile drawn whole) played
 
 -- What an accepted reach comes of is the newest deed before it.

@@ -253,7 +253,8 @@ chi_next rules walls ds who tile drawn seat target t x y e small there takes hel
     }
 
 -- A pon of one kind owes what a chi of the same tiles owes.
-pon_next : (red : Bool) (walls : List (List ℕ)) (ds : List Deed) (seat target t x y : ℕ) → (are_alike t x && are_alike t y) ≡ true → IsNext red walls ds (Chi seat target t x y) → IsNext red walls ds (Pon seat target t x y)
+pon_next : (red : Bool) (walls : List (List ℕ)) (ds : List Deed) (seat target t x y : ℕ) → (are_alike t x && are_alike t y) ≡ true →
+    IsNext red walls ds (Chi seat target t x y) → IsNext red walls ds (Pon seat target t x y)
 unfolding ground_of
 pon_next red walls ds seat target t x y alike n = record {
   place = n.place;
@@ -271,10 +272,12 @@ pon_next red walls ds seat target t x y alike n = record {
 
 -- What is called: the pon or the kan of a seat.
 triplet_next : (rules : Rules) (walls : List (List ℕ)) (ds : List Deed) (who tile : ℕ) (drawn : Bool) (seat : ℕ) (answer : Answer) → newest ds ≡ Some (Discard who tile drawn) → who < 4 → seat < 4 →
-    list_all (has_tiles rules.red) (hand ds) ≡ true → is_face rules.red tile ≡ true → Clean rules seat (view_of ds seat) answer → IfAny (IsNext rules.red walls ds) (call_of_bid (triplet_bid seat answer))
+    list_all (has_tiles rules.red) (hand ds) ≡ true → is_face rules.red tile ≡ true → Clean rules seat (view_of ds seat) answer →
+    IfAny (IsNext rules.red walls ds) (call_of_bid (triplet_bid seat answer))
 unfolding view_of ground_of
 triplet_next rules walls ds who tile drawn seat (answers.Pon actor target (Known t) (Known x) (Known y)) e small there real offered c =
-    pon_next rules.red walls ds seat target t x y (not-false (are_alike t x && are_alike t y) c.good) (chi_next rules walls ds who tile drawn seat target t x y e small there c.target c.held real offered)
+    pon_next rules.red walls ds seat target t x y (not-false (are_alike t x && are_alike t y) c.good) (chi_next rules walls ds who tile drawn seat
+    target t x y e small there c.target c.held real offered)
 triplet_next rules walls ds who tile drawn seat (answers.OpenKan actor target (Known t) (Known x) (Known y) (Known z)) e small there real offered c =
     let hit = hits who tile target t (ap (λ (turn : WindowTurn). misses_discard turn target (Known t)) (sym (turn_is ds seat who tile drawn e)) ∙ c.target) in
     record {
@@ -347,12 +350,15 @@ clean_at rules ds given (suc (suc (suc zero))) h c = clean rules 3 (view_of ds 3
 clean_at rules ds given (suc (suc (suc (suc n)))) h c = absurd (omega arith)
 
 -- Of the bids of four seats the first.
-pub bid_next : (P : Deed → Type 0) (bid : ℕ → Answer → Bid) (given : Four Answer) → ((seat : ℕ) → seat < 4 → IfAny P (call_of_bid (bid seat (at_seat given seat)))) → IfAny P (call_of_bid (bid_by bid given))
+pub bid_next : (P : Deed → Type 0) (bid : ℕ → Answer → Bid) (given : Four Answer) →
+    ((seat : ℕ) → seat < 4 → IfAny P (call_of_bid (bid seat (at_seat given seat)))) → IfAny P (call_of_bid (bid_by bid given))
 bid_next P bid given h =
     or_other P _ _ (h 0 (omega arith)) (or_other P _ _ (h 1 (omega arith)) (or_other P _ _ (h 2 (omega arith)) (h 3 (omega arith))))
 
 -- The call of a discard, where there is one.
-pub call_next : (rules : Rules) (walls : List (List ℕ)) (ds : List Deed) (who tile : ℕ) (drawn : Bool) (given : Four Answer) → newest ds ≡ Some (Discard who tile drawn) → who < 4 → list_all (has_tiles rules.red) (hand ds) ≡ true → is_face rules.red tile ≡ true → AllLawful rules ds given →
+pub call_next : (rules : Rules) (walls : List (List ℕ)) (ds : List Deed) (who tile : ℕ) (drawn : Bool) (given : Four Answer) →
+    newest ds ≡ Some (Discard who tile drawn) → who < 4 → list_all (has_tiles rules.red) (hand ds) ≡ true → is_face rules.red tile ≡ true →
+    AllLawful rules ds given →
     IfAny (IsNext rules.red walls ds) (call_of_bid (best_bid given))
 unfolding best_bid
 call_next rules walls ds who tile drawn given e small real offered c =

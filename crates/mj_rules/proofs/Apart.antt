@@ -41,7 +41,8 @@ use Rattle.mj_rules.proofs.TilesLess.{without, number_without, count_all, count_
 
 -- every pon is of one kind
 
-all_even : (rules : Rules) (walls : List (List ℕ)) (before ds : List Deed) → ((number : ℕ) → is_wall rules.red (wall_of walls number) ≡ true) → IsPlayed rules walls before → AllPlayed rules walls before ds →
+all_even : (rules : Rules) (walls : List (List ℕ)) (before ds : List Deed) → ((number : ℕ) → is_wall rules.red (wall_of walls number) ≡ true) →
+    IsPlayed rules walls before → AllPlayed rules walls before ds →
     list_all is_even ds ≡ true
 all_even rules walls before [] whole old played = refl
 all_even rules walls before (d ∷ ds) whole old played =
@@ -152,7 +153,8 @@ gone_more hs d kind g = (g.0, (g.1.0, more _ _ _ (sum_by_push (out_at g.0 kind) 
     more s a b e h = omega (arith, e, h)
 
 -- A discard that may be taken is in the hand.
-offered : (hs : List Deed) (n : Option Deed) (target tile : ℕ) → (is_in_hand n ≡ true → newest hs ≡ n) → is_discard_of (taken_from hs n) target tile ≡ true → 0 < sum_by (out_at target (kind_of tile)) hs
+offered : (hs : List Deed) (n : Option Deed) (target tile : ℕ) → (is_in_hand n ≡ true → newest hs ≡ n) → is_discard_of (taken_from hs n) target tile ≡
+    true → 0 < sum_by (out_at target (kind_of tile)) hs
 offered hs n target tile there h = by_newest n there h
   where
     out : (who t : ℕ) (drawn : Bool) → (eqb who target && eqb t tile) ≡ true → out_at target (kind_of tile) (Discard who t drawn) ≡ 1
@@ -188,7 +190,8 @@ Taken hs = (seat kind : ℕ) → 0 < sum_by (pon_at seat kind) hs → Gone hs ki
 
 taken_step : (red : Bool) (ds : List Deed) (d : Deed) → all_fit red [] ds ≡ true → Placed red ds d → Taken (before_in (hand ds) d) → Taken (before_in (hand ds) d ++ d ∷ [])
 unfolding ground_of
-taken_step red ds (Pon who target tile a b) fit p old = λ seat kind h. by_test seat kind (eqb who seat && eqb (kind_of tile) kind) refl (λ k. old seat kind k) (some _ _ _ (sum_by_push (pon_at seat kind) (hand ds) d) h)
+taken_step red ds (Pon who target tile a b) fit p old = λ seat kind h. by_test seat kind (eqb who seat && eqb (kind_of tile) kind) refl
+    (λ k. old seat kind k) (some _ _ _ (sum_by_push (pon_at seat kind) (hand ds) d) h)
   where
     d : Deed
     d = Pon who target tile a b
@@ -205,7 +208,8 @@ taken_step red ds (Pon who target tile a b) fit p old = λ seat kind h. by_test 
     gone : Gone (hand ds) (kind_of tile)
     gone = (target, (given, offered (hand ds) (newest ds) target tile there p.place))
 
-    by_test : (seat kind : ℕ) (t : Bool) → (eqb who seat && eqb (kind_of tile) kind) ≡ t → (0 < sum_by (pon_at seat kind) (hand ds) → Gone (hand ds) kind) → 0 < sum_by (pon_at seat kind) (hand ds) + cond t 1 0 →
+    by_test : (seat kind : ℕ) (t : Bool) → (eqb who seat && eqb (kind_of tile) kind) ≡ t → (0 < sum_by (pon_at seat kind) (hand ds) →
+        Gone (hand ds) kind) → 0 < sum_by (pon_at seat kind) (hand ds) + cond t 1 0 →
         Gone (hand ds ++ d ∷ []) kind
     by_test seat kind true is old h = gone_more (hand ds) d kind (subst (Gone (hand ds)) (eqb-true (kind_of tile) kind (and_parts (eqb who seat) (eqb (kind_of tile) kind) is).1) gone)
     by_test seat kind false is old h = gone_more (hand ds) d kind (old (omega (arith, h)))
@@ -324,7 +328,8 @@ hand_seated red ds fit = kept_in_hand (λ xs. list_all has_seats xs ≡ true) re
     step : (xs : List Deed) (d : Deed) → list_all has_seats xs ≡ true → Parts red xs d → list_all has_seats (xs ++ d ∷ []) ≡ true
     step xs d h p = list_all-append has_seats xs (d ∷ []) ∙ and_from (list_all has_seats xs) _ h (and_from (has_seats d) true p.seats refl)
 
-each_pon : (rules : Rules) (walls : List (List ℕ)) (ds : List Deed) (seat kind : ℕ) → ((number : ℕ) → is_wall rules.red (wall_of walls number) ≡ true) → IsPlayed rules walls ds → sum_by (pon_at seat kind) (hand ds) ≤ 1
+each_pon : (rules : Rules) (walls : List (List ℕ)) (ds : List Deed) (seat kind : ℕ) → ((number : ℕ) → is_wall rules.red (wall_of walls number) ≡ true)
+    → IsPlayed rules walls ds → sum_by (pon_at seat kind) (hand ds) ≤ 1
 each_pon rules walls ds seat kind whole played = by_numbers (cases_lt seat 4) (cases_lt kind 34)
   where
     fit : all_fit rules.red [] ds ≡ true
@@ -407,12 +412,14 @@ one_made red seat kind (ClosedKan who a b c d) h real = by_seat (eqb who seat)
     by_seat false = omega arith
 one_made red seat kind other h real = omega arith
 
-all_made : (red : Bool) (seat kind : ℕ) (hs : List Deed) → list_all is_even hs ≡ true → list_all (has_tiles red) hs ≡ true → sum_by (trip_at kind) (flat_map (makes_by seat) hs) ≤ sum_by (pon_at seat kind) hs
+all_made : (red : Bool) (seat kind : ℕ) (hs : List Deed) → list_all is_even hs ≡ true → list_all (has_tiles red) hs ≡ true →
+    sum_by (trip_at kind) (flat_map (makes_by seat) hs) ≤ sum_by (pon_at seat kind) hs
 all_made red seat kind [] h real = omega arith
 all_made red seat kind (d ∷ hs) h real =
     let e = and_parts (is_even d) (list_all is_even hs) h in
     let r = and_parts (has_tiles red d) (list_all (has_tiles red) hs) real in
-    sum _ _ _ _ _ _ (ap (sum_by (trip_at kind)) (flat_map-cons (makes_by seat) d hs) ∙ sum_by-append (trip_at kind) (makes_by seat d) (flat_map (makes_by seat) hs)) (sum_by-cons (pon_at seat kind) d hs)
+    sum _ _ _ _ _ _ (ap (sum_by (trip_at kind)) (flat_map-cons (makes_by seat) d hs) ∙ sum_by-append (trip_at kind) (makes_by seat d)
+    (flat_map (makes_by seat) hs)) (sum_by-cons (pon_at seat kind) d hs)
     (one_made red seat kind d e.0 r.0) (all_made red seat kind hs e.1 r.1)
   where
     sum : (n m a b c f : ℕ) → n ≡ a + b → m ≡ c + f → a ≤ c → b ≤ f → n ≤ m
@@ -427,14 +434,16 @@ added_less kind meld [] = same (trip_at kind meld)
     same n = omega arith
 added_less kind meld (tile ∷ tiles) = by_test (is_pon meld.form && (kind_of tile == kind_of meld.a)) (added_less kind meld tiles)
   where
-    by_test : (b : Bool) → trip_at kind (with_added meld tiles) ≤ trip_at kind meld → trip_at kind (cond b (meld_of_four forms.AddedKan tile meld.a meld.b meld.c) (with_added meld tiles)) ≤ trip_at kind meld
+    by_test : (b : Bool) → trip_at kind (with_added meld tiles) ≤ trip_at kind meld →
+        trip_at kind (cond b (meld_of_four forms.AddedKan tile meld.a meld.b meld.c) (with_added meld tiles)) ≤ trip_at kind meld
     by_test true h = omega arith
     by_test false h = h
 
 mapped_less : (kind : ℕ) (tiles : List ℕ) (melds : List Meld) → sum_by (trip_at kind) (map (λ meld. with_added meld tiles) melds) ≤ sum_by (trip_at kind) melds
 mapped_less kind tiles [] = omega arith
 mapped_less kind tiles (meld ∷ melds) =
-    sum _ _ _ _ _ _ (sum_by-cons (trip_at kind) (with_added meld tiles) (map (λ m. with_added m tiles) melds)) (sum_by-cons (trip_at kind) meld melds) (added_less kind meld tiles) (mapped_less kind tiles melds)
+    sum _ _ _ _ _ _ (sum_by-cons (trip_at kind) (with_added meld tiles) (map (λ m. with_added m tiles) melds)) (sum_by-cons (trip_at kind) meld melds)
+    (added_less kind meld tiles) (mapped_less kind tiles melds)
   where
     sum : (n m a b c f : ℕ) → n ≡ a + b → m ≡ c + f → a ≤ c → b ≤ f → n ≤ m
     sum n m a b c f e g h k = omega (arith, e, g, h, k)
@@ -470,15 +479,19 @@ triplets_differ (meld ∷ melds) h = by_form (is_pon meld.form) refl (triplets_d
     none : (n a b : ℕ) → n ≡ a + b → n ≤ 1 → a ≡ 1 → b ≡ 0
     none n a b e f g = omega (arith, e, f, g)
 
-    by_form : (t : Bool) → is_pon meld.form ≡ t → AllPairs Differ (filter (λ m. is_pon m.form) melds) → AllPairs Differ (cond t (meld ∷ filter (λ m. is_pon m.form) melds) (filter (λ m. is_pon m.form) melds))
+    by_form : (t : Bool) → is_pon meld.form ≡ t → AllPairs Differ (filter (λ m. is_pon m.form) melds) →
+        AllPairs Differ (cond t (meld ∷ filter (λ m. is_pon m.form) melds) (filter (λ m. is_pon m.form) melds))
     by_form true is others =
         AllPairs-cons Differ meld (filter (λ m. is_pon m.form) melds)
         (none_of (kind_of meld.a) melds
-        (none _ _ _ (sum_by-cons (trip_at (kind_of meld.a)) meld melds) (h (kind_of meld.a)) ((λ i. cond (is i && eqb (kind_of meld.a) (kind_of meld.a)) 1 0) ∙ ap (λ b. cond b 1 0) (eq-eqb (kind_of meld.a) (kind_of meld.a) refl)))) others
+        (none _ _ _ (sum_by-cons (trip_at (kind_of meld.a)) meld melds) (h (kind_of meld.a))
+        ((λ i. cond (is i && eqb (kind_of meld.a) (kind_of meld.a)) 1 0) ∙ ap (λ b. cond b 1 0) (eq-eqb (kind_of meld.a) (kind_of meld.a) refl))))
+        others
     by_form false is others = others
 
 -- No two triplets of a seat are of one kind.
-pub triplets_apart : (rules : Rules) (walls : List (List ℕ)) (ds : List Deed) (seat : ℕ) → ((number : ℕ) → is_wall rules.red (wall_of walls number) ≡ true) → IsPlayed rules walls ds → AllPairs Differ (triplets (view_of ds seat))
+pub triplets_apart : (rules : Rules) (walls : List (List ℕ)) (ds : List Deed) (seat : ℕ) →
+    ((number : ℕ) → is_wall rules.red (wall_of walls number) ≡ true) → IsPlayed rules walls ds → AllPairs Differ (triplets (view_of ds seat))
 unfolding view_of
 triplets_apart rules walls ds seat whole played =
     triplets_differ (seat_melds (hand ds) seat) (λ kind.

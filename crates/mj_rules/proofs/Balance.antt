@@ -126,7 +126,8 @@ not_won : (d : Deed) → is_win d ≡ false → winners_by d ≡ []
 not_won (Win who target tile unders own yaku fu han value deltas points rest) h = cc
 not_won other h = refl
 
-unwon_more : (red : Bool) (ds : List Deed) (d : Deed) → all_fit red [] ds ≡ true → is_in_hand (newest ds) ≡ true → winners (hand ds) ≡ [] → is_win d ≡ false → is_hand_start d ≡ false → Unwon (ds ++ d ∷ []) d
+unwon_more : (red : Bool) (ds : List Deed) (d : Deed) → all_fit red [] ds ≡ true → is_in_hand (newest ds) ≡ true → winners (hand ds) ≡ [] →
+    is_win d ≡ false → is_hand_start d ≡ false → Unwon (ds ++ d ∷ []) d
 unwon_more red ds d fit begun none lost within = record { none = nobody; last = λ _. at_end }
   where
     is : hand (ds ++ d ∷ []) ≡ hand ds ++ d ∷ []
@@ -177,10 +178,12 @@ laid_down (suc (suc zero)) said bid low = refl
 laid_down (suc (suc (suc zero))) said bid low = refl
 laid_down (suc (suc (suc (suc n)))) said bid low = absurd (omega (arith, low))
 
-accept_balanced : (red : Bool) (ds : List Deed) (who : ℕ) (bid : Bid) → all_fit red [] ds ≡ true → is_in_hand (newest ds) ≡ true → winners (hand ds) ≡ [] → who < 4 → Stays ds → BalancedWith ds (accept ds who bid)
+accept_balanced : (red : Bool) (ds : List Deed) (who : ℕ) (bid : Bid) → all_fit red [] ds ≡ true → is_in_hand (newest ds) ≡ true →
+    winners (hand ds) ≡ [] → who < 4 → Stays ds → BalancedWith ds (accept ds who bid)
 unfolding accept
 accept_balanced red ds who bid fit begun none low stays =
-    with_last ds (accept ds who bid) (stays_more ds (accept ds who bid) stays (sum _ _ (deposits ds) (laid_down who (points_with (points ds) (deposit_changes who)) bid low) (deposits_more ds (accept ds who bid))))
+    with_last ds (accept ds who bid) (stays_more ds (accept ds who bid) stays
+    (sum _ _ (deposits ds) (laid_down who (points_with (points ds) (deposit_changes who)) bid low) (deposits_more ds (accept ds who bid))))
     (unwon_more red ds (accept ds who bid) fit begun none refl refl)
   where
     sum : (g : ℤ) (m n : ℕ) → g ≡ neg_ℤ (pos 1000) → m ≡ n + 1 → g +ℤ pos (1000 * m) ≡ pos (1000 * n)
@@ -247,7 +250,8 @@ offered_more ds d target tile won within o = record { deed = o.deed; last = stay
         ap (λ (hs : List Deed). newest (before_wins hs)) (hand_is ds d (λ _ empty. some_before ds o.deed o.last empty) ∙ ap (λ (b : Bool). cond b [] (hand ds) ++ d ∷ []) within)
         ∙ newest_before (hand ds) d ∙ ap (λ (b : Bool). cond b (newest (before_wins (hand ds))) (Some d)) won
 
-offered_after : (ds : List Deed) (d : Deed) (target tile : ℕ) (rest : List ℕ) → is_win d ≡ true → is_hand_start d ≡ false → IfMore (Offered ds target tile) rest → IfMore (Offered (ds ++ d ∷ []) target tile) rest
+offered_after : (ds : List Deed) (d : Deed) (target tile : ℕ) (rest : List ℕ) → is_win d ≡ true → is_hand_start d ≡ false →
+    IfMore (Offered ds target tile) rest → IfMore (Offered (ds ++ d ∷ []) target tile) rest
 offered_after ds d target tile [] won within o = tt
 offered_after ds d target tile (seat ∷ seats) won within o = offered_more ds d target tile won within o
 
@@ -258,7 +262,8 @@ unfolding win_shown
 win_balanced ds wall seat target tile rest low there apart first others offered stays =
     with_last ds (win_deed wall ds seat target tile rest)
     (stays_more ds (win_deed wall ds seat target tile rest) stays
-    (sum _ _ (deposits ds) (for_first (hand ds) (deposits ds)) (win_total (case_of (standing ds) (before_wins (hand ds)) seat).by_draw seat target _ _ _ _ low there (λ e. apart (sym (by_draw_is ds seat) ∙ e))) first none))
+    (sum _ _ (deposits ds) (for_first (hand ds) (deposits ds)) (win_total (case_of (standing ds) (before_wins (hand ds)) seat).by_draw seat target _ _
+    _ _ low there (λ e. apart (sym (by_draw_is ds seat) ∙ e))) first none))
     (record { none = none; others = others; offered = offered_after ds (win_deed wall ds seat target tile rest) target tile rest refl refl offered })
   where
     none : deposits (ds ++ win_deed wall ds seat target tile rest ∷ []) ≡ 0
@@ -312,7 +317,8 @@ if_more [] h = tt
 if_more (seat ∷ seats) h = h
 
 -- A winner on a tile of another seat.
-ron_balanced : (ds : List Deed) (wall : List ℕ) (target tile : ℕ) → target < 4 → winners (hand ds) ≡ [] → Offered ds target tile → Stays ds → (seat : ℕ) (rest : List ℕ) → is_winner_on target seat ≡ true →
+ron_balanced : (ds : List Deed) (wall : List ℕ) (target tile : ℕ) → target < 4 → winners (hand ds) ≡ [] → Offered ds target tile → Stays ds →
+    (seat : ℕ) (rest : List ℕ) → is_winner_on target seat ≡ true →
     list_all (is_winner_on target) rest ≡ true → BalancedWith ds (win_deed wall ds seat target tile rest)
 ron_balanced ds wall target tile there none offered stays seat rest h others =
     let parts = and_parts (nat_lt seat 4) (is_apart target seat) h in
@@ -327,12 +333,14 @@ winner_balanced ds wall target tile (seat ∷ rest) there low w stays =
     win_balanced ds wall seat target tile rest (first_seat seat _ low) there (λ _. apart_is target seat parts.0) (none_for_first (hand ds) (deposits ds) w.none) parts.1 (if_more rest w.offered) stays
 
 -- Who reached or called discards.
-discard_balanced : (rules : Rules) (walls : List (List ℕ)) (ds : List Deed) (n : Deed) (who : ℕ) (answer : Answer) → all_fit rules.red [] ds ≡ true → is_in_hand (newest ds) ≡ true → winners (hand ds) ≡ [] → Stays ds →
+discard_balanced : (rules : Rules) (walls : List (List ℕ)) (ds : List Deed) (n : Deed) (who : ℕ) (answer : Answer) → all_fit rules.red [] ds ≡ true →
+    is_in_hand (newest ds) ≡ true → winners (hand ds) ≡ [] → Stays ds →
     is_discard answer ≡ true → IfAny (BalancedWith ds) (own_act (wall_now walls ds) ds n who answer)
 discard_balanced rules walls ds n who answer fit begun none stays h =
     discards_only (BalancedWith ds) (wall_now walls ds) ds n who answer h (quiet_any rules.red ds (act_of who answer) fit begun none stays (quiet_act who answer))
 
-follower_balanced : (rules : Rules) (walls : List (List ℕ)) (ds : List Deed) (given : Four Answer) (n : Deed) → newest ds ≡ Some n → has_seats n ≡ true → all_fit rules.red [] ds ≡ true → AllLawful rules ds given →
+follower_balanced : (rules : Rules) (walls : List (List ℕ)) (ds : List Deed) (given : Four Answer) (n : Deed) → newest ds ≡ Some n →
+    has_seats n ≡ true → all_fit rules.red [] ds ≡ true → AllLawful rules ds given →
     Stays ds → Behind ds n → IfAny (BalancedWith ds) (follows rules walls ds n (decision_by n given))
 unfolding hand_start next_dora next_replacement
 follower_balanced rules walls ds given (StartGame names) e seats fit c stays u = start_balanced ds _ stays refl
@@ -351,7 +359,13 @@ follower_balanced rules walls ds given (Discard who tile drawn) e seats fit c st
     let low = first_seat who _ seats in
     let begun = ap is_in_hand e in
     won_each (BalancedWith ds) rules walls ds (Discard who tile drawn) (is_winner_on who) (rons_on who given) (call_or_pass (best_bid given)) (rons_apart who given low)
-    (λ seat rest h others few. ron_balanced ds (wall_now walls ds) who tile low u.none (record { deed = Discard who tile drawn; last = u.last refl; offer = refl; seat = refl; tile = refl }) stays seat rest h others)
+    (λ seat rest h others few. ron_balanced ds (wall_now walls ds) who tile low u.none (record {
+      deed = Discard who tile drawn;
+      last = u.last refl;
+      offer = refl;
+      seat = refl;
+      tile = refl;
+    }) stays seat rest h others)
     (called_or_on (BalancedWith ds) rules walls ds who tile drawn (best_bid given)
     (behind_or (BalancedWith ds) rules (wall_now walls ds) ds who (best_bid given)
     (λ reached. accept_balanced rules.red ds who (best_bid given) fit begun u.none low stays)
@@ -371,7 +385,13 @@ follower_balanced rules walls ds given (ClosedKan who a b d x) e seats fit c sta
 follower_balanced rules walls ds given (AddedKan who tile a b d) e seats fit c stays u =
     let low = first_seat who _ seats in
     won_each (BalancedWith ds) rules walls ds (AddedKan who tile a b d) (is_winner_on who) (rons_on who given) Pass (rons_apart who given low)
-    (λ seat rest h others few. ron_balanced ds (wall_now walls ds) who tile low u.none (record { deed = AddedKan who tile a b d; last = u.last refl; offer = refl; seat = refl; tile = refl }) stays seat rest h others)
+    (λ seat rest h others few. ron_balanced ds (wall_now walls ds) who tile low u.none (record {
+      deed = AddedKan who tile a b d;
+      last = u.last refl;
+      offer = refl;
+      seat = refl;
+      tile = refl;
+    }) stays seat rest h others)
     (quiet_balanced rules.red ds (next_dora (wall_now walls ds) (hand ds)) fit (ap is_in_hand e) u.none stays refl)
 follower_balanced rules walls ds given (Dora tile) e seats fit c stays u =
     quiet_balanced rules.red ds (next_replacement (wall_now walls ds) (hand ds)) fit (ap is_in_hand e) u.none stays refl
@@ -393,12 +413,14 @@ follower_balanced rules walls ds given EndHand e seats fit c stays u =
 follower_balanced rules walls ds given (EndGame said lying) e seats fit c stays u = tt
 
 -- What follows the newest deed keeps the total.
-outcome_balanced : (rules : Rules) (walls : List (List ℕ)) (ds : List Deed) (given : Four Answer) → IfAny (λ d. has_seats d ≡ true) (newest ds) → all_fit rules.red [] ds ≡ true → AllLawful rules ds given → Balanced ds →
+outcome_balanced : (rules : Rules) (walls : List (List ℕ)) (ds : List Deed) (given : Four Answer) → IfAny (λ d. has_seats d ≡ true) (newest ds) →
+    all_fit rules.red [] ds ≡ true → AllLawful rules ds given → Balanced ds →
     IfAny (BalancedWith ds) (outcome rules walls ds given)
 unfolding outcome
 outcome_balanced rules walls ds given seated fit c b = by_newest (newest ds) refl seated b.last
   where
-    by_newest : (o : Option Deed) → newest ds ≡ o → IfAny (λ d. has_seats d ≡ true) o → IfAny (Behind ds) o → IfAny (BalancedWith ds) (option_and_then (λ last. follows rules walls ds last (decision_by last given)) o)
+    by_newest : (o : Option Deed) → newest ds ≡ o → IfAny (λ d. has_seats d ≡ true) o → IfAny (Behind ds) o →
+        IfAny (BalancedWith ds) (option_and_then (λ last. follows rules walls ds last (decision_by last given)) o)
     by_newest None e seats u = tt
     by_newest (Some n) e seats u = follower_balanced rules walls ds given n e seats fit c b.stays u
 
@@ -432,13 +454,15 @@ pub total_stays : TotalStays
 total_stays rules walls ds h played = (played_balanced rules walls ds h played).stays
 
 -- After a win of played deeds each seat that wins after it is another than the one that gave the tile.
-pub winners_apart : (rules : Rules) (walls : List (List ℕ)) (ds : List Deed) (who target tile : ℕ) (unders own : List ℕ) (yaku : List (ℕ × ℕ)) (fu han value : ℕ) (deltas said : List ℤ) (rest : List ℕ) →
+pub winners_apart : (rules : Rules) (walls : List (List ℕ)) (ds : List Deed) (who target tile : ℕ) (unders own : List ℕ) (yaku : List (ℕ × ℕ))
+    (fu han value : ℕ) (deltas said : List ℤ) (rest : List ℕ) →
     ((number : ℕ) → is_wall rules.red (wall_of walls number) ≡ true) → IsPlayed rules walls ds → newest ds ≡ Some (Win who target tile unders own yaku fu han value deltas said rest) →
     list_all (λ seat. not (seat == target)) rest ≡ true
 winners_apart rules walls ds who target tile unders own yaku fu han value deltas said rest h played e = (subst (IfAny (Behind ds)) e (played_balanced rules walls ds h played).last).others
 
 -- Where a seat is to win after it, the tile was offered to it by the newest deed before the winners.
-pub winners_wait : (rules : Rules) (walls : List (List ℕ)) (ds : List Deed) (who target tile : ℕ) (unders own : List ℕ) (yaku : List (ℕ × ℕ)) (fu han value : ℕ) (deltas said : List ℤ) (next : ℕ) (rest : List ℕ) →
+pub winners_wait : (rules : Rules) (walls : List (List ℕ)) (ds : List Deed) (who target tile : ℕ) (unders own : List ℕ) (yaku : List (ℕ × ℕ))
+    (fu han value : ℕ) (deltas said : List ℤ) (next : ℕ) (rest : List ℕ) →
     ((number : ℕ) → is_wall rules.red (wall_of walls number) ≡ true) → IsPlayed rules walls ds → newest ds ≡ Some (Win who target tile unders own yaku fu han value deltas said (next ∷ rest)) →
     Offered ds target tile
 winners_wait rules walls ds who target tile unders own yaku fu han value deltas said next rest h played e = (subst (IfAny (Behind ds)) e (played_balanced rules walls ds h played).last).offered
@@ -450,7 +474,8 @@ is_unwon EndHand = false
 is_unwon (EndGame points deposits) = false
 is_unwon other = true
 
-pub nobody_yet : (rules : Rules) (walls : List (List ℕ)) (ds : List Deed) (last : Deed) → ((number : ℕ) → is_wall rules.red (wall_of walls number) ≡ true) → IsPlayed rules walls ds → newest ds ≡ Some last →
+pub nobody_yet : (rules : Rules) (walls : List (List ℕ)) (ds : List Deed) (last : Deed) →
+    ((number : ℕ) → is_wall rules.red (wall_of walls number) ≡ true) → IsPlayed rules walls ds → newest ds ≡ Some last →
     is_unwon last ≡ true → winners (hand ds) ≡ []
 nobody_yet rules walls ds last h played e unwon = by_deed last unwon (subst (IfAny (Behind ds)) e (played_balanced rules walls ds h played).last)
   where

@@ -67,11 +67,13 @@ passes : (rules : Rules) (seat : ℕ) (view : SeatView) (turn : WindowTurn) → 
 passes rules seat view turn e opens = pass_lawful rules seat view (ap (λ t. is_open rules seat t view.accepted (Pass None)) e ∙ opens)
 
 -- A good discard, marked as it is.
-discards_well : (rules : Rules) (seat tile : ℕ) (view : SeatView) (opens : is_open rules seat view.turn view.accepted (Discard seat (Known tile) (is_that view.drawn tile)) ≡ true) → Good rules.red view tile (is_that view.drawn tile) →
+discards_well : (rules : Rules) (seat tile : ℕ) (view : SeatView) (opens : is_open rules seat view.turn view.accepted
+    (Discard seat (Known tile) (is_that view.drawn tile)) ≡ true) → Good rules.red view tile (is_that view.drawn tile) →
     broken_by rules seat view (discard_of seat view tile) ≡ None
 discards_well rules seat tile view opens good = discard_lawful rules seat tile (is_that view.drawn tile) view opens good.real good.some good.marked good.free good.unlocked good.ready
 
-draws : (rules : Rules) (seat who tile : ℕ) (view : SeatView) → view.turn ≡ Drew who → view.drawn ≡ cond (eqb who seat) (Some tile) None → (who ≡ seat → Good rules.red view tile (is_that view.drawn tile)) →
+draws : (rules : Rules) (seat who tile : ℕ) (view : SeatView) → view.turn ≡ Drew who → view.drawn ≡ cond (eqb who seat) (Some tile) None →
+    (who ≡ seat → Good rules.red view tile (is_that view.drawn tile)) →
     broken_by rules seat view (default_in rules seat view (Drew who)) ≡ None
 draws rules seat who tile view turn drawn good =
     elim (cases_eq who seat) [
@@ -86,7 +88,8 @@ draws rules seat who tile view turn drawn good =
     ]
 
 -- The last discard that breaks no rule breaks none.
-last_is_lawful : (rules : Rules) (seat : ℕ) (view : SeatView) → nat_lt 0 (length (lawful_faces rules seat view)) ≡ true → broken_by rules seat view (discard_or_pass seat view (last_face (lawful_faces rules seat view))) ≡ None
+last_is_lawful : (rules : Rules) (seat : ℕ) (view : SeatView) → nat_lt 0 (length (lawful_faces rules seat view)) ≡ true →
+    broken_by rules seat view (discard_or_pass seat view (last_face (lawful_faces rules seat view))) ≡ None
 unfolding lawful_faces
 last_is_lawful rules seat view some =
     let faces : List ℕ = lawful_faces rules seat view in
@@ -100,7 +103,8 @@ last_is_lawful rules seat view some =
     none_is (Some rule) h = cc
 
 -- Right after its own reach or call a seat discards, and the others pass.
-own_last : (rules : Rules) (seat who : ℕ) (view : SeatView) → is_open rules seat view.turn view.accepted (Pass None) ≡ cond (who == seat) false true → (not (who == seat) || nat_lt 0 (length (lawful_faces rules seat view))) ≡ true →
+own_last : (rules : Rules) (seat who : ℕ) (view : SeatView) → is_open rules seat view.turn view.accepted (Pass None) ≡ cond (who == seat) false true →
+    (not (who == seat) || nat_lt 0 (length (lawful_faces rules seat view))) ≡ true →
     broken_by rules seat view (cond (who == seat) (discard_or_pass seat view (last_face (lawful_faces rules seat view))) (Pass None)) ≡ None
 own_last rules seat who view opens some = by_test (who == seat) opens some
   where
@@ -174,7 +178,8 @@ some_more : (p q : ℕ → Bool) (xs : List ℕ) → ((x : ℕ) → p x ≡ true
 some_more p q [] h k = k
 some_more p q (x ∷ xs) h k = by_tests (p x) (q x) refl refl k (some_more p q xs h)
   where
-    by_tests : (b c : Bool) → p x ≡ b → q x ≡ c → nat_lt 0 (length (cond b (x ∷ filter p xs) (filter p xs))) ≡ true → (nat_lt 0 (length (filter p xs)) ≡ true → nat_lt 0 (length (filter q xs)) ≡ true) →
+    by_tests : (b c : Bool) → p x ≡ b → q x ≡ c → nat_lt 0 (length (cond b (x ∷ filter p xs) (filter p xs))) ≡ true →
+        (nat_lt 0 (length (filter p xs)) ≡ true → nat_lt 0 (length (filter q xs)) ≡ true) →
         nat_lt 0 (length (cond c (x ∷ filter q xs) (filter q xs))) ≡ true
     by_tests b true e f k others = lt-ltb 0 (length (x ∷ filter q xs)) (omega arith)
     by_tests true false e f k others = absurd (true≢false (sym (h x e) ∙ f))
@@ -234,12 +239,14 @@ drawn_is ds seat n e = ap (option_and_then (holds_drawn seat (before_newest ds))
 
 -- The law.
 by_newest : (rules : Rules) (ds : List Deed) (seat : ℕ) (last : Option Deed) → newest ds ≡ last → Owns rules.red ds seat →
-    can_discard_in rules seat (view_of ds seat) (turn_in (option_map turn_by last)) ≡ true → broken_by rules seat (view_of ds seat) (default_in rules seat (view_of ds seat) (turn_in (option_map turn_by last))) ≡ None
+    can_discard_in rules seat (view_of ds seat) (turn_in (option_map turn_by last)) ≡ true → broken_by rules seat (view_of ds seat)
+    (default_in rules seat (view_of ds seat) (turn_in (option_map turn_by last))) ≡ None
 unfolding view_of
 by_newest rules ds seat None e owns some = passes rules seat (view_of ds seat) Nobodys (ap (λ o. turn_in (option_map turn_by o)) e) refl
 by_newest rules ds seat (Some (deeds.Draw who tile replacement)) e owns some =
     draws rules seat who tile (view_of ds seat) (turn_is ds seat (deeds.Draw who tile replacement) e) (drawn_is ds seat (deeds.Draw who tile replacement) e)
-    (λ same. good_draw rules.red ds seat who tile owns (drawn_is ds seat (deeds.Draw who tile replacement) e ∙ ap (λ b. cond b (Some tile) None) (eq-eqb who seat same)) (turn_is ds seat (deeds.Draw who tile replacement) e))
+    (λ same. good_draw rules.red ds seat who tile owns (drawn_is ds seat (deeds.Draw who tile replacement) e ∙ ap (λ b. cond b (Some tile) None)
+    (eq-eqb who seat same)) (turn_is ds seat (deeds.Draw who tile replacement) e))
 by_newest rules ds seat (Some (deeds.Discard who tile drawn)) e owns some = discards rules seat who tile (view_of ds seat) (turn_is ds seat (deeds.Discard who tile drawn) e)
 by_newest rules ds seat (Some (deeds.AddedKan who tile a b c)) e owns some = adds rules seat who tile (view_of ds seat) (turn_is ds seat (deeds.AddedKan who tile a b c) e)
 by_newest rules ds seat (Some (deeds.Reach who)) e owns some = reaches rules seat who (view_of ds seat) (turn_is ds seat (deeds.Reach who) e) some
@@ -274,7 +281,8 @@ fitting_default_is_lawful rules ds seat small fit some = record {
 }
 
 -- Of played deeds.
-can_by_newest : (rules : Rules) (ds : List Deed) (seat : ℕ) (last : Option Deed) → newest ds ≡ last → Owns rules.red ds seat → has_free_in seat (view_of ds seat) (turn_in (option_map turn_by last)) ≡ true →
+can_by_newest : (rules : Rules) (ds : List Deed) (seat : ℕ) (last : Option Deed) → newest ds ≡ last → Owns rules.red ds seat →
+    has_free_in seat (view_of ds seat) (turn_in (option_map turn_by last)) ≡ true →
     can_discard_in rules seat (view_of ds seat) (turn_in (option_map turn_by last)) ≡ true
 unfolding view_of
 can_by_newest rules ds seat None e owns free = refl

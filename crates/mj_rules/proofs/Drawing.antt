@@ -28,7 +28,8 @@ hands_real : (red : Bool) (why : Reason) (hs : List Deed) → list_all (has_tile
     list_all (is_face red) (tiles_shown (hand_at_draw why hs 0) ++ tiles_shown (hand_at_draw why hs 1) ++ tiles_shown (hand_at_draw why hs 2) ++ tiles_shown (hand_at_draw why hs 3)) ≡ true
 hands_real red why hs h =
     four_pass (is_face red) (tiles_shown (hand_at_draw why hs 0)) (tiles_shown (hand_at_draw why hs 1)) (tiles_shown (hand_at_draw why hs 2)) (tiles_shown (hand_at_draw why hs 3))
-    (shown_real red why hs 0 (gained_real red hs 0 h)) (shown_real red why hs 1 (gained_real red hs 1 h)) (shown_real red why hs 2 (gained_real red hs 2 h)) (shown_real red why hs 3 (gained_real red hs 3 h))
+    (shown_real red why hs 0 (gained_real red hs 0 h)) (shown_real red why hs 1 (gained_real red hs 1 h))
+    (shown_real red why hs 2 (gained_real red hs 2 h)) (shown_real red why hs 3 (gained_real red hs 3 h))
 
 -- The hand is drawn in its turn, for whatever reason.
 pub drawn_next : (red : Bool) (walls : List (List ℕ)) (ds : List Deed) (why : Reason) → Fair red walls ds → is_in_hand (newest ds) ≡ true → IsNext red walls ds (drawn_hand ds why)

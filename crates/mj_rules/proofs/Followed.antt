@@ -39,7 +39,8 @@ pub hides3 : (a b c : Bool) → (a || (b || (c || true))) ≡ false → ⊥
 hides3 true b c h = cc
 hides3 false b c h = hides2 b c h
 
-act_is : (rules : Rules) (wall : List ℕ) (ds : List Deed) (who tile : ℕ) (replacement accepted : Bool) (answer : Answer) → is_own_act rules accepted answer ≡ true → is_no_such_tile rules.red answer ≡ false →
+act_is : (rules : Rules) (wall : List ℕ) (ds : List Deed) (who tile : ℕ) (replacement accepted : Bool) (answer : Answer) →
+    is_own_act rules accepted answer ≡ true → is_no_such_tile rules.red answer ≡ false →
     is_some (own_act wall ds (Draw who tile replacement) who answer) ≡ true
 act_is rules wall ds who tile replacement accepted (answers.Discard actor (Known t) drawn) h k = refl
 act_is rules wall ds who tile replacement accepted (answers.ClosedKan actor (Known x) (Known y) (Known z) (Known w)) h k = refl
@@ -48,11 +49,13 @@ act_is rules wall ds who tile replacement accepted (answers.Discard actor Hidden
 act_is rules wall ds who tile replacement accepted (answers.ClosedKan actor Hidden b c d) h k = cc
 act_is rules wall ds who tile replacement accepted (answers.ClosedKan actor (Known x) Hidden c d) h k = absurd (hides (is_no_tile rules.red (Known x)) k)
 act_is rules wall ds who tile replacement accepted (answers.ClosedKan actor (Known x) (Known y) Hidden d) h k = absurd (hides2 (is_no_tile rules.red (Known x)) (is_no_tile rules.red (Known y)) k)
-act_is rules wall ds who tile replacement accepted (answers.ClosedKan actor (Known x) (Known y) (Known z) Hidden) h k = absurd (hides3 (is_no_tile rules.red (Known x)) (is_no_tile rules.red (Known y)) (is_no_tile rules.red (Known z)) k)
+act_is rules wall ds who tile replacement accepted (answers.ClosedKan actor (Known x) (Known y) (Known z) Hidden) h k =
+    absurd (hides3 (is_no_tile rules.red (Known x)) (is_no_tile rules.red (Known y)) (is_no_tile rules.red (Known z)) k)
 act_is rules wall ds who tile replacement accepted (answers.AddedKan actor Hidden b c d) h k = cc
 act_is rules wall ds who tile replacement accepted (answers.AddedKan actor (Known x) Hidden c d) h k = absurd (hides (is_no_tile rules.red (Known x)) k)
 act_is rules wall ds who tile replacement accepted (answers.AddedKan actor (Known x) (Known y) Hidden d) h k = absurd (hides2 (is_no_tile rules.red (Known x)) (is_no_tile rules.red (Known y)) k)
-act_is rules wall ds who tile replacement accepted (answers.AddedKan actor (Known x) (Known y) (Known z) Hidden) h k = absurd (hides3 (is_no_tile rules.red (Known x)) (is_no_tile rules.red (Known y)) (is_no_tile rules.red (Known z)) k)
+act_is rules wall ds who tile replacement accepted (answers.AddedKan actor (Known x) (Known y) (Known z) Hidden) h k =
+    absurd (hides3 (is_no_tile rules.red (Known x)) (is_no_tile rules.red (Known y)) (is_no_tile rules.red (Known z)) k)
 act_is rules wall ds who tile replacement accepted (answers.Pass actor) h k = cc
 act_is rules wall ds who tile replacement accepted (answers.Chi actor target t x y) h k = cc
 act_is rules wall ds who tile replacement accepted (answers.Pon actor target t x y) h k = cc
@@ -63,13 +66,15 @@ act_is rules wall ds who tile replacement accepted (answers.NineKinds actor) h k
 act_is rules wall ds who tile replacement accepted answers.Unread h k = cc
 
 -- So is its discard.
-discard_is : (red : Bool) (wall : List ℕ) (ds : List Deed) (n : Deed) (who : ℕ) (answer : Answer) → is_discard answer ≡ true → is_no_such_tile red answer ≡ false → is_some (own_act wall ds n who answer) ≡ true
+discard_is : (red : Bool) (wall : List ℕ) (ds : List Deed) (n : Deed) (who : ℕ) (answer : Answer) → is_discard answer ≡ true →
+    is_no_such_tile red answer ≡ false → is_some (own_act wall ds n who answer) ≡ true
 discard_is red wall ds n who (answers.Discard actor (Known t) drawn) h k = refl
 discard_is red wall ds n who (answers.Discard actor Hidden drawn) h k = cc
 discard_is red wall ds n who other h k = cc
 
 -- So is the first winner, or what is decided otherwise.
-rons_are : (rules : Rules) (walls : List (List ℕ)) (ds : List Deed) (n : Deed) (seats : List ℕ) (other : Decision) → is_some (follows rules walls ds n other) ≡ true → is_some (follows rules walls ds n (rons_or seats other)) ≡ true
+rons_are : (rules : Rules) (walls : List (List ℕ)) (ds : List Deed) (n : Deed) (seats : List ℕ) (other : Decision) →
+    is_some (follows rules walls ds n other) ≡ true → is_some (follows rules walls ds n (rons_or seats other)) ≡ true
 rons_are rules walls ds n [] other h = h
 rons_are rules walls ds n (seat ∷ seats) other h = refl
 
@@ -86,7 +91,8 @@ followed rules walls ds given (StartGame names) e seats c on = refl
 followed rules walls ds given (StartHand round number honba deposits dealer indicator hands) e seats c on = refl
 followed rules walls ds given (Draw who tile replacement) e seats c on =
     let clean = clean_at rules ds given who (first_seat who _ seats) c in
-    act_is rules (wall_now walls ds) ds who tile replacement (view_of ds who).accepted (at_seat given who) (drew_opens rules ds (Draw who tile replacement) who (at_seat given who) e refl clean) clean.tiles
+    act_is rules (wall_now walls ds) ds who tile replacement (view_of ds who).accepted (at_seat given who)
+    (drew_opens rules ds (Draw who tile replacement) who (at_seat given who) e refl clean) clean.tiles
 followed rules walls ds given (Discard who tile drawn) e seats c on =
     rons_are rules walls ds (Discard who tile drawn) (rons_on who given) (call_or_pass (best_bid given)) (calls_are rules walls ds who tile drawn (best_bid given))
 followed rules walls ds given (Chi who target tile a b) e seats c on =
@@ -112,6 +118,7 @@ pub some_deed_follows : SomeDeedFollows
 unfolding outcome
 some_deed_follows rules walls ds given whole played c on = by_newest (newest ds) refl (played_sound rules walls ds whole played).seated on
   where
-    by_newest : (o : Option Deed) → newest ds ≡ o → IfAny (λ d. has_seats d ≡ true) o → goes_on o ≡ true → is_some (option_and_then (λ last. follows rules walls ds last (decision_by last given)) o) ≡ true
+    by_newest : (o : Option Deed) → newest ds ≡ o → IfAny (λ d. has_seats d ≡ true) o → goes_on o ≡ true →
+        is_some (option_and_then (λ last. follows rules walls ds last (decision_by last given)) o) ≡ true
     by_newest None e seats on = cc
     by_newest (Some n) e seats on = followed rules walls ds given n e seats c on

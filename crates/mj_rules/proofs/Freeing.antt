@@ -107,11 +107,13 @@ held_less : (ds : List Deed) (d : Deed) (seat face : ℕ) (used : List ℕ) → 
     held_count (view_of (ds ++ d ∷ []) seat) face ≡ held_count (view_of ds seat) face - number_in used face
 unfolding view_of
 held_less ds d seat face used start g l =
-    hand_with (λ xs. number_in (tiles_gained xs seat) face - number_in (tiles_lost xs seat) face ≡ number_in (tiles_gained (hand ds) seat) face - number_in (tiles_lost (hand ds) seat) face - number_in used face) ds d
+    hand_with (λ xs. number_in (tiles_gained xs seat) face - number_in (tiles_lost xs seat) face ≡ number_in (tiles_gained (hand ds) seat) face -
+    number_in (tiles_lost (hand ds) seat) face - number_in used face) ds d
     (λ _ empty. nothing _ _ _ (ap (λ (xs : List Deed). number_in (tiles_gained xs seat) face) empty))
     (subst (λ (xs : List Deed). number_in (tiles_gained (xs ++ d ∷ []) seat) face - number_in (tiles_lost (xs ++ d ∷ []) seat) face
     ≡ number_in (tiles_gained (hand ds) seat) face - number_in (tiles_lost (hand ds) seat) face - number_in used face) (sym (ap (λ b. cond b [] (hand ds)) start))
-    (less _ _ _ _ _ _ _ (number_more (gains_by seat) (hand ds) d face) (number_more (losses_by seat) (hand ds) d face) (ap (λ (xs : List ℕ). number_in xs face) g) (ap (λ (xs : List ℕ). number_in xs face) l)))
+    (less _ _ _ _ _ _ _ (number_more (gains_by seat) (hand ds) d face) (number_more (losses_by seat) (hand ds) d face)
+    (ap (λ (xs : List ℕ). number_in xs face) g) (ap (λ (xs : List ℕ). number_in xs face) l)))
   where
     nothing : (g l u : ℕ) → g ≡ 0 → 0 ≡ g - l - u
     nothing g l u e = omega arith
@@ -124,7 +126,8 @@ same_left : (old new : SeatView) (used banned : List ℕ) → ((face : ℕ) → 
 unfolding has_nothing_else
 same_left old new used banned same = λ i. list_all (λ face. nat_le (same face i) (number_in used face) || is_banned banned (kind_of face)) tile_order
 
-still_held : (ds : List Deed) (d : Deed) (seat face : ℕ) → is_hand_start d ≡ false → gains_by seat d ≡ [] → losses_by seat d ≡ [] → held_count (view_of (ds ++ d ∷ []) seat) face ≡ held_count (view_of ds seat) face
+still_held : (ds : List Deed) (d : Deed) (seat face : ℕ) → is_hand_start d ≡ false → gains_by seat d ≡ [] → losses_by seat d ≡ [] →
+    held_count (view_of (ds ++ d ∷ []) seat) face ≡ held_count (view_of ds seat) face
 still_held ds d seat face start g l = held_less ds d seat face [] start g l ∙ plain (held_count (view_of ds seat) face)
   where
     plain : (n : ℕ) → n - 0 ≡ n
@@ -133,17 +136,24 @@ still_held ds d seat face start g l = held_less ds d seat face [] start g l ∙ 
 kept_leaves : (ds : List Deed) (who : ℕ) (said : List ℤ) (bid : Bid) → IfAny (Takes ds who) (call_of_bid bid) → IfAny (Leaves (ds ++ ReachAccepted who said bid ∷ [])) (call_of_bid bid)
 kept_leaves ds who said bids.NoBid h = tt
 kept_leaves ds who said (bids.Chi seat target tile a b) h =
-    let d : Deed = ReachAccepted who said (bids.Chi seat target tile a b) in
-    (same_left (view_of ds seat) (view_of (ds ++ d ∷ []) seat) (a ∷ b ∷ []) (banned_kinds (Chi seat target tile a b)) (λ face. still_held ds d seat face refl refl refl) ∙ h.0.0, still_out ds d seat h.1 h.0.1)
+    let d : Deed = ReachAccepted who said (bids.Chi seat target tile a b) in (
+      same_left (view_of ds seat) (view_of (ds ++ d ∷ []) seat) (a ∷ b ∷ []) (banned_kinds (Chi seat target tile a b))
+          (λ face. still_held ds d seat face refl refl refl) ∙ h.0.0,
+      still_out ds d seat h.1 h.0.1,
+    )
 kept_leaves ds who said (bids.Pon seat target tile a b) h =
-    let d : Deed = ReachAccepted who said (bids.Pon seat target tile a b) in
-    (same_left (view_of ds seat) (view_of (ds ++ d ∷ []) seat) (a ∷ b ∷ []) (banned_kinds (Pon seat target tile a b)) (λ face. still_held ds d seat face refl refl refl) ∙ h.0.0, still_out ds d seat h.1 h.0.1)
+    let d : Deed = ReachAccepted who said (bids.Pon seat target tile a b) in (
+      same_left (view_of ds seat) (view_of (ds ++ d ∷ []) seat) (a ∷ b ∷ []) (banned_kinds (Pon seat target tile a b))
+          (λ face. still_held ds d seat face refl refl refl) ∙ h.0.0,
+      still_out ds d seat h.1 h.0.1,
+    )
 kept_leaves ds who said (bids.OpenKan seat target tile a b c) h = tt
 
 -- what lawful answers give
 
 -- Who calls a discard is another seat than its own.
-other_seat : (rules : Rules) (ds : List Deed) (who tile : ℕ) (drawn : Bool) (seat : ℕ) (answer : Answer) → newest ds ≡ Some (Discard who tile drawn) → is_pass answer ≡ false → Clean rules seat (view_of ds seat) answer →
+other_seat : (rules : Rules) (ds : List Deed) (who tile : ℕ) (drawn : Bool) (seat : ℕ) (answer : Answer) → newest ds ≡ Some (Discard who tile drawn) →
+    is_pass answer ≡ false → Clean rules seat (view_of ds seat) answer →
     (who == seat) ≡ false
 other_seat rules ds who tile drawn seat answer e call c = by_test (who == seat) opens
   where
@@ -160,7 +170,9 @@ both_true : (b : Bool) → (b && true) ≡ false → b ≡ false
 both_true true h = cc
 both_true false h = refl
 
-triplet_leaves : (rules : Rules) (ds : List Deed) (who tile : ℕ) (drawn : Bool) (seat : ℕ) (answer : Answer) → newest ds ≡ Some (Discard who tile drawn) → Clean rules seat (view_of ds seat) answer → IfAny (Takes ds who) (call_of_bid (triplet_bid seat answer))
+triplet_leaves : (rules : Rules) (ds : List Deed) (who tile : ℕ) (drawn : Bool) (seat : ℕ) (answer : Answer) →
+    newest ds ≡ Some (Discard who tile drawn) → Clean rules seat (view_of ds seat) answer →
+    IfAny (Takes ds who) (call_of_bid (triplet_bid seat answer))
 triplet_leaves rules ds who tile drawn seat (answers.Pon actor target (Known t) (Known x) (Known y)) e c =
     ((c.free, both_true (view_of ds seat).accepted c.unlocked), other_seat rules ds who tile drawn seat (answers.Pon actor target (Known t) (Known x) (Known y)) e refl c)
 triplet_leaves rules ds who tile drawn seat (answers.OpenKan actor target (Known t) (Known x) (Known y) (Known z)) e c = tt
@@ -181,7 +193,8 @@ triplet_leaves rules ds who tile drawn seat (answers.Win actor target t) e c = t
 triplet_leaves rules ds who tile drawn seat (answers.NineKinds actor) e c = tt
 triplet_leaves rules ds who tile drawn seat answers.Unread e c = tt
 
-run_leaves : (rules : Rules) (ds : List Deed) (who tile : ℕ) (drawn : Bool) (seat : ℕ) (answer : Answer) → newest ds ≡ Some (Discard who tile drawn) → Clean rules seat (view_of ds seat) answer → IfAny (Takes ds who) (call_of_bid (run_bid seat answer))
+run_leaves : (rules : Rules) (ds : List Deed) (who tile : ℕ) (drawn : Bool) (seat : ℕ) (answer : Answer) → newest ds ≡ Some (Discard who tile drawn) →
+    Clean rules seat (view_of ds seat) answer → IfAny (Takes ds who) (call_of_bid (run_bid seat answer))
 run_leaves rules ds who tile drawn seat (answers.Chi actor target (Known t) (Known x) (Known y)) e c =
     ((c.free, both_true (view_of ds seat).accepted c.unlocked), other_seat rules ds who tile drawn seat (answers.Chi actor target (Known t) (Known x) (Known y)) e refl c)
 run_leaves rules ds who tile drawn seat (answers.Chi actor target Hidden x y) e c = tt
@@ -217,7 +230,8 @@ discard_leaves ds who (answers.Discard actor (Known t) drawn) h = (tt, tt)
 discard_leaves ds who (answers.Discard actor Hidden drawn) h = tt
 discard_leaves ds who other h = cc
 
-act_leaves : (rules : Rules) (ds : List Deed) (n : Deed) (who : ℕ) (answer : Answer) → newest ds ≡ Some n → turn_by n ≡ Drew who → Clean rules who (view_of ds who) answer → IfAny (Both ds) (act_of who answer)
+act_leaves : (rules : Rules) (ds : List Deed) (n : Deed) (who : ℕ) (answer : Answer) → newest ds ≡ Some n → turn_by n ≡ Drew who →
+    Clean rules who (view_of ds who) answer → IfAny (Both ds) (act_of who answer)
 act_leaves rules ds n who (answers.Reach actor) e turn c =
     ((not-false (list_any (is_ready_without (view_of ds who)) (concealed (view_of ds who))) c.ready, not-true (view_of ds who).accepted (drew_opens rules ds n who (answers.Reach actor) e turn c)), tt)
 act_leaves rules ds n who (answers.Discard actor (Known t) drawn) e turn c = (tt, tt)
@@ -247,7 +261,8 @@ drawn_leaves ds why = (tt, tt)
 draw_leaves : (ds : List Deed) (wall : List ℕ) (seat : ℕ) → Both ds (next_draw wall ds seat)
 draw_leaves ds wall seat = draw_or (Both ds) wall ds seat (drawn_leaves ds reasons.Fanpai) (λ some. (tt, tt))
 
-call_leaves : (rules : Rules) (ds : List Deed) (who tile : ℕ) (drawn : Bool) (given : Four Answer) → newest ds ≡ Some (Discard who tile drawn) → AllLawful rules ds given → IfAny (Takes ds who) (call_of_bid (best_bid given))
+call_leaves : (rules : Rules) (ds : List Deed) (who tile : ℕ) (drawn : Bool) (given : Four Answer) → newest ds ≡ Some (Discard who tile drawn) →
+    AllLawful rules ds given → IfAny (Takes ds who) (call_of_bid (best_bid given))
 unfolding best_bid
 call_leaves rules ds who tile drawn given e c =
     or_other (Takes ds who) _ _
@@ -270,7 +285,8 @@ winner_leaves ds wall target tile (seat ∷ rest) = win_leaves ds wall seat targ
 own_leaves : (walls : List (List ℕ)) (ds : List Deed) (n : Deed) (who : ℕ) (answer : Answer) → is_discard answer ≡ true → IfAny (Both ds) (own_act (wall_now walls ds) ds n who answer)
 own_leaves walls ds n who answer h = discards_only (Both ds) (wall_now walls ds) ds n who answer h (discard_leaves ds who answer h)
 
-follower_leaves : (rules : Rules) (walls : List (List ℕ)) (ds : List Deed) (given : Four Answer) (n : Deed) → newest ds ≡ Some n → has_seats n ≡ true → IfAny (Leaves ds) (kept_call (Some n)) → AllLawful rules ds given →
+follower_leaves : (rules : Rules) (walls : List (List ℕ)) (ds : List Deed) (given : Four Answer) (n : Deed) → newest ds ≡ Some n →
+    has_seats n ≡ true → IfAny (Leaves ds) (kept_call (Some n)) → AllLawful rules ds given →
     IfAny (Both ds) (follows rules walls ds n (decision_by n given))
 unfolding hand_start next_dora next_replacement
 follower_leaves rules walls ds given (StartGame names) e seats k c = (tt, tt)
@@ -281,7 +297,8 @@ follower_leaves rules walls ds given (Draw who tile replacement) e seats k c =
     (act_leaves rules ds (Draw who tile replacement) who (at_seat given who) e refl (clean_at rules ds given who (first_seat who _ seats) c))
 follower_leaves rules walls ds given (Discard who tile drawn) e seats k c =
     let takes : IfAny (Takes ds who) (call_of_bid (best_bid given)) = call_leaves rules ds who tile drawn given e c in
-    won_or (Both ds) rules walls ds (Discard who tile drawn) (rons_on who given) (call_or_pass (best_bid given)) (rons_seated who given) (λ seat rest low others. win_leaves ds (wall_now walls ds) seat who tile rest)
+    won_or (Both ds) rules walls ds (Discard who tile drawn) (rons_on who given) (call_or_pass (best_bid given)) (rons_seated who given)
+    (λ seat rest low others. win_leaves ds (wall_now walls ds) seat who tile rest)
     (called_or_on (Both ds) rules walls ds who tile drawn (best_bid given)
     (behind_or (Both ds) rules (wall_now walls ds) ds who (best_bid given) (λ reached. accept_leaves ds who (best_bid given) takes) (drawn_leaves ds)
     (both_calls ds who (best_bid given) takes) (draw_leaves ds (wall_now walls ds) _)))
@@ -307,12 +324,14 @@ follower_leaves rules walls ds given (DrawnHand reason hands ready deltas points
 follower_leaves rules walls ds given EndHand e seats k c = start_or_end (Both ds) walls ds (standing_after (standing ds) (hand ds)) (λ next after. (tt, tt)) (tt, tt)
 follower_leaves rules walls ds given (EndGame points deposits) e seats k c = tt
 
-outcome_leaves : (rules : Rules) (walls : List (List ℕ)) (ds : List Deed) (given : Four Answer) (d : Deed) → IfAny (λ n. has_seats n ≡ true) (newest ds) → IfAny (Leaves ds) (kept_call (newest ds)) → AllLawful rules ds given →
+outcome_leaves : (rules : Rules) (walls : List (List ℕ)) (ds : List Deed) (given : Four Answer) (d : Deed) →
+    IfAny (λ n. has_seats n ≡ true) (newest ds) → IfAny (Leaves ds) (kept_call (newest ds)) → AllLawful rules ds given →
     outcome rules walls ds given ≡ Some d → Both ds d
 unfolding outcome
 outcome_leaves rules walls ds given d seats k c e = subst (IfAny (Both ds)) e (by_newest (newest ds) refl seats k)
   where
-    by_newest : (o : Option Deed) → newest ds ≡ o → IfAny (λ n. has_seats n ≡ true) o → IfAny (Leaves ds) (kept_call o) → IfAny (Both ds) (option_and_then (λ last. follows rules walls ds last (decision_by last given)) o)
+    by_newest : (o : Option Deed) → newest ds ≡ o → IfAny (λ n. has_seats n ≡ true) o → IfAny (Leaves ds) (kept_call o) →
+        IfAny (Both ds) (option_and_then (λ last. follows rules walls ds last (decision_by last given)) o)
     by_newest None e seats k = tt
     by_newest (Some n) e seats k = follower_leaves rules walls ds given n e seats k c
 
@@ -334,7 +353,8 @@ start_leaves (DrawnHand reason hands ready deltas points) h = cc
 start_leaves EndHand h = cc
 start_leaves (EndGame points deposits) h = cc
 
-behind_leaves : (rules : Rules) (walls : List (List ℕ)) (ds : List Deed) (d : Deed) → IfAny (λ n. has_seats n ≡ true) (newest ds) → IfAny (Leaves ds) (kept_call (newest ds)) → IsPlayedBehind rules walls ds d → Both ds d
+behind_leaves : (rules : Rules) (walls : List (List ℕ)) (ds : List Deed) (d : Deed) → IfAny (λ n. has_seats n ≡ true) (newest ds) →
+    IfAny (Leaves ds) (kept_call (newest ds)) → IsPlayedBehind rules walls ds d → Both ds d
 behind_leaves rules walls [] d seats k played = start_leaves d played
 behind_leaves rules walls (first ∷ others) d seats k played = outcome_leaves rules walls (first ∷ others) played.given d seats k played.lawful played.gives
 
@@ -345,7 +365,8 @@ some_passes : (p q : ℕ → Bool) (xs : List ℕ) → ((x : ℕ) → p x ≡ fa
 some_passes p q [] h k = cc
 some_passes p q (x ∷ xs) h k = by_tests (p x) (q x) refl refl k (some_passes p q xs h)
   where
-    by_tests : (b c : Bool) → p x ≡ b → q x ≡ c → (b && list_all p xs) ≡ false → (list_all p xs ≡ false → ltb 0 (length (filter q xs)) ≡ true) → ltb 0 (length (cond c (x ∷ filter q xs) (filter q xs))) ≡ true
+    by_tests : (b c : Bool) → p x ≡ b → q x ≡ c → (b && list_all p xs) ≡ false → (list_all p xs ≡ false → ltb 0 (length (filter q xs)) ≡ true) →
+        ltb 0 (length (cond c (x ∷ filter q xs) (filter q xs))) ≡ true
     by_tests b true e f k others = lt-ltb 0 (length (x ∷ filter q xs)) (omega arith)
     by_tests true false e f k others = others k
     by_tests false false e f k others = absurd (no (sym f ∙ h x e))
@@ -357,17 +378,20 @@ some_free : (old new : SeatView) (used banned : List ℕ) → ((face : ℕ) → 
     nat_lt 0 (length (free_faces new banned)) ≡ true
 unfolding has_nothing_else free_faces
 some_free old new used banned less h =
-    some_passes (λ face. nat_le (held_count old face) (number_in used face) || is_banned banned (kind_of face)) (λ face. nat_lt 0 (held_count new face) && not (is_banned banned (kind_of face))) tile_order
+    some_passes (λ face. nat_le (held_count old face) (number_in used face) || is_banned banned (kind_of face))
+    (λ face. nat_lt 0 (held_count new face) && not (is_banned banned (kind_of face))) tile_order
     (λ face k. each face (or_parts (nat_le (held_count old face) (number_in used face)) (is_banned banned (kind_of face)) k)) h
   where
     more : (n o u : ℕ) → n ≡ o - u → u < o → 0 < n
     more n o u e k = omega arith
 
-    each : (face : ℕ) → (nat_le (held_count old face) (number_in used face) ≡ false) × (is_banned banned (kind_of face) ≡ false) → (nat_lt 0 (held_count new face) && not (is_banned banned (kind_of face))) ≡ true
+    each : (face : ℕ) → (nat_le (held_count old face) (number_in used face) ≡ false) × (is_banned banned (kind_of face) ≡ false) →
+        (nat_lt 0 (held_count new face) && not (is_banned banned (kind_of face))) ≡ true
     each face parts =
         and_from (nat_lt 0 (held_count new face)) _ (lt-ltb 0 (held_count new face) (more _ _ _ (less face) (leb-false (held_count old face) (number_in used face) parts.0))) (ap not parts.1)
 
-call_free : (ds : List Deed) (d : Deed) (who seat : ℕ) (used banned : List ℕ) → is_hand_start d ≡ false → gains_by who d ≡ [] → losses_by who d ≡ cond (eqb who who) used [] → is_accepted_by who d ≡ false →
+call_free : (ds : List Deed) (d : Deed) (who seat : ℕ) (used banned : List ℕ) → is_hand_start d ≡ false → gains_by who d ≡ [] →
+    losses_by who d ≡ cond (eqb who who) used [] → is_accepted_by who d ≡ false →
     (has_nothing_else (view_of ds who) used banned ≡ false) × ((view_of ds who).accepted ≡ false) → has_free_in seat (view_of (ds ++ d ∷ []) seat) (Called who banned) ≡ true
 call_free ds d who seat used banned start g l out h = elim (cases_eq who seat) [
   | inl e ↦ subst (λ s. has_free_in s (view_of (ds ++ d ∷ []) s) (Called who banned) ≡ true) e own
@@ -424,7 +448,8 @@ some_ready : (view : SeatView) → list_any (is_ready_without view) (concealed v
 unfolding ready_faces less
 some_ready view h = some_held (is_ready_without view) (held_count view) tile_order h
 
-reach_ready : (ds : List Deed) (who : ℕ) → list_any (is_ready_without (view_of ds who)) (concealed (view_of ds who)) ≡ true → nat_lt 0 (length (ready_faces (view_of (ds ++ Reach who ∷ []) who))) ≡ true
+reach_ready : (ds : List Deed) (who : ℕ) → list_any (is_ready_without (view_of ds who)) (concealed (view_of ds who)) ≡ true →
+    nat_lt 0 (length (ready_faces (view_of (ds ++ Reach who ∷ []) who))) ≡ true
 unfolding view_of
 reach_ready ds who h =
     let made : flat_map (makes_by who) (hand (ds ++ Reach who ∷ [])) ≡ flat_map (makes_by who) (hand ds) = same_more (makes_by who) ds (Reach who) refl refl in
@@ -473,7 +498,8 @@ keeps_more : (ds : List Deed) (d : Deed) → Keeps ds d → IfAny (Leaves (ds ++
 keeps_more ds (ReachAccepted who said bid) h = h
 keeps_more ds other h = tt
 
-all_free : (rules : Rules) (walls : List (List ℕ)) (before ds : List Deed) (seat : ℕ) → ((number : ℕ) → is_wall rules.red (wall_of walls number) ≡ true) → IsPlayed rules walls before → has_free before seat ≡ true →
+all_free : (rules : Rules) (walls : List (List ℕ)) (before ds : List Deed) (seat : ℕ) →
+    ((number : ℕ) → is_wall rules.red (wall_of walls number) ≡ true) → IsPlayed rules walls before → has_free before seat ≡ true →
     IfAny (Leaves before) (kept_call (newest before)) → AllPlayed rules walls before ds → has_free (before ++ ds) seat ≡ true
 all_free rules walls before [] seat whole old h k played = subst (λ (xs : List Deed). has_free xs seat ≡ true) (sym (append-nil before)) h
 all_free rules walls before (d ∷ ds) seat whole old h k played =
@@ -482,5 +508,6 @@ all_free rules walls before (d ∷ ds) seat whole old h k played =
     (all_free rules walls (before ++ d ∷ []) ds seat whole (played_more rules walls before d old played.0) (free_more before d seat both.0)
     (subst (λ (o : Option Deed). IfAny (Leaves (before ++ d ∷ [])) (kept_call o)) (sym (newest_more before d)) (keeps_more before d both.1)) played.1)
 
-pub some_tile_is_free : (rules : Rules) (walls : List (List ℕ)) (ds : List Deed) (seat : ℕ) → ((number : ℕ) → is_wall rules.red (wall_of walls number) ≡ true) → IsPlayed rules walls ds → has_free ds seat ≡ true
+pub some_tile_is_free : (rules : Rules) (walls : List (List ℕ)) (ds : List Deed) (seat : ℕ) →
+    ((number : ℕ) → is_wall rules.red (wall_of walls number) ≡ true) → IsPlayed rules walls ds → has_free ds seat ≡ true
 some_tile_is_free rules walls ds seat whole played = all_free rules walls [] ds seat whole tt (free_of_none seat) tt played

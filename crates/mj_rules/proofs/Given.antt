@@ -133,23 +133,29 @@ owns_more red ds d seat small old fit owns =
     let within : (face : ℕ) → number_in (tiles_lost h seat) face ≤ number_in (tiles_gained h seat) face =
     hand_before (λ xs. (face : ℕ) → number_in (tiles_lost xs seat) face ≤ number_in (tiles_gained xs seat) face) (hand ds) d (none_held seat) owns.within in
     record {
-      within = hand_with (λ xs. (face : ℕ) → number_in (tiles_lost xs seat) face ≤ number_in (tiles_gained xs seat) face) ds d (λ _ _. none_held seat) (λ face. held_step h d seat face held (within face));
+      within = hand_with (λ xs. (face : ℕ) → number_in (tiles_lost xs seat) face ≤ number_in (tiles_gained xs seat) face) ds d (λ _ _. none_held seat)
+          (λ face. held_step h d seat face held (within face));
       real = gained_real red (hand (ds ++ d ∷ [])) seat (hand_real red (ds ++ d ∷ []) (all_fit-append red [] ds d old fit));
       drawn = λ tile k. holds_now d refl parts.place within tile (sym (drawn_is ds d seat) ∙ k);
     }
   where
-    drawn_now : (tile : ℕ) → drawn_by seat d ≡ Some tile → is_in_hand (newest ds) ≡ true → number_in (tiles_lost (before_in (hand ds) d) seat) tile ≤ number_in (tiles_gained (before_in (hand ds) d) seat) tile →
+    drawn_now : (tile : ℕ) → drawn_by seat d ≡ Some tile → is_in_hand (newest ds) ≡ true → number_in (tiles_lost (before_in (hand ds) d) seat) tile ≤
+        number_in (tiles_gained (before_in (hand ds) d) seat) tile →
         number_in (tiles_lost (hand (ds ++ d ∷ [])) seat) tile < number_in (tiles_gained (hand (ds ++ d ∷ [])) seat) tile
     drawn_now tile drew begun within =
         subst (λ (xs : List Deed). number_in (tiles_lost xs seat) tile < number_in (tiles_gained xs seat) tile)
         (sym (hand_is ds d (λ _ empty. hand_begun red ds old begun empty)))
         (drawn_more (before_in (hand ds) d) d seat tile drew within)
 
-    by_draw : (x : Deed) → d ≡ x → is_in_place (ground_of ds) x ≡ true → ((face : ℕ) → number_in (tiles_lost (before_in (hand ds) d) seat) face ≤ number_in (tiles_gained (before_in (hand ds) d) seat) face) → (tile : ℕ) →
+    by_draw : (x : Deed) → d ≡ x → is_in_place (ground_of ds) x ≡ true →
+        ((face : ℕ) → number_in (tiles_lost (before_in (hand ds) d) seat) face ≤ number_in (tiles_gained (before_in (hand ds) d) seat) face) →
+        (tile : ℕ) →
         drawn_by seat x ≡ Some tile → number_in (tiles_lost (hand (ds ++ d ∷ [])) seat) tile < number_in (tiles_gained (hand (ds ++ d ∷ [])) seat) tile
     by_draw x e place within tile drew = drawn_now tile (ap (drawn_by seat) e ∙ drew) (in_hand_of ds seat tile x drew place) (within tile)
 
-    holds_now : (x : Deed) → d ≡ x → is_in_place (ground_of ds) x ≡ true → ((face : ℕ) → number_in (tiles_lost (before_in (hand ds) d) seat) face ≤ number_in (tiles_gained (before_in (hand ds) d) seat) face) → (tile : ℕ) →
+    holds_now : (x : Deed) → d ≡ x → is_in_place (ground_of ds) x ≡ true →
+        ((face : ℕ) → number_in (tiles_lost (before_in (hand ds) d) seat) face ≤ number_in (tiles_gained (before_in (hand ds) d) seat) face) →
+        (tile : ℕ) →
         holds_drawn seat (newest ds) x ≡ Some tile → number_in (tiles_lost (hand (ds ++ d ∷ [])) seat) tile < number_in (tiles_gained (hand (ds ++ d ∷ [])) seat) tile
     holds_now (Reach who) e place within tile holds =
         let before : drawn_tile ds seat ≡ Some tile = held_before ds seat who tile holds in

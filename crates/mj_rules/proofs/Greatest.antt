@@ -52,7 +52,8 @@ of_another who seat answer rest win h e = by_test (who == seat) refl h
     by_test false is h = eqb-false who seat is (sym e)
 
 -- The newest deed stands last in the hand before the winners.
-last_there : (red : Bool) (walls : List (List ℕ)) (deeds : List Deed) (last : Deed) → Fresh red walls deeds → newest deeds ≡ Some last → is_in_hand (Some last) ≡ true → newest (before_wins (hand deeds)) ≡ Some last
+last_there : (red : Bool) (walls : List (List ℕ)) (deeds : List Deed) (last : Deed) → Fresh red walls deeds → newest deeds ≡ Some last →
+    is_in_hand (Some last) ≡ true → newest (before_wins (hand deeds)) ≡ Some last
 last_there red walls deeds last f e begun = ap newest f.before ∙ f.there (ap is_in_hand e ∙ begun) ∙ e
 
 ron_few : (red : Bool) (walls : List (List ℕ)) (deeds : List Deed) (seat : ℕ) → Fresh red walls deeds → (tile : ℕ) (o : Offers deeds seat tile) → seat < 4 → (seat ≡ seat_of o.last → ⊥) →
@@ -136,7 +137,8 @@ lawful_wins_are_greatest rules walls deeds last seat answer whole played e low w
     record {
       complete = complete-are (kind_counts (won_tiles (view_of deeds seat))) (length (view_of deeds seat).melds) counts (both_hold (is_win answer) _ wins.complete win);
       greatest = λ extra.
-          greatest_is (kind_counts (won_tiles (view_of deeds seat))) (view_of deeds seat).melds (kind_of (won_tile last)) (view_of deeds seat).case extra (worth_by (view_of deeds seat) (won_tile last) extra)
+          greatest_is (kind_counts (won_tiles (view_of deeds seat))) (view_of deeds seat).melds (kind_of (won_tile last)) (view_of deeds seat).case
+          extra (worth_by (view_of deeds seat) (won_tile last) extra)
           (worth_is_found (kind_counts (won_tiles (view_of deeds seat))) (view_of deeds seat).melds (kind_of (won_tile last)) (view_of deeds seat).case extra counts)
           (lawful_wins_are_worth rules deeds last seat answer extra e win lawful);
     }

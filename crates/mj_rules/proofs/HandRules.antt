@@ -35,11 +35,13 @@ all_pass Q p [] all each = refl
 all_pass Q p (x ∷ xs) all each = and_from (p x) (list_all p xs) (each x (all 0 x (omega arith))) (all_pass Q p xs (λ i other inside. all (suc i) other (omega (arith, inside))) each)
 
 -- All readings of a hand pass a test exactly where all of the list do.
-readings_pass : (counts : List ℕ) (melds : List Meld) (winning : ℕ) (p : Reading → Bool) → IsCounts counts → ((reading : Reading) → IsReading counts melds winning reading → p reading ≡ true) → list_all p (readings_of counts melds winning) ≡ true
+readings_pass : (counts : List ℕ) (melds : List Meld) (winning : ℕ) (p : Reading → Bool) → IsCounts counts →
+    ((reading : Reading) → IsReading counts melds winning reading → p reading ≡ true) → list_all p (readings_of counts melds winning) ≡ true
 readings_pass counts melds winning p are each =
     all_pass (IsReading counts melds winning) p (readings_of counts melds winning) (λ i other inside. (list_law counts melds winning are).each i other inside) each
 
-reading_passes : (counts : List ℕ) (melds : List Meld) (winning : ℕ) (p : Reading → Bool) → IsCounts counts → list_all p (readings_of counts melds winning) ≡ true → (reading : Reading) → IsReading counts melds winning reading → p reading ≡ true
+reading_passes : (counts : List ℕ) (melds : List Meld) (winning : ℕ) (p : Reading → Bool) → IsCounts counts →
+    list_all p (readings_of counts melds winning) ≡ true → (reading : Reading) → IsReading counts melds winning reading → p reading ≡ true
 reading_passes counts melds winning p are h reading reads =
     let there = (list_law counts melds winning are).all reading reads in
     passes_at p (readings_of counts melds winning) reading there.0 there.1 there.2 h
@@ -110,7 +112,8 @@ pub kans_are_found : KansAreFound
 unfolding is_riichi_kan
 kans_are_found counts room melds drawn kind are few = (found, kept)
   where
-    before : (wait : ℕ) → (is_wait counts room (length melds) wait ≡ true → IsWait counts room (length melds) wait) × (IsWait counts room (length melds) wait → is_wait counts room (length melds) wait ≡ true)
+    before : (wait : ℕ) → (is_wait counts room (length melds) wait ≡ true → IsWait counts room (length melds) wait) ×
+        (IsWait counts room (length melds) wait → is_wait counts room (length melds) wait ≡ true)
     before wait = waits_are_found counts room (length melds) wait are (few wait)
 
     behind : (wait : ℕ) → (is_wait (fewer counts kind 3) (fewer room kind 4) (length melds + 1) wait ≡ true → IsWait (fewer counts kind 3) (fewer room kind 4) (length melds + 1) wait)
@@ -125,7 +128,8 @@ kans_are_found counts room melds drawn kind are few = (found, kept)
 
     found : is_riichi_kan counts room melds drawn kind ≡ true → (kind ≡ drawn) × ((3 ≤ get_or counts kind 0) × LeavesHand counts room melds kind)
     found h =
-        let one = and_parts ((eqb kind drawn && leb 3 (get_or counts kind 0)) && list_all (keeps_wait counts room (length melds) kind) all_kinds) (list_all (reads_as_triplet counts room melds kind) all_kinds) h in
+        let one = and_parts ((eqb kind drawn && leb 3 (get_or counts kind 0)) && list_all (keeps_wait counts room (length melds) kind) all_kinds)
+        (list_all (reads_as_triplet counts room melds kind) all_kinds) h in
         let two = and_parts (eqb kind drawn && leb 3 (get_or counts kind 0)) (list_all (keeps_wait counts room (length melds) kind) all_kinds) one.0 in
         let three = and_parts (eqb kind drawn) (leb 3 (get_or counts kind 0)) two.0 in (
           eqb-true kind drawn three.0,
@@ -133,7 +137,8 @@ kans_are_found counts room melds drawn kind are few = (found, kept)
             leb-true 3 (get_or counts kind 0) three.1,
             record {
               waits = λ wait small.
-                  let both = same_both (is_wait counts room (length melds) wait) (is_wait (fewer counts kind 3) (fewer room kind 4) (length melds + 1) wait) (each_kind (keeps_wait counts room (length melds) kind) wait small two.1) in
+                  let both = same_both (is_wait counts room (length melds) wait) (is_wait (fewer counts kind 3) (fewer room kind 4) (length melds + 1)
+                  wait) (each_kind (keeps_wait counts room (length melds) kind) wait small two.1) in
                   (λ is. (behind wait).0 (both.0 ((before wait).1 is)), λ is. (before wait).0 (both.1 ((behind wait).1 is)));
               read = λ wait small is.
                   reading_passes (one_more counts wait) melds wait (has_own_triplet kind) (more wait is)

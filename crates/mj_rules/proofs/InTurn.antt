@@ -37,7 +37,8 @@ turned-map R S f each (x ∷ xs) turned = (
   turned-map R S f each xs turned.1,
 )
 
-pub turned-flat_map : {A B : Type 0} (R : A → A → Type 0) (S : B → B → Type 0) (f : A → List B) → ((x : A) → Turned S (f x)) → ((x y : A) (u v : B) → R x y → Contains (f x) u → Contains (f y) v → S u v) →
+pub turned-flat_map : {A B : Type 0} (R : A → A → Type 0) (S : B → B → Type 0) (f : A → List B) → ((x : A) → Turned S (f x)) →
+    ((x y : A) (u v : B) → R x y → Contains (f x) u → Contains (f y) v → S u v) →
     (xs : List A) → Turned R xs → Turned S (flat_map f xs)
 turned-flat_map R S f each across [] turned = tt
 turned-flat_map R S f each across (x ∷ xs) turned =

@@ -160,7 +160,8 @@ pub inside : (red : Bool) (walls : List (List ℕ)) (ds : List Deed) (d : Deed) 
 inside red walls ds d next = record { seats = next.seats; held = next.held; live = next.live; brings = next.brings }
 
 -- One deed more keeps what is true.
-pub keeps : (stage : Stage) (wall : List ℕ) (ds : List Deed) (d : Deed) → DealsWell wall → StandsAt wall ds (stage_before stage d) → IsNextIn wall ds d → StandsAt wall (ds ++ d ∷ []) (stage_after stage d)
+pub keeps : (stage : Stage) (wall : List ℕ) (ds : List Deed) (d : Deed) → DealsWell wall → StandsAt wall ds (stage_before stage d) →
+    IsNextIn wall ds d → StandsAt wall (ds ++ d ∷ []) (stage_after stage d)
 keeps stage wall ds d deals s next =
     let draws : live_draws (ds ++ d ∷ []) ≡ live_draws ds + cond (is_live_draw d) 1 0 = sum_by_push (λ x. cond (is_live_draw x) 1 0) ds d in
     let made : kans (ds ++ d ∷ []) ≡ kans ds + cond (is_kan d) 1 0 = sum_by_push (λ x. cond (is_kan x) 1 0) ds d in
@@ -168,8 +169,10 @@ keeps stage wall ds d deals s next =
     let shown : length (indicators (ds ++ d ∷ [])) ≡ length (indicators ds) + length (indicators_by d) = length-more indicators_by ds d in
     let live = live_step d ds next.live s.live s.four in
     record {
-      kinds = λ kind. sum_more (λ x. cond (eqb (kind_of x) kind) 1 0) brought_by ds d ∙ kinds_step stage wall ds d kind _ _ _ _ next.seats deals next.brings draws shown taken s.fresh s.taken (s.kinds kind);
-      hands = λ seat. hands_of _ _ _ _ _ _ _ _ _ _ _ (length-more (gains_by seat) ds d) (length-more (makes_by seat) ds d) (length-more (losses_by seat) ds d) (hands_step stage wall ds d seat _ _ _ deals next.brings (s.hands seat));
+      kinds = λ kind. sum_more (λ x. cond (eqb (kind_of x) kind) 1 0) brought_by ds d ∙ kinds_step stage wall ds d kind _ _ _ _ next.seats deals
+          next.brings draws shown taken s.fresh s.taken (s.kinds kind);
+      hands = λ seat. hands_of _ _ _ _ _ _ _ _ _ _ _ (length-more (gains_by seat) ds d) (length-more (makes_by seat) ds d)
+          (length-more (losses_by seat) ds d) (hands_step stage wall ds d seat _ _ _ deals next.brings (s.hands seat));
       shown = shown_of _ _ _ _ _ _ shown made (shown_step stage d _ _ s.shown);
       taken = taken_of _ _ _ _ _ taken made (taken_step stage d _ _ s.taken);
       fresh = fresh_step stage d _ _ shown s.fresh;

@@ -150,7 +150,8 @@ follower_leads : (rules : Rules) (walls : List (List ℕ)) (ds : List Deed) (giv
     IfAny (Leads n) (follows rules walls ds n (decision_by n given))
 unfolding hand_start
 follower_leads rules walls ds given (StartGame names) e seats c = tt
-follower_leads rules walls ds given (StartHand round number honba lying dealer indicator hands) e seats c = draw_leads (StartHand round number honba lying dealer indicator hands) walls ds dealer (omega arith)
+follower_leads rules walls ds given (StartHand round number honba lying dealer indicator hands) e seats c =
+    draw_leads (StartHand round number honba lying dealer indicator hands) walls ds dealer (omega arith)
 follower_leads rules walls ds given (Draw who tile replacement) e seats c =
     let n : Deed = Draw who tile replacement in
     won_or_acts (Leads n) (wall_now walls ds) ds n who (at_seat given who) (win_leads n (wall_now walls ds) ds who who tile [] (omega arith)) (drawn_leads n ds _ (omega arith))
@@ -284,7 +285,8 @@ hand_few red wall ds stage fit s b = few _ _ _ b.short (counted_few red wall ds 
 -- A hand starts.
 start_brief : (ds : List Deed) (d : Deed) → is_hand_start d ≡ true → length (hand ds) ≤ 300 → Brief ds → BriefWith ds d
 start_brief ds (StartHand round number honba lying dealer indicator hands) h few b = record {
-  short = subst (λ (hs : List Deed). length hs + rest_by (newest (ds ++ d ∷ [])) ≤ 6 + counted hs) (sym (hand_more ds d)) (subst (λ (o : Option Deed). 1 + rest_by o ≤ 6 + counted (d ∷ [])) (sym (newest_more ds d)) (omega arith));
+  short = subst (λ (hs : List Deed). length hs + rest_by (newest (ds ++ d ∷ [])) ≤ 6 + counted hs) (sym (hand_more ds d))
+      (subst (λ (o : Option Deed). 1 + rest_by o ≤ 6 + counted (d ∷ [])) (sym (newest_more ds d)) (omega arith));
   first = λ e. absurd (some _ _ (starts_more ds d) e);
   whole = λ _. by_starts (length (starts ds)) _ _ _ (length (hand ds)) _ (starts_more ds d) (length-append ds (d ∷ [])) (ap length (hand_more ds d)) b.first b.whole few;
 }
@@ -301,7 +303,8 @@ start_brief ds (StartHand round number honba lying dealer indicator hands) h few
 start_brief ds other h few b = cc
 
 -- Any other deed comes after those of its hand.
-more_brief : (ds : List Deed) (n d : Deed) → newest ds ≡ Some n → is_hand_start d ≡ false → (hand ds ≡ [] → ⊥) → 0 < length (starts ds) → 1 + rest_by (Some d) ≤ rest_by (Some n) + weight d → Brief ds → BriefWith ds d
+more_brief : (ds : List Deed) (n d : Deed) → newest ds ≡ Some n → is_hand_start d ≡ false → (hand ds ≡ [] → ⊥) → 0 < length (starts ds) →
+    1 + rest_by (Some d) ≤ rest_by (Some n) + weight d → Brief ds → BriefWith ds d
 more_brief ds n d e within begun some leads b = record {
   short = sum _ _ _ _ (length (hand ds)) (rest_by (newest ds)) (rest_by (Some n)) (counted (hand ds)) (weight d)
       (ap length is ∙ length-append (hand ds) (d ∷ [])) (ap rest_by (newest_more ds d)) (ap rest_by e) (ap counted is ∙ counted_more (hand ds) d) leads b.short;
@@ -331,7 +334,8 @@ leads_brief red ds n other fit one few e leads b =
     let past = past_of ds other (parts_of red ds other one).place refl refl in
     more_brief ds n other e refl (some_hand red ds fit past) (some_starts red ds fit past) leads b
 
-outcome_brief : (rules : Rules) (walls : List (List ℕ)) (ds : List Deed) (given : Four Answer) → IfAny (λ d. has_seats d ≡ true) (newest ds) → all_fit rules.red [] ds ≡ true → AllLawful rules ds given →
+outcome_brief : (rules : Rules) (walls : List (List ℕ)) (ds : List Deed) (given : Four Answer) → IfAny (λ d. has_seats d ≡ true) (newest ds) →
+    all_fit rules.red [] ds ≡ true → AllLawful rules ds given →
     length (hand ds) ≤ 300 → Brief ds → IfAny (λ d. fits rules.red ds d ≡ true → BriefWith ds d) (outcome rules walls ds given)
 unfolding outcome
 outcome_brief rules walls ds given seated fit c few b = by_newest (newest ds) refl seated

@@ -235,7 +235,8 @@ added_kan_tried rules seat view actor tile a b c faces clear =
     (λ i. AddedKan (sym mine i) (sym t.2 i) (sym (that_tile meld.a a first.1) i) (sym (that_tile meld.b b second.1) i) (sym (that_tile meld.c c third.1) i))
     (behind_calls seat view answer (Contains-append_right (all_closed_kans seat) _ answer (Contains-append_left (all_added_kans seat (triplets view)) _ answer tried)))
 
-tried : (rules : Rules) (seat : ℕ) (view : SeatView) (answer : Answer) → is_plain answer ≡ true → names_faces answer ≡ true → AllNo (questions rules seat view answer) → Contains (candidates seat view) answer
+tried : (rules : Rules) (seat : ℕ) (view : SeatView) (answer : Answer) → is_plain answer ≡ true → names_faces answer ≡ true →
+    AllNo (questions rules seat view answer) → Contains (candidates seat view) answer
 tried rules seat view Unread plain faces clear = cc
 tried rules seat view (Pass None) plain faces clear = Contains-here (Pass None) _
 tried rules seat view (Pass (Some actor)) plain faces clear = cc
@@ -282,12 +283,14 @@ unfolding is_lawful
 lawful_clear rules seat view answer lawful =
     no_question rules seat view answer (none_of (broken_by rules seat view answer) (and_parts (is_in_form answer) (is_none (broken_by rules seat view answer)) lawful).1)
 
-lawful_listed : (rules : Rules) (deeds : List Deed) (seat : ℕ) (answer : Answer) → is_plain answer ≡ true → names_faces answer ≡ true → IsLawful rules deeds seat answer → Contains (possible rules deeds seat) answer
+lawful_listed : (rules : Rules) (deeds : List Deed) (seat : ℕ) (answer : Answer) → is_plain answer ≡ true → names_faces answer ≡ true →
+    IsLawful rules deeds seat answer → Contains (possible rules deeds seat) answer
 unfolding possible_by is_lawful
 lawful_listed rules deeds seat answer plain faces lawful =
     Contains-filter (is_lawful rules seat (view_of deeds seat)) (candidates seat (view_of deeds seat)) answer
     (and_from (is_in_form answer) (is_none (broken_by rules seat (view_of deeds seat) answer)) lawful.form (ap is_none lawful.clean))
     (tried rules seat (view_of deeds seat) answer plain faces (no_question rules seat (view_of deeds seat) answer lawful.clean))
 
-pub plain_is_listed : (rules : Rules) (deeds : List Deed) (seat : ℕ) (answer : Answer) → is_plain answer ≡ true → names_faces answer ≡ true → Contains (possible rules deeds seat) answer ↔ IsLawful rules deeds seat answer
+pub plain_is_listed : (rules : Rules) (deeds : List Deed) (seat : ℕ) (answer : Answer) → is_plain answer ≡ true → names_faces answer ≡ true →
+    Contains (possible rules deeds seat) answer ↔ IsLawful rules deeds seat answer
 plain_is_listed rules deeds seat answer plain faces = (listed_only rules deeds seat answer, lawful_listed rules deeds seat answer plain faces)

@@ -118,9 +118,11 @@ open_kans_turned : (seat target tile : ℕ) (faces : List ℕ) → Turned Earlie
 open_kans_turned seat target tile faces turned =
     by_face (4 ∷ place_of (Known tile) ∷ []) (λ a. flat_map (λ b. map (λ c. OpenKan seat target (Known tile) (Known a) (Known b) (Known c)) faces) faces)
     (λ a. all_joined (Begins (4 ∷ place_of (Known tile) ∷ []) a) (λ b. map (λ c. OpenKan seat target (Known tile) (Known a) (Known b) (Known c)) faces) faces
-    (λ b. all_mapped (Begins (4 ∷ place_of (Known tile) ∷ []) a) (λ c. OpenKan seat target (Known tile) (Known a) (Known b) (Known c)) faces (λ c. (place_of (Known b) ∷ place_of (Known c) ∷ [], refl))))
+    (λ b. all_mapped (Begins (4 ∷ place_of (Known tile) ∷ []) a) (λ c. OpenKan seat target (Known tile) (Known a) (Known b) (Known c)) faces
+    (λ c. (place_of (Known b) ∷ place_of (Known c) ∷ [], refl))))
     (λ a. by_face (4 ∷ place_of (Known tile) ∷ place_of (Known a) ∷ []) (λ b. map (λ c. OpenKan seat target (Known tile) (Known a) (Known b) (Known c)) faces)
-    (λ b. all_mapped (Begins (4 ∷ place_of (Known tile) ∷ place_of (Known a) ∷ []) b) (λ c. OpenKan seat target (Known tile) (Known a) (Known b) (Known c)) faces (λ c. (place_of (Known c) ∷ [], refl)))
+    (λ b. all_mapped (Begins (4 ∷ place_of (Known tile) ∷ place_of (Known a) ∷ []) b) (λ c. OpenKan seat target (Known tile) (Known a) (Known b)
+    (Known c)) faces (λ c. (place_of (Known c) ∷ [], refl)))
     (λ b. by_last_face (4 ∷ place_of (Known tile) ∷ place_of (Known a) ∷ place_of (Known b) ∷ []) (λ c. OpenKan seat target (Known tile) (Known a) (Known b) (Known c)) (λ c. ([], refl)) faces turned)
     faces turned)
     faces turned
@@ -152,7 +154,8 @@ closed_kans_turned seat =
 -- the kans by adding a tile
 
 -- Of a lawful one the tile is of the triplet's kind.
-added_kind : (rules : Rules) (seat : ℕ) (view : SeatView) (face : ℕ) (meld : Meld) → is_lawful rules seat view (AddedKan seat (Known face) (Known meld.a) (Known meld.b) (Known meld.c)) ≡ true → kind_of face ≡ kind_of meld.a
+added_kind : (rules : Rules) (seat : ℕ) (view : SeatView) (face : ℕ) (meld : Meld) →
+    is_lawful rules seat view (AddedKan seat (Known face) (Known meld.a) (Known meld.b) (Known meld.c)) ≡ true → kind_of face ≡ kind_of meld.a
 added_kind rules seat view face meld lawful =
     let answer : Answer = AddedKan seat (Known face) (Known meld.a) (Known meld.b) (Known meld.c) in
     let clear = lawful_clear rules seat view answer lawful in
@@ -204,7 +207,8 @@ pub record InTurn (p : Answer → Bool) (number : ℕ) (answers : List Answer) :
 none_behind : (p : Answer → Bool) (number : ℕ) → InTurn p number []
 none_behind p number = record { turned = tt; ranked = All-nil (RankedFrom number) }
 
-joined : (p : Answer → Bool) (number : ℕ) (answers others : List Answer) → Turned Before (filter p answers) → All (Ranked number) answers → InTurn p (suc number) others → InTurn p number (answers ++ others)
+joined : (p : Answer → Bool) (number : ℕ) (answers others : List Answer) → Turned Before (filter p answers) → All (Ranked number) answers →
+    InTurn p (suc number) others → InTurn p number (answers ++ others)
 joined p number answers others turned ranked behind =
     record {
       turned = subst (Turned Before) (sym (filter-append p answers others)) (turned-append Before (filter p answers) (filter p others) turned behind.turned across);
@@ -251,7 +255,8 @@ open_kans_ranked : (seat target tile : ℕ) (faces : List ℕ) → All (Ranked 4
 open_kans_ranked seat target tile faces =
     all_joined (Ranked 4) (λ a. flat_map (λ b. map (λ c. OpenKan seat target (Known tile) (Known a) (Known b) (Known c)) faces) faces) faces
     (λ a. all_joined (Ranked 4) (λ b. map (λ c. OpenKan seat target (Known tile) (Known a) (Known b) (Known c)) faces) faces
-    (λ b. all_mapped (Ranked 4) (λ c. OpenKan seat target (Known tile) (Known a) (Known b) (Known c)) faces (λ c. is_ranked 4 (OpenKan seat target (Known tile) (Known a) (Known b) (Known c)) refl refl)))
+    (λ b. all_mapped (Ranked 4) (λ c. OpenKan seat target (Known tile) (Known a) (Known b) (Known c)) faces
+    (λ c. is_ranked 4 (OpenKan seat target (Known tile) (Known a) (Known b) (Known c)) refl refl)))
 
 closed_kans_ranked : (seat : ℕ) → All (Ranked 5) (all_closed_kans seat)
 unfolding all_closed_kans
@@ -259,7 +264,8 @@ closed_kans_ranked seat =
     all_joined (Ranked 5) (λ a. closed_kans_of seat a (faces_of (kind_of a))) tile_order
     (λ a. all_joined (Ranked 5) (λ b. flat_map (λ c. map (λ d. ClosedKan seat (Known a) (Known b) (Known c) (Known d)) (faces_of (kind_of a))) (faces_of (kind_of a))) (faces_of (kind_of a))
     (λ b. all_joined (Ranked 5) (λ c. map (λ d. ClosedKan seat (Known a) (Known b) (Known c) (Known d)) (faces_of (kind_of a))) (faces_of (kind_of a))
-    (λ c. all_mapped (Ranked 5) (λ d. ClosedKan seat (Known a) (Known b) (Known c) (Known d)) (faces_of (kind_of a)) (λ d. is_ranked 5 (ClosedKan seat (Known a) (Known b) (Known c) (Known d)) refl refl))))
+    (λ c. all_mapped (Ranked 5) (λ d. ClosedKan seat (Known a) (Known b) (Known c) (Known d)) (faces_of (kind_of a))
+    (λ d. is_ranked 5 (ClosedKan seat (Known a) (Known b) (Known c) (Known d)) refl refl))))
 
 added_kans_ranked : (seat : ℕ) (melds : List Meld) → All (Ranked 6) (all_added_kans seat melds)
 unfolding all_added_kans
@@ -300,12 +306,20 @@ with_calls p seat (Discarded who tile) others behind =
     together : (a b c d : List Answer) → a ++ (b ++ (c ++ d)) ≡ (a ++ (b ++ c)) ++ d
     together a b c d = ap (λ xs. a ++ xs) (sym (append_assoc b c d)) ∙ sym (append_assoc a (b ++ c) d)
 with_calls p seat other others behind =
-    record { turned = behind.turned; ranked = All-weaker (RankedFrom 5) (RankedFrom 2) (λ answer is. record { first = is.first; from = weaker is.first is.from; ranked = is.ranked }) others behind.ranked }
+    record {
+      turned = behind.turned;
+      ranked = All-weaker (RankedFrom 5) (RankedFrom 2) (λ answer is. record {
+        first = is.first;
+        from = weaker is.first is.from;
+        ranked = is.ranked;
+      }) others behind.ranked;
+    }
   where
     weaker : (m : ℕ) → 5 ≤ m → 2 ≤ m
     weaker m h = omega (arith, h)
 
-all_in_turn : (rules : Rules) (seat : ℕ) (view : SeatView) → Turned Before (filter (is_lawful rules seat view) (all_added_kans seat (triplets view))) → InTurn (is_lawful rules seat view) 0 (candidates seat view)
+all_in_turn : (rules : Rules) (seat : ℕ) (view : SeatView) → Turned Before (filter (is_lawful rules seat view) (all_added_kans seat (triplets view)))
+    → InTurn (is_lawful rules seat view) 0 (candidates seat view)
 all_in_turn rules seat view kans =
     let p : Answer → Bool = is_lawful rules seat view in
     joined p 0 (Pass None ∷ []) _ (one_turned p (Pass None)) (one_ranked 0 (Pass None) (is_ranked 0 (Pass None) refl refl))

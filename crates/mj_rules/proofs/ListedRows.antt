@@ -18,10 +18,12 @@ use Rattle.mj_rules.specs.Example.{plain_rules, first_draw, first_answers}
 
 -- Who holds four of three kinds may discard, the drawn tile marked alone, make each of the three kans, and reach.
 dealer_may : possible plain_rules first_draw 0 ≡ first_answers
-unfolding possible_by is_lawful broken_by view_of is_ready_without faces_of all_discards all_closed_kans all_added_kans tile_order less kind_counts all_kinds room_beside hand is_ready complete has_way begins_run is_seven_pairs orphan_double has_orphans is_terminal_or_honour case_of
+unfolding possible_by is_lawful broken_by view_of is_ready_without faces_of all_discards all_closed_kans all_added_kans tile_order less kind_counts
+    all_kinds room_beside hand is_ready complete has_way begins_run is_seven_pairs orphan_double has_orphans is_terminal_or_honour case_of
 dealer_may = refl
 
 -- The others may pass alone.
 others_pass : (possible plain_rules first_draw 1 ≡ Pass None ∷ []) × (possible plain_rules first_draw 2 ≡ Pass None ∷ []) × (possible plain_rules first_draw 3 ≡ Pass None ∷ [])
-unfolding possible_by is_lawful broken_by view_of is_ready_without faces_of all_discards all_closed_kans all_added_kans tile_order less kind_counts all_kinds room_beside hand is_ready complete has_way begins_run is_seven_pairs orphan_double has_orphans is_terminal_or_honour case_of
+unfolding possible_by is_lawful broken_by view_of is_ready_without faces_of all_discards all_closed_kans all_added_kans tile_order less kind_counts
+    all_kinds room_beside hand is_ready complete has_way begins_run is_seven_pairs orphan_double has_orphans is_terminal_or_honour case_of
 others_pass = (refl, refl, refl)

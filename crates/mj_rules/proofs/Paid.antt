@@ -75,11 +75,14 @@ score_stays melds case extra (reading ∷ readings) score = by_test (gives_yaku 
     by_test true stays = stays (if is_better (score_of melds case extra reading) score then score_of melds case extra reading else score)
     by_test false stays = stays score
 
-some_score : (melds : List Meld) (case : Case) (extra : Extra) (readings : List Reading) → list_all (λ reading. not (gives_yaku melds case reading)) readings ≡ false → is_some (fold (with_reading melds case extra) None readings) ≡ true
+some_score : (melds : List Meld) (case : Case) (extra : Extra) (readings : List Reading) → list_all (λ reading. not (gives_yaku melds case reading))
+    readings ≡ false → is_some (fold (with_reading melds case extra) None readings) ≡ true
 some_score melds case extra [] h = cc
 some_score melds case extra (reading ∷ readings) h = by_test (gives_yaku melds case reading) (λ rest. some_score melds case extra readings rest) h
   where
-    by_test : (b : Bool) → (list_all (λ r. not (gives_yaku melds case r)) readings ≡ false → is_some (fold (with_reading melds case extra) None readings) ≡ true) → (not b && list_all (λ r. not (gives_yaku melds case r)) readings) ≡ false →
+    by_test : (b : Bool) → (list_all (λ r. not (gives_yaku melds case r)) readings ≡ false →
+        is_some (fold (with_reading melds case extra) None readings) ≡ true) → (not b && list_all (λ r. not (gives_yaku melds case r)) readings) ≡
+        false →
         is_some (fold (with_reading melds case extra) (if b then better_of None (score_of melds case extra reading) else None) readings) ≡ true
     by_test true more h = score_stays melds case extra readings (score_of melds case extra reading)
     by_test false more h = more h
@@ -128,7 +131,8 @@ lawful_wins rules deeds seat answer lawful =
       yaku = u.1.1.1.1.1.1.1.1.1.1.1.1.1.1.1.1.1.1.1.1.1.1.0;
     }
 
-kinds_are : (rules : Rules) (deeds : List Deed) (last : Deed) (seat : ℕ) (answer : Answer) → newest deeds ≡ Some last → is_win answer ≡ true → IsLawful rules deeds seat answer → winning_kinds (view_of deeds seat) ≡ kind_of (won_tile last) ∷ []
+kinds_are : (rules : Rules) (deeds : List Deed) (last : Deed) (seat : ℕ) (answer : Answer) → newest deeds ≡ Some last → is_win answer ≡ true →
+    IsLawful rules deeds seat answer → winning_kinds (view_of deeds seat) ≡ kind_of (won_tile last) ∷ []
 unfolding view_of
 kinds_are rules deeds last seat answer e win lawful =
     (λ i. flat_map (λ tile. kind_of tile ∷ []) (option_to_list (option_and_then (holds_drawn seat (before_newest deeds)) (e i)) ++ offered_in (turn_is deeds seat last e i)))
@@ -294,16 +298,19 @@ same_extra wall window deeds seat tile own before own_is =
     let unders : List ℕ = unders_of wall (before_wins (hand deeds)) seat in
     (λ i. extra_by (indicators (before i)) unders (own_is i ++ tile ∷ flat_map tiles_of_meld (seat_melds (before i) seat)))
 
-same_worth : (wall : List ℕ) (window deeds : List Deed) (seat target tile : ℕ) (own : List ℕ) (payments : ℕ → ℕ → ℕ → List ℤ) (honba laid : ℕ) → Settles wall window deeds seat target tile own payments honba laid →
+same_worth : (wall : List ℕ) (window deeds : List Deed) (seat target tile : ℕ) (own : List ℕ) (payments : ℕ → ℕ → ℕ → List ℤ) (honba laid : ℕ) →
+    Settles wall window deeds seat target tile own payments honba laid →
     let shows = shows_at wall deeds seat tile in
-    worth_of (kind_counts (shows.own ++ tile ∷ [])) (seat_melds (before_wins (hand deeds)) seat) (kind_of tile) (case_of (standing deeds) (before_wins (hand deeds)) seat) (extra_of (before_wins (hand deeds)) seat shows)
+    worth_of (kind_counts (shows.own ++ tile ∷ [])) (seat_melds (before_wins (hand deeds)) seat) (kind_of tile)
+    (case_of (standing deeds) (before_wins (hand deeds)) seat) (extra_of (before_wins (hand deeds)) seat shows)
     ≡ worth_by (view_of window seat) tile (extra_shown window seat tile shows.unders own)
 unfolding view_of
 same_worth wall window deeds seat target tile own payments honba laid s =
     let extra_is = same_extra wall window deeds seat tile own s.before s.own_is in
     (λ i. worth_of (s.counts i) (seat_melds (s.before i) seat) (kind_of tile) (case_of (s.now_is i) (s.before i) seat) (extra_is i))
 
-closed_is : (window deeds : List Deed) (seat : ℕ) → before_wins (hand deeds) ≡ hand window → standing deeds ≡ standing window → (case_of (standing deeds) (before_wins (hand deeds)) seat).closed ≡ (view_of window seat).case.closed
+closed_is : (window deeds : List Deed) (seat : ℕ) → before_wins (hand deeds) ≡ hand window → standing deeds ≡ standing window →
+    (case_of (standing deeds) (before_wins (hand deeds)) seat).closed ≡ (view_of window seat).case.closed
 unfolding view_of
 closed_is window deeds seat before now_is = (λ i. (case_of (now_is i) (before i) seat).closed)
 
@@ -368,10 +375,12 @@ unfolding win_changes
 ron_pays now hs seat who no_draw base number sum = (λ i. win_changes (no_draw i) seat who now.dealer base number sum)
 
 -- What is known of a window in which a tile is offered, after played deeds.
-pub newest_there : (rules : Rules) (walls : List (List ℕ)) (deeds : List Deed) → ((number : ℕ) → is_wall rules.red (wall_of walls number) ≡ true) → IsPlayed rules walls deeds → is_in_hand (newest deeds) ≡ true → newest (hand deeds) ≡ newest deeds
+pub newest_there : (rules : Rules) (walls : List (List ℕ)) (deeds : List Deed) → ((number : ℕ) → is_wall rules.red (wall_of walls number) ≡ true) →
+    IsPlayed rules walls deeds → is_in_hand (newest deeds) ≡ true → newest (hand deeds) ≡ newest deeds
 newest_there rules walls deeds whole played begun = newest_in deeds begun (hand_begun rules.red deeds (played_sound rules walls deeds whole played).fit begun)
 
-offer_worth : (rules : Rules) (deeds : List Deed) (seat who tile : ℕ) (answer : Answer) → Offers deeds who tile → is_win answer ≡ true → IsLawful rules deeds seat answer → (extra : Extra) → is_some (worth_by (view_of deeds seat) tile extra) ≡ true
+offer_worth : (rules : Rules) (deeds : List Deed) (seat who tile : ℕ) (answer : Answer) → Offers deeds who tile → is_win answer ≡ true →
+    IsLawful rules deeds seat answer → (extra : Extra) → is_some (worth_by (view_of deeds seat) tile extra) ≡ true
 offer_worth rules deeds seat who tile answer offer win lawful extra =
     ap (λ (t : ℕ). is_some (worth_by (view_of deeds seat) t extra)) (sym offer.tile_is) ∙ lawful_wins_are_worth rules deeds offer.last seat answer extra offer.newest_is win lawful
 
@@ -394,7 +403,8 @@ first_ron_is_paid rules walls deeds given who tile first others whole played law
         worth = offer_worth rules deeds first who tile (at_seat given first) offer win own;
         honba_is = for_first_none (hand deeds) (standing deeds).honba nobody;
         laid_is = for_first_none (hand deeds) (deposits deeds) nobody;
-        pays = ron_pays (standing deeds) (before_wins (hand deeds)) first who (no_draw_case (standing deeds) (before_wins (hand deeds)) first offer.last (ap newest before ∙ there ∙ offer.newest_is) offer.offers);
+        pays = ron_pays (standing deeds) (before_wins (hand deeds)) first who (no_draw_case (standing deeds) (before_wins (hand deeds)) first
+            offer.last (ap newest before ∙ there ∙ offer.newest_is) offer.offers);
       });
     }
 
@@ -428,7 +438,8 @@ none_left (other ∷ wins) h = cc
 
 some_won : (hs : List Deed) (first : Deed) (more : List Deed) → list_all is_win_deed (first ∷ more) ≡ true → (length (winners (hs ++ first ∷ more)) == 0) ≡ false
 some_won hs (Win winner target tile unders own yaku fu han value deltas said rest) more h =
-    ne_eqb _ 0 (some _ _ _ (ap (λ (xs : List ℕ). length xs) (flat_map-append winners_by hs (Win winner target tile unders own yaku fu han value deltas said rest ∷ more)) ∙ length-append (winners hs) (winner ∷ winners more)))
+    ne_eqb _ 0 (some _ _ _ (ap (λ (xs : List ℕ). length xs) (flat_map-append winners_by hs (Win winner target tile unders own yaku fu han value deltas
+    said rest ∷ more)) ∙ length-append (winners hs) (winner ∷ winners more)))
   where
     some : (n m k : ℕ) → n ≡ m + suc k → n ≡ 0 → ⊥
     some n m k e f = omega (arith, e, f)
@@ -459,7 +470,8 @@ further_rons_are_paid rules walls window first more given who tile seat answer w
         honba_is = ap (λ (t : Bool). if t then (standing deeds).honba else 0) some;
         laid_is = ap (λ (t : Bool). if t then deposits deeds else 0) some;
         pays = λ base number sum.
-            ron_pays (standing deeds) (before_wins (hand deeds)) seat who (no_draw_case (standing deeds) (before_wins (hand deeds)) seat offer.last (ap newest before ∙ there ∙ offer.newest_is) offer.offers) base number sum
+            ron_pays (standing deeds) (before_wins (hand deeds)) seat who (no_draw_case (standing deeds) (before_wins (hand deeds)) seat offer.last
+            (ap newest before ∙ there ∙ offer.newest_is) offer.offers) base number sum
             ∙ ap (λ (now : Standing). ron_changes seat who now.dealer base number sum) b.now_is;
       });
     }
@@ -517,13 +529,15 @@ faces_known red (x ∷ xs) h =
     let parts = and_parts (is_face red x) (list_all (is_face red) xs) h in
     and_from (ltb x 37) _ (lt-ltb x 37 (small_face red x parts.0)) (faces_known red xs parts.1)
 
-pub drawn_counts : (red : Bool) (deeds : List Deed) (seat tile : ℕ) (replacement : Bool) → all_fit red [] deeds ≡ true → newest deeds ≡ Some (Draw seat tile replacement) → newest (hand deeds) ≡ newest deeds → before_wins (hand deeds) ≡ hand deeds →
+pub drawn_counts : (red : Bool) (deeds : List Deed) (seat tile : ℕ) (replacement : Bool) → all_fit red [] deeds ≡ true →
+    newest deeds ≡ Some (Draw seat tile replacement) → newest (hand deeds) ≡ newest deeds → before_wins (hand deeds) ≡ hand deeds →
     kind_counts (own_tiles_of (before_wins (hand deeds)) seat tile ++ tile ∷ []) ≡ kind_counts (won_tiles (view_of deeds seat))
 unfolding view_of
 drawn_counts red deeds seat tile replacement fit e there before =
     let at : newest (before_wins (hand deeds)) ≡ Some (Draw seat tile replacement) = ap newest before ∙ there ∙ e in
     let held = (holds red deeds fit).drawn seat tile replacement at in
-    let gained : list_all (λ face. ltb face 37) (tiles_gained (hand deeds) seat) ≡ true = faces_known red (tiles_gained (hand deeds) seat) (gained_real red (hand deeds) seat (hand_real red deeds fit)) in
+    let gained : list_all (λ face. ltb face 37) (tiles_gained (hand deeds) seat) ≡ true =
+    faces_known red (tiles_gained (hand deeds) seat) (gained_real red (hand deeds) seat (hand_real red deeds fit)) in
     let tiles : List ℕ = concealed_tiles (hand deeds) seat in
     ap (λ (xs : List ℕ). kind_counts (xs ++ tile ∷ [])) (own_drawn (before_wins (hand deeds)) seat tile replacement at ∙ ap (λ (hs : List Deed). less (concealed_tiles hs seat) (tile ∷ [])) before)
     ∙ put_back tiles tile (less_passes (λ face. ltb face 37) (tiles_gained (hand deeds) seat) (tiles_lost (hand deeds) seat) gained)
@@ -534,7 +548,8 @@ drawn_counts red deeds seat tile replacement fit e there before =
     some : (n g l : ℕ) → n ≡ g - l → l < g → 0 < n
     some n g l e h = omega (arith, e, h)
 
-own_wins : (wall : List ℕ) (ds : List Deed) (seat tile : ℕ) (replacement : Bool) (answer : Answer) → is_win answer ≡ true → own_act wall ds (Draw seat tile replacement) seat answer ≡ Some (win_deed wall ds seat seat tile [])
+own_wins : (wall : List ℕ) (ds : List Deed) (seat tile : ℕ) (replacement : Bool) (answer : Answer) → is_win answer ≡ true →
+    own_act wall ds (Draw seat tile replacement) seat answer ≡ Some (win_deed wall ds seat seat tile [])
 own_wins wall ds seat tile replacement (answers.Win actor target t) h = refl
 own_wins wall ds seat tile replacement other h = cc
 

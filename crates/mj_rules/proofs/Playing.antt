@@ -114,7 +114,8 @@ before_stands red walls ds (StartHand round number honba deposits dealer indicat
 before_stands red walls ds other s e = subst (StandsAt (wall_now walls ds) (hand ds)) e s.standing
 
 -- A deed after nothing of a hand that doesn't start one starts the game.
-no_hand_yet : (wall : List ℕ) (stage : Stage) (d : Deed) → is_hand_start d ≡ false → is_begun (stage_before stage d) ≡ false → StandsAt wall [] (stage_before stage d) → StandsAt wall [] (stage_after stage d)
+no_hand_yet : (wall : List ℕ) (stage : Stage) (d : Deed) → is_hand_start d ≡ false → is_begun (stage_before stage d) ≡ false →
+    StandsAt wall [] (stage_before stage d) → StandsAt wall [] (stage_after stage d)
 no_hand_yet wall stage (StartGame names) h k s = no_hand_stands wall
 no_hand_yet wall stage (StartHand round number honba deposits dealer indicator hands) h k s = cc
 no_hand_yet wall stage (Draw who tile true) h k s = cc
@@ -130,7 +131,8 @@ no_hand_yet wall stage (Reach who) h k s = cc
 no_hand_yet wall stage (ReachAccepted who points bid) h k s = cc
 no_hand_yet wall stage other h k s = s
 
-deed_fits : (red : Bool) (walls : List (List ℕ)) (ds : List Deed) (d : Deed) → ((number : ℕ) → is_wall red (wall_of walls number) ≡ true) → Sound red walls ds → IsNext red walls ds d → fits red ds d ≡ true
+deed_fits : (red : Bool) (walls : List (List ℕ)) (ds : List Deed) (d : Deed) → ((number : ℕ) → is_wall red (wall_of walls number) ≡ true) →
+    Sound red walls ds → IsNext red walls ds d → fits red ds d ≡ true
 deed_fits red walls ds d h s next = next_fits red walls ds d (h _) (before_stands red walls ds d s next.stage) next
 
 after_stands : (red : Bool) (walls : List (List ℕ)) (ds : List Deed) (d : Deed) → ((number : ℕ) → is_wall red (wall_of walls number) ≡ true) → Sound red walls ds → IsNext red walls ds d →
@@ -173,7 +175,8 @@ none_more ds d place h = by_deed d place (ap is_after_start (sym (newest_more ds
     by_deed (StartGame names) p k = ap (λ (xs : List Deed). length (starts (xs ++ StartGame names ∷ []))) (nothing_before ds p)
     by_deed other p k = cc
 
-sound_more : (red : Bool) (walls : List (List ℕ)) (ds : List Deed) (d : Deed) → ((number : ℕ) → is_wall red (wall_of walls number) ≡ true) → Sound red walls ds → Adds red walls ds d → Sound red walls (ds ++ d ∷ [])
+sound_more : (red : Bool) (walls : List (List ℕ)) (ds : List Deed) (d : Deed) → ((number : ℕ) → is_wall red (wall_of walls number) ≡ true) →
+    Sound red walls ds → Adds red walls ds d → Sound red walls (ds ++ d ∷ [])
 sound_more red walls ds d h s adds = record {
   standing = stands;
   fit = fit;
@@ -207,7 +210,19 @@ sound_more red walls ds d h s adds = record {
 
 start_next : (red : Bool) (walls : List (List ℕ)) (d : Deed) → IsTrue (is_game_start d) → IsNext red walls [] d
 unfolding hand ground_of
-start_next red walls (StartGame names) h = record { place = refl; seats = refl; held = λ seat. refl; triplet = refl; even = refl; tiles = refl; live = refl; once = refl; pointed = refl; stage = refl; brings = tt }
+start_next red walls (StartGame names) h = record {
+  place = refl;
+  seats = refl;
+  held = λ seat. refl;
+  triplet = refl;
+  even = refl;
+  tiles = refl;
+  live = refl;
+  once = refl;
+  pointed = refl;
+  stage = refl;
+  brings = tt;
+}
 start_next red walls (StartHand round number honba deposits dealer indicator hands) h = cc
 start_next red walls (Draw who tile replacement) h = cc
 start_next red walls (Discard who tile drawn) h = cc
@@ -264,7 +279,8 @@ nothing_sound red walls h = record {
     no_deed : (d : Deed) → None ≡ Some d → ⊥
     no_deed d e = cc
 
-all_sound : (rules : Rules) (walls : List (List ℕ)) (before ds : List Deed) → ((number : ℕ) → is_wall rules.red (wall_of walls number) ≡ true) → Sound rules.red walls before → AllPlayed rules walls before ds →
+all_sound : (rules : Rules) (walls : List (List ℕ)) (before ds : List Deed) → ((number : ℕ) → is_wall rules.red (wall_of walls number) ≡ true) →
+    Sound rules.red walls before → AllPlayed rules walls before ds →
     Sound rules.red walls (before ++ ds)
 all_sound rules walls before [] h s played = subst (Sound rules.red walls) (sym (append-nil before)) s
 all_sound rules walls before (d ∷ ds) h s played =
@@ -287,7 +303,8 @@ all_played-append rules walls before (x ∷ ds) d h k =
 pub played_more : PlayedWithOneMore
 played_more rules walls ds d h k = all_played-append rules walls [] ds d h k
 
-all_played-less : (rules : Rules) (walls : List (List ℕ)) (before ds : List Deed) (d : Deed) → AllPlayed rules walls before (ds ++ d ∷ []) → AllPlayed rules walls before ds × IsPlayedBehind rules walls (before ++ ds) d
+all_played-less : (rules : Rules) (walls : List (List ℕ)) (before ds : List Deed) (d : Deed) → AllPlayed rules walls before (ds ++ d ∷ []) →
+    AllPlayed rules walls before ds × IsPlayedBehind rules walls (before ++ ds) d
 all_played-less rules walls before [] d h = (tt, subst (λ (xs : List Deed). IsPlayedBehind rules walls xs d) (sym (append-nil before)) h.0)
 all_played-less rules walls before (x ∷ ds) d h =
     let less = all_played-less rules walls (before ++ x ∷ []) ds d h.1 in
@@ -300,7 +317,8 @@ no_first : (rules : Rules) (walls : List (List ℕ)) (given : Four Answer) (d : 
 unfolding outcome
 no_first rules walls given d e = cc
 
-pub given_behind : (rules : Rules) (walls : List (List ℕ)) (ds : List Deed) (given : Four Answer) (d : Deed) → AllLawful rules ds given → outcome rules walls ds given ≡ Some d → IsPlayedBehind rules walls ds d
+pub given_behind : (rules : Rules) (walls : List (List ℕ)) (ds : List Deed) (given : Four Answer) (d : Deed) → AllLawful rules ds given →
+    outcome rules walls ds given ≡ Some d → IsPlayedBehind rules walls ds d
 given_behind rules walls [] given d lawful e = absurd (no_first rules walls given d e)
 given_behind rules walls (first ∷ others) given d lawful e = record { given = given; lawful = lawful; gives = e }
 
@@ -310,7 +328,9 @@ next_of_played_fits rules walls ds given d h played lawful e =
     (deed_fits rules.red walls ds d h s (given_adds rules walls ds given d s lawful e).next, played_more rules walls ds d played (given_behind rules walls ds given d lawful e))
 
 -- So does any deed that is played after them.
-pub behind_fits : (rules : Rules) (walls : List (List ℕ)) (ds : List Deed) (d : Deed) → ((number : ℕ) → is_wall rules.red (wall_of walls number) ≡ true) → IsPlayed rules walls ds → IsPlayedBehind rules walls ds d → fits rules.red ds d ≡ true
+pub behind_fits : (rules : Rules) (walls : List (List ℕ)) (ds : List Deed) (d : Deed) →
+    ((number : ℕ) → is_wall rules.red (wall_of walls number) ≡ true) → IsPlayed rules walls ds → IsPlayedBehind rules walls ds d →
+    fits rules.red ds d ≡ true
 behind_fits rules walls ds d h played behind =
     let s = played_sound rules walls ds h played in
     deed_fits rules.red walls ds d h s (behind_adds rules walls ds d s behind).next

@@ -65,12 +65,14 @@ others_are (a ∷ b ∷ c ∷ others) h = absurd (more (length others) h)
     more n h = omega (arith, h)
 
 few_others : (who : ℕ) (given : Four Answer) (first : ℕ) (others : List ℕ) → winners_behind who given ≡ first ∷ others → length others ≤ 2
-few_others who given first others e = few (length others) (count_by (wins_by given) (behind who)) (ap (λ (xs : List ℕ). length xs) (sym e) ∙ length-filter (wins_by given) (behind who)) (count_by-le-length (wins_by given) (behind who))
+few_others who given first others e = few (length others) (count_by (wins_by given) (behind who)) (ap (λ (xs : List ℕ). length xs) (sym e)
+    ∙ length-filter (wins_by given) (behind who)) (count_by-le-length (wins_by given) (behind who))
   where
     few : (n m : ℕ) → suc n ≡ m → m ≤ 3 → n ≤ 2
     few n m e h = omega (arith, e, h)
 
-all_follow : (rules : Rules) (walls : List (List ℕ)) (ds : List Deed) (last : Deed) (who : ℕ) (given : Four Answer) (otherwise : Decision) (first : ℕ) (others : List ℕ) → winners_behind who given ≡ first ∷ others →
+all_follow : (rules : Rules) (walls : List (List ℕ)) (ds : List Deed) (last : Deed) (who : ℕ) (given : Four Answer) (otherwise : Decision) (first : ℕ)
+    (others : List ℕ) → winners_behind who given ≡ first ∷ others →
     follows rules walls ds last (rons_or (rons_on who given) otherwise) ≡ Some (win_deed (wall_now walls ds) ds first (seat_of last) (won_tile last) others)
 all_follow rules walls ds last who given otherwise first others e =
     ap (λ (seats : List ℕ). follows rules walls ds last (rons_or seats otherwise)) (winners_are who given ∙ e)
@@ -92,7 +94,9 @@ all_wins_come rules walls ds given who tile first others offered winners = by_ne
         all_follow rules walls ds last seat given otherwise first others (ap (λ (s : ℕ). winners_behind s given) (first_is seat t who tile e) ∙ winners)
         ∙ (λ i. Some (win_deed (wall_now walls ds) ds first ((of_seat ∙ first_is seat t who tile e) i) ((of_tile ∙ second_is seat t who tile e) i) others))
 
-    by_newest : (o : Option Deed) → option_and_then offer_of o ≡ Some (who, tile) → option_and_then (λ last. follows rules walls ds last (decision_by last given)) o ≡ Some (win_deed (wall_now walls ds) ds first who tile others)
+    by_newest : (o : Option Deed) → option_and_then offer_of o ≡ Some (who, tile) →
+        option_and_then (λ last. follows rules walls ds last (decision_by last given)) o ≡ Some (win_deed (wall_now walls ds) ds first who tile
+        others)
     by_newest None e = cc
     by_newest (Some (Discard seat t drawn)) e = by_offer (Discard seat t drawn) seat t _ e refl refl
     by_newest (Some (AddedKan seat t a b c)) e = by_offer (AddedKan seat t a b c) seat t _ e refl refl
@@ -142,7 +146,8 @@ no_pass other h k = never k
     never : false ≡ true → ⊥
     never e = cc
 
-apart : (rules : Rules) (walls : List (List ℕ)) (ds : List Deed) (given : Four Answer) (who tile seat : ℕ) → Answered rules walls ds given who tile → seat < 4 → is_pon_or_kan (at_seat given seat) ≡ true → seat ≡ who → ⊥
+apart : (rules : Rules) (walls : List (List ℕ)) (ds : List Deed) (given : Four Answer) (who tile seat : ℕ) → Answered rules walls ds given who tile →
+    seat < 4 → is_pon_or_kan (at_seat given seat) ≡ true → seat ≡ who → ⊥
 apart rules walls ds given who tile seat a small takes same =
     let c = clean_at rules ds given seat small a.lawful in
     no_pass (at_seat given seat) takes
@@ -153,14 +158,17 @@ apart rules walls ds given who tile seat a small takes same =
 -- Whoever takes it by a pon or a kan was given two more of its kind.
 hit : (ds : List Deed) (seat who tile target t : ℕ) (drawn : Bool) → newest ds ≡ Some (Discard who tile drawn) → misses_discard (view_of ds seat).turn target (Known t) ≡ false → t ≡ tile
 hit ds seat who tile target t drawn e h =
-    eqb-true t tile (and_parts (target == who) (t == tile) (not-false (target == who && t == tile) (ap (λ (turn : WindowTurn). misses_discard turn target (Known t)) (sym (turn_is ds seat (Discard who tile drawn) e)) ∙ h))).1
+    eqb-true t tile (and_parts (target == who) (t == tile)
+    (not-false (target == who && t == tile) (ap (λ (turn : WindowTurn). misses_discard turn target (Known t))
+    (sym (turn_is ds seat (Discard who tile drawn) e)) ∙ h))).1
 
 alike : (t x : ℕ) (rest : Bool) → not ((kind_of t == kind_of x) && rest) ≡ false → (kind_of t ≡ kind_of x) × (rest ≡ true)
 alike t x rest h =
     let parts = and_parts (kind_of t == kind_of x) rest (not-false ((kind_of t == kind_of x) && rest) h) in
     (eqb-true (kind_of t) (kind_of x) parts.0, parts.1)
 
-has_two : (rules : Rules) (ds : List Deed) (seat who tile : ℕ) (drawn : Bool) (answer : Answer) → newest ds ≡ Some (Discard who tile drawn) → Clean rules seat (view_of ds seat) answer → is_pon_or_kan answer ≡ true →
+has_two : (rules : Rules) (ds : List Deed) (seat who tile : ℕ) (drawn : Bool) (answer : Answer) → newest ds ≡ Some (Discard who tile drawn) →
+    Clean rules seat (view_of ds seat) answer → is_pon_or_kan answer ≡ true →
     2 ≤ number_of (tiles_gained (hand ds) seat) (kind_of tile)
 unfolding view_of
 has_two rules ds seat who tile drawn (answers.Pon actor target (Known t) (Known x) (Known y)) e c takes =
@@ -169,9 +177,11 @@ has_two rules ds seat who tile drawn (answers.Pon actor target (Known t) (Known 
     two_given (tiles_gained (hand ds) seat) (tiles_lost (hand ds) seat) x y (kind_of tile) [] c.held (sym both.0 ∙ ap kind_of is) (sym (eqb-true (kind_of t) (kind_of y) both.1) ∙ ap kind_of is)
 has_two rules ds seat who tile drawn (answers.OpenKan actor target (Known t) (Known x) (Known y) (Known z)) e c takes =
     let is : t ≡ tile = hit ds seat who tile target t drawn e c.target in
-    let three = and_parts ((kind_of t == kind_of x) && (kind_of t == kind_of y)) (kind_of t == kind_of z) (not-false ((kind_of t == kind_of x) && (kind_of t == kind_of y) && (kind_of t == kind_of z)) c.good) in
+    let three = and_parts ((kind_of t == kind_of x) && (kind_of t == kind_of y)) (kind_of t == kind_of z)
+    (not-false ((kind_of t == kind_of x) && (kind_of t == kind_of y) && (kind_of t == kind_of z)) c.good) in
     let two = and_parts (kind_of t == kind_of x) (kind_of t == kind_of y) three.0 in
-    two_given (tiles_gained (hand ds) seat) (tiles_lost (hand ds) seat) x y (kind_of tile) (z ∷ []) c.held (sym (eqb-true (kind_of t) (kind_of x) two.0) ∙ ap kind_of is) (sym (eqb-true (kind_of t) (kind_of y) two.1) ∙ ap kind_of is)
+    two_given (tiles_gained (hand ds) seat) (tiles_lost (hand ds) seat) x y (kind_of tile) (z ∷ []) c.held
+    (sym (eqb-true (kind_of t) (kind_of x) two.0) ∙ ap kind_of is) (sym (eqb-true (kind_of t) (kind_of y) two.1) ∙ ap kind_of is)
 has_two rules ds seat who tile drawn (answers.Pon actor target Hidden a b) e c takes = absurd (shown (c.tiles))
   where
     shown : true ≡ false → ⊥
@@ -222,7 +232,8 @@ is_next who tile seat other takes h = absurd (never takes)
     never : false ≡ true → ⊥
     never h = cc
 
-chi_by : (rules : Rules) (walls : List (List ℕ)) (ds : List Deed) (given : Four Answer) (who tile seat : ℕ) → Answered rules walls ds given who tile → seat < 4 → is_chi (at_seat given seat) ≡ true → next_seat who ≡ seat
+chi_by : (rules : Rules) (walls : List (List ℕ)) (ds : List Deed) (given : Four Answer) (who tile seat : ℕ) → Answered rules walls ds given who tile →
+    seat < 4 → is_chi (at_seat given seat) ≡ true → next_seat who ≡ seat
 chi_by rules walls ds given who tile seat a small takes =
     is_next who tile seat (at_seat given seat) takes
     (ap (λ (turn : WindowTurn). is_not_left seat turn (at_seat given seat)) (sym (turn_is ds seat (Discard who tile a.drawn) a.discarded))
@@ -276,11 +287,15 @@ stands (bids.OpenKan seat target tile a b c) other call e = refl
 only_bid : (bid : ℕ → Answer → Bid) (given : Four Answer) (seat : ℕ) (call : Deed) → seat < 4 → call_of_bid (bid seat (at_seat given seat)) ≡ Some call →
     ((other : ℕ) → other < 4 → (other ≡ seat → ⊥) → bid other (at_seat given other) ≡ bids.NoBid) → bid_by bid given ≡ bid seat (at_seat given seat)
 only_bid bid given zero call small e alone = stands (bid 0 given.first) _ call e
-only_bid bid given (suc zero) call small e alone = (λ i. or_bid (alone 0 (omega arith) (λ h. omega (arith, h)) i) (or_bid (bid 1 given.second) (or_bid (bid 2 given.third) (bid 3 given.fourth)))) ∙ stands (bid 1 given.second) _ call e
+only_bid bid given (suc zero) call small e alone =
+    (λ i. or_bid (alone 0 (omega arith) (λ h. omega (arith, h)) i) (or_bid (bid 1 given.second) (or_bid (bid 2 given.third) (bid 3 given.fourth))))
+    ∙ stands (bid 1 given.second) _ call e
 only_bid bid given (suc (suc zero)) call small e alone =
-    (λ i. or_bid (alone 0 (omega arith) (λ h. omega (arith, h)) i) (or_bid (alone 1 (omega arith) (λ h. omega (arith, h)) i) (or_bid (bid 2 given.third) (bid 3 given.fourth)))) ∙ stands (bid 2 given.third) _ call e
+    (λ i. or_bid (alone 0 (omega arith) (λ h. omega (arith, h)) i) (or_bid (alone 1 (omega arith) (λ h. omega (arith, h)) i)
+    (or_bid (bid 2 given.third) (bid 3 given.fourth)))) ∙ stands (bid 2 given.third) _ call e
 only_bid bid given (suc (suc (suc zero))) call small e alone =
-    (λ i. or_bid (alone 0 (omega arith) (λ h. omega (arith, h)) i) (or_bid (alone 1 (omega arith) (λ h. omega (arith, h)) i) (or_bid (alone 2 (omega arith) (λ h. omega (arith, h)) i) (bid 3 given.fourth))))
+    (λ i. or_bid (alone 0 (omega arith) (λ h. omega (arith, h)) i) (or_bid (alone 1 (omega arith) (λ h. omega (arith, h)) i)
+    (or_bid (alone 2 (omega arith) (λ h. omega (arith, h)) i) (bid 3 given.fourth))))
 only_bid bid given (suc (suc (suc (suc n)))) call small e alone = absurd (omega arith)
 
 no_bid : (bid : ℕ → Answer → Bid) (given : Four Answer) → ((seat : ℕ) → seat < 4 → bid seat (at_seat given seat) ≡ bids.NoBid) → bid_by bid given ≡ bids.NoBid

@@ -125,7 +125,8 @@ unfolding accept
 accept_owes red walls ds who tile drawn bid e reached call = (call, ap (taken_from (hand ds)) e ∙ sym e, (tile, drawn, e, reached))
 
 -- What follows the newest deed owes so.
-follower_owes : (rules : Rules) (walls : List (List ℕ)) (ds : List Deed) (given : Four Answer) (n : Deed) → newest ds ≡ Some n → has_seats n ≡ true → list_all (has_tiles rules.red) (hand ds) ≡ true → has_tiles rules.red n ≡ true → AllLawful rules ds given →
+follower_owes : (rules : Rules) (walls : List (List ℕ)) (ds : List Deed) (given : Four Answer) (n : Deed) → newest ds ≡ Some n → has_seats n ≡ true →
+    list_all (has_tiles rules.red) (hand ds) ≡ true → has_tiles rules.red n ≡ true → AllLawful rules ds given →
     IfAny (Promise rules.red walls ds) (follows rules walls ds n (decision_by n given))
 follower_owes rules walls ds given (StartGame names) e seats real named c = start_owes_nothing rules.red walls ds _ first_standing 0
 follower_owes rules walls ds given (StartHand round number honba deposits dealer indicator hands) e seats real named c = draw_owes_nothing rules.red walls ds (wall_now walls ds) dealer
@@ -139,7 +140,8 @@ follower_owes rules walls ds given (Discard who tile drawn) e seats real named c
     (λ seat rest low others. win_owes_nothing rules.red walls ds (wall_now walls ds) seat who tile rest)
     (called_or_on (Promise rules.red walls ds) rules walls ds who tile drawn (best_bid given)
     (behind_or (Promise rules.red walls ds) rules (wall_now walls ds) ds who (best_bid given)
-    (λ reached. accept_owes rules.red walls ds who tile drawn (best_bid given) e reached (call_next rules walls ds who tile drawn given e (first_seat who _ seats) real (and_parts (is_face rules.red tile) true named).0 c))
+    (λ reached. accept_owes rules.red walls ds who tile drawn (best_bid given) e reached (call_next rules walls ds who tile drawn given e
+    (first_seat who _ seats) real (and_parts (is_face rules.red tile) true named).0 c))
     (drawn_owes_nothing rules.red walls ds)
     (call_owes_nothing rules.red walls ds (best_bid given))
     (draw_owes_nothing rules.red walls ds (wall_now walls ds) _)))
@@ -162,7 +164,8 @@ follower_owes rules walls ds given (ReachAccepted who points bid) e seats real n
     unless (Promise rules.red walls ds) rules ds (called_or_draw (wall_now walls ds) ds who bid)
     (drawn_owes_nothing rules.red walls ds)
     (called_or (Promise rules.red walls ds) (wall_now walls ds) ds who bid (call_owes_nothing rules.red walls ds bid) (draw_owes_nothing rules.red walls ds (wall_now walls ds) _))
-follower_owes rules walls ds given (Win who target tile unders own yaku fu han value deltas points rest) e seats real named c = winner_owes_nothing rules.red walls ds (wall_now walls ds) target tile rest
+follower_owes rules walls ds given (Win who target tile unders own yaku fu han value deltas points rest) e seats real named c =
+    winner_owes_nothing rules.red walls ds (wall_now walls ds) target tile rest
 follower_owes rules walls ds given (DrawnHand reason hands ready deltas points) e seats real named c = tt
 follower_owes rules walls ds given EndHand e seats real named c =
     start_or_end (Promise rules.red walls ds) walls ds (standing_after (standing ds) (hand ds)) (λ next after. start_owes_nothing rules.red walls ds (wall_of walls next.hand) next (deposits ds)) tt
@@ -173,7 +176,8 @@ pub outcome_owes : (rules : Rules) (walls : List (List ℕ)) (ds : List Deed) (g
 unfolding outcome
 outcome_owes rules walls ds given k c = by_newest (newest ds) refl k.seated k.real
   where
-    by_newest : (o : Option Deed) → newest ds ≡ o → IfAny (λ d. has_seats d ≡ true) o → IfAny (λ d. has_tiles rules.red d ≡ true) o → IfAny (Promise rules.red walls ds) (option_and_then (λ last. follows rules walls ds last (decision_by last given)) o)
+    by_newest : (o : Option Deed) → newest ds ≡ o → IfAny (λ d. has_seats d ≡ true) o → IfAny (λ d. has_tiles rules.red d ≡ true) o →
+        IfAny (Promise rules.red walls ds) (option_and_then (λ last. follows rules walls ds last (decision_by last given)) o)
     by_newest None e f g = tt
     by_newest (Some n) e f g = follower_owes rules walls ds given n e f k.fair.real g c
 
@@ -246,7 +250,8 @@ unfolding ground_of
 discard_free red walls ds who tile drawn fit unlocked next h =
     ap (λ (xs : List Deed). is_in_riichi xs who) with_it
     ∙ accepted_more (hand ds) (Discard who tile drawn) who
-    ∙ ap (λ b. b || false) (unlocked who (same_seat ds who next.stage (ap (λ o. option_map_or is_reach o false) (sym (before_newest_is ds (Discard who tile drawn) with_it (newest_in ds next.place some))) ∙ h)))
+    ∙ ap (λ b. b || false) (unlocked who (same_seat ds who next.stage (ap (λ o. option_map_or is_reach o false)
+    (sym (before_newest_is ds (Discard who tile drawn) with_it (newest_in ds next.place some))) ∙ h)))
   where
     some : hand ds ≡ [] → ⊥
     some empty = hand_begun red ds fit next.place empty

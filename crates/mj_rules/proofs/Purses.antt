@@ -189,7 +189,8 @@ of_each f most h (suc (suc zero)) = h 2
 of_each f most h (suc (suc (suc zero))) = h 3
 of_each f most h (suc (suc (suc (suc n)))) = omega arith
 
-ron_size : (winner target dealer base honba deposits : ℕ) → base ≤ 8000 → honba ≤ 199 → (seat : ℕ) → nat_abs (slice_index_or (ron_changes winner target dealer base honba deposits) seat (pos 0)) ≤ 144000 + 1000 * deposits
+ron_size : (winner target dealer base honba deposits : ℕ) → base ≤ 8000 → honba ≤ 199 → (seat : ℕ) →
+    nat_abs (slice_index_or (ron_changes winner target dealer base honba deposits) seat (pos 0)) ≤ 144000 + 1000 * deposits
 unfolding ron_changes ron_change
 ron_size winner target dealer base honba deposits h k =
     of_each (ron_change winner target dealer base honba deposits) (144000 + 1000 * deposits)
@@ -201,7 +202,8 @@ ron_size winner target dealer base honba deposits h k =
     paid : ron_payment winner dealer base honba ≤ 144000
     paid = more _ (ron_few winner dealer base honba h k)
 
-drawn_size : (winner dealer base honba deposits : ℕ) → base ≤ 8000 → honba ≤ 199 → (seat : ℕ) → nat_abs (slice_index_or (drawn_changes winner dealer base honba deposits) seat (pos 0)) ≤ 144000 + 1000 * deposits
+drawn_size : (winner dealer base honba deposits : ℕ) → base ≤ 8000 → honba ≤ 199 → (seat : ℕ) →
+    nat_abs (slice_index_or (drawn_changes winner dealer base honba deposits) seat (pos 0)) ≤ 144000 + 1000 * deposits
 unfolding drawn_changes drawn_change
 drawn_size winner dealer base honba deposits h k =
     of_each (drawn_change winner dealer base honba deposits) (144000 + 1000 * deposits)

@@ -164,7 +164,8 @@ quiet_any ds (Some d) way rich h = quiet_more ds d way rich h
 -- The start of a hand, and its end.
 start_more : (ds : List Deed) (d : Deed) → Rich ds → is_hand_start d ≡ true → Richer ds d
 start_more ds (StartHand round number honba lying dealer indicator hands) rich h =
-    still_more ds (StartHand round number honba lying dealer indicator hands) rich (λ seat. refl) refl refl (room _ (left ds) _ (left_more ds (StartHand round number honba lying dealer indicator hands)))
+    still_more ds (StartHand round number honba lying dealer indicator hands) rich (λ seat. refl) refl refl
+    (room _ (left ds) _ (left_more ds (StartHand round number honba lying dealer indicator hands)))
   where
     room : (m n r : ℕ) → m ≡ under_way r → m ≤ n + 443000
     room m n r e = omega arith
@@ -188,17 +189,20 @@ drawn_more : (ds : List Deed) (why : Reason) → left ds ≡ under_way (riichis 
 unfolding draw_shown
 drawn_more ds why way rich =
     rich_more ds (drawn_hand ds why) rich
-    (λ seat. sum _ _ (deposits ds) _ (left ds) (riichis (hand ds)) (draw_size (ready_by why (hands_at_draw why (hand ds))) seat) (deposits_more ds (drawn_hand ds why)) (left_more ds (drawn_hand ds why)) way)
+    (λ seat. sum _ _ (deposits ds) _ (left ds) (riichis (hand ds)) (draw_size (ready_by why (hands_at_draw why (hand ds))) seat)
+    (deposits_more ds (drawn_hand ds why)) (left_more ds (drawn_hand ds why)) way)
   where
     sum : (c e' e l' l r : ℕ) → c ≤ 3000 → e' ≡ e + 0 → l' ≡ 0 → l ≡ under_way r → c + 1000 * e' + l' ≤ 1000 * e + l + 0
     sum c e' e l' l r h i j k = omega arith
 
 -- A win moves 144,000 points and the deposits.
-win_more : (ds : List Deed) (wall : List ℕ) (seat target tile : ℕ) (rest : List ℕ) → (standing ds).honba ≤ 199 → Rich ds → 144000 * suc (length rest) ≤ left ds → Richer ds (win_deed wall ds seat target tile rest)
+win_more : (ds : List Deed) (wall : List ℕ) (seat target tile : ℕ) (rest : List ℕ) → (standing ds).honba ≤ 199 → Rich ds →
+    144000 * suc (length rest) ≤ left ds → Richer ds (win_deed wall ds seat target tile rest)
 unfolding win_shown
 win_more ds wall seat target tile rest h rich room =
     rich_more ds (win_deed wall ds seat target tile rest) rich
-    (λ other. sum _ _ (deposits ds) _ (left ds) (length rest) (changes_few ds seat target shown h other) (deposits_more ds (win_deed wall ds seat target tile rest)) (left_more ds (win_deed wall ds seat target tile rest)) room)
+    (λ other. sum _ _ (deposits ds) _ (left ds) (length rest) (changes_few ds seat target shown h other)
+    (deposits_more ds (win_deed wall ds seat target tile rest)) (left_more ds (win_deed wall ds seat target tile rest)) room)
   where
     shown : Shows
     shown = record { own = own_tiles_of (before_wins (hand ds)) seat tile; tile = tile; unders = unders_of wall (before_wins (hand ds)) seat }
@@ -207,12 +211,14 @@ win_more ds wall seat target tile rest h rich room =
     sum c e' e l' l n h i j k = omega arith
 
 -- An accepted reach moves 1,000 points and one deposit more.
-accept_more : (red : Bool) (ds : List Deed) (who : ℕ) (bid : Bid) → all_fit red [] ds ≡ true → is_in_hand (newest ds) ≡ true → left ds ≡ under_way (riichis (hand ds)) → who < 4 → is_in_riichi (hand ds) who ≡ false →
+accept_more : (red : Bool) (ds : List Deed) (who : ℕ) (bid : Bid) → all_fit red [] ds ≡ true → is_in_hand (newest ds) ≡ true →
+    left ds ≡ under_way (riichis (hand ds)) → who < 4 → is_in_riichi (hand ds) who ≡ false →
     Rich ds → Richer ds (accept ds who bid)
 unfolding accept
 accept_more red ds who bid fit begun way low free rich =
     rich_more ds (accept ds who bid) rich
-    (λ seat. sum _ _ (deposits ds) _ (left ds) (riichis (hand ds)) _ (most (eqb who seat)) (deposits_more ds (accept ds who bid)) (left_more ds (accept ds who bid)) way one (riichis_most (hand (ds ++ accept ds who bid ∷ []))))
+    (λ seat. sum _ _ (deposits ds) _ (left ds) (riichis (hand ds)) _ (most (eqb who seat)) (deposits_more ds (accept ds who bid))
+    (left_more ds (accept ds who bid)) way one (riichis_most (hand (ds ++ accept ds who bid ∷ []))))
   where
     one : riichis (hand (ds ++ accept ds who bid ∷ [])) ≡ riichis (hand ds) + 1
     one = ap riichis (hand_is ds (accept ds who bid) (λ _ empty. hand_begun red ds fit begun empty)) ∙ riichis_more (hand ds) (accept ds who bid) who low (λ seat. refl) free
@@ -258,18 +264,21 @@ draw_more walls ds seat way rich = draw_or (Richer ds) (wall_now walls ds) ds se
 three_wins : (l r n : ℕ) → l ≡ under_way r → n ≤ 2 → 144000 * suc n ≤ l
 three_wins l r n e h = omega arith
 
-own_more : (walls : List (List ℕ)) (ds : List Deed) (n : Deed) (who : ℕ) (answer : Answer) → (standing ds).honba ≤ 199 → left ds ≡ under_way (riichis (hand ds)) → Rich ds → IfAny (Richer ds) (own_act (wall_now walls ds) ds n who answer)
+own_more : (walls : List (List ℕ)) (ds : List Deed) (n : Deed) (who : ℕ) (answer : Answer) → (standing ds).honba ≤ 199 →
+    left ds ≡ under_way (riichis (hand ds)) → Rich ds → IfAny (Richer ds) (own_act (wall_now walls ds) ds n who answer)
 own_more walls ds n who answer h way rich =
     won_or_acts (Richer ds) (wall_now walls ds) ds n who answer
     (win_more ds (wall_now walls ds) who who (won_tile n) [] h rich (three_wins _ _ 0 way (omega arith)))
     (drawn_more ds _ way rich)
     (quiet_any ds (act_of who answer) way rich (quiet_act who answer))
 
-winner_more : (ds : List Deed) (wall : List ℕ) (target tile : ℕ) (rest : List ℕ) → (standing ds).honba ≤ 199 → Rich ds → 144000 * length rest ≤ left ds → Richer ds (next_winner wall ds target tile rest)
+winner_more : (ds : List Deed) (wall : List ℕ) (target tile : ℕ) (rest : List ℕ) → (standing ds).honba ≤ 199 → Rich ds →
+    144000 * length rest ≤ left ds → Richer ds (next_winner wall ds target tile rest)
 winner_more ds wall target tile [] h rich room = end_more ds rich
 winner_more ds wall target tile (seat ∷ rest) h rich room = win_more ds wall seat target tile rest h rich room
 
-follower_rich : (rules : Rules) (walls : List (List ℕ)) (ds : List Deed) (given : Four Answer) (n : Deed) → Known rules.red walls ds → newest ds ≡ Some n → has_seats n ≡ true → Rich ds → all_fit rules.red [] ds ≡ true →
+follower_rich : (rules : Rules) (walls : List (List ℕ)) (ds : List Deed) (given : Four Answer) (n : Deed) → Known rules.red walls ds →
+    newest ds ≡ Some n → has_seats n ≡ true → Rich ds → all_fit rules.red [] ds ≡ true →
     IfAny (Richer ds) (follows rules walls ds n (decision_by n given))
 unfolding hand_start next_dora next_replacement
 follower_rich rules walls ds given (StartGame names) k e seats rich fit = start_more ds _ rich refl

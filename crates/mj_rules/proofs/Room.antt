@@ -138,7 +138,8 @@ number-without : (x : ℕ) (ys : List ℕ) (face : ℕ) → number_in ys face �
 number-without x [] face = omega arith
 number-without x (y ∷ ys) face = elim (cases_eq y x) [
   | inl e ↦ same _ _ _ _ (sum_by-cons (λ z. cond (eqb z face) 1 0) y ys) (ap (λ z. cond (eqb z face) 1 0) e) (ap (λ b. number_in (cond b ys (y ∷ without x ys)) face) (eq-eqb y x e))
-  | inr ne ↦ other _ _ _ _ _ _ (sum_by-cons (λ z. cond (eqb z face) 1 0) y ys) (sum_by-cons (λ z. cond (eqb z face) 1 0) y (without x ys)) (ap (λ b. number_in (cond b ys (y ∷ without x ys)) face) (ne_eqb y x ne)) (number-without x ys face)
+  | inr ne ↦ other _ _ _ _ _ _ (sum_by-cons (λ z. cond (eqb z face) 1 0) y ys) (sum_by-cons (λ z. cond (eqb z face) 1 0) y (without x ys))
+      (ap (λ b. number_in (cond b ys (y ∷ without x ys)) face) (ne_eqb y x ne)) (number-without x ys face)
 ]
   where
     same : (n b k c : ℕ) {m : ℕ} → n ≡ b + k → b ≡ c → m ≡ k → n ≤ m + c

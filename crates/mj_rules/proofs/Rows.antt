@@ -34,7 +34,8 @@ four_named a b c d h i j k apart =
 
 -- Four good names that are different; two of them the same; one of them empty, too long by one byte, or with a quotation mark.
 names_of_letters : are_names (four (codes "a") (codes "b") (codes "c") (codes "d")) ≡ true
-names_of_letters = four_named (codes "a") (codes "b") (codes "c") (codes "d") (named (codes "a") refl refl) (named (codes "b") refl refl) (named (codes "c") refl refl) (named (codes "d") refl refl) refl
+names_of_letters = four_named (codes "a") (codes "b") (codes "c") (codes "d") (named (codes "a") refl refl) (named (codes "b") refl refl)
+    (named (codes "c") refl refl) (named (codes "d") refl refl) refl
 
 same_names : are_names (four (codes "a") (codes "b") (codes "c") (codes "a")) ≡ false
 same_names = and_false (list_all is_name (codes "a" ∷ codes "b" ∷ codes "c" ∷ codes "a" ∷ []))
@@ -48,7 +49,8 @@ unfolding is_name
 empty_name = refl
 
 longest_name : are_names (four (replicate 64 97) (codes "b") (codes "c") (codes "d")) ≡ true
-longest_name = four_named (replicate 64 97) (codes "b") (codes "c") (codes "d") (named (replicate 64 97) refl refl) (named (codes "b") refl refl) (named (codes "c") refl refl) (named (codes "d") refl refl) refl
+longest_name = four_named (replicate 64 97) (codes "b") (codes "c") (codes "d") (named (replicate 64 97) refl refl) (named (codes "b") refl refl)
+    (named (codes "c") refl refl) (named (codes "d") refl refl) refl
 
 long_name : are_names (four (replicate 65 97) (codes "b") (codes "c") (codes "d")) ≡ false
 unfolding is_name

@@ -48,7 +48,8 @@ all_share (suc (suc (suc (suc seat)))) n =
 -- The four seats together were given no more tiles than were brought in.
 all_gain : (kind : ℕ) (d : Deed) → number_of (gains_by 0 d) kind + number_of (gains_by 1 d) kind + number_of (gains_by 2 d) kind + number_of (gains_by 3 d) kind ≤ number_of (brought_by d) kind
 all_gain kind (StartHand round number honba deposits dealer indicator hands) =
-    sum _ _ _ _ (sum_by-cons (λ t. cond (eqb (kind_of t) kind) 1 0) indicator (hands.first ++ hands.second ++ hands.third ++ hands.fourth)) (number_of_four hands.first hands.second hands.third hands.fourth kind)
+    sum _ _ _ _ (sum_by-cons (λ t. cond (eqb (kind_of t) kind) 1 0) indicator (hands.first ++ hands.second ++ hands.third ++ hands.fourth))
+    (number_of_four hands.first hands.second hands.third hands.fourth kind)
   where
     sum : (n m x y : ℕ) → n ≡ x + m → m ≡ y → y ≤ n
     sum n m x y e g = omega (arith, e, g)
@@ -103,12 +104,14 @@ too_many : (g : ℕ → ℕ) (a b c : ℕ) → a < 4 → b < 4 → c < 4 → Ove
 too_many g a b c sa sb sc o four =
     sum _ _ _ _ _ _ _ _ _ _ _ _ _ _ _ _ (of_one a 2 sa) (of_one b 2 sb) (of_one c 1 sc) (shares g a b c 0 o) (shares g a b c 1 o) (shares g a b c 2 o) (shares g a b c 3 o) four
   where
-    sum : (a0 a1 a2 a3 b0 b1 b2 b3 c0 c1 c2 c3 g0 g1 g2 g3 : ℕ) → a0 + a1 + a2 + a3 ≡ 2 → b0 + b1 + b2 + b3 ≡ 2 → c0 + c1 + c2 + c3 ≡ 1 → a0 + b0 + c0 ≤ g0 → a1 + b1 + c1 ≤ g1 → a2 + b2 + c2 ≤ g2 → a3 + b3 + c3 ≤ g3
+    sum : (a0 a1 a2 a3 b0 b1 b2 b3 c0 c1 c2 c3 g0 g1 g2 g3 : ℕ) → a0 + a1 + a2 + a3 ≡ 2 → b0 + b1 + b2 + b3 ≡ 2 → c0 + c1 + c2 + c3 ≡ 1 →
+        a0 + b0 + c0 ≤ g0 → a1 + b1 + c1 ≤ g1 → a2 + b2 + c2 ≤ g2 → a3 + b3 + c3 ≤ g3
         → g0 + g1 + g2 + g3 ≤ 4 → ⊥
     sum a0 a1 a2 a3 b0 b1 b2 b3 c0 c1 c2 c3 g0 g1 g2 g3 ea eb ec h0 h1 h2 h3 four = omega (arith, ea, eb, ec, h0, h1, h2, h3, four)
 
 -- So no two seats were given two tiles each of a kind of which a third was given one, where no more than four were brought in.
-pub no_two_pairs : (ds : List Deed) (kind a b c : ℕ) → a < 4 → b < 4 → c < 4 → (a ≡ b → ⊥) → (a ≡ c → ⊥) → (b ≡ c → ⊥) → 2 ≤ number_of (tiles_gained ds a) kind → 2 ≤ number_of (tiles_gained ds b) kind →
+pub no_two_pairs : (ds : List Deed) (kind a b c : ℕ) → a < 4 → b < 4 → c < 4 → (a ≡ b → ⊥) → (a ≡ c → ⊥) → (b ≡ c → ⊥) →
+    2 ≤ number_of (tiles_gained ds a) kind → 2 ≤ number_of (tiles_gained ds b) kind →
     1 ≤ number_of (tiles_gained ds c) kind → number_of (flat_map brought_by ds) kind ≤ 4 → ⊥
 no_two_pairs ds kind a b c sa sb sc ab ac bc two also one four =
     too_many (λ seat. number_of (tiles_gained ds seat) kind) a b c sa sb sc (record { ab = ab; ac = ac; bc = bc; two = two; also = also; one = one }) (within _ _ (all_gained ds kind) four)
@@ -117,7 +120,9 @@ no_two_pairs ds kind a b c sa sb sc ab ac bc two also one four =
     within n m h k = omega (arith, h, k)
 
 -- Two tiles of a kind that are named among those that are held were given.
-pub two_given : (gained lost : List ℕ) (x y kind : ℕ) (rest : List ℕ) → list_any (λ face. nat_lt (number_in gained face - number_in lost face) (number_in (x ∷ y ∷ rest) face)) (x ∷ y ∷ rest) ≡ false → kind_of x ≡ kind → kind_of y ≡ kind →
+pub two_given : (gained lost : List ℕ) (x y kind : ℕ) (rest : List ℕ) →
+    list_any (λ face. nat_lt (number_in gained face - number_in lost face) (number_in (x ∷ y ∷ rest) face)) (x ∷ y ∷ rest) ≡ false →
+    kind_of x ≡ kind → kind_of y ≡ kind →
     2 ≤ number_of gained kind
 two_given gained lost x y kind rest h ex ey =
     let first = or_parts (nat_lt (number_in gained x - number_in lost x) (number_in (x ∷ y ∷ rest) x)) _ h in

@@ -260,7 +260,8 @@ open_hand : (own : Bool) (meld : Meld) (a b c g m l : ℕ) → g + 3 * m ≡ l +
 open_hand true meld a b c g m l h = omega arith
 open_hand false meld a b c g m l h = omega arith
 
-closed_hand : (own : Bool) (meld : Meld) (a b c d g m l : ℕ) → g + 3 * m ≡ l + 13 + cond own 1 0 → g + 0 + 3 * (m + length (cond own (meld ∷ []) [])) ≡ l + length (cond own (a ∷ b ∷ c ∷ d ∷ []) []) + 13 + 0
+closed_hand : (own : Bool) (meld : Meld) (a b c d g m l : ℕ) → g + 3 * m ≡ l + 13 + cond own 1 0 → g + 0 + 3 * (m + length (cond own (meld ∷ []) []))
+    ≡ l + length (cond own (a ∷ b ∷ c ∷ d ∷ []) []) + 13 + 0
 closed_hand true meld a b c d g m l h = omega arith
 closed_hand false meld a b c d g m l h = omega arith
 

@@ -58,7 +58,8 @@ draw_or P wall ds seat drawn draws = by_test (live_tiles (hand ds) == 0) draws
     by_test true f = drawn
     by_test false f = f refl
 
-draw_next : (red : Bool) (walls : List (List ℕ)) (ds : List Deed) (n : Deed) (seat : ℕ) → Fair red walls ds → newest ds ≡ Some n → stage_of ds ≡ Waits → (is_in_hand (Some n) && not (is_after_dora (Some n))) ≡ true → seat < 4 →
+draw_next : (red : Bool) (walls : List (List ℕ)) (ds : List Deed) (n : Deed) (seat : ℕ) → Fair red walls ds → newest ds ≡ Some n →
+    stage_of ds ≡ Waits → (is_in_hand (Some n) && not (is_after_dora (Some n))) ≡ true → seat < 4 →
     IsNext red walls ds (next_draw (wall_now walls ds) ds seat)
 unfolding ground_of
 draw_next red walls ds n seat fair e waits begun small =
@@ -84,7 +85,8 @@ draw_next red walls ds n seat fair e waits begun small =
         some : (l : ℕ) → (l ≡ 0 → ⊥) → 0 < l
         some l h = omega arith
 
-dora_next : (red : Bool) (walls : List (List ℕ)) (ds : List Deed) (n : Deed) → ((number : ℕ) → is_wall red (wall_of walls number) ≡ true) → newest ds ≡ Some n → stage_of ds ≡ MadeKan → is_after_kan (Some n) ≡ true →
+dora_next : (red : Bool) (walls : List (List ℕ)) (ds : List Deed) (n : Deed) → ((number : ℕ) → is_wall red (wall_of walls number) ≡ true) →
+    newest ds ≡ Some n → stage_of ds ≡ MadeKan → is_after_kan (Some n) ≡ true →
     IsNext red walls ds (next_dora (wall_now walls ds) (hand ds))
 unfolding next_dora ground_of
 dora_next red walls ds n h e made kan = record {
@@ -155,7 +157,8 @@ won_or_acts P wall ds n who (answers.Win actor target tile) won drawn acts = won
 won_or_acts P wall ds n who (answers.NineKinds actor) won drawn acts = drawn
 won_or_acts P wall ds n who other won drawn acts = acts
 
-pub discards_only : (P : Deed → Type 0) (wall : List ℕ) (ds : List Deed) (n : Deed) (who : ℕ) (answer : Answer) → is_discard answer ≡ true → IfAny P (act_of who answer) → IfAny P (own_act wall ds n who answer)
+pub discards_only : (P : Deed → Type 0) (wall : List ℕ) (ds : List Deed) (n : Deed) (who : ℕ) (answer : Answer) → is_discard answer ≡ true →
+    IfAny P (act_of who answer) → IfAny P (own_act wall ds n who answer)
 discards_only P wall ds n who (answers.Win actor target tile) h g = cc
 discards_only P wall ds n who (answers.NineKinds actor) h g = cc
 discards_only P wall ds n who other h g = g
@@ -165,20 +168,23 @@ unfolding view_of
 turn_is ds seat n e = ap (λ o. turn_in (option_map turn_by o)) e
 
 -- Who reached or called may only discard.
-pub called_opens : (rules : Rules) (ds : List Deed) (n : Deed) (who : ℕ) (banned : List ℕ) (answer : Answer) → newest ds ≡ Some n → turn_by n ≡ Called who banned → Clean rules who (view_of ds who) answer → is_discard answer ≡ true
+pub called_opens : (rules : Rules) (ds : List Deed) (n : Deed) (who : ℕ) (banned : List ℕ) (answer : Answer) → newest ds ≡ Some n →
+    turn_by n ≡ Called who banned → Clean rules who (view_of ds who) answer → is_discard answer ≡ true
 called_opens rules ds n who banned answer e turn c =
     ap (λ b. cond b (is_discard answer) (is_pass answer)) (sym (eq-eqb who who refl))
     ∙ ap (λ t. is_open rules who t (view_of ds who).accepted answer) (sym (turn_is ds who n e ∙ turn))
     ∙ not-false (is_open rules who (view_of ds who).turn (view_of ds who).accepted answer) c.opens
 
-pub reached_opens : (rules : Rules) (ds : List Deed) (n : Deed) (who : ℕ) (answer : Answer) → newest ds ≡ Some n → turn_by n ≡ Reached who → Clean rules who (view_of ds who) answer → is_discard answer ≡ true
+pub reached_opens : (rules : Rules) (ds : List Deed) (n : Deed) (who : ℕ) (answer : Answer) → newest ds ≡ Some n → turn_by n ≡ Reached who →
+    Clean rules who (view_of ds who) answer → is_discard answer ≡ true
 reached_opens rules ds n who answer e turn c =
     ap (λ b. cond b (is_discard answer) (is_pass answer)) (sym (eq-eqb who who refl))
     ∙ ap (λ t. is_open rules who t (view_of ds who).accepted answer) (sym (turn_is ds who n e ∙ turn))
     ∙ not-false (is_open rules who (view_of ds who).turn (view_of ds who).accepted answer) c.opens
 
 -- What a seat does lawfully at its own draw is one of its own acts.
-pub drew_opens : (rules : Rules) (ds : List Deed) (n : Deed) (who : ℕ) (answer : Answer) → newest ds ≡ Some n → turn_by n ≡ Drew who → Clean rules who (view_of ds who) answer → is_own_act rules (view_of ds who).accepted answer ≡ true
+pub drew_opens : (rules : Rules) (ds : List Deed) (n : Deed) (who : ℕ) (answer : Answer) → newest ds ≡ Some n → turn_by n ≡ Drew who →
+    Clean rules who (view_of ds who) answer → is_own_act rules (view_of ds who).accepted answer ≡ true
 drew_opens rules ds n who answer e turn c =
     ap (λ b. cond b (is_own_act rules (view_of ds who).accepted answer) false) (sym (eq-eqb who who refl))
     ∙ own (eq-eqb who who refl)
@@ -211,7 +217,8 @@ rons_seated who given =
 -- The first winner, where there is one, or what is decided otherwise; at most two others win on the same tile, and what all winners pass
 -- each of these does.
 pub won_each : (P : Deed → Type 0) (rules : Rules) (walls : List (List ℕ)) (ds : List Deed) (n : Deed) (p : ℕ → Bool) (seats : List ℕ) (other : Decision) → list_all p seats ≡ true →
-    ((seat : ℕ) (rest : List ℕ) → p seat ≡ true → list_all p rest ≡ true → length rest ≤ 2 → P (win_deed (wall_now walls ds) ds seat (seat_of n) (won_tile n) rest)) → IfAny P (follows rules walls ds n other) →
+    ((seat : ℕ) (rest : List ℕ) → p seat ≡ true → list_all p rest ≡ true → length rest ≤ 2 →
+    P (win_deed (wall_now walls ds) ds seat (seat_of n) (won_tile n) rest)) → IfAny P (follows rules walls ds n other) →
     IfAny P (follows rules walls ds n (rons_or seats other))
 won_each P rules walls ds n p [] other h f g = g
 won_each P rules walls ds n p (seat ∷ []) other h f g = f seat [] (and_parts (p seat) true h).0 refl (omega arith)
@@ -225,14 +232,16 @@ won_each P rules walls ds n p (seat ∷ a ∷ b ∷ more) other h f g =
 
 -- The same of seats.
 pub won_few : (P : Deed → Type 0) (rules : Rules) (walls : List (List ℕ)) (ds : List Deed) (n : Deed) (seats : List ℕ) (other : Decision) → list_all (λ seat. nat_lt seat 4) seats ≡ true →
-    ((seat : ℕ) (rest : List ℕ) → seat < 4 → list_all (λ s. nat_lt s 4) rest ≡ true → length rest ≤ 2 → P (win_deed (wall_now walls ds) ds seat (seat_of n) (won_tile n) rest)) → IfAny P (follows rules walls ds n other) →
+    ((seat : ℕ) (rest : List ℕ) → seat < 4 → list_all (λ s. nat_lt s 4) rest ≡ true → length rest ≤ 2 →
+    P (win_deed (wall_now walls ds) ds seat (seat_of n) (won_tile n) rest)) → IfAny P (follows rules walls ds n other) →
     IfAny P (follows rules walls ds n (rons_or seats other))
 won_few P rules walls ds n seats other low f g =
     won_each P rules walls ds n (λ seat. nat_lt seat 4) seats other low (λ seat rest there others few. f seat rest (ltb-true seat 4 there) others few) g
 
 -- The same where it doesn't matter how many win.
 pub won_or : (P : Deed → Type 0) (rules : Rules) (walls : List (List ℕ)) (ds : List Deed) (n : Deed) (seats : List ℕ) (other : Decision) → list_all (λ seat. nat_lt seat 4) seats ≡ true →
-    ((seat : ℕ) (rest : List ℕ) → seat < 4 → list_all (λ s. nat_lt s 4) rest ≡ true → P (win_deed (wall_now walls ds) ds seat (seat_of n) (won_tile n) rest)) → IfAny P (follows rules walls ds n other) →
+    ((seat : ℕ) (rest : List ℕ) → seat < 4 → list_all (λ s. nat_lt s 4) rest ≡ true →
+    P (win_deed (wall_now walls ds) ds seat (seat_of n) (won_tile n) rest)) → IfAny P (follows rules walls ds n other) →
     IfAny P (follows rules walls ds n (rons_or seats other))
 won_or P rules walls ds n seats other low f g = won_few P rules walls ds n seats other low (λ seat rest there others few. f seat rest there others) g
 
@@ -275,20 +284,24 @@ called_or_on P rules walls ds who tile drawn (bids.OpenKan seat target t a b c) 
 -- the end of a hand
 
 -- The next hand, or the end of the game.
-pub start_or_end : (P : Deed → Type 0) (walls : List (List ℕ)) (ds : List Deed) (o : Option Standing) → ((next : Standing) → o ≡ Some next → P (hand_start (wall_of walls next.hand) next (deposits ds))) →
+pub start_or_end : (P : Deed → Type 0) (walls : List (List ℕ)) (ds : List Deed) (o : Option Standing) →
+    ((next : Standing) → o ≡ Some next → P (hand_start (wall_of walls next.hand) next (deposits ds))) →
     P (EndGame (points ds) (deposits ds)) → P (next_start walls ds o)
 start_or_end P walls ds None starts ends = ends
 start_or_end P walls ds (Some next) starts ends = starts next refl
 
-winner_next : (red : Bool) (walls : List (List ℕ)) (ds : List Deed) (target tile : ℕ) (rest : List ℕ) → Fair red walls ds → is_after_result (newest ds) ≡ true → is_in_hand (newest ds) ≡ true → target < 4 →
+winner_next : (red : Bool) (walls : List (List ℕ)) (ds : List Deed) (target tile : ℕ) (rest : List ℕ) → Fair red walls ds →
+    is_after_result (newest ds) ≡ true → is_in_hand (newest ds) ≡ true → target < 4 →
     list_all (λ seat. nat_lt seat 4) rest ≡ true → (is_face red tile && true) ≡ true → IsNext red walls ds (next_winner (wall_now walls ds) ds target tile rest)
 winner_next red walls ds target tile [] fair over begun there low real = end_next red walls ds over
 winner_next red walls ds target tile (seat ∷ rest) fair over begun there low real =
     win_next red walls ds seat target tile rest fair begun (first_seat seat _ low) there (and_parts (ltb seat 4) (list_all (λ s. nat_lt s 4) rest) low).1 real
 
 -- What follows the newest deed, of which this is known.
-follower_next : (rules : Rules) (walls : List (List ℕ)) (ds : List Deed) (given : Four Answer) (n : Deed) → Known rules.red walls ds → newest ds ≡ Some n → has_seats n ≡ true → has_tiles rules.red n ≡ true →
-    (is_after_start (Some n) ≡ true → length (starts ds) ≡ 0) → IfAny (IsNext rules.red walls ds) (kept_call (Some n)) → AllLawful rules ds given → IfAny (IsNext rules.red walls ds) (follows rules walls ds n (decision_by n given))
+follower_next : (rules : Rules) (walls : List (List ℕ)) (ds : List Deed) (given : Four Answer) (n : Deed) → Known rules.red walls ds →
+    newest ds ≡ Some n → has_seats n ≡ true → has_tiles rules.red n ≡ true →
+    (is_after_start (Some n) ≡ true → length (starts ds) ≡ 0) → IfAny (IsNext rules.red walls ds) (kept_call (Some n)) → AllLawful rules ds given →
+    IfAny (IsNext rules.red walls ds) (follows rules walls ds n (decision_by n given))
 follower_next rules walls ds given (StartGame names) k e seats real none kept c = start_next rules.red walls ds names k.fair.whole (none refl) e
 follower_next rules walls ds given (StartHand round number honba deposits dealer indicator hands) k e seats real none kept c =
     draw_next rules.red walls ds (StartHand round number honba deposits dealer indicator hands) dealer k.fair e
@@ -351,7 +364,8 @@ follower_next rules walls ds given EndHand k e seats real none kept c =
 follower_next rules walls ds given (EndGame points deposits) k e seats real none kept c = tt
 
 -- What follows the newest deed comes in its turn.
-pub outcome_next : (rules : Rules) (walls : List (List ℕ)) (ds : List Deed) (given : Four Answer) → Known rules.red walls ds → AllLawful rules ds given → IfAny (IsNext rules.red walls ds) (outcome rules walls ds given)
+pub outcome_next : (rules : Rules) (walls : List (List ℕ)) (ds : List Deed) (given : Four Answer) → Known rules.red walls ds →
+    AllLawful rules ds given → IfAny (IsNext rules.red walls ds) (outcome rules walls ds given)
 unfolding outcome
 outcome_next rules walls ds given k c = by_newest (newest ds) refl k.seated k.real k.none k.promised
   where

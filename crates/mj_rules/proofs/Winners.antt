@@ -39,7 +39,8 @@ few_made : (n g m l b o : ℕ) → n + l ≤ g → g + 3 * m ≡ l + b + o → b
 few_made n g m l b o h e k = omega (arith, h, e, k)
 
 -- After deeds that stand so a seat has thirteen tiles, each meld counted as three, and one more in its turn.
-pub few_tiles : (wall : List ℕ) (hs : List Deed) (stage : Stage) (seat : ℕ) → StandsAt wall hs stage → length (concealed_tiles hs seat) + 3 * length (flat_map (makes_by seat) hs) ≤ 13 + holds_more stage seat
+pub few_tiles : (wall : List ℕ) (hs : List Deed) (stage : Stage) (seat : ℕ) → StandsAt wall hs stage → length (concealed_tiles hs seat) + 3 * length
+    (flat_map (makes_by seat) hs) ≤ 13 + holds_more stage seat
 few_tiles wall hs stage seat s =
     few_made _ _ (length (flat_map (makes_by seat) hs)) _ _ _ (length_less (tiles_gained hs seat) (tiles_lost hs seat) (s.held seat)) (s.hands seat) (most (is_begun stage))
   where
@@ -130,7 +131,8 @@ holds red ds fit =
     some_is : (a b : Deed) → Some a ≡ Some b → a ≡ b
     some_is a b e = cc
 
-    by_draw : (hs : List Deed) (d : Deed) → Holds hs → has_seats d ≡ true → (who tile : ℕ) (replacement : Bool) → cond (is_win d) (newest (before_wins hs)) (Some d) ≡ Some (Draw who tile replacement) →
+    by_draw : (hs : List Deed) (d : Deed) → Holds hs → has_seats d ≡ true → (who tile : ℕ) (replacement : Bool) →
+        cond (is_win d) (newest (before_wins hs)) (Some d) ≡ Some (Draw who tile replacement) →
         (who < 4) × (number_in (tiles_lost (hs ++ d ∷ []) who) tile < number_in (tiles_gained (hs ++ d ∷ []) who) tile)
     by_draw hs (Win seat target taken unders own yaku fu han value deltas said rest) old seats who tile replacement e =
         let d : Deed = Win seat target taken unders own yaku fu han value deltas said rest in
@@ -159,7 +161,8 @@ holds red ds fit =
     put_down hs d who tile low e within = (
       low,
       some _ _ _ _ (number_more (losses_by who) hs d tile)
-          (ap (λ (xs : List ℕ). number_in xs tile) (e ∙ ap (λ b. cond b (tile ∷ []) []) (eq-eqb who who refl)) ∙ number-cons tile tile [] ∙ ap (λ b. cond b 1 0 + 0) (eq-eqb tile tile refl)) (within tile),
+          (ap (λ (xs : List ℕ). number_in xs tile) (e ∙ ap (λ b. cond b (tile ∷ []) []) (eq-eqb who who refl)) ∙ number-cons tile tile []
+          ∙ ap (λ b. cond b 1 0 + 0) (eq-eqb tile tile refl)) (within tile),
     )
       where
         some : (l' l x g : ℕ) → l' ≡ l + x → x ≡ 1 → l' ≤ g → 0 < g
@@ -214,7 +217,8 @@ one_more other seat = omega arith
 pub played_tiles : (rules : Rules) (walls : List (List ℕ)) (ds : List Deed) (seat : ℕ) → ((number : ℕ) → is_wall rules.red (wall_of walls number) ≡ true) → IsPlayed rules walls ds →
     length (concealed_tiles (hand ds) seat) + 3 * length (seat_melds (hand ds) seat) ≤ 14
 played_tiles rules walls ds seat h played =
-    sum _ _ _ _ (length-map (flat_map (makes_by seat) (hand ds)) _) (few_tiles (wall_now walls ds) (hand ds) (stage_of ds) seat (played_sound rules walls ds h played).standing) (one_more (stage_of ds) seat)
+    sum _ _ _ _ (length-map (flat_map (makes_by seat) (hand ds)) _) (few_tiles (wall_now walls ds) (hand ds) (stage_of ds) seat
+    (played_sound rules walls ds h played).standing) (one_more (stage_of ds) seat)
   where
     sum : (c m k o : ℕ) → m ≡ k → c + 3 * k ≤ 13 + o → o ≤ 1 → c + 3 * m ≤ 14
     sum c m k o e h l = omega (arith, e, h, l)
@@ -245,7 +249,8 @@ offer_waits ds other seat e offer = cc
 pub offered_tiles : (rules : Rules) (walls : List (List ℕ)) (ds : List Deed) (d : Deed) (seat : ℕ) → ((number : ℕ) → is_wall rules.red (wall_of walls number) ≡ true) → IsPlayed rules walls ds →
     newest (before_wins (hand ds)) ≡ Some d → is_offer d ≡ true → length (concealed_tiles (hand ds) seat) + 3 * length (seat_melds (hand ds) seat) ≤ 13
 offered_tiles rules walls ds d seat h played e offer =
-    sum _ _ _ _ (length-map (flat_map (makes_by seat) (hand ds)) _) (few_tiles (wall_now walls ds) (hand ds) (stage_of ds) seat (played_sound rules walls ds h played).standing) (offer_waits ds d seat e offer)
+    sum _ _ _ _ (length-map (flat_map (makes_by seat) (hand ds)) _) (few_tiles (wall_now walls ds) (hand ds) (stage_of ds) seat
+    (played_sound rules walls ds h played).standing) (offer_waits ds d seat e offer)
   where
     sum : (c m k o : ℕ) → m ≡ k → c + 3 * k ≤ 13 + o → o ≡ 0 → c + 3 * m ≤ 13
     sum c m k o e h l = omega (arith, e, h, l)
@@ -275,7 +280,8 @@ winner_offered rules walls ds d seat tile h played e offer =
     same a b c e f g h = omega (arith, f, g, h)
 
 -- So has one that wins by its draw.
-pub winner_drawn : (rules : Rules) (walls : List (List ℕ)) (ds : List Deed) (who tile : ℕ) (replacement : Bool) → ((number : ℕ) → is_wall rules.red (wall_of walls number) ≡ true) → IsPlayed rules walls ds →
+pub winner_drawn : (rules : Rules) (walls : List (List ℕ)) (ds : List Deed) (who tile : ℕ) (replacement : Bool) →
+    ((number : ℕ) → is_wall rules.red (wall_of walls number) ≡ true) → IsPlayed rules walls ds →
     newest (before_wins (hand ds)) ≡ Some (Draw who tile replacement) →
     length (own_tiles_of (before_wins (hand ds)) who tile ++ tile ∷ flat_map tiles_of_meld (seat_melds (before_wins (hand ds)) who)) ≤ 18
 winner_drawn rules walls ds who tile replacement h played e =
@@ -306,7 +312,8 @@ no_fifth tiles few kind = by_kind (cases_lt kind 34)
     by_kind (inr large) = past _ (get_or_past (kind_counts tiles) kind 0 (subst (λ (n : ℕ). n ≤ kind) (sym (length-kind_counts tiles)) large))
 
 -- A seat that wins on the offer of another has no kind five times, among its concealed tiles with that one.
-pub offered_no_fifth : (red : Bool) (ds : List Deed) (d : Deed) (seat : ℕ) → all_fit red [] ds ≡ true → newest (before_wins (hand ds)) ≡ Some d → is_offer d ≡ true → seat < 4 → (seat ≡ seat_of d → ⊥) →
+pub offered_no_fifth : (red : Bool) (ds : List Deed) (d : Deed) (seat : ℕ) → all_fit red [] ds ≡ true → newest (before_wins (hand ds)) ≡ Some d →
+    is_offer d ≡ true → seat < 4 → (seat ≡ seat_of d → ⊥) →
     NoFifth (kind_counts (own_tiles_of (before_wins (hand ds)) seat (won_tile d) ++ won_tile d ∷ []))
 offered_no_fifth red ds d seat fit e offer low apart = no_fifth (own_tiles_of (before_wins (hand ds)) seat (won_tile d) ++ won_tile d ∷ []) few
   where

@@ -87,7 +87,8 @@ first_less hs n = by_test (length (winners hs) == 0)
     by_test true = omega arith
     by_test false = omega arith
 
-pub changes_few : (ds : List Deed) (seat target : ℕ) (shows : Shows) → (standing ds).honba ≤ 199 → (other : ℕ) → nat_abs (slice_index_or (changes_of ds seat target shows) other (pos 0)) ≤ 144000 + 1000 * deposits ds
+pub changes_few : (ds : List Deed) (seat target : ℕ) (shows : Shows) → (standing ds).honba ≤ 199 → (other : ℕ) →
+    nat_abs (slice_index_or (changes_of ds seat target shows) other (pos 0)) ≤ 144000 + 1000 * deposits ds
 changes_few ds seat target shows h other =
     within _ _ _ (first_less (hand ds) (deposits ds))
     (win_size _ seat target (standing ds).dealer _ _ (for_first (hand ds) (deposits ds)) (base_few (standing ds) (before_wins (hand ds)) seat shows)

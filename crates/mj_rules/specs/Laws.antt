@@ -24,10 +24,12 @@ EachIsWall = (red : Bool) (walls : List (List ℕ)) → 1 ≤ length walls → l
 
 -- Deeds are played with one more exactly where they are played and the one is played after them.
 abbrev pub PlayedWithOneMore : Type 0
-PlayedWithOneMore = (rules : Rules) (walls : List (List ℕ)) (deeds : List Deed) (deed : Deed) → IsPlayed rules walls deeds → IsPlayedBehind rules walls deeds deed → IsPlayed rules walls (deeds ++ deed ∷ [])
+PlayedWithOneMore = (rules : Rules) (walls : List (List ℕ)) (deeds : List Deed) (deed : Deed) → IsPlayed rules walls deeds →
+    IsPlayedBehind rules walls deeds deed → IsPlayed rules walls (deeds ++ deed ∷ [])
 
 abbrev pub PlayedWithoutTheLast : Type 0
-PlayedWithoutTheLast = (rules : Rules) (walls : List (List ℕ)) (deeds : List Deed) (deed : Deed) → IsPlayed rules walls (deeds ++ deed ∷ []) → IsPlayed rules walls deeds × IsPlayedBehind rules walls deeds deed
+PlayedWithoutTheLast = (rules : Rules) (walls : List (List ℕ)) (deeds : List Deed) (deed : Deed) → IsPlayed rules walls (deeds ++ deed ∷ []) →
+    IsPlayed rules walls deeds × IsPlayedBehind rules walls deeds deed
 
 -- Every played deed fits after those before it, where the wall of the hand is a wall.
 abbrev pub PlayedDeedsFit : Type 0
@@ -43,7 +45,8 @@ NextOfPlayedFits =
 
 -- In played deeds some discard of a seat that has to discard right after its own reach or call breaks no rule.
 abbrev pub SomeDiscardIsLawful : Type 0
-SomeDiscardIsLawful = (rules : Rules) (walls : List (List ℕ)) (deeds : List Deed) (seat : ℕ) → seat < 4 → ((number : ℕ) → is_wall rules.red (wall_of walls number) ≡ true) → IsPlayed rules walls deeds → can_discard rules deeds seat ≡ true
+SomeDiscardIsLawful = (rules : Rules) (walls : List (List ℕ)) (deeds : List Deed) (seat : ℕ) → seat < 4 →
+    ((number : ℕ) → is_wall rules.red (wall_of walls number) ≡ true) → IsPlayed rules walls deeds → can_discard rules deeds seat ≡ true
 
 -- The default answer of a seat is lawful in deeds each of which fits after those before it, as long as some discard
 -- right after its own reach or call breaks none.

@@ -80,7 +80,8 @@ pub record IsPaid (wall : List ℕ) (window deeds : List Deed) (seat target tile
       (points_then deeds (payments score.base honba laid)) rest
 
 -- The deed that comes, and how it is paid.
-pub record ComesPaid (rules : Rules) (walls : List (List ℕ)) (deeds : List Deed) (given : Four Answer) (window : List Deed) (seat target tile : ℕ) (own : List ℕ) (payments : ℕ → ℕ → ℕ → List ℤ) (honba laid : ℕ)
+pub record ComesPaid (rules : Rules) (walls : List (List ℕ)) (deeds : List Deed) (given : Four Answer) (window : List Deed) (seat target tile : ℕ)
+    (own : List ℕ) (payments : ℕ → ℕ → ℕ → List ℤ) (honba laid : ℕ)
     (rest : List ℕ) : Type 0 where
   pub deed : Deed
   pub comes : outcome rules walls deeds given ≡ Some deed
@@ -98,7 +99,8 @@ FirstRonIsPaid =
 -- deposits, and shows its concealed tiles.
 abbrev pub FurtherRonsArePaid : Type 0
 FurtherRonsArePaid =
-    (rules : Rules) (walls : List (List ℕ)) (window : List Deed) (first : Deed) (more : List Deed) (given : Four Answer) (who tile seat : ℕ) (answer : Answer) (winner : ℕ) (unders own : List ℕ) (yaku : List (ℕ × ℕ))
+    (rules : Rules) (walls : List (List ℕ)) (window : List Deed) (first : Deed) (more : List Deed) (given : Four Answer) (who tile seat : ℕ)
+    (answer : Answer) (winner : ℕ) (unders own : List ℕ) (yaku : List (ℕ × ℕ))
     (fu han value : ℕ) (deltas said : List ℤ) (rest : List ℕ) → ((number : ℕ) → is_wall rules.red (wall_of walls number) ≡ true) → IsPlayed rules walls window →
     option_and_then offer_of (newest window) ≡ Some (who, tile) → is_win answer ≡ true → IsLawful rules window seat answer → list_all is_win_deed (first ∷ more) ≡ true →
     newest (window ++ first ∷ more) ≡ Some (Win winner who tile unders own yaku fu han value deltas said (seat ∷ rest)) →
@@ -110,4 +112,5 @@ abbrev pub OwnWinIsPaid : Type 0
 OwnWinIsPaid =
     (rules : Rules) (walls : List (List ℕ)) (deeds : List Deed) (given : Four Answer) (seat tile : ℕ) (replacement : Bool) → ((number : ℕ) → is_wall rules.red (wall_of walls number) ≡ true) →
     IsPlayed rules walls deeds → AllLawful rules deeds given → newest deeds ≡ Some (Draw seat tile replacement) → is_win (at_seat given seat) ≡ true →
-    ComesPaid rules walls deeds given deeds seat seat tile (less (concealed_tiles (hand deeds) seat) (tile ∷ [])) (drawn_changes seat (standing deeds).dealer) (standing deeds).honba (deposits deeds) []
+    ComesPaid rules walls deeds given deeds seat seat tile (less (concealed_tiles (hand deeds) seat) (tile ∷ []))
+    (drawn_changes seat (standing deeds).dealer) (standing deeds).honba (deposits deeds) []

@@ -28,13 +28,15 @@ pub four_with : (red : Bool) (ds : List Deed) (seat against tile : ℕ) (drawn :
 four_with red ds seat against tile drawn a low kind known =
     few _ _ _ _ _ _ (four_together red (ds ++ Discard seat tile drawn ∷ []) seat against kind a.fit_with a.small low a.apart known)
     (ap (λ (hs : List Deed). number_of (concealed_tiles hs against) kind) a.inside ∙ ap (λ (xs : List ℕ). number_of xs kind) (concealed_stay (hand ds) seat tile against drawn a.apart))
-    (ap (λ (hs : List Deed). number_of (open_tiles hs) kind) a.inside ∙ ap (λ (xs : List ℕ). number_of xs kind) (more_of opened_by (hand ds) (Discard seat tile drawn)) ∙ number_of-push (open_tiles (hand ds)) tile kind)
+    (ap (λ (hs : List Deed). number_of (open_tiles hs) kind) a.inside ∙ ap (λ (xs : List ℕ). number_of xs kind)
+    (more_of opened_by (hand ds) (Discard seat tile drawn)) ∙ number_of-push (open_tiles (hand ds)) tile kind)
   where
     few : (x c o n m t : ℕ) → x + c + o ≤ 4 → c ≡ n → o ≡ m + t → n + (m + t) ≤ 4
     few x c o n m t h e f = omega (arith, h, e, f)
 
 -- The counts of the hand with it.
-pub counts_with : (red : Bool) (ds : List Deed) (seat against tile : ℕ) (drawn : Bool) → Asked red ds seat against tile drawn → against < 4 → IsCounts (kind_counts (concealed_tiles (hand ds) against ++ tile ∷ []))
+pub counts_with : (red : Bool) (ds : List Deed) (seat against tile : ℕ) (drawn : Bool) → Asked red ds seat against tile drawn → against < 4 →
+    IsCounts (kind_counts (concealed_tiles (hand ds) against ++ tile ∷ []))
 counts_with red ds seat against tile drawn a low = record { size = length-kind_counts _; within = λ kind. by_kind kind (cases_lt kind 34) }
   where
     tiles : List ℕ
@@ -47,7 +49,8 @@ counts_with red ds seat against tile drawn a low = record { size = length-kind_c
     past n e = omega (arith, e)
 
     by_kind : (kind : ℕ) → (kind < 34) ⊎ (34 ≤ kind) → get_or (kind_counts tiles) kind 0 ≤ 4
-    by_kind kind (inl known) = few _ _ _ _ _ (get_or-kind_counts tiles kind known) (number_of-push (concealed_tiles (hand ds) against) tile kind) (four_with red ds seat against tile drawn a low kind known)
+    by_kind kind (inl known) = few _ _ _ _ _ (get_or-kind_counts tiles kind known) (number_of-push (concealed_tiles (hand ds) against) tile kind)
+        (four_with red ds seat against tile drawn a low kind known)
     by_kind kind (inr large) = past _ (get_or_past (kind_counts tiles) kind 0 (subst (λ (n : ℕ). n ≤ kind) (sym (length-kind_counts tiles)) large))
 
 -- Of a kind of which all are seen another seat holds none.
@@ -86,7 +89,8 @@ alone red ds seat against tile drawn a low blocked = record {
       none _ _ _ _ (get_or-kind_counts tiles other small) (number_of-push cs tile other) (holds_none red ds seat against tile drawn a low other small seen)
       (ap {B = ℕ} (λ b. cond b 1 0) (ne_eqb (kind_of tile) other (λ e. never (eqb other (kind_of tile)) (eq-eqb other (kind_of tile) (sym e)) ne)));
   by_runs = λ from h.
-      then_so (is_run_of (kind_of tile) from) _ (each_kind (λ k. not (is_run_of (kind_of tile) k) || sees_all_beside (hand ds) seat (kind_of tile) (run_from k)) from (run_low from (and_parts (begins_run from) _ h).0) both.1) h;
+      then_so (is_run_of (kind_of tile) from) _ (each_kind (λ k. not (is_run_of (kind_of tile) k) || sees_all_beside (hand ds) seat (kind_of tile)
+      (run_from k)) from (run_low from (and_parts (begins_run from) _ h).0) both.1) h;
   by_orphans = λ closed orphan.
       let found = some_member (λ other. is_terminal_or_honour other && (not (eqb other (kind_of tile)) && sees_all (hand ds) seat other)) all_kinds
       (third (is_terminal_or_honour (kind_of tile)) (nat_lt 0 (length (seat_melds (hand ds) against))) _ parts.1 orphan (no_melds _ closed)) in
@@ -118,6 +122,7 @@ alone red ds seat against tile drawn a low blocked = record {
     never false e h = cc
 
 -- So no win on it is lawful.
-pub blocked_never : (red : Bool) (ds : List Deed) (seat against tile : ℕ) (drawn : Bool) → Asked red ds seat against tile drawn → against < 4 → is_blocked (hand ds) seat against (kind_of tile) ≡ true → ⊥
+pub blocked_never : (red : Bool) (ds : List Deed) (seat against tile : ℕ) (drawn : Bool) → Asked red ds seat against tile drawn → against < 4 →
+    is_blocked (hand ds) seat against (kind_of tile) ≡ true → ⊥
 blocked_never red ds seat against tile drawn a low blocked =
     not_complete _ _ (kind_of tile) (sees_all (hand ds) seat) (alone red ds seat against tile drawn a low blocked) (complete-are _ _ (counts_with red ds seat against tile drawn a low) a.finished)

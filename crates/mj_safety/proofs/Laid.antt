@@ -71,7 +71,8 @@ accepted hs (Some other) kind = omega arith
 
 -- What one deed adds.
 adds : (seat kind : ℕ) (hs : List Deed) (d : Deed) → Takes hs d →
-    number_of (melded_by seat d) kind + number_of (adds_by seat d) kind + number_of (callable (taken_from (hs ++ d ∷ []) (Some d))) kind ≤ number_of (callable (taken_from hs (newest hs))) kind + number_of (opened_by d) kind
+    number_of (melded_by seat d) kind + number_of (adds_by seat d) kind + number_of (callable (taken_from (hs ++ d ∷ []) (Some d))) kind ≤ number_of
+    (callable (taken_from hs (newest hs))) kind + number_of (opened_by d) kind
 adds seat kind hs (Discard who tile drawn) t = omega arith
 adds seat kind hs (Chi who target tile a b) t = of_call seat who tile (a ∷ b ∷ []) _ kind (callable_is (taken_from hs (newest hs)) target tile t)
 adds seat kind hs (Pon who target tile a b) t = of_call seat who tile (a ∷ b ∷ []) _ kind (callable_is (taken_from hs (newest hs)) target tile t)
@@ -97,7 +98,8 @@ more f hs d kind = ap (λ (xs : List ℕ). number_of xs kind) (more_of f hs d) �
 laid_more : (seat kind : ℕ) (hs : List Deed) (d : Deed) → Takes hs d → Laid seat kind hs → Laid seat kind (hs ++ d ∷ [])
 laid_more seat kind hs d t l =
     sum _ _ _ _ _ _ _ _ _ _ _ (more (melded_by seat) hs d kind) (more (adds_by seat) hs d kind) (more opened_by hs d kind) l
-    (subst (λ (o : Option Deed). number_of (melded_by seat d) kind + number_of (adds_by seat d) kind + number_of (callable (taken_from (hs ++ d ∷ []) o)) kind ≤ number_of (callable (taken_from hs (newest hs))) kind + number_of (opened_by d) kind)
+    (subst (λ (o : Option Deed). number_of (melded_by seat d) kind + number_of (adds_by seat d) kind + number_of
+    (callable (taken_from (hs ++ d ∷ []) o)) kind ≤ number_of (callable (taken_from hs (newest hs))) kind + number_of (opened_by d) kind)
     (sym (newest_more hs d)) (adds seat kind hs d t))
   where
     sum : (m m' dm a a' da w w' o o' n : ℕ) → m' ≡ m + dm → a' ≡ a + da → o' ≡ o + n → m + a + w ≤ o → dm + da + w' ≤ w + n → m' + a' + w' ≤ o'
@@ -113,7 +115,8 @@ takes_of : (ds : List Deed) (d : Deed) → (hand ds ≡ [] → ⊥) → is_in_pl
 unfolding ground_of
 takes_of ds (Chi who target tile a b) some h = ap (λ (o : Option Deed). is_discard_of (taken_from (hand ds) o) target tile) (newest_in ds (taken_begun (hand ds) (newest ds) target tile h) some) ∙ h
 takes_of ds (Pon who target tile a b) some h = ap (λ (o : Option Deed). is_discard_of (taken_from (hand ds) o) target tile) (newest_in ds (taken_begun (hand ds) (newest ds) target tile h) some) ∙ h
-takes_of ds (OpenKan who target tile a b c) some h = ap (λ (o : Option Deed). is_discard_of (taken_from (hand ds) o) target tile) (newest_in ds (taken_begun (hand ds) (newest ds) target tile h) some) ∙ h
+takes_of ds (OpenKan who target tile a b c) some h = ap (λ (o : Option Deed). is_discard_of (taken_from (hand ds) o) target tile)
+    (newest_in ds (taken_begun (hand ds) (newest ds) target tile h) some) ∙ h
 takes_of ds other some h = tt
 
 start_laid : (seat kind : ℕ) (d : Deed) → is_hand_start d ≡ true → Laid seat kind (d ∷ [])
@@ -121,7 +124,8 @@ start_laid seat kind (StartHand round number honba deposits dealer indicator han
 start_laid seat kind other h = cc
 
 -- The melds of a seat lie open.
-pub laid : (red : Bool) (ds : List Deed) (seat kind : ℕ) → all_fit red [] ds ≡ true → number_of (flat_map (melded_by seat) (hand ds)) kind + number_of (flat_map (adds_by seat) (hand ds)) kind ≤ number_of (open_tiles (hand ds)) kind
+pub laid : (red : Bool) (ds : List Deed) (seat kind : ℕ) → all_fit red [] ds ≡ true → number_of (flat_map (melded_by seat) (hand ds)) kind + number_of
+    (flat_map (adds_by seat) (hand ds)) kind ≤ number_of (open_tiles (hand ds)) kind
 unfolding hand
 laid red ds seat kind fit = less _ _ _ _ (kept (λ xs. Laid seat kind (hand xs)) red [] ds step (omega arith) fit)
   where
@@ -131,7 +135,8 @@ laid red ds seat kind fit = less _ _ _ _ (kept (λ xs. Laid seat kind (hand xs))
     some : (x : Deed) (h : List Deed) → x ∷ h ≡ [] → ⊥
     some x h e = cc
 
-    by_hand : (xs : List Deed) (d : Deed) (h : List Deed) (b : Bool) → hand xs ≡ h → is_hand_start d ≡ b → is_in_place (ground_of xs) d ≡ true → Laid seat kind h → Laid seat kind (cond b (d ∷ []) (behind h d))
+    by_hand : (xs : List Deed) (d : Deed) (h : List Deed) (b : Bool) → hand xs ≡ h → is_hand_start d ≡ b → is_in_place (ground_of xs) d ≡ true →
+        Laid seat kind h → Laid seat kind (cond b (d ∷ []) (behind h d))
     by_hand xs d h true e f p l = start_laid seat kind d f
     by_hand xs d [] false e f p l = l
     by_hand xs d (x ∷ h) false e f p l = laid_more seat kind (x ∷ h) d (subst (λ (hs : List Deed). Takes hs d) e (takes_of xs d (λ empty. some x h (sym e ∙ empty)) p)) l

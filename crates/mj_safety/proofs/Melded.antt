@@ -62,7 +62,8 @@ three_counts form x y z kind h = ap (λ (xs : List ℕ). number_of xs kind) (thr
 
 four_counts : (form : Form) (w x y z kind : ℕ) → list_all is_known (w ∷ x ∷ y ∷ z ∷ []) ≡ true → number_of (tiles_of_meld (meld_of_four form w x y z)) kind ≡ number_of (w ∷ x ∷ y ∷ z ∷ []) kind
 unfolding meld_of_four
-four_counts form w x y z kind h = ap (λ (xs : List ℕ). number_of xs kind) (four_items (in_tile_order (w ∷ x ∷ y ∷ z ∷ [])) (order_long (w ∷ x ∷ y ∷ z ∷ []) h)) ∙ order_counts (w ∷ x ∷ y ∷ z ∷ []) kind h
+four_counts form w x y z kind h = ap (λ (xs : List ℕ). number_of xs kind) (four_items (in_tile_order (w ∷ x ∷ y ∷ z ∷ []))
+    (order_long (w ∷ x ∷ y ∷ z ∷ []) h)) ∙ order_counts (w ∷ x ∷ y ∷ z ∷ []) kind h
 
 -- a tile that is added
 
@@ -82,7 +83,8 @@ unfolding with_added
 with_added_counts meld [] kind own h = omega arith
 with_added_counts meld (t ∷ ts) kind own h =
     let parts = and_parts (is_known t) (list_all is_known ts) h in
-    by_test (is_pon meld.form) (eqb (kind_of t) (kind_of meld.a)) refl (with_added_counts meld ts kind own parts.1) (four_counts forms.AddedKan t meld.a meld.b meld.c kind (and_from (is_known t) _ parts.0 own))
+    by_test (is_pon meld.form) (eqb (kind_of t) (kind_of meld.a)) refl (with_added_counts meld ts kind own parts.1)
+    (four_counts forms.AddedKan t meld.a meld.b meld.c kind (and_from (is_known t) _ parts.0 own))
     (sum_by-cons (λ x. cond (eqb (kind_of x) kind) 1 0) t ts) (sum_by-cons (λ x. cond (eqb (kind_of x) kind) 1 0) t (meld.a ∷ meld.b ∷ meld.c ∷ []))
   where
     later : (b : Bool) (n k m o x : ℕ) → n ≤ k + cond b m 0 → o ≡ x + m → n ≤ k + cond b o 0
@@ -101,7 +103,8 @@ with_added_counts meld (t ∷ ts) kind own h =
         number_of (tiles_of_meld (meld_of_four forms.AddedKan t meld.a meld.b meld.c)) kind ≡ number_of (t ∷ meld.a ∷ meld.b ∷ meld.c ∷ []) kind →
         number_of (t ∷ ts) kind ≡ cond (eqb (kind_of t) kind) 1 0 + number_of ts kind →
         number_of (t ∷ meld.a ∷ meld.b ∷ meld.c ∷ []) kind ≡ cond (eqb (kind_of t) kind) 1 0 + number_of (meld.a ∷ meld.b ∷ meld.c ∷ []) kind →
-        number_of (tiles_of_meld (cond (p && b) (meld_of_four forms.AddedKan t meld.a meld.b meld.c) (with_added meld ts))) kind ≤ number_of (tiles_of_meld meld) kind + cond (p && eqb (kind_of meld.a) kind) (number_of (t ∷ ts) kind) 0
+        number_of (tiles_of_meld (cond (p && b) (meld_of_four forms.AddedKan t meld.a meld.b meld.c) (with_added meld ts))) kind ≤ number_of
+        (tiles_of_meld meld) kind + cond (p && eqb (kind_of meld.a) kind) (number_of (t ∷ ts) kind) 0
     by_test true true e rest kan tiles all = now (eqb (kind_of meld.a) kind) _ _ _ _ _ _ _ kan all (first_three meld kind) tiles (λ none. other _ e refl none)
     by_test true false e rest kan tiles all = later (eqb (kind_of meld.a) kind) _ _ _ _ _ rest tiles
     by_test false b e rest kan tiles all = rest
@@ -192,8 +195,10 @@ three_alike x y z kind e f g =
     sum n a m b k c p q r e f g = omega (arith, p, q, r, e, f, g)
 
 -- What one meld takes.
-meld_taken : (meld : Meld) (tiles raw : List ℕ) (kind : ℕ) (b : Bool) → list_all is_known (meld.a ∷ meld.b ∷ meld.c ∷ []) ≡ true → list_all is_known tiles ≡ true → number_of (tiles_of_meld meld) kind ≡ number_of raw kind →
-    (is_pon meld.form ≡ true → eqb (kind_of meld.a) kind ≡ true → number_of raw kind ≡ 3) → Taken (number_of (with_all tiles (cond b (meld ∷ []) [])) kind) (number_of (cond b raw []) kind) (number_of tiles kind)
+meld_taken : (meld : Meld) (tiles raw : List ℕ) (kind : ℕ) (b : Bool) → list_all is_known (meld.a ∷ meld.b ∷ meld.c ∷ []) ≡ true →
+    list_all is_known tiles ≡ true → number_of (tiles_of_meld meld) kind ≡ number_of raw kind →
+    (is_pon meld.form ≡ true → eqb (kind_of meld.a) kind ≡ true → number_of raw kind ≡ 3) →
+    Taken (number_of (with_all tiles (cond b (meld ∷ []) [])) kind) (number_of (cond b raw []) kind) (number_of tiles kind)
 meld_taken meld tiles raw kind false own h same three = no_pon _ _ _ (omega arith)
 meld_taken meld tiles raw kind true own h same three =
     subst (λ n. Taken n (number_of raw kind) (number_of tiles kind)) (sym (ap (λ (xs : List ℕ). number_of xs kind) (append-nil (tiles_of_meld (with_added meld tiles)))))
@@ -214,7 +219,14 @@ meld_taken meld tiles raw kind true own h same three =
     by_test : (p c : Bool) → number_of (tiles_of_meld meld) kind ≡ number_of raw kind →
         number_of (tiles_of_meld (with_added meld tiles)) kind ≤ number_of (tiles_of_meld meld) kind + cond (p && c) (number_of tiles kind) 0 →
         (p ≡ true → c ≡ true → number_of raw kind ≡ 3) → Taken (number_of (tiles_of_meld (with_added meld tiles)) kind) (number_of raw kind) (number_of tiles kind)
-    by_test true true e k three = record { pons = 1; takes = number_of tiles kind; most = same_most _ _ _ _ e k; thrice = thrice _ (three refl refl); none = λ h. absurd (never h); one = λ h. omega arith }
+    by_test true true e k three = record {
+      pons = 1;
+      takes = number_of tiles kind;
+      most = same_most _ _ _ _ e k;
+      thrice = thrice _ (three refl refl);
+      none = λ h. absurd (never h);
+      one = λ h. omega arith;
+    }
     by_test true false e k three = no_pon _ _ _ (least _ _ _ e k)
     by_test false c e k three = no_pon _ _ _ (least _ _ _ e k)
 
@@ -246,7 +258,8 @@ pon_kind x y z h alike =
     (and_from (eqb (kind_of y) (kind_of x)) _ (eq-eqb (kind_of y) (kind_of x) (sym (eqb-true (kind_of x) (kind_of y) parts.0)))
     (and_from (eqb (kind_of z) (kind_of x)) true (eq-eqb (kind_of z) (kind_of x) (sym (eqb-true (kind_of x) (kind_of z) parts.1))) refl)))))
 
-pon_three : (x y z kind : ℕ) → list_all is_known (x ∷ y ∷ z ∷ []) ≡ true → (are_alike x y && are_alike x z) ≡ true → eqb (kind_of (meld_of_three forms.Pon x y z).a) kind ≡ true → number_of (x ∷ y ∷ z ∷ []) kind ≡ 3
+pon_three : (x y z kind : ℕ) → list_all is_known (x ∷ y ∷ z ∷ []) ≡ true → (are_alike x y && are_alike x z) ≡ true →
+    eqb (kind_of (meld_of_three forms.Pon x y z).a) kind ≡ true → number_of (x ∷ y ∷ z ∷ []) kind ≡ 3
 pon_three x y z kind h alike is =
     let parts = and_parts (are_alike x y) (are_alike x z) alike in
     let first : kind_of x ≡ kind = sym (pon_kind x y z h alike) ∙ eqb-true _ kind is in
@@ -267,19 +280,24 @@ closed_is_no_pon w x y z h = cc
 deed_taken : (seat kind : ℕ) (tiles : List ℕ) (d : Deed) → list_all is_known tiles ≡ true → list_all is_known (faces_in d) ≡ true → is_even d ≡ true →
     Taken (number_of (with_all tiles (makes_by seat d)) kind) (number_of (melded_by seat d) kind) (number_of tiles kind)
 deed_taken seat kind tiles (Chi who target tile a b) h k even =
-    meld_taken (meld_of_three forms.Chi tile a b) tiles (tile ∷ a ∷ b ∷ []) kind (eqb who seat) (three_known forms.Chi tile a b k) h (three_counts forms.Chi tile a b kind k) (λ p _. absurd (chi_is_no_pon tile a b p))
+    meld_taken (meld_of_three forms.Chi tile a b) tiles (tile ∷ a ∷ b ∷ []) kind (eqb who seat) (three_known forms.Chi tile a b k) h
+    (three_counts forms.Chi tile a b kind k) (λ p _. absurd (chi_is_no_pon tile a b p))
 deed_taken seat kind tiles (Pon who target tile a b) h k even =
-    meld_taken (meld_of_three forms.Pon tile a b) tiles (tile ∷ a ∷ b ∷ []) kind (eqb who seat) (three_known forms.Pon tile a b k) h (three_counts forms.Pon tile a b kind k) (λ _ is. pon_three tile a b kind k even is)
+    meld_taken (meld_of_three forms.Pon tile a b) tiles (tile ∷ a ∷ b ∷ []) kind (eqb who seat) (three_known forms.Pon tile a b k) h
+    (three_counts forms.Pon tile a b kind k) (λ _ is. pon_three tile a b kind k even is)
 deed_taken seat kind tiles (OpenKan who target tile a b c) h k even =
-    meld_taken (meld_of_four forms.OpenKan tile a b c) tiles (tile ∷ a ∷ b ∷ c ∷ []) kind (eqb who seat) (four_known forms.OpenKan tile a b c k) h (four_counts forms.OpenKan tile a b c kind k) (λ p _. absurd (open_is_no_pon tile a b c p))
+    meld_taken (meld_of_four forms.OpenKan tile a b c) tiles (tile ∷ a ∷ b ∷ c ∷ []) kind (eqb who seat) (four_known forms.OpenKan tile a b c k) h
+    (four_counts forms.OpenKan tile a b c kind k) (λ p _. absurd (open_is_no_pon tile a b c p))
 deed_taken seat kind tiles (ClosedKan who a b c d) h k even =
-    meld_taken (meld_of_four forms.ClosedKan a b c d) tiles (a ∷ b ∷ c ∷ d ∷ []) kind (eqb who seat) (four_known forms.ClosedKan a b c d k) h (four_counts forms.ClosedKan a b c d kind k) (λ p _. absurd (closed_is_no_pon a b c d p))
+    meld_taken (meld_of_four forms.ClosedKan a b c d) tiles (a ∷ b ∷ c ∷ d ∷ []) kind (eqb who seat) (four_known forms.ClosedKan a b c d k) h
+    (four_counts forms.ClosedKan a b c d kind k) (λ p _. absurd (closed_is_no_pon a b c d p))
 deed_taken seat kind tiles other h k even = no_pon _ _ _ (omega arith)
 
 number_with : (tiles : List ℕ) (xs ys : List Meld) (kind : ℕ) → number_of (with_all tiles (xs ++ ys)) kind ≡ number_of (with_all tiles xs) kind + number_of (with_all tiles ys) kind
 number_with tiles [] ys kind = omega arith
 number_with tiles (x ∷ xs) ys kind =
-    sum _ _ _ _ _ _ (number_of-append (tiles_of_meld (with_added x tiles)) (with_all tiles (xs ++ ys)) kind) (number_with tiles xs ys kind) (number_of-append (tiles_of_meld (with_added x tiles)) (with_all tiles xs) kind)
+    sum _ _ _ _ _ _ (number_of-append (tiles_of_meld (with_added x tiles)) (with_all tiles (xs ++ ys)) kind) (number_with tiles xs ys kind)
+    (number_of-append (tiles_of_meld (with_added x tiles)) (with_all tiles xs) kind)
   where
     sum : (n a m x y k : ℕ) → n ≡ a + m → m ≡ x + y → k ≡ a + x → n ≡ k + y
     sum n a m x y k e f g = omega (arith, e, f, g)

@@ -76,7 +76,8 @@ offered_same (x ∷ ds) d seat q =
     or_none true = refl
     or_none false = refl
 
-behind_same : (ds : List Deed) (d : Deed) (seat : ℕ) → Offers d → flat_map (offers_to seat) (behind_first (is_reach_by seat) (ds ++ d ∷ [])) ≡ flat_map (offers_to seat) (behind_first (is_reach_by seat) ds)
+behind_same : (ds : List Deed) (d : Deed) (seat : ℕ) → Offers d → flat_map (offers_to seat) (behind_first (is_reach_by seat) (ds ++ d ∷ [])) ≡
+    flat_map (offers_to seat) (behind_first (is_reach_by seat) ds)
 behind_same [] d seat q = by_test (is_reach_by seat d)
   where
     by_test : (b : Bool) → flat_map (offers_to seat) (cond b [] []) ≡ []
@@ -84,7 +85,8 @@ behind_same [] d seat q = by_test (is_reach_by seat d)
     by_test false = refl
 behind_same (x ∷ ds) d seat q = by_test (is_reach_by seat x) (none_of (offers_to seat) ds d (q.nothing seat)) (behind_same ds d seat q)
   where
-    by_test : (b : Bool) → flat_map (offers_to seat) (ds ++ d ∷ []) ≡ flat_map (offers_to seat) ds → flat_map (offers_to seat) (behind_first (is_reach_by seat) (ds ++ d ∷ [])) ≡ flat_map (offers_to seat) (behind_first (is_reach_by seat) ds) →
+    by_test : (b : Bool) → flat_map (offers_to seat) (ds ++ d ∷ []) ≡ flat_map (offers_to seat) ds →
+        flat_map (offers_to seat) (behind_first (is_reach_by seat) (ds ++ d ∷ [])) ≡ flat_map (offers_to seat) (behind_first (is_reach_by seat) ds) →
         flat_map (offers_to seat) (cond b (ds ++ d ∷ []) (behind_first (is_reach_by seat) (ds ++ d ∷ []))) ≡ flat_map (offers_to seat) (cond b ds (behind_first (is_reach_by seat) ds))
     by_test true all later = all
     by_test false all later = later

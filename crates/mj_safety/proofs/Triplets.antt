@@ -121,26 +121,32 @@ winner_even ds wall target tile (seat ∷ rest) = win_even ds wall seat target t
 call_even : (rules : Rules) (ds : List Deed) (given : Four Answer) → AllLawful rules ds given → IfAny Even (call_of_bid (best_bid given))
 unfolding best_bid
 call_even rules ds given c =
-    or_other Even _ _ (bid_next Even triplet_bid given (λ seat h. triplet_even rules ds seat (at_seat given seat) (clean_at rules ds given seat h c))) (bid_next Even run_bid given (λ seat h. run_even seat (at_seat given seat)))
+    or_other Even _ _ (bid_next Even triplet_bid given (λ seat h. triplet_even rules ds seat (at_seat given seat) (clean_at rules ds given seat h c)))
+    (bid_next Even run_bid given (λ seat h. run_even seat (at_seat given seat)))
 
-follower_even : (rules : Rules) (walls : List (List ℕ)) (ds : List Deed) (given : Four Answer) (n : Deed) → newest ds ≡ Some n → has_seats n ≡ true → IfAny Even (kept_call (Some n)) → AllLawful rules ds given →
+follower_even : (rules : Rules) (walls : List (List ℕ)) (ds : List Deed) (given : Four Answer) (n : Deed) → newest ds ≡ Some n → has_seats n ≡ true →
+    IfAny Even (kept_call (Some n)) → AllLawful rules ds given →
     IfAny Even (follows rules walls ds n (decision_by n given))
 unfolding hand_start next_dora next_replacement
 follower_even rules walls ds given (StartGame names) e seats k c = refl
 follower_even rules walls ds given (StartHand round number honba deposits dealer indicator hands) e seats k c = draw_even ds (wall_now walls ds) dealer
 follower_even rules walls ds given (Draw who tile replacement) e seats k c =
-    won_or_acts Even (wall_now walls ds) ds (Draw who tile replacement) who (at_seat given who) (win_even ds (wall_now walls ds) who who tile []) (drawn_even ds reasons.Kyushukyuhai) (act_even who (at_seat given who))
+    won_or_acts Even (wall_now walls ds) ds (Draw who tile replacement) who (at_seat given who) (win_even ds (wall_now walls ds) who who tile [])
+    (drawn_even ds reasons.Kyushukyuhai) (act_even who (at_seat given who))
 follower_even rules walls ds given (Discard who tile drawn) e seats k c =
     let calls : IfAny Even (call_of_bid (best_bid given)) = call_even rules ds given c in
-    won_or Even rules walls ds (Discard who tile drawn) (rons_on who given) (call_or_pass (best_bid given)) (rons_seated who given) (λ seat rest low others. win_even ds (wall_now walls ds) seat who tile rest)
+    won_or Even rules walls ds (Discard who tile drawn) (rons_on who given) (call_or_pass (best_bid given)) (rons_seated who given)
+    (λ seat rest low others. win_even ds (wall_now walls ds) seat who tile rest)
     (called_or_on Even rules walls ds who tile drawn (best_bid given)
     (behind_or Even rules (wall_now walls ds) ds who (best_bid given) (λ reached. accept_even ds who (best_bid given) calls) (drawn_even ds) calls (draw_even ds (wall_now walls ds) _)))
 follower_even rules walls ds given (Chi who target tile a b) e seats k c =
     let clean = clean_at rules ds given who (first_seat who _ seats) c in
-    discards_only Even (wall_now walls ds) ds (Chi who target tile a b) who (at_seat given who) (called_opens rules ds (Chi who target tile a b) who _ (at_seat given who) e refl clean) (act_even who (at_seat given who))
+    discards_only Even (wall_now walls ds) ds (Chi who target tile a b) who (at_seat given who) (called_opens rules ds (Chi who target tile a b) who _
+    (at_seat given who) e refl clean) (act_even who (at_seat given who))
 follower_even rules walls ds given (Pon who target tile a b) e seats k c =
     let clean = clean_at rules ds given who (first_seat who _ seats) c in
-    discards_only Even (wall_now walls ds) ds (Pon who target tile a b) who (at_seat given who) (called_opens rules ds (Pon who target tile a b) who _ (at_seat given who) e refl clean) (act_even who (at_seat given who))
+    discards_only Even (wall_now walls ds) ds (Pon who target tile a b) who (at_seat given who) (called_opens rules ds (Pon who target tile a b) who _
+    (at_seat given who) e refl clean) (act_even who (at_seat given who))
 follower_even rules walls ds given (OpenKan who target tile a b d) e seats k c = refl
 follower_even rules walls ds given (ClosedKan who a b d x) e seats k c = refl
 follower_even rules walls ds given (AddedKan who tile a b d) e seats k c =
@@ -156,12 +162,14 @@ follower_even rules walls ds given (DrawnHand reason hands ready deltas points) 
 follower_even rules walls ds given EndHand e seats k c = start_or_end Even walls ds (standing_after (standing ds) (hand ds)) (λ next after. refl) refl
 follower_even rules walls ds given (EndGame points deposits) e seats k c = tt
 
-outcome_even : (rules : Rules) (walls : List (List ℕ)) (ds : List Deed) (given : Four Answer) (d : Deed) → IfAny (λ n. has_seats n ≡ true) (newest ds) → IfAny Even (kept_call (newest ds)) → AllLawful rules ds given →
+outcome_even : (rules : Rules) (walls : List (List ℕ)) (ds : List Deed) (given : Four Answer) (d : Deed) → IfAny (λ n. has_seats n ≡ true) (newest ds)
+    → IfAny Even (kept_call (newest ds)) → AllLawful rules ds given →
     outcome rules walls ds given ≡ Some d → Even d
 unfolding outcome
 outcome_even rules walls ds given d seats k c e = subst (IfAny Even) e (by_newest (newest ds) refl seats k)
   where
-    by_newest : (o : Option Deed) → newest ds ≡ o → IfAny (λ n. has_seats n ≡ true) o → IfAny Even (kept_call o) → IfAny Even (option_and_then (λ last. follows rules walls ds last (decision_by last given)) o)
+    by_newest : (o : Option Deed) → newest ds ≡ o → IfAny (λ n. has_seats n ≡ true) o → IfAny Even (kept_call o) →
+        IfAny Even (option_and_then (λ last. follows rules walls ds last (decision_by last given)) o)
     by_newest None e seats k = tt
     by_newest (Some n) e seats k = follower_even rules walls ds given n e seats k c
 
@@ -170,7 +178,8 @@ start_even (Pon who target tile a b) h = cc
 start_even (ReachAccepted who points bid) h = cc
 start_even other h = refl
 
-behind_even : (rules : Rules) (walls : List (List ℕ)) (ds : List Deed) (d : Deed) → IfAny (λ n. has_seats n ≡ true) (newest ds) → IfAny Even (kept_call (newest ds)) → IsPlayedBehind rules walls ds d → Even d
+behind_even : (rules : Rules) (walls : List (List ℕ)) (ds : List Deed) (d : Deed) → IfAny (λ n. has_seats n ≡ true) (newest ds) →
+    IfAny Even (kept_call (newest ds)) → IsPlayedBehind rules walls ds d → Even d
 behind_even rules walls [] d seats k played = start_even d played
 behind_even rules walls (first ∷ others) d seats k played = outcome_even rules walls (first ∷ others) played.given d seats k played.lawful played.gives
 
@@ -180,7 +189,8 @@ keeps_even : (d : Deed) → Even d → IfAny Even (kept_call (Some d))
 keeps_even (ReachAccepted who points bid) h = bid_even bid h
 keeps_even other h = tt
 
-all_even : (rules : Rules) (walls : List (List ℕ)) (before ds : List Deed) → ((number : ℕ) → is_wall rules.red (wall_of walls number) ≡ true) → IsPlayed rules walls before → list_all is_even before ≡ true →
+all_even : (rules : Rules) (walls : List (List ℕ)) (before ds : List Deed) → ((number : ℕ) → is_wall rules.red (wall_of walls number) ≡ true) →
+    IsPlayed rules walls before → list_all is_even before ≡ true →
     IfAny Even (kept_call (newest before)) → AllPlayed rules walls before ds → list_all is_even (before ++ ds) ≡ true
 all_even rules walls before [] whole old h k played = subst (λ (xs : List Deed). list_all is_even xs ≡ true) (sym (append-nil before)) h
 all_even rules walls before (d ∷ ds) whole old h k played =
@@ -199,6 +209,7 @@ from_last_passes p q (d ∷ ds) h = by_tests (list_any q ds) (q d) (from_last_pa
     by_tests false true later all = all
     by_tests false false later all = refl
 
-pub even_in_hand : (rules : Rules) (walls : List (List ℕ)) (ds : List Deed) → ((number : ℕ) → is_wall rules.red (wall_of walls number) ≡ true) → IsPlayed rules walls ds → list_all is_even (hand ds) ≡ true
+pub even_in_hand : (rules : Rules) (walls : List (List ℕ)) (ds : List Deed) → ((number : ℕ) → is_wall rules.red (wall_of walls number) ≡ true) →
+    IsPlayed rules walls ds → list_all is_even (hand ds) ≡ true
 unfolding hand
 even_in_hand rules walls ds whole played = from_last_passes is_even is_hand_start ds (all_even rules walls [] ds whole tt refl tt played)

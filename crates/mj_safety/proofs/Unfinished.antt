@@ -98,7 +98,8 @@ small_run : (low : ℕ) → begins_run low ≡ true → list_all (λ kind. ltb k
 unfolding begins_run
 small_run low h =
     let few : low < 27 = ltb-true low 27 (and_parts (ltb low 27) _ h).0 in
-    and_from (ltb low 34) _ (lt-ltb low 34 (omega (arith, few))) (and_from (ltb (low + 1) 34) _ (lt-ltb (low + 1) 34 (omega (arith, few))) (and_from (ltb (low + 2) 34) true (lt-ltb (low + 2) 34 (omega (arith, few))) refl))
+    and_from (ltb low 34) _ (lt-ltb low 34 (omega (arith, few))) (and_from (ltb (low + 1) 34) _ (lt-ltb (low + 1) 34 (omega (arith, few)))
+    (and_from (ltb (low + 2) 34) true (lt-ltb (low + 2) 34 (omega (arith, few))) refl))
 
 -- What is known of a hand: it has one tile of the kind, and none of those that are wanted beside it.
 pub record Alone (counts : List ℕ) (melds kind : ℕ) (empty : ℕ → Bool) : Type 0 where
@@ -127,7 +128,8 @@ no_sets counts melds kind empty number sets pair a are = of_run alone.set.form a
     never : (n m c g : ℕ) → 0 < n → n ≤ m → g ≡ m + c → g ≡ 0 → ⊥
     never n m c g h k e f = omega (arith, h, k, e, f)
 
-    of_run : (form : SetForm) (low : ℕ) → (not alone.set.shown && is_concealed_form form low) ≡ true → number_in (tiles_of_form form low) kind ≡ 1 → ((other : ℕ) → number_in (tiles_of_form form low) other ≤ number_at other sets) → ⊥
+    of_run : (form : SetForm) (low : ℕ) → (not alone.set.shown && is_concealed_form form low) ≡ true → number_in (tiles_of_form form low) kind ≡ 1 →
+        ((other : ℕ) → number_in (tiles_of_form form low) other ≤ number_at other sets) → ⊥
     of_run form low h one among =
         let is = runs kind form low (and_parts (not alone.set.shown) (is_concealed_form form low) h).1 one in
         let there : 0 < number_in (run_from low) kind = subst (λ (xs : List ℕ). 0 < number_in xs kind) is.1 (some _ one) in

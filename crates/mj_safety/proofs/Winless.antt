@@ -55,7 +55,8 @@ room_left : (red : Bool) (ds : List Deed) (seat against tile : ℕ) (drawn : Boo
     get_or (kind_counts (concealed_tiles (hand ds) against)) (kind_of tile) 0 < get_or (room_beside (flat_map tiles_of_meld (seat_melds (hand ds) against))) (kind_of tile) 0
 room_left red ds seat against tile drawn a low even =
     same _ _ _ _ (get_or-kind_counts (concealed_tiles (hand ds) against) (kind_of tile) a.known) (room_is (flat_map tiles_of_meld (seat_melds (hand ds) against)) (kind_of tile) a.known)
-    (room_after _ _ _ _ _ _ (melds_taken red against (kind_of tile) (hand ds) (hand_real red ds a.fit) even) (laid red ds against (kind_of tile) a.fit) (four_with red ds seat against tile drawn a low (kind_of tile) a.known)
+    (room_after _ _ _ _ _ _ (melds_taken red against (kind_of tile) (hand ds) (hand_real red ds a.fit) even)
+    (laid red ds against (kind_of tile) a.fit) (four_with red ds seat against tile drawn a low (kind_of tile) a.known)
     (ap {B = ℕ} (λ b. cond b 1 0) (eq-eqb (kind_of tile) (kind_of tile) refl)))
   where
     same : (n m x y : ℕ) → n ≡ x → m ≡ y → x < y → n < m
@@ -64,7 +65,8 @@ room_left red ds seat against tile drawn a low even =
 missed_never : (red : Bool) (ds : List Deed) (seat against tile : ℕ) (drawn : Bool) → Asked red ds seat against tile drawn → against < 4 → list_all is_even (hand ds) ≡ true →
     (has_kind (own_kinds (hand ds) against) (kind_of tile) || has_kind (passed_kinds (hand ds) against) (kind_of tile) || has_kind (passed_in_riichi (hand ds) against) (kind_of tile)) ≡ true → ⊥
 missed_never red ds seat against tile drawn a low even some =
-    true≢false (sym (missed (concealed_tiles (hand ds) against) _ (length (seat_melds (hand ds) against)) tile (own_kinds (hand ds) against) (passed_kinds (hand ds) against) (passed_in_riichi (hand ds) against)
+    true≢false (sym (missed (concealed_tiles (hand ds) against) _ (length (seat_melds (hand ds) against)) tile (own_kinds (hand ds) against)
+    (passed_kinds (hand ds) against) (passed_in_riichi (hand ds) against)
     a.known (room_left red ds seat against tile drawn a low even) a.finished some) ∙ a.free)
 
 first_of_three : (a b c : Bool) → a ≡ true → (a || b || c) ≡ true
@@ -83,9 +85,15 @@ third_of_three false false c e = e
 
 by_reason : (red : Bool) (ds : List Deed) (seat against tile : ℕ) (drawn : Bool) (reason : Reason) → Asked red ds seat against tile drawn → against < 4 → list_all is_even (hand ds) ≡ true →
     reason_holds ds seat against (kind_of tile) reason ≡ true → ⊥
-by_reason red ds seat against tile drawn OwnDiscard a low even h = missed_never red ds seat against tile drawn a low even (first_of_three (has_kind (own_kinds (hand ds) against) (kind_of tile)) (has_kind (passed_kinds (hand ds) against) (kind_of tile)) (has_kind (passed_in_riichi (hand ds) against) (kind_of tile)) h)
-by_reason red ds seat against tile drawn PassedInRiichi a low even h = missed_never red ds seat against tile drawn a low even (third_of_three (has_kind (own_kinds (hand ds) against) (kind_of tile)) (has_kind (passed_kinds (hand ds) against) (kind_of tile)) (has_kind (passed_in_riichi (hand ds) against) (kind_of tile)) h)
-by_reason red ds seat against tile drawn Passed a low even h = missed_never red ds seat against tile drawn a low even (second_of_three (has_kind (own_kinds (hand ds) against) (kind_of tile)) (has_kind (passed_kinds (hand ds) against) (kind_of tile)) (has_kind (passed_in_riichi (hand ds) against) (kind_of tile)) h)
+by_reason red ds seat against tile drawn OwnDiscard a low even h = missed_never red ds seat against tile drawn a low even
+    (first_of_three (has_kind (own_kinds (hand ds) against) (kind_of tile)) (has_kind (passed_kinds (hand ds) against) (kind_of tile))
+    (has_kind (passed_in_riichi (hand ds) against) (kind_of tile)) h)
+by_reason red ds seat against tile drawn PassedInRiichi a low even h = missed_never red ds seat against tile drawn a low even
+    (third_of_three (has_kind (own_kinds (hand ds) against) (kind_of tile)) (has_kind (passed_kinds (hand ds) against) (kind_of tile))
+    (has_kind (passed_in_riichi (hand ds) against) (kind_of tile)) h)
+by_reason red ds seat against tile drawn Passed a low even h = missed_never red ds seat against tile drawn a low even
+    (second_of_three (has_kind (own_kinds (hand ds) against) (kind_of tile)) (has_kind (passed_kinds (hand ds) against) (kind_of tile))
+    (has_kind (passed_in_riichi (hand ds) against) (kind_of tile)) h)
 by_reason red ds seat against tile drawn Blocked a low even h = blocked_never red ds seat against tile drawn a low h
 
 pub safe_tiles_are_safe : SafeTilesAreSafe

@@ -65,13 +65,17 @@ module _ {A : Type 0} where
     where
       by : (begins more less here : Bool) → Split more less here → IsPermutation (below_from (from + 1) (suc n) es) (below_from (from + 1) n es ++ places_from (from + 1) n es)
           → IsPermutation (if (begins && more) then from ∷ below_from (from + 1) (suc n) es else below_from (from + 1) (suc n) es)
-          ((if (begins && less) then from ∷ below_from (from + 1) n es else below_from (from + 1) n es) ++ (if (begins && here) then from ∷ places_from (from + 1) n es else places_from (from + 1) n es))
+          ((if (begins && less) then from ∷ below_from (from + 1) n es else below_from (from + 1) n es) ++
+          (if (begins && here) then from ∷ places_from (from + 1) n es else places_from (from + 1) n es))
       by false more less here w rest = rest
       by true true true false w rest = IsPermutation-cons from (below_from (from + 1) (suc n) es) (below_from (from + 1) n es ++ places_from (from + 1) n es) rest
       by true true false true w rest =
-          IsPermutation-trans (from ∷ below_from (from + 1) (suc n) es) (from ∷ (below_from (from + 1) n es ++ places_from (from + 1) n es)) (below_from (from + 1) n es ++ from ∷ places_from (from + 1) n es)
+          IsPermutation-trans (from ∷ below_from (from + 1) (suc n) es) (from ∷ (below_from (from + 1) n es ++ places_from (from + 1) n es))
+          (below_from (from + 1) n es ++ from ∷ places_from (from + 1) n es)
           (IsPermutation-cons from (below_from (from + 1) (suc n) es) (below_from (from + 1) n es ++ places_from (from + 1) n es) rest)
-          (IsPermutation-sym (below_from (from + 1) n es ++ from ∷ places_from (from + 1) n es) (from ∷ (below_from (from + 1) n es ++ places_from (from + 1) n es)) (IsPermutation-middle (below_from (from + 1) n es) from (places_from (from + 1) n es)))
+          (IsPermutation-sym (below_from (from + 1) n es ++ from ∷ places_from (from + 1) n es)
+          (from ∷ (below_from (from + 1) n es ++ places_from (from + 1) n es)) (IsPermutation-middle (below_from (from + 1) n es) from
+          (places_from (from + 1) n es)))
       by true false false false w rest = rest
       by true true true true w rest = absurd w
       by true true false false w rest = absurd w

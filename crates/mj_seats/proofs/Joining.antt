@@ -67,7 +67,8 @@ module _ {T S N : Type 0} (turn : TurnState T) (fixed : S) where
   are_new passes count e = (new_count passes count e, e ∙ ap (λ (n : ℕ). new_passes turn.id fixed n) (sym (new_count passes count e)))
 
   -- the last of some new passes, and those before it
-  pub popped_new : (passes rest : List (PassState T S N)) (r : Option (PassState T S N)) (p : PassState T S N) → passes ≡ new_passes turn.id fixed (length passes) → passes ≡ rest ++ option_to_list r → r ≡ Some p
+  pub popped_new : (passes rest : List (PassState T S N)) (r : Option (PassState T S N)) (p : PassState T S N) →
+      passes ≡ new_passes turn.id fixed (length passes) → passes ≡ rest ++ option_to_list r → r ≡ Some p
       → (p ≡ new_pass turn.id fixed (length rest)) × (rest ≡ new_passes turn.id fixed (length rest)) × (length passes ≡ length rest + 1) × (p ≡ new_pass turn.id fixed p.number)
   popped_new passes rest r p all items this =
       let pop : passes ≡ rest ++ p ∷ [] = was passes rest r p items this in
@@ -78,7 +79,8 @@ module _ {T S N : Type 0} (turn : TurnState T) (fixed : S) where
       (both.1, both.0, count, both.1 ∙ ap (λ (n : ℕ). new_pass turn.id fixed n) (sym (ap (λ (q : PassState T S N). q.number) both.1)))
 
   -- the last of so many new passes and one, and those before it
-  pub popped_last : (count : ℕ) (passes rest : List (PassState T S N)) (r : Option (PassState T S N)) (p : PassState T S N) → passes ≡ new_passes turn.id fixed (count + 1) → passes ≡ rest ++ option_to_list r → r ≡ Some p
+  pub popped_last : (count : ℕ) (passes rest : List (PassState T S N)) (r : Option (PassState T S N)) (p : PassState T S N) →
+      passes ≡ new_passes turn.id fixed (count + 1) → passes ≡ rest ++ option_to_list r → r ≡ Some p
       → (p.number ≡ count) × (rest ≡ new_passes turn.id fixed (length rest)) × (length rest ≡ count) × (p ≡ new_pass turn.id fixed p.number)
   popped_last count passes rest r p e items this =
       let all = are_new passes (count + 1) e in
@@ -88,23 +90,31 @@ module _ {T S N : Type 0} (turn : TurnState T) (fixed : S) where
       let same : length rest ≡ count = omega (arith, long, less) in
       (ap (λ (q : PassState T S N). q.number) new.0 ∙ same, new.1, same, new.3)
 
-module _ {T A R L F S : Type 0} (after : List (Entry A) → Showing) (reads : List ℕ → A) (joins : List ℕ → Option JoinLine) (sits : List (Entry A) → List ℕ → SitAnswer) (hears : List (Entry A) → ℕ → ℕ → A → Heard R) (says : Control R → List ℕ) (at : List ℕ → L → WireState) (made : F → Type 0) (number : F → ℕ) (setting : T → S) (turn : TurnState T) where
-  pub left_count : (n : ℕ) (ps : List (PassState T S (Entry A))) (sessions : List (Session L)) (ends : List (HandlerEnd F)) → AllLeft after reads joins sits hears says at made number setting turn n ps sessions ends → length ps ≡ n
+module _ {T A R L F S : Type 0} (after : List (Entry A) → Showing) (reads : List ℕ → A) (joins : List ℕ → Option JoinLine) (sits : List (Entry A) →
+    List ℕ → SitAnswer) (hears : List (Entry A) → ℕ → ℕ → A → Heard R) (says : Control R → List ℕ) (at : List ℕ → L → WireState) (made : F → Type 0)
+    (number : F → ℕ) (setting : T → S) (turn : TurnState T) where
+  pub left_count : (n : ℕ) (ps : List (PassState T S (Entry A))) (sessions : List (Session L)) (ends : List (HandlerEnd F)) →
+      AllLeft after reads joins sits hears says at made number setting turn n ps sessions ends → length ps ≡ n
   left_count zero ps sessions ends (a, b, c) = ap length a
   left_count (suc n) all sessions ends (ps, p, before, own, es, end, a, b, c, left, one, memory) =
       let e : length all ≡ length (ps ++ p ∷ []) = ap length a in
       let ih : length ps ≡ n = left_count n ps before es left in
       omega (arith, e, length-append ps (p ∷ []), ih)
 
-  pub left_idle : (n : ℕ) (ps : List (PassState T S (Entry A))) (sessions : List (Session L)) (ends : List (HandlerEnd F)) → AllLeft after reads joins sits hears says at made number setting turn n ps sessions ends → All (IsIdle setting turn) ps
+  pub left_idle : (n : ℕ) (ps : List (PassState T S (Entry A))) (sessions : List (Session L)) (ends : List (HandlerEnd F)) →
+      AllLeft after reads joins sits hears says at made number setting turn n ps sessions ends → All (IsIdle setting turn) ps
   left_idle zero ps sessions ends (a, b, c) = subst (λ (l : List (PassState T S (Entry A))). All (IsIdle setting turn) l) (sym a) (All-nil (IsIdle setting turn))
   left_idle (suc n) all sessions ends (ps, p, before, own, es, end, a, b, c, left, one, memory) =
       subst (λ (l : List (PassState T S (Entry A))). All (IsIdle setting turn) l) (sym a) (All-push (IsIdle setting turn) ps p (left_idle n ps before es left) one.idle)
 
-module _ {T A R L F S : Type 0} (after : List (Entry A) → Showing) (reads : List ℕ → A) (joins : List ℕ → Option JoinLine) (sits : List (Entry A) → List ℕ → SitAnswer) (hears : List (Entry A) → ℕ → ℕ → A → Heard R) (says : Control R → List ℕ) (at : List ℕ → L → WireState) (made : F → Type 0) (number : F → ℕ) (setting : T → S) (turn : TurnState T) where
+module _ {T A R L F S : Type 0} (after : List (Entry A) → Showing) (reads : List ℕ → A) (joins : List ℕ → Option JoinLine) (sits : List (Entry A) →
+    List ℕ → SitAnswer) (hears : List (Entry A) → ℕ → ℕ → A → Heard R) (says : Control R → List ℕ) (at : List ℕ → L → WireState) (made : F → Type 0)
+    (number : F → ℕ) (setting : T → S) (turn : TurnState T) where
   -- what is left of all, put together
-  pub left_of : (n : ℕ) (ds : List (Done (PassState T S (Entry A)) L F)) → AllDone after reads joins sits hears says at made number setting turn n ds → All (λ (d : Done (PassState T S (Entry A)) L F). WantsMemory d.end → ⊥) ds
-      → AllLeft after reads joins sits hears says at made number setting turn n (map (λ (d : Done (PassState T S (Entry A)) L F). d.pass) ds) (flat_map (λ (d : Done (PassState T S (Entry A)) L F). d.sessions.items) ds) (map (λ (d : Done (PassState T S (Entry A)) L F). d.end) ds)
+  pub left_of : (n : ℕ) (ds : List (Done (PassState T S (Entry A)) L F)) → AllDone after reads joins sits hears says at made number setting turn n ds
+      → All (λ (d : Done (PassState T S (Entry A)) L F). WantsMemory d.end → ⊥) ds
+      → AllLeft after reads joins sits hears says at made number setting turn n (map (λ (d : Done (PassState T S (Entry A)) L F). d.pass) ds)
+      (flat_map (λ (d : Done (PassState T S (Entry A)) L F). d.sessions.items) ds) (map (λ (d : Done (PassState T S (Entry A)) L F). d.end) ds)
   left_of zero ds e m = (
     ap (λ (l : List (Done (PassState T S (Entry A)) L F)). map (λ (d : Done (PassState T S (Entry A)) L F). d.pass) l) e,
     ap (λ (l : List (Done (PassState T S (Entry A)) L F)). flat_map (λ (d : Done (PassState T S (Entry A)) L F). d.sessions.items) l) e,
@@ -118,18 +128,30 @@ module _ {T A R L F S : Type 0} (after : List (Entry A) → Showing) (reads : Li
         d.sessions.items,
         map (λ (x : Done (PassState T S (Entry A)) L F). x.end) before,
         d.end,
-        ap (λ (l : List (Done (PassState T S (Entry A)) L F)). map (λ (x : Done (PassState T S (Entry A)) L F). x.pass) l) e ∙ map-append (λ (x : Done (PassState T S (Entry A)) L F). x.pass) before (d ∷ []),
-        ap (λ (l : List (Done (PassState T S (Entry A)) L F)). flat_map (λ (x : Done (PassState T S (Entry A)) L F). x.sessions.items) l) e ∙ flat_one (λ (x : Done (PassState T S (Entry A)) L F). x.sessions.items) before d,
-        ap (λ (l : List (Done (PassState T S (Entry A)) L F)). map (λ (x : Done (PassState T S (Entry A)) L F). x.end) l) e ∙ map-append (λ (x : Done (PassState T S (Entry A)) L F). x.end) before (d ∷ []),
+        ap (λ (l : List (Done (PassState T S (Entry A)) L F)). map (λ (x : Done (PassState T S (Entry A)) L F). x.pass) l) e
+            ∙ map-append (λ (x : Done (PassState T S (Entry A)) L F). x.pass) before (d ∷ []),
+        ap (λ (l : List (Done (PassState T S (Entry A)) L F)). flat_map (λ (x : Done (PassState T S (Entry A)) L F). x.sessions.items) l) e
+            ∙ flat_one (λ (x : Done (PassState T S (Entry A)) L F). x.sessions.items) before d,
+        ap (λ (l : List (Done (PassState T S (Entry A)) L F)). map (λ (x : Done (PassState T S (Entry A)) L F). x.end) l) e
+            ∙ map-append (λ (x : Done (PassState T S (Entry A)) L F). x.end) before (d ∷ []),
         left_of n before done parted.0,
         one,
         parted.1,
       )
 
   -- one handler more
-  pub one_more : (n : ℕ) (p : PassState T S (Entry A)) (fixed : S) (before all : List (Done (PassState T S (Entry A)) L F)) (d : Done (PassState T S (Entry A)) L F) (count : ℕ) → p ≡ new_pass turn.id fixed n → AllDone after reads joins sits hears says at made number setting turn n before
-      → IsDone after reads joins sits hears says at made number setting turn p d → all ≡ before ++ d ∷ [] → count ≡ n + 1 → AllDone after reads joins sits hears says at made number setting turn count all
+  pub one_more : (n : ℕ) (p : PassState T S (Entry A)) (fixed : S) (before all : List (Done (PassState T S (Entry A)) L F))
+      (d : Done (PassState T S (Entry A)) L F) (count : ℕ) → p ≡ new_pass turn.id fixed n → AllDone after reads joins sits hears says at made number
+      setting turn n before
+      → IsDone after reads joins sits hears says at made number setting turn p d → all ≡ before ++ d ∷ [] → count ≡ n + 1 →
+      AllDone after reads joins sits hears says at made number setting turn count all
   one_more n p fixed before all d count is done one e c =
       let next : n + 1 ≡ suc n = omega arith in
-      subst (λ (k : ℕ). AllDone after reads joins sits hears says at made number setting turn k all) (sym (c ∙ next))
-      (before, d, e, done, subst (λ (k : ℕ). IsLeft after reads joins sits hears says at made number setting turn k d.pass d.sessions.items d.end) (ap (λ (q : PassState T S (Entry A)). q.number) is) one)
+      subst (λ (k : ℕ). AllDone after reads joins sits hears says at made number setting turn k all) (sym (c ∙ next)) (
+        before,
+        d,
+        e,
+        done,
+        subst (λ (k : ℕ). IsLeft after reads joins sits hears says at made number setting turn k d.pass d.sessions.items d.end)
+            (ap (λ (q : PassState T S (Entry A)). q.number) is) one,
+      )

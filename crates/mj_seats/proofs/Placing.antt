@@ -36,7 +36,9 @@ module _ {A : Type 0} where
       by (begins_one x && author_of x == number) (places_append (from + 1) number xs ys ∙ ap (λ (k : ℕ). places_from (from + 1) number xs ++ places_from k number ys) e)
     where
       by : (b : Bool) → places_from (from + 1) number (xs ++ ys) ≡ places_from (from + 1) number xs ++ places_from (from + suc (length xs)) number ys
-          → (if b then from ∷ places_from (from + 1) number (xs ++ ys) else places_from (from + 1) number (xs ++ ys)) ≡ (if b then from ∷ places_from (from + 1) number xs else places_from (from + 1) number xs) ++ places_from (from + suc (length xs)) number ys
+          → (if b then from ∷ places_from (from + 1) number (xs ++ ys) else places_from (from + 1) number (xs ++ ys)) ≡
+          (if b then from ∷ places_from (from + 1) number xs else places_from (from + 1) number xs) ++ places_from (from + suc (length xs)) number
+          ys
       by true h = ap (λ (l : List ℕ). from ∷ l) h
       by false h = h
 
@@ -45,7 +47,9 @@ module _ {A : Type 0} where
   places_none from number [] h = refl
   places_none from number (x ∷ xs) h = by (author_of x == number) (begins_one x) refl refl h (λ k. places_none (from + 1) number xs k)
     where
-      by : (own begins : Bool) → (author_of x == number) ≡ own → begins_one x ≡ begins → NoneBegins (cond own (x ∷ notes_of author_of number xs) (notes_of author_of number xs)) → (NoneBegins (notes_of author_of number xs) → places_from (from + 1) number xs ≡ [])
+      by : (own begins : Bool) → (author_of x == number) ≡ own → begins_one x ≡ begins →
+          NoneBegins (cond own (x ∷ notes_of author_of number xs) (notes_of author_of number xs)) → (NoneBegins (notes_of author_of number xs) →
+          places_from (from + 1) number xs ≡ [])
           → (if (begins && own) then from ∷ places_from (from + 1) number xs else places_from (from + 1) number xs) ≡ []
       by true true e f (g, k) ih = absurd (true≢false (sym f ∙ g))
       by true false e f (g, k) ih = ih k
@@ -64,7 +68,9 @@ module _ {A : Type 0} where
   is_entry : (before : List (Entry A)) (e f : Entry A) → before ++ e ∷ [] ≡ before ++ f ∷ [] → e ≡ f
   is_entry before e f h = ap (first_or e) (append_cancel_left before (e ∷ []) (f ∷ []) h)
 
-  pub begins_by : (before : List (Entry A)) (first : Entry A) (seat author : ℕ) (answer right : SitAnswer) (join : Option JoinLine) → GivesSeat answer seat → AnswersSit before (before ++ first ∷ []) answer right author join → (begins_one first ≡ true) × (author_of first ≡ author)
+  pub begins_by : (before : List (Entry A)) (first : Entry A) (seat author : ℕ) (answer right : SitAnswer) (join : Option JoinLine) →
+      GivesSeat answer seat → AnswersSit before (before ++ first ∷ []) answer right author join →
+      (begins_one first ≡ true) × (author_of first ≡ author)
   begins_by before first seat author (sit.Sat k) right None g (e, h) = absurd h
   begins_by before first seat author (sit.Sat k) right (Some join) g (e, (h, is)) =
       let same : first ≡ Sat author join.name join.key = is_entry before first (Sat author join.name join.key) is in
@@ -79,7 +85,8 @@ module _ {A : Type 0} where
   pub places_still : (author : ℕ) (old new : List (Entry A)) → Enters author old new [] → places_of author new ≡ places_of author old
   places_still author old new e =
       let none : NoneBegins (notes_of author_of author e.since) = subst NoneBegins (sym e.mine_are) tt in
-      ap (places_of author) e.grown ∙ (places_append 0 author old e.since ∙ (ap (λ (l : List ℕ). places_of author old ++ l) (places_none (0 + length old) author e.since none) ∙ append-nil (places_of author old)))
+      ap (places_of author) e.grown ∙ (places_append 0 author old e.since
+      ∙ (ap (λ (l : List ℕ). places_of author old ++ l) (places_none (0 + length old) author e.since none) ∙ append-nil (places_of author old)))
 
 none_last : (A : Type 0) (ended : Ended) (author seat : ℕ) → NoneBegins (last_entry {A = A} ended author seat)
 none_last A GameOver author seat = tt
@@ -90,12 +97,16 @@ none_last A TooManyRefusals author seat = tt
 none_last A (NotSeated why) author seat = tt
 none_last A NoMemory author seat = tt
 
-module _ {A R L : Type 0} (after : List (Entry A) → Showing) (reads : List ℕ → A) (joins : List ℕ → Option JoinLine) (sits : List (Entry A) → List ℕ → SitAnswer) (hears : List (Entry A) → ℕ → ℕ → A → Heard R) (says : Control R → List ℕ) (at : List ℕ → L → WireState) where
-  seated_place : (author : ℕ) (old new : List (Entry A)) (x y : WireState) (ended : Ended) (place : ℕ) → SeatedSession after reads joins sits hears says author old new x y ended place → places_of author new ≡ places_of author old ++ place ∷ []
+module _ {A R L : Type 0} (after : List (Entry A) → Showing) (reads : List ℕ → A) (joins : List ℕ → Option JoinLine) (sits : List (Entry A) → List ℕ →
+    SitAnswer) (hears : List (Entry A) → ℕ → ℕ → A → Heard R) (says : Control R → List ℕ) (at : List ℕ → L → WireState) where
+  seated_place : (author : ℕ) (old new : List (Entry A)) (x y : WireState) (ended : Ended) (place : ℕ) → SeatedSession after reads joins sits hears
+      says author old new x y ended place → places_of author new ≡ places_of author old ++ place ∷ []
   seated_place author old new x y ended place s =
       let start = s.before ++ s.first ∷ [] in
       let begun = begins_by s.before s.first s.seat author s.gets_seat.answer (sits s.before s.line) (joins s.line) s.gets_seat.given s.gets_seat.is_right in
-      let none : NoneBegins (notes_of author_of author s.entered.since) = subst NoneBegins (sym s.entered.mine_are) (none_append (said_by reads author s.seat s.lines) (last_entry ended author s.seat) (none_said reads author s.seat s.lines) (none_last A ended author s.seat)) in
+      let none : NoneBegins (notes_of author_of author s.entered.since) =
+      subst NoneBegins (sym s.entered.mine_are) (none_append (said_by reads author s.seat s.lines) (last_entry ended author s.seat)
+      (none_said reads author s.seat s.lines) (none_last A ended author s.seat)) in
       let at_place : 0 + length s.before ≡ place = omega (arith, s.place_is) in
       ap (places_of author) s.entered.grown
       ∙ (places_append 0 author start s.entered.since
@@ -106,7 +117,8 @@ module _ {A R L : Type 0} (after : List (Entry A) → Showing) (reads : List ℕ
       ∙ ap (λ (l : List ℕ). places_of author old ++ l) (places_one (0 + length s.before) author s.first begun.0 begun.1 ∙ ap (λ (k : ℕ). k ∷ []) at_place))))))
 
   -- the places of the sessions that a handler keeps are those of its author's connections
-  pub handled_places : (excuse : Type 0) (author : ℕ) (old new : List (Entry A)) (ss : List (Session L)) → Handled after reads joins sits hears says at excuse author old new ss → places_of author new ≡ places_of author old ++ map (λ (s : Session L). s.place) ss
+  pub handled_places : (excuse : Type 0) (author : ℕ) (old new : List (Entry A)) (ss : List (Session L)) → Handled after reads joins sits hears says
+      at excuse author old new ss → places_of author new ≡ places_of author old ++ map (λ (s : Session L). s.place) ss
   handled_places excuse author old new [] e = places_still author old new e ∙ sym (append-nil (places_of author old))
   handled_places excuse author old new (s ∷ ss) (mid, k, o, h) =
       handled_places excuse author mid new ss h

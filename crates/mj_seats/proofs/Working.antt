@@ -74,21 +74,25 @@ none_last A TooManyRefusals author seat = All-nil (NoExpiry {A = A})
 none_last A (NotSeated why) author seat = All-nil (NoExpiry {A = A})
 none_last A NoMemory author seat = All-nil (NoExpiry {A = A})
 
-module _ {A R L : Type 0} (after : List (Entry A) → Showing) (reads : List ℕ → A) (joins : List ℕ → Option JoinLine) (sits : List (Entry A) → List ℕ → SitAnswer) (hears : List (Entry A) → ℕ → ℕ → A → Heard R) (says : Control R → List ℕ) (at : List ℕ → L → WireState) where
+module _ {A R L : Type 0} (after : List (Entry A) → Showing) (reads : List ℕ → A) (joins : List ℕ → Option JoinLine) (sits : List (Entry A) → List ℕ →
+    SitAnswer) (hears : List (Entry A) → ℕ → ℕ → A → Heard R) (says : Control R → List ℕ) (at : List ℕ → L → WireState) where
   -- a handler enters no expiry
-  handled_notes : (excuse : Type 0) (author : ℕ) (old new : List (Entry A)) (ss : List (Session L)) → Handled after reads joins sits hears says at excuse author old new ss → (mine : List (Entry A)) × Enters author old new mine × All NoExpiry mine
+  handled_notes : (excuse : Type 0) (author : ℕ) (old new : List (Entry A)) (ss : List (Session L)) → Handled after reads joins sits hears says at
+      excuse author old new ss → (mine : List (Entry A)) × Enters author old new mine × All NoExpiry mine
   handled_notes excuse author old new [] h = ([], h, All-nil NoExpiry)
   handled_notes excuse author old new (s ∷ ss) (mid, k, o, h) =
       let rest = handled_notes excuse author mid new ss h in
       let q = k.seated in
       let begun = begins_by q.before q.first q.seat author q.gets_seat.answer (sits q.before q.line) (joins q.line) q.gets_seat.given q.gets_seat.is_right in
       let notes : List (Entry A) = said_by reads author q.seat q.lines ++ last_entry k.ended author q.seat in
-      let start : Enters author old (q.before ++ q.first ∷ []) (q.first ∷ []) = enters_chain author old q.before (q.before ++ q.first ∷ []) [] (q.first ∷ []) q.nothing_before (enters_one author q.before (q.before ++ q.first ∷ []) q.first begun.1 refl) in
+      let start : Enters author old (q.before ++ q.first ∷ []) (q.first ∷ []) = enters_chain author old q.before (q.before ++ q.first ∷ []) []
+      (q.first ∷ []) q.nothing_before (enters_one author q.before (q.before ++ q.first ∷ []) q.first begun.1 refl) in
       let own : Enters author old mid (q.first ∷ notes) = enters_chain author old (q.before ++ q.first ∷ []) mid (q.first ∷ []) notes start q.entered in (
         (q.first ∷ notes) ++ rest.0,
         enters_chain author old mid new (q.first ∷ notes) rest.0 own rest.1,
         All-append NoExpiry (q.first ∷ notes) rest.0
-            (All-cons NoExpiry q.first notes (no_expiry q.first begun.0) (All-append NoExpiry (said_by reads author q.seat q.lines) (last_entry k.ended author q.seat) (none_said reads author q.seat q.lines) (none_last A k.ended author q.seat)))
+            (All-cons NoExpiry q.first notes (no_expiry q.first begun.0) (All-append NoExpiry (said_by reads author q.seat q.lines)
+            (last_entry k.ended author q.seat) (none_said reads author q.seat q.lines) (none_last A k.ended author q.seat)))
             rest.2,
       )
 
@@ -97,16 +101,22 @@ module _ {T A R L F S : Type 0} (after : List (Entry A) → Showing) (is_legal :
     (stays : (es : List (Entry A)) (e : Entry A) → is_legal (es ++ e ∷ []) → Stays (after es) (after (es ++ e ∷ [])))
     (ended_law : (es : List (Entry A)) (e : Entry A) (place : ℕ) → is_legal (es ++ e ∷ []) → place < length es → (after es).seat_of place ≡ None → StaysEnded place (after es) (after (es ++ e ∷ [])))
     (hears : List (Entry A) → ℕ → ℕ → A → Heard R) (says : Control R → List ℕ)
-    (others : (es : List (Entry A)) (e : Entry A) (author seat : ℕ) → is_legal (es ++ e ∷ []) → (after es).present seat ≡ Some author → IsAside author seat es e → Unmoved seat (after es) (after (es ++ e ∷ [])))
-    (answers : (es : List (Entry A)) (author seat : ℕ) (answer : A) → is_legal (es ++ Said author seat answer ∷ []) → Answers says (hears es author seat answer) seat (after es) (after (es ++ Said author seat answer ∷ [])))
-    (leaves : (es : List (Entry A)) (author seat : ℕ) → is_legal (es ++ Gone author seat ∷ []) → Leaves seat (after es) (after (es ++ Gone author seat ∷ [])) × Adds seat [] (after es) (after (es ++ Gone author seat ∷ [])))
-    (reads : List ℕ → A) (joins : List ℕ → Option JoinLine) (sits : List (Entry A) → List ℕ → SitAnswer) (at : List ℕ → L → WireState) (made : F → Type 0) (number : F → ℕ) (setting : T → S) (turn : TurnState T)
+    (others : (es : List (Entry A)) (e : Entry A) (author seat : ℕ) → is_legal (es ++ e ∷ []) → (after es).present seat ≡ Some author →
+    IsAside author seat es e → Unmoved seat (after es) (after (es ++ e ∷ [])))
+    (answers : (es : List (Entry A)) (author seat : ℕ) (answer : A) → is_legal (es ++ Said author seat answer ∷ []) →
+    Answers says (hears es author seat answer) seat (after es) (after (es ++ Said author seat answer ∷ [])))
+    (leaves : (es : List (Entry A)) (author seat : ℕ) → is_legal (es ++ Gone author seat ∷ []) →
+    Leaves seat (after es) (after (es ++ Gone author seat ∷ [])) × Adds seat [] (after es) (after (es ++ Gone author seat ∷ [])))
+    (reads : List ℕ → A) (joins : List ℕ → Option JoinLine) (sits : List (Entry A) → List ℕ → SitAnswer) (at : List ℕ → L → WireState) (made : F →
+    Type 0) (number : F → ℕ) (setting : T → S) (turn : TurnState T)
     (all : List (Entry A)) (legal : is_legal all) where
   -- others alone entered something since
   since_seen : (by : ℕ) (p : PassState T S (Entry A)) → p.number ≡ by → IsSeenIn author_of all p → Enters by p.seen all []
   since_seen by p same seen = subst (λ (n : ℕ). Enters n p.seen all []) same (enters_seen all p seen)
 
-  pub all_serve : (n : ℕ) (ps : List (PassState T S (Entry A))) (ss : List (Session L)) (es : List (HandlerEnd F)) → AllLeft after reads joins sits hears says at made number setting turn n ps ss es → All (IsSeenIn author_of all) ps → AllServe after reads joins sits hears says at n all ss
+  pub all_serve : (n : ℕ) (ps : List (PassState T S (Entry A))) (ss : List (Session L)) (es : List (HandlerEnd F)) →
+      AllLeft after reads joins sits hears says at made number setting turn n ps ss es → All (IsSeenIn author_of all) ps →
+      AllServe after reads joins sits hears says at n all ss
   all_serve zero passes sessions ends (a, b, c) seen = b
   all_serve (suc n) passes sessions ends (ps, p, before, own, es, end, a, b, c, left, one, memory) seen =
       let parted = All-pop (IsSeenIn author_of all) passes ps (Some p) a seen in (
@@ -118,19 +128,23 @@ module _ {T A R L F S : Type 0} (after : List (Entry A) → Showing) (is_legal :
             (handled_excused after reads joins sits hears says at (WantsMemory end) ⊥ memory n [] p.seen own one.handled),
       )
 
-  end_in : (by : ℕ) (seen : List (Entry A)) (end : HandlerEnd F) → (WantsMemory end → ⊥) → Stays (after seen) (after all) → HandlerEnds after made number end by seen → EndsIn after made number by all end
+  end_in : (by : ℕ) (seen : List (Entry A)) (end : HandlerEnd F) → (WantsMemory end → ⊥) → Stays (after seen) (after all) →
+      HandlerEnds after made number end by seen → EndsIn after made number by all end
   end_in by seen end.Over m s h = s.over h
   end_in by seen (end.Host f) m s h = (h.0, h.1)
   end_in by seen end.NoMemory m s h = m tt
 
-  pub all_end : (n : ℕ) (ps : List (PassState T S (Entry A))) (ss : List (Session L)) (es : List (HandlerEnd F)) → AllLeft after reads joins sits hears says at made number setting turn n ps ss es → All (IsSeenIn author_of all) ps → AllEnd after made number n all es
+  pub all_end : (n : ℕ) (ps : List (PassState T S (Entry A))) (ss : List (Session L)) (es : List (HandlerEnd F)) →
+      AllLeft after reads joins sits hears says at made number setting turn n ps ss es → All (IsSeenIn author_of all) ps →
+      AllEnd after made number n all es
   all_end zero passes sessions ends (a, b, c) seen = c
   all_end (suc n) passes sessions ends (ps, p, before, own, es, end, a, b, c, left, one, memory) seen =
       let parted = All-pop (IsSeenIn author_of all) passes ps (Some p) a seen in
       let since = since_seen n p one.number_is parted.1 in
       (es, end, c, all_end n ps before es left parted.0, end_in n p.seen end memory (stays_from after is_legal legal_before stays p.seen all since.since legal since.grown) one.ended)
 
-  all_places : (n : ℕ) (ps : List (PassState T S (Entry A))) (ss : List (Session L)) (es : List (HandlerEnd F)) → AllLeft after reads joins sits hears says at made number setting turn n ps ss es → All (IsSeenIn author_of all) ps
+  all_places : (n : ℕ) (ps : List (PassState T S (Entry A))) (ss : List (Session L)) (es : List (HandlerEnd F)) → AllLeft after reads joins sits hears
+      says at made number setting turn n ps ss es → All (IsSeenIn author_of all) ps
       → parts_from 0 n all ≡ map (λ (s : Session L). s.place) ss
   all_places zero passes sessions ends (a, b, c) seen = sym (ap (λ (l : List (Session L)). map (λ (s : Session L). s.place) l) b)
   all_places (suc n) passes sessions ends (ps, p, before, own, es, end, a, b, c, left, one, memory) seen =
@@ -140,7 +154,8 @@ module _ {T A R L F S : Type 0} (after : List (Entry A) → Showing) (is_legal :
       ∙ (sym (map-append (λ (s : Session L). s.place) before own)
       ∙ sym (ap (λ (l : List (Session L)). map (λ (s : Session L). s.place) l) b))
 
-  no_expiries : (n : ℕ) (ps : List (PassState T S (Entry A))) (ss : List (Session L)) (es : List (HandlerEnd F)) → AllLeft after reads joins sits hears says at made number setting turn n ps ss es → All (IsSeenIn author_of all) ps
+  no_expiries : (n : ℕ) (ps : List (PassState T S (Entry A))) (ss : List (Session L)) (es : List (HandlerEnd F)) →
+      AllLeft after reads joins sits hears says at made number setting turn n ps ss es → All (IsSeenIn author_of all) ps
       → (k : ℕ) → k < n → All NoExpiry (notes_of author_of k all)
   no_expiries zero passes sessions ends left seen k near = absurd (omega (arith, near))
   no_expiries (suc n) passes sessions ends (ps, p, before, own, es, end, a, b, c, left, one, memory) seen k near =
@@ -157,7 +172,9 @@ module _ {T A R L F S : Type 0} (after : List (Entry A) → Showing) (is_legal :
       less ne = omega (arith, near, ne)
 
   -- all of it
-  module _ (n : ℕ) (ps : List (PassState T S (Entry A))) (ss : List (Session L)) (es : List (HandlerEnd F)) (left : AllLeft after reads joins sits hears says at made number setting turn n ps ss es) (seen : All (IsSeenIn author_of all) ps) (few : All (λ (e : Entry A). author_of e < n + 1) all) where
+  module _ (n : ℕ) (ps : List (PassState T S (Entry A))) (ss : List (Session L)) (es : List (HandlerEnd F))
+      (left : AllLeft after reads joins sits hears says at made number setting turn n ps ss es) (seen : All (IsSeenIn author_of all) ps)
+      (few : All (λ (e : Entry A). author_of e < n + 1) all) where
     pub expiries_are : All (ExpiresBy n) all
     expiries_are = all_expiries n all few (no_expiries n ps ss es left seen)
 

@@ -23,7 +23,8 @@ module _ {A : Type 0} where
   ExpiresBy number (Expired author window t1 t2) = author ≡ number
   ExpiresBy number _ = Unit {0}
 
-module _ {A R L : Type 0} (after : List (Entry A) → Showing) (reads : List ℕ → A) (joins : List ℕ → Option JoinLine) (sits : List (Entry A) → List ℕ → SitAnswer) (hears : List (Entry A) → ℕ → ℕ → A → Heard R) (says : Control R → List ℕ) (at : List ℕ → L → WireState) where
+module _ {A R L : Type 0} (after : List (Entry A) → Showing) (reads : List ℕ → A) (joins : List ℕ → Option JoinLine) (sits : List (Entry A) → List ℕ →
+    SitAnswer) (hears : List (Entry A) → ℕ → ℕ → A → Heard R) (says : Control R → List ℕ) (at : List ℕ → L → WireState) where
   -- A session in the whole history: it saw a beginning of it, from the old entries up to the new ones, without running out of memory,
   -- and the script of its connection in the whole history is that in what it saw.
   pub record IsServed (author : ℕ) (old new all : List (Entry A)) (session : Session L) : Type 0 where

@@ -28,7 +28,8 @@ one_gave : (x : Item) (behind items : List Item) (t : Token) (more : List Item) 
 one_gave x behind [] t more e = inl (cc, refl)
 one_gave x behind (i ∷ items) t more e = inr (record { rest = items; of_gave = cc; on = cc })
 
-seen_gave : (seat : ℕ) (added : Option Deed) (behind items : List Item) (t : Token) (more : List Item) → seen_items seat added ++ behind ≡ items ++ Saw t ∷ more → EndsOrGoesOn (seen_items seat added) behind items t more
+seen_gave : (seat : ℕ) (added : Option Deed) (behind items : List Item) (t : Token) (more : List Item) → seen_items seat added ++ behind ≡ items ++
+    Saw t ∷ more → EndsOrGoesOn (seen_items seat added) behind items t more
 seen_gave seat None behind items t more e = inr (record { rest = items; of_gave = refl; on = e })
 seen_gave seat (Some d) behind items t more e = ⊎_elim
     (λ (p : (Saw (token seat d) ≡ Saw t) × (items ≡ [])). inl (ap (λ (x : Item). x ∷ []) p.0 ∙ sym (ap (λ (is : List Item). is ++ Saw t ∷ []) p.1)))
@@ -39,7 +40,8 @@ abbrev pub is_own : Item → Bool
 is_own (Saw t) = false
 is_own other = true
 
-own_gave : (x : Item) (seat : ℕ) (added : Option Deed) (behind items : List Item) (t : Token) (more : List Item) → is_own x ≡ true → x ∷ (seen_items seat added ++ behind) ≡ items ++ Saw t ∷ more → EndsOrGoesOn (x ∷ seen_items seat added) behind items t more
+own_gave : (x : Item) (seat : ℕ) (added : Option Deed) (behind items : List Item) (t : Token) (more : List Item) → is_own x ≡ true →
+    x ∷ (seen_items seat added ++ behind) ≡ items ++ Saw t ∷ more → EndsOrGoesOn (x ∷ seen_items seat added) behind items t more
 own_gave x seat added behind items t more own e = ⊎_elim
     (λ (p : (x ≡ Saw t) × (items ≡ [])). absurd (true≢false (sym own ∙ ap is_own p.0)))
     (λ (g : GoesOn (x ∷ []) (seen_items seat added ++ behind) items t more). ⊎_elim
@@ -48,12 +50,14 @@ own_gave x seat added behind items t more own e = ⊎_elim
     (seen_gave seat added behind g.rest t more g.on))
     (one_gave x (seen_items seat added ++ behind) items t more e)
 
-by_own : (b : Bool) (x : Item) (seat : ℕ) (added : Option Deed) (behind items : List Item) (t : Token) (more : List Item) → is_own x ≡ true → cond b (x ∷ []) [] ++ (seen_items seat added ++ behind) ≡ items ++ Saw t ∷ more →
+by_own : (b : Bool) (x : Item) (seat : ℕ) (added : Option Deed) (behind items : List Item) (t : Token) (more : List Item) → is_own x ≡ true →
+    cond b (x ∷ []) [] ++ (seen_items seat added ++ behind) ≡ items ++ Saw t ∷ more →
     EndsOrGoesOn (cond b (x ∷ []) [] ++ seen_items seat added) behind items t more
 by_own true x seat added behind items t more own e = own_gave x seat added behind items t more own e
 by_own false x seat added behind items t more own e = seen_gave seat added behind items t more e
 
-entry_gave : (seat : ℕ) (now : After) (entry : Entry Answer) (added : Option Deed) (behind items : List Item) (t : Token) (more : List Item) → own_items seat now entry ++ (seen_items seat added ++ behind) ≡ items ++ Saw t ∷ more →
+entry_gave : (seat : ℕ) (now : After) (entry : Entry Answer) (added : Option Deed) (behind items : List Item) (t : Token) (more : List Item) →
+    own_items seat now entry ++ (seen_items seat added ++ behind) ≡ items ++ Saw t ∷ more →
     EndsOrGoesOn (own_items seat now entry ++ seen_items seat added) behind items t more
 entry_gave seat now (Sat author name key) added behind items t more e = by_own (length now.chairs == seat) (OwnSat name key) seat added behind items t more refl e
 entry_gave seat now (Back author who) added behind items t more e = by_own (who == seat) OwnBack seat added behind items t more refl e
@@ -72,7 +76,8 @@ nothing_learnt : (items more : List Item) (t : Token) → [] ≡ items ++ Saw t 
 nothing_learnt [] more t e = cc
 nothing_learnt (i ∷ items) more t e = cc
 
-cut_from : (setting : Setting) (seat : ℕ) (entries : List (Entry Answer)) (now : After) (items : List Item) (t : Token) (more : List Item) → trace_from setting seat now entries ≡ items ++ Saw t ∷ more → Cut setting seat now entries (items ++ Saw t ∷ [])
+cut_from : (setting : Setting) (seat : ℕ) (entries : List (Entry Answer)) (now : After) (items : List Item) (t : Token) (more : List Item) →
+    trace_from setting seat now entries ≡ items ++ Saw t ∷ more → Cut setting seat now entries (items ++ Saw t ∷ [])
 cut_from setting seat [] now items t more e = absurd (nothing_learnt items more t e)
 cut_from setting seat (entry ∷ entries) now items t more e =
     let added : Option Deed = next_deed setting (own_part setting now entry) entry in

@@ -90,7 +90,8 @@ long-masked : (seat : ℕ) (ds : List Deed) → length ds ≡ length (all_masked
 long-masked seat ds = sym (length-map ds (masked seat))
 
 -- a fact of a seat's chair that is of its part
-of_part : {A : Type 0} (f : Part → A) (o p : Option Chair) → option_map part_of o ≡ option_map part_of p → option_map (λ (chair : Chair). f (part_of chair)) o ≡ option_map (λ (chair : Chair). f (part_of chair)) p
+of_part : {A : Type 0} (f : Part → A) (o p : Option Chair) → option_map part_of o ≡ option_map part_of p →
+    option_map (λ (chair : Chair). f (part_of chair)) o ≡ option_map (λ (chair : Chair). f (part_of chair)) p
 of_part f o p e = through o ∙ ap (option_map f) e ∙ sym (through p)
   where
     through : (o : Option Chair) → option_map (λ (chair : Chair). f (part_of chair)) o ≡ option_map f (option_map part_of o)
@@ -171,15 +172,19 @@ verdicts_of_alike seat rules others one other switches a =
     record {
       each = λ answer. questions_of seat rules (view_of one.deeds seat) answer ∙ (λ i. questions (switches i) seat (view i) answer) ∙ sym (questions_of seat others (view_of other.deeds seat) answer);
       first = broken;
-      verdict = λ answer. judged_by rules one answer ∙ (λ i. option_map (λ (p : Part). verdict p.progress.due p.progress.refused (long i) (broken answer i)) (a.part i)) ∙ sym (judged_by others other answer);
+      verdict = λ answer. judged_by rules one answer
+          ∙ (λ i. option_map (λ (p : Part). verdict p.progress.due p.progress.refused (long i) (broken answer i)) (a.part i))
+          ∙ sym (judged_by others other answer);
       default = default_of seat rules (view_of one.deeds seat) ∙ (λ i. default_by (switches i) seat (view i)) ∙ sym (default_of seat others (view_of other.deeds seat));
     }
   where
-    by_part : (n : ℕ) (rule : Option Rule) (o : Option Chair) → option_map (λ (chair : Chair). verdict chair.progress.due chair.progress.refused n rule) o ≡ option_map (λ (p : Part). verdict p.progress.due p.progress.refused n rule) (option_map part_of o)
+    by_part : (n : ℕ) (rule : Option Rule) (o : Option Chair) → option_map (λ (chair : Chair). verdict chair.progress.due chair.progress.refused n
+        rule) o ≡ option_map (λ (p : Part). verdict p.progress.due p.progress.refused n rule) (option_map part_of o)
     by_part n rule None = refl
     by_part n rule (Some chair) = refl
 
-    judged_by : (r : Rules) (now : After) (answer : Answer) → verdict_at r now seat answer ≡ option_map (λ (p : Part). verdict p.progress.due p.progress.refused (length now.deeds) (broken_rule r now.deeds seat answer)) (part_at now.chairs seat)
+    judged_by : (r : Rules) (now : After) (answer : Answer) → verdict_at r now seat answer ≡ option_map
+        (λ (p : Part). verdict p.progress.due p.progress.refused (length now.deeds) (broken_rule r now.deeds seat answer)) (part_at now.chairs seat)
     judged_by r now answer = by_part (length now.deeds) (broken_rule r now.deeds seat answer) (slice_get now.chairs seat)
 
 -- verdicts follow
@@ -212,7 +217,8 @@ front_alike seat n ds es e = sym (take-map (masked seat) n ds) ∙ ap (take n) e
 arguments_of_alike : (seat : ℕ) (ds es : List Deed) → all_masked seat ds ≡ all_masked seat es → SameArguments ds es
 arguments_of_alike seat ds es e =
     let now : standing ds ≡ standing es = of_masks seat standing (standing-masked seat) ds es e in
-    let before : all_masked seat (before_wins (hand ds)) ≡ all_masked seat (before_wins (hand es)) = before_wins_of_hand seat ds ∙ ap (λ (xs : List Deed). before_wins (hand xs)) e ∙ sym (before_wins_of_hand seat es) in
+    let before : all_masked seat (before_wins (hand ds)) ≡ all_masked seat (before_wins (hand es)) = before_wins_of_hand seat ds
+    ∙ ap (λ (xs : List Deed). before_wins (hand xs)) e ∙ sym (before_wins_of_hand seat es) in
     let melds : (who : ℕ) → seat_melds (before_wins (hand ds)) who ≡ seat_melds (before_wins (hand es)) who =
     λ who. of_masks seat (λ (xs : List Deed). seat_melds xs who) (seat_melds-masked seat who) (before_wins (hand ds)) (before_wins (hand es)) before in
     let seen : indicators (before_wins (hand ds)) ≡ indicators (before_wins (hand es)) = of_masks seat indicators (indicators_all-masked seat) (before_wins (hand ds)) (before_wins (hand es)) before in

@@ -73,7 +73,8 @@ own_heard seat (Said author who answer) setting now s m = by_test (who == seat)
     by_test false = refl
 
 -- a whole game
-game_heard : (seat : ℕ) (entries : List (Entry Answer)) (setting : Setting) (now : After) (s : Solo) → seat < 4 → DealsThirteen setting.walls → all_permitted setting now entries ≡ true → AreSeats now.chairs → Matches seat now s →
+game_heard : (seat : ℕ) (entries : List (Entry Answer)) (setting : Setting) (now : After) (s : Solo) → seat < 4 → DealsThirteen setting.walls →
+    all_permitted setting now entries ≡ true → AreSeats now.chairs → Matches seat now s →
     verdicts_from setting seat now entries ≡ heard_all (untimed setting.rules) seat s (trace_from setting seat now entries)
 game_heard seat [] setting now s small deals permitted seats m = refl
 game_heard seat (entry ∷ entries) setting now s small deals permitted seats m =

@@ -69,7 +69,10 @@ verdict_follows rules seat now s answer p m =
     λ i. verdict p.due p.refused (long i) (broken i)
 
 -- what a verdict changes of the seat's part, and of its slot
-judged_is : (lines : List (List ℕ)) (v : Verdict) (chair : Chair) → part_of (record chair { author = author_after v chair.author; progress = progress_after lines v chair.progress }) ≡ judged lines v (part_of chair)
+judged_is : (lines : List (List ℕ)) (v : Verdict) (chair : Chair) → part_of (record chair {
+  author = author_after v chair.author;
+  progress = progress_after lines v chair.progress;
+}) ≡ judged lines v (part_of chair)
 judged_is lines Taken chair = refl
 judged_is lines Late chair = refl
 judged_is lines (Refused rule) chair = refl
@@ -95,14 +98,16 @@ said_follows rules seat now s answer (Some chair) small at m =
     let v = verdict_on rules now.deeds seat answer chair.progress in
     let same = verdict_follows rules seat now s answer chair.progress m in
     let lines = lines_follow rules seat now s m in
-    subst (λ (o : Option Part). Matches seat (after_said rules now seat answer chair) (option_map_or (after_answer (untimed rules) seat s answer) o s)) (held_part seat now s (Some chair) at m) (record {
+    subst (λ (o : Option Part). Matches seat (after_said rules now seat answer chair) (option_map_or (after_answer (untimed rules) seat s answer) o
+    s)) (held_part seat now s (Some chair) at m) (record {
       part = ap (option_map part_of) (slice_get-set_at now.chairs seat _ chair at) ∙ ap Some (judged_is (lines_for rules seat now.deeds) v chair ∙ (λ i. judged (lines i) (same i) (part_of chair)));
       deeds = m.deeds;
       slot = slot_is now.slots seat answer v small ∙ (λ i. slot_after (same i) answer (m.slot i));
     })
 
 -- what another's answer changes is nothing of the seat's
-others_said : (rules : Rules) (seat who : ℕ) (now : After) (s : Solo) (answer : Answer) (held : Option Chair) → seat < 4 → length now.chairs ≤ 4 → who ≢ seat → slice_get now.chairs who ≡ held → Matches seat now s →
+others_said : (rules : Rules) (seat who : ℕ) (now : After) (s : Solo) (answer : Answer) (held : Option Chair) → seat < 4 → length now.chairs ≤ 4 →
+    who ≢ seat → slice_get now.chairs who ≡ held → Matches seat now s →
     Matches seat (option_map_or (after_said rules now who answer) held now) s
 unfolding after_said
 others_said rules seat who now s answer None small few ne at m = m
@@ -157,7 +162,8 @@ back_follows rules seat author now s (Some chair) at m =
       slot = m.slot;
     })
 
-others_back : (rules : Rules) (seat author who : ℕ) (now : After) (s : Solo) (held : Option Chair) → who ≢ seat → Matches seat now s → Matches seat (option_map_or (after_back rules now author who) held now) s
+others_back : (rules : Rules) (seat author who : ℕ) (now : After) (s : Solo) (held : Option Chair) → who ≢ seat → Matches seat now s →
+    Matches seat (option_map_or (after_back rules now author who) held now) s
 unfolding after_back
 others_back rules seat author who now s None ne m = m
 others_back rules seat author who now s (Some chair) ne m = record {
@@ -253,7 +259,8 @@ stepped_follows seat entry setting now s small few deals m =
     record { part = next.part; deeds = next.deeds; slot = next.slot }
 
 -- a whole game
-game_follows : (seat : ℕ) (entries : List (Entry Answer)) (setting : Setting) (now : After) (s : Solo) → seat < 4 → DealsThirteen setting.walls → all_permitted setting now entries ≡ true → AreSeats now.chairs → Matches seat now s →
+game_follows : (seat : ℕ) (entries : List (Entry Answer)) (setting : Setting) (now : After) (s : Solo) → seat < 4 → DealsThirteen setting.walls →
+    all_permitted setting now entries ≡ true → AreSeats now.chairs → Matches seat now s →
     Matches seat (after_from setting now entries) (learns_all (untimed setting.rules) seat s (trace_from setting seat now entries))
 game_follows seat [] setting now s small deals permitted seats m = m
 game_follows seat (entry ∷ entries) setting now s small deals permitted seats m =
@@ -277,7 +284,8 @@ connections_by rules seat now s (Some chair) at m =
     ∙ ap (λ (o : Option Part). option_map_or (told_by (lines_for (untimed rules) seat s.deeds)) o []) (held_part seat now s (Some chair) at m)
 
 -- a seat's script is what its connections are told, one after the other
-joined_at : (rules : Rules) (seat : ℕ) (now : After) (held : Option Chair) → option_map_or (scripts_at rules seat now) held [] ≡ flat_map (λ (bytes : List ℕ). bytes) (option_map_or (connections_at rules seat now) held [])
+joined_at : (rules : Rules) (seat : ℕ) (now : After) (held : Option Chair) → option_map_or (scripts_at rules seat now) held [] ≡ flat_map
+    (λ (bytes : List ℕ). bytes) (option_map_or (connections_at rules seat now) held [])
 unfolding scripts_at
 joined_at rules seat now None = refl
 joined_at rules seat now (Some chair) =
@@ -293,7 +301,8 @@ nothing_known seat = record { part = refl; deeds = refl; slot = slot-empty seat 
 pub deals_thirteen : (red : Bool) (walls : List (List ℕ)) → IsTrue (has_wall walls) → IsTrue (list_all (is_wall red) walls) → DealsThirteen walls
 unfolding DealsThirteen
 deals_thirteen red [] ground whole = cc
-deals_thirteen red (wall ∷ walls) ground whole = λ number dealer seat. hand_has_thirteen red (wall_of (wall ∷ walls) number) dealer seat (each_is_wall red (wall ∷ walls) (some (length walls)) whole number)
+deals_thirteen red (wall ∷ walls) ground whole = λ number dealer seat. hand_has_thirteen red (wall_of (wall ∷ walls) number) dealer seat
+    (each_is_wall red (wall ∷ walls) (some (length walls)) whole number)
   where
     some : (n : ℕ) → 1 ≤ suc n
     some n = omega arith

@@ -114,7 +114,8 @@ hands_told seat hands a b c d =
     let p = blank_is_known (seat == 0) own hands.first (its_hand seat 0 hands) a in
     let q = blank_is_known (seat == 1) own hands.second (its_hand seat 1 hands) b in
     let r = blank_is_known (seat == 2) own hands.third (its_hand seat 2 hands) c in
-    let s = blank_is_known (not (seat == 0) && not (seat == 1) && not (seat == 2)) own hands.fourth (last_hand (seat == 0) (seat == 1) (seat == 2) hands.first hands.second hands.third hands.fourth) d in
+    let s = blank_is_known (not (seat == 0) && not (seat == 1) && not (seat == 2)) own hands.fourth (last_hand (seat == 0) (seat == 1) (seat == 2)
+    hands.first hands.second hands.third hands.fourth) d in
     λ i. record { first = p i; second = q i; third = r i; fourth = s i }
 
 -- A start of a hand with a standing and deposits.
@@ -132,10 +133,12 @@ first_told : (seat : ℕ) (walls : List (List ℕ)) (ds : List Deed) (names : Fo
 unfolding hand_start
 first_told seat walls ds names h e =
     start_told seat walls 0 0 first_standing h
-    ∙ ap (λ (o : Option Deed). start_rebuilt seat (all_masked seat ds) o (indicator_tile (wall_of walls 0) 0) (at_seat (for_each_seat (hand_dealt (wall_of walls 0) first_standing.dealer)) seat)) (sym e)
+    ∙ ap (λ (o : Option Deed). start_rebuilt seat (all_masked seat ds) o (indicator_tile (wall_of walls 0) 0)
+    (at_seat (for_each_seat (hand_dealt (wall_of walls 0) first_standing.dealer)) seat)) (sym e)
 
 -- the next hand, after the end of one, where the standing before it leads to one
-next_told : (seat : ℕ) (walls : List (List ℕ)) (ds : List Deed) (next : Standing) → DealsThirteen walls → newest (all_masked seat ds) ≡ Some deeds.EndHand → standing_after (standing ds) (hand ds) ≡ Some next →
+next_told : (seat : ℕ) (walls : List (List ℕ)) (ds : List Deed) (next : Standing) → DealsThirteen walls → newest (all_masked seat ds) ≡ Some
+    deeds.EndHand → standing_after (standing ds) (hand ds) ≡ Some next →
     IsTold seat ds (hand_start (wall_of walls next.hand) next (deposits ds))
 unfolding hand_start
 next_told seat walls ds next h e leads =
@@ -150,7 +153,8 @@ next_told seat walls ds next h e leads =
 end_told : (seat : ℕ) (ds : List Deed) → IsTold seat ds (deeds.EndGame (points ds) (deposits ds))
 end_told seat ds = λ i. deeds.EndGame (points-masked seat ds i) (deposits-masked seat ds i)
 
-next_start_is_told : (seat : ℕ) (walls : List (List ℕ)) (ds : List Deed) (o : Option Standing) → DealsThirteen walls → newest (all_masked seat ds) ≡ Some deeds.EndHand → standing_after (standing ds) (hand ds) ≡ o →
+next_start_is_told : (seat : ℕ) (walls : List (List ℕ)) (ds : List Deed) (o : Option Standing) → DealsThirteen walls →
+    newest (all_masked seat ds) ≡ Some deeds.EndHand → standing_after (standing ds) (hand ds) ≡ o →
     IsTold seat ds (next_start walls ds o)
 next_start_is_told seat walls ds None h e leads = end_told seat ds
 next_start_is_told seat walls ds (Some next) h e leads = next_told seat walls ds next h e leads
@@ -245,7 +249,8 @@ drawn_or_is_told seat ds rules d c = by_reason (reason rules.draws (hand ds))
     by_reason None = c
     by_reason (Some why) = drawn_told seat ds why
 
-behind_discard_is_told : (seat : ℕ) (ds : List Deed) (rules : Rules) (wall : List ℕ) (who : ℕ) (bid : Bid) → after_dora (newest (all_masked seat ds)) ≡ false → IsTold seat ds (behind_discard rules wall ds who bid)
+behind_discard_is_told : (seat : ℕ) (ds : List Deed) (rules : Rules) (wall : List ℕ) (who : ℕ) (bid : Bid) → after_dora (newest (all_masked seat ds))
+    ≡ false → IsTold seat ds (behind_discard rules wall ds who bid)
 behind_discard_is_told seat ds rules wall who bid h =
     told_by_choice seat ds (option_map_or is_reach (before_newest (hand ds)) false) (accept ds who bid) (drawn_or rules ds (called_or_draw wall ds who bid))
     (accept_told seat ds who bid) (drawn_or_is_told seat ds rules (called_or_draw wall ds who bid) (any_bid_is_told seat ds wall who bid h))
@@ -277,10 +282,12 @@ next_winner_is_told seat ds wall target tile (who ∷ rest) = win_told seat ds w
 follower_is_told : (seat : ℕ) (rules : Rules) (walls : List (List ℕ)) (ds : List Deed) (given : Four Answer) (n : Deed) → DealsThirteen walls → newest (all_masked seat ds) ≡ Some (masked seat n) →
     Only seat ds (follows rules walls ds n (decision_by n given))
 follower_is_told seat rules walls ds given (deeds.StartGame names) t e = only_some seat ds _ (first_told seat walls ds names t e)
-follower_is_told seat rules walls ds given (deeds.StartHand round number honba deposits dealer indicator hands) t e = only_some seat ds _ (next_draw_is_told seat ds (wall_now walls ds) dealer (ap after_dora e))
+follower_is_told seat rules walls ds given (deeds.StartHand round number honba deposits dealer indicator hands) t e =
+    only_some seat ds _ (next_draw_is_told seat ds (wall_now walls ds) dealer (ap after_dora e))
 follower_is_told seat rules walls ds given (deeds.Draw who tile replacement) t e = own_act_is_told seat ds (wall_now walls ds) (deeds.Draw who tile replacement) who (at_seat given who)
 follower_is_told seat rules walls ds given (deeds.Discard who tile drawn) t e =
-    rons_are_told seat ds rules walls (deeds.Discard who tile drawn) (rons_on who given) (call_or_pass (best_bid given)) (call_is_told seat ds rules walls who tile drawn (best_bid given) (ap after_dora e))
+    rons_are_told seat ds rules walls (deeds.Discard who tile drawn) (rons_on who given) (call_or_pass (best_bid given))
+    (call_is_told seat ds rules walls who tile drawn (best_bid given) (ap after_dora e))
 follower_is_told seat rules walls ds given (deeds.Chi who target tile a b) t e = own_act_is_told seat ds (wall_now walls ds) (deeds.Chi who target tile a b) who (at_seat given who)
 follower_is_told seat rules walls ds given (deeds.Pon who target tile a b) t e = own_act_is_told seat ds (wall_now walls ds) (deeds.Pon who target tile a b) who (at_seat given who)
 follower_is_told seat rules walls ds given (deeds.OpenKan who target tile a b c) t e = only_some seat ds _ (dora_is_told seat ds (wall_now walls ds) (hand ds))
@@ -297,7 +304,8 @@ follower_is_told seat rules walls ds given (deeds.DrawnHand reason hands ready d
 follower_is_told seat rules walls ds given deeds.EndHand t e = only_some seat ds _ (next_start_is_told seat walls ds (standing_after (standing ds) (hand ds)) t e refl)
 follower_is_told seat rules walls ds given (deeds.EndGame points deposits) t e = only_none seat ds
 
-outcome_by : (seat : ℕ) (rules : Rules) (walls : List (List ℕ)) (ds : List Deed) (given : Four Answer) (o : Option Deed) → DealsThirteen walls → newest (all_masked seat ds) ≡ option_map (masked seat) o →
+outcome_by : (seat : ℕ) (rules : Rules) (walls : List (List ℕ)) (ds : List Deed) (given : Four Answer) (o : Option Deed) → DealsThirteen walls →
+    newest (all_masked seat ds) ≡ option_map (masked seat) o →
     Only seat ds (option_and_then (λ last. follows rules walls ds last (decision_by last given)) o)
 outcome_by seat rules walls ds given None t e = only_none seat ds
 outcome_by seat rules walls ds given (Some n) t e = follower_is_told seat rules walls ds given n t e

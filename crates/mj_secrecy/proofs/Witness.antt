@@ -292,7 +292,8 @@ first_apart = record {
 }
 
 -- The second agrees for each seat that learns the same of both, in which the others answer in another order.
-second_apart : (seat : ℕ) → trace seat second.setting second.entries ≡ trace seat second_other.setting second_other.entries → answers_of_others seat second ≢ answers_of_others seat second_other → AgreeApart seat
+second_apart : (seat : ℕ) → trace seat second.setting second.entries ≡ trace seat second_other.setting second_other.entries →
+    answers_of_others seat second ≢ answers_of_others seat second_other → AgreeApart seat
 second_apart seat same order = record {
   one = second;
   other = second_other;

@@ -74,7 +74,8 @@ pub record SameFacts (seat : ℕ) (rules others : Rules) (one other : After) : T
   pub slot : at_seat one.slots seat ≡ at_seat other.slots seat
   pub present : of_chair is_present one seat ≡ of_chair is_present other seat
   pub due : of_chair (λ (chair : Chair). chair.progress.due) one seat ≡ of_chair (λ (chair : Chair). chair.progress.due) other seat
-  pub prompt : of_chair (λ (chair : Chair). pending (lines_for rules seat one.deeds) chair.progress) one seat ≡ of_chair (λ (chair : Chair). pending (lines_for others seat other.deeds) chair.progress) other seat
+  pub prompt : of_chair (λ (chair : Chair). pending (lines_for rules seat one.deeds) chair.progress) one seat ≡ of_chair
+      (λ (chair : Chair). pending (lines_for others seat other.deeds) chair.progress) other seat
   pub refused : of_chair (λ (chair : Chair). chair.progress.refused) one seat ≡ of_chair (λ (chair : Chair). chair.progress.refused) other seat
 
 -- Facts follow: whichever two games agree for a seat, the facts that it may know are the same of both.

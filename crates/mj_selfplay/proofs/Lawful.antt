@@ -14,7 +14,8 @@ use Rattle.mj_bot.specs.Choice.{IsChoice}
 use Rattle.mj_bot.proofs.Promises.{choice_is_lawful}
 use Rattle.mj_selfplay.specs.SelfGame.{AreChoices}
 
-lawful : (rules : Rules) (walls : List (List ℕ)) (deeds : List Deed) (seat : ℕ) (answer : Answer) → 1 ≤ length walls → list_all (is_wall rules.red) walls ≡ true → IsPlayed rules walls deeds → seat < 4 →
+lawful : (rules : Rules) (walls : List (List ℕ)) (deeds : List Deed) (seat : ℕ) (answer : Answer) → 1 ≤ length walls →
+    list_all (is_wall rules.red) walls ≡ true → IsPlayed rules walls deeds → seat < 4 →
     IsChoice rules deeds seat answer → IsLawful rules deeds seat answer
 lawful rules walls deeds seat answer some whole played small choice =
     let sound : (number : ℕ) → is_wall rules.red (wall_of walls number) ≡ true = each_is_wall rules.red walls some whole in

@@ -14,7 +14,8 @@ use Rattle.mj_selfplay.specs.SelfGame.{AreChoices, IsChosenBehind, AllChosen, is
 use Rattle.mj_selfplay.specs.Laws.{WholeGameIsOne}
 
 -- Nothing follows the end of the game.
-none_behind : (rules : Rules) (walls : List (List ℕ)) (deeds : List Deed) (given : Four Answer) (last : Option Deed) → is_end last ≡ true → option_and_then (λ n. follows rules walls deeds n (decision_by n given)) last ≡ None
+none_behind : (rules : Rules) (walls : List (List ℕ)) (deeds : List Deed) (given : Four Answer) (last : Option Deed) → is_end last ≡ true →
+    option_and_then (λ n. follows rules walls deeds n (decision_by n given)) last ≡ None
 none_behind rules walls deeds given (Some (EndGame points lying)) h = refl
 none_behind rules walls deeds given (Some (StartGame names)) h = cc
 none_behind rules walls deeds given (Some (StartHand round number honba lying dealer indicator hands)) h = cc
@@ -60,7 +61,8 @@ same_next rules walls (first ∷ others) x y h k =
     some_is : (a b : Deed) → Some a ≡ Some b → a ≡ b
     some_is a b e = cc
 
-same_rest : (rules : Rules) (walls : List (List ℕ)) (before xs ys : List Deed) → AllChosen rules walls before xs → AllChosen rules walls before ys → is_end (newest (before ++ xs)) ≡ true → is_end (newest (before ++ ys)) ≡ true → xs ≡ ys
+same_rest : (rules : Rules) (walls : List (List ℕ)) (before xs ys : List Deed) → AllChosen rules walls before xs → AllChosen rules walls before ys →
+    is_end (newest (before ++ xs)) ≡ true → is_end (newest (before ++ ys)) ≡ true → xs ≡ ys
 same_rest rules walls before [] [] h k over end = refl
 same_rest rules walls before [] (y ∷ ys) h k over end = absurd (no_more rules walls before y (ap (λ (ds : List Deed). is_end (newest ds)) (sym (append-nil before)) ∙ over) k.0)
 same_rest rules walls before (x ∷ xs) [] h k over end = absurd (no_more rules walls before x (ap (λ (ds : List Deed). is_end (newest ds)) (sym (append-nil before)) ∙ end) h.0)

@@ -29,7 +29,8 @@ use Rattle.mj_selfplay.proofs.Walls.{turned, chosen_same, played_same, next_play
 
 -- one deed more
 
-chosen-append : (rules : Rules) (walls : List (List ℕ)) (before deeds : List Deed) (deed : Deed) → AllChosen rules walls before deeds → IsChosenBehind rules walls (before ++ deeds) deed → AllChosen rules walls before (deeds ++ deed ∷ [])
+chosen-append : (rules : Rules) (walls : List (List ℕ)) (before deeds : List Deed) (deed : Deed) → AllChosen rules walls before deeds →
+    IsChosenBehind rules walls (before ++ deeds) deed → AllChosen rules walls before (deeds ++ deed ∷ [])
 chosen-append rules walls before [] deed h k = (subst (λ (xs : List Deed). IsChosenBehind rules walls xs deed) (append-nil before) k, tt)
 chosen-append rules walls before (x ∷ deeds) deed h k =
     (h.0, chosen-append rules walls (before ++ x ∷ []) deeds deed h.1 (subst (λ (xs : List Deed). IsChosenBehind rules walls xs deed) (sym (append_assoc before (x ∷ []) deeds)) k))
@@ -88,24 +89,29 @@ unfolding tally_of
 hands_of tally deeds is = ap (λ n. n - 1) (length-filter is_hand_start deeds) ∙ ap (λ (t : Tally). t.hands - 1) (sym is)
 
 -- The walls at hand and those of the game are the same for the newest hand and the next.
-enough_for : (seed : List ℕ) (walls : List (List ℕ)) (table : Play) (tally : Tally) → AreEnough seed (tally.hands - 1) walls → InPlay (game_walls seed) table tally → AreSame walls (game_walls seed) (hand_number table.deeds + 1)
+enough_for : (seed : List ℕ) (walls : List (List ℕ)) (table : Play) (tally : Tally) → AreEnough seed (tally.hands - 1) walls →
+    InPlay (game_walls seed) table tally → AreSame walls (game_walls seed) (hand_number table.deeds + 1)
 enough_for seed walls table tally enough play = subst (λ n. AreEnough seed n walls) (sym (hands_of tally table.deeds play.tally_is)) enough
 
 -- The deeds are played for them too.
-pub played_at_hand : (seed : List ℕ) (walls : List (List ℕ)) (table : Play) (tally : Tally) → AreEnough seed (tally.hands - 1) walls → InPlay (game_walls seed) table tally → IsPlayed table.rules walls table.deeds
+pub played_at_hand : (seed : List ℕ) (walls : List (List ℕ)) (table : Play) (tally : Tally) → AreEnough seed (tally.hands - 1) walls →
+    InPlay (game_walls seed) table tally → IsPlayed table.rules walls table.deeds
 played_at_hand seed walls table tally enough play =
     played_same table.rules (game_walls seed) walls table.deeds (turned walls (game_walls seed) (hand_number table.deeds + 1) (enough_for seed walls table tally enough play)) play.played
 
 -- A game has few deeds.
-pub in_play_few : (seed : List ℕ) (walls : List (List ℕ)) (table : Play) (tally : Tally) → AreAtHand seed walls → AreEnough seed (tally.hands - 1) walls → InPlay (game_walls seed) table tally → length table.deeds ≤ 60002
+pub in_play_few : (seed : List ℕ) (walls : List (List ℕ)) (table : Play) (tally : Tally) → AreAtHand seed walls →
+    AreEnough seed (tally.hands - 1) walls → InPlay (game_walls seed) table tally → length table.deeds ≤ 60002
 in_play_few seed walls table tally at enough play =
-    (few_deeds table.rules walls table.deeds (each_is_wall table.rules.red walls (one (length walls) at.some) (whole_walls table.rules walls play.rules_are at.whole)) (played_at_hand seed walls table tally enough play)).1
+    (few_deeds table.rules walls table.deeds (each_is_wall table.rules.red walls (one (length walls) at.some)
+    (whole_walls table.rules walls play.rules_are at.whole)) (played_at_hand seed walls table tally enough play)).1
   where
     one : (n : ℕ) → 2 ≤ n → 1 ≤ n
     one n h = omega (arith, h)
 
 -- Nor does it count many.
-pub tally_within : (seed : List ℕ) (walls : List (List ℕ)) (table : Play) (tally : Tally) → AreAtHand seed walls → AreEnough seed (tally.hands - 1) walls → InPlay (game_walls seed) table tally → tally.deeds ≤ 60002
+pub tally_within : (seed : List ℕ) (walls : List (List ℕ)) (table : Play) (tally : Tally) → AreAtHand seed walls →
+    AreEnough seed (tally.hands - 1) walls → InPlay (game_walls seed) table tally → tally.deeds ≤ 60002
 tally_within seed walls table tally at enough play =
     let few = in_play_few seed walls table tally at enough play in
     let is = tally_deeds tally table.deeds play.tally_is in omega arith
@@ -130,7 +136,10 @@ pub start_is_one : is_game_start self_start ≡ true
 unfolding self_start is_name is_utf8 chars lib.Utf8.encode
 start_is_one = refl
 
-pub begins : (walls : List (List ℕ)) (table : Play) (before tally : Tally) (deed : Deed) → table ≡ record { rules = self_rules; deeds = self_start ∷ [] } → before ≡ tally_of [] → deed ≡ self_start → tally ≡ with_one before deed → InPlay walls table tally
+pub begins : (walls : List (List ℕ)) (table : Play) (before tally : Tally) (deed : Deed) → table ≡ record {
+  rules = self_rules;
+  deeds = self_start ∷ [];
+} → before ≡ tally_of [] → deed ≡ self_start → tally ≡ with_one before deed → InPlay walls table tally
 unfolding self_start
 begins walls table before tally deed is none first told = subst (λ (t : Play). InPlay walls t tally) (sym is) (record {
   rules_are = refl;
@@ -143,12 +152,14 @@ begins walls table before tally deed is none first told = subst (λ (t : Play). 
 -- a step
 
 -- What is chosen and played for the walls at hand is so for those of the game.
-pub goes : (seed : List ℕ) (walls : List (List ℕ)) (table next : Play) (tally more : Tally) (deed : Deed) → AreEnough seed (tally.hands - 1) walls → InPlay (game_walls seed) table tally → IsChosen table.rules walls table.deeds deed →
+pub goes : (seed : List ℕ) (walls : List (List ℕ)) (table next : Play) (tally more : Tally) (deed : Deed) → AreEnough seed (tally.hands - 1) walls →
+    InPlay (game_walls seed) table tally → IsChosen table.rules walls table.deeds deed →
     next ≡ record { rules = table.rules; deeds = table.deeds ++ deed ∷ [] } → IsPlayed table.rules walls next.deeds → more ≡ with_one tally deed → InPlay (game_walls seed) next more
 goes seed walls table next tally more deed enough play chosen is played told = subst (λ (t : Play). InPlay (game_walls seed) t more) (sym is) (record {
   rules_are = play.rules_are;
   played = next_played_same table.rules walls (game_walls seed) table.deeds deed same play.played (subst (λ (t : Play). IsPlayed table.rules walls t.deeds) is played);
-  chosen = chosen-append table.rules (game_walls seed) [] table.deeds deed play.chosen (behind_some table.rules (game_walls seed) table.deeds deed play.begun (chosen_same table.rules walls (game_walls seed) table.deeds deed same chosen));
+  chosen = chosen-append table.rules (game_walls seed) [] table.deeds deed play.chosen (behind_some table.rules (game_walls seed) table.deeds deed
+      play.begun (chosen_same table.rules walls (game_walls seed) table.deeds deed same chosen));
   begun = (let long = length_push table.deeds deed in omega arith);
   tally_is = told ∙ ap (λ t. with_one t deed) play.tally_is ∙ tally_more table.deeds deed;
 })
@@ -160,7 +171,8 @@ longer : (table next : Play) (deed : Deed) → next ≡ record { rules = table.r
 longer table next deed is = ap (λ (t : Play). length t.deeds) is ∙ length_push table.deeds deed
 
 -- Fewer deeds are left.
-pub nearer : (seed : List ℕ) (walls : List (List ℕ)) (table next : Play) (tally : Tally) (deed : Deed) → AreAtHand seed walls → AreEnough seed (tally.hands - 1) walls → InPlay (game_walls seed) table tally →
+pub nearer : (seed : List ℕ) (walls : List (List ℕ)) (table next : Play) (tally : Tally) (deed : Deed) → AreAtHand seed walls →
+    AreEnough seed (tally.hands - 1) walls → InPlay (game_walls seed) table tally →
     next ≡ record { rules = table.rules; deeds = table.deeds ++ deed ∷ [] } → 60003 - length next.deeds < 60003 - length table.deeds
 nearer seed walls table next tally deed at enough play is =
     let few = in_play_few seed walls table tally at enough play in
@@ -199,7 +211,8 @@ some_newest (d ∷ deeds) some h = found d deeds (suc (length deeds) - 1) (omega
     found x [] (suc i) low e = omega arith
     found x (y ∷ ys) (suc i) low e = found y ys i (omega arith) e
 
-pub comes_to : (walls : List (List ℕ)) (table : Play) (tally : Tally) (summary : Summary) (on : Bool) → InPlay walls table tally → on ≡ goes_on (newest table.deeds) → on ≡ false → summary ≡ summary_of table.deeds → IsSummary self_rules walls summary
+pub comes_to : (walls : List (List ℕ)) (table : Play) (tally : Tally) (summary : Summary) (on : Bool) → InPlay walls table tally →
+    on ≡ goes_on (newest table.deeds) → on ≡ false → summary ≡ summary_of table.deeds → IsSummary self_rules walls summary
 comes_to walls table tally summary on play told over is = record {
   deeds = table.deeds;
   whole = subst (λ (r : Rules). IsWholeGame r walls table.deeds) play.rules_are (record {

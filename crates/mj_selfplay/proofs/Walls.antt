@@ -51,19 +51,22 @@ next_number now next end e = by_test (is_last now end) e
     by_test false h = ap (λ (s : Standing). s.hand) (some_is after next h)
 
 -- The next hand has the same wall.
-next_same : (walls others : List (List ℕ)) (ds : List Deed) (next : Standing) → AreSame walls others (hand_number ds + 1) → standing_after (standing ds) (hand ds) ≡ Some next → wall_of walls next.hand ≡ wall_of others next.hand
+next_same : (walls others : List (List ℕ)) (ds : List Deed) (next : Standing) → AreSame walls others (hand_number ds + 1) →
+    standing_after (standing ds) (hand ds) ≡ Some next → wall_of walls next.hand ≡ wall_of others next.hand
 next_same walls others ds next same e =
     same next.hand (at next.hand (standing ds).hand (hand_number ds) (next_number (standing ds) next (end_of (hand ds) (standing ds).dealer) e) (standing_hand ds))
   where
     at : (a b c : ℕ) → a ≡ b + 1 → b ≡ c → a ≤ c + 1
     at a b c e f = omega (arith, e, f)
 
-start_same : (walls others : List (List ℕ)) (ds : List Deed) (after : Option Standing) → ((next : Standing) → after ≡ Some next → wall_of walls next.hand ≡ wall_of others next.hand) → next_start walls ds after ≡ next_start others ds after
+start_same : (walls others : List (List ℕ)) (ds : List Deed) (after : Option Standing) → ((next : Standing) → after ≡ Some next →
+    wall_of walls next.hand ≡ wall_of others next.hand) → next_start walls ds after ≡ next_start others ds after
 start_same walls others ds None same = refl
 start_same walls others ds (Some next) same = ap (λ (wall : List ℕ). hand_start wall next (deposits ds)) (same next refl)
 
 -- What follows where nothing was decided, from the same wall of the newest hand.
-pass_same : (rules : Rules) (walls others : List (List ℕ)) (wall : List ℕ) (ds : List Deed) (last : Deed) → AreSame walls others (hand_number ds + 1) → after_pass rules walls wall ds last ≡ after_pass rules others wall ds last
+pass_same : (rules : Rules) (walls others : List (List ℕ)) (wall : List ℕ) (ds : List Deed) (last : Deed) → AreSame walls others (hand_number ds + 1)
+    → after_pass rules walls wall ds last ≡ after_pass rules others wall ds last
 pass_same rules walls others wall ds (StartGame names) same = ap (λ (w : List ℕ). Some (hand_start w first_standing 0)) (same 0 (omega arith))
 pass_same rules walls others wall ds (StartHand round number honba lying dealer indicator hands) same = refl
 pass_same rules walls others wall ds (Draw seat tile replacement) same = refl
@@ -90,7 +93,8 @@ follows_same rules walls others ds last (Act seat answer) same now = ap (λ (wal
 follows_same rules walls others ds last Pass same now = ap (λ (wall : List ℕ). after_pass rules walls wall ds last) now ∙ pass_same rules walls others (wall_now others ds) ds last same
 
 -- Four answers give the same deed.
-outcome_same : (rules : Rules) (walls others : List (List ℕ)) (ds : List Deed) (given : Four Answer) → AreSame walls others (hand_number ds + 1) → outcome rules walls ds given ≡ outcome rules others ds given
+outcome_same : (rules : Rules) (walls others : List (List ℕ)) (ds : List Deed) (given : Four Answer) → AreSame walls others (hand_number ds + 1) →
+    outcome rules walls ds given ≡ outcome rules others ds given
 unfolding outcome
 outcome_same rules walls others ds given same = by_newest (newest ds)
   where
@@ -100,7 +104,8 @@ outcome_same rules walls others ds given same = by_newest (newest ds)
 
 -- what is played
 
-behind_same : (rules : Rules) (walls others : List (List ℕ)) (before : List Deed) (d : Deed) → AreSame walls others (hand_number before + 1) → IsPlayedBehind rules walls before d → IsPlayedBehind rules others before d
+behind_same : (rules : Rules) (walls others : List (List ℕ)) (before : List Deed) (d : Deed) → AreSame walls others (hand_number before + 1) →
+    IsPlayedBehind rules walls before d → IsPlayedBehind rules others before d
 behind_same rules walls others [] d same h = h
 behind_same rules walls others (first ∷ rest) d same h = record { given = h.given; lawful = h.lawful; gives = sym (outcome_same rules walls others (first ∷ rest) h.given same) ∙ h.gives }
 
@@ -114,7 +119,8 @@ hands_before xs ys = least (length (starts xs)) (length (starts ys)) (length (st
     least : (a b c : ℕ) → c ≡ a + b → a - 1 ≤ c - 1
     least a b c e = omega (arith, e)
 
-all_same : (rules : Rules) (walls others : List (List ℕ)) (before ds : List Deed) → AreSame walls others (hand_number (before ++ ds) + 1) → AllPlayed rules walls before ds → AllPlayed rules others before ds
+all_same : (rules : Rules) (walls others : List (List ℕ)) (before ds : List Deed) → AreSame walls others (hand_number (before ++ ds) + 1) →
+    AllPlayed rules walls before ds → AllPlayed rules others before ds
 all_same rules walls others before [] same h = h
 all_same rules walls others before (d ∷ ds) same h = (
   behind_same rules walls others before d (same_before walls others (hand_number before + 1) (hand_number (before ++ d ∷ ds) + 1) (one_more _ _ (hands_before before (d ∷ ds))) same) h.0,
@@ -129,7 +135,8 @@ pub played_same : (rules : Rules) (walls others : List (List ℕ)) (ds : List De
 played_same rules walls others ds same h = all_same rules walls others [] ds same h
 
 -- And so has one deed more.
-pub next_played_same : (rules : Rules) (walls others : List (List ℕ)) (ds : List Deed) (d : Deed) → AreSame walls others (hand_number ds + 1) → IsPlayed rules others ds → IsPlayed rules walls (ds ++ d ∷ []) → IsPlayed rules others (ds ++ d ∷ [])
+pub next_played_same : (rules : Rules) (walls others : List (List ℕ)) (ds : List Deed) (d : Deed) → AreSame walls others (hand_number ds + 1) →
+    IsPlayed rules others ds → IsPlayed rules walls (ds ++ d ∷ []) → IsPlayed rules others (ds ++ d ∷ [])
 next_played_same rules walls others ds d same before h = played_more rules others ds d before (behind_same rules walls others ds d same (played_less rules walls ds d h).1)
 
 pub chosen_same : (rules : Rules) (walls others : List (List ℕ)) (ds : List Deed) (d : Deed) → AreSame walls others (hand_number ds + 1) → IsChosen rules walls ds d → IsChosen rules others ds d
@@ -185,7 +192,8 @@ enough_ever : (seed : List ℕ) (walls : List (List ℕ)) (hand : ℕ) → walls
 enough_ever seed walls hand are number low = ap (λ (w : List (List ℕ)). wall_of w number) are
 
 -- So many walls of a seed may be at hand.
-at_hand : (seed : List ℕ) (number : ℕ) (walls : List (List ℕ)) → 2 ≤ number → number ≤ 200 → walls ≡ shuffled_walls seed false number → length walls ≡ number → list_all (is_wall false) walls ≡ true → AreAtHand seed walls
+at_hand : (seed : List ℕ) (number : ℕ) (walls : List (List ℕ)) → 2 ≤ number → number ≤ 200 → walls ≡ shuffled_walls seed false number →
+    length walls ≡ number → list_all (is_wall false) walls ≡ true → AreAtHand seed walls
 at_hand seed number walls some few are many whole = record {
   some = least number (length walls) some many;
   few = most number (length walls) few many;
@@ -208,7 +216,8 @@ enough_yet seed walls hands at low =
     next a b h k = omega (arith, h, k)
 
 -- Where they are not, more are shuffled: sixteen more than hands, or all of the game.
-pub at_hand_then : (seed : List ℕ) (walls : List (List ℕ)) (hands number : ℕ) → number ≡ min (hands + 16) 200 → walls ≡ shuffled_walls seed false number → length walls ≡ number → list_all (is_wall false) walls ≡ true → AreAtHand seed walls
+pub at_hand_then : (seed : List ℕ) (walls : List (List ℕ)) (hands number : ℕ) → number ≡ min (hands + 16) 200 →
+    walls ≡ shuffled_walls seed false number → length walls ≡ number → list_all (is_wall false) walls ≡ true → AreAtHand seed walls
 at_hand_then seed walls hands number is are many whole = at_hand seed number walls (some hands number is) (few hands number is) are many whole
   where
     some : (a b : ℕ) → b ≡ min (a + 16) 200 → 2 ≤ b
@@ -217,7 +226,8 @@ at_hand_then seed walls hands number is are many whole = at_hand seed number wal
     few : (a b : ℕ) → b ≡ min (a + 16) 200 → b ≤ 200
     few a b e = omega (arith, e)
 
-pub enough_then : (seed : List ℕ) (walls : List (List ℕ)) (hands number : ℕ) → number ≡ min (hands + 16) 200 → walls ≡ shuffled_walls seed false number → length walls ≡ number → list_all (is_wall false) walls ≡ true →
+pub enough_then : (seed : List ℕ) (walls : List (List ℕ)) (hands number : ℕ) → number ≡ min (hands + 16) 200 →
+    walls ≡ shuffled_walls seed false number → length walls ≡ number → list_all (is_wall false) walls ≡ true →
     AreEnough seed (hands - 1) walls
 enough_then seed walls hands number is are many whole = elim (cases_eq number 200) [
   | inl all ↦ enough_ever seed walls (hands - 1) (are ∙ ap (shuffled_walls seed false) all)

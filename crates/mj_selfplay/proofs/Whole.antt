@@ -11,13 +11,15 @@ use Rattle.mj_selfplay.specs.Laws.{WholeGamesArePlayed}
 use Rattle.mj_selfplay.proofs.Lawful.{choices_lawful}
 use Rattle.mj_selfplay.proofs.Played.{start_is_one}
 
-behind_played : (rules : Rules) (walls : List (List ℕ)) (before : List Deed) (deed : Deed) → 1 ≤ length walls → list_all (is_wall rules.red) walls ≡ true → IsPlayed rules walls before → IsChosenBehind rules walls before deed →
+behind_played : (rules : Rules) (walls : List (List ℕ)) (before : List Deed) (deed : Deed) → 1 ≤ length walls → list_all (is_wall rules.red) walls ≡
+    true → IsPlayed rules walls before → IsChosenBehind rules walls before deed →
     IsPlayedBehind rules walls before deed
 behind_played rules walls [] deed some whole played chosen = ap is_game_start chosen ∙ start_is_one
 behind_played rules walls (first ∷ others) deed some whole played chosen =
     record { given = chosen.given; lawful = choices_lawful rules walls (first ∷ others) chosen.given some whole played chosen.choices; gives = chosen.gives }
 
-all_played : (rules : Rules) (walls : List (List ℕ)) (before deeds : List Deed) → 1 ≤ length walls → list_all (is_wall rules.red) walls ≡ true → IsPlayed rules walls before → AllChosen rules walls before deeds → IsPlayed rules walls (before ++ deeds)
+all_played : (rules : Rules) (walls : List (List ℕ)) (before deeds : List Deed) → 1 ≤ length walls → list_all (is_wall rules.red) walls ≡ true →
+    IsPlayed rules walls before → AllChosen rules walls before deeds → IsPlayed rules walls (before ++ deeds)
 all_played rules walls before [] some whole played chosen = subst (IsPlayed rules walls) (sym (append-nil before)) played
 all_played rules walls before (deed ∷ deeds) some whole played chosen =
     subst (IsPlayed rules walls) (append_assoc before (deed ∷ []) deeds)

@@ -52,7 +52,8 @@ lost_by_four kind other h = refl
 
 pub gained_by_four : (kind : ℕ) (deed : Deed) → has_seats deed ≡ true → together (gains_by 0) (gains_by 1) (gains_by 2) (gains_by 3) indicators_by kind deed ≡ number_of (brought_by deed) kind
 gained_by_four kind (StartHand round number honba deposits dealer indicator hands) h =
-    deal _ _ _ _ _ _ _ _ (sum_by-cons (λ t. cond (eqb (kind_of t) kind) 1 0) indicator (hands.first ++ hands.second ++ hands.third ++ hands.fourth)) (number_of_four hands.first hands.second hands.third hands.fourth kind)
+    deal _ _ _ _ _ _ _ _ (sum_by-cons (λ t. cond (eqb (kind_of t) kind) 1 0) indicator (hands.first ++ hands.second ++ hands.third ++ hands.fourth))
+    (number_of_four hands.first hands.second hands.third hands.fourth kind)
     (sum_by-cons (λ t. cond (eqb (kind_of t) kind) 1 0) indicator [])
   where
     deal : (a b c d i n m t : ℕ) → n ≡ i + m → m ≡ a + b + c + d → t ≡ i + 0 → a + b + c + d + t ≡ n
@@ -66,12 +67,15 @@ gained_by_four kind other h = refl
 parts_of : (f : Deed → List ℕ) (deed : Deed) (ds : List Deed) (kind : ℕ) → number_of (flat_map f (deed ∷ ds)) kind ≡ number_of (f deed) kind + number_of (flat_map f ds) kind
 parts_of f deed ds kind = ap (λ (xs : List ℕ). number_of xs kind) (flat_map-cons f deed ds) ∙ number_of-append (f deed) (flat_map f ds) kind
 
-pub summed : (a b c d i all : Deed → List ℕ) (kind : ℕ) → ((deed : Deed) → has_seats deed ≡ true → together a b c d i kind deed ≡ number_of (all deed) kind) → (ds : List Deed) → list_all has_seats ds ≡ true →
-    number_of (flat_map a ds) kind + number_of (flat_map b ds) kind + number_of (flat_map c ds) kind + number_of (flat_map d ds) kind + number_of (flat_map i ds) kind ≡ number_of (flat_map all ds) kind
+pub summed : (a b c d i all : Deed → List ℕ) (kind : ℕ) → ((deed : Deed) → has_seats deed ≡ true → together a b c d i kind deed ≡ number_of (all deed)
+    kind) → (ds : List Deed) → list_all has_seats ds ≡ true →
+    number_of (flat_map a ds) kind + number_of (flat_map b ds) kind + number_of (flat_map c ds) kind + number_of (flat_map d ds) kind + number_of
+    (flat_map i ds) kind ≡ number_of (flat_map all ds) kind
 summed a b c d i all kind each [] h = refl
 summed a b c d i all kind each (deed ∷ ds) h =
     let seats = and_parts (has_seats deed) (list_all has_seats ds) h in
-    sum _ _ _ _ _ _ _ _ _ _ _ _ _ _ _ _ _ _ (parts_of a deed ds kind) (parts_of b deed ds kind) (parts_of c deed ds kind) (parts_of d deed ds kind) (parts_of i deed ds kind) (parts_of all deed ds kind)
+    sum _ _ _ _ _ _ _ _ _ _ _ _ _ _ _ _ _ _ (parts_of a deed ds kind) (parts_of b deed ds kind) (parts_of c deed ds kind) (parts_of d deed ds kind)
+    (parts_of i deed ds kind) (parts_of all deed ds kind)
     (each deed seats.0) (summed a b c d i all kind each ds seats.1)
   where
     sum : (n m k l o t a b c d i s e f g h j u : ℕ) → n ≡ a + e → m ≡ b + f → k ≡ c + g → l ≡ d + h → o ≡ i + j → t ≡ s + u → a + b + c + d + i ≡ s → e + f + g + h + j ≡ u → n + m + k + l + o ≡ t

@@ -79,11 +79,13 @@ held_within red ds seat low fit =
 seat_holds : (red : Bool) (ds : List Deed) (seat kind : ℕ) → seat < 4 → all_fit red [] ds ≡ true →
     number_of (concealed_tiles (hand ds) seat) kind + number_of (tiles_lost (hand ds) seat) kind ≡ number_of (tiles_gained (hand ds) seat) kind
 seat_holds red ds seat kind low fit =
-    count_left (λ t. eqb (kind_of t) kind) (tiles_gained (hand ds) seat) (tiles_lost (hand ds) seat) (known red _ (gained_real red (hand ds) seat (hand_real red ds fit))) (held_within red ds seat low fit)
+    count_left (λ t. eqb (kind_of t) kind) (tiles_gained (hand ds) seat) (tiles_lost (hand ds) seat)
+    (known red _ (gained_real red (hand ds) seat (hand_real red ds fit))) (held_within red ds seat low fit)
 
 pub tiles_are_held_or_open : TilesAreHeldOrOpen
 tiles_are_held_or_open red ds kind fit =
-    sum _ _ _ _ _ _ _ _ _ _ _ _ _ _ _ (seat_holds red ds 0 kind (omega arith) fit) (seat_holds red ds 1 kind (omega arith) fit) (seat_holds red ds 2 kind (omega arith) fit) (seat_holds red ds 3 kind (omega arith) fit)
+    sum _ _ _ _ _ _ _ _ _ _ _ _ _ _ _ (seat_holds red ds 0 kind (omega arith) fit) (seat_holds red ds 1 kind (omega arith) fit)
+    (seat_holds red ds 2 kind (omega arith) fit) (seat_holds red ds 3 kind (omega arith) fit)
     (summed (losses_by 0) (losses_by 1) (losses_by 2) (losses_by 3) indicators_by opened_by kind (lost_by_four kind) (hand ds) (seats_known red ds fit))
     (summed (gains_by 0) (gains_by 1) (gains_by 2) (gains_by 3) indicators_by brought_by kind (gained_by_four kind) (hand ds) (seats_known red ds fit))
   where

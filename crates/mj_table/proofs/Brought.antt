@@ -59,7 +59,8 @@ a_fifth_kind before d kind number given total small is g t many =
     over : (a n number given total : ℕ) → number ≡ a → given ≡ min n (2 ^ 64 - 1) → total ≡ min (number + given) (2 ^ 64 - 1) → 4 < total → leb (a + n) 4 ≡ false
     over a n number given total e f g h = let more : 4 < a + n = omega (arith, e, f, g, h) in grind (arith, nat_tests, more)
 
-pub no_fifth_kind : (before : List ℕ) (d : Deed) → ((k : ℕ) → k < 34 → get_or before k 0 + number_of (brought_by d) k ≤ 4) → true ≡ list_all (λ k. leb (get_or before k 0 + number_of (brought_by d) k) 4) all_kinds
+pub no_fifth_kind : (before : List ℕ) (d : Deed) → ((k : ℕ) → k < 34 → get_or before k 0 + number_of (brought_by d) k ≤ 4) →
+    true ≡ list_all (λ k. leb (get_or before k 0 + number_of (brought_by d) k) 4) all_kinds
 no_fifth_kind before d each = sym (all_kinds-pass (λ k. leb (get_or before k 0 + number_of (brought_by d) k) 4) (λ k small. le-leb _ 4 (each k small)))
 
 -- Of a deed that brings in one tile, where no kind was brought in more than four times, and of one that brings in none.
@@ -81,7 +82,8 @@ one_fits before d more tile place b few brings some at small is = by_test b is
         (all_kinds-pass (λ k. leb (get_or before k 0 + number_of (brought_by d) k) 4)
         (λ k low. le-leb _ 4 (subst (λ n. get_or before k 0 + n ≤ 4) (sym (number k)) (here k (eqb place k) refl low (ltb-true (get_or before place 0) 4 (sym e))))))
     by_test false e =
-        sym (all_kinds-fail (λ k. leb (get_or before k 0 + number_of (brought_by d) k) 4) place small (full (get_or before place 0) _ (number place ∙ ap (λ t. cond t 1 0 + 0) (eq-eqb place place refl)) (sym e)))
+        sym (all_kinds-fail (λ k. leb (get_or before k 0 + number_of (brought_by d) k) 4) place small (full (get_or before place 0) _ (number place
+        ∙ ap (λ t. cond t 1 0 + 0) (eq-eqb place place refl)) (sym e)))
       where
         full : (n m : ℕ) → m ≡ 1 + 0 → ltb n 4 ≡ false → leb (n + m) 4 ≡ false
         full n m f g = grind (arith, nat_tests, f, g)

@@ -41,7 +41,8 @@ given_more {A = A} f (x ∷ ds) d more e = ap (λ (ys : List A). f x ++ ys) (giv
 pub few_shown : (ds : List Deed) (d : Deed) (more : Option ℕ) → option_to_list more ≡ indicators_by d → length (indicators (ds ++ d ∷ [])) ≤ 5 → length (indicators ds ++ option_to_list more) ≤ 5
 few_shown ds d more e few = subst (λ (xs : List ℕ). length xs ≤ 5) (given_more indicators_by ds d more e) few
 
-pub shown_more : (few : FewTiles) (ds : List Deed) (d : Deed) (more : Option ℕ) → option_to_list more ≡ indicators_by d → Lists few (indicators ds ++ option_to_list more) → Lists few (indicators (ds ++ d ∷ []))
+pub shown_more : (few : FewTiles) (ds : List Deed) (d : Deed) (more : Option ℕ) → option_to_list more ≡ indicators_by d →
+    Lists few (indicators ds ++ option_to_list more) → Lists few (indicators (ds ++ d ∷ []))
 shown_more few ds d more e k = lists_same few _ _ (sym (given_more indicators_by ds d more e)) k
 
 -- the kans
@@ -87,7 +88,8 @@ pub turns_more : (ds : List Deed) (d : Deed) (before result : ℕ) (more : Bool)
     result ≡ min (before + cond more 1 0) 255 → result ≡ min (length (filter is_turn (ds ++ d ∷ []))) 255
 turns_more ds d before result more is was what =
     capped before (length (filter is_turn ds)) _ (cond more 1 0) result was
-    (ap length (turns_with ds d) ∙ length-append (filter is_turn ds) (cond (is_turn d) (d ∷ []) []) ∙ ap (λ n. length (filter is_turn ds) + n) (one (is_turn d)) ∙ ap (λ b. length (filter is_turn ds) + cond b 1 0) (sym is))
+    (ap length (turns_with ds d) ∙ length-append (filter is_turn ds) (cond (is_turn d) (d ∷ []) []) ∙ ap (λ n. length (filter is_turn ds) + n)
+    (one (is_turn d)) ∙ ap (λ b. length (filter is_turn ds) + cond b 1 0) (sym is))
     what
   where
     one : (b : Bool) → length (cond b (d ∷ []) []) ≡ cond b 1 0
@@ -124,7 +126,8 @@ kind_more ds d turns place before result small is was what =
     by_turn : (t : Bool) → cond (eqb (length (filter is_turn ds)) place) (cond t (discarded_kind d) (kind_at ds place)) (kind_at ds place)
         ≡ option_and_then discarded_kind (slice_get (filter is_turn ds ++ cond t (d ∷ []) []) place)
     by_turn true = either (eqb (length (filter is_turn ds)) place) (slice_get (filter is_turn ds) place) ∙ ap (option_and_then discarded_kind) (sym (grown (filter is_turn ds) (Some d) place))
-    by_turn false = same (eqb (length (filter is_turn ds)) place) (kind_at ds place) ∙ ap (λ (xs : List Deed). option_and_then discarded_kind (slice_get xs place)) (sym (append-nil (filter is_turn ds)))
+    by_turn false = same (eqb (length (filter is_turn ds)) place) (kind_at ds place)
+        ∙ ap (λ (xs : List Deed). option_and_then discarded_kind (slice_get xs place)) (sym (append-nil (filter is_turn ds)))
 
 -- the end
 
@@ -209,7 +212,8 @@ no_kinds_at place small = by_tests (eqb place 0) (eqb place 1) (eqb place 2)
     by_tests false false false = refl
 
 -- What is kept at each of four places.
-pub at_each : (step : ℕ → Option ℕ → Option ℕ → Type 0) (old : Four (Option ℕ)) (a b c d : Option ℕ) → step 0 old.first a → step 1 old.second b → step 2 old.third c → step 3 old.fourth d → (place : ℕ) → place ≤ 3 →
+pub at_each : (step : ℕ → Option ℕ → Option ℕ → Type 0) (old : Four (Option ℕ)) (a b c d : Option ℕ) → step 0 old.first a → step 1 old.second b →
+    step 2 old.third c → step 3 old.fourth d → (place : ℕ) → place ≤ 3 →
     step place (at_seat old place) (at_seat (record { first = a; second = b; third = c; fourth = d }) place)
 at_each step old a b c d pa pb pc pd place small = by_tests (eqb place 0) (eqb place 1) (eqb place 2) refl refl refl
   where

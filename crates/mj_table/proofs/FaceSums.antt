@@ -72,7 +72,8 @@ among number kind from (suc n) few low high = by_first (cases_eq from kind) (λ 
     later : (a b k : ℕ) → a ≡ 0 → b ≡ k → a + b ≡ k
     later a b k e f = omega (arith, e, f)
 
-    by_first : (from ≡ kind) ⊎ (from ≡ kind → ⊥) → ((from ≡ kind → ⊥) → sums (of_face number kind) (range_with_len (from + 1) n) ≡ number kind) → of_face number kind from + sums (of_face number kind) (range_with_len (from + 1) n) ≡ number kind
+    by_first : (from ≡ kind) ⊎ (from ≡ kind → ⊥) → ((from ≡ kind → ⊥) → sums (of_face number kind) (range_with_len (from + 1) n) ≡ number kind) →
+        of_face number kind from + sums (of_face number kind) (range_with_len (from + 1) n) ≡ number kind
     by_first (inl same) more = first _ _ _ (plain_same number kind from (omega (arith, few)) same) (beyond number kind (from + 1) n (omega (arith, few)) (omega (arith, same)))
     by_first (inr ne) more = later _ _ _ (plain_apart number kind from (omega (arith, few)) ne) (more ne)
 

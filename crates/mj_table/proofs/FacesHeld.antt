@@ -52,7 +52,8 @@ dealt_alone now tiles given face few = plain _ _ _ (zero_at 37 face) few (given 
         omega (arith, e, told)
 
 -- A start of a hand gives a seat what is dealt to it.
-pub started : (d : Deed) (round number honba deposits dealer indicator : ℕ) (hands : Four (List ℕ)) (seat : ℕ) (held now tiles : List ℕ) → d ≡ StartHand round number honba deposits dealer indicator hands →
+pub started : (d : Deed) (round number honba deposits dealer indicator : ℕ) (hands : Four (List ℕ)) (seat : ℕ) (held now tiles : List ℕ) →
+    d ≡ StartHand round number honba deposits dealer indicator hands →
     tiles ≡ at_seat hands seat → ((face : ℕ) → number_in tiles face ≤ 255 → get_or now face 0 ≡ number_in tiles face) → Moves d seat held now
 started d round number honba deposits dealer indicator hands seat held now tiles is at given =
     subst (λ (x : Deed). Moves x seat held now) (sym is) (λ face few. plain _ _ _ (ap (λ (xs : List ℕ). number_in xs face) at) few (given face))

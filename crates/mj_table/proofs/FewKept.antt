@@ -55,7 +55,8 @@ longer_by xs None = length-append xs []
 longer_by xs (Some x) = length-append xs (x ∷ [])
 
 -- The tiles with one more, where there is one.
-pub lists_more : (few : FewTiles) (tiles : List ℕ) (more : Option ℕ) (number : ℕ) (some : Bool) (a b c d e : Option ℕ) → length (tiles ++ option_to_list more) ≤ 5 → Lists few tiles → some ≡ is_some more →
+pub lists_more : (few : FewTiles) (tiles : List ℕ) (more : Option ℕ) (number : ℕ) (some : Bool) (a b c d e : Option ℕ) →
+    length (tiles ++ option_to_list more) ≤ 5 → Lists few tiles → some ≡ is_some more →
     (few.number + cond some 1 0 ≤ 255 → number ≡ few.number + cond some 1 0) → a ≡ cond (eqb few.number 0) (option_or more few.first) few.first →
     b ≡ cond (eqb few.number 1) (option_or more few.second) few.second → c ≡ cond (eqb few.number 2) (option_or more few.third) few.third →
     d ≡ cond (eqb few.number 3) (option_or more few.fourth) few.fourth → e ≡ cond (eqb few.number 4) (option_or more few.fifth) few.fifth →

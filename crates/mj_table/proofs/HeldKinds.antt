@@ -30,7 +30,8 @@ unfolding tile_order
 all_taken = refl
 
 -- The tiles themselves, a face further.
-pub copies_step : (number : ℕ → ℕ) (tiles now : List ℕ) (i face n : ℕ) → i < 37 → face ≡ get_or tile_order i 0 → n ≡ number face → tiles ≡ copies_of number (take i tile_order) → now ≡ tiles ++ replicate n face →
+pub copies_step : (number : ℕ → ℕ) (tiles now : List ℕ) (i face n : ℕ) → i < 37 → face ≡ get_or tile_order i 0 → n ≡ number face →
+    tiles ≡ copies_of number (take i tile_order) → now ≡ tiles ++ replicate n face →
     now ≡ copies_of number (take (i + 1) tile_order)
 copies_step number tiles now i face n h is what was added =
     added ∙ (λ k. was k ++ replicate (what k) face) ∙ sym (copies_more number tile_order i face (omega (arith, h, all_faces)) is)

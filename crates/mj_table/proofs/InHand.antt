@@ -114,13 +114,15 @@ by_newest F f red ds more starts out same fit = (kept (λ (xs : List Deed). (all
     by_past xs d true e never = absurd (never refl)
     by_past xs d false e never = e
 
-    by_test : (xs : List Deed) (d : Deed) → all_fit red [] xs ≡ true → fits red xs d ≡ true → (b : Bool) → is_hand_start d ≡ b → (h : List Deed) → hand xs ≡ h → F (cond b (d ∷ []) (behind h d)) ≡ f xs d
+    by_test : (xs : List Deed) (d : Deed) → all_fit red [] xs ≡ true → fits red xs d ≡ true → (b : Bool) → is_hand_start d ≡ b → (h : List Deed) →
+        hand xs ≡ h → F (cond b (d ∷ []) (behind h d)) ≡ f xs d
     by_test xs d all one true e h k = more [] d ∙ starts xs d e
     by_test xs d all one false e (x ∷ ys) k = more (x ∷ ys) d ∙ same xs d x ys k
     by_test xs d all one false e [] k =
         out xs d (by_past xs d (is_past_start (Some d)) refl (λ p. some_hand red xs all (past_of xs d (parts_of red xs d one).place e p) k))
 
-    step : (xs : List Deed) (d : Deed) → (all_fit red [] xs ≡ true) × (F (hand xs) ≡ F xs) → fits red xs d ≡ true → (all_fit red [] (xs ++ d ∷ []) ≡ true) × (F (hand (xs ++ d ∷ [])) ≡ F (xs ++ d ∷ []))
+    step : (xs : List Deed) (d : Deed) → (all_fit red [] xs ≡ true) × (F (hand xs) ≡ F xs) → fits red xs d ≡ true →
+        (all_fit red [] (xs ++ d ∷ []) ≡ true) × (F (hand (xs ++ d ∷ [])) ≡ F (xs ++ d ∷ []))
     step xs d old one =
         (all_fit-append red [] xs d old.0 one, ap F (hand_more xs d) ∙ by_test xs d old.0 one (is_hand_start d) refl (hand xs) refl ∙ sym (more xs d))
 

@@ -23,7 +23,8 @@ pub cause_told : (rules : Rules) (ds : List Deed) (played : Play) (last before n
     record { rules = rules; deeds = ds } ≡ played → n ≡ last → p ≡ before → result ≡ cause_by n p → result ≡ cause played.deeds
 cause_told rules ds played last before n p result fit e f is a b what = cause_kept rules.red ds n p result fit (a ∙ e) (b ∙ f) what ∙ ap (λ (play : Play). cause play.deeds) is
 
-pub drawn_told : (rules : Rules) (ds : List Deed) (played : Play) (seat : ℕ) (last before n p : Option Deed) (result : Option ℕ) → all_fit rules.red [] ds ≡ true → last ≡ newest ds → before ≡ beside ds →
+pub drawn_told : (rules : Rules) (ds : List Deed) (played : Play) (seat : ℕ) (last before n p : Option Deed) (result : Option ℕ) →
+    all_fit rules.red [] ds ≡ true → last ≡ newest ds → before ≡ beside ds →
     record { rules = rules; deeds = ds } ≡ played → n ≡ last → p ≡ before → result ≡ drawn_of seat n p → result ≡ drawn_tile played.deeds seat
 drawn_told rules ds played seat last before n p result fit e f is a b what =
     drawn_kept rules.red ds seat n p result fit (a ∙ e) (b ∙ f) what ∙ ap (λ (play : Play). drawn_tile play.deeds seat) is
@@ -34,8 +35,10 @@ wins_told rules ds played begun last before n p result some e f is a b what =
     wins_kept ds begun n p result some (a ∙ e) (b ∙ f) what ∙ ap (λ (play : Play). newest (before_wins (hand play.deeds))) is
 
 -- Whether a deed stands in its place.
-pub place_told : (rules : Rules) (ds : List Deed) (played : Play) (d : Deed) (last before n p t : Option Deed) (now : Standing) (held : List ℤ) (lying : ℕ) (tiles : Four (List ℕ)) (facts : HandFacts) (end : HandEnd) (result : Bool) →
-    Stands rules ds last before now held lying tiles facts → record { rules = rules; deeds = ds } ≡ played → n ≡ last → p ≡ before → t ≡ taken_of n p → end ≡ end_of (hand played.deeds) (standing played.deeds).dealer →
+pub place_told : (rules : Rules) (ds : List Deed) (played : Play) (d : Deed) (last before n p t : Option Deed) (now : Standing) (held : List ℤ)
+    (lying : ℕ) (tiles : Four (List ℕ)) (facts : HandFacts) (end : HandEnd) (result : Bool) →
+    Stands rules ds last before now held lying tiles facts → record { rules = rules; deeds = ds } ≡ played → n ≡ last → p ≡ before →
+    t ≡ taken_of n p → end ≡ end_of (hand played.deeds) (standing played.deeds).dealer →
     ((h : List Deed) (points : List ℤ) → t ≡ taken_from h n → end ≡ end_of h now.dealer → result ≡ is_in_place (record { newest = n; hand = h; standing = now; points = points; deposits = lying }) d) →
     result ≡ is_in_place (ground_of played.deeds) d
 place_told rules ds played d last before n p t now held lying tiles facts end result s is a b took ended told =

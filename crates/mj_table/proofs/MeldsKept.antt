@@ -30,7 +30,8 @@ added_in_turn meld (x ∷ xs) ys = by_test (is_pon meld.form && eqb (kind_of x) 
     by_test false later = later
 
 -- Up to five tiles, one after another.
-pub all_added : (few : FewTiles) (tiles : List ℕ) (m a b c d e : Meld) → length tiles ≤ 5 → Lists few tiles → a ≡ with_added m (option_to_list few.first) → b ≡ with_added a (option_to_list few.second) →
+pub all_added : (few : FewTiles) (tiles : List ℕ) (m a b c d e : Meld) → length tiles ≤ 5 → Lists few tiles →
+    a ≡ with_added m (option_to_list few.first) → b ≡ with_added a (option_to_list few.second) →
     c ≡ with_added b (option_to_list few.third) → d ≡ with_added c (option_to_list few.fourth) → e ≡ with_added d (option_to_list few.fifth) → e ≡ with_added m tiles
 all_added few tiles m a b c d e small k pa pb pc pd pe =
     chain (option_to_list few.first) (option_to_list few.second) (option_to_list few.third) (option_to_list few.fourth) (option_to_list few.fifth) pa pb pc pd pe

@@ -141,7 +141,8 @@ left_small got gone face h =
 
 all_small : (tiles : List ℕ) → ((face : ℕ) → 0 < number_in tiles face → face < 37) → All (λ t. t < 37) tiles
 all_small [] each = All-nil (λ t. t < 37)
-all_small (t ∷ ts) each = All-cons (λ x. x < 37) t ts (each t (first _ _ _ (number-cons t t ts) (ap (λ b. cond b 1 0) (eq-eqb t t refl)))) (all_small ts (λ face h. each face (later _ _ _ (number-cons t face ts) h)))
+all_small (t ∷ ts) each = All-cons (λ x. x < 37) t ts (each t (first _ _ _ (number-cons t t ts) (ap (λ b. cond b 1 0) (eq-eqb t t refl))))
+    (all_small ts (λ face h. each face (later _ _ _ (number-cons t face ts) h)))
   where
     first : (a b c : ℕ) → a ≡ b + c → b ≡ 1 → 0 < a
     first a b c e f = omega (arith, e, f)

@@ -128,7 +128,8 @@ stands_at_first rules ds tiles facts e none kept_of =
     subst (λ (xs : List Deed). Stands rules xs None None first_standing (pos 30000 ∷ pos 30000 ∷ pos 30000 ∷ pos 30000 ∷ []) 0 tiles facts) (sym e)
     (record { fit = refl; latest = refl; previous = refl; standing = refl; points = refl; deposits = refl; concealed = none; facts = kept_of })
 
-pub stands_more : (rules : Rules) (ds : List Deed) (last before : Option Deed) (now : Standing) (held : List ℤ) (lying number : ℕ) (tiles more : Four (List ℕ)) (facts after : HandFacts) (d : Deed) → Stands rules ds last before now held lying tiles facts →
+pub stands_more : (rules : Rules) (ds : List Deed) (last before : Option Deed) (now : Standing) (held : List ℤ) (lying number : ℕ)
+    (tiles more : Four (List ℕ)) (facts after : HandFacts) (d : Deed) → Stands rules ds last before now held lying tiles facts →
     fits rules.red ds d ≡ true → number ≡ length (starts ds) → ((seat : ℕ) → seat ≤ 3 → Holds (hand (ds ++ d ∷ [])) seat (at_seat more seat)) → Knows (hand (ds ++ d ∷ [])) after →
     Stands rules (ds ++ d ∷ []) (Some d) (previous_with facts.begun before last d) (cond (is_hand_start d) (standing_by number (Some d)) now) (changed held d)
     (cond (is_win d) 0 (lying + cond (is_deposit d) 1 0)) more after
@@ -144,7 +145,8 @@ stands_more rules ds last before now held lying number tiles more facts after d 
 }
 
 -- What stands for deeds stands for the same ones in other words.
-pub stands_for : (rules : Rules) (ds xs : List Deed) (last l before b : Option Deed) (now n : Standing) (held p : List ℤ) (lying m : ℕ) (tiles : Four (List ℕ)) (facts : HandFacts) → Stands rules ds last before now held lying tiles facts →
+pub stands_for : (rules : Rules) (ds xs : List Deed) (last l before b : Option Deed) (now n : Standing) (held p : List ℤ) (lying m : ℕ)
+    (tiles : Four (List ℕ)) (facts : HandFacts) → Stands rules ds last before now held lying tiles facts →
     xs ≡ ds → l ≡ last → b ≡ before → n ≡ now → p ≡ held → m ≡ lying → Stands rules xs l b n p m tiles facts
 stands_for rules ds xs last l before b now n held p lying m tiles facts s e h k f g o = record {
   fit = subst (λ (ys : List Deed). all_fit rules.red [] ys ≡ true) (sym e) s.fit;
@@ -244,13 +246,17 @@ pub points_fit : (red : Bool) (ds : List Deed) (held : List ℤ) (d : Deed) → 
 points_fit red ds held d one e = ap (λ (p : List ℤ). has_points p d) e ∙ (parts_of red ds d one).pointed
 
 -- What a deed is held against.
-pub ground_told : (ds : List Deed) (last : Option Deed) (now : Standing) (held : List ℤ) (lying : ℕ) (d : Deed) (result : Bool) → last ≡ newest ds → now ≡ standing ds → held ≡ points ds → lying ≡ deposits ds →
+pub ground_told : (ds : List Deed) (last : Option Deed) (now : Standing) (held : List ℤ) (lying : ℕ) (d : Deed) (result : Bool) → last ≡ newest ds →
+    now ≡ standing ds → held ≡ points ds → lying ≡ deposits ds →
     result ≡ is_in_place (record { newest = last; hand = hand ds; standing = now; points = held; deposits = lying }) d → result ≡ is_in_place (ground_of ds) d
 unfolding ground_of
 ground_told ds last now held lying d result a b c e is = is ∙ (λ i. is_in_place (record { newest = a i; hand = hand ds; standing = b i; points = c i; deposits = e i }) d)
 
 -- A deed fits in its hand: a start is alone in it.
-pub inside_told : (rules : Rules) (ds : List Deed) (played : Play) (d : Deed) (start result : Bool) (h : List Deed) → record { rules = rules; deeds = ds } ≡ played → start ≡ is_hand_start d → h ≡ cond start [] (hand ds) →
+pub inside_told : (rules : Rules) (ds : List Deed) (played : Play) (d : Deed) (start result : Bool) (h : List Deed) → record {
+  rules = rules;
+  deeds = ds;
+} ≡ played → start ≡ is_hand_start d → h ≡ cond start [] (hand ds) →
     result ≡ fits_in rules.red h d → result ≡ fits_in played.rules.red (before_in (hand played.deeds) d) d
 inside_told rules ds played d start result h is at e told =
     told ∙ ap (λ (xs : List Deed). fits_in rules.red xs d) (e ∙ ap (λ b. cond b [] (hand ds)) at) ∙ ap (λ (p : Play). fits_in p.rules.red (before_in (hand p.deeds) d) d) is

@@ -70,7 +70,8 @@ at_most held plain kind is size few low = omega (arith, ap (λ ns. get_or ns kin
 
 pub first_few : (held plain : List ℕ) → plain ≡ take 34 held → length plain ≡ 34 → NoFifth (kind_counts (tiles_held held)) → get_or plain 4 0 + get_or held 34 0 ≤ 4
 first_few held plain is size few =
-    least _ _ _ _ (at_most held plain 4 is size few (omega arith)) (plus_at (with_two held plain) 22 (get_or held 36 0) 4 (omega (arith, plus_size (with_one held plain) 13 (get_or held 35 0), plus_size plain 4 (get_or held 34 0), size)))
+    least _ _ _ _ (at_most held plain 4 is size few (omega arith)) (plus_at (with_two held plain) 22 (get_or held 36 0) 4
+    (omega (arith, plus_size (with_one held plain) 13 (get_or held 35 0), plus_size plain 4 (get_or held 34 0), size)))
     (plus_at (with_one held plain) 13 (get_or held 35 0) 4 (omega (arith, plus_size plain 4 (get_or held 34 0), size))) (plus_at plain 4 (get_or held 34 0) 4 (omega (arith, size)))
   where
     least : (three two one : ℕ) (sum : ℕ) → three ≤ 4 → three ≡ two + 0 → two ≡ one + 0 → one ≡ sum → sum ≤ 4
@@ -78,7 +79,8 @@ first_few held plain is size few =
 
 pub second_few : (held plain : List ℕ) → plain ≡ take 34 held → length plain ≡ 34 → NoFifth (kind_counts (tiles_held held)) → get_or (with_one held plain) 13 0 + get_or held 35 0 ≤ 4
 second_few held plain is size few =
-    least _ _ _ (at_most held plain 13 is size few (omega arith)) (plus_at (with_two held plain) 22 (get_or held 36 0) 13 (omega (arith, plus_size (with_one held plain) 13 (get_or held 35 0), plus_size plain 4 (get_or held 34 0), size)))
+    least _ _ _ (at_most held plain 13 is size few (omega arith)) (plus_at (with_two held plain) 22 (get_or held 36 0) 13
+    (omega (arith, plus_size (with_one held plain) 13 (get_or held 35 0), plus_size plain 4 (get_or held 34 0), size)))
     (plus_at (with_one held plain) 13 (get_or held 35 0) 13 (omega (arith, plus_size plain 4 (get_or held 34 0), size)))
   where
     least : (three two sum : ℕ) → three ≤ 4 → three ≡ two + 0 → two ≡ sum → sum ≤ 4
@@ -86,7 +88,8 @@ second_few held plain is size few =
 
 pub third_few : (held plain : List ℕ) → plain ≡ take 34 held → length plain ≡ 34 → NoFifth (kind_counts (tiles_held held)) → get_or (with_two held plain) 22 0 + get_or held 36 0 ≤ 4
 third_few held plain is size few =
-    least _ _ (at_most held plain 22 is size few (omega arith)) (plus_at (with_two held plain) 22 (get_or held 36 0) 22 (omega (arith, plus_size (with_one held plain) 13 (get_or held 35 0), plus_size plain 4 (get_or held 34 0), size)))
+    least _ _ (at_most held plain 22 is size few (omega arith)) (plus_at (with_two held plain) 22 (get_or held 36 0) 22
+    (omega (arith, plus_size (with_one held plain) 13 (get_or held 35 0), plus_size plain 4 (get_or held 34 0), size)))
   where
     least : (three sum : ℕ) → three ≤ 4 → three ≡ sum → sum ≤ 4
     least three sum h e = omega (arith, h, e)

@@ -52,9 +52,25 @@ room_push tiles tile within =
         get_or (set (room_beside tiles) (kind_of tile) (get_or (room_beside tiles) (kind_of tile) 0 - 1)) k 0
         ≡ get_or (room_beside (tiles ++ tile ∷ [])) k 0
     at tiles tile k true is small within =
-        grind (arith, common_steps, get_or-room_beside (tiles ++ tile ∷ []) k small, get_or-room_beside tiles k small, number_of-push tiles tile k, length-room_beside tiles, (Decides-eqb (kind_of tile) k).0 is)
+        grind (
+          arith,
+          common_steps,
+          get_or-room_beside (tiles ++ tile ∷ []) k small,
+          get_or-room_beside tiles k small,
+          number_of-push tiles tile k,
+          length-room_beside tiles,
+          (Decides-eqb (kind_of tile) k).0 is,
+        )
     at tiles tile k false is small within =
-        grind (arith, common_steps, get_or-room_beside (tiles ++ tile ∷ []) k small, get_or-room_beside tiles k small, number_of-push tiles tile k, length-room_beside tiles, not_from_Decides _ (Decides-eqb (kind_of tile) k) is)
+        grind (
+          arith,
+          common_steps,
+          get_or-room_beside (tiles ++ tile ∷ []) k small,
+          get_or-room_beside tiles k small,
+          number_of-push tiles tile k,
+          length-room_beside tiles,
+          not_from_Decides _ (Decides-eqb (kind_of tile) k) is,
+        )
 
 pub room_take : (room tiles : List ℕ) (tile place left : ℕ) → room ≡ room_beside tiles → place ≡ kind_of tile → kind_of tile < 34 → left ≡ get_or room place 0 - 1 →
     set room place left ≡ room_beside (tiles ++ tile ∷ [])

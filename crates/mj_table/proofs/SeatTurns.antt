@@ -85,7 +85,8 @@ marks_turn ds from seat tile drawn m n own k is =
     (marks_more ds (Discard from tile drawn) seat m (record m { ended = true; declared = m.reached; broken = m.declared; ippatsu = m.accepted && not m.declared; given = m.accepted && not m.declared })
     k
     (stays m.begun false refl) (ends m.ended (eqb from seat) own) (stays m.reached false refl) (stays m.accepted false refl)
-    (double_stays m.reached m.double _ _ false (m.begun && not m.ended) k.reached k.double refl) (turned m.reached m.declared (eqb from seat) own) (turned m.declared m.broken (eqb from seat) own) refl refl)
+    (double_stays m.reached m.double _ _ false (m.begun && not m.ended) k.reached k.double refl) (turned m.reached m.declared (eqb from seat) own)
+    (turned m.declared m.broken (eqb from seat) own) refl refl)
 
 -- A deed that is no discard.
 no_discards : (d : Deed) (seat : ℕ) → is_discard d ≡ false → discards_by seat d ≡ []
@@ -164,7 +165,13 @@ only_passed ds d seat f marks o k now =
 -- By its own discard.
 pub own_discarded : (ds : List Deed) (from seat tile : ℕ) (drawn : Bool) (f : SeatFacts) (own none : ℕ) (marks : MarkFacts) → eqb from seat ≡ true → Keeps ds seat f →
     own ≡ kinds_among (river_tiles ds seat ++ tile ∷ []) → none ≡ no_kinds →
-    marks ≡ record f.marks { ended = true; declared = f.marks.reached; broken = f.marks.declared; ippatsu = f.marks.accepted && not f.marks.declared; given = f.marks.accepted && not f.marks.declared } →
+    marks ≡ record f.marks {
+      ended = true;
+      declared = f.marks.reached;
+      broken = f.marks.declared;
+      ippatsu = f.marks.accepted && not f.marks.declared;
+      given = f.marks.accepted && not f.marks.declared;
+    } →
     Keeps (ds ++ Discard from tile drawn ∷ []) seat (record f { own = own; offered = none; passed = none; passed_in_riichi = f.offered_in_riichi; marks = marks })
 own_discarded ds from seat tile drawn f own none marks same k is empty now = record {
   own = is ∙ own_more ds d seat (tile ∷ []) (λ i. cond (sym same i) (tile ∷ []) []);

@@ -26,7 +26,8 @@ use Rattle.mj_table.proofs.FaceSums.{kind_sum, past_one}
 -- taking away the tiles of a seat
 
 -- So many less of one kind.
-pub one_off : (old : List ℕ) (place count v : ℕ) → place < length old → v ≡ get_or old place 0 - count → (other : ℕ) → get_or (set old place v) other 0 ≡ get_or old other 0 - cond (eqb place other) count 0
+pub one_off : (old : List ℕ) (place count v : ℕ) → place < length old → v ≡ get_or old place 0 - count → (other : ℕ) →
+    get_or (set old place v) other 0 ≡ get_or old other 0 - cond (eqb place other) count 0
 one_off old place count v there is other = by_place (cases_eq other place)
   where
     less : (v b n m : ℕ) → v ≡ b - n → m ≡ n → v ≡ b - m
@@ -71,7 +72,8 @@ one_taken held old now i v there is was kind = one_off now i (get_or held i 0) v
         same _ _ (get_or held kind 0) _ _ _ (was kind) (test false i _ (le-ltb kind i (omega (arith, e)))) (ap (λ t. cond t (get_or held i 0) 0) (eq-eqb i kind e) ∙ ap (λ q. get_or held q 0) e)
         (test true (i + 1) _ (lt-ltb kind (i + 1) (omega (arith, e))))
     by_place (inr ne) (inl h) =
-        below _ _ (get_or held kind 0) _ _ _ (was kind) (test true i _ (lt-ltb kind i h)) (ap (λ t. cond t (get_or held i 0) 0) (ne_eqb i kind ne)) (test true (i + 1) _ (lt-ltb kind (i + 1) (omega (arith, h))))
+        below _ _ (get_or held kind 0) _ _ _ (was kind) (test true i _ (lt-ltb kind i h)) (ap (λ t. cond t (get_or held i 0) 0) (ne_eqb i kind ne))
+        (test true (i + 1) _ (lt-ltb kind (i + 1) (omega (arith, h))))
     by_place (inr ne) (inr h) =
         above _ _ _ _ _ (was kind) (test false i _ (le-ltb kind i h)) (ap (λ t. cond t (get_or held i 0) 0) (ne_eqb i kind ne)) (test false (i + 1) _ (le-ltb kind (i + 1) (past_one i kind ne h)))
 
@@ -134,7 +136,8 @@ seen_is (suc (suc (suc (suc s)))) b n h k l m o low all e = absurd (omega (arith
 -- Which of the four, by its seat.
 which : (ds : List Deed) (seat kind : ℕ) → seat ≤ 3 →
     cond (eqb seat 0) (number_of (concealed_tiles ds 0) kind)
-    (cond (eqb seat 1) (number_of (concealed_tiles ds 1) kind) (cond (eqb seat 2) (number_of (concealed_tiles ds 2) kind) (number_of (concealed_tiles ds 3) kind))) ≡ number_of (concealed_tiles ds seat) kind
+    (cond (eqb seat 1) (number_of (concealed_tiles ds 1) kind) (cond (eqb seat 2) (number_of (concealed_tiles ds 2) kind)
+    (number_of (concealed_tiles ds 3) kind))) ≡ number_of (concealed_tiles ds seat) kind
 which ds zero kind low = refl
 which ds (suc zero) kind low = refl
 which ds (suc (suc zero)) kind low = refl
@@ -165,8 +168,10 @@ sees red ds brought counts held seat low fit brings holds long is =
         ∙ sym (number_of-append (concealed_tiles (hand ds) seat) (open_tiles (hand ds)) kind)
 
 -- So of the deeds that a table stands for.
-pub table_sees : (rules : Rules) (ds : List Deed) (played : Play) (facts : HandFacts) (counts : List ℕ) (held : Four (List ℕ)) (seat : ℕ) → seat ≤ 3 → all_fit rules.red [] ds ≡ true → Knows (hand ds) facts → AllHold ds held →
-    record { rules = rules; deeds = ds } ≡ played → length counts ≡ 34 → ((kind : ℕ) → get_or counts kind 0 ≡ seen_of facts.brought held seat kind) → counts ≡ kind_counts (seen_tiles (hand played.deeds) seat)
+pub table_sees : (rules : Rules) (ds : List Deed) (played : Play) (facts : HandFacts) (counts : List ℕ) (held : Four (List ℕ)) (seat : ℕ) → seat ≤ 3 →
+    all_fit rules.red [] ds ≡ true → Knows (hand ds) facts → AllHold ds held →
+    record { rules = rules; deeds = ds } ≡ played → length counts ≡ 34 → ((kind : ℕ) → get_or counts kind 0 ≡ seen_of facts.brought held seat kind) →
+    counts ≡ kind_counts (seen_tiles (hand played.deeds) seat)
 table_sees rules ds played facts counts held seat low fit known holds is long numbers =
     sees rules.red ds facts.brought counts held seat low fit known.brought holds long numbers ∙ ap (λ (p : Play). kind_counts (seen_tiles (hand p.deeds) seat)) is
 

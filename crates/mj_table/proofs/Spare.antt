@@ -38,7 +38,9 @@ was_held : (ds : List Deed) (d : Deed) (who tile : ℕ) → Offers d who tile �
 was_held ds d who tile o low h =
     let held : are_held (tiles_gained ds who) (tiles_lost ds who) (tile ∷ []) ≡ true =
     sym (ap (are_held (tiles_gained ds who) (tiles_lost ds who)) (o.loses who ∙ ap (λ b. cond b (tile ∷ []) []) (eq-eqb who who refl))) ∙ of_four (has_held_by ds d) who low h in
-    some _ _ _ _ (sum_by-cons (λ t. cond (eqb t tile) 1 0) tile []) (ap (λ b. cond b 1 0) (eq-eqb tile tile refl)) (leb-true _ _ (and_parts (leb (number_in (tile ∷ []) tile) (number_in (tiles_gained ds who) tile - number_in (tiles_lost ds who) tile)) true held).0)
+    some _ _ _ _ (sum_by-cons (λ t. cond (eqb t tile) 1 0) tile []) (ap (λ b. cond b 1 0) (eq-eqb tile tile refl))
+    (leb-true _ _ (and_parts (leb (number_in (tile ∷ []) tile) (number_in (tiles_gained ds who) tile - number_in (tiles_lost ds who) tile)) true
+    held).0)
   where
     some : (n x a b : ℕ) → n ≡ x + 0 → x ≡ 1 → n ≤ a - b → 0 < a
     some n x a b e f h = omega (arith, e, f, h)
@@ -50,7 +52,8 @@ held_fewer ds d who tile seat o low small h = elim (cases_eq who seat) [
   | inl e ↦
       own _ _ _ _ _ _
       (ap (λ (xs : List ℕ). number_of (less xs (tiles_lost (ds ++ d ∷ []) seat)) (kind_of tile)) (gained seat)
-      ∙ ap (λ (xs : List ℕ). number_of (less (tiles_gained ds seat) xs) (kind_of tile)) (one_more (losses_by seat) ds d ∙ ap (λ (ys : List ℕ). tiles_lost ds seat ++ ys) (o.loses seat ∙ ap (λ b. cond b (tile ∷ []) []) (eq-eqb who seat e)))
+      ∙ ap (λ (xs : List ℕ). number_of (less (tiles_gained ds seat) xs) (kind_of tile)) (one_more (losses_by seat) ds d
+      ∙ ap (λ (ys : List ℕ). tiles_lost ds seat ++ ys) (o.loses seat ∙ ap (λ b. cond b (tile ∷ []) []) (eq-eqb who seat e)))
       ∙ ap (λ (xs : List ℕ). number_of xs (kind_of tile)) (less_without (tiles_gained ds seat) (tiles_lost ds seat) tile (there e)))
       (count_by-less (λ t. eqb (kind_of t) (kind_of tile)) (without (tiles_gained ds seat) tile) (tiles_lost ds seat))
       (fewer (tiles_gained ds seat) (there e)) (gained_within ds seat (kind_of tile)) brought

@@ -133,7 +133,8 @@ before_without : (p : Deed → Bool) → Quiet p → (ds : List Deed) → before
 before_without p quiet [] = refl
 before_without p quiet (d ∷ ds) = by_test (is_win d) refl (before_without p quiet ds)
   where
-    here : (c : Bool) → is_win d ≡ false → before_first p (before_wins ds) ≡ before_wins (before_first p ds) → cond c [] (d ∷ before_first p (before_wins ds)) ≡ before_wins (cond c [] (d ∷ before_first p ds))
+    here : (c : Bool) → is_win d ≡ false → before_first p (before_wins ds) ≡ before_wins (before_first p ds) →
+        cond c [] (d ∷ before_first p (before_wins ds)) ≡ before_wins (cond c [] (d ∷ before_first p ds))
     here true e h = refl
     here false e h = ap (λ (xs : List Deed). d ∷ xs) h ∙ ap (λ b. cond (not b) (d ∷ before_wins (before_first p ds)) (before_wins (before_first p ds))) (sym e)
 

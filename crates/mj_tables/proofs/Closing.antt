@@ -17,11 +17,26 @@ module _ {T S A R : Type 0} (g : Ghosts T S A R) (setting : T → S) where
     each = λ t u r x eu er ex. elim (at_snoc turns turn t u eu) [ inl h ↦ before t u r x h (slice_get_within turns t u h) er ex | inr h ↦ here t u r x h.0 h.1 er ex ];
   }
     where
-      before : (t : ℕ) (u : TurnState T) (r : List (PassState T S (Entry A))) (x : T) → slice_get turns t ≡ Some u → t < length turns → slice_get (rows ++ row ∷ []) t ≡ Some r → slice_get (tables ++ table ∷ []) t ≡ Some x → IsClosed g setting u r x
-      before t u r x h near er ex = elim (at_snoc rows row t r er) [ inl k ↦ elim (at_snoc tables table t x ex) [ inl j ↦ all.each t u r x h k j | inr j ↦ absurd (omega (arith, near, j.0, all.many)) ] | inr k ↦ absurd (omega (arith, near, k.0, long)) ]
+      before : (t : ℕ) (u : TurnState T) (r : List (PassState T S (Entry A))) (x : T) → slice_get turns t ≡ Some u → t < length turns →
+          slice_get (rows ++ row ∷ []) t ≡ Some r → slice_get (tables ++ table ∷ []) t ≡ Some x → IsClosed g setting u r x
+      before t u r x h near er ex = elim (at_snoc rows row t r er) [
+        | inl k ↦ elim (at_snoc tables table t x ex) [
+          | inl j ↦ all.each t u r x h k j
+          | inr j ↦ absurd (omega (arith, near, j.0, all.many))
+        ]
+        | inr k ↦ absurd (omega (arith, near, k.0, long))
+      ]
 
-      here : (t : ℕ) (u : TurnState T) (r : List (PassState T S (Entry A))) (x : T) → t ≡ length turns → turn ≡ u → slice_get (rows ++ row ∷ []) t ≡ Some r → slice_get (tables ++ table ∷ []) t ≡ Some x → IsClosed g setting u r x
-      here t u r x end same er ex = elim (at_snoc rows row t r er) [ inl k ↦ absurd (omega (arith, slice_get_within rows t r k, end, long)) | inr k ↦ elim (at_snoc tables table t x ex) [ inl j ↦ absurd (omega (arith, slice_get_within tables t x j, end, all.many)) | inr j ↦ subst (λ (v : TurnState T). IsClosed g setting v r x) same (subst₂ (λ (l : List (PassState T S (Entry A))) (y : T). IsClosed g setting turn l y) k.1 j.1 one) ] ]
+      here : (t : ℕ) (u : TurnState T) (r : List (PassState T S (Entry A))) (x : T) → t ≡ length turns → turn ≡ u →
+          slice_get (rows ++ row ∷ []) t ≡ Some r → slice_get (tables ++ table ∷ []) t ≡ Some x → IsClosed g setting u r x
+      here t u r x end same er ex = elim (at_snoc rows row t r er) [
+        | inl k ↦ absurd (omega (arith, slice_get_within rows t r k, end, long))
+        | inr k ↦ elim (at_snoc tables table t x ex) [
+          | inl j ↦ absurd (omega (arith, slice_get_within tables t x j, end, all.many))
+          | inr j ↦ subst (λ (v : TurnState T). IsClosed g setting v r x) same
+              (subst₂ (λ (l : List (PassState T S (Entry A))) (y : T). IsClosed g setting turn l y) k.1 j.1 one)
+        ]
+      ]
 
   pub closed_none : (turns : List (TurnState T)) (rows : List (List (PassState T S (Entry A)))) (tables : List T) → turns ≡ [] → tables ≡ [] → AllClosed g setting turns rows tables
   closed_none turns rows tables a b = record { many = ap length b ∙ sym (ap length a); each = λ t u r x eu er ex. none t u (ap length a) (slice_get_within turns t u eu) }
@@ -30,7 +45,8 @@ module _ {T S A R : Type 0} (g : Ghosts T S A R) (setting : T → S) where
       none t u l near = absurd (omega (arith, l, near))
 
   pub closed_more : {V : Type 0} (f : V → List (PassState T S (Entry A))) (turns rest : List (TurnState T)) (rows others : List V) (tables before : List T) (turn : TurnState T) (row : V) (table : T)
-      → turns ≡ rest ++ turn ∷ [] → rows ≡ others ++ row ∷ [] → tables ≡ before ++ table ∷ [] → length (map f others) ≡ length rest → AllClosed g setting rest (map f others) before → IsClosed g setting turn (f row) table → AllClosed g setting turns (map f rows) tables
+      → turns ≡ rest ++ turn ∷ [] → rows ≡ others ++ row ∷ [] → tables ≡ before ++ table ∷ [] → length (map f others) ≡ length rest →
+      AllClosed g setting rest (map f others) before → IsClosed g setting turn (f row) table → AllClosed g setting turns (map f rows) tables
   closed_more f turns rest rows others tables before turn row table a b c long all one =
       subst (λ (l : List (TurnState T)). AllClosed g setting l (map f rows) tables) (sym a)
       (subst (λ (l : List (List (PassState T S (Entry A)))). AllClosed g setting (rest ++ turn ∷ []) l tables) (sym (ap (map f) b ∙ map-append f others (row ∷ [])))

@@ -99,7 +99,11 @@ module _ (x y : WireState) (line : List ℕ) (took : Took x y (line ∷ []) []) 
     took_all = subst (λ (l : List ℕ). Took x z (l ∷ more) rest) parted.0
         (took_chain x (as_before x y) z (line ∷ []) more rest
         (record { passes = took.passes; whole = took.whole; risen = omega arith })
-        (record { passes = record { bytes = all.passes.bytes; taken = all.passes.taken; read = all.passes.read; held = parted.1 }; whole = All-tail (λ (l : List ℕ). has_newline l ≡ false) first more all.whole; risen = all.risen }))
+        (record {
+          passes = record { bytes = all.passes.bytes; taken = all.passes.taken; read = all.passes.read; held = parted.1 };
+          whole = All-tail (λ (l : List ℕ). has_newline l ≡ false) first more all.whole;
+          risen = all.risen;
+        }))
 
   told_part_held : (excuse : Type 0) (z : WireState) (old new : List ℕ) → ToldInPart excuse (as_held x y line) z old new → ToldInPart excuse x z old new
   told_part_held excuse z old new t = record { piece = t.piece; rest = t.rest; wrote = record { written = t.wrote.written; risen = t.wrote.risen }; is = t.is; whole = t.whole }
@@ -113,8 +117,10 @@ module _ (x y : WireState) (line : List ℕ) (took : Took x y (line ∷ []) []) 
   ends_held (NotSeated why) z rest h = h
   ends_held NoMemory z rest h = h
 
-module _ {A R : Type 0} (after : List (Entry A) → Showing) (reads : List ℕ → A) (joins : List ℕ → Option JoinLine) (sits : List (Entry A) → List ℕ → SitAnswer) (hears : List (Entry A) → ℕ → ℕ → A → Heard R) (says : Control R → List ℕ) (picks : List ℕ → Picked) (table : ℕ) where
-  gets_here : (before : List (Entry A)) (line : List ℕ) (author seat : ℕ) (first : Entry A) → picks line ≡ picked.Table table → GetsSeat sits joins before line author seat first → GetsSeat (sits_at picks table sits) joins before line author seat first
+module _ {A R : Type 0} (after : List (Entry A) → Showing) (reads : List ℕ → A) (joins : List ℕ → Option JoinLine) (sits : List (Entry A) → List ℕ →
+    SitAnswer) (hears : List (Entry A) → ℕ → ℕ → A → Heard R) (says : Control R → List ℕ) (picks : List ℕ → Picked) (table : ℕ) where
+  gets_here : (before : List (Entry A)) (line : List ℕ) (author seat : ℕ) (first : Entry A) → picks line ≡ picked.Table table →
+      GetsSeat sits joins before line author seat first → GetsSeat (sits_at picks table sits) joins before line author seat first
   gets_here before line author seat first is g = record {
     answer = g.answer;
     given = g.given;
@@ -123,7 +129,8 @@ module _ {A R : Type 0} (after : List (Entry A) → Showing) (reads : List ℕ �
 
   -- The whole session.
   pub seated_joined : (author : ℕ) (old new : List (Entry A)) (x y z : WireState) (line : List ℕ) (ended : Ended) (place : ℕ) (took : Took x y (line ∷ []) []) → picks line ≡ picked.Table table
-      → SeatedSession after reads joins sits hears says author old new (as_held x y line) z ended place → SeatedSession after reads joins (sits_at picks table sits) hears says author old new x z ended place
+      → SeatedSession after reads joins sits hears says author old new (as_held x y line) z ended place →
+      SeatedSession after reads joins (sits_at picks table sits) hears says author old new x z ended place
   seated_joined author old new x y z line ended place took is q =
       let led = (parted x y line took z q.line (q.lines ++ q.left_out) q.rest q.took).0 in
       record {
@@ -146,7 +153,8 @@ module _ {A R : Type 0} (after : List (Entry A) → Showing) (reads : List ℕ �
       }
 
   -- The link of such a session, once it was shut.
-  module _ {L : Type 0} (at : List ℕ → L → WireState) (excuse : Type 0) (author : ℕ) (old new : List (Entry A)) (start : L) (y z : WireState) (line : List ℕ) (ended : Ended) (place : Option ℕ) (took : Took (at [] start) y (line ∷ []) []) (told : Wrote (at [] start) y (says Hello))
+  module _ {L : Type 0} (at : List ℕ → L → WireState) (excuse : Type 0) (author : ℕ) (old new : List (Entry A)) (start : L) (y z : WireState)
+      (line : List ℕ) (ended : Ended) (place : Option ℕ) (took : Took (at [] start) y (line ∷ []) []) (told : Wrote (at [] start) y (says Hello))
       (session : (x : WireState) → Took x y (line ∷ []) [] → Wrote x y (says Hello) → SessionAt after reads joins sits hears says author old new x z ended place) where
     pub joined_kept : (p : ℕ) (link : L) → place ≡ Some p → picks line ≡ picked.Table table → IsNew (at [] start) → z ≡ at z.held link → (IsExcused ended → excuse)
         → Noted after reads joins (sits_at picks table sits) hears says at excuse author old new (record { link = link; place = p })
@@ -154,7 +162,8 @@ module _ {A R : Type 0} (after : List (Entry A) → Showing) (reads : List ℕ �
         let x = at [] start in
         kept_link after reads joins (sits_at picks table sits) hears says at excuse author old new (record { link = link; place = p }) start x z ended p
         (seated_joined author old new x y z line ended p took is
-        (session_some after reads joins sits hears says author old new (as_held x y line) z ended place p some (session (as_held x y line) (took_held x y line took) (told_held x y line took (says Hello) told))))
+        (session_some after reads joins sits hears says author old new (as_held x y line) z ended place p some
+        (session (as_held x y line) (took_held x y line took) (told_held x y line took (says Hello) told))))
         refl fresh shut refl excused
 
     pub joined_nothing : place ≡ None → Enters author old new []

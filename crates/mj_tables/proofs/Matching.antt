@@ -43,7 +43,10 @@ module _ {X Y : Type 0} (P : X → Y → Type 0) where
   pub matches_snoc : (xs : List X) (ys : List Y) (x : X) (y : Y) → Matches P xs ys → P x y → Matches P (xs ++ x ∷ []) (ys ++ y ∷ [])
   matches_snoc xs ys x y m p = record {
     many = length-append ys (y ∷ []) ∙ (ap (λ (n : ℕ). n + 1) m.many ∙ sym (length-append xs (x ∷ [])));
-    each = λ t a b ea eb. elim (at_snoc xs x t a ea) [ inl h ↦ elim (at_snoc ys y t b eb) [ inl k ↦ m.each t a b h k | inr k ↦ past t a h k.0 ] | inr h ↦ elim (at_snoc ys y t b eb) [ inl k ↦ early t b h.0 k | inr k ↦ subst₂ P h.1 k.1 p ] ];
+    each = λ t a b ea eb. elim (at_snoc xs x t a ea) [
+      | inl h ↦ elim (at_snoc ys y t b eb) [ inl k ↦ m.each t a b h k | inr k ↦ past t a h k.0 ]
+      | inr h ↦ elim (at_snoc ys y t b eb) [ inl k ↦ early t b h.0 k | inr k ↦ subst₂ P h.1 k.1 p ]
+    ];
   }
     where
       past : {B : Type 0} (t : ℕ) (a : X) → slice_get xs t ≡ Some a → t ≡ length ys → B

@@ -31,10 +31,12 @@ module _ {V G : Type 0} (f : V → G) where
   room_at rooms games e t x at = unmapped f rooms t x (ap (λ (l : List G). slice_get l t) (sym e) ∙ at)
 
   -- of what stands in a place
-  pub each_game : (P : ℕ → G → Type 0) (rooms : List V) (games : List G) → games ≡ map f rooms → ((t : ℕ) (r : V) → slice_get rooms t ≡ Some r → P t (f r)) → (t : ℕ) (x : G) → slice_get games t ≡ Some x → P t x
+  pub each_game : (P : ℕ → G → Type 0) (rooms : List V) (games : List G) → games ≡ map f rooms → ((t : ℕ) (r : V) → slice_get rooms t ≡ Some r →
+      P t (f r)) → (t : ℕ) (x : G) → slice_get games t ≡ Some x → P t x
   each_game P rooms games e h t x at = let r = room_at rooms games e t x at in subst (P t) r.2 (h t r.0 r.1)
 
-  pub each_pair : (P : G → G → Type 0) (rooms rooms' : List V) (games games' : List G) → map f rooms ≡ games → games' ≡ map f rooms' → ((t : ℕ) (was now : V) → slice_get rooms t ≡ Some was → slice_get rooms' t ≡ Some now → P (f now) (f was))
+  pub each_pair : (P : G → G → Type 0) (rooms rooms' : List V) (games games' : List G) → map f rooms ≡ games → games' ≡ map f rooms' →
+      ((t : ℕ) (was now : V) → slice_get rooms t ≡ Some was → slice_get rooms' t ≡ Some now → P (f now) (f was))
       → (t : ℕ) (was now : G) → slice_get games t ≡ Some was → slice_get games' t ≡ Some now → P now was
   each_pair P rooms rooms' games games' e e' h t was now a b =
       let r = room_at rooms games (sym e) t was a in

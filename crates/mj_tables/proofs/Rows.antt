@@ -28,10 +28,23 @@ module _ {X : Type 0} where
   }
     where
       before : (t : ℕ) (r l : List X) (y : X) → slice_get old t ≡ Some r → t < length old → slice_get (new ++ left ∷ []) t ≡ Some l → slice_get (column ++ x ∷ []) t ≡ Some y → r ≡ l ++ y ∷ []
-      before t r l y a near el ey = elim (at_snoc new left t l el) [ inl b ↦ elim (at_snoc column x t y ey) [ inl k ↦ h.each t r l y a b k | inr k ↦ absurd (omega (arith, near, k.0, h.values)) ] | inr b ↦ absurd (omega (arith, near, b.0, h.rows)) ]
+      before t r l y a near el ey = elim (at_snoc new left t l el) [
+        | inl b ↦ elim (at_snoc column x t y ey) [
+          | inl k ↦ h.each t r l y a b k
+          | inr k ↦ absurd (omega (arith, near, k.0, h.values))
+        ]
+        | inr b ↦ absurd (omega (arith, near, b.0, h.rows))
+      ]
 
       here : (t : ℕ) (r l : List X) (y : X) → t ≡ length old → row ≡ r → slice_get (new ++ left ∷ []) t ≡ Some l → slice_get (column ++ x ∷ []) t ≡ Some y → r ≡ l ++ y ∷ []
-      here t r l y end same el ey = elim (at_snoc new left t l el) [ inl b ↦ absurd (omega (arith, slice_get_within new t l b, end, h.rows)) | inr b ↦ elim (at_snoc column x t y ey) [ inl k ↦ absurd (omega (arith, slice_get_within column t y k, end, h.values)) | inr k ↦ sym same ∙ (is ∙ ap₂ (λ (a : List X) (z : X). a ++ z ∷ []) b.1 k.1) ] ]
+      here t r l y end same el ey = elim (at_snoc new left t l el) [
+        | inl b ↦ absurd (omega (arith, slice_get_within new t l b, end, h.rows))
+        | inr b ↦ elim (at_snoc column x t y ey) [
+          | inl k ↦ absurd (omega (arith, slice_get_within column t y k, end, h.values))
+          | inr k ↦ sym same
+              ∙ (is ∙ ap₂ (λ (a : List X) (z : X). a ++ z ∷ []) b.1 k.1)
+        ]
+      ]
 
   -- rows without a value
   pub rows_nil : (many : ℕ) (rows : List (List X)) → length rows ≡ many → All (λ (row : List X). row ≡ []) rows → AreRows many [] rows
@@ -59,7 +72,8 @@ popped ds rest r d items this = items ∙ ap (λ (o : Option _). rest ++ option_
 
 module _ {V X : Type 0} (f : V → List X) where
   -- the same of rows as they are kept
-  pub taken_more : (old rest new mid : List V) (v w : V) (column col : List X) (x : X) → old ≡ rest ++ v ∷ [] → new ≡ mid ++ w ∷ [] → column ≡ col ++ x ∷ [] → f v ≡ f w ++ x ∷ [] → IsTaken (map f rest) (map f mid) col → IsTaken (map f old) (map f new) column
+  pub taken_more : (old rest new mid : List V) (v w : V) (column col : List X) (x : X) → old ≡ rest ++ v ∷ [] → new ≡ mid ++ w ∷ [] →
+      column ≡ col ++ x ∷ [] → f v ≡ f w ++ x ∷ [] → IsTaken (map f rest) (map f mid) col → IsTaken (map f old) (map f new) column
   taken_more old rest new mid v w column col x a b c is h =
       subst (λ (l : List (List X)). IsTaken l (map f new) column) (sym (ap (map f) a ∙ map-append f rest (v ∷ [])))
       (subst (λ (l : List (List X)). IsTaken (map f rest ++ f v ∷ []) l column) (sym (ap (map f) b ∙ map-append f mid (w ∷ [])))

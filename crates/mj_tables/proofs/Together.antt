@@ -55,7 +55,9 @@ module _ {L : Type 0} (t : ℕ) where
   sessions_append [] ys = refl
   sessions_append (s ∷ xs) ys = by (s.table == t) (sessions_append xs ys)
     where
-      by : (b : Bool) → sessions_at t (xs ++ ys) ≡ sessions_at t xs ++ sessions_at t ys → (if b then s.session ∷ sessions_at t (xs ++ ys) else sessions_at t (xs ++ ys)) ≡ (if b then s.session ∷ sessions_at t xs else sessions_at t xs) ++ sessions_at t ys
+      by : (b : Bool) → sessions_at t (xs ++ ys) ≡ sessions_at t xs ++ sessions_at t ys →
+          (if b then s.session ∷ sessions_at t (xs ++ ys) else sessions_at t (xs ++ ys)) ≡ (if b then s.session ∷ sessions_at t xs else sessions_at t
+          xs) ++ sessions_at t ys
       by true h = ap (λ (l : List (Session L)). s.session ∷ l) h
       by false h = h
 
@@ -64,16 +66,20 @@ abbrev end_for : ℕ → Bool → HandlerEnd ℕ
 end_for by true = end.Over
 end_for by false = end.Host by
 
-module _ {T S A R L F : Type 0} (g : Ghosts T S A R) (setting : T → S) (at : List ℕ → L → WireState) (picks : List ℕ → Picked) (made : F → Type 0) (number : F → ℕ) (turns : List (TurnState T)) (t : ℕ) (turn : TurnState T) (turn_is : slice_get turns t ≡ Some turn) where
+module _ {T S A R L F : Type 0} (g : Ghosts T S A R) (setting : T → S) (at : List ℕ → L → WireState) (picks : List ℕ → Picked) (made : F → Type 0)
+    (number : F → ℕ) (turns : List (TurnState T)) (t : ℕ) (turn : TurnState T) (turn_is : slice_get turns t ≡ Some turn) where
   abbrev LeftAt : ℕ → List (PassState T S (Entry A)) → List (Session L) → List (HandlerEnd ℕ) → Type 0
   LeftAt n ps ss es =
-      seats.AllLeft (g.after (setting turn.opening)) g.reads g.joins (sits_at picks t (g.sits (setting turn.opening))) (g.hears (setting turn.opening)) g.says at (λ (k : ℕ). Unit {0}) (λ (k : ℕ). k) setting turn n ps ss es
+      seats.AllLeft (g.after (setting turn.opening)) g.reads g.joins (sits_at picks t (g.sits (setting turn.opening)))
+      (g.hears (setting turn.opening)) g.says at (λ (k : ℕ). Unit {0}) (λ (k : ℕ). k) setting turn n ps ss es
 
   abbrev OneAt : ℕ → PassState T S (Entry A) → List (Session L) → HandlerEnd ℕ → Type 0
   OneAt n p ss e =
-      seats.IsLeft (g.after (setting turn.opening)) g.reads g.joins (sits_at picks t (g.sits (setting turn.opening))) (g.hears (setting turn.opening)) g.says at (λ (k : ℕ). Unit {0}) (λ (k : ℕ). k) setting turn n p ss e
+      seats.IsLeft (g.after (setting turn.opening)) g.reads g.joins (sits_at picks t (g.sits (setting turn.opening))) (g.hears (setting turn.opening))
+      g.says at (λ (k : ℕ). Unit {0}) (λ (k : ℕ). k) setting turn n p ss e
 
-  ends_for : (n : ℕ) (seen : List (Entry A)) (b : Bool) → (g.after (setting turn.opening) seen).over ≡ b → HandlerEnds (g.after (setting turn.opening)) (λ (k : ℕ). Unit {0}) (λ (k : ℕ). k) (end_for n b) n seen
+  ends_for : (n : ℕ) (seen : List (Entry A)) (b : Bool) → (g.after (setting turn.opening) seen).over ≡ b →
+      HandlerEnds (g.after (setting turn.opening)) (λ (k : ℕ). Unit {0}) (λ (k : ℕ). k) (end_for n b) n seen
   ends_for n seen true e = e
   ends_for n seen false e = (tt, refl, e)
 
@@ -81,17 +87,24 @@ module _ {T S A R L F : Type 0} (g : Ghosts T S A R) (setting : T → S) (at : L
   no_memory n true w = w
   no_memory n false w = w
 
-  one_at : (excuse : Type 0) → (excuse → ⊥) → (n : ℕ) (p : PassState T S (Entry A)) (ss : List (TableSession L)) → IsAtTable g setting at picks excuse n t turn p ss → OneAt n p (sessions_at t ss) (end_for n (g.after (setting turn.opening) p.seen).over)
+  one_at : (excuse : Type 0) → (excuse → ⊥) → (n : ℕ) (p : PassState T S (Entry A)) (ss : List (TableSession L)) → IsAtTable g setting at picks excuse
+      n t turn p ss → OneAt n p (sessions_at t ss) (end_for n (g.after (setting turn.opening) p.seen).over)
   one_at excuse none n p ss one = record {
     idle = one.idle;
     number_is = one.number_is;
-    handled = handled_excused (g.after (setting turn.opening)) g.reads g.joins (sits_at picks t (g.sits (setting turn.opening))) (g.hears (setting turn.opening)) g.says at excuse (WantsMemory (end_for n (g.after (setting turn.opening) p.seen).over)) (λ w. absurd (none w)) n [] p.seen (sessions_at t ss) one.handled;
-    places = handled_places (g.after (setting turn.opening)) g.reads g.joins (sits_at picks t (g.sits (setting turn.opening))) (g.hears (setting turn.opening)) g.says at excuse n [] p.seen (sessions_at t ss) one.handled;
+    handled = handled_excused (g.after (setting turn.opening)) g.reads g.joins (sits_at picks t (g.sits (setting turn.opening)))
+        (g.hears (setting turn.opening)) g.says at excuse (WantsMemory (end_for n (g.after (setting turn.opening) p.seen).over))
+        (λ w. absurd (none w)) n [] p.seen (sessions_at t ss) one.handled;
+    places = handled_places (g.after (setting turn.opening)) g.reads g.joins (sits_at picks t (g.sits (setting turn.opening)))
+        (g.hears (setting turn.opening)) g.says at excuse n [] p.seen (sessions_at t ss) one.handled;
     ended = ends_for n p.seen (g.after (setting turn.opening) p.seen).over refl;
   }
 
-  pub left_at : (n : ℕ) (ds : List (Done (PassState T S (Entry A)) L F)) → AllDoneBy g setting at picks made number turns n ds → All (λ (d : Done (PassState T S (Entry A)) L F). WantsMemory d.end → ⊥) ds
-      → (ps : List (PassState T S (Entry A))) → map Some ps ≡ map (λ (d : Done (PassState T S (Entry A)) L F). slice_get d.hand.passes.items t) ds → (es : List (HandlerEnd ℕ)) × LeftAt n ps (sessions_at t (flat_map (λ (d : Done (PassState T S (Entry A)) L F). d.hand.sessions.items) ds)) es
+  pub left_at : (n : ℕ) (ds : List (Done (PassState T S (Entry A)) L F)) → AllDoneBy g setting at picks made number turns n ds →
+      All (λ (d : Done (PassState T S (Entry A)) L F). WantsMemory d.end → ⊥) ds
+      → (ps : List (PassState T S (Entry A))) → map Some ps ≡ map (λ (d : Done (PassState T S (Entry A)) L F). slice_get d.hand.passes.items t) ds →
+      (es : List (HandlerEnd ℕ)) × LeftAt n ps (sessions_at t (flat_map (λ (d : Done (PassState T S (Entry A)) L F). d.hand.sessions.items) ds))
+      es
   left_at zero ds e m ps is = (
     [],
     (
@@ -117,7 +130,8 @@ module _ {T S A R L F : Type 0} (g : Ghosts T S A R) (setting : T → S) (at : L
           rest.0,
           end_for n over,
           cut.2,
-          ap (λ (l : List (Done (PassState T S (Entry A)) L F)). sessions_at t (flat_map h l)) e ∙ (ap (sessions_at t) (flat_one h before d) ∙ sessions_append t (flat_map h before) d.hand.sessions.items),
+          ap (λ (l : List (Done (PassState T S (Entry A)) L F)). sessions_at t (flat_map h l)) e ∙ (ap (sessions_at t) (flat_one h before d)
+              ∙ sessions_append t (flat_map h before) d.hand.sessions.items),
           refl,
           rest.1,
           one_at (WantsMemory d.end) parted.1 n cut.1 d.hand.sessions.items mine,
@@ -127,19 +141,36 @@ module _ {T S A R L F : Type 0} (g : Ghosts T S A R) (setting : T → S) (at : L
 
   module _ (legal_before : (es fs : List (Entry A)) → g.is_legal (setting turn.opening) (es ++ fs) → g.is_legal (setting turn.opening) es)
       (stays : (es : List (Entry A)) (e : Entry A) → g.is_legal (setting turn.opening) (es ++ e ∷ []) → Stays (g.after (setting turn.opening) es) (g.after (setting turn.opening) (es ++ e ∷ [])))
-      (ended_law : (es : List (Entry A)) (e : Entry A) (place : ℕ) → g.is_legal (setting turn.opening) (es ++ e ∷ []) → place < length es → (g.after (setting turn.opening) es).seat_of place ≡ None → StaysEnded place (g.after (setting turn.opening) es) (g.after (setting turn.opening) (es ++ e ∷ [])))
-      (others : (es : List (Entry A)) (e : Entry A) (author seat : ℕ) → g.is_legal (setting turn.opening) (es ++ e ∷ []) → (g.after (setting turn.opening) es).present seat ≡ Some author → IsAside author seat es e → Unmoved seat (g.after (setting turn.opening) es) (g.after (setting turn.opening) (es ++ e ∷ [])))
-      (answers : (es : List (Entry A)) (author seat : ℕ) (answer : A) → g.is_legal (setting turn.opening) (es ++ Said author seat answer ∷ []) → Answers g.says (g.hears (setting turn.opening) es author seat answer) seat (g.after (setting turn.opening) es) (g.after (setting turn.opening) (es ++ Said author seat answer ∷ [])))
-      (leaves : (es : List (Entry A)) (author seat : ℕ) → g.is_legal (setting turn.opening) (es ++ Gone author seat ∷ []) → Leaves seat (g.after (setting turn.opening) es) (g.after (setting turn.opening) (es ++ Gone author seat ∷ [])) × Adds seat [] (g.after (setting turn.opening) es) (g.after (setting turn.opening) (es ++ Gone author seat ∷ [])))
+      (ended_law : (es : List (Entry A)) (e : Entry A) (place : ℕ) → g.is_legal (setting turn.opening) (es ++ e ∷ []) → place < length es →
+      (g.after (setting turn.opening) es).seat_of place ≡ None → StaysEnded place (g.after (setting turn.opening) es)
+      (g.after (setting turn.opening) (es ++ e ∷ [])))
+      (others : (es : List (Entry A)) (e : Entry A) (author seat : ℕ) → g.is_legal (setting turn.opening) (es ++ e ∷ []) →
+      (g.after (setting turn.opening) es).present seat ≡ Some author → IsAside author seat es e → Unmoved seat (g.after (setting turn.opening) es)
+      (g.after (setting turn.opening) (es ++ e ∷ [])))
+      (answers : (es : List (Entry A)) (author seat : ℕ) (answer : A) → g.is_legal (setting turn.opening) (es ++ Said author seat answer ∷ []) →
+      Answers g.says (g.hears (setting turn.opening) es author seat answer) seat (g.after (setting turn.opening) es)
+      (g.after (setting turn.opening) (es ++ Said author seat answer ∷ [])))
+      (leaves : (es : List (Entry A)) (author seat : ℕ) → g.is_legal (setting turn.opening) (es ++ Gone author seat ∷ []) →
+      Leaves seat (g.after (setting turn.opening) es) (g.after (setting turn.opening) (es ++ Gone author seat ∷ [])) × Adds seat []
+      (g.after (setting turn.opening) es) (g.after (setting turn.opening) (es ++ Gone author seat ∷ [])))
       (all : List (Entry A)) (legal : g.is_legal (setting turn.opening) all) where
     -- all of it, with a ticker's pass
-    pub played_at : (n : ℕ) (ps : List (PassState T S (Entry A))) (last : PassState T S (Entry A)) (ss : List (Session L)) (es : List (HandlerEnd ℕ)) (r0 r1 : Option (List ℕ)) → LeftAt n ps ss es → All (IsSeenIn author_of all) ps → IsSeenIn author_of all last → last.number ≡ n → Ticks n [] last.seen r0 r1
-        → All (λ (e : Entry A). author_of e < n + 1) all → IsPlayedBy (g.after (setting turn.opening)) g.reads g.joins (sits_at picks t (g.sits (setting turn.opening))) (g.hears (setting turn.opening)) g.says at n all ss r0 r1
+    pub played_at : (n : ℕ) (ps : List (PassState T S (Entry A))) (last : PassState T S (Entry A)) (ss : List (Session L)) (es : List (HandlerEnd ℕ))
+        (r0 r1 : Option (List ℕ)) → LeftAt n ps ss es → All (IsSeenIn author_of all) ps → IsSeenIn author_of all last → last.number ≡ n →
+        Ticks n [] last.seen r0 r1
+        → All (λ (e : Entry A). author_of e < n + 1) all → IsPlayedBy (g.after (setting turn.opening)) g.reads g.joins
+        (sits_at picks t (g.sits (setting turn.opening))) (g.hears (setting turn.opening)) g.says at n all ss r0 r1
     played_at n ps last ss es r0 r1 left saw saw_last last_is ticked few =
         let ticks : Ticks n [] all r0 r1 = ticks_on n [] last.seen all r0 r1 ticked (subst (λ (k : ℕ). Enters k last.seen all []) last_is (enters_seen all last saw_last)) in record {
           authors = few;
-          sessions_are = serve_is (g.after (setting turn.opening)) (g.is_legal (setting turn.opening)) legal_before stays ended_law (g.hears (setting turn.opening)) g.says others answers leaves g.reads g.joins (sits_at picks t (g.sits (setting turn.opening))) at (λ (k : ℕ). Unit {0}) (λ (k : ℕ). k) setting turn all legal n ps ss es left saw few;
-          places = places_are (g.after (setting turn.opening)) (g.is_legal (setting turn.opening)) legal_before stays ended_law (g.hears (setting turn.opening)) g.says others answers leaves g.reads g.joins (sits_at picks t (g.sits (setting turn.opening))) at (λ (k : ℕ). Unit {0}) (λ (k : ℕ). k) setting turn all legal n ps ss es left saw few r0 r1 ticks;
+          sessions_are = serve_is (g.after (setting turn.opening)) (g.is_legal (setting turn.opening)) legal_before stays ended_law
+              (g.hears (setting turn.opening)) g.says others answers leaves g.reads g.joins (sits_at picks t (g.sits (setting turn.opening))) at
+              (λ (k : ℕ). Unit {0}) (λ (k : ℕ). k) setting turn all legal n ps ss es left saw few;
+          places = places_are (g.after (setting turn.opening)) (g.is_legal (setting turn.opening)) legal_before stays ended_law
+              (g.hears (setting turn.opening)) g.says others answers leaves g.reads g.joins (sits_at picks t (g.sits (setting turn.opening))) at
+              (λ (k : ℕ). Unit {0}) (λ (k : ℕ). k) setting turn all legal n ps ss es left saw few r0 r1 ticks;
           ticks = ticks;
-          expiries = expiries_are (g.after (setting turn.opening)) (g.is_legal (setting turn.opening)) legal_before stays ended_law (g.hears (setting turn.opening)) g.says others answers leaves g.reads g.joins (sits_at picks t (g.sits (setting turn.opening))) at (λ (k : ℕ). Unit {0}) (λ (k : ℕ). k) setting turn all legal n ps ss es left saw few;
+          expiries = expiries_are (g.after (setting turn.opening)) (g.is_legal (setting turn.opening)) legal_before stays ended_law
+              (g.hears (setting turn.opening)) g.says others answers leaves g.reads g.joins (sits_at picks t (g.sits (setting turn.opening))) at
+              (λ (k : ℕ). Unit {0}) (λ (k : ℕ). k) setting turn all legal n ps ss es left saw few;
         }

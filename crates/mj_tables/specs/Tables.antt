@@ -43,7 +43,8 @@ IsBelow tables (picked.Table t) = t < tables
 IsBelow tables picked.BadName = Unit {0}
 IsBelow tables picked.NoRoom = Unit {0}
 
-module _ {A R L : Type 0} (after : List (Entry A) → Showing) (reads : List ℕ → A) (joins : List ℕ → Option JoinLine) (sits : List (Entry A) → List ℕ → SitAnswer) (hears : List (Entry A) → ℕ → ℕ → A → Heard R) (says : Control R → List ℕ) (at : List ℕ → L → WireState) where
+module _ {A R L : Type 0} (after : List (Entry A) → Showing) (reads : List ℕ → A) (joins : List ℕ → Option JoinLine) (sits : List (Entry A) → List ℕ →
+    SitAnswer) (hears : List (Entry A) → ℕ → ℕ → A → Heard R) (says : Control R → List ℕ) (at : List ℕ → L → WireState) where
   -- What so many handlers, and a ticker with the number after theirs, leave at a table with these entries, where the clock's
   -- readings grew so.
   pub record IsPlayedBy (handlers : ℕ) (entries : List (Entry A)) (sessions : List (Session L)) (was_read read : Option (List ℕ)) : Type 0 where

@@ -79,7 +79,8 @@ two_shorter text rest tile b = sized b.field b.begins.parts b.named
     sized (x ∷ xs) parts named = omega (arith, ap length parts, length-append xs (32 ∷ rest))
 
 -- a tile more was read
-pub onto-step : (whole : Option (List ℕ)) (tiles rest others : List ℕ) (tile : ℕ) → whole ≡ onto tiles (tiles_in (fields rest)) → BeginsWithTile rest (Some tile) others → whole ≡ onto (tiles ++ tile ∷ []) (tiles_in (fields others))
+pub onto-step : (whole : Option (List ℕ)) (tiles rest others : List ℕ) (tile : ℕ) → whole ≡ onto tiles (tiles_in (fields rest)) →
+    BeginsWithTile rest (Some tile) others → whole ≡ onto (tiles ++ tile ∷ []) (tiles_in (fields others))
 onto-step whole tiles rest others tile h b =
     let k = rw (b.begins.all, sym b.named) at h in k ∙ onto-more tiles tile (tiles_in (fields others))
 
@@ -88,11 +89,13 @@ pub onto-stop : (whole : Option (List ℕ)) (tiles rest others : List ℕ) → w
 onto-stop whole tiles rest others h b = let k = rw (b.begins.all, sym b.named) at h in sym k
 
 -- the last tile was read
-pub onto-last : (whole : Option (List ℕ)) (tiles rest : List ℕ) (tile : ℕ) → whole ≡ onto tiles (tiles_in (fields rest)) → fields rest ≡ rest ∷ [] → Some tile ≡ face_of rest → Some (tiles ++ tile ∷ []) ≡ whole
+pub onto-last : (whole : Option (List ℕ)) (tiles rest : List ℕ) (tile : ℕ) → whole ≡ onto tiles (tiles_in (fields rest)) → fields rest ≡ rest ∷ [] →
+    Some tile ≡ face_of rest → Some (tiles ++ tile ∷ []) ≡ whole
 onto-last whole tiles rest tile h e f = let k = rw (e, ← f) at h in sym k
 
 -- a field names no tile
-pub onto-none : (whole : Option (List ℕ)) (tiles rest field : List ℕ) (others : List (List ℕ)) → whole ≡ onto tiles (tiles_in (fields rest)) → fields rest ≡ field ∷ others → None ≡ face_of field → None ≡ whole
+pub onto-none : (whole : Option (List ℕ)) (tiles rest field : List ℕ) (others : List (List ℕ)) → whole ≡ onto tiles (tiles_in (fields rest)) →
+    fields rest ≡ field ∷ others → None ≡ face_of field → None ≡ whole
 onto-none whole tiles rest field others h e f = let k = rw (e, ← f) at h in sym k
 
 pub ruleset reading = (shorter_behind, two_shorter, onto-nothing, onto-step, onto-stop, onto-last, onto-none)

@@ -51,13 +51,15 @@ begun text front rest h =
     let same = (bytes_eq-Decides (take (length front) text) front).0 h.0 in
     sym (take-append-drop (length front) text) ∙ ap (λ t. t ++ drop (length front) text) same ∙ ap (λ t. front ++ t) (sym h.1)
 
-pub ended : (text end rest : List ℕ) → (bytes_eq (drop (length text - length end) text) end ≡ true) × (rest ≡ take (length text - length end) text) × (length rest + length end ≡ length text) → text ≡ rest ++ end
+pub ended : (text end rest : List ℕ) → (bytes_eq (drop (length text - length end) text) end ≡ true) × (rest ≡ take (length text - length end) text) ×
+    (length rest + length end ≡ length text) → text ≡ rest ++ end
 ended text end rest h =
     let same = (bytes_eq-Decides (drop (length text - length end) text) end).0 h.0 in
     sym (take-append-drop (length text - length end) text) ∙ ap (λ t. take (length text - length end) text ++ t) same ∙ ap (λ t. t ++ end) (sym h.1)
 
 -- The mark that a discard ends with, by its key and its value.
-pub mark_ends : (text named rest value : List ℕ) (drawn : Bool) → text ≡ named ++ 34 ∷ rest → rest ≡ codes ",\"tsumogiri\":" ++ value → value ≡ truth drawn ++ codes "}" → text ≡ named ++ mark_text drawn
+pub mark_ends : (text named rest value : List ℕ) (drawn : Bool) → text ≡ named ++ 34 ∷ rest → rest ≡ codes ",\"tsumogiri\":" ++ value →
+    value ≡ truth drawn ++ codes "}" → text ≡ named ++ mark_text drawn
 mark_ends text named rest value true parts key ends = parts ∙ ap (λ t. named ++ 34 ∷ t) (key ∙ ap (λ t. codes ",\"tsumogiri\":" ++ t) ends)
 mark_ends text named rest value false parts key ends = parts ∙ ap (λ t. named ++ 34 ∷ t) (key ∙ ap (λ t. codes ",\"tsumogiri\":" ++ t) ends)
 
@@ -65,5 +67,6 @@ mark_ends text named rest value false parts key ends = parts ∙ ap (λ t. named
 pub typed_alone : (line text rest name : List ℕ) → line ≡ codes "{\"type\":\"" ++ text → text ≡ name ++ rest → rest ≡ codes "}" → line ≡ codes "{\"type\":\"" ++ (name ++ codes "}")
 typed_alone line text rest name key type closing = key ∙ ap (λ t. codes "{\"type\":\"" ++ t) (type ∙ ap (λ t. name ++ t) closing)
 
-pub typed : (line text rest behind name : List ℕ) → line ≡ codes "{\"type\":\"" ++ text → text ≡ name ++ rest → rest ≡ codes ",\"actor\":" ++ behind → line ≡ codes "{\"type\":\"" ++ (name ++ (codes ",\"actor\":" ++ behind))
+pub typed : (line text rest behind name : List ℕ) → line ≡ codes "{\"type\":\"" ++ text → text ≡ name ++ rest → rest ≡ codes ",\"actor\":" ++ behind →
+    line ≡ codes "{\"type\":\"" ++ (name ++ (codes ",\"actor\":" ++ behind))
 typed line text rest behind name key type actor = key ∙ ap (λ t. codes "{\"type\":\"" ++ t) (type ∙ ap (λ t. name ++ t) actor)

@@ -22,7 +22,8 @@ one_more set next number kind other before at is has = record {
     | inl same ↦ ap (λ b. b || has_kind set k) (eq-eqb kind k same) ∙ sym (ap other (sym same ∙ at) ∙ has)
     | inr not ↦ ap (λ b. b || has_kind set k) (apart kind k not) ∙ before.below k (let apart_too : number ≡ k → ⊥ = λ e. not (at ∙ e) in omega (arith, low, apart_too))
   ];
-  above = λ k high. ap (λ s. has_kind s k) is ∙ has_kind-with set kind k ∙ ap (λ b. b || has_kind set k) (apart kind k (λ e. (let less : k ≡ number = sym e ∙ at in absurd (omega (arith, high, less)))))
+  above = λ k high. ap (λ s. has_kind s k) is ∙ has_kind-with set kind k
+      ∙ ap (λ b. b || has_kind set k) (apart kind k (λ e. (let less : k ≡ number = sym e ∙ at in absurd (omega (arith, high, less)))))
       ∙ before.above k (omega (arith, high));
 }
 

@@ -40,7 +40,11 @@ within hand held melds says = subst (λ r. IsWithinRoom hand.counts r) (sym says
 
 pub measured : (hand : Hand) (held : List ℕ) (melds : List Meld) (has : Bool) → Says hand held melds → has ≡ (sum hand.counts + 3 * hand.melds == 13) → has ≡ true
     → IsHand hand.counts hand.room hand.melds
-measured hand held melds has says told is = record { thirteen = eqb-true (sum hand.counts + 3 * hand.melds) 13 (sym told ∙ is); within = within hand held melds says; room_is = room hand held melds says }
+measured hand held melds has says told is = record {
+  thirteen = eqb-true (sum hand.counts + 3 * hand.melds) 13 (sym told ∙ is);
+  within = within hand held melds says;
+  room_is = room hand held melds says;
+}
 
 has_of : (hand : Hand) (held : List ℕ) (melds : List Meld) (tiles : ℕ) (has : Bool) → Says hand held melds → has ≡ (sum hand.counts + 3 * hand.melds == tiles) → has_tiles held melds tiles ≡ has
 has_of hand held melds tiles has says told =
@@ -55,7 +59,8 @@ shanten_none held melds number old new lacks is same =
 pub shanten_other : (hand : Hand) (held : List ℕ) (melds : List Meld) (has : Bool) (number : ℕ) (old new : List ℕ) → Says hand held melds → has ≡ (sum hand.counts + 3 * hand.melds == 13)
     → (has && (length old == 34)) ≡ false → number ≡ 255 → new ≡ old → IsShantenOf held melds number old new
 shanten_other hand held melds has number old new says told lacks is same =
-    subst (λ b. IsShantenBy (b && (length old == 34)) held melds number old new) (sym (has_of hand held melds 13 has says told)) (subst (λ b. IsShantenBy b held melds number old new) (sym lacks) (is, same))
+    subst (λ b. IsShantenBy (b && (length old == 34)) held melds number old new) (sym (has_of hand held melds 13 has says told))
+    (subst (λ b. IsShantenBy b held melds number old new) (sym lacks) (is, same))
 
 pub shanten_said : (hand : Hand) (held : List ℕ) (melds : List Meld) (has : Bool) (number result : ℕ) (target old new : List ℕ) → Says hand held melds → has ≡ (sum hand.counts + 3 * hand.melds == 13)
     → (has && (length old == 34)) ≡ true → IsShanten hand.counts hand.room hand.melds number target → result ≡ number → new ≡ target → IsShantenOf held melds result old new
@@ -103,5 +108,7 @@ pub furiten_said : (waits own passed late w o p l : ℕ) (result : Bool) → res
     → ((kind : ℕ) → kind < 34 → has_kind p kind ≡ has_kind passed kind) → ((kind : ℕ) → kind < 34 → has_kind l kind ≡ has_kind late kind)
     → result ≡ is_furiten (record { waits = waits; own = own; passed = passed; passed_in_riichi = late })
 unfolding is_furiten
-furiten_said waits own passed late w o p l result is a b c d = is ∙ any_kind (is_missed (record { waits = w; own = o; passed = p; passed_in_riichi = l })) (is_missed (record { waits = waits; own = own; passed = passed; passed_in_riichi = late }))
+furiten_said waits own passed late w o p l result is a b c d =
+    is ∙ any_kind (is_missed (record { waits = w; own = o; passed = p; passed_in_riichi = l }))
+    (is_missed (record { waits = waits; own = own; passed = passed; passed_in_riichi = late }))
     (λ kind low. ap₂ (λ x y. x && y) (a kind low) (ap₂ (λ x y. x || y) (ap₂ (λ x y. x || y) (b kind low) (c kind low)) (d kind low)))

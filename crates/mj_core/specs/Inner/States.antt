@@ -90,7 +90,8 @@ CanCatchUp other spare table newest = Unit {0}
 
 -- What a state keeps: its table has the deeds, its streams the lines of these, and its desk the seats; and its spare table
 -- lacks the newest deed alone, where it says so.
-pub record AreKept (rules : Rules) (told : List Deed) (streamed : Four (List (List ℕ))) (deeds : List Deed) (desk : List Occupant) (players : List Player) (is_behind : Bool) (spare : Play) : Type 0 where
+pub record AreKept (rules : Rules) (told : List Deed) (streamed : Four (List (List ℕ))) (deeds : List Deed) (desk : List Occupant)
+    (players : List Player) (is_behind : Bool) (spare : Play) : Type 0 where
   pub same : told ≡ deeds
   pub lines : streamed ≡ lines_of_all rules deeds
   pub seated : AreSeated desk players

@@ -36,7 +36,8 @@ pub record IsWalled (g : Read) (rules : Rules) (first others : List ℕ) : Type 
   pub same_rules : g.rules ≡ rules
   pub is : base_from rules [] (first ++ 10 ∷ []) 2 (whole_lines others) ≡ base_meant g
   pub unread : unfinished others ≡ unfinished g.rest.now
-  pub heard : intake_from (intake_with_walls rules []) 2 (whole_lines others) (unfinished others) ≡ intake_from (intake_with_walls rules g.walls.items) g.number (whole_lines g.rest.now) (unfinished g.rest.now)
+  pub heard : intake_from (intake_with_walls rules []) 2 (whole_lines others) (unfinished others) ≡ intake_from
+      (intake_with_walls rules g.walls.items) g.number (whole_lines g.rest.now) (unfinished g.rest.now)
   pub number : g.number ≡ 2 + length g.walls.items
   pub stops : StopsAt rules g.walls.items (whole_lines g.rest.now)
 

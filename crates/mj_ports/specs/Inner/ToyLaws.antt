@@ -5,7 +5,9 @@ use Rattle.mj_ports.specs.declared.entry.Entry.{Entry}
 use Rattle.mj_ports.specs.declared.entry.Entry.TheVariants.{Sat, Back, Said, Gone, Expired}
 use Rattle.mj_ports.specs.declared.answers.Heard.{Heard}
 use Rattle.mj_ports.specs.declared.answers.Heard.TheVariants.{Taken, Late, Refused, Closing, NoMemory}
+use Rattle.mj_ports.specs.declared.answers.SitAnswer.TheVariants as sits
 use Rattle.mj_ports.specs.Entries.{next_seat, IsAside}
+use Rattle.mj_ports.specs.SeatCalls.{IsRefused}
 use Rattle.mj_ports.specs.Seats.{Showing, pending, script, Stays, StaysEnded, Unmoved, Begins, Answers, Adds, Leaves, hello, replay}
 use Rattle.mj_ports.specs.Inner.Toy.{Toy, first, zero_if, shown, toy_says, told_all, toy_hears, answered, toy_step, played, IsPermitted, IsLegalFrom}
 
@@ -96,7 +98,8 @@ ended_step t (Gone author seat) zero begun h none = absurd (left_alone t.author 
 ended_step t (Expired author window t1 t2) zero begun h none = record { no_seat = none; told = refl }
 ended_step t e (suc place) begun h none = record { no_seat = refl; told = refl }
 
-pub ended : (es : List (Entry ℕ)) (e : Entry ℕ) (place : ℕ) → IsLegalFrom first (es ++ e ∷ []) → place < length es → (after_toy es).seat_of place ≡ None → StaysEnded place (after_toy es) (after_toy (es ++ e ∷ []))
+pub ended : (es : List (Entry ℕ)) (e : Entry ℕ) (place : ℕ) → IsLegalFrom first (es ++ e ∷ []) → place < length es →
+    (after_toy es).seat_of place ≡ None → StaysEnded place (after_toy es) (after_toy (es ++ e ∷ []))
 ended es e place h near none =
     let begun : (played first es).begun ≡ false → ⊥ = λ b. omega (arith, near, ap (λ (fs : List (Entry ℕ)). length fs) (none_yet es (legal_before first es (e ∷ []) h) b)) in
     stepped (StaysEnded place (after_toy es)) es e (ended_step (played first es) e place begun (last_permitted first es e h) none)
@@ -104,23 +107,31 @@ ended es e place h near none =
 same_author : (a b : ℕ) (o : Option ℕ) → o ≡ Some a → o ≡ Some b → a ≡ b
 same_author a b o x y = ap (λ (z : Option ℕ). unwrap_or z 0) (sym x ∙ y)
 
-aside_step : (es : List (Entry ℕ)) (e : Entry ℕ) (t : Toy) (author : ℕ) → (t.begun ≡ false → t.author ≡ None) → IsPermitted t e → t.author ≡ Some author → IsAside author 0 es e → Unmoved 0 (shown t) (shown (toy_step t e))
+aside_step : (es : List (Entry ℕ)) (e : Entry ℕ) (t : Toy) (author : ℕ) → (t.begun ≡ false → t.author ≡ None) → IsPermitted t e →
+    t.author ≡ Some author → IsAside author 0 es e → Unmoved 0 (shown t) (shown (toy_step t e))
 aside_step es (Sat by name key) t author begun h here aside = no_author author (sym (begun h) ∙ here)
 aside_step es (Back by seat) t author begun h here aside = absurd h
-aside_step es (Said by seat answer) t author begun h here aside = absurd (⊎_elim (λ (n : by ≢ author). n (same_author by author t.author h.1 here)) (λ (n : Some seat ≢ Some 0). n (ap (λ (k : ℕ). Some k) h.0)) aside)
-aside_step es (Gone by seat) t author begun h here aside = absurd (⊎_elim (λ (n : by ≢ author). n (same_author by author t.author h.1 here)) (λ (n : Some seat ≢ Some 0). n (ap (λ (k : ℕ). Some k) h.0)) aside)
+aside_step es (Said by seat answer) t author begun h here aside =
+    absurd (⊎_elim (λ (n : by ≢ author). n (same_author by author t.author h.1 here)) (λ (n : Some seat ≢ Some 0). n (ap (λ (k : ℕ). Some k) h.0))
+    aside)
+aside_step es (Gone by seat) t author begun h here aside =
+    absurd (⊎_elim (λ (n : by ≢ author). n (same_author by author t.author h.1 here)) (λ (n : Some seat ≢ Some 0). n (ap (λ (k : ℕ). Some k) h.0))
+    aside)
 aside_step es (Expired by window t1 t2) t author begun h here aside = record { present = refl; due = refl; is_told = refl; seat_of = λ place s. s; told = λ place s. refl }
 
-pub others : (es : List (Entry ℕ)) (e : Entry ℕ) (author seat : ℕ) → IsLegalFrom first (es ++ e ∷ []) → (after_toy es).present seat ≡ Some author → IsAside author seat es e → Unmoved seat (after_toy es) (after_toy (es ++ e ∷ []))
+pub others : (es : List (Entry ℕ)) (e : Entry ℕ) (author seat : ℕ) → IsLegalFrom first (es ++ e ∷ []) → (after_toy es).present seat ≡ Some author →
+    IsAside author seat es e → Unmoved seat (after_toy es) (after_toy (es ++ e ∷ []))
 others es e author zero h here aside =
     stepped (Unmoved 0 (after_toy es)) es e (aside_step es e (played first es) author (not_begun es (legal_before first es (e ∷ []) h)) (last_permitted first es e h) here aside)
 others es e author (suc seat) h here aside = no_author author here
 
-pub sat : (es : List (Entry ℕ)) (author : ℕ) (name : List ℕ) (key : Option (List ℕ)) → IsLegalFrom first (es ++ Sat author name key ∷ []) → Begins author (next_seat es) (length es) 0 (hello toy_says) (after_toy (es ++ Sat author name key ∷ []))
+pub sat : (es : List (Entry ℕ)) (author : ℕ) (name : List ℕ) (key : Option (List ℕ)) → IsLegalFrom first (es ++ Sat author name key ∷ []) →
+    Begins author (next_seat es) (length es) 0 (hello toy_says) (after_toy (es ++ Sat author name key ∷ []))
 sat es author name key h =
     let e : Entry ℕ = Sat author name key in
     let empty : es ≡ [] = none_yet es (legal_before first es (e ∷ []) h) (last_permitted first es e h) in
-    subst (λ (fs : List (Entry ℕ)). Begins author (next_seat fs) (length fs) 0 (hello toy_says) (after_toy (fs ++ e ∷ []))) (sym empty) (record { within = omega arith; present = refl; due_is = refl; due_within = omega arith; is_told = refl; seat_of = refl; told = refl })
+    subst (λ (fs : List (Entry ℕ)). Begins author (next_seat fs) (length fs) 0 (hello toy_says) (after_toy (fs ++ e ∷ []))) (sym empty)
+    (record { within = omega arith; present = refl; due_is = refl; due_within = omega arith; is_told = refl; seat_of = refl; told = refl })
 
 pub back : (es : List (Entry ℕ)) (author seat : ℕ) → IsLegalFrom first (es ++ Back author seat ∷ [])
     → Begins author seat (length es) ((after_toy (es ++ Back author seat ∷ [])).due seat) (replay toy_says (after_toy (es ++ Back author seat ∷ [])) seat) (after_toy (es ++ Back author seat ∷ []))
@@ -137,7 +148,8 @@ answers_zero : (b : Bool) (t : Toy) → Answers toy_says (if b then Refused 7 el
 answers_zero true t = (record { present = refl; due = refl; is_told = refl; seat_of = λ place s. s }, adds_reply t (answered (Refused 7) t) (7 ∷ []) refl)
 answers_zero false t = (record { present = refl; due = refl; is_told = refl; seat_of = λ place s. s }, adds_reply t (answered Taken t) [] (sym (append-nil (told_all t))))
 
-pub answers : (es : List (Entry ℕ)) (author seat answer : ℕ) → IsLegalFrom first (es ++ Said author seat answer ∷ []) → Answers toy_says (toy_hears answer) seat (after_toy es) (after_toy (es ++ Said author seat answer ∷ []))
+pub answers : (es : List (Entry ℕ)) (author seat answer : ℕ) → IsLegalFrom first (es ++ Said author seat answer ∷ []) →
+    Answers toy_says (toy_hears answer) seat (after_toy es) (after_toy (es ++ Said author seat answer ∷ []))
 answers es author seat answer h =
     let e : Entry ℕ = Said author seat answer in
     let t : Toy = played first es in
@@ -158,3 +170,6 @@ leaves es author seat h =
     let t : Toy = played first es in
     stepped (λ (w : Showing). Leaves seat (after_toy es) w × Adds seat [] (after_toy es) w) es e
     (subst (λ (k : ℕ). Leaves k (shown t) (shown (toy_step t e)) × Adds k [] (shown t) (shown (toy_step t e))) (sym (last_permitted first es e h).0) (leaves_zero author seat t))
+
+pub closed : false ≡ true → IsRefused (sits.Sat 0)
+closed over = absurd (true≢false (sym over))

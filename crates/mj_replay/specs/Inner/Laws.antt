@@ -39,7 +39,8 @@ pub record ActsAreRead : Type 0 where
 pub record CallsAreRead : Type 0 where
   pub chis : (seat target tile a b : ℕ) → seat < 256 → target < 256 → tile < 37 → a < 37 → b < 37 → deed_in (line Record (Chi seat target tile a b)) ≡ Some (Chi seat target tile a b)
   pub pons : (seat target tile a b : ℕ) → seat < 256 → target < 256 → tile < 37 → a < 37 → b < 37 → deed_in (line Record (Pon seat target tile a b)) ≡ Some (Pon seat target tile a b)
-  pub open_kans : (seat target tile a b c : ℕ) → seat < 256 → target < 256 → tile < 37 → a < 37 → b < 37 → c < 37 → deed_in (line Record (OpenKan seat target tile a b c)) ≡ Some (OpenKan seat target tile a b c)
+  pub open_kans : (seat target tile a b c : ℕ) → seat < 256 → target < 256 → tile < 37 → a < 37 → b < 37 → c < 37 →
+      deed_in (line Record (OpenKan seat target tile a b c)) ≡ Some (OpenKan seat target tile a b c)
   pub closed_kans : (seat a b c d : ℕ) → seat < 256 → a < 37 → b < 37 → c < 37 → d < 37 → deed_in (line Record (ClosedKan seat a b c d)) ≡ Some (ClosedKan seat a b c d)
   pub added_kans : (seat tile a b c : ℕ) → seat < 256 → tile < 37 → a < 37 → b < 37 → c < 37 → deed_in (line Record (AddedKan seat tile a b c)) ≡ Some (AddedKan seat tile a b c)
   pub end_games : (points : List ℤ) (deposits : ℕ) → are_points points ≡ true → deposits < 4294967296 → deed_in (line Record (EndGame points deposits)) ≡ Some (EndGame points deposits)
@@ -51,7 +52,8 @@ pub record GameStartsAreRead : Type 0 where
 
 -- Each accepted reach.
 pub record ReachesAreRead : Type 0 where
-  pub accepted : (seat : ℕ) (points : List ℤ) (bid : Bid) → seat < 256 → are_points points ≡ true → is_bid bid ≡ true → deed_in (line Record (ReachAccepted seat points bid)) ≡ Some (ReachAccepted seat points bid)
+  pub accepted : (seat : ℕ) (points : List ℤ) (bid : Bid) → seat < 256 → are_points points ≡ true → is_bid bid ≡ true →
+      deed_in (line Record (ReachAccepted seat points bid)) ≡ Some (ReachAccepted seat points bid)
 
 -- Each start of a hand.
 pub record HandStartsAreRead : Type 0 where
@@ -75,7 +77,8 @@ shown_read (Hidden (suc more)) = Hidden (suc more)
 
 -- Each drawn hand.
 pub record DrawnHandsAreRead : Type 0 where
-  pub drawn : (reason : Reason) (a b c d : Shown) (p q r s : Bool) (deltas points : List ℤ) → is_shown a ≡ true → is_shown b ≡ true → is_shown c ≡ true → is_shown d ≡ true → are_points deltas ≡ true → are_points points ≡ true →
+  pub drawn : (reason : Reason) (a b c d : Shown) (p q r s : Bool) (deltas points : List ℤ) → is_shown a ≡ true → is_shown b ≡ true →
+      is_shown c ≡ true → is_shown d ≡ true → are_points deltas ≡ true → are_points points ≡ true →
       deed_in (line Record (DrawnHand reason (record { first = a; second = b; third = c; fourth = d }) (p ∷ q ∷ r ∷ s ∷ []) deltas points))
       ≡ Some (DrawnHand reason (record { first = shown_read a; second = shown_read b; third = shown_read c; fourth = shown_read d }) (p ∷ q ∷ r ∷ s ∷ []) deltas points)
 

@@ -20,7 +20,9 @@ module _ {T S N : Type 0} (setting : T → S) (turn : TurnState T) where
   abbrev pub AreNewPasses : List (PassState T S N) → Type 0
   AreNewPasses ps = ps ≡ new_passes turn.id (setting turn.opening) (length ps)
 
-module _ {T A R L F S : Type 0} (after : List (Entry A) → Showing) (reads : List ℕ → A) (joins : List ℕ → Option JoinLine) (sits : List (Entry A) → List ℕ → SitAnswer) (hears : List (Entry A) → ℕ → ℕ → A → Heard R) (says : Control R → List ℕ) (at : List ℕ → L → WireState) (made : F → Type 0) (number : F → ℕ) (setting : T → S) (turn : TurnState T) where
+module _ {T A R L F S : Type 0} (after : List (Entry A) → Showing) (reads : List ℕ → A) (joins : List ℕ → Option JoinLine) (sits : List (Entry A) →
+    List ℕ → SitAnswer) (hears : List (Entry A) → ℕ → ℕ → A → Heard R) (says : Control R → List ℕ) (at : List ℕ → L → WireState) (made : F → Type 0)
+    (number : F → ℕ) (setting : T → S) (turn : TurnState T) where
   -- What is left of the handler with this number: its pass, its sessions and how it ended.
   pub record IsLeft (by : ℕ) (p : PassState T S (Entry A)) (sessions : List (Session L)) (end : HandlerEnd F) : Type 0 where
     pub idle : IsIdle setting turn p
@@ -36,7 +38,8 @@ module _ {T A R L F S : Type 0} (after : List (Entry A) → Showing) (reads : Li
   -- The same of so many handlers, numbered from 0, in this order.
   abbrev pub AllDone : ℕ → List (Done (PassState T S (Entry A)) L F) → Type 0
   AllDone zero ds = ds ≡ []
-  AllDone (suc by) ds = (before : List (Done (PassState T S (Entry A)) L F)) × (d : Done (PassState T S (Entry A)) L F) × (ds ≡ before ++ d ∷ []) × AllDone by before × IsLeft by d.pass d.sessions.items d.end
+  AllDone (suc by) ds = (before : List (Done (PassState T S (Entry A)) L F)) × (d : Done (PassState T S (Entry A)) L F) × (ds ≡ before ++ d ∷ []) ×
+      AllDone by before × IsLeft by d.pass d.sessions.items d.end
 
   -- What is left of so many handlers, numbered from 0, none of which wants memory.
   abbrev pub AllLeft : ℕ → List (PassState T S (Entry A)) → List (Session L) → List (HandlerEnd F) → Type 0
@@ -45,7 +48,9 @@ module _ {T A R L F S : Type 0} (after : List (Entry A) → Showing) (reads : Li
       (ps : List (PassState T S (Entry A))) × (p : PassState T S (Entry A)) × (before : List (Session L)) × (own : List (Session L)) × (es : List (HandlerEnd F)) × (end : HandlerEnd F)
       × (passes ≡ ps ++ p ∷ []) × (sessions ≡ before ++ own) × (ends ≡ es ++ end ∷ []) × AllLeft by ps before es × IsLeft by p own end × (WantsMemory end → ⊥)
 
-module _ {A R L F : Type 0} (after : List (Entry A) → Showing) (reads : List ℕ → A) (joins : List ℕ → Option JoinLine) (sits : List (Entry A) → List ℕ → SitAnswer) (hears : List (Entry A) → ℕ → ℕ → A → Heard R) (says : Control R → List ℕ) (at : List ℕ → L → WireState) (made : F → Type 0) (number : F → ℕ) where
+module _ {A R L F : Type 0} (after : List (Entry A) → Showing) (reads : List ℕ → A) (joins : List ℕ → Option JoinLine) (sits : List (Entry A) →
+    List ℕ → SitAnswer) (hears : List (Entry A) → ℕ → ℕ → A → Heard R) (says : Control R → List ℕ) (at : List ℕ → L → WireState) (made : F → Type 0)
+    (number : F → ℕ) where
   -- What eight handlers and a ticker with the number 8 leave behind with these entries, where the clock's readings grew so.
   pub record IsPlayed (entries : List (Entry A)) (sessions : List (Session L)) (ends : List (HandlerEnd F)) (was_read read : Option (List ℕ)) : Type 0 where
     pub authors : All (λ e. author_of e < 9) entries

@@ -87,7 +87,8 @@ module _ {T S A R L : Type 0} (g : Ghosts T S A R) (setting : T → S) (at : Lis
   pub record IsAtTable (excuse : Type 0) (by t : ℕ) (turn : TurnState T) (p : PassState T S (Entry A)) (sessions : List (TableSession L)) : Type 0 where
     pub idle : IsIdle setting turn p
     pub number_is : p.number ≡ by
-    pub handled : Handled (g.after (setting turn.opening)) g.reads g.joins (sits_at picks t (g.sits (setting turn.opening))) (g.hears (setting turn.opening)) g.says at excuse by [] p.seen (sessions_at t sessions)
+    pub handled : Handled (g.after (setting turn.opening)) g.reads g.joins (sits_at picks t (g.sits (setting turn.opening)))
+        (g.hears (setting turn.opening)) g.says at excuse by [] p.seen (sessions_at t sessions)
 
   -- The same at each table.
   pub record IsHand (excuse : Type 0) (turns : List (TurnState T)) (h : Hand (PassState T S (Entry A)) L) : Type 0 where
@@ -106,7 +107,8 @@ module _ {T S A R : Type 0} (g : Ghosts T S A R) (setting : T → S) where
 
   -- The same of the tables below one.
   abbrev pub AllOverBelow : ℕ → List (TurnState T) → List (PassState T S (Entry A)) → Type 0
-  AllOverBelow count turns passes = (t : ℕ) (turn : TurnState T) (p : PassState T S (Entry A)) → t < count → slice_get turns t ≡ Some turn → slice_get passes t ≡ Some p → (g.after (setting turn.opening) p.seen).over ≡ true
+  AllOverBelow count turns passes = (t : ℕ) (turn : TurnState T) (p : PassState T S (Entry A)) → t < count → slice_get turns t ≡ Some turn →
+      slice_get passes t ≡ Some p → (g.after (setting turn.opening) p.seen).over ≡ true
 
   abbrev pub AllFoundBelow : ℕ → Finding → List (TurnState T) → List (PassState T S (Entry A)) → Type 0
   AllFoundBelow count finding.GoesOn turns passes = Unit {0}

@@ -40,4 +40,5 @@ pub record IsClosed {T S A R : Type 0} (g : Ghosts T S A R) (setting : T → S) 
 -- The tables of turns that have ended, each with its row of passes.
 pub record AllClosed {T S A R : Type 0} (g : Ghosts T S A R) (setting : T → S) (turns : List (TurnState T)) (rows : List (List (PassState T S (Entry A)))) (tables : List T) : Type 0 where
   pub many : length tables ≡ length turns
-  pub each : (t : ℕ) (turn : TurnState T) (row : List (PassState T S (Entry A))) (table : T) → slice_get turns t ≡ Some turn → slice_get rows t ≡ Some row → slice_get tables t ≡ Some table → IsClosed g setting turn row table
+  pub each : (t : ℕ) (turn : TurnState T) (row : List (PassState T S (Entry A))) (table : T) → slice_get turns t ≡ Some turn →
+      slice_get rows t ≡ Some row → slice_get tables t ≡ Some table → IsClosed g setting turn row table

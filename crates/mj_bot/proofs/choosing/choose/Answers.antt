@@ -15,5 +15,7 @@ returns-in-Some-tile c = record {
       discard_chosen c.args.table.now.rules c.args.seat c.in-Some-tile.tile (view_of c.args.table.now.deeds c.args.seat) c.best_discard-best.result.tile c.discard.result
       (sym c.lawful_win.ensures ∙ c.in_default.is) (sym c.lawful_reach.ensures ∙ c.in_default-lawful_reach.is) c.in-Some-tile.is
       (best_passes c.args.table.now.rules c.args.seat (view_of c.args.table.now.deeds c.args.seat) c.in-Some-tile.tile
-      (subst (λ o. MatchOption o (lawful_faces c.args.table.now.rules c.args.seat (view_of c.args.table.now.deeds c.args.seat) ≡ []) (IsBest c.args.table.now.rules c.args.seat (view_of c.args.table.now.deeds c.args.seat))) c.in-Some-tile.is c.best_discard-best.ensures.tile)) c.discard.ensures;
+      (subst (λ o. MatchOption o (lawful_faces c.args.table.now.rules c.args.seat (view_of c.args.table.now.deeds c.args.seat) ≡ [])
+      (IsBest c.args.table.now.rules c.args.seat (view_of c.args.table.now.deeds c.args.seat))) c.in-Some-tile.is
+      c.best_discard-best.ensures.tile)) c.discard.ensures;
 }

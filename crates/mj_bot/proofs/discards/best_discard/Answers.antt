@@ -11,8 +11,10 @@ returns-then-not-has_turn-clause-tile c = none_lawful c.args.table.now.rules c.a
 pub returns-then-not-is_measured-clause-tile : goal.returns-then-not-is_measured-clause-tile
 unfolding view_of
 returns-then-not-is_measured-clause-tile c =
-    unmeasured c.args.table.now.rules c.args.seat (view_of c.args.table.now.deeds c.args.seat) c.holds-counts.result c.room-room.result (map set_of_meld c.as_slice-melds.result.now) c.is_measured.result c.last_lawful.result c.lawful_kinds-kinds.result
-    c.holds-counts.ensures.value c.room-room.ensures (ap (map set_of_meld) (c.as_slice-melds.ensures.value ∙ c.melds-melds.ensures)) c.is_measured.ensures c.if-not-is_measured.true c.lawful_kinds-kinds.ensures c.last_lawful.ensures
+    unmeasured c.args.table.now.rules c.args.seat (view_of c.args.table.now.deeds c.args.seat) c.holds-counts.result c.room-room.result
+    (map set_of_meld c.as_slice-melds.result.now) c.is_measured.result c.last_lawful.result c.lawful_kinds-kinds.result
+    c.holds-counts.ensures.value c.room-room.ensures (ap (map set_of_meld) (c.as_slice-melds.ensures.value ∙ c.melds-melds.ensures))
+    c.is_measured.ensures c.if-not-is_measured.true c.lawful_kinds-kinds.ensures c.last_lawful.ensures
 
 pub measured_discard-requires-clause-counts : goal.measured_discard-requires-clause-counts
 unfolding view_of

@@ -16,5 +16,6 @@ best_discard_of-requires-clause-size c = c.requires.hand.size
 
 pub returns-in-Some : goal.returns-in-Some
 returns-in-Some c = λ tile some.
-    held_best c.args.table.now.rules c.args.seat c.every_kind.result c.in-Some.kind c.args.number c.args.missing (view_of c.args.table.now.deeds c.args.seat) c.args.suits.now.counts c.args.suits.now.room c.last_of.result tile
+    held_best c.args.table.now.rules c.args.seat c.every_kind.result c.in-Some.kind c.args.number c.args.missing
+    (view_of c.args.table.now.deeds c.args.seat) c.args.suits.now.counts c.args.suits.now.room c.last_of.result tile
     c.requires.hand c.every_kind.ensures c.in-Some.ensures c.last_of.ensures some

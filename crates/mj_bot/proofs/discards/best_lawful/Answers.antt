@@ -16,7 +16,8 @@ best_discard_of-requires-clause-size c = c.requires.hand.size
 
 pub returns-in-Some : goal.returns-in-Some
 returns-in-Some c =
-    measured_best c.args.table.now.rules c.args.seat c.lawful_kinds-kinds.result c.in-Some.kind c.args.number c.args.missing (view_of c.args.table.now.deeds c.args.seat) c.args.suits.now.counts c.args.suits.now.room c.last_of.result
+    measured_best c.args.table.now.rules c.args.seat c.lawful_kinds-kinds.result c.in-Some.kind c.args.number c.args.missing
+    (view_of c.args.table.now.deeds c.args.seat) c.args.suits.now.counts c.args.suits.now.room c.last_of.result
     c.requires.hand c.lawful_kinds-kinds.ensures c.in-Some.ensures c.last_of.ensures
 
 pub returns-in-None : goal.returns-in-None

@@ -13,7 +13,8 @@ loop-place-preserved c =
     let p : ℕ → Bool = λ face. is_among c.args.kinds face && passes c.args.table.now.rules c.args.seat (view_of c.args.table.now.deeds c.args.seat) face in
     elim c.if-is_wanted.branch [
       | then-is_wanted w ↦ w.last-is ∙ last_passes p c.loop-place.place c.ordered-tile.result c.loop-place-test.true c.ordered-tile.ensures (sym c.is_wanted.ensures ∙ w.if-is_wanted.true)
-      | else-is_wanted w ↦ w.last-is ∙ c.loop-place.invariant ∙ last_stays p c.loop-place.place c.ordered-tile.result c.loop-place-test.true c.ordered-tile.ensures (sym c.is_wanted.ensures ∙ w.if-is_wanted.false)
+      | else-is_wanted w ↦ w.last-is ∙ c.loop-place.invariant ∙ last_stays p c.loop-place.place c.ordered-tile.result c.loop-place-test.true
+          c.ordered-tile.ensures (sym c.is_wanted.ensures ∙ w.if-is_wanted.false)
     ]
 
 pub returns : goal.returns

@@ -9,6 +9,7 @@ loop-place-init c = (omega arith, kinds_none _ 37 _ (omega arith) c.none-kinds.e
 pub loop-place-preserved-then-is_lawful : goal.loop-place-preserved-then-is_lawful
 loop-place-preserved-then-is_lawful c = (
   omega arith,
-  kinds_with (passes c.args.table.now.rules c.args.seat (view_of c.args.table.now.deeds c.args.seat)) c.loop-place.place (c.loop-place.place - 1) c.ordered-tile.result c.kind.result c.loop-place.kinds c.with-kinds.result
+  kinds_with (passes c.args.table.now.rules c.args.seat (view_of c.args.table.now.deeds c.args.seat)) c.loop-place.place (c.loop-place.place - 1)
+      c.ordered-tile.result c.kind.result c.loop-place.kinds c.with-kinds.result
       (omega arith) (omega arith) refl c.ordered-tile.ensures c.kind.ensures (sym c.is_lawful.ensures ∙ c.if-is_lawful.true) c.loop-place.invariant.1 c.with-kinds.ensures,
 )

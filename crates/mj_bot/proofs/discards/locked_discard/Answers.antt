@@ -12,5 +12,6 @@ returns-in-Some c = λ tile some.
       accepted = sym c.is_in_riichi.ensures ∙ c.if-not-is_in_riichi.false;
       drawn = sym c.drawn.ensures ∙ c.in-Some.is ∙ (λ i. Some (sym found.0 i));
       face = found.1.0;
-      lawful = subst (λ t. IsTrue (is_none (broken_by c.args.table.now.rules c.args.seat (view_of c.args.table.now.deeds c.args.seat) (discard_of c.args.seat (view_of c.args.table.now.deeds c.args.seat) t)))) (sym found.0) found.1.1;
+      lawful = subst (λ t. IsTrue (is_none (broken_by c.args.table.now.rules c.args.seat (view_of c.args.table.now.deeds c.args.seat)
+          (discard_of c.args.seat (view_of c.args.table.now.deeds c.args.seat) t)))) (sym found.0) found.1.1;
     })

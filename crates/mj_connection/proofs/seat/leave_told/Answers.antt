@@ -11,4 +11,9 @@ returns-in-Ok-false-clause-takes g c = takes_parted _ _ _ _ _ _ _ _ _ c.leave-in
 
 pub returns-in-Err-clause-takes : goal.returns-in-Err-clause-takes
 returns-in-Err-clause-takes g c =
-    record { fits = tt; hears = search rules; tells = λ out t. told_begins (g.G.Seated.after (g.G.Seated.setting c.args.game.now) (g.G.Seated.history c.args.game.now)) c.args.at.place c.args.at.seat _ _ _ c.requires.0.mine c.in-Err.ensures.err t }
+    record {
+      fits = tt;
+      hears = search rules;
+      tells = λ out t. told_begins (g.G.Seated.after (g.G.Seated.setting c.args.game.now) (g.G.Seated.history c.args.game.now)) c.args.at.place
+          c.args.at.seat _ _ _ c.requires.0.mine c.in-Err.ensures.err t;
+    }

@@ -13,4 +13,15 @@ returns-in-Back-clause-takes g c =
     let legal = subst₂ (λ a l. g.G.Seated.is_legal a l) c.in-Back.ensures.setting added c.entries-entries-in-Back.ensures.legal in
     let begins = laws.back s es c.args.author c.in-Back.seat legal in
     let err = rw c.in-Back.ensures.setting at c.in-Err.ensures.err in
-    record { fits = tt; hears = λ start lines i. ([], omega arith, spoke_first _ _ _ start _ _ _ _ lines _ (record { answer = SitAnswer.Back c.in-Back.seat; given = refl; is_right = (c.in-Back.ensures.entries.0, refl) }) c.entries-place.ensures.number added i); tells = λ out t. told_back g.G.Seated.says (g.G.Seated.after s) c.args.author c.in-Back.seat _ es (g.G.Seated.history c.sit.new.self) _ added c.entries-place.ensures.number begins (err out t) }
+    record {
+      fits = tt;
+      hears = λ start lines i. (
+        [],
+        omega arith,
+        spoke_first _ _ _ start _ _ _ _ lines _
+            (record { answer = SitAnswer.Back c.in-Back.seat; given = refl; is_right = (c.in-Back.ensures.entries.0, refl) })
+            c.entries-place.ensures.number added i,
+      );
+      tells = λ out t. told_back g.G.Seated.says (g.G.Seated.after s) c.args.author c.in-Back.seat _ es
+          (g.G.Seated.history c.sit.new.self) _ added c.entries-place.ensures.number begins (err out t);
+    }

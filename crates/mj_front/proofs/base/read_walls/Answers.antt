@@ -19,8 +19,10 @@ returns-in_default-next_wall c =
       read = c.in_default-next_wall.ensures;
     } in
     λ first start.
-    walled c.base_at-in_default-next_wall.result c.args.rules c.args.input.now first c.args.others.now c.loop-line.rest.now c.loop-line.walls.items c.loop-line.number c.base_at-in_default-next_wall.ensures.rules
-    c.base_at-in_default-next_wall.ensures.walls c.base_at-in_default-next_wall.ensures.tag c.base_at-in_default-next_wall.ensures.rest c.base_at-in_default-next_wall.ensures.number c.requires.shortest c.requires.longest c.requires.fits
+    walled c.base_at-in_default-next_wall.result c.args.rules c.args.input.now first c.args.others.now c.loop-line.rest.now c.loop-line.walls.items
+    c.loop-line.number c.base_at-in_default-next_wall.ensures.rules
+    c.base_at-in_default-next_wall.ensures.walls c.base_at-in_default-next_wall.ensures.tag c.base_at-in_default-next_wall.ensures.rest
+    c.base_at-in_default-next_wall.ensures.number c.requires.shortest c.requires.longest c.requires.fits
     c.requires.within c.loop-line.invariant.within c.loop-line.invariant.count c.loop-line.invariant.reads (stops-bad c.args.rules c.loop-line.walls.items _ _ read) start
 
 pub loop-line-preserved : goal.loop-line-preserved
@@ -36,7 +38,8 @@ loop-line-preserved c =
       same = c.as_slice.ensures.value;
       read = c.in-Some-next_wall.ensures;
     } in record {
-      reads = reads-more c.args.rules c.args.input.now c.args.others.now c.loop-line.rest.now c.in-Some.line.now c.in-Some.next.now c.in-Some-next_wall.wall c.loop-line.walls.items _ c.loop-line.number c.loop-line.invariant.reads
+      reads = reads-more c.args.rules c.args.input.now c.args.others.now c.loop-line.rest.now c.in-Some.line.now c.in-Some.next.now
+          c.in-Some-next_wall.wall c.loop-line.walls.items _ c.loop-line.number c.loop-line.invariant.reads
           c.in-Some.ensures read refl c.in_ok-push.ensures.items;
       count = counted _ _ _ _ c.loop-line.invariant.count c.in-Some.ensures.shorter;
       within = shorter-still _ _ _ c.in-Some.ensures.shorter c.loop-line.invariant.within;

@@ -8,7 +8,8 @@ use Rattle.mj_front.proofs.intake.take_headed.Given as goal
 
 abbrev pub invariant-loop-line : goal.invariant-loop-line
 invariant-loop-line l = record {
-  same : intake_from (intake_with_walls l.rules []) 2 (whole_lines l.input) (unfinished l.input) ≡ intake_from (intake_with_walls l.rules l.walls.items) l.number (whole_lines l.rest) (unfinished l.rest);
+  same : intake_from (intake_with_walls l.rules []) 2 (whole_lines l.input) (unfinished l.input) ≡ intake_from
+      (intake_with_walls l.rules l.walls.items) l.number (whole_lines l.rest) (unfinished l.rest);
   few : length l.walls.items ≤ 200;
   whole : list_all (is_wall l.rules.red) l.walls.items ≡ true;
   count : l.number + length l.rest ≤ length l.input + 2;

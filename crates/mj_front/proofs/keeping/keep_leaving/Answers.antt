@@ -19,6 +19,7 @@ gone-requires-clause-seat g c = λ _ _. (if-present (game_of c.args.kept.now) _ 
 
 pub returns-clause-notes : goal.returns-clause-notes
 returns-clause-notes g c = λ tag seat game goes.
-    noted-gone g.D.Disk.told g.D.Disk.may_leave g.D.Disk.moment g.D.Disk.left_since g.met.D.Disk.counts_now c.args.kept.now c.gone.new.self c.args.disk.now c.gone.new.disk tag seat game goes c.gone.ensures.rest c.gone.ensures.after
+    noted-gone g.D.Disk.told g.D.Disk.may_leave g.D.Disk.moment g.D.Disk.left_since g.met.D.Disk.counts_now c.args.kept.now c.gone.new.self
+    c.args.disk.now c.gone.new.disk tag seat game goes c.gone.ensures.rest c.gone.ensures.after
     c.gone.result c.noted_by.result c.args.who c.in-Some.leaver c.in-Some.author c.noted_by.ensures
     (if-present (game_of c.args.kept.now) _ c.args.who c.in-Some.leaver c.in-Some.author c.requires.rest c.in-Some.ensures).0 c.in-Some.ensures c.gone.ensures.answer c.gone.ensures.any_moment

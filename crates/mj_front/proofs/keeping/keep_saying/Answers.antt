@@ -18,5 +18,6 @@ said-requires-clause-seat g c = λ _ _. (if-asked (game_of c.args.kept.now) _ c.
 
 pub returns-clause-notes : goal.returns-clause-notes
 returns-clause-notes g c = λ tag seat game goes.
-    noted-say g.D.Disk.told g.D.Disk.may_leave g.D.Disk.moment g.D.Disk.left_since g.met.D.Disk.counts_now c.args.kept.now c.said.new.self c.args.disk.now c.said.new.disk tag seat game goes c.said.ensures.rest c.said.ensures.after
+    noted-say g.D.Disk.told g.D.Disk.may_leave g.D.Disk.moment g.D.Disk.left_since g.met.D.Disk.counts_now c.args.kept.now c.said.new.self
+    c.args.disk.now c.said.new.disk tag seat game goes c.said.ensures.rest c.said.ensures.after
     c.said.result c.noted_by.result c.args.who c.in-Some.speaker c.in-Some.author c.args.line.now c.noted_by.ensures c.in-Some.ensures c.said.ensures.answer c.said.ensures.any_moment

@@ -9,7 +9,8 @@ pub returns-then-not-may_call : goal.returns-then-not-may_call
 returns-then-not-may_call c =
     let shut : c.may_call.result ≡ false = search rules in
     none_added c.args.table.now.rules c.args.table.now.deeds c.args.seat
-    (all_chis c.args.seat c.args.who c.args.tile ++ (pons_of c.args.seat c.args.who c.args.tile (faces_of (kind_of c.args.tile)) ++ open_kans_of c.args.seat c.args.who c.args.tile (faces_of (kind_of c.args.tile)))) _
+    (all_chis c.args.seat c.args.who c.args.tile ++ (pons_of c.args.seat c.args.who c.args.tile (faces_of (kind_of c.args.tile)) ++ open_kans_of
+    c.args.seat c.args.who c.args.tile (faces_of (kind_of c.args.tile)))) _
     (no_calls c.args.table.now.rules c.args.table.now.deeds c.args.seat c.args.who c.args.tile (sym c.may_call.ensures ∙ shut))
 
 pub returns : goal.returns

@@ -8,11 +8,15 @@ use Rattle.mj_judge.proofs.calling.push_pons.Goals as goal
 pub returns-in_ok-push_lawful-in-None : goal.returns-in_ok-push_lawful-in-None
 returns-in_ok-push_lawful-in-None c =
     let low : kind_of c.args.tile < 34 = search rules in
-    of_plain c.args.table.now.rules c.args.table.now.deeds c.args.seat (pons_of c.args.seat c.args.who c.args.tile) (kind_of c.args.tile) c.plain_of-plain.result c.red_of.result _ _ _ low (c.plain_of-plain.ensures ∙ c.kind.ensures) (c.red_of.ensures ∙ ap red_of c.kind-2.ensures) c.in-None.is
+    of_plain c.args.table.now.rules c.args.table.now.deeds c.args.seat (pons_of c.args.seat c.args.who c.args.tile) (kind_of c.args.tile)
+    c.plain_of-plain.result c.red_of.result _ _ _ low (c.plain_of-plain.ensures ∙ c.kind.ensures) (c.red_of.ensures ∙ ap red_of c.kind-2.ensures)
+    c.in-None.is
     (λ i. c.pon.ensures i ∷ []) c.in_ok-push_lawful-in-None.ensures
 
 pub returns-in_ok-push_lawful-in-Some : goal.returns-in_ok-push_lawful-in-Some
 returns-in_ok-push_lawful-in-Some c =
     let low : kind_of c.args.tile < 34 = search rules in
-    of_both c.args.table.now.rules c.args.table.now.deeds c.args.seat (pons_of c.args.seat c.args.who c.args.tile) (kind_of c.args.tile) c.plain_of-plain.result c.in-Some.red c.red_of.result _ _ _ low (c.plain_of-plain.ensures ∙ c.kind.ensures) (c.red_of.ensures ∙ ap red_of c.kind-2.ensures) c.in-Some.is
+    of_both c.args.table.now.rules c.args.table.now.deeds c.args.seat (pons_of c.args.seat c.args.who c.args.tile) (kind_of c.args.tile)
+    c.plain_of-plain.result c.in-Some.red c.red_of.result _ _ _ low (c.plain_of-plain.ensures ∙ c.kind.ensures) (c.red_of.ensures
+    ∙ ap red_of c.kind-2.ensures) c.in-Some.is
     (λ i. c.pon-in-Some.ensures i ∷ c.pon-in-Some-2.ensures i ∷ c.pon-in-Some-3.ensures i ∷ c.pon-in-Some-4.ensures i ∷ []) c.in_ok-push_lawful-in-Some.ensures

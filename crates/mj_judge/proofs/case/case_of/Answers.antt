@@ -21,10 +21,23 @@ riichi_same hs seat =
     λ i. cond (accepted i) (cond (double i) Double Single) No
 
 -- No circumstance of a win changes where the winners are left out.
-case_is : (now : Standing) (hs : List Deed) (seat wind : ℕ) (drawn closed ippatsu last rinshan robbed first : Bool) (riichi : Riichi) → wind ≡ seat_wind now.dealer seat → drawn ≡ is_draw (newest (before_wins hs)) →
-    closed ≡ are_concealed (seat_melds hs seat) → riichi ≡ riichi_of hs seat → ippatsu ≡ is_ippatsu (before_wins hs) seat → last ≡ (live_tiles hs == 0) → rinshan ≡ is_replacement (newest (before_wins hs)) →
+case_is : (now : Standing) (hs : List Deed) (seat wind : ℕ) (drawn closed ippatsu last rinshan robbed first : Bool) (riichi : Riichi) →
+    wind ≡ seat_wind now.dealer seat → drawn ≡ is_draw (newest (before_wins hs)) →
+    closed ≡ are_concealed (seat_melds hs seat) → riichi ≡ riichi_of hs seat → ippatsu ≡ is_ippatsu (before_wins hs) seat →
+    last ≡ (live_tiles hs == 0) → rinshan ≡ is_replacement (newest (before_wins hs)) →
     robbed ≡ is_added (newest (before_wins hs)) → first ≡ is_first hs seat →
-    ◌≡◌ {A = Case} (record { seat_wind = wind; round_wind = now.round; by_draw = drawn; closed = closed; riichi = riichi; ippatsu = ippatsu; last = last; rinshan = rinshan; robbed = robbed; first = first })
+    ◌≡◌ {A = Case} (record {
+      seat_wind = wind;
+      round_wind = now.round;
+      by_draw = drawn;
+      closed = closed;
+      riichi = riichi;
+      ippatsu = ippatsu;
+      last = last;
+      rinshan = rinshan;
+      robbed = robbed;
+      first = first;
+    })
     (case_of now (before_wins hs) seat)
 unfolding case_of
 case_is now hs seat wind drawn closed ippatsu last rinshan robbed first riichi e f g h k l m n o =

@@ -12,5 +12,6 @@ returns-then-held_count-eq0 c =
 pub returns : goal.returns
 returns c =
     let small : c.args.tile < 37 = search rules in
-    left_less (tiles_gained (hand c.args.table.now.deeds) c.args.seat) (tiles_lost (hand c.args.table.now.deeds) c.args.seat) c.holds-held.result c.without.result c.args.tile c.held_count.result c.kind.result
+    left_less (tiles_gained (hand c.args.table.now.deeds) c.args.seat) (tiles_lost (hand c.args.table.now.deeds) c.args.seat) c.holds-held.result
+    c.without.result c.args.tile c.held_count.result c.kind.result
     c.holds-held.ensures.value c.held_count.ensures c.if-held_count-eq0.false small c.kind.ensures c.without.ensures

@@ -8,7 +8,8 @@ loop-place-init c = faces_start c.args.table.now.rules c.args.table.now.deeds c.
 
 pub loop-place-preserved : goal.loop-place-preserved
 loop-place-preserved c =
-    face_more c.args.table.now.rules c.args.table.now.deeds c.args.seat (discards_of c.args.seat) c.loop-place.place c.ordered.result _ _ _ c.loop-place-test.true c.ordered.ensures c.loop-place.invariant
+    face_more c.args.table.now.rules c.args.table.now.deeds c.args.seat (discards_of c.args.seat) c.loop-place.place c.ordered.result _ _ _
+    c.loop-place-test.true c.ordered.ensures c.loop-place.invariant
     c.in_ok-push_drawn_discards_of.ensures
 
 pub returns : goal.returns

@@ -17,8 +17,11 @@ use Rattle.mj_judge.proofs.drawing.push_drawn_discards_of.Goals.{then-may_be_unm
 pub returns-then-held-eq0 : goal.returns-then-held-eq0
 unfolding view_of
 returns-then-held-eq0 c =
-    let none = none_held (number_in (tiles_gained (hand c.args.table.now.deeds) c.args.seat) c.args.tile) (number_in (tiles_lost (hand c.args.table.now.deeds) c.args.seat) c.args.tile) c.held_count-held.result c.held_count-held.ensures c.if-held-eq0.true in
-    none_added c.args.table.now.rules c.args.table.now.deeds c.args.seat (discards_of c.args.seat c.args.tile) _ (no_discards_of c.args.table.now.rules c.args.table.now.deeds c.args.seat c.args.tile none)
+    let none = none_held (number_in (tiles_gained (hand c.args.table.now.deeds) c.args.seat) c.args.tile)
+    (number_in (tiles_lost (hand c.args.table.now.deeds) c.args.seat) c.args.tile) c.held_count-held.result c.held_count-held.ensures
+    c.if-held-eq0.true in
+    none_added c.args.table.now.rules c.args.table.now.deeds c.args.seat (discards_of c.args.seat c.args.tile) _
+    (no_discards_of c.args.table.now.rules c.args.table.now.deeds c.args.seat c.args.tile none)
 
 pub returns-then-is_no_tile : goal.returns-then-is_no_tile
 returns-then-is_no_tile c =
@@ -33,12 +36,14 @@ returns-in_ok-push-2 c =
       | then-may_be_unmarked+in_ok-push w ↦
           added_where c.may_be_unmarked.result (Discard c.args.seat (Known c.args.tile) false) c.args.items.now.items c.if-may_be_unmarked.items.items w.if-may_be_unmarked.true
           (cc (w.items-is, w.in_ok-push.ensures.items, w.discard.ensures))
-      | else-may_be_unmarked w ↦ left_where c.may_be_unmarked.result (Discard c.args.seat (Known c.args.tile) false) c.args.items.now.items c.if-may_be_unmarked.items.items w.if-may_be_unmarked.false (cc w.items-is)
+      | else-may_be_unmarked w ↦ left_where c.may_be_unmarked.result (Discard c.args.seat (Known c.args.tile) false) c.args.items.now.items
+          c.if-may_be_unmarked.items.items w.if-may_be_unmarked.false (cc w.items-is)
     ] in
     drawn_pushed c.args.table.now.rules c.args.table.now.deeds c.args.seat c.args.tile c.held_count-held.result c.is_that-is_drawn.result c.args.locked c.may_be_unmarked.result _ _ _ c.requires.draws
     c.held_count-held.ensures c.if-held-eq0.false (ap (λ (r : Rules). is_no_tile r.red (Known c.args.tile)) (sym c.rules.ensures) ∙ sym c.is_no_tile.ensures ∙ c.if-is_no_tile.false)
     (c.is_that-is_drawn.ensures ∙ ap (λ (o : Option ℕ). is_that o c.args.tile) c.requires.drawn) c.requires.locked c.may_be_unmarked.ensures first
-    (added_where c.is_that-is_drawn.result (Discard c.args.seat (Known c.args.tile) true) c.if-may_be_unmarked.items.items _ c.if-is_drawn.true (cc (c.in_ok-push-2.ensures.items, c.discard-then-is_drawn.ensures)))
+    (added_where c.is_that-is_drawn.result (Discard c.args.seat (Known c.args.tile) true) c.if-may_be_unmarked.items.items _ c.if-is_drawn.true
+    (cc (c.in_ok-push-2.ensures.items, c.discard-then-is_drawn.ensures)))
 
 pub returns-else-is_drawn : goal.returns-else-is_drawn
 unfolding view_of
@@ -48,7 +53,8 @@ returns-else-is_drawn c =
       | then-may_be_unmarked+in_ok-push w ↦
           added_where c.may_be_unmarked.result (Discard c.args.seat (Known c.args.tile) false) c.args.items.now.items c.if-may_be_unmarked.items.items w.if-may_be_unmarked.true
           (cc (w.items-is, w.in_ok-push.ensures.items, w.discard.ensures))
-      | else-may_be_unmarked w ↦ left_where c.may_be_unmarked.result (Discard c.args.seat (Known c.args.tile) false) c.args.items.now.items c.if-may_be_unmarked.items.items w.if-may_be_unmarked.false (cc w.items-is)
+      | else-may_be_unmarked w ↦ left_where c.may_be_unmarked.result (Discard c.args.seat (Known c.args.tile) false) c.args.items.now.items
+          c.if-may_be_unmarked.items.items w.if-may_be_unmarked.false (cc w.items-is)
     ] in
     drawn_pushed c.args.table.now.rules c.args.table.now.deeds c.args.seat c.args.tile c.held_count-held.result c.is_that-is_drawn.result c.args.locked c.may_be_unmarked.result _ _ _ c.requires.draws
     c.held_count-held.ensures c.if-held-eq0.false (ap (λ (r : Rules). is_no_tile r.red (Known c.args.tile)) (sym c.rules.ensures) ∙ sym c.is_no_tile.ensures ∙ c.if-is_no_tile.false)

@@ -8,4 +8,5 @@ pub returns-then-not-is_own_draw : goal.returns-then-not-is_own_draw
 unfolding view_of
 returns-then-not-is_own_draw c =
     let shut : c.is_own_draw.result ≡ false = search rules in
-    none_added c.args.table.now.rules c.args.table.now.deeds c.args.seat (NineKinds c.args.seat ∷ []) _ (no_nine_kinds c.args.table.now.rules c.args.table.now.deeds c.args.seat (sym c.is_own_draw.ensures ∙ shut))
+    none_added c.args.table.now.rules c.args.table.now.deeds c.args.seat (NineKinds c.args.seat ∷ []) _
+    (no_nine_kinds c.args.table.now.rules c.args.table.now.deeds c.args.seat (sym c.is_own_draw.ensures ∙ shut))

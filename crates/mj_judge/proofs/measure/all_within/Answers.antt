@@ -6,7 +6,8 @@ use Rattle.mj_judge.proofs.measure.all_within.Goals as goal
 
 pub returns-then-not-is_kind_within : goal.returns-then-not-is_kind_within
 returns-then-not-is_kind_within c =
-    sym (all_kinds-fail (is_kind_within c.args.counts.now c.args.room.now (map set_of_meld c.args.melds.now)) c.at.result (omega (arith, c.loop-number-test.true, c.at.ensures)) (sym c.is_kind_within.ensures ∙ c.if-not-is_kind_within.true))
+    sym (all_kinds-fail (is_kind_within c.args.counts.now c.args.room.now (map set_of_meld c.args.melds.now)) c.at.result
+    (omega (arith, c.loop-number-test.true, c.at.ensures)) (sym c.is_kind_within.ensures ∙ c.if-not-is_kind_within.true))
 
 pub returns : goal.returns
 returns c =

@@ -25,5 +25,6 @@ returns c =
     subst (λ (t : Tiles). IsLeast t.counts (IsGoal t.room (length c.args.melds.now)) c.missing.result) c.new.ensures c.missing.ensures.least in
     record {
       far = λ so. two_away c.args.counts.now c.args.room.now (length c.args.melds.now) c.missing.result size is_room within least (ltb-true 1 c.missing.result so);
-      near = λ so fourteen. one_away c.args.counts.now c.args.room.now (length c.args.melds.now) c.missing.result size is_room within least (ltb-false 1 c.missing.result so) fourteen (omega (arith, c.requires.few));
+      near = λ so fourteen. one_away c.args.counts.now c.args.room.now (length c.args.melds.now) c.missing.result size is_room within least
+          (ltb-false 1 c.missing.result so) fourteen (omega (arith, c.requires.few));
     }

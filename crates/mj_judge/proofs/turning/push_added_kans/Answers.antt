@@ -8,7 +8,10 @@ pub returns-then-not-is_own_draw : goal.returns-then-not-is_own_draw
 unfolding view_of
 returns-then-not-is_own_draw c =
     let shut : c.is_own_draw.result ≡ false = search rules in
-    none_added c.args.table.now.rules c.args.table.now.deeds c.args.seat (all_added_kans c.args.seat (triplets (view_of c.args.table.now.deeds c.args.seat))) _ (no_added_kans c.args.table.now.rules c.args.table.now.deeds c.args.seat (triplets (view_of c.args.table.now.deeds c.args.seat)) (sym c.is_own_draw.ensures ∙ shut))
+    none_added c.args.table.now.rules c.args.table.now.deeds c.args.seat
+    (all_added_kans c.args.seat (triplets (view_of c.args.table.now.deeds c.args.seat))) _
+    (no_added_kans c.args.table.now.rules c.args.table.now.deeds c.args.seat (triplets (view_of c.args.table.now.deeds c.args.seat))
+    (sym c.is_own_draw.ensures ∙ shut))
 
 pub returns-then-not-has_pon : goal.returns-then-not-has_pon
 unfolding view_of
@@ -22,9 +25,13 @@ loop-place-init c = faces_start c.args.table.now.rules c.args.table.now.deeds c.
 
 pub loop-place-preserved : goal.loop-place-preserved
 loop-place-preserved c =
-    face_more c.args.table.now.rules c.args.table.now.deeds c.args.seat (λ face. added_kans_of c.args.seat face (triplets (view_of c.args.table.now.deeds c.args.seat))) c.loop-place.place c.ordered.result _ _ _ c.loop-place-test.true c.ordered.ensures c.loop-place.invariant
+    face_more c.args.table.now.rules c.args.table.now.deeds c.args.seat
+    (λ face. added_kans_of c.args.seat face (triplets (view_of c.args.table.now.deeds c.args.seat))) c.loop-place.place c.ordered.result _ _ _
+    c.loop-place-test.true c.ordered.ensures c.loop-place.invariant
     c.in_ok-push_added_kans_of.ensures
 
 pub returns : goal.returns
 unfolding all_added_kans
-returns c = faces_end c.args.table.now.rules c.args.table.now.deeds c.args.seat (λ face. added_kans_of c.args.seat face (triplets (view_of c.args.table.now.deeds c.args.seat))) c.loop-place.place _ _ c.loop-place-test.false c.loop-place.invariant
+returns c = faces_end c.args.table.now.rules c.args.table.now.deeds c.args.seat
+    (λ face. added_kans_of c.args.seat face (triplets (view_of c.args.table.now.deeds c.args.seat))) c.loop-place.place _ _ c.loop-place-test.false
+    c.loop-place.invariant

@@ -10,21 +10,25 @@ pub returns-then-not-is_own_draw : goal.returns-then-not-is_own_draw
 unfolding view_of
 returns-then-not-is_own_draw c =
     let shut : c.is_own_draw.result ≡ false = search rules in
-    none_added c.args.table.now.rules c.args.table.now.deeds c.args.seat (all_closed_kans c.args.seat) _ (no_closed_kans c.args.table.now.rules c.args.table.now.deeds c.args.seat (sym c.is_own_draw.ensures ∙ shut))
+    none_added c.args.table.now.rules c.args.table.now.deeds c.args.seat (all_closed_kans c.args.seat) _
+    (no_closed_kans c.args.table.now.rules c.args.table.now.deeds c.args.seat (sym c.is_own_draw.ensures ∙ shut))
 
 pub returns-then-not-holds_three : goal.returns-then-not-holds_three
 returns-then-not-holds_three c =
     let few : c.holds_three.result ≡ false = search rules in
-    none_added c.args.table.now.rules c.args.table.now.deeds c.args.seat (all_closed_kans c.args.seat) _ (no_fours c.args.table.now.rules c.args.table.now.deeds c.args.seat (c.holds_three.ensures few))
+    none_added c.args.table.now.rules c.args.table.now.deeds c.args.seat (all_closed_kans c.args.seat) _
+    (no_fours c.args.table.now.rules c.args.table.now.deeds c.args.seat (c.holds_three.ensures few))
 
 pub loop-place-init : goal.loop-place-init
 loop-place-init c = faces_start c.args.table.now.rules c.args.table.now.deeds c.args.seat (λ a. closed_kans_of c.args.seat a (faces_of (kind_of a))) _ _ refl
 
 pub loop-place-preserved : goal.loop-place-preserved
 loop-place-preserved c =
-    face_more c.args.table.now.rules c.args.table.now.deeds c.args.seat (λ a. closed_kans_of c.args.seat a (faces_of (kind_of a))) c.loop-place.place c.ordered.result _ _ _ c.loop-place-test.true c.ordered.ensures c.loop-place.invariant
+    face_more c.args.table.now.rules c.args.table.now.deeds c.args.seat (λ a. closed_kans_of c.args.seat a (faces_of (kind_of a))) c.loop-place.place
+    c.ordered.result _ _ _ c.loop-place-test.true c.ordered.ensures c.loop-place.invariant
     c.in_ok-push_closed_kans_of.ensures
 
 pub returns : goal.returns
 unfolding all_closed_kans
-returns c = faces_end c.args.table.now.rules c.args.table.now.deeds c.args.seat (λ a. closed_kans_of c.args.seat a (faces_of (kind_of a))) c.loop-place.place _ _ c.loop-place-test.false c.loop-place.invariant
+returns c = faces_end c.args.table.now.rules c.args.table.now.deeds c.args.seat (λ a. closed_kans_of c.args.seat a (faces_of (kind_of a)))
+    c.loop-place.place _ _ c.loop-place-test.false c.loop-place.invariant

@@ -6,4 +6,5 @@ use Rattle.mj_judge.specs.Inner.Tried.{lawful_among}
 use Rattle.mj_judge.proofs.turning.push_closed_kans.Given as goal
 
 abbrev pub invariant-loop-place : goal.invariant-loop-place
-invariant-loop-place l = l.items.items ≡ l.initial.items.items ++ lawful_among l.table.rules l.table.deeds l.seat (flat_map (λ a. closed_kans_of l.seat a (faces_of (kind_of a))) (take l.place tile_order))
+invariant-loop-place l = l.items.items ≡ l.initial.items.items ++ lawful_among l.table.rules l.table.deeds l.seat
+    (flat_map (λ a. closed_kans_of l.seat a (faces_of (kind_of a))) (take l.place tile_order))

@@ -10,15 +10,19 @@ use Rattle.mj_judge.proofs.unanswered.last_lawful.Goals.{then-is_lawful_discard,
 pub loop-place-preserved : goal.loop-place-preserved
 loop-place-preserved c = elim c.if-is_lawful_discard.branch [
   | then-is_lawful_discard w ↦
-      w.last-is ∙ last_passes (λ face. is_none (broken_by c.args.table.now.rules c.args.seat (view_of c.args.table.now.deeds c.args.seat) (discard_of c.args.seat (view_of c.args.table.now.deeds c.args.seat) face)))
+      w.last-is ∙ last_passes (λ face. is_none (broken_by c.args.table.now.rules c.args.seat (view_of c.args.table.now.deeds c.args.seat)
+      (discard_of c.args.seat (view_of c.args.table.now.deeds c.args.seat) face)))
       c.loop-place.place c.ordered-tile.result c.loop-place-test.true c.ordered-tile.ensures (sym c.is_lawful_discard.ensures ∙ w.if-is_lawful_discard.true)
   | else-is_lawful_discard w ↦
-      w.last-is ∙ c.loop-place.invariant ∙ last_stays (λ face. is_none (broken_by c.args.table.now.rules c.args.seat (view_of c.args.table.now.deeds c.args.seat) (discard_of c.args.seat (view_of c.args.table.now.deeds c.args.seat) face)))
+      w.last-is ∙ c.loop-place.invariant ∙ last_stays
+      (λ face. is_none (broken_by c.args.table.now.rules c.args.seat (view_of c.args.table.now.deeds c.args.seat)
+      (discard_of c.args.seat (view_of c.args.table.now.deeds c.args.seat) face)))
       c.loop-place.place c.ordered-tile.result c.loop-place-test.true c.ordered-tile.ensures (sym c.is_lawful_discard.ensures ∙ w.if-is_lawful_discard.false)
 ]
 
 pub returns : goal.returns
 unfolding lawful_faces
 returns c =
-    c.loop-place.invariant ∙ all_seen (λ face. is_none (broken_by c.args.table.now.rules c.args.seat (view_of c.args.table.now.deeds c.args.seat) (discard_of c.args.seat (view_of c.args.table.now.deeds c.args.seat) face)))
+    c.loop-place.invariant ∙ all_seen (λ face. is_none (broken_by c.args.table.now.rules c.args.seat (view_of c.args.table.now.deeds c.args.seat)
+    (discard_of c.args.seat (view_of c.args.table.now.deeds c.args.seat) face)))
     c.loop-place.place c.loop-place-test.false

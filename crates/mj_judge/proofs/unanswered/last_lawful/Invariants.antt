@@ -7,4 +7,6 @@ use Rattle.mj_rules.specs.Default.{discard_of, last_face}
 use Rattle.mj_judge.proofs.unanswered.last_lawful.Given as goal
 
 abbrev pub invariant-loop-place : goal.invariant-loop-place
-invariant-loop-place l = l.last ≡ last_face (filter (λ face. is_none (broken_by l.table.rules l.seat (view_of l.table.deeds l.seat) (discard_of l.seat (view_of l.table.deeds l.seat) face))) (take l.place tile_order))
+invariant-loop-place l = l.last ≡ last_face
+    (filter (λ face. is_none (broken_by l.table.rules l.seat (view_of l.table.deeds l.seat) (discard_of l.seat (view_of l.table.deeds l.seat) face)))
+    (take l.place tile_order))

@@ -17,7 +17,8 @@ pub returns-in-Discard : goal.returns-in-Discard
 unfolding view_of
 returns-in-Discard c =
     c.judge_discard.ensures c.in-Discard.actor
-    ∙ discard_decided c.args.table.now.rules c.args.seat c.in-Discard.actor (view_of c.args.table.now.deeds c.args.seat) _ _ c.if-actor-seat.true (sym c.is_discarding.ensures ∙ c.if-is_discarding.true)
+    ∙ discard_decided c.args.table.now.rules c.args.seat c.in-Discard.actor (view_of c.args.table.now.deeds c.args.seat) _ _ c.if-actor-seat.true
+    (sym c.is_discarding.ensures ∙ c.if-is_discarding.true)
     ∙ ap (broken_by c.args.table.now.rules c.args.seat (view_of c.args.table.now.deeds c.args.seat)) (sym c.in-Discard.is)
 
 pub returns-in-Win : goal.returns-in-Win
@@ -25,5 +26,6 @@ unfolding view_of
 returns-in-Win c =
     c.judge_winning.ensures c.in-Win.actor
     ∙ ap (λ tile. first_broken (drop 3 (questions c.args.table.now.rules c.args.seat (view_of c.args.table.now.deeds c.args.seat) (Win c.in-Win.actor c.in-Win.target tile)))) c.as_ref.ensures.value
-    ∙ win_decided c.args.table.now.rules c.args.seat c.in-Win.actor c.in-Win.target c.in-Win.tile (view_of c.args.table.now.deeds c.args.seat) c.if-actor-seat-2.true (sym c.may_win.ensures ∙ c.if-may_win.true)
+    ∙ win_decided c.args.table.now.rules c.args.seat c.in-Win.actor c.in-Win.target c.in-Win.tile (view_of c.args.table.now.deeds c.args.seat)
+    c.if-actor-seat-2.true (sym c.may_win.ensures ∙ c.if-may_win.true)
     ∙ ap (broken_by c.args.table.now.rules c.args.seat (view_of c.args.table.now.deeds c.args.seat)) (sym c.in-Win.is)

@@ -14,5 +14,6 @@ pub returns : goal.returns
 unfolding view_of
 returns c =
     c.furiten.ensures
-    ∙ facts_are (view_of c.args.table.now.deeds c.args.seat) c.waits.result c.own-own.result c.passed-passed.result c.passed_in_riichi-passed_in_riichi.result c.args.held.now c.room-room.result (length c.args.melds.now)
+    ∙ facts_are (view_of c.args.table.now.deeds c.args.seat) c.waits.result c.own-own.result c.passed-passed.result
+    c.passed_in_riichi-passed_in_riichi.result c.args.held.now c.room-room.result (length c.args.melds.now)
     c.waits.ensures.value c.own-own.ensures c.passed-passed.ensures c.passed_in_riichi-passed_in_riichi.ensures c.requires.held c.room-room.ensures (ap length c.requires.melds)

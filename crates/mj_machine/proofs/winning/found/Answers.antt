@@ -10,7 +10,8 @@ use Rattle.mj_machine.proofs.Circumstances.{closed_is, score_is, extra_is}
 use Rattle.mj_machine.proofs.winning.found.Goals as goal
 
 pub worth_of_win-requires-clause-closed : goal.worth_of_win-requires-clause-closed
-worth_of_win-requires-clause-closed c = closed_is (standing c.args.table.now.deeds) (hand c.args.table.now.deeds) c.args.seat c.args.case.now _ c.requires.case (c.as_slice.ensures.value ∙ c.melds-melds.ensures)
+worth_of_win-requires-clause-closed c = closed_is (standing c.args.table.now.deeds) (hand c.args.table.now.deeds) c.args.seat c.args.case.now _
+    c.requires.case (c.as_slice.ensures.value ∙ c.melds-melds.ensures)
 
 pub worth_of_win-requires-clause-few : goal.worth_of_win-requires-clause-few
 worth_of_win-requires-clause-few c =

@@ -12,9 +12,11 @@ loop-place-preserved c = unders_more c.args.wall.now c.loop-place.place c.under.
 
 pub returns-clause-value : goal.returns-clause-value
 returns-clause-value c =
-    unders_whole c.args.wall.now (hand c.args.table.now.deeds) c.args.seat c.loop-place.place c.shown-place-end.result c.loop-place.unders c.loop-place.invariant c.loop-place.auto.place-end c.loop-place-test.false
+    unders_whole c.args.wall.now (hand c.args.table.now.deeds) c.args.seat c.loop-place.place c.shown-place-end.result c.loop-place.unders
+    c.loop-place.invariant c.loop-place.auto.place-end c.loop-place-test.false
     c.shown-place-end.ensures (sym c.is_in_riichi.ensures ∙ c.if-not-is_in_riichi.false)
 
 pub returns-clause-few : goal.returns-clause-few
 returns-clause-few c =
-    unders_few c.args.wall.now c.loop-place.place c.shown-place-end.result c.loop-place.unders c.loop-place.invariant c.loop-place.auto.place-end (subst (λ n. n ≤ 5) (sym c.shown-place-end.ensures) c.requires.shown)
+    unders_few c.args.wall.now c.loop-place.place c.shown-place-end.result c.loop-place.unders c.loop-place.invariant c.loop-place.auto.place-end
+    (subst (λ n. n ≤ 5) (sym c.shown-place-end.ensures) c.requires.shown)

@@ -10,7 +10,8 @@ use Rattle.mj_machine.proofs.Circumstances.{drawn_is, own_is, win_is}
 use Rattle.mj_machine.proofs.winning.win.Goals as goal
 
 pub win_shown-requires-clause-others : goal.win_shown-requires-clause-others
-win_shown-requires-clause-others c = λ h. c.requires.can.others (sym (drawn_is (standing c.args.table.now.deeds) (hand c.args.table.now.deeds) c.args.seat c.case_of-case.result c.case_of-case.ensures) ∙ h)
+win_shown-requires-clause-others c = λ h. c.requires.can.others
+    (sym (drawn_is (standing c.args.table.now.deeds) (hand c.args.table.now.deeds) c.args.seat c.case_of-case.result c.case_of-case.ensures) ∙ h)
 
 pub win_shown-requires-clause-few : goal.win_shown-requires-clause-few
 win_shown-requires-clause-few c =

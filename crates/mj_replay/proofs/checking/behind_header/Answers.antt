@@ -14,14 +14,17 @@ behind_walls-requires-clause-other c =
 pub returns-in_default-2 : goal.returns-in_default-2
 returns-in_default-2 c =
     let must : c.must_be_wall.result ≡ true = search rules in
-    bad_wall _ c.loop-line.walls.items _ _ c.in-Some.line.now c.in-Some.others.now c.len.result _ c.must_be_wall.result c.requires.rules c.loop-line.invariant.few c.loop-line.invariant.whole c.loop-line.invariant.said c.in-Some.ensures
-    (rw c.as_slice.ensures.value at c.must_be_wall.ensures) must (c.len.ensures ∙ c.loop-line.walls.ok.0) (rw c.in_default-2.is at c.in_ok-wall.ensures) (ap (λ (n : ℕ). n + 2) (c.len-in_default-2.ensures ∙ c.loop-line.walls.ok.0))
+    bad_wall _ c.loop-line.walls.items _ _ c.in-Some.line.now c.in-Some.others.now c.len.result _ c.must_be_wall.result c.requires.rules
+    c.loop-line.invariant.few c.loop-line.invariant.whole c.loop-line.invariant.said c.in-Some.ensures
+    (rw c.as_slice.ensures.value at c.must_be_wall.ensures) must (c.len.ensures ∙ c.loop-line.walls.ok.0)
+    (rw c.in_default-2.is at c.in_ok-wall.ensures) (ap (λ (n : ℕ). n + 2) (c.len-in_default-2.ensures ∙ c.loop-line.walls.ok.0))
 
 pub loop-line-preserved : goal.loop-line-preserved
 loop-line-preserved c =
     let next : IsNext c.args.rules.red c.len.result c.in-Some.line.now c.in-Some-2.wall = rw c.in-Some-2.is at c.in_ok-wall.ensures in
     record {
-      said = said_wall c.args.rules c.loop-line.walls.items _ c.in-Some-2.wall _ _ c.in-Some.line.now c.in-Some.others.now c.len.result c.loop-line.invariant.said c.in-Some.ensures next c.in_ok-push.ensures.items;
+      said = said_wall c.args.rules c.loop-line.walls.items _ c.in-Some-2.wall _ _ c.in-Some.line.now c.in-Some.others.now c.len.result
+          c.loop-line.invariant.said c.in-Some.ensures next c.in_ok-push.ensures.items;
       few = few_more c.args.rules.red c.loop-line.walls.items _ c.in-Some.line.now c.in-Some-2.wall c.len.result (c.len.ensures ∙ c.loop-line.walls.ok.0) next c.in_ok-push.ensures.items;
       whole = whole_more c.args.rules.red c.loop-line.walls.items _ c.in-Some.line.now c.in-Some-2.wall c.len.result next c.in_ok-push.ensures.items c.loop-line.invariant.whole;
       none = c.loop-line.invariant.none;
@@ -29,7 +32,8 @@ loop-line-preserved c =
 
 pub returns-then-is_empty : goal.returns-then-is_empty
 returns-then-is_empty c =
-    lacks_wall _ c.loop-line.walls.items _ _ _ _ _ _ c.requires.rules c.loop-line.invariant.said c.in_default.ensures (c.is_empty.ensures ∙ ap (λ (n : ℕ). n == 0) c.loop-line.walls.ok.0) c.if-is_empty.true c.ending.ensures
+    lacks_wall _ c.loop-line.walls.items _ _ _ _ _ _ c.requires.rules c.loop-line.invariant.said c.in_default.ensures (c.is_empty.ensures
+    ∙ ap (λ (n : ℕ). n == 0) c.loop-line.walls.ok.0) c.if-is_empty.true c.ending.ensures
 
 pub behind_walls-requires-2-clause-other : goal.behind_walls-requires-2-clause-other
 behind_walls-requires-2-clause-other c = none_left _ _ _ c.in_default.ensures

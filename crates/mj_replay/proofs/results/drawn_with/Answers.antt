@@ -13,5 +13,10 @@ returns c =
     let h2 : Some (shown_or_hidden c.in-Some-2.b c.as_slice-2.result.now, c.in-Some-2.rest.now) ≡ shown_field (codes ",") c.in-Some.rest.now = search rules in
     let h3 : Some (shown_or_hidden c.in-Some-3.c c.as_slice-3.result.now, c.in-Some-3.rest.now) ≡ shown_field (codes ",") c.in-Some-2.rest.now = search rules in
     let h4 : Some (shown_or_hidden c.in-Some-4.d c.as_slice-4.result.now, c.in-Some-4.rest.now) ≡ shown_field (codes ",") c.in-Some-3.rest.now = search rules in
-    let of_tiles : Four (List ℕ) → Four Shown = λ t. record { first = shown_or_hidden c.in-Some.a t.first; second = shown_or_hidden c.in-Some-2.b t.second; third = shown_or_hidden c.in-Some-3.c t.third; fourth = shown_or_hidden c.in-Some-4.d t.fourth } in
+    let of_tiles : Four (List ℕ) → Four Shown = λ t. record {
+      first = shown_or_hidden c.in-Some.a t.first;
+      second = shown_or_hidden c.in-Some-2.b t.second;
+      third = shown_or_hidden c.in-Some-3.c t.third;
+      fourth = shown_or_hidden c.in-Some-4.d t.fourth;
+    } in
     c.drawn_by.ensures ∙ ap (λ hands. drawn_by c.args.reason hands c.in-Some-4.rest.now) (c.in_ok-hands.ensures ∙ ap of_tiles c.in_ok-tiles.ensures) ∙ shown_steps _ _ _ _ _ _ _ _ _ _ h1 h2 h3 h4

@@ -45,11 +45,16 @@ with-tally-requires-in-loop-alloc-clause-draws c =
 
 pub loop-alloc-smaller : goal.loop-alloc-smaller
 loop-alloc-smaller c =
-    nearer c.args.seed c.in_ok-walls-2.walls c.loop-alloc.table c.step.new.table c.loop-alloc.tally c.in_ok-deed.deed c.in_ok-walls-2.ensures.at_hand c.in_ok-walls-2.ensures.enough c.loop-alloc.invariant.1 c.in_ok-deed.ensures.pushed
+    nearer c.args.seed c.in_ok-walls-2.walls c.loop-alloc.table c.step.new.table c.loop-alloc.tally c.in_ok-deed.deed c.in_ok-walls-2.ensures.at_hand
+    c.in_ok-walls-2.ensures.enough c.loop-alloc.invariant.1 c.in_ok-deed.ensures.pushed
 
 pub loop-alloc-preserved : goal.loop-alloc-preserved
-loop-alloc-preserved c =
-    (c.in_ok-walls-2.ensures.at_hand, goes c.args.seed c.in_ok-walls-2.walls c.loop-alloc.table c.step.new.table c.loop-alloc.tally c.with-tally-in-loop-alloc.result c.in_ok-deed.deed c.in_ok-walls-2.ensures.enough c.loop-alloc.invariant.1 c.in_ok-deed.ensures.chosen c.in_ok-deed.ensures.pushed c.in_ok-deed.ensures.played c.with-tally-in-loop-alloc.ensures)
+loop-alloc-preserved c = (
+  c.in_ok-walls-2.ensures.at_hand,
+  goes c.args.seed c.in_ok-walls-2.walls c.loop-alloc.table c.step.new.table c.loop-alloc.tally
+      c.with-tally-in-loop-alloc.result c.in_ok-deed.deed c.in_ok-walls-2.ensures.enough c.loop-alloc.invariant.1 c.in_ok-deed.ensures.chosen
+      c.in_ok-deed.ensures.pushed c.in_ok-deed.ensures.played c.with-tally-in-loop-alloc.ensures,
+)
 
 pub returns : goal.returns
 returns c =

@@ -4,7 +4,8 @@ use Rattle.mj_table.proofs.counting.tiles_held.Goals as goal
 
 pub loop-place-preserved : goal.loop-place-preserved
 loop-place-preserved c =
-    copies_step (λ face. get_or c.args.held.now face 0) c.loop-place.tiles c.put_copies.new.self c.loop-place.place c.ordered-tile.result c.from-number.result c.loop-place-test.true c.ordered-tile.ensures
+    copies_step (λ face. get_or c.args.held.now face 0) c.loop-place.tiles c.put_copies.new.self c.loop-place.place c.ordered-tile.result
+    c.from-number.result c.loop-place-test.true c.ordered-tile.ensures
     (c.from-number.ensures ∙ ap (λ face. get_or c.args.held.now face 0) (c.from.ensures ∙ c.face.ensures.value)) c.loop-place.invariant c.in_ok-put_copies.ensures
 
 pub returns : goal.returns

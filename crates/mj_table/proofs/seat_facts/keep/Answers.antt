@@ -17,7 +17,8 @@ returns c before none few k = record {
   offered_in_riichi =
       since_more before c.args.deed.now c.args.seat _ c.args.facts.now.marks.reached k.marks.reached
       (c.since_reach-facts.ensures (flat_map (offers_to c.args.seat) (behind_first (is_reach_by c.args.seat) before)) k.offered_in_riichi
-      ∙ ap (λ (xs : List ℕ). kinds_among (cond c.args.facts.now.marks.reached (flat_map (offers_to c.args.seat) (behind_first (is_reach_by c.args.seat) before) ++ xs) [])) (c.offered_by-2.ensures none));
+      ∙ ap (λ (xs : List ℕ). kinds_among (cond c.args.facts.now.marks.reached
+      (flat_map (offers_to c.args.seat) (behind_first (is_reach_by c.args.seat) before) ++ xs) [])) (c.offered_by-2.ensures none));
   passed_in_riichi = k.offered_in_riichi ∙ sym (passed_in_riichi-more before c.args.deed.now c.args.seat);
   melds = c.meld.ensures before (few.melds c.args.seat) (fewer_added before c.args.deed.now c.args.seat (few.added c.args.seat)) k.added k.melds;
   added =

@@ -15,5 +15,6 @@ loop-t-preserved g c =
       many = length-set _ _ _ ∙ c.loop-t.invariant.many;
       idle = idle_set _ _ _ c.loop-t.t _ _ near c.index.ensures c.give_up.ensures.idle.0 c.loop-t.invariant.idle;
       number = c.loop-t.invariant.number;
-      hand = λ picks h. hand_quiet _ _ _ (Unit {0}) picks _ _ _ c.loop-t.t _ _ _ refl refl refl near c.loop-t.invariant.many c.index.ensures c.index_mut.ensures.value c.give_up.ensures.idle.0 c.give_up.ensures.idle.1 c.give_up.ensures.nothing (c.loop-t.invariant.hand picks h);
+      hand = λ picks h. hand_quiet _ _ _ (Unit {0}) picks _ _ _ c.loop-t.t _ _ _ refl refl refl near c.loop-t.invariant.many c.index.ensures
+          c.index_mut.ensures.value c.give_up.ensures.idle.0 c.give_up.ensures.idle.1 c.give_up.ensures.nothing (c.loop-t.invariant.hand picks h);
     }

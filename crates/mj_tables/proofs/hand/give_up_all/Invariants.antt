@@ -9,5 +9,7 @@ invariant-loop-t g l = record {
   many : length l.hand.passes.items ≡ length l.turns.items;
   idle : AllIdle g.T.Noted.setting l.turns.items l.hand.passes.items;
   number : l.hand.number ≡ l.fn.hand.number;
-  hand : (picks : List ℕ → Picked) → IsHand g.T.Seated g.T.Noted.setting (at_link g.L.Link.was_read g.L.Source.left g.L.Sink.written g.L.Source.read_faults g.L.Sink.write_faults) picks (Unit {0}) l.turns.items l.fn.hand → IsHand g.T.Seated g.T.Noted.setting (at_link g.L.Link.was_read g.L.Source.left g.L.Sink.written g.L.Source.read_faults g.L.Sink.write_faults) picks (Unit {0}) l.turns.items l.hand;
+  hand : (picks : List ℕ → Picked) → IsHand g.T.Seated g.T.Noted.setting (at_link g.L.Link.was_read g.L.Source.left g.L.Sink.written
+      g.L.Source.read_faults g.L.Sink.write_faults) picks (Unit {0}) l.turns.items l.fn.hand → IsHand g.T.Seated g.T.Noted.setting
+      (at_link g.L.Link.was_read g.L.Source.left g.L.Sink.written g.L.Source.read_faults g.L.Sink.write_faults) picks (Unit {0}) l.turns.items l.hand;
 }

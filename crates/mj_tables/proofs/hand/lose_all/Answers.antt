@@ -15,10 +15,13 @@ loop-t-preserved g c =
       many = length-set _ _ _ ∙ c.loop-t.invariant.many;
       idle = idle_set _ _ _ c.loop-t.t _ _ near c.index.ensures c.lose-over.ensures.idle.0 c.loop-t.invariant.idle;
       number = c.loop-t.invariant.number;
-      hand = λ picks h. hand_quiet _ _ _ ⊥ picks _ _ _ c.loop-t.t _ _ _ refl refl refl near c.loop-t.invariant.many c.index.ensures c.index_mut.ensures.value c.lose-over.ensures.idle.0 c.lose-over.ensures.idle.1 c.lose-over.ensures.nothing (c.loop-t.invariant.hand picks h);
+      hand = λ picks h. hand_quiet _ _ _ ⊥ picks _ _ _ c.loop-t.t _ _ _ refl refl refl near c.loop-t.invariant.many c.index.ensures
+          c.index_mut.ensures.value c.lose-over.ensures.idle.0 c.lose-over.ensures.idle.1 c.lose-over.ensures.nothing
+          (c.loop-t.invariant.hand picks h);
       over = λ e.
           let both = both_true _ _ e in
-          over_more g.T.Seated g.T.Noted.setting c.args.turns.now.items c.loop-t.hand.passes.items c.loop-t.t _ c.lose-over.new.pass near c.index.ensures (sym c.lose-over.ensures.over ∙ both.1) (c.loop-t.invariant.over both.0);
+          over_more g.T.Seated g.T.Noted.setting c.args.turns.now.items c.loop-t.hand.passes.items c.loop-t.t _ c.lose-over.new.pass near
+          c.index.ensures (sym c.lose-over.ensures.over ∙ both.1) (c.loop-t.invariant.over both.0);
     }
 
 pub returns-clause-over : goal.returns-clause-over

@@ -42,9 +42,11 @@ returns-in-Some-clause-hand g c = λ picks is h.
     (joined_kept (g.T.Seated.after s) g.T.Seated.reads g.T.Seated.joins (g.T.Seated.sits s) (g.T.Seated.hears s) g.T.Seated.says picks c.args.table at
     (IsExcused c.serve_joined-served.result.ended) p.number p.seen q.seen c.requires.received.start
     (at_wire g.L.Link.was_read g.L.Source.left g.L.Sink.written g.L.Source.read_faults g.L.Sink.write_faults c.args.wire)
-    (at_wire g.L.Link.was_read g.L.Source.left g.L.Sink.written g.L.Source.read_faults g.L.Sink.write_faults c.serve_joined-served.new.wire) c.args.line.items c.serve_joined-served.result.ended c.serve_joined-served.result.place
+    (at_wire g.L.Link.was_read g.L.Source.left g.L.Sink.written g.L.Source.read_faults g.L.Sink.write_faults c.serve_joined-served.new.wire)
+    c.args.line.items c.serve_joined-served.result.ended c.serve_joined-served.result.place
     c.requires.received.took c.requires.received.told session c.in-Some.place c.shut.new.self c.in-Some.is is c.requires.received.is_new
-    (wire_shut g.L.Link.was_read g.L.Source.left g.L.Sink.written g.L.Source.read_faults g.L.Sink.write_faults c.serve_joined-served.new.wire c.into_link-link.result c.shut.new.self c.into_link-link.ensures c.shut.ensures.reading c.shut.ensures.writing) (λ e. e))
+    (wire_shut g.L.Link.was_read g.L.Source.left g.L.Sink.written g.L.Source.read_faults g.L.Sink.write_faults c.serve_joined-served.new.wire
+    c.into_link-link.result c.shut.new.self c.into_link-link.ensures c.shut.ensures.reading c.shut.ensures.writing) (λ e. e))
     h
 
 pub returns-clause-hand : goal.returns-clause-hand
@@ -60,7 +62,8 @@ returns-clause-hand g c = λ picks is h.
     let near : c.from-t.result < length c.args.turns.now.items = omega (arith, c.from-t.ensures, c.requires.table) in
     let ended = c.serve_joined-served.result.ended in
     hand_quiet g.T.Seated g.T.Noted.setting at
-    (IsExcused ended) picks turns c.args.hand.now _ c.from-t.result turn p q refl refl refl near c.requires.idle.0 c.index.ensures c.index_mut.ensures.value c.serve_joined-served.ensures.idle.0 c.serve_joined-served.ensures.idle.1
+    (IsExcused ended) picks turns c.args.hand.now _ c.from-t.result turn p q refl refl refl near c.requires.idle.0 c.index.ensures
+    c.index_mut.ensures.value c.serve_joined-served.ensures.idle.0 c.serve_joined-served.ensures.idle.1
     (joined_nothing (g.T.Seated.after s) g.T.Seated.reads g.T.Seated.joins (g.T.Seated.sits s) (g.T.Seated.hears s) g.T.Seated.says picks c.args.table at
     (IsExcused ended) p.number p.seen q.seen c.requires.received.start
     (at_wire g.L.Link.was_read g.L.Source.left g.L.Sink.written g.L.Source.read_faults g.L.Sink.write_faults c.args.wire)

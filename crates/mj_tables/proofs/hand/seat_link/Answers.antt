@@ -13,13 +13,18 @@ ask-requires-after_bounds g c κs within =
 pub returns-in-Over-clause-hand : goal.returns-in-Over-clause-hand
 returns-in-Over-clause-hand g c = λ picks is h.
     let near : c.from-t.result < length c.args.turns.now.items = omega (arith, c.from-t.ensures, c.requires.table) in
-    hand_quiet g.T.Seated g.T.Noted.setting (at_link g.L.Link.was_read g.L.Source.left g.L.Sink.written g.L.Source.read_faults g.L.Sink.write_faults) ⊥ picks c.args.turns.now.items c.args.hand.now _ c.from-t.result _ _ c.ask.new.pass refl refl refl near c.requires.idle.0 c.index.ensures c.index_mut.ensures.value c.ask.ensures.idle.0 c.ask.ensures.idle.1 c.ask.ensures.nothing h
+    hand_quiet g.T.Seated g.T.Noted.setting (at_link g.L.Link.was_read g.L.Source.left g.L.Sink.written g.L.Source.read_faults g.L.Sink.write_faults)
+    ⊥ picks c.args.turns.now.items c.args.hand.now _ c.from-t.result _ _ c.ask.new.pass refl refl refl near c.requires.idle.0 c.index.ensures
+    c.index_mut.ensures.value c.ask.ensures.idle.0 c.ask.ensures.idle.1 c.ask.ensures.nothing h
 
 pub returns-in-NoMemory-clause-hand : goal.returns-in-NoMemory-clause-hand
 returns-in-NoMemory-clause-hand g c = λ picks is h.
     let near : c.from-t.result < length c.args.turns.now.items = omega (arith, c.from-t.ensures, c.requires.table) in
-    hand_excused g.T.Seated g.T.Noted.setting (at_link g.L.Link.was_read g.L.Source.left g.L.Sink.written g.L.Source.read_faults g.L.Sink.write_faults) ⊥ (Unit {0}) (λ b. absurd b) picks c.args.turns.now.items _
-    (hand_quiet g.T.Seated g.T.Noted.setting (at_link g.L.Link.was_read g.L.Source.left g.L.Sink.written g.L.Source.read_faults g.L.Sink.write_faults) ⊥ picks c.args.turns.now.items c.args.hand.now _ c.from-t.result _ _ c.ask.new.pass refl refl refl near c.requires.idle.0 c.index.ensures c.index_mut.ensures.value c.ask.ensures.idle.0 c.ask.ensures.idle.1 c.ask.ensures.nothing h)
+    hand_excused g.T.Seated g.T.Noted.setting (at_link g.L.Link.was_read g.L.Source.left g.L.Sink.written g.L.Source.read_faults
+    g.L.Sink.write_faults) ⊥ (Unit {0}) (λ b. absurd b) picks c.args.turns.now.items _
+    (hand_quiet g.T.Seated g.T.Noted.setting (at_link g.L.Link.was_read g.L.Source.left g.L.Sink.written g.L.Source.read_faults g.L.Sink.write_faults)
+    ⊥ picks c.args.turns.now.items c.args.hand.now _ c.from-t.result _ _ c.ask.new.pass refl refl refl near c.requires.idle.0 c.index.ensures
+    c.index_mut.ensures.value c.ask.ensures.idle.0 c.ask.ensures.idle.1 c.ask.ensures.nothing h)
 
 pub play_link-ended-requires-clause-idle : goal.play_link-ended-requires-clause-idle
 play_link-ended-requires-clause-idle g c κs within =
@@ -36,4 +41,6 @@ pub returns-in-GoesOn-clause-hand : goal.returns-in-GoesOn-clause-hand
 returns-in-GoesOn-clause-hand g c = λ picks is h.
     let near : c.from-t.result < length c.args.turns.now.items = omega (arith, c.from-t.ensures, c.requires.table) in
     c.end_after.ensures.hand picks (c.play_link-ended.ensures.hand picks is
-    (hand_quiet g.T.Seated g.T.Noted.setting (at_link g.L.Link.was_read g.L.Source.left g.L.Sink.written g.L.Source.read_faults g.L.Sink.write_faults) ⊥ picks c.args.turns.now.items c.args.hand.now _ c.from-t.result _ _ c.ask.new.pass refl refl refl near c.requires.idle.0 c.index.ensures c.index_mut.ensures.value c.ask.ensures.idle.0 c.ask.ensures.idle.1 c.ask.ensures.nothing h))
+    (hand_quiet g.T.Seated g.T.Noted.setting (at_link g.L.Link.was_read g.L.Source.left g.L.Sink.written g.L.Source.read_faults g.L.Sink.write_faults)
+    ⊥ picks c.args.turns.now.items c.args.hand.now _ c.from-t.result _ _ c.ask.new.pass refl refl refl near c.requires.idle.0 c.index.ensures
+    c.index_mut.ensures.value c.ask.ensures.idle.0 c.ask.ensures.idle.1 c.ask.ensures.nothing h))

@@ -11,5 +11,7 @@ new-requires-clause-notes g c κs within =
 
 pub returns-clause-rows : goal.returns-clause-rows
 returns-clause-rows g c =
-    matches_mapped (IsNewRow g.T.Noted.setting c.args.passes) (λ row. row.items) c.args.opened.turns.items c.push.new.self.items c.args.opened.rows.items c.push-2.new.self.items c.in-Ok.turn c.in-Ok.row
-    c.in_ok-push.ensures.items c.in_ok-push-2.ensures.items c.requires.rows (c.in-Ok.ensures.passes ∙ ap (λ x. new_passes c.in-Ok.turn.id (g.T.Noted.setting x) c.args.passes) (sym c.in-Ok.ensures.turn.0))
+    matches_mapped (IsNewRow g.T.Noted.setting c.args.passes) (λ row. row.items) c.args.opened.turns.items c.push.new.self.items
+    c.args.opened.rows.items c.push-2.new.self.items c.in-Ok.turn c.in-Ok.row
+    c.in_ok-push.ensures.items c.in_ok-push-2.ensures.items c.requires.rows (c.in-Ok.ensures.passes
+    ∙ ap (λ x. new_passes c.in-Ok.turn.id (g.T.Noted.setting x) c.args.passes) (sym c.in-Ok.ensures.turn.0))

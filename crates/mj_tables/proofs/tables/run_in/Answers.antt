@@ -14,7 +14,10 @@ take_column-passes-requires-clause-some g c =
 pub work-dones-requires-clause-rows : goal.work-dones-requires-clause-rows
 work-dones-requires-clause-rows g c κs within =
     let turns = c.in_ok-turns.field-0.turns.items in
-    subst (λ n. AreNewRows g.T.Noted.setting turns n (map (λ row. row.items) c.take_column-passes.new.rows.items)) (sym c.in_ok-columns_for.ensures.many) (last_taken g.T.Noted.setting turns c.args.handlers (map (λ row. row.items) c.in_ok-turns.field-0.rows.items) (map (λ row. row.items) c.take_column-passes.new.rows.items) c.take_column-passes.result.items c.take_column-passes.ensures.taken c.in_ok-turns.ensures.rows).0
+    subst (λ n. AreNewRows g.T.Noted.setting turns n (map (λ row. row.items) c.take_column-passes.new.rows.items))
+    (sym c.in_ok-columns_for.ensures.many) (last_taken g.T.Noted.setting turns c.args.handlers
+    (map (λ row. row.items) c.in_ok-turns.field-0.rows.items) (map (λ row. row.items) c.take_column-passes.new.rows.items)
+    c.take_column-passes.result.items c.take_column-passes.ensures.taken c.in_ok-turns.ensures.rows).0
 
 pub work-dones-requires-clause-rooms : goal.work-dones-requires-clause-rooms
 work-dones-requires-clause-rooms g c κs within =
@@ -29,7 +32,11 @@ work-dones-requires-clause-desks g c κs within =
     let picks = g.P.Picker.picks c.args.picker.now in
     let made = g.H.Host.made_by c.args.host.now in
     let number = g.T.Fault.Numbered.number in
-    desks_new g.T.Seated g.T.Noted.setting at picks made number turns c.args.handlers (g.C.Clock.readings c.args.clock.now) c.take_column-passes.result.items c.in_ok-desks.desks.items (last_taken g.T.Noted.setting turns c.args.handlers (map (λ row. row.items) c.in_ok-turns.field-0.rows.items) (map (λ row. row.items) c.take_column-passes.new.rows.items) c.take_column-passes.result.items c.take_column-passes.ensures.taken c.in_ok-turns.ensures.rows).1 c.in_ok-desks.ensures.passes c.in_ok-desks.ensures.nothing
+    desks_new g.T.Seated g.T.Noted.setting at picks made number turns c.args.handlers (g.C.Clock.readings c.args.clock.now)
+    c.take_column-passes.result.items c.in_ok-desks.desks.items (last_taken g.T.Noted.setting turns c.args.handlers
+    (map (λ row. row.items) c.in_ok-turns.field-0.rows.items) (map (λ row. row.items) c.take_column-passes.new.rows.items)
+    c.take_column-passes.result.items c.take_column-passes.ensures.taken c.in_ok-turns.ensures.rows).1 c.in_ok-desks.ensures.passes
+    c.in_ok-desks.ensures.nothing
 
 pub gather_all-requires : goal.gather_all-requires
 gather_all-requires g c =
@@ -57,7 +64,9 @@ close_all-requires-after_bounds g c κs within =
     let rows = map (λ row. row.items) c.add_column.new.rows.items in
     let r0 = g.C.Clock.readings c.args.clock.now in
     let r1 = g.C.Clock.readings c.work-dones.new.clock in
-    let back = rows_back c.len-number.result (length turns) (map (λ d. d.hand.passes.items) ds) (map (λ row. row.items) c.in_ok-left.left.rows.items) rows c.in_ok-passes_of.field-0.items (map (λ d. d.pass) desks) c.in_ok-left.ensures.rows c.in_ok-add_column.ensures c.in_ok-passes_of.ensures many in
+    let back = rows_back c.len-number.result (length turns) (map (λ d. d.hand.passes.items) ds) (map (λ row. row.items) c.in_ok-left.left.rows.items)
+    rows c.in_ok-passes_of.field-0.items (map (λ d. d.pass) desks) c.in_ok-left.ensures.rows c.in_ok-add_column.ensures c.in_ok-passes_of.ensures
+    many in
     let counts = passes_of_all (c.args.handlers + 1) c.args.tables.items turns c.in_ok-turns.ensures.turns in
     full_rows g.T.Seated g.T.Noted.setting at picks made number turns c.args.handlers ds desks c.args.handlers r0 r1 rows done c.work-dones.ensures.ticks back counts
 
@@ -75,10 +84,13 @@ returns-clause-setting g c =
     let rows = map (λ row. row.items) c.add_column.new.rows.items in
     let r0 = g.C.Clock.readings c.args.clock.now in
     let r1 = g.C.Clock.readings c.work-dones.new.clock in
-    let back = rows_back c.len-number.result (length turns) (map (λ d. d.hand.passes.items) ds) (map (λ row. row.items) c.in_ok-left.left.rows.items) rows c.in_ok-passes_of.field-0.items (map (λ d. d.pass) desks) c.in_ok-left.ensures.rows c.in_ok-add_column.ensures c.in_ok-passes_of.ensures many in
+    let back = rows_back c.len-number.result (length turns) (map (λ d. d.hand.passes.items) ds) (map (λ row. row.items) c.in_ok-left.left.rows.items)
+    rows c.in_ok-passes_of.field-0.items (map (λ d. d.pass) desks) c.in_ok-left.ensures.rows c.in_ok-add_column.ensures c.in_ok-passes_of.ensures
+    many in
     let counts = passes_of_all (c.args.handlers + 1) c.args.tables.items turns c.in_ok-turns.ensures.turns in
     let table = g.met.T.SharedGame g.world.𝓛 g.world.𝓜 g.world.𝓡 ((λ s x. x), (λ x. x), (λ x. x), λ x. x) in
-    setting_all g.T.Seated g.T.Noted.setting at picks made number turns (c.args.handlers + 1) c.args.tables.items c.in_ok-close_all.field-0.items rows c.in_ok-turns.ensures.turns table.same_setting back.many_are c.in_ok-close_all.ensures
+    setting_all g.T.Seated g.T.Noted.setting at picks made number turns (c.args.handlers + 1) c.args.tables.items c.in_ok-close_all.field-0.items rows
+    c.in_ok-turns.ensures.turns table.same_setting back.many_are c.in_ok-close_all.ensures
 
 pub returns-clause-legal : goal.returns-clause-legal
 returns-clause-legal g c =
@@ -94,10 +106,13 @@ returns-clause-legal g c =
     let rows = map (λ row. row.items) c.add_column.new.rows.items in
     let r0 = g.C.Clock.readings c.args.clock.now in
     let r1 = g.C.Clock.readings c.work-dones.new.clock in
-    let back = rows_back c.len-number.result (length turns) (map (λ d. d.hand.passes.items) ds) (map (λ row. row.items) c.in_ok-left.left.rows.items) rows c.in_ok-passes_of.field-0.items (map (λ d. d.pass) desks) c.in_ok-left.ensures.rows c.in_ok-add_column.ensures c.in_ok-passes_of.ensures many in
+    let back = rows_back c.len-number.result (length turns) (map (λ d. d.hand.passes.items) ds) (map (λ row. row.items) c.in_ok-left.left.rows.items)
+    rows c.in_ok-passes_of.field-0.items (map (λ d. d.pass) desks) c.in_ok-left.ensures.rows c.in_ok-add_column.ensures c.in_ok-passes_of.ensures
+    many in
     let counts = passes_of_all (c.args.handlers + 1) c.args.tables.items turns c.in_ok-turns.ensures.turns in
     let laws = g.met.T.Seated g.world.𝓛 g.world.𝓜 g.world.𝓡 ((λ s x. x), (λ x. x), (λ x. x), λ x. x) in
-    legal_all g.T.Seated g.T.Noted.setting at picks made number turns laws.legal_before laws.stays c.args.handlers ds desks r0 r1 rows c.in_ok-close_all.field-0.items done c.in_ok-left.ensures.memory c.work-dones.ensures.ticks back counts c.in_ok-close_all.ensures
+    legal_all g.T.Seated g.T.Noted.setting at picks made number turns laws.legal_before laws.stays c.args.handlers ds desks r0 r1 rows
+    c.in_ok-close_all.field-0.items done c.in_ok-left.ensures.memory c.work-dones.ensures.ticks back counts c.in_ok-close_all.ensures
 
 pub returns-clause-played : goal.returns-clause-played
 returns-clause-played g c =
@@ -113,11 +128,17 @@ returns-clause-played g c =
     let rows = map (λ row. row.items) c.add_column.new.rows.items in
     let r0 = g.C.Clock.readings c.args.clock.now in
     let r1 = g.C.Clock.readings c.work-dones.new.clock in
-    let back = rows_back c.len-number.result (length turns) (map (λ d. d.hand.passes.items) ds) (map (λ row. row.items) c.in_ok-left.left.rows.items) rows c.in_ok-passes_of.field-0.items (map (λ d. d.pass) desks) c.in_ok-left.ensures.rows c.in_ok-add_column.ensures c.in_ok-passes_of.ensures many in
+    let back = rows_back c.len-number.result (length turns) (map (λ d. d.hand.passes.items) ds) (map (λ row. row.items) c.in_ok-left.left.rows.items)
+    rows c.in_ok-passes_of.field-0.items (map (λ d. d.pass) desks) c.in_ok-left.ensures.rows c.in_ok-add_column.ensures c.in_ok-passes_of.ensures
+    many in
     let counts = passes_of_all (c.args.handlers + 1) c.args.tables.items turns c.in_ok-turns.ensures.turns in
     let laws = g.met.T.Seated g.world.𝓛 g.world.𝓜 g.world.𝓡 ((λ s x. x), (λ x. x), (λ x. x), λ x. x) in
-    λ t table ex. subst (λ l. IsPlayedBy (g.T.Seated.after (g.T.Seated.setting table)) g.T.Seated.reads g.T.Seated.joins (sits_at picks t (g.T.Seated.sits (g.T.Seated.setting table))) (g.T.Seated.hears (g.T.Seated.setting table)) g.T.Seated.says at c.args.handlers (g.T.Seated.history table) (sessions_at t l) r0 r1) (sym c.in_ok-left.ensures.sessions)
-    (played_all g.T.Seated g.T.Noted.setting at picks made number turns laws.legal_before laws.stays c.args.handlers ds desks r0 r1 rows c.in_ok-close_all.field-0.items done c.in_ok-left.ensures.memory c.work-dones.ensures.ticks back counts c.in_ok-close_all.ensures laws.ended laws.others laws.answers laws.leaves t table ex)
+    λ t table ex. subst (λ l. IsPlayedBy (g.T.Seated.after (g.T.Seated.setting table)) g.T.Seated.reads g.T.Seated.joins
+    (sits_at picks t (g.T.Seated.sits (g.T.Seated.setting table))) (g.T.Seated.hears (g.T.Seated.setting table)) g.T.Seated.says at
+    c.args.handlers (g.T.Seated.history table) (sessions_at t l) r0 r1) (sym c.in_ok-left.ensures.sessions)
+    (played_all g.T.Seated g.T.Noted.setting at picks made number turns laws.legal_before laws.stays c.args.handlers ds desks r0 r1 rows
+    c.in_ok-close_all.field-0.items done c.in_ok-left.ensures.memory c.work-dones.ensures.ticks back counts c.in_ok-close_all.ensures laws.ended
+    laws.others laws.answers laws.leaves t table ex)
 
 pub returns-clause-rooms : goal.returns-clause-rooms
 returns-clause-rooms g c =
@@ -129,7 +150,9 @@ returns-clause-rooms g c =
     let number = g.T.Fault.Numbered.number in
     let ds = c.work-dones.result.0.items in
     let done = subst (λ n. AllDoneBy g.T.Seated g.T.Noted.setting at picks made number turns n ds) c.in_ok-columns_for.ensures.many c.work-dones.ensures.done in
-    subst (λ l. All (λ s. s.table < length c.args.tables.items) l) (sym c.in_ok-left.ensures.sessions) (subst (λ n. All (λ s. s.table < n) (flat_map (λ d. d.hand.sessions.items) ds)) c.in_ok-turns.ensures.turns.many (tables_all g.T.Seated g.T.Noted.setting at picks made number turns c.args.handlers ds done))
+    subst (λ l. All (λ s. s.table < length c.args.tables.items) l) (sym c.in_ok-left.ensures.sessions)
+    (subst (λ n. All (λ s. s.table < n) (flat_map (λ d. d.hand.sessions.items) ds)) c.in_ok-turns.ensures.turns.many
+    (tables_all g.T.Seated g.T.Noted.setting at picks made number turns c.args.handlers ds done))
 
 pub returns-clause-ends : goal.returns-clause-ends
 returns-clause-ends g c =
@@ -145,7 +168,12 @@ returns-clause-ends g c =
     let rows = map (λ row. row.items) c.add_column.new.rows.items in
     let r0 = g.C.Clock.readings c.args.clock.now in
     let r1 = g.C.Clock.readings c.work-dones.new.clock in
-    let back = rows_back c.len-number.result (length turns) (map (λ d. d.hand.passes.items) ds) (map (λ row. row.items) c.in_ok-left.left.rows.items) rows c.in_ok-passes_of.field-0.items (map (λ d. d.pass) desks) c.in_ok-left.ensures.rows c.in_ok-add_column.ensures c.in_ok-passes_of.ensures many in
+    let back = rows_back c.len-number.result (length turns) (map (λ d. d.hand.passes.items) ds) (map (λ row. row.items) c.in_ok-left.left.rows.items)
+    rows c.in_ok-passes_of.field-0.items (map (λ d. d.pass) desks) c.in_ok-left.ensures.rows c.in_ok-add_column.ensures c.in_ok-passes_of.ensures
+    many in
     let counts = passes_of_all (c.args.handlers + 1) c.args.tables.items turns c.in_ok-turns.ensures.turns in
     let laws = g.met.T.Seated g.world.𝓛 g.world.𝓜 g.world.𝓡 ((λ s x. x), (λ x. x), (λ x. x), λ x. x) in
-    subst (λ l. AllEndWith (All (λ x. (g.T.Seated.after (g.T.Seated.setting x) (g.T.Seated.history x)).over ≡ true) c.in_ok-close_all.field-0.items) made number c.args.handlers l) (sym c.in_ok-left.ensures.ends) (ends_are g.T.Seated g.T.Noted.setting at picks made number turns laws.legal_before laws.stays c.args.handlers ds desks r0 r1 rows c.in_ok-close_all.field-0.items done c.in_ok-left.ensures.memory c.work-dones.ensures.ticks back counts c.in_ok-close_all.ensures)
+    subst (λ l. AllEndWith (All (λ x. (g.T.Seated.after (g.T.Seated.setting x) (g.T.Seated.history x)).over ≡ true) c.in_ok-close_all.field-0.items)
+    made number c.args.handlers l) (sym c.in_ok-left.ensures.ends) (ends_are g.T.Seated g.T.Noted.setting at picks made number turns
+    laws.legal_before laws.stays c.args.handlers ds desks r0 r1 rows c.in_ok-close_all.field-0.items done c.in_ok-left.ensures.memory
+    c.work-dones.ensures.ticks back counts c.in_ok-close_all.ensures)

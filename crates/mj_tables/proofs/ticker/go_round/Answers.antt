@@ -27,5 +27,7 @@ loop-t-preserved g c =
       many = length-set _ _ _ ∙ c.loop-t.invariant.many;
       idle = desks_idle_set _ _ _ c.loop-t.t _ _ near c.index.ensures c.visit-ended.ensures.idle c.loop-t.invariant.idle;
       ticks = λ by start read next more h.
-          visited_more g.T.Noted.setting by start read next c.loop-t.t c.args.turns.now.items c.loop-t.desks.items _ _ _ near c.loop-t.invariant.many c.index.ensures c.index_mut.ensures.value (c.visit-ended.ensures.ticks by start read next more) (c.loop-t.invariant.ticks by start read next more h);
+          visited_more g.T.Noted.setting by start read next c.loop-t.t c.args.turns.now.items c.loop-t.desks.items _ _ _ near c.loop-t.invariant.many
+          c.index.ensures c.index_mut.ensures.value (c.visit-ended.ensures.ticks by start read next more)
+          (c.loop-t.invariant.ticks by start read next more h);
     }

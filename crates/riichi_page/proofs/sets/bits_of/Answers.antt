@@ -16,7 +16,8 @@ loop-number-preserved c =
       | then-has w ↦ record {
         gathered = one_more c.loop-number.bits c.if-has.bits c.loop-number.number c.loop-number.number (has_kind c.args.kinds) c.loop-number.invariant.gathered refl
             (w.bits-is ∙ w.with_bit-bits.ensures) (told ∙ w.if-has.true);
-        small = subst (λ n. n < 2 ^ 34) (sym (w.bits-is ∙ w.with_bit-bits.ensures)) (with_kind-within c.loop-number.bits c.loop-number.number c.loop-number.invariant.small (omega (arith, c.loop-number-test.true)));
+        small = subst (λ n. n < 2 ^ 34) (sym (w.bits-is ∙ w.with_bit-bits.ensures)) (with_kind-within c.loop-number.bits c.loop-number.number
+            c.loop-number.invariant.small (omega (arith, c.loop-number-test.true)));
       }
       | else-has w ↦ record {
         gathered = none_more c.loop-number.bits c.if-has.bits c.loop-number.number (has_kind c.args.kinds) c.loop-number.invariant.gathered w.bits-is (told ∙ w.if-has.false);

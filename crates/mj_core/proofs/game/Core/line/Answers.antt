@@ -12,4 +12,5 @@ returns c =
     rw (← c.self.view_is)
     (kept-line c.self.inside.setting.rules (after c.self.inside.setting c.self.inside.entries.items).deeds c.args.seat c.args.k c.line.result (c.line.ensures
     ∙ ap (λ (rules : Rules). slice_get (lines_for rules c.args.seat c.self.inside.state.deeds) c.args.k) c.self.invariant.rules
-    ∙ ap (λ (ds : List Deed). slice_get (lines_for c.self.inside.setting.rules c.args.seat ds) c.args.k) (kept-deeds c.self.inside.setting c.self.inside.entries.items c.self.inside.state c.self.invariant)))
+    ∙ ap (λ (ds : List Deed). slice_get (lines_for c.self.inside.setting.rules c.args.seat ds) c.args.k)
+    (kept-deeds c.self.inside.setting c.self.inside.entries.items c.self.inside.state c.self.invariant)))

@@ -7,17 +7,20 @@ use Rattle.mj_core.proofs.game.Core.may_say.Goals as goal
 pub returns-then-is_present-clause-asked : goal.returns-then-is_present-clause-asked
 returns-then-is_present-clause-asked c =
     rw (← c.self.view_is)
-    (asked-here _ _ c.self.inside.state c.args.seat c.in-Some.held.now _ _ c.self.invariant c.in-Some.ensures (sym c.is_present.ensures ∙ c.if-is_present.true) c.due.ensures (ap (λ (ds : List Deed). length ds) c.deeds.ensures))
+    (asked-here _ _ c.self.inside.state c.args.seat c.in-Some.held.now _ _ c.self.invariant c.in-Some.ensures (sym c.is_present.ensures
+    ∙ c.if-is_present.true) c.due.ensures (ap (λ (ds : List Deed). length ds) c.deeds.ensures))
 
 pub returns-then-is_present-clause-by_author : goal.returns-then-is_present-clause-by_author
 returns-then-is_present-clause-by_author c =
     rw (← c.self.view_is)
     (asked-may (game c.self.inside.setting c.self.inside.entries.items) c.args.seat _
-    (asked-here _ _ c.self.inside.state c.args.seat c.in-Some.held.now _ _ c.self.invariant c.in-Some.ensures (sym c.is_present.ensures ∙ c.if-is_present.true) c.due.ensures (ap (λ (ds : List Deed). length ds) c.deeds.ensures)))
+    (asked-here _ _ c.self.inside.state c.args.seat c.in-Some.held.now _ _ c.self.invariant c.in-Some.ensures (sym c.is_present.ensures
+    ∙ c.if-is_present.true) c.due.ensures (ap (λ (ds : List Deed). length ds) c.deeds.ensures)))
 
 pub returns-else-is_present-clause-asked : goal.returns-else-is_present-clause-asked
 returns-else-is_present-clause-asked c =
-    rw (← c.self.view_is) (c.if-is_present.false ∙ asked-away _ _ c.self.inside.state c.args.seat c.in-Some.held.now c.self.invariant c.in-Some.ensures (sym c.is_present.ensures ∙ c.if-is_present.false))
+    rw (← c.self.view_is) (c.if-is_present.false ∙ asked-away _ _ c.self.inside.state c.args.seat c.in-Some.held.now c.self.invariant
+    c.in-Some.ensures (sym c.is_present.ensures ∙ c.if-is_present.false))
 
 pub returns-in-None-clause-asked : goal.returns-in-None-clause-asked
 returns-in-None-clause-asked c = rw (← c.self.view_is) (asked-none _ _ c.self.inside.state c.args.seat c.self.invariant c.in-None.ensures)

@@ -14,4 +14,5 @@ invariant_of-self-in-Ok c =
 pub returns-in-Ok : goal.returns-in-Ok
 returns-in-Ok c =
     rw (← c.self.view_is)
-    (back-entered _ c.self.inside.entries.items _ c.args.author c.args.seat c.args.join.now (rw (← c.self.view_is) at c.requires.placing) (rw (c.reserve.ensures.items, c.back.ensures) at c.push_reserved.ensures.items))
+    (back-entered _ c.self.inside.entries.items _ c.args.author c.args.seat c.args.join.now (rw (← c.self.view_is) at c.requires.placing)
+    (rw (c.reserve.ensures.items, c.back.ensures) at c.push_reserved.ensures.items))

@@ -14,4 +14,5 @@ invariant_of-self-in-Ok-take_seat c =
 pub returns-in-Ok-take_seat : goal.returns-in-Ok-take_seat
 returns-in-Ok-take_seat c =
     rw (← c.self.view_is)
-    (sat-entered _ c.self.inside.entries.items _ c.args.author c.args.seat c.args.join.now (rw (← c.self.view_is) at c.requires.placing) (rw (c.reserve.ensures.items, c.in-Ok.ensures) at c.push_reserved.ensures.items))
+    (sat-entered _ c.self.inside.entries.items _ c.args.author c.args.seat c.args.join.now (rw (← c.self.view_is) at c.requires.placing)
+    (rw (c.reserve.ensures.items, c.in-Ok.ensures) at c.push_reserved.ensures.items))

@@ -12,7 +12,8 @@ use Rattle.mj_core.proofs.state.State.advance.Goals as goal
 pub catch_up-requires : goal.catch_up-requires
 catch_up-requires c =
     rw (c.deref_mut.ensures.value, c.deref-2.ensures)
-    (can_catch_up c.args.setting.now.rules c.args.setting.now.walls c.self.inside.is_behind c.self.inside.spare.value c.self.inside.table.value c.self.inside.deeds.items _ c.requires.ground.some c.requires.ground.whole
+    (can_catch_up c.args.setting.now.rules c.args.setting.now.walls c.self.inside.is_behind c.self.inside.spare.value c.self.inside.table.value
+    c.self.inside.deeds.items _ c.requires.ground.some c.requires.ground.whole
     (rw (← c.self.view_is) at c.requires.ground.rules) c.self.invariant.same c.self.invariant.follows (rw (← c.self.view_is) at c.requires.may.played)
     (c.last-newest.ensures.value ∙ ap newest (c.as_slice.ensures.value ∙ c.reserve.ensures.items)))
 

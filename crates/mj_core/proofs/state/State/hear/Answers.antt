@@ -46,7 +46,8 @@ settle_closing-requires-clause-present c =
 pub settle_here-requires : goal.settle_here-requires
 settle_here-requires c =
     rw (← c.self.view_is)
-    (hear-settles c.args.setting.now (the_view c.self.inside) c.self.inside.table.value.deeds c.args.seat c.from.result c.len.result c.args.answer.now c.index.result.now c.go_on.new.self (verdict_given c.verdict-verdict.result) c.self.inside.desk c.slots_after-window.result
+    (hear-settles c.args.setting.now (the_view c.self.inside) c.self.inside.table.value.deeds c.args.seat c.from.result c.len.result c.args.answer.now
+    c.index.result.now c.go_on.new.self (verdict_given c.verdict-verdict.result) c.self.inside.desk c.slots_after-window.result
     (record {
       can = rw (← c.self.view_is) at c.requires;
       told_is = c.self.invariant.same;
@@ -66,7 +67,9 @@ settle_here-requires c =
 pub returns-then-not-is_closing-clause-ok : goal.returns-then-not-is_closing-clause-ok
 returns-then-not-is_closing-clause-ok c =
     rw (← c.self.view_is)
-    (hear-hears c.args.setting.now (the_view c.self.inside) c.settle_here.new.self c.self.inside.table.value.deeds c.args.seat c.from.result c.len.result c.args.answer.now c.index.result.now c.go_on.new.self (verdict_given c.verdict-verdict.result) c.self.inside.desk c.slots_after-window.result
+    (hear-hears c.args.setting.now (the_view c.self.inside) c.settle_here.new.self c.self.inside.table.value.deeds c.args.seat c.from.result
+    c.len.result c.args.answer.now c.index.result.now c.go_on.new.self (verdict_given c.verdict-verdict.result) c.self.inside.desk
+    c.slots_after-window.result
     (record {
       can = rw (← c.self.view_is) at c.requires;
       told_is = c.self.invariant.same;
@@ -87,7 +90,9 @@ returns-then-not-is_closing-clause-ok c =
 pub settle_closing-requires-clause-can : goal.settle_closing-requires-clause-can
 settle_closing-requires-clause-can c =
     rw (← c.self.view_is)
-    (hear-settles c.args.setting.now (the_view c.self.inside) c.self.inside.table.value.deeds c.args.seat c.from.result c.len.result c.args.answer.now c.index.result.now c.go_on.new.self (verdict_given c.verdict-verdict.result) (desk_after (verdict_given c.verdict-verdict.result) c.self.inside.desk c.args.seat) c.slots_after-window.result
+    (hear-settles c.args.setting.now (the_view c.self.inside) c.self.inside.table.value.deeds c.args.seat c.from.result c.len.result c.args.answer.now
+    c.index.result.now c.go_on.new.self (verdict_given c.verdict-verdict.result) (desk_after (verdict_given c.verdict-verdict.result)
+    c.self.inside.desk c.args.seat) c.slots_after-window.result
     (record {
       can = rw (← c.self.view_is) at c.requires;
       told_is = c.self.invariant.same;
@@ -107,7 +112,9 @@ settle_closing-requires-clause-can c =
 pub returns-clause-ok : goal.returns-clause-ok
 returns-clause-ok c =
     rw (← c.self.view_is)
-    (hear-hears c.args.setting.now (the_view c.self.inside) c.settle_closing.new.self c.self.inside.table.value.deeds c.args.seat c.from.result c.len.result c.args.answer.now c.index.result.now c.go_on.new.self (verdict_given c.verdict-verdict.result) (desk_after (verdict_given c.verdict-verdict.result) c.self.inside.desk c.args.seat) c.slots_after-window.result
+    (hear-hears c.args.setting.now (the_view c.self.inside) c.settle_closing.new.self c.self.inside.table.value.deeds c.args.seat c.from.result
+    c.len.result c.args.answer.now c.index.result.now c.go_on.new.self (verdict_given c.verdict-verdict.result)
+    (desk_after (verdict_given c.verdict-verdict.result) c.self.inside.desk c.args.seat) c.slots_after-window.result
     (record {
       can = rw (← c.self.view_is) at c.requires;
       told_is = c.self.invariant.same;

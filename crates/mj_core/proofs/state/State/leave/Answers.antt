@@ -9,7 +9,8 @@ leave-requires c = present-at-desk (the_view c.self.inside) c.args.seat c.self.i
 
 pub index-requires : goal.index-requires
 index-requires c =
-    place-within c.from.result c.args.seat _ _ (present-within (the_view c.self.inside) c.args.seat c.self.invariant.seated (rw (← c.self.view_is) at c.requires.present)) c.from.ensures c.self.inside.chairs.ok.0
+    place-within c.from.result c.args.seat _ _ (present-within (the_view c.self.inside) c.args.seat c.self.invariant.seated
+    (rw (← c.self.view_is) at c.requires.present)) c.from.ensures c.self.inside.chairs.ok.0
 
 pub settle-requires : goal.settle-requires
 settle-requires c =

@@ -7,7 +7,8 @@ use Rattle.mj_core.proofs.state.State.settle.Goals as goal
 pub returns-then-is_closed-clause-ok : goal.returns-then-is_closed-clause-ok
 returns-then-is_closed-clause-ok c =
     rw (c.new-self-inside.ensures, ← c.self.view_is)
-    (settled c.args.setting.now (the_view c.self.inside) (the_view c.self-then-is_closed.inside) c.args.seat c.from.result c.args.desk.now c.args.chair c.args.window.now (rw (← c.self.view_is) at c.requires) c.self.invariant.seated.many c.from.ensures
+    (settled c.args.setting.now (the_view c.self.inside) (the_view c.self-then-is_closed.inside) c.args.seat c.from.result c.args.desk.now
+    c.args.chair c.args.window.now (rw (← c.self.view_is) at c.requires) c.self.invariant.seated.many c.from.ensures
     (sym (rw (← c.self.view_is) at c.is_closed.ensures) ∙ c.if-is_closed.true) (rw (← c.self.view_is, ← c.self-then-is_closed.view_is) at c.in_ok-advance.ensures.ok))
 
 pub returns-clause-ok : goal.returns-clause-ok

@@ -33,7 +33,8 @@ invariant_of-self-then-held-eq4 c =
           c.in_ok-list_possible.ensures c.in_ok-push_alone.ensures.ok
           ∙ ap (λ (r : Rules). lines_of_all r c.push_reserved.new.self.items) (ap (λ (p : Play). p.rules) c.deref-then-held-eq4.ensures ∙ sym (ap (λ b. b.value.rules) c.swap.ensures.x_after));
       seated = takes-seated c.self.inside.deeds.items c.self.inside.desk c.sit.new.self c.self.inside.chairs.items c.push_reserved-then-held-eq4.new.self.items c.args.author c.args.join.now
-          (takes (the_view c.self.inside) c.args.author c.args.join.now c.sit.result c.sit.new.self c.push_reserved-then-held-eq4.new.self.items (rw (← c.self.view_is) at c.requires) c.self.invariant.seated c.sit.ensures.answer c.sit.ensures.desk
+          (takes (the_view c.self.inside) c.args.author c.args.join.now c.sit.result c.sit.new.self c.push_reserved-then-held-eq4.new.self.items
+          (rw (← c.self.view_is) at c.requires) c.self.invariant.seated c.sit.ensures.answer c.sit.ensures.desk
           (rw (c.reserve-2.ensures.items, c.new.ensures) at c.push_reserved-then-held-eq4.ensures.items));
       follows = tt;
     }
@@ -41,17 +42,20 @@ invariant_of-self-then-held-eq4 c =
 pub returns-then-held-eq4-clause-ok : goal.returns-then-held-eq4-clause-ok
 returns-then-held-eq4-clause-ok c =
     rw (c.push_reserved.ensures.items, c.reserve.ensures.items, c.new-self-inside.ensures, ← c.self.view_is)
-    (seat-starts c.self.inside.table.value.rules c.swap.new.x.value.rules c.self.inside.deeds.items c.self.inside.desk c.sit.new.self c.self.inside.chairs.items c.push_reserved-then-held-eq4.new.self.items c.self.inside.window c.args.author c.held.result
+    (seat-starts c.self.inside.table.value.rules c.swap.new.x.value.rules c.self.inside.deeds.items c.self.inside.desk c.sit.new.self
+    c.self.inside.chairs.items c.push_reserved-then-held-eq4.new.self.items c.self.inside.window c.args.author c.held.result
     c.args.join.now c.in_ok-seated.seated
     (ap (λ b. b.value.rules) c.swap.ensures.x_after ∙ ap (λ (p : Play). p.rules) c.in_ok-push.ensures.ok
     ∙ ap (λ (p : Play). p.rules) (c.deref_mut-then-held-eq4.ensures.value ∙ c.in_ok-copy_over.ensures.ok ∙ c.deref.ensures))
-    (takes (the_view c.self.inside) c.args.author c.args.join.now c.sit.result c.sit.new.self c.push_reserved-then-held-eq4.new.self.items (rw (← c.self.view_is) at c.requires) c.self.invariant.seated c.sit.ensures.answer c.sit.ensures.desk
+    (takes (the_view c.self.inside) c.args.author c.args.join.now c.sit.result c.sit.new.self c.push_reserved-then-held-eq4.new.self.items
+    (rw (← c.self.view_is) at c.requires) c.self.invariant.seated c.sit.ensures.answer c.sit.ensures.desk
     (rw (c.reserve-2.ensures.items, c.new.ensures) at c.push_reserved-then-held-eq4.ensures.items))
     c.held.ensures.number c.if-held-eq4.true
     (c.in_ok-seated.ensures ∙ c.names.ensures
     ∙ names-at-desk c.sit.new.self c.push_reserved-then-held-eq4.new.self.items
     (takes-seated c.self.inside.deeds.items c.self.inside.desk c.sit.new.self c.self.inside.chairs.items c.push_reserved-then-held-eq4.new.self.items c.args.author c.args.join.now
-    (takes (the_view c.self.inside) c.args.author c.args.join.now c.sit.result c.sit.new.self c.push_reserved-then-held-eq4.new.self.items (rw (← c.self.view_is) at c.requires) c.self.invariant.seated c.sit.ensures.answer c.sit.ensures.desk
+    (takes (the_view c.self.inside) c.args.author c.args.join.now c.sit.result c.sit.new.self c.push_reserved-then-held-eq4.new.self.items
+    (rw (← c.self.view_is) at c.requires) c.self.invariant.seated c.sit.ensures.answer c.sit.ensures.desk
     (rw (c.reserve-2.ensures.items, c.new.ensures) at c.push_reserved-then-held-eq4.ensures.items)))))
 
 pub invariant_of-self-2 : goal.invariant_of-self-2
@@ -59,7 +63,8 @@ invariant_of-self-2 c = record {
   same = c.self.invariant.same ∙ sym c.reserve.ensures.items;
   lines = c.self.invariant.lines ∙ ap (lines_of_all c.self.inside.table.value.rules) (sym c.reserve.ensures.items);
   seated = takes-seated c.self.inside.deeds.items c.self.inside.desk c.sit.new.self c.self.inside.chairs.items c.push_reserved-2.new.self.items c.args.author c.args.join.now
-      (takes (the_view c.self.inside) c.args.author c.args.join.now c.sit.result c.sit.new.self c.push_reserved-2.new.self.items (rw (← c.self.view_is) at c.requires) c.self.invariant.seated c.sit.ensures.answer c.sit.ensures.desk
+      (takes (the_view c.self.inside) c.args.author c.args.join.now c.sit.result c.sit.new.self c.push_reserved-2.new.self.items
+      (rw (← c.self.view_is) at c.requires) c.self.invariant.seated c.sit.ensures.answer c.sit.ensures.desk
       (rw (c.reserve-2.ensures.items, c.new-2.ensures) at c.push_reserved-2.ensures.items));
   follows = tt;
 }
@@ -67,8 +72,10 @@ invariant_of-self-2 c = record {
 pub returns-clause-ok : goal.returns-clause-ok
 returns-clause-ok c =
     rw (c.reserve.ensures.items, ← c.self.view_is)
-    (seat-waits c.self.inside.table.value.rules c.self.inside.deeds.items c.self.inside.desk c.sit.new.self c.self.inside.chairs.items c.push_reserved-2.new.self.items c.self.inside.window c.args.author c.held.result c.args.join.now
-    (takes (the_view c.self.inside) c.args.author c.args.join.now c.sit.result c.sit.new.self c.push_reserved-2.new.self.items (rw (← c.self.view_is) at c.requires) c.self.invariant.seated c.sit.ensures.answer c.sit.ensures.desk
+    (seat-waits c.self.inside.table.value.rules c.self.inside.deeds.items c.self.inside.desk c.sit.new.self c.self.inside.chairs.items
+    c.push_reserved-2.new.self.items c.self.inside.window c.args.author c.held.result c.args.join.now
+    (takes (the_view c.self.inside) c.args.author c.args.join.now c.sit.result c.sit.new.self c.push_reserved-2.new.self.items
+    (rw (← c.self.view_is) at c.requires) c.self.invariant.seated c.sit.ensures.answer c.sit.ensures.desk
     (rw (c.reserve-2.ensures.items, c.new-2.ensures) at c.push_reserved-2.ensures.items))
     c.held.ensures.number c.if-held-eq4.false)
 

@@ -10,7 +10,8 @@ invariant_of-self c = record {
   few = few-sitting c.sit-answer.result c.args.author c.args.self.now.core _ c.args.line.now c.sit-answer.ensures c.args.self.now.few;
   same = λ e.
       sitting-told c.args.self.now.seat c.args.self.now.core c.sit-answer.new.self c.args.self.now.told.items c.args.self.now.whole c.args.self.now.few c.args.self.now.same
-      c.sit-answer.result c.args.author c.args.line.now c.tell_sitting-done.new.told.items c.tell_sitting-done.result c.is_told-self.result c.sit-answer.ensures c.tell_sitting-done.ensures c.is_told-self.ensures e;
+      c.sit-answer.result c.args.author c.args.line.now c.tell_sitting-done.new.told.items c.tell_sitting-done.result c.is_told-self.result
+      c.sit-answer.ensures c.tell_sitting-done.ensures c.is_told-self.ensures e;
 }
 
 pub returns-clause-entries : goal.returns-clause-entries

@@ -33,7 +33,8 @@ pub returns-clause-told : goal.returns-clause-told
 returns-clause-told c =
     let goes_on : is_hand_start c.args.deed.now ≡ false = sym c.is_hand_start.ensures ∙ c.if-is_hand_start.false in
     let last : c.of_hand-last.result.now ≡ of_hand c.self.inside.count (line Record c.args.deed.now) = search rules in
-    let keeps = kept_next c.self.inside.past.items c.args.deed.now c.self.inside.kept.items c.of_hand-last.result.now c.self.inside.count c.one_more-number.result goes_on c.self.invariant c.one_more-number.ensures last in
+    let keeps = kept_next c.self.inside.past.items c.args.deed.now c.self.inside.kept.items c.of_hand-last.result.now c.self.inside.count
+    c.one_more-number.result goes_on c.self.invariant c.one_more-number.ensures last in
     let text : c.as_slice-4.result.now ≡ public_line c.args.deed.now ++ shown_at c.args.deed.now c.one_more-number.result (c.self.inside.kept.items ++ c.of_hand-last.result.now) =
     c.as_slice-4.ensures.value
     ∙ c.in_ok-push_shown.ensures.is

@@ -5,5 +5,6 @@ use Rattle.mj_table.proofs.few_tiles.FewTiles.push.Goals as goal
 
 pub returns : goal.returns
 returns c tiles few k =
-    lists_more c.args.self.now tiles (Some c.args.tile) c.counted-self.result true c.placed-self.result c.placed-self-2.result c.placed-self-3.result c.placed-self-4.result c.placed-self-5.result few k
+    lists_more c.args.self.now tiles (Some c.args.tile) c.counted-self.result true c.placed-self.result c.placed-self-2.result c.placed-self-3.result
+    c.placed-self-4.result c.placed-self-5.result few k
     refl c.counted-self.ensures.few c.placed-self.ensures c.placed-self-2.ensures c.placed-self-3.ensures c.placed-self-4.ensures c.placed-self-5.ensures

@@ -8,5 +8,6 @@ pub returns : goal.returns
 returns c =
     subst (λ (tiles : List ℕ). IfOk c.tiles_held.result (λ t. t ≡ tiles))
     (tiles_are (hand c.args.self.now.deeds) c.args.seat c.at.result.now
-    (told c.self.inside.rules c.self.inside.past.items c.args.self.now c.self.inside.held c.args.seat c.at.result.now c.requires c.self.invariant.fit c.self.invariant.concealed c.self.view_is c.at.ensures).1)
+    (told c.self.inside.rules c.self.inside.past.items c.args.self.now c.self.inside.held c.args.seat c.at.result.now c.requires c.self.invariant.fit
+    c.self.invariant.concealed c.self.view_is c.at.ensures).1)
     c.tiles_held.ensures

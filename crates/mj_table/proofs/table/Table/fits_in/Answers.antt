@@ -11,6 +11,7 @@ returns-then-is_hand_start c =
 
 pub returns : goal.returns
 returns c =
-    inside_told c.self.inside.rules c.self.inside.past.items c.args.self.now c.args.deed.now c.is_hand_start.result c.fits_in-2.result (hand c.self.inside.past.items) c.self.view_is c.is_hand_start.ensures
+    inside_told c.self.inside.rules c.self.inside.past.items c.args.self.now c.args.deed.now c.is_hand_start.result c.fits_in-2.result
+    (hand c.self.inside.past.items) c.self.view_is c.is_hand_start.ensures
     (ap (λ b. cond b [] (hand c.self.inside.past.items)) (sym c.if-is_hand_start.false))
     (c.fits_in-2.ensures (hand c.self.inside.past.items) c.self.invariant.concealed (few_in_hand c.self.inside.rules.red c.self.inside.past.items c.self.invariant.fit) c.self.invariant.facts)

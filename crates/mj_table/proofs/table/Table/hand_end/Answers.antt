@@ -13,5 +13,6 @@ kept-requires c = subst (λ (now : Standing). now.dealer ≤ 3) (sym c.self.inva
 
 pub returns : goal.returns
 returns c =
-    c.hand_end.ensures (hand c.args.self.now.deeds) (known_of c.self.inside.rules c.self.inside.past.items c.args.self.now c.self.inside.facts c.self.invariant.facts c.self.view_is).course.draw c.kept.ensures.won
+    c.hand_end.ensures (hand c.args.self.now.deeds) (known_of c.self.inside.rules c.self.inside.past.items c.args.self.now c.self.inside.facts
+    c.self.invariant.facts c.self.view_is).course.draw c.kept.ensures.won
     ∙ ap (λ (now : Standing). end_of (hand c.args.self.now.deeds) now.dealer) (c.self.invariant.standing ∙ ap (λ (play : Play). standing play.deeds) c.self.view_is)

@@ -10,8 +10,10 @@ overflow_add-result c = omega (arith, few_numbers c.self.inside.rules.red c.self
 
 pub returns-then-self : goal.returns-then-self
 returns-then-self c =
-    next_numbered c.args.self.now.deeds c.self.inside.facts.begun c.self.inside.standing (known_of c.self.inside.rules c.self.inside.past.items c.args.self.now c.self.inside.facts c.self.invariant.facts c.self.view_is).begun c.if-self.true
+    next_numbered c.args.self.now.deeds c.self.inside.facts.begun c.self.inside.standing (known_of c.self.inside.rules c.self.inside.past.items
+    c.args.self.now c.self.inside.facts c.self.invariant.facts c.self.view_is).begun c.if-self.true
     (c.self.invariant.standing ∙ ap (λ (p : Play). standing p.deeds) c.self.view_is)
 
 pub returns : goal.returns
-returns c = none_numbered c.args.self.now.deeds c.self.inside.facts.begun (known_of c.self.inside.rules c.self.inside.past.items c.args.self.now c.self.inside.facts c.self.invariant.facts c.self.view_is).begun c.if-self.false
+returns c = none_numbered c.args.self.now.deeds c.self.inside.facts.begun (known_of c.self.inside.rules c.self.inside.past.items c.args.self.now
+    c.self.inside.facts c.self.invariant.facts c.self.view_is).begun c.if-self.false

@@ -26,7 +26,8 @@ invariant_of-self-2 c =
     one
     (c.next_number-number.ensures ∙ ap (λ (p : Play). length (starts p.deeds)) (sym c.self.view_is))
     (λ seat low.
-    holds_more c.self.inside.rules.red c.self.inside.past.items c.args.deed.now seat (at_seat c.self.inside.held seat) (at_seat c.move_tiles.new.held seat) low c.self.invariant.fit one (c.self.invariant.concealed seat low)
+    holds_more c.self.inside.rules.red c.self.inside.past.items c.args.deed.now seat (at_seat c.self.inside.held seat)
+    (at_seat c.move_tiles.new.held seat) low c.self.invariant.fit one (c.self.invariant.concealed seat low)
     (c.move_tiles.ensures seat low))
     (facts_more c.self.inside.rules.red c.self.inside.past.items c.args.deed.now c.self.inside.facts c.learn.new.facts c.self.invariant.fit one c.learn.ensures c.self.invariant.facts))
     c.and-self-inside.ensures c.in_ok-add.ensures.last c.in_ok-add.ensures.beside c.stand.ensures c.points_after-self-inside.ensures

@@ -7,5 +7,7 @@ use Rattle.mj_table.proofs.table.Table.reason.Goals as goal
 
 pub returns : goal.returns
 returns c =
-    c.reason.ensures (hand c.args.self.now.deeds) (known_of c.self.inside.rules c.self.inside.past.items c.args.self.now c.self.inside.facts c.self.invariant.facts c.self.view_is).kans (known_of c.self.inside.rules c.self.inside.past.items c.args.self.now c.self.inside.facts c.self.invariant.facts c.self.view_is).course
+    c.reason.ensures (hand c.args.self.now.deeds) (known_of c.self.inside.rules c.self.inside.past.items c.args.self.now c.self.inside.facts
+    c.self.invariant.facts c.self.view_is).kans (known_of c.self.inside.rules c.self.inside.past.items c.args.self.now c.self.inside.facts
+    c.self.invariant.facts c.self.view_is).course
     ∙ ap (λ (play : Play). reason play.rules.draws (hand c.args.self.now.deeds)) c.self.view_is
