@@ -1,8 +1,8 @@
 #!/usr/bin/env bash
 # Makes what a run of the program asks the system for fail, one call at a time: each request for memory, each read and write, and
 # each read or write of several bytes, which then moves one alone; after the first 200 calls of a run ever fewer of them. Every
-# run has to answer: to end by itself with an exit code of the program's, 0 to 9, and with a front of what the run without a
-# failure writes. No part of the gate.
+# run has to answer: to end by itself with an exit code that its command may end with, 0, 2 to 7 or 9, and with a prefix of what the
+# run without a failure writes. No part of the gate.
 #
 # usage: fail-each.sh [PROGRAM]
 #
@@ -30,7 +30,7 @@ fail_one() {
 
 # Whether the run answered that has ended so.
 has_answered() {
-    [ "$1" -le 9 ] && cmp -s -n "$(stat -c %s "$folder/out")" "$folder/out" "$folder/whole"
+    [[ $1 = [02345679] ]] && cmp -s -n "$(stat -c %s "$folder/out")" "$folder/out" "$folder/whole"
 }
 
 # Lets the calls of one kind fail in turn, from the first to the last.
