@@ -20,13 +20,30 @@ const PASSES: &[u8] =
 
 const NOTHING: &[u8] = b"";
 
-// How many calls on the disk the opening of a new journal makes, and then each entry.
-const CALLS_OF_OPENING: usize = 8;
-
+// How many calls on the disk each entry makes: two writes, each with a sync behind it.
 const CALLS_OF_ENTRY: usize = 4;
 
 // The entries of the joins and of the passes.
 const ENTRIES: usize = 8;
+
+// Two runs over one journal, the second where the first one ended: how many entries stand before it, how many its arrivals make,
+// how many writes it makes, and the arrivals. Beside those of its entries the first run writes the first gate and the tag.
+const RUNS: [(usize, usize, usize, &[u8]); 2] = [(0, 4, 11, JOINS), (4, 4, 8, PASSES)];
+
+// Three joins, and a fourth with a key.
+const FOUR_JOINS: &[u8] =
+    b"sit {\"type\":\"join\",\"name\":\"a\"}\nsit {\"type\":\"join\",\"name\":\"b\"}\nsit {\"type\":\"join\",\"name\":\"c\"}\nsit {\"type\":\"join\",\"name\":\"k\",\"key\":\"k\"}\n";
+
+// A refused join, a line, a leave, a window that is not open, one that runs out, and a return.
+const EACH_ARRIVAL: &[u8] =
+    b"sit {}\nsay 0 {\"type\":\"none\"}\ngone 3\nexpire 7 0 1000\nexpire 0 5 1005\nsit {\"type\":\"join\",\"name\":\"k\",\"key\":\"k\"}\n";
+
+// The gate and the length of the first record, which holds the header and the wall, 415 bytes.
+const TAG: &[u8] = b"\x01\0\0\x01\x9fgame limit=1000 draws=0 red=0\nwall 1m";
+
+// The records of those of them that are entries: a gate, the length, and behind the author the arrival's line; and then the closed gate.
+const RECORDS: &[u8] =
+    b"\x01\0\0\0\x171 say 0 {\"type\":\"none\"}\x01\0\0\0\x081 gone 3\x01\0\0\0\x110 expire 0 5 1005\x01\0\0\0\x2a1 sit {\"type\":\"join\",\"name\":\"k\",\"key\":\"k\"}\0";
 
 // How a run ends, and what it writes.
 #[derive(Drop)]
@@ -225,58 +242,138 @@ fn each_tear_opens(
     Ok(hold)
 }
 
-// How many entries were acknowledged before a call on the disk.
-fn acknowledged(calls_before: usize) -> usize {
-    calls_before.saturating_sub(CALLS_OF_OPENING) / CALLS_OF_ENTRY
+// The calls of a run on a disk with these bytes, over a journal with so many entries, after so many calls of its opening.
+#[derive(Drop)]
+struct Course<'a> {
+    start: &'a [u8],
+    had: usize,
+    opening: usize,
+    calls: &'a [CallMade],
 }
 
-// Whether so at each write of these calls on a new disk.
-fn each_write_holds(alloc: Global, calls: &[CallMade]) -> Result<bool, AllocError> {
-    let mut hold = true;
-    let mut bytes = Vec::new(alloc);
-    for (before, call) in calls.iter().enumerate() {
-        if let DiskCall::Write { place, piece } = &call.what {
-            let place = *place as usize;
-            hold = hold
-                && each_tear_opens(alloc, bytes.as_slice(), place, piece, acknowledged(before))?;
-            if !call.failed {
-                let whole = Tear {
-                    before: bytes.as_slice(),
-                    place,
-                    piece,
-                    kept: piece.len(),
-                    from_end: false,
-                };
-                bytes = whole.image(alloc)?;
+impl Course<'_> {
+    // How many entries were acknowledged before a call on the disk.
+    fn acknowledged(&self, calls_before: usize) -> usize {
+        let entered = calls_before.saturating_sub(self.opening) / CALLS_OF_ENTRY;
+        self.had.saturating_add(entered)
+    }
+
+    // Whether each image that a crash may leave in one of the writes from this call on opens to what is acknowledged before it.
+    fn each_write_holds(&self, alloc: Global, from: usize) -> Result<bool, AllocError> {
+        let mut hold = true;
+        let mut bytes = self.start.to_vec(alloc)?;
+        for (before, call) in self.calls.iter().enumerate() {
+            if let DiskCall::Write { place, piece } = &call.what {
+                let place = *place as usize;
+                let tried = before >= from;
+                let entries = self.acknowledged(before);
+                hold = hold
+                    && (!tried || each_tear_opens(alloc, bytes.as_slice(), place, piece, entries)?);
+                if !call.failed {
+                    let whole = Tear {
+                        before: bytes.as_slice(),
+                        place,
+                        piece,
+                        kept: piece.len(),
+                        from_end: false,
+                    };
+                    bytes = whole.image(alloc)?;
+                }
             }
         }
+        Ok(hold)
     }
-    Ok(hold)
+}
+
+// How many of the calls are writes.
+fn writes(calls: &[CallMade]) -> usize {
+    let is_write = |call: &&CallMade| matches!(call.what, DiskCall::Write { .. });
+    calls.iter().filter(is_write).count()
+}
+
+// How many calls of a run are those of its opening, where it makes so many entries.
+fn calls_of_opening(calls: &[CallMade], entries: usize) -> usize {
+    calls
+        .len()
+        .saturating_sub(entries.saturating_mul(CALLS_OF_ENTRY))
 }
 
 #[test]
-fn a_stop_at_each_write_of_a_run_loses_nothing(rt: HostRuntime) -> Result<(), Fail> {
+fn a_stop_at_each_write_of_two_runs_loses_nothing(rt: HostRuntime) -> Result<(), Fail> {
     let alloc = rt.alloc();
-    let mut disk = disk_of(alloc, NOTHING)?;
-    let end = told_by(alloc, "keep", &[GAME, WALL, JOINS, PASSES], &mut disk)?;
-    assert!(rt; end.status == Status::Done);
-    assert!(rt; disk.calls().len() == CALLS_OF_OPENING + ENTRIES * CALLS_OF_ENTRY);
-    assert!(rt; each_write_holds(alloc, disk.calls())?);
-    assert!(rt; entries_of(alloc, disk.bytes())? == Some(ENTRIES));
+    let mut start = Vec::new(alloc);
+    for (had, made, written, arrivals) in RUNS {
+        let mut disk = disk_of(alloc, start.as_slice())?;
+        let end = told_by(alloc, "keep", &[GAME, WALL, arrivals], &mut disk)?;
+        assert!(rt; end.status == Status::Done && writes(disk.calls()) == written);
+        let course = Course {
+            start: start.as_slice(),
+            had,
+            opening: calls_of_opening(disk.calls(), made),
+            calls: disk.calls(),
+        };
+        assert!(rt; course.each_write_holds(alloc, 0)?);
+        start = disk.bytes().to_vec(alloc)?;
+        assert!(rt; entries_of(alloc, start.as_slice())? == Some(had + made));
+    }
+    Ok(())
+}
+
+// Whether a run on these bytes whose call of this number fails ends by that, writes nothing, and loses nothing, whatever a crash
+// then leaves of the last write.
+fn loses_nothing(
+    alloc: Global,
+    start: &[u8],
+    had: usize,
+    opening: usize,
+    number: usize,
+    arrivals: &[u8],
+) -> Result<bool, AllocError> {
+    let failing = [number as u64].to_vec(alloc)?;
+    let mut disk = MemDisk::new(start, failing)?;
+    let end = told_by(alloc, "keep", &[GAME, WALL, arrivals], &mut disk)?;
+    let faulted = end.status == Status::DiskFault && end.bytes.is_empty();
+    let course = Course {
+        start,
+        had,
+        opening,
+        calls: disk.calls(),
+    };
+    let before = number.saturating_sub(1);
+    Ok(
+        faulted
+            && disk.calls().len() == number
+            && opens_near(alloc, disk.bytes(), course.acknowledged(before))?
+            && course.each_write_holds(alloc, before.saturating_sub(1))?,
+    )
+}
+
+#[test]
+fn each_failing_call_of_two_runs_loses_nothing(rt: HostRuntime) -> Result<(), Fail> {
+    let alloc = rt.alloc();
+    let mut start = Vec::new(alloc);
+    for (had, made, _, arrivals) in RUNS {
+        let mut disk = disk_of(alloc, start.as_slice())?;
+        let end = told_by(alloc, "keep", &[GAME, WALL, arrivals], &mut disk)?;
+        assert!(rt; end.status == Status::Done);
+        let calls = disk.calls().len();
+        let opening = calls_of_opening(disk.calls(), made);
+        for number in 1..=calls {
+            assert!(rt; loses_nothing(alloc, start.as_slice(), had, opening, number, arrivals)?);
+        }
+        start = disk.bytes().to_vec(alloc)?;
+    }
     Ok(())
 }
 
 #[test]
-fn each_failing_call_of_a_run_loses_nothing(rt: HostRuntime) -> Result<(), Fail> {
+fn each_entry_is_a_record_of_these_bytes(rt: HostRuntime) -> Result<(), Fail> {
     let alloc = rt.alloc();
-    for number in 1..=CALLS_OF_OPENING + ENTRIES * CALLS_OF_ENTRY {
-        let mut failing = Vec::new(alloc);
-        failing.push(number as u64)?;
-        let mut disk = MemDisk::new(NOTHING, failing)?;
-        let end = told_by(alloc, "keep", &[GAME, WALL, JOINS, PASSES], &mut disk)?;
-        assert!(rt; end.status == Status::DiskFault && end.bytes.is_empty());
-        assert!(rt; disk.calls().len() == number);
-        assert!(rt; opens_near(alloc, disk.bytes(), acknowledged(number - 1))?);
-    }
+    let mut disk = disk_of(alloc, NOTHING)?;
+    let input = [GAME, WALL, FOUR_JOINS, EACH_ARRIVAL];
+    let end = told_by(alloc, "keep", &input, &mut disk)?;
+    assert!(rt; end.status == Status::Done && disk.bytes().ends_with(RECORDS));
+    assert!(rt; disk.bytes().starts_with(TAG));
+    assert!(rt; entries_of(alloc, disk.bytes())? == Some(ENTRIES));
     Ok(())
 }
