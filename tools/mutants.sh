@@ -4,15 +4,16 @@
 #
 # usage: mutants.sh [NAME..]
 #
-# Without a NAME all are tried. The second line of a patch says what catches it: modules of hand_tests or of play_tests. Those of
-# one test crate are built into one program: beside each crate that a patch changes stands its changed copy, with copies of the
-# crates and the test modules that use it. A line a patch says which test caught it; the exit code is 0 where each was caught.
+# Without a NAME all are tried. The second line of a patch says what catches it: modules of hand_tests or of play_tests, cases of
+# riichi_cases, or the records in such cases, which mj_replay has to take. Several are built into one program: beside each crate
+# that a patch changes stands its changed copy, with copies of the crates and the test modules that use it. A line a patch says
+# which test or case caught it; the exit code is 0 where each was caught.
 cd "$(dirname "$0")/.." || exit 2
 exec python3 - "$@" << 'END'
 import os, pathlib, re, shutil, subprocess, sys, tempfile
 
 HERE = pathlib.Path.cwd()
-AT_ONCE = {"hand_tests": 40, "play_tests": 7}
+AT_ONCE = {"hand_tests": 40, "play_tests": 7, "records": 7}
 
 
 def run(words, **how):
@@ -107,11 +108,44 @@ def only_needed(tests, mutants):
     return sorted(used)
 
 
+RECORD = """#[test]
+fn {name}(rt: HostRuntime) {{
+    assert!(rt; matches!(check(rt.alloc(), RECORDS[{place}].as_bytes()), Checked::Good(_)));
+}}
+"""
+
+
+def records_in(case):
+    """The records of a case that are taken."""
+    parts = [part.partition("\n") for part in case.rstrip("\n").split("\n-- ")[1:]]
+    pairs = zip(parts, parts[1:])
+    return [text + "\n" for (head, _, text), (then, _, _) in pairs if head == "input" and then == "replay"]
+
+
+def write_records(folder, mutants):
+    """A crate of tests that let mj_replay check the records of each mutant's cases."""
+    tests = folder / "crates/records"
+    (tests / "src").mkdir(parents=True)
+    for mutant in mutants:
+        texts, lines = [], ""
+        for case in mutant.by:
+            for record in records_in((folder / "crates/riichi_cases/data" / case).read_text()):
+                lines += "\n" + RECORD.format(name=f"{case}_{len(texts)}", place=len(texts))
+                texts.append('"' + record.replace("\\", "\\\\").replace('"', '\\"').replace("\n", "\\n") + '"')
+        head = f"use mj_replay::{{Checked, check}};\n\nconst RECORDS: [&str; {len(texts)}] = [{', '.join(texts)}];\n"
+        (tests / "src" / f"of_{mutant.mark}.rt").write_text(head + lines)
+        mutant.by = [f"of_{mutant.mark}"]
+    text = (folder / "crates.txt").read_text()
+    (folder / "crates.txt").write_text(text + "records: mj_replay\n")
+
+
 def try_together(mutants):
     with tempfile.TemporaryDirectory(prefix="mutants-") as folder:
         tree, changed = pathlib.Path(folder) / "tree", pathlib.Path(folder) / "changed"
         tree_at(tree)
         tree_at(changed)
+        if mutants[0].tests == "records":
+            write_records(tree, mutants)
         crates = crates_of(tree)
         tests = tree / "crates" / mutants[0].tests
         more = {}
@@ -134,10 +168,24 @@ def try_together(mutants):
         mutant.caught = re.findall(rf"(?m)^test ({mutant.mark}_\S+) \.\.\. FAILED", said)
 
 
+def try_cases(mutant):
+    with tempfile.TemporaryDirectory(prefix="mutants-") as folder:
+        tree = pathlib.Path(folder)
+        tree_at(tree)
+        patch(tree, mutant)
+        data = [word for case in mutant.by for word in ("--data", f"{case}=data/{case}")]
+        tried = run(["rt", "try", *data, "--", *mutant.by], cwd=tree / "crates/riichi_cases")
+    said = tried.stdout + tried.stderr
+    told = re.findall(r"(?m)^(\w+): (.*)$", tried.stdout)
+    if not {case for case, _ in told} & set(mutant.by):
+        sys.exit(f"{mutant.name}: not built: {said[-3000:]}")
+    mutant.caught = [case for case, verdict in told if case in mutant.by and verdict != "ok"]
+
+
 def say(mutants):
     for mutant in mutants:
         caught = "caught by " + ", ".join(mutant.caught) if mutant.caught else "NOT CAUGHT"
-        print(f"{mutant.name}: {re.sub(rf'{mutant.mark}_', '', caught)}", flush=True)
+        print(f"{mutant.name}: {re.sub(rf'{mutant.mark}_(of_{mutant.mark}::)?', '', caught)}", flush=True)
 
 
 names = sys.argv[1:]
@@ -152,6 +200,10 @@ for tests, most in AT_ONCE.items():
         part = group[first : first + most]
         try_together(part)
         say(part)
+for mutant in chosen:
+    if mutant.tests == "riichi_cases":
+        try_cases(mutant)
+        say([mutant])
 caught = sum(bool(mutant.caught) for mutant in chosen)
 print(f"{caught} of {len(chosen)} caught")
 sys.exit(caught != len(chosen))
