@@ -10,6 +10,9 @@ pub const NO_ROOM: &str = "{\"type\":\"error\",\"sit\":8,\"message\":\"NoRoom\"}
 /// What comes after the hello line for a seat that came back once the first deed was answered.
 pub const HEAD: &str = "{\"type\":\"replay\",\"count\":1}\n";
 
+/// How the line of a deed ends where a seat may only pass.
+pub const MAY_PASS: &str = ",\"possible_actions\":[{\"type\":\"none\"}]}\n";
+
 /// The first deed as seat 3 is told it.
 pub const START: &str =
     "{\"type\":\"start_game\",\"id\":3,\"names\":[\"a\",\"b\",\"c\",\"d\"],\"possible_actions\":[{\"type\":\"none\"}]}\n";

@@ -4,7 +4,7 @@ ghost use Rattle.std.specs.Prelude.{◌≡◌, IfOk};
 ghost use Rattle.mj_links.specs.FreshLinks.{IsFreshLink};
 
 use crate::handler_tests::host;
-use crate::lines::{HELLO, Part, bytes_of};
+use crate::lines::{HELLO, MAY_PASS, Part, bytes_of};
 use crate::meeting::{Meeting, MeetingHost, Sign};
 use crate::patient::{PatientClock, PatientHost};
 use crate::player::{A, B, C, D, KEY};
@@ -34,6 +34,15 @@ pub fn words_of(alloc: Global, texts: &[&str]) -> Result<Vec<String>, AllocError
     Ok(words)
 }
 
+/// Texts, and more of them, as the words of a command.
+pub fn words_and(alloc: Global, texts: &[&str], more: &[&str]) -> Result<Vec<String>, AllocError> {
+    let mut words = words_of(alloc, texts)?;
+    for text in more {
+        words.push(String::from_str(alloc, *text)?)?;
+    }
+    Ok(words)
+}
+
 // Serves one game over a host.
 fn serve<H: Host, K: Clock, R: Threads + Wait + Sync>(
     rt: &R,
@@ -42,7 +51,19 @@ fn serve<H: Host, K: Clock, R: Threads + Wait + Sync>(
     clock: &mut K,
     sink: &mut MemSink,
 ) -> Result<Status, AllocError> {
-    let words = words_of(alloc, &SERVE)?;
+    serve_with(rt, alloc, &[], host, clock, sink)
+}
+
+// Serves one game over a host, with these words more.
+fn serve_with<H: Host, K: Clock, R: Threads + Wait + Sync>(
+    rt: &R,
+    alloc: Global,
+    more: &[&str],
+    host: &mut H,
+    clock: &mut K,
+    sink: &mut MemSink,
+) -> Result<Status, AllocError> {
+    let words = words_and(alloc, &SERVE, more)?;
     let mut source = MemSource::new(Vec::new(alloc), Vec::new(alloc));
     let mut disk = MemDisk::new(b"", Vec::new(alloc))?;
     Ok(run(
@@ -70,7 +91,8 @@ pub fn is_good(alloc: Global, record: &[u8]) -> Result<bool, AllocError> {
     )
 }
 
-/// What the first deed tells after the seat, where a link holds the hello line and that of this deed alone.
+/// What the first deed tells after the seat, where a link holds the hello line and that of this deed alone, which may only be
+/// passed.
 pub fn names_told(link: &MemLink, place: u64) -> Option<&[u8]> {
     let start = link.written().strip_prefix(HELLO.as_bytes())?;
     let seat = start.strip_prefix(b"{\"type\":\"start_game\",\"id\":")?;
@@ -78,7 +100,10 @@ pub fn names_told(link: &MemLink, place: u64) -> Option<&[u8]> {
         return None;
     };
     let newline = names.iter().position(|byte| *byte == b'\n')?;
-    if u64::from(*digit) == place.saturating_add(48) && newline.saturating_add(1) == names.len() {
+    if u64::from(*digit) == place.saturating_add(48)
+        && newline.saturating_add(1) == names.len()
+        && names.ends_with(MAY_PASS.as_bytes())
+    {
         Some(names)
     } else {
         None
@@ -184,17 +209,18 @@ fn seven_workers_are_enough(rt: HostRuntime) -> Result<(), Fail> {
     Ok(())
 }
 
-// What is written by a host that serves nobody, whose `open` fails or whose accepts of these numbers do.
+// What is written under these words more by a host that serves nobody, whose `open` fails or whose accepts of these numbers do.
 fn written_without_players<R: Threads + Wait + Sync>(
     rt: &R,
     alloc: Global,
+    more: &[&str],
     open_fails: bool,
     accepts: &[u64],
 ) -> Result<MemSink, Fail> {
     let mut host = MemHost::new(Vec::new(alloc), open_fails, accepts.to_vec(alloc)?);
     let mut sink = MemSink::new(Vec::new(alloc));
     let mut clock = MemClock::new(0, 1000);
-    let status = serve(rt, alloc, &mut host, &mut clock, &mut sink)?;
+    let status = serve_with(rt, alloc, more, &mut host, &mut clock, &mut sink)?;
     if exit_code(&status) != 8
         || status_text(alloc, &status)?.as_slice() != b"host fault\n".as_slice()
     {
@@ -203,18 +229,39 @@ fn written_without_players<R: Threads + Wait + Sync>(
     Ok(sink)
 }
 
+/// The first wall of the seed, with red fives.
+const RED_WALL: &str =
+    "game limit=1000 draws=0 red=1\nwall 3s 1m 1m 1p 7s 6s C 3p 8s 4p 1p 9m 3m P 1m C 3p 4s 6m 7p 9p 3s 5m 3m 9m 2m 8s 2m 7p 7s 6m 5p 2s 9p 7p 2p 9p 8m 5m 4m 1m 7m 2s E 6m 4m W 9s 9s 8m 1s 4m 8m 5p 1p 7m 6p F 6s 9s 8p E P 2m 8p N 7m 6p 9p N 4s 3p 8s 1s E P 4p 3m 5sr 6p 2s 9m 4s 6s W F 6p S 4p 3p 5mr 8s S 7p 1s E F 2p 2p 5s 3s 9s W 2p 4s 5s N 2m 7m 5p C F 6m N 7s 4m 1s 9m 2s C 5m W 5s 7s 3m 3s 4p 5pr 1p 8p S 8m S 8p P 6s\n";
+
+// Words more, and how the record begins by them: its header, and of the first wall of the seed some tiles or all. A program of
+// the shuffle over the cipher as it is published, which is no part of this one, gives these walls.
+const LEFT: [(&[&str], &str); 3] = [
+    (
+        &[],
+        "game limit=1000 draws=0 red=0\nwall 3s 1m 1m 1p 7s 6s C 3p 8s 4p 1p 9m 3m P 1m ",
+    ),
+    (
+        &["--draws"],
+        "game limit=1000 draws=1 red=0\nwall 3s 1m 1m 1p ",
+    ),
+    (&["--red"], RED_WALL),
+];
+
 #[test]
 fn a_host_that_fails_everybody_leaves_the_walls(rt: HostRuntime) -> Result<(), Fail> {
     let alloc = rt.alloc();
-    let sink = written_without_players(&rt, alloc, false, &[1, 2, 3, 4, 5, 6, 7, 8])?;
-    let lines = sink.written().iter().filter(|byte| **byte == b'\n').count();
-    assert!(rt; lines == 201 && is_good(alloc, sink.written())?);
+    for (more, front) in LEFT {
+        let sink = written_without_players(&rt, alloc, more, false, &[1, 2, 3, 4, 5, 6, 7, 8])?;
+        let lines = sink.written().iter().filter(|byte| **byte == b'\n').count();
+        assert!(rt; lines == 201 && sink.written().starts_with(front.as_bytes()));
+        assert!(rt; is_good(alloc, sink.written())?);
+    }
     Ok(())
 }
 
 #[test]
 fn nothing_is_written_where_the_port_is_not_opened(rt: HostRuntime) -> Result<(), Fail> {
-    let sink = written_without_players(&rt, rt.alloc(), true, &[])?;
+    let sink = written_without_players(&rt, rt.alloc(), &[], true, &[])?;
     assert!(rt; sink.written().is_empty());
     Ok(())
 }

@@ -4,7 +4,7 @@ ghost use Rattle.std.specs.Prelude.{◌≡◌};
 
 use crate::handler_tests::host;
 use crate::meeting::{Meeting, MeetingHost, Sign};
-use crate::serving_tests::{is_ended, is_good, names_told, words_of};
+use crate::serving_tests::{is_ended, is_good, names_told, words_and};
 use mj_front::{Status, exit_code, run};
 use mj_journal::MemDisk;
 use mj_links::{Clock, Host, MemClock, MemHost, MemLink, MemSink, MemSource};
@@ -29,16 +29,17 @@ const NINE: [&str; 9] = [
     "{\"type\":\"join\",\"name\":\"d\",\"room\":\"room2\"}",
 ];
 
-// Plays so many games over a host.
+// Plays so many games over a host, with these words more.
 fn play<H: Host, K: Clock, R: Threads + Wait + Sync>(
     rt: &R,
     alloc: Global,
     rooms: &str,
+    more: &[&str],
     host: &mut H,
     clock: &mut K,
     sink: &mut MemSink,
 ) -> Result<Status, AllocError> {
-    let words = words_of(
+    let words = words_and(
         alloc,
         &[
             "tables",
@@ -49,6 +50,7 @@ fn play<H: Host, K: Clock, R: Threads + Wait + Sync>(
             "--rooms",
             rooms,
         ],
+        more,
     )?;
     let mut source = MemSource::new(Vec::new(alloc), Vec::new(alloc));
     let mut disk = MemDisk::new(b"", Vec::new(alloc))?;
@@ -119,7 +121,7 @@ fn players_of_two_rooms_that_leave_are_served_a_game_each(rt: HostRuntime) -> Re
     let mut host = host(alloc, &NINE[1..], 0)?;
     let mut sink = MemSink::new(Vec::new(alloc));
     let mut clock = MemClock::new(0, 1000);
-    assert!(rt; play(&rt, alloc, "2", &mut host, &mut clock, &mut sink)? == Status::Done);
+    assert!(rt; play(&rt, alloc, "2", &[], &mut host, &mut clock, &mut sink)? == Status::Done);
     assert!(rt; are_told(host.returned()) && are_good(alloc, sink.written())?);
     Ok(())
 }
@@ -132,7 +134,7 @@ fn two_rooms_are_served_side_by_side(rt: HostRuntime) -> Result<(), Fail> {
     let mut host = MeetingHost::new(&rt, &meeting, Sign::AllStarted, links);
     let mut sink = MemSink::new(Vec::new(alloc));
     let mut clock = MemClock::new(0, 1000);
-    assert!(rt; play(&rt, alloc, "2", &mut host, &mut clock, &mut sink)? == Status::Done);
+    assert!(rt; play(&rt, alloc, "2", &[], &mut host, &mut clock, &mut sink)? == Status::Done);
     assert!(rt; host.returned() == 8 && are_good(alloc, sink.written())?);
     Ok(())
 }
@@ -145,8 +147,48 @@ fn a_link_for_no_room_is_told_so_and_not_given_back(rt: HostRuntime) -> Result<(
     let mut host = MeetingHost::new(&rt, &meeting, Sign::AllStarted, links);
     let mut sink = MemSink::new(Vec::new(alloc));
     let mut clock = MemClock::new(0, 1000);
-    assert!(rt; play(&rt, alloc, "2", &mut host, &mut clock, &mut sink)? == Status::Done);
+    assert!(rt; play(&rt, alloc, "2", &[], &mut host, &mut clock, &mut sink)? == Status::Done);
     assert!(rt; meeting.refused() == 1 && host.returned() == 8);
+    Ok(())
+}
+
+// Words more, and how the record of the second table begins and ends by them that has no deeds: with its header, with wall 200 of
+// the seed, and with wall 399. A program of the shuffle over the cipher as it is published, which is no part of this one, gives
+// these walls.
+const SECOND: [(&[&str], &str, &str); 2] = [
+    (
+        &[],
+        "game limit=1000 draws=0 red=0\nwall C 2p 2s S P 5m 1s E 9m 2m 5p C 2m 5p 4s 8s 1m F 6s 2p 7m 8p 5m N 6m 7s 4m 7p 3m 6m 1p P 4s 2p 8m 1m N S 5m 9m 7p 6p 7p 7s 1s 9p 8s 6s 4m F 8p 7m 1p E 5s E 3p 2m 9p P 8p 6p 4p 4p 1p 2m F N W 9s W 9p 6s 3p 3s 8m C W P 8s 3p 5s 4m 8m 3m 2s 3m 7m 3m 6s 6m W 3s 7p 4p N 4s 6m 4s 8p 7s 5p 1s 5s 6p 2s 7m 3s 4p 9s E 5m 1m 9s 2p 9s 4m 6p 1m 9m 7s S 1p 3p 8m 2s 5p C S 9p 5s 8s 9m 1s 3s F\n",
+        "\nwall 6s 6p C C 5s 7m 8s W E 1p 9s 3s 1m 1s F 4p 4m 9p 3s 3s 9s 4s 1s 4s 8s 5m 3m 7p 9m 5s 7m W E 3m 6m 8m 8p 9m 3p 6p 2p 9m S E 2m 7s W 6m P 9p P C W 2s 5p 4m E 2s 6p 9p 3p 9s 5p N 4s 5m 2p 8p F 8s 2s 4m S 5s 2m P 1s 8p 5m 9p 1m 7m 3m 1m 9s 7s 7p C 2m S 4s 6s 3s 1m 4m 8p 2p P 6p 1p 8m N 2m 4p 5s 1s S 4p 3m 7s 7m 5m 9m 3p 3p 8m 5p 6s 6s 1p 7p 7s N 2s F 1p F 4p 8m 8s 7p 6m 5p N 6m 2p\n",
+    ),
+    (
+        &["--red"],
+        "game limit=1000 draws=0 red=1\nwall C 2p 2s S P 5m 1s E 9m 2m 5p C 2m 5p 4s 8s 1m F 6s 2p 7m 8p 5m N 6m 7s 4m 7p 3m 6m 1p P 4s 2p 8m 1m N S 5m 9m 7p 6p 7p 7s 1s 9p 8s 6s 4m F 8p 7m 1p E 5s E 3p 2m 9p P 8p 6p 4p 4p 1p 2m F N W 9s W 9p 6s 3p 3s 8m C W P 8s 3p 5sr 4m 8m 3m 2s 3m 7m 3m 6s 6m W 3s 7p 4p N 4s 6m 4s 8p 7s 5p 1s 5s 6p 2s 7m 3s 4p 9s E 5mr 1m 9s 2p 9s 4m 6p 1m 9m 7s S 1p 3p 8m 2s 5pr C S 9p 5s 8s 9m 1s 3s F\n",
+        "\nwall 6s 6p C C 5s 7m 8s W E 1p 9s 3s 1m 1s F 4p 4m 9p 3s 3s 9s 4s 1s 4s 8s 5m 3m 7p 9m 5s 7m W E 3m 6m 8m 8p 9m 3p 6p 2p 9m S E 2m 7s W 6m P 9p P C W 2s 5p 4m E 2s 6p 9p 3p 9s 5p N 4s 5m 2p 8p F 8s 2s 4m S 5s 2m P 1s 8p 5m 9p 1m 7m 3m 1m 9s 7s 7p C 2m S 4s 6s 3s 1m 4m 8p 2p P 6p 1p 8m N 2m 4p 5sr 1s S 4p 3m 7s 7m 5mr 9m 3p 3p 8m 5p 6s 6s 1p 7p 7s N 2s F 1p F 4p 8m 8s 7p 6m 5pr N 6m 2p\n",
+    ),
+];
+
+// Whether what is written has two good records, the second of which begins and ends so.
+fn is_second(alloc: Global, written: &[u8], front: &str, end: &str) -> Result<bool, AllocError> {
+    let Some((first, second)) = records_of(written) else {
+        return Ok(false);
+    };
+    let stands = second.starts_with(front.as_bytes()) && second.ends_with(end.as_bytes());
+    Ok(stands && is_good(alloc, first)? && is_good(alloc, second)?)
+}
+
+#[test]
+fn the_second_table_has_the_next_walls_of_the_seed(rt: HostRuntime) -> Result<(), Fail> {
+    let alloc = rt.alloc();
+    for (more, front, end) in SECOND {
+        let accepts = [1, 2, 3, 4, 5, 6, 7, 8, 9, 10].to_vec(alloc)?;
+        let mut host = MemHost::new(Vec::new(alloc), false, accepts);
+        let mut sink = MemSink::new(Vec::new(alloc));
+        let mut clock = MemClock::new(0, 1000);
+        let status = play(&rt, alloc, "2", more, &mut host, &mut clock, &mut sink)?;
+        assert!(rt; exit_code(&status) == 8);
+        assert!(rt; is_second(alloc, sink.written(), front, end)?);
+    }
     Ok(())
 }
 
@@ -157,7 +199,7 @@ fn there_are_one_to_eight_rooms(rt: HostRuntime) -> Result<(), Fail> {
         let mut host = MemHost::new(Vec::new(alloc), true, Vec::new(alloc));
         let mut sink = MemSink::new(Vec::new(alloc));
         let mut clock = MemClock::new(0, 1000);
-        let status = play(&rt, alloc, rooms, &mut host, &mut clock, &mut sink)?;
+        let status = play(&rt, alloc, rooms, &[], &mut host, &mut clock, &mut sink)?;
         assert!(rt; status == Status::Words && exit_code(&status) == 2);
         assert!(rt; host.ports().is_empty() && sink.written().is_empty());
     }
