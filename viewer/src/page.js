@@ -5,6 +5,7 @@ import {symbolsOfTiles} from "./faces.js";
 import {element, showIn} from "./dom.js";
 import {sceneOf, tableOf} from "./table.js";
 import {deedItems, graphOf, handItems, seatRows, teller, wordsAt} from "./panels.js";
+import {faultIn} from "./tell.js";
 import {TEXTS} from "./texts.js";
 
 /**
@@ -224,9 +225,9 @@ function drawGame() {
   const game = current();
   const hasHands = game.hands.length > 0;
   const [note] = game.notes;
-  complain(game.problem ? texts().badLine(game.problem.line, game.problem.why) : "");
+  complain(game.problem ? texts().badLine(game.problem.line, faultIn(game.problem.why, texts())) : "");
   find("notes").hidden = !note;
-  find("notes").textContent = note ? texts().note(note.line, note.why, game.notes.length - 1) : "";
+  find("notes").textContent = note ? texts().note(note.line, faultIn(note.why, texts()), game.notes.length - 1) : "";
   document.body.classList.toggle("has-game", hasHands);
   for (const id of ["game", "seen"]) find(id).hidden = !hasHands;
   find("empty").hidden = hasHands;

@@ -1,7 +1,7 @@
 // Reading: lines become tables, games of hands of checked deeds. What is read are records of riichi_table, one or several, what
 // `observe` writes, the lines that a seat is told, and other programs' mjai logs.
 import {isShown, isTile} from "./tiles.js";
-import {apply, begin, isSeat} from "./state.js";
+import {Fault, apply, begin, isSeat} from "./state.js";
 
 /**
  * @typedef {import("./state.js").Deed} Deed
@@ -9,7 +9,7 @@ import {apply, begin, isSeat} from "./state.js";
  * @typedef {{deed: Deed, line: number}} Told
  * A hand: the points and deposits that it starts with, its deeds with the lines that they stand in, its results, and the points now.
  * @typedef {{start: number[], deposits: number, deeds: Told[], results: Deed[], points: number[]}} Hand
- * @typedef {{line: number, why: string}} Remark
+ * @typedef {{line: number, why: Fault}} Remark
  * A game: whose seat it is told to, the line that it ends at for its fault, and the lines whose points don't add up.
  * @typedef {{number: number | null, names: string[], seat: number, hands: Hand[], end: Deed | null, problem: Remark | null, notes: Remark[]}} Game
  * @typedef {{deeds: Told[], results: Deed[], state: State | null, count: number}} Shown
@@ -76,14 +76,14 @@ const CONTROL = ["hello", "replay", "error", "none"];
  */
 function deedOf(text) {
   let deed;
-  try { deed = JSON.parse(text); } catch { throw new Error("this is no JSON"); }
+  try { deed = JSON.parse(text); } catch { throw new Fault("noJson"); }
   const type = deed === null ? undefined : deed.type;
   if (CONTROL.includes(type)) return deed;
-  if (!Object.hasOwn(FORMS, type)) throw new Error(`"${type}" is no type of a deed`);
+  if (!Object.hasOwn(FORMS, type)) throw new Fault("noType", type);
   const {must, may = {}} = FORMS[type];
   for (const [field, isRight] of Object.entries({...must, ...may})) {
     const isMissing = deed[field] === undefined || deed[field] === null;
-    if (isMissing ? field in must : !isRight(deed[field])) throw new Error(`the field "${field}" of this ${type} is missing or out of form`);
+    if (isMissing ? field in must : !isRight(deed[field])) throw new Fault("badField", field, type);
   }
   return deed;
 }
@@ -110,7 +110,7 @@ function completed(deed, state) {
   if (deed.type === "ryukyoku") return {...whole, reason: deed.reason ?? ""};
   if (deed.type === "reach_accepted") return whole;
   const pai = deed.pai ?? (deed.actor === deed.target ? state.seats[deed.actor].drawn : state.offered?.pai);
-  if (!isTile(pai)) throw new Error("there is no tile to win on");
+  if (!isTile(pai)) throw new Fault("noTileToWin");
   return {...whole, pai, uradora_markers: deed.uradora_markers ?? deed.ura_markers ?? []};
 }
 
@@ -162,7 +162,8 @@ export class Reader {
     try {
       this.readLine(text.trimEnd());
     } catch (error) {
-      this.game.problem = {line: this.line, why: error instanceof Error ? error.message : String(error)};
+      if (!(error instanceof Fault)) throw error;
+      this.game.problem = {line: this.line, why: error};
     }
   }
 
@@ -175,7 +176,7 @@ export class Reader {
     if (lines.at(-1) === "") lines.pop();
     for (const line of lines) this.read(line);
     for (const game of this.games) {
-      if (!game.problem && !game.names.length) game.problem = {line: this.line, why: "there is no start_game up to here"};
+      if (!game.problem && !game.names.length) game.problem = {line: this.line, why: new Fault("noStart")};
     }
   }
 
@@ -183,12 +184,12 @@ export class Reader {
   readLine(text) {
     const {game} = this;
     if (this.line === this.firstLine && text.startsWith("game ")) {
-      if (!/^game limit=\d+ draws=[01] red=[01]$/.test(text)) throw new Error("this is no header of a record");
+      if (!/^game limit=\d+ draws=[01] red=[01]$/.test(text)) throw new Fault("badHeader");
       return;
     }
     if (!this.hasBegun && text.startsWith("wall ")) {
       const wall = text.split(" ").slice(1);
-      if (wall.length !== 136 || !wall.every(isTile)) throw new Error("this is no wall of 136 tiles");
+      if (wall.length !== 136 || !wall.every(isTile)) throw new Fault("badWall");
       return;
     }
     const deed = deedOf(text);
@@ -208,24 +209,24 @@ export class Reader {
   addDeed(deed) {
     const {game} = this;
     if (deed.type === "start_game") {
-      if (this.hasBegun) throw new Error("the game has begun already");
+      if (this.hasBegun) throw new Fault("begunTwice");
       this.hasBegun = true;
       game.names = deed.names ?? [..."ABCD"];
       game.seat = isSeat(deed.id) ? deed.id : 0;
       return;
     }
-    if (!this.hasBegun) throw new Error("a deed stands before start_game");
-    if (game.end) throw new Error("a deed stands behind end_game");
+    if (!this.hasBegun) throw new Fault("beforeStart");
+    if (game.end) throw new Fault("afterEnd");
     const hasEnded = !this.state || this.state.isOver || game.hands[game.hands.length - 1].results.length > 0;
     if (deed.type === "end_game") {
-      if (!hasEnded) throw new Error("the hand isn't over");
+      if (!hasEnded) throw new Fault("handNotOver");
       game.end = {...deed, scores: deed.scores ?? this.state?.points ?? this.startPoints({type: "start_kyoku", kyotaku: 0})};
       this.state = null;
     } else if (deed.type === "start_kyoku") {
-      if (!hasEnded) throw new Error("the hand before isn't over");
+      if (!hasEnded) throw new Fault("handNotOver");
       this.addHand(deed);
     } else {
-      if (!this.state) throw new Error("a deed stands before start_kyoku");
+      if (!this.state) throw new Fault("beforeHand");
       const whole = completed(deed, this.state);
       if (deed.scores) this.compare(whole.scores, whole.deltas, this.state);
       apply(this.state, whole);
@@ -265,7 +266,7 @@ export class Reader {
     if (!this.hasScores && hands.length === 1 && off.every(by => by === off[0])) {
       state.points = hands[0].start = state.points.map(points => points + off[0]);
     } else if (off.some(by => by !== 0)) {
-      notes.push({line: this.line, why: "the scores aren't the points before and the deltas"});
+      notes.push({line: this.line, why: new Fault("points")});
     }
     this.hasScores = true;
   }
@@ -276,8 +277,8 @@ export class Reader {
    */
   startShown(count) {
     const hand = this.game.hands.at(-1);
-    if (!hand || !this.state?.isOver || this.shown) throw new Error("no hand has ended that could be shown");
-    if (count !== hand.deeds.length) throw new Error(`the hand has ${hand.deeds.length} deeds, not ${count}`);
+    if (!hand || !this.state?.isOver || this.shown) throw new Fault("noHandToShow");
+    if (count !== hand.deeds.length) throw new Fault("shownCount", hand.deeds.length, count);
     this.shown = {deeds: [], results: [], state: null, count};
   }
 
@@ -285,7 +286,7 @@ export class Reader {
   addShown(shown, deed) {
     const hand = this.game.hands[this.game.hands.length - 1];
     const hidden = hand.deeds[shown.deeds.length].deed;
-    if (hidden.type !== deed.type || hidden.actor !== deed.actor) throw new Error("this isn't the deed that was told before");
+    if (hidden.type !== deed.type || hidden.actor !== deed.actor) throw new Fault("otherShown");
     let whole = deed;
     if (deed.type === "start_kyoku") {
       shown.state = begin(deed, hand.start, hand.deposits);

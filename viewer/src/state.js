@@ -6,10 +6,11 @@ import {countsOf, readingOf} from "./waits.js";
  * A deed as its line tells it. The fields are those of mjai.
  * @typedef {{type: string, [field: string]: any}} Deed
  * @typedef {{pai: string, seat: number, isDrawn: boolean, isRiichi: boolean, isCalled: boolean, isWon: boolean}} Discard
- * @typedef {{type: string, tiles: string[], called: string | null, target: number, added: string | null}} Meld
+ * A meld, and whether its added tile was won on.
+ * @typedef {{type: string, tiles: string[], called: string | null, target: number, added: string | null, isRobbed: boolean}} Meld
  * @typedef {{
  *   hand: string[], drawn: string | null, melds: Meld[], river: Discard[],
- *   riichi: boolean, isReaching: boolean, isReady: boolean, isWinner: boolean, isShown: boolean,
+ *   riichi: boolean, isReaching: boolean, isReady: boolean, isWinner: boolean, isRon: boolean, isShown: boolean,
  *   passed: Set<string>, passedInRiichi: Set<string>,
  * }} Seat
  * @typedef {{
@@ -18,6 +19,21 @@ import {countsOf, readingOf} from "./waits.js";
  *   last: Discard | null, newest: Discard | null, offered: {pai: string, seat: number} | null, isOver: boolean,
  * }} State
  */
+
+/**
+ * Why a line can't be shown. Each kind has its words in each language.
+ * @typedef {"noJson" | "noType" | "badField" | "badHeader" | "badWall" | "noStart" | "begunTwice" | "beforeStart" | "afterEnd"
+ *   | "beforeHand" | "handNotOver" | "handBegun" | "handOver" | "points" | "noTileToWin" | "wonTwice" | "notHeld" | "notDrawn" | "drawnTwice"
+ *   | "notDiscarded" | "noPon" | "fiveIndicators" | "noHandToShow" | "shownCount" | "otherShown"} FaultKind
+ */
+export class Fault extends Error {
+  /** @param {FaultKind} kind @param {(string | number)[]} parts what stands in its words */
+  constructor(kind, ...parts) {
+    super(kind);
+    this.kind = kind;
+    this.parts = parts;
+  }
+}
 
 /** @param {unknown} value @returns {value is number} */
 export const isSeat = value => typeof value === "number" && Number.isInteger(value) && value >= 0 && value < 4;
@@ -30,7 +46,7 @@ export function begin(deed, points, deposits) {
   /** @param {string[]} hand @returns {Seat} */
   const seatOf = hand => ({
     hand: sorted(hand), drawn: null, melds: [], river: [], riichi: false, isReaching: false, isReady: false,
-    isWinner: false, isShown: false, passed: new Set(), passedInRiichi: new Set(),
+    isWinner: false, isRon: false, isShown: false, passed: new Set(), passedInRiichi: new Set(),
   });
   return {
     round: deed.bakaze, number: deed.kyoku, honba: deed.honba, deposits: deed.kyotaku ?? deposits, dealer: deed.oya,
@@ -44,7 +60,7 @@ export function begin(deed, points, deposits) {
  * @param {State} state @param {Deed} deed
  */
 export function apply(state, deed) {
-  if (state.isOver) throw new Error("the hand is over");
+  if (state.isOver) throw new Fault("handOver");
   state.deltas = [0, 0, 0, 0];
   if (deed.type !== "hora" && deed.type !== "end_kyoku") letPass(state);
   DEEDS[deed.type](state, deed, state.seats[deed.actor]);
@@ -74,7 +90,7 @@ function take(seat, tile) {
   const place = [tile, HIDDEN].map(wanted => seat.hand.indexOf(wanted)).find(found => found >= 0);
   if (place !== undefined) seat.hand.splice(place, 1);
   else if (seat.drawn === tile || seat.drawn === HIDDEN) seat.drawn = null;
-  else throw new Error(`the seat holds no ${tile}`);
+  else throw new Fault("notHeld", tile);
 }
 
 /**
@@ -89,10 +105,10 @@ function settle(seat) {
 /** @param {State} state @param {Deed} deed @param {Seat} seat */
 function call(state, deed, seat) {
   const tile = state.last;
-  if (!tile || tile.seat !== deed.target || tile.pai !== deed.pai || tile.isCalled) throw new Error(`no such ${deed.pai} was discarded last`);
+  if (!tile || tile.seat !== deed.target || tile.pai !== deed.pai || tile.isCalled) throw new Fault("notDiscarded", deed.pai);
   for (const held of deed.consumed) take(seat, held);
   tile.isCalled = true;
-  seat.melds.push({type: deed.type, tiles: deed.consumed, called: deed.pai, target: deed.target, added: null});
+  seat.melds.push({type: deed.type, tiles: deed.consumed, called: deed.pai, target: deed.target, added: null, isRobbed: false});
 }
 
 /** @param {State} state @param {Deed} deed */
@@ -103,15 +119,15 @@ function settlePoints(state, deed) {
 
 /** @type {Record<string, (state: State, deed: Deed, seat: Seat) => void>} */
 const DEEDS = {
-  start_kyoku() { throw new Error("the hand has begun already"); },
+  start_kyoku() { throw new Fault("handBegun"); },
   tsumo(state, deed, seat) {
-    if (seat.drawn) throw new Error("the seat has drawn already");
+    if (seat.drawn) throw new Fault("drawnTwice");
     seat.drawn = deed.pai;
     state.left -= 1;
     state.last = null;
   },
   dahai(state, deed, seat) {
-    if (deed.tsumogiri && seat.drawn !== deed.pai && seat.drawn !== HIDDEN) throw new Error(`the seat hasn't drawn this ${deed.pai}`);
+    if (deed.tsumogiri && seat.drawn !== deed.pai && seat.drawn !== HIDDEN) throw new Fault("notDrawn", deed.pai);
     if (deed.tsumogiri) seat.drawn = null;
     else take(seat, deed.pai);
     settle(seat);
@@ -129,19 +145,19 @@ const DEEDS = {
   ankan(state, deed, seat) {
     settle(seat);
     for (const tile of deed.consumed) take(seat, tile);
-    seat.melds.push({type: "ankan", tiles: deed.consumed, called: null, target: deed.actor, added: null});
+    seat.melds.push({type: "ankan", tiles: deed.consumed, called: null, target: deed.actor, added: null, isRobbed: false});
   },
   kakan(state, deed, seat) {
     settle(seat);
     const meld = seat.melds.find(it => it.type === "pon" && it.called && kindOf(it.called) === kindOf(deed.pai));
-    if (!meld) throw new Error(`the seat has no pon of ${deed.pai}`);
+    if (!meld) throw new Fault("noPon", deed.pai);
     take(seat, deed.pai);
     Object.assign(meld, {type: "kakan", added: deed.pai});
     state.last = null;
     state.offered = {pai: deed.pai, seat: deed.actor};
   },
   dora(state, deed) {
-    if (state.indicators.length === 5) throw new Error("there are five indicators already");
+    if (state.indicators.length === 5) throw new Fault("fiveIndicators");
     state.indicators.push(deed.dora_marker);
   },
   reach(state, deed, seat) {
@@ -153,11 +169,14 @@ const DEEDS = {
     settlePoints(state, deed);
   },
   hora(state, deed, seat) {
-    if (seat.isWinner) throw new Error("the seat has won already");
+    if (seat.isWinner) throw new Fault("wonTwice");
     if (deed.hora_tehais) seat.hand = sorted(deed.hora_tehais);
     seat.drawn = deed.pai;
     seat.isWinner = seat.isShown = true;
-    if (state.last && deed.target !== deed.actor) state.last.isWon = true;
+    seat.isRon = deed.target !== deed.actor;
+    const robbed = state.seats[deed.target].melds.find(it => it.added === deed.pai);
+    if (seat.isRon && state.last) state.last.isWon = true;
+    else if (seat.isRon && robbed) robbed.isRobbed = true;
     if (deed.uradora_markers.length) state.hidden = deed.uradora_markers;
     state.deposits = 0;
     settlePoints(state, deed);
@@ -193,15 +212,16 @@ export function stateAt(hand, deed) {
 export const tilesOf = meld => [...meld.tiles, ...[meld.called, meld.added].flatMap(tile => tile === null ? [] : [tile])];
 
 /**
- * What is left of each kind as a seat sees it: of its own tiles, of all melds, of the rivers and of the indicators.
+ * What is left of each kind as a seat sees it: of its own tiles and of hands that were shown, of all melds, of the rivers and of the
+ * indicators. A tile that was called, or won on where it lies, counts once.
  * @param {State} state @param {number} index
  */
 function leftFor(state, index) {
-  const own = state.seats[index];
-  const seen = [...own.hand, ...(own.drawn ? [own.drawn] : []), ...state.indicators, ...state.hidden];
-  for (const seat of state.seats) {
+  const seen = [...state.indicators, ...state.hidden];
+  state.seats.forEach((seat, place) => {
+    if (place === index || seat.isShown) seen.push(...seat.hand, ...(seat.drawn && !seat.isRon ? [seat.drawn] : []));
     seen.push(...seat.melds.flatMap(tilesOf), ...seat.river.filter(tile => !tile.isCalled).map(tile => tile.pai));
-  }
+  });
   return countsOf(seen.filter(tile => tile !== HIDDEN)).map(count => Math.max(0, 4 - count));
 }
 
@@ -221,7 +241,6 @@ export function nearnessOf(state, index) {
   const isFuriten = waits.some(kind => own.has(kind) || seat.passed.has(kind) || seat.passedInRiichi.has(kind));
   return {shanten, waits: waits.map(kind => ({kind, left: left[placeOf(kind)]})), isFuriten};
 }
-
 
 /**
  * The state as one seat sees it: others' hands are hidden, but those that were shown.

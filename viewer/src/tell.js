@@ -27,6 +27,12 @@ export const grouped = value => (value < 0 ? "−" : "") + THOUSANDS.format(Math
 export const signed = value => (value > 0 ? "+" : "") + grouped(value);
 
 /**
+ * Why a line can't be shown.
+ * @param {import("./state.js").Fault} fault @param {Texts} texts
+ */
+export const faultIn = ({kind, parts}, texts) => texts.faults[kind](...parts);
+
+/**
  * The name of a hand, as East 1.
  * @param {Deed} start @param {Texts} texts
  */

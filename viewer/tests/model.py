@@ -45,6 +45,10 @@ class Table:
         self.left = 70
         self.says_riichi: int | None = None
         self.newest: list[int] | None = None
+        # the seats whose hands everybody sees, the tile that each won on, and those that lie before another seat
+        self.shown: set[int] = set()
+        self.won: list[Counter[str]] = [Counter(), Counter(), Counter(), Counter()]
+        self.rons: list[Counter[str]] = [Counter(), Counter(), Counter(), Counter()]
 
     def lay(self, seat: int, tiles: list[str]) -> None:
         for tile in tiles:
@@ -81,6 +85,11 @@ class Table:
             self.held[seat] = Counter([*event["hora_tehais"], event["pai"]])
             self.hidden = event["uradora_markers"] or self.hidden
             self.deposits = 0
+            self.shown.add(seat)
+            self.won[seat][event["pai"]] = 1
+            self.rons[seat][event["pai"]] = int(seat != event["target"])
+        elif kind == "ryukyoku":
+            self.shown |= {seat for seat in range(4) if event["tehais"][seat] and "?" not in event["tehais"][seat]}
         self.deposits += kind == "reach_accepted"
         self.points = event.get("scores", self.points)
 
@@ -110,9 +119,13 @@ class Table:
         """Whether a tile is red or dora."""
         return len(tile) == 3 or any(tile[:2] == dora_of(indicator) for indicator in [*self.indicators, *self.hidden])
 
+    def concealed(self) -> list[list[str]]:
+        """Each seat's concealed tiles, without the one that it won on."""
+        return [sorted((hand - won).elements()) for hand, won in zip(self.held, self.won)]
+
     def left_for(self, seat: int, kind: str) -> int:
-        """How many tiles of a kind the seat doesn't see."""
-        seen = [tile for tile in self.held[seat].elements()]
+        """How many tiles of a kind the seat doesn't see; one that was won on lies in its river or meld."""
+        seen = [tile for it in {seat} | self.shown for tile in (self.held[it] - self.rons[it]).elements()]
         seen += [tile for melds in self.melds for meld in melds for tile in meld[1]]
         seen += [tile for river in self.rivers for tile, _, is_called, _ in river if not is_called]
         return 4 - sum(tile[:2] == kind for tile in seen + self.indicators + self.hidden)

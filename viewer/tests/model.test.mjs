@@ -23,7 +23,7 @@ const {readingOf} = await part("waits");
 const {apply, begin, nearnessOf, seenBy, toldTo} = await part("state");
 const {Reader} = await part("read");
 const {TEXTS} = await part("texts");
-const {tileIn, sentenceOf} = await part("tell");
+const {faultIn, sentenceOf, tileIn} = await part("tell");
 
 /** Tiles from a short text, as 123m4p. */
 const tiles = text => [...text.matchAll(/([1-9]+)([mps])|([ESWNPFC])/g)].flatMap(([, numbers, suit, honour]) =>
@@ -81,7 +81,12 @@ test("tiles left of a wait are those that the seat doesn't see", () => {
   const left = deeds => nearnessOf(stateAfter(deeds), 0).waits.map(({kind, left: count}) => `${kind} ${count}`).join(", ");
   assert.equal(left([]), "1p 4, 4p 4");
   assert.equal(left([drawn(0, "1p")]), "1p 3, 4p 4");
-  assert.equal(left([drawn(0, "C"), discarded(0, "C"), drawn(1, "4p"), discarded(1, "4p")]), "1p 4, 4p 3");
+  const passed = [drawn(0, "C"), discarded(0, "C"), drawn(1, "4p"), discarded(1, "4p")];
+  assert.equal(left(passed), "1p 4, 4p 3");
+  // a tile that was won on counts once, and so do the hands that are shown then
+  const won = {type: "hora", target: 1, pai: "4p", uradora_markers: [], deltas: [0, 0, 0, 0], scores: [0, 0, 0, 0]};
+  assert.equal(left([...passed, {...won, actor: 0}]), "1p 4, 4p 3");
+  assert.equal(left([...passed, {...won, actor: 0}, {...won, actor: 2, hora_tehais: tiles("147m25p369sESWN1p")}]), "1p 3, 4p 3");
 });
 
 test("one seat's view has backs for the others' tiles", () => {
@@ -101,7 +106,8 @@ test("the reader goes on where it stopped", () => {
   assert.equal(reader.games[0].problem, null);
   reader.read("{");
   reader.read(JSON.stringify(drawn(1, "1p")));
-  assert.deepEqual(reader.games[0].problem, {line: 5, why: "this is no JSON"});
+  const {line, why} = reader.games[0].problem;
+  assert.deepEqual([line, why.kind, faultIn(why, TEXTS.en)], [5, "noJson", "this is no JSON"]);
   assert.equal(reader.games[0].hands[0].deeds.length, 3);
 });
 

@@ -353,27 +353,27 @@ class Viewer(Page):
         self.assertEqual([row == "hidden" for row in rows], [True, False, True, True])
 
     @helpers.wants_program
-    def test_shanten_waits_and_what_is_left_at_each_draw(self) -> None:
+    def test_shanten_waits_and_what_is_left_at_each_draw_and_end(self) -> None:
         answers: dict[tuple[str, ...], tuple[str, ...]] = {}
         script = """
         const rows = [...document.querySelectorAll('#seat-rows tr')];
         return rows.map(row => [+row.querySelector('[data-shanten]').dataset.shanten,
           [...row.querySelectorAll('[data-wait]')].map(it => [it.dataset.wait, +it.dataset.left])]);
         """
-        for name, every in [("whole_game", 1), ("wild_1127", 5), ("wild_31", 9)]:
+        for name, every in [("whole_game", 1), ("robbed_kan", 1), ("double_ron", 1), ("wild_1127", 5), ("wild_31", 9)]:
             text = {**RECORDS, **WILD}[name]
             self.drop(text, "#hand=1&deed=1&lang=en")
             for place, hand in enumerate(model.hands_of(text)):
                 table, moments, wanted = model.Table(hand[0], [0] * 4), [], []
                 for deed, event in enumerate(hand[1:]):
-                    if event["type"] == "tsumo" and deed % every == 0:
+                    before = table.concealed()
+                    table.apply(event)
+                    if (event["type"] == "tsumo" and deed % every == 0) or event["type"] in ("hora", "ryukyoku"):
                         moments.append(deed + 2)
-                        before = [(sorted((+table.held[seat]).elements()), [tuple(meld[1]) for meld in table.melds[seat]]) for seat in range(4)]
-                        table.apply(event)
-                        wanted.append([(tiles, melds, {kind: table.left_for(seat, kind) for kind in KINDS})
-                                       for seat, (tiles, melds) in enumerate(before)])
-                    else:
-                        table.apply(event)
+                        # of who has drawn the tiles before the draw
+                        tiles_of = before if event["type"] == "tsumo" else table.concealed()
+                        wanted.append([(tiles_of[seat], [tuple(meld[1]) for meld in table.melds[seat]],
+                                        {kind: table.left_for(seat, kind) for kind in KINDS}) for seat in range(4)])
                 shown = self.browser.run(page_script(
                     f"document.querySelector('#strip [data-hand=\"{place}\"]').click();"
                     f"return {json.dumps(moments)}.map(deed => {{ document.querySelector(`#deeds [data-deed=\"${{deed}}\"]`).click(); {script} }});"
