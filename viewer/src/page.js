@@ -24,7 +24,7 @@ const page = {
   timer: undefined,
   /** @type {number | undefined} */
   writing: undefined,
-  turned: 0, isLive: false, address: "",
+  turned: 0, wide: 0, isLive: false, address: "",
 };
 /** Milliseconds between two deeds while the page plays. */
 const SPEEDS = {slow: 2000, medium: 1000, fast: 400};
@@ -97,7 +97,8 @@ function drawLists(game) {
   const results = game.hands.map(it => it.results.length).join("");
   if (isChanged("strip", game.hands.length, results)) find("strip").replaceChildren(...handItems(game, texts()));
   const points = game.end ? game.end.scores : game.hands[game.hands.length - 1].points;
-  if (isChanged("graph", game.hands.length, points, page.hand)) find("graph").replaceChildren(graphOf(game, points, page.hand, texts()));
+  page.wide ||= find("graph").clientWidth;
+  if (isChanged("graph", game.hands.length, points, page.hand, page.wide)) find("graph").replaceChildren(graphOf(game, points, page.hand, texts(), page.wide));
 }
 
 /** Marks the deed and the hand that are shown, and brings them into sight. */
@@ -347,6 +348,7 @@ function setLanguage(language) {
   };
   for (const [id, said] of Object.entries(names)) name(id, said);
   namePlay();
+  setLost(find("live").classList.contains("lost"));
   fill("view", [["all", words.allHands], ["seat", words.ownHand]], page.isOpen ? "all" : "seat");
   fill("speed", [["slow", words.slow], ["medium", words.medium], ["fast", words.fast]], choice("speed").value || "medium");
   fill("lang", Object.entries(TEXTS).map(([key, it]) => [key, it.name]), language);
@@ -474,6 +476,7 @@ export function start() {
   listenToFingers();
   listenToKeys();
   listenToFiles();
+  addEventListener("resize", () => { page.wide = 0; again(); });
   addEventListener("hashchange", () => current()?.hands.length && readAddress());
   const held = document.getElementById("record");
   const live = document.querySelector('meta[name="live"]')?.getAttribute("content");

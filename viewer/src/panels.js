@@ -102,7 +102,7 @@ export const handItems = (game, texts) => game.hands.map((hand, index) => {
   return element("li", null, {}, [button]);
 });
 
-const GRAPH_WIDE = 520, GRAPH_HIGH = 132, LEFT = 60, RIGHT = 100, TOP = 10, BOTTOM = 12;
+const GRAPH_HIGH = 132, LEFT = 60, RIGHT = 100, TOP = 10, BOTTOM = 12;
 
 /**
  * The points before each hand and after the last.
@@ -127,11 +127,13 @@ function spread(wanted) {
 /**
  * The points of the four seats before each hand and after the last: a line each, and a column to press for each hand.
  * @param {Game} game @param {number[]} last the points now @param {number} current the hand that is shown @param {Texts} texts
+ * @param {number} room how many pixels there are from left to right
  */
-export function graphOf(game, last, current, texts) {
+export function graphOf(game, last, current, texts, room) {
+  const whole = Math.max(260, room);
   const all = pointsOf(game, last);
   const low = Math.min(0, ...all.flat()), high = Math.max(...all.flat(), 1000);
-  const across = GRAPH_WIDE - LEFT - RIGHT, down = GRAPH_HIGH - TOP - BOTTOM;
+  const across = whole - LEFT - RIGHT, down = GRAPH_HIGH - TOP - BOTTOM;
   /** @param {number} place */
   const x = place => LEFT + across * place / Math.max(1, all.length - 1);
   /** @param {number} points */
@@ -157,10 +159,11 @@ export function graphOf(game, last, current, texts) {
   const places = spread(last.map(y));
   game.names.forEach((name, seat) => {
     const end = LEFT + across;
-    nodes.push(make("path", {class: `line seat-${seat}`, d: `M${end + 3} ${y(last[seat])}L${end + 14} ${places[seat]}H${end + 20}`}));
-    nodes.push(make("text", {x: end + 24, y: places[seat] + 4, "font-size": 12}, [cut(name, 12, RIGHT - 28)]));
+    nodes.push(make("path", {class: "rule", d: `M${end + 1} ${y(last[seat])}L${end + 9} ${places[seat]}`}));
+    nodes.push(make("path", {class: `line seat-${seat}`, d: `M${end + 10} ${places[seat]}h17`}));
+    nodes.push(make("text", {x: end + 31, y: places[seat] + 4, "font-size": 12}, [cut(name, 12, RIGHT - 34)]));
   });
-  const svg = make("svg", {viewBox: `0 0 ${GRAPH_WIDE} ${GRAPH_HIGH}`, role: "group", "aria-label": texts.graph}, nodes);
+  const svg = make("svg", {viewBox: `0 0 ${whole} ${GRAPH_HIGH}`, role: "group", "aria-label": texts.graph}, nodes);
   return svg;
 }
 

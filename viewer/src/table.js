@@ -20,6 +20,8 @@ const SIDE = 564, MIDDLE = SIDE / 2, WIDE = 30, HIGH = 40, EDGE = 4;
 // Half the middle's side, and where the rivers begin behind it.
 const CENTRE = 92, RIVER = 96;
 const PLATE_WIDE = 116, PLATE_HIGH = 88;
+// The box of a mark on a tile.
+const FRAME = {x: 1, y: 1, width: WIDE - 2, height: HIGH - 2, rx: 3.4};
 
 /** @param {string} words @param {number} x @param {number} y @param {number} size @param {Attributes} attributes */
 const label = (words, x, y, size, attributes = {}) => make("text", {x, y, "font-size": size, ...attributes}, [words]);
@@ -65,8 +67,8 @@ function tileAt(scene, tile, x, y, attributes = {}) {
   const isDora = !isBack && scene && scene.dora.has(kindOf(tile));
   const isBright = scene && !isBack && (isDora || isRed(tile));
   const group = make("g", {transform: `translate(${x} ${y})`, "data-tile": tile, "data-dora": isBright ? "" : null, ...attributes});
-  group.append(make("use", {href: `#t-${isBack ? "back" : tile}`, width: WIDE, height: HIGH}));
-  if (isDora) group.append(make("path", {class: "dora", d: "M1.1 4Q1.1 1.1 4 1.1H11L1.1 11Z"}));
+  group.append(make("use", {href: `#t-${isBack ? "back" : tile}`, width: WIDE, height: HIGH, class: isDora ? "of-dora" : null}));
+  if (isDora) group.append(make("path", {class: "dora", d: "M1.1 4Q1.1 1.1 4 1.1H13L1.1 13Z"}));
   return group;
 }
 
@@ -97,7 +99,8 @@ function meldAt(scene, meld, seat, x, y) {
   for (let index = 0; index <= meld.tiles.length; index += 1) {
     if (index === place) {
       group.append(tileOnSide(scene, meld.called, at, y, {"data-called": ""}));
-      if (meld.added) group.append(tileOnSide(scene, meld.added, at, y - WIDE));
+      if (meld.added) group.append(tileOnSide(scene, meld.added, at, y - WIDE, {"data-added": ""}));
+      if (meld.isRobbed) group.lastElementChild?.append(make("rect", {class: "frame won", ...FRAME}));
       at += HIGH;
     }
     if (index < meld.tiles.length) {
@@ -122,7 +125,7 @@ function handOf(scene, index) {
   seat.hand.forEach((tile, place) => hand.append(tileAt(scene, tile, place * WIDE, y)));
   const next = seat.hand.length * WIDE + 8;
   if (seat.drawn) hand.append(tileAt(scene, seat.drawn, next, y, {"data-drawn": ""}));
-  if (seat.drawn && seat.isWinner) hand.append(make("rect", {class: "frame", x: next + 1, y: y + 1, width: WIDE - 2, height: HIGH - 2, rx: 3.4}));
+  if (seat.drawn && seat.isWinner) hand.append(make("rect", {class: "frame", ...FRAME, x: next + 1, y: y + 1}));
   const said = seat.melds.map(it => `${it.type} ${listed([...it.tiles, it.called, it.added])}`).join("; ") || texts.none;
   const melds = make("g", {class: "melds", role: "img", "aria-label": texts.melds(name, said)});
   let wide = 0;
@@ -162,11 +165,10 @@ function riverOf(scene, index) {
       "data-drawn": tile.isDrawn ? "" : null, "data-newest": tile === state.newest ? "" : null,
     };
     const node = tile.isRiichi ? tileOnSide(scene, tile.pai, x, y, marks) : tileAt(scene, tile.pai, x, y, marks);
-    const box = {x: 1, y: 1, width: WIDE - 2, height: HIGH - 2, rx: 3.4};
-    if (tile.isDrawn) node.append(make("rect", {class: "shade", ...box}));
+    if (tile.isDrawn) node.append(make("rect", {class: "shade", ...FRAME}));
     if (tile.isRiichi) node.append(make("rect", {class: "bid", x: 1, y: 1, width: 4, height: HIGH - 2, rx: 2}));
-    if (tile.isCalled) node.append(make("rect", {class: "frame taken", ...box}));
-    else if (tile === state.newest) node.append(make("rect", {class: tile.isWon ? "frame won" : "frame", ...box}));
+    if (tile.isCalled) node.append(make("rect", {class: "frame taken", ...FRAME}));
+    else if (tile === state.newest) node.append(make("rect", {class: tile.isWon ? "frame won" : "frame", ...FRAME}));
     group.append(node);
   });
   return group;

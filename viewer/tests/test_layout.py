@@ -2,9 +2,8 @@
 
 The records are games over `serve` of players that call, reach and make kans wherever they may: rivers of more than twenty
 discards, three kans of a seat, names of 64 bytes, points below none. Beside them stands a hand made up to be worse than any that
-can be played. Usually some moments of each are measured; with the word `--every-deed` of this file, every deed of them in each
-size, which takes an hour: the table at each, the whole page at each tenth, and in dark mode, where nothing but colours differs, the
-usual moments.
+can be played. Usually some moments of each are measured; with the word `--every-deed` of this file, the whole page at every deed of
+them, in each size, light and dark, which takes an hour. Names of records after that word, as `wild_46`, are those that are measured.
 """
 from __future__ import annotations
 
@@ -31,16 +30,18 @@ const boxOf = node => { const {left, top, right, bottom} = node.getBoundingClien
 const isSeen = box => box.right - box.left > near && box.bottom - box.top > near;
 const meets = (a, b) => Math.min(a.right, b.right) - Math.max(a.left, b.left) > near && Math.min(a.bottom, b.bottom) - Math.max(a.top, b.top) > near;
 const holds = (a, b) => b.left > a.left - near && b.right < a.right + near && b.top > a.top - near && b.bottom < a.bottom + near;
-// what of a box is seen through the scrolled and cut boxes that it stands in
-const seenOf = (box, node) => {
-  const seen = {...box};
-  for (let at = node; at && at !== document.documentElement; at = at.parentElement) {
-    if (getComputedStyle(at).overflowX === 'visible' && getComputedStyle(at).overflowY === 'visible') continue;
-    const edge = boxOf(at);
-    seen.left = Math.max(seen.left, edge.left); seen.right = Math.min(seen.right, edge.right);
-    seen.top = Math.max(seen.top, edge.top); seen.bottom = Math.min(seen.bottom, edge.bottom);
+const common = (a, b) => ({
+  left: Math.max(a.left, b.left), right: Math.min(a.right, b.right), top: Math.max(a.top, b.top), bottom: Math.min(a.bottom, b.bottom),
+});
+const everywhere = {left: -Infinity, right: Infinity, top: -Infinity, bottom: Infinity};
+// what is seen through a node and the scrolled and cut boxes that it stands in
+const clipOf = (node, known) => {
+  if (!node || node === document.documentElement) return everywhere;
+  if (!known.has(node)) {
+    const outer = clipOf(node.parentElement, known), {overflowX, overflowY} = getComputedStyle(node);
+    known.set(node, overflowX === 'visible' && overflowY === 'visible' ? outer : common(outer, boxOf(node)));
   }
-  return seen;
+  return known.get(node);
 };
 const overlaps = items => {
   const faults = [];
@@ -68,13 +69,16 @@ const ofTable = () => {
   return [...overlaps(all), ...out];
 };
 const ofPage = () => {
-  const items = [];
+  const items = [], known = new Map();
+  const seenOf = (box, node) => common(box, clipOf(node, known));
   const nodes = document.querySelectorAll('header button, header select, header label, #table, #controls > *, #strip button, #graph .column');
   for (const node of nodes) items.push({node, box: seenOf(boxOf(node), node.parentElement), name: node.id || node.className || node.tagName});
   const walker = document.createTreeWalker(document.body, NodeFilter.SHOW_TEXT);
   while (walker.nextNode()) {
     const node = walker.currentNode, parent = node.parentElement;
     if (!node.textContent.trim() || parent.closest('select, script, style, #table, title, #faces')) continue;
+    // (rows of the list that are scrolled away)
+    if (parent.dataset.deed && !isSeen(seenOf(boxOf(parent), parent.parentElement))) continue;
     const range = document.createRange();
     range.selectNodeContents(node);
     for (const it of range.getClientRects()) items.push({node: parent, box: seenOf(it, parent), name: 'text ' + node.textContent.slice(0, 20)});
@@ -158,6 +162,7 @@ class Layout(Page):
     """Boxes, in three sizes and two modes."""
 
     every_deed = False
+    wild = WILD
 
     def script(self, body: str) -> str:
         return "(() => {" + MEASURE + body + "})()"
@@ -173,24 +178,23 @@ class Layout(Page):
             for dark in [False, True]:
                 self.browser.size(width, height, dark=dark)
                 self.drop(text, "#hand=1&lang=" + language)
-                at = list(moments_of(text)) if dark and self.every_deed else moments
-                for place in range(0, len(at), 50):
+                for place in range(0, len(moments), 50):
                     found = self.browser.run(self.script(
-                        f"const found = []; {json.dumps(at[place:place + 50])}.forEach(([hand, deed], index) => {{ goTo(hand, deed);"
-                        f" const all = {json.dumps(len(at) > 500)} && index % 10 ? ofTable() : faults();"
+                        f"const found = []; {json.dumps(moments[place:place + 50])}.forEach(([hand, deed]) => {{ goTo(hand, deed); const all = faults();"
                         " if (all.length) found.push(`${hand} ${deed} ${innerWidth}x${innerHeight} ` + all.slice(0, 5).join('; ')); }); return found;"
                     ))
                     self.assertEqual(found, [])
+                if self.every_deed:
+                    print(f"[{width}x{height} {'dark' if dark else 'light'}: {len(moments)} deeds]", file=sys.stderr, flush=True)
 
     def test_wild_games(self) -> None:
         self.assertEqual(len(WILD), 12)
-        for place, path in enumerate(WILD):
+        for place, path in enumerate(self.wild):
             with self.subTest(path.name):
+                print(f"[{path.name}]", file=sys.stderr, flush=True) if self.every_deed else None
                 text = gzip.decompress(path.read_bytes()).decode()
                 # (each record in one size, turn by turn, where not every deed is asked for)
                 self.check(text, self.moments(text), SIZES if self.every_deed else [SIZES[place % 3]])
-                if self.every_deed:
-                    print(f"[{path.name}: each of {len(self.moments(text))} deeds]", file=sys.stderr, flush=True)
 
     def test_the_worst_hand_in_each_language(self) -> None:
         text = worst_hand()
@@ -200,6 +204,35 @@ class Layout(Page):
                 moments = [[0, deed] for deed in range(1, count + 1, 1 if self.every_deed else 31)] + [[0, count]]
                 self.check(text, moments, SIZES if self.every_deed or language == "en" else SIZES[1:2], language=language)
 
+    def test_what_stands_above_the_table(self) -> None:
+        """Several tables, a bad line, points that don't add up, and a live page that lost its server, with the longest words."""
+        record, kan = [(HERE / "records" / f"{name}.txt").read_text() for name in ["four_riichis", "robbed_kan"]]
+        whole = "table 0\n" + kan + "table 1\n" + record.replace("29000", "28000") + "x" * 300 + "\n"
+        lost = ("const live = document.getElementById('live'); live.hidden = false;"
+                "live.classList.add('lost'); const lang = document.getElementById('lang'); lang.dispatchEvent(new Event('change'));")
+        for language in ["en", "de", "ja"]:
+            for width, height in SIZES:
+                with self.subTest(language, width=width):
+                    self.browser.size(width, height)
+                    self.drop(whole, "#table=2&hand=1&deed=19&lang=" + language)
+                    self.assertEqual(self.browser.run(self.script("return faults();")), [])
+                    self.browser.run(self.script(lost))
+                    for part in ["live", "problem", "notes", "tables"]:
+                        self.assertTrue(self.browser.run(f"document.getElementById('{part}').getClientRects().length"), part)
+                    found = self.browser.run(self.script("return faults();"))
+                    # (on a wide window the table then begins lower)
+                    self.assertEqual([it for it in found if width < 1000 or it != "the table is not seen whole"], [])
+                    least = self.browser.run(self.script("return Math.min(...[...document.querySelectorAll('header select')].map(it => it.offsetWidth));"))
+                    self.assertGreater(least, 80 if width < 1000 else 40)
+
+    def test_the_table_stays_in_sight_where_the_results_are_long(self) -> None:
+        self.browser.size(1280, 800)
+        self.drop((HERE / "records" / "triple_ron.txt").read_text(), "#hand=1&deed=999&lang=en")
+        last = self.browser.run("(() => { const it = document.getElementById('deeds').lastElementChild; it.scrollIntoView(); return it.textContent; })()")
+        self.assertEqual(last, self.text("deed"))
+        self.assertEqual(self.browser.run(self.script("return faults();")), [])
+        self.assertEqual(self.browser.run("[scrollY, document.documentElement.scrollHeight <= innerHeight]"), [0, True])
+
     def test_kans_lie_apart(self) -> None:
         for name in ["four_kans", "each_call", "robbed_kan"]:
             text = (HERE / "records" / f"{name}.txt").read_text()
@@ -208,6 +241,9 @@ class Layout(Page):
 
 if __name__ == "__main__":
     if "--every-deed" in sys.argv:
-        sys.argv.remove("--every-deed")
+        first = sys.argv.index("--every-deed")
         Layout.every_deed = True
+        if names := sys.argv[first + 1:]:
+            Layout.wild = [path for path in WILD if path.name.split(".")[0] in names]
+        sys.argv[first:] = ["Layout.test_wild_games"] if names else []
     unittest.main()
