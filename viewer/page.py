@@ -2,9 +2,12 @@
 """Makes one HTML page of a record: the viewer with the record in it, which opens without dropping a file.
 
 usage: page.py RECORD PAGE
+
+RECORD may be gzipped.
 """
 from __future__ import annotations
 
+import gzip
 import pathlib
 import sys
 
@@ -22,7 +25,8 @@ def page_of(record: str) -> str:
 def main() -> None:
     if len(sys.argv) != 3:
         sys.exit(__doc__)
-    record = pathlib.Path(sys.argv[1]).read_text(encoding="utf-8")
+    data = pathlib.Path(sys.argv[1]).read_bytes()
+    record = (gzip.decompress(data) if data.startswith(b"\x1f\x8b") else data).decode(errors="replace")
     pathlib.Path(sys.argv[2]).write_text(page_of(record), encoding="utf-8")
 
 

@@ -1,5 +1,5 @@
 // What happened, in the words of a language.
-import {HIDDEN, isRed, placeOf} from "./tiles.js";
+import {HIDDEN, isRed, isShown, placeOf} from "./tiles.js";
 import {isSeat} from "./state.js";
 
 /**
@@ -44,7 +44,7 @@ export const titleOf = (start, texts) => texts.round(texts.winds["ESWN".indexOf(
  */
 export function sentenceOf(deed, names, texts) {
   const who = isSeat(deed.actor) ? names[deed.actor] : "";
-  const tile = deed.pai ? tileIn(deed.pai, texts) : "";
+  const tile = isShown(deed.pai) ? tileIn(deed.pai, texts) : "";
   switch (deed.type) {
     case "start_kyoku": return texts.begins(titleOf(deed, texts));
     case "tsumo": return deed.pai === HIDDEN ? texts.drawsHidden(who) : texts.draws(who, tile);

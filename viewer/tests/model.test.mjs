@@ -118,5 +118,7 @@ test("each language has each text", () => {
     assert.deepEqual(forms(texts), forms(TEXTS.en));
     assert.equal(new Set(["1m", "5p", "5pr", "9s", "E", "P", "C"].map(tile => tileIn(tile, texts))).size, 7);
     assert.ok(sentenceOf(discarded(1, "5pr"), ["a", "b", "c", "d"], texts).includes("b"));
+    // (a field that this type of deed doesn't have may hold anything)
+    assert.ok(sentenceOf({type: "reach", actor: 2, pai: "x"}, ["a", "b", "c", "d"], texts).includes("c"));
   }
 });

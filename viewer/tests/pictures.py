@@ -6,6 +6,7 @@ usage: pictures.py
 from __future__ import annotations
 
 import pathlib
+import sys
 import time
 
 import browser
@@ -23,18 +24,23 @@ SHOTS = [
 ]
 
 
+def shoot(page: browser.Browser, folder: pathlib.Path) -> None:
+    """Makes all pictures in a folder."""
+    for name, record, moment, width, height, dark in SHOTS:
+        page.size(width, height, dark=dark, still=True)
+        page.open("about:blank")
+        page.open(PAGE + moment)
+        page.choose("#file", HERE / "records" / record)
+        while page.run("document.getElementById('game').hidden"):
+            time.sleep(0.05)
+        page.picture(folder / name)
+        print(name, (folder / name).stat().st_size, "bytes", file=sys.stderr)
+
+
 def main() -> None:
     PICTURES.mkdir(exist_ok=True)
     with browser.Browser() as page:
-        for name, record, moment, width, height, dark in SHOTS:
-            page.size(width, height, dark=dark, still=True)
-            page.open("about:blank")
-            page.open(PAGE + moment)
-            page.choose("#file", HERE / "records" / record)
-            while page.run("document.getElementById('game').hidden"):
-                time.sleep(0.05)
-            page.picture(PICTURES / name)
-            print(name, (PICTURES / name).stat().st_size, "bytes")
+        shoot(page, PICTURES)
 
 
 if __name__ == "__main__":

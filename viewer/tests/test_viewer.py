@@ -406,6 +406,49 @@ class Viewer(Page):
                     self.assertNotIn(english, words)
         self.assertEqual(said, {"en": "b discards North, the drawn tile", "de": "b wirft Nord ab, den gezogenen Stein", "ja": "b 打 北（ツモ切り）"})
 
+    def test_a_bad_line_and_points_that_do_not_add_up_are_said_in_each_language(self) -> None:
+        lines = RECORDS["four_riichis"].split("\n")
+        place = next(place for place, line in enumerate(lines) if '"reach_accepted"' in line)
+        lines[place] = lines[place].replace("29000", "28000", 1)
+        last = max(place for place, line in enumerate(lines) if '"dahai"' in line)
+        lines[last] = '{"type":"dahai","actor":0,"pai":"0m","tsumogiri":true}'
+        self.drop("\n".join(lines), "#lang=en")
+        bad, off = last + 1, place + 1
+        wanted = {
+            "de": (f'Zeile {bad}: das Feld "pai" dieses dahai fehlt oder hat eine andere Form. Ab dieser Zeile wird nichts gezeigt.',
+                   f"Zeile {off}: die Punkte sind nicht die vorigen und die Änderungen. Gezeigt wird, was die Zeile sagt."),
+            "ja": (f"{bad}行目：dahai の「pai」が無いか、形が違います。この行以降は表示しません。",
+                   f"{off}行目：点数が直前の点数と増減の和ではありません。行の値を表示します。"),
+            "en": (f'Line {bad}: the field "pai" of this dahai is missing or out of form. Nothing from this line on is shown.',
+                   f"Line {off}: the scores aren't the points before and the deltas. The line's own are shown."),
+        }
+        for language, (problem, note) in wanted.items():
+            self.browser.run(f"(() => {{ const it = document.getElementById('lang'); it.value = '{language}'; it.dispatchEvent(new Event('change')); }})()")
+            self.assertEqual(self.text("problem"), problem)
+            self.assertTrue(self.text("notes").startswith(note), self.text("notes"))
+
+    def test_the_tile_of_a_robbed_kan_is_marked(self) -> None:
+        events = model.hands_of(RECORDS["robbed_kan"])[0]
+        kakan = next(place for place, event in enumerate(events) if event["type"] == "kakan")
+        marked = "[...document.querySelectorAll('#table .won')].map(it => [it.parentNode.dataset.tile, +it.closest('[data-seat]').dataset.seat, 'added' in it.parentNode.dataset])"
+        for deed, wanted in [(kakan + 1, []), (kakan + 2, [[events[kakan]["pai"], events[kakan]["actor"], True]])]:
+            self.drop(RECORDS["robbed_kan"], f"#hand=1&deed={deed}&lang=en")
+            self.assertEqual(self.browser.run(marked), wanted)
+
+    def test_the_graph_has_the_points_alone_and_fits_its_room(self) -> None:
+        text = RECORDS["whole_game"]
+        hands = model.hands_of(text)
+        for width in [1280, 375]:
+            self.browser.size(width, 800)
+            self.drop(text, "#hand=1&deed=1&lang=en")
+            paths = self.browser.run("[...document.querySelectorAll('#graph .line')].map(it => it.getAttribute('d'))")
+            lines = [path for path in paths if "L" in path]
+            self.assertEqual([path.count("L") for path in lines], [len(hands)] * 4)
+            # beside them a piece of each line stands at its name
+            self.assertEqual([path.split("h")[1] for path in paths if path not in lines], ["17"] * 4)
+            size = self.browser.run("(() => { const it = document.querySelector('#graph text'); return it.getBoundingClientRect().height; })()")
+            self.assertGreater(size, 11)
+
     def test_each_deed_is_said_in_words(self) -> None:
         self.drop(RECORDS["each_call"], "#hand=1&deed=1&lang=en")
         live = self.browser.run("(() => { const it = document.getElementById('deed'); return [it.getAttribute('aria-live'), it.getAttribute('aria-atomic')]; })()")
@@ -433,7 +476,7 @@ class Viewer(Page):
             if (colour.length && colour[3] !== 0) return colour;
           }
         };
-        const low = [];
+        const low = [], kinds = new Set();
         const check = (name, ink, ground) => { const it = ratio(rgb(ink), ground); if (it < 4.5) low.push(`${name}: ${it.toFixed(2)}`); };
         const walker = document.createTreeWalker(document.body, NodeFilter.SHOW_TEXT);
         let count = 0;
@@ -441,24 +484,38 @@ class Viewer(Page):
           const node = walker.currentNode.parentElement;
           if (!walker.currentNode.textContent.trim() || node.closest('script, style, title, #table, :disabled') || !node.getClientRects().length) continue;
           count += 1;
+          for (let at = node; at; at = at.parentElement) kinds.add(at.id).add(String(at.className));
           check(walker.currentNode.textContent, getComputedStyle(node)[node.closest('#graph') ? 'fill' : 'color'], groundOf(node));
         }
+        for (const node of document.querySelectorAll('select, .open')) check(node.id, getComputedStyle(node).color, groundOf(node));
+        // where the pointer is
+        const hover = rgb(getComputedStyle(document.querySelector('#graph .column.current rect')).fill);
+        for (const node of document.querySelectorAll('select, .open, #strip *, #deeds button:not([aria-current])')) check('under the pointer', getComputedStyle(node).color, hover);
         for (const node of document.querySelectorAll('#table text')) {
           const group = node.parentNode;
           const ground = node.classList.contains('letter') ? group.querySelector('.wind') : group.querySelector('.ground');
           count += 1;
+          kinds.add(node.getAttribute('class'));
           check(node.textContent, getComputedStyle(node).fill, rgb(getComputedStyle(ground).fill));
         }
-        return [count, low];
+        return [count, low, [...kinds]];
         """
+        faulty = RECORDS["four_riichis"].replace("29000", "28000") + "{\n"
+        live = "(() => { document.getElementById('live').hidden = false; document.querySelector('.furiten') || [...document.querySelectorAll('[data-shanten]')][0].insertAdjacentHTML('beforeend', '<strong class=\"furiten\">furiten</strong>'); })()"
         for dark in [False, True]:
-            for name, moment in [("whole_game", "#hand=6&deed=999"), ("double_ron", "#hand=1&deed=999"), ("four_riichis", "#hand=1&deed=20")]:
-                with self.subTest(name, dark=dark):
+            kinds = set()
+            for text, moment in [(RECORDS["whole_game"], "#hand=6&deed=79"), (RECORDS["whole_game"], "#hand=9&deed=999"), (RECORDS["double_ron"], "#hand=1&deed=999"),
+                                 (faulty, "#hand=1&deed=18")]:
+                with self.subTest(moment, dark=dark):
                     self.browser.size(1280, 1600, dark=dark)
-                    self.drop(RECORDS[name], moment + "&lang=en")
-                    count, low = self.browser.run(page_script(script))
+                    self.drop(text, moment + "&lang=en")
+                    self.browser.run(live)
+                    count, low, some = self.browser.run(page_script(script))
                     self.assertGreater(count, 40)
                     self.assertEqual(low, [])
+                    kinds |= set(some)
+            for kind in ["gain", "loss", "quiet", "points", "name", "letter", "problem", "notes", "live", "furiten", "result", "deeds", "strip", "graph", "keys"]:
+                self.assertIn(kind, kinds)
 
     def test_nothing_moves_for_who_wants_no_motion(self) -> None:
         for still in [True, False]:
@@ -468,19 +525,21 @@ class Viewer(Page):
             self.assertEqual(moves > 0, not still)
 
     def test_each_control_is_reached_by_the_keyboard(self) -> None:
-        self.drop(RECORDS["whole_game"], "#hand=3&deed=41&lang=en")
+        self.drop("table 0\n" + RECORDS["whole_game"] + "table 1\n" + RECORDS["each_call"], "#hand=3&deed=41&lang=en")
         reached = set()
         for _ in range(60):
             self.browser.press("Tab")
-            reached.add(self.browser.run("(at => at.id || at.parentElement?.parentElement?.id || at.parentElement?.id)(document.activeElement)"))
-        for control in ["file", "view", "bottom", "lang", "strip", "hand-back", "back", "play", "forward", "hand-forward", "place", "speed", "deeds"]:
-            self.assertIn(control, reached)
+            reached.add(self.browser.run("(at => at.id || at.closest('#strip, #deeds, #graph')?.id)(document.activeElement)"))
+        wanted = self.browser.run("[...document.querySelectorAll('button, select, input, [role=button]')].map(it => it.closest('#strip, #deeds, #graph')?.id || it.id)")
+        self.assertGreater(len(set(wanted)), 12)
+        self.assertEqual(set(wanted) - reached, set())
 
 
 # The other tests of the viewer, so that this file runs them all.
 from test_layout import Layout
 from test_live import Live
 from test_parts import Parts
+from test_pictures import Pictures
 from test_reading import Reading
 
 if __name__ == "__main__":
