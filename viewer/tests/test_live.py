@@ -35,6 +35,7 @@ class Live(Page):
         self.addCleanup(server.stdout.close)
         self.addCleanup(server.wait)
         self.addCleanup(server.kill)
+        self.server = server
         self.address = server.stdout.readline().strip()
         found = re.fullmatch(r"http://127.0.0.1:(\d+)/", self.address)
         assert found
@@ -70,6 +71,21 @@ class Live(Page):
         # another game in its place
         self.record.write_text("".join(lines[:first + 2]))
         self.wait("document.getElementById('where').textContent.startsWith('Hand 1 of 1, deed 2 of 2,')", 20)
+
+    def test_a_server_that_ends_is_said(self) -> None:
+        self.serve()
+        self.grow(RECORD)
+        self.browser.open(self.address + "#lang=en")
+        self.wait("document.getElementById('live').textContent === 'Live'", 20)
+        self.wait("!document.getElementById('game').hidden", 20)
+        where = self.text("where")
+        self.server.kill()
+        self.wait("document.getElementById('live').textContent === 'The connection is lost; trying again.'", 20)
+        self.browser.run("(() => { const it = document.getElementById('lang'); it.value = 'de'; it.dispatchEvent(new Event('change')); })()")
+        self.assertTrue(self.text("live").startswith("Die Verbindung ist unterbrochen"))
+        # what was told stays
+        self.browser.run("(() => { const it = document.getElementById('lang'); it.value = 'en'; it.dispatchEvent(new Event('change')); })()")
+        self.assertEqual(self.text("where"), where)
 
     @helpers.wants_program
     def test_the_public_stream_of_a_record_shows_no_hand_before_its_end(self) -> None:

@@ -2,6 +2,7 @@
 from __future__ import annotations
 
 import pathlib
+import re
 import shutil
 import subprocess
 import sys
@@ -26,6 +27,22 @@ class Parts(unittest.TestCase):
         page = build.page()
         for word in ["http://", "https://", "fetch(", "@import", "url(http", "XMLHttpRequest", "WebSocket"]:
             self.assertNotIn(word, page.replace("http://www.w3.org/2000/svg", ""))
+
+    def test_dark_mode_changes_colours_and_nothing_else(self) -> None:
+        """So what is measured of boxes in the light holds in the dark."""
+        style = (HERE.parent / "src" / "style.css").read_text(encoding="utf-8")
+        all_text = style + "".join(path.read_text(encoding="utf-8") for path in SOURCES)
+        self.assertEqual(all_text.count("prefers-color-scheme"), 1)
+        self.assertNotIn("light-dark(", all_text)
+        found = re.search(r"@media \(prefers-color-scheme: dark\) \{\s*:root \{([^}]*)\}\s*\}", style)
+        assert found
+        colours = re.findall(r"\s*--([a-z0-9-]+): #[0-9a-f]{6};", found[1])
+        self.assertEqual(re.sub(r"\s*--[a-z0-9-]+: #[0-9a-f]{6};", "", found[1]).strip(), "")
+        self.assertGreater(len(colours), 20)
+        # and such a colour stands only where a colour does
+        for name, value in re.findall(r"([a-z-]+): ([^;{}]*)", style):
+            if any(f"var(--{colour})" in value for colour in colours):
+                self.assertRegex(name, r"^(--(red-)?tile(-edge)?|(accent-|stop-)?color|background|border(-top|-color)?|box-shadow|outline|fill|stroke)$")
 
     @unittest.skipUnless(shutil.which("tsc"), "no tsc: install node-typescript")
     def test_the_types_hold(self) -> None:

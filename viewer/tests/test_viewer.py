@@ -16,11 +16,12 @@ import tempfile
 import unittest
 
 HERE = pathlib.Path(__file__).resolve().parent
-sys.path[:0] = [str(HERE), str(HERE.parent.parent / "examples" / "tests")]
+sys.path[:0] = [str(HERE), str(HERE.parent), str(HERE.parent.parent / "examples" / "tests")]
 import browser
 import helpers
 import model
 from driver import ADDRESS, Page, drop_script, page_script
+from page import page_of
 
 RECORDS = {path.stem: path.read_text() for path in sorted((HERE / "records").glob("*.txt"))}
 WILD = {path.name.split(".")[0]: gzip.decompress(path.read_bytes()).decode() for path in sorted((HERE / "records").glob("*.txt.gz"))}
@@ -179,8 +180,10 @@ class Viewer(Page):
         text = RECORDS["each_call"].replace('"names":["a"', '"names":["</script>a"')
         with tempfile.TemporaryDirectory() as folder:
             record, page = pathlib.Path(folder, "record.txt"), pathlib.Path(folder, "page.html")
-            record.write_text(text)
-            subprocess.run([HERE.parent / "page.py", record, page], check=True, timeout=60)
+            for data in [text.encode(), gzip.compress(text.encode())]:
+                record.write_bytes(data)
+                subprocess.run([HERE.parent / "page.py", record, page], check=True, timeout=60)
+                self.assertEqual(page.read_text(encoding="utf-8").count("tsumogiri"), page_of(text).count("tsumogiri"))
             self.browser.open(page.as_uri() + "#hand=1&deed=5")
         self.assertTrue(self.text("where").startswith("Hand 1 of 1, deed 5 of "))
         self.assertEqual(self.tables(), list(model.tables_of(text)))
