@@ -89,6 +89,21 @@ function deedOf(text) {
 }
 
 /**
+ * How other programs spell yaku and reasons of a drawn hand, and how we do.
+ * @type {Record<string, string>}
+ */
+const SPELLINGS = {
+  menzenchin_tsumoho: "menzen_tsumo", ipeko: "iipeikou", tanyaochu: "tanyao", jikaze: "seat_wind", bakaze: "round_wind", haiteiraoyue: "haitei",
+  hoteiraoyui: "houtei", rinshankaiho: "rinshan", chitoitsu: "chiitoitsu", toitoiho: "toitoi", sananko: "sanankou", sanshokudoko: "sanshoku_doukou",
+  honroto: "honroutou", shosangen: "shousangen", sanshokudojun: "sanshoku_doujun", ikkitsukan: "ittsu", honchantaiyao: "chanta", honiso: "honitsu",
+  junchantaiyao: "junchan", ryanpeko: "ryanpeikou", chiniso: "chinitsu", kokushimuso: "kokushi", suanko: "suuankou", shosushi: "shousuushi",
+  daisushi: "daisuushi", tsuiso: "tsuuiisou", chinroto: "chinroutou", ryuiso: "ryuuiisou", churenpoton: "chuuren", sukantsu: "suukantsu",
+  tenho: "tenhou", chiho: "chiihou", sufonrenta: "suufonrenta", suchareach: "suuchareach", sukaikan: "suukaikan",
+};
+/** @param {string} name */
+const spelled = name => Object.hasOwn(SPELLINGS, name) ? SPELLINGS[name] : name;
+
+/**
  * Points that a deed moves are told as changes, as points after it, or both; what isn't told follows from the points before.
  * @param {Deed} deed @param {State} state @returns {Deed}
  */
@@ -107,11 +122,12 @@ function withPoints(deed, state) {
 function completed(deed, state) {
   if (!["reach_accepted", "hora", "ryukyoku"].includes(deed.type)) return deed;
   const whole = withPoints(deed, state);
-  if (deed.type === "ryukyoku") return {...whole, reason: deed.reason ?? ""};
+  if (deed.type === "ryukyoku") return {...whole, reason: spelled(deed.reason ?? "")};
   if (deed.type === "reach_accepted") return whole;
   const pai = deed.pai ?? (deed.actor === deed.target ? state.seats[deed.actor].drawn : state.offered?.pai);
   if (!isTile(pai)) throw new Fault("noTileToWin");
-  return {...whole, pai, uradora_markers: deed.uradora_markers ?? deed.ura_markers ?? []};
+  const yakus = deed.yakus?.map((/** @type {[string, number?]} */ [name, ...han]) => [spelled(name), ...han]);
+  return {...whole, pai, yakus, uradora_markers: deed.uradora_markers ?? deed.ura_markers ?? []};
 }
 
 /** @param {number | null} number @returns {Game} */

@@ -177,6 +177,7 @@ export const TEXTS = {
       junchan: "純全帯么九", dora: "ドラ", uradora: "裏ドラ", akadora: "赤ドラ", ryanpeikou: "二盃口", chinitsu: "清一色", kokushi: "国士無双",
       suuankou: "四暗刻", daisangen: "大三元", shousuushi: "小四喜", daisuushi: "大四喜", tsuuiisou: "字一色", chinroutou: "清老頭",
       ryuuiisou: "緑一色", chuuren: "九蓮宝燈", suukantsu: "四槓子", tenhou: "天和", chiihou: "地和",
+      sangenpai: "役牌",
     },
     han: count => `${count}翻`, hanAndFu: (han, fu) => `${han}翻 ${fu}符`, yakuman: "役満", yakus: "役", payments: "点数移動", noPayments: "点数移動なし",
     ready: "聴牌", shanten: number => `${number}向聴`, furiten: "振聴", riichi: "立直", none: "なし", unknown: "非公開",

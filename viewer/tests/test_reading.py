@@ -4,19 +4,22 @@ from __future__ import annotations
 import gzip
 import json
 import pathlib
+import re
 import sys
 import tempfile
 import unittest
 
 HERE = pathlib.Path(__file__).resolve().parent
-sys.path[:0] = [str(HERE), str(HERE.parent.parent / "league")]
+sys.path[:0] = [str(HERE), *(str(HERE.parent.parent / folder) for folder in ("league", "examples"))]
 import browser
 import export
 import model
+from customs import REASONS, YAKU
 from driver import ADDRESS, Page
 
 RECORD = (HERE / "records" / "four_riichis.txt").read_text()
 KAN = (HERE / "records" / "robbed_kan.txt").read_text()
+READ = (HERE.parent / "src" / "read.js").read_text(encoding="utf-8")
 POINTS = "[...document.querySelectorAll('#table .points')].map(it => +it.textContent.replace(',', '').replace('−', '-'))"
 
 
@@ -86,6 +89,17 @@ class Reading(Page):
                     self.drop(export.written(record, is_plain))
                     self.assertEqual(self.text("problem"), "")
                     self.assertEqual(self.tables(), list(model.tables_of(record)))
+
+    def test_yaku_and_reasons_in_other_spellings_are_those_of_a_record(self) -> None:
+        self.assertEqual({YAKU[name] for name in YAKU if YAKU[name] != name} - {"sangenpai"} | {it for name, it in REASONS.items() if it != name},
+                         set(re.findall(r"([a-z_]+): \"", re.findall(r"const SPELLINGS = \{(.*?)\};", READ, re.DOTALL)[0])))
+        for name in ["double_ron", "four_riichis", "red_fives", "whole_game", "four_winds"]:
+            record = (HERE / "records" / f"{name}.txt").read_text()
+            said = []
+            for text in [record, export.written(record, True)]:
+                self.drop(text, "#hand=1&deed=999&lang=ja")
+                said.append(self.text("results"))
+            self.assertEqual(*said)
 
     def test_points_that_do_not_add_up_are_said_and_it_goes_on(self) -> None:
         lines = RECORD.split("\n")
