@@ -32,7 +32,7 @@ TESTS='
 400 league/tests/test_faults.py
 400 league/tests/test_cluster.py
 300 tools/tests/test_release.py
-600 viewer/tests/test_viewer.py
+900 viewer/tests/test_viewer.py
 60 bindings/page/tests/test_page.py
 '
 

@@ -17,6 +17,8 @@ ADDRESS = (HERE.parent / "index.html").as_uri()
 # Reads the table from the page's own elements, seat after seat.
 SEEN = """
 const tiles = (node, kind) => [...node.querySelectorAll(kind + ' [data-tile]')];
+// a mark on a tile that is drawn and not only kept
+const has = (tile, mark) => tile.querySelector(mark) !== null;
 const seen = () => {
   const seats = [0, 1, 2, 3].map(seat => document.querySelector(`#table [data-seat="${seat}"]`));
   const centre = document.getElementById('centre');
@@ -28,14 +30,14 @@ const seen = () => {
       return [meld.dataset.type, all.map(tile => tile.dataset.tile).sort(), all.findIndex(tile => 'called' in tile.dataset)];
     })),
     rivers: seats.map(seat => tiles(seat, '.river').map(tile =>
-      [tile.dataset.tile, 'side' in tile.dataset && 'riichi' in tile.dataset, 'called' in tile.dataset, 'drawn' in tile.dataset])),
+      [tile.dataset.tile, 'side' in tile.dataset && has(tile, '.bid'), has(tile, '.frame.taken'), has(tile, '.shade')])),
     points: seats.map(seat => +seat.querySelector('.plate .points').textContent.replace(',', '').replace('−', '-')),
     state,
     indicators: tiles(centre, '.indicators').map(tile => tile.dataset.tile).filter(tile => tile !== '?'),
     left,
-    newest: seats.flatMap((seat, index) => tiles(seat, '.river').flatMap((tile, place) => 'newest' in tile.dataset ? [index, place] : []))
+    newest: seats.flatMap((seat, index) => tiles(seat, '.river').flatMap((tile, place) => 'newest' in tile.dataset && has(tile, '.frame') ? [index, place] : []))
       .reduce((found, it) => [...(found || []), it], null),
-    dora: document.querySelectorAll('#table .seat [data-dora]').length,
+    dora: [...document.querySelectorAll('#table .seat [data-dora]')].filter(tile => has(tile, '.dora') || tile.dataset.tile.length === 3).length,
   };
 };
 const press = key => document.body.dispatchEvent(new KeyboardEvent('keydown', {key, bubbles: true, cancelable: true}));

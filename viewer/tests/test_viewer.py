@@ -430,6 +430,34 @@ class Viewer(Page):
             self.assertEqual(self.text("problem"), problem)
             self.assertTrue(self.text("notes").startswith(note), self.text("notes"))
 
+    def test_marks_are_seen(self) -> None:
+        """A shaded, a golden and a red tile each look unlike a plain one, light and dark."""
+        for dark in [False, True]:
+            self.browser.size(1100, 800, dark=dark, still=True)
+            self.drop(RECORDS["red_fives"], "#hand=1&deed=999&lang=en")
+            shade, faces, fills = self.browser.run("""(() => {
+              const face = node => getComputedStyle(document.querySelector(node)).getPropertyValue('--tile');
+              const fill = tile => getComputedStyle(document.querySelector(`#t-${tile} rect:nth-of-type(2)`)).fill;
+              return [+getComputedStyle(document.querySelector('#table .shade')).opacity, ['#table', '#table .of-dora'].map(face), ['5m', '5mr'].map(fill)];
+            })()""")
+            self.assertGreater(shade, .2)
+            self.assertNotEqual(*faces)
+            self.assertNotEqual(*fills)
+
+    def test_furiten_is_said(self) -> None:
+        hands = [["1m", "2m", "3m", "6p", "7p", "8p", "7s", "8s", "9s", "2p", "3p", "E", "E"]] + [["1m", "4m", "7m", "2p", "5p", "8p", "3s", "6s", "9s", "E", "S", "W", "N"]] * 3
+        log: list[model.Event] = [
+            {"type": "start_game", "names": ["a", "b", "c", "d"]},
+            {"type": "start_kyoku", "bakaze": "E", "kyoku": 1, "honba": 0, "kyotaku": 0, "oya": 0, "dora_marker": "9s", "tehais": hands},
+            {"type": "tsumo", "actor": 0, "pai": "1p"}, {"type": "dahai", "actor": 0, "pai": "1p", "tsumogiri": True},
+        ]
+        said = "[document.querySelector('#seat-rows tr').innerText.replace(/\\s+/g, ' '), document.querySelector('[data-seat=\"0\"] .plate').textContent]"
+        for count, is_furiten in [(3, False), (4, True)]:
+            self.drop("".join(json.dumps(event) + "\n" for event in log[:count]), "#hand=1&deed=9&lang=en")
+            row, plate = self.browser.run(said)
+            self.assertEqual(("furiten" in row, "furiten" in plate), (is_furiten, is_furiten))
+            self.assertIn("×3 ×4", row)
+
     def test_the_tile_of_a_robbed_kan_is_marked(self) -> None:
         events = model.hands_of(RECORDS["robbed_kan"])[0]
         kakan = next(place for place, event in enumerate(events) if event["type"] == "kakan")
