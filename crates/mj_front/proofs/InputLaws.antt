@@ -10,7 +10,7 @@ use Rattle.mj_deeds.specs.declared.answer.Answer.{Answer}
 use Rattle.mj_wall.specs.declared.setting.Setting.{Setting}
 use Rattle.mj_history.specs.Legal.{Game}
 use Rattle.mj_history.specs.Arrivals.{input_of}
-use Rattle.mj_journal.specs.Disks.{Only, LeavesOnly}
+use Rattle.mj_journal.specs.Disks.{Only, LeavesOnly, SyncsOnly}
 use Rattle.mj_journal.specs.Looking.{OnlyLooks}
 use Rattle.mj_journal.specs.Openings.{Opening, Fresh, Other, Bad, is_fresh, IsNewOrTag}
 use Rattle.mj_journal.specs.Founding.{IsInPlay, OpensGame, OpensAs}
@@ -27,11 +27,13 @@ use Rattle.mj_front.specs.declared.keep.KeepEnd.TheVariants as ends
 use Rattle.mj_front.specs.Inputs.{longest, IsRead}
 use Rattle.mj_front.specs.Referee.{ending}
 use Rattle.mj_front.specs.declared.watched.Watched.{Watched}
-use Rattle.mj_front.specs.Keep.{Base, Gives, IsSafe, base_of, play_of, opens_for, KeepsInput, KeepsAll, KeepsWhole, KeepsPart, LosesNothing, IsRefused}
+use Rattle.mj_front.specs.Keep.{Base, Gives, GivesFront, IsSafe, base_of, play_of, opens_for, KeepsInput, KeepsAll, KeepsWhole, KeepsPart, LosesNothing, IsRefused}
 use Rattle.mj_front.specs.Statuses.{keep_status}
 use Rattle.mj_front.specs.Faults.{CountsDiskFaults}
 use Rattle.mj_front.specs.Inner.Keeping.{GoesOn, IsPlayed, KeepsOn, StaysSafe, WritesScript}
 use Rattle.mj_front.proofs.NoteLaws.{setting_in, entries_in}
+use Rattle.mj_journal.proofs.Moments.{goes_on, weaker}
+use Rattle.mj_front.proofs.Fronts.{front-all, front-more}
 use Rattle.mj_front.proofs.SafeLaws.{gives-one, unopened-safe, other-fresh, opened-goes, opened-gives}
 
 abbrev Entries : Type 0
@@ -40,18 +42,38 @@ Entries = List (Entry Answer)
 abbrev Bytes : Type 0
 Bytes = List ℕ
 
-module _ {D : Type 0} (told : D → Option Bytes) (may_leave : D → Bytes → Type 0) (seat : ℕ) (base : Base) (input : Bytes) (founds : base_of input ≡ Some base) (old : D) where
+module _ {D : Type 0} (told : D → Option Bytes) (may_leave : D → Bytes → Type 0) (moment : D → ℕ) (secured_since : D → ℕ → Bytes → Type 0) (seat : ℕ) (base : Base) (input : Bytes) (founds : base_of input ≡ Some base) (old : D) where
   -- Once the journal was opened.
   module _ (kept : Entries) (old_written new_written : Option Bytes) (mid new : D) (had : (bytes : Bytes) → told old ≡ Some bytes →
-      Gives (opens_for base bytes) kept) (on : TellsOn (told old) (told mid)) where
-    safe_since : StaysSafe told may_leave base kept input mid new → LosesNothing told may_leave (base_of input) input old new
+      Gives (opens_for base bytes) kept) (on : TellsOn (told old) (told mid))
+      (before : (bytes : Bytes) (found : Entries) → told old ≡ Some bytes → Only bytes (may_leave old) → Gives (opens_for base bytes) found
+      → SyncsOnly moment secured_since old mid (λ image. Gives (opens_for base image) found)) where
+    -- What the syncs before put on the disk too.
+    safe-on : (found : Entries) → SyncsOnly moment secured_since old mid (λ image. Gives (opens_for base image) found)
+        → IsSafe may_leave moment secured_since base found input mid new → IsSafe may_leave moment secured_since base found input old new
+    safe-on found first s = record {
+      made = s.made;
+      next = s.next;
+      later = s.later;
+      all = s.all;
+      one = s.one;
+      each = s.each;
+      acknowledged =
+          goes_on moment secured_since old mid new (λ image. GivesFront (opens_for base image) (found ++ s.made)) _
+          (weaker moment secured_since old mid _ _ first
+          (λ image g. front-more (opens_for base image) found (found ++ s.made) (record { rest = s.made; is = refl }) (front-all (opens_for base image) found g)))
+          s.acknowledged (λ image f. f);
+    }
+
+    safe_since : StaysSafe told may_leave moment secured_since base kept input mid new → LosesNothing told may_leave moment secured_since (base_of input) input old new
     safe_since safe =
-        subst (λ (o : Option Base). LosesNothing told may_leave o input old new) (sym founds)
+        subst (λ (o : Option Base). LosesNothing told may_leave moment secured_since o input old new) (sym founds)
         (λ bytes found is only gives.
         let b = on bytes is in
-        subst (λ (es : Entries). IsSafe base es input (may_leave new)) (gives-one (opens_for base bytes) kept found (had bytes is) gives) (safe b.0 b.1))
+        safe-on found (before bytes found is only gives)
+        (subst (λ (es : Entries). IsSafe may_leave moment secured_since base es input mid new) (gives-one (opens_for base bytes) kept found (had bytes is) gives) (safe b.0 b.1)))
 
-    pub keeps_input : (end : KeepEnd) → KeepsOn told may_leave end base seat kept input old_written new_written mid new → KeepsInput told may_leave end seat input old_written new_written old new
+    pub keeps_input : (end : KeepEnd) → KeepsOn told may_leave moment secured_since end base seat kept input old_written new_written mid new → KeepsInput told may_leave moment secured_since end seat input old_written new_written old new
     keeps_input (ends.Told e) k =
         subst (λ (o : Option Base). KeepsWhole told may_leave o (ending e) seat input old_written new_written old new) (sym founds)
         (record { kept = kept; had = had; ends = k.ends; tells = k.tells; stands = λ bytes is. let b = on bytes is in k.stands b.0 b.1 })
@@ -66,19 +88,20 @@ module _ {D : Type 0} (told : D → Option Bytes) (may_leave : D → Bytes → T
     keeps_input ends.TooLong k = absurd k
 
   -- Where it wasn't opened.
-  module _ (moment : D → ℕ) (left_since : D → ℕ → Bytes → Type 0) (counts_now : (disk : D) (t : ℕ) (image : Bytes) → t ≤ moment disk →
+  module _ (left_since : D → ℕ → Bytes → Type 0) (counts_now : (disk : D) (t : ℕ) (image : Bytes) → t ≤ moment disk →
       may_leave disk image → left_since disk t image) (written : Option Bytes) (new : D)
-      (looks : (bytes : Bytes) → told old ≡ Some bytes → is_fresh bytes ≡ false → OnlyLooks told may_leave moment left_since old new)
-      (any_moment : (bytes : Bytes) → told old ≡ Some bytes → is_fresh bytes ≡ true → Only bytes (may_leave old) → LeavesOnly moment left_since old new (IsNewOrTag base.tag)) where
-    loses_nothing : LosesNothing told may_leave (base_of input) input old new
+      (looks : (bytes : Bytes) → told old ≡ Some bytes → is_fresh bytes ≡ false → OnlyLooks told may_leave moment left_since secured_since old new)
+      (any_moment : (bytes : Bytes) → told old ≡ Some bytes → is_fresh bytes ≡ true → Only bytes (may_leave old) → LeavesOnly moment left_since old new (IsNewOrTag base.tag))
+      (syncs : (bytes : Bytes) → told old ≡ Some bytes → is_fresh bytes ≡ true → Only bytes (may_leave old) → SyncsOnly moment secured_since old new (IsNewOrTag base.tag)) where
+    loses_nothing : LosesNothing told may_leave moment secured_since (base_of input) input old new
     loses_nothing =
-        subst (λ (o : Option Base). LosesNothing told may_leave o input old new) (sym founds)
-        (λ bytes kept is only gives. unopened-safe told may_leave moment left_since counts_now base input old new looks any_moment bytes kept is only gives)
+        subst (λ (o : Option Base). LosesNothing told may_leave moment secured_since o input old new) (sym founds)
+        (λ bytes kept is only gives. unopened-safe told may_leave moment left_since secured_since counts_now base input old new looks any_moment syncs bytes kept is only gives)
 
-    pub failed_open : KeepsInput told may_leave ends.DiskFault seat input written written old new
+    pub failed_open : KeepsInput told may_leave moment secured_since ends.DiskFault seat input written written old new
     failed_open = (Keeps-refl written, loses_nothing)
 
-    pub wanting_open : KeepsInput told may_leave ends.NoMemory seat input written written old new
+    pub wanting_open : KeepsInput told may_leave moment secured_since ends.NoMemory seat input written written old new
     wanting_open = (Keeps-refl written, inr loses_nothing)
 
     refused_by : (why : Opening Entries) → (why ≡ Fresh → ⊥) → ((bytes : Bytes) → told old ≡ Some bytes → opens_for base bytes ≡ why) → IsRefused told may_leave (base_of input) why old new
@@ -86,16 +109,16 @@ module _ {D : Type 0} (told : D → Option Bytes) (may_leave : D → Bytes → T
         subst (λ (o : Option Base). IsRefused told may_leave o why old new) (sym founds)
         (λ bytes is.
         let so = is_so bytes is in
-        let seen = looks bytes is (other-fresh told may_leave moment left_since counts_now base input old new looks any_moment bytes why not_new so) in (so, seen.reads, seen.crash))
+        let seen = looks bytes is (other-fresh told may_leave moment left_since secured_since counts_now base input old new looks any_moment syncs bytes why not_new so) in (so, seen.reads, seen.crash))
 
-    pub other_open : ((bytes : Bytes) → told old ≡ Some bytes → opens_for base bytes ≡ Other) → KeepsInput told may_leave ends.OtherGame seat input written written old new
+    pub other_open : ((bytes : Bytes) → told old ≡ Some bytes → opens_for base bytes ≡ Other) → KeepsInput told may_leave moment secured_since ends.OtherGame seat input written written old new
     other_open is_so = (Keeps-refl written, refused_by Other (λ e. absurd (cc e)) is_so)
 
-    pub bad_open : (place : ℕ) → ((bytes : Bytes) → told old ≡ Some bytes → opens_for base bytes ≡ Bad place) → KeepsInput told may_leave (ends.BadJournal place) seat input written written old new
+    pub bad_open : (place : ℕ) → ((bytes : Bytes) → told old ≡ Some bytes → opens_for base bytes ≡ Bad place) → KeepsInput told may_leave moment secured_since (ends.BadJournal place) seat input written written old new
     bad_open place is_so = (Keeps-refl written, refused_by (Bad place) (λ e. absurd (cc e)) is_so)
 
 -- What becomes of an input that was read.
-module _ {D : Type 0} (told : D → Option Bytes) (may_leave : D → Bytes → Type 0) (seat : ℕ) (old_left new_left old_written new_written : Option Bytes) (old new : D) where
+module _ {D : Type 0} (told : D → Option Bytes) (may_leave : D → Bytes → Type 0) (moment : D → ℕ) (secured_since : D → ℕ → Bytes → Type 0) (seat : ℕ) (old_left new_left old_written new_written : Option Bytes) (old new : D) where
   read-is : (start input : Bytes) (limit : ℕ) → start ≡ [] → limit ≡ longest → TakesOver old_left new_left start input → IsAtEnd new_left →
       length input ≤ length start + limit → IsRead old_left new_left input
   read-is start input limit none is takes ends fits = record {
@@ -104,8 +127,8 @@ module _ {D : Type 0} (told : D → Option Bytes) (may_leave : D → Bytes → T
     fits = omega (arith, ap length none, is, fits);
   }
 
-  by-end : (end : KeepEnd) (input : Bytes) → IsRead old_left new_left input → KeepsInput told may_leave end seat input old_written new_written old new
-      → KeepsAll told may_leave end seat old_left new_left old_written new_written old new
+  by-end : (end : KeepEnd) (input : Bytes) → IsRead old_left new_left input → KeepsInput told may_leave moment secured_since end seat input old_written new_written old new
+      → KeepsAll told may_leave moment secured_since end seat old_left new_left old_written new_written old new
   by-end (ends.Told e) input read does = record { input = input; read = read; does = does }
   by-end ends.WriteFault input read does = record { input = input; read = read; does = does }
   by-end ends.DiskFault input read does = record { input = input; read = read; does = does }
@@ -117,19 +140,19 @@ module _ {D : Type 0} (told : D → Option Bytes) (may_leave : D → Bytes → T
 
   pub keeps-all : (end : KeepEnd) (start input seen : Bytes) (limit : ℕ) → start ≡ [] → limit ≡ longest → seen ≡ input →
       TakesOver old_left new_left start input × IsAtEnd new_left × (length input ≤ length start + limit)
-      → KeepsInput told may_leave end seat seen old_written new_written old new → KeepsAll told may_leave end seat old_left new_left old_written new_written old new
+      → KeepsInput told may_leave moment secured_since end seat seen old_written new_written old new → KeepsAll told may_leave moment secured_since end seat old_left new_left old_written new_written old new
   keeps-all end start input seen limit none is same read does =
-      by-end end input (read-is start input limit none is read.0 read.1 read.2) (subst (λ (i : Bytes). KeepsInput told may_leave end seat i old_written new_written old new) same does)
+      by-end end input (read-is start input limit none is read.0 read.1 read.2) (subst (λ (i : Bytes). KeepsInput told may_leave moment secured_since end seat i old_written new_written old new) same does)
 
 -- An input that founds no game.
-pub keeps-nothing : {D : Type 0} (told : D → Option Bytes) (may_leave : D → Bytes → Type 0) (seat : ℕ) (input : Bytes) (end : End)
+pub keeps-nothing : {D : Type 0} (told : D → Option Bytes) (may_leave : D → Bytes → Type 0) (moment : D → ℕ) (secured_since : D → ℕ → Bytes → Type 0) (seat : ℕ) (input : Bytes) (end : End)
     (written : Option Bytes) (disk : D) → (base_of input ≡ None) × ((input_of input).ending ≡ ending end)
-    → KeepsInput told may_leave (ends.Told end) seat input written written disk disk
-keeps-nothing told may_leave seat input end written disk is =
+    → KeepsInput told may_leave moment secured_since (ends.Told end) seat input written written disk disk
+keeps-nothing told may_leave moment secured_since seat input end written disk is =
     subst (λ (o : Option Base). KeepsWhole told may_leave o (ending end) seat input written written disk disk) (sym is.0) (record { ends = is.1; unwritten = Keeps-refl written; untouched = refl })
 
 -- A journal that was opened, and what then becomes of the lines after the tag.
-module _ {D : Type 0} (told : D → Option Bytes) (may_leave : D → Bytes → Type 0) (seat : ℕ) (base : Base) (input : Bytes)
+module _ {D : Type 0} (told : D → Option Bytes) (may_leave : D → Bytes → Type 0) (moment : D → ℕ) (secured_since : D → ℕ → Bytes → Type 0) (seat : ℕ) (base : Base) (input : Bytes)
     (founds : base_of input ≡ Some base) (old mid new : D) (kept : Kept Watched) (old_written new_written : Option Bytes)
     (w : Watched) (start : w.core ≡ record { setting = base.setting; entries = [] }) (of_seat : w.seat ≡ seat) (wall : (length base.setting.walls == 0) ≡ false) where
   same : w.core.setting ≡ base.setting
@@ -140,18 +163,21 @@ module _ {D : Type 0} (told : D → Option Bytes) (may_leave : D → Bytes → T
 
   pub keeps-opened : IsInPlay setting_in (setting_in w) (game_of kept) → ((bytes : Bytes) → told old ≡ Some bytes →
       OpensGame setting_in entries_in (setting_in w) (opens (play_of w.core.setting) base.tag bytes) (game_of kept) (end_of kept))
-      → TellsOn (told old) (told mid) → IsAtRest (told mid) (may_leave mid) (end_of kept) →
+      → TellsOn (told old) (told mid)
+      → ((bytes : Bytes) (found : Entries) → told old ≡ Some bytes → Only bytes (may_leave old) → Gives (opens_for base bytes) found
+      → SyncsOnly moment secured_since old mid (λ image. Gives (opens_for base image) found))
+      → IsAtRest (told mid) (may_leave mid) (end_of kept) →
       IfKept (game_of kept) (λ v. TellsGame (opens (play_of w.core.setting) base.tag) (told mid) v.core.entries (end_of kept)) → (end : KeepEnd)
-      → ((game : Game) → base.setting ≡ game.setting → GoesOn told may_leave base.tag seat kept mid game → KeepsOn told may_leave end base seat game.entries input old_written new_written mid new)
-      → KeepsInput told may_leave end seat input old_written new_written old new
-  keeps-opened play opened on rest tells end does =
+      → ((game : Game) → base.setting ≡ game.setting → GoesOn told may_leave base.tag seat kept mid game → KeepsOn told may_leave moment secured_since end base seat game.entries input old_written new_written mid new)
+      → KeepsInput told may_leave moment secured_since end seat input old_written new_written old new
+  keeps-opened play opened on before rest tells end does =
       let play_now = subst (λ (s : Setting × ℕ). IsInPlay setting_in s (game_of kept)) both play in
       let tells_now = subst (λ (s : Setting). IfKept (game_of kept) (λ v. TellsGame (opens (play_of s) base.tag) (told mid) v.core.entries (end_of kept))) same tells in
       let o = opened-goes told may_leave base.tag seat base.setting kept mid wall rest play_now tells_now in
       let had = λ (bytes : Bytes) (is : told old ≡ Some bytes).
       opened-gives (opens_for base bytes) base.setting seat kept o.game o.is
       (subst (λ (s : Setting × ℕ). OpensGame setting_in entries_in s (opens (play_of s.0) base.tag bytes) (game_of kept) (end_of kept)) both (opened bytes is)) in
-      keeps_input told may_leave seat base input founds old o.game.entries old_written new_written mid new had on end (does o.game (sym o.same) o.goes)
+      keeps_input told may_leave moment secured_since seat base input founds old o.game.entries old_written new_written mid new had on before end (does o.game (sym o.same) o.goes)
 
 -- How the disk opens for a watched game without entries.
 pub opened-as : (setting : Setting) (w : Watched) (tag bytes : Bytes) (o : Opening Entries) → w.core ≡ record { setting = setting; entries = [] } →

@@ -17,6 +17,7 @@ pub mod WatchLaws
 pub mod PlayedLaws
 pub mod NoteLaws
 pub mod KeepLaws
+pub mod Fronts
 pub mod WalkLaws
 pub mod SafeLaws
 pub mod BaseLaws

@@ -35,12 +35,14 @@ use Rattle.mj_journal.specs.declared.answered.Answered.{Answered}
 use Rattle.mj_journal.specs.declared.answered.Answered.TheVariants as answered
 use Rattle.mj_journal.specs.declared.kept.Kept.{Kept}
 use Rattle.mj_journal.proofs.Enterings.{by_of, asked_of}
+use Rattle.mj_journal.proofs.Moments.{weaker, unsynced}
 use Rattle.mj_front.specs.declared.watched.Watched.{Watched}
 use Rattle.mj_front.specs.Keep.{play_of}
 use Rattle.mj_front.specs.declared.keeping.Noted.{Noted}
 use Rattle.mj_front.specs.declared.keeping.Noted.TheVariants as notes
 use Rattle.mj_front.specs.Inner.Intake.{intake_of, present_in}
 use Rattle.mj_front.specs.Inner.Keeping.{list_of, noted_by, asked_in, Notes, NotesNone, GoesOn}
+use Rattle.mj_front.proofs.Fronts.{front-to, front-by}
 use Rattle.mj_front.proofs.PlayLaws.{sits-by, says, goes, expires-by, stale, present-is}
 use Rattle.mj_front.proofs.PlayedLaws.{IsAsked, is-asked}
 use Rattle.mj_front.proofs.Telling.{has_chair}
@@ -201,7 +203,7 @@ answers-expiry result author window t1 t2 w b h =
 no_game : {G : Type 0} (g : G) → Some g ≡ None → ⊥
 no_game g e = cc e
 
-module _ {D : Type 0} (told : D → Option (List ℕ)) (may_leave : D → List ℕ → Type 0) (moment : D → ℕ) (left_since : D → ℕ → List ℕ → Type 0)
+module _ {D : Type 0} (told : D → Option (List ℕ)) (may_leave : D → List ℕ → Type 0) (moment : D → ℕ) (left_since secured_since : D → ℕ → List ℕ → Type 0)
     (counts_now : (disk : D) (t : ℕ) (image : List ℕ) → t ≤ moment disk → may_leave disk image → left_since disk t image)
     (T : Type 0) (tag : List ℕ) (seat : ℕ) (kept new_kept : Kept Watched) (old new : D) (call : GameCall) (arrival : Arrival) where
   same_core : (v w : Watched) (es : List (Entry Answer)) → v.core.setting ≡ w.core.setting → v.core.entries ≡ es → v.core ≡ record { setting = w.core.setting; entries = es }
@@ -224,9 +226,9 @@ module _ {D : Type 0} (told : D → Option (List ℕ)) (may_leave : D → List �
       (tells : TellsGame (opens (play_of w.core.setting) tag) (told old) w.core.entries (end_of kept)) (leads : IsArrivalOf arrival w.core call) where
     noted_at : (result : Answered T) (b : Option Watched) → game_of new_kept ≡ b → Answers setting_in entries_in result (Adds_entry call) (Some w) b →
         IfKept b (λ g. IsAtRest (told new) (may_leave new) (end_of new_kept))
-        → AnyMoment told moment left_since (play_of w.core.setting) w.core.entries (end_of kept) call old new
-        → IfBoth (Some w) b (λ g h. Acknowledged told may_leave (play_of g.core.setting) old new g.core.entries (end_of kept) h.core.entries (end_of new_kept))
-        → Notes told may_leave (noted_by result) tag seat w.core new_kept old new arrival
+        → AnyMoment told moment left_since secured_since (play_of w.core.setting) w.core.entries (end_of kept) call result old new
+        → IfBoth (Some w) b (λ g h. Acknowledged told may_leave moment secured_since (play_of g.core.setting) old new g.core.entries (end_of kept) h.core.entries (end_of new_kept))
+        → Notes told may_leave moment secured_since (noted_by result) tag seat w.core new_kept old new arrival
     noted_at (answered.Done answer) None is h rest any after = absurd h
     noted_at (answered.Done answer) (Some v) is h rest any after = record {
       next = with_call w.core call;
@@ -234,6 +236,9 @@ module _ {D : Type 0} (told : D → Option (List ℕ)) (may_leave : D → List �
       setting = refl;
       goes = goes_as v w (w.core.entries ++ list_of (entered (play_of w.core.setting) w.core.entries call)) is h.0 h.1 of_seat wall rest (after.tells tag tells);
       on = after.on;
+      syncs = λ bytes is.
+          weaker moment secured_since old new _ _ (any tag bytes is (tells bytes is)).1
+          (λ image o. front-by (opens (play_of w.core.setting) tag) w.core.entries image (entered (play_of w.core.setting) w.core.entries call) o);
     }
     noted_at answered.DiskFault b is h rest any after = record {
       next = with_call w.core call;
@@ -241,30 +246,34 @@ module _ {D : Type 0} (told : D → Option (List ℕ)) (may_leave : D → List �
       leads = leads;
       setting = refl;
       entries = refl;
-      each = λ bytes image is left. let run = any tag bytes is (tells bytes is) in run.each image (counts_now new (moment old) image run.later left);
+      each = λ bytes image is left. let run = (any tag bytes is (tells bytes is)).0 in run.each image (counts_now new (moment old) image run.later left);
+      syncs = λ bytes is.
+          weaker moment secured_since old new _ _ (any tag bytes is (tells bytes is)).1 (λ image o. front-to (opens (play_of w.core.setting) tag) w.core.entries image o);
     }
     noted_at answered.Stopped b is h rest any after = absurd (no_game w h.0)
     noted_at answered.NoMemory None is h rest any after = absurd h
     noted_at answered.NoMemory (Some v) is h rest any after = record {
       goes = goes_as v w w.core.entries is h.0 h.1 of_seat wall rest (after.tells tag tells);
       on = after.on;
+      syncs = λ bytes is.
+          weaker moment secured_since old new _ _ (any tag bytes is (tells bytes is)).1 (λ image o. front-to (opens (play_of w.core.setting) tag) w.core.entries image o);
     }
 
   -- So for a game that goes on.
   pub noted : (result : Answered T) (game : Game) → GoesOn told may_leave tag seat kept old game → IsArrivalOf arrival game call
       → ((w : Watched) → game_of kept ≡ Some w → Answers setting_in entries_in result (Adds_entry call) (Some w) (game_of new_kept)) →
       IfKept (game_of new_kept) (λ g. IsAtRest (told new) (may_leave new) (end_of new_kept))
-      → IfKept (game_of kept) (λ g. AnyMoment told moment left_since (play_of g.core.setting) g.core.entries (end_of kept) call old new)
-      → IfBoth (game_of kept) (game_of new_kept) (λ g h. Acknowledged told may_leave (play_of g.core.setting) old new g.core.entries (end_of kept) h.core.entries (end_of new_kept))
-      → Notes told may_leave (noted_by result) tag seat game new_kept old new arrival
+      → IfKept (game_of kept) (λ g. AnyMoment told moment left_since secured_since (play_of g.core.setting) g.core.entries (end_of kept) call result old new)
+      → IfBoth (game_of kept) (game_of new_kept) (λ g h. Acknowledged told may_leave moment secured_since (play_of g.core.setting) old new g.core.entries (end_of kept) h.core.entries (end_of new_kept))
+      → Notes told may_leave moment secured_since (noted_by result) tag seat game new_kept old new arrival
   noted result game g leads answers rest any after =
       let w = g.watched in
-      subst (λ (x : Game). Notes told may_leave (noted_by result) tag seat x new_kept old new arrival) g.core
+      subst (λ (x : Game). Notes told may_leave moment secured_since (noted_by result) tag seat x new_kept old new arrival) g.core
       (noted_at w g.of_seat (subst (λ (x : Game). (length x.setting.walls == 0) ≡ false) (sym g.core) g.wall)
       (subst (λ (x : Game). TellsGame (opens (play_of x.setting) tag) (told old) x.entries (end_of kept)) (sym g.core) g.tells)
       (subst (λ (x : Game). IsArrivalOf arrival x call) (sym g.core) leads) result (game_of new_kept) refl (answers w g.is) rest
-      (subst (λ (x : Option Watched). IfKept x (λ g. AnyMoment told moment left_since (play_of g.core.setting) g.core.entries (end_of kept) call old new)) g.is any)
-      (subst (λ (x : Option Watched). IfBoth x (game_of new_kept) (λ g h. Acknowledged told may_leave (play_of g.core.setting) old new g.core.entries
+      (subst (λ (x : Option Watched). IfKept x (λ g. AnyMoment told moment left_since secured_since (play_of g.core.setting) g.core.entries (end_of kept) call result old new)) g.is any)
+      (subst (λ (x : Option Watched). IfBoth x (game_of new_kept) (λ g h. Acknowledged told may_leave moment secured_since (play_of g.core.setting) old new g.core.entries
       (end_of kept) h.core.entries (end_of new_kept))) g.is after))
 
 -- By the line that is heard.
@@ -272,34 +281,35 @@ pub arrives-by : (game : Game) (line : List ℕ) (form : ArrivalForm) → form �
 unfolding arrives
 arrives-by game line form e = ap (behind_header (intake_of game)) (sym e)
 
-module _ {D : Type 0} (told : D → Option (List ℕ)) (may_leave : D → List ℕ → Type 0) (kept : Kept Watched) (disk : D) (tag : List ℕ) (seat : ℕ)
+module _ {D : Type 0} (told : D → Option (List ℕ)) (may_leave : D → List ℕ → Type 0) (moment : D → ℕ) (secured_since : D → ℕ → List ℕ → Type 0)
+    (kept : Kept Watched) (disk : D) (none_secured : (bytes : List ℕ) → secured_since disk (moment disk) bytes → ⊥) (tag : List ℕ) (seat : ℕ)
     (game : Game) (goes : GoesOn told may_leave tag seat kept disk game) where
-  pub none-noted : NotesNone told may_leave tag seat game kept disk disk
-  none-noted = record { goes = goes; on = λ bytes is. (bytes, is) }
+  pub none-noted : NotesNone told may_leave moment secured_since tag seat game kept disk disk
+  none-noted = record { goes = goes; on = λ bytes is. (bytes, is); syncs = λ bytes is. unsynced moment secured_since disk _ none_secured }
 
-  pub bad-noted : (arrival : Arrival) → arrival ≡ Bad → Notes told may_leave notes.Bad tag seat game kept disk disk arrival
+  pub bad-noted : (arrival : Arrival) → arrival ≡ Bad → Notes told may_leave moment secured_since notes.Bad tag seat game kept disk disk arrival
   bad-noted arrival is = (is, none-noted)
 
-module _ {D : Type 0} (told : D → Option (List ℕ)) (may_leave : D → List ℕ → Type 0) (moment : D → ℕ) (left_since : D → ℕ → List ℕ → Type 0)
+module _ {D : Type 0} (told : D → Option (List ℕ)) (may_leave : D → List ℕ → Type 0) (moment : D → ℕ) (left_since secured_since : D → ℕ → List ℕ → Type 0)
     (counts_now : (disk : D) (t : ℕ) (image : List ℕ) → t ≤ moment disk → may_leave disk image → left_since disk t image) (kept new_kept : Kept Watched) (old new : D)
     (tag : List ℕ) (seat : ℕ) (game : Game) (goes : GoesOn told may_leave tag seat kept old game) (rest : IfKept (game_of new_kept) (λ g. IsAtRest (told new) (may_leave new) (end_of new_kept)))
-    (after : IfBoth (game_of kept) (game_of new_kept) (λ g h. Acknowledged told may_leave (play_of g.core.setting) old new g.core.entries (end_of kept) h.core.entries (end_of new_kept))) where
-  abbrev AnyMomentOf : GameCall → Type 0
-  AnyMomentOf call = IfKept (game_of kept) (λ g. AnyMoment told moment left_since (play_of g.core.setting) g.core.entries (end_of kept) call old new)
+    (after : IfBoth (game_of kept) (game_of new_kept) (λ g h. Acknowledged told may_leave moment secured_since (play_of g.core.setting) old new g.core.entries (end_of kept) h.core.entries (end_of new_kept))) where
+  abbrev AnyMomentOf : {T : Type 0} → GameCall → Answered T → Type 0
+  AnyMomentOf call result = IfKept (game_of kept) (λ g. AnyMoment told moment left_since secured_since (play_of g.core.setting) g.core.entries (end_of kept) call result old new)
 
   abbrev AnswersAs : {T : Type 0} → Answered T → (T → Setting × ℕ → List (Entry Answer) → List (Entry Answer) → Type 0) → Option Watched → Type 0
   AnswersAs result P o = Answers setting_in entries_in result P o (game_of new_kept)
 
   noted-as : {T : Type 0} (result : Answered T) (n : Noted) (call : GameCall) (arrival : Arrival) → n ≡ noted_by result →
-      IsArrivalOf arrival game call → ((w : Watched) → game_of kept ≡ Some w → AnswersAs result (Adds_entry call) (Some w)) → AnyMomentOf call
-      → Notes told may_leave n tag seat game new_kept old new arrival
+      IsArrivalOf arrival game call → ((w : Watched) → game_of kept ≡ Some w → AnswersAs result (Adds_entry call) (Some w)) → AnyMomentOf call result
+      → Notes told may_leave moment secured_since n tag seat game new_kept old new arrival
   noted-as result n call arrival is leads answers any =
-      subst (λ (m : Noted). Notes told may_leave m tag seat game new_kept old new arrival) (sym is)
-      (noted told may_leave moment left_since counts_now _ tag seat kept new_kept old new call arrival result game goes leads answers rest any after)
+      subst (λ (m : Noted). Notes told may_leave moment secured_since m tag seat game new_kept old new arrival) (sym is)
+      (noted told may_leave moment left_since secured_since counts_now _ tag seat kept new_kept old new call arrival result game goes leads answers rest any after)
 
   pub noted-sit : (result : Answered SitAnswer) (n : Noted) (line : List ℕ) → n ≡ noted_by result
       → AnswersAs result (SitsSo 1 line) (game_of kept)
-      → AnyMomentOf (Sit 1 line) → Notes told may_leave n tag seat game new_kept old new (sit_arrives (intake_of game) line)
+      → AnyMomentOf (Sit 1 line) result → Notes told may_leave moment secured_since n tag seat game new_kept old new (sit_arrives (intake_of game) line)
   noted-sit result n line is answers any =
       noted-as result n (Sit 1 line) (sit_arrives (intake_of game) line) is (sit-arrival game line goes.wall)
       (λ w at. answers-sit result 1 line w (game_of new_kept)
@@ -311,7 +321,7 @@ module _ {D : Type 0} (told : D → Option (List ℕ)) (may_leave : D → List �
   pub noted-say : (result : Answered (Heard Rule)) (n : Noted) (who speaker author : ℕ) (line : List ℕ) → n ≡ noted_by result →
       ((w : Watched) → game_of kept ≡ Some w → ◌≡◌ {A = Option (ℕ × ℕ)} (Some (speaker, author)) (asked_in w.core who))
       → AnswersAs result (SaysSo author speaker line) (game_of kept)
-      → AnyMomentOf (Say author speaker line) → Notes told may_leave n tag seat game new_kept old new (say_arrives (intake_of game) who line)
+      → AnyMomentOf (Say author speaker line) result → Notes told may_leave moment secured_since n tag seat game new_kept old new (say_arrives (intake_of game) who line)
   noted-say result n who speaker author line is asked answers any =
       let w = goes.watched in
       let a = is-asked w.core who speaker author w.few (asked w goes.is) in
@@ -328,7 +338,7 @@ module _ {D : Type 0} (told : D → Option (List ℕ)) (may_leave : D → List �
   pub noted-gone : (result : Answered Left) (n : Noted) (who leaver author : ℕ) → n ≡ noted_by result → leaver < 4 →
       ((w : Watched) → game_of kept ≡ Some w → ◌≡◌ {A = Option (ℕ × ℕ)} (Some (leaver, author)) (present_in w.core who))
       → AnswersAs result (GoesSo author leaver) (game_of kept)
-      → AnyMomentOf (Leave author leaver) → Notes told may_leave n tag seat game new_kept old new (gone_arrives (intake_of game) who)
+      → AnyMomentOf (Leave author leaver) result → Notes told may_leave moment secured_since n tag seat game new_kept old new (gone_arrives (intake_of game) who)
   noted-gone result n who leaver author is within here answers any =
       let w = goes.watched in
       let found = present-is (author_of_seat w.core who) leaver author who (here w goes.is) in
@@ -345,7 +355,7 @@ module _ {D : Type 0} (told : D → Option (List ℕ)) (may_leave : D → List �
 
   pub noted-expiry : (result : Answered Expiry) (n : Noted) (window t1 t2 : ℕ) → n ≡ noted_by result
       → AnswersAs result (ExpiresSo 0 window t1 t2) (game_of kept)
-      → AnyMomentOf (Expire 0 window t1 t2) → Notes told may_leave n tag seat game new_kept old new (expiry_arrives (intake_of game) window t1 t2)
+      → AnyMomentOf (Expire 0 window t1 t2) result → Notes told may_leave moment secured_since n tag seat game new_kept old new (expiry_arrives (intake_of game) window t1 t2)
   noted-expiry result n window t1 t2 is answers any =
       noted-as result n (Expire 0 window t1 t2) (expiry_arrives (intake_of game) window t1 t2) is (expire-arrival game window t1 t2 goes.wall)
       (λ w at. answers-expiry result 0 window t1 t2 w (game_of new_kept)

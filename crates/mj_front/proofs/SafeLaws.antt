@@ -13,7 +13,7 @@ use Rattle.mj_history.specs.Arrivals.{Input, Ending, intake_from, game_of as gam
 use Rattle.mj_history.proofs.Fitting.{legal_games_are_played}
 use Rattle.mj_history.proofs.Windows.{windows_decide}
 use Rattle.mj_secrecy.proofs.OneWorld.{agreeing_scripts}
-use Rattle.mj_journal.specs.Disks.{Only, LeavesOnly}
+use Rattle.mj_journal.specs.Disks.{Only, LeavesOnly, SyncsOnly}
 use Rattle.mj_journal.specs.Journals.{IsAtRest}
 use Rattle.mj_journal.specs.Looking.{OnlyLooks}
 use Rattle.mj_journal.specs.Openings.{Opening, Fresh, Other, Bad, Open, is_fresh, IsNewOrTag}
@@ -22,14 +22,16 @@ use Rattle.mj_journal.specs.Founding.{GivesEntries, IsInPlay, OpensGame}
 use Rattle.mj_journal.specs.Keeping.{game_of, end_of, IfKept, TellsGame, OpensTo, OpensWith}
 use Rattle.mj_journal.specs.declared.kept.Kept.{Kept}
 use Rattle.mj_journal.proofs.Firsts.{opens_tag}
+use Rattle.mj_journal.proofs.Moments.{weaker}
 use Rattle.mj_front.specs.declared.intake.End.{End}
 use Rattle.mj_front.specs.declared.keep.KeepEnd.{KeepEnd}
 use Rattle.mj_front.specs.declared.keep.KeepEnd.TheVariants as ends
 use Rattle.mj_front.specs.declared.watched.Watched.{Watched}
 use Rattle.mj_front.specs.Referee.{IsTold, ending}
-use Rattle.mj_front.specs.Keep.{Base, Gives, IsSafe, play_of, opens_for, heard_after, intake_after}
+use Rattle.mj_front.specs.Keep.{Base, Gives, GivesFront, IsSafe, play_of, opens_for, heard_after, intake_after}
 use Rattle.mj_front.specs.Inner.Intake.{intake_of}
 use Rattle.mj_front.specs.Inner.Keeping.{list_of, GoesOn, NotesEach, NotesPart, WritesScript, KeepsLines, StaysSafe, KeepsOn}
+use Rattle.mj_front.proofs.Fronts.{gives-open, front-all}
 use Rattle.mj_front.proofs.KeepLaws.{heard-begins}
 use Rattle.mj_front.proofs.NoteLaws.{setting_in, entries_in}
 
@@ -55,11 +57,9 @@ script-told IsWritten o v w bytes p q legal is written =
     let same : v ≡ w = cc found in
     subst (λ (x : Watched). IsTold IsWritten x.seat x.core) same (tells-script IsWritten v.seat v.core bytes legal is written)
 
-gives-open : (opening : Opening Entries) (entries : Entries) (end : ℕ) → opening ≡ Open entries end → Gives opening entries
-gives-open opening entries end is = subst (λ (o : Opening Entries). Gives o entries) (sym is) refl
-
 -- The lines after the tag, as they were heard.
-module _ {D : Type 0} (told : D → Option (List ℕ)) (may_leave : D → List ℕ → Type 0) (base : Base) (seat : ℕ) (input rest : List ℕ) (game : Game) (old new : D) (setting : base.setting ≡ game.setting)
+module _ {D : Type 0} (told : D → Option (List ℕ)) (may_leave : D → List ℕ → Type 0) (moment : D → ℕ) (secured_since : D → ℕ → List ℕ → Type 0)
+    (base : Base) (seat : ℕ) (input rest : List ℕ) (game : Game) (old new : D) (setting : base.setting ≡ game.setting)
     (lines : base.lines ≡ whole_lines rest) (unread : unfinished input ≡ unfinished rest) where
   heard-same : intake_from (intake_of game) base.number (whole_lines rest) (unfinished rest) ≡ heard_after base game.entries input
   heard-same = rw (← lines, ← unread) (ap (λ (s : Setting). intake_from (intake_after s game.entries) base.number base.lines (unfinished input)) (sym setting))
@@ -67,7 +67,7 @@ module _ {D : Type 0} (told : D → Option (List ℕ)) (may_leave : D → List �
   opens-same : (image : List ℕ) → opens (play_of game.setting) base.tag image ≡ opens_for base image
   opens-same image = ap (λ (s : Setting). opens (play_of s) base.tag image) (sym setting)
 
-  module _ (IsWritten : List ℕ → Type 0) (Ends : Ending → Type 0) (end : End) (kept : Kept Watched) (n : NotesEach told may_leave base.tag seat end
+  module _ (IsWritten : List ℕ → Type 0) (Ends : Ending → Type 0) (end : End) (kept : Kept Watched) (n : NotesEach told may_leave moment secured_since base.tag seat end
       game kept old new (intake_from (intake_of game) base.number (whole_lines rest) (unfinished rest))) (ends_so : Ends (ending end)) where
     reading-same : (heard_after base game.entries input).reading ≡ intake_of n.last
     reading-same = ap (λ (i : Input). i.reading) (sym heard-same) ∙ n.reading
@@ -100,8 +100,12 @@ module _ {D : Type 0} (told : D → Option (List ℕ)) (may_leave : D → List �
   gives-with entries None image o = absurd o
   gives-with entries (Some e) image o = gives-open _ (entries ++ e ∷ []) o.0 (sym (opens-same image) ∙ o.1)
 
-  pub stays-safe : NotesPart told may_leave base.tag game old new (intake_from (intake_of game) base.number (whole_lines rest) (unfinished rest)) →
-      StaysSafe told may_leave base game.entries input old new
+  safe-syncs : (bytes : List ℕ) → told old ≡ Some bytes → (es : Entries) → SyncsOnly moment secured_since old new (λ image. GivesFront (opens (play_of game.setting) base.tag image) es)
+      → SyncsOnly moment secured_since old new (λ image. GivesFront (opens_for base image) es)
+  safe-syncs bytes is es syncs = weaker moment secured_since old new _ _ syncs (λ image f. subst (λ (o : Opening Entries). GivesFront o es) (opens-same image) f)
+
+  pub stays-safe : NotesPart told may_leave moment secured_since base.tag game old new (intake_from (intake_of game) base.number (whole_lines rest) (unfinished rest)) →
+      StaysSafe told may_leave moment secured_since base game.entries input old new
   stays-safe n bytes is = record {
     made = n.made;
     next = list_of n.next;
@@ -109,10 +113,11 @@ module _ {D : Type 0} (told : D → Option (List ℕ)) (may_leave : D → List �
     all = ap (λ (i : Input). i.reading.entries) (sym heard-same) ∙ n.all;
     one = few-list n.next;
     each = λ image left. ⊎_elim (λ o. inl (gives-to (game.entries ++ n.made) image o)) (λ o. inr (gives-with (game.entries ++ n.made) n.next image o)) (n.each bytes image is left);
+    acknowledged = safe-syncs bytes is (game.entries ++ n.made) (n.syncs bytes is);
   }
 
-  pub stays-whole : (end : End) (kept : Kept Watched) → NotesEach told may_leave base.tag seat end game kept old new
-      (intake_from (intake_of game) base.number (whole_lines rest) (unfinished rest)) → StaysSafe told may_leave base game.entries input old new
+  pub stays-whole : (end : End) (kept : Kept Watched) → NotesEach told may_leave moment secured_since base.tag seat end game kept old new
+      (intake_from (intake_of game) base.number (whole_lines rest) (unfinished rest)) → StaysSafe told may_leave moment secured_since base game.entries input old new
   stays-whole end kept n bytes is =
       let now = n.on bytes is in
       let more = heard-begins (intake_of game) base.number (whole_lines rest) (unfinished rest) in record {
@@ -126,12 +131,16 @@ module _ {D : Type 0} (told : D → Option (List ℕ)) (may_leave : D → List �
             (sym (opens-same image) ∙ ap (λ (s : Setting). opens (play_of s) base.tag image) (sym n.setting)
             ∙ ap (opens (play_of n.last.setting) base.tag) (n.goes.rest.kept now.0 now.1 image left) ∙ n.goes.tells now.0 now.1
             ∙ ap (λ (es : Entries). Open es (end_of kept)) (sym (ap (λ r. r.entries) n.reading) ∙ more.is)));
+        acknowledged =
+            safe-syncs bytes is (game.entries ++ more.rest)
+            (subst (λ (es : Entries). SyncsOnly moment secured_since old new (λ image. GivesFront (opens (play_of game.setting) base.tag image) es))
+            (sym (ap (λ r. r.entries) n.reading) ∙ more.is) (n.syncs bytes is));
       }
 
   -- By how the run ends once the lines were noted.
-  keeps-by : (result : KeepEnd) (end : End) (kept : Kept Watched) (n : NotesEach told may_leave base.tag seat end game kept old new
+  keeps-by : (result : KeepEnd) (end : End) (kept : Kept Watched) (n : NotesEach told may_leave moment secured_since base.tag seat end game kept old new
       (intake_from (intake_of game) base.number (whole_lines rest) (unfinished rest))) (old_written new_written : Option (List ℕ))
-      → WritesScript result end seat n.last old_written new_written → KeepsOn told may_leave result base seat game.entries input old_written new_written old new
+      → WritesScript result end seat n.last old_written new_written → KeepsOn told may_leave moment secured_since result base seat game.entries input old_written new_written old new
   keeps-by (ends.Told given) end kept n ow nw writes = keeps-lines (Appends ow nw) (λ e. e ≡ ending given) end kept n (ap ending (sym writes.0)) writes.1
   keeps-by ends.WriteFault end kept n ow nw writes = keeps-lines (WritesPrefix ow nw) (λ e. Unit {0}) end kept n (record {}) writes
   keeps-by ends.NoMemory end kept n ow nw writes = (writes, stays-whole end kept n)
@@ -142,8 +151,8 @@ module _ {D : Type 0} (told : D → Option (List ℕ)) (may_leave : D → List �
   keeps-by ends.TooLong end kept n ow nw writes = absurd writes
 
   pub keeps-on : (result : KeepEnd) (end : End) (kept : Kept Watched) (old_written new_written : Option (List ℕ)) →
-      NotesEach told may_leave base.tag seat end game kept old new (intake_from (intake_of game) base.number (whole_lines rest) (unfinished rest))
-      → ((w : Watched) → game_of kept ≡ Some w → WritesScript result end w.seat w.core old_written new_written) → KeepsOn told may_leave result base
+      NotesEach told may_leave moment secured_since base.tag seat end game kept old new (intake_from (intake_of game) base.number (whole_lines rest) (unfinished rest))
+      → ((w : Watched) → game_of kept ≡ Some w → WritesScript result end w.seat w.core old_written new_written) → KeepsOn told may_leave moment secured_since result base
       seat game.entries input old_written new_written old new
   keeps-on result end kept ow nw n writes =
       keeps-by result end kept n ow nw
@@ -152,16 +161,16 @@ module _ {D : Type 0} (told : D → Option (List ℕ)) (may_leave : D → List �
   -- So of lines that were numbered from the first after the tag.
   module _ (number : ℕ) (numbered : base.number ≡ number) where
     pub keeps-whole : (result : KeepEnd) (end : End) (kept : Kept Watched) (old_written new_written : Option (List ℕ)) →
-        NotesEach told may_leave base.tag seat end game kept old new (intake_from (intake_of game) number (whole_lines rest) (unfinished rest))
-        → ((w : Watched) → game_of kept ≡ Some w → WritesScript result end w.seat w.core old_written new_written) → KeepsOn told may_leave result base
+        NotesEach told may_leave moment secured_since base.tag seat end game kept old new (intake_from (intake_of game) number (whole_lines rest) (unfinished rest))
+        → ((w : Watched) → game_of kept ≡ Some w → WritesScript result end w.seat w.core old_written new_written) → KeepsOn told may_leave moment secured_since result base
         seat game.entries input old_written new_written old new
     keeps-whole result end kept ow nw n writes =
-        keeps-on result end kept ow nw (subst (λ (k : ℕ). NotesEach told may_leave base.tag seat end game kept old new
+        keeps-on result end kept ow nw (subst (λ (k : ℕ). NotesEach told may_leave moment secured_since base.tag seat end game kept old new
         (intake_from (intake_of game) k (whole_lines rest) (unfinished rest))) (sym numbered) n) writes
 
-    pub keeps-safe : NotesPart told may_leave base.tag game old new (intake_from (intake_of game) number (whole_lines rest) (unfinished rest)) →
-        StaysSafe told may_leave base game.entries input old new
-    keeps-safe n = stays-safe (subst (λ (k : ℕ). NotesPart told may_leave base.tag game old new (intake_from (intake_of game) k (whole_lines rest) (unfinished rest))) (sym numbered) n)
+    pub keeps-safe : NotesPart told may_leave moment secured_since base.tag game old new (intake_from (intake_of game) number (whole_lines rest) (unfinished rest)) →
+        StaysSafe told may_leave moment secured_since base game.entries input old new
+    keeps-safe n = stays-safe (subst (λ (k : ℕ). NotesPart told may_leave moment secured_since base.tag game old new (intake_from (intake_of game) k (whole_lines rest) (unfinished rest))) (sym numbered) n)
 
 -- A journal gives one list of entries.
 pub gives-one : (opening : Opening Entries) (one other : Entries) → Gives opening one → Gives opening other → one ≡ other
@@ -177,10 +186,11 @@ gives-entries (Bad place) entries end g = absurd g
 gives-entries (Open last place) entries end g = g.0
 
 -- An opening that came to nothing.
-module _ {D : Type 0} (told : D → Option (List ℕ)) (may_leave : D → List ℕ → Type 0) (moment : D → ℕ) (left_since : D → ℕ → List ℕ → Type 0)
+module _ {D : Type 0} (told : D → Option (List ℕ)) (may_leave : D → List ℕ → Type 0) (moment : D → ℕ) (left_since secured_since : D → ℕ → List ℕ → Type 0)
     (counts_now : (disk : D) (t : ℕ) (image : List ℕ) → t ≤ moment disk → may_leave disk image → left_since disk t image) (base : Base) (input : List ℕ) (old new : D)
-    (looks : (bytes : List ℕ) → told old ≡ Some bytes → is_fresh bytes ≡ false → OnlyLooks told may_leave moment left_since old new)
-    (any_moment : (bytes : List ℕ) → told old ≡ Some bytes → is_fresh bytes ≡ true → Only bytes (may_leave old) → LeavesOnly moment left_since old new (IsNewOrTag base.tag)) where
+    (looks : (bytes : List ℕ) → told old ≡ Some bytes → is_fresh bytes ≡ false → OnlyLooks told may_leave moment left_since secured_since old new)
+    (any_moment : (bytes : List ℕ) → told old ≡ Some bytes → is_fresh bytes ≡ true → Only bytes (may_leave old) → LeavesOnly moment left_since old new (IsNewOrTag base.tag))
+    (syncs : (bytes : List ℕ) → told old ≡ Some bytes → is_fresh bytes ≡ true → Only bytes (may_leave old) → SyncsOnly moment secured_since old new (IsNewOrTag base.tag)) where
   opens-fresh : (image : List ℕ) → is_fresh image ≡ true → opens_for base image ≡ Fresh
   opens-fresh image fresh = rw fresh
 
@@ -197,7 +207,22 @@ module _ {D : Type 0} (told : D → Option (List ℕ)) (may_leave : D → List �
       let run = any_moment bytes is e only in
       gives-new kept image (subst (λ (o : Opening Entries). Gives o kept) (opens-fresh bytes e) gives) (run.each image (counts_now new (moment old) image run.later left))
 
-  pub unopened-safe : (bytes : List ℕ) (kept : Entries) → told old ≡ Some bytes → Only bytes (may_leave old) → Gives (opens_for base bytes) kept → IsSafe base kept input (may_leave new)
+  syncs-by : (b : Bool) (bytes : List ℕ) (kept : Entries) → is_fresh bytes ≡ b → told old ≡ Some bytes → Only bytes (may_leave old) →
+      Gives (opens_for base bytes) kept → SyncsOnly moment secured_since old new (λ image. Gives (opens_for base image) kept)
+  syncs-by false bytes kept e is only gives =
+      weaker moment secured_since old new _ _ (looks bytes is e).syncs
+      (λ image put. let same : bytes ≡ image = cc (sym is ∙ put) in subst (λ (i : List ℕ). Gives (opens_for base i) kept) same gives)
+  syncs-by true bytes kept e is only gives =
+      weaker moment secured_since old new _ _ (syncs bytes is e only)
+      (λ image stands. gives-new kept image (subst (λ (o : Opening Entries). Gives o kept) (opens-fresh bytes e) gives) stands)
+
+  -- What the syncs of an opening put on the disk opens as the disk did.
+  pub opening-syncs : (bytes : List ℕ) (kept : Entries) → told old ≡ Some bytes → Only bytes (may_leave old) → Gives (opens_for base bytes) kept
+      → SyncsOnly moment secured_since old new (λ image. Gives (opens_for base image) kept)
+  opening-syncs bytes kept is only gives = syncs-by (is_fresh bytes) bytes kept refl is only gives
+
+  pub unopened-safe : (bytes : List ℕ) (kept : Entries) → told old ≡ Some bytes → Only bytes (may_leave old) → Gives (opens_for base bytes) kept →
+      IsSafe may_leave moment secured_since base kept input old new
   unopened-safe bytes kept is only gives =
       let more = heard-begins (intake_after base.setting kept) base.number base.lines (unfinished input) in record {
         made = [];
@@ -206,6 +231,9 @@ module _ {D : Type 0} (told : D → Option (List ℕ)) (may_leave : D → List �
         all = more.is ∙ ap (λ (es : Entries). es ++ more.rest) (sym (append-nil kept) ∙ sym (append-nil (kept ++ [])));
         one = omega arith;
         each = λ image left. inl (subst (λ (es : Entries). Gives (opens_for base image) es) (sym (append-nil kept)) (each-by (is_fresh bytes) bytes kept refl is only gives image left));
+        acknowledged =
+            weaker moment secured_since old new _ _ (opening-syncs bytes kept is only gives)
+            (λ image g. front-all (opens_for base image) (kept ++ []) (subst (λ (es : Entries). Gives (opens_for base image) es) (sym (append-nil kept)) g));
       }
 
   pub other-fresh : (bytes : List ℕ) (why : Opening Entries) → (why ≡ Fresh → ⊥) → opens_for base bytes ≡ why → is_fresh bytes ≡ false

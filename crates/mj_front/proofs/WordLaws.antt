@@ -24,18 +24,18 @@ unheard (SafeOf seat) left written alone = record { end = referees.NoMemory; giv
 unheard Nothing left written alone = record { words = tt; unread = Keeps-refl left; unwritten = Keeps-refl written }
 
 -- And the disk isn't touched.
-pub untouched : {D : Type 0} (told : D → Option (List ℕ)) (may_leave : D → List ℕ → Type 0) (faults : D → ℕ) (disk : D) (asked : Asked)
-    (left written : Option (List ℕ)) → RunsDisk told may_leave faults asked statuses.NoMemory left left written written disk disk
-untouched told may_leave faults disk (RefereeOf seat) left written = refl
-untouched told may_leave faults disk (ServingOf s) left written = refl
-untouched told may_leave faults disk (TablesOf rooms s) left written = refl
-untouched told may_leave faults disk SummaryOfRecord left written = refl
-untouched told may_leave faults disk (HandOf words) left written = refl
-untouched told may_leave faults disk (SelfPlayOf number) left written = refl
-untouched told may_leave faults disk ViewOfRecord left written = refl
-untouched told may_leave faults disk (KeepOf seat) left written = record { end = keeps.NoMemory; gives = refl; does = inl (Keeps-refl written, refl); counts = omega arith }
-untouched told may_leave faults disk (SafeOf seat) left written = refl
-untouched told may_leave faults disk Nothing left written = refl
+pub untouched : {D : Type 0} (told : D → Option (List ℕ)) (may_leave : D → List ℕ → Type 0) (moment : D → ℕ) (secured_since : D → ℕ → List ℕ → Type 0) (faults : D → ℕ) (disk : D) (asked : Asked)
+    (left written : Option (List ℕ)) → RunsDisk told may_leave moment secured_since faults asked statuses.NoMemory left left written written disk disk
+untouched told may_leave moment secured_since faults disk (RefereeOf seat) left written = refl
+untouched told may_leave moment secured_since faults disk (ServingOf s) left written = refl
+untouched told may_leave moment secured_since faults disk (TablesOf rooms s) left written = refl
+untouched told may_leave moment secured_since faults disk SummaryOfRecord left written = refl
+untouched told may_leave moment secured_since faults disk (HandOf words) left written = refl
+untouched told may_leave moment secured_since faults disk (SelfPlayOf number) left written = refl
+untouched told may_leave moment secured_since faults disk ViewOfRecord left written = refl
+untouched told may_leave moment secured_since faults disk (KeepOf seat) left written = record { end = keeps.NoMemory; gives = refl; does = inl (Keeps-refl written, refl); counts = omega arith }
+untouched told may_leave moment secured_since faults disk (SafeOf seat) left written = refl
+untouched told may_leave moment secured_since faults disk Nothing left written = refl
 
 pub unread : (asked : Asked) (count : ℕ) → MeetsReadFaults asked count count
 unread (RefereeOf seat) count = omega arith

@@ -11,7 +11,7 @@ use Rattle.mj_wall.specs.declared.setting.Setting.{Setting}
 use Rattle.mj_forms.specs.AnswerForms.{answer_of, join_of}
 use Rattle.mj_history.specs.Shown.{shown_of, sits_of, hears_of, expires_of}
 use Rattle.mj_history.specs.Arrivals.{ArrivalForm, Header, WallOf, Sit, Say, Leave, Expire, NoForm, form_of, Intake, Arrival, Leads, Bad, arrives, Input, Ending, intake_from, input_of, game_of}
-use Rattle.mj_journal.specs.Disks.{Only}
+use Rattle.mj_journal.specs.Disks.{Only, SyncsOnly}
 use Rattle.mj_journal.specs.Openings.{Opening, Fresh, Other, Bad as BadAt, Open}
 use Rattle.mj_journal.specs.Playing.{Play, play, opens}
 use Rattle.mj_front.specs.declared.keep.KeepEnd.{KeepEnd}
@@ -99,15 +99,25 @@ heard_after base entries input = intake_from (intake_after base.setting entries)
 abbrev pub all_entries : Base → List (Entry Answer) → List ℕ → List (Entry Answer)
 all_entries base entries input = (heard_after base entries input).reading.entries
 
--- Entries that lie safe on a disk: all images open to those of the journal with some of the input's after them, or to these
--- and the next one, the only one that may be in doubt.
-pub record IsSafe (base : Base) (kept : List (Entry Answer)) (input : List ℕ) (images : List ℕ → Type 0) : Type 0 where
+-- An opening that gives a beginning of these entries.
+pub record GivesFront (opening : Opening (List (Entry Answer))) (entries : List (Entry Answer)) : Type 0 where
+  pub front : List (Entry Answer)
+  pub rest : List (Entry Answer)
+  pub is : entries ≡ front ++ rest
+  pub gives : Gives opening front
+
+-- Entries lie safe on a disk. All images open to those of the journal with some of the input's after them, or to these and the
+-- next one, the only one that may be in doubt. And none that was acknowledged is lost: an entry is acknowledged once a sync has
+-- put it on the disk, and all that a sync of this run put there opens to a beginning of what each image still has.
+pub record IsSafe {D : Type 0} (may_leave : D → List ℕ → Type 0) (moment : D → ℕ) (secured_since : D → ℕ → List ℕ → Type 0)
+    (base : Base) (kept : List (Entry Answer)) (input : List ℕ) (old new : D) : Type 0 where
   pub made : List (Entry Answer)
   pub next : List (Entry Answer)
   pub later : List (Entry Answer)
   pub all : all_entries base kept input ≡ kept ++ made ++ next ++ later
   pub one : length next ≤ 1
-  pub each : (image : List ℕ) → images image → Gives (opens_for base image) (kept ++ made) ⊎ Gives (opens_for base image) (kept ++ made ++ next)
+  pub each : (image : List ℕ) → may_leave new image → Gives (opens_for base image) (kept ++ made) ⊎ Gives (opens_for base image) (kept ++ made ++ next)
+  pub acknowledged : SyncsOnly moment secured_since old new (λ bytes. GivesFront (opens_for base bytes) (kept ++ made))
 
 module _ {D : Type 0} (told : D → Option (List ℕ)) (may_leave : D → List ℕ → Type 0) where
   -- All entries stand on the disk, which reads so, with no write pending.
@@ -141,48 +151,49 @@ module _ {D : Type 0} (told : D → Option (List ℕ)) (may_leave : D → List �
   KeepsPart None seat input old_written new_written old new = ⊥
   KeepsPart (Some base) seat input old_written new_written old new = KeepsGame (WritesPrefix old_written new_written) (λ e. Unit {0}) base seat input old new
 
-  -- A run that was cut short loses nothing, where no write was pending at its start and the disk held a new journal, or one of
-  -- this game.
-  abbrev pub LosesNothing : Option Base → List ℕ → D → D → Type 0
-  LosesNothing None input old new = ⊥
-  LosesNothing (Some base) input old new =
-      (bytes : List ℕ) (kept : List (Entry Answer)) → told old ≡ Some bytes → Only bytes (may_leave old) → Gives (opens_for base bytes) kept → IsSafe base kept input (may_leave new)
-
   -- A journal that isn't this game's isn't written to.
   abbrev pub IsRefused : Option Base → Opening (List (Entry Answer)) → D → D → Type 0
   IsRefused None why old new = ⊥
   IsRefused (Some base) why old new =
       (bytes : List ℕ) → told old ≡ Some bytes → (opens_for base bytes ≡ why) × (told new ≡ told old) × ((image : List ℕ) → may_leave new image → may_leave old image)
 
-  -- What is written and what becomes of the disk once an input was read, by the end; no read can fail any more.
-  abbrev pub KeepsInput : KeepEnd → ℕ → List ℕ → Option (List ℕ) → Option (List ℕ) → D → D → Type 0
-  KeepsInput (ends.Told end) seat input old_written new_written old new = KeepsWhole (base_of input) (ending end) seat input old_written new_written old new
-  KeepsInput ends.WriteFault seat input old_written new_written old new = KeepsPart (base_of input) seat input old_written new_written old new
-  KeepsInput ends.DiskFault seat input old_written new_written old new = Keeps old_written new_written × LosesNothing (base_of input) input old new
-  KeepsInput ends.OtherGame seat input old_written new_written old new = Keeps old_written new_written × IsRefused (base_of input) Other old new
-  KeepsInput (ends.BadJournal place) seat input old_written new_written old new = Keeps old_written new_written × IsRefused (base_of input) (BadAt place) old new
-  KeepsInput ends.NoMemory seat input old_written new_written old new = Keeps old_written new_written × ((new ≡ old) ⊎ LosesNothing (base_of input) input old new)
-  KeepsInput ends.ReadFault seat input old_written new_written old new = ⊥
-  KeepsInput ends.TooLong seat input old_written new_written old new = ⊥
+  module _ (moment : D → ℕ) (secured_since : D → ℕ → List ℕ → Type 0) where
+    -- A run that was cut short loses nothing, where no write was pending at its start and the disk held a new journal, or one of
+    -- this game.
+    abbrev pub LosesNothing : Option Base → List ℕ → D → D → Type 0
+    LosesNothing None input old new = ⊥
+    LosesNothing (Some base) input old new =
+        (bytes : List ℕ) (kept : List (Entry Answer)) → told old ≡ Some bytes → Only bytes (may_leave old) → Gives (opens_for base bytes) kept → IsSafe may_leave moment secured_since base kept input old new
 
-  -- An input was read, and this comes of it.
-  pub record KeepsRead (end : KeepEnd) (seat : ℕ) (old_left new_left old_written new_written : Option (List ℕ)) (old new : D) : Type 0 where
-    pub input : List ℕ
-    pub read : IsRead old_left new_left input
-    pub does : KeepsInput end seat input old_written new_written old new
+    -- What is written and what becomes of the disk once an input was read, by the end; no read can fail any more.
+    abbrev pub KeepsInput : KeepEnd → ℕ → List ℕ → Option (List ℕ) → Option (List ℕ) → D → D → Type 0
+    KeepsInput (ends.Told end) seat input old_written new_written old new = KeepsWhole (base_of input) (ending end) seat input old_written new_written old new
+    KeepsInput ends.WriteFault seat input old_written new_written old new = KeepsPart (base_of input) seat input old_written new_written old new
+    KeepsInput ends.DiskFault seat input old_written new_written old new = Keeps old_written new_written × LosesNothing (base_of input) input old new
+    KeepsInput ends.OtherGame seat input old_written new_written old new = Keeps old_written new_written × IsRefused (base_of input) Other old new
+    KeepsInput (ends.BadJournal place) seat input old_written new_written old new = Keeps old_written new_written × IsRefused (base_of input) (BadAt place) old new
+    KeepsInput ends.NoMemory seat input old_written new_written old new = Keeps old_written new_written × ((new ≡ old) ⊎ LosesNothing (base_of input) input old new)
+    KeepsInput ends.ReadFault seat input old_written new_written old new = ⊥
+    KeepsInput ends.TooLong seat input old_written new_written old new = ⊥
 
-  -- Memory was wanting: nothing is written, and the disk wasn't touched or lost nothing.
-  abbrev pub KeepsWanting : ℕ → Option (List ℕ) → Option (List ℕ) → Option (List ℕ) → Option (List ℕ) → D → D → Type 0
-  KeepsWanting seat old_left new_left old_written new_written old new =
-      (Keeps old_written new_written × (new ≡ old)) ⊎ KeepsRead ends.NoMemory seat old_left new_left old_written new_written old new
+    -- An input was read, and this comes of it.
+    pub record KeepsRead (end : KeepEnd) (seat : ℕ) (old_left new_left old_written new_written : Option (List ℕ)) (old new : D) : Type 0 where
+      pub input : List ℕ
+      pub read : IsRead old_left new_left input
+      pub does : KeepsInput end seat input old_written new_written old new
 
-  -- What the command does, by its end. Where the input wasn't read the disk isn't touched, and nothing is written.
-  abbrev pub KeepsAll : KeepEnd → ℕ → Option (List ℕ) → Option (List ℕ) → Option (List ℕ) → Option (List ℕ) → D → D → Type 0
-  KeepsAll (ends.Told end) seat old_left new_left old_written new_written old new = KeepsRead (ends.Told end) seat old_left new_left old_written new_written old new
-  KeepsAll ends.WriteFault seat old_left new_left old_written new_written old new = KeepsRead ends.WriteFault seat old_left new_left old_written new_written old new
-  KeepsAll ends.DiskFault seat old_left new_left old_written new_written old new = KeepsRead ends.DiskFault seat old_left new_left old_written new_written old new
-  KeepsAll ends.OtherGame seat old_left new_left old_written new_written old new = KeepsRead ends.OtherGame seat old_left new_left old_written new_written old new
-  KeepsAll (ends.BadJournal place) seat old_left new_left old_written new_written old new = KeepsRead (ends.BadJournal place) seat old_left new_left old_written new_written old new
-  KeepsAll ends.NoMemory seat old_left new_left old_written new_written old new = KeepsWanting seat old_left new_left old_written new_written old new
-  KeepsAll ends.ReadFault seat old_left new_left old_written new_written old new = IsCutOff old_left new_left old_written new_written × (new ≡ old)
-  KeepsAll ends.TooLong seat old_left new_left old_written new_written old new = IsTooLong old_left new_left old_written new_written × (new ≡ old)
+    -- Memory was wanting: nothing is written, and the disk wasn't touched or lost nothing.
+    abbrev pub KeepsWanting : ℕ → Option (List ℕ) → Option (List ℕ) → Option (List ℕ) → Option (List ℕ) → D → D → Type 0
+    KeepsWanting seat old_left new_left old_written new_written old new =
+        (Keeps old_written new_written × (new ≡ old)) ⊎ KeepsRead ends.NoMemory seat old_left new_left old_written new_written old new
+
+    -- What the command does, by its end. Where the input wasn't read the disk isn't touched, and nothing is written.
+    abbrev pub KeepsAll : KeepEnd → ℕ → Option (List ℕ) → Option (List ℕ) → Option (List ℕ) → Option (List ℕ) → D → D → Type 0
+    KeepsAll (ends.Told end) seat old_left new_left old_written new_written old new = KeepsRead (ends.Told end) seat old_left new_left old_written new_written old new
+    KeepsAll ends.WriteFault seat old_left new_left old_written new_written old new = KeepsRead ends.WriteFault seat old_left new_left old_written new_written old new
+    KeepsAll ends.DiskFault seat old_left new_left old_written new_written old new = KeepsRead ends.DiskFault seat old_left new_left old_written new_written old new
+    KeepsAll ends.OtherGame seat old_left new_left old_written new_written old new = KeepsRead ends.OtherGame seat old_left new_left old_written new_written old new
+    KeepsAll (ends.BadJournal place) seat old_left new_left old_written new_written old new = KeepsRead (ends.BadJournal place) seat old_left new_left old_written new_written old new
+    KeepsAll ends.NoMemory seat old_left new_left old_written new_written old new = KeepsWanting seat old_left new_left old_written new_written old new
+    KeepsAll ends.ReadFault seat old_left new_left old_written new_written old new = IsCutOff old_left new_left old_written new_written × (new ≡ old)
+    KeepsAll ends.TooLong seat old_left new_left old_written new_written old new = IsTooLong old_left new_left old_written new_written × (new ≡ old)

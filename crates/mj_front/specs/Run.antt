@@ -73,17 +73,17 @@ pub record RunsServe (Does : ServeEnd → Type 0) (status : Status) (old_left ne
   pub does : Does end
 
 -- The game of a seat was kept, which gives the status by its end.
-pub record RunsKeep {D : Type 0} (told : D → Option (List ℕ)) (may_leave : D → List ℕ → Type 0) (faults : D → ℕ) (status : Status) (seat : ℕ)
+pub record RunsKeep {D : Type 0} (told : D → Option (List ℕ)) (may_leave : D → List ℕ → Type 0) (moment : D → ℕ) (secured_since : D → ℕ → List ℕ → Type 0) (faults : D → ℕ) (status : Status) (seat : ℕ)
     (old_left new_left old_written new_written : Option (List ℕ)) (old new : D) : Type 0 where
   pub end : KeepEnd
   pub gives : status ≡ keep_status end
-  pub does : KeepsAll told may_leave end seat old_left new_left old_written new_written old new
+  pub does : KeepsAll told may_leave moment secured_since end seat old_left new_left old_written new_written old new
   pub counts : CountsDiskFaults status (faults old) (faults new)
 
 -- What a run does to the disk and by it: a kept game goes by `RunsKeep`, and nothing else touches the disk.
-abbrev pub RunsDisk : {D : Type 0} → (D → Option (List ℕ)) → (D → List ℕ → Type 0) → (D → ℕ) → Asked → Status → Option (List ℕ) → Option (List ℕ) → Option (List ℕ) → Option (List ℕ) → D → D → Type 0
-RunsDisk told may_leave faults (KeepOf seat) status old_left new_left old_written new_written old new = RunsKeep told may_leave faults status seat old_left new_left old_written new_written old new
-RunsDisk told may_leave faults asked status old_left new_left old_written new_written old new = new ≡ old
+abbrev pub RunsDisk : {D : Type 0} → (D → Option (List ℕ)) → (D → List ℕ → Type 0) → (D → ℕ) → (D → ℕ → List ℕ → Type 0) → (D → ℕ) → Asked → Status → Option (List ℕ) → Option (List ℕ) → Option (List ℕ) → Option (List ℕ) → D → D → Type 0
+RunsDisk told may_leave moment secured_since faults (KeepOf seat) status old_left new_left old_written new_written old new = RunsKeep told may_leave moment secured_since faults status seat old_left new_left old_written new_written old new
+RunsDisk told may_leave moment secured_since faults asked status old_left new_left old_written new_written old new = new ≡ old
 
 -- The first word is this one.
 abbrev pub begins_with : List ℕ → List (List ℕ) → Bool

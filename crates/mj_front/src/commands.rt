@@ -68,7 +68,7 @@ pub fn run<S: Source, K: Sink, H: Host, C: Clock, D: Disk, R: Threads + Wait + S
     ensures unread { MeetsReadFaults (asked_by (map string_bytes words.now))
         (S.read_faults source.old) (S.read_faults source.new) }
     ensures writes { CountsWriteFaults result (K.write_faults sink.old) (K.write_faults sink.new) }
-    ensures disk { RunsDisk D.told D.may_leave D.disk_faults (asked_by (map string_bytes words.now)) result
+    ensures disk { RunsDisk D.told D.may_leave D.moment D.secured_since D.disk_faults (asked_by (map string_bytes words.now)) result
         (S.left source.old) (S.left source.new) (K.written sink.old) (K.written sink.new) disk.old
         disk.new }
     ensures host { LeavesAlone (asked_by (map string_bytes words.now)) (host.new ≡ host.old) }
@@ -149,7 +149,7 @@ pub fn run_alone<S: Source, K: Sink, D: Disk>(
     ensures unread { MeetsReadFaults (asked_by (map string_bytes words.now))
         (S.read_faults source.old) (S.read_faults source.new) }
     ensures writes { CountsWriteFaults result (K.write_faults sink.old) (K.write_faults sink.new) }
-    ensures disk { RunsDisk D.told D.may_leave D.disk_faults (asked_by (map string_bytes words.now)) result
+    ensures disk { RunsDisk D.told D.may_leave D.moment D.secured_since D.disk_faults (asked_by (map string_bytes words.now)) result
         (S.left source.old) (S.left source.new) (K.written sink.old) (K.written sink.new) disk.old
         disk.new }
 {
@@ -174,7 +174,7 @@ fn run_command<S: Source, K: Sink, D: Disk>(
     ensures unread { MeetsReadFaults (asked_by_command command.now) (S.read_faults source.old)
         (S.read_faults source.new) }
     ensures writes { CountsWriteFaults result (K.write_faults sink.old) (K.write_faults sink.new) }
-    ensures disk { RunsDisk D.told D.may_leave D.disk_faults (asked_by_command command.now) result
+    ensures disk { RunsDisk D.told D.may_leave D.moment D.secured_since D.disk_faults (asked_by_command command.now) result
         (S.left source.old) (S.left source.new) (K.written sink.old) (K.written sink.new) disk.old
         disk.new }
 {

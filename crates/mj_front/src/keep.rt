@@ -52,7 +52,7 @@ pub(crate) fn keep_of<S: Source, K: Sink, D: Disk>(
     sink: &mut K,
     disk: &mut D,
 ) -> KeepEnd
-    ensures run { KeepsAll D.told D.may_leave result seat (S.left source.old) (S.left source.new)
+    ensures run { KeepsAll D.told D.may_leave D.moment D.secured_since result seat (S.left source.old) (S.left source.new)
         (K.written sink.old) (K.written sink.new) disk.old disk.new }
     ensures reads { CountsReadFaults (keep_status result) (S.read_faults source.old)
         (S.read_faults source.new) }
@@ -79,7 +79,7 @@ fn keep_input<K: Sink, D: Disk>(
     disk: &mut D,
 ) -> KeepEnd
     requires { length input.now ≤ longest }
-    ensures does { KeepsInput D.told D.may_leave result seat input.now (K.written sink.old)
+    ensures does { KeepsInput D.told D.may_leave D.moment D.secured_since result seat input.now (K.written sink.old)
         (K.written sink.new) disk.old disk.new }
     ensures writes { CountsWriteFaults (keep_status result) (K.write_faults sink.old)
         (K.write_faults sink.new) }
@@ -104,7 +104,7 @@ fn keep_game<K: Sink, D: Disk>(
     requires fit { IsFit base }
     requires some { 1 ≤ length base.walls.items }
     ensures does { (input : List ℕ) → IsBase base.entry input
-        → KeepsInput D.told D.may_leave result seat input (K.written sink.old) (K.written sink.new)
+        → KeepsInput D.told D.may_leave D.moment D.secured_since result seat input (K.written sink.old) (K.written sink.new)
         disk.old disk.new }
     ensures writes { CountsWriteFaults (keep_status result) (K.write_faults sink.old)
         (K.write_faults sink.new) }
@@ -139,7 +139,7 @@ fn keep_on<K: Sink, D: Disk>(
         → base.number ≡ number → base.lines ≡ whole_lines rest.now
         → unfinished input ≡ unfinished rest.now → base.setting ≡ game.setting
         → GoesOn D.told D.may_leave base.tag seat kept disk.old game
-        → KeepsOn D.told D.may_leave result base seat game.entries input (K.written sink.old)
+        → KeepsOn D.told D.may_leave D.moment D.secured_since result base seat game.entries input (K.written sink.old)
         (K.written sink.new) disk.old disk.new }
     ensures writes { CountsWriteFaults (keep_status result) (K.write_faults sink.old)
         (K.write_faults sink.new) }

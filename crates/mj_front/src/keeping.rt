@@ -58,7 +58,7 @@ pub(crate) fn keep_lines<D: Disk>(
     ensures faults { CountsAllFault result (D.disk_faults disk.old) (D.disk_faults disk.new) }
     ensures notes { (tag : List ℕ) (seat : ℕ) (game : Game)
         → GoesOn D.told D.may_leave tag seat kept.old disk.old game
-        → NotesAll D.told D.may_leave result tag seat game kept.new disk.old disk.new
+        → NotesAll D.told D.may_leave D.moment D.secured_since result tag seat game kept.new disk.old disk.new
         (intake_from (intake_of game) first (whole_lines input.now) (unfinished input.now)) }
 {
     let mut rest = input;
@@ -86,7 +86,7 @@ fn keep_line<D: Disk>(alloc: Global, kept: &mut Kept<Watched>, disk: &mut D, lin
     ensures faults { CountsNotedFault result (D.disk_faults disk.old) (D.disk_faults disk.new) }
     ensures notes { (tag : List ℕ) (seat : ℕ) (game : Game)
         → GoesOn D.told D.may_leave tag seat kept.old disk.old game
-        → Notes D.told D.may_leave result tag seat game kept.new disk.old disk.new
+        → Notes D.told D.may_leave D.moment D.secured_since result tag seat game kept.new disk.old disk.new
         (arrives (intake_of game) line.now) }
 {
     let Ok(form) = read_form(alloc, line) else {
@@ -115,7 +115,7 @@ fn keep_saying<D: Disk>(kept: &mut Kept<Watched>, disk: &mut D, who: u64, line: 
     ensures faults { CountsNotedFault result (D.disk_faults disk.old) (D.disk_faults disk.new) }
     ensures notes { (tag : List ℕ) (seat : ℕ) (game : Game)
         → GoesOn D.told D.may_leave tag seat kept.old disk.old game
-        → Notes D.told D.may_leave result tag seat game kept.new disk.old disk.new
+        → Notes D.told D.may_leave D.moment D.secured_since result tag seat game kept.new disk.old disk.new
         (say_arrives (intake_of game) who line.now) }
 {
     let Some((speaker, author)) = speaker_of(kept, who) else {
@@ -133,7 +133,7 @@ fn keep_leaving<D: Disk>(kept: &mut Kept<Watched>, disk: &mut D, who: u64) -> No
     ensures faults { CountsNotedFault result (D.disk_faults disk.old) (D.disk_faults disk.new) }
     ensures notes { (tag : List ℕ) (seat : ℕ) (game : Game)
         → GoesOn D.told D.may_leave tag seat kept.old disk.old game
-        → Notes D.told D.may_leave result tag seat game kept.new disk.old disk.new
+        → Notes D.told D.may_leave D.moment D.secured_since result tag seat game kept.new disk.old disk.new
         (gone_arrives (intake_of game) who) }
 {
     let Some((leaver, author)) = leaver_of(kept, who) else {

@@ -10,7 +10,7 @@ use Rattle.mj_front.proofs.keeping.keep_saying.Goals as goal
 pub returns-in_default-clause-notes : goal.returns-in_default-clause-notes
 returns-in_default-clause-notes g c = λ tag seat game goes. (
   asked-not game c.args.who c.args.line.now (subst (λ (x : Game). ◌≡◌ {A = Option (ℕ × ℕ)} None (asked_in x c.args.who)) goes.core (c.in_default.ensures goes.watched goes.is)),
-  none-noted g.D.Disk.told g.D.Disk.may_leave c.args.kept.now c.args.disk.now tag seat game goes,
+  none-noted g.D.Disk.told g.D.Disk.may_leave g.D.Disk.moment g.D.Disk.secured_since c.args.kept.now c.args.disk.now (g.met.D.Disk.none_secured c.args.disk.now) tag seat game goes,
 )
 
 pub said-requires-clause-seat : goal.said-requires-clause-seat
@@ -18,6 +18,6 @@ said-requires-clause-seat g c = λ _ _. (if-asked (game_of c.args.kept.now) _ c.
 
 pub returns-clause-notes : goal.returns-clause-notes
 returns-clause-notes g c = λ tag seat game goes.
-    noted-say g.D.Disk.told g.D.Disk.may_leave g.D.Disk.moment g.D.Disk.left_since g.met.D.Disk.counts_now c.args.kept.now c.said.new.self
+    noted-say g.D.Disk.told g.D.Disk.may_leave g.D.Disk.moment g.D.Disk.left_since g.D.Disk.secured_since g.met.D.Disk.counts_now c.args.kept.now c.said.new.self
     c.args.disk.now c.said.new.disk tag seat game goes c.said.ensures.rest c.said.ensures.after
     c.said.result c.noted_by.result c.args.who c.in-Some.speaker c.in-Some.author c.args.line.now c.noted_by.ensures c.in-Some.ensures c.said.ensures.answer c.said.ensures.any_moment
