@@ -1,6 +1,7 @@
 //! A table and a referee for four-player riichi mahjong over mjai: `riichi_table referee SEAT` reads the arrivals of a game from
 //! standard input and writes what the game tells the connection of that seat; `riichi_table serve --seed HEX` plays a game with
-//! whoever connects to a port of this machine, and writes its record; `riichi_table replay` reads a record from
+//! whoever connects to a port of this machine, and writes its record; `riichi_table tables --seed HEX --rooms N` plays several
+//! games side by side, each at a table of its own, and writes their records; `riichi_table replay` reads a record from
 //! standard input and writes what it comes to; `riichi_table hand WORDS` writes the shanten,
 //! the target and the waits of the hand that the words name; `riichi_table selfplay N` writes what the game of four built-in
 //! players with the walls of a number comes to; `riichi_table observe` reads a record and writes what a watcher without tiles is
