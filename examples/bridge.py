@@ -18,8 +18,8 @@ from __future__ import annotations
 
 import argparse
 import collections
-import ctypes
 import dataclasses
+import functools
 import json
 import os
 import secrets
@@ -34,12 +34,12 @@ import time
 from typing import BinaryIO, Callable
 
 from customs import LONGEST, Customs, Event, compact, is_listed
+from processes import end_with_parent
 
 NONE = '{"type":"none"}'
 SEAT = "{seat}"  # stands in a command for the number of the seat
 STYLES = ("line", "batch", "mortal")
-LIBC = ctypes.CDLL(None)
-PARENT = os.getpid()
+
 
 class Lost(Exception):
     """The seat is lost: why, in words."""
@@ -66,22 +66,13 @@ class Lines:
         return line.decode("utf-8", "replace").strip()
 
 
-def end_with_parent() -> None:
-    """Asks Linux to end this process when its parent ends, however that comes about (PR_SET_PDEATHSIG)."""
-    if sys.platform == "linux":
-        LIBC.prctl(1, signal.SIGKILL)
-        if os.getppid() != PARENT:  # it ended before it could be asked
-            os._exit(1)
-
-
 class Program:
     """A running program: lines go to its standard input, and come from its standard output."""
 
     def __init__(self, command: list[str], log: BinaryIO) -> None:
-        pipe = subprocess.PIPE
+        pipe, end = subprocess.PIPE, functools.partial(end_with_parent, os.getpid())
         self.process = subprocess.Popen(
-            command, stdin=pipe, stdout=pipe, stderr=pipe, bufsize=0, start_new_session=True, preexec_fn=end_with_parent
-        )
+            command, stdin=pipe, stdout=pipe, stderr=pipe, bufsize=0, start_new_session=True, preexec_fn=end)
         assert self.process.stdin and self.process.stdout and self.process.stderr
         self.input, self.output, self.errors = self.process.stdin, self.process.stdout, self.process.stderr
         os.set_blocking(self.input.fileno(), False)

@@ -22,10 +22,13 @@ import tempfile
 from typing import Any, TypedDict
 
 from console import Level, Say, now
-from processes import end_with_parent, free_port
 from programs import Program
 
-BRIDGE = pathlib.Path(__file__).resolve().parent.parent / "examples" / "bridge.py"
+EXAMPLES = pathlib.Path(__file__).resolve().parent.parent / "examples"
+sys.path.insert(0, str(EXAMPLES))
+from processes import end_with_parent, free_port
+
+BRIDGE = EXAMPLES / "bridge.py"
 LONGEST = 1 << 24  # bytes of a line that a bridge says
 PATIENCE = 60  # seconds for the bridges to end once the server has
 

@@ -15,7 +15,7 @@ import unittest
 
 EXAMPLES = pathlib.Path(__file__).resolve().parent.parent
 ROOT = EXAMPLES.parent
-sys.path.insert(0, str(ROOT / "league"))
+sys.path.insert(0, str(EXAMPLES))
 from processes import free_port as free_port
 
 PROGRAM = os.environ.get("RIICHI_TABLE", "")

@@ -16,7 +16,7 @@ import unittest
 from typing import Iterator
 
 HERE = pathlib.Path(__file__).parent
-sys.path[:0] = [str(HERE), str(HERE.parent)]
+sys.path[:0] = [str(HERE), str(HERE.parent.parent / "examples")]
 from leagues import CALLER, PROGRAM, Folder
 from processes import free_port
 

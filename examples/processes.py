@@ -1,4 +1,4 @@
-"""What the league and the tests need of the machine: a free port, and processes that end with the one that started them."""
+"""What the bridge, the league and the tests need of the machine: a free port, and processes that end with the one that started them."""
 from __future__ import annotations
 
 import ctypes
