@@ -10,7 +10,8 @@ Where the command has {seat}, the program is started once its seat is known, wit
 every style the events have what ordinary mjai has beside the table's own fields, and an answer may lack what can be known.
 
 A program that ends is started again and told the game so far; one that is silent for too long, or whose answer is refused,
-is stood in for: it passes, or discards the tile that it drew. The first time of each is said on standard error; all of it,
+is stood in for: it passes, or discards the tile that it drew. For an answer that is sent after the table's limit the table
+stands in. The first time of each is said on standard error; all of it,
 what the bridge changed and the program's standard error go to a log. The exit code is 0 where the game was played to its
 end and each answer is the program's own, 1 where it was not, and 2 where the words are wrong.
 """
@@ -21,6 +22,7 @@ import collections
 import dataclasses
 import functools
 import json
+import math
 import os
 import secrets
 import select
@@ -222,9 +224,9 @@ class Report:
     starts: int = 0
     returns: int = 0  # connections that broke and were made again
     asked: int = 0  # events that the program was to answer
-    stood_in: int = 0  # answers that the bridge gave in its place
+    stood_in: int = 0  # answers that the bridge or the table gave in its place
     restarts: int = 0  # starts after the first
-    run_out: int = 0  # windows that expired
+    run_out: int = 0  # windows that were over by the limit before the answer was sent
     late: int = 0  # answers of the program that came after their time
     ended: list[Event] = dataclasses.field(default_factory=list)  # each time that it ended: event, code, stderr
     never_answered: bool = False
@@ -337,6 +339,15 @@ class Player:
         del self.answers[0]
         self.answers = self.answers or [NONE]
         return self.answers[0]
+
+    def ran_out(self, seconds: float) -> None:
+        """The answer to the newest event is sent after the limit, when so many seconds have gone by."""
+        self.report.count_run_out()
+        if self.is_own:
+            self.report.late += 1
+            self.report.stood_in += 1
+        whose = "the program's answer" if self.is_own else "the answer in its place"
+        self.warn("ran out", f"{whose} to {self.newest()} came after {seconds:.1f} s, and the table waits for {self.words.limit / 1000:g} s")
 
     def ask(self) -> str | None:
         """The program's answer to the newest event, or None. One that has ended is started again for it once."""
@@ -523,6 +534,7 @@ class Connection:
         self.player = player
         self.past = 0  # events that are told again without wanting an answer
         self.heard = 0  # events
+        self.over = math.inf  # when the newest event's window was, where its answer came after that
 
     def play(self) -> Event | None:
         """Plays on it to its end; the last event where that is the game's, else None."""
@@ -546,7 +558,8 @@ class Connection:
 
     def hear(self, line: str, event: Event) -> None:
         """Takes an event of the game, and answers it where that is wanted."""
-        since = time.monotonic()
+        # a table that has waited in vain went on at once, and tells of it only after the answer that it no longer wants
+        since = min(time.monotonic(), self.over)
         self.heard += 1
         if self.past > 0:
             self.past -= 1
@@ -555,9 +568,10 @@ class Connection:
             return
         is_known = self.heard == len(self.player.events) and self.player.answers
         answer = self.player.answers[0] if is_known else self.player.answer(line, event)
-        if time.monotonic() - since >= self.table.words.limit / 1000:
-            self.player.report.count_run_out()
-            self.player.report.late += self.player.is_own
+        taken, limit = time.monotonic() - since, self.table.words.limit / 1000
+        self.over = since + limit if taken >= limit else math.inf
+        if taken >= limit:
+            self.player.ran_out(taken)
         self.table.send(answer)
         if event["type"] == "start_game":
             print(f"{self.table.words.name} has seat {event['id']}", flush=True)
@@ -603,7 +617,7 @@ def read_words() -> argparse.Namespace:
         ("--patience", "N", 3, "silences in a row until it is started again"),
         ("--restarts", "N", 3, "how often it is started again"),
         ("--wait", "S", 60, "seconds to wait for the port"),
-        ("--limit", "MS", 10000, "the server's limit, by which run-out windows are counted"),
+        ("--limit", "MS", 10000, "the server's limit, after which an answer is the table's own"),
     ]
     parser.add_argument("--name", required=True, help="the player's name, 1 to 64 bytes")
     parser.add_argument("--style", choices=STYLES, default="line", help="how the program speaks (default: %(default)s)")

@@ -55,7 +55,7 @@ until (exec 3<> "/dev/tcp/127.0.0.1/$port") 2> /dev/null; do
 done
 
 python3 "$here/caller.py" anna "" "$port" &
-python3 "$here/bridge.py" --name bert --port "$port" --log /dev/null -- python3 "$here/caller.py" --stdio &
+python3 "$here/bridge.py" --name bert --port "$port" --limit 5000 --log /dev/null -- python3 "$here/caller.py" --stdio &
 bash "$here/player.sh" carl "" "$port" 0.02 &
 python3 "$here/player.py" dora secret "$port" 300
 python3 "$here/player.py" dora secret "$port" &

@@ -93,18 +93,31 @@ class Bridge(Seated):
     def test_a_silent_program_is_stood_in_for_and_its_late_answer_dropped(self) -> None:
         game = [START_GAME, START_HAND, draw(1, "N"), discard(1, "N"), draw(1, "P"), END_GAME]
         table = Table(lambda it: it.ask(*game))
-        ended = self.bridge(table, "slow", "3", "0.6", words=["--think", "300", "--limit", "250", "--patience", "99"])
+        ended = self.bridge(table, "slow", "3", "0.6", words=["--think", "300", "--patience", "99"])
         self.assertEqual(table.answers, [NONE, NONE, discard(1, "N"), NONE, discard(1, "P"), NONE])
         self.assertIn('no answer in time to {"type":"tsumo","actor":1,"pai":"N"}', self.log())
         self.assertRegex(self.log(), r'too late, before event [45] \(\w+\): {"type": "none", "late": true}')
         report = self.report()
         self.assertGreaterEqual(report["silences"], 1)
-        self.assertEqual((report["stood_in"], report["run_out"], report["starts"]), (report["silences"], report["expired"], 1))
-        self.assertGreaterEqual(report["expired"], 1)
+        self.assertEqual((report["stood_in"], report["run_out"], report["starts"]), (report["silences"], 0, 1))
         self.assertGreaterEqual(report["late"], 1)
         self.assertEqual((ended.returncode, ended.stderr), (1, (
             "anna: the program was silent at event 3 (tsumo) for 0.3 s\n"
             f"anna: the program was stood in for at {report['stood_in']} of 6 events\n")))
+
+    def test_after_the_limit_the_table_stands_in(self) -> None:
+        # in 2.5 seconds the windows of two events are over, which the table began one after the other
+        game = [START_GAME, START_HAND, draw(1, "N"), discard(1, "N"), draw(2, "?"), discard(2, "C"), END_GAME]
+        table = Table(lambda it: it.ask(*game))
+        ended = self.bridge(table, "slow", "3", "2.5", words=["--limit", "1000"])
+        report = self.report()
+        self.assertGreaterEqual(report["run_out"], 2)
+        self.assertEqual([report[name] for name in ("stood_in", "late", "silences", "answers")], [report["run_out"]] * 2 + [0, 7])
+        self.assertIn("bridge: the program's answer to event 4 (dahai) came after 1.", self.log())
+        self.assertEqual(ended.returncode, 1)
+        self.assertRegex(ended.stderr, (
+            r"^anna: the program's answer to event 3 \(tsumo\) came after [2-9]\.\d s, and the table waits for 1 s\n"
+            r"anna: the program was stood in for at \d of 7 events\n$"))
 
     def test_a_program_that_hangs_is_started_again_and_then_given_up(self) -> None:
         game = [START_GAME, START_HAND, *[draw(1, "N"), discard(1, "N")] * 6, END_GAME]

@@ -83,6 +83,22 @@ class Faults(unittest.TestCase):
 
 
 @unittest.skipUnless(PROGRAM, "no program: set RIICHI_TABLE to its path")
+class RunOut(unittest.TestCase):
+    def test_a_program_that_is_slower_than_the_limit_was_stood_in_for(self) -> None:
+        names = ("anna", "bert", "carl", "dora")
+        slow = {"anna": ["late", "40", "2.5"]}
+        league = Folder(type(self), [{"name": name, "command": faulty(name, *slow.get(name, [])), "think": 60000} for name in names])
+        told = league.play(4, "--jobs", "4", "--limit", "1000")
+        self.assertEqual(told.returncode, 1)
+        self.assertRegex(told.stderr, (
+            r"(?m)^game 1: anna: the program's answer to event \d+ \(\w+\) came after [\d.]+ s, and the table waits for 1 s$"))
+        self.assertRegex(told.stderr, r"(?m)^league.py: anna was stood in for in 4 of 4 games, \d+ times$")
+        rows = {row["name"]: row for row in league.table()["rows"]}
+        # (two windows at least are over in that time, that of the answer and the next one)
+        self.assertGreaterEqual(min(rows["anna"][field] for field in ("stood_in", "run_out", "late")), 2)
+
+
+@unittest.skipUnless(PROGRAM, "no program: set RIICHI_TABLE to its path")
 class BeforeTheFirstGame(unittest.TestCase):
     def test_commands_that_are_not_there_are_named(self) -> None:
         names = ("anna", "bert", "carl", "dora")
