@@ -268,7 +268,7 @@ class Bridge(Seated):
             shutil.copy(BRIDGE.parent / name, self.folder)
         table = Table(lambda it: it.ask(START_GAME, END_GAME))
         words = [self.folder / "bridge.py", "--name", "anna", "--port", table.port, "--", sys.executable, BOT, "line", "read"]
-        ended = subprocess.run([sys.executable, *map(str, words)], cwd=self.folder, env={}, capture_output=True, text=True, timeout=60)
+        ended = subprocess.run([sys.executable, *map(str, words)], cwd=self.folder, env={"LC_ALL": "C.UTF-8"}, capture_output=True, text=True, timeout=60)
         self.assertEqual((ended.returncode, ended.stderr), (0, ""))
 
     def test_a_server_that_speaks_otherwise_is_named(self) -> None:
