@@ -7,6 +7,7 @@ from __future__ import annotations
 
 import asyncio
 import concurrent.futures
+import contextlib
 import importlib
 import json
 import os
@@ -28,13 +29,15 @@ PATIENCE = 60  # seconds for the scheduler, and for the first worker
 class Cluster:
     """A connection to the scheduler of a cluster."""
 
-    def __init__(self, address: str) -> None:
+    def __init__(self, address: str, say: Say) -> None:
         self.address = address
+        self.say = say
         try:
             self.dask: Any = importlib.import_module("distributed")
         except ImportError:
             raise Wrong(f"--cluster wants Dask, Debian's python3-distributed, which {sys.executable} hasn't") from None
         self.client: Any = None
+        self.watching: asyncio.Task[None] | None = None
 
     async def open(self) -> None:
         try:
@@ -47,20 +50,50 @@ class Cluster:
             raise Wrong(f"the scheduler at {self.address} has no workers") from None
 
     async def close(self) -> None:
+        if self.watching:
+            self.watching.cancel()
+            await asyncio.gather(self.watching, return_exceptions=True)
         if self.client:
             await self.client.close()
 
-    async def look_up(self, programs: list[Program], folder: pathlib.Path, server: str) -> int:
-        """Finds what the games need on each worker; how many workers there are."""
+    def workers(self) -> set[str]:
+        """The addresses of the workers, as the scheduler told them last."""
+        return set(self.client.scheduler_info()["workers"])
+
+    async def look_up(self, programs: list[Program], folder: pathlib.Path, server: str) -> None:
+        """Finds what the games need on each worker, and says from then on which workers come and go."""
+        workers = self.workers()
+        if missing := await self.missing_on(workers, programs, folder, server):
+            raise Wrong("\n".join(missing))
+        self.say(f"the cluster at {self.address} has {len(workers)} worker{'s' * (len(workers) != 1)}")
+        self.watching = asyncio.create_task(self.watch(workers, programs, folder, server))
+
+    async def missing_on(self, workers: set[str], programs: list[Program], folder: pathlib.Path, server: str) -> list[str]:
+        """What some workers lack that the games need."""
+        found, some = [], sorted(workers)
         for path in (str(PLAY), server):
-            for worker, is_there in (await self.client.run(os.path.isfile, path)).items():
-                if not is_there:
-                    raise Wrong(f"{path} isn't there on the worker {worker}")
+            for worker, is_there in (await self.client.run(os.path.isfile, path, workers=some)).items():
+                found += [] if is_there else [f"{path} isn't there on the worker {worker}"]
         for program in programs:
-            for worker, found in (await self.client.run(shutil.which, first_word(program, folder))).items():
-                if not found:
-                    raise Wrong(no_command(program, f"the worker {worker}"))
-        return len(self.client.scheduler_info()["workers"])
+            for worker, command in (await self.client.run(shutil.which, first_word(program, folder), workers=some)).items():
+                found += [] if command else [no_command(program, f"the worker {worker}")]
+        return found
+
+    async def watch(self, known: set[str], programs: list[Program], folder: pathlib.Path, server: str) -> None:
+        """Says which workers come and go after these, what those that come lack, and that none is left."""
+        while True:
+            await asyncio.sleep(1)
+            new, known_before = self.workers(), known
+            known = new
+            for worker in sorted(known_before - new):
+                self.say(f"the worker {worker} is gone, and what it had begun is played again", "fault")
+            if known_before and not new:
+                self.say("no workers are left, and the games wait for one", "fault")
+            for worker in sorted(new - known_before):
+                self.say(f"the worker {worker} has come")
+            with contextlib.suppress(OSError, ValueError):  # of one that is gone by now
+                for missing in await self.missing_on(new - known_before, programs, folder, server):
+                    self.say(missing, "fault")
 
     async def play(self, task: Task, say: Say) -> Outcome:
         """Has a game played by a worker."""

@@ -101,7 +101,7 @@ def play_to_the_end(words: argparse.Namespace, league: League, seed: str, consol
         console.say("the seeds are published already, so the walls of these further games can be known", "fault")
     engine: Engine = Here(words.jobs, league.folder / "games")
     if words.cluster:
-        engine = Cluster(words.cluster)
+        engine = Cluster(words.cluster, console.say)
     try:
         asyncio.run(Run(league, seed, words, engine, console).play())
     except asyncio.CancelledError:

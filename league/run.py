@@ -32,8 +32,8 @@ class Engine(Protocol):
     async def close(self) -> None:
         """Lets it go."""
 
-    async def look_up(self, listed: list[Program], folder: pathlib.Path, server: str) -> int:
-        """Finds what the games need; how many machines or workers there are."""
+    async def look_up(self, listed: list[Program], folder: pathlib.Path, server: str) -> None:
+        """Finds what the games need, wherever they may be played."""
 
     async def play(self, task: Task, say: Say) -> Outcome:
         """Plays a game. Raises Broken where it is to be played again."""
@@ -52,9 +52,8 @@ class Here:
     async def close(self) -> None:
         pass
 
-    async def look_up(self, listed: list[Program], folder: pathlib.Path, server: str) -> int:
+    async def look_up(self, listed: list[Program], folder: pathlib.Path, server: str) -> None:
         programs.look_up(listed, folder)
-        return 1
 
     async def play(self, task: Task, say: Say) -> Outcome:
         async with self.turns:
@@ -80,9 +79,7 @@ class Run:
             asyncio.get_running_loop().add_signal_handler(number, task.cancel)
         try:
             await self.engine.open()
-            found = await self.engine.look_up(self.league.settings["programs"], self.folder, self.words.program)
-            if self.words.cluster:
-                self.console.say(f"the cluster at {self.words.cluster} has {found} workers")
+            await self.engine.look_up(self.league.settings["programs"], self.folder, self.words.program)
             await self.play_blocks()
         finally:
             await self.engine.close()

@@ -103,7 +103,9 @@ class Cluster(unittest.TestCase):
         with subprocess.Popen(words, stdout=subprocess.PIPE, stderr=subprocess.PIPE, text=True) as playing:
             self.kill_in_a_game(first, playing)
             said, faults = playing.communicate(timeout=900)
-        self.assertEqual((playing.returncode, faults), (0, ""), said)
+        self.assertEqual(playing.returncode, 0, faults)
+        self.assertRegex(faults, r"^the worker tcp://[\d.:]+ is gone, and what it had begun is played again\n$")
+        self.assertIn(f"the cluster at {address} has 2 workers\n", said)
         self.assertIn("4 of 4 games are played\n", said)
         self.assertEqual(there.records(), here.records())
         self.assertEqual(there.table(), here.table())
