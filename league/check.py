@@ -78,6 +78,16 @@ def problem_of_game(league: League, number: int, seed: str, program: str | None)
 
 def check(folder: pathlib.Path, program: str | None) -> None:
     """Checks a published league: its seeds, walls, seats, records, results and table."""
+    try:
+        checked = check_all(folder, program)
+    except (ArithmeticError, AttributeError, LookupError, TypeError, ValueError) as error:
+        raise Wrong(f"{folder} has files that are out of form: {error}") from None
+    replay = "replayed" if program else "not replayed, since no --program was named"
+    print(f"{checked} games are sound: seeds, walls, seats, results and table; their records are {replay}")
+
+
+def check_all(folder: pathlib.Path, program: str | None) -> int:
+    """Checks a published league whose files are in form; the number of its games."""
     league = League.open(folder)
     try:
         seeds = json.loads((folder / "seeds.json").read_text(encoding="utf-8"))
@@ -89,7 +99,9 @@ def check(folder: pathlib.Path, program: str | None) -> None:
     wrong = []
     if commitment != league.settings["commitment"]:
         wrong.append("the league's seed isn't the one that was promised")
-    for block in range(league.settings["games"] // 4):
+    if unplayed := league.settings["games"] - len(league.games):
+        wrong.append(f"{unplayed} of {league.settings['games']} games have no result")
+    for block in sorted({number // 4 for number in league.games}):
         games, seed = games_of(block), walls.seed_of(own, block)
         if listed[block:block + 1] != [seed]:
             wrong.append(f"the seed of games {games[0] + 1} to {games[-1] + 1} doesn't follow from the league's")
@@ -100,5 +112,4 @@ def check(folder: pathlib.Path, program: str | None) -> None:
         wrong.append("the table isn't what the games come to")
     if wrong:
         raise Wrong("\n".join(wrong))
-    replay = "replayed" if program else "not replayed, since no --program was named"
-    print(f"{len(league.games)} games are sound: seeds, walls, seats, results and table; their records are {replay}")
+    return len(league.games)

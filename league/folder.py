@@ -46,9 +46,9 @@ class League:
         self.names = [program["name"] for program in settings["programs"]]
         self.schedule = Schedule(len(self.names))
         self.games: dict[int, dict[str, Any]] = {}  # the results of those that were played, by number
-        for number in range(settings["games"]):
-            path = self.file(number, ".json")
-            if path.exists():
+        for path in sorted(folder.glob("games/*.json")):
+            number = int(path.stem) - 1
+            if number < settings["games"]:
                 self.games[number] = self.result_in(path)
 
     @classmethod

@@ -18,6 +18,7 @@ from __future__ import annotations
 import argparse
 import asyncio
 import fcntl
+import math
 import os
 import pathlib
 import re
@@ -29,27 +30,27 @@ import check
 import walls
 from cluster import Cluster
 from console import Console
-from folder import League, Settings, as_json, settings_in, write_whole
-from programs import Wrong, read_programs
+from folder import League, Settings, as_json, write_whole
+from programs import Program, Wrong, read_programs
 from run import Engine, Here, Run, stood_in_for
 from schedule import Schedule
 
 
-def begin(words: argparse.Namespace) -> tuple[League, str]:
-    """The league of the words' folder, made where there is none yet, and its seed."""
+LONGEST_LIMIT = 3600000  # milliseconds, the server's
+
+
+def begin(words: argparse.Namespace, programs: list[Program]) -> tuple[League, str]:
+    """The league of the words' folder, made where no game of one was played yet, and its seed."""
     folder: pathlib.Path = words.out
-    programs = read_programs(words.bots)
-    if words.games < 4 or words.games % 4:
-        raise Wrong(f"--games {words.games}: a league has a multiple of 4 games, since each program plays each wall from each seat")
-    (folder / "games").mkdir(parents=True, exist_ok=True)
     kept = folder / "seed.secret"
     seed = words.seed.lower() if words.seed else kept.read_text().strip() if kept.exists() else secrets.token_hex(32)
     settings: Settings = {
         "games": words.games, "limit": words.limit, "draws": words.draws, "red": words.red, "uma": words.uma,
         "commitment": walls.commitment_of(seed), "programs": programs,
     }
-    if (folder / "league.json").exists():
-        compare(folder, settings_in(folder), settings)
+    stands = League.open(folder) if (folder / "league.json").exists() else None
+    if stands and stands.games:
+        compare(stands, settings)
     else:
         with open(os.open(kept, os.O_WRONLY | os.O_CREAT | os.O_TRUNC, 0o600), "w", encoding="utf-8") as file:
             file.write(seed + "\n")
@@ -57,14 +58,14 @@ def begin(words: argparse.Namespace) -> tuple[League, str]:
     return League(folder, settings), seed
 
 
-def compare(folder: pathlib.Path, stands: Settings, settings: Settings) -> None:
-    """Takes a league with the same settings, or with more games."""
+def compare(stands: League, settings: Settings) -> None:
+    """Takes the settings of a league that has played games, or these with another number of games that has all of them."""
     for name in Settings.__annotations__.keys() - {"games"}:
-        if stands[name] != settings[name]:  # type: ignore[literal-required]
+        if stands.settings[name] != settings[name]:  # type: ignore[literal-required]
             what = "seed" if name == "commitment" else name
-            raise Wrong(f"{folder} holds a league with other {what}: take another folder, or the words that it was begun with")
-    if stands["games"] > settings["games"]:
-        raise Wrong(f"{folder} holds a league of {stands['games']} games: it can get more games, and none fewer")
+            raise Wrong(f"{stands.folder} holds a league with other {what}: take another folder, or the words that it was begun with")
+    if max(stands.games) >= settings["games"]:
+        raise Wrong(f"{stands.folder} holds a league that has played {len(stands.games)} games: it can get more games, and none fewer")
 
 
 def how_balanced(games: int, schedule: Schedule) -> str:
@@ -78,12 +79,14 @@ def how_balanced(games: int, schedule: Schedule) -> str:
 
 def play(words: argparse.Namespace) -> int:
     """Plays a league to its end; the exit code."""
-    league, seed = begin(words)
-    with open(league.folder / "lock", "w", encoding="utf-8") as lock:
+    programs, folder = read_programs(words.bots), words.out
+    (folder / "games").mkdir(parents=True, exist_ok=True)
+    with open(folder / "lock", "w", encoding="utf-8") as lock:
         try:
             fcntl.flock(lock, fcntl.LOCK_EX | fcntl.LOCK_NB)
-        except OSError:
-            raise Wrong(f"another league is being played in {league.folder}") from None
+        except BlockingIOError:
+            raise Wrong(f"a league is being played in {folder} already") from None
+        league, seed = begin(words, programs)
         console = Console(league.folder / "league.log", words.games, len(league.games))
         try:
             return play_to_the_end(words, league, seed, console)
@@ -122,9 +125,12 @@ def play_to_the_end(words: argparse.Namespace, league: League, seed: str, consol
 
 def uma_of(text: str) -> list[float]:
     """Four numbers that are joined by commas."""
-    numbers = [float(part) for part in text.split(",")]
-    if len(numbers) != 4:
-        raise ValueError
+    try:
+        numbers = [float(part) for part in text.split(",")]
+    except ValueError:
+        numbers = []
+    if len(numbers) != 4 or not all(map(math.isfinite, numbers)):
+        raise argparse.ArgumentTypeError(f"{text} isn't four numbers with commas between them")
     return [int(number) if number.is_integer() else number for number in numbers]
 
 
@@ -159,8 +165,14 @@ def read_words() -> argparse.Namespace:
                 parser.error(f"--{name} is wanting")
     if words.seed and not re.fullmatch("[0-9a-fA-F]{64}", words.seed):
         parser.error("--seed wants 64 hex digits")
+    if not words.check and (words.games < 4 or words.games % 4):
+        parser.error(f"--games {words.games}: a league has a multiple of 4 games, since each program plays each wall from each seat")
+    if not 1 <= words.limit <= LONGEST_LIMIT:
+        parser.error(f"--limit wants 1 to {LONGEST_LIMIT} milliseconds")
     if words.jobs < 1 or words.tries < 1:
         parser.error("--jobs and --tries want 1 at least")
+    if not 0 < words.minutes < math.inf:
+        parser.error("--minutes wants a number above 0")
     if words.program:
         found = shutil.which(words.program)
         if not found:
@@ -178,6 +190,10 @@ def main() -> None:
             sys.exit(play(words))
     except Wrong as wrong:
         sys.exit(f"league.py: {wrong}")
+    except OSError as error:
+        sys.exit(f"league.py: {error.filename or words.out or words.check}: {error.strerror or error}")
+    except KeyboardInterrupt:
+        sys.exit("league.py: stopped")
 
 
 if __name__ == "__main__":

@@ -10,6 +10,7 @@ process that started it.
 from __future__ import annotations
 
 import asyncio
+import contextlib
 import functools
 import json
 import os
@@ -19,6 +20,7 @@ import socket
 import subprocess
 import sys
 import tempfile
+import time
 from typing import Any, TypedDict
 
 from console import Level, Say, now
@@ -30,7 +32,7 @@ from processes import end_with_parent, free_port
 
 BRIDGE = EXAMPLES / "bridge.py"
 LONGEST = 1 << 24  # bytes of a line that a bridge says
-PATIENCE = 60  # seconds for the bridges to end once the server has
+PATIENCE = 60  # seconds for the server to open its port, and for the bridges to end once it has ended
 
 Report = dict[str, Any]
 
@@ -118,14 +120,16 @@ class Game:
                 task.cancel()
             await asyncio.gather(*tasks, *self.listeners, return_exceptions=True)
             await self.kill_all()
-        record = part.read_bytes().decode()
-        part.unlink()
-        return {"record": record, "reports": self.reports(), "logs": {}}
+            record = part.read_bytes() if part.exists() else b""
+            part.unlink(missing_ok=True)
+        return {"record": record.decode("utf-8", "replace"), "reports": self.reports(), "logs": {}}
 
     async def kill_all(self) -> None:
         for process in self.running:
             if process.returncode is None:
-                process.kill()
+                # (its own kill() may take the exit code that asyncio waits for)
+                with contextlib.suppress(ProcessLookupError):
+                    os.kill(process.pid, signal.SIGKILL)
                 await process.wait()
 
     def server_command(self) -> list[str]:
@@ -150,12 +154,15 @@ class Game:
         await asyncio.gather(*(self.hear(bridge, name, seat) for seat, (name, bridge) in enumerate(zip(names, bridges))))
 
     async def wait_for_port(self) -> None:
+        deadline = time.monotonic() + PATIENCE
         while True:
             try:
                 _, link = await asyncio.open_connection("127.0.0.1", self.port)
                 link.close()
                 return
             except OSError:
+                if time.monotonic() > deadline:
+                    raise Broken(f"the server has not opened port {self.port} within {PATIENCE} s") from None
                 await asyncio.sleep(0.05)
 
     async def seat(self, program: Program, place: int) -> asyncio.subprocess.Process:
@@ -164,11 +171,10 @@ class Game:
         log = self.file(f".{place}.log").resolve()
         words = {"--name": name, "--port": self.port, "--limit": self.task["limit"], "--log": log, "--report": self.report_file(place)}
         words |= {"--style": program["style"], "--think": program["think"], "--start": program["start"]}
-        if program["spelling"] != "table":
-            words["--spelling"] = program["spelling"]
+        words |= {"--spelling": program["spelling"]}
         for path in (log, self.report_file(place)):
             path.unlink(missing_ok=True)
-        command = [sys.executable, str(BRIDGE), *(str(word) for pair in words.items() for word in pair), "--", *program["command"]]
+        command = [sys.executable, str(BRIDGE), *(f"{word}={value}" for word, value in words.items()), "--", *program["command"]]
         bridge = await self.run(*command, stdout=subprocess.PIPE, cwd=self.task["folder"])
         listener = asyncio.create_task(self.pass_on(bridge, name))
         self.listeners.append(listener)

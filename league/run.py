@@ -139,7 +139,7 @@ class Run:
                 breaks.append(str(why))
                 say(f"broke, try {len(breaks)} of {self.words.tries}: {why}", "fault")
         else:
-            raise Wrong(f"game {number + 1} broke {self.words.tries} times")
+            raise Wrong(f"game {number + 1} broke {len(breaks)} times, the last time since {breaks[-1]}")
         rows = self.league.programs_in(number)
         say(", ".join(f"{name} {row['points']:,}" for name, row in rows.items()))
         for name, row in rows.items():

@@ -110,6 +110,27 @@ class BeforeTheFirstGame(unittest.TestCase):
         self.assertIn("the command of carl, no-such-command, isn't there on this machine or can't be run\n", told.stderr)
         self.assertIn("the command of dora, ./bots.json, isn't there on this machine or can't be run\n", told.stderr)
         self.assertEqual(list(league.out.glob("games/*")), [])
+        with self.subTest("mended, with names that look like words, it is played"):
+            names = ("-x", "b c", "<d&", "\u4e1c")
+            bots = [{"name": name, "command": faulty(f"it{place}"), "think": 60000} for place, name in enumerate(names)]
+            (league.path / "bots.json").write_text(json.dumps(bots))
+            told = league.play(4, "--jobs", "4", "--limit", "60000", "--red")
+            self.assertEqual((told.returncode, told.stderr), (0, ""))
+            self.assertEqual(sorted(row["name"] for row in league.table()["rows"]), sorted(names))
+
+    def test_a_folder_that_cannot_be_made_is_named(self) -> None:
+        league = Folder(type(self), [{"name": name, "command": faulty(name)} for name in "abcd"])
+        league.out.touch()
+        told = league.play(4)
+        self.assertEqual((told.returncode, told.stderr), (1, f"league.py: {league.out}/games: Not a directory\n"))
+
+    def test_a_program_that_cannot_be_run_is_told_at_last(self) -> None:
+        league = Folder(type(self), [{"name": name, "command": faulty(name)} for name in "abc"] + [{"name": "d", "command": ["./d"]}])
+        (league.path / "d").write_text("no head line\n")
+        (league.path / "d").chmod(0o755)
+        told = league.play(4, "--jobs", "1", "--tries", "1")
+        self.assertEqual(told.returncode, 1)
+        self.assertTrue(told.stderr.endswith("league.py: game 1 broke 1 times, the last time since d: ./d: Exec format error\n"), told.stderr)
 
     def test_faulty_lists_are_named(self) -> None:
         league = Folder(type(self), [])

@@ -5,6 +5,7 @@ It wants the environment's RIICHI_TABLE, the path of the program.
 from __future__ import annotations
 
 import collections
+import fcntl
 import json
 import pathlib
 import re
@@ -144,6 +145,9 @@ class Killed(unittest.TestCase):
             ("seeds.json", change("5e", "5f"), "the league's seed isn't the one that was promised"),
             ("league.json", change('"limit": 10000', '"limit": 9999'), "game 1: the record is of a game with other rules"),
             ("league.json", change('"anna"', '"otto"'), "game 1: the programs have other seats than they should"),
+            ("league.json", change('"games": 8', '"games": 1000000000'), "999999992 of 1000000000 games have no result"),
+            ("league.json", change('"games": 8', '"games": "8"'), "out has files that are out of form: "),
+            ("games/0005.json", change('"place"', '"palace"'), "out has files that are out of form: "),
         ]
         for name, fault, problem in faults:
             with self.subTest(name), tempfile.TemporaryDirectory() as folder:
@@ -157,15 +161,26 @@ class Killed(unittest.TestCase):
                 self.assertIn(problem, str(wrong.exception))
 
     def test_other_words_are_refused(self) -> None:
-        for words, problem in [
-            (["--limit", "9000"], "holds a league with other limit"),
-            (["--red"], "holds a league with other red"),
-            (["--games", "4"], "holds a league of 8 games: it can get more games, and none fewer"),
-            (["--games", "6"], "a multiple of 4"),
+        for words, code, problem in [
+            (["--limit", "9000"], 1, "holds a league with other limit"),
+            (["--red"], 1, "holds a league with other red"),
+            (["--games", "4"], 1, "holds a league that has played 8 games: it can get more games, and none fewer"),
+            (["--games", "6"], 2, "a multiple of 4"),
+            (["--limit", "0"], 2, "--limit wants 1 to 3600000 milliseconds"),
+            (["--minutes", "nan"], 2, "--minutes wants a number above 0"),
+            (["--uma=nan,0,0,0"], 2, "nan,0,0,0 isn't four numbers with commas between them"),
         ]:
             told = self.league.play(GAMES, *words)
-            self.assertEqual(told.returncode, 1)
+            self.assertEqual(told.returncode, code)
             self.assertIn(problem, told.stderr)
+
+    def test_a_folder_that_another_league_plays_in_is_left_alone(self) -> None:
+        settings = (self.out / "league.json").read_bytes()
+        with open(self.out / "lock", "w") as lock:
+            fcntl.flock(lock, fcntl.LOCK_EX)
+            told = self.league.play(2 * GAMES)
+        self.assertEqual((told.returncode, told.stderr), (1, f"league.py: a league is being played in {self.out} already\n"))
+        self.assertEqual((self.out / "league.json").read_bytes(), settings)
 
 
 @unittest.skipUnless(PROGRAM, "no program: set RIICHI_TABLE to its path")
