@@ -20,7 +20,7 @@ export MYPYPATH=examples:examples/tests:league:viewer:viewer/tests
 TESTS='
 120 examples/tests/test_players.py
 400 examples/tests/test_bridge.py
-300 examples/tests/test_customs.py
+900 examples/tests/test_customs.py
 300 examples/tests/test_play.py
 200 examples/tests/test_serve.py
 200 examples/tests/test_tables.py

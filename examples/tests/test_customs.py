@@ -1,6 +1,6 @@
 """Programs with the customs of today at a table: whole games in which each answer is the program's own.
 
-It plays CUSTOMS_GAMES games of each style, two where the environment names no number.
+It plays CUSTOMS_GAMES games of each style, eight where the environment names no number.
 """
 from __future__ import annotations
 
@@ -19,7 +19,7 @@ import helpers
 sys.path.insert(0, str(helpers.EXAMPLES))
 from customs import REASONS, YAKU, Customs, is_listed
 
-GAMES = int(os.environ.get("CUSTOMS_GAMES", "2"))
+GAMES = int(os.environ.get("CUSTOMS_GAMES", "8"))
 NAMES = ["anna", "bert", "carl", "dora"]
 
 
@@ -93,17 +93,18 @@ class Games(unittest.TestCase):
     def play(self, folder: pathlib.Path, style: str, seed: str) -> list[dict[str, object]]:
         """Plays a game of four programs of a style; the reports of their bridges."""
         port = helpers.free_port()
-        words = [helpers.PROGRAM, "serve", "--seed", seed, "--port", str(port), "--draws", "--red"]
+        words = [helpers.PROGRAM, "serve", "--seed", seed, "--port", str(port), "--limit", "60000", "--draws", "--red"]
         server = subprocess.Popen(words, stdout=subprocess.PIPE)
         self.addCleanup(server.kill)
         bridges = []
         for name in NAMES:
             command = [sys.executable, str(helpers.EXAMPLES / "bridge.py"), "--name", name, "--port", str(port), "--style", style]
-            command += ["--spelling", "mjai", "--log", str(folder / f"{name}.log"), "--report", str(folder / f"{name}.json"), "--"]
+            command += ["--spelling", "mjai", "--think", "60000", "--limit", "60000"]
+            command += ["--log", str(folder / f"{name}.log"), "--report", str(folder / f"{name}.json"), "--"]
             command += [sys.executable, str(helpers.EXAMPLES / "tests" / "customary.py"), style, "{seat}"]
             bridges.append(subprocess.Popen(command, stdout=subprocess.PIPE, stderr=subprocess.PIPE, text=True))
             self.addCleanup(bridges[-1].kill)
-        ended = [(*bridge.communicate(timeout=120), bridge.returncode) for bridge in bridges]
+        ended = [(*bridge.communicate(timeout=300), bridge.returncode) for bridge in bridges]
         record = server.communicate(timeout=60)[0]
         self.assertTrue(helpers.is_sound(record), record[:100])
         for name, (_, said, code) in zip(NAMES, ended):
