@@ -220,11 +220,7 @@ class Viewer(Page):
         self.assertGreaterEqual(len(model.events_of(text)), 2000)
         self.browser.call("Performance.enable", timeDomain="threadTicks")
         self.addCleanup(self.browser.call, "Performance.disable")
-        opened, busy = [], []
-        for _ in range(3):
-            since = self.processor_time()
-            opened.append(self.opening(text))
-            busy.append(self.processor_time() - since)
+        opened, busy = zip(*(self.opening(text) for _ in range(3)))
         # each step with the layout that follows from it
         step = "press('ArrowRight'); document.getElementById('side').getBoundingClientRect();"
         steps = sorted(self.browser.run(page_script(
@@ -251,15 +247,17 @@ class Viewer(Page):
         metrics = self.browser.call("Performance.getMetrics")["metrics"]
         return 1000 * float(next(it["value"] for it in metrics if it["name"] == "TaskDuration"))
 
-    def opening(self, text: str) -> float:
-        """The milliseconds from the drop of a file to its first table."""
+    def opening(self, text: str) -> tuple[float, float]:
+        """The milliseconds from the drop of a file to its first table, and of them those that the page had a processor for."""
         self.browser.open("about:blank")
         self.browser.open(ADDRESS)
-        return float(self.browser.run(
+        since = self.processor_time()
+        taken = float(self.browser.run(
             "(async () => { const shown = new Promise(done => new MutationObserver(done).observe(document.getElementById('where'), {childList: true}));"
             f"const drop = () => {drop_script(text)}; const before = performance.now(); drop(); await shown;"
             "document.body.getBoundingClientRect(); return performance.now() - before; })()"
         ))
+        return taken, self.processor_time() - since
 
     def test_the_steps_are_those_of_the_arrow_keys_after_a_seat_was_chosen(self) -> None:
         self.drop(RECORDS["whole_game"], "#hand=3&deed=41")
