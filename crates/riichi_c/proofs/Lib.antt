@@ -1,0 +1,6 @@
+mod Heap
+pub mod OnGames
+pub mod Rules
+mod Values
+pub mod WallLines
+pub mod WordLines

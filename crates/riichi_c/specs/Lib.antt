@@ -1,0 +1,6 @@
+pub mod Owned
+pub mod Answers
+pub mod Calls
+pub mod Opens
+pub mod Runs
+pub mod Turns

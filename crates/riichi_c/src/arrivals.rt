@@ -1,0 +1,190 @@
+//! The arrivals of a table, one call for each.
+
+ghost use Rattle.std.specs.Prelude.{◌≡◌};
+ghost use Rattle.riichi_c.specs.Answers.{not_seated};
+ghost use Rattle.riichi_c.specs.Calls.{OnGame, Sits, Says, Leaves, Expires};
+
+use crate::answer::{
+    BACK, CLOSING, DONE, EARLY, LATE, NO_GAME, NO_MEMORY, NO_SEAT, NOT_DUE, NOT_PRESENT,
+    NOT_SEATED, REFUSED, STALE, TOO_LONG,
+};
+use crate::handle::Table;
+use mj_core::{Core, Expiry, Heard, Left, SitAnswer};
+use mj_ports::SitRefused;
+use std::alloc::Global;
+
+/// The most bytes that the line of a player may have.
+const LINE_LIMIT: usize = 4095;
+
+// The author of each line that wants a seat, and of each expiry.
+const JOINER: u8 = 1;
+
+const CLOCK: u8 = 0;
+
+/// Somebody wants a seat by a line, `{"type":"join",..}`. DONE where the next seat is taken and BACK where a seat is taken back, and
+/// `seat` says which; or a number from NOT_SEATED on, which says why none is given, and nothing has changed.
+#[unsafe(no_mangle)]
+pub extern "C" fn riichi_table_sit(
+    alloc: Global,
+    table: &mut Table,
+    line: &[u8],
+    seat: &mut u32,
+) -> u32
+    ensures { OnGame (Sits line.now seat.old seat.new) table.old.held.game table.new.held.game result }
+{
+    let Some(mut core) = table.take(alloc) else {
+        return NO_GAME;
+    };
+    let answer = sit(alloc, &mut core, line, seat);
+    table.put(core);
+    answer
+}
+
+fn sit(alloc: Global, core: &mut Core, line: &[u8], seat: &mut u32) -> u32
+    ensures { Sits line.now seat.old seat.new core.old core.new result }
+{
+    if line.len() > LINE_LIMIT {
+        return TOO_LONG;
+    }
+    match core.sit(alloc, JOINER, line) {
+        SitAnswer::Sat(taken) => {
+            *seat = u32::from(taken);
+            DONE
+        }
+        SitAnswer::Back(taken) => {
+            *seat = u32::from(taken);
+            BACK
+        }
+        SitAnswer::Refused(why) => not_seated(why),
+        SitAnswer::NoMemory => NO_MEMORY,
+    }
+}
+
+// Why no seat is given.
+fn not_seated(why: SitRefused) -> u32
+    ensures { result ≡ not_seated why }
+{
+    match why {
+        SitRefused::Full => NOT_SEATED,
+        SitRefused::NameTaken => NOT_SEATED + 1,
+        SitRefused::WrongKey => NOT_SEATED + 2,
+        SitRefused::NoKey => NOT_SEATED + 3,
+        SitRefused::TooOften => NOT_SEATED + 4,
+        SitRefused::Over => NOT_SEATED + 5,
+        SitRefused::BadName => NOT_SEATED + 6,
+        SitRefused::NoRoom => NOT_SEATED + 7,
+    }
+}
+
+/// A seat says a line, which answers its due deed. DONE where the answer is taken, LATE where the window of that deed is closed
+/// already, REFUSED and CLOSING where it breaks a rule, and `rule` says which; else the seat may not say a line now, and nothing has
+/// changed.
+#[unsafe(no_mangle)]
+pub extern "C" fn riichi_table_say(
+    alloc: Global,
+    table: &mut Table,
+    seat: u32,
+    line: &[u8],
+    rule: &mut u32,
+) -> u32
+    ensures { OnGame (Says seat line.now rule.old rule.new) table.old.held.game table.new.held.game result }
+{
+    let Some(mut core) = table.take(alloc) else {
+        return NO_GAME;
+    };
+    let answer = say(alloc, &mut core, seat, line, rule);
+    table.put(core);
+    answer
+}
+
+#[tactic(auto, using(crate::proofs::Rules::tag_is))]
+pub(crate) fn say(alloc: Global, core: &mut Core, seat: u32, line: &[u8], rule: &mut u32) -> u32
+    ensures { Says seat line.now rule.old rule.new core.old core.new result }
+{
+    if seat > 3 {
+        return NO_SEAT;
+    }
+    if line.len() > LINE_LIMIT {
+        return TOO_LONG;
+    }
+    let seat = seat as u8;
+    let Some(author) = core.author(seat) else {
+        return NOT_PRESENT;
+    };
+    if !core.may_say(seat) {
+        return NOT_DUE;
+    }
+    match core.said(alloc, author, seat, line) {
+        Heard::Taken => DONE,
+        Heard::Late => LATE,
+        Heard::Refused(broken) => {
+            *rule = broken as u32;
+            REFUSED
+        }
+        Heard::Closing(broken) => {
+            *rule = broken as u32;
+            CLOSING
+        }
+        Heard::NoMemory => NO_MEMORY,
+    }
+}
+
+/// A seat leaves: DONE, or NO_SEAT, NOT_PRESENT or NO_MEMORY, and then nothing has changed.
+#[unsafe(no_mangle)]
+pub extern "C" fn riichi_table_gone(alloc: Global, table: &mut Table, seat: u32) -> u32
+    ensures { OnGame (Leaves seat) table.old.held.game table.new.held.game result }
+{
+    let Some(mut core) = table.take(alloc) else {
+        return NO_GAME;
+    };
+    let answer = leave(alloc, &mut core, seat);
+    table.put(core);
+    answer
+}
+
+fn leave(alloc: Global, core: &mut Core, seat: u32) -> u32
+    ensures { Leaves seat core.old core.new result }
+{
+    if seat > 3 {
+        return NO_SEAT;
+    }
+    let seat = seat as u8;
+    let Some(author) = core.author(seat) else {
+        return NOT_PRESENT;
+    };
+    match core.gone(alloc, author, seat) {
+        Left::Gone => DONE,
+        Left::NoMemory => NO_MEMORY,
+    }
+}
+
+/// The time of a window may have run out between two readings of a clock, in milliseconds: DONE where it is closed, STALE where it
+/// isn't the open one, EARLY where less time than the limit has passed, or NO_MEMORY.
+#[unsafe(no_mangle)]
+pub extern "C" fn riichi_table_expire(
+    alloc: Global,
+    table: &mut Table,
+    window: u32,
+    t1: u64,
+    t2: u64,
+) -> u32
+    ensures { OnGame (Expires window t1 t2) table.old.held.game table.new.held.game result }
+{
+    let Some(mut core) = table.take(alloc) else {
+        return NO_GAME;
+    };
+    let answer = expire(alloc, &mut core, window, t1, t2);
+    table.put(core);
+    answer
+}
+
+fn expire(alloc: Global, core: &mut Core, window: u32, t1: u64, t2: u64) -> u32
+    ensures { Expires window t1 t2 core.old core.new result }
+{
+    match core.expire(alloc, CLOCK, window, t1, t2) {
+        Expiry::Closed => DONE,
+        Expiry::Stale => STALE,
+        Expiry::Early => EARLY,
+        Expiry::NoMemory => NO_MEMORY,
+    }
+}

@@ -1,0 +1,207 @@
+//! What is read of a table.
+
+ghost use Rattle.std.specs.Prelude.{◌≡◌, None, IfOk};
+ghost use Rattle.mj_core.specs.Calls.{pending_at, record_of};
+ghost use Rattle.riichi_c.specs.Calls.{OnGame, IsState, ReadsLine, ReadsPending, ReadsRecord, ReadsState, ReadsSeat};
+
+use crate::answer::{DONE, NO_GAME, NO_LINE, NO_MEMORY, NO_SEAT};
+use crate::handle::Table;
+use crate::out::write_out;
+use mj_core::Core;
+use std::alloc::{AllocError, Global};
+
+/// What stands on a table.
+#[repr(C)]
+#[derive(Clone, Copy)]
+pub struct State {
+    /// The number of deeds.
+    pub deeds: u32,
+    /// The number of the open window; where none is open, 2^32 - 1.
+    pub window: u32,
+    /// The number of entries.
+    pub entries: u64,
+    /// Whether the game has ended.
+    pub is_over: bool,
+}
+
+/// What stands at a seat.
+#[repr(C)]
+#[derive(Clone, Copy)]
+pub struct Seat {
+    /// The number of the deed that its next line answers.
+    pub due: u32,
+    /// Its points.
+    pub points: i32,
+    /// Whether it is present.
+    pub is_present: bool,
+    /// Whether it may say a line now: it is present, and its due deed exists.
+    pub may_say: bool,
+}
+
+/// What stands on the table: DONE, or NO_GAME, and then `state` stays as it was.
+#[unsafe(no_mangle)]
+pub extern "C" fn riichi_table_state(alloc: Global, table: &mut Table, state: &mut State) -> u32
+    ensures told { OnGame (ReadsState state.new) table.old.held.game table.new.held.game result }
+    ensures without { table.old.held.game ≡ None → state.new ≡ state.old }
+{
+    let Some(core) = table.take(alloc) else {
+        return NO_GAME;
+    };
+    *state = state_of(&core);
+    table.put(core);
+    DONE
+}
+
+fn state_of(core: &Core) -> State
+    ensures { IsState result core.now }
+{
+    State {
+        deeds: core.deeds(),
+        window: core.open().unwrap_or(u32::MAX),
+        entries: core.entries(),
+        is_over: core.over(),
+    }
+}
+
+/// What stands at a seat, 0 to 3: DONE, or NO_GAME or NO_SEAT, and then `into` stays as it was.
+#[unsafe(no_mangle)]
+pub extern "C" fn riichi_table_seat(
+    alloc: Global,
+    table: &mut Table,
+    seat: u32,
+    into: &mut Seat,
+) -> u32
+    ensures told { OnGame (ReadsSeat seat into.old into.new) table.old.held.game table.new.held.game result }
+    ensures without { table.old.held.game ≡ None → into.new ≡ into.old }
+{
+    let Some(core) = table.take(alloc) else {
+        return NO_GAME;
+    };
+    let answer = read_seat(&core, seat, into);
+    table.put(core);
+    answer
+}
+
+fn read_seat(core: &Core, seat: u32, into: &mut Seat) -> u32
+    ensures { ReadsSeat seat into.old into.new core.now core.now result }
+{
+    if seat > 3 {
+        return NO_SEAT;
+    }
+    let points = core.table().points();
+    let number = seat as u8;
+    *into = Seat {
+        due: core.due(number),
+        points: points[seat as usize],
+        is_present: core.present(number),
+        may_say: core.may_say(number),
+    };
+    DONE
+}
+
+/// Line `k` of a seat, without a newline at its end: DONE, NO_ROOM where it doesn't fit in `room`, or NO_LINE, NO_SEAT or NO_GAME, and then
+/// the length is 0.
+#[unsafe(no_mangle)]
+pub extern "C" fn riichi_table_line(
+    alloc: Global,
+    table: &mut Table,
+    seat: u32,
+    k: u32,
+    room: &mut [u8],
+    length: &mut u64,
+) -> u32
+    ensures { OnGame (ReadsLine seat k room.old room.new length.new) table.old.held.game table.new.held.game result }
+{
+    *length = 0;
+    let Some(core) = table.take(alloc) else {
+        return NO_GAME;
+    };
+    let answer = read_line(&core, seat, k, room, length);
+    table.put(core);
+    answer
+}
+
+fn read_line(core: &Core, seat: u32, k: u32, room: &mut [u8], length: &mut u64) -> u32
+    requires { length.old ≡ 0 }
+    ensures { ReadsLine seat k room.old room.new length.new core.now core.now result }
+{
+    if seat > 3 {
+        return NO_SEAT;
+    }
+    match core.line(seat as u8, k) {
+        Some(line) => write_out(line, room, length),
+        None => NO_LINE,
+    }
+}
+
+/// What is still to be told to a seat: the line of its due deed as soon as that deed exists, unless an answer to it was refused; nothing
+/// where the seat isn't present. DONE, NO_ROOM, NO_SEAT, NO_GAME or NO_MEMORY.
+#[unsafe(no_mangle)]
+pub extern "C" fn riichi_table_pending(
+    alloc: Global,
+    table: &mut Table,
+    seat: u32,
+    room: &mut [u8],
+    length: &mut u64,
+) -> u32
+    ensures { OnGame (ReadsPending seat room.old room.new length.new) table.old.held.game table.new.held.game result }
+{
+    *length = 0;
+    let Some(core) = table.take(alloc) else {
+        return NO_GAME;
+    };
+    let answer = read_pending(alloc, &core, seat, room, length);
+    table.put(core);
+    answer
+}
+
+fn read_pending(alloc: Global, core: &Core, seat: u32, room: &mut [u8], length: &mut u64) -> u32
+    requires { length.old ≡ 0 }
+    ensures { ReadsPending seat room.old room.new length.new core.now core.now result }
+{
+    if seat > 3 {
+        return NO_SEAT;
+    }
+    match pending_of(alloc, core, seat as u8) {
+        Ok(text) => write_out(text.as_slice(), room, length),
+        Err(_) => NO_MEMORY,
+    }
+}
+
+fn pending_of(alloc: Global, core: &Core, seat: u8) -> Result<Vec<u8>, AllocError>
+    ensures { IfOk result (λ text. text.items ≡ pending_at core.now seat) }
+{
+    let mut text = Vec::new(alloc);
+    core.pending(seat, &mut text)?;
+    Ok(text)
+}
+
+/// The record of the game so far: its header, its walls, and a line for each deed. DONE, NO_ROOM, NO_GAME or NO_MEMORY.
+#[unsafe(no_mangle)]
+pub extern "C" fn riichi_table_record(
+    alloc: Global,
+    table: &mut Table,
+    room: &mut [u8],
+    length: &mut u64,
+) -> u32
+    ensures { OnGame (ReadsRecord room.old room.new length.new) table.old.held.game table.new.held.game result }
+{
+    *length = 0;
+    let Some(core) = table.take(alloc) else {
+        return NO_GAME;
+    };
+    let answer = match record_of(alloc, &core) {
+        Ok(text) => write_out(text.as_slice(), room, length),
+        Err(_) => NO_MEMORY,
+    };
+    table.put(core);
+    answer
+}
+
+fn record_of(alloc: Global, core: &Core) -> Result<Vec<u8>, AllocError>
+    ensures { IfOk result (λ text. text.items ≡ record_of core.now) }
+{
+    let mut text = Vec::new(alloc);
+    core.record(alloc, &mut text)?;
+    Ok(text)
+}
