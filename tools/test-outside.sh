@@ -1,11 +1,11 @@
 #!/usr/bin/env bash
-# Tests what stands outside crates/: the example players, the bridge, the league, the viewer, the page's library and the
-# release, and checks the types of their Python. It proves nothing.
+# Tests what stands outside crates/: the example players, the bridge, the league, the viewer, the libraries for a page, for C and for
+# Python and the release, and checks the types of their Python. It proves nothing.
 #
 # usage: test-outside.sh [PROGRAM]
 #
 # PROGRAM is the built riichi_table; without it that of this repository, where it is built. What is skipped for want of
-# python3, mypy, chromium or the program is said. A file of tests that fails is run once more, since these play by the clock
+# python3, mypy, chromium, the program or the shared library (RIICHI_TABLE_LIBRARY, or what bindings/c/build.sh has built) is said. A file of tests that fails is run once more, since these play by the clock
 # of a machine that may have other work: that it failed is said with what it wrote, and counted on the last line. The exit
 # code is 0 where each file passed in the end.
 cd "$(dirname "$0")/.." || exit 1
@@ -13,8 +13,8 @@ program=${1:-crates/riichi_table/out/riichi_table}
 export PYTHONDONTWRITEBYTECODE=1
 
 # The Python that `mypy --strict` takes, as patterns, and the folders that it imports from.
-TYPED="examples/*.py examples/tests/*.py league/*.py league/tests/*.py viewer/*.py viewer/tests/*.py bindings/page/tests/*.py tools/*.py tools/tests/*.py"
-export MYPYPATH=examples:examples/tests:league:viewer:viewer/tests
+TYPED="examples/*.py examples/tests/*.py league/*.py league/tests/*.py viewer/*.py viewer/tests/*.py bindings/page/tests/*.py bindings/c/tests/*.py bindings/python/*.py bindings/python/*/*.py tools/*.py tools/tests/*.py"
+export MYPYPATH=examples:examples/tests:league:viewer:viewer/tests:bindings/python
 
 # The files of tests, and the seconds that each may take.
 TESTS='
@@ -32,8 +32,10 @@ TESTS='
 400 league/tests/test_faults.py
 400 league/tests/test_cluster.py
 300 tools/tests/test_release.py
-900 viewer/tests/test_viewer.py
+600 viewer/tests/test_viewer.py
 60 bindings/page/tests/test_page.py
+400 bindings/c/tests/test_c.py
+200 bindings/python/tests/test_bindings.py
 '
 
 say() {
@@ -52,6 +54,12 @@ elif [ $# -gt 0 ]; then
     exit 2
 else
     unset RIICHI_TABLE
+fi
+
+built=bindings/c/out/lib/libriichi_table.so
+if [ -z "$RIICHI_TABLE_LIBRARY" ] && [ -f $built ]; then
+    RIICHI_TABLE_LIBRARY=$(realpath $built)
+    export RIICHI_TABLE_LIBRARY
 fi
 
 passed=0 failed=() again=()
