@@ -1,5 +1,5 @@
 -- What the calls of a table do to its game, by what the calls of the game do that they make.
-use Rattle.std.specs.Prelude.{ℕ, ◌≡◌, ◌<◌, ◌≤◌, ◌==◌, Bool, true, false, List, [], ◌++◌, drop, length, Option, Some, None, nat_le, is_some, unwrap_or}
+use Rattle.std.specs.Prelude.{ℕ, ◌≡◌, ◌<◌, ◌≤◌, ◌==◌, Bool, true, false, List, [], ◌++◌, drop, length, Option, Some, None, nat_le, nat_lt, is_some, unwrap_or}
 use Rattle.mj_ports.specs.declared.answers.SitAnswer.TheVariants as sits
 use Rattle.mj_ports.specs.declared.answers.Heard.TheVariants as heard
 use Rattle.mj_ports.specs.declared.answers.Left.TheVariants as left
@@ -22,34 +22,58 @@ OnGame Does None new answer = (answer ≡ no_game) × (new ≡ None)
 OnGame Does (Some before) None answer = ⊥
 OnGame Does (Some before) (Some after) answer = Does before after answer
 
--- A join: the answer of the game to it, told by the number that is answered and by the seat.
-pub data Sits (line : List ℕ) (old_seat seat : ℕ) (old new : Game) (answer : ℕ) : Type 0 where
-  Sat : answer ≡ done → (taken : ℕ) → seat ≡ taken → IsSitAnswer (sits.Sat taken) old new 1 (join_of line) → Sits line old_seat seat old new answer
-  Back : answer ≡ back → (taken : ℕ) → seat ≡ taken → IsSitAnswer (sits.Back taken) old new 1 (join_of line) → Sits line old_seat seat old new answer
-  NotSeated : (why : SitRefused) → answer ≡ not_seated why → seat ≡ old_seat → IsSitAnswer (sits.Refused why) old new 1 (join_of line) → Sits line old_seat seat old new answer
-  SitNoMemory : answer ≡ no_memory → new ≡ old → seat ≡ old_seat → Sits line old_seat seat old new answer
-  SitTooLong : answer ≡ too_long → 4095 < length line → new ≡ old → seat ≡ old_seat → Sits line old_seat seat old new answer
+-- A join of at most 4,095 bytes: the answer of the game to it, told by the number that is answered and by the seat.
+pub data SitsWithin (line : List ℕ) (old_seat seat : ℕ) (old new : Game) (answer : ℕ) : Type 0 where
+  Sat : answer ≡ done → (taken : ℕ) → seat ≡ taken → IsSitAnswer (sits.Sat taken) old new 1 (join_of line) → SitsWithin line old_seat seat old new answer
+  Back : answer ≡ back → (taken : ℕ) → seat ≡ taken → IsSitAnswer (sits.Back taken) old new 1 (join_of line) → SitsWithin line old_seat seat old new answer
+  NotSeated : (why : SitRefused) → answer ≡ not_seated why → seat ≡ old_seat → IsSitAnswer (sits.Refused why) old new 1 (join_of line)
+      → SitsWithin line old_seat seat old new answer
+  SitNoMemory : answer ≡ no_memory → new ≡ old → seat ≡ old_seat → SitsWithin line old_seat seat old new answer
 
--- What a seat says: the first thing that stands against it, and else the answer of the game.
-pub data Says (seat : ℕ) (line : List ℕ) (old_rule rule : ℕ) (old new : Game) (answer : ℕ) : Type 0 where
-  SayNoSeat : answer ≡ no_seat → 3 < seat → new ≡ old → rule ≡ old_rule → Says seat line old_rule rule old new answer
-  SayTooLong : answer ≡ too_long → seat ≤ 3 → 4095 < length line → new ≡ old → rule ≡ old_rule → Says seat line old_rule rule old new answer
-  SayNotPresent : answer ≡ not_present → author_of_seat old seat ≡ None → new ≡ old → rule ≡ old_rule → Says seat line old_rule rule old new answer
-  SayNotDue : answer ≡ not_due → may_say_at old seat ≡ false → new ≡ old → rule ≡ old_rule → Says seat line old_rule rule old new answer
-  Taken : answer ≡ done → (author : ℕ) → author_of_seat old seat ≡ Some author → IsHeard heard.Taken old new author seat (answer_of line) → rule ≡ old_rule → Says seat line old_rule rule old new answer
-  Late : answer ≡ late → (author : ℕ) → author_of_seat old seat ≡ Some author → IsHeard heard.Late old new author seat (answer_of line) → rule ≡ old_rule → Says seat line old_rule rule old new answer
-  Refused : answer ≡ refused → (author : ℕ) (broken : Rule) → author_of_seat old seat ≡ Some author → IsHeard (heard.Refused broken) old new author seat (answer_of line) → rule ≡ rule_number broken
-      → Says seat line old_rule rule old new answer
-  Closing : answer ≡ closing → (author : ℕ) (broken : Rule) → author_of_seat old seat ≡ Some author → IsHeard (heard.Closing broken) old new author seat (answer_of line) → rule ≡ rule_number broken
-      → Says seat line old_rule rule old new answer
-  SayNoMemory : answer ≡ no_memory → new ≡ old → rule ≡ old_rule → Says seat line old_rule rule old new answer
+-- A longer line changes nothing.
+abbrev pub SitsBy : Bool → List ℕ → ℕ → ℕ → Game → Game → ℕ → Type 0
+SitsBy true line old_seat seat old new answer = (answer ≡ too_long) × (new ≡ old) × (seat ≡ old_seat)
+SitsBy false line old_seat seat old new answer = SitsWithin line old_seat seat old new answer
 
--- A seat leaves.
-pub data Leaves (seat : ℕ) (old new : Game) (answer : ℕ) : Type 0 where
-  LeaveNoSeat : answer ≡ no_seat → 3 < seat → new ≡ old → Leaves seat old new answer
-  LeaveNotPresent : answer ≡ not_present → author_of_seat old seat ≡ None → new ≡ old → Leaves seat old new answer
-  Gone : answer ≡ done → (author : ℕ) → author_of_seat old seat ≡ Some author → IsLeft left.Gone old new author seat → Leaves seat old new answer
-  LeaveNoMemory : answer ≡ no_memory → new ≡ old → Leaves seat old new answer
+abbrev pub Sits : List ℕ → ℕ → ℕ → Game → Game → ℕ → Type 0
+Sits line old_seat seat old new answer = SitsBy (nat_lt 4095 (length line)) line old_seat seat old new answer
+
+-- What a seat says in at most 4,095 bytes: it isn't present, or its due deed doesn't exist, and then nothing changes; else the answer of the game.
+pub data SaysWithin (seat : ℕ) (line : List ℕ) (old_rule rule : ℕ) (old new : Game) (answer : ℕ) : Type 0 where
+  SayNotPresent : answer ≡ not_present → author_of_seat old seat ≡ None → new ≡ old → rule ≡ old_rule → SaysWithin seat line old_rule rule old new answer
+  SayNotDue : answer ≡ not_due → (author : ℕ) → author_of_seat old seat ≡ Some author → may_say_at old seat ≡ false → new ≡ old → rule ≡ old_rule
+      → SaysWithin seat line old_rule rule old new answer
+  Taken : answer ≡ done → (author : ℕ) → author_of_seat old seat ≡ Some author → IsHeard heard.Taken old new author seat (answer_of line) → rule ≡ old_rule
+      → SaysWithin seat line old_rule rule old new answer
+  Late : answer ≡ late → (author : ℕ) → author_of_seat old seat ≡ Some author → IsHeard heard.Late old new author seat (answer_of line) → rule ≡ old_rule
+      → SaysWithin seat line old_rule rule old new answer
+  Refused : answer ≡ refused → (author : ℕ) (broken : Rule) → author_of_seat old seat ≡ Some author → IsHeard (heard.Refused broken) old new author seat (answer_of line)
+      → rule ≡ rule_number broken → SaysWithin seat line old_rule rule old new answer
+  Closing : answer ≡ closing → (author : ℕ) (broken : Rule) → author_of_seat old seat ≡ Some author → IsHeard (heard.Closing broken) old new author seat (answer_of line)
+      → rule ≡ rule_number broken → SaysWithin seat line old_rule rule old new answer
+  SayNoMemory : answer ≡ no_memory → new ≡ old → rule ≡ old_rule → SaysWithin seat line old_rule rule old new answer
+
+-- First it is looked whether the seat is one of the four, and then whether the line is too long.
+abbrev pub SaysBy : Bool → Bool → ℕ → List ℕ → ℕ → ℕ → Game → Game → ℕ → Type 0
+SaysBy true long seat line old_rule rule old new answer = (answer ≡ no_seat) × (new ≡ old) × (rule ≡ old_rule)
+SaysBy false true seat line old_rule rule old new answer = (answer ≡ too_long) × (new ≡ old) × (rule ≡ old_rule)
+SaysBy false false seat line old_rule rule old new answer = SaysWithin seat line old_rule rule old new answer
+
+abbrev pub Says : ℕ → List ℕ → ℕ → ℕ → Game → Game → ℕ → Type 0
+Says seat line old_rule rule old new answer = SaysBy (nat_lt 3 seat) (nat_lt 4095 (length line)) seat line old_rule rule old new answer
+
+-- One of the four seats leaves.
+pub data LeavesOne (seat : ℕ) (old new : Game) (answer : ℕ) : Type 0 where
+  LeaveNotPresent : answer ≡ not_present → author_of_seat old seat ≡ None → new ≡ old → LeavesOne seat old new answer
+  Gone : answer ≡ done → (author : ℕ) → author_of_seat old seat ≡ Some author → IsLeft left.Gone old new author seat → LeavesOne seat old new answer
+  LeaveNoMemory : answer ≡ no_memory → new ≡ old → LeavesOne seat old new answer
+
+abbrev pub LeavesBy : Bool → ℕ → Game → Game → ℕ → Type 0
+LeavesBy true seat old new answer = (answer ≡ no_seat) × (new ≡ old)
+LeavesBy false seat old new answer = LeavesOne seat old new answer
+
+abbrev pub Leaves : ℕ → Game → Game → ℕ → Type 0
+Leaves seat old new answer = LeavesBy (nat_lt 3 seat) seat old new answer
 
 -- The time of a window may have run out.
 pub data Expires (window t1 t2 : ℕ) (old new : Game) (answer : ℕ) : Type 0 where

@@ -1,8 +1,8 @@
 //! The arrivals of a table, one call for each.
 
-ghost use Rattle.std.specs.Prelude.{◌≡◌};
+ghost use Rattle.std.specs.Prelude.{◌≡◌, None};
 ghost use Rattle.riichi_c.specs.Answers.{not_seated};
-ghost use Rattle.riichi_c.specs.Calls.{OnGame, Sits, Says, Leaves, Expires};
+ghost use Rattle.riichi_c.specs.Calls.{OnGame, Sits, SitsWithin, Says, SaysWithin, Leaves, LeavesOne, Expires};
 
 use crate::answer::{
     BACK, CLOSING, DONE, EARLY, LATE, NO_GAME, NO_MEMORY, NO_SEAT, NOT_DUE, NOT_PRESENT,
@@ -30,7 +30,8 @@ pub extern "C" fn riichi_table_sit(
     line: &[u8],
     seat: &mut u32,
 ) -> u32
-    ensures { OnGame (Sits line.now seat.old seat.new) table.old.held.game table.new.held.game result }
+    ensures told { OnGame (Sits line.now seat.old seat.new) table.old.held.game table.new.held.game result }
+    ensures without { table.old.held.game ≡ None → seat.new ≡ seat.old }
 {
     let Some(mut core) = table.take(alloc) else {
         return NO_GAME;
@@ -46,6 +47,13 @@ fn sit(alloc: Global, core: &mut Core, line: &[u8], seat: &mut u32) -> u32
     if line.len() > LINE_LIMIT {
         return TOO_LONG;
     }
+    sit_within(alloc, core, line, seat)
+}
+
+// The same of a line that isn't too long.
+fn sit_within(alloc: Global, core: &mut Core, line: &[u8], seat: &mut u32) -> u32
+    ensures { SitsWithin line.now seat.old seat.new core.old core.new result }
+{
     match core.sit(alloc, JOINER, line) {
         SitAnswer::Sat(taken) => {
             *seat = u32::from(taken);
@@ -87,7 +95,8 @@ pub extern "C" fn riichi_table_say(
     line: &[u8],
     rule: &mut u32,
 ) -> u32
-    ensures { OnGame (Says seat line.now rule.old rule.new) table.old.held.game table.new.held.game result }
+    ensures told { OnGame (Says seat line.now rule.old rule.new) table.old.held.game table.new.held.game result }
+    ensures without { table.old.held.game ≡ None → rule.new ≡ rule.old }
 {
     let Some(mut core) = table.take(alloc) else {
         return NO_GAME;
@@ -97,7 +106,6 @@ pub extern "C" fn riichi_table_say(
     answer
 }
 
-#[tactic(auto, using(crate::proofs::Rules::tag_is))]
 pub(crate) fn say(alloc: Global, core: &mut Core, seat: u32, line: &[u8], rule: &mut u32) -> u32
     ensures { Says seat line.now rule.old rule.new core.old core.new result }
 {
@@ -107,7 +115,14 @@ pub(crate) fn say(alloc: Global, core: &mut Core, seat: u32, line: &[u8], rule: 
     if line.len() > LINE_LIMIT {
         return TOO_LONG;
     }
-    let seat = seat as u8;
+    say_within(alloc, core, seat as u8, line, rule)
+}
+
+// One of the four seats says a line that isn't too long.
+#[tactic(auto, using(crate::proofs::Rules::tag_is))]
+fn say_within(alloc: Global, core: &mut Core, seat: u8, line: &[u8], rule: &mut u32) -> u32
+    ensures { SaysWithin seat line.now rule.old rule.new core.old core.new result }
+{
     let Some(author) = core.author(seat) else {
         return NOT_PRESENT;
     };
@@ -148,7 +163,13 @@ fn leave(alloc: Global, core: &mut Core, seat: u32) -> u32
     if seat > 3 {
         return NO_SEAT;
     }
-    let seat = seat as u8;
+    leave_one(alloc, core, seat as u8)
+}
+
+// One of the four seats leaves.
+fn leave_one(alloc: Global, core: &mut Core, seat: u8) -> u32
+    ensures { LeavesOne seat core.old core.new result }
+{
     let Some(author) = core.author(seat) else {
         return NOT_PRESENT;
     };

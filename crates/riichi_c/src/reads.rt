@@ -99,7 +99,7 @@ fn read_seat(core: &Core, seat: u32, into: &mut Seat) -> u32
     DONE
 }
 
-/// Line `k` of a seat, without a newline at its end: DONE, NO_ROOM where it doesn't fit in `room`, or NO_LINE, NO_SEAT or NO_GAME, and then
+/// Line `k` of a seat, with its newline: DONE, NO_ROOM where it doesn't fit in `room`, or NO_LINE, NO_SEAT or NO_GAME, and then
 /// the length is 0.
 #[unsafe(no_mangle)]
 pub extern "C" fn riichi_table_line(
@@ -110,7 +110,9 @@ pub extern "C" fn riichi_table_line(
     room: &mut [u8],
     length: &mut u64,
 ) -> u32
-    ensures { OnGame (ReadsLine seat k room.old room.new length.new) table.old.held.game table.new.held.game result }
+    ensures told { OnGame (ReadsLine seat k room.old room.new length.new) table.old.held.game table.new.held.game result }
+    ensures without { table.old.held.game ≡ None → room.new ≡ room.old }
+    ensures empty { table.old.held.game ≡ None → length.new ≡ 0 }
 {
     *length = 0;
     let Some(core) = table.take(alloc) else {
@@ -144,7 +146,9 @@ pub extern "C" fn riichi_table_pending(
     room: &mut [u8],
     length: &mut u64,
 ) -> u32
-    ensures { OnGame (ReadsPending seat room.old room.new length.new) table.old.held.game table.new.held.game result }
+    ensures told { OnGame (ReadsPending seat room.old room.new length.new) table.old.held.game table.new.held.game result }
+    ensures without { table.old.held.game ≡ None → room.new ≡ room.old }
+    ensures empty { table.old.held.game ≡ None → length.new ≡ 0 }
 {
     *length = 0;
     let Some(core) = table.take(alloc) else {
@@ -184,7 +188,9 @@ pub extern "C" fn riichi_table_record(
     room: &mut [u8],
     length: &mut u64,
 ) -> u32
-    ensures { OnGame (ReadsRecord room.old room.new length.new) table.old.held.game table.new.held.game result }
+    ensures told { OnGame (ReadsRecord room.old room.new length.new) table.old.held.game table.new.held.game result }
+    ensures without { table.old.held.game ≡ None → room.new ≡ room.old }
+    ensures empty { table.old.held.game ≡ None → length.new ≡ 0 }
 {
     *length = 0;
     let Some(core) = table.take(alloc) else {

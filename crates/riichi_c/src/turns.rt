@@ -67,6 +67,7 @@ pub extern "C" fn riichi_table_choose(
 ) -> u32
     ensures told { OnGame (Plays seat k rule.old rule.new turn.old turn.new) table.old.held.game table.new.held.game result }
     ensures without { table.old.held.game ≡ None → turn.new ≡ turn.old }
+    ensures unbroken { table.old.held.game ≡ None → rule.new ≡ rule.old }
 {
     let Some(mut core) = table.take(alloc) else {
         return NO_GAME;

@@ -1,6 +1,6 @@
 use Rattle.std.proofs.Common.{refl}
 use Rattle.riichi_c.specs.Calls.{Sat, Back, NotSeated}
-use Rattle.riichi_c.proofs.arrivals.sit.Goals as goal
+use Rattle.riichi_c.proofs.arrivals.sit_within.Goals as goal
 
 pub returns-in-Sat : goal.returns-in-Sat
 returns-in-Sat c = Sat refl c.in-Sat.taken c.from.ensures c.in-Sat.ensures

@@ -1,7 +1,7 @@
 use Rattle.std.proofs.Common.{refl}
 use Rattle.riichi_c.specs.Calls.{Taken, Late, Refused, Closing}
 use Rattle.riichi_c.proofs.Rules.{tag_is}
-use Rattle.riichi_c.proofs.arrivals.say.Goals as goal
+use Rattle.riichi_c.proofs.arrivals.say_within.Goals as goal
 
 pub returns-in-Taken : goal.returns-in-Taken
 returns-in-Taken c = Taken refl c.in-Some.author c.in-Some.ensures c.in-Taken.ensures refl
