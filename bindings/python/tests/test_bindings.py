@@ -318,13 +318,13 @@ class Tables(unittest.TestCase):
         self.assertEqual(env.agents, [])
 
     def test_import_is_quick(self) -> None:
-        """The package is there in less than 50 milliseconds, beside a Python that is warm."""
-        code = "import time, json, ctypes, hashlib, dataclasses, typing, pathlib; t = time.perf_counter(); import riichi_table; print(time.perf_counter() - t)"
+        """The package is there in less than 50 milliseconds of the processor."""
+        code = "import time, json, ctypes, hashlib, dataclasses, typing, pathlib; t = time.process_time(); import riichi_table; print(time.process_time() - t)"
         took = min(
             float(subprocess.run([sys.executable, "-c", code], capture_output=True, check=True, env={**os.environ, "PYTHONPATH": sys.path[0]}).stdout)
             for _ in range(3)
         )
-        self.assertLess(took, 0.5)
+        self.assertLess(took, 0.05)
 
 
 def wrong_call(choose: random.Random, table: Any) -> None:
