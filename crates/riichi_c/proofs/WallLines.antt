@@ -47,10 +47,10 @@ pub takes-more : (red : Bool) (text : List ℕ) (walls new : List (List ℕ)) (r
     → TakesWalls red text walls rest → BeginsWithLine rest line others → Some w ≡ wall_in red line → length walls < 200 → new ≡ walls ++ w ∷ []
     → TakesWalls red text new others
 takes-more red text walls new rest line others w taken begins is less same = subst (λ ws. TakesWalls red text ws others) (sym same) (record {
-    all = all_more red text walls rest line others w taken begins (sym is);
-    ending = taken.ending ∙ begins.ending;
-    few = fewer walls w less;
-  })
+  all = all_more red text walls rest line others w taken begins (sym is);
+  ending = taken.ending ∙ begins.ending;
+  few = fewer walls w less;
+})
 
 -- No walls stand in a text.
 none_of : (b : Bool) (o : Option (List (List ℕ))) → o ≡ None → (if b then option_and_then counted o else None) ≡ None

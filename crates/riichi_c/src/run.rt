@@ -47,13 +47,7 @@ fn tell_status(alloc: Global, status: &Status, told: &mut [u8], length: &mut u64
 }
 
 // Runs the command of the words of lines.
-fn run_words(
-    alloc: Global,
-    lines: &[u8],
-    input: &[u8],
-    room: &mut [u8],
-    length: &mut u64,
-) -> Status
+fn run_words(alloc: Global, lines: &[u8], input: &[u8], room: &mut [u8], length: &mut u64) -> Status
     requires { length.old ≡ 0 }
     ensures { RunsWords (words_of lines.now) input.now result room.old room.new length.new }
 {

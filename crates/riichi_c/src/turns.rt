@@ -77,14 +77,7 @@ pub extern "C" fn riichi_table_choose(
     answer
 }
 
-fn play(
-    alloc: Global,
-    core: &mut Core,
-    seat: u32,
-    k: u32,
-    rule: &mut u32,
-    turn: &mut Turn,
-) -> u32
+fn play(alloc: Global, core: &mut Core, seat: u32, k: u32, rule: &mut u32, turn: &mut Turn) -> u32
     ensures { Plays seat k rule.old rule.new turn.old turn.new core.old core.new result }
 {
     let chosen = choose(alloc, core, seat, k, rule);
