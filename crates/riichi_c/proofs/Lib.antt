@@ -1,5 +1,6 @@
 mod Heap
 pub mod OnGames
+pub mod OneAnswer
 pub mod Rules
 mod Values
 pub mod WallLines

@@ -9,6 +9,7 @@ ghost use Rattle.riichi_c.specs.Turns.{Chooses, SaysChoice, Counts, Passed, Pass
 use crate::answer::{DONE, GO_ON, LATE, NO_CHOICE, NO_GAME, NO_MEMORY, NO_SEAT};
 use crate::arrivals::say;
 use crate::handle::Table;
+use mj_bytes::strip;
 use mj_core::Core;
 use mj_deeds::{Answer, Answers};
 use mj_judge::possible;
@@ -131,16 +132,14 @@ fn list_of(alloc: Global, choice: &Answer) -> Result<Vec<u8>, AllocError>
 }
 
 // What stands between the brackets of such a list.
+#[tactic(auto, using(crate::proofs::OneAnswer::one_is_left, crate::proofs::OneAnswer::some_is_left))]
 fn only_item(list: &[u8]) -> &[u8]
     ensures { (choice : Answer) → list.now ≡ line_with (choice ∷ []) [] → result.now ≡ answer_text choice }
 {
-    let front = b",\"possible_actions\":[".len();
-    let back = b"]}\n".len();
-    let end = list.len().saturating_sub(back);
-    if end < front {
-        return b"";
+    match strip(list, b",\"possible_actions\":[") {
+        Some(rest) => &rest[..rest.len().saturating_sub(3)],
+        None => b"",
     }
-    &list[front..end]
 }
 
 /// How many answers a seat may give to the newest deed: DONE, or NO_GAME, NO_SEAT or NO_MEMORY, and then `count` stays as it was.
