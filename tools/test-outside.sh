@@ -5,9 +5,10 @@
 # usage: test-outside.sh [PROGRAM]
 #
 # PROGRAM is the built riichi_table; without it that of this repository, where it is built. What is skipped for want of
-# python3, mypy, chromium, the program or the shared library (RIICHI_TABLE_LIBRARY, or what bindings/c/build.sh has built) is said. A file of tests that fails is run once more, since these play by the clock
-# of a machine that may have other work: that it failed is said with what it wrote, and counted on the last line. The exit
-# code is 0 where each file passed in the end.
+# python3, mypy, chromium, the program or the shared library (RIICHI_TABLE_LIBRARY, or what bindings/c/build.sh has built)
+# is said. A file of tests that fails is run once more, since these play by the clock of a machine that may have other work:
+# that it failed is said with what it wrote, and counted on the last line. The exit code is 0 where each file passed in the
+# end.
 cd "$(dirname "$0")/.." || exit 1
 program=${1:-crates/riichi_table/out/riichi_table}
 export PYTHONDONTWRITEBYTECODE=1
@@ -32,7 +33,7 @@ TESTS='
 400 league/tests/test_faults.py
 400 league/tests/test_cluster.py
 300 tools/tests/test_release.py
-600 viewer/tests/test_viewer.py
+900 viewer/tests/test_viewer.py
 60 bindings/page/tests/test_page.py
 400 bindings/c/tests/test_c.py
 200 bindings/python/tests/test_bindings.py

@@ -17,8 +17,8 @@ int main(int words, char **word) {
     riichi_turn turn;
     riichi_seat at;
     uint8_t seed[32] = { 0 };
-    uint32_t answer, seat, choices, rule;
-    uint64_t length, size, told_size;
+    uint32_t answer, seat, rule;
+    uint64_t choices, length, size, told_size;
     srand(words > 1 ? (unsigned)atoi(word[1]) : 0);
     for (size_t i = 0; i < sizeof seed; i++) seed[i] = (uint8_t)rand();
 
@@ -37,7 +37,7 @@ int main(int words, char **word) {
     while (answer == RIICHI_DONE && !turn.is_over) {
         answer = riichi_table_choices(&table, turn.seat, &choices);
         if (answer != RIICHI_DONE) return fail("riichi_table_choices", answer);
-        answer = riichi_table_choose(&table, turn.seat, (uint32_t)rand() % choices, &rule, &turn);
+        answer = riichi_table_choose(&table, turn.seat, (uint32_t)((uint64_t)rand() % choices), &rule, &turn);
     }
     if (answer != RIICHI_DONE) return fail("riichi_table_choose", answer);
 

@@ -132,7 +132,7 @@ uint32_t riichi_table_turn(riichi_table *table, riichi_turn *turn);
 
 /* How many answers a seat may give to the newest deed; its line lists them as "possible_actions": DONE, or NO_GAME, NO_SEAT or
  * NO_MEMORY, and then *count stays as it was. */
-uint32_t riichi_table_choices(riichi_table *table, uint32_t seat, uint32_t *count);
+uint32_t riichi_table_choices(riichi_table *table, uint32_t seat, uint64_t *count);
 
 /* A seat gives answer `k` of those, 0 to *count less one; where it is taken, or comes late, the call does what riichi_table_turn does and
  * answers as that. Else it answers as riichi_table_say does, or NO_CHOICE, and *turn stays as it was. */

@@ -60,7 +60,7 @@ int main(int words, char **word) {
         case 10: sum += riichi_table_record(on, room, most, &length); break;
         case 11: sum += rand() % 20 ? 0 : riichi_run(text, size, given, other, room, most, &length, told, fits, &told_length); break;
         case 12: sum += riichi_table_turn(on, &turn); break;
-        case 13: sum += riichi_table_choices(on, seat_of(), &seat); break;
+        case 13: sum += riichi_table_choices(on, seat_of(), &length); break;
         case 14: sum += riichi_table_choose(on, seat_of(), number() % 20, &rule, &turn); break;
         default: sum += riichi_table_close(&empty); break;
         }

@@ -53,7 +53,7 @@ def _load() -> ctypes.CDLL:
         "riichi_table_line": [table, c_uint32, c_uint32, *room],
         "riichi_table_pending": [table, c_uint32, *room],
         "riichi_table_record": [table, *room],
-        "riichi_table_choices": [table, c_uint32, number],
+        "riichi_table_choices": [table, c_uint32, POINTER(c_uint64)],
         "riichi_table_choose": [table, c_uint32, c_uint32, number, c_void_p],
         "riichi_table_turn": [table, c_void_p],
     }.items():

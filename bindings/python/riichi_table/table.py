@@ -181,8 +181,8 @@ class Table:
 
     def choices(self, seat: int) -> int:
         """How many answers a seat may give to the newest deed."""
-        self._check(lib.LIBRARY.riichi_table_choices(self._at, _seat(seat), self._number_at))
-        return self._number.value
+        self._check(lib.LIBRARY.riichi_table_choices(self._at, _seat(seat), byref(self._length)))
+        return self._length.value
 
     def choose(self, seat: int, number: int) -> int | None:
         """A seat gives the answer of this number, from 0 on, of those that its line lists; then as `turn`."""

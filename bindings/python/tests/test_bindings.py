@@ -351,7 +351,7 @@ def wrong_call(choose: random.Random, table: Any) -> None:
         lambda: lib.LIBRARY.riichi_table_record(on, room, size, byref(length)),
         lambda: lib.LIBRARY.riichi_run(bytes_, len(bytes_), bytes_, len(bytes_), room, size, byref(length), room, 0, byref(length)),
         lambda: lib.LIBRARY.riichi_run(b"replay\n", 7, bytes_, len(bytes_), room, 0, byref(length), room, size, byref(length)),
-        lambda: lib.LIBRARY.riichi_table_choices(on, seat, byref(number)),
+        lambda: lib.LIBRARY.riichi_table_choices(on, seat, byref(length)),
         lambda: lib.LIBRARY.riichi_table_choose(byref(other), seat, choose.getrandbits(32), byref(number), byref(turn)),
         lambda: lib.LIBRARY.riichi_table_turn(byref(other), byref(turn)),
     ]

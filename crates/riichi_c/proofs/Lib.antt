@@ -1,4 +1,5 @@
 mod Heap
+pub mod Limits
 pub mod OnGames
 pub mod OneAnswer
 pub mod Rules

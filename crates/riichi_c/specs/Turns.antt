@@ -1,5 +1,5 @@
 -- Answers by their numbers, and seats that pass where they can do nothing else.
-use Rattle.std.specs.Prelude.{ℕ, ◌≡◌, ◌≤◌, ◌<◌, ◌&&◌, ◌==◌, not, Bool, true, false, nat_lt, List, [], ◌∷◌, length, codes, Option, Some, None, slice_get}
+use Rattle.std.specs.Prelude.{ℕ, ◌≡◌, ◌≤◌, ◌<◌, ◌⊎◌, ◌&&◌, ◌==◌, not, Bool, true, false, nat_lt, List, [], ◌∷◌, length, codes, Option, Some, None, slice_get}
 use Rattle.std.specs.List.{ends_with}
 use Rattle.mj_deeds.specs.declared.answer.Answer.{Answer}
 use Rattle.mj_rules.specs.Possible.{possible}
@@ -8,7 +8,7 @@ use Rattle.mj_history.specs.Legal.{Game, is_over}
 use Rattle.mj_history.specs.Shown.{line_at}
 use Rattle.mj_core.specs.Calls.{after_of, due_of, may_say_at}
 use Rattle.riichi_c.specs.declared.turns.Turn.{Turn}
-use Rattle.riichi_c.specs.Answers.{done, late, no_game, no_memory, no_seat, no_choice}
+use Rattle.riichi_c.specs.Answers.{done, late, no_memory, no_seat, no_choice, go_on}
 use Rattle.riichi_c.specs.Calls.{Says}
 
 -- The answers that a seat may give to the newest deed.
@@ -55,10 +55,12 @@ pub data HavePassed (old : Game) : Game → Type 0 where
   Stays : HavePassed old old
   Passes : (mid new : Game) (seat answer : ℕ) → HavePassed old mid → can_only_pass mid seat ≡ true → Passed seat mid new answer → HavePassed old new
 
--- They pass until none is left that can only pass, unless memory is wanting or the call has to be made again.
-pub record PassesOn (old new : Game) (answer : ℕ) : Type 0 where
-  pub passed : HavePassed old new
-  pub rests : answer ≡ done → is_at_rest new ≡ true
+-- They pass until none is left that can only pass, unless a pass isn't taken, as where memory is wanting, or the call has to be made again.
+pub data PassesOn (old new : Game) (answer : ℕ) : Type 0 where
+  Rests : answer ≡ done → HavePassed old new → is_at_rest new ≡ true → PassesOn old new answer
+  NotPassed : (mid : Game) (seat : ℕ) → HavePassed old mid → can_only_pass mid seat ≡ true → Passed seat mid new answer → (answer ≡ done → ⊥) → (answer ≡ late → ⊥)
+      → PassesOn old new answer
+  GoesOn : answer ≡ go_on → HavePassed old new → PassesOn old new answer
 
 -- Whose turn it is: the first seat that may say a line, or 4.
 abbrev pub asked_from : Bool → Bool → Bool → Bool → ℕ
@@ -85,7 +87,7 @@ pub record Turns (turn : Turn) (old new : Game) (answer : ℕ) : Type 0 where
 pub data Plays (seat k old_rule rule : ℕ) (old_turn turn : Turn) (old new : Game) (answer : ℕ) : Type 0 where
   NotPlayed : Chooses seat k old_rule rule old new answer → turn ≡ old_turn → (answer ≡ done → ⊥) → (answer ≡ late → ⊥)
       → Plays seat k old_rule rule old_turn turn old new answer
-  Played : (mid : Game) (chosen : ℕ) → Chooses seat k old_rule rule old mid chosen → chosen ≤ late → Turns turn mid new answer
+  Played : (mid : Game) (chosen : ℕ) → Chooses seat k old_rule rule old mid chosen → (chosen ≡ done) ⊎ (chosen ≡ late) → Turns turn mid new answer
       → Plays seat k old_rule rule old_turn turn old new answer
 
 -- How many answers a seat may give.

@@ -148,7 +148,7 @@ pub extern "C" fn riichi_table_choices(
     alloc: Global,
     table: &mut Table,
     seat: u32,
-    count: &mut u32,
+    count: &mut u64,
 ) -> u32
     ensures told { OnGame (Counts seat count.old count.new) table.old.held.game table.new.held.game result }
     ensures without { table.old.held.game ≡ None → count.new ≡ count.old }
@@ -161,7 +161,7 @@ pub extern "C" fn riichi_table_choices(
     answer
 }
 
-fn count_choices(alloc: Global, core: &Core, seat: u32, count: &mut u32) -> u32
+fn count_choices(alloc: Global, core: &Core, seat: u32, count: &mut u64) -> u32
     ensures { Counts seat count.old count.new core.now core.now result }
 {
     if seat > 3 {
@@ -169,7 +169,7 @@ fn count_choices(alloc: Global, core: &Core, seat: u32, count: &mut u32) -> u32
     }
     match possible(alloc, core.table(), seat as u8) {
         Ok(list) => {
-            *count = list.as_slice().len() as u32;
+            *count = list.as_slice().len() as u64;
             DONE
         }
         Err(_) => NO_MEMORY,
