@@ -3,8 +3,13 @@ use Rattle.std.proofs.Common.{◌≡◌, ℕ, ◌+◌, ◌≤◌, ◌<◌, ◌==
 use Rattle.std.proofs.lemmas.Grind.{common_steps}
 use Rattle.std.specs.Prelude.{if◌then◌else◌, nat_le, option_and_then, option_map}
 use Rattle.std.proofs.lemmas.List.{append_assoc, append-nil, length-append}
-use Rattle.mj_bytes.specs.Parts.{whole_lines, unfinished, BeginsWithLine, HasNoLine}
-use Rattle.riichi_c.specs.Opens.{walls_in, wall_in, some_walls, counted}
+use Rattle.mj_bytes.specs.Parts.{whole_lines, unfinished, fields, behind, BeginsWithLine, HasNoLine}
+use Rattle.mj_forms.specs.Headers.{tiles_in}
+use Rattle.std.specs.Prelude.{codes, is_some, unwrap_or, IsTrue}
+use Rattle.std.specs.List.{list_all}
+use Rattle.std.proofs.Common.{true≢false}
+use Rattle.mj_wall.specs.Places.{is_wall}
+use Rattle.riichi_c.specs.Opens.{walls_in, wall_in, wall_if, some_walls, counted}
 
 abbrev attach : List (List ℕ) → Option (List (List ℕ)) → Option (List (List ℕ))
 attach xs o = option_map (λ more. xs ++ more) o
@@ -101,3 +106,46 @@ pub some-read : (red : Bool) (text : List ℕ) (walls : List (List ℕ)) (rest :
     → (length walls == 0) ≡ false → (length rest == 0) ≡ true → Some walls ≡ some_walls red text
 some-read red text walls rest taken ends some all = sym (ap (λ (b : Bool). if b then option_and_then counted (walls_in red (whole_lines text)) else None)
     (sym (left_over text rest taken.ending ends) ∙ all) ∙ (ap (option_and_then counted) (all_read red text walls rest taken ends) ∙ counts walls some taken.few))
+
+-- Walls that are read are whole.
+not-some : {A : Type 0} (x : A) → Some x ≡ None → ⊥
+not-some x is = true≢false (ap is_some is)
+
+test_held : {A : Type 0} (b : Bool) (x y : A) → Some y ≡ (if b then Some x else None) → b ≡ true
+test_held true x y is = refl
+test_held false x y is = absurd (not-some y is)
+
+is_same : {A : Type 0} (b : Bool) (x y : A) → Some y ≡ (if b then Some x else None) → x ≡ y
+is_same {A = A} true x y is = sym (ap (λ (o : Option A). unwrap_or o y) is)
+is_same {A = A} false x y is = absurd (not-some y is)
+
+tiles_whole : (red : Bool) (tiles : Option (List ℕ)) (w : List ℕ) → Some w ≡ option_and_then (wall_if red) tiles → is_wall red w ≡ true
+tiles_whole red None w is = absurd (not-some w is)
+tiles_whole red (Some tiles) w is = subst (λ (t : List ℕ). is_wall red t ≡ true) (is_same (is_wall red tiles) tiles w is) (test_held (is_wall red tiles) tiles w is)
+
+both_true : (a b : Bool) → a ≡ true → b ≡ true → (a && b) ≡ true
+both_true a b is also = ap (λ (c : Bool). c && b) is ∙ also
+
+put_whole : (red : Bool) (wall : Option (List ℕ)) (more : Option (List (List ℕ))) (ws : List (List ℕ))
+    → ((w : List ℕ) → wall ≡ Some w → is_wall red w ≡ true) → ((vs : List (List ℕ)) → more ≡ Some vs → list_all (is_wall red) vs ≡ true)
+    → option_and_then (λ (w : List ℕ). option_map (λ vs. w ∷ vs) more) wall ≡ Some ws → list_all (is_wall red) ws ≡ true
+put_whole red None more ws one others is = absurd (not-some ws (sym is))
+put_whole red (Some w) None ws one others is = absurd (not-some ws (sym is))
+put_whole red (Some w) (Some vs) ws one others is = subst (λ (us : List (List ℕ)). list_all (is_wall red) us ≡ true)
+    (ap (λ (o : Option (List (List ℕ))). unwrap_or o ws) is) (both_true (is_wall red w) (list_all (is_wall red) vs) (one w refl) (others vs refl))
+
+all_whole : (red : Bool) (lines ws : List (List ℕ)) → walls_in red lines ≡ Some ws → list_all (is_wall red) ws ≡ true
+all_whole red [] ws is = subst (λ (us : List (List ℕ)). list_all (is_wall red) us ≡ true) (ap (λ (o : Option (List (List ℕ))). unwrap_or o ws) is) refl
+all_whole red (line ∷ lines) ws is = put_whole red (wall_in red line) (walls_in red lines) ws
+    (λ w e. tiles_whole red (option_and_then (λ text. tiles_in (fields text)) (behind (codes "wall ") line)) w (sym e)) (all_whole red lines) is
+
+counted_are : (o : Option (List (List ℕ))) (ws : List (List ℕ)) → Some ws ≡ option_and_then counted o → o ≡ Some ws
+counted_are None ws is = absurd (not-some ws is)
+counted_are (Some vs) ws is = ap Some (is_same (not (length vs == 0) && nat_le (length vs) 200) vs ws is)
+
+read_are : (b : Bool) (o : Option (List (List ℕ))) (ws : List (List ℕ)) → Some ws ≡ (if b then option_and_then counted o else None) → o ≡ Some ws
+read_are true o ws is = counted_are o ws is
+read_are false o ws is = absurd (not-some ws is)
+
+pub whole_walls : (red : Bool) (text : List ℕ) (ws : List (List ℕ)) → Some ws ≡ some_walls red text → IsTrue (list_all (is_wall red) ws)
+whole_walls red text ws is = all_whole red (whole_lines text) ws (read_are (length (unfinished text) == 0) (walls_in red (whole_lines text)) ws is)

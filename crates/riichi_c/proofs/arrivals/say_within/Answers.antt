@@ -4,7 +4,7 @@ use Rattle.riichi_c.proofs.Rules.{tag_is}
 use Rattle.riichi_c.proofs.arrivals.say_within.Goals as goal
 
 pub returns-then-not-may_say : goal.returns-then-not-may_say
-returns-then-not-may_say c = SayNotDue refl c.in-Some.author (sym c.in-Some.ensures) (sym c.may_say.ensures) refl refl
+returns-then-not-may_say c = SayNotDue refl c.in-Some.author (sym c.in-Some.ensures) (sym c.if-not-may_say.ensures.asked) refl refl
 
 pub returns-in-Taken : goal.returns-in-Taken
 returns-in-Taken c = Taken refl c.in-Some.author (sym c.in-Some.ensures) c.in-Taken.ensures refl
