@@ -1,5 +1,5 @@
 -- A seat within the four, and a line within its limit, are heard.
-use Rattle.std.proofs.Common.{◌≡◌, ◌≤◌, ℕ, Bool, false, List, length, sym, subst}
+use Rattle.std.proofs.Common.{◌≤◌, ℕ, Bool, false, List, length, sym, subst}
 use Rattle.std.specs.Prelude.{nat_lt}
 use Rattle.std.proofs.lemmas.Bool.{le-ltb}
 use Rattle.mj_history.specs.Legal.{Game}

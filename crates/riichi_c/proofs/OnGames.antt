@@ -1,5 +1,5 @@
 -- A call that takes the game from a table and puts it back does to the table what it does to the game.
-use Rattle.std.proofs.Common.{◌≡◌, ℕ, Option, Some, None, sym, subst}
+use Rattle.std.proofs.Common.{◌≡◌, ℕ, Option, Some, sym, subst}
 use Rattle.mj_history.specs.Legal.{Game}
 use Rattle.riichi_c.specs.Calls.{OnGame}
 

@@ -1,6 +1,6 @@
 -- What stands between the brackets of a list of one answer.
 use Rattle.std.proofs.Common.{◌≡◌, ℕ, ◌-◌, List, [], ◌∷◌, ◌++◌, length, take, Option, Some, None, sym, ap, ◌∙◌, arith}
-use Rattle.std.specs.Prelude.{codes, unwrap_or, is_some, true, false}
+use Rattle.std.specs.Prelude.{codes, unwrap_or, is_some}
 use Rattle.std.proofs.Common.{true≢false}
 use Rattle.std.proofs.lemmas.List.{append_assoc, append-nil, length-append}
 use Rattle.std.proofs.Math.Seq.{take-append_seam}

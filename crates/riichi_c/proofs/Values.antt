@@ -1,12 +1,12 @@
 -- The machine values of `Held` and `Loose`: each has one field, a pointer.
 use Rattle.std.proofs.Common.{◌≡◌, List, [], ◌∷◌, ◌++◌, ℕ, refl, sym, subst, true≢false}
-use Rattle.std.specs.Prelude.{Option, None, Some, is_some, true, IsTrue}
-use mir.Val.{Val, vptr, vstruct, vcons, vnil, of_list}
+use Rattle.std.specs.Prelude.{Option, None, Some, is_some, IsTrue}
+use mir.Val.{Val, vstruct, vcons, vnil, of_list}
 use mir.Raw.{raw as bare}
 use base.Logic.{never, fst∗}
 use seplogic.Ra.Ura.{Ura}
 use types.Logic.{Logic, sem}
-use types.Kit.{Item, Goal, Seq, Step, step, ‵, ◌$◌, move, drop, fsplit, fjoin, fpick, fpack, feq_i, feq_l}
+use types.Kit.{Item, Goal, Seq, Step, step, ‵, ◌$◌, drop, fsplit, fjoin, fpick, fpack, feq_i, feq_l}
 use denote.RattleType.{RattleType, Valss}
 use denote.Builtin.{RawPtr}
 use denote.Memory.{lone}

@@ -1,5 +1,5 @@
 -- What the calls of a table do to its game, by what the calls of the game do that they make.
-use Rattle.std.specs.Prelude.{ℕ, ◌≡◌, ◌<◌, ◌≤◌, ◌==◌, Bool, true, false, List, [], ◌++◌, drop, length, Option, Some, None, nat_le, nat_lt, is_some, unwrap_or}
+use Rattle.std.specs.Prelude.{ℕ, ◌≡◌, ◌<◌, ◌≤◌, Bool, true, false, List, ◌++◌, drop, length, Option, Some, None, nat_le, nat_lt, is_some, unwrap_or}
 use Rattle.mj_ports.specs.declared.answers.SitAnswer.TheVariants as sits
 use Rattle.mj_ports.specs.declared.answers.Heard.TheVariants as heard
 use Rattle.mj_ports.specs.declared.answers.Left.TheVariants as left

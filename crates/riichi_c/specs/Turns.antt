@@ -1,5 +1,5 @@
 -- Answers by their numbers, and seats that pass where they can do nothing else.
-use Rattle.std.specs.Prelude.{ℕ, ◌≡◌, ◌≤◌, ◌<◌, ◌⊎◌, ◌&&◌, ◌==◌, not, Bool, true, false, nat_lt, List, [], ◌∷◌, length, codes, Option, Some, None, slice_get}
+use Rattle.std.specs.Prelude.{ℕ, ◌≡◌, ◌≤◌, ◌<◌, ◌⊎◌, ◌&&◌, ◌==◌, not, Bool, true, false, nat_lt, List, length, codes, Some, None, slice_get}
 use Rattle.std.specs.List.{ends_with}
 use Rattle.mj_deeds.specs.declared.answer.Answer.{Answer}
 use Rattle.mj_rules.specs.Possible.{possible}

@@ -1,4 +1,4 @@
-use Rattle.std.proofs.Common.{◌≡◌, length}
+use Rattle.std.proofs.Common.{length}
 use Rattle.riichi_c.proofs.WallLines.{TakesWalls}
 use Rattle.riichi_c.proofs.opening.walls_of.Given as goal
 

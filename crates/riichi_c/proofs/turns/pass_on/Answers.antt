@@ -1,4 +1,3 @@
-use Rattle.std.proofs.Common.{refl}
 use Rattle.riichi_c.specs.Turns.{Stays, Passes, NotPassed}
 use Rattle.riichi_c.proofs.turns.pass_on.Goals as goal
 

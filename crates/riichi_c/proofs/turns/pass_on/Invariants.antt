@@ -1,4 +1,3 @@
-use Rattle.std.proofs.Common.{◌≡◌}
 use Rattle.riichi_c.specs.Turns.{HavePassed}
 use Rattle.riichi_c.proofs.turns.pass_on.Given as goal
 

@@ -15,7 +15,6 @@ use types.ByLocal.{alloc_all, pass_all, free_all, look_at, get, get_in, lands_la
 use types.Part.{sub, whole}
 use denote.Exit.{yes}
 use denote.RattleType.{owns}
-use denote.Param.{layout}
 use denote.Param.NoDrop as undropping
 use denote.RawPtr.{block_ptr}
 use denote.Signature.{types_at, plain}
@@ -35,7 +34,6 @@ use Rattle.std_alloc.proofs.BoxSteps.Form as box
 use Rattle.std_alloc.proofs.BoxSteps.Steps.{box_out, box_in}
 use Rattle.std_alloc.specs.contracts.boxed.Box.from_raw as g
 use Rattle.std_alloc.proofs.boxed.Box.from_raw.Met.{met}
-use Rattle.riichi_c.specs.Owned.{loose_owns}
 use Rattle.riichi_c.specs.contracts.handle.Held.{the_row as Held}
 use Rattle.riichi_c.specs.contracts.handle.Held.into_box as f
 use Rattle.riichi_c.proofs.Destruct++none.drop.Code as undropped_code

@@ -12,14 +12,13 @@ use types.Logic.{sem}
 use contract.BorrowLft.{◌⊑◌, ⊑_static}
 use contract.Monad.{fact, fact_i}
 use contract.Running.{tables, tables_of}
-use types.Kit.{‵, raw, ◌⊛◌, some, later, prop, ◌$◌, ◌∵◌, !, qed, by, move, keep, drop, split, join, fsplit, fjoin, pick, use0, use1, await, regoal, feq_l}
+use types.Kit.{‵, raw, ◌⊛◌, some, later, prop, ◌$◌, ◌∵◌, !, qed, by, move, drop, split, join, fsplit, fjoin, pick, use0, use1, await, regoal, feq_l}
 use types.Run.{of_opd, no_more, and_then, returns, enter}
 use types.ByLocal.{alloc_all, pass_all, free_all, look_at, get, lands_as, sets}
 use types.Part.{agg}
 use denote.Exit.{no}
 use denote.RattleType.{RattleType, owns}
-use denote.Param.{param, layout, bounded}
-use denote.Param.Laws.{param_laws}
+use denote.Param.{param, bounded}
 use denote.Param.NoDrop as undropping
 use denote.RawPtr.{Ptr, RawPtr, block_ptr, null_ptr, ptr_val, in_a_block}
 use denote.Signature.{types_at, plain}
