@@ -14,10 +14,14 @@ mkdir -p "$folder/lib/pkgconfig" "$folder/include"
 folder=$(cd "$folder" && pwd)
 kit=$(dirname "$(rt doc | head -n 1)")
 (cd "$here/../../crates/riichi_c" && rt lib)
-# (of the toolchain's own C, what a heap needs alone is taken: the library opens no file and no socket)
-"$kit/toolchain/bin/clang" --sysroot="$kit/toolchain" -shared -fPIC -o "$folder/lib/libriichi_table.so" \
+# (of the toolchain's own C, what a heap needs alone is taken: the library opens no file and no socket; its C library is linked by name, since
+# it is there without the files that a compiler looks for)
+libraries=$kit/toolchain/lib
+"$kit/toolchain/bin/clang" -shared -fPIC -nostdlib -fuse-ld=lld -o "$folder/lib/libriichi_table.so" \
+    "$libraries/crti.o" "$libraries/crtbeginS.o" \
     -Wl,--whole-archive "$here/../../crates/riichi_c/out/libriichi_c.a" -Wl,--no-whole-archive \
-    "$kit/c/liblibc_c.a" "$kit/c/libos_c.a" -Wl,--exclude-libs,liblibc_c.a:libos_c.a
+    "$kit/c/liblibc_c.a" "$kit/c/libos_c.a" -Wl,--exclude-libs,liblibc_c.a:libos_c.a \
+    "$libraries/libc.so.6" "$libraries/libgcc.a" "$libraries/crtendS.o" "$libraries/crtn.o"
 cp "$here/riichi_table.h" "$folder/include/"
 sed "s|@prefix@|$folder|" "$here/riichi_table.pc.in" > "$folder/lib/pkgconfig/riichi_table.pc"
 echo "$folder/lib/libriichi_table.so"
