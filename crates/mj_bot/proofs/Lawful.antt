@@ -105,7 +105,8 @@ drew seat (Called who banned) h = absurd (false≢true h)
 drew seat Nobodys h = absurd (false≢true h)
 
 -- A seat that has drawn and isn't in riichi may discard what it holds, where the game has such a tile.
-pub free_passes : (rules : Rules) (seat : ℕ) (view : SeatView) (face held : ℕ) → is_free view.accepted seat view.turn ≡ true → is_face rules.red face ≡ true → held ≡ min (held_count view face) 4 → (held ≡ 0 → ⊥) → true ≡ passes rules seat view face
+pub free_passes : (rules : Rules) (seat : ℕ) (view : SeatView) (face held : ℕ) → is_free view.accepted seat view.turn ≡ true → is_face rules.red face ≡ true
+    → held ≡ min (held_count view face) 4 → (held ≡ 0 → ⊥) → true ≡ passes rules seat view face
 unfolding broken_by
 free_passes rules seat view face held free game much some =
     sym (ap is_none (none_broken (questions rules seat view (discard_of seat view face)) (refl, (ap not itself, (ap (λ t. not (is_open rules seat t view.accepted (discard_of seat view face))) at ∙ ap (λ b. not (cond b true false)) itself, (neither (is_red face && not rules.red) (there rules.red game), (refl, (refl, (enough, (marked_right (is_that view.drawn face) refl, (ap (λ a. a && not (is_that view.drawn face)) (off view.accepted both.0), (refl, (refl, (ap (λ t. is_banned_tile (banned_in t) (Known face)) at, (refl, (refl, (refl, (refl, (refl, (refl, (refl, (ap (λ t. discards_unready view t (Known face)) at, (refl, (refl, (refl, (refl, tt))))))))))))))))))))))))))
@@ -151,7 +152,8 @@ free_passes rules seat view face held free game much some =
 
 -- whose turn it is
 
-closed : (rules : Rules) (seat : ℕ) (turn : WindowTurn) (accepted : Bool) (tile : Pai) (drawn : Bool) → is_own_turn seat turn ≡ false → is_open rules seat turn accepted (Discard seat tile drawn) ≡ false
+closed : (rules : Rules) (seat : ℕ) (turn : WindowTurn) (accepted : Bool) (tile : Pai) (drawn : Bool) → is_own_turn seat turn ≡ false
+    → is_open rules seat turn accepted (Discard seat tile drawn) ≡ false
 closed rules seat (Drew who) accepted tile drawn h = ap (λ b. cond b true false) h
 closed rules seat (Discarded who called) accepted tile drawn h = same (eqb who seat)
   where
@@ -186,7 +188,8 @@ none_lawful rules seat view h = filter_none (passes rules seat view) tile_order 
 -- the kinds of the lawful discards
 
 kinds_step : (p : ℕ → Bool) (i tile : ℕ) (b : Bool) → i < 37 → tile ≡ slice_index tile_order i → p tile ≡ b →
-    set_of (map kind_of (filter p (drop i tile_order))) ≡ cond b (with_kind (set_of (map kind_of (filter p (drop (i + 1) tile_order)))) (kind_of tile)) (set_of (map kind_of (filter p (drop (i + 1) tile_order))))
+    set_of (map kind_of (filter p (drop i tile_order))) ≡ cond b (with_kind (set_of (map kind_of (filter p (drop (i + 1) tile_order)))) (kind_of tile))
+    (set_of (map kind_of (filter p (drop (i + 1) tile_order))))
 kinds_step p i tile b low is test =
     ap (λ (xs : List ℕ). set_of (map kind_of (filter p xs))) (drop_more tile_order i 0 (omega (arith, low, all_faces)) ∙ ap (λ (t : ℕ). t ∷ drop (i + 1) tile_order) (sym is))
     ∙ ap (λ c. set_of (map kind_of (cond c (tile ∷ filter p (drop (i + 1) tile_order)) (filter p (drop (i + 1) tile_order))))) test
@@ -207,12 +210,15 @@ one_more place next some at = omega (arith, some, at)
 pub kinds_none : (p : ℕ → Bool) (place kinds : ℕ) → 37 ≤ place → kinds ≡ no_kinds → kinds ≡ kinds_from p place
 kinds_none p place kinds all is = is ∙ sym (ap (λ (xs : List ℕ). set_of (map kind_of (filter p xs))) (drop_all place tile_order (omega (arith, all, all_faces))))
 
-pub kinds_with : (p : ℕ → Bool) (place next tile kind before kinds : ℕ) → 0 < place → place ≤ 37 → next ≡ place - 1 → tile ≡ slice_index tile_order next → kind ≡ kind_of tile → p tile ≡ true → before ≡ kinds_from p place →
+pub kinds_with : (p : ℕ → Bool) (place next tile kind before kinds : ℕ) → 0 < place → place ≤ 37 → next ≡ place - 1 → tile ≡ slice_index tile_order next → kind ≡ kind_of tile
+    → p tile ≡ true → before ≡ kinds_from p place →
     kinds ≡ with_kind before kind → kinds ≡ kinds_from p next
 kinds_with p place next tile kind before kinds some low at_next is at passed was told =
-    told ∙ (λ i. with_kind (was i) (at i)) ∙ ap (λ n. with_kind (kinds_from p n) (kind_of tile)) (one_more place next some at_next) ∙ sym (kinds_step p next tile true (omega (arith, some, low, at_next)) is passed)
+    told ∙ (λ i. with_kind (was i) (at i)) ∙ ap (λ n. with_kind (kinds_from p n) (kind_of tile)) (one_more place next some at_next)
+    ∙ sym (kinds_step p next tile true (omega (arith, some, low, at_next)) is passed)
 
-pub kinds_stay : (p : ℕ → Bool) (place next tile before kinds : ℕ) → 0 < place → place ≤ 37 → next ≡ place - 1 → tile ≡ slice_index tile_order next → p tile ≡ false → before ≡ kinds_from p place → kinds ≡ before →
+pub kinds_stay : (p : ℕ → Bool) (place next tile before kinds : ℕ) → 0 < place → place ≤ 37 → next ≡ place - 1 → tile ≡ slice_index tile_order next → p tile ≡ false
+    → before ≡ kinds_from p place → kinds ≡ before →
     kinds ≡ kinds_from p next
 kinds_stay p place next tile before kinds some low at_next is failed was told =
     told ∙ was ∙ ap (kinds_from p) (one_more place next some at_next) ∙ sym (kinds_step p next tile false (omega (arith, some, low, at_next)) is failed)
@@ -323,8 +329,10 @@ best_passes rules seat view face best = by_test (is_measured (kind_counts (conce
     by_test false k = last_of k
 
 -- Where shanten isn't said, the last.
-pub unmeasured : (rules : Rules) (seat : ℕ) (view : SeatView) (counts left : List ℕ) (melds : List Set) (measured : Bool) (last : Option ℕ) (kinds : ℕ) → counts ≡ kind_counts (concealed view) → left ≡ room view → melds ≡ map set_of_meld view.melds →
-    measured ≡ is_measured counts left melds → measured ≡ false → kinds ≡ set_of (map kind_of (lawful_faces rules seat view)) → last ≡ last_face (filter (is_among kinds) (lawful_faces rules seat view)) → MatchOption last (lawful_faces rules seat view ≡ []) (IsBest rules seat view)
+pub unmeasured : (rules : Rules) (seat : ℕ) (view : SeatView) (counts left : List ℕ) (melds : List Set) (measured : Bool) (last : Option ℕ) (kinds : ℕ)
+    → counts ≡ kind_counts (concealed view) → left ≡ room view → melds ≡ map set_of_meld view.melds →
+    measured ≡ is_measured counts left melds → measured ≡ false → kinds ≡ set_of (map kind_of (lawful_faces rules seat view))
+    → last ≡ last_face (filter (is_among kinds) (lawful_faces rules seat view)) → MatchOption last (lawful_faces rules seat view ≡ []) (IsBest rules seat view)
 unmeasured rules seat view counts left melds measured last kinds is beside sets told not_so set last_is = by_last last refl
   where
     no : is_measured (kind_counts (concealed view)) (room view) (map set_of_meld view.melds) ≡ false
@@ -380,7 +388,8 @@ no_kind_lawful rules seat kinds view counts is set none = by_list (lawful_faces 
         }))
 
 -- What the code asks for, read of the view: the last of the best lawful kind.
-pub measured_best : (rules : Rules) (seat kinds kind number missing : ℕ) (view : SeatView) (counts left : List ℕ) (last : Option ℕ) → IsMeasuredHand view counts left number missing → kinds ≡ set_of (map kind_of (lawful_faces rules seat view)) →
+pub measured_best : (rules : Rules) (seat kinds kind number missing : ℕ) (view : SeatView) (counts left : List ℕ) (last : Option ℕ) → IsMeasuredHand view counts left number missing
+    → kinds ≡ set_of (map kind_of (lawful_faces rules seat view)) →
     IsBestDiscard counts left number kinds kind → last ≡ last_face (lawful_of rules seat view kind) → MatchOption last (lawful_faces rules seat view ≡ []) (IsBest rules seat view)
 measured_best rules seat kinds kind number missing view counts left last hand set best last_is = by_last last refl
   where
@@ -397,14 +406,16 @@ measured_best rules seat kinds kind number missing view counts left last hand se
     by_last : (o : Option ℕ) → last ≡ o → MatchOption o (lawful_faces rules seat view ≡ []) (IsBest rules seat view)
     by_last None e = absurd (some (some_last (lawful_of rules seat view kind) (sym last_is ∙ e)))
     by_last (Some face) e =
-        let at : kind_of face ≡ kind = eqb-true (kind_of face) kind (picked (λ other. kind_of other == kind) (lawful_faces rules seat view) (length (lawful_of rules seat view kind) - 1) face (sym last_is ∙ e)) in
+        let at : kind_of face ≡ kind = eqb-true (kind_of face) kind
+        (picked (λ other. kind_of other == kind) (lawful_faces rules seat view) (length (lawful_of rules seat view kind) - 1) face (sym last_is ∙ e)) in
         subst (λ b. MatchBool b (IsBestLawful rules seat view face) (last_face (lawful_faces rules seat view) ≡ Some face)) (sym hand.measured) (record {
           kind_is = subst (IsBestDiscard (kind_counts (concealed view)) (room view) (length view.melds) (set_of (map kind_of (lawful_faces rules seat view)))) (sym at) here;
           face_is = ap (λ k. last_face (lawful_of rules seat view k)) at ∙ sym last_is ∙ e;
         })
 
 -- The best of all kinds is the best of those among which it is.
-narrowed : (counts room : List ℕ) (melds all some kind : ℕ) → ((k : ℕ) → k < 34 → IsTrue (has_kind all k)) → has_kind some kind ≡ true → IsBestDiscard counts room melds all kind → IsBestDiscard counts room melds some kind
+narrowed : (counts room : List ℕ) (melds all some kind : ℕ) → ((k : ℕ) → k < 34 → IsTrue (has_kind all k)) → has_kind some kind ≡ true → IsBestDiscard counts room melds all kind
+    → IsBestDiscard counts room melds some kind
 narrowed counts room melds all some kind each among best = record {
   is_discard = record { kind_is = best.is_discard.kind_is; among = among; held = best.is_discard.held };
   number = best.number;
@@ -423,7 +434,8 @@ one_among kind (x ∷ xs) i tile h = by_test (eqb (kind_of x) kind) (λ k. one_a
     by_test false f k = f k
 
 -- The best of all kinds, where a discard of it is lawful.
-pub held_best : (rules : Rules) (seat all kind number missing : ℕ) (view : SeatView) (counts left : List ℕ) (last : Option ℕ) (tile : ℕ) → IsMeasuredHand view counts left number missing → ((k : ℕ) → k < 34 → IsTrue (has_kind all k)) →
+pub held_best : (rules : Rules) (seat all kind number missing : ℕ) (view : SeatView) (counts left : List ℕ) (last : Option ℕ) (tile : ℕ)
+    → IsMeasuredHand view counts left number missing → ((k : ℕ) → k < 34 → IsTrue (has_kind all k)) →
     IsBestDiscard counts left number all kind → last ≡ last_face (lawful_of rules seat view kind) → last ≡ Some tile → IsBest rules seat view tile
 held_best rules seat all kind number missing view counts left last tile hand each best last_is some =
     subst (λ o. MatchOption o (lawful_faces rules seat view ≡ []) (IsBest rules seat view)) some
@@ -457,17 +469,20 @@ none_past p kind place low at =
     ap (λ n. filter (λ face. (kind_of face == kind) && p face) (drop n tile_order)) at
     ∙ filter_off p (λ face. kind_of face == kind) (drop (kind + 4) tile_order) (each_kind (λ k. list_all (λ face. not (kind_of face == k)) (drop (k + 4) tile_order)) kind low far_off)
 
-pub none_here : (p : ℕ → Bool) (place next tile : ℕ) → 0 < place → place ≤ 37 → next ≡ place - 1 → tile ≡ slice_index tile_order next → p tile ≡ false → filter p (drop place tile_order) ≡ [] → filter p (drop next tile_order) ≡ []
+pub none_here : (p : ℕ → Bool) (place next tile : ℕ) → 0 < place → place ≤ 37 → next ≡ place - 1 → tile ≡ slice_index tile_order next → p tile ≡ false
+    → filter p (drop place tile_order) ≡ [] → filter p (drop next tile_order) ≡ []
 none_here p place next tile some low at_next is test none =
     ap (λ (xs : List ℕ). filter p xs) (drop_more tile_order next 0 (omega (arith, some, low, at_next, all_faces)) ∙ ap (λ (t : ℕ). t ∷ drop (next + 1) tile_order) (sym is))
     ∙ ap (λ b. cond b (tile ∷ filter p (drop (next + 1) tile_order)) (filter p (drop (next + 1) tile_order))) test
     ∙ ap (λ n. filter p (drop n tile_order)) (sym (one_more place next some at_next)) ∙ none
 
-pub last_here : (p : ℕ → Bool) (place next tile : ℕ) → 0 < place → place ≤ 37 → next ≡ place - 1 → tile ≡ slice_index tile_order next → p tile ≡ true → filter p (drop place tile_order) ≡ [] → Some tile ≡ last_face (filter p tile_order)
+pub last_here : (p : ℕ → Bool) (place next tile : ℕ) → 0 < place → place ≤ 37 → next ≡ place - 1 → tile ≡ slice_index tile_order next → p tile ≡ true
+    → filter p (drop place tile_order) ≡ [] → Some tile ≡ last_face (filter p tile_order)
 last_here p place next tile some low at_next is test none =
     last_passes p next tile (omega (arith, some, low, at_next)) is test
     ∙ ap (λ n. last_face (filter p (take n tile_order))) (sym (one_more place next some at_next))
-    ∙ ap last_face (sym (append-nil (filter p (take place tile_order))) ∙ ap (λ (xs : List ℕ). filter p (take place tile_order) ++ xs) (sym none) ∙ sym (filter-append p (take place tile_order) (drop place tile_order)) ∙ ap (filter p) (take-append-drop place tile_order))
+    ∙ ap last_face (sym (append-nil (filter p (take place tile_order))) ∙ ap (λ (xs : List ℕ). filter p (take place tile_order) ++ xs) (sym none)
+    ∙ sym (filter-append p (take place tile_order) (drop place tile_order)) ∙ ap (filter p) (take-append-drop place tile_order))
 
 pub none_at_all : (p : ℕ → Bool) (place : ℕ) → place ≡ 0 → filter p (drop place tile_order) ≡ [] → None ≡ last_face (filter p tile_order)
 none_at_all p place first none = sym (ap last_face (ap (λ n. filter p (drop n tile_order)) (sym first) ∙ none))

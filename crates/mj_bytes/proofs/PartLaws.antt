@@ -48,7 +48,8 @@ some_part : (c : ℕ) (text : List ℕ) → (first : List ℕ) × ((others : Lis
 some_part c [] = ([], ([], refl))
 some_part c (b ∷ bs) = either (b == c) (some_part c bs)
   where
-    either : (t : Bool) → (first : List ℕ) × ((others : List (List ℕ)) × (parts_by c bs ≡ first ∷ others)) → (first : List ℕ) × ((others : List (List ℕ)) × (cond t ([] ∷ parts_by c bs) (onto_first b (parts_by c bs)) ≡ first ∷ others))
+    either : (t : Bool) → (first : List ℕ) × ((others : List (List ℕ)) × (parts_by c bs ≡ first ∷ others))
+        → (first : List ℕ) × ((others : List (List ℕ)) × (cond t ([] ∷ parts_by c bs) (onto_first b (parts_by c bs)) ≡ first ∷ others))
     either true p = ([], (parts_by c bs, refl))
     either false p = (b ∷ p.0, (p.1.0, ap (onto_first b) p.1.1))
 

@@ -194,9 +194,11 @@ room-at : (others : List ℕ) (kind : ℕ) → kind < 34 → get_or (room_beside
 unfolding room_beside all_kinds
 room-at others kind low = get_or-map-range_with_len (λ k. 4 - number_of others k) 0 34 kind kind 0 low (omega arith)
 
-hand_fine : (ws : List Word) → AllFine ws → length (held_tiles ws) + 3 * meld_count ws ≡ 13 → has_no_fifth (held_tiles ws ++ melded_tiles ws) ≡ true → IsHand (kind_counts (held_tiles ws)) (room_beside (melded_tiles ws)) (meld_count ws)
+hand_fine : (ws : List Word) → AllFine ws → length (held_tiles ws) + 3 * meld_count ws ≡ 13 → has_no_fifth (held_tiles ws ++ melded_tiles ws) ≡ true
+    → IsHand (kind_counts (held_tiles ws)) (room_beside (melded_tiles ws)) (meld_count ws)
 hand_fine ws fine thirteen four = (let s = sets_of ws fine in record {
-  thirteen = (let a : sum (kind_counts (held_tiles ws)) ≡ length (held_tiles ws) = ap sum (counts-kinds (held_tiles ws)) ∙ sum_tally (map kind_of (held_tiles ws)) (held-kinded ws fine) ∙ length-map (held_tiles ws) kind_of in omega arith);
+  thirteen = (let a : sum (kind_counts (held_tiles ws)) ≡ length (held_tiles ws) =
+      ap sum (counts-kinds (held_tiles ws)) ∙ sum_tally (map kind_of (held_tiles ws)) (held-kinded ws fine) ∙ length-map (held_tiles ws) kind_of in omega arith);
   within = λ kind low.
       (let a = get_or-kind_counts (held_tiles ws) kind low in let b = room-at (melded_tiles ws) kind low in let c = four_at (held_tiles ws) (melded_tiles ws) kind low four in omega arith);
   room_is = record {
@@ -209,7 +211,8 @@ hand_fine ws fine thirteen four = (let s = sets_of ws fine in record {
 })
 
 hand-by : (ws : List Word) (hand : Hand) (a b once : Bool) → AllFine ws → eqb (length (held_tiles ws) + 3 * meld_count ws) 13 ≡ a → has_no_fifth (held_tiles ws ++ melded_tiles ws) ≡ b
-    → cond ((a && b) && once) (Some (record { counts = kind_counts (held_tiles ws); room = room_beside (melded_tiles ws); melds = meld_count ws })) None ≡ Some hand → IsHand hand.counts hand.room hand.melds
+    → cond ((a && b) && once) (Some (record { counts = kind_counts (held_tiles ws); room = room_beside (melded_tiles ws); melds = meld_count ws })) None ≡ Some hand
+    → IsHand hand.counts hand.room hand.melds
 hand-by ws hand true true true fine thirteen four h =
     let made : Hand = record { counts = kind_counts (held_tiles ws); room = room_beside (melded_tiles ws); melds = meld_count ws } in
     let same : made ≡ hand = cc in
@@ -232,7 +235,8 @@ hand-of None hand f h = absurd (never h)
   where
     never : ◌≡◌ {A = Option Hand} None (Some hand) → ⊥
     never h = cc
-hand-of (Some ws) hand f h = hand-by ws hand (eqb (length (held_tiles ws) + 3 * meld_count ws) 13) (has_no_fifth (held_tiles ws ++ melded_tiles ws)) (has_each_red_once (held_tiles ws ++ melded_tiles ws)) (f ws refl) refl refl h
+hand-of (Some ws) hand f h = hand-by ws hand (eqb (length (held_tiles ws) + 3 * meld_count ws) 13) (has_no_fifth (held_tiles ws ++ melded_tiles ws))
+    (has_each_red_once (held_tiles ws ++ melded_tiles ws)) (f ws refl) refl refl h
 
 -- words that name a hand give one
 pub hand_law : (texts : List (List ℕ)) (hand : Hand) → hand_of texts ≡ Some hand → IsHand hand.counts hand.room hand.melds

@@ -67,7 +67,8 @@ gathers_all texts tiles others number before = record {
 }
 
 -- a text stands for no word
-pub gathers_none : (texts others : List (List ℕ)) (text tiles melded_tiles : List ℕ) (number : ℕ) → GathersBefore texts (text ∷ others) tiles melded_tiles number → word_of text ≡ None → words_of texts ≡ None
+pub gathers_none : (texts others : List (List ℕ)) (text tiles melded_tiles : List ℕ) (number : ℕ) → GathersBefore texts (text ∷ others) tiles melded_tiles number → word_of text ≡ None
+    → words_of texts ≡ None
 gathers_none texts others text tiles melded_tiles number before is =
     before.read ∙ ap (λ o. words_onto before.words (option_and_then (λ w. option_map (λ ws. w ∷ ws) (words_of others)) o)) is
 
@@ -110,23 +111,27 @@ and_none false y h = refl
 
 fifth_none : (tiles others : List ℕ) (number : ℕ) → has_no_fifth (tiles ++ others) ≡ false → None ≡ hand_among tiles others number
 fifth_none tiles others number h =
-    ap (λ b. cond (b && has_each_red_once (tiles ++ others)) (Some (made (kind_counts tiles) (room_beside others) number)) None) (sym (and_none (eqb (length tiles + 3 * number) 13) (has_no_fifth (tiles ++ others)) h))
+    ap (λ b. cond (b && has_each_red_once (tiles ++ others)) (Some (made (kind_counts tiles) (room_beside others) number)) None)
+    (sym (and_none (eqb (length tiles + 3 * number) 13) (has_no_fifth (tiles ++ others)) h))
 
 -- a red five stands in two lists as often as in the one and in the other
-pub once_among : (tiles others : List ℕ) (face m n sum : ℕ) (result : Bool) → m ≡ number_in tiles face → n ≡ number_in others face → sum ≡ m + n → result ≡ leb sum 1 → result ≡ stands_once (tiles ++ others) face
+pub once_among : (tiles others : List ℕ) (face m n sum : ℕ) (result : Bool) → m ≡ number_in tiles face → n ≡ number_in others face → sum ≡ m + n → result ≡ leb sum 1
+    → result ≡ stands_once (tiles ++ others) face
 unfolding stands_once
 once_among tiles others face m n sum result a b c h =
     h ∙ ap (λ k. leb k 1) (c ∙ ap₂ (λ x y. x + y) a b ∙ sym (sum_by-append (λ tile. cond (eqb tile face) 1 0) tiles others))
 
 -- a red five stands twice among both
-pub red_twice : (tiles others slice more : List ℕ) (number : ℕ) (result : Bool) → slice ≡ tiles → more ≡ others → result ≡ has_each_red_once (slice ++ more) → result ≡ false → None ≡ hand_among tiles others number
+pub red_twice : (tiles others slice more : List ℕ) (number : ℕ) (result : Bool) → slice ≡ tiles → more ≡ others → result ≡ has_each_red_once (slice ++ more) → result ≡ false
+    → None ≡ hand_among tiles others number
 red_twice tiles others slice more number result a b is h =
     ap (λ b. cond b (Some (made (kind_counts tiles) (room_beside others) number)) None)
     (sym (and_none (eqb (length tiles + 3 * number) 13 && has_no_fifth (tiles ++ others)) (has_each_red_once (tiles ++ others)) (ap₂ (λ x y. has_each_red_once (x ++ y)) (sym a) (sym b) ∙ sym is ∙ h)))
 
 -- too many or too few tiles
 pub not_thirteen : (tiles others : List ℕ) (number : ℕ) → eqb (length tiles + 3 * number) 13 ≡ false → None ≡ hand_among tiles others number
-not_thirteen tiles others number h = ap (λ b. cond ((b && has_no_fifth (tiles ++ others)) && has_each_red_once (tiles ++ others)) (Some (made (kind_counts tiles) (room_beside others) number)) None) (sym h)
+not_thirteen tiles others number h =
+    ap (λ b. cond ((b && has_no_fifth (tiles ++ others)) && has_each_red_once (tiles ++ others)) (Some (made (kind_counts tiles) (room_beside others) number)) None) (sym h)
 
 -- a kind stands five times among the concealed tiles
 pub no_counts : (tiles others slice : List ℕ) (number : ℕ) → slice ≡ tiles → (NoFifth (kind_counts slice) → ⊥) → None ≡ hand_among tiles others number
@@ -154,7 +159,8 @@ beside others = same_map (λ k. 4 - get_or (kind_counts others) k 0) (λ k. 4 - 
 
 -- the hand
 pub whole_hand : (tiles others counts numbers room : List ℕ) (number : ℕ) (result : Bool) → length tiles + 3 * number ≡ 13 → counts ≡ kind_counts tiles → numbers ≡ kind_counts others
-    → room ≡ room_left numbers → result ≡ are_within_four counts numbers → result ≡ true → (slice more : List ℕ) (once : Bool) → slice ≡ tiles → more ≡ others → once ≡ has_each_red_once (slice ++ more) → once ≡ true
+    → room ≡ room_left numbers → result ≡ are_within_four counts numbers → result ≡ true → (slice more : List ℕ) (once : Bool) → slice ≡ tiles → more ≡ others
+    → once ≡ has_each_red_once (slice ++ more) → once ≡ true
     → Some (made counts room number) ≡ hand_among tiles others number
 whole_hand tiles others counts numbers room number result thirteen a b r is h slice more once c d o t =
     let reds : has_each_red_once (tiles ++ others) ≡ true = ap₂ (λ x y. has_each_red_once (x ++ y)) (sym c) (sym d) ∙ sym o ∙ t in
@@ -166,7 +172,8 @@ whole_hand tiles others counts numbers room number result thirteen a b r is h sl
     (sym (and_from (eqb (length tiles + 3 * number) 13 && has_no_fifth (tiles ++ others)) (has_each_red_once (tiles ++ others)) fits reds))
 
 -- what was made of all tiles is the hand of the texts
-pub value_of : (texts : List (List ℕ)) (tiles others : List ℕ) (number : ℕ) (result : Option Hand) → Gathers texts tiles others number → result ≡ hand_among tiles others number → result ≡ hand_of texts
+pub value_of : (texts : List (List ℕ)) (tiles others : List ℕ) (number : ℕ) (result : Option Hand) → Gathers texts tiles others number → result ≡ hand_among tiles others number
+    → result ≡ hand_of texts
 value_of texts tiles others number result g is =
     is ∙ ap₂ (λ a b. hand_among a b number) g.held_are g.melded_are ∙ ap (λ n. hand_among (held_tiles g.words) (melded_tiles g.words) n) g.melds_are
     ∙ ap (option_and_then hand_with) (sym g.read)

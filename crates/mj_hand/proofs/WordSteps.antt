@@ -11,12 +11,14 @@ pub nothing_read : (o : Option (List ℕ)) → o ≡ onto [] o
 nothing_read o = onto-nothing o
 
 -- A tile more was read.
-pub tile_read : (whole : Option (List ℕ)) (tiles rest first others : List ℕ) (tile : ℕ) → whole ≡ onto tiles (tiles_of (parts rest)) → BeginsWithPart 43 rest first others → Some tile ≡ face_of first → whole ≡ onto (tiles ++ tile ∷ []) (tiles_of (parts others))
+pub tile_read : (whole : Option (List ℕ)) (tiles rest first others : List ℕ) (tile : ℕ) → whole ≡ onto tiles (tiles_of (parts rest)) → BeginsWithPart 43 rest first others
+    → Some tile ≡ face_of first → whole ≡ onto (tiles ++ tile ∷ []) (tiles_of (parts others))
 tile_read whole tiles rest first others tile h p f =
     let k = rw (p.all, ← f) at h in k ∙ onto-more tiles tile (tiles_of (parts others))
 
 -- The last tile was read.
-pub last_read : (whole : Option (List ℕ)) (tiles rest : List ℕ) (tile : ℕ) → whole ≡ onto tiles (tiles_of (parts rest)) → IsOnePart 43 rest → Some tile ≡ face_of rest → Some (tiles ++ tile ∷ []) ≡ whole
+pub last_read : (whole : Option (List ℕ)) (tiles rest : List ℕ) (tile : ℕ) → whole ≡ onto tiles (tiles_of (parts rest)) → IsOnePart 43 rest → Some tile ≡ face_of rest
+    → Some (tiles ++ tile ∷ []) ≡ whole
 last_read whole tiles rest tile h p f = let k = rw (p.all, ← f) at h in sym k
 
 -- A part names no tile.

@@ -142,17 +142,20 @@ run_is_company counts kind run = at (cases_eq run.low kind) (cases_eq (run.low +
         && (ltb 0 (get_or counts (kind + 1) 0) && (ltb 0 kind && ltb 0 (get_or counts (kind - 1) 0) || ltb 0 (get_or counts (kind + 2) 0))
         || ltb 1 kind && ltb 0 (get_or counts (kind - 1) 0) && ltb 0 (get_or counts (kind - 2) 0))) ≡ true
     at (inl is) other =
-        first (ltb 0 (get_or counts kind 0)) (ltb kind 27) (ltb 0 (get_or counts (kind + 1) 0)) (ltb 0 kind) (ltb 0 (get_or counts (kind - 1) 0)) (ltb 0 (get_or counts (kind + 2) 0)) (ltb 1 kind) (ltb 0 (get_or counts (kind - 2) 0)) below
+        first (ltb 0 (get_or counts kind 0)) (ltb kind 27) (ltb 0 (get_or counts (kind + 1) 0)) (ltb 0 kind) (ltb 0 (get_or counts (kind - 1) 0)) (ltb 0 (get_or counts (kind + 2) 0))
+        (ltb 1 kind) (ltb 0 (get_or counts (kind - 2) 0)) below
         (held (kind + 1) (omega (arith, is)) (omega (arith, is)) (λ e. omega (arith, e)))
         (held (kind + 2) (omega (arith, is)) (omega (arith, is)) (λ e. omega (arith, e)))
     at (inr unlike) (inl is) =
-        second (ltb 0 (get_or counts kind 0)) (ltb kind 27) (ltb 0 (get_or counts (kind + 1) 0)) (ltb 0 kind) (ltb 0 (get_or counts (kind - 1) 0)) (ltb 0 (get_or counts (kind + 2) 0)) (ltb 1 kind) (ltb 0 (get_or counts (kind - 2) 0)) below
+        second (ltb 0 (get_or counts kind 0)) (ltb kind 27) (ltb 0 (get_or counts (kind + 1) 0)) (ltb 0 kind) (ltb 0 (get_or counts (kind - 1) 0)) (ltb 0 (get_or counts (kind + 2) 0))
+        (ltb 1 kind) (ltb 0 (get_or counts (kind - 2) 0)) below
         (held (kind + 1) (omega (arith, is)) (omega (arith, is)) (λ e. omega (arith, e)))
         (lt-ltb 0 kind (omega (arith, is)))
         (held (kind - 1) (omega (arith, is)) (omega (arith, is)) (λ e. omega (arith, e, is)))
     at (inr unlike) (inr nor) =
         let is : run.low + 2 ≡ kind = omega (arith, run.from, run.to, unlike, nor) in
-        third (ltb 0 (get_or counts kind 0)) (ltb kind 27) (ltb 0 (get_or counts (kind + 1) 0)) (ltb 0 kind) (ltb 0 (get_or counts (kind - 1) 0)) (ltb 0 (get_or counts (kind + 2) 0)) (ltb 1 kind) (ltb 0 (get_or counts (kind - 2) 0)) below
+        third (ltb 0 (get_or counts kind 0)) (ltb kind 27) (ltb 0 (get_or counts (kind + 1) 0)) (ltb 0 kind) (ltb 0 (get_or counts (kind - 1) 0)) (ltb 0 (get_or counts (kind + 2) 0))
+        (ltb 1 kind) (ltb 0 (get_or counts (kind - 2) 0)) below
         (lt-ltb 1 kind (omega (arith, is)))
         (held (kind - 1) (omega (arith, is)) (omega (arith, is)) (λ e. omega (arith, e, is)))
         (held (kind - 2) (omega (arith, is)) (omega (arith, is)) (λ e. omega (arith, e, is)))

@@ -101,7 +101,8 @@ pub at_kind_three : (numbers : List ℕ) (count : ℕ) (others : List ℕ) (spot
     third ≡ second ++ readings_past melds winning sets (pair_ways others spot free) →
     third ≡ old ++ readings_past melds winning sets (ways_from numbers spot)
 at_kind_three numbers count others spot old first second third melds sets winning free is room free_is e f g =
-    subst (λ n. third ≡ old ++ (readings_past melds winning sets (branch_ways others spot n 0 spot.pair) ++ readings_past melds winning sets (triplet_ways others spot n) ++ readings_past melds winning sets (pair_ways others spot n)))
+    subst (λ n. third ≡ old ++ (readings_past melds winning sets (branch_ways others spot n 0 spot.pair) ++ readings_past melds winning sets
+    (triplet_ways others spot n) ++ readings_past melds winning sets (pair_ways others spot n)))
     free_is (chained old first second third _ _ _ e f g)
     ∙ ap (λ list. old ++ list) (sym (three_parts numbers count others spot melds sets winning is room))
 

@@ -187,7 +187,8 @@ parts_of_cons : (count : ℕ) (others : List ℕ) (spot : Spot) (sets : List Set
 unfolding ways
 parts_of_cons count others spot sets winning room =
     let free = count - (spot.first + spot.second) in
-    ap (λ b. winning_ways sets winning (cond b (at_kind (λ runs left pair. ways others (spot.kind + 1) spot.second runs left pair) spot.kind free spot.left spot.pair) [])) (le-leb (spot.first + spot.second) count room)
+    ap (λ b. winning_ways sets winning (cond b (at_kind (λ runs left pair. ways others (spot.kind + 1) spot.second runs left pair) spot.kind free spot.left spot.pair) []))
+    (le-leb (spot.first + spot.second) count room)
     ∙ winning_ways-append sets winning (branch_ways others spot free 0 spot.pair ++ triplet_ways others spot free) (pair_ways others spot free)
     ∙ ap (λ list. list ++ winning_ways sets winning (pair_ways others spot free)) (winning_ways-append sets winning (branch_ways others spot free 0 spot.pair) (triplet_ways others spot free))
 
@@ -203,14 +204,16 @@ pub kind-few : (numbers : List ℕ) (count : ℕ) (others : List ℕ) (spot : Sp
 unfolding ways winning_ways
 kind-few numbers count others spot sets winning place is few = rw is (rw (lt-leb (spot.first + spot.second) count few) (omega arith))
 
-pub kind-first : (numbers : List ℕ) (count : ℕ) (others : List ℕ) (spot : Spot) (sets : List Set) (winning place : ℕ) (winning_way : WinningWay) → numbers ≡ count ∷ others → spot.first + spot.second ≤ count →
+pub kind-first : (numbers : List ℕ) (count : ℕ) (others : List ℕ) (spot : Spot) (sets : List Set) (winning place : ℕ) (winning_way : WinningWay) → numbers ≡ count ∷ others
+    → spot.first + spot.second ≤ count →
     slice_get (winning_ways sets winning (branch_ways others spot (count - (spot.first + spot.second)) 0 spot.pair)) place ≡ Some winning_way →
     slice_get (winning_ways sets winning (ways_from numbers spot)) place ≡ Some winning_way
 kind-first numbers count others spot sets winning place winning_way is room found =
     ap (λ list. slice_get list place) (parts_of numbers count others spot sets winning is room)
     ∙ slice_get-left _ _ place winning_way (slice_get-left _ _ place winning_way found)
 
-pub kind-second : (numbers : List ℕ) (count : ℕ) (others : List ℕ) (spot : Spot) (sets : List Set) (winning place behind : ℕ) (winning_way : WinningWay) → numbers ≡ count ∷ others → spot.first + spot.second ≤ count →
+pub kind-second : (numbers : List ℕ) (count : ℕ) (others : List ℕ) (spot : Spot) (sets : List Set) (winning place behind : ℕ) (winning_way : WinningWay) → numbers ≡ count ∷ others
+    → spot.first + spot.second ≤ count →
     place ≡ length (winning_ways sets winning (branch_ways others spot (count - (spot.first + spot.second)) 0 spot.pair)) + behind →
     slice_get (winning_ways sets winning (triplet_ways others spot (count - (spot.first + spot.second)))) behind ≡ Some winning_way →
     slice_get (winning_ways sets winning (ways_from numbers spot)) place ≡ Some winning_way
@@ -220,7 +223,8 @@ kind-second numbers count others spot sets winning place behind winning_way is r
     (picks-right (winning_ways sets winning (branch_ways others spot (count - (spot.first + spot.second)) 0 spot.pair))
     (winning_ways sets winning (triplet_ways others spot (count - (spot.first + spot.second)))) place behind (Ok winning_way) past found)
 
-pub kind-third : (numbers : List ℕ) (count : ℕ) (others : List ℕ) (spot : Spot) (sets : List Set) (winning place behind last : ℕ) (result : Result WinningWay ℕ) → numbers ≡ count ∷ others → spot.first + spot.second ≤ count →
+pub kind-third : (numbers : List ℕ) (count : ℕ) (others : List ℕ) (spot : Spot) (sets : List Set) (winning place behind last : ℕ) (result : Result WinningWay ℕ)
+    → numbers ≡ count ∷ others → spot.first + spot.second ≤ count →
     place ≡ length (winning_ways sets winning (branch_ways others spot (count - (spot.first + spot.second)) 0 spot.pair)) + behind →
     behind ≡ length (winning_ways sets winning (triplet_ways others spot (count - (spot.first + spot.second)))) + last →
     Picks (winning_ways sets winning (pair_ways others spot (count - (spot.first + spot.second)))) last result →
@@ -233,7 +237,8 @@ kind-third numbers count others spot sets winning place behind last result is ro
     (picks-right (one ++ two) three place last result (picks-right one two place behind (Err last) past further) picks)
 
 -- With fewer than two free tiles runs alone begin.
-pub kind-alone : (numbers : List ℕ) (count : ℕ) (others : List ℕ) (spot : Spot) (sets : List Set) (winning place : ℕ) (result : Result WinningWay ℕ) → numbers ≡ count ∷ others → spot.first + spot.second ≤ count →
+pub kind-alone : (numbers : List ℕ) (count : ℕ) (others : List ℕ) (spot : Spot) (sets : List Set) (winning place : ℕ) (result : Result WinningWay ℕ) → numbers ≡ count ∷ others
+    → spot.first + spot.second ≤ count →
     count - (spot.first + spot.second) < 2 →
     Picks (winning_ways sets winning (branch_ways others spot (count - (spot.first + spot.second)) 0 spot.pair)) place result →
     Picks (winning_ways sets winning (ways_from numbers spot)) place result

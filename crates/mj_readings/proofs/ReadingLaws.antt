@@ -275,7 +275,8 @@ unfolding readings_of
 pick-special counts melds winning place rest empty result past is none found =
     found
     ∙ sym (slice_get-right (standard_readings counts melds winning) (pairs_readings counts ++ orphans_readings counts) rest)
-    ∙ ap (λ b. slice_get (standard_readings counts melds winning ++ cond b (pairs_readings counts ++ orphans_readings counts) []) (length (standard_readings counts melds winning) + rest)) (sym none ∙ is)
+    ∙ ap (λ b. slice_get (standard_readings counts melds winning ++ cond b (pairs_readings counts ++ orphans_readings counts) [])
+    (length (standard_readings counts melds winning) + rest)) (sym none ∙ is)
     ∙ ap (slice_get (readings_of counts melds winning)) (sym past)
 
 pub pick-none : (counts : List ℕ) (melds : List Meld) (winning place rest : ℕ) (empty : Bool) → place ≡ length (standard_readings counts melds winning) + rest →
@@ -283,7 +284,8 @@ pub pick-none : (counts : List ℕ) (melds : List Meld) (winning place rest : �
 unfolding readings_of
 pick-none counts melds winning place rest empty past is none =
     sym (ap (slice_get (readings_of counts melds winning)) past
-    ∙ ap (λ b. slice_get (standard_readings counts melds winning ++ cond b (pairs_readings counts ++ orphans_readings counts) []) (length (standard_readings counts melds winning) + rest)) (sym is ∙ none)
+    ∙ ap (λ b. slice_get (standard_readings counts melds winning ++ cond b (pairs_readings counts ++ orphans_readings counts) [])
+    (length (standard_readings counts melds winning) + rest)) (sym is ∙ none)
     ∙ slice_get-right (standard_readings counts melds winning) [] rest)
 
 -- Adding the readings.

@@ -62,7 +62,8 @@ winning_ways_complete counts number winning winning_way counts_are few is =
     Contains-flat_map (winning_ways_of [] winning) (ways counts 0 0 0 number None) (record { sets = winning_way.sets; pair = winning_way.pair }) winning_way
     (ways_complete counts 0 0 0 number None (record { sets = winning_way.sets; pair = winning_way.pair }) (omega (arith, counts_are.size)) (none_above counts counts_are.within)
     (are-way-in_order counts number winning_way.sets winning_way.pair counts_are.size is.split is.order))
-    (Contains-map (λ win. record { sets = winning_way.sets; pair = winning_way.pair; win = win }) (filter (names_winning winning_way.sets winning_way.pair winning) (range_with_len 0 5)) winning_way.win
+    (Contains-map (λ win. record { sets = winning_way.sets; pair = winning_way.pair; win = win })
+    (filter (names_winning winning_way.sets winning_way.pair winning) (range_with_len 0 5)) winning_way.win
     (Contains-filter (names_winning winning_way.sets winning_way.pair winning) (range_with_len 0 5) winning_way.win is.win_place
     (subst (Contains (range_with_len 0 5)) (zero-add winning_way.win)
     (Contains-range 0 5 winning_way.win (win_below winning_way.sets winning_way.pair winning winning_way.win (omega (arith, is.split.so_many, few)) is.win_place)))))
@@ -78,7 +79,8 @@ winning_ways_once counts number winning size =
         Distinct-map (λ win. record { sets = way.sets; pair = way.pair; win = win }) (filter (names_winning way.sets way.pair winning) (range_with_len 0 5))
         (λ a b e. ap (λ winning_way. winning_way.win) e) (Distinct-filter (names_winning way.sets way.pair winning) (range_with_len 0 5) (Distinct-range 0 5))
 
-    apart : (one other : Way) (winning_way : WinningWay) → Unit {0} → Unit {0} → Contains (winning_ways_of [] winning one) winning_way → Contains (winning_ways_of [] winning other) winning_way → one ≡ other
+    apart : (one other : Way) (winning_way : WinningWay) → Unit {0} → Unit {0} → Contains (winning_ways_of [] winning one) winning_way
+        → Contains (winning_ways_of [] winning other) winning_way → one ≡ other
     apart one other winning_way u v here there =
         let a = map-member (λ win. record { sets = one.sets; pair = one.pair; win = win }) (filter (names_winning one.sets one.pair winning) (range_with_len 0 5)) winning_way here in
         let b = map-member (λ win. record { sets = other.sets; pair = other.pair; win = win }) (filter (names_winning other.sets other.pair winning) (range_with_len 0 5)) winning_way there in

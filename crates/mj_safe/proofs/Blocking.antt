@@ -53,7 +53,8 @@ runs_same : (ds : List Deed) (seat : ℕ) (seen : List ℕ) → Sees ds seat see
 unfolding are_runs_blocked
 runs_same ds seat seen s kind = same_all (is_run_blocked seen kind) (λ low. not (is_run_of kind low) || sees_all_beside ds seat kind (run_from low)) (λ low small. run_same ds seat seen s kind low)
 
-orphans_same : (ds : List Deed) (seat against : ℕ) (seen : List ℕ) → Sees ds seat seen → (kind : ℕ) → orphans_blocked seen (nat_lt 0 (length (seat_melds ds against))) kind ≡ are_orphans_blocked ds seat against kind
+orphans_same : (ds : List Deed) (seat against : ℕ) (seen : List ℕ) → Sees ds seat seen → (kind : ℕ)
+    → orphans_blocked seen (nat_lt 0 (length (seat_melds ds against))) kind ≡ are_orphans_blocked ds seat against kind
 unfolding are_orphans_blocked
 orphans_same ds seat against seen s kind =
     ap (λ b. not (is_terminal_or_honour kind) || nat_lt 0 (length (seat_melds ds against)) || b)
@@ -71,11 +72,14 @@ block_same ds seat against kind seen small is =
 
 -- As the code asks it, one after the other.
 
-pub not_four : (ds : List Deed) (seat against kind number : ℕ) (seen : List ℕ) → kind < 34 → seen ≡ kind_counts (seen_tiles ds seat) → number ≡ get_or seen kind 0 → (number ≡ 4 → ⊥) → false ≡ is_blocked ds seat against kind
+pub not_four : (ds : List Deed) (seat against kind number : ℕ) (seen : List ℕ) → kind < 34 → seen ≡ kind_counts (seen_tiles ds seat) → number ≡ get_or seen kind 0 → (number ≡ 4 → ⊥)
+    → false ≡ is_blocked ds seat against kind
 not_four ds seat against kind number seen small is n other =
-    sym (ap (λ b. b && runs_blocked seen kind && orphans_blocked seen (nat_lt 0 (length (seat_melds ds against))) kind) (ne_eqb (get_or seen kind 0) 4 (λ e. other (n ∙ e)))) ∙ block_same ds seat against kind seen small is
+    sym (ap (λ b. b && runs_blocked seen kind && orphans_blocked seen (nat_lt 0 (length (seat_melds ds against))) kind) (ne_eqb (get_or seen kind 0) 4 (λ e. other (n ∙ e))))
+    ∙ block_same ds seat against kind seen small is
 
-pub not_runs : (ds : List Deed) (seat against kind number : ℕ) (seen : List ℕ) → kind < 34 → seen ≡ kind_counts (seen_tiles ds seat) → number ≡ get_or seen kind 0 → number ≡ 4 → runs_blocked seen kind ≡ false →
+pub not_runs : (ds : List Deed) (seat against kind number : ℕ) (seen : List ℕ) → kind < 34 → seen ≡ kind_counts (seen_tiles ds seat) → number ≡ get_or seen kind 0 → number ≡ 4
+    → runs_blocked seen kind ≡ false →
     false ≡ is_blocked ds seat against kind
 not_runs ds seat against kind number seen small is n four wanting =
     sym
@@ -83,7 +87,8 @@ not_runs ds seat against kind number seen small is n four wanting =
     ∙ ap (λ b. b && orphans_blocked seen (nat_lt 0 (length (seat_melds ds against))) kind) wanting)
     ∙ block_same ds seat against kind seen small is
 
-pub as_orphans : (ds : List Deed) (seat against kind number : ℕ) (seen : List ℕ) (melded : Bool) → kind < 34 → seen ≡ kind_counts (seen_tiles ds seat) → number ≡ get_or seen kind 0 → number ≡ 4 → runs_blocked seen kind ≡ true →
+pub as_orphans : (ds : List Deed) (seat against kind number : ℕ) (seen : List ℕ) (melded : Bool) → kind < 34 → seen ≡ kind_counts (seen_tiles ds seat) → number ≡ get_or seen kind 0
+    → number ≡ 4 → runs_blocked seen kind ≡ true →
     melded ≡ nat_lt 0 (length (seat_melds ds against)) → orphans_blocked seen melded kind ≡ is_blocked ds seat against kind
 as_orphans ds seat against kind number seen melded small is n four blocked melds =
     ap (λ b. orphans_blocked seen b kind) melds

@@ -16,7 +16,8 @@ use Rattle.mj_safe.specs.Promise.{IsNeverWonOn}
 pub by_own : (ds : List Deed) (seat against kind : ℕ) → has_kind (own_kinds (hand ds) against) kind ≡ true → Some OwnDiscard ≡ safe_reason ds seat against kind
 by_own ds seat against kind h = sym ((first_reason ds seat against kind).own h)
 
-pub by_riichi : (ds : List Deed) (seat against kind : ℕ) → has_kind (own_kinds (hand ds) against) kind ≡ false → has_kind (passed_in_riichi (hand ds) against) kind ≡ true → Some PassedInRiichi ≡ safe_reason ds seat against kind
+pub by_riichi : (ds : List Deed) (seat against kind : ℕ) → has_kind (own_kinds (hand ds) against) kind ≡ false → has_kind (passed_in_riichi (hand ds) against) kind ≡ true
+    → Some PassedInRiichi ≡ safe_reason ds seat against kind
 by_riichi ds seat against kind a h = sym ((first_reason ds seat against kind).since a h)
 
 pub by_pass : (ds : List Deed) (seat against kind : ℕ) → has_kind (own_kinds (hand ds) against) kind ≡ false → has_kind (passed_in_riichi (hand ds) against) kind ≡ false →

@@ -105,7 +105,8 @@ greatest test worth (other ∷ list) best last reading (suc place) inside is pas
 -- A best score stays.
 stays : (test : Reading → Bool) (worth : Reading → Score) (list : List Reading) (best : Score) → fold (step test worth) (Some best) list ≡ None → ⊥
 stays test worth [] best h = some_none best h
-stays test worth (reading ∷ list) best h = choose test worth reading list best (test reading) (stays test worth list best) (stays test worth list (cond (is_better (worth reading) best) (worth reading) best)) h
+stays test worth (reading ∷ list) best h =
+    choose test worth reading list best (test reading) (stays test worth list best) (stays test worth list (cond (is_better (worth reading) best) (worth reading) best)) h
   where
     choose : (test : Reading → Bool) (worth : Reading → Score) (reading : Reading) (list : List Reading) (best : Score) (a : Bool) →
         (fold (step test worth) (Some best) list ≡ None → ⊥) →

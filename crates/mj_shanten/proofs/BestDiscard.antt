@@ -31,9 +31,11 @@ record AsMany (all less : ℕ) : Type 0 where
 
 less_misses : (counts : List ℕ) (kind : ℕ) (P : List ℕ → Type 0) (all less : ℕ) → length counts ≡ 34 → kind < 34 → IsLeast counts P all → IsLeast (one_less counts kind) P less → AsMany all less
 less_misses counts kind P all less size low x y = record {
-  at_least = (let a = x.least y.some.0 y.some.1.0 in let b = y.some.1.1 in let c : missing y.some.0 counts ≤ missing y.some.0 (one_less counts kind) = fewer_held y.some.0 counts (one_less counts kind) same (λ k inside. (let e = at k in omega arith)) in omega arith);
+  at_least = (let a = x.least y.some.0 y.some.1.0 in let b = y.some.1.1 in
+      let c : missing y.some.0 counts ≤ missing y.some.0 (one_less counts kind) = fewer_held y.some.0 counts (one_less counts kind) same (λ k inside. (let e = at k in omega arith)) in omega arith);
   at_most = (let a = y.least x.some.0 x.some.1.0 in let b = x.some.1.1 in
-      let c : missing x.some.0 (one_less counts kind) ≤ missing x.some.0 counts + 1 = one_nearer kind x.some.0 (one_less counts kind) counts (sym same) (λ k inside. (let e = at k in omega arith)) in omega arith);
+      let c : missing x.some.0 (one_less counts kind) ≤ missing x.some.0 counts + 1 =
+      one_nearer kind x.some.0 (one_less counts kind) counts (sym same) (λ k inside. (let e = at k in omega arith)) in omega arith);
 }
   where
     same : length counts ≡ length (one_less counts kind)
@@ -51,7 +53,8 @@ MoreFrom counts room melds kinds most from = (other : ℕ) → from ≤ other �
 pub more_from_last : (counts room : List ℕ) (melds kinds most number : ℕ) → number ≡ 34 → MoreFrom counts room melds kinds most number
 more_from_last counts room melds kinds most number is other past discard = (let k = discard.kind_is in absurd (omega arith))
 
-pub more_from_here : (counts room : List ℕ) (melds kinds most number next kind : ℕ) → 0 < number → next ≡ number - 1 → kind ≡ next → (IsDiscard counts kinds kind → LeavesMore counts room melds most kind)
+pub more_from_here : (counts room : List ℕ) (melds kinds most number next kind : ℕ) → 0 < number → next ≡ number - 1 → kind ≡ next
+    → (IsDiscard counts kinds kind → LeavesMore counts room melds most kind)
     → MoreFrom counts room melds kinds most number → MoreFrom counts room melds kinds most next
 more_from_here counts room melds kinds most number next kind some is here more after other past discard = elim (cases_eq other kind) [
   | inl same ↦ subst (LeavesMore counts room melds most) (sym same) (more (subst (IsDiscard counts kinds) same discard))
@@ -63,7 +66,8 @@ more_from_here counts room melds kinds most number next kind some is here more a
 pub not_among : (counts room : List ℕ) (melds kinds most kind : ℕ) (has : Bool) → has ≡ has_kind kinds kind → has ≡ false → IsDiscard counts kinds kind → LeavesMore counts room melds most kind
 not_among counts room melds kinds most kind has is out discard = absurd (false≢true (sym out ∙ is ∙ discard.among))
 
-pub not_held : (counts room held : List ℕ) (melds kinds most kind : ℕ) → length counts ≡ 34 → held ≡ with_two counts → get_or held kind 0 ≡ 0 → IsDiscard counts kinds kind → LeavesMore counts room melds most kind
+pub not_held : (counts room held : List ℕ) (melds kinds most kind : ℕ) → length counts ≡ 34 → held ≡ with_two counts → get_or held kind 0 ≡ 0 → IsDiscard counts kinds kind
+    → LeavesMore counts room melds most kind
 not_held counts room held melds kinds most kind size is none discard =
     let a : get_or held kind 0 ≡ get_or counts kind 0 = ap (λ h. get_or h kind 0) is ∙ wide_low counts kind size discard.kind_is in
     let b = discard.held in
@@ -73,10 +77,12 @@ pub is_held : (counts held : List ℕ) (kind : ℕ) → length counts ≡ 34 →
 is_held counts held kind size low is some = (let a : get_or held kind 0 ≡ get_or counts kind 0 = ap (λ h. get_or h kind 0) is ∙ wide_low counts kind size low in omega arith)
 
 -- a kind of the set that is held
-pub discard_within : (counts room held : List ℕ) (melds kinds most kind : ℕ) (has found : Bool) → length counts ≡ 34 → kind < 34 → held ≡ with_two counts → has ≡ has_kind kinds kind → has ≡ true → get_or held kind 0 ≢ 0
+pub discard_within : (counts room held : List ℕ) (melds kinds most kind : ℕ) (has found : Bool) → length counts ≡ 34 → kind < 34 → held ≡ with_two counts → has ≡ has_kind kinds kind
+    → has ≡ true → get_or held kind 0 ≢ 0
     → MatchBool found (LeavesAtMost counts room melds most kind) (LeavesMore counts room melds most kind)
     → MatchBool found (IsDiscard counts kinds kind × LeavesAtMost counts room melds most kind) (IsDiscard counts kinds kind → LeavesMore counts room melds most kind)
-discard_within counts room held melds kinds most kind has true size low held_is is_in among some found = (record { kind_is = low; among = sym is_in ∙ among; held = is_held counts held kind size low held_is some }, found)
+discard_within counts room held melds kinds most kind has true size low held_is is_in among some found =
+    (record { kind_is = low; among = sym is_in ∙ among; held = is_held counts held kind size low held_is some }, found)
 discard_within counts room held melds kinds most kind has false size low held_is is_in among some found = λ discard. found
 
 -- ---- the answer
@@ -89,7 +95,8 @@ later_is_far number others kind other bound few over far = elim (cases_lt kind o
 ]
 
 -- the last that misses as many as the whole hand
-pub best_of_all : (counts room : List ℕ) (melds kinds all kind : ℕ) → length counts ≡ 34 → IsLeast counts (IsGoal room melds) all → IsDiscard counts kinds kind → LeavesAtMost counts room melds all kind
+pub best_of_all : (counts room : List ℕ) (melds kinds all kind : ℕ) → length counts ≡ 34 → IsLeast counts (IsGoal room melds) all → IsDiscard counts kinds kind
+    → LeavesAtMost counts room melds all kind
     → ((other : ℕ) → kind < other → IsDiscard counts kinds other → LeavesMore counts room melds all other) → IsBestDiscard counts room melds kinds kind
 best_of_all counts room melds kinds all kind size whole is leaves last = record {
   is_discard = is;

@@ -45,7 +45,8 @@ double_off held double a absent = Improves-not held (IsOrphansWith double) a (λ
 pub doubles_start : (held : List ℕ) (kind : ℕ) (a : Option (ℕ × List ℕ)) → kind ≡ 0 → Improves held (IsOrphansBelow kind) a a
 doubles_start held kind a first = Improves-not held (IsOrphansBelow kind) a (λ t h. (let e : h.double < kind = ltb-true _ _ h.below in absurd (omega arith)))
 
-pub doubles_more : (held : List ℕ) (kind next double : ℕ) (a b c : Option (ℕ × List ℕ)) → next ≡ kind + 1 → double ≡ kind → Improves held (IsOrphansBelow kind) a b → Improves held (IsOrphansWith double) b c → Improves held (IsOrphansBelow next) a c
+pub doubles_more : (held : List ℕ) (kind next double : ℕ) (a b c : Option (ℕ × List ℕ)) → next ≡ kind + 1 → double ≡ kind → Improves held (IsOrphansBelow kind) a b
+    → Improves held (IsOrphansWith double) b c → Improves held (IsOrphansBelow next) a c
 doubles_more held kind next double a b c step is first second =
     Improves-both held (IsOrphansBelow next) (IsOrphansBelow kind) (IsOrphansWith double) a b c
     (λ t h. (let e : h.double < kind = ltb-true _ _ h.below in record { double = h.double; below = lt-ltb _ _ (omega arith); are = h.are }))

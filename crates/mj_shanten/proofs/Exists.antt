@@ -98,7 +98,13 @@ free_honours : (sets : List Set) → list_all is_meld sets ≡ true → Free set
 unfolding honours
 free_honours [] formed = record {
   kinds = honours;
-  rising = (omega arith, (omega arith, (omega arith, (omega arith, (omega arith, (omega arith, (omega arith, (omega arith, (omega arith, (omega arith, (omega arith, (omega arith, (omega arith, (omega arith, tt))))))))))))));
+  rising = (
+    omega arith,
+    (
+      omega arith,
+      (omega arith, (omega arith, (omega arith, (omega arith, (omega arith, (omega arith, (omega arith, (omega arith, (omega arith, (omega arith, (omega arith, (omega arith, tt)))))))))))),
+    ),
+  );
   many = omega arith;
   none = (refl, (refl, (refl, (refl, (refl, (refl, (refl, tt)))))));
 }
@@ -182,7 +188,8 @@ pub record Some (room : List ℕ) (melds : ℕ) : Type 0 where
   pub counts : List ℕ
   pub is : IsGoal room melds counts
 
-room_free : (room : List ℕ) (sets : List Set) (gs : List ℕ) (from : ℕ) → ((kind : ℕ) → kind < 34 → get_or room kind 0 + number_at kind sets ≡ 4) → Rising from gs → Each (λ g. number_at g sets ≡ 0) gs → Each (λ g. get_or room g 0 ≡ 4) gs
+room_free : (room : List ℕ) (sets : List Set) (gs : List ℕ) (from : ℕ) → ((kind : ℕ) → kind < 34 → get_or room kind 0 + number_at kind sets ≡ 4) → Rising from gs
+    → Each (λ g. number_at g sets ≡ 0) gs → Each (λ g. get_or room g 0 ≡ 4) gs
 room_free room sets [] from left h none = tt
 room_free room sets (g ∷ gs) from left h none = ((let a = left g h.1.0 in let b = none.0 in omega arith), room_free room sets gs (g + 1) left h.1.1 none.1)
 
@@ -194,7 +201,10 @@ pub some_goal : (room : List ℕ) (melds : ℕ) → melds ≤ 4 → IsRoom room 
 some_goal room melds few h = made (free_honours h.sets h.formed)
   where
     left : (kind : ℕ) → kind < 34 → get_or room kind 0 + number_at kind h.sets ≡ 4
-    left kind low = (let a = h.left kind low in let b : count_by (λ tile. eqb tile kind) (flat_map tiles_of_set h.sets) ≡ number_at kind h.sets = ap (λ xs. count_by (λ tile. eqb tile kind) xs) (sym (append-nil (flat_map tiles_of_set h.sets))) ∙ count-flat_map kind h.sets [] ∙ (let e : number_at kind h.sets + 0 ≡ number_at kind h.sets = omega arith in e) in omega arith)
+    left kind low = (let a = h.left kind low in
+        let b : count_by (λ tile. eqb tile kind) (flat_map tiles_of_set h.sets) ≡ number_at kind h.sets =
+        ap (λ xs. count_by (λ tile. eqb tile kind) xs) (sym (append-nil (flat_map tiles_of_set h.sets))) ∙ count-flat_map kind h.sets []
+        ∙ (let e : number_at kind h.sets + 0 ≡ number_at kind h.sets = omega arith in e) in omega arith)
 
     made : Free h.sets → Some room melds
     made f = record {
@@ -221,15 +231,21 @@ some_goal room melds few h = made (free_honours h.sets h.formed)
         size : 4 - melds < length f.kinds
         size = (let a = f.many in let b = h.so_many in omega arith)
 
-        at : (kind : ℕ) → kind < 34 → get_or (tally (flat_map tiles_of_set (triplets (4 - melds) f.kinds) ++ pair_after (4 - melds) f.kinds ∷ pair_after (4 - melds) f.kinds ∷ [])) kind 0 ≡ stands kind (4 - melds) f.kinds
+        at : (kind : ℕ) → kind < 34 → get_or
+            (tally (flat_map tiles_of_set (triplets (4 - melds) f.kinds) ++ pair_after (4 - melds) f.kinds ∷ pair_after (4 - melds) f.kinds ∷ [])) kind 0 ≡ stands kind (4 - melds) f.kinds
         at kind low =
             get_or-tally (flat_map tiles_of_set (triplets (4 - melds) f.kinds) ++ pair_after (4 - melds) f.kinds ∷ pair_after (4 - melds) f.kinds ∷ []) kind low
             ∙ count-flat_map kind (triplets (4 - melds) f.kinds) (pair_after (4 - melds) f.kinds ∷ pair_after (4 - melds) f.kinds ∷ [])
             ∙ ap (λ n. number_at kind (triplets (4 - melds) f.kinds) + n) (pair_twice (eqb (pair_after (4 - melds) f.kinds) kind))
 
-        within : (kind : ℕ) → kind < 34 → get_or (tally (flat_map tiles_of_set (triplets (4 - melds) f.kinds) ++ pair_after (4 - melds) f.kinds ∷ pair_after (4 - melds) f.kinds ∷ [])) kind 0 ≤ get_or room kind 0
+        within : (kind : ℕ) → kind < 34 → get_or
+            (tally (flat_map tiles_of_set (triplets (4 - melds) f.kinds) ++ pair_after (4 - melds) f.kinds ∷ pair_after (4 - melds) f.kinds ∷ [])) kind 0 ≤ get_or room kind 0
         within kind low = (let a = at kind low in let b = fits_room room kind (4 - melds) 27 f.kinds size f.rising (room_free room h.sets f.kinds 27 left f.rising f.none) in omega arith)
 
-        four : (kind : ℕ) → (kind < 34) ⊎ (34 ≤ kind) → get_or (tally (flat_map tiles_of_set (triplets (4 - melds) f.kinds) ++ pair_after (4 - melds) f.kinds ∷ pair_after (4 - melds) f.kinds ∷ [])) kind 0 ≤ 4
+        four : (kind : ℕ) → (kind < 34) ⊎ (34 ≤ kind)
+            → get_or (tally (flat_map tiles_of_set (triplets (4 - melds) f.kinds) ++ pair_after (4 - melds) f.kinds ∷ pair_after (4 - melds) f.kinds ∷ [])) kind 0 ≤ 4
         four kind (inl low) = (let a = within kind low in let b = left kind low in omega arith)
-        four kind (inr past) = (let a : get_or (tally (flat_map tiles_of_set (triplets (4 - melds) f.kinds) ++ pair_after (4 - melds) f.kinds ∷ pair_after (4 - melds) f.kinds ∷ [])) kind 0 ≡ 0 = get_or_past _ kind 0 (let s = length-tally (flat_map tiles_of_set (triplets (4 - melds) f.kinds) ++ pair_after (4 - melds) f.kinds ∷ pair_after (4 - melds) f.kinds ∷ []) in omega arith) in omega arith)
+        four kind (inr past) = (let a : get_or
+            (tally (flat_map tiles_of_set (triplets (4 - melds) f.kinds) ++ pair_after (4 - melds) f.kinds ∷ pair_after (4 - melds) f.kinds ∷ [])) kind 0 ≡ 0 =
+            get_or_past _ kind 0 (let s = length-tally (flat_map tiles_of_set (triplets (4 - melds) f.kinds) ++ pair_after (4 - melds) f.kinds ∷ pair_after (4 - melds) f.kinds ∷ []) in
+            omega arith) in omega arith)

@@ -126,7 +126,8 @@ some_special held (suc melds) sets wide size = (sets, special_melds held (suc me
 
 -- ---- all
 
-pub some_least : (counts room : List ℕ) (melds : ℕ) → melds ≤ 4 → length counts ≡ 34 → length room ≡ 34 → IsWithinRoom counts room → IsRoom room melds → (number : ℕ) × IsLeast counts (IsGoal room melds) number
+pub some_least : (counts room : List ℕ) (melds : ℕ) → melds ≤ 4 → length counts ≡ 34 → length room ≡ 34 → IsWithinRoom counts room → IsRoom room melds
+    → (number : ℕ) × IsLeast counts (IsGoal room melds) number
 some_least counts room melds few size room_size within is_room =
     let held_front = front_two (with_two counts) counts refl size in
     let room_front = front_two (with_two room) room refl room_size in
@@ -170,7 +171,8 @@ pub all_decide : (counts room held : List ℕ) (melds sets number most : ℕ) �
     → MatchBool (leb number most) (MissesAtMost counts room melds most) (MissesMore counts room melds most)
 all_decide counts room held melds sets number most none held_is is_room size room_size joint special = elim (cases_lt most number) [
   | inl over ↦ subst (λ b. MatchBool b (MissesAtMost counts room melds most) (MissesMore counts room melds most)) (sym (lt-leb number most over)) record { number = number; least = least; more = over }
-  | inr within ↦ subst (λ b. MatchBool b (MissesAtMost counts room melds most) (MissesMore counts room melds most)) (sym (le-leb number most within)) record { number = number; least = least; few = within }
+  | inr within ↦ subst (λ b. MatchBool b (MissesAtMost counts room melds most) (MissesMore counts room melds most))
+      (sym (le-leb number most within)) record { number = number; least = least; few = within }
 ]
   where
     least : IsLeast counts (IsGoal room melds) number

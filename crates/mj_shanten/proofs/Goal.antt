@@ -88,7 +88,8 @@ sets_at counts number sets pair h k low =
     twice false = refl
 
 -- a goal was searched
-pub goal_searched : (counts room c : List ℕ) (melds : ℕ) → IsRoom room melds → length room ≡ 34 → IsGoal room melds c → IsSpecial melds (with_two c) ⊎ IsJoint (suits_of (with_two counts) (with_two room)) (4 - melds) true (with_two c)
+pub goal_searched : (counts room c : List ℕ) (melds : ℕ) → IsRoom room melds → length room ≡ 34 → IsGoal room melds c
+    → IsSpecial melds (with_two c) ⊎ IsJoint (suits_of (with_two counts) (with_two room)) (4 - melds) true (with_two c)
 goal_searched counts room c melds h size goal = which goal.complete
   where
     which : IsComplete c melds → IsSpecial melds (with_two c) ⊎ IsJoint (suits_of (with_two counts) (with_two room)) (4 - melds) true (with_two c)
@@ -135,11 +136,13 @@ special_goal room t melds h s = which s.either
 
         few_of : Padded IsOrphans t → (k : ℕ) → get_or o.counts k 0 ≤ 4
         few_of q k = elim (cases_lt k 34) [
-          | inl low ↦ (let a : get_or o.counts k 0 ≡ orphan_number o.is.double k = ap (λ c. get_or c k 0) o.is.are.tiles ∙ orphans_at o.is.double k low in let b = orphan_few o.is.double k in omega arith)
+          | inl low ↦ (let a : get_or o.counts k 0 ≡ orphan_number o.is.double k = ap (λ c. get_or c k 0) o.is.are.tiles ∙ orphans_at o.is.double k low in
+              let b = orphan_few o.is.double k in omega arith)
           | inr past ↦ (let a : get_or o.counts k 0 ≡ 0 = get_or_past o.counts k 0 (let s = size_of q in omega arith) in omega arith)
         ]
 
-pub joint_goal : (counts room t : List ℕ) (melds : ℕ) → melds ≤ 4 → IsRoom room melds → length room ≡ 34 → IsJoint (suits_of (with_two counts) (with_two room)) (4 - melds) true t → Padded (IsGoal room melds) t
+pub joint_goal : (counts room t : List ℕ) (melds : ℕ) → melds ≤ 4 → IsRoom room melds → length room ≡ 34 → IsJoint (suits_of (with_two counts) (with_two room)) (4 - melds) true t
+    → Padded (IsGoal room melds) t
 joint_goal counts room t melds few h size j =
     let m : IsMade (with_two room) (4 - melds) t = hand_of (with_two counts) (with_two room) (4 - melds) t (wide_past room 34 size (omega arith)) (wide_past room 35 size (omega arith)) j in
     let c_size : length m.counts ≡ 34 = ap length (sym m.are.tiles) ∙ length-tally (flat_map tiles_of_set m.sets ++ m.pair ∷ m.pair ∷ []) in
@@ -173,14 +176,16 @@ whole_search counts room melds a b c few h size first second =
 pub some_best : (counts room : List ℕ) (melds : ℕ) (b : Option (ℕ × List ℕ)) → melds ≤ 4 → IsRoom room melds → Improves (with_two counts) (Padded (IsGoal room melds)) None b → b ≡ None → ⊥
 some_best counts room melds b few h found none =
     let m : MatchOption None ((t : List ℕ) → Padded (IsGoal room melds) t → ⊥) (λ (answer : ℕ × List ℕ). IsNearest (with_two counts) (Padded (IsGoal room melds)) answer.0 answer.1) =
-    subst (λ o. MatchOption o ((t : List ℕ) → Padded (IsGoal room melds) t → ⊥) (λ answer. IsNearest (with_two counts) (Padded (IsGoal room melds)) answer.0 answer.1)) none (best_is_nearest (with_two counts) (Padded (IsGoal room melds)) b found) in
+    subst (λ o. MatchOption o ((t : List ℕ) → Padded (IsGoal room melds) t → ⊥) (λ answer. IsNearest (with_two counts) (Padded (IsGoal room melds)) answer.0 answer.1)) none
+    (best_is_nearest (with_two counts) (Padded (IsGoal room melds)) b found) in
     let g = some_goal room melds few h in
     m (with_two g.counts) record { counts = g.counts; is = g.is; numbers_are = refl }
 
 pub best_nearest : (counts room : List ℕ) (melds number : ℕ) (target : List ℕ) (b : Option (ℕ × List ℕ)) → Improves (with_two counts) (Padded (IsGoal room melds)) None b → b ≡ Some (number, target)
     → IsNearest (with_two counts) (Padded (IsGoal room melds)) number target
 best_nearest counts room melds number target b found is =
-    subst (λ o. MatchOption o ((t : List ℕ) → Padded (IsGoal room melds) t → ⊥) (λ answer. IsNearest (with_two counts) (Padded (IsGoal room melds)) answer.0 answer.1)) is (best_is_nearest (with_two counts) (Padded (IsGoal room melds)) b found)
+    subst (λ o. MatchOption o ((t : List ℕ) → Padded (IsGoal room melds) t → ⊥) (λ answer. IsNearest (with_two counts) (Padded (IsGoal room melds)) answer.0 answer.1)) is
+    (best_is_nearest (with_two counts) (Padded (IsGoal room melds)) b found)
 
 -- what it says of the hand
 pub record Says (counts room : List ℕ) (melds number : ℕ) (target : List ℕ) : Type 0 where
@@ -189,7 +194,8 @@ pub record Says (counts room : List ℕ) (melds number : ℕ) (target : List ℕ
   pub few : number ≤ 14
   pub shanten : IsShanten counts room melds (number - 1) (take 34 target)
 
-pub nearest_says : (counts room : List ℕ) (melds number : ℕ) (target : List ℕ) → IsHand counts room melds → length counts ≡ 34 → IsNearest (with_two counts) (Padded (IsGoal room melds)) number target → Says counts room melds number target
+pub nearest_says : (counts room : List ℕ) (melds number : ℕ) (target : List ℕ) → IsHand counts room melds → length counts ≡ 34
+    → IsNearest (with_two counts) (Padded (IsGoal room melds)) number target → Says counts room melds number target
 nearest_says counts room melds number target h size n = subst (λ t. Says counts room melds number t) (sym p.numbers_are) says
   where
     p : Padded (IsGoal room melds) target
@@ -235,12 +241,14 @@ nearest_says counts room melds number target h size n = subst (λ t. Says counts
 -- ---- for the call
 
 search_of : (counts room held : List ℕ) (melds : ℕ) (b c : Option (ℕ × List ℕ)) → IsHand counts room melds → length room ≡ 34 → held ≡ with_two counts
-    → Improves (with_two counts) (IsJoint (suits_of (with_two counts) (with_two room)) (4 - melds) true) None b → Improves held (IsSpecial melds) b c → Improves (with_two counts) (Padded (IsGoal room melds)) None c
+    → Improves (with_two counts) (IsJoint (suits_of (with_two counts) (with_two room)) (4 - melds) true) None b → Improves held (IsSpecial melds) b c
+    → Improves (with_two counts) (Padded (IsGoal room melds)) None c
 search_of counts room held melds b c h room_size held_is first second =
     whole_search counts room melds None b c (let t = h.thirteen in omega arith) h.room_is room_size first (subst (λ x. Improves x (IsSpecial melds) b c) held_is second)
 
 pub answer_says : (counts room held : List ℕ) (melds : ℕ) (answer : ℕ × List ℕ) (b c : Option (ℕ × List ℕ)) → IsHand counts room melds → length counts ≡ 34 → length room ≡ 34 → held ≡ with_two counts
-    → Improves (with_two counts) (IsJoint (suits_of (with_two counts) (with_two room)) (4 - melds) true) None b → Improves held (IsSpecial melds) b c → c ≡ Some answer → Says counts room melds answer.0 answer.1
+    → Improves (with_two counts) (IsJoint (suits_of (with_two counts) (with_two room)) (4 - melds) true) None b → Improves held (IsSpecial melds) b c → c ≡ Some answer
+    → Says counts room melds answer.0 answer.1
 answer_says counts room held melds answer b c h size room_size held_is first second is =
     nearest_says counts room melds answer.0 answer.1 h size
     (best_nearest counts room melds answer.0 answer.1 c (search_of counts room held melds b c h room_size held_is first second) is)

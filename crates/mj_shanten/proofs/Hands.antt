@@ -24,7 +24,8 @@ one_for_all held P u a b p nearest found = record {
     which (inr new) = inr (new.0, subst P (sym new.1) p, new.2)
 
 -- the nearest of all with the property stands for them
-pub nearest_for_all : (held : List ℕ) (P : List ℕ → Type 0) (target : List ℕ) (a b : Option (ℕ × List ℕ)) → IsNearest held P (missing target held) target → Improves held (λ t. t ≡ target) a b → Improves held P a b
+pub nearest_for_all : (held : List ℕ) (P : List ℕ → Type 0) (target : List ℕ) (a b : Option (ℕ × List ℕ)) → IsNearest held P (missing target held) target
+    → Improves held (λ t. t ≡ target) a b → Improves held P a b
 nearest_for_all held P target a b nearest = one_for_all held P target a b nearest.is_one (λ t p. elim (cases_lt (missing target held) (missing t held)) [
   | inl less ↦ inl less
   | inr level ↦ (let l = nearest.least t p in let same : missing target held ≡ missing t held = omega arith in inr (same, not_gt (slice_cmp nat_cmp t target) (nearest.greatest t p (sym same))))

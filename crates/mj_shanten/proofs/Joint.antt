@@ -29,7 +29,8 @@ cmp_parts : (xs ys us vs : List ℕ) → length xs ≡ length ys → slice_cmp n
 cmp_parts [] [] us vs same = refl
 cmp_parts [] (y ∷ ys) us vs same = absurd (omega arith)
 cmp_parts (x ∷ xs) [] us vs same = absurd (omega arith)
-cmp_parts (x ∷ xs) (y ∷ ys) us vs same = ap (λ o. ordering_then (nat_cmp x y) o) (cmp_parts xs ys us vs (omega arith)) ∙ sym (then_assoc (nat_cmp x y) (slice_cmp nat_cmp xs ys) (slice_cmp nat_cmp us vs))
+cmp_parts (x ∷ xs) (y ∷ ys) us vs same =
+    ap (λ o. ordering_then (nat_cmp x y) o) (cmp_parts xs ys us vs (omega arith)) ∙ sym (then_assoc (nat_cmp x y) (slice_cmp nat_cmp xs ys) (slice_cmp nat_cmp us vs))
   where
     then_assoc : (a b c : Ordering) → ordering_then (ordering_then a b) c ≡ ordering_then a (ordering_then b c)
     then_assoc Less b c = refl
@@ -120,14 +121,16 @@ no_suit start holds = record {
     no_pair (suc (suc p)) few none = absurd (omega arith)
 
 -- a target of the first suit and a hand of the others
-pub parts_missing : (suit : Suit) (others : List Suit) (here rest : List ℕ) → length here ≡ length suit.counts → missing (here ++ rest) (counts_in (suit ∷ others)) ≡ missing here suit.counts + missing rest (counts_in others)
+pub parts_missing : (suit : Suit) (others : List Suit) (here rest : List ℕ) → length here ≡ length suit.counts
+    → missing (here ++ rest) (counts_in (suit ∷ others)) ≡ missing here suit.counts + missing rest (counts_in others)
 parts_missing suit others here rest same = missing-append here rest suit.counts (counts_in others) same
 
 pub target_long : (suit : Suit) (melds : ℕ) (paired : Bool) (here : List ℕ) → IsSuit suit → IsTarget suit.room suit.runs melds paired here → length here ≡ length suit.counts
 target_long suit melds paired here is target = ap length target.made ∙ length-counts_of _ ∙ sym is.nine
 
 -- what a target of the first suit leaves, if anything
-begin_leaves : (suit : Suit) (after row : List ℕ) (s p sl : ℕ) (q r : Bool) (melds : ℕ) (here : List ℕ) → IsRow suit after row → s < 8 → p < 2 → IsTarget suit.room suit.runs melds q here → s ≡ melds + sl → p ≡ pairs q + pairs r
+begin_leaves : (suit : Suit) (after row : List ℕ) (s p sl : ℕ) (q r : Bool) (melds : ℕ) (here : List ℕ) → IsRow suit after row → s < 8 → p < 2
+    → IsTarget suit.room suit.runs melds q here → s ≡ melds + sl → p ≡ pairs q + pairs r
     → lane after sl (pairs r) ≤ lane row s p + missing here suit.counts
 begin_leaves suit after row s p sl q r melds here most few one target sets pairs_are = elim (cases_lt (lane after sl (pairs r)) (missing here suit.counts)) [
   | inl less ↦ omega arith
@@ -150,7 +153,8 @@ suit_more suit others after row is most later = record {
       let pair_is : p ≡ pairs q + pairs r = sym (pairs_eqb p one) ∙ joint.pair_is in
       let sets_are = joint.sets_are in
       let rest_is : IsJoint others joint.sets_left (eqb (pairs r) 1) joint.rest = subst (λ b. IsJoint others joint.sets_left b joint.rest) (sym (eqb_pairs r)) joint.more in
-      let left : 15 ≤ lane after joint.sets_left (pairs r) + missing joint.rest (counts_in others) = later.most joint.sets_left (pairs r) joint.rest (omega arith) (let f = pairs_few r in omega arith) rest_is in
+      let left : 15 ≤ lane after joint.sets_left (pairs r) + missing joint.rest (counts_in others) =
+      later.most joint.sets_left (pairs r) joint.rest (omega arith) (let f = pairs_few r in omega arith) rest_is in
       let here = begin_leaves suit after row s p joint.sets_left q r joint.sets_here joint.here most few one joint.target sets_are pair_is in
       let whole : missing tiles (counts_in (suit ∷ others)) ≡ missing joint.here suit.counts + missing joint.rest (counts_in others) =
       ap (λ t. missing t (counts_in (suit ∷ others))) joint.tiles_are ∙ parts_missing suit others joint.here joint.rest (target_long suit joint.sets_here q joint.here is joint.target) in
@@ -201,7 +205,8 @@ none_chosen start s p holds few one some =
       greatest = λ other o. subst (λ t. slice_cmp nat_cmp t [] ≢ Greater) (sym o.is.1.1) (λ e. absurd (cc));
     }
 
-pub suit_chosen : (suit : Suit) (others : List Suit) (after row : List ℕ) (s p left : ℕ) (here rest : List ℕ) (sa pa : ℕ) → IsSuit suit → length suit.room ≡ 9 → IsRow suit after row → JointMost others after → s < 8 → p < 2 → left ≡ lane row s p
+pub suit_chosen : (suit : Suit) (others : List Suit) (after row : List ℕ) (s p left : ℕ) (here rest : List ℕ) (sa pa : ℕ) → IsSuit suit → length suit.room ≡ 9 → IsRow suit after row
+    → JointMost others after → s < 8 → p < 2 → left ≡ lane row s p
     → IsChosen suit.counts suit.room suit.runs after s p left here sa pa → JointChosen others after sa pa rest → JointChosen (suit ∷ others) row s p (here ++ rest)
 suit_chosen suit others after row s p left here rest sa pa is nine most later few one left_at chosen rest_chosen =
     let by = chosen.is in
@@ -239,7 +244,8 @@ suit_chosen suit others after row s p left here rest sa pa is nine most later fe
         let pair_is : p ≡ pairs q + pairs r = sym (pairs_eqb p one) ∙ o.is.pair_is in
         let sets_are = o.is.sets_are in
         let rest_is : IsJoint others o.is.sets_left (eqb (pairs r) 1) o.is.rest = subst (λ b. IsJoint others o.is.sets_left b o.is.rest) (sym (eqb_pairs r)) o.is.more in
-        let bound : 15 ≤ lane after o.is.sets_left (pairs r) + missing o.is.rest (counts_in others) = later.most o.is.sets_left (pairs r) o.is.rest (omega arith) (let f = pairs_few r in omega arith) rest_is in
+        let bound : 15 ≤ lane after o.is.sets_left (pairs r) + missing o.is.rest (counts_in others) =
+        later.most o.is.sets_left (pairs r) o.is.rest (omega arith) (let f = pairs_few r in omega arith) rest_is in
         let upper = begin_leaves suit after row s p o.is.sets_left q r o.is.sets_here o.is.here most few one o.is.target sets_are pair_is in
         let whole : missing other (counts_in (suit ∷ others)) ≡ missing o.is.here suit.counts + missing o.is.rest (counts_in others) =
         ap (λ t. missing t (counts_in (suit ∷ others))) o.is.tiles_are ∙ parts_missing suit others o.is.here o.is.rest (target_long suit o.is.sets_here q o.is.here is o.is.target) in
@@ -263,7 +269,8 @@ suit_chosen suit others after row s p left here rest sa pa is nine most later fe
 
 -- ---- the four suits
 
-pub joint_nearest : (suits : List Suit) (row held target : List ℕ) (s : ℕ) → s < 8 → counts_in suits ≡ held → JointMost suits row → JointChosen suits row s 1 target → IsNearest held (IsJoint suits s true) (missing target held) target
+pub joint_nearest : (suits : List Suit) (row held target : List ℕ) (s : ℕ) → s < 8 → counts_in suits ≡ held → JointMost suits row → JointChosen suits row s 1 target
+    → IsNearest held (IsJoint suits s true) (missing target held) target
 joint_nearest suits row held target s few held_is most chosen =
     let left = chosen.joint.left_is in
     let same : missing target (counts_in suits) ≡ missing target held = ap (missing target) held_is in
@@ -275,14 +282,16 @@ joint_nearest suits row held target s few held_is most chosen =
     }
 
 -- nothing is left where no hand fits, since no hand has more than fourteen tiles
-pub joint_none : (suits : List Suit) (row held : List ℕ) (s : ℕ) → s ≤ 4 → counts_in suits ≡ held → JointMost suits row → lane row s 1 ≡ 0 → (target : List ℕ) → IsJoint suits s true target → missing target held ≤ 14 → ⊥
+pub joint_none : (suits : List Suit) (row held : List ℕ) (s : ℕ) → s ≤ 4 → counts_in suits ≡ held → JointMost suits row → lane row s 1 ≡ 0 → (target : List ℕ)
+    → IsJoint suits s true target → missing target held ≤ 14 → ⊥
 joint_none suits row held s few held_is most none target joint bound =
     let m = most.most s 1 target (omega arith) (omega arith) joint in
     let e : missing target (counts_in suits) ≡ missing target held = ap (missing target) held_is in
     omega arith
 
 -- a hand of so many sets and pairs has three tiles for each set and two for each pair
-pub joint_tiles : (suits : List Suit) (s : ℕ) (pair : Bool) (target held : List ℕ) → AllSuits suits → IsJoint suits s pair target → counts_in suits ≡ held → missing target held ≤ 3 * s + 2 * pairs pair
+pub joint_tiles : (suits : List Suit) (s : ℕ) (pair : Bool) (target held : List ℕ) → AllSuits suits → IsJoint suits s pair target → counts_in suits ≡ held
+    → missing target held ≤ 3 * s + 2 * pairs pair
 joint_tiles [] s pair target held are joint held_is = (let e : missing target held ≡ 0 = ap (λ t. missing t held) joint.1.1 in omega arith)
 joint_tiles (suit ∷ others) s pair target held are joint held_is =
     let here = few_missing suit.room suit.counts suit.runs joint.sets_here joint.pair_here joint.here are.0.1 joint.target in

@@ -34,13 +34,17 @@ one_nearer p (w ∷ t) [] (y ∷ ys) same each = absurd (omega arith)
 one_nearer p (w ∷ t) (x ∷ xs) [] same each = absurd (omega arith)
 one_nearer zero (w ∷ t) (x ∷ xs) (y ∷ ys) same each =
     let here : y ≤ x + 1 = each 0 (omega arith) in
-    let rest : missing t xs ≤ missing t ys = fewer_held t xs ys (omega arith) (λ k inside. (let h : get_or ys k 0 ≤ get_or xs k 0 + cond (eqb zero (suc k)) 1 0 = each (suc k) (omega arith) in let f : zero ≢ suc k = (λ e. omega arith) in let g : ◌≡◌ {A = ℕ} (cond (eqb zero (suc k)) 1 0) 0 = ap (λ b. cond b 1 0) (ne_eqb zero (suc k) f) in omega arith)) in
+    let rest : missing t xs ≤ missing t ys =
+    fewer_held t xs ys (omega arith)
+    (λ k inside. (let h : get_or ys k 0 ≤ get_or xs k 0 + cond (eqb zero (suc k)) 1 0 = each (suc k) (omega arith) in let f : zero ≢ suc k = (λ e. omega arith) in
+    let g : ◌≡◌ {A = ℕ} (cond (eqb zero (suc k)) 1 0) 0 = ap (λ b. cond b 1 0) (ne_eqb zero (suc k) f) in omega arith)) in
     omega arith
 one_nearer (suc p) (w ∷ t) (x ∷ xs) (y ∷ ys) same each =
     let h : y ≤ x + cond (eqb (suc p) 0) 1 0 = each 0 (omega arith) in
     let f : suc p ≢ 0 = (λ e. omega arith) in
     let g : ◌≡◌ {A = ℕ} (cond (eqb (suc p) 0) 1 0) 0 = ap (λ b. cond b 1 0) (ne_eqb (suc p) 0 f) in
-    let rest : missing t xs ≤ missing t ys + 1 = one_nearer p t xs ys (omega arith) (λ k inside. (let e : get_or ys k 0 ≤ get_or xs k 0 + cond (eqb (suc p) (suc k)) 1 0 = each (suc k) (omega arith) in let s = shift p k in omega arith)) in
+    let rest : missing t xs ≤ missing t ys + 1 =
+    one_nearer p t xs ys (omega arith) (λ k inside. (let e : get_or ys k 0 ≤ get_or xs k 0 + cond (eqb (suc p) (suc k)) 1 0 = each (suc k) (omega arith) in let s = shift p k in omega arith)) in
     omega arith
 
 missing_itself : (t : List ℕ) → missing t t ≡ 0
@@ -59,11 +63,14 @@ left_after room counts (e ∷ es) t size within may =
     let next : length (exchanged counts e) ≡ 34 = exchanged_size counts e.0 e.1 ∙ size in
     let r : Remainder room (exchanged counts e) es t = left_after room (exchanged counts e) es t next may.0.within may.1 in
     let n : missing t counts ≤ missing t (exchanged counts e) + 1 =
-    one_nearer e.1 t counts (exchanged counts e) (size ∙ sym next) (λ k inside. (let a = exchanged_at counts e.0 e.1 k (let o = may.0.out_kind in omega arith) (let p = may.0.in_kind in omega arith) in omega arith)) in
+    one_nearer e.1 t counts (exchanged counts e) (size ∙ sym next)
+    (λ k inside. (let a = exchanged_at counts e.0 e.1 k (let o = may.0.out_kind in omega arith) (let p = may.0.in_kind in omega arith) in omega arith)) in
     record { size = r.size; within = r.within; near = (let m = r.near in omega arith) }
 
-no_fewer : (counts room target : List ℕ) (melds number many : ℕ) (exchanges : List (ℕ × ℕ)) → length counts ≡ 34 → IsHand counts room melds → IsShanten counts room melds number target → LeadsToReady counts room melds many exchanges → number ≤ many
-no_fewer counts room target melds number many exchanges size hand is leads = (let l = is.least (one_more (after_all counts exchanges) leads.ready.0) goal in let n = left.near in let m = leads.many in let o = one in omega arith)
+no_fewer : (counts room target : List ℕ) (melds number many : ℕ) (exchanges : List (ℕ × ℕ)) → length counts ≡ 34 → IsHand counts room melds → IsShanten counts room melds number target
+    → LeadsToReady counts room melds many exchanges → number ≤ many
+no_fewer counts room target melds number many exchanges size hand is leads =
+    (let l = is.least (one_more (after_all counts exchanges) leads.ready.0) goal in let n = left.near in let m = leads.many in let o = one in omega arith)
   where
     left : Remainder room counts exchanges (one_more (after_all counts exchanges) leads.ready.0)
     left = left_after room counts exchanges (one_more (after_all counts exchanges) leads.ready.0) size hand.within leads.each
@@ -75,7 +82,8 @@ no_fewer counts room target melds number many exchanges size hand is leads = (le
     whole = length-set (after_all counts exchanges) leads.ready.0 _ ∙ left.size
 
     one : missing (one_more (after_all counts exchanges) leads.ready.0) (after_all counts exchanges) ≤ 1
-    one = (let a = one_nearer leads.ready.0 (one_more (after_all counts exchanges) leads.ready.0) (after_all counts exchanges) (one_more (after_all counts exchanges) leads.ready.0) (left.size ∙ sym whole) (λ k inside. (let b = at k in omega arith)) in
+    one = (let a = one_nearer leads.ready.0 (one_more (after_all counts exchanges) leads.ready.0) (after_all counts exchanges) (one_more (after_all counts exchanges) leads.ready.0)
+        (left.size ∙ sym whole) (λ k inside. (let b = at k in omega arith)) in
         let c = missing_itself (one_more (after_all counts exchanges) leads.ready.0) in omega arith)
 
     within : IsWithinRoom (one_more (after_all counts exchanges) leads.ready.0) room
@@ -90,7 +98,8 @@ no_fewer counts room target melds number many exchanges size hand is leads = (le
     goal = record { are_counts = counts_from room (one_more (after_all counts exchanges) leads.ready.0) melds hand.room_is whole within; complete = leads.ready.1.1.1; within = within }
 
 -- shanten is the least number of exchanges, and the path to the target has so many
-pub least_exchanges : (counts room target : List ℕ) (melds number : ℕ) → length counts ≡ 34 → IsHand counts room melds → IsShanten counts room melds number target → AreLeastExchanges counts room melds number target
+pub least_exchanges : (counts room target : List ℕ) (melds number : ℕ) → length counts ≡ 34 → IsHand counts room melds → IsShanten counts room melds number target
+    → AreLeastExchanges counts room melds number target
 least_exchanges counts room target melds number size hand is = record {
   some = path_leads counts room target melds number size hand is;
   least = λ many exchanges leads. no_fewer counts room target melds number many exchanges size hand is leads;

@@ -73,7 +73,8 @@ listed_order from (x ∷ xs) (y ∷ ys) same level not_over =
           ∙ ap (λ r. slice_cmp nat_cmp r (replicate y from ++ listed (from + 1) ys)) (append_assoc (replicate y from) (replicate (suc (x - y - 1)) from) (listed (from + 1) xs))
           ∙ cmp_after (replicate y from) (from ∷ (replicate (x - y - 1) from ++ listed (from + 1) xs)) (listed (from + 1) ys)
           ∙ ap (λ r. slice_cmp nat_cmp (from ∷ (replicate (x - y - 1) from ++ listed (from + 1) xs)) r) h.is
-          ∙ (let l : from < h.kind = (let k = h.low in omega arith) in ap (λ o. ordering_then o (slice_cmp nat_cmp (replicate (x - y - 1) from ++ listed (from + 1) xs) h.rest)) (cmp_less from h.kind l))))
+          ∙ (let l : from < h.kind = (let k = h.low in omega arith) in
+          ap (λ o. ordering_then o (slice_cmp nat_cmp (replicate (x - y - 1) from ++ listed (from + 1) xs) h.rest)) (cmp_less from h.kind l))))
       | inr most ↦ elim (cases_eq y x) [
         | inl equal ↦
             (let rest : slice_cmp nat_cmp ys xs ≢ Greater = (λ e. not_over (ap (λ o. ordering_then o (slice_cmp nat_cmp ys xs)) (ap (λ n. nat_cmp y n) (sym equal) ∙ cmp_same y) ∙ e)) in

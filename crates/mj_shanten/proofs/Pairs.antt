@@ -179,10 +179,12 @@ seven_are xs size = record {
   numbers_are = refl;
 }
 
-near_seven : (held c : List ℕ) → length held ≡ 36 → length (take 34 held) ≡ 34 → IsPairs c → AsNear (missing (with_two (nearest_pairs (take 34 held) 7)) held, with_two (nearest_pairs (take 34 held) 7)) (missing (with_two c) held, with_two c)
+near_seven : (held c : List ℕ) → length held ≡ 36 → length (take 34 held) ≡ 34 → IsPairs c
+    → AsNear (missing (with_two (nearest_pairs (take 34 held) 7)) held, with_two (nearest_pairs (take 34 held) 7)) (missing (with_two c) held, with_two c)
 near_seven held c wide size h =
     let p = seven_parts c h.seven in
-    let a : missing (with_two (nearest_pairs (take 34 held) 7)) held ≡ missing (nearest_pairs (take 34 held) 7) (take 34 held) = missing_two (nearest_pairs (take 34 held) 7) held (nearest_size (take 34 held) 7 ∙ size) wide in
+    let a : missing (with_two (nearest_pairs (take 34 held) 7)) held ≡ missing (nearest_pairs (take 34 held) 7) (take 34 held) =
+    missing_two (nearest_pairs (take 34 held) 7) held (nearest_size (take 34 held) 7 ∙ size) wide in
     let b : missing (with_two c) held ≡ missing c (take 34 held) = missing_two c held h.size wide in
     let m : missing (nearest_pairs (take 34 held) 7) (take 34 held) ≡ least (take 34 held) 7 = miss_nearest (take 34 held) 7 (omega arith) in
     let l : least (take 34 held) (pairs_in c) ≤ missing c (take 34 held) = miss_least c (take 34 held) (h.size ∙ sym size) p.0 in
@@ -198,7 +200,8 @@ near_seven held c wide size h =
       )
     ]
 
-pub nearest_seven : (held : List ℕ) → length held ≡ 36 → length (take 34 held) ≡ 34 → (t : List ℕ) → Padded IsPairs t → AsNear (missing (with_two (nearest_pairs (take 34 held) 7)) held, with_two (nearest_pairs (take 34 held) 7)) (missing t held, t)
+pub nearest_seven : (held : List ℕ) → length held ≡ 36 → length (take 34 held) ≡ 34 → (t : List ℕ) → Padded IsPairs t
+    → AsNear (missing (with_two (nearest_pairs (take 34 held) 7)) held, with_two (nearest_pairs (take 34 held) 7)) (missing t held, t)
 nearest_seven held wide size t h =
     subst (λ u. AsNear (missing (with_two (nearest_pairs (take 34 held) 7)) held, with_two (nearest_pairs (take 34 held) 7)) (missing u held, u)) (sym h.numbers_are)
     (near_seven held h.counts wide size h.is)
@@ -231,12 +234,14 @@ as_number true = refl
 as_number false = refl
 
 -- the kinds from this one on, and those from the next one on
-pub often_here : (held : List ℕ) (times kind often : ℕ) → length held ≡ 36 → kind < 34 → often ≡ so_often times (drop kind (take 34 held)) → often ≡ so_often times (drop (kind + 1) (take 34 held)) + bool_byte (leb times (get_or held kind 0))
+pub often_here : (held : List ℕ) (times kind often : ℕ) → length held ≡ 36 → kind < 34 → often ≡ so_often times (drop kind (take 34 held))
+    → often ≡ so_often times (drop (kind + 1) (take 34 held)) + bool_byte (leb times (get_or held kind 0))
 often_here held times kind often wide inside is =
     is ∙ ap (λ xs. so_often times xs) (kind_split held kind wide inside) ∙ often_cons times (get_or held kind 0) (drop (kind + 1) (take 34 held))
     ∙ ap (λ n. so_often times (drop (kind + 1) (take 34 held)) + n) (sym (as_number (leb times (get_or held kind 0))))
 
-choose : (b : Bool) (x left : ℕ) (rest : List ℕ) → b ≡ ltb (better x (so_often 2 rest) (so_often 1 rest)) left → nearest_pairs (x ∷ rest) left ≡ 2 * bool_byte b ∷ nearest_pairs rest (left - bool_byte b)
+choose : (b : Bool) (x left : ℕ) (rest : List ℕ) → b ≡ ltb (better x (so_often 2 rest) (so_often 1 rest)) left
+    → nearest_pairs (x ∷ rest) left ≡ 2 * bool_byte b ∷ nearest_pairs rest (left - bool_byte b)
 choose true x left rest is = rw (← is) refl
 choose false x left rest is = rw (← is) (let e : left ≡ left - 0 = omega arith in ap (λ n. 0 ∷ nearest_pairs rest n) e)
 
@@ -261,7 +266,8 @@ two_more target counts size first later = sym (take-append-drop 34 target) ∙ a
     rest : drop 34 target ≡ 0 ∷ 0 ∷ []
     rest = ext_get_or 0 (drop 34 target) (0 ∷ 0 ∷ []) (let d = length-drop 34 target in omega arith) (λ k inside. get_or-drop 34 target k 0 ∙ later (34 + k) (omega arith) ∙ sym (zero_at 2 k))
 
-pub pairs_end : (held target : List ℕ) (kind left : ℕ) → length target ≡ 36 → length held ≡ 36 → kind ≡ 34 → take kind target ++ nearest_pairs (drop kind (take 34 held)) left ≡ nearest_pairs (take 34 held) 7
+pub pairs_end : (held target : List ℕ) (kind left : ℕ) → length target ≡ 36 → length held ≡ 36 → kind ≡ 34
+    → take kind target ++ nearest_pairs (drop kind (take 34 held)) left ≡ nearest_pairs (take 34 held) 7
     → ((k : ℕ) → kind ≤ k → get_or target k 0 ≡ 0) → target ≡ with_two (nearest_pairs (take 34 held) 7)
 pairs_end held target kind left size wide last whole later =
     two_more target (nearest_pairs (take 34 held) 7) size first (λ k past. later k (omega arith))

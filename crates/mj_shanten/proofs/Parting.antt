@@ -229,7 +229,8 @@ has_low s = has s.run s.low
     has false low = grind (arith, eq-eqb low low refl)
 
 -- a suit's sets may stand where no number has tiles that are past the last kind
-pub all_may : (i : ℕ) (ss : List SuitSet) → list_all (is_well_formed (ltb i 3)) ss ≡ true → ((n : ℕ) → n < 9 → 34 ≤ 9 * i + n → count_of n (suit.tiles_of_sets ss) ≡ 0) → list_all (may_stand i) ss ≡ true
+pub all_may : (i : ℕ) (ss : List SuitSet) → list_all (is_well_formed (ltb i 3)) ss ≡ true → ((n : ℕ) → n < 9 → 34 ≤ 9 * i + n → count_of n (suit.tiles_of_sets ss) ≡ 0)
+    → list_all (may_stand i) ss ≡ true
 all_may i [] formed none = refl
 all_may i (s ∷ ss) formed none =
     let p = and_parts (is_well_formed (ltb i 3) s) (list_all (is_well_formed (ltb i 3)) ss) formed in

@@ -86,12 +86,14 @@ pub over_low : (counts others : List ℕ) → AllLow (kinds_over counts others)
 unfolding kinds_over all_kinds
 over_low counts others = row_low (λ k. get_or counts k 0 - get_or others k 0) 0 34 (omega arith)
 
-row_length : (f : ℕ → ℕ) (from : ℕ) (xs ys : List ℕ) → length xs ≡ length ys → ((k : ℕ) → k < length xs → f (from + k) ≡ get_or xs k 0 - get_or ys k 0) → length (row f from (length xs)) ≡ missing xs ys
+row_length : (f : ℕ → ℕ) (from : ℕ) (xs ys : List ℕ) → length xs ≡ length ys → ((k : ℕ) → k < length xs → f (from + k) ≡ get_or xs k 0 - get_or ys k 0)
+    → length (row f from (length xs)) ≡ missing xs ys
 row_length f from [] ys same each = refl
 row_length f from (x ∷ xs) [] same each = absurd (omega arith)
 row_length f from (x ∷ xs) (y ∷ ys) same each =
     let here : f from ≡ x - y = (let e : from + 0 ≡ from = omega arith in ap f (sym e) ∙ each 0 (omega arith)) in
-    let rest : length (row f (from + 1) (length xs)) ≡ missing xs ys = row_length f (from + 1) xs ys (omega arith) (λ k inside. (let e : from + 1 + k ≡ from + suc k = omega arith in ap f e ∙ each (suc k) (omega arith))) in
+    let rest : length (row f (from + 1) (length xs)) ≡ missing xs ys =
+    row_length f (from + 1) xs ys (omega arith) (λ k inside. (let e : from + 1 + k ≡ from + suc k = omega arith in ap f e ∙ each (suc k) (omega arith))) in
     length-append (replicate (f from) from) (row f (from + 1) (length xs)) ∙ ap₂ (λ a b. a + b) (length-replicate (f from) from ∙ here) rest
 
 pub over_length : (counts others : List ℕ) → length counts ≡ 34 → length others ≡ 34 → length (kinds_over counts others) ≡ missing counts others
@@ -115,16 +117,19 @@ exchanged_size counts out put = length-set (one_less counts out) put _ ∙ lengt
 pub one_less_at : (counts : List ℕ) (out k : ℕ) → out < length counts → get_or (one_less counts out) k 0 ≡ get_or counts k 0 - cond (eqb out k) 1 0
 one_less_at counts out k inside = elim (cases_eq k out) [
   | inl same ↦ ap (λ j. get_or (one_less counts out) j 0) same ∙ get_or-set_same counts out _ 0 inside ∙ sym (ap₂ (λ j b. get_or counts j 0 - cond b 1 0) same (eq-eqb out k (sym same)))
-  | inr apart ↦ (let other : out ≢ k = (λ e. apart (sym e)) in let e : get_or counts k 0 - 0 ≡ get_or counts k 0 = omega arith in get_or-set_other counts out k _ 0 apart ∙ sym (ap (λ b. get_or counts k 0 - cond b 1 0) (ne_eqb out k other) ∙ e))
+  | inr apart ↦ (let other : out ≢ k = (λ e. apart (sym e)) in let e : get_or counts k 0 - 0 ≡ get_or counts k 0 = omega arith in
+      get_or-set_other counts out k _ 0 apart ∙ sym (ap (λ b. get_or counts k 0 - cond b 1 0) (ne_eqb out k other) ∙ e))
 ]
 
 pub one_more_at : (counts : List ℕ) (put k : ℕ) → put < length counts → get_or (one_more counts put) k 0 ≡ get_or counts k 0 + cond (eqb put k) 1 0
 one_more_at counts put k inside = elim (cases_eq k put) [
   | inl same ↦ ap (λ j. get_or (one_more counts put) j 0) same ∙ get_or-set_same counts put _ 0 inside ∙ sym (ap₂ (λ j b. get_or counts j 0 + cond b 1 0) same (eq-eqb put k (sym same)))
-  | inr apart ↦ (let other : put ≢ k = (λ e. apart (sym e)) in let e : get_or counts k 0 + 0 ≡ get_or counts k 0 = omega arith in get_or-set_other counts put k _ 0 apart ∙ sym (ap (λ b. get_or counts k 0 + cond b 1 0) (ne_eqb put k other) ∙ e))
+  | inr apart ↦ (let other : put ≢ k = (λ e. apart (sym e)) in let e : get_or counts k 0 + 0 ≡ get_or counts k 0 = omega arith in
+      get_or-set_other counts put k _ 0 apart ∙ sym (ap (λ b. get_or counts k 0 + cond b 1 0) (ne_eqb put k other) ∙ e))
 ]
 
-pub exchanged_at : (counts : List ℕ) (out put k : ℕ) → out < length counts → put < length counts → get_or (exchanged counts (out, put)) k 0 ≡ (get_or counts k 0 - cond (eqb out k) 1 0) + cond (eqb put k) 1 0
+pub exchanged_at : (counts : List ℕ) (out put k : ℕ) → out < length counts → put < length counts
+    → get_or (exchanged counts (out, put)) k 0 ≡ (get_or counts k 0 - cond (eqb out k) 1 0) + cond (eqb put k) 1 0
 exchanged_at counts out put k a b =
     one_more_at (one_less counts out) put k (let e = length-set counts out (get_or counts out 0 - 1) in omega arith)
     ∙ ap (λ n. n + cond (eqb put k) 1 0) (one_less_at counts out k a)
@@ -141,7 +146,8 @@ record Between (room counts target outs puts : List ℕ) : Type 0 where
   within : IsWithinRoom counts room
   target_within : IsWithinRoom target room
 
-step : (room counts target : List ℕ) (out put : ℕ) (outs puts : List ℕ) → Between room counts target (out ∷ outs) (put ∷ puts) → MayExchange room counts (out, put) × Between room (exchanged counts (out, put)) target outs puts
+step : (room counts target : List ℕ) (out put : ℕ) (outs puts : List ℕ) → Between room counts target (out ∷ outs) (put ∷ puts)
+    → MayExchange room counts (out, put) × Between room (exchanged counts (out, put)) target outs puts
 step room counts target out put outs puts h = (
   record { out_kind = h.outs_low.0; in_kind = h.puts_low.0; held = held; within = within },
   record {
@@ -174,7 +180,8 @@ step room counts target out put outs puts h = (
         let c : often k (put ∷ puts) ≡ cond (eqb put k) 1 0 + often k puts = often-cons k put puts in
         let l = h.level k low in
         elim (cases_eq out k) [
-          | inl same ↦ (let e : ◌≡◌ {A = ℕ} (cond (eqb out k) 1 0) 1 = ap (λ b. cond b 1 0) (eq-eqb out k same) in let g : 0 < get_or counts k 0 = subst (λ j. 0 < get_or counts j 0) same held in omega arith)
+          | inl same ↦ (let e : ◌≡◌ {A = ℕ} (cond (eqb out k) 1 0) 1 = ap (λ b. cond b 1 0) (eq-eqb out k same) in
+              let g : 0 < get_or counts k 0 = subst (λ j. 0 < get_or counts j 0) same held in omega arith)
           | inr other ↦ (let e : ◌≡◌ {A = ℕ} (cond (eqb out k) 1 0) 0 = ap (λ b. cond b 1 0) (ne_eqb out k other) in omega arith)
         ]
 
@@ -211,7 +218,8 @@ last_wait room counts target put melds size complete h = (put, (h.puts_low.0, (l
         (λ k inside. (let low : k < 34 = (let a = length-set counts put (get_or counts put 0 + 1) in let s = h.size in omega arith) in
         one_more_at counts put k (let s = h.size in let p = h.puts_low.0 in omega arith) ∙ level k low))
 
-walk : (room counts target : List ℕ) (outs puts : List ℕ) (melds : ℕ) → length target ≡ 34 → IsComplete target melds → length puts ≡ suc (length outs) → Between room counts target outs puts → LeadsToReady counts room melds (length outs) (zip outs puts)
+walk : (room counts target : List ℕ) (outs puts : List ℕ) (melds : ℕ) → length target ≡ 34 → IsComplete target melds → length puts ≡ suc (length outs)
+    → Between room counts target outs puts → LeadsToReady counts room melds (length outs) (zip outs puts)
 walk room counts target outs [] melds size complete one h = absurd (omega arith)
 walk room counts target [] (put ∷ []) melds size complete one h = record { many = refl; each = tt; ready = last_wait room counts target put melds size complete h }
 walk room counts target [] (put ∷ (next ∷ puts)) melds size complete one h = absurd (omega arith)
@@ -220,7 +228,8 @@ walk room counts target (out ∷ outs) (put ∷ puts) melds size complete one h 
     let r : LeadsToReady (exchanged counts (out, put)) room melds (length outs) (zip outs puts) = walk room (exchanged counts (out, put)) target outs puts melds size complete (omega arith) s.1 in
     record { many = ap (λ n. suc n) r.many; each = (s.0, r.each); ready = r.ready }
 
-pub path_leads : (counts room target : List ℕ) (melds number : ℕ) → length counts ≡ 34 → IsHand counts room melds → IsShanten counts room melds number target → LeadsToReady counts room melds number (path_to counts target)
+pub path_leads : (counts room target : List ℕ) (melds number : ℕ) → length counts ≡ 34 → IsHand counts room melds → IsShanten counts room melds number target
+    → LeadsToReady counts room melds number (path_to counts target)
 path_leads counts room target melds number size hand is =
     subst (λ n. LeadsToReady counts room melds n (path_to counts target)) surplus
     (walk room counts target (kinds_over counts target) (kinds_over target counts) melds is.is_goal.are_counts.size is.is_goal.complete
@@ -229,7 +238,8 @@ path_leads counts room target melds number size hand is =
       outs_low = over_low counts target;
       puts_low = over_low target counts;
       level = λ k low. (let a = over_at counts target k low in let b = over_at target counts k low in omega arith);
-      apart = λ k low. (let a = over_at counts target k low in let b = over_at target counts k low in elim (cases_lt (get_or counts k 0) (get_or target k 0)) [ inl less ↦ inl (omega arith) | inr more ↦ inr (omega arith) ]);
+      apart = λ k low. (let a = over_at counts target k low in let b = over_at target counts k low in
+          elim (cases_lt (get_or counts k 0) (get_or target k 0)) [ inl less ↦ inl (omega arith) | inr more ↦ inr (omega arith) ]);
       within = hand.within;
       target_within = is.is_goal.within;
     })
@@ -267,5 +277,6 @@ row_end f items whole number last before =
     sym (append-nil items) ∙ ap (λ n. items ++ row f number n) (sym e) ∙ before
 
 -- the pairs of what was listed
-pub path_from : (counts target surplus missed outs puts : List ℕ) (path : List (ℕ × ℕ)) → path ≡ zip outs puts → outs ≡ surplus → puts ≡ missed → surplus ≡ kinds_over counts target → missed ≡ kinds_over target counts → path ≡ path_to counts target
+pub path_from : (counts target surplus missed outs puts : List ℕ) (path : List (ℕ × ℕ)) → path ≡ zip outs puts → outs ≡ surplus → puts ≡ missed → surplus ≡ kinds_over counts target
+    → missed ≡ kinds_over target counts → path ≡ path_to counts target
 path_from counts target surplus missed outs puts path a b c d e = a ∙ ap₂ (λ x y. zip x y) (b ∙ d) (c ∙ e)

@@ -49,7 +49,8 @@ singles_are singles is held t h =
     let b : missing t held ≡ missing (with_two (map (orphan_number h.is.double) all_kinds)) held = ap (λ s. missing s held) tiles in
     omega arith
 
-the_singles : (1 ∷ 0 ∷ 0 ∷ 0 ∷ 0 ∷ 0 ∷ 0 ∷ 0 ∷ 1 ∷ 1 ∷ 0 ∷ 0 ∷ 0 ∷ 0 ∷ 0 ∷ 0 ∷ 0 ∷ 1 ∷ 1 ∷ 0 ∷ 0 ∷ 0 ∷ 0 ∷ 0 ∷ 0 ∷ 0 ∷ 1 ∷ 1 ∷ 1 ∷ 1 ∷ 1 ∷ 1 ∷ 1 ∷ 1 ∷ 0 ∷ 0 ∷ []) ≡ with_two (map each_orphan all_kinds)
+the_singles : (1 ∷ 0 ∷ 0 ∷ 0 ∷ 0 ∷ 0 ∷ 0 ∷ 0 ∷ 1 ∷ 1 ∷ 0 ∷ 0 ∷ 0 ∷ 0 ∷ 0 ∷ 0 ∷ 0 ∷ 1 ∷ 1 ∷ 0 ∷ 0 ∷ 0 ∷ 0 ∷ 0 ∷ 0 ∷ 0 ∷ 1 ∷ 1 ∷ 1 ∷ 1 ∷ 1 ∷ 1 ∷ 1 ∷ 1 ∷ 0 ∷ 0 ∷ []) ≡ with_two
+    (map each_orphan all_kinds)
 unfolding all_kinds is_terminal_or_honour
 the_singles = refl
 
@@ -99,24 +100,30 @@ orphans_miss singles held double is wide low orphan =
     let e : get_or (map each_orphan all_kinds) double 0 ≡ 1 = each_at double low ∙ ap (λ b. cond b 1 0) orphan in
     omega arith
 
-pub singles_few : (held : List ℕ) → missing (1 ∷ 0 ∷ 0 ∷ 0 ∷ 0 ∷ 0 ∷ 0 ∷ 0 ∷ 1 ∷ 1 ∷ 0 ∷ 0 ∷ 0 ∷ 0 ∷ 0 ∷ 0 ∷ 0 ∷ 1 ∷ 1 ∷ 0 ∷ 0 ∷ 0 ∷ 0 ∷ 0 ∷ 0 ∷ 0 ∷ 1 ∷ 1 ∷ 1 ∷ 1 ∷ 1 ∷ 1 ∷ 1 ∷ 1 ∷ 0 ∷ 0 ∷ []) held ≤ 13
+pub singles_few : (held : List ℕ) → missing
+    (1 ∷ 0 ∷ 0 ∷ 0 ∷ 0 ∷ 0 ∷ 0 ∷ 0 ∷ 1 ∷ 1 ∷ 0 ∷ 0 ∷ 0 ∷ 0 ∷ 0 ∷ 0 ∷ 0 ∷ 1 ∷ 1 ∷ 0 ∷ 0 ∷ 0 ∷ 0 ∷ 0 ∷ 0 ∷ 0 ∷ 1 ∷ 1 ∷ 1 ∷ 1 ∷ 1 ∷ 1 ∷ 1 ∷ 1 ∷ 0 ∷ 0 ∷ []) held ≤ 13
 singles_few held = missing_few (1 ∷ 0 ∷ 0 ∷ 0 ∷ 0 ∷ 0 ∷ 0 ∷ 0 ∷ 1 ∷ 1 ∷ 0 ∷ 0 ∷ 0 ∷ 0 ∷ 0 ∷ 0 ∷ 0 ∷ 1 ∷ 1 ∷ 0 ∷ 0 ∷ 0 ∷ 0 ∷ 0 ∷ 0 ∷ 0 ∷ 1 ∷ 1 ∷ 1 ∷ 1 ∷ 1 ∷ 1 ∷ 1 ∷ 1 ∷ 0 ∷ 0 ∷ []) held
 
 -- where one of them is held twice
-pub orphans_twice : (held : List ℕ) (singles : ℕ) → singles ≡ missing (1 ∷ 0 ∷ 0 ∷ 0 ∷ 0 ∷ 0 ∷ 0 ∷ 0 ∷ 1 ∷ 1 ∷ 0 ∷ 0 ∷ 0 ∷ 0 ∷ 0 ∷ 0 ∷ 0 ∷ 1 ∷ 1 ∷ 0 ∷ 0 ∷ 0 ∷ 0 ∷ 0 ∷ 0 ∷ 0 ∷ 1 ∷ 1 ∷ 1 ∷ 1 ∷ 1 ∷ 1 ∷ 1 ∷ 1 ∷ 0 ∷ 0 ∷ []) held → length held ≡ 36 → (kind : ℕ) × IsHeldTwice held kind → IsLeast held (Padded IsOrphans) singles
+pub orphans_twice : (held : List ℕ) (singles : ℕ)
+    → singles ≡ missing (1 ∷ 0 ∷ 0 ∷ 0 ∷ 0 ∷ 0 ∷ 0 ∷ 0 ∷ 1 ∷ 1 ∷ 0 ∷ 0 ∷ 0 ∷ 0 ∷ 0 ∷ 0 ∷ 0 ∷ 1 ∷ 1 ∷ 0 ∷ 0 ∷ 0 ∷ 0 ∷ 0 ∷ 0 ∷ 0 ∷ 1 ∷ 1 ∷ 1 ∷ 1 ∷ 1 ∷ 1 ∷ 1 ∷ 1 ∷ 0 ∷ 0 ∷ []) held
+    → length held ≡ 36 → (kind : ℕ) × IsHeldTwice held kind → IsLeast held (Padded IsOrphans) singles
 orphans_twice held singles is wide found = record {
   some = (
     with_two (map (orphan_number found.0) all_kinds),
     (
       record { counts = map (orphan_number found.0) all_kinds; is = record { double = found.0; are = record { kind = found.1.kind_is; orphan = found.1.orphan; tiles = refl } }; numbers_are = refl },
-      (let m = orphans_miss (1 ∷ 0 ∷ 0 ∷ 0 ∷ 0 ∷ 0 ∷ 0 ∷ 0 ∷ 1 ∷ 1 ∷ 0 ∷ 0 ∷ 0 ∷ 0 ∷ 0 ∷ 0 ∷ 0 ∷ 1 ∷ 1 ∷ 0 ∷ 0 ∷ 0 ∷ 0 ∷ 0 ∷ 0 ∷ 0 ∷ 1 ∷ 1 ∷ 1 ∷ 1 ∷ 1 ∷ 1 ∷ 1 ∷ 1 ∷ 0 ∷ 0 ∷ []) held found.0 the_singles wide found.1.kind_is found.1.orphan in let t = found.1.twice in omega arith),
+      (let m = orphans_miss (1 ∷ 0 ∷ 0 ∷ 0 ∷ 0 ∷ 0 ∷ 0 ∷ 0 ∷ 1 ∷ 1 ∷ 0 ∷ 0 ∷ 0 ∷ 0 ∷ 0 ∷ 0 ∷ 0 ∷ 1 ∷ 1 ∷ 0 ∷ 0 ∷ 0 ∷ 0 ∷ 0 ∷ 0 ∷ 0 ∷ 1 ∷ 1 ∷ 1 ∷ 1 ∷ 1 ∷ 1 ∷ 1 ∷ 1 ∷ 0 ∷ 0 ∷ []) held
+          found.0 the_singles wide found.1.kind_is found.1.orphan in let t = found.1.twice in omega arith),
     ),
   );
   least = λ t orphans. (let m = singles_are _ the_singles held t orphans in omega arith);
 }
 
 -- where none is
-pub orphans_single : (held : List ℕ) (singles : ℕ) → singles ≡ missing (1 ∷ 0 ∷ 0 ∷ 0 ∷ 0 ∷ 0 ∷ 0 ∷ 0 ∷ 1 ∷ 1 ∷ 0 ∷ 0 ∷ 0 ∷ 0 ∷ 0 ∷ 0 ∷ 0 ∷ 1 ∷ 1 ∷ 0 ∷ 0 ∷ 0 ∷ 0 ∷ 0 ∷ 0 ∷ 0 ∷ 1 ∷ 1 ∷ 1 ∷ 1 ∷ 1 ∷ 1 ∷ 1 ∷ 1 ∷ 0 ∷ 0 ∷ []) held → length held ≡ 36 → ((kind : ℕ) → IsHeldTwice held kind → ⊥) → IsLeast held (Padded IsOrphans) (singles + 1)
+pub orphans_single : (held : List ℕ) (singles : ℕ)
+    → singles ≡ missing (1 ∷ 0 ∷ 0 ∷ 0 ∷ 0 ∷ 0 ∷ 0 ∷ 0 ∷ 1 ∷ 1 ∷ 0 ∷ 0 ∷ 0 ∷ 0 ∷ 0 ∷ 0 ∷ 0 ∷ 1 ∷ 1 ∷ 0 ∷ 0 ∷ 0 ∷ 0 ∷ 0 ∷ 0 ∷ 0 ∷ 1 ∷ 1 ∷ 1 ∷ 1 ∷ 1 ∷ 1 ∷ 1 ∷ 1 ∷ 0 ∷ 0 ∷ []) held
+    → length held ≡ 36 → ((kind : ℕ) → IsHeldTwice held kind → ⊥) → IsLeast held (Padded IsOrphans) (singles + 1)
 unfolding is_terminal_or_honour
 orphans_single held singles is wide none = record {
   some = (
@@ -134,7 +141,8 @@ orphans_single held singles is wide none = record {
   where
     one_more : (double : ℕ) → double < 34 → is_terminal_or_honour double ≡ true → missing (with_two (map (orphan_number double) all_kinds)) held ≡ singles + 1
     one_more double low orphan =
-        let m = orphans_miss (1 ∷ 0 ∷ 0 ∷ 0 ∷ 0 ∷ 0 ∷ 0 ∷ 0 ∷ 1 ∷ 1 ∷ 0 ∷ 0 ∷ 0 ∷ 0 ∷ 0 ∷ 0 ∷ 0 ∷ 1 ∷ 1 ∷ 0 ∷ 0 ∷ 0 ∷ 0 ∷ 0 ∷ 0 ∷ 0 ∷ 1 ∷ 1 ∷ 1 ∷ 1 ∷ 1 ∷ 1 ∷ 1 ∷ 1 ∷ 0 ∷ 0 ∷ []) held double the_singles wide low orphan in
+        let m = orphans_miss (1 ∷ 0 ∷ 0 ∷ 0 ∷ 0 ∷ 0 ∷ 0 ∷ 0 ∷ 1 ∷ 1 ∷ 0 ∷ 0 ∷ 0 ∷ 0 ∷ 0 ∷ 0 ∷ 0 ∷ 1 ∷ 1 ∷ 0 ∷ 0 ∷ 0 ∷ 0 ∷ 0 ∷ 0 ∷ 0 ∷ 1 ∷ 1 ∷ 1 ∷ 1 ∷ 1 ∷ 1 ∷ 1 ∷ 1 ∷ 0 ∷ 0 ∷ []) held
+        double the_singles wide low orphan in
         elim (cases_lt (get_or held double 0) 2) [
           | inl few ↦ omega arith
           | inr twice ↦ absurd (none double record { kind_is = low; orphan = orphan; twice = twice })
@@ -146,7 +154,8 @@ pairs_miss : (held t : List ℕ) → length held ≡ 36 → length (take 34 held
 pairs_miss held t wide size h =
     let p = seven_parts h.counts h.is.seven in
     let a : missing t held ≡ missing h.counts (take 34 held) = ap (λ s. missing s held) h.numbers_are ∙ missing_two h.counts held h.is.size wide in
-    let b : least (take 34 held) 7 ≤ missing h.counts (take 34 held) = subst (λ n. least (take 34 held) n ≤ missing h.counts (take 34 held)) p.1 (miss_least h.counts (take 34 held) (h.is.size ∙ sym size) p.0) in
+    let b : least (take 34 held) 7 ≤ missing h.counts (take 34 held) =
+    subst (λ n. least (take 34 held) n ≤ missing h.counts (take 34 held)) p.1 (miss_least h.counts (take 34 held) (h.is.size ∙ sym size) p.0) in
     omega arith
 
 pub special_misses : (held : List ℕ) (pairs singles number : ℕ) → number ≡ min pairs singles → length held ≡ 36 → length (take 34 held) ≡ 34 → pairs ≡ 7 - so_often 2 (take 34 held)
@@ -158,7 +167,8 @@ special_misses held pairs singles number is wide size pairs_are singles_is melds
 ]
 
 -- the best hand is nearer than all of these
-pub special_far : (held : List ℕ) (melds number : ℕ) (best : Option (ℕ × List ℕ)) → IsSomeAnd best (λ answer. answer.0 < number) → ((m : ℕ) (t : List ℕ) → IsSpecial m t → number ≤ missing t held) → Improves held (IsSpecial melds) best best
+pub special_far : (held : List ℕ) (melds number : ℕ) (best : Option (ℕ × List ℕ)) → IsSomeAnd best (λ answer. answer.0 < number)
+    → ((m : ℕ) (t : List ℕ) → IsSpecial m t → number ≤ missing t held) → Improves held (IsSpecial melds) best best
 special_far held melds number None near least = absurd near
 special_far held melds number (Some answer) near least = Improves-not held (IsSpecial melds) (Some answer) (λ t special. inl (let m = least melds t special in omega arith))
 
@@ -176,7 +186,8 @@ pub sets_kept : (held : List ℕ) (P : List ℕ → Type 0) (sets : ℕ) → ((t
 sets_kept held P sets far = record { at_most = omega arith; least = far; some = inl refl }
 
 -- the fewest of the sets and the pairs, which no orphans go below, or the orphans that do
-pub special_least : (held : List ℕ) (sets pairs nearest number : ℕ) → nearest ≡ min sets pairs → IsLeast held (Padded IsPairs) pairs → number ≤ nearest → ((t : List ℕ) → Padded IsOrphans t → number ≤ missing t held)
+pub special_least : (held : List ℕ) (sets pairs nearest number : ℕ) → nearest ≡ min sets pairs → IsLeast held (Padded IsPairs) pairs → number ≤ nearest
+    → ((t : List ℕ) → Padded IsOrphans t → number ≤ missing t held)
     → (number ≡ nearest) ⊎ ((t : List ℕ) × (Padded IsOrphans t × (number ≡ missing t held))) → IsLeastWith held (IsSpecial 0) sets number
 special_least held sets pairs nearest number is pairs_are few far from = record {
   at_most = omega arith;
@@ -201,7 +212,8 @@ orphans_no_less held sets pairs nearest singles is pairs_are few singles_is =
     special_least held sets pairs nearest nearest is pairs_are (omega arith) (λ t orphans. (let m = singles_are _ the_singles held t orphans in omega arith)) (inl refl)
 
 -- the nearest orphans, or what is nearer
-pub both_least : (held : List ℕ) (sets pairs nearest orphans number : ℕ) → nearest ≡ min sets pairs → IsLeast held (Padded IsPairs) pairs → IsLeast held (Padded IsOrphans) orphans → number ≡ min nearest orphans
+pub both_least : (held : List ℕ) (sets pairs nearest orphans number : ℕ) → nearest ≡ min sets pairs → IsLeast held (Padded IsPairs) pairs → IsLeast held (Padded IsOrphans) orphans
+    → number ≡ min nearest orphans
     → IsLeastWith held (IsSpecial 0) sets number
 both_least held sets pairs nearest orphans number is pairs_are orphans_are number_is =
     special_least held sets pairs nearest number is pairs_are (omega arith) (λ t far. (let l = orphans_are.least t far in omega arith))
@@ -217,7 +229,8 @@ special_melds held melds sets some = sets_kept held (IsSpecial melds) sets (λ t
 goal_few : (counts room o : List ℕ) (melds : ℕ) → IsGoal room melds o → missing o counts ≤ 14
 goal_few counts room o melds goal = (let a = missing_few o counts in let c = sum_complete o melds goal.complete in omega arith)
 
-pub least_goal : (counts room : List ℕ) (melds sets number : ℕ) → melds ≤ 4 → IsRoom room melds → length counts ≡ 34 → length room ≡ 34 → IsLeastOr (with_two counts) (IsJoint (suits_of (with_two counts) (with_two room)) (4 - melds) true) sets
+pub least_goal : (counts room : List ℕ) (melds sets number : ℕ) → melds ≤ 4 → IsRoom room melds → length counts ≡ 34 → length room ≡ 34
+    → IsLeastOr (with_two counts) (IsJoint (suits_of (with_two counts) (with_two room)) (4 - melds) true) sets
     → IsLeastWith (with_two counts) (IsSpecial melds) sets number → IsLeast counts (IsGoal room melds) number
 least_goal counts room melds sets number few is_room size room_size joint special = record {
   some = elim special.some [

@@ -82,7 +82,8 @@ joint_step held room c sets pair i others far size formed counted within rest = 
     in_suit = pair_fits i pair;
     made = sym (counts_are (suit.tiles_of_sets (sets_in i sets) ++ tiles_of_pair (pair_in i pair)) (take 9 (drop (9 * i) c))
         (length-take-le 9 (drop (9 * i) c) (let d = length-drop (9 * i) c in omega arith)) here_is);
-    within = λ n small. (let a = at_place c (9 * i) n small in let b = at_place room (9 * i) n small in let w : get_or c (9 * i + n) 0 ≤ get_or room (9 * i + n) 0 = within (9 * i + n) (omega arith) in omega arith);
+    within = λ n small. (let a = at_place c (9 * i) n small in let b = at_place room (9 * i) n small in
+        let w : get_or c (9 * i + n) 0 ≤ get_or room (9 * i + n) 0 = within (9 * i + n) (omega arith) in omega arith);
   };
   more = rest;
   sets_are = number_step sets i;
@@ -175,7 +176,8 @@ abbrev lifted_pair : ℕ → Option ℕ → Option ℕ
 lifted_pair i None = None
 lifted_pair i (Some m) = Some (9 * i + m)
 
-either_count : (i k : ℕ) (a b : Option ℕ) (p q r : Bool) → is_some a ≡ q → is_some b ≡ r → pairs p ≡ pairs q + pairs r → count_of k (tiles_of_pair (either i a b)) ≡ count_of k (tiles_of_pair (lifted_pair i a)) + count_of k (tiles_of_pair b)
+either_count : (i k : ℕ) (a b : Option ℕ) (p q r : Bool) → is_some a ≡ q → is_some b ≡ r → pairs p ≡ pairs q + pairs r
+    → count_of k (tiles_of_pair (either i a b)) ≡ count_of k (tiles_of_pair (lifted_pair i a)) + count_of k (tiles_of_pair b)
 either_count i k None b p q r x y e = omega arith
 either_count i k (Some m) None p q r x y e = omega arith
 either_count i k (Some m) (Some n) p q r x y e = absurd (both p q r x y e)
@@ -267,9 +269,11 @@ made_more held room i s n p q r here rest far z y h m one = record {
         ≡ (number_at (9 * j + k) (lift_all i h.sets) + count_of (9 * j + k) (tiles_of_pair (lifted_pair i h.pair))) + (number_at (9 * j + k) m.sets + count_of (9 * j + k) (tiles_of_pair m.last))
     sum_at j k = (let a = number_at-append (9 * j + k) (lift_all i h.sets) m.sets in let b = either_count i (9 * j + k) h.pair m.last p q r h.has_pair m.has one in omega arith)
 
-    count_at : (j k : ℕ) → j ≤ 3 → k < 9 → (j ≡ i) ⊎ (j ≢ i) → number_at (9 * j + k) (lift_all i h.sets ++ m.sets) + count_of (9 * j + k) (tiles_of_pair (either i h.pair m.last)) ≡ cond (leb i j) (get_or (here ++ rest) (9 * (j - i) + k) 0) 0
+    count_at : (j k : ℕ) → j ≤ 3 → k < 9 → (j ≡ i) ⊎ (j ≢ i)
+        → number_at (9 * j + k) (lift_all i h.sets ++ m.sets) + count_of (9 * j + k) (tiles_of_pair (either i h.pair m.last)) ≡ cond (leb i j) (get_or (here ++ rest) (9 * (j - i) + k) 0) 0
     count_at j k low small (inl same) =
-        subst (λ x. number_at (9 * x + k) (lift_all i h.sets ++ m.sets) + count_of (9 * x + k) (tiles_of_pair (either i h.pair m.last)) ≡ cond (leb i x) (get_or (here ++ rest) (9 * (x - i) + k) 0) 0) (sym same)
+        subst (λ x. number_at (9 * x + k) (lift_all i h.sets ++ m.sets) + count_of (9 * x + k) (tiles_of_pair (either i h.pair m.last)) ≡ cond (leb i x)
+        (get_or (here ++ rest) (9 * (x - i) + k) 0) 0) (sym same)
         (let e : leb i i ≡ true = le-leb i i (omega arith) in
         let f : leb (i + 1) i ≡ false = grind (arith, nat_tests) in
         let a = sum_at i k in
@@ -301,7 +305,8 @@ made_more held room i s n p q r here rest far z y h m one = record {
         ]
 
     within_at : (j k : ℕ) → i ≤ j → j ≤ 3 → k < 9 → (j ≡ i) ⊎ (j ≢ i) → get_or (here ++ rest) (9 * (j - i) + k) 0 ≤ get_or room (9 * j + k) 0
-    within_at j k from low small (inl same) = subst (λ x. get_or (here ++ rest) (9 * (x - i) + k) 0 ≤ get_or room (9 * x + k) 0) (sym same) (let a = at_here k small in let b = room_at k small in omega arith)
+    within_at j k from low small (inl same) =
+        subst (λ x. get_or (here ++ rest) (9 * (x - i) + k) 0 ≤ get_or room (9 * x + k) 0) (sym same) (let a = at_here k small in let b = room_at k small in omega arith)
     within_at j k from low small (inr apart) = (let later : i + 1 ≤ j = omega arith in let a = at_later j k later in let b = m.within j k later low small in omega arith)
 
 made_step : (held room : List ℕ) (i n : ℕ) (p : Bool) (t : List ℕ) (others : List Suit) → i ≤ 3 → get_or room 34 0 ≡ 0 → get_or room 35 0 ≡ 0
@@ -349,8 +354,11 @@ hand_made room n t z y sets (Some pair) many formed has fits size counted within
 
     each : (k : ℕ) → k < 36 → get_or t k 0 ≡ get_or (with_two (tally (flat_map tiles_of_set sets ++ pair ∷ pair ∷ []))) k 0
     each k inside = elim (cases_lt k 34) [
-      | inl low ↦ sym (get_or_append_left (tally (flat_map tiles_of_set sets ++ pair ∷ pair ∷ [])) (0 ∷ 0 ∷ []) 0 k (let e = length-tally (flat_map tiles_of_set sets ++ pair ∷ pair ∷ []) in omega arith) ∙ tally_at k low)
-      | inr over ↦ none_past k inside over ∙ sym (get_or-append_right (tally (flat_map tiles_of_set sets ++ pair ∷ pair ∷ [])) (0 ∷ 0 ∷ []) 34 k 0 (length-tally (flat_map tiles_of_set sets ++ pair ∷ pair ∷ [])) over ∙ two_zeros (k - 34))
+      | inl low ↦ sym (get_or_append_left (tally (flat_map tiles_of_set sets ++ pair ∷ pair ∷ [])) (0 ∷ 0 ∷ []) 0 k
+          (let e = length-tally (flat_map tiles_of_set sets ++ pair ∷ pair ∷ []) in omega arith) ∙ tally_at k low)
+      | inr over ↦ none_past k inside over
+          ∙ sym (get_or-append_right (tally (flat_map tiles_of_set sets ++ pair ∷ pair ∷ [])) (0 ∷ 0 ∷ []) 34 k 0 (length-tally (flat_map tiles_of_set sets ++ pair ∷ pair ∷ [])) over
+          ∙ two_zeros (k - 34))
     ]
       where
         two_zeros : (j : ℕ) → ◌≡◌ {A = ℕ} (get_or (0 ∷ 0 ∷ []) j 0) 0

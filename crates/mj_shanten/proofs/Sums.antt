@@ -89,8 +89,10 @@ unfolding tally all_kinds
 sum_tally [] low = sum_none (range_with_len 0 34)
 sum_tally (x ∷ tiles) low =
     let f = and_parts (ltb x 34) (all_low tiles) low in
-    let a : sum (map (λ kind. count_by (λ other. eqb other kind) (x ∷ tiles)) (range_with_len 0 34)) ≡ sum (map (λ k. cond (eqb x k) 1 0) (range_with_len 0 34)) + sum (map (λ kind. count_by (λ other. eqb other kind) tiles) (range_with_len 0 34)) =
-    sum_both (λ kind. count_by (λ other. eqb other kind) (x ∷ tiles)) (λ k. cond (eqb x k) 1 0) (λ kind. count_by (λ other. eqb other kind) tiles) (range_with_len 0 34) (λ k. sum_by-cons (λ other. cond (eqb other k) 1 0) x tiles) in
+    let a : sum (map (λ kind. count_by (λ other. eqb other kind) (x ∷ tiles)) (range_with_len 0 34)) ≡ sum (map (λ k. cond (eqb x k) 1 0) (range_with_len 0 34)) + sum
+    (map (λ kind. count_by (λ other. eqb other kind) tiles) (range_with_len 0 34)) =
+    sum_both (λ kind. count_by (λ other. eqb other kind) (x ∷ tiles)) (λ k. cond (eqb x k) 1 0) (λ kind. count_by (λ other. eqb other kind) tiles) (range_with_len 0 34)
+    (λ k. sum_by-cons (λ other. cond (eqb other k) 1 0) x tiles) in
     let b : sum (map (λ k. cond (eqb x k) 1 0) (range_with_len 0 34)) ≡ 1 = sum_here x 0 34 (omega arith) (ltb-true x 34 f.0) in
     let c : sum (map (λ kind. count_by (λ other. eqb other kind) tiles) (range_with_len 0 34)) ≡ length tiles = sum_tally tiles f.1 in
     a ∙ ap₂ (λ p q. p + q) b c ∙ (let e : 1 + length tiles ≡ suc (length tiles) = omega arith in e)
@@ -104,7 +106,8 @@ all_low-append : (xs ys : List ℕ) → all_low xs ≡ true → all_low ys ≡ t
 all_low-append [] ys a b = b
 all_low-append (x ∷ xs) ys a b = (let f = and_parts (ltb x 34) (all_low xs) a in rw f.0 (all_low-append xs ys f.1 b))
 
-sets_tiles : (sets : List Set) (more : List ℕ) → list_all is_concealed sets ≡ true → all_low more ≡ true → (length (flat_map tiles_of_set sets ++ more) ≡ 3 * length sets + length more) × (all_low (flat_map tiles_of_set sets ++ more) ≡ true)
+sets_tiles : (sets : List Set) (more : List ℕ) → list_all is_concealed sets ≡ true → all_low more ≡ true
+    → (length (flat_map tiles_of_set sets ++ more) ≡ 3 * length sets + length more) × (all_low (flat_map tiles_of_set sets ++ more) ≡ true)
 sets_tiles [] more formed low = (omega arith, low)
 sets_tiles (s ∷ ss) more formed low =
     let f = and_parts (is_concealed s) (list_all is_concealed ss) formed in
@@ -143,7 +146,8 @@ sum_orphans : (double : ℕ) → double < 34 → is_terminal_or_honour double �
 unfolding all_kinds is_terminal_or_honour
 sum_orphans double low orphan = fourteen orphan (agree_below_at (λ d. not (is_terminal_or_honour d) || eqb (sum (map (orphan_number d) all_kinds)) 14) (λ d. true) 34 double refl low)
   where
-    fourteen : is_terminal_or_honour double ≡ true → (not (is_terminal_or_honour double) || eqb (sum (map (orphan_number double) all_kinds)) 14) ≡ true → sum (map (orphan_number double) all_kinds) ≡ 14
+    fourteen : is_terminal_or_honour double ≡ true → (not (is_terminal_or_honour double) || eqb (sum (map (orphan_number double) all_kinds)) 14) ≡ true
+        → sum (map (orphan_number double) all_kinds) ≡ 14
     fourteen a b = elim (or_cases (not (is_terminal_or_honour double)) (eqb (sum (map (orphan_number double) all_kinds)) 14) b) [
       | inl c ↦ absurd (false≢true (sym (ap not a) ∙ c))
       | inr c ↦ eqb-true _ _ c

@@ -51,7 +51,8 @@ turned a b c d s pair tiles a_is b_is c_is d_is first =
     let l3 = target_long c third.sets_here third.pair_here third.here c_is third.target in
     let l4 = target_long d fourth.sets_here fourth.pair_here fourth.here d_is fourth.target in
     let whole : tiles ≡ first.here ++ (second.here ++ (third.here ++ (fourth.here ++ []))) =
-    first.tiles_are ∙ ap (λ r. first.here ++ r) (second.tiles_are ∙ ap (λ r. second.here ++ r) (third.tiles_are ∙ ap (λ r. third.here ++ r) (fourth.tiles_are ∙ ap (λ r. fourth.here ++ r) none.1.1))) in
+    first.tiles_are ∙ ap (λ r. first.here ++ r)
+    (second.tiles_are ∙ ap (λ r. second.here ++ r) (third.tiles_are ∙ ap (λ r. third.here ++ r) (fourth.tiles_are ∙ ap (λ r. fourth.here ++ r) none.1.1))) in
     let missed : missing tiles (counts_in (a ∷ b ∷ c ∷ d ∷ [])) ≡ missing first.here a.counts + (missing second.here b.counts + (missing third.here c.counts + missing fourth.here d.counts)) =
     ap (λ t. missing t (counts_in (a ∷ b ∷ c ∷ d ∷ []))) whole ∙ four_missing a b c d first.here second.here third.here fourth.here l1 l2 l3 l4 in
     let back = four_missing d c b a fourth.here third.here second.here first.here l4 l3 l2 l1 in

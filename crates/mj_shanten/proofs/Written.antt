@@ -22,7 +22,8 @@ written_more f kind y target inside is h = record {
     here k few (inl same) = ap (λ j. get_or (set target kind y) j 0) same ∙ get_or-set_same target kind y 0 (let s = h.size in omega arith) ∙ is ∙ ap f (sym same)
     here k few (inr apart) = get_or-set_other target kind k y 0 apart ∙ h.before k (omega arith)
 
-pub written_all : (f : ℕ → ℕ) (counts : List ℕ) (kind : ℕ) (target : List ℕ) → kind ≡ 34 → length counts ≡ 34 → ((k : ℕ) → k < 34 → get_or counts k 0 ≡ f k) → Written f kind target → target ≡ with_two counts
+pub written_all : (f : ℕ → ℕ) (counts : List ℕ) (kind : ℕ) (target : List ℕ) → kind ≡ 34 → length counts ≡ 34 → ((k : ℕ) → k < 34 → get_or counts k 0 ≡ f k) → Written f kind target
+    → target ≡ with_two counts
 written_all f counts kind target last size each h =
     two_more target counts h.size
     (ext_get_or 0 (take 34 target) counts (front ∙ sym size)
@@ -33,7 +34,8 @@ written_all f counts kind target last size each h =
     front = length-take-le 34 target (let s = h.size in omega arith)
 
 -- the front of a longer list
-pub copied_more : (wide numbers : List ℕ) (kind : ℕ) → kind < length numbers → ((k : ℕ) → k < kind → get_or numbers k 0 ≡ get_or wide k 0) → (k : ℕ) → k < kind + 1 → get_or (set numbers kind (get_or wide kind 0)) k 0 ≡ get_or wide k 0
+pub copied_more : (wide numbers : List ℕ) (kind : ℕ) → kind < length numbers → ((k : ℕ) → k < kind → get_or numbers k 0 ≡ get_or wide k 0) → (k : ℕ) → k < kind + 1
+    → get_or (set numbers kind (get_or wide kind 0)) k 0 ≡ get_or wide k 0
 copied_more wide numbers kind inside before k few = here (cases_eq k kind)
   where
     here : (k ≡ kind) ⊎ (k ≢ kind) → get_or (set numbers kind (get_or wide kind 0)) k 0 ≡ get_or wide k 0

@@ -48,7 +48,8 @@ most_left_reached (l ∷ ls) (c ∷ cs) = elim (most_left_reached ls cs) [
 
 -- ---- the choices at a number
 
-choice_bound : (runs : Bool) (next : ℕ → ℕ → ℕ → ℕ) (s p r t e : ℕ) → r ≤ 2 → t + e ≤ 1 → r + 3 * t + 2 * e ≤ 4 → (runs ≡ false → r ≡ 0) → begun next r t e s p ≤ get_or (begun_by_tiles runs next s p) (r + 3 * t + 2 * e) 0
+choice_bound : (runs : Bool) (next : ℕ → ℕ → ℕ → ℕ) (s p r t e : ℕ) → r ≤ 2 → t + e ≤ 1 → r + 3 * t + 2 * e ≤ 4 → (runs ≡ false → r ≡ 0)
+    → begun next r t e s p ≤ get_or (begun_by_tiles runs next s p) (r + 3 * t + 2 * e) 0
 choice_bound true next s p zero zero zero few one four only = same_le _
 choice_bound true next s p (suc zero) zero zero few one four only = same_le _
 choice_bound true next s p (suc (suc zero)) zero zero few one four only = le_max_left _ _
@@ -129,7 +130,8 @@ choices_for true next s p k few = inl (omega arith)
 choices_for false next s p k few = elim (cases_lt k 4) [ inl less ↦ inl (omega arith) | inr more ↦ inr (get_or_past (begun_by_tiles false next s p) k 0 (omega arith)) ]
 
 -- what a choice leaves is at most what the number leaves and the choice costs
-pub step_bound : (runs : Bool) (next : ℕ → ℕ → ℕ → ℕ → ℕ) (held most before earlier s p r t e : ℕ) → most ≤ 4 → r ≤ 2 → t + e ≤ 1 → before + earlier + (r + 3 * t + 2 * e) ≤ most → (runs ≡ false → r ≡ 0) → r + t ≤ s → e ≤ p
+pub step_bound : (runs : Bool) (next : ℕ → ℕ → ℕ → ℕ → ℕ) (held most before earlier s p r t e : ℕ) → most ≤ 4 → r ≤ 2 → t + e ≤ 1 → before + earlier + (r + 3 * t + 2 * e) ≤ most
+    → (runs ≡ false → r ≡ 0) → r + t ≤ s → e ≤ p
     → next r before (s - (r + t)) (p - e) ≤ stepped runs held most next before earlier s p + (before + earlier + (r + 3 * t + 2 * e) - held)
 step_bound runs next held most before earlier s p r t e of_four few one within only sets pairs =
     let k = r + 3 * t + 2 * e in
@@ -153,43 +155,51 @@ step_bound runs next held most before earlier s p r t e of_four few one within o
     nothing begun next left whole a b c = omega arith
 
 -- the same for tiles that go on from the number
-goes_bound : (runs : Bool) (next : ℕ → ℕ → ℕ → ℕ → ℕ) (room : List ℕ) (most have before earlier sets pairs : ℕ) (held tiles : List ℕ) (sl pl spare : ℕ) (goes : Goes runs (Ends runs room) most before earlier sets pairs tiles) → most ≤ 4 → goes.begin ≤ 2 → pairs + pl ≤ 1
+goes_bound : (runs : Bool) (next : ℕ → ℕ → ℕ → ℕ → ℕ) (room : List ℕ) (most have before earlier sets pairs : ℕ) (held tiles : List ℕ) (sl pl spare : ℕ)
+    (goes : Goes runs (Ends runs room) most before earlier sets pairs tiles) → most ≤ 4 → goes.begin ≤ 2 → pairs + pl ≤ 1
     → spare ≤ next goes.begin before (goes.sets_later + sl) (goes.pairs_later + pl) + missing goes.rest held
     → spare ≤ stepped runs have most next before earlier (sets + sl) (pairs + pl) + missing tiles (have ∷ held)
 goes_bound runs next room most have before earlier sets pairs held tiles sl pl spare goes of_four few one later =
     let sets_are : sets ≡ goes.begin + goes.triplets + goes.sets_later = goes.sets_are in
     let pairs_are : pairs ≡ goes.pairs_here + goes.pairs_later = goes.pairs_are in
     let within : before + earlier + (goes.begin + 3 * goes.triplets + 2 * goes.pairs_here) ≤ most = goes.within in
-    let bound : next goes.begin before (sets + sl - (goes.begin + goes.triplets)) (pairs + pl - goes.pairs_here) ≤ stepped runs have most next before earlier (sets + sl) (pairs + pl) + (before + earlier + (goes.begin + 3 * goes.triplets + 2 * goes.pairs_here) - have) =
+    let bound : next goes.begin before (sets + sl - (goes.begin + goes.triplets)) (pairs + pl - goes.pairs_here) ≤ stepped runs have most next before earlier (sets + sl) (pairs + pl) +
+    (before + earlier + (goes.begin + 3 * goes.triplets + 2 * goes.pairs_here) - have) =
     step_bound runs next have most before earlier (sets + sl) (pairs + pl) goes.begin goes.triplets goes.pairs_here of_four few (omega arith) within goes.only (omega arith) (omega arith) in
     let s : sets + sl - (goes.begin + goes.triplets) ≡ goes.sets_later + sl = omega arith in
     let p : pairs + pl - goes.pairs_here ≡ goes.pairs_later + pl = omega arith in
-    let same : next goes.begin before (sets + sl - (goes.begin + goes.triplets)) (pairs + pl - goes.pairs_here) ≡ next goes.begin before (goes.sets_later + sl) (goes.pairs_later + pl) = ap₂ (next goes.begin before) s p in
-    let cost : missing tiles (have ∷ held) ≡ (before + earlier + (goes.begin + 3 * goes.triplets + 2 * goes.pairs_here) - have) + missing goes.rest held = ap (λ t. missing t (have ∷ held)) goes.tiles_are in
+    let same : next goes.begin before (sets + sl - (goes.begin + goes.triplets)) (pairs + pl - goes.pairs_here) ≡ next goes.begin before (goes.sets_later + sl) (goes.pairs_later + pl) =
+    ap₂ (next goes.begin before) s p in
+    let cost : missing tiles (have ∷ held) ≡ (before + earlier + (goes.begin + 3 * goes.triplets + 2 * goes.pairs_here) - have) + missing goes.rest held =
+    ap (λ t. missing t (have ∷ held)) goes.tiles_are in
     joined _ _ _ _ _ _ _ bound same cost later
   where
     joined : (spare next next' whole here rest tiles : ℕ) → next ≤ whole + here → next ≡ next' → tiles ≡ here + rest → spare ≤ next' + rest → spare ≤ whole + tiles
     joined spare next next' whole here rest tiles a b c d = omega arith
 
-pub walked_bound : (runs : Bool) (after : ℕ → ℕ → ℕ) (room held : List ℕ) (before earlier sets pairs : ℕ) (tiles : List ℕ) → length room ≡ length held → OfFour room → Ends runs room before earlier sets pairs tiles → (sl pl : ℕ) → pairs + pl ≤ 1
+pub walked_bound : (runs : Bool) (after : ℕ → ℕ → ℕ) (room held : List ℕ) (before earlier sets pairs : ℕ) (tiles : List ℕ) → length room ≡ length held → OfFour room
+    → Ends runs room before earlier sets pairs tiles → (sl pl : ℕ) → pairs + pl ≤ 1
     → after sl pl ≤ walked runs after room held before earlier (sets + sl) (pairs + pl) + missing tiles held
 walked_bound runs after [] held before earlier sets pairs tiles long of_four ends sl pl one =
     let s : sets + sl ≡ sl = (let z : sets ≡ 0 = ends.1.1.0 in omega arith) in
     let p : pairs + pl ≡ pl = (let z : pairs ≡ 0 = ends.1.1.1.0 in omega arith) in
     let there : ((eqb before 0) && (eqb earlier 0)) ≡ true = ap₂ (λ a b. (eqb a 0) && (eqb b 0)) ends.0 ends.1.0 in
-    let is : walked runs after [] held before earlier (sets + sl) (pairs + pl) ≡ after sl pl = walked_past runs after held before earlier (sets + sl) (pairs + pl) ∙ ap₂ (λ t v. cond t v 0) there (ap₂ after s p) in
+    let is : walked runs after [] held before earlier (sets + sl) (pairs + pl) ≡ after sl pl =
+    walked_past runs after held before earlier (sets + sl) (pairs + pl) ∙ ap₂ (λ t v. cond t v 0) there (ap₂ after s p) in
     omega arith
 walked_bound runs after (most ∷ room) [] before earlier sets pairs tiles long of_four ends sl pl one = absurd (omega arith)
-walked_bound runs after (most ∷ room) (have ∷ held) before earlier sets pairs tiles long of_four goes sl pl one = rw (walked_at runs after most have room held before earlier (sets + sl) (pairs + pl)) (elim (cases_lt goes.begin 3) [
-  | inl few ↦ goes_bound runs (walked runs after room held) room most have before earlier sets pairs held tiles sl pl (after sl pl) goes of_four.0 (omega arith) one
-      (walked_bound runs after room held goes.begin before goes.sets_later goes.pairs_later goes.rest (omega arith) of_four.1 goes.more sl pl (let e = goes.pairs_are in omega arith))
-  | inr many ↦
-      let swapped = fewer_runs runs room most before earlier sets pairs tiles goes many in
-      let fewer = swapped.0 in
-      let three : fewer.begin + 3 ≡ goes.begin = swapped.1 in
-      goes_bound runs (walked runs after room held) room most have before earlier sets pairs held tiles sl pl (after sl pl) fewer of_four.0 (let w = goes.within in let m = of_four.0 in omega arith) one
-      (walked_bound runs after room held fewer.begin before fewer.sets_later fewer.pairs_later fewer.rest (omega arith) of_four.1 fewer.more sl pl (let e = fewer.pairs_are in omega arith))
-])
+walked_bound runs after (most ∷ room) (have ∷ held) before earlier sets pairs tiles long of_four goes sl pl one =
+    rw (walked_at runs after most have room held before earlier (sets + sl) (pairs + pl)) (elim (cases_lt goes.begin 3) [
+      | inl few ↦ goes_bound runs (walked runs after room held) room most have before earlier sets pairs held tiles sl pl (after sl pl) goes of_four.0 (omega arith) one
+          (walked_bound runs after room held goes.begin before goes.sets_later goes.pairs_later goes.rest (omega arith) of_four.1 goes.more sl pl (let e = goes.pairs_are in omega arith))
+      | inr many ↦
+          let swapped = fewer_runs runs room most before earlier sets pairs tiles goes many in
+          let fewer = swapped.0 in
+          let three : fewer.begin + 3 ≡ goes.begin = swapped.1 in
+          goes_bound runs (walked runs after room held) room most have before earlier sets pairs held tiles sl pl (after sl pl) fewer of_four.0
+          (let w = goes.within in let m = of_four.0 in omega arith) one
+          (walked_bound runs after room held fewer.begin before fewer.sets_later fewer.pairs_later fewer.rest (omega arith) of_four.1 fewer.more sl pl (let e = fewer.pairs_are in omega arith))
+    ])
 
 -- ---- some tiles leave it
 
@@ -211,15 +221,18 @@ begun_few next r t e s p few few_sets one bound = elim (cases_lt s (r + t)) [
   | inl less ↦ (let z : begun next r t e s p ≡ 0 = taken_few_sets (r + t) e (next r) s p less in omega arith)
   | inr sets ↦ elim (cases_lt p e) [
     | inl less ↦ (let z : begun next r t e s p ≡ 0 = taken_few_pairs (r + t) e (next r) s p less in omega arith)
-    | inr pairs ↦ (let z : begun next r t e s p ≡ next r (s - (r + t)) (p - e) = taken_in (r + t) e (next r) s p sets pairs in let b = bound (s - (r + t)) (p - e) (omega arith) (omega arith) in omega arith)
+    | inr pairs ↦ (let z : begun next r t e s p ≡ next r (s - (r + t)) (p - e) = taken_in (r + t) e (next r) s p sets pairs in
+        let b = bound (s - (r + t)) (p - e) (omega arith) (omega arith) in omega arith)
   ]
 ]
 
 -- the walk leaves at most fifteen
-pub walked_few : (runs : Bool) (after : ℕ → ℕ → ℕ) → ((s p : ℕ) → s < 8 → p < 2 → after s p ≤ 15) → (room held : List ℕ) (before earlier s p : ℕ) → s < 8 → p < 2 → walked runs after room held before earlier s p ≤ 15
+pub walked_few : (runs : Bool) (after : ℕ → ℕ → ℕ) → ((s p : ℕ) → s < 8 → p < 2 → after s p ≤ 15) → (room held : List ℕ) (before earlier s p : ℕ) → s < 8 → p < 2
+    → walked runs after room held before earlier s p ≤ 15
 walked_few runs after few [] held before earlier s p few_sets one =
     let b = few s p few_sets one in
-    elim (cases_cond ((eqb before 0) && (eqb earlier 0)) (after s p) 0 (walked runs after [] held before earlier s p) (walked_past runs after held before earlier s p)) [ inl e ↦ omega arith | inr e ↦ omega arith ]
+    elim (cases_cond ((eqb before 0) && (eqb earlier 0)) (after s p) 0 (walked runs after [] held before earlier s p) (walked_past runs after held before earlier s p))
+    [ inl e ↦ omega arith | inr e ↦ omega arith ]
 walked_few runs after few (most ∷ room) [] before earlier s p few_sets one = (let z = walked_none runs after most room before earlier s p in omega arith)
 walked_few runs after few (most ∷ room) (have ∷ held) before earlier s p few_sets one = rw (walked_at runs after most have room held before earlier s p) (elim (most_left_reached lefts costs) [
   | inl none ↦ omega arith
@@ -228,7 +241,8 @@ walked_few runs after few (most ∷ room) (have ∷ held) before earlier s p few
       elim (choice_reached runs next s p leaves.at) [
         | inl none ↦ omega arith
         | inr chooses ↦
-            let b : begun next chooses.begin chooses.triplets chooses.pairs s p ≤ 15 = begun_few next chooses.begin chooses.triplets chooses.pairs s p 15 few_sets one (λ s p. walked_few runs after few room held chooses.begin before s p) in
+            let b : begun next chooses.begin chooses.triplets chooses.pairs s p ≤ 15 =
+            begun_few next chooses.begin chooses.triplets chooses.pairs s p 15 few_sets one (λ s p. walked_few runs after few room held chooses.begin before s p) in
             let c : get_or lefts leaves.at 0 ≡ begun next chooses.begin chooses.triplets chooses.pairs s p = chooses.left_is in
             omega arith
       ]
@@ -295,7 +309,8 @@ step_reached runs after room held most have before earlier s p r t e begins with
       left_is = omega arith;
     }
 
-pub walked_reached : (runs : Bool) (after : ℕ → ℕ → ℕ) → ((s p : ℕ) → s < 8 → p < 2 → after s p ≤ 15) → (room held : List ℕ) (before earlier s p : ℕ) → s < 8 → p < 2 → length room ≡ length held → OfFour room
+pub walked_reached : (runs : Bool) (after : ℕ → ℕ → ℕ) → ((s p : ℕ) → s < 8 → p < 2 → after s p ≤ 15) → (room held : List ℕ) (before earlier s p : ℕ) → s < 8 → p < 2
+    → length room ≡ length held → OfFour room
     → (walked runs after room held before earlier s p ≡ 0) ⊎ Reached runs after room held before earlier s p (walked runs after room held before earlier s p)
 walked_reached runs after few [] [] before earlier s p few_sets one long of_four = elim (cases_Bool ((eqb before 0) && (eqb earlier 0))) [
   | inl none ↦
@@ -328,17 +343,20 @@ walked_reached runs after few (most ∷ room) (have ∷ held) before earlier s p
               let left : get_or lefts leaves.at 0 ≡ begun next chooses.begin chooses.triplets chooses.pairs s p = chooses.left_is in
               let begins : Begins next chooses.begin chooses.triplets chooses.pairs s p = begun_reached next chooses.begin chooses.triplets chooses.pairs s p (omega arith) in
               let begun_is : begun next chooses.begin chooses.triplets chooses.pairs s p ≡ next chooses.begin (s - (chooses.begin + chooses.triplets)) (p - chooses.pairs) = begins.is in
-              let bound : next chooses.begin (s - (chooses.begin + chooses.triplets)) (p - chooses.pairs) ≤ 15 = walked_few runs after few room held chooses.begin before (s - (chooses.begin + chooses.triplets)) (p - chooses.pairs) (omega arith) (omega arith) in
+              let bound : next chooses.begin (s - (chooses.begin + chooses.triplets)) (p - chooses.pairs) ≤ 15 =
+              walked_few runs after few room held chooses.begin before (s - (chooses.begin + chooses.triplets)) (p - chooses.pairs) (omega arith) (omega arith) in
               let long_costs : length costs ≡ 5 - (before + earlier) = length-drop (before + earlier) (prices have most) in
               let few_costs : leaves.at < length costs = leaves.few_costs in
               let cost : get_or costs leaves.at 0 ≡ price have most (before + earlier + leaves.at) = cost_at have most (before + earlier) leaves.at (omega arith) in
               let tiles_are : leaves.at ≡ chooses.begin + 3 * chooses.triplets + 2 * chooses.pairs = chooses.tiles_are in
               let paid = paid_for _ _ _ _ _ _ _ _ _ some at is left begun_is bound cost in
               let within : before + earlier + (chooses.begin + 3 * chooses.triplets + 2 * chooses.pairs) ≤ most = (let w = paid.0 in omega arith) in
-              let kept : next chooses.begin (s - (chooses.begin + chooses.triplets)) (p - chooses.pairs) ≡ walked runs after (most ∷ room) (have ∷ held) before earlier s p + (before + earlier + (chooses.begin + 3 * chooses.triplets + 2 * chooses.pairs) - have) = (let w = paid.1 in omega arith) in
+              let kept : next chooses.begin (s - (chooses.begin + chooses.triplets)) (p - chooses.pairs) ≡ walked runs after (most ∷ room) (have ∷ held) before earlier s p +
+              (before + earlier + (chooses.begin + 3 * chooses.triplets + 2 * chooses.pairs) - have) = (let w = paid.1 in omega arith) in
               elim (walked_reached runs after few room held chooses.begin before (s - (chooses.begin + chooses.triplets)) (p - chooses.pairs) (omega arith) (omega arith) (omega arith) of_four.1) [
                 | inl none ↦ inl (omega arith)
-                | inr later ↦ inr (step_reached runs after room held most have before earlier s p chooses.begin chooses.triplets chooses.pairs begins within chooses.only (walked runs after (most ∷ room) (have ∷ held) before earlier s p) kept later)
+                | inr later ↦ inr (step_reached runs after room held most have before earlier s p chooses.begin chooses.triplets chooses.pairs begins within chooses.only
+                    (walked runs after (most ∷ room) (have ∷ held) before earlier s p) kept later)
               ]
         ]
       ]
@@ -353,5 +371,6 @@ walked_reached runs after few (most ∷ room) (have ∷ held) before earlier s p
     costs : List ℕ
     costs = drop (before + earlier) (prices have most)
 
-    paid_for : (whole most_of left here later cost have most n : ℕ) → (whole ≡ 0 → ⊥) → whole ≡ most_of → most_of ≡ left - cost → left ≡ here → here ≡ later → later ≤ 15 → cost ≡ price have most n → (n ≤ most) × (later ≡ whole + (n - have))
+    paid_for : (whole most_of left here later cost have most n : ℕ) → (whole ≡ 0 → ⊥) → whole ≡ most_of → most_of ≡ left - cost → left ≡ here → here ≡ later → later ≤ 15
+        → cost ≡ price have most n → (n ≤ most) × (later ≡ whole + (n - have))
     paid_for whole most_of left here later cost have most n some a b c d e f = (omega arith, omega arith)

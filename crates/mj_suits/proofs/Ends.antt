@@ -4,7 +4,8 @@ use Rattle.mj_suits.specs.Inner.Ends.{Goes, Ends}
 
 -- ---- three equal runs are three triplets
 
-swapped_earlier : (runs : Bool) (room : List ℕ) (before earlier sets pairs : ℕ) (tiles : List ℕ) → Ends runs room before (earlier + 3) sets pairs tiles → Ends runs room before earlier (sets + 1) pairs tiles
+swapped_earlier : (runs : Bool) (room : List ℕ) (before earlier sets pairs : ℕ) (tiles : List ℕ) → Ends runs room before (earlier + 3) sets pairs tiles
+    → Ends runs room before earlier (sets + 1) pairs tiles
 swapped_earlier runs [] before earlier sets pairs tiles ends = absurd (let e : earlier + 3 ≡ 0 = ends.1.0 in omega arith)
 swapped_earlier runs (most ∷ room) before earlier sets pairs tiles goes = record {
   begin = goes.begin;
@@ -21,7 +22,8 @@ swapped_earlier runs (most ∷ room) before earlier sets pairs tiles goes = reco
   within = (let w = goes.within in omega arith);
 }
 
-swapped_before : (runs : Bool) (room : List ℕ) (before earlier sets pairs : ℕ) (tiles : List ℕ) → Ends runs room (before + 3) earlier sets pairs tiles → Ends runs room before earlier (sets + 2) pairs tiles
+swapped_before : (runs : Bool) (room : List ℕ) (before earlier sets pairs : ℕ) (tiles : List ℕ) → Ends runs room (before + 3) earlier sets pairs tiles
+    → Ends runs room before earlier (sets + 2) pairs tiles
 swapped_before runs [] before earlier sets pairs tiles ends = absurd (let e : before + 3 ≡ 0 = ends.0 in omega arith)
 swapped_before runs (most ∷ room) before earlier sets pairs tiles goes = record {
   begin = goes.begin;
@@ -39,7 +41,8 @@ swapped_before runs (most ∷ room) before earlier sets pairs tiles goes = recor
 }
 
 -- where a triplet and three runs or more begin, as well none does: fewer than three runs, and no more than one triplet or pair
-pub fewer_runs : (runs : Bool) (room : List ℕ) (most before earlier sets pairs : ℕ) (tiles : List ℕ) (goes : Goes runs (Ends runs room) most before earlier sets pairs tiles) → 3 ≤ goes.begin → (fewer : Goes runs (Ends runs room) most before earlier sets pairs tiles) × (fewer.begin + 3 ≡ goes.begin)
+pub fewer_runs : (runs : Bool) (room : List ℕ) (most before earlier sets pairs : ℕ) (tiles : List ℕ) (goes : Goes runs (Ends runs room) most before earlier sets pairs tiles)
+    → 3 ≤ goes.begin → (fewer : Goes runs (Ends runs room) most before earlier sets pairs tiles) × (fewer.begin + 3 ≡ goes.begin)
 fewer_runs runs room most before earlier sets pairs tiles goes three =
     let k = goes.begin - 3 in
     let is : goes.begin ≡ k + 3 = omega arith in (

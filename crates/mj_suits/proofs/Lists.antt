@@ -27,7 +27,8 @@ AllPairs-append R xs ys in_xs in_ys across i j d before inside =
     ]
 
 -- what has P is of one of two kinds, and of one only
-pub AreAll-append : {X : Type 0} (P Q R : X → Type 0) (xs ys : List X) → ((x : X) → Q x → P x) → ((x : X) → R x → P x) → ((x : X) → P x → Q x ⊎ R x) → ((x : X) → Q x → R x → ⊥) → AreAll Q xs → AreAll R ys → AreAll P (xs ++ ys)
+pub AreAll-append : {X : Type 0} (P Q R : X → Type 0) (xs ys : List X) → ((x : X) → Q x → P x) → ((x : X) → R x → P x) → ((x : X) → P x → Q x ⊎ R x) → ((x : X) → Q x → R x → ⊥)
+    → AreAll Q xs → AreAll R ys → AreAll P (xs ++ ys)
 AreAll-append {X} P Q R xs ys left right cases apart in_xs in_ys = record {
   only = All-append P xs ys (All-weaker Q P left xs in_xs.only) (All-weaker R P right ys in_ys.only);
   all = λ x h. elim (cases x h) [

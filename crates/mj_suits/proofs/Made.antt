@@ -46,7 +46,8 @@ pair_from n None = 0
 pair_from n (Some m) = once (leb n m)
 
 -- the tiles of one set, and of all
-count_of-set : (n : ℕ) (s : SuitSet) → count_of n (tiles_of_set s) ≡ once (s.run && eqb s.low n) + once (s.run && eqb (s.low + 1) n) + once (s.run && eqb (s.low + 2) n) + 3 * once (not s.run && eqb s.low n)
+count_of-set : (n : ℕ) (s : SuitSet)
+    → count_of n (tiles_of_set s) ≡ once (s.run && eqb s.low n) + once (s.run && eqb (s.low + 1) n) + once (s.run && eqb (s.low + 2) n) + 3 * once (not s.run && eqb s.low n)
 count_of-set n s = elim (cases_Bool s.run) [
   | inl run ↦ rw run (omega arith)
   | inr triplet ↦ rw triplet (omega arith)
@@ -180,7 +181,8 @@ ends_from runs sets pair formed in_suit [] (x ∷ tiles) n before earlier s p he
 ends_from runs sets pair formed in_suit (most ∷ room) [] n before earlier s p here long counted within b e sets_are pairs_are = absurd (omega arith)
 ends_from runs sets pair formed in_suit (most ∷ room) (x ∷ tiles) n before earlier s p here long counted within b e sets_are pairs_are =
     let first : x ≡ count_of (n + 0) (tiles_of_sets sets ++ tiles_of_pair pair) = counted 0 (omega arith) in
-    let at_n : count_of (n + 0) (tiles_of_sets sets ++ tiles_of_pair pair) ≡ count_of n (tiles_of_sets sets ++ tiles_of_pair pair) = ap (λ k. count_of k (tiles_of_sets sets ++ tiles_of_pair pair)) (let z : n + 0 ≡ n = omega arith in z) in
+    let at_n : count_of (n + 0) (tiles_of_sets sets ++ tiles_of_pair pair) ≡ count_of n (tiles_of_sets sets ++ tiles_of_pair pair) =
+    ap (λ k. count_of k (tiles_of_sets sets ++ tiles_of_pair pair)) (let z : n + 0 ≡ n = omega arith in z) in
     let split = count_of-append n (tiles_of_sets sets) (tiles_of_pair pair) in
     let of_sets = count_of-sets n sets in
     let of_pair = count_of-pair_at n pair in
@@ -226,7 +228,8 @@ count_of-again n (suc many) s sets =
     added : (whole one others rest many : ℕ) → whole ≡ one + others → others ≡ many * one + rest → whole ≡ suc many * one + rest
     added whole one others rest many a b = omega arith
 
-formed_again : (runs : Bool) (many : ℕ) (s : SuitSet) (sets : List SuitSet) → (0 < many → is_well_formed runs s ≡ true) → list_all (is_well_formed runs) sets ≡ true → list_all (is_well_formed runs) (replicate many s ++ sets) ≡ true
+formed_again : (runs : Bool) (many : ℕ) (s : SuitSet) (sets : List SuitSet) → (0 < many → is_well_formed runs s ≡ true) → list_all (is_well_formed runs) sets ≡ true
+    → list_all (is_well_formed runs) (replicate many s ++ sets) ≡ true
 formed_again runs zero s sets one others = others
 formed_again runs (suc many) s sets one others = and_from (is_well_formed runs s) _ (one (omega arith)) (formed_again runs many s sets (λ some. one (omega arith)) others)
 
@@ -249,7 +252,8 @@ count_of-run_on : (low j : ℕ) → count_of (low + j) (tiles_of_set (run_of low
 count_of-run_on low zero = rw (eq-eqb low (low + 0) (omega arith), ne_eqb (low + 1) (low + 0) (λ e. omega arith), ne_eqb (low + 2) (low + 0) (λ e. omega arith)) refl
 count_of-run_on low (suc zero) = rw (ne_eqb low (low + 1) (λ e. omega arith), eq-eqb (low + 1) (low + 1) refl, ne_eqb (low + 2) (low + 1) (λ e. omega arith)) refl
 count_of-run_on low (suc (suc zero)) = rw (ne_eqb low (low + 2) (λ e. omega arith), ne_eqb (low + 1) (low + 2) (λ e. omega arith), eq-eqb (low + 2) (low + 2) refl) refl
-count_of-run_on low (suc (suc (suc j))) = rw (ne_eqb low (low + suc (suc (suc j))) (λ e. omega arith), ne_eqb (low + 1) (low + suc (suc (suc j))) (λ e. omega arith), ne_eqb (low + 2) (low + suc (suc (suc j))) (λ e. omega arith)) refl
+count_of-run_on low (suc (suc (suc j))) =
+    rw (ne_eqb low (low + suc (suc (suc j))) (λ e. omega arith), ne_eqb (low + 1) (low + suc (suc (suc j))) (λ e. omega arith), ne_eqb (low + 2) (low + suc (suc (suc j))) (λ e. omega arith)) refl
 
 count_of-triplet_on : (low j : ℕ) → count_of (low + j) (tiles_of_set (triplet_of low)) ≡ only_first 3 j
 count_of-triplet_on low zero = rw (eq-eqb low (low + 0) (omega arith)) refl
@@ -288,9 +292,11 @@ abbrev pick : ℕ → ℕ → Option ℕ → Option ℕ
 pick zero n later = later
 pick (suc e) n later = Some n
 
-count_of-picked : (k e n : ℕ) (later : Option ℕ) → e + once (is_some later) ≤ 1 → count_of k (tiles_of_pair (pick e n later)) ≡ e * count_of k (tiles_of_pair (Some n)) + count_of k (tiles_of_pair later)
+count_of-picked : (k e n : ℕ) (later : Option ℕ) → e + once (is_some later) ≤ 1
+    → count_of k (tiles_of_pair (pick e n later)) ≡ e * count_of k (tiles_of_pair (Some n)) + count_of k (tiles_of_pair later)
 count_of-picked k zero n later few = omega arith
-count_of-picked k (suc zero) n None few = (let two = count_of k (tiles_of_pair (Some n)) in let one : 1 * count_of k (tiles_of_pair (Some n)) ≡ count_of k (tiles_of_pair (Some n)) = omega arith in omega arith)
+count_of-picked k (suc zero) n None few =
+    (let two = count_of k (tiles_of_pair (Some n)) in let one : 1 * count_of k (tiles_of_pair (Some n)) ≡ count_of k (tiles_of_pair (Some n)) = omega arith in omega arith)
 count_of-picked k (suc e) n (Some m) few = absurd (omega arith)
 count_of-picked k (suc (suc e)) n later few = absurd (omega arith)
 
@@ -308,7 +314,9 @@ carried_next begin before earlier (suc zero) = omega arith
 carried_next begin before earlier (suc (suc j)) = omega arith
 
 -- the sets and the pair that begin at a number, before those of the numbers after it
-made_at : (runs : Bool) (most : ℕ) (room : List ℕ) (n before earlier sets pairs : ℕ) (tiles : List ℕ) → n + length (most ∷ room) ≡ 9 → pairs ≤ 1 → (goes : Goes runs (Ends runs room) most before earlier sets pairs tiles) → Made runs room (suc n) goes.begin before goes.sets_later goes.pairs_later goes.rest → Made runs (most ∷ room) n before earlier sets pairs tiles
+made_at : (runs : Bool) (most : ℕ) (room : List ℕ) (n before earlier sets pairs : ℕ) (tiles : List ℕ) → n + length (most ∷ room) ≡ 9 → pairs ≤ 1
+    → (goes : Goes runs (Ends runs room) most before earlier sets pairs tiles) → Made runs room (suc n) goes.begin before goes.sets_later goes.pairs_later goes.rest
+    → Made runs (most ∷ room) n before earlier sets pairs tiles
 made_at runs most room n before earlier sets pairs tiles here few goes later = record {
   list = list;
   pair = pair;
@@ -340,7 +348,8 @@ made_at runs most room n before earlier sets pairs tiles here few goes later = r
         let with_runs : runs ≡ true = elim (cases_Bool runs) [ inl with_them ↦ with_them | inr honours ↦ absurd (let z : goes.begin ≡ 0 = goes.only honours in omega arith) ] in
         and_from runs _ with_runs (lt-ltb n 7 (omega arith))
 
-    total : (k : ℕ) → count_of k (tiles_of_sets list ++ tiles_of_pair pair) ≡ goes.begin * count_of k (tiles_of_set (run_of n)) + (goes.triplets * count_of k (tiles_of_set (triplet_of n)) + (goes.pairs_here * count_of k (tiles_of_pair (Some n)) + count_of k (tiles_of_sets later.list ++ tiles_of_pair later.pair)))
+    total : (k : ℕ) → count_of k (tiles_of_sets list ++ tiles_of_pair pair) ≡ goes.begin * count_of k (tiles_of_set (run_of n)) +
+        (goes.triplets * count_of k (tiles_of_set (triplet_of n)) + (goes.pairs_here * count_of k (tiles_of_pair (Some n)) + count_of k (tiles_of_sets later.list ++ tiles_of_pair later.pair)))
     total k =
         let both = count_of-append k (tiles_of_sets list) (tiles_of_pair pair) in
         let runs_here = count_of-again k goes.begin (run_of n) (replicate goes.triplets (triplet_of n) ++ later.list) in
@@ -349,7 +358,8 @@ made_at runs most room n before earlier sets pairs tiles here few goes later = r
         let rest = count_of-append k (tiles_of_sets later.list) (tiles_of_pair later.pair) in
         summed _ _ _ _ _ _ _ _ _ _ both runs_here triplets_here pairs_here rest
       where
-        summed : (whole sets pair runs others triplets later pairs last rest : ℕ) → whole ≡ sets + pair → sets ≡ runs + others → others ≡ triplets + later → pair ≡ pairs + last → rest ≡ later + last → whole ≡ runs + (triplets + (pairs + rest))
+        summed : (whole sets pair runs others triplets later pairs last rest : ℕ) → whole ≡ sets + pair → sets ≡ runs + others → others ≡ triplets + later → pair ≡ pairs + last
+            → rest ≡ later + last → whole ≡ runs + (triplets + (pairs + rest))
         summed whole sets pair runs others triplets later pairs last rest a b c d e = omega arith
 
     counted : (j : ℕ) → j < length (most ∷ room) → get_or tiles j 0 ≡ carried before earlier j + count_of (n + j) (tiles_of_sets list ++ tiles_of_pair pair)
@@ -358,8 +368,10 @@ made_at runs most room n before earlier sets pairs tiles here few goes later = r
         ∙ sym (ap (λ k. before + earlier + k) (total (n + 0) ∙ rw (count_of-run_on n 0, count_of-triplet_on n 0, count_of-pair_on n 0, later.below (n + 0) (omega arith)) (omega arith)))
     counted (suc j) inside =
         let rest : get_or goes.rest j 0 ≡ carried goes.begin before j + count_of (suc n + j) (tiles_of_sets later.list ++ tiles_of_pair later.pair) = later.counted j (omega arith) in
-        let same : count_of (suc n + j) (tiles_of_sets later.list ++ tiles_of_pair later.pair) ≡ count_of (n + suc j) (tiles_of_sets later.list ++ tiles_of_pair later.pair) = ap (λ k. count_of k (tiles_of_sets later.list ++ tiles_of_pair later.pair)) (omega arith) in
-        let is : count_of (n + suc j) (tiles_of_sets list ++ tiles_of_pair pair) ≡ goes.begin * in_run (suc j) + count_of (n + suc j) (tiles_of_sets later.list ++ tiles_of_pair later.pair) = total (n + suc j) ∙ rw (count_of-run_on n (suc j), count_of-triplet_on n (suc j), count_of-pair_on n (suc j)) (omega arith) in
+        let same : count_of (suc n + j) (tiles_of_sets later.list ++ tiles_of_pair later.pair) ≡ count_of (n + suc j) (tiles_of_sets later.list ++ tiles_of_pair later.pair) =
+        ap (λ k. count_of k (tiles_of_sets later.list ++ tiles_of_pair later.pair)) (omega arith) in
+        let is : count_of (n + suc j) (tiles_of_sets list ++ tiles_of_pair pair) ≡ goes.begin * in_run (suc j) + count_of (n + suc j)
+        (tiles_of_sets later.list ++ tiles_of_pair later.pair) = total (n + suc j) ∙ rw (count_of-run_on n (suc j), count_of-triplet_on n (suc j), count_of-pair_on n (suc j)) (omega arith) in
         let next = carried_next goes.begin before earlier j in
         ap (λ t. get_or t (suc j) 0) goes.tiles_are ∙ omega arith
 
@@ -367,7 +379,8 @@ made_at runs most room n before earlier sets pairs tiles here few goes later = r
     within zero inside = (let e = ap (λ t. get_or t 0 0) goes.tiles_are in let w = goes.within in omega arith)
     within (suc j) inside = (let e = ap (λ t. get_or t (suc j) 0) goes.tiles_are in let w = later.within j (omega arith) in omega arith)
 
-pub made_from : (runs : Bool) (room : List ℕ) (n before earlier sets pairs : ℕ) (tiles : List ℕ) → n + length room ≡ 9 → pairs ≤ 1 → Ends runs room before earlier sets pairs tiles → Made runs room n before earlier sets pairs tiles
+pub made_from : (runs : Bool) (room : List ℕ) (n before earlier sets pairs : ℕ) (tiles : List ℕ) → n + length room ≡ 9 → pairs ≤ 1 → Ends runs room before earlier sets pairs tiles
+    → Made runs room n before earlier sets pairs tiles
 made_from runs [] n before earlier sets pairs tiles here few ends = record {
   list = [];
   pair = None;

@@ -30,7 +30,8 @@ AsGood-refl (Some x) = inr (refl, ap is_gt (tied_itself nat_list_cmp_total x.1))
 
 -- ---- two searches in a row
 
-pub Improves-both : (held : List ℕ) (P Q R : List ℕ → Type 0) (a b c : Option (ℕ × List ℕ)) → ((t : List ℕ) → Q t → P t) → ((t : List ℕ) → R t → P t) → ((t : List ℕ) → P t → Q t ⊎ R t) → Improves held Q a b → Improves held R b c → Improves held P a c
+pub Improves-both : (held : List ℕ) (P Q R : List ℕ → Type 0) (a b c : Option (ℕ × List ℕ)) → ((t : List ℕ) → Q t → P t) → ((t : List ℕ) → R t → P t) → ((t : List ℕ) → P t → Q t ⊎ R t)
+    → Improves held Q a b → Improves held R b c → Improves held P a c
 Improves-both held P Q R a b c left right cases first second = record {
   one = which second.one first.one;
   kept = AsGood-trans c b a second.kept first.kept;
@@ -40,7 +41,8 @@ Improves-both held P Q R a b c left right cases first second = record {
   ];
 }
   where
-    which : (c ≡ b) ⊎ ((t : List ℕ) × R t × (c ≡ Some (missing t held, t))) → (b ≡ a) ⊎ ((t : List ℕ) × Q t × (b ≡ Some (missing t held, t))) → (c ≡ a) ⊎ ((t : List ℕ) × P t × (c ≡ Some (missing t held, t)))
+    which : (c ≡ b) ⊎ ((t : List ℕ) × R t × (c ≡ Some (missing t held, t))) → (b ≡ a) ⊎ ((t : List ℕ) × Q t × (b ≡ Some (missing t held, t)))
+        → (c ≡ a) ⊎ ((t : List ℕ) × P t × (c ≡ Some (missing t held, t)))
     which (inl same) (inl old) = inl (same ∙ old)
     which (inl same) (inr new) = inr (new.0, left new.0 new.1, same ∙ new.2)
     which (inr new) first = inr (new.0, right new.0 new.1, new.2)
@@ -70,7 +72,8 @@ kept_old held target a number is good = Improves-not held (λ t. t ≡ target) a
     (λ t same. subst (λ u. AsGood a (Some (missing u held, u))) (sym same) (subst (λ n. AsGood a (Some (n, target))) is good))
 
 -- one target that is at least as good
-pub kept_new : (held target : List ℕ) (a : Option (ℕ × List ℕ)) (number : ℕ) → number ≡ missing target held → AsGood (Some (number, target)) a → Improves held (λ t. t ≡ target) a (Some (number, target))
+pub kept_new : (held target : List ℕ) (a : Option (ℕ × List ℕ)) (number : ℕ) → number ≡ missing target held → AsGood (Some (number, target)) a
+    → Improves held (λ t. t ≡ target) a (Some (number, target))
 kept_new held target a number is good = record {
   one = inr (target, refl, ap (λ n. let x : ℕ × List ℕ = (n, target) in Some x) is);
   kept = good;

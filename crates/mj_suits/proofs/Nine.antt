@@ -20,14 +20,17 @@ nine_are (a ∷ b ∷ c ∷ d ∷ e ∷ f ∷ g ∷ h ∷ i ∷ []) nine = refl
 nine_are xs nine = absurd (omega arith)
 
 -- the walk over the nine numbers is the walk over the list
-pub holds_whole : (row : List ℕ) (runs : Bool) (after : ℕ → ℕ → ℕ) (room counts : List ℕ) → length room ≡ 9 → length counts ≡ 9 → Holds row (walked runs after (nine_of room) (nine_of counts) 0 0) → Holds row (walked runs after room counts 0 0)
+pub holds_whole : (row : List ℕ) (runs : Bool) (after : ℕ → ℕ → ℕ) (room counts : List ℕ) → length room ≡ 9 → length counts ≡ 9
+    → Holds row (walked runs after (nine_of room) (nine_of counts) 0 0) → Holds row (walked runs after room counts 0 0)
 holds_whole row runs after room counts nine nine_counts holds =
     subst (λ r. Holds row (walked runs after r counts 0 0)) (nine_are room nine)
     (subst (λ c. Holds row (walked runs after (nine_of room) c 0 0)) (nine_are counts nine_counts) holds)
 
 -- one number of honours
-pub honours_step : (next triplet pair result : List ℕ) (after : ℕ → ℕ → ℕ) (most have : ℕ) (room held : List ℕ) (costs : Costs) → AreCosts have most costs → Holds next (walked false after room held 0 0)
-    → ((s p : ℕ) → s < 8 → p < 2 → lane triplet s p ≡ taken 1 0 (lane next) s p - lane costs.three.lanes s p) → ((s p : ℕ) → s < 8 → p < 2 → lane pair s p ≡ taken 0 1 (lane next) s p - lane costs.two.lanes s p)
+pub honours_step : (next triplet pair result : List ℕ) (after : ℕ → ℕ → ℕ) (most have : ℕ) (room held : List ℕ) (costs : Costs) → AreCosts have most costs
+    → Holds next (walked false after room held 0 0)
+    → ((s p : ℕ) → s < 8 → p < 2 → lane triplet s p ≡ taken 1 0 (lane next) s p - lane costs.three.lanes s p)
+    → ((s p : ℕ) → s < 8 → p < 2 → lane pair s p ≡ taken 0 1 (lane next) s p - lane costs.two.lanes s p)
     → ((s p : ℕ) → s < 8 → p < 2 → lane result s p ≡ max (lane next s p) (max (lane pair s p) (lane triplet s p)))
     → Holds result (walked false after (most ∷ room) (have ∷ held) 0 0)
 honours_step next triplet pair result after most have room held costs are holds triplet_is pair_is result_is = record {
@@ -39,12 +42,14 @@ honours_step next triplet pair result after most have room held costs are holds 
       summed _ _ _ _ _ _ _ _ _ _ _ _ _ (result_is s p few one) (pair_is s p few one) (triplet_is s p few one) a b none (are.two.at s p few one) (are.three.at s p few one) ∙ sym now;
 }
   where
-    summed : (result next pair triplet pair_left triplet_left pair_begun triplet_begun none_begun cost_two cost_three one two : ℕ) → result ≡ max next (max pair triplet) → pair ≡ pair_left - cost_two → triplet ≡ triplet_left - cost_three → triplet_left ≡ triplet_begun → pair_left ≡ pair_begun → none_begun ≡ next → cost_two ≡ two → cost_three ≡ one
+    summed : (result next pair triplet pair_left triplet_left pair_begun triplet_begun none_begun cost_two cost_three one two : ℕ) → result ≡ max next (max pair triplet)
+        → pair ≡ pair_left - cost_two → triplet ≡ triplet_left - cost_three → triplet_left ≡ triplet_begun → pair_left ≡ pair_begun → none_begun ≡ next → cost_two ≡ two → cost_three ≡ one
         → result ≡ max (none_begun - 0) (max (0 - price have most 1) (max (pair_begun - two) (max (triplet_begun - one) 0)))
     summed result next pair triplet pair_left triplet_left pair_begun triplet_begun none_begun cost_two cost_three one two a b c d e f g h = omega arith
 
 -- a number for which there is no room
-pub no_room : (next : List ℕ) (after : ℕ → ℕ → ℕ) (have : ℕ) (room held : List ℕ) → IsFew next → Holds next (walked false after room held 0 0) → Holds next (walked false after (0 ∷ room) (have ∷ held) 0 0)
+pub no_room : (next : List ℕ) (after : ℕ → ℕ → ℕ) (have : ℕ) (room held : List ℕ) → IsFew next → Holds next (walked false after room held 0 0)
+    → Holds next (walked false after (0 ∷ room) (have ∷ held) 0 0)
 no_room next after have room held short holds = record {
   at = λ s p few one.
       let now = walked_at false after 0 have room held 0 0 s p in
@@ -74,7 +79,8 @@ of_four (most ∷ room) each = (each 0 (omega arith), of_four room (λ n inside.
 -- ---- the tiles from the lowest number on, and the targets
 
 -- what a target leaves, by its tiles from the lowest number on
-pub leaves_by : (counts room : List ℕ) (runs : Bool) (after : List ℕ) (s p left : ℕ) (target : List ℕ) (sa pa sets pairs_here : ℕ) → length room ≡ 9 → p < 2 → Ends runs room 0 0 sets pairs_here target → s ≡ sets + sa → p ≡ pairs_here + pa → lane after sa pa ≡ left + missing target counts → LeavesBy counts room runs after s p left target sa pa
+pub leaves_by : (counts room : List ℕ) (runs : Bool) (after : List ℕ) (s p left : ℕ) (target : List ℕ) (sa pa sets pairs_here : ℕ) → length room ≡ 9 → p < 2
+    → Ends runs room 0 0 sets pairs_here target → s ≡ sets + sa → p ≡ pairs_here + pa → lane after sa pa ≡ left + missing target counts → LeavesBy counts room runs after s p left target sa pa
 leaves_by counts room runs after s p left target sa pa sets zero nine few ends sets_are pairs_are left_is = record {
   melds = sets;
   paired = false;
@@ -94,15 +100,18 @@ leaves_by counts room runs after s p left target sa pa sets (suc zero) nine few 
 leaves_by counts room runs after s p left target sa pa sets (suc (suc many)) nine few ends sets_are pairs_are left_is = absurd (omega arith)
 
 -- the most that the targets leave is what the walk leaves
-pub leaves_most_of : (counts room : List ℕ) (runs : Bool) (after : List ℕ) → length room ≡ 9 → length counts ≡ 9 → ((n : ℕ) → n < length room → get_or room n 0 ≤ 4) → IsFew after → (s p : ℕ) → s < 8 → p < 2
+pub leaves_most_of : (counts room : List ℕ) (runs : Bool) (after : List ℕ) → length room ≡ 9 → length counts ≡ 9 → ((n : ℕ) → n < length room → get_or room n 0 ≤ 4) → IsFew after
+    → (s p : ℕ) → s < 8 → p < 2
     → ((left : ℕ) → Leaves counts room runs after s p left → left ≤ walked runs (lane after) room counts 0 0 s p)
     × ((walked runs (lane after) room counts 0 0 s p ≡ 0) ⊎ Leaves counts room runs after s p (walked runs (lane after) room counts 0 0 s p))
 leaves_most_of counts room runs after nine nine_counts each few s p few_sets few_pairs = (
   λ left leaves.
       let by = leaves.by in
       let is = target_ends room runs by.melds by.paired leaves.target nine by.is_target in
-      let bound = walked_bound runs (lane after) room counts 0 0 by.melds (pairs by.paired) leaves.target (nine ∙ sym nine_counts) (of_four room each) is leaves.sets_after leaves.pairs_after (let e = by.pairs_are in omega arith) in
-      let same : walked runs (lane after) room counts 0 0 (by.melds + leaves.sets_after) (pairs by.paired + leaves.pairs_after) ≡ walked runs (lane after) room counts 0 0 s p = ap₂ (walked runs (lane after) room counts 0 0) (sym by.sets_are) (sym by.pairs_are) in
+      let bound = walked_bound runs (lane after) room counts 0 0 by.melds (pairs by.paired) leaves.target (nine ∙ sym nine_counts)
+      (of_four room each) is leaves.sets_after leaves.pairs_after (let e = by.pairs_are in omega arith) in
+      let same : walked runs (lane after) room counts 0 0 (by.melds + leaves.sets_after) (pairs by.paired + leaves.pairs_after) ≡ walked runs (lane after) room counts 0 0 s p =
+      ap₂ (walked runs (lane after) room counts 0 0) (sym by.sets_are) (sym by.pairs_are) in
       bounded _ _ _ _ _ bound same by.left_is,
   elim (walked_reached runs (lane after) few room counts 0 0 s p few_sets few_pairs (nine ∙ sym nine_counts) (of_four room each)) [
     | inl none ↦ inl none
@@ -110,7 +119,9 @@ leaves_most_of counts room runs after nine nine_counts each few s p few_sets few
       target = reached.tiles;
       sets_after = reached.sets_left;
       pairs_after = reached.pairs_left;
-      by = leaves_by counts room runs after s p (walked runs (lane after) room counts 0 0 s p) reached.tiles reached.sets_left reached.pairs_left reached.sets reached.pairs nine few_pairs reached.ends reached.sets_are reached.pairs_are reached.left_is;
+      by = leaves_by counts room runs after s p
+          (walked runs (lane after) room counts 0 0 s p) reached.tiles reached.sets_left reached.pairs_left reached.sets reached.pairs nine few_pairs reached.ends reached.sets_are
+          reached.pairs_are reached.left_is;
     }
   ],
 )
@@ -119,7 +130,8 @@ leaves_most_of counts room runs after nine nine_counts each few s p few_sets few
     bounded spare whole whole' missed left a b c = omega arith
 
 -- the walk over a suit leaves the most that its targets leave
-pub leaves_most : (counts room : List ℕ) (runs : Bool) (after row : List ℕ) → length room ≡ 9 → length counts ≡ 9 → ((n : ℕ) → n < length room → get_or room n 0 ≤ 4) → IsFew after → Holds row (walked runs (lane after) room counts 0 0) → LeavesMost counts room runs after row
+pub leaves_most : (counts room : List ℕ) (runs : Bool) (after row : List ℕ) → length room ≡ 9 → length counts ≡ 9 → ((n : ℕ) → n < length room → get_or room n 0 ≤ 4) → IsFew after
+    → Holds row (walked runs (lane after) room counts 0 0) → LeavesMost counts room runs after row
 leaves_most counts room runs after row nine nine_counts each few holds = record {
   most = λ s p left few_sets few_pairs leaves.
       let here = holds.at s p few_sets few_pairs in

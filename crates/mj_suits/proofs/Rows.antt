@@ -20,9 +20,12 @@ pub begun_are : (none one two : List ℕ) (all : Begun) (next : ℕ → ℕ → 
 begun_are none one two all next are zero_runs one_run two_runs s p few single =
     let a : lane all.none.lanes s p ≡ begun next 0 0 0 s p = are.none_is.at s p few single ∙ zero_runs.at s p few single ∙ sym (taken_none (next 0) s p) in
     let b : lane all.one.lanes s p ≡ begun next 1 0 0 s p = are.one_is.at s p few single ∙ taken_held one (next 1) 1 0 s p one_run few single in
-    let c : lane all.two.lanes s p ≡ max (begun next 2 0 0 s p) (begun next 0 0 1 s p) = are.two_is.at s p few single ∙ ap₂ max (taken_held two (next 2) 2 0 s p two_runs few single) (taken_held none (next 0) 0 1 s p zero_runs few single) in
-    let d : lane all.three.lanes s p ≡ max (begun next 0 1 0 s p) (begun next 1 0 1 s p) = are.three_is.at s p few single ∙ ap₂ max (taken_held none (next 0) 1 0 s p zero_runs few single) (taken_held one (next 1) 1 1 s p one_run few single) in
-    let e : lane all.four.lanes s p ≡ max (begun next 1 1 0 s p) (begun next 2 0 1 s p) = are.four_is.at s p few single ∙ ap₂ max (taken_held one (next 1) 2 0 s p one_run few single) (taken_held two (next 2) 2 1 s p two_runs few single) in
+    let c : lane all.two.lanes s p ≡ max (begun next 2 0 0 s p) (begun next 0 0 1 s p) =
+    are.two_is.at s p few single ∙ ap₂ max (taken_held two (next 2) 2 0 s p two_runs few single) (taken_held none (next 0) 0 1 s p zero_runs few single) in
+    let d : lane all.three.lanes s p ≡ max (begun next 0 1 0 s p) (begun next 1 0 1 s p) =
+    are.three_is.at s p few single ∙ ap₂ max (taken_held none (next 0) 1 0 s p zero_runs few single) (taken_held one (next 1) 1 1 s p one_run few single) in
+    let e : lane all.four.lanes s p ≡ max (begun next 1 1 0 s p) (begun next 2 0 1 s p) =
+    are.four_is.at s p few single ∙ ap₂ max (taken_held one (next 1) 2 0 s p one_run few single) (taken_held two (next 2) 2 1 s p two_runs few single) in
     cc
 
 pub costs_are : (held room : ℕ) (costs : Costs) → AreCosts held room costs → (s p : ℕ) → s < 8 → p < 2 → cost_lanes costs s p ≡ prices held room
@@ -48,7 +51,8 @@ state_holds result all costs next held room many before earlier together begun_i
 }
 
 -- the walk at a number, and past the highest one
-pub walked_at : (runs : Bool) (after : ℕ → ℕ → ℕ) (most have : ℕ) (room held : List ℕ) (before earlier s p : ℕ) → walked runs after (most ∷ room) (have ∷ held) before earlier s p ≡ stepped runs have most (walked runs after room held) before earlier s p
+pub walked_at : (runs : Bool) (after : ℕ → ℕ → ℕ) (most have : ℕ) (room held : List ℕ) (before earlier s p : ℕ)
+    → walked runs after (most ∷ room) (have ∷ held) before earlier s p ≡ stepped runs have most (walked runs after room held) before earlier s p
 unfolding walked
 walked_at runs after most have room held before earlier s p = refl
 
@@ -70,7 +74,8 @@ nine_states P a b c d e f g h i before earlier few few_earlier =
     earlier few_earlier
 
 -- past the highest number
-pub past_are : (after : Row) (rows : Rows) → rows.none.none ≡ after → ((before earlier : ℕ) → (before ≡ 0 → earlier ≡ 0 → ⊥) → Holds (row_at rows before earlier) (λ s p. 0)) → AreRows (lane after.lanes) [] [] rows
+pub past_are : (after : Row) (rows : Rows) → rows.none.none ≡ after → ((before earlier : ℕ) → (before ≡ 0 → earlier ≡ 0 → ⊥) → Holds (row_at rows before earlier) (λ s p. 0))
+    → AreRows (lane after.lanes) [] [] rows
 past_are after rows alone none = record {
   at = nine_states (λ before earlier. Holds (row_at rows before earlier) (walked true (lane after.lanes) [] [] before earlier))
       record { at = λ s p few single. ap (λ row. lane row.lanes s p) alone ∙ sym (walked_past true (lane after.lanes) [] 0 0 s p) }
@@ -85,15 +90,18 @@ past_are after rows alone none = record {
     }
 
 -- the same state by the walk
-walked_holds : (result : List ℕ) (after : ℕ → ℕ → ℕ) (most have : ℕ) (room held : List ℕ) (before earlier : ℕ) → Holds result (stepped true have most (walked true after room held) before earlier) → Holds result (walked true after (most ∷ room) (have ∷ held) before earlier)
+walked_holds : (result : List ℕ) (after : ℕ → ℕ → ℕ) (most have : ℕ) (room held : List ℕ) (before earlier : ℕ)
+    → Holds result (stepped true have most (walked true after room held) before earlier) → Holds result (walked true after (most ∷ room) (have ∷ held) before earlier)
 walked_holds result after most have room held before earlier holds = record {
   at = λ s p few single. holds.at s p few single ∙ sym (walked_at true after most have room held before earlier s p);
 }
 
 -- the rows from a number on, by what begins there
 pub before_are : (after : ℕ → ℕ → ℕ) (most have : ℕ) (room held : List ℕ) (next rows : Rows) (none one two : Begun) (costs : Costs) → AreRows after room held next → AreCosts have most costs
-    → AreBegun (row_at next 0 0) (row_at next 1 0) (row_at next 2 0) none → AreBegun (row_at next 0 1) (row_at next 1 1) (row_at next 2 1) one → AreBegun (row_at next 0 2) (row_at next 1 2) (row_at next 2 2) two
-    → Sums rows none costs 0 0 0 → Sums rows one costs 1 0 1 → Sums rows two costs 2 0 2 → Sums rows none costs 0 1 1 → Sums rows one costs 1 1 2 → Sums rows two costs 2 1 3 → Sums rows none costs 0 2 2 → Sums rows one costs 1 2 3 → Sums rows two costs 2 2 4
+    → AreBegun (row_at next 0 0) (row_at next 1 0) (row_at next 2 0) none → AreBegun (row_at next 0 1) (row_at next 1 1) (row_at next 2 1) one
+    → AreBegun (row_at next 0 2) (row_at next 1 2) (row_at next 2 2) two
+    → Sums rows none costs 0 0 0 → Sums rows one costs 1 0 1 → Sums rows two costs 2 0 2 → Sums rows none costs 0 1 1 → Sums rows one costs 1 1 2 → Sums rows two costs 2 1 3
+    → Sums rows none costs 0 2 2 → Sums rows one costs 1 2 3 → Sums rows two costs 2 2 4
     → AreRows after (most ∷ room) (have ∷ held) rows
 before_are after most have room held next rows none one two costs are costs_is none_is one_is two_is a b c d e f g h i = record {
   at = nine_states (λ before earlier. Holds (row_at rows before earlier) (walked true after (most ∷ room) (have ∷ held) before earlier))
@@ -104,9 +112,11 @@ before_are after most have room held next rows none one two costs are costs_is n
   where
     by : (before : ℕ) → before < 3 → (all : Begun) → AreBegun (row_at next 0 before) (row_at next 1 before) (row_at next 2 before) all
         → (s p : ℕ) → s < 8 → p < 2 → begun_lanes all s p ≡ begun_by_tiles true (λ begin. walked true after room held begin before) s p
-    by before few all is = begun_are _ _ _ all (λ begin. walked true after room held begin before) is (are.at 0 before (omega arith) few) (are.at 1 before (omega arith) few) (are.at 2 before (omega arith) few)
+    by before few all is = begun_are _ _ _ all (λ begin. walked true after room held begin before) is (are.at 0 before (omega arith) few) (are.at 1 before (omega arith) few)
+        (are.at 2 before (omega arith) few)
 
-    state : (before earlier many : ℕ) (all : Begun) → before + earlier ≡ many → ((s p : ℕ) → s < 8 → p < 2 → begun_lanes all s p ≡ begun_by_tiles true (λ begin. walked true after room held begin before) s p)
+    state : (before earlier many : ℕ) (all : Begun) → before + earlier ≡ many
+        → ((s p : ℕ) → s < 8 → p < 2 → begun_lanes all s p ≡ begun_by_tiles true (λ begin. walked true after room held begin before) s p)
         → Sums rows all costs before earlier many → Holds (row_at rows before earlier) (walked true after (most ∷ room) (have ∷ held) before earlier)
     state before earlier many all together begun_is sums = walked_holds (row_at rows before earlier) after most have room held before earlier
         (state_holds (row_at rows before earlier) all costs (walked true after room held) have most many before earlier together begun_is costs_is sums)

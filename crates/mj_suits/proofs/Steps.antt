@@ -12,7 +12,8 @@ use Rattle.mj_suits.proofs.Tiles.{count_of-append, place-injective, place-apart,
 -- ---- what two searches in a row find
 
 -- what has P is of one of two kinds, and of one only; the second search adds to what the first one found
-pub Finds-both : (P Q R : Split → Type 0) (a b c : List Split) → ((x : Split) → Q x → P x) → ((x : Split) → R x → P x) → ((x : Split) → P x → Q x ⊎ R x) → ((x : Split) → Q x → R x → ⊥) → Finds Q a b → Finds R b c → Finds P a c
+pub Finds-both : (P Q R : Split → Type 0) (a b c : List Split) → ((x : Split) → Q x → P x) → ((x : Split) → R x → P x) → ((x : Split) → P x → Q x ⊎ R x) → ((x : Split) → Q x → R x → ⊥)
+    → Finds Q a b → Finds R b c → Finds P a c
 Finds-both P Q R a b c left right cases apart first second = record {
   added = first.added ++ second.added;
   is = second.is ∙ ap (λ xs. xs ++ second.added) first.is ∙ append_assoc a first.added second.added;
@@ -29,13 +30,15 @@ Finds-same P Q a b to from found = record {
 -- ---- a set
 
 -- the counts with one set more before the others
-pub used_more : (n : ℕ) (s : SuitSet) (more : List SuitSet) (last : Option ℕ) → count_of n (tiles_of_sets (s ∷ more) ++ tiles_of_pair last) ≡ count_of n (tiles_of_set s) + count_of n (tiles_of_sets more ++ tiles_of_pair last)
+pub used_more : (n : ℕ) (s : SuitSet) (more : List SuitSet) (last : Option ℕ)
+    → count_of n (tiles_of_sets (s ∷ more) ++ tiles_of_pair last) ≡ count_of n (tiles_of_set s) + count_of n (tiles_of_sets more ++ tiles_of_pair last)
 used_more n s more last =
     ap (count_of n) (append_assoc (tiles_of_set s) (tiles_of_sets more) (tiles_of_pair last))
     ∙ count_of-append n (tiles_of_set s) (tiles_of_sets more ++ tiles_of_pair last)
 
 -- a split that takes the set once more is one that goes on from the set
-set_again : (runs : Bool) (s : SuitSet) (left rest : List ℕ) (sets : List SuitSet) (pair : Option ℕ) → IsLess left s runs rest → (x : Split) → Continues runs (place s) s.low rest (sets ++ s ∷ []) pair x → Continues runs (place s) s.low left sets pair x
+set_again : (runs : Bool) (s : SuitSet) (left rest : List ℕ) (sets : List SuitSet) (pair : Option ℕ) → IsLess left s runs rest → (x : Split)
+    → Continues runs (place s) s.low rest (sets ++ s ∷ []) pair x → Continues runs (place s) s.low left sets pair x
 set_again runs s left rest sets pair less x h = record {
   more = s ∷ h.more;
   last = h.last;
@@ -50,7 +53,8 @@ set_again runs s left rest sets pair less x h = record {
 }
 
 -- a split that goes on after the set is one that goes on from the set
-set_later : (runs : Bool) (s : SuitSet) (left : List ℕ) (sets : List SuitSet) (pair : Option ℕ) → (x : Split) → Continues runs (place s + 1) s.low left sets pair x → Continues runs (place s) s.low left sets pair x
+set_later : (runs : Bool) (s : SuitSet) (left : List ℕ) (sets : List SuitSet) (pair : Option ℕ) → (x : Split) → Continues runs (place s + 1) s.low left sets pair x
+    → Continues runs (place s) s.low left sets pair x
 set_later runs s left sets pair x h = record {
   more = h.more;
   last = h.last;
@@ -62,7 +66,8 @@ set_later runs s left sets pair x h = record {
 }
 
 -- what goes on from the set, by its first set: it is the set itself, or all come later
-set_cases : (runs : Bool) (s : SuitSet) (left : List ℕ) (sets : List SuitSet) (pair : Option ℕ) (x : Split) (more : List SuitSet) (last : Option ℕ) → SetsFrom runs (place s) more → PairFrom (place s) pair last
+set_cases : (runs : Bool) (s : SuitSet) (left : List ℕ) (sets : List SuitSet) (pair : Option ℕ) (x : Split) (more : List SuitSet) (last : Option ℕ) → SetsFrom runs (place s) more
+    → PairFrom (place s) pair last
     → ((n : ℕ) → s.low ≤ n → n < 9 → count_of n (tiles_of_sets more ++ tiles_of_pair last) ≡ get_or left n 0)
     → x.sets ≡ sets ++ more → x.pair ≡ first_pair pair last
     → ((later : List SuitSet) × (more ≡ s ∷ later)) ⊎ Continues runs (place s + 1) s.low left sets pair x
@@ -91,7 +96,8 @@ set_cases runs s left sets pair x (t ∷ later) last formed paired used sets_are
     ]
 
 -- a split whose first set is this one goes on from it with the rest
-set_first : (runs : Bool) (s : SuitSet) (left rest : List ℕ) (sets : List SuitSet) (pair : Option ℕ) → IsLess left s runs rest → (x : Split) (h : Continues runs (place s) s.low left sets pair x) (later : List SuitSet) → h.more ≡ s ∷ later → Continues runs (place s) s.low rest (sets ++ s ∷ []) pair x
+set_first : (runs : Bool) (s : SuitSet) (left rest : List ℕ) (sets : List SuitSet) (pair : Option ℕ) → IsLess left s runs rest
+    → (x : Split) (h : Continues runs (place s) s.low left sets pair x) (later : List SuitSet) → h.more ≡ s ∷ later → Continues runs (place s) s.low rest (sets ++ s ∷ []) pair x
 set_first runs s left rest sets pair less x h later first = record {
   more = later;
   last = h.last;
@@ -101,7 +107,8 @@ set_first runs s left rest sets pair less x h later first = record {
       let e : get_or left n 0 ≡ count_of n (tiles_of_set s) + get_or rest n 0 = less.parts n high in
       let u : count_of n (tiles_of_sets (s ∷ later) ++ tiles_of_pair h.last) ≡ get_or left n 0 =
       ap (λ more. count_of n (tiles_of_sets more ++ tiles_of_pair h.last)) (sym first) ∙ h.used n low high in
-      let split : count_of n (tiles_of_sets (s ∷ later) ++ tiles_of_pair h.last) ≡ count_of n (tiles_of_set s) + count_of n (tiles_of_sets later ++ tiles_of_pair h.last) = used_more n s later h.last in
+      let split : count_of n (tiles_of_sets (s ∷ later) ++ tiles_of_pair h.last) ≡ count_of n (tiles_of_set s) + count_of n (tiles_of_sets later ++ tiles_of_pair h.last) =
+      used_more n s later h.last in
       same_rest _ _ _ _ _ u split e;
   sets_are = h.sets_are ∙ ap (λ more. sets ++ more) first ∙ sym (append_assoc sets (s ∷ []) later);
   pair_is = h.pair_is;
@@ -111,7 +118,8 @@ set_first runs s left rest sets pair less x h later first = record {
     same_rest whole left here later rest a b c = omega arith
 
 -- a split that takes the set does not go on after it
-set_apart : (runs : Bool) (s : SuitSet) (left rest : List ℕ) (sets : List SuitSet) (pair : Option ℕ) (x : Split) → Continues runs (place s) s.low rest (sets ++ s ∷ []) pair x → Continues runs (place s + 1) s.low left sets pair x → ⊥
+set_apart : (runs : Bool) (s : SuitSet) (left rest : List ℕ) (sets : List SuitSet) (pair : Option ℕ) (x : Split) → Continues runs (place s) s.low rest (sets ++ s ∷ []) pair x
+    → Continues runs (place s + 1) s.low left sets pair x → ⊥
 set_apart runs s left rest sets pair x h k =
     let same : s ∷ h.more ≡ k.more = append_cancel_left sets (s ∷ h.more) k.more (sym (append_assoc sets (s ∷ []) h.more) ∙ sym h.sets_are ∙ k.sets_are) in
     let f : SetsFrom runs (place s + 1) (s ∷ h.more) = subst (SetsFrom runs (place s + 1)) (sym same) k.formed in
@@ -119,7 +127,8 @@ set_apart runs s left rest sets pair x h k =
     omega arith
 
 -- the set fits: the splits that take it and those that don't
-pub set_taken : (runs : Bool) (s : SuitSet) (left rest : List ℕ) (sets : List SuitSet) (pair : Option ℕ) (a b c : List Split) → IsLess left s runs rest → Finds (Continues runs (place s) s.low rest (sets ++ s ∷ []) pair) a b → Finds (Continues runs (place s + 1) s.low left sets pair) b c → Finds (Continues runs (place s) s.low left sets pair) a c
+pub set_taken : (runs : Bool) (s : SuitSet) (left rest : List ℕ) (sets : List SuitSet) (pair : Option ℕ) (a b c : List Split) → IsLess left s runs rest
+    → Finds (Continues runs (place s) s.low rest (sets ++ s ∷ []) pair) a b → Finds (Continues runs (place s + 1) s.low left sets pair) b c → Finds (Continues runs (place s) s.low left sets pair) a c
 set_taken runs s left rest sets pair a b c less =
     Finds-both (Continues runs (place s) s.low left sets pair) (Continues runs (place s) s.low rest (sets ++ s ∷ []) pair) (Continues runs (place s + 1) s.low left sets pair) a b c
     (set_again runs s left rest sets pair less)
@@ -131,7 +140,8 @@ set_taken runs s left rest sets pair a b c less =
     (set_apart runs s left rest sets pair)
 
 -- a set that some split takes fits; tiles below it are none
-first_fits : (runs : Bool) (s : SuitSet) (left : List ℕ) (sets : List SuitSet) (pair : Option ℕ) (x : Split) (h : Continues runs (place s) s.low left sets pair x) (later : List SuitSet) → h.more ≡ s ∷ later → Fits left s runs
+first_fits : (runs : Bool) (s : SuitSet) (left : List ℕ) (sets : List SuitSet) (pair : Option ℕ) (x : Split) (h : Continues runs (place s) s.low left sets pair x)
+    (later : List SuitSet) → h.more ≡ s ∷ later → Fits left s runs
 first_fits runs s left sets pair x h later first = record {
   formed = (let f : SetsFrom runs (place s) (s ∷ later) = subst (SetsFrom runs (place s)) first h.formed in f.1);
   within = λ n high. elim (cases_lt n s.low) [
@@ -139,7 +149,8 @@ first_fits runs s left sets pair x h later first = record {
     | inr low ↦
         let u : count_of n (tiles_of_sets (s ∷ later) ++ tiles_of_pair h.last) ≡ get_or left n 0 =
         ap (λ more. count_of n (tiles_of_sets more ++ tiles_of_pair h.last)) (sym first) ∙ h.used n low high in
-        let split : count_of n (tiles_of_sets (s ∷ later) ++ tiles_of_pair h.last) ≡ count_of n (tiles_of_set s) + count_of n (tiles_of_sets later ++ tiles_of_pair h.last) = used_more n s later h.last in
+        let split : count_of n (tiles_of_sets (s ∷ later) ++ tiles_of_pair h.last) ≡ count_of n (tiles_of_set s) + count_of n (tiles_of_sets later ++ tiles_of_pair h.last) =
+        used_more n s later h.last in
         part_within _ _ _ _ u split
   ];
 }
@@ -148,7 +159,8 @@ first_fits runs s left sets pair x h later first = record {
     part_within whole left here later a b = omega arith
 
 -- the set does not fit: no split takes it
-pub set_skipped : (runs : Bool) (s : SuitSet) (left : List ℕ) (sets : List SuitSet) (pair : Option ℕ) (a b : List Split) → (Fits left s runs → ⊥) → Finds (Continues runs (place s + 1) s.low left sets pair) a b → Finds (Continues runs (place s) s.low left sets pair) a b
+pub set_skipped : (runs : Bool) (s : SuitSet) (left : List ℕ) (sets : List SuitSet) (pair : Option ℕ) (a b : List Split) → (Fits left s runs → ⊥)
+    → Finds (Continues runs (place s + 1) s.low left sets pair) a b → Finds (Continues runs (place s) s.low left sets pair) a b
 set_skipped runs s left sets pair a b unfit =
     Finds-same (Continues runs (place s) s.low left sets pair) (Continues runs (place s + 1) s.low left sets pair) a b
     (set_later runs s left sets pair)
@@ -160,7 +172,8 @@ set_skipped runs s left sets pair a b unfit =
 -- ---- the pair
 
 -- a split that takes the pair at a number
-pair_here : (runs : Bool) (low : ℕ) (left rest : List ℕ) (sets : List SuitSet) → low < 9 → ((n : ℕ) → n < 9 → get_or left n 0 ≡ count_of n (tiles_of_pair (Some low)) + get_or rest n 0) → (x : Split) → Continues runs (3 * low + 3) low rest sets (Some low) x → Continues runs (3 * low + 2) low left sets None x
+pair_here : (runs : Bool) (low : ℕ) (left rest : List ℕ) (sets : List SuitSet) → low < 9 → ((n : ℕ) → n < 9 → get_or left n 0 ≡ count_of n (tiles_of_pair (Some low)) + get_or rest n 0)
+    → (x : Split) → Continues runs (3 * low + 3) low rest sets (Some low) x → Continues runs (3 * low + 2) low left sets None x
 pair_here runs low left rest sets in_suit parts x h = record {
   more = h.more;
   last = Some low;
@@ -169,8 +182,10 @@ pair_here runs low left rest sets in_suit parts x h = record {
   used = λ n at high.
       let none : h.last ≡ None = h.paired in
       let u : count_of n (tiles_of_sets h.more ++ tiles_of_pair h.last) ≡ get_or rest n 0 = h.used n at high in
-      let alone : count_of n (tiles_of_sets h.more ++ tiles_of_pair h.last) ≡ count_of n (tiles_of_sets h.more) = ap (λ last. count_of n (tiles_of_sets h.more ++ tiles_of_pair last)) none ∙ ap (count_of n) (append-nil (tiles_of_sets h.more)) in
-      let both : count_of n (tiles_of_sets h.more ++ tiles_of_pair (Some low)) ≡ count_of n (tiles_of_sets h.more) + count_of n (tiles_of_pair (Some low)) = count_of-append n (tiles_of_sets h.more) (tiles_of_pair (Some low)) in
+      let alone : count_of n (tiles_of_sets h.more ++ tiles_of_pair h.last) ≡ count_of n (tiles_of_sets h.more) =
+      ap (λ last. count_of n (tiles_of_sets h.more ++ tiles_of_pair last)) none ∙ ap (count_of n) (append-nil (tiles_of_sets h.more)) in
+      let both : count_of n (tiles_of_sets h.more ++ tiles_of_pair (Some low)) ≡ count_of n (tiles_of_sets h.more) + count_of n (tiles_of_pair (Some low)) =
+      count_of-append n (tiles_of_sets h.more) (tiles_of_pair (Some low)) in
       joined _ _ _ _ _ _ u alone both (parts n high);
   sets_are = h.sets_are;
   pair_is = h.pair_is;
@@ -179,7 +194,8 @@ pair_here runs low left rest sets in_suit parts x h = record {
     joined : (some rest sets whole pair left : ℕ) → some ≡ rest → some ≡ sets → whole ≡ sets + pair → left ≡ pair + rest → whole ≡ left
     joined some rest sets whole pair left a b c d = omega arith
 
-pair_later : (runs : Bool) (low : ℕ) (left : List ℕ) (sets : List SuitSet) (pair : Option ℕ) → (x : Split) → Continues runs (3 * low + 3) low left sets pair x → Continues runs (3 * low + 2) low left sets pair x
+pair_later : (runs : Bool) (low : ℕ) (left : List ℕ) (sets : List SuitSet) (pair : Option ℕ) → (x : Split) → Continues runs (3 * low + 3) low left sets pair x
+    → Continues runs (3 * low + 2) low left sets pair x
 pair_later runs low left sets pair x h = record {
   more = h.more;
   last = h.last;
@@ -206,7 +222,8 @@ PairFrom_cases low None (Some m) from = elim (cases_eq m low) [
 ]
 
 -- a split that goes on at the place of a pair with the pair later goes on after it
-no_pair_here : (runs : Bool) (low : ℕ) (left : List ℕ) (sets : List SuitSet) (pair : Option ℕ) → (x : Split) (h : Continues runs (3 * low + 2) low left sets pair x) → PairFrom (3 * low + 3) pair h.last → Continues runs (3 * low + 3) low left sets pair x
+no_pair_here : (runs : Bool) (low : ℕ) (left : List ℕ) (sets : List SuitSet) (pair : Option ℕ) → (x : Split) (h : Continues runs (3 * low + 2) low left sets pair x)
+    → PairFrom (3 * low + 3) pair h.last → Continues runs (3 * low + 3) low left sets pair x
 no_pair_here runs low left sets pair x h later = record {
   more = h.more;
   last = h.last;
@@ -218,14 +235,16 @@ no_pair_here runs low left sets pair x h later = record {
 }
 
 -- the counts of a split that has its pair here
-pair_used : (runs : Bool) (low : ℕ) (left : List ℕ) (sets : List SuitSet) (pair : Option ℕ) (x : Split) (h : Continues runs (3 * low + 2) low left sets pair x) → h.last ≡ Some low → (n : ℕ) → low ≤ n → n < 9 → get_or left n 0 ≡ count_of n (tiles_of_sets h.more) + count_of n (tiles_of_pair (Some low))
+pair_used : (runs : Bool) (low : ℕ) (left : List ℕ) (sets : List SuitSet) (pair : Option ℕ) (x : Split) (h : Continues runs (3 * low + 2) low left sets pair x) → h.last ≡ Some low
+    → (n : ℕ) → low ≤ n → n < 9 → get_or left n 0 ≡ count_of n (tiles_of_sets h.more) + count_of n (tiles_of_pair (Some low))
 pair_used runs low left sets pair x h here n at high =
     sym (h.used n at high)
     ∙ ap (λ last. count_of n (tiles_of_sets h.more ++ tiles_of_pair last)) here
     ∙ count_of-append n (tiles_of_sets h.more) (tiles_of_pair (Some low))
 
 -- a split with its pair at the number goes on after it with the rest
-pair_first : (runs : Bool) (low : ℕ) (left rest : List ℕ) (sets : List SuitSet) → ((n : ℕ) → n < 9 → get_or left n 0 ≡ count_of n (tiles_of_pair (Some low)) + get_or rest n 0) → (x : Split) (h : Continues runs (3 * low + 2) low left sets None x) → h.last ≡ Some low → Continues runs (3 * low + 3) low rest sets (Some low) x
+pair_first : (runs : Bool) (low : ℕ) (left rest : List ℕ) (sets : List SuitSet) → ((n : ℕ) → n < 9 → get_or left n 0 ≡ count_of n (tiles_of_pair (Some low)) + get_or rest n 0)
+    → (x : Split) (h : Continues runs (3 * low + 2) low left sets None x) → h.last ≡ Some low → Continues runs (3 * low + 3) low rest sets (Some low) x
 pair_first runs low left rest sets parts x h here = record {
   more = h.more;
   last = None;
@@ -241,7 +260,8 @@ pair_first runs low left rest sets parts x h here = record {
     same_rest : (some sets left pair rest : ℕ) → some ≡ sets → left ≡ sets + pair → left ≡ pair + rest → some ≡ rest
     same_rest some sets left pair rest a b c = omega arith
 
-pair_apart : (runs : Bool) (low : ℕ) (left rest : List ℕ) (sets : List SuitSet) (x : Split) → Continues runs (3 * low + 3) low rest sets (Some low) x → Continues runs (3 * low + 3) low left sets None x → ⊥
+pair_apart : (runs : Bool) (low : ℕ) (left rest : List ℕ) (sets : List SuitSet) (x : Split) → Continues runs (3 * low + 3) low rest sets (Some low) x
+    → Continues runs (3 * low + 3) low left sets None x → ⊥
 pair_apart runs low left rest sets x h k = later k.last (sym k.pair_is ∙ h.pair_is) k.paired
   where
     later : (last : Option ℕ) → last ≡ Some low → PairFrom (3 * low + 3) None last → ⊥
@@ -252,7 +272,9 @@ pair_apart runs low left rest sets x h k = later k.last (sym k.pair_is ∙ h.pai
         omega arith
 
 -- no pair is chosen and there are two tiles: the splits with the pair here, and those without
-pub pair_taken : (runs : Bool) (low : ℕ) (left rest : List ℕ) (sets : List SuitSet) (a b c : List Split) → low < 9 → ((n : ℕ) → n < 9 → get_or left n 0 ≡ count_of n (tiles_of_pair (Some low)) + get_or rest n 0) → Finds (Continues runs (3 * low + 3) low rest sets (Some low)) a b → Finds (Continues runs (3 * low + 3) low left sets None) b c → Finds (Continues runs (3 * low + 2) low left sets None) a c
+pub pair_taken : (runs : Bool) (low : ℕ) (left rest : List ℕ) (sets : List SuitSet) (a b c : List Split) → low < 9
+    → ((n : ℕ) → n < 9 → get_or left n 0 ≡ count_of n (tiles_of_pair (Some low)) + get_or rest n 0) → Finds (Continues runs (3 * low + 3) low rest sets (Some low)) a b
+    → Finds (Continues runs (3 * low + 3) low left sets None) b c → Finds (Continues runs (3 * low + 2) low left sets None) a c
 pair_taken runs low left rest sets a b c in_suit parts =
     Finds-both (Continues runs (3 * low + 2) low left sets None) (Continues runs (3 * low + 3) low rest sets (Some low)) (Continues runs (3 * low + 3) low left sets None) a b c
     (pair_here runs low left rest sets in_suit parts)
@@ -264,7 +286,8 @@ pair_taken runs low left rest sets a b c in_suit parts =
     (pair_apart runs low left rest sets)
 
 -- a pair is chosen already or there are no two tiles: no split has its pair here
-pub pair_skipped : (runs : Bool) (low : ℕ) (left : List ℕ) (sets : List SuitSet) (pair : Option ℕ) (a b : List Split) → low < 9 → (pair ≡ None → get_or left low 0 < 2) → Finds (Continues runs (3 * low + 3) low left sets pair) a b → Finds (Continues runs (3 * low + 2) low left sets pair) a b
+pub pair_skipped : (runs : Bool) (low : ℕ) (left : List ℕ) (sets : List SuitSet) (pair : Option ℕ) (a b : List Split) → low < 9 → (pair ≡ None → get_or left low 0 < 2)
+    → Finds (Continues runs (3 * low + 3) low left sets pair) a b → Finds (Continues runs (3 * low + 2) low left sets pair) a b
 pair_skipped runs low left sets pair a b in_suit few =
     Finds-same (Continues runs (3 * low + 2) low left sets pair) (Continues runs (3 * low + 3) low left sets pair) a b
     (pair_later runs low left sets pair)
@@ -283,7 +306,8 @@ pair_skipped runs low left sets pair a b in_suit few =
 -- ---- the next number
 
 -- tiles of a number that are left when all its places are over are in no split
-pub number_left : (runs : Bool) (low : ℕ) (left : List ℕ) (sets : List SuitSet) (pair : Option ℕ) (a : List Split) → low < 9 → 0 < get_or left low 0 → Finds (Continues runs (3 * low + 3) low left sets pair) a a
+pub number_left : (runs : Bool) (low : ℕ) (left : List ℕ) (sets : List SuitSet) (pair : Option ℕ) (a : List Split) → low < 9 → 0 < get_or left low 0
+    → Finds (Continues runs (3 * low + 3) low left sets pair) a a
 number_left runs low left sets pair a in_suit some = record {
   added = [];
   is = sym (append-nil a);
@@ -297,12 +321,14 @@ number_left runs low left sets pair a in_suit some = record {
     none x h =
         let in_sets : count_of low (tiles_of_sets h.more) ≡ 0 = count_of-below_sets runs (3 * low + 3) low h.more h.formed (omega arith) in
         let in_pair : count_of low (tiles_of_pair h.last) ≡ 0 = count_of-below_pair (3 * low + 3) low pair h.last h.paired (omega arith) in
-        let both : count_of low (tiles_of_sets h.more ++ tiles_of_pair h.last) ≡ count_of low (tiles_of_sets h.more) + count_of low (tiles_of_pair h.last) = count_of-append low (tiles_of_sets h.more) (tiles_of_pair h.last) in
+        let both : count_of low (tiles_of_sets h.more ++ tiles_of_pair h.last) ≡ count_of low (tiles_of_sets h.more) + count_of low (tiles_of_pair h.last) =
+        count_of-append low (tiles_of_sets h.more) (tiles_of_pair h.last) in
         let u : count_of low (tiles_of_sets h.more ++ tiles_of_pair h.last) ≡ get_or left low 0 = h.used low (omega arith) in_suit in
         contrary _ _ _ _ in_sets in_pair both u some
 
 -- with no tile of the number left, the splits go on at the next number
-pub number_done : (runs : Bool) (low : ℕ) (left : List ℕ) (sets : List SuitSet) (pair : Option ℕ) (at : ℕ) (a b : List Split) → low < 9 → get_or left low 0 ≡ 0 → at ≡ 3 * low + 3 → Finds (Continues runs at (low + 1) left sets pair) a b → Finds (Continues runs (3 * low + 3) low left sets pair) a b
+pub number_done : (runs : Bool) (low : ℕ) (left : List ℕ) (sets : List SuitSet) (pair : Option ℕ) (at : ℕ) (a b : List Split) → low < 9 → get_or left low 0 ≡ 0 → at ≡ 3 * low + 3
+    → Finds (Continues runs at (low + 1) left sets pair) a b → Finds (Continues runs (3 * low + 3) low left sets pair) a b
 number_done runs low left sets pair at a b in_suit none same found =
     Finds-same (Continues runs (3 * low + 3) low left sets pair) (Continues runs (3 * low + 3) (low + 1) left sets pair) a b to from
     (subst (λ p. Finds (Continues runs p (low + 1) left sets pair) a b) same found)
@@ -320,7 +346,8 @@ number_done runs low left sets pair at a b in_suit none same found =
         | inl here ↦
             let in_sets : count_of low (tiles_of_sets h.more) ≡ 0 = count_of-below_sets runs (3 * low + 3) low h.more h.formed (omega arith) in
             let in_pair : count_of low (tiles_of_pair h.last) ≡ 0 = count_of-below_pair (3 * low + 3) low pair h.last h.paired (omega arith) in
-            let both : count_of low (tiles_of_sets h.more ++ tiles_of_pair h.last) ≡ count_of low (tiles_of_sets h.more) + count_of low (tiles_of_pair h.last) = count_of-append low (tiles_of_sets h.more) (tiles_of_pair h.last) in
+            let both : count_of low (tiles_of_sets h.more ++ tiles_of_pair h.last) ≡ count_of low (tiles_of_sets h.more) + count_of low (tiles_of_pair h.last) =
+            count_of-append low (tiles_of_sets h.more) (tiles_of_pair h.last) in
             subst (λ m. count_of m (tiles_of_sets h.more ++ tiles_of_pair h.last) ≡ get_or left m 0) (sym here)
             (nothing (get_or left low 0) _ _ _ in_sets in_pair both none)
         | inr other ↦ h.used n (omega arith) high
@@ -342,14 +369,16 @@ number_done runs low left sets pair at a b in_suit none same found =
 
 -- ---- the steps as the code makes them, with the sets as they were pushed and popped
 
-pub set_step : (runs : Bool) (s : SuitSet) (left rest : List ℕ) (sets pushed popped : List SuitSet) (pair : Option ℕ) (a b c : List Split) → IsLess left s runs rest → pushed ≡ sets ++ s ∷ [] → popped ≡ sets
+pub set_step : (runs : Bool) (s : SuitSet) (left rest : List ℕ) (sets pushed popped : List SuitSet) (pair : Option ℕ) (a b c : List Split) → IsLess left s runs rest
+    → pushed ≡ sets ++ s ∷ [] → popped ≡ sets
     → Finds (Continues runs (place s) s.low rest pushed pair) a b → Finds (Continues runs (place s + 1) s.low left popped pair) b c → Finds (Continues runs (place s) s.low left sets pair) a c
 set_step runs s left rest sets pushed popped pair a b c less push pop first second =
     set_taken runs s left rest sets pair a b c less
     (subst (λ p. Finds (Continues runs (place s) s.low rest p pair) a b) push first)
     (subst (λ p. Finds (Continues runs (place s + 1) s.low left p pair) b c) pop second)
 
-pub pair_step : (runs : Bool) (low : ℕ) (left rest : List ℕ) (sets again : List SuitSet) (pair : Option ℕ) (a b c : List Split) → low < 9 → pair ≡ None → again ≡ sets → ((n : ℕ) → n < 9 → get_or left n 0 ≡ count_of n (tiles_of_pair (Some low)) + get_or rest n 0)
+pub pair_step : (runs : Bool) (low : ℕ) (left rest : List ℕ) (sets again : List SuitSet) (pair : Option ℕ) (a b c : List Split) → low < 9 → pair ≡ None → again ≡ sets
+    → ((n : ℕ) → n < 9 → get_or left n 0 ≡ count_of n (tiles_of_pair (Some low)) + get_or rest n 0)
     → Finds (Continues runs (3 * low + 3) low rest sets (Some low)) a b → Finds (Continues runs (3 * low + 3) low left again pair) b c → Finds (Continues runs (3 * low + 2) low left sets pair) a c
 pair_step runs low left rest sets again (Some chosen) a b c in_suit none kept parts first second = cc
 pair_step runs low left rest sets again None a b c in_suit none kept parts first second =

@@ -102,7 +102,8 @@ PairFrom-later s None (Some m) from =
     (omega arith, from.1)
 
 -- two tiles less of a number leave the other counts as they were
-pub pair_parts : (left rest : List ℕ) (low n : ℕ) → low < length left → 2 ≤ get_or left low 0 → rest ≡ set left low (get_or left low 0 - 2) → get_or left n 0 ≡ count_of n (tiles_of_pair (Some low)) + get_or rest n 0
+pub pair_parts : (left rest : List ℕ) (low n : ℕ) → low < length left → 2 ≤ get_or left low 0 → rest ≡ set left low (get_or left low 0 - 2)
+    → get_or left n 0 ≡ count_of n (tiles_of_pair (Some low)) + get_or rest n 0
 pair_parts left rest low n inside two is = elim (cases_eq low n) [
   | inl same ↦
       let here : get_or (set left low (get_or left low 0 - 2)) low 0 ≡ get_or left low 0 - 2 = get_or-set_same left low (get_or left low 0 - 2) 0 inside in

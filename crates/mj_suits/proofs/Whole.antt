@@ -51,7 +51,8 @@ same_split : (x y : Split) → x.sets ≡ y.sets → x.pair ≡ y.pair → x ≡
 same_split x y sets pairs = ap₂ (λ (s : List SuitSet) (p : Option ℕ). let split : Split = record { sets = s; pair = p } in split) sets pairs
 
 -- after the highest number the one split is the one made so far
-pub split_found : (runs : Bool) (low : ℕ) (left : List ℕ) (sets : List SuitSet) (pair : Option ℕ) (a : List Split) (x : Split) → low ≡ 8 → get_or left low 0 ≡ 0 → x.sets ≡ sets → x.pair ≡ pair → Finds (Continues runs (3 * low + 3) low left sets pair) a (a ++ x ∷ [])
+pub split_found : (runs : Bool) (low : ℕ) (left : List ℕ) (sets : List SuitSet) (pair : Option ℕ) (a : List Split) (x : Split) → low ≡ 8 → get_or left low 0 ≡ 0 → x.sets ≡ sets
+    → x.pair ≡ pair → Finds (Continues runs (3 * low + 3) low left sets pair) a (a ++ x ∷ [])
 split_found runs low left sets pair a x last none sets_are pair_is = record {
   added = x ∷ [];
   is = refl;
@@ -125,7 +126,8 @@ ordered_all runs at [] from = refl
 ordered_all runs at (s ∷ ss) from = and_from (list_all (stands_before s) ss) _ (before_all runs s (place s) ss (omega arith) from.2) (ordered_all runs (place s) ss from.2)
 
 -- sets that are well formed and in order, from a place that none of them stands before
-sets_from_tests : (runs : Bool) (at : ℕ) (sets : List SuitSet) → list_all (is_well_formed runs) sets ≡ true → is_in_order sets ≡ true → list_all (λ s. not (ltb (place s) at)) sets ≡ true → SetsFrom runs at sets
+sets_from_tests : (runs : Bool) (at : ℕ) (sets : List SuitSet) → list_all (is_well_formed runs) sets ≡ true → is_in_order sets ≡ true
+    → list_all (λ s. not (ltb (place s) at)) sets ≡ true → SetsFrom runs at sets
 sets_from_tests runs at [] formed ordered reach = tt
 sets_from_tests runs at (s ∷ ss) formed ordered reach =
     let f : (is_well_formed runs s ≡ true) × (list_all (is_well_formed runs) ss ≡ true) = and_parts _ _ formed in
@@ -176,7 +178,8 @@ pair_from_test None test = tt
 pair_from_test (Some m) test = (omega arith, ltb-true m 9 test)
 
 -- what goes on from the first place with nothing chosen is a partition, and so is no other
-pub whole_search : (runs : Bool) (at : ℕ) (counts : List ℕ) (a b : List Split) → length counts ≡ 9 → at ≡ 0 → a ≡ [] → Finds (Continues runs at 0 counts [] None) a b → AreAll (IsPartition counts runs) b
+pub whole_search : (runs : Bool) (at : ℕ) (counts : List ℕ) (a b : List Split) → length counts ≡ 9 → at ≡ 0 → a ≡ [] → Finds (Continues runs at 0 counts [] None) a b
+    → AreAll (IsPartition counts runs) b
 whole_search runs at counts a b nine first none found =
     let at_first : Finds (Continues runs 0 0 counts [] None) a b = subst (λ p. Finds (Continues runs p 0 counts [] None) a b) first found in
     subst (AreAll (IsPartition counts runs)) (sym (at_first.is ∙ ap (λ xs. xs ++ at_first.added) none))

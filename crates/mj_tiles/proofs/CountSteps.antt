@@ -48,9 +48,25 @@ kind_counts-push tiles tile within =
         get_or (set (kind_counts tiles) (kind_of tile) (get_or (kind_counts tiles) (kind_of tile) 0 + 1)) k 0
         ≡ get_or (kind_counts (tiles ++ tile ∷ [])) k 0
     at tiles tile k true is small within =
-        grind (arith, common_steps, get_or-kind_counts (tiles ++ tile ∷ []) k small, get_or-kind_counts tiles k small, number_of-push tiles tile k, length-kind_counts tiles, (Decides-eqb (kind_of tile) k).0 is)
+        grind (
+          arith,
+          common_steps,
+          get_or-kind_counts (tiles ++ tile ∷ []) k small,
+          get_or-kind_counts tiles k small,
+          number_of-push tiles tile k,
+          length-kind_counts tiles,
+          (Decides-eqb (kind_of tile) k).0 is,
+        )
     at tiles tile k false is small within =
-        grind (arith, common_steps, get_or-kind_counts (tiles ++ tile ∷ []) k small, get_or-kind_counts tiles k small, number_of-push tiles tile k, length-kind_counts tiles, not_from_Decides _ (Decides-eqb (kind_of tile) k) is)
+        grind (
+          arith,
+          common_steps,
+          get_or-kind_counts (tiles ++ tile ∷ []) k small,
+          get_or-kind_counts tiles k small,
+          number_of-push tiles tile k,
+          length-kind_counts tiles,
+          not_from_Decides _ (Decides-eqb (kind_of tile) k) is,
+        )
 
 -- A list of tiles has of no kind fewer than its front.
 pub number_of-take : (tiles : List ℕ) (n kind : ℕ) → number_of (take n tiles) kind ≤ number_of tiles kind

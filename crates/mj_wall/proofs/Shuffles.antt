@@ -26,7 +26,8 @@ unfolding sorted_wall tile_order
 at_place true place low = eqb-true _ _ (agree_below_at (λ n. eqb (tile_at true n) (slice_index (sorted_wall true) n)) (λ n. true) 136 place refl low)
 at_place false place low = eqb-true _ _ (agree_below_at (λ n. eqb (tile_at false n) (slice_index (sorted_wall false) n)) (λ n. true) 136 place refl low)
 
-pub red_at : (red is_red : Bool) (place kind tile : ℕ) → place < 136 → is_red ≡ red_place red place → is_red ≡ true → kind ≡ place / 4 → tile ≡ 34 + kind / 9 → tile ≡ slice_index (sorted_wall red) place
+pub red_at : (red is_red : Bool) (place kind tile : ℕ) → place < 136 → is_red ≡ red_place red place → is_red ≡ true → kind ≡ place / 4 → tile ≡ 34 + kind / 9
+    → tile ≡ slice_index (sorted_wall red) place
 red_at red is_red place kind tile low told so kind_is is =
     is ∙ ap (λ k. 34 + k / 9) kind_is ∙ ap (λ b. cond b (34 + place / 4 / 9) (place / 4)) (sym so ∙ told) ∙ at_place red place low
 
@@ -109,7 +110,8 @@ leaves_next seed n red (suc place) next to tiles others some is told swapped lef
 
 -- the stream
 
-pub stream_begins : (seed : List ℕ) (n : ℕ) (a b : ChaCha) → a ≡ of_seed seed → b ≡ record { key = a.key; stream = n; word_pos = a.word_pos } → b ≡ record { key = key_of seed; stream = n; word_pos = 0 }
+pub stream_begins : (seed : List ℕ) (n : ℕ) (a b : ChaCha) → a ≡ of_seed seed → b ≡ record { key = a.key; stream = n; word_pos = a.word_pos }
+    → b ≡ record { key = key_of seed; stream = n; word_pos = 0 }
 stream_begins seed n a b is told = told ∙ ap (λ (g : ChaCha). record { key = g.key; stream = n; word_pos = g.word_pos }) is
 
 pub stream_goes : (key : List ℕ) (n place next : ℕ) (a b : ChaCha) → 0 < place → place ≤ 135 → next ≡ place - 1 → a ≡ record { key = key; stream = n; word_pos = 2 * (135 - place) } →
@@ -161,7 +163,8 @@ unfolding shuffled_walls
 from_more seed red first number next wall walls more at told whole is before = record {
   are = is
       ∙ (λ i. before.are i ++ told i ∷ [])
-      ∙ sym (drop-append-le first (shuffled_walls seed red number) (shuffled_wall seed number red ∷ []) (few first (length walls) number (length (shuffled_walls seed red number)) before.many (number_of_walls seed red number)))
+      ∙ sym (drop-append-le first (shuffled_walls seed red number) (shuffled_wall seed number red ∷ [])
+      (few first (length walls) number (length (shuffled_walls seed red number)) before.many (number_of_walls seed red number)))
       ∙ ap (λ n. drop first (shuffled_walls seed red n)) (sym (same next number at));
   many = ap (λ ws. first + length ws) is ∙ ap (λ n. first + n) (length_push walls wall) ∙ later first (length walls) number next before.many at;
   whole = ap (list_all (is_wall red)) is ∙ list_all-append (is_wall red) walls (wall ∷ []) ∙ both (list_all (is_wall red) walls) (is_wall red wall) before.whole whole;

@@ -122,7 +122,8 @@ count_by-by_face p tiles (face ∷ faces) =
     let rest = count_by-by_face p tiles faces in
     let here = chosen-replicate p (number_in tiles face - 0) face in
     let parts = sum_by-append (λ x. cond (p x) 1 0) (replicate (number_in tiles face - 0) face) (flat_map (λ f. replicate (number_in tiles f - number_in [] f) f) faces) in
-    parts ∙ ap (λ n. n + count_by p (flat_map (λ f. replicate (number_in tiles f - number_in [] f) f) faces)) here ∙ ap (λ n. cond (p face) (number_in tiles face - 0) 0 + n) rest ∙ ap (λ n. cond (p face) n 0 + chosen p tiles faces) (none_less (number_in tiles face))
+    parts ∙ ap (λ n. n + count_by p (flat_map (λ f. replicate (number_in tiles f - number_in [] f) f) faces)) here ∙ ap (λ n. cond (p face) (number_in tiles face - 0) 0 + n) rest
+    ∙ ap (λ n. cond (p face) n 0 + chosen p tiles faces) (none_less (number_in tiles face))
   where
     none_less : (n : ℕ) → n - 0 ≡ n
     none_less n = omega arith

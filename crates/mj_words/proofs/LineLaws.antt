@@ -39,10 +39,12 @@ unfolding clap_on_literals observe_line
 observe_is_simple = refl
 
 -- A command to which one argument more is added, and one to which the first is.
-pub with_more : (start command : Command) (arg : Arg) (line : App) (rule : Rule) → app_of start ≡ line → rule_of arg ≡ rule → arg.global ≡ false → AddsArg start arg command → app_of command ≡ with_rule line rule
+pub with_more : (start command : Command) (arg : Arg) (line : App) (rule : Rule) → app_of start ≡ line → rule_of arg ≡ rule → arg.global ≡ false → AddsArg start arg command
+    → app_of command ≡ with_rule line rule
 with_more start command arg line rule s r g added = added.shape g ∙ ap₂ with_rule s r
 
-pub with_one : (start command : Command) (arg : Arg) (name : List ℕ) (rule : Rule) → app_of start ≡ new_app name → rule_of arg ≡ rule → arg.global ≡ false → AddsArg start arg command → app_of command ≡ with_rule (new_app name) rule
+pub with_one : (start command : Command) (arg : Arg) (name : List ℕ) (rule : Rule) → app_of start ≡ new_app name → rule_of arg ≡ rule → arg.global ≡ false → AddsArg start arg command
+    → app_of command ≡ with_rule (new_app name) rule
 with_one start command arg name rule s r g added = with_more start command arg (new_app name) rule s r g added
 
 -- An argument of one value or more.

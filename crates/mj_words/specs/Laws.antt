@@ -52,7 +52,8 @@ pub record WordsAreRead : Type 0 where
   pub safe : asked_by (codes "safe" ∷ codes "2" ∷ []) ≡ SafeOf 2
   pub safe_of_none : asked_by (codes "safe" ∷ []) ≡ Nothing
   pub safe_of_the_fifth : asked_by (codes "safe" ∷ codes "4" ∷ []) ≡ Nothing
-  pub tables : asked_by (codes "tables" ∷ codes "--seed" ∷ some_hex ∷ codes "--rooms" ∷ codes "2" ∷ []) ≡ TablesOf 2 (record { seed = some_seed; limit = 10000; port = 11600; draws = false; red = false })
+  pub tables : asked_by (codes "tables" ∷ codes "--seed" ∷ some_hex ∷ codes "--rooms" ∷ codes "2" ∷ []) ≡ TablesOf 2
+      (record { seed = some_seed; limit = 10000; port = 11600; draws = false; red = false })
   pub tables_with_all :
       asked_by (codes "tables" ∷ codes "--red" ∷ codes "--rooms=8" ∷ codes "--draws" ∷ codes "--port" ∷ codes "65535" ∷ codes "--limit=3600000" ∷ codes "--seed" ∷ some_hex ∷ [])
       ≡ TablesOf 8 (record { seed = some_seed; limit = 3600000; port = 65535; draws = true; red = true })

@@ -62,7 +62,8 @@ serve_line =
 unfoldable pub tables_line : App
 tables_line =
     with_rule (with_rule (with_rule (with_rule (with_rule (with_rule (new_app (codes "tables"))
-    (option_wanted (codes "seed"))) (option_wanted (codes "rooms"))) (option_or (codes "limit") (codes "10000"))) (option_or (codes "port") (codes "11600"))) (flag (codes "draws"))) (flag (codes "red"))
+    (option_wanted (codes "seed"))) (option_wanted (codes "rooms"))) (option_or (codes "limit") (codes "10000"))) (option_or (codes "port") (codes "11600"))) (flag (codes "draws")))
+    (flag (codes "red"))
 
 -- Clap finds no fault in words; a request for help is one.
 abbrev pub are_none : Kinds → Bool
