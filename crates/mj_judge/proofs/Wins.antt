@@ -26,7 +26,7 @@ use Rattle.mj_yaku.specs.SomeYaku.{gives_yaku}
 use Rattle.mj_tiles.specs.declared.meld.Meld.{Meld}
 use Rattle.mj_deeds.specs.declared.answer.Pai.{Pai}
 use Rattle.mj_table.proofs.InHand.{newest_in_hand}
-use Rattle.mj_table.proofs.WinSteps.{riichi_without, double_without, first_without, live_without, melds_without, before_wins-more, ippatsu_without}
+use Rattle.mj_facts.proofs.WinSteps.{riichi_without, double_without, first_without, live_without, melds_without, before_wins-more, ippatsu_without}
 use Rattle.mj_deeds.proofs.Newest.{newest_more}
 
 -- the circumstances

@@ -12,7 +12,7 @@ use Rattle.mj_yaku.specs.Hands.{are_concealed}
 use Rattle.mj_deeds.specs.declared.deed.Deed.{Deed}
 use Rattle.mj_deeds.specs.Course.{before_wins}
 use Rattle.mj_deeds.specs.Facts.{newest, indicators, seat_melds, concealed_tiles}
-use Rattle.mj_table.proofs.WinSteps.{gained_without, lost_without, melds_without, shown_without}
+use Rattle.mj_facts.proofs.WinSteps.{gained_without, lost_without, melds_without, shown_without}
 use Rattle.mj_rules.specs.Wins.{case_of, is_draw, own_tiles_of, extra_by, extra_of, no_score, score_of_win, win_shown, unders_of}
 use Rattle.mj_machine.specs.Inner.Steps.{all_tiles}
 

@@ -11,7 +11,7 @@ use Rattle.mj_deeds.specs.declared.deed.Deed.{Deed}
 use Rattle.mj_deeds.specs.Course.{before_wins}
 use Rattle.mj_deeds.specs.Facts.{indicators}
 use Rattle.mj_deeds.specs.Riichi.{is_in_riichi}
-use Rattle.mj_table.proofs.WinSteps.{riichi_without, shown_without}
+use Rattle.mj_facts.proofs.WinSteps.{riichi_without, shown_without}
 use Rattle.mj_wall.specs.Places.{under_tile}
 use Rattle.mj_rules.specs.Wins.{dora_by, unders_of}
 

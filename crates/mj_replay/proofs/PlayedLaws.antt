@@ -35,7 +35,7 @@ use Rattle.mj_deeds.specs.Riichi.{is_in_riichi}
 use Rattle.mj_deeds.specs.Standings.{standing}
 use Rattle.mj_deeds.proofs.Newest.{newest_more}
 use Rattle.mj_deeds.proofs.Standings.{may_stand}
-use Rattle.mj_table.proofs.WinSteps.{shown_without}
+use Rattle.mj_facts.proofs.WinSteps.{shown_without}
 use Rattle.mj_wall.specs.declared.setting.Rules.{Rules}
 use Rattle.mj_wall.specs.Places.{is_wall, under_tile}
 use Rattle.mj_window.specs.Decided.{decision_by}

@@ -21,7 +21,7 @@ use Rattle.mj_deeds.specs.Hand.{is_hand_start, hand, before_in}
 use Rattle.mj_deeds.proofs.HandSteps.{hand_with}
 use Rattle.mj_deeds.proofs.Totals.{number_more}
 use Rattle.mj_deeds.proofs.Fitted.{Parts, parts_of, past_of, some_hand, of_four, four_of_kind}
-use Rattle.mj_table.proofs.OneMore.{one_counted}
+use Rattle.mj_facts.proofs.OneMore.{one_counted}
 use Rattle.mj_table.proofs.OneLess.{none_left, some_left}
 use Rattle.mj_table.proofs.Readers.{gained_within, holds_few}
 use Rattle.mj_table.specs.Plays.{Play}

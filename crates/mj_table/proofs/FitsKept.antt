@@ -14,13 +14,13 @@ use Rattle.mj_deeds.specs.declared.deed.Deed.{Deed}
 use Rattle.mj_deeds.specs.declared.deed.Deed.TheVariants.{Draw, Chi, Pon, OpenKan, ClosedKan, AddedKan, ReachAccepted}
 use Rattle.mj_deeds.specs.Facts.{of_seat, losses_by, makes_by, seat_melds, is_call, is_kan}
 use Rattle.mj_deeds.specs.Fits.{are_held, brought_by, fits_in, has_seats, has_held, has_held_by, has_triplet, has_tiles, keeps_kinds, has_room, has_live, is_first_riichi, is_triplet_of}
-use Rattle.mj_table.proofs.Spare.{one_more}
-use Rattle.mj_table.specs.declared.hand_facts.HandFacts.{HandFacts}
-use Rattle.mj_table.specs.declared.seat_facts.SeatFacts.{SeatFacts}
+use Rattle.mj_facts.proofs.Gathered.{one_more}
+use Rattle.mj_facts.specs.declared.hand_facts.HandFacts.{HandFacts}
+use Rattle.mj_facts.specs.declared.seat_facts.SeatFacts.{SeatFacts}
 use Rattle.mj_deeds.specs.declared.four.Four.{Four}
 use Rattle.mj_deeds.specs.Four.{at_seat}
 use Rattle.mj_table.specs.Inner.Fitting.{are_four, adds_to_own, has_places, has_tile_left, reaches_first, fits_by}
-use Rattle.mj_table.specs.Inner.Hands.{Knows, Few}
+use Rattle.mj_facts.specs.Hands.{Knows, Few}
 
 -- tiles that are held
 

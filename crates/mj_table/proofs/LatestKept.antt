@@ -12,9 +12,9 @@ use Rattle.mj_deeds.specs.Hand.{is_hand_start, hand}
 use Rattle.mj_deeds.specs.Points.{is_win}
 use Rattle.mj_deeds.proofs.HandSteps.{behind, hand_more}
 use Rattle.mj_deeds.proofs.Newest.{newest_more, before_more}
-use Rattle.mj_table.proofs.Gathered.{last_if_kept}
+use Rattle.mj_facts.proofs.Gathered.{last_if_kept}
 use Rattle.mj_table.proofs.InHand.{newest_in_hand, cause_in_hand, drawn_in_hand}
-use Rattle.mj_table.proofs.WinSteps.{behind_win}
+use Rattle.mj_facts.proofs.WinSteps.{behind_win}
 use Rattle.mj_table.specs.Inner.Latest.{previous_to, previous, previous_with, is_after_win, cause_by, drawn_of, before_wins_of, taken_of}
 
 previous_more : (xs : List Deed) (d : Deed) → previous (xs ++ d ∷ []) ≡ previous_to xs d

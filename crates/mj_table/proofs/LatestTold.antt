@@ -14,7 +14,7 @@ use Rattle.mj_wall.specs.declared.setting.Rules.{Rules}
 use Rattle.mj_table.proofs.LatestKept.{cause_kept, drawn_kept, wins_kept, taken_kept}
 use Rattle.mj_table.proofs.Readers.{ground_told}
 use Rattle.mj_table.specs.Plays.{Play}
-use Rattle.mj_table.specs.declared.hand_facts.HandFacts.{HandFacts}
+use Rattle.mj_facts.specs.declared.hand_facts.HandFacts.{HandFacts}
 use Rattle.mj_deeds.specs.declared.four.Four.{Four}
 use Rattle.mj_table.specs.Inner.Kept.{Stands, beside}
 use Rattle.mj_table.specs.Inner.Latest.{cause_by, drawn_of, before_wins_of, taken_of}

@@ -25,23 +25,21 @@ use Rattle.mj_deeds.proofs.Newest.{newest_more}
 use Rattle.mj_deeds.proofs.PointLaws.{all_points_more, deposits_more}
 use Rattle.mj_deeds.proofs.Deposits.{few_deposits}
 use Rattle.mj_deeds.proofs.Standings.{few_hands}
+use Rattle.mj_facts.proofs.OneMore.{number_of-cons}
 use Rattle.mj_table.proofs.InHand.{has_start}
 use Rattle.mj_table.proofs.LatestKept.{previous_is_with}
 use Rattle.mj_wall.specs.declared.setting.Rules.{Rules}
 use Rattle.mj_table.specs.Plays.{Play}
 use Rattle.mj_deeds.specs.declared.four.Four.{Four}
 use Rattle.mj_deeds.specs.Four.{at_seat}
-use Rattle.mj_table.specs.declared.hand_facts.HandFacts.{HandFacts}
-use Rattle.mj_table.specs.Inner.Hands.{Knows}
-use Rattle.mj_table.specs.Inner.Kept.{Stands, Holds, beside, hand_with}
+use Rattle.mj_facts.specs.declared.hand_facts.HandFacts.{HandFacts}
+use Rattle.mj_facts.specs.Hands.{Knows}
+use Rattle.mj_table.specs.Inner.Kept.{Stands, Holds, beside}
 use Rattle.mj_table.specs.Inner.Latest.{previous_with}
 use Rattle.mj_deeds.proofs.FitSteps.{number_of_four}
 use Rattle.mj_deeds.proofs.Fitted.{all_fit-append, four_of_kind, parts_of}
 
 -- the tiles that are held
-
-pub number_of-cons : (tile : ℕ) (tiles : List ℕ) (kind : ℕ) → number_of (tile ∷ tiles) kind ≡ cond (eqb (kind_of tile) kind) 1 0 + number_of tiles kind
-number_of-cons tile tiles kind = sum_by-cons (λ t. cond (eqb (kind_of t) kind) 1 0) tile tiles
 
 dealt_within : (a b c d : List ℕ) (indicator kind : ℕ) (p q r : Bool) →
     number_of (cond p a (cond q b (cond r c d))) kind ≤ number_of (indicator ∷ a ++ b ++ c ++ d) kind

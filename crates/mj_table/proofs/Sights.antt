@@ -16,8 +16,8 @@ use Rattle.mj_wall.specs.declared.setting.Rules.{Rules}
 use Rattle.mj_sights.specs.Seen.{open_tiles, seen_tiles}
 use Rattle.mj_sights.proofs.Somewhere.{tiles_are_held_or_open}
 use Rattle.mj_table.specs.Plays.{Play}
-use Rattle.mj_table.specs.declared.hand_facts.HandFacts.{HandFacts}
-use Rattle.mj_table.specs.Inner.Hands.{Brings, Knows}
+use Rattle.mj_facts.specs.declared.hand_facts.HandFacts.{HandFacts}
+use Rattle.mj_facts.specs.Hands.{Brings, Knows}
 use Rattle.mj_table.specs.Inner.Kept.{AllHold, tiles_held}
 use Rattle.mj_table.specs.Inner.Seeing.{hidden, seen_of}
 use Rattle.mj_table.proofs.FacesHeld.{tiles_are}

@@ -30,9 +30,6 @@ record Offers (d : Deed) (who tile : ℕ) : Type 0 where
   brings : brought_by d ≡ []
   loses : (seat : ℕ) → losses_by seat d ≡ cond (eqb who seat) (tile ∷ []) []
 
-pub one_more : (f : Deed → List ℕ) (ds : List Deed) (d : Deed) → flat_map f (ds ++ d ∷ []) ≡ flat_map f ds ++ f d
-one_more f ds d = flat_map-append f ds (d ∷ []) ∙ ap (λ (ys : List ℕ). flat_map f ds ++ ys) (append-nil (f d))
-
 -- The tile was held.
 was_held : (ds : List Deed) (d : Deed) (who tile : ℕ) → Offers d who tile → who < 4 → has_held ds d ≡ true → 0 < number_in (tiles_gained ds who) tile
 was_held ds d who tile o low h =

@@ -1,11 +1,6 @@
 -- What the code of this crate keeps while it works, with the definitions that only it and its proofs need. No definition
 -- outside the crate names them, and no public clause.
-pub mod Courses
-pub mod Few
 pub mod Fitting
-pub mod Hands
 pub mod Kept
 pub mod Latest
-pub mod Passing
-pub mod Seats
 pub mod Seeing

@@ -1,4 +1,3 @@
-pub mod Marks
 pub mod Offers
 pub mod Plays
 pub mod Inner

@@ -1,6 +1,6 @@
-ghost use Rattle.std.specs.Prelude.{◌≡◌, Some, option_copied, option_to_list};
+ghost use Rattle.std.specs.Prelude.{◌≡◌, Some, option_copied};
 ghost use Rattle.mj_deeds.specs.Course.{only_if, is_reach, is_offer};
-ghost use Rattle.mj_deeds.specs.Facts.{indicators_by, drawn_by};
+ghost use Rattle.mj_deeds.specs.Facts.{drawn_by};
 ghost use Rattle.mj_table.specs.Inner.Latest.{cause_by, drawn_of, before_wins_of, taken_of, drawn_before};
 
 use crate::latest::is_after_win;
@@ -116,17 +116,6 @@ fn drawn_by(deed: &Deed, seat: u8) -> Option<Tile>
             tile,
             ..
         } if *who == seat => Some(*tile),
-        _ => None,
-    }
-}
-
-// The indicator that a deed shows.
-pub(crate) fn shown_by(deed: &Deed) -> Option<Tile>
-    ensures { option_to_list result ≡ indicators_by deed.now }
-{
-    match deed {
-        Deed::StartHand { indicator, .. } => Some(*indicator),
-        Deed::Dora { tile } => Some(*tile),
         _ => None,
     }
 }

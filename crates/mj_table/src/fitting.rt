@@ -5,14 +5,11 @@ ghost use Rattle.mj_deeds.specs.Facts.{losses_by, makes_by};
 ghost use Rattle.mj_deeds.specs.Fits.{are_held, fits_in, has_held, has_seats};
 ghost use Rattle.mj_deeds.specs.Four.{at_seat};
 ghost use Rattle.mj_table.specs.Inner.Fitting.{fits_by, adds_to_own, are_four, has_place_for, has_places, has_tile_left, reaches_first};
-ghost use Rattle.mj_table.specs.Inner.Hands.{Knows, Few};
+ghost use Rattle.mj_facts.specs.Hands.{Knows, Few};
 ghost use Rattle.mj_table.specs.Inner.Kept.{Holds};
 
-use crate::bringing::keeps_kinds;
-use crate::hand_facts::HandFacts;
-use crate::meld_steps::has_triplet;
-use crate::seat_facts::SeatFacts;
 use mj_deeds::{Deed, Four, has_seats, has_tiles, is_call, is_kan, made};
+use mj_facts::{HandFacts, SeatFacts, has_triplet, keeps_kinds};
 use mj_tiles::{FACES, Tile, number_among};
 
 // Whether a deed fits after the deeds before it in its own hand, of which is kept what the seats hold, and their facts.

@@ -1,8 +1,8 @@
 ghost use Rattle.std.specs.Prelude.{◌≡◌, IfOk, OnErr, OnOk, None, Some, option_copied};
 ghost use Rattle.mj_table.specs.Inner.Latest.{is_after_win, newest_of, previous_of, previous_with};
 
-use crate::winning::is_win;
 use mj_deeds::{Deed, is_hand_start};
+use mj_facts::is_win;
 use std::alloc::AllocError;
 
 // The newest deed, and the one before it in its hand, before wins the newest that is none. They stand in two places, and the

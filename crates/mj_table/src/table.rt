@@ -13,29 +13,24 @@ ghost use Rattle.mj_deeds.specs.Points.{points, deposits};
 ghost use Rattle.mj_deeds.specs.Riichi.{is_in_riichi, is_ippatsu};
 ghost use Rattle.mj_deeds.specs.Reasons.{reason};
 ghost use Rattle.mj_sights.specs.Seen.{seen_tiles};
-ghost use Rattle.mj_table.specs.Marks.{marks};
+ghost use Rattle.mj_facts.specs.Marks.{marks};
 ghost use Rattle.mj_table.specs.Offers.{offered_tile};
-ghost use Rattle.mj_table.specs.Inner.Seats.{Keeps};
+ghost use Rattle.mj_facts.specs.Seats.{Keeps};
 ghost use Rattle.mj_deeds.specs.Hand.{before_in, hand, starts};
 ghost use Rattle.mj_deeds.specs.Standings.{standing};
 
 use crate::counting::{kinds_held, tiles_held};
 use crate::course::{before_wins, cause, drawn, taken};
-use crate::ending::hand_end;
 use crate::fitting::fits_in;
-use crate::hand_facts::{HandFacts, learn, no_facts};
 use crate::held::{move_tiles, nothing_held};
 use crate::latest::{Latest, copy_of};
-use crate::marks::Marks;
-use crate::meld_steps::has_triplet;
-use crate::reason::reason;
 use crate::room::room_beside;
-use crate::seat_facts::SeatFacts;
 use crate::seeing::kinds_seen;
 use crate::standing::stand;
 use mj_deeds::{
     Deed, Four, Reason, Tiles, deposits_after, has_points, is_hand_start, is_in_place, points_after,
 };
+use mj_facts::{HandFacts, Marks, SeatFacts, hand_end, has_triplet, learn, no_facts, reason};
 use mj_past::Past;
 use mj_rounds::{HandEnd, Standing, first};
 use mj_tiles::{Counts, FACES, Kinds, Melds, Tile};

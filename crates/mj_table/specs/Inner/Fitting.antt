@@ -7,8 +7,8 @@ use Rattle.mj_deeds.specs.Facts.{is_kan, makes_by}
 use Rattle.mj_deeds.specs.Fits.{has_seats, has_tiles, is_triplet_of}
 use Rattle.mj_deeds.specs.Four.{at_seat}
 use Rattle.mj_deeds.specs.declared.four.Four.{Four}
-use Rattle.mj_table.specs.declared.hand_facts.HandFacts.{HandFacts}
-use Rattle.mj_table.specs.declared.seat_facts.SeatFacts.{SeatFacts}
+use Rattle.mj_facts.specs.declared.hand_facts.HandFacts.{HandFacts}
+use Rattle.mj_facts.specs.declared.seat_facts.SeatFacts.{SeatFacts}
 
 -- All four are so.
 abbrev pub are_four : Bool → Bool → Bool → Bool → Bool

@@ -11,8 +11,8 @@ use Rattle.mj_deeds.specs.Hand.{is_hand_start, hand}
 use Rattle.mj_deeds.specs.Points.{points, deposits}
 use Rattle.mj_deeds.specs.Standings.{standing}
 use Rattle.mj_wall.specs.declared.setting.Rules.{Rules}
-use Rattle.mj_table.specs.declared.hand_facts.HandFacts.{HandFacts}
-use Rattle.mj_table.specs.Inner.Hands.{Knows}
+use Rattle.mj_facts.specs.declared.hand_facts.HandFacts.{HandFacts}
+use Rattle.mj_facts.specs.Hands.{Knows}
 use Rattle.mj_table.specs.Inner.Latest.{previous}
 
 -- A seat holds so many tiles of each face in one hand: those that it holds and those that it put down are those given to it.
@@ -42,10 +42,6 @@ pub record Stands (rules : Rules) (deeds : List Deed) (last before : Option Deed
   pub deposits : lying ≡ deposits deeds
   pub concealed : AllHold deeds tiles
   pub facts : KnowsNewest deeds known
-
--- The newest hand with a deed more: a start begins one, and another deed belongs to the one that has begun.
-abbrev pub hand_with : List Deed → Deed → List Deed
-hand_with in_hand deed = if is_hand_start deed then deed ∷ [] else (if length in_hand == 0 then [] else in_hand ++ deed ∷ [])
 
 -- The tiles of which there are so many of each face, in tile order.
 abbrev pub tiles_held : List ℕ → List ℕ

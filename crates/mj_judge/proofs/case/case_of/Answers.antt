@@ -10,7 +10,7 @@ use Rattle.mj_deeds.specs.Facts.{newest, seat_melds, live_tiles}
 use Rattle.mj_deeds.specs.Firsts.{is_first}
 use Rattle.mj_deeds.specs.Hand.{hand}
 use Rattle.mj_deeds.specs.Riichi.{is_ippatsu}
-use Rattle.mj_table.proofs.WinSteps.{riichi_without, double_without, first_without, melds_without, live_without}
+use Rattle.mj_facts.proofs.WinSteps.{riichi_without, double_without, first_without, melds_without, live_without}
 use Rattle.mj_rules.specs.Wins.{case_of, seat_wind, riichi_of, is_draw, is_replacement, is_added}
 use Rattle.mj_judge.proofs.case.case_of.Goals as goal
 

@@ -3,7 +3,7 @@ use Rattle.mj_tiles.specs.declared.meld.Meld.{Meld}
 use Rattle.mj_score.specs.declared.score.Extra.{Extra}
 use Rattle.mj_deeds.specs.Hand.{hand}
 use Rattle.mj_deeds.specs.Standings.{standing}
-use Rattle.mj_table.proofs.WinSteps.{melds_without}
+use Rattle.mj_facts.proofs.WinSteps.{melds_without}
 use Rattle.mj_rules.specs.Wins.{rows_of_win}
 use Rattle.mj_machine.specs.Inner.Steps.{AreFew}
 use Rattle.mj_machine.proofs.Circumstances.{closed_is, score_is, extra_is}

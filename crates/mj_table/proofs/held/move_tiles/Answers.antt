@@ -1,5 +1,5 @@
 use Rattle.mj_deeds.specs.Four.{at_seat}
-use Rattle.mj_table.proofs.SeatsKept.{each_seat}
+use Rattle.mj_facts.proofs.EachSeat.{each_seat}
 use Rattle.mj_table.specs.Inner.Kept.{Moves}
 use Rattle.mj_table.proofs.held.move_tiles.Goals as goal
 

@@ -1,6 +1,6 @@
 use Rattle.std.proofs.Common.{[], replicate}
 use Rattle.mj_table.proofs.FacesHeld.{holds_nothing}
-use Rattle.mj_table.proofs.SeatsKept.{each_seat}
+use Rattle.mj_facts.proofs.EachSeat.{each_seat}
 use Rattle.mj_table.specs.Inner.Kept.{Holds}
 use Rattle.mj_table.proofs.held.nothing_held.Goals as goal
 

@@ -1,6 +1,6 @@
 use Rattle.std.proofs.Common.{[], sym, ap, cond}
 use Rattle.mj_deeds.specs.Hand.{hand}
-use Rattle.mj_table.proofs.HandsKept.{few_in_hand, few_none}
+use Rattle.mj_table.proofs.NewestHand.{few_in_hand, few_none}
 use Rattle.mj_table.proofs.Readers.{inside_told}
 use Rattle.mj_table.proofs.table.Table.fits_in.Goals as goal
 

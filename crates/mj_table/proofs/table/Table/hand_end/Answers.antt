@@ -5,7 +5,7 @@ use Rattle.mj_deeds.specs.Hand.{hand}
 use Rattle.mj_deeds.specs.Standings.{standing}
 use Rattle.mj_deeds.proofs.Standings.{may_stand}
 use Rattle.mj_table.specs.Plays.{Play}
-use Rattle.mj_table.proofs.HandsKept.{known_of}
+use Rattle.mj_table.proofs.NewestHand.{known_of}
 use Rattle.mj_table.proofs.table.Table.hand_end.Goals as goal
 
 pub kept-requires : goal.kept-requires

@@ -1,7 +1,7 @@
 use Rattle.std.proofs.Common.{◌∙◌}
 use Rattle.mj_deeds.specs.Hand.{hand}
-use Rattle.mj_table.proofs.HandsKept.{known_of}
-use Rattle.mj_table.proofs.WinSteps.{some_winner}
+use Rattle.mj_table.proofs.NewestHand.{known_of}
+use Rattle.mj_facts.proofs.WinSteps.{some_winner}
 use Rattle.mj_table.proofs.table.Table.has_winner.Goals as goal
 
 pub returns : goal.returns

@@ -1,5 +1,5 @@
 use Rattle.mj_deeds.specs.Hand.{hand}
-use Rattle.mj_table.proofs.MarksKept.{first_told}
+use Rattle.mj_table.proofs.NewestHand.{first_told}
 use Rattle.mj_table.proofs.table.Table.is_first.Goals as goal
 
 pub returns : goal.returns

@@ -1,4 +1,4 @@
-use Rattle.mj_table.proofs.HandsKept.{known_of}
+use Rattle.mj_table.proofs.NewestHand.{known_of}
 use Rattle.mj_table.proofs.table.Table.kan_seat.Goals as goal
 
 pub returns : goal.returns

@@ -1,4 +1,4 @@
-use Rattle.mj_table.proofs.HandsKept.{known_of, few_known}
+use Rattle.mj_table.proofs.NewestHand.{known_of, few_known}
 use Rattle.mj_table.proofs.table.Table.kans.Goals as goal
 
 pub returns-clause-value : goal.returns-clause-value

@@ -1,4 +1,4 @@
-use Rattle.mj_table.proofs.HandsKept.{seat_kept}
+use Rattle.mj_table.proofs.NewestHand.{seat_kept}
 use Rattle.mj_table.proofs.table.Table.kept.Goals as goal
 
 pub returns : goal.returns

@@ -1,5 +1,5 @@
 use Rattle.mj_deeds.specs.Hand.{hand}
-use Rattle.mj_table.proofs.HandsKept.{known_of, live_known}
+use Rattle.mj_table.proofs.NewestHand.{known_of, live_known}
 use Rattle.mj_table.proofs.table.Table.live.Goals as goal
 
 pub returns-clause-value : goal.returns-clause-value

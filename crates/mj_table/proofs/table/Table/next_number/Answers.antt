@@ -1,7 +1,7 @@
 use Rattle.std.proofs.Common.{ap, ◌∙◌, arith}
 use Rattle.mj_deeds.specs.Standings.{standing}
 use Rattle.mj_table.specs.Plays.{Play}
-use Rattle.mj_table.proofs.HandsKept.{known_of}
+use Rattle.mj_table.proofs.NewestHand.{known_of}
 use Rattle.mj_table.proofs.Readers.{none_numbered, next_numbered, few_numbers}
 use Rattle.mj_table.proofs.table.Table.next_number.Goals as goal
 

@@ -3,7 +3,7 @@ use Rattle.mj_deeds.specs.Hand.{starts}
 use Rattle.mj_table.specs.Plays.{Play}
 use Rattle.mj_deeds.specs.Four.{at_seat}
 use Rattle.mj_table.proofs.FacesHeld.{holds_more}
-use Rattle.mj_table.proofs.HandsKept.{facts_more}
+use Rattle.mj_table.proofs.NewestHand.{facts_more}
 use Rattle.mj_table.proofs.Readers.{stands_more, stands_for, fit_within, few_lie, points_fit}
 use Rattle.mj_table.specs.Inner.Latest.{newest_of, previous_of}
 use Rattle.mj_table.proofs.table.Table.push.Goals as goal

@@ -2,7 +2,7 @@ use Rattle.std.proofs.Common.{◌∙◌, ap}
 use Rattle.mj_deeds.specs.Hand.{hand}
 use Rattle.mj_deeds.specs.Reasons.{reason}
 use Rattle.mj_table.specs.Plays.{Play}
-use Rattle.mj_table.proofs.HandsKept.{known_of}
+use Rattle.mj_table.proofs.NewestHand.{known_of}
 use Rattle.mj_table.proofs.table.Table.reason.Goals as goal
 
 pub returns : goal.returns

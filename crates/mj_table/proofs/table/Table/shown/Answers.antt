@@ -1,5 +1,5 @@
 use Rattle.std.proofs.Common.{◌∙◌}
-use Rattle.mj_table.proofs.HandsKept.{known_of}
+use Rattle.mj_table.proofs.NewestHand.{known_of}
 use Rattle.mj_table.proofs.table.Table.shown.Goals as goal
 
 pub returns : goal.returns

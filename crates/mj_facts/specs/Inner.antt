@@ -1,0 +1,2 @@
+-- What only this crate and its proofs name.
+pub mod Passing

@@ -1,0 +1,6 @@
+pub mod Courses
+pub mod Few
+pub mod Hands
+pub mod Inner
+pub mod Marks
+pub mod Seats

@@ -1,5 +1,0 @@
-use Rattle.mj_table.proofs.MarksKept.{no_marks}
-use Rattle.mj_table.proofs.mark_facts.no_marks.Goals as goal
-
-pub returns : goal.returns
-returns c seat = no_marks seat
