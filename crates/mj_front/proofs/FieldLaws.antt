@@ -5,7 +5,7 @@ use Rattle.std.proofs.Common.{arith}
 use Rattle.std.proofs.lemmas.Bool.Decides.{nat_tests}
 use Rattle.mj_bytes.specs.Numbers.{decimal_of}
 use Rattle.mj_history.specs.Arrivals.{NoForm, Say, Expire, expire_form, numbers_in, is_short, form_by, form_of}
-use Rattle.mjai_lines.specs.Settings.{three_of}
+use Rattle.mjai_answers.specs.Settings.{three_of}
 
 -- other numbers of fields say no end of a window
 pub expire_form_of_others : (texts : List (List ℕ)) → three_of texts ≡ None → expire_form (numbers_in texts) ≡ NoForm

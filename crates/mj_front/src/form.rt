@@ -12,7 +12,7 @@ ghost use Rattle.mj_front.specs.Inner.Forms.{meaning, expiry_meant, HasLimit};
 use mj_bytes::{read_number, split_space};
 use mj_tiles::Tile;
 use mj_wall::Rules;
-use mjai_lines::{read_rules, read_tiles, three_fields};
+use mjai_answers::{read_rules, read_tiles, three_fields};
 use std::alloc::{AllocError, Global};
 
 /// The most bytes that the line of a player may have.

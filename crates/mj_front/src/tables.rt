@@ -24,7 +24,7 @@ use mj_ports::{Picked, Picker, Seated};
 use mj_tables::{ClosedTables, TableSession, run_tables};
 use mj_wall::{Rules, Walls};
 use mj_words::{Hosting, Serving};
-use mjai_lines::read_room;
+use mjai_answers::read_room;
 use std::alloc::{AllocError, Global};
 use std::sync::Wait;
 use std::thread::Threads;

@@ -7,7 +7,7 @@ ghost use Rattle.mj_replay.specs.Inner.Settings.{IsHeader, IsNoHeader, IsWallLin
 use mj_bytes::strip;
 use mj_tiles::Tile;
 use mj_wall::{Rules, Wall};
-use mjai_lines::{read_rules, read_tiles};
+use mjai_answers::{read_rules, read_tiles};
 use std::alloc::{AllocError, Global};
 
 /// The rules that a header line says, which stands here without its newline; none where it is no header.

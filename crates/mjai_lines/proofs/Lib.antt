@@ -1,8 +1,4 @@
 mod Chains
 mod Lists
-mod Named
 mod Rows
-mod Settings
-mod Spellings
-mod Texts
 mod Wins

@@ -3,7 +3,7 @@
 ghost use Rattle.std.specs.Prelude.{◌≡◌, None, IfOk, IfSome, codes, option_and_then, option_map};
 ghost use Rattle.mj_bytes.specs.Parts.{fields, behind};
 ghost use Rattle.mj_forms.specs.Headers.{rules_of};
-ghost use Rattle.mjai_lines.specs.Settings.{IsLimited};
+ghost use Rattle.mjai_answers.specs.Settings.{IsLimited};
 ghost use Rattle.riichi_c.specs.Opens.{Opens, OpensSeed, Closes, PutsGame, setting_of, new_game, seeded, wall_in, some_walls};
 
 use crate::answer::{BAD_SETTING, DONE, IN_PLAY, NO_GAME, NO_MEMORY};
@@ -11,7 +11,7 @@ use crate::handle::Table;
 use mj_bytes::{split_line, strip};
 use mj_core::Core;
 use mj_wall::{Rules, Wall, Walls};
-use mjai_lines::{read_rules, read_tiles};
+use mjai_answers::{read_rules, read_tiles};
 use std::alloc::{AllocError, Global};
 
 // The most walls that a game has.

@@ -1,6 +1,6 @@
 -- What the value that a line was read as stands for.
 use Rattle.std.specs.Prelude.{ℕ, Option, Some, None}
-use Rattle.mjai_lines.specs.Settings.{IsLimited}
+use Rattle.mjai_answers.specs.Settings.{IsLimited}
 use Rattle.mj_front.specs.declared.form.ArrivalForm.{ArrivalForm}
 use Rattle.mj_front.specs.declared.form.ArrivalForm.TheVariants as read
 use Rattle.mj_history.specs.Arrivals.{ArrivalForm as Meaning}

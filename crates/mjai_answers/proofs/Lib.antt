@@ -1,0 +1,4 @@
+mod Named
+mod Settings
+mod Spellings
+mod Texts
