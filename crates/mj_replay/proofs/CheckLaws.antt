@@ -33,9 +33,9 @@ use Rattle.mj_replay.specs.declared.checking.Checked.TheVariants.{Good, Bad, NoM
 use Rattle.mj_replay.specs.declared.checking.Summary.{Summary as Said}
 use Rattle.mj_history.specs.Told.{Summary}
 use Rattle.mj_replay.specs.Checks.{fault_of, summary_said, Tells, IsRecordOf}
-use Rattle.mj_replay.specs.Inner.Settings.{IsHeader, IsNoHeader}
+use Rattle.mj_records.specs.Settings.{IsHeader, IsNoHeader}
 use Rattle.mj_replay.specs.Inner.Steps.{cause_at_end, IsNext, IsNoNext, NoneNeeded, Follows, FollowsOr, IsList, TellsKept}
-use Rattle.mj_replay.proofs.SettingLaws.{behind-is, bytes-same}
+use Rattle.mj_records.proofs.SettingLaws.{behind-is, bytes-same}
 
 not_empty : (n : ℕ) → (suc n == 0) ≡ true → ⊥
 not_empty n h = let e : suc n ≡ 0 = (Decides-eqb (suc n) 0).0 h in absurd (omega (arith, e))

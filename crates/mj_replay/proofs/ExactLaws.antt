@@ -22,13 +22,13 @@ use Rattle.mj_history.specs.Records.{are_rules, are_walls, IsRecord, is_deed, Is
 use Rattle.mj_forms.specs.RecordTexts.{record_text}
 use Rattle.mj_history.proofs.Told.{told_answers_give}
 use Rattle.mj_replay.specs.Checks.{AnswersAreExact}
-use Rattle.mj_replay.specs.Inner.Deeds.{deed_in}
-use Rattle.mj_replay.specs.Inner.Laws.{as_read}
+use Rattle.mj_records.specs.Deeds.{deed_in}
+use Rattle.mj_records.specs.Laws.{as_read}
 use Rattle.mj_replay.proofs.FollowLaws.{same_told, start_is_read}
-use Rattle.mj_replay.proofs.PlainLaws.{Ended, header_ends, wall_ends, deed_ends}
+use Rattle.mj_records.proofs.PlainLaws.{Ended, header_ends, wall_ends, deed_ends}
 use Rattle.mj_replay.proofs.PlayedLaws.{played_value}
-use Rattle.mj_replay.proofs.ReadLaws.{read_deeds_tell_the_same}
-use Rattle.mj_replay.proofs.SettingLaws.{one_header, one_wall}
+use Rattle.mj_records.proofs.ReadLaws.{read_deeds_tell_the_same}
+use Rattle.mj_records.proofs.SettingLaws.{one_header, one_wall}
 
 -- two texts that begin with a line each
 cut_at : (xs ys a b : List ℕ) → has_byte 10 xs ≡ false → has_byte 10 ys ≡ false → xs ++ 10 ∷ a ≡ ys ++ 10 ∷ b → (xs ≡ ys) × (a ≡ b)

@@ -24,15 +24,14 @@ use Rattle.mj_history.specs.Told.{told_of, told}
 use Rattle.mj_history.specs.Records.{IsLineOf, IsOfNoNext, is_deed}
 use Rattle.mj_history.proofs.Ended.{no_outcome}
 use Rattle.mj_history.proofs.Told.{told_answers_give}
-use Rattle.mj_replay.specs.Inner.Deeds.{deed_in}
-use Rattle.mj_replay.specs.Inner.Laws.{as_read}
-use Rattle.mj_replay.specs.declared.usual.Act.{Act}
-use Rattle.mj_replay.specs.declared.usual.Act.TheVariants as acts
-use Rattle.mj_replay.specs.Inner.Usual.{deed_of}
+use Rattle.mj_records.specs.Deeds.{deed_in}
+use Rattle.mj_records.specs.Laws.{as_read}
+use Rattle.mj_records.specs.declared.usual.Act.{Act}
+use Rattle.mj_records.specs.declared.usual.Act.TheVariants as acts
+use Rattle.mj_records.specs.Usual.{deed_of}
 use Rattle.mj_replay.specs.Inner.Steps.{Follows, FollowsBy, has_different_names}
-use Rattle.mj_replay.proofs.PointLaws.{and-parts}
-use Rattle.mj_replay.proofs.ReadLaws.{read_deeds_tell_the_same}
-use Rattle.mj_replay.proofs.ValueLaws.{read_is_value}
+use Rattle.mj_records.proofs.ReadLaws.{read_deeds_tell_the_same}
+use Rattle.mj_records.proofs.ValueLaws.{read_is_value}
 
 -- the deed of a line is read as one that has the line too
 read_as : (text : List ℕ) (other : Deed) → IsLineOf text other → deed_in text ≡ Some (as_read other)
@@ -125,9 +124,9 @@ no_newest (first ∷ others) h = absurd (has_newest first others h)
 
 starts_game : (deed : Deed) → is_deed deed ≡ true → has_different_names deed ≡ true → is_game_start deed ≡ true
 starts_game (StartGame names) h d =
-    let p3 = and-parts (is_name names.first && is_name names.second && is_name names.third) (is_name names.fourth) h in
-    let p2 = and-parts (is_name names.first && is_name names.second) (is_name names.third) p3.0 in
-    let p1 = and-parts (is_name names.first) (is_name names.second) p2.0 in
+    let p3 = and_parts (is_name names.first && is_name names.second && is_name names.third) (is_name names.fourth) h in
+    let p2 = and_parts (is_name names.first && is_name names.second) (is_name names.third) p3.0 in
+    let p1 = and_parts (is_name names.first) (is_name names.second) p2.0 in
     rw (p1.0, p1.1, p2.1, p3.1, d) refl
 starts_game (StartHand round number honba deposits dealer indicator hands) h d = cc d
 starts_game (Draw seat tile replacement) h d = cc d
@@ -146,7 +145,7 @@ starts_game EndHand h d = cc d
 starts_game (EndGame points deposits) h d = cc d
 
 pub start_is_read : (other : Deed) → is_game_start other ≡ true → (as_read other ≡ other) × (has_different_names other ≡ true)
-start_is_read (StartGame names) h = (refl, (and-parts _ (are_different (names.first ∷ names.second ∷ names.third ∷ names.fourth ∷ [])) h).1)
+start_is_read (StartGame names) h = (refl, (and_parts _ (are_different (names.first ∷ names.second ∷ names.third ∷ names.fourth ∷ [])) h).1)
 start_is_read (StartHand round number honba deposits dealer indicator hands) h = cc h
 start_is_read (Draw seat tile replacement) h = cc h
 start_is_read (Discard seat tile drawn) h = cc h

@@ -1,4 +1,3 @@
--- How a line of a record is read, in `Inner`: no definition outside the crate names these, and no public clause. And what `check`
--- answers.
+-- What `check` answers; and in `Inner` how it goes from line to line, which no definition outside the crate names, and no public clause.
 pub mod Inner
 pub mod Checks

@@ -8,14 +8,12 @@ ghost use Rattle.mj_deeds.specs.declared.deed.Viewer.TheVariants.{Record};
 ghost use Rattle.mj_rules.specs.Outcome.{goes_on};
 ghost use Rattle.mj_rules.specs.Played.{IsPlayed, AllLawful};
 ghost use Rattle.mj_forms.specs.Lines.{line as line_for};
-ghost use Rattle.mj_replay.specs.Inner.Deeds.{deed_in};
-ghost use Rattle.mj_replay.specs.Inner.Usual.{deed_of};
+ghost use Rattle.mj_records.specs.Deeds.{deed_in};
+ghost use Rattle.mj_records.specs.Usual.{deed_of};
 ghost use Rattle.mj_replay.specs.Inner.Steps.{FollowsOr, FollowsIf, FollowsBy, has_different_names};
 
 use crate::checking::Cause;
-use crate::reading::deed_in;
 use crate::told::{act_told, told};
-use crate::usual::{Act, act_in, has_line_of};
 use mj_deeds::{Answer, Deed, Four, Viewer};
 use mj_judge::is_lawful;
 use mj_machine::next;
@@ -109,7 +107,7 @@ fn write_over<L: Ledger>(
 }
 
 // The same where the text may be known to be the line of an act: the deed is compared with that one first.
-#[tactic(auto, using(crate::proofs::UsualLaws::same_line))]
+#[tactic(auto, using(mj_records::proofs::UsualLaws::same_line))]
 fn is_known_line(
     alloc: Global,
     room: &mut Vec<u8>,

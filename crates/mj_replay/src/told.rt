@@ -7,9 +7,9 @@ ghost use Rattle.mj_deeds.specs.declared.answer.Pai.TheVariants.{Known};
 ghost use Rattle.mj_deeds.specs.declared.answer.Answer.TheVariants as answers;
 ghost use Rattle.mj_deeds.specs.Four.{for_each_seat};
 ghost use Rattle.mj_history.specs.Told.{told_of, only_of, bid_told, call_told, win_told, wins_told, nine_told, drawn_told, own_seat};
-ghost use Rattle.mj_replay.specs.Inner.Usual.{deed_of};
+ghost use Rattle.mj_records.specs.Usual.{deed_of};
 
-use crate::usual::Act;
+use mj_records::Act;
 use mj_deeds::{Answer, Bid, Deed, Four, Pai, Reason, SeatList};
 use mj_tiles::Tile;
 

@@ -18,7 +18,7 @@ use Rattle.mj_replay.specs.declared.checking.Cause.TheVariants as causes
 use Rattle.mj_replay.specs.declared.checking.Checked.{Checked}
 use Rattle.mj_replay.specs.declared.checking.Checked.TheVariants.{Good, Bad, NoMemory}
 use Rattle.mj_replay.specs.Checks.{summary_said, fault_of}
-use Rattle.mj_replay.specs.Inner.Settings.{IsWallLine, IsNoWallLine}
+use Rattle.mj_records.specs.Settings.{IsWallLine, IsNoWallLine}
 
 -- Where a text ends, the cause is that nothing is left, or that what is left has no newline.
 abbrev pub cause_at_end : List ℕ → Cause → Cause

@@ -1,0 +1,20 @@
+use Rattle.std.proofs.Common.{◌≡◌, ◌<◌, ℕ, sym, subst}
+use Rattle.mj_deeds.specs.declared.deed.Deed.TheVariants.{Draw}
+use Rattle.mj_history.specs.Records.{IsLineOf}
+use Rattle.mj_records.specs.Usual.{IsActOf}
+use Rattle.mj_records.proofs.UsualLaws.{draw_is, draw_read}
+use Rattle.mj_records.proofs.usual.draw_in.Goals as goal
+
+pub returns-clause-line : goal.returns-clause-line
+returns-clause-line c =
+    draw_is c.args.line.now c.in-Some.act.now c.in-Some-seat_and_face.end.now c.in-Some-seat_and_face.seat c.at-tile.result c.in-Some.ensures
+    (subst (λ (t : ℕ). IsActOf c.in-Some.act.now c.in-Some-seat_and_face.seat t c.in-Some-seat_and_face.end.now) (sym c.at-tile.ensures) c.in-Some-seat_and_face.ensures)
+    (c.is_end.ensures c.if-not-is_end.false)
+
+pub returns-clause-read : goal.returns-clause-read
+returns-clause-read c =
+    draw_read c.args.line.now c.in-Some-seat_and_face.seat c.at-tile.result c.in-Some-seat_and_face.ensures.seat_few
+    (subst (λ (t : ℕ). t < 37) (sym c.at-tile.ensures) c.in-Some-seat_and_face.ensures.tile_few)
+    (draw_is c.args.line.now c.in-Some.act.now c.in-Some-seat_and_face.end.now c.in-Some-seat_and_face.seat c.at-tile.result c.in-Some.ensures
+    (subst (λ (t : ℕ). IsActOf c.in-Some.act.now c.in-Some-seat_and_face.seat t c.in-Some-seat_and_face.end.now) (sym c.at-tile.ensures) c.in-Some-seat_and_face.ensures)
+    (c.is_end.ensures c.if-not-is_end.false))

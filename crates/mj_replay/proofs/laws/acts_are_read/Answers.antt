@@ -1,5 +1,0 @@
-use Rattle.mj_replay.proofs.ActLaws.{acts_are_read}
-use Rattle.mj_replay.proofs.laws.acts_are_read.Goals as goal
-
-pub returns : goal.returns
-returns c = acts_are_read

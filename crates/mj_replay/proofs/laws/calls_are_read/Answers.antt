@@ -1,5 +1,0 @@
-use Rattle.mj_replay.proofs.CallLaws.{calls_are_read}
-use Rattle.mj_replay.proofs.laws.calls_are_read.Goals as goal
-
-pub returns : goal.returns
-returns c = calls_are_read

@@ -1,5 +1,0 @@
-use Rattle.mj_replay.proofs.ShownLaws.{drawn_hands_are_read}
-use Rattle.mj_replay.proofs.laws.drawn_hands_are_read.Goals as goal
-
-pub returns : goal.returns
-returns c = drawn_hands_are_read

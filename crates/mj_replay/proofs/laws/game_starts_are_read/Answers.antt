@@ -1,5 +1,0 @@
-use Rattle.mj_replay.proofs.StartLaws.{game_starts_are_read}
-use Rattle.mj_replay.proofs.laws.game_starts_are_read.Goals as goal
-
-pub returns : goal.returns
-returns c = game_starts_are_read

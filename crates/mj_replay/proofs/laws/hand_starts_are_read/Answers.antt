@@ -1,5 +1,0 @@
-use Rattle.mj_replay.proofs.HandLaws.{hand_starts_are_read}
-use Rattle.mj_replay.proofs.laws.hand_starts_are_read.Goals as goal
-
-pub returns : goal.returns
-returns c = hand_starts_are_read

@@ -1,5 +1,0 @@
-use Rattle.mj_replay.proofs.ReachLaws.{reaches_are_read}
-use Rattle.mj_replay.proofs.laws.reaches_are_read.Goals as goal
-
-pub returns : goal.returns
-returns c = reaches_are_read

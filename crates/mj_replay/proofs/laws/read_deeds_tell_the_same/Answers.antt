@@ -1,5 +1,0 @@
-use Rattle.mj_replay.proofs.ReadLaws.{read_deeds_tell_the_same}
-use Rattle.mj_replay.proofs.laws.read_deeds_tell_the_same.Goals as goal
-
-pub returns : goal.returns
-returns c = read_deeds_tell_the_same
