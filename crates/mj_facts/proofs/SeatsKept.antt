@@ -97,4 +97,3 @@ nothing_kept seat n melds few marks e h l k = record {
   marks = k;
   won = refl;
 }
-

@@ -2,7 +2,7 @@
 use Rattle.std.proofs.Common.{◌≡◌, ℕ, ◌≤◌, List, [], ◌∷◌, ◌++◌, Bool, true, false, refl, ap, sym, ◌∙◌, ◌-◌, arith, subst, length, ◌<◌, zero, suc}
 use Rattle.std.specs.Prelude.{Option, Some, None, bytes_eq, ◌&&◌, ◌↔◌, IsTrue, slice_get}
 use Rattle.std.specs.List.{list_all}
-use Rattle.std.proofs.lemmas.Bool.{false≢true}
+use Rattle.std.proofs.lemmas.Bool.{and_parts, false≢true}
 use Rattle.std.proofs.lemmas.Slice.Eq.{bytes_eq-Decides}
 use Rattle.mj_ports.specs.Names.{is_name, are_different}
 use Rattle.mj_deeds.specs.declared.four.Four.{Four}

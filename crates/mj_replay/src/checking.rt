@@ -12,9 +12,9 @@ ghost use Rattle.mj_replay.specs.Inner.Steps.{cause_at_end, IsNext, IsNoNext, No
 ghost use Rattle.mj_replay.specs.declared.checking.Checked.TheVariants.{Bad};
 
 use crate::following::follow;
-use mj_records::{header_of, wall_of};
 use mj_bytes::{split_line, strip};
 use mj_deeds::Deed;
+use mj_records::{header_of, wall_of};
 use mj_table::Table;
 use mj_wall::{Rules, Wall};
 use std::alloc::{AllocError, Global};

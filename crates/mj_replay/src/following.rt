@@ -17,6 +17,7 @@ use crate::told::{act_told, told};
 use mj_deeds::{Answer, Deed, Four, Viewer};
 use mj_judge::is_lawful;
 use mj_machine::next;
+use mj_records::{Act, act_in, deed_in, has_line_of};
 use mj_table::Table;
 use mj_wall::Wall;
 use mjai_lines::{Steps, write};

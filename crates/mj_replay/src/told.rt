@@ -9,8 +9,8 @@ ghost use Rattle.mj_deeds.specs.Four.{for_each_seat};
 ghost use Rattle.mj_history.specs.Told.{told_of, only_of, bid_told, call_told, win_told, wins_told, nine_told, drawn_told, own_seat};
 ghost use Rattle.mj_records.specs.Usual.{deed_of};
 
-use mj_records::Act;
 use mj_deeds::{Answer, Bid, Deed, Four, Pai, Reason, SeatList};
+use mj_records::Act;
 use mj_tiles::Tile;
 
 /// The four answers that a deed after the newest one tells of, whether or not they give it.
