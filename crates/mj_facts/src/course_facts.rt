@@ -10,8 +10,8 @@ ghost use Rattle.mj_deeds.specs.Reasons.{is_turn, discarded_kind};
 ghost use Rattle.mj_facts.specs.Courses.{Follows, end_by, is_another};
 
 use crate::counted::counted;
+use crate::draw_reasons::{discarded_kind, is_turn};
 use crate::few_tiles::{FewTiles, no_tiles};
-use crate::reason::{discarded_kind, is_turn};
 use crate::winning::is_win;
 use mj_deeds::{Deed, Four, Reason, seat_of_kan};
 use mj_tiles::{Kind, Tile};

@@ -5,6 +5,7 @@
 mod bringing;
 mod counted;
 mod course_facts;
+mod draw_reasons;
 mod ending;
 mod few_tiles;
 mod hand_facts;
@@ -12,19 +13,18 @@ mod mark_facts;
 mod marks;
 mod meld_steps;
 mod passed;
-mod reason;
 mod riichi;
 mod seat_facts;
 mod winning;
 
 pub use bringing::keeps_kinds;
 pub use course_facts::{CourseFacts, HandDraw};
+pub use draw_reasons::reason;
 pub use ending::hand_end;
 pub use few_tiles::FewTiles;
 pub use hand_facts::{HandFacts, learn, no_facts};
 pub use mark_facts::MarkFacts;
 pub use marks::Marks;
 pub use meld_steps::has_triplet;
-pub use reason::reason;
 pub use seat_facts::SeatFacts;
 pub use winning::is_win;
