@@ -1,5 +1,6 @@
 pub mod TileOrder
 pub mod WallFaces
 pub mod Extras
+pub mod FaceCounts
 pub mod WallKinds
 pub mod Shuffles

@@ -1,14 +1,20 @@
 -- What a wall is made of, and that tiles are a wall exactly where no place of them is wrong.
-use Rattle.std.proofs.Common.{◌≡◌, ◌≢◌, ℕ, ◌+◌, ◌<◌, ◌≤◌, Bool, true, false, Option, Some, None, List, [], ◌∷◌, ◌++◌, length, arith, inl, inr, refl, sym, ap, ◌∙◌, subst, cond, eqb, leb, append_assoc}
+use Rattle.std.proofs.Common.{◌≡◌, ◌≢◌, ℕ, ◌+◌, ◌<◌, ◌≤◌, Bool, true, false, Option, Some, None, List, [], ◌∷◌, ◌++◌, length, get_or, map, arith, inl, inr, refl, sym, ap, ◌∙◌, subst, cond, eqb, leb, ltb, append_assoc}
 use Rattle.std.specs.Prelude.{All, is_none}
-use Rattle.std.specs.List.{list_all}
-use Rattle.std.proofs.lemmas.Bool.{and_parts, and_from, cases_eq, cases_lt, false≢true, eq-eqb, eqb-true, le-ltb, lt-leb, ne_eqb}
+use Rattle.std.specs.Str.{bytes_eq}
+use Rattle.std.proofs.lemmas.Bool.Decides.{same_from_decides}
+use Rattle.std.proofs.lemmas.Slice.Eq.{bytes_eq-Decides}
+use Rattle.std.specs.List.{list_all, range_with_len}
+use Rattle.std.proofs.lemmas.Bool.{and_parts, and_from, cases_eq, cases_lt, false≢true, eq-eqb, eqb-true, le-ltb, lt-leb, ltb-true, ne_eqb}
+use Rattle.std.proofs.lemmas.List.FromFn.{get_or-map-range_with_len}
 use Rattle.std.proofs.lemmas.List.{append-nil}
 use Rattle.std.proofs.lemmas.List.Elements.{All-nil, All-cons, All-head, All-tail}
 use Rattle.mj_tiles.specs.Faces.{number_in, tile_order}
 use Rattle.mj_wall.specs.Places.{number_in_wall, first_extra, wrong_length, bad_place_by, bad_place, is_wall}
 use Rattle.mj_wall.proofs.TileOrder.{total, total-all, number-cons, passes_face, known-total}
 use Rattle.mj_tiles.proofs.CountSteps.{number_in-push}
+use Rattle.mj_wall.specs.Inner.FaceCounts.{face_counts}
+use Rattle.mj_wall.proofs.FaceCounts.{get_or-face_counts}
 use Rattle.mj_wall.proofs.Extras.{AreWithin, none_above, not_found, within-none, within-push, allowed, allowed-all, total-le}
 
 -- A wall has 136 tiles.
@@ -152,25 +158,43 @@ wall_by_place red tiles =
     same false true there back = back refl
     same false false there back = refl
 
--- Tiles of which some place is wrong are no wall.
-pub no_wall : (red : Bool) (tiles : List ℕ) (place : ℕ) → bad_place red tiles ≡ Some place → is_wall red tiles ≡ false
-no_wall red tiles place h = wall_by_place red tiles ∙ ap is_none h
-
--- Tiles of which one is one too many are no wall.
-pub no_wall_by_extra : (red : Bool) (tiles : List ℕ) (place : ℕ) → Some place ≡ first_extra red [] tiles → is_wall red tiles ≡ false
-unfolding bad_place
-no_wall_by_extra red tiles place h = no_wall red tiles place (ap (λ extra. bad_place_by extra (length tiles)) (sym h))
-
-other_length : (red : Bool) (tiles : List ℕ) → length tiles ≢ 136 → is_wall red tiles ≡ false
+-- Another number of tiles than 136 is no wall.
+pub other_length : (red : Bool) (tiles : List ℕ) → length tiles ≢ 136 → is_wall red tiles ≡ false
 unfolding is_wall
 other_length red tiles h = rw (ne_eqb (length tiles) 136 h) refl
 
--- Fewer tiles than 136 are no wall.
-pub no_wall_if_short : (red : Bool) (tiles : List ℕ) → length tiles < 136 → is_wall red tiles ≡ false
-no_wall_if_short red tiles h = other_length red tiles (λ e. omega arith)
+-- A number of tiles of which none is one too many, and which are no wall, is not 136.
+pub no_whole_wall : (red : Bool) (tiles : List ℕ) → first_extra red [] tiles ≡ None → is_wall red tiles ≡ false → length tiles ≢ 136
+no_whole_wall red tiles none h long = absurd (false≢true (sym h ∙ whole_wall red tiles none long))
 
--- More tiles than 136 are no wall.
-pub no_wall_if_long : (red : Bool) (tiles : List ℕ) → 136 < length tiles → is_wall red tiles ≡ false
-no_wall_if_long red tiles h = other_length red tiles (λ e. omega arith)
+-- What holds of each face of the game holds of all of these.
+holds_of_each : (p : ℕ → Bool) (faces : List ℕ) → list_all (λ face. ltb face 37) faces ≡ true → ((face : ℕ) → face < 37 → p face ≡ true) → list_all p faces ≡ true
+holds_of_each p [] below h = refl
+holds_of_each p (face ∷ faces) below h =
+    let parts = and_parts (ltb face 37) (list_all (λ x. ltb x 37) faces) below in
+    and_from _ _ (h face (ltb-true face 37 parts.0)) (holds_of_each p faces parts.1 h)
 
-pub ruleset wall_tests = (whole_wall, no_wall_by_extra, no_wall_if_short, no_wall_if_long)
+-- 136 tiles that are as many of each face of the game as they should are a wall.
+pub wall_by_counts : (red : Bool) (tiles : List ℕ) → length tiles ≡ 136 → face_counts tiles ≡ map (number_in_wall red) (range_with_len 0 37) → is_wall red tiles ≡ true
+unfolding is_wall tile_order
+wall_by_counts red tiles long counts =
+    and_from _ _ (eq-eqb (length tiles) 136 long) (holds_of_each (λ face. eqb (number_in tiles face) (number_in_wall red face)) tile_order refl (λ face inside.
+    eq-eqb (number_in tiles face) (number_in_wall red face) (sym (get_or-face_counts tiles face inside) ∙ ap (λ xs. get_or xs face 0) counts ∙ wanted face inside)))
+  where
+    wanted : (face : ℕ) → face < 37 → get_or (map (number_in_wall red) (range_with_len 0 37)) face 0 ≡ number_in_wall red face
+    wanted face inside = get_or-map-range_with_len (number_in_wall red) 0 37 face face 0 inside (omega arith)
+
+-- A wall has each face of the game as often as it should.
+pub counts_of_wall : (red : Bool) (tiles : List ℕ) → is_wall red tiles ≡ true → face_counts tiles ≡ map (number_in_wall red) (range_with_len 0 37)
+unfolding face_counts
+counts_of_wall red tiles h = all_same (number_in tiles) (number_in_wall red) (λ face. wall_has_each red tiles face h) (range_with_len 0 37)
+  where
+    all_same : (f g : ℕ → ℕ) → ((x : ℕ) → f x ≡ g x) → (xs : List ℕ) → map f xs ≡ map g xs
+    all_same f g same [] = refl
+    all_same f g same (x ∷ xs) = rw (same x) (ap (λ ys. g x ∷ ys) (all_same f g same xs))
+
+-- Whether 136 tiles are a wall is whether their counts are those of a wall.
+pub whole_by_counts : (red : Bool) (tiles counts copies : List ℕ) (same : Bool) → length tiles ≡ 136 → counts ≡ face_counts tiles →
+    copies ≡ map (number_in_wall red) (range_with_len 0 37) → same ≡ bytes_eq counts copies → same ≡ is_wall red tiles
+whole_by_counts red tiles counts copies same long are wanted is = is ∙ same_from_decides (bytes_eq counts copies) (is_wall red tiles) (bytes_eq-Decides counts copies)
+    ((λ h. are ∙ counts_of_wall red tiles h ∙ sym wanted), (λ e. wall_by_counts red tiles long (sym are ∙ e ∙ wanted)))

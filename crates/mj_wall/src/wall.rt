@@ -1,6 +1,7 @@
 ghost use Rattle.std.specs.Prelude.{◌≡◌, [], ◌≤◌, ◌*◌, ◌+◌, true, false, length, Some, None, IfOk, IfErr, OnOk, OnErr, SomeIff, slice_index, option_map, map, take, drop};
 ghost use Rattle.std.specs.List.{range_with_len};
 ghost use Rattle.mj_wall.specs.Places.{dealt_tile, live_tile, replacement_tile, indicator_tile, under_tile, number_in_wall, first_extra, bad_place, is_wall};
+ghost use Rattle.mj_wall.specs.Inner.FaceCounts.{face_counts};
 
 use mj_tiles::{FACES, Tile};
 use std::marker::Model;
@@ -34,27 +35,21 @@ pub struct BadWall {
 impl Wall {
     /// The wall of these tiles: 136 of them, each plain face four times; with red fives each of these once, in the
     /// place of a plain five. Any other tiles are no wall, and the answer names the place.
-    #[tactic(auto, using(crate::proofs::WallFaces::wall_tests), unfolding(crate::specs::Places::bad_place))]
+    #[tactic(auto, using(crate::proofs::WallFaces::wall_has_136))]
     pub fn read(tiles: &[Tile], red: bool) -> Result<Wall, BadWall>
         ensures value { IfOk result (λ w. w ≡ tiles.now) }
         ensures whole { OnOk result (is_wall red tiles.now ≡ true) }
         ensures no_wall { OnErr result (is_wall red tiles.now ≡ false) }
         ensures bad { IfErr result (λ e. bad_place red tiles.now ≡ Some e.place) }
     {
-        if let Some(place) = extra_tile(tiles, red) {
-            return Err(BadWall { place });
+        if is_whole(tiles, red) {
+            let mut places = [tiles[0]; TILES];
+            places.copy_from_slice(tiles);
+            return Ok(Wall { tiles: places });
         }
-        if tiles.len() < TILES {
-            return Err(BadWall {
-                place: tiles.len() as u32,
-            });
-        }
-        if tiles.len() > TILES {
-            return Err(BadWall { place: 136 });
-        }
-        let mut places = [tiles[0]; TILES];
-        places.copy_from_slice(tiles);
-        Ok(Wall { tiles: places })
+        Err(BadWall {
+            place: wrong_place(tiles, red),
+        })
     }
 
     /// Its 136 tiles, in order of their places.
@@ -105,6 +100,41 @@ impl Wall {
     {
         self.tiles[130 - 2 * usize::from(k)]
     }
+}
+
+// Whether tiles are a wall.
+#[tactic(auto, using(crate::proofs::WallFaces::other_length))]
+fn is_whole(tiles: &[Tile], red: bool) -> bool
+    ensures { result ≡ is_wall red tiles.now }
+{
+    tiles.len() == TILES && counts(tiles) == copies(red)
+}
+
+// The first place that is wrong in tiles that are no wall.
+#[tactic(auto, using(crate::proofs::WallFaces::no_whole_wall), unfolding(crate::specs::Places::bad_place))]
+fn wrong_place(tiles: &[Tile], red: bool) -> u32
+    requires { is_wall red tiles.now ≡ false }
+    ensures { bad_place red tiles.now ≡ Some result }
+{
+    if let Some(place) = extra_tile(tiles, red) {
+        return place;
+    }
+    if tiles.len() < TILES {
+        return tiles.len() as u32;
+    }
+    136
+}
+
+// How many tiles there are of each face, of no more than 255.
+fn counts(tiles: &[Tile]) -> [u8; FACES]
+    requires { length tiles.now ≤ 255 }
+    ensures { result ≡ face_counts tiles.now }
+{
+    let mut counts = [0; FACES];
+    for tile in tiles {
+        counts[usize::from(tile.face())] += 1;
+    }
+    counts
 }
 
 // How many tiles of each face a wall has.
