@@ -11,7 +11,6 @@ use Rattle.mj_deeds.specs.declared.deed.Deed.{Deed}
 use Rattle.mj_deeds.specs.declared.deed.Deed.TheVariants.{Draw, Discard, Chi, Pon, AddedKan, Reach}
 use Rattle.mj_deeds.specs.Four.{at_seat}
 use Rattle.mj_window.specs.declared.decision.Decision.{Decision}
-use Rattle.mj_window.specs.declared.decision.Seats.{Seats}
 use Rattle.mj_window.specs.declared.decision.Decision.TheVariants.{Rons, Call, Act, Pass}
 
 -- A bid of named tiles; none where one of them is hidden.

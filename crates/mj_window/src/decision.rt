@@ -1,8 +1,9 @@
-ghost use Rattle.std.specs.Prelude.{◌≡◌, ◌+◌, ◌%◌, ◌≤◌, unwrap_or, if◌then◌else◌, Some, None};
+ghost use Rattle.std.specs.Prelude.{◌≡◌, ◌+◌, ◌%◌, ◌≤◌, unwrap_or, if◌then◌else◌, Some, None, IsTrue};
 ghost use Rattle.mj_deeds.specs.Four.{at_seat};
 ghost use Rattle.mj_deeds.specs.declared.bid.Bid.TheVariants.{NoBid};
 ghost use Rattle.mj_window.specs.declared.decision.Decision.TheVariants.{Act, Rons};
 ghost use Rattle.mj_window.specs.Decided.{decision_by, triplet_bid, run_bid, or_bid, bid_by, best_bid, call_or_pass, is_win, rons_on, rons_or};
+ghost use Rattle.mj_window.specs.Inner.Passes.{IsPass, ArePasses};
 
 use mj_deeds::{Answer, Bid, Deed, Four};
 
@@ -36,7 +37,7 @@ pub fn decide(last: &Deed, answers: &Four<Answer>) -> Decision
     ensures { result ≡ decision_by last.now answers.now }
 {
     match last {
-        Deed::Discard { seat, .. } => rons_or(*seat, answers, call(answers)),
+        Deed::Discard { seat, .. } => rons_or_call(*seat, answers),
         Deed::AddedKan { seat, .. } => rons_or(*seat, answers, Decision::Pass),
         Deed::Draw { seat, .. } => act(*seat, answers),
         Deed::Reach { seat } => act(*seat, answers),
@@ -44,6 +45,33 @@ pub fn decide(last: &Deed, answers: &Four<Answer>) -> Decision
         Deed::Pon { seat, .. } => act(*seat, answers),
         _ => Decision::Pass,
     }
+}
+
+// The other seats that say so win on the discard of a seat; else it is called by the best bid. Most often all four pass.
+fn rons_or_call(seat: u8, answers: &Four<Answer>) -> Decision
+    ensures { result ≡ rons_or (rons_on seat answers.now) (call_or_pass (best_bid answers.now)) }
+{
+    if are_passes(answers) {
+        return Decision::Pass;
+    }
+    rons_or(seat, answers, call(answers))
+}
+
+// All four pass.
+fn are_passes(answers: &Four<Answer>) -> bool
+    ensures { IsTrue result → ArePasses answers.now }
+{
+    is_pass(&answers.first)
+        && is_pass(&answers.second)
+        && is_pass(&answers.third)
+        && is_pass(&answers.fourth)
+}
+
+// The answer is a pass.
+fn is_pass(answer: &Answer) -> bool
+    ensures { IsTrue result → IsPass answer.now }
+{
+    matches!(answer, Answer::Pass { .. })
 }
 
 // The seat acts by its own answer.
