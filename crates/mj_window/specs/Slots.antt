@@ -14,6 +14,13 @@ put_at slots seat answer =
     (if seat == 1 then record slots { second = Some answer } else
     (if seat == 2 then record slots { third = Some answer } else record slots { fourth = Some answer }))
 
+-- The slots with that of a seat empty.
+abbrev pub emptied_at : Four (Option Answer) → ℕ → Four (Option Answer)
+emptied_at slots seat =
+    if seat == 0 then record slots { first = None } else
+    (if seat == 1 then record slots { second = None } else
+    (if seat == 2 then record slots { third = None } else record slots { fourth = None }))
+
 -- A seat keeps its window open while it is present and has not answered.
 abbrev pub is_waited_for : Bool → Option Answer → Bool
 is_waited_for present slot = present && not (is_some slot)

@@ -1,6 +1,8 @@
-ghost use Rattle.std.specs.Prelude.{◌≡◌, ◌≤◌, None};
+ghost use Rattle.std.specs.Prelude.{◌≡◌, ◌≤◌, Option, None};
 ghost use Rattle.mj_deeds.specs.Four.{at_seat};
-ghost use Rattle.mj_window.specs.Slots.{empty_slots, put_at, closes, is_waited_for};
+ghost use Rattle.mj_deeds.specs.declared.four.Four.{Four};
+ghost use Rattle.mj_deeds.specs.declared.answer.Answer.{Answer};
+ghost use Rattle.mj_window.specs.Slots.{empty_slots, put_at, emptied_at, closes, is_waited_for};
 
 use mj_deeds::{Answer, Four};
 use std::marker::Model;
@@ -51,12 +53,44 @@ impl Window {
         }
     }
 
+    /// Empties the slot of a seat, 0 to 3.
+    #[tactic(auto, using(crate::proofs::Emptied::emptied_again))]
+    pub fn clear(&mut self, seat: u8)
+        ensures cleared { self.new ≡ emptied_at self.old seat }
+        ensures back { (slots : Four (Option Answer)) (answer : Answer) → at_seat slots seat ≡ None
+            → self.old ≡ put_at slots seat answer → self.new ≡ slots }
+    {
+        match seat {
+            0 => self.slots.first = None,
+            1 => self.slots.second = None,
+            2 => self.slots.third = None,
+            _ => self.slots.fourth = None,
+        }
+    }
+
+    /// Empties all four slots.
+    pub fn clear_all(&mut self)
+        ensures { self.new ≡ empty_slots }
+    {
+        self.slots.first = None;
+        self.slots.second = None;
+        self.slots.third = None;
+        self.slots.fourth = None;
+    }
+
     /// The answer of a seat, 0 to 3; None exactly where its slot is empty.
     pub fn slot(&self, seat: u8) -> Option<Answer>
         requires { seat ≤ 3 }
         ensures { result ≡ at_seat self.now seat }
     {
         *self.slots.at(seat)
+    }
+
+    /// The four slots.
+    pub fn slots(&self) -> &Four<Option<Answer>>
+        ensures { result.now ≡ self.now }
+    {
+        &self.slots
     }
 
     /// Whether the window closes, where `present` says which seats are present: some seat is, and each that is has
