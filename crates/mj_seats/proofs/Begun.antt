@@ -9,7 +9,7 @@ use Rattle.turn_lock.specs.Notes.{notes_of}
 use Rattle.mj_connection.specs.Seating.{Entry}
 use Rattle.mj_ports.specs.declared.entry.Entry.TheVariants.{Sat, Back, Said, Gone, Expired}
 use Rattle.mj_ports.specs.Entries.{author_of}
-use Rattle.mj_seats.specs.Histories.{begins_one, places_from}
+use Rattle.mj_session.specs.Histories.{begins_one, places_from}
 use Rattle.mj_seats.specs.Workers.{begun_from, ExpiresBy}
 
 -- an author below the next number is below this one, or is this one

@@ -10,7 +10,7 @@ use Rattle.mj_connection.specs.Seating.{Entry, JoinLine, SitAnswer, Heard, Contr
 use Rattle.mj_seats.specs.Handlers.{HandlerEnd, Session, WantsMemory}
 use Rattle.mj_seats.specs.declared.worker.Done.{Done}
 use Rattle.mj_seats.specs.Inner.Joined.{IsLeft, IsDone, AllDone, AllLeft}
-use Rattle.mj_seats.specs.Wires.{WireState}
+use Rattle.mj_session.specs.Wires.{WireState}
 
 module _ {X : Type 0} where
   no_snoc : {B : Type 0} (xs : List X) (x : X) → [] ≡ xs ++ x ∷ [] → B

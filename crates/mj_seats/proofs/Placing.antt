@@ -10,10 +10,10 @@ use Rattle.mj_connection.specs.Seating.{Entry, JoinLine, SitAnswer, Heard, Contr
 use Rattle.mj_ports.specs.declared.entry.Entry.TheVariants.{Sat, Back}
 use Rattle.mj_ports.specs.declared.answers.SitAnswer.TheVariants as sit
 use Rattle.mj_ports.specs.Entries.{author_of}
-use Rattle.mj_seats.specs.Histories.{Enters, begins_one, places_from, places_of}
-use Rattle.mj_seats.specs.Sessions.{Ended, GameOver, PeerEnded, LinkFault, LineTooLong, TooManyRefusals, NotSeated, NoMemory, SeatedSession, GivesSeat, said_by, last_entry}
+use Rattle.mj_session.specs.Histories.{Enters, begins_one, places_from, places_of}
+use Rattle.mj_session.specs.Sessions.{Ended, GameOver, PeerEnded, LinkFault, LineTooLong, TooManyRefusals, NotSeated, NoMemory, SeatedSession, GivesSeat, said_by, last_entry}
 use Rattle.mj_seats.specs.Handlers.{Session, Handled}
-use Rattle.mj_seats.specs.Wires.{WireState}
+use Rattle.mj_session.specs.Wires.{WireState}
 
 module _ {A : Type 0} where
   -- no entry begins a connection

@@ -10,12 +10,12 @@ use Rattle.mj_ports.specs.declared.entry.Entry.TheVariants.{Said, Gone}
 use Rattle.mj_ports.specs.Entries.{author_of, IsAside}
 use Rattle.mj_ports.specs.Seats.{Stays, StaysEnded, Unmoved, Answers, Leaves, Adds}
 use Rattle.mj_seats.specs.declared.worker.Done.{Done}
-use Rattle.mj_seats.specs.Histories.{Enters}
+use Rattle.mj_session.specs.Histories.{Enters}
 use Rattle.mj_seats.specs.Handlers.{HandlerEnd, Session, WantsMemory}
 use Rattle.mj_seats.specs.Inner.Joined.{AllDone, AllLeft, IsPlayed}
 use Rattle.mj_seats.specs.Ticks.{Ticks}
-use Rattle.mj_seats.specs.Wires.{WireState}
-use Rattle.mj_seats.proofs.Entering.{enters_seen}
+use Rattle.mj_session.specs.Wires.{WireState}
+use Rattle.mj_session.proofs.Entering.{enters_seen}
 use Rattle.mj_seats.proofs.Joining.{left_of, left_idle}
 use Rattle.mj_seats.proofs.Working.{ticks_on, expiries_are, places_are, serve_is, ends_are}
 

@@ -12,15 +12,15 @@ use Rattle.mj_ports.specs.declared.entry.Entry.TheVariants.{Sat, Back, Said, Gon
 use Rattle.mj_ports.specs.Entries.{author_of, IsAside}
 use Rattle.mj_ports.specs.Seats.{Stays, StaysEnded, Unmoved, Answers, Leaves, Adds}
 use Rattle.mj_seats.specs.declared.handle.HandlerEnd.TheVariants as end
-use Rattle.mj_seats.specs.Histories.{Enters, begins_one, places_of}
-use Rattle.mj_seats.specs.Sessions.{Ended, GameOver, PeerEnded, LinkFault, LineTooLong, TooManyRefusals, NotSeated, NoMemory, said_by, last_entry}
+use Rattle.mj_session.specs.Histories.{Enters, begins_one, places_of}
+use Rattle.mj_session.specs.Sessions.{Ended, GameOver, PeerEnded, LinkFault, LineTooLong, TooManyRefusals, NotSeated, NoMemory, said_by, last_entry}
 use Rattle.mj_seats.specs.Handlers.{HandlerEnd, Session, Handled, HandlerEnds, WantsMemory}
 use Rattle.mj_seats.specs.Inner.Joined.{AllLeft}
 use Rattle.mj_seats.specs.Ticks.{Ticks, Timed}
 use Rattle.mj_seats.specs.Workers.{AllServe, AllEnd, EndsIn, ExpiresBy, begun}
-use Rattle.mj_seats.specs.Wires.{WireState}
+use Rattle.mj_session.specs.Wires.{WireState}
 use Rattle.mj_connection.proofs.Growing.{enters_chain, enters_one}
-use Rattle.mj_seats.proofs.Entering.{enters_seen}
+use Rattle.mj_session.proofs.Entering.{enters_seen}
 use Rattle.mj_seats.proofs.Placing.{places_still, begins_by}
 use Rattle.mj_seats.proofs.Handling.{handled_excused}
 use Rattle.mj_seats.proofs.Whole.{stays_from, serves_all}

@@ -5,9 +5,9 @@ use mathlib.Core.List.{IsPrefix}
 use Rattle.mj_connection.specs.Seating.{Entry, JoinLine, SitAnswer, Heard, Control, Showing}
 use Rattle.mj_ports.specs.declared.entry.Entry.TheVariants.{Expired}
 use Rattle.mj_ports.specs.Seats.{script}
-use Rattle.mj_seats.specs.Histories.{Enters, begins_one}
+use Rattle.mj_session.specs.Histories.{Enters, begins_one}
 use Rattle.mj_seats.specs.Handlers.{HandlerEnd, Over, Host, NoMemory, Session, Noted}
-use Rattle.mj_seats.specs.Wires.{WireState}
+use Rattle.mj_session.specs.Wires.{WireState}
 
 module _ {A : Type 0} where
   -- The places of all Sat and Back entries, the oldest first, where the first entry has this place.

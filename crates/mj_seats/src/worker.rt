@@ -7,9 +7,9 @@ ghost use Rattle.mj_seats.specs.Ticks.{Ticks};
 ghost use Rattle.turn_lock.specs.Turns.{IsIdle, new_pass};
 
 use crate::handle::{HandlerEnd, Session, handle_at};
-use crate::shared_game::SharedGame;
 use crate::ticker::tick_at;
 use mj_links::{Clock, Host};
+use mj_session::SharedGame;
 use std::alloc::Global;
 use std::sync::Wait;
 use std::thread::{Threads, join};

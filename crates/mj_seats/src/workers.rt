@@ -10,13 +10,11 @@ ghost use Rattle.turn_lock.specs.Turns.{IsIdle, IsSeenIn};
 
 use crate::gather::{Remains, gather_all};
 use crate::handle::{HandlerEnd, Session};
-use crate::hold::close;
-use crate::lost::Lost;
-use crate::room::Room;
-use crate::shared_game::SharedGame;
 use crate::worker::work;
 use mj_links::{Clock, Host};
 use mj_ports::Seated;
+use mj_session::hold::close;
+use mj_session::{Lost, Room, SharedGame};
 use std::alloc::{AllocError, Global};
 use std::sync::Wait;
 use std::thread::Threads;

@@ -16,13 +16,13 @@ use Rattle.mj_ports.specs.declared.answers.Control.{Control}
 use Rattle.mj_ports.specs.declared.answers.Control.TheVariants.{Hello}
 use Rattle.mj_ports.specs.Seats.{Showing, script}
 use Rattle.mj_ports.specs.SeatCalls.{AnswersSit}
-use Rattle.mj_seats.specs.declared.served.Ended.{Ended}
-use Rattle.mj_seats.specs.declared.served.Ended.TheVariants.{GameOver, PeerEnded, LinkFault, LineTooLong, TooManyRefusals, NotSeated, NoMemory}
+use Rattle.mj_session.specs.declared.served.Ended.{Ended}
+use Rattle.mj_session.specs.declared.served.Ended.TheVariants.{GameOver, PeerEnded, LinkFault, LineTooLong, TooManyRefusals, NotSeated, NoMemory}
 use Rattle.mj_seats.specs.Sessions.{SeatedSession, SessionAt, GetsSeat, IsExcused, WireEnds}
 use Rattle.mj_seats.specs.Handlers.{Noted, IsNew}
 use Rattle.mj_seats.specs.Wires.{WireState, with_newlines, Took, Wrote, ToldInPart}
 use Rattle.mj_seats.specs.Histories.{Enters}
-use Rattle.mj_seats.proofs.Wiring.{took_chain}
+use Rattle.mj_session.proofs.Wiring.{took_chain}
 use Rattle.mj_seats.proofs.Handling.{kept_link, session_some, session_none}
 use Rattle.mj_tables.specs.Tables.{sits_by, sits_at}
 

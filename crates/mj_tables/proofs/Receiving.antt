@@ -7,9 +7,9 @@ use Rattle.mj_ports.specs.declared.sitting.SitRefused.TheVariants as refused
 use Rattle.mj_links.specs.Links.{EndsFirst, KeepsAll, ReadingStays, WritingStays, Sends, CountsFaultOfSending, has_newline}
 use Rattle.mj_links.specs.Sinks.{WritesPrefix}
 use Rattle.mj_links.specs.declared.wire.Sent.{Sent}
-use Rattle.mj_seats.specs.declared.served.Ended.TheVariants.{PeerEnded, LinkFault, LineTooLong, NotSeated}
+use Rattle.mj_session.specs.declared.served.Ended.TheVariants.{PeerEnded, LinkFault, LineTooLong, NotSeated}
 use Rattle.mj_seats.specs.Wires.{WireState, Took, Wrote}
-use Rattle.mj_seats.proofs.Wiring.{took_chain, took_nothing, took_end, took_kept, wrote_itself, wrote_still, told_all, told_failed, told_sent}
+use Rattle.mj_session.proofs.Wiring.{took_chain, took_nothing, took_end, took_kept, wrote_itself, wrote_still, told_all, told_failed, told_sent}
 use Rattle.mj_tables.specs.declared.lobby.Lobby.{Lobby}
 use Rattle.mj_tables.specs.Inner.Hands.{IsTurnedAway, RefusedBy, Refuses}
 

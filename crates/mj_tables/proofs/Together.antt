@@ -19,7 +19,7 @@ use Rattle.mj_seats.specs.Handlers.{HandlerEnds, WantsMemory}
 use Rattle.mj_seats.specs.Inner.Joined as seats
 use Rattle.mj_seats.specs.Ticks.{Ticks}
 use Rattle.mj_seats.specs.Wires.{WireState}
-use Rattle.mj_seats.proofs.Entering.{enters_seen}
+use Rattle.mj_session.proofs.Entering.{enters_seen}
 use Rattle.mj_seats.proofs.Handling.{handled_excused}
 use Rattle.mj_seats.proofs.Joining.{flat_one}
 use Rattle.mj_seats.proofs.Placing.{handled_places}

@@ -5,11 +5,11 @@ use Rattle.turn_lock.specs.Turns.{IsIdle, new_pass, new_passes}
 use Rattle.mj_connection.specs.Seating.{Entry, JoinLine, SitAnswer, Heard, Control, Showing}
 use Rattle.mj_ports.specs.Entries.{author_of}
 use Rattle.mj_seats.specs.declared.worker.Done.{Done}
-use Rattle.mj_seats.specs.Histories.{places_of}
+use Rattle.mj_session.specs.Histories.{places_of}
 use Rattle.mj_seats.specs.Handlers.{HandlerEnd, Session, Handled, HandlerEnds, WantsMemory}
 use Rattle.mj_seats.specs.Ticks.{Ticks}
 use Rattle.mj_seats.specs.Workers.{AllServe, AllEnd, ExpiresBy, begun}
-use Rattle.mj_seats.specs.Wires.{WireState}
+use Rattle.mj_session.specs.Wires.{WireState}
 
 module _ {T S N : Type 0} (setting : T → S) (turn : TurnState T) where
   -- A new pass of the turn.

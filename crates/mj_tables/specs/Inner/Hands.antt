@@ -15,8 +15,8 @@ use Rattle.mj_seats.specs.declared.handle.HandlerEnd.TheVariants.{Over, Host, No
 use Rattle.mj_seats.specs.declared.handle.Finding.{Finding}
 use Rattle.mj_seats.specs.declared.handle.Finding.TheVariants as finding
 use Rattle.mj_seats.specs.Handlers.{Handled, IsNew, IsOn}
-use Rattle.mj_seats.specs.declared.served.Ended.{Ended}
-use Rattle.mj_seats.specs.declared.served.Ended.TheVariants.{PeerEnded, LinkFault, LineTooLong, NotSeated}
+use Rattle.mj_session.specs.declared.served.Ended.{Ended}
+use Rattle.mj_session.specs.declared.served.Ended.TheVariants.{PeerEnded, LinkFault, LineTooLong, NotSeated}
 use Rattle.mj_seats.specs.Sessions.{WireEnds}
 use Rattle.mj_seats.specs.Wires.{WireState, Took, Wrote, ToldInPart}
 use Rattle.mj_tables.specs.declared.closed.TableSession.{TableSession}

@@ -1,0 +1,5 @@
+pub mod Wiring
+pub mod Entering
+pub mod Turning
+pub mod Talking
+pub mod Ending

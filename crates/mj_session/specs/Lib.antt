@@ -1,0 +1,5 @@
+pub mod Faults
+pub mod Wires
+pub mod Histories
+pub mod Sessions
+pub mod Inner
