@@ -86,6 +86,7 @@ impl<'a, R: Net<Listener = TcpListener, Stream = TcpStream> + Clock + Sync> Host
                 limit: self.limit,
                 since: reading(self.rt).unwrap_or(0),
                 joined: false,
+                patience: 0,
                 read_faults: FaultCount::new(),
                 write_faults: FaultCount::new(),
             }),

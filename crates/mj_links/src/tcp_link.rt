@@ -39,6 +39,8 @@ pub struct TcpLink<'a, R> {
     pub(crate) since: u64,
     // Whether a line has come.
     pub(crate) joined: bool,
+    // How long a read of the stream waits, in milliseconds; 0 where that was not set.
+    pub(crate) patience: u64,
     pub(crate) read_faults: FaultCount,
     pub(crate) write_faults: FaultCount,
 }
@@ -61,7 +63,7 @@ impl<'a, R: Clock> Source for TcpLink<'a, R> {
     fn read(&mut self, into: &mut [u8]) -> Got {
         let patience = if self.joined { self.limit } else { 0 };
         let until = self.since.saturating_add(patience).saturating_add(GRACE_MS);
-        match read_until(self.rt, &self.stream, until, into) {
+        match read_until(self.rt, &self.stream, until, &mut self.patience, into) {
             Ok(0) => Got::End,
             Ok(count) => {
                 self.joined = self.joined | into[..count].contains(&b'\n');
@@ -115,6 +117,7 @@ fn read_until<R: Clock>(
     rt: &R,
     stream: &Option<TcpStream>,
     until: u64,
+    patience: &mut u64,
     into: &mut [u8],
 ) -> io::Result<usize>
     ensures { ReadsAtMost result into.new }
@@ -123,25 +126,44 @@ fn read_until<R: Clock>(
         return Err(io::Error::from(ErrorKind::NotConnected));
     };
     for _ in 1..TRIES {
-        let read = read_once(rt, stream, until, into);
-        if !is_broken_off(&read) {
+        let read = read_once(rt, stream, until, patience, into);
+        if !is_ended_early(rt, &read, until) {
             return read;
         }
+        *patience = 0;
     }
-    read_once(rt, stream, until, into)
+    read_once(rt, stream, until, patience, into)
 }
 
+// Reads once. A stream that would wait too long is told how long it may; one that has less patience keeps it, which costs no
+// call of the system before the read.
 fn read_once<R: Clock>(
     rt: &R,
     mut stream: &TcpStream,
     until: u64,
+    patience: &mut u64,
     into: &mut [u8],
 ) -> io::Result<usize>
     ensures { ReadsAtMost result into.new }
 {
-    let left = until.saturating_sub(reading(rt).unwrap_or(0));
-    let _ = stream.set_read_timeout(Some(Duration::from_millis(left.max(1))));
+    let left = until.saturating_sub(reading(rt).unwrap_or(0)).max(1);
+    if *patience == 0 || left < *patience {
+        let _ = stream.set_read_timeout(Some(Duration::from_millis(left)));
+        *patience = left;
+    }
     stream.read(into)
+}
+
+// Whether a read was broken off by the system, or ended by the stream's own patience before the clock shows this.
+fn is_ended_early<R: Clock>(rt: &R, read: &io::Result<usize>, until: u64) -> bool {
+    match read {
+        Ok(_) => false,
+        Err(error) => match error.kind() {
+            ErrorKind::Interrupted => true,
+            ErrorKind::WouldBlock => reading(rt).unwrap_or(until) < until,
+            _ => false,
+        },
+    }
 }
 
 // Writes some bytes of a piece.

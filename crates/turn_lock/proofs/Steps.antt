@@ -1,6 +1,5 @@
 -- Each step on the table keeps its rule.
 use Rattle.std.proofs.Common.{◌≡◌, ℕ, ◌+◌, ◌%◌, ◌^◌, ◌<◌, ◌≤◌, ◌≢◌, Bool, true, false, List, [], ◌∷◌, ◌++◌, length, set, slice_index, slice_set, nat_lt, ◌==◌, MatchBool, All, Option, Some, refl, ap, sym, ◌∙◌, subst, subst₂, arith, length-append}
-use Rattle.std.proofs.lemmas.List.Elements.{All-nil}
 use Rattle.std.proofs.lemmas.Bool.Decides.{nat_tests}
 use Rattle.std.proofs.Math.Nat.{mod-add-mod}
 use mathlib.Core.Option.{some, some-injective, some-ne-none}
@@ -48,7 +47,8 @@ module _ {T S N : Type 0} (setting : T → S) (notes : T → List N) (author : N
           numbers = let e = total_set (λ (u : View S N). length u.own) s.views id v w at in omega (arith, e, r.numbers);
           once = λ k. let e = total_set (λ (u : View S N). times_of k u.own) s.views id v w at in omega (arith, e, r.once k);
           apart = apart_set s.views id w r.apart (λ j t u ne e h g. not_next r.log r.serving r.next u.own u.stage (r.knows j u e).1 (subst (λ (k : ℕ). HasTicket k u.stage) (sym g) h));
-          knows = each_set Q s.views id w (λ j u ne e. ((r.knows j u e).0, at_later r.log r.serving r.next u.own u.stage (r.knows j u e).1)) ((r.knows id v at).0, (some_own, omega (arith, r.counted), omega arith));
+          knows = each_set Q s.views id w (λ j u ne e. ((r.knows j u e).0, at_later r.log r.serving r.next u.own u.stage (r.knows j u e).1))
+              ((r.knows id v at).0, (some_own, omega (arith, r.counted), omega arith));
           below = r.below;
           home = λ free. r.home (frees s.views id v w at refl free);
         },
@@ -100,7 +100,8 @@ module _ {T S N : Type 0} (setting : T → S) (notes : T → List N) (author : N
   serves_own : (s : State (Option T) (View S N)) (r : H s) (id t : ℕ) (own : List (Own S N)) → get_elem? s.views id ≡ some (view (Waits t) own) → slice_index s.words 0 ≡ t % 2 ^ 64 → t ≡ r.serving
   serves_own s r id t own at found =
       let a = (r.knows id (view (Waits t) own) at).1 in
-      let few : total (λ u. out u.stage) s.views ≤ total (λ u. length u.own) s.views = total_le (λ (u : View S N). out u.stage) (λ (u : View S N). length u.own) s.views (λ j u e. out_own r.log r.serving r.next u.own u.stage (r.knows j u e).1) in
+      let few : total (λ u. out u.stage) s.views ≤ total (λ u. length u.own) s.views =
+      total_le (λ (u : View S N). out u.stage) (λ (u : View S N). length u.own) s.views (λ j u e. out_own r.log r.serving r.next u.own u.stage (r.knows j u e).1) in
       let word : r.serving % 2 ^ 64 ≡ t % 2 ^ 64 = sym (ap (λ (ws : List ℕ). slice_index ws 0) r.words) ∙ found in
       sym (one_turn r.serving t (2 ^ 64) a.1 (omega (arith, a.2, r.counted, r.numbers, r.few, few)) word)
 
@@ -209,7 +210,8 @@ module _ {T S N : Type 0} (setting : T → S) (notes : T → List N) (author : N
         few = r.few;
         counted = let a = total_snoc (λ (z : View S N). out z.stage) vs u in let b = total_set (λ (z : View S N). out z.stage) s.views id v w at in omega (arith, a, b, r.counted);
         numbers = let a = total_snoc (λ (z : View S N). length z.own) vs u in let b = total_set (λ (z : View S N). length z.own) s.views id v w at in omega (arith, a, b, length_cut own, r.numbers);
-        once = λ k. let a = total_snoc (λ (z : View S N). times_of k z.own) vs u in let b = total_set (λ (z : View S N). times_of k z.own) s.views id v w at in omega (arith, a, b, times_cut k own, r.once k);
+        once = λ k. let a = total_snoc (λ (z : View S N). times_of k z.own) vs u in let b = total_set (λ (z : View S N). times_of k z.own) s.views id v w at in
+            omega (arith, a, b, times_cut k own, r.once k);
         apart = apart_snoc vs (first_own own) (apart_set s.views id w r.apart (λ j k z ne e h g. g));
         knows = each_snoc Q vs u (each_set Q s.views id w (λ j z ne e. r.knows j z e) (knows_others author fixed r.log own known.0, tt)) (knows_first author fixed r.log own known.0, tt);
         below = r.below;
@@ -234,10 +236,13 @@ module _ {T S N : Type 0} (setting : T → S) (notes : T → List N) (author : N
         words = r.words;
         few = r.few;
         counted = let e = total_set (λ (y : View S N). out y.stage) vs other u z at_other in let f = total_set (λ (y : View S N). out y.stage) s.views id v w at in omega (arith, e, f, r.counted);
-        numbers = let e = total_set (λ (y : View S N). length y.own) vs other u z at_other in let f = total_set (λ (y : View S N). length y.own) s.views id v w at in omega (arith, e, f, length-append a b, r.numbers);
-        once = λ k. let e = total_set (λ (y : View S N). times_of k y.own) vs other u z at_other in let f = total_set (λ (y : View S N). times_of k y.own) s.views id v w at in omega (arith, e, f, times_append k a b, r.once k);
+        numbers = let e = total_set (λ (y : View S N). length y.own) vs other u z at_other in let f = total_set (λ (y : View S N). length y.own) s.views id v w at in
+            omega (arith, e, f, length-append a b, r.numbers);
+        once = λ k. let e = total_set (λ (y : View S N). times_of k y.own) vs other u z at_other in let f = total_set (λ (y : View S N). times_of k y.own) s.views id v w at in
+            omega (arith, e, f, times_append k a b, r.once k);
         apart = apart_set vs other z (apart_set s.views id w r.apart (λ j k y ne e h g. g)) (λ j k y ne e h g. g);
-        knows = each_set Q vs other z (λ j y ne e. each_set Q s.views id w (λ i x ne' e'. r.knows i x e') (knows_append author fixed r.log a b (r.knows id v at).0 (r.knows other u before).0, tt) j y e) (tt, tt);
+        knows = each_set Q vs other z (λ j y ne e. each_set Q s.views id w (λ i x ne' e'. r.knows i x e')
+            (knows_append author fixed r.log a b (r.knows id v at).0 (r.knows other u before).0, tt) j y e) (tt, tt);
         below = r.below;
         home = λ free. r.home (frees s.views id v w at refl (frees vs other u z at_other refl free));
       }
@@ -274,26 +279,29 @@ module _ {T S N : Type 0} (setting : T → S) (notes : T → List N) (author : N
 
 module _ {T S N : Type 0} (setting : T → S) (notes : T → List N) (author : N → ℕ) where
   -- the table of a new turn
-  opens : (x : T) (count : ℕ) → count < 256 → notes x ≡ [] → Holds setting notes author (setting x) count (opened (0 ∷ 0 ∷ 0 ∷ []) (Some x ∷ []) (view Idle (fresh (setting x) 0 count)))
-  opens x count few unpublished =
-      let v : View S N = view Idle (fresh (setting x) 0 count) in
-      let Q : View S N → Type 0 = λ y. Knows author (setting x) [] y.own × At [] 0 0 y.own y.stage in
+  opens : (x : T) (count : ℕ) → count < 256 → All (λ n. author n < count) (notes x)
+      → Holds setting notes author (setting x) count (opened (0 ∷ 0 ∷ 0 ∷ []) (Some x ∷ []) (view Idle (fresh (setting x) (notes x) 0 count)))
+  opens x count few below =
+      let v : View S N = view Idle (fresh (setting x) (notes x) 0 count) in
+      let Q : View S N → Type 0 = λ y. Knows author (setting x) (notes x) y.own × At (notes x) 0 0 y.own y.stage in
       record {
-        log = [];
+        log = notes x;
         serving = 0;
         next = 0;
         changed = 0;
         words = refl;
         few = few;
         counted = refl;
-        numbers = let e = length_fresh N (setting x) 0 count in omega (arith, e);
-        once = λ k. let e = times_fresh N (setting x) k count in omega (arith, e);
-        apart = apart_snoc [] (fresh (setting x) 0 count) (λ i j t u w a b h g. absurd (some-ne-none u (sym a)));
-        knows = each_snoc Q [] v (λ j u e. absurd (some-ne-none u (sym e))) (knows_fresh author (setting x) 0 count, tt);
-        below = All-nil _;
-        home = λ free. (x, refl, refl, unpublished);
+        numbers = let e = length_fresh (setting x) (notes x) 0 count in omega (arith, e);
+        once = λ k. let e = times_fresh (setting x) (notes x) k count in omega (arith, e);
+        apart = apart_snoc [] (fresh (setting x) (notes x) 0 count) (λ i j t u w a b h g. absurd (some-ne-none u (sym a)));
+        knows = each_snoc Q [] v (λ j u e. absurd (some-ne-none u (sym e))) (knows_fresh author (setting x) (notes x) 0 count, tt);
+        below = below;
+        home = λ free. (x, refl, refl, refl);
       }
 
-  pub opens_at : (x' x : T) (xs : List (Option T)) (count : ℕ) → x' ≡ x → xs ≡ Some x ∷ [] → count < 256 → notes x ≡ [] → Holds setting notes author (setting x') count (opened (0 ∷ 0 ∷ 0 ∷ []) xs (view Idle (fresh (setting x') 0 count)))
-  opens_at x' x xs count is items few unpublished =
-      subst₂ (λ (z : T) (zs : List (Option T)). Holds setting notes author (setting z) count (opened (0 ∷ 0 ∷ 0 ∷ []) zs (view Idle (fresh (setting z) 0 count)))) (sym is) (sym items) (opens x count few unpublished)
+  pub opens_at : (x' x : T) (xs : List (Option T)) (count : ℕ) → x' ≡ x → xs ≡ Some x ∷ [] → count < 256 → All (λ n. author n < count) (notes x)
+      → Holds setting notes author (setting x') count (opened (0 ∷ 0 ∷ 0 ∷ []) xs (view Idle (fresh (setting x') (notes x') 0 count)))
+  opens_at x' x xs count is items few below =
+      subst₂ (λ (z : T) (zs : List (Option T)). Holds setting notes author (setting z) count (opened (0 ∷ 0 ∷ 0 ∷ []) zs (view Idle (fresh (setting z) (notes z) 0 count)))) (sym is)
+      (sym items) (opens x count few below)

@@ -11,7 +11,7 @@ use Rattle.turn_lock.specs.Notes.{Follows}
 use Rattle.turn_lock.specs.Inner.Views.{view, own_of, fresh, others, first_own, seen_in, setting_in, is_serving, StandsAt, HasOne, IsPass}
 use Rattle.turn_lock.specs.Inner.Rule.{Holds}
 use Rattle.turn_lock.specs.Inner.Plays.{Drew, Granted, Looked, Served}
-use Rattle.turn_lock.specs.Turns.{new_pass}
+use Rattle.turn_lock.specs.Turns.{pass_from}
 use Rattle.turn_lock.proofs.Gathered.{fresh_next}
 use Rattle.turn_lock.proofs.Steps.{draws, looks, serves, splits, joins}
 
@@ -45,7 +45,8 @@ module _ {T S N : Type 0} (setting : T → S) (notes : T → List N) (author : N
 
 module _ {T S N : Type 0} (setting : T → S) (notes : T → List N) (author : N → ℕ) where
   -- what a look tells that found the own ticket
-  pub granted_at : (t n : ℕ) (o : Own S N) (me w : Me (Option T) (View S N)) → me ≡ (view (Waits t) (o ∷ []), []) → n ≡ t % 2 ^ 64 → Looked setting notes author me n w → Granted setting notes author t o w
+  pub granted_at : (t n : ℕ) (o : Own S N) (me w : Me (Option T) (View S N)) → me ≡ (view (Waits t) (o ∷ []), []) → n ≡ t % 2 ^ 64 → Looked setting notes author me n w
+      → Granted setting notes author t o w
   granted_at t n o me w is hit look =
       let m : Me (Option T) (View S N) = (view (Waits t) (o ∷ []), []) in
       let yes : (n == t % 2 ^ 64) ≡ true = grind (arith, nat_tests) in
@@ -57,7 +58,8 @@ module _ {T : Type 0} where
   stage_idle (Waits t) ticket carried stands idle = absurd stands
   stage_idle (Serves t) ticket carried stands idle = absurd (true≢false idle)
 
-  stage_busy : (stage : Stage) (ticket : ℕ) (carried : List (ℕ × Option T)) → StandsAt ticket stage carried → is_serving stage ≡ true → (t : ℕ) × (stage ≡ Serves t) × (ticket ≡ t % 2 ^ 64) × (carried ≡ (0, None) ∷ [])
+  stage_busy : (stage : Stage) (ticket : ℕ) (carried : List (ℕ × Option T)) → StandsAt ticket stage carried → is_serving stage ≡ true
+      → (t : ℕ) × (stage ≡ Serves t) × (ticket ≡ t % 2 ^ 64) × (carried ≡ (0, None) ∷ [])
   stage_busy Idle ticket carried stands busy = absurd (true≢false (sym busy))
   stage_busy (Waits t) ticket carried stands busy = absurd stands
   stage_busy (Serves t) ticket carried stands busy = (t, refl, stands.0, stands.1)
@@ -100,23 +102,29 @@ module _ {T S N : Type 0} where
   idle_at me own is = subst (λ (m : Me (Option T) (View S N)). m ≡ (view Idle m.0.own, [])) (sym is) refl
 
   -- the seat that has dealt one number
-  pub dealt_left : (me w : Me (Option T) (View S N)) (fixed : S) (from left : ℕ) → me ≡ (view Idle (fresh fixed from left), []) → 0 < left → w ≡ (view Idle (others me.0.own), me.1)
-      → w ≡ (view Idle (fresh fixed (from + 1) (left - 1)), [])
-  dealt_left me w fixed from left is some_left left_is =
-      subst (λ (own : List (Own S N)). w ≡ (view Idle (others own), [])) (fresh_next N fixed from left some_left) (subst (λ (m : Me (Option T) (View S N)). w ≡ (view Idle (others m.0.own), m.1)) is left_is)
+  pub dealt_left : (me w : Me (Option T) (View S N)) (fixed : S) (seen : List N) (from left : ℕ) → me ≡ (view Idle (fresh fixed seen from left), []) → 0 < left
+      → w ≡ (view Idle (others me.0.own), me.1)
+      → w ≡ (view Idle (fresh fixed seen (from + 1) (left - 1)), [])
+  dealt_left me w fixed seen from left is some_left left_is =
+      subst (λ (own : List (Own S N)). w ≡ (view Idle (others own), [])) (fresh_next fixed seen from left some_left)
+      (subst (λ (m : Me (Option T) (View S N)). w ≡ (view Idle (others m.0.own), m.1)) is left_is)
 
   -- the seat that was dealt a number
-  pub dealt_right : (me w : Me (Option T) (View S N)) (fixed : S) (from left : ℕ) → me ≡ (view Idle (fresh fixed from left), []) → 0 < left → w ≡ (view Idle (first_own me.0.own), [])
-      → w ≡ (view Idle (own_of from fixed [] ∷ []), [])
-  dealt_right me w fixed from left is some_left right_is =
-      subst (λ (own : List (Own S N)). w ≡ (view Idle (first_own own), [])) (fresh_next N fixed from left some_left) (subst (λ (m : Me (Option T) (View S N)). w ≡ (view Idle (first_own m.0.own), [])) is right_is)
+  pub dealt_right : (me w : Me (Option T) (View S N)) (fixed : S) (seen : List N) (from left : ℕ) → me ≡ (view Idle (fresh fixed seen from left), []) → 0 < left
+      → w ≡ (view Idle (first_own me.0.own), [])
+      → w ≡ (view Idle (own_of from fixed seen ∷ []), [])
+  dealt_right me w fixed seen from left is some_left right_is =
+      subst (λ (own : List (Own S N)). w ≡ (view Idle (first_own own), [])) (fresh_next fixed seen from left some_left)
+      (subst (λ (m : Me (Option T) (View S N)). w ≡ (view Idle (first_own m.0.own), [])) is right_is)
 
-  pub dealt_is_pass : (me : Me (Option T) (View S N)) (fixed : S) (number ticket : ℕ) → me ≡ (view Idle (own_of number fixed [] ∷ []), []) → IsPass number ticket me
-  dealt_is_pass me fixed number ticket is = subst (λ (m : Me (Option T) (View S N)). IsPass number ticket m) (sym is) (record { own = refl; stands = refl })
+  pub dealt_is_pass : (me : Me (Option T) (View S N)) (fixed : S) (seen : List N) (number ticket : ℕ) → me ≡ (view Idle (own_of number fixed seen ∷ []), []) → IsPass number ticket me
+  dealt_is_pass me fixed seen number ticket is = subst (λ (m : Me (Option T) (View S N)). IsPass number ticket m) (sym is) (record { own = refl; stands = refl })
 
-  pub dealt_state : (id turn : TableId) (fixed : S) (number : ℕ) (me : Me (Option T) (View S N)) (last : Option T) → id ≡ turn → me ≡ (view Idle (own_of number fixed [] ∷ []), []) → last ≡ None
-      → record { turn = id; setting = setting_in me.0.own; number = number; seen = seen_in me.0.own; busy = is_serving me.0.stage; last = last } ≡ new_pass {T = T} turn fixed number
-  dealt_state id turn fixed number me last a c e = λ i. record { turn = a i; setting = setting_in (c i).0.own; number = number; seen = seen_in (c i).0.own; busy = is_serving (c i).0.stage; last = e i }
+  pub dealt_state : (id turn : TableId) (fixed : S) (seen : List N) (number : ℕ) (me : Me (Option T) (View S N)) (last : Option T) → id ≡ turn
+      → me ≡ (view Idle (own_of number fixed seen ∷ []), []) → last ≡ None
+      → record { turn = id; setting = setting_in me.0.own; number = number; seen = seen_in me.0.own; busy = is_serving me.0.stage; last = last } ≡ pass_from {T = T} turn fixed seen number
+  dealt_state id turn fixed seen number me last a c e =
+      λ i. record { turn = a i; setting = setting_in (c i).0.own; number = number; seen = seen_in (c i).0.own; busy = is_serving (c i).0.stage; last = e i }
 
   -- the seat that has taken in another
   pub gathered_me : (me w u : Me (Option T) (View S N)) (own : List (Own S N)) (o : Own S N) → me ≡ (view Idle own, []) → w ≡ (view Idle (o ∷ []), []) → u ≡ (view Idle (me.0.own ++ w.0.own), me.1)
