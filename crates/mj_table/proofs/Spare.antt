@@ -17,6 +17,7 @@ use Rattle.mj_deeds.specs.Hand.{hand}
 use Rattle.mj_deeds.proofs.Newest.{newest_more}
 use Rattle.mj_deeds.proofs.Gained.{two_gained}
 use Rattle.mj_deeds.proofs.Fitted.{Parts, kept_in_hand, four_of_kind, of_four, hand_begun}
+use Rattle.mj_facts.proofs.Gathered.{one_more}
 use Rattle.mj_table.proofs.InHand.{newest_in_hand}
 use Rattle.mj_table.proofs.OneLess.{without, count_without, less_without}
 use Rattle.mj_table.proofs.Readers.{gained_within}
