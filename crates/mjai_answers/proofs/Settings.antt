@@ -1,8 +1,11 @@
 -- Texts of three fields and of other numbers of fields, and tiles read field by field.
-use Rattle.std.proofs.Common.{◌≡◌, ℕ, ◌==◌, ◌<◌, ◌≤◌, ◌+◌, List, [], ◌∷◌, ◌++◌, true, false, Bool, refl, sym, ap, ◌∙◌, cond, length, length-append, arith}
+use Rattle.std.proofs.Common.{◌≡◌, ℕ, ◌==◌, ◌<◌, ◌≤◌, ◌+◌, ◌-◌, List, [], ◌∷◌, ◌++◌, true, false, Bool, refl, sym, ap, ◌∙◌, cond, length, length-append, take, drop, get_or, subst, arith}
 use Rattle.std.specs.Prelude.{Option, Some, None}
 use Rattle.std.proofs.lemmas.Bool.{ne_eqb}
+use Rattle.std.proofs.Math.Seq.{take-length}
 use Rattle.mj_lists.proofs.Onto.{onto, onto-more, onto-nothing}
+use Rattle.mj_lists.proofs.Ranges.{passes}
+use Rattle.mj_tiles.proofs.Texts.{is_at, is_at_says}
 use Rattle.mj_bytes.specs.Parts.{fields, onto_first, BeginsWithField}
 use Rattle.mj_tiles.specs.Faces.{face_of, texts}
 use Rattle.mj_forms.specs.Headers.{rules_of, tiles_in}
@@ -58,13 +61,64 @@ no_space a h = ne_eqb a 32 (λ e. omega (arith, h, e))
 pub one_ahead : (a : ℕ) (rest : List ℕ) (tile : Option ℕ) → 65 ≤ a → tile ≡ face_of (a ∷ []) → BeginsWithTile (a ∷ 32 ∷ rest) tile rest
 one_ahead a rest tile h e = record { field = a ∷ []; begins = one_byte a rest (no_space a (omega (arith, h))); named = e }
 
-pub two_ahead : (a b : ℕ) (rest : List ℕ) (tile : Option ℕ) → 49 ≤ a → 109 ≤ b → tile ≡ face_of (a ∷ b ∷ []) → BeginsWithTile (a ∷ b ∷ 32 ∷ rest) tile rest
+two_ahead : (a b : ℕ) (rest : List ℕ) (tile : Option ℕ) → 49 ≤ a → 109 ≤ b → tile ≡ face_of (a ∷ b ∷ []) → BeginsWithTile (a ∷ b ∷ 32 ∷ rest) tile rest
 two_ahead a b rest tile h k e = record { field = a ∷ b ∷ []; begins = two_bytes a b rest (no_space a (omega (arith, h))) (no_space b (omega (arith, k))); named = e }
+
+-- the plain tile of a digit and the letter of a suit
+characters : (n : ℕ) → n < 9 → face_of ((49 + n) ∷ 109 ∷ []) ≡ Some (0 + n)
+unfolding face_of texts is_at
+characters n few = is_at_says (face_of ((49 + n) ∷ 109 ∷ [])) (0 + n) (passes (λ k. is_at (face_of ((49 + k) ∷ 109 ∷ [])) (0 + k)) 9 n refl few)
+
+circles : (n : ℕ) → n < 9 → face_of ((49 + n) ∷ 112 ∷ []) ≡ Some (9 + n)
+unfolding face_of texts is_at
+circles n few = is_at_says (face_of ((49 + n) ∷ 112 ∷ [])) (9 + n) (passes (λ k. is_at (face_of ((49 + k) ∷ 112 ∷ [])) (9 + k)) 9 n refl few)
+
+bamboo : (n : ℕ) → n < 9 → face_of ((49 + n) ∷ 115 ∷ []) ≡ Some (18 + n)
+unfolding face_of texts is_at
+bamboo n few = is_at_says (face_of ((49 + n) ∷ 115 ∷ [])) (18 + n) (passes (λ k. is_at (face_of ((49 + k) ∷ 115 ∷ [])) (18 + k)) 9 n refl few)
+
+named : (digit letter base tile : ℕ) → 49 ≤ digit → digit ≤ 57 → tile ≡ base + (digit - 49) →
+    ((n : ℕ) → n < 9 → face_of ((49 + n) ∷ letter ∷ []) ≡ Some (base + n)) → Some tile ≡ face_of (digit ∷ letter ∷ [])
+named digit letter base tile least most is faces =
+    let place : 49 + (digit - 49) ≡ digit = omega arith in
+    ap Some is ∙ sym (faces (digit - 49) (omega arith)) ∙ ap (λ d. face_of (d ∷ letter ∷ [])) place
+
+-- what stands behind three bytes
+behind_three : (a b c : ℕ) (rest : List ℕ) → take (length (a ∷ b ∷ c ∷ rest) - 3) rest ≡ rest
+behind_three a b c rest = let size : length (a ∷ b ∷ c ∷ rest) - 3 ≡ length rest = omega arith in ap (λ n. take n rest) size ∙ take-length rest
+
+three : (a b c : ℕ) (rest : List ℕ) (base tile : ℕ) → 3 ≤ length (a ∷ b ∷ c ∷ rest) → 49 ≤ a → a < 58 → 109 ≤ b → c ≡ 32 → tile ≡ base + (a - 49) →
+    ((n : ℕ) → n < 9 → face_of ((49 + n) ∷ b ∷ []) ≡ Some (base + n)) → BeginsWithTile (a ∷ b ∷ c ∷ rest) (Some tile) (take (length (a ∷ b ∷ c ∷ rest) - 3) rest)
+three a b c rest base tile long least most letter space is faces =
+    subst (λ others. BeginsWithTile (a ∷ b ∷ c ∷ rest) (Some tile) others) (sym (behind_three a b c rest))
+    (subst (λ byte. BeginsWithTile (a ∷ b ∷ byte ∷ rest) (Some tile) rest) (sym space)
+    (two_ahead a b rest (Some tile) least letter (named a b base tile least (omega arith) is faces)))
+
+pub characters_ahead : (text : List ℕ) (tile : ℕ) → 3 ≤ length text → 49 ≤ get_or text 0 0 → get_or text 0 0 < 58 → get_or text 1 0 ≡ 109 → get_or text 2 0 ≡ 32 →
+    tile ≡ 0 + (get_or text 0 0 - 49) → BeginsWithTile text (Some tile) (take (length text - 3) (drop 3 text))
+characters_ahead [] tile long least most letter space is = absurd (omega arith)
+characters_ahead (a ∷ []) tile long least most letter space is = absurd (omega arith)
+characters_ahead (a ∷ b ∷ []) tile long least most letter space is = absurd (omega arith)
+characters_ahead (a ∷ b ∷ c ∷ rest) tile long least most letter space is = three a b c rest 0 tile (omega arith) least most (omega (arith, letter)) space is (λ n few. ap (λ x. face_of ((49 + n) ∷ x ∷ [])) letter ∙ characters n few)
+
+pub circles_ahead : (text : List ℕ) (tile : ℕ) → 3 ≤ length text → 49 ≤ get_or text 0 0 → get_or text 0 0 < 58 → get_or text 1 0 ≡ 112 → get_or text 2 0 ≡ 32 →
+    tile ≡ 9 + (get_or text 0 0 - 49) → BeginsWithTile text (Some tile) (take (length text - 3) (drop 3 text))
+circles_ahead [] tile long least most letter space is = absurd (omega arith)
+circles_ahead (a ∷ []) tile long least most letter space is = absurd (omega arith)
+circles_ahead (a ∷ b ∷ []) tile long least most letter space is = absurd (omega arith)
+circles_ahead (a ∷ b ∷ c ∷ rest) tile long least most letter space is = three a b c rest 9 tile (omega arith) least most (omega (arith, letter)) space is (λ n few. ap (λ x. face_of ((49 + n) ∷ x ∷ [])) letter ∙ circles n few)
+
+pub bamboo_ahead : (text : List ℕ) (tile : ℕ) → 3 ≤ length text → 49 ≤ get_or text 0 0 → get_or text 0 0 < 58 → get_or text 1 0 ≡ 115 → get_or text 2 0 ≡ 32 →
+    tile ≡ 18 + (get_or text 0 0 - 49) → BeginsWithTile text (Some tile) (take (length text - 3) (drop 3 text))
+bamboo_ahead [] tile long least most letter space is = absurd (omega arith)
+bamboo_ahead (a ∷ []) tile long least most letter space is = absurd (omega arith)
+bamboo_ahead (a ∷ b ∷ []) tile long least most letter space is = absurd (omega arith)
+bamboo_ahead (a ∷ b ∷ c ∷ rest) tile long least most letter space is = three a b c rest 18 tile (omega arith) least most (omega (arith, letter)) space is (λ n few. ap (λ x. face_of ((49 + n) ∷ x ∷ [])) letter ∙ bamboo n few)
 
 pub any_ahead : (text field rest : List ℕ) (tile : Option ℕ) → BeginsWithField text field rest → tile ≡ face_of field → BeginsWithTile text tile rest
 any_ahead text field rest tile b e = record { field = field; begins = b; named = e }
 
-pub ruleset ahead = (one_ahead, two_ahead, any_ahead)
+pub ruleset ahead = (one_ahead, characters_ahead, circles_ahead, bamboo_ahead, any_ahead)
 
 pub shorter_behind : (text rest : List ℕ) (tile : Option ℕ) → BeginsWithTile text tile rest → length rest < length text
 shorter_behind text rest tile b = b.begins.shorter

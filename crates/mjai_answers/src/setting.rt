@@ -1,6 +1,6 @@
 //! What a header and a wall line say: the rules of a game, and tiles.
 
-ghost use Rattle.std.specs.Prelude.{◌≡◌, ◌≤◌, IfOk, IfSome, MatchOption, codes, option_and_then, option_map};
+ghost use Rattle.std.specs.Prelude.{◌≡◌, ◌≤◌, ◌+◌, ◌-◌, ◌*◌, IfOk, IfSome, MatchOption, codes, option_and_then, option_map};
 ghost use Rattle.mj_bytes.specs.Numbers.{decimal_of};
 ghost use Rattle.mj_bytes.specs.Parts.{fields, behind, IsOneField};
 ghost use Rattle.mj_forms.specs.Headers.{rules_of, tiles_in, limit_of, switch_of};
@@ -67,15 +67,24 @@ fn next_tile(text: &[u8]) -> Option<(Option<Tile>, &[u8])>
     ensures { MatchOption result (IsOneField text.now) (λ x. BeginsWithTile text.now x.0 x.1.now) }
 {
     match text {
-        [b'1'..=b'9', b'm', b' ', rest @ ..] => Some((Tile::read(&text[..2]), rest)),
-        [b'1'..=b'9', b'p', b' ', rest @ ..] => Some((Tile::read(&text[..2]), rest)),
-        [b'1'..=b'9', b's', b' ', rest @ ..] => Some((Tile::read(&text[..2]), rest)),
+        [digit @ b'1'..=b'9', b'm', b' ', rest @ ..] => Some((Some(plain(*digit, 0)), rest)),
+        [digit @ b'1'..=b'9', b'p', b' ', rest @ ..] => Some((Some(plain(*digit, 1)), rest)),
+        [digit @ b'1'..=b'9', b's', b' ', rest @ ..] => Some((Some(plain(*digit, 2)), rest)),
         [b'A'..=b'Z', b' ', rest @ ..] => Some((Tile::read(&text[..1]), rest)),
         _ => {
             let (field, rest) = split_space(text)?;
             Some((Tile::read(field), rest))
         }
     }
+}
+
+// The plain tile of a digit from 1 to 9 in a suit: 0 are characters, 1 circles and 2 bamboo.
+fn plain(digit: u8, suit: u8) -> Tile
+    requires digit { (49 ≤ digit) × (digit ≤ 57) }
+    requires suit { suit ≤ 2 }
+    ensures { result ≡ 9 * suit + (digit - 49) }
+{
+    Tile::at(9 * suit + (digit - b'1'))
 }
 
 // A limit of 1 to 3600000 milliseconds.

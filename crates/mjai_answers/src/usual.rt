@@ -1,7 +1,7 @@
 // Answers in their usual spelling, which are read without JSON, each without spaces and with its fields in one order: a pass,
 // a discard by its actor, the tile and the mark, a reach by its actor, a win by its actor, the target and the tile, and a pon
 // by these and two own tiles of one text.
-ghost use Rattle.std.specs.Prelude.{◌≡◌, ◌∷◌, ◌++◌, IfSome, codes};
+ghost use Rattle.std.specs.Prelude.{◌≡◌, ◌∷◌, ◌++◌, IfSome, IsTrue, codes};
 ghost use Rattle.mj_forms.specs.AnswerForms.{answer_of};
 ghost use Rattle.mj_forms.specs.Lines.{truth};
 ghost use Rattle.mjai_answers.specs.Inner.Spellings.{BeginsWithSeat, tile_front, mark_text};
@@ -11,9 +11,13 @@ use mj_bytes::split_at_first;
 use mj_deeds::Answer;
 
 // The answer of a line in its usual spelling; none where it is spelled in another way.
+#[tactic(auto, using(crate::proofs::Spellings::plain_pass_read))]
 pub(crate) fn usual_answer(line: &[u8]) -> Option<Answer>
     ensures { IfSome result (λ answer. answer ≡ answer_of line.now) }
 {
+    if is_plain_pass(line) {
+        return Some(Answer::Pass { actor: None });
+    }
     match usual_pass(line) {
         Some(answer) => Some(answer),
         None => match usual_discard(line) {
@@ -21,6 +25,19 @@ pub(crate) fn usual_answer(line: &[u8]) -> Option<Answer>
             None => usual_act(line),
         },
     }
+}
+
+// Whether a line is a pass that names no actor, as most lines are.
+fn is_plain_pass(line: &[u8]) -> bool
+    ensures { IsTrue result → line.now ≡ codes "{\"type\":\"none\"}" }
+{
+    matches!(
+        line,
+        [
+            b'{', b'"', b't', b'y', b'p', b'e', b'"', b':', b'"', b'n', b'o', b'n', b'e', b'"',
+            b'}'
+        ]
+    )
 }
 
 // The reach, the win or the pon of a line in its usual spelling.
@@ -36,15 +53,12 @@ fn usual_act(line: &[u8]) -> Option<Answer>
     }
 }
 
-// The pass of a line in its usual spelling.
+// The pass of a line that names its actor, in its usual spelling.
 fn usual_pass(line: &[u8]) -> Option<Answer>
     ensures { IfSome result (λ answer. answer ≡ answer_of line.now) }
 {
     let rest = type_first(line)?;
     let rest = none_first(rest)?;
-    if rest == b"}".as_slice() {
-        return Some(Answer::Pass { actor: None });
-    }
     let rest = actor_first(rest)?;
     let (actor, rest) = seat_first(rest)?;
     if rest == b"}".as_slice() {
