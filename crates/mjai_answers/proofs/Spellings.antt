@@ -131,9 +131,6 @@ pass_read =
     let found = object (member (codes "type") (value.string (codes "none")) no_members) in
     answer_of_tokens line ts found (Pass None) (ascii_from line refl) (tt, (tt, (tt, (tt, tt)))) refl refl refl
 
-pub plain_pass_read : (line : List ℕ) → line ≡ codes "{\"type\":\"none\"}" → Pass None ≡ answer_of line
-plain_pass_read line is = pass_read ∙ ap answer_of (sym is)
-
 abbrev pass_tokens : ℕ → List Token
 pass_tokens actor = begin_object ∷ key (codes "type") ∷ string (codes "none") ∷ key (codes "actor") ∷ number ((48 + actor) ∷ []) ∷ end_object ∷ []
 

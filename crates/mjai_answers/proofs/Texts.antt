@@ -64,6 +64,9 @@ mark_ends text named rest value true parts key ends = parts ∙ ap (λ t. named 
 mark_ends text named rest value false parts key ends = parts ∙ ap (λ t. named ++ 34 ∷ t) (key ∙ ap (λ t. codes ",\"tsumogiri\":" ++ t) ends)
 
 -- A line by its type and what stands behind that.
+pub typed_alone : (line text rest name : List ℕ) → line ≡ codes "{\"type\":\"" ++ text → text ≡ name ++ rest → rest ≡ codes "}" → line ≡ codes "{\"type\":\"" ++ (name ++ codes "}")
+typed_alone line text rest name key type closing = key ∙ ap (λ t. codes "{\"type\":\"" ++ t) (type ∙ ap (λ t. name ++ t) closing)
+
 pub typed : (line text rest behind name : List ℕ) → line ≡ codes "{\"type\":\"" ++ text → text ≡ name ++ rest → rest ≡ codes ",\"actor\":" ++ behind →
     line ≡ codes "{\"type\":\"" ++ (name ++ (codes ",\"actor\":" ++ behind))
 typed line text rest behind name key type actor = key ∙ ap (λ t. codes "{\"type\":\"" ++ t) (type ∙ ap (λ t. name ++ t) actor)

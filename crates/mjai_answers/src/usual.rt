@@ -11,13 +11,9 @@ use mj_bytes::split_at_first;
 use mj_deeds::Answer;
 
 // The answer of a line in its usual spelling; none where it is spelled in another way.
-#[tactic(auto, using(crate::proofs::Spellings::plain_pass_read))]
 pub(crate) fn usual_answer(line: &[u8]) -> Option<Answer>
     ensures { IfSome result (λ answer. answer ≡ answer_of line.now) }
 {
-    if is_plain_pass(line) {
-        return Some(Answer::Pass { actor: None });
-    }
     match usual_pass(line) {
         Some(answer) => Some(answer),
         None => match usual_discard(line) {
@@ -25,19 +21,6 @@ pub(crate) fn usual_answer(line: &[u8]) -> Option<Answer>
             None => usual_act(line),
         },
     }
-}
-
-// Whether a line is a pass that names no actor, as most lines are.
-fn is_plain_pass(line: &[u8]) -> bool
-    ensures { IsTrue result → line.now ≡ codes "{\"type\":\"none\"}" }
-{
-    matches!(
-        line,
-        [
-            b'{', b'"', b't', b'y', b'p', b'e', b'"', b':', b'"', b'n', b'o', b'n', b'e', b'"',
-            b'}'
-        ]
-    )
 }
 
 // The reach, the win or the pon of a line in its usual spelling.
@@ -53,18 +36,28 @@ fn usual_act(line: &[u8]) -> Option<Answer>
     }
 }
 
-// The pass of a line that names its actor, in its usual spelling.
+// The pass of a line in its usual spelling.
 fn usual_pass(line: &[u8]) -> Option<Answer>
     ensures { IfSome result (λ answer. answer ≡ answer_of line.now) }
 {
     let rest = type_first(line)?;
     let rest = none_first(rest)?;
+    if is_end(rest) {
+        return Some(Answer::Pass { actor: None });
+    }
     let rest = actor_first(rest)?;
     let (actor, rest) = seat_first(rest)?;
-    if rest == b"}".as_slice() {
+    if is_end(rest) {
         return Some(Answer::Pass { actor: Some(actor) });
     }
     None
+}
+
+// Whether nothing but the end of an object is left.
+fn is_end(text: &[u8]) -> bool
+    ensures { IsTrue result → text.now ≡ codes "}" }
+{
+    matches!(text, [b'}'])
 }
 
 // The discard of a line in its usual spelling.
