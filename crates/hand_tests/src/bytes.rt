@@ -54,20 +54,24 @@ fn is_cut(cut: Option<(&[u8], &[u8])>, first: &str, rest: &str) -> bool {
     }
 }
 
-#[test]
-fn a_text_is_split_at_its_first_newline_or_space_or_other_byte(rt: HostRuntime) {
+fn are_split() -> bool {
     let text = b"say 0+1 \n\nrest";
-    assert!(rt; is_cut(split_line(text), "say 0+1 ", "\nrest"));
-    assert!(rt; is_cut(split_line(b"\nrest"), "", "rest"));
-    assert!(rt; is_cut(split_space(text), "say", "0+1 \n\nrest"));
-    assert!(rt; is_cut(split_at_first(text, b'+'), "say 0", "1 \n\nrest"));
+    is_cut(split_line(text), "say 0+1 ", "\nrest")
+        && is_cut(split_line(b"\nrest"), "", "rest")
+        && is_cut(split_space(text), "say", "0+1 \n\nrest")
+        && is_cut(split_at_first(text, b'+'), "say 0", "1 \n\nrest")
+}
+
+fn are_whole() -> bool {
+    let text = b"rest";
+    split_line(text).is_none()
+        && split_space(text).is_none()
+        && split_at_first(text, b'+').is_none()
 }
 
 #[test]
-fn a_text_without_the_byte_is_not_split(rt: HostRuntime) {
-    let text = b"rest";
-    assert!(rt; split_line(text).is_none() && split_space(text).is_none());
-    assert!(rt; split_at_first(text, b'+').is_none());
+fn a_text_is_split_at_its_first_newline_or_space_or_other_byte(rt: HostRuntime) {
+    assert!(rt; are_split() && are_whole());
 }
 
 /// Whether the beginning was stripped to this rest.

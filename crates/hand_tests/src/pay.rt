@@ -41,72 +41,97 @@ const BASES: &str = "\
 78|30|800
 100|0|800";
 
-fn is_base(line: &str) -> Option<bool> {
+fn is_base(line: &str) -> bool {
     let [han, fu, tens, ..] = fields(line);
-    let (han, fu, tens) = (number(han)?, number(fu)?, number_of_tens(tens)?);
+    let (han, fu) = (number(han), number(fu));
     if han == 0 || fu > 170 || (han < 5 && fu < 20) {
-        return None;
+        return false;
     }
-    let base = base(han, fu);
-    Some(base / 10 == tens && base % 10 == 0)
-}
-
-fn number_of_tens(text: &str) -> Option<u32> {
-    text.parse().ok()
+    tens.parse() == Ok(base(han, fu) / 10) && base(han, fu) % 10 == 0
 }
 
 #[test]
 fn base_points_follow_fu_below_five_han_and_the_limits_from_there(rt: HostRuntime) {
     for line in BASES.lines() {
-        assert!(rt; is_base(line) == Some(true), "{line}");
+        assert!(rt; is_base(line), "{line}");
     }
 }
 
-#[test]
-fn by_ron_the_target_alone_pays(rt: HostRuntime) {
-    assert!(rt; ron_deltas(3, 2, 0, 1920, 0, 0) == [0, 0, -7700, 7700]);
-    assert!(rt; ron_deltas(2, 1, 0, 960, 1, 2) == [0, -4200, 6200, 0]);
-    assert!(rt; ron_deltas(0, 1, 0, 240, 0, 0) == [1500, -1500, 0, 0]);
-    assert!(rt; ron_deltas(2, 1, 3, 8000, 200, 4) == [0, -92_000, 96_000, 0]);
-    assert!(rt; ron_deltas(1, 0, 0, 2000, 0, 0) == [-8000, 8000, 0, 0]);
-    assert!(rt; ron_deltas(3, 1, 3, 1280, 1, 0) == [0, -8000, 0, 8000]);
+/// Whether by ron the target alone pays.
+fn targets_pay() -> bool {
+    [
+        ron_deltas(3, 2, 0, 1920, 0, 0),
+        ron_deltas(2, 1, 0, 960, 1, 2),
+        ron_deltas(0, 1, 0, 240, 0, 0),
+        ron_deltas(2, 1, 3, 8000, 200, 4),
+        ron_deltas(1, 0, 0, 2000, 0, 0),
+        ron_deltas(3, 1, 3, 1280, 1, 0),
+    ] == [
+        [0, 0, -7700, 7700],
+        [0, -4200, 6200, 0],
+        [1500, -1500, 0, 0],
+        [0, -92_000, 96_000, 0],
+        [-8000, 8000, 0, 0],
+        [0, -8000, 0, 8000],
+    ]
+}
+
+/// Whether to a self-drawn win all others pay.
+fn others_pay() -> bool {
+    [
+        tsumo_deltas(1, 0, 320, 0, 0),
+        tsumo_deltas(1, 0, 640, 0, 0),
+        tsumo_deltas(0, 0, 960, 2, 1),
+        tsumo_deltas(1, 0, 1280, 0, 0),
+        tsumo_deltas(3, 2, 8000, 0, 3),
+        tsumo_deltas(2, 2, 240, 1, 0),
+    ] == [
+        [-700, 1500, -400, -400],
+        [-1300, 2700, -700, -700],
+        [7600, -2200, -2200, -2200],
+        [-2600, 5200, -1300, -1300],
+        [-8000, -8000, -16_000, 35_000],
+        [-600, -600, 1800, -600],
+    ]
+}
+
+/// Whether the unready pay the ready.
+fn unready_pay() -> bool {
+    [
+        draw_deltas([true, false, false, false]),
+        draw_deltas([true, true, false, false]),
+        draw_deltas([true, true, true, false]),
+        draw_deltas([false, true, false, false]),
+        draw_deltas([false, true, false, true]),
+        draw_deltas([false, true, true, true]),
+        draw_deltas([false, false, false, false]),
+        draw_deltas([true, true, true, true]),
+    ] == [
+        [3000, -1000, -1000, -1000],
+        [1500, 1500, -1500, -1500],
+        [1000, 1000, 1000, -3000],
+        [-1000, 3000, -1000, -1000],
+        [-1500, 1500, -1500, 1500],
+        [-3000, 1000, 1000, 1000],
+        [0, 0, 0, 0],
+        [0, 0, 0, 0],
+    ]
+}
+
+/// Whether a riichi costs its seat a thousand.
+fn riichi_costs() -> bool {
+    [deposit(0), deposit(1), deposit(2), deposit(3), deposit(4)]
+        == [
+            [-1000, 0, 0, 0],
+            [0, -1000, 0, 0],
+            [0, 0, -1000, 0],
+            [0, 0, 0, -1000],
+            [0, 0, 0, 0],
+        ]
 }
 
 #[test]
-fn to_a_self_drawn_win_all_others_pay(rt: HostRuntime) {
-    assert!(rt; tsumo_deltas(1, 0, 320, 0, 0) == [-700, 1500, -400, -400]);
-    assert!(rt; tsumo_deltas(1, 0, 640, 0, 0) == [-1300, 2700, -700, -700]);
-    assert!(rt; tsumo_deltas(0, 0, 960, 2, 1) == [7600, -2200, -2200, -2200]);
-    assert!(rt; tsumo_deltas(1, 0, 1280, 0, 0) == [-2600, 5200, -1300, -1300]);
-    assert!(rt; tsumo_deltas(3, 2, 8000, 0, 3) == [-8000, -8000, -16_000, 35_000]);
-    assert!(rt; tsumo_deltas(2, 2, 240, 1, 0) == [-600, -600, 1800, -600]);
-}
-
-#[test]
-fn the_unready_pay_the_ready(rt: HostRuntime) {
-    for (ready, deltas) in [
-        ([true, false, false, false], [3000, -1000, -1000, -1000]),
-        ([true, true, false, false], [1500, 1500, -1500, -1500]),
-        ([true, true, true, false], [1000, 1000, 1000, -3000]),
-        ([false, true, false, false], [-1000, 3000, -1000, -1000]),
-        ([false, true, false, true], [-1500, 1500, -1500, 1500]),
-        ([false, true, true, true], [-3000, 1000, 1000, 1000]),
-        ([false, false, false, false], [0, 0, 0, 0]),
-        ([true, true, true, true], [0, 0, 0, 0]),
-    ] {
-        assert!(rt; draw_deltas(ready) == deltas);
-    }
-}
-
-#[test]
-fn a_riichi_costs_its_seat_a_thousand(rt: HostRuntime) {
-    for (seat, deltas) in [
-        (0, [-1000, 0, 0, 0]),
-        (1, [0, -1000, 0, 0]),
-        (2, [0, 0, -1000, 0]),
-        (3, [0, 0, 0, -1000]),
-        (4, [0, 0, 0, 0]),
-    ] {
-        assert!(rt; deposit(seat) == deltas);
-    }
+fn each_pays_its_share(rt: HostRuntime) {
+    assert!(rt; targets_pay() && others_pay());
+    assert!(rt; unready_pay() && riichi_costs());
 }

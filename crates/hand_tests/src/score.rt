@@ -12,17 +12,15 @@ fn score(
     win: &str,
     dora: [u8; 3],
 ) -> Result<Option<Score>, AllocError> {
-    let (Some(held), Some(win), Some(pon)) = (counts(hand), kind(win), meld(Form::Pon, "1m")) else {
-        return Ok(None);
-    };
     let [dora, under, red] = dora;
     if dora > 20 || under > 20 || red > 3 {
         return Ok(None);
     }
+    let (held, win) = (counts(hand), kind(win));
     let extra = Extra { dora, under, red };
     let mut case = case(marks);
     if marks.contains('o') {
-        let melds = [pon];
+        let melds = [meld(Form::Pon, "1m")];
         case.closed = is_closed(&melds);
         return worth(alloc, &held, &melds, win, &case, extra);
     }
@@ -56,33 +54,41 @@ d|234567m 456p 33678s|7m|4 4 2|13|20|800|3 4 6
 d|222333444666s 88s|2s|0 0 0|100|0|800|34
 |111222333m 789p 99s|9p|11 0 0|16|30|800|4 5 27";
 
-fn is_worth(score: &Score, line: &str) -> Option<bool> {
+/// Dora of each sort, and the han of a drawn closed hand with them.
+const DORA: [([u8; 3], u8); 7] = [
+    ([0, 0, 0], 3),
+    ([1, 0, 0], 4),
+    ([0, 1, 0], 4),
+    ([0, 0, 1], 4),
+    ([0, 0, 2], 5),
+    ([0, 0, 3], 6),
+    ([2, 3, 1], 9),
+];
+
+fn is_worth(score: &Score, line: &str) -> bool {
     let [_, _, _, _, han, fu, base, rows] = fields(line);
-    let (han, fu, rows) = (number(han)?, number(fu)?, numbers(rows)?);
-    let tens: u32 = base.parse().ok()?;
-    Some(
-        score.han == han
-            && score.fu == fu
-            && score.base / 10 == tens
-            && score.base % 10 == 0
-            && has_just(score, rows),
-    )
+    score.han == number(han)
+        && score.fu == number(fu)
+        && base.parse() == Ok(score.base / 10)
+        && score.base % 10 == 0
+        && has_just(score, numbers(rows))
 }
 
 /// Three numbers that spaces part.
-fn three(text: &str) -> Option<[u8; 3]> {
-    let (first, others) = text.split_once(' ')?;
-    let (second, third) = others.split_once(' ')?;
-    Some([number(first)?, number(second)?, number(third)?])
+fn three(text: &str) -> [u8; 3] {
+    let mut three = [255; 3];
+    for (place, word) in text.split(' ').enumerate() {
+        if place < 3 {
+            three[place] = number(word);
+        }
+    }
+    three
 }
 
 fn has_worth(alloc: Global, line: &str) -> Result<bool, AllocError> {
     let [marks, hand, win, dora, ..] = fields(line);
-    let Some(dora) = three(dora) else {
-        return Ok(false);
-    };
-    match score(alloc, marks, hand, win, dora)? {
-        Some(score) => Ok(is_worth(&score, line) == Some(true)),
+    match score(alloc, marks, hand, win, three(dora))? {
+        Some(score) => Ok(is_worth(&score, line)),
         None => Ok(false),
     }
 }
@@ -95,10 +101,13 @@ fn hands_are_worth_their_best_reading(rt: HostRuntime) -> Result<(), AllocError>
     Ok(())
 }
 
-#[test]
-fn dora_alone_is_no_yaku(rt: HostRuntime) -> Result<(), AllocError> {
-    assert!(rt; score(rt.alloc(), "do", "234m 456p 78933s", "9s", [3, 0, 1])?.is_none());
-    Ok(())
+/// Whether dora alone is no yaku, and each dora of whatever sort is one han.
+fn dora_counts(alloc: Global) -> Result<bool, AllocError> {
+    let mut right = score(alloc, "do", "234m 456p 78933s", "9s", [3, 0, 1])?.is_none();
+    for (dora, told) in DORA {
+        right = right && han(alloc, dora)? == told;
+    }
+    Ok(right)
 }
 
 /// The han of a drawn closed hand with these dora, and none where it is worth nothing.
@@ -110,17 +119,7 @@ fn han(alloc: Global, dora: [u8; 3]) -> Result<u8, AllocError> {
 }
 
 #[test]
-fn each_dora_of_whatever_sort_is_one_han(rt: HostRuntime) -> Result<(), AllocError> {
-    for (dora, wanted) in [
-        ([0, 0, 0], 3),
-        ([1, 0, 0], 4),
-        ([0, 1, 0], 4),
-        ([0, 0, 1], 4),
-        ([0, 0, 2], 5),
-        ([0, 0, 3], 6),
-        ([2, 3, 1], 9),
-    ] {
-        assert!(rt; han(rt.alloc(), dora)? == wanted);
-    }
+fn each_dora_of_whatever_sort_is_one_han_beside_a_yaku(rt: HostRuntime) -> Result<(), AllocError> {
+    assert!(rt; dora_counts(rt.alloc())?);
     Ok(())
 }

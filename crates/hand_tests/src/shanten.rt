@@ -36,25 +36,46 @@ fn tiles_among(counts: &Counts) -> usize
     total
 }
 
-/// Hands, their shanten and their target. Four of a kind are no two pairs, and triplets as near as seven pairs come first.
-const NEAREST: &str = "\
-123m 456p 789s EESS|0|123m 456p 789s EEESS
-19m 19p 19s ESWNPFC|0|119m 19p 19s ESWNPFC
-123456789p 1111s|1|11m 123456789p 111s
-1111m 2222p 3333s E|2|111123m 222p 333s EE
-1111m 3355p 7799s E|2|111m 333555p 77799s";
+/// Hands, their shanten and their target: four of a kind are no two pairs, and triplets as near as seven pairs come first. Then
+/// hands of fourteen tiles, the kinds that may be discarded, and the best discard: the one that leaves less shanten, and of several
+/// the last in tile order; none where none is held.
+const CASES: &str = "\
+nearest|123m 456p 789s EESS|0|123m 456p 789s EEESS
+nearest|19m 19p 19s ESWNPFC|0|119m 19p 19s ESWNPFC
+nearest|123456789p 1111s|1|11m 123456789p 111s
+nearest|1111m 2222p 3333s E|2|111123m 222p 333s EE
+nearest|1111m 3355p 7799s E|2|111m 333555p 77799s
+discard|123m 456p 789s EESSC|123456789m 456p 789s ESC|C
+discard|123m 456p 789s EEESC|123m ESC|C
+discard|123m 456p 789s EEESC|123m ES|S
+discard|123m 456p 789s EEESS|19m ES|S
+discard|123m 456p 789s EEESS|19m 6p|6p
+discard|1112345678999m W|1m 9m|9m
+discard|147m 258p 369s EESSC|147m 369s|9s
+discard|123m 456p 789s EESSC|WNPF|";
 
-fn is_nearest(line: &str) -> Option<bool> {
-    let [hand, shanten, target, ..] = fields(line);
-    let (nearest, target) = (nearest_closed(&counts(hand)?)?, counts(target)?);
-    Some(nearest.number == number(shanten)? && nearest.target == target)
+fn holds(line: &str) -> bool {
+    let [question, hand, second, told, ..] = fields(line);
+    let held = counts(hand);
+    if question == "nearest" {
+        return is_nearest(&held, number(second), &counts(told));
+    }
+    is_best(&held, kinds(second), kinds(told))
 }
 
-#[test]
-fn closed_hands_have_their_shanten(rt: HostRuntime) {
-    for line in NEAREST.lines() {
-        assert!(rt; is_nearest(line) == Some(true), "{line}");
+/// Whether a hand has this shanten and target, and so has it with a tile more and without it again.
+fn is_nearest(held: &Counts, shanten: u8, target: &Counts) -> bool {
+    match (nearest_closed(held), nearest_again(held, Kind::at(33))) {
+        (Some(nearest), Some(again)) => {
+            nearest.number == shanten && nearest.target == *target && again == (shanten, nearest)
+        }
+        _ => false,
     }
+}
+
+/// Whether a hand has this best discard, also by the number of missing tiles, which is asked before.
+fn is_best(held: &Counts, among: Kinds, told: Kinds) -> bool {
+    best_discard(held, among) == Some(told) && best_discard_of(held, among) == Some(told)
 }
 
 /// The walked suits of a hand of so many tiles without melds.
@@ -97,38 +118,6 @@ fn nearest_again(counts: &Counts, kind: Kind) -> Option<(u8, Nearest)> {
     Some((again.number(0), again.shanten(0)))
 }
 
-#[test]
-fn a_tile_more_and_without_it_again_is_the_same_hand(rt: HostRuntime) {
-    for line in NEAREST.lines() {
-        assert!(rt; is_same_again(line) == Some(true), "{line}");
-    }
-}
-
-fn is_same_again(line: &str) -> Option<bool> {
-    let [hand, shanten, ..] = fields(line);
-    let held = counts(hand)?;
-    let again = nearest_again(&held, Kind::at(33))?;
-    Some(again.0 == number(shanten)? && again.1 == nearest_closed(&held)?)
-}
-
-/// Hands of fourteen tiles, the kinds that may be discarded, and the best discard: the one that leaves less shanten, and
-/// of several the last in tile order; none where none is held.
-const DISCARDS: &str = "\
-123m 456p 789s EESSC|123456789m 456p 789s ESC|C
-123m 456p 789s EEESC|123m ESC|C
-123m 456p 789s EEESC|123m ES|S
-123m 456p 789s EEESS|19m ES|S
-123m 456p 789s EEESS|19m 6p|6p
-1112345678999m W|1m 9m|9m
-147m 258p 369s EESSC|147m 369s|9s
-123m 456p 789s EESSC|WNPF|";
-
-fn is_best(line: &str) -> Option<bool> {
-    let [hand, among, wanted, ..] = fields(line);
-    let (held, among, wanted) = (counts(hand)?, kinds(among)?, kinds(wanted)?);
-    Some(best_discard(&held, among)? == wanted && best_discard_of(&held, among)? == wanted)
-}
-
 /// The best discard as a set of one kind.
 fn best_discard(counts: &Counts, among: Kinds) -> Option<Kinds> {
     let Some(suits) = walked_closed(counts, 14) else {
@@ -140,7 +129,7 @@ fn best_discard(counts: &Counts, among: Kinds) -> Option<Kinds> {
     }
 }
 
-/// The same by the number of missing tiles, which is asked before.
+/// That by the number of missing tiles.
 fn best_discard_of(counts: &Counts, among: Kinds) -> Option<Kinds> {
     let Some(suits) = walked_closed(counts, 14) else {
         return None;
@@ -153,17 +142,15 @@ fn best_discard_of(counts: &Counts, among: Kinds) -> Option<Kinds> {
 }
 
 #[test]
-fn the_best_discard_is_the_last_that_leaves_the_least(rt: HostRuntime) {
-    for line in DISCARDS.lines() {
-        assert!(rt; is_best(line) == Some(true), "{line}");
+fn hands_have_their_shanten_and_best_discard(rt: HostRuntime) {
+    for line in CASES.lines() {
+        assert!(rt; holds(line), "{line}");
     }
 }
 
 /// The exchanges from the tiles of a text to the nearest complete hand.
 fn path_of(alloc: Global, text: &str) -> Result<Vec<(Kind, Kind)>, AllocError> {
-    let Some(held) = counts(text) else {
-        return Ok(Vec::new(alloc));
-    };
+    let held = counts(text);
     match nearest_closed(&held) {
         Some(nearest) => exchange_path(alloc, &held, &nearest),
         None => Ok(Vec::new(alloc)),

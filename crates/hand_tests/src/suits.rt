@@ -1,3 +1,4 @@
+use crate::words::{fields, number};
 use mj_suits::{Split, SuitSet, SuitSets, SuitTable, nearest, partitions};
 use std::alloc::{AllocError, Global};
 
@@ -11,105 +12,75 @@ const fn triplet(low: u8) -> SuitSet {
     SuitSet { run: false, low }
 }
 
-/// How many partitions the counts have, and whether one of them has just these sets and this pair.
-fn parted(
-    alloc: Global,
-    counts: [u8; 9],
-    runs: bool,
-    sets: &[SuitSet],
-    pair: Option<u8>,
-) -> Result<(usize, bool), AllocError> {
-    let found = partitions(alloc, counts, runs)?;
-    Ok((found.len(), has(found.as_slice(), sets, pair)))
+/// The numbers of a suit, whether it has runs, how many partitions there are, and one of them: its sets, `r` a run and `t` a triplet
+/// from a number on, and its pair. Three of three in a row are runs or triplets; two pairs, two at the end and honours in a row have
+/// none.
+const PARTED: &str = "\
+000000000|runs|1||
+000020000|runs|1||4
+311100000|runs|1|t0 r1|
+311000000|runs|1|r0|0
+411000000|runs|1|r0 t0|
+222000000|runs|1|r0 r0|
+303000000|no|1|t0 t2|
+311121113|runs|1|t0 r1 r5 t8|4
+333000000|runs|2|r0 r0 r0|
+333000000|runs|2|t0 t1 t2|
+310100000|runs|0||
+200000002|runs|0||
+000000011|runs|0||
+111000000|no|0||";
+
+/// The numbers of a suit by their digits.
+fn suit(text: &str) -> [u8; 9] {
+    let mut numbers = [0; 9];
+    for (place, byte) in text.as_bytes().iter().enumerate() {
+        if place < 9 {
+            numbers[place] = byte.saturating_sub(b'0');
+        }
+    }
+    numbers
 }
 
-fn has(found: &[Split], sets: &[SuitSet], pair: Option<u8>) -> bool {
+/// Whether a suit is parted so: in so many ways, and, where there is one, in this.
+fn is_parted(alloc: Global, line: &str) -> Result<bool, AllocError> {
+    let [numbers, runs, ways, sets, pair, ..] = fields(line);
+    let found = partitions(alloc, suit(numbers), runs == "runs")?;
+    let has_way = is_among(found.as_slice(), sets, pair.parse().ok());
+    Ok(found.len() == usize::from(number(ways)) && has_way != found.is_empty())
+}
+
+fn is_among(found: &[Split], sets: &str, pair: Option<u8>) -> bool {
     for split in found {
-        if split.sets.as_slice() == sets && split.pair == pair {
+        if are_sets(split.sets.as_slice(), sets) && split.pair == pair {
             return true;
         }
     }
     false
 }
 
-#[test]
-fn counts_are_parted_in_all_ways(rt: HostRuntime) -> Result<(), AllocError> {
-    for (counts, runs, number, sets, pair) in [
-        ([0; 9], true, 1, [].as_slice(), None),
-        ([0, 0, 0, 0, 2, 0, 0, 0, 0], true, 1, [].as_slice(), Some(4)),
-        (
-            [3, 1, 1, 1, 0, 0, 0, 0, 0],
-            true,
-            1,
-            [triplet(0), run(1)].as_slice(),
-            None,
-        ),
-        (
-            [3, 1, 1, 0, 0, 0, 0, 0, 0],
-            true,
-            1,
-            [run(0)].as_slice(),
-            Some(0),
-        ),
-        (
-            [4, 1, 1, 0, 0, 0, 0, 0, 0],
-            true,
-            1,
-            [run(0), triplet(0)].as_slice(),
-            None,
-        ),
-        (
-            [2, 2, 2, 0, 0, 0, 0, 0, 0],
-            true,
-            1,
-            [run(0), run(0)].as_slice(),
-            None,
-        ),
-        (
-            [3, 0, 3, 0, 0, 0, 0, 0, 0],
-            false,
-            1,
-            [triplet(0), triplet(2)].as_slice(),
-            None,
-        ),
-        (
-            [3, 1, 1, 1, 2, 1, 1, 1, 3],
-            true,
-            1,
-            [triplet(0), run(1), run(5), triplet(8)].as_slice(),
-            Some(4),
-        ),
-        // Three of three in a row are runs or triplets.
-        (
-            [3, 3, 3, 0, 0, 0, 0, 0, 0],
-            true,
-            2,
-            [run(0), run(0), run(0)].as_slice(),
-            None,
-        ),
-        (
-            [3, 3, 3, 0, 0, 0, 0, 0, 0],
-            true,
-            2,
-            [triplet(0), triplet(1), triplet(2)].as_slice(),
-            None,
-        ),
-    ] {
-        assert!(rt; parted(rt.alloc(), counts, runs, sets, pair)? == (number, true));
+fn are_sets(found: &[SuitSet], sets: &str) -> bool {
+    let mut rest = found;
+    for text in sets.split_whitespace() {
+        match rest.split_first() {
+            Some((first, others)) if is_set(first, text) => rest = others,
+            _ => return false,
+        }
     }
-    Ok(())
+    rest.is_empty()
+}
+
+fn is_set(set: &SuitSet, text: &str) -> bool {
+    match text.strip_prefix(if set.run { "r" } else { "t" }) {
+        Some(low) => set.low == number(low),
+        None => false,
+    }
 }
 
 #[test]
-fn some_counts_have_no_partition(rt: HostRuntime) -> Result<(), AllocError> {
-    for (counts, runs) in [
-        ([3, 1, 0, 1, 0, 0, 0, 0, 0], true),
-        // Two pairs; across the end; no runs.
-        ([2, 0, 0, 0, 0, 0, 0, 0, 2], true),
-        ([0, 0, 0, 0, 0, 0, 0, 1, 1], true),
-        ([1, 1, 1, 0, 0, 0, 0, 0, 0], false),
-    ] {
-        assert!(rt; parted(rt.alloc(), counts, runs, &[], None)? == (0, false));
+fn counts_are_parted_in_all_ways(rt: HostRuntime) -> Result<(), AllocError> {
+    for line in PARTED.lines() {
+        assert!(rt; is_parted(rt.alloc(), line)?, "{line}");
     }
     Ok(())
 }
@@ -127,8 +98,8 @@ const FULL: [u8; 9] = [4; 9];
 /// The same for honours, which have seven kinds.
 const HONOURS: [u8; 9] = [4, 4, 4, 4, 4, 4, 4, 0, 0];
 
-#[test]
-fn nearest_targets_of_a_suit(rt: HostRuntime) {
+/// Whether these targets of a suit are the nearest.
+fn are_nearest() -> bool {
     let found = [
         nearest([0; 9], FULL, true, 0, false),
         nearest([0; 9], FULL, true, 1, false),
@@ -138,22 +109,20 @@ fn nearest_targets_of_a_suit(rt: HostRuntime) {
         nearest([0, 0, 0, 0, 0, 0, 1, 1, 0], FULL, true, 1, false),
         nearest([1, 1, 1, 1, 0, 0, 0, 0, 0], FULL, true, 1, true),
     ];
-    assert!(rt;
-        found
-            == [
-                Some((0, [0; 9])),
-                Some((3, [3, 0, 0, 0, 0, 0, 0, 0, 0])),
-                Some((0, [2, 2, 2, 0, 0, 0, 0, 0, 0])),
-                Some((2, [4, 1, 1, 0, 0, 0, 0, 0, 0])),
-                Some((2, [3, 2, 0, 0, 0, 0, 0, 0, 0])),
-                Some((1, [0, 0, 0, 0, 0, 1, 1, 1, 0])),
-                Some((1, [2, 1, 1, 1, 0, 0, 0, 0, 0])),
-            ]
-    );
+    found
+        == [
+            Some((0, [0; 9])),
+            Some((3, [3, 0, 0, 0, 0, 0, 0, 0, 0])),
+            Some((0, [2, 2, 2, 0, 0, 0, 0, 0, 0])),
+            Some((2, [4, 1, 1, 0, 0, 0, 0, 0, 0])),
+            Some((2, [3, 2, 0, 0, 0, 0, 0, 0, 0])),
+            Some((1, [0, 0, 0, 0, 0, 1, 1, 1, 0])),
+            Some((1, [2, 1, 1, 1, 0, 0, 0, 0, 0])),
+        ]
 }
 
-#[test]
-fn nearest_targets_within_a_room(rt: HostRuntime) {
+/// Whether these are within a room.
+fn are_nearest_within() -> bool {
     let found = [
         nearest(
             [0, 0, 0, 0, 0, 0, 1, 1, 0],
@@ -166,23 +135,29 @@ fn nearest_targets_within_a_room(rt: HostRuntime) {
         nearest([1, 1, 1, 0, 0, 0, 0, 0, 0], [2; 9], false, 1, false),
         nearest([1, 1, 1, 0, 0, 0, 0, 0, 0], [1; 9], true, 1, true),
     ];
-    assert!(rt;
-        found
-            == [
-                Some((1, [0, 0, 0, 0, 0, 0, 1, 1, 1])),
-                Some((1, [2, 0, 0, 0, 0, 0, 0, 0, 0])),
-                None,
-                None,
-            ]
-    );
+    found
+        == [
+            Some((1, [0, 0, 0, 0, 0, 0, 1, 1, 1])),
+            Some((1, [2, 0, 0, 0, 0, 0, 0, 0, 0])),
+            None,
+            None,
+        ]
+}
+
+/// Whether a table of a suit knows each number of sets.
+fn is_known_to_a_table() -> bool {
+    let table = SuitTable::new([4, 0, 0, 0, 0, 0, 0, 0, 0], FULL, true);
+    let honours = SuitTable::new([1, 1, 1, 0, 0, 0, 0, 0, 0], [2; 9], false);
+    [table.best(2, false), honours.best(1, false)] == [Some((2, [4, 1, 1, 0, 0, 0, 0, 0, 0])), None]
+        && [
+            table.number(0, false),
+            table.number(2, false),
+            honours.number(1, false),
+        ] == [Some(0), Some(2), None]
 }
 
 #[test]
-fn a_table_of_a_suit_knows_each_number_of_sets(rt: HostRuntime) {
-    let table = SuitTable::new([4, 0, 0, 0, 0, 0, 0, 0, 0], FULL, true);
-    assert!(rt; table.best(2, false) == Some((2, [4, 1, 1, 0, 0, 0, 0, 0, 0])));
-    assert!(rt; [table.number(0, false), table.number(2, false)] == [Some(0), Some(2)]);
-    let honours = SuitTable::new([1, 1, 1, 0, 0, 0, 0, 0, 0], [2; 9], false);
-    assert!(rt; honours.best(1, false) == None);
-    assert!(rt; honours.number(1, false) == None);
+fn suits_have_their_nearest_targets(rt: HostRuntime) {
+    assert!(rt; are_nearest() && are_nearest_within());
+    assert!(rt; is_known_to_a_table());
 }

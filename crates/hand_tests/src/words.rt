@@ -16,18 +16,21 @@ pub(crate) fn fields(line: &str) -> [&str; 8] {
     fields
 }
 
-/// A number of a line; none where it is no number below 256.
-pub(crate) fn number(text: &str) -> Option<u8> {
-    text.parse().ok()
+/// A number of a line; 255 where it is no number below 256.
+pub(crate) fn number(text: &str) -> u8 {
+    match text.parse() {
+        Ok(number) => number,
+        Err(_) => 255,
+    }
 }
 
 /// A list of numbers of a line, as a mask of bits: a number above 63 is none of it.
-pub(crate) fn numbers(text: &str) -> Option<u64> {
+pub(crate) fn numbers(text: &str) -> u64 {
     let mut mask = 0;
     for word in text.split_whitespace() {
-        mask |= bit(number(word)?);
+        mask |= bit(number(word));
     }
-    Some(mask)
+    mask
 }
 
 /// The bit of a number, none above 63.
@@ -35,13 +38,16 @@ pub(crate) fn bit(number: u8) -> u64 {
     if number < 64 { 1 << number } else { 0 }
 }
 
-/// The kind of the tile that a text names.
-pub(crate) fn kind(text: &str) -> Option<Kind> {
-    Some(Tile::read(text.as_bytes())?.kind())
+/// The kind of the tile that a text names, 1m where it names none.
+pub(crate) fn kind(text: &str) -> Kind {
+    match Tile::read(text.as_bytes()) {
+        Some(tile) => tile.kind(),
+        None => Kind::at(0),
+    }
 }
 
-/// The numbers of tiles that stand suit by suit, each honour by its letter, as `123m 55p EES`.
-pub(crate) fn counts(text: &str) -> Option<Counts> {
+/// The numbers of tiles that stand suit by suit, each honour by its letter, as `123m 55p EES`; all are 0 where one is above 4.
+pub(crate) fn counts(text: &str) -> Counts {
     let mut numbers = [0; 34];
     let mut suit = 0;
     for byte in text.as_bytes().iter().rev() {
@@ -51,7 +57,15 @@ pub(crate) fn counts(text: &str) -> Option<Counts> {
             numbers[place] = more(numbers[place]);
         }
     }
-    Counts::of(numbers)
+    match Counts::of(numbers) {
+        Some(counts) => counts,
+        None => none_held(),
+    }
+}
+
+/// The counts of no tile.
+fn none_held() -> Counts {
+    Counts::from_numbers([0; 34])
 }
 
 fn more(number: u8) -> u8 {
@@ -83,8 +97,8 @@ fn kind_of(byte: u8, suit: u8) -> Option<Kind> {
 }
 
 /// The kinds that stand suit by suit.
-pub(crate) fn kinds(text: &str) -> Option<Kinds> {
-    let counts = counts(text)?;
+pub(crate) fn kinds(text: &str) -> Kinds {
+    let counts = counts(text);
     let mut kinds = Kinds::none();
     for number in 0..34 {
         let kind = Kind::at(number);
@@ -92,58 +106,57 @@ pub(crate) fn kinds(text: &str) -> Option<Kinds> {
             kinds = kinds.with(kind);
         }
     }
-    Some(kinds)
+    kinds
 }
 
 /// A reading as its sets, pair, place of the winning tile and winning tile, as its pairs, or as the doubled one of its orphans.
 /// A set is its lowest tile after `r` for a run, `t` for a triplet and `q` for a kan, in capital letters where it is shown.
-pub(crate) fn reading(text: &str) -> Option<Reading> {
-    let (first, others) = text.split_once(' ')?;
-    match first {
-        "pairs" => Some(Reading::Pairs {
-            kinds: kinds(others)?,
-        }),
-        "orphans" => Some(Reading::Orphans {
-            double: kind(others)?,
-        }),
-        _ => standard(text),
+pub(crate) fn reading(text: &str) -> Reading {
+    if let Some(others) = text.strip_prefix("pairs ") {
+        return Reading::Pairs {
+            kinds: kinds(others),
+        };
     }
+    if let Some(double) = text.strip_prefix("orphans ") {
+        return Reading::Orphans {
+            double: kind(double),
+        };
+    }
+    standard(text)
 }
 
-fn standard(text: &str) -> Option<Reading> {
+fn standard(text: &str) -> Reading {
     let mut words = [""; 7];
     for (place, word) in text.split(' ').enumerate() {
         if place < 7 {
             words[place] = word;
         }
     }
-    let [a, b, c, d, pair, win, winning] = words;
-    with_sets([set(a)?, set(b)?, set(c)?, set(d)?], pair, win, winning)
-}
-
-fn with_sets(sets: [Set; 4], pair: &str, win: &str, winning: &str) -> Option<Reading> {
-    let [a, b, c, d] = sets;
-    let (pair, win, winning) = (kind(pair)?, number(win)?, kind(winning)?);
-    Some(Reading::Standard {
-        a,
-        b,
-        c,
-        d,
-        pair,
-        win,
-        winning,
-    })
+    Reading::Standard {
+        a: set(words[0]),
+        b: set(words[1]),
+        c: set(words[2]),
+        d: set(words[3]),
+        pair: kind(words[4]),
+        win: number(words[5]),
+        winning: kind(words[6]),
+    }
 }
 
 /// A set by its letter and its lowest tile.
-fn set(text: &str) -> Option<Set> {
-    let (letter, low) = text.split_at_checked(1)?;
-    let low = kind(low)?;
-    Some(Set {
+fn set(text: &str) -> Set {
+    match text.split_at_checked(1) {
+        Some((letter, low)) => set_of(letter, low),
+        None => set_of("", ""),
+    }
+}
+
+fn set_of(letter: &str, low: &str) -> Set {
+    Set {
         form: form(letter),
-        low,
+        low: kind(low),
         shown: is_shown(letter),
-    })
+    }
 }
 
 fn form(letter: &str) -> SetForm {
@@ -202,14 +215,14 @@ fn riichi(marks: &[u8]) -> Riichi {
     Riichi::No
 }
 
-/// A meld of this form whose first tile is the one of the text.
-pub(crate) fn meld(form: Form, text: &str) -> Option<Meld> {
-    let tile = Tile::read(text.as_bytes())?;
-    Some(Meld {
+/// A meld of this form whose first tile is of the kind of the text.
+pub(crate) fn meld(form: Form, text: &str) -> Meld {
+    let tile = Tile::at(kind(text).number());
+    Meld {
         form,
         a: tile,
         b: tile,
         c: tile,
         d: None,
-    })
+    }
 }

@@ -1,6 +1,6 @@
 use crate::words::{bit, case, counts, fields, kind, meld, number, numbers, reading};
-use mj_readings::is_complete;
-use mj_tiles::{Form, Meld};
+use mj_readings::{Case, is_complete};
+use mj_tiles::{Counts, Form, Kind};
 use mj_yaku::{YakuSet, complete_has_yaku, han_of, has_yaku, is_closed, yaku};
 
 /// Of each row its han in a closed and in an open hand, 100 for a yakuman and 0 where it asks for a closed hand, a hand that has the
@@ -50,193 +50,140 @@ const ROWS: &str = "\
 43|100|0|dfe r2m r5p r3s r6s W 0 2m|df r2m r5p r3s r6s W 0 2m
 44|100|0|df r2m r5p r3s r6s W 0 2m|dfe r2m r5p r3s r6s W 0 2m";
 
-/// The melds of a hand so marked: an open one, a concealed kan, or none.
-fn meld_of(marks: &str) -> Option<Meld> {
+/// The rows of a hand, which has a chi, a concealed kan or no meld, as its marks say.
+pub(crate) fn yaku_of(hand: &str) -> YakuSet {
+    let (marks, text) = match hand.split_once(' ') {
+        Some(parts) => parts,
+        None => ("", ""),
+    };
+    let case = case(marks);
     if marks.contains('o') {
-        return meld(Form::Chi, "1m");
+        return yaku_beside(text, case, Form::Chi);
     }
     if marks.contains('q') {
-        return meld(Form::ClosedKan, "1m");
+        return yaku_beside(text, case, Form::ClosedKan);
     }
-    None
+    yaku_closed(text, case)
 }
 
-pub(crate) fn yaku_of(hand: &str) -> Option<YakuSet> {
-    let (marks, text) = hand.split_once(' ')?;
-    yaku_by(marks, text)
+fn yaku_beside(text: &str, mut case: Case, form: Form) -> YakuSet {
+    let melds = [meld(form, "1m")];
+    case.closed = is_closed(&melds);
+    yaku(&reading(text), &melds, &case)
 }
 
-fn yaku_by(marks: &str, text: &str) -> Option<YakuSet> {
-    let (reading, mut case) = (reading(text)?, case(marks));
-    match meld_of(marks) {
-        Some(meld) => {
-            let melds = [meld];
-            case.closed = is_closed(&melds);
-            Some(yaku(&reading, &melds, &case))
-        }
-        None => {
-            case.closed = is_closed(&[]);
-            Some(yaku(&reading, &[], &case))
-        }
+fn yaku_closed(text: &str, mut case: Case) -> YakuSet {
+    case.closed = is_closed(&[]);
+    yaku(&reading(text), &[], &case)
+}
+
+/// Whether a line of a row tells its han, and the two hands apart.
+fn is_row(line: &str) -> bool {
+    let [row, closed, open, with, without, ..] = fields(line);
+    has_han(number(row), number(closed), number(open))
+        && yaku_of(with).has(number(row))
+        && !yaku_of(without).has(number(row))
+}
+
+fn has_han(row: u8, closed: u8, open: u8) -> bool {
+    if row < 28 || (30 < row && row < 45) {
+        return han_of(row, true) == closed && han_of(row, false) == open;
     }
-}
-
-/// Whether a hand has just the rows of these numbers.
-fn has_just(hand: &str, rows: u64) -> Option<bool> {
-    let found = yaku_of(hand)?;
-    for row in 0..46 {
-        if found.has(row) != (rows & bit(row) != 0) {
-            return Some(false);
-        }
-    }
-    Some(true)
-}
-
-fn is_told_apart(line: &str) -> Option<bool> {
-    let [row, _, _, with, without, ..] = fields(line);
-    let (row, with, without) = (number(row)?, yaku_of(with)?, yaku_of(without)?);
-    Some(with.has(row) && !without.has(row))
+    false
 }
 
 #[test]
-fn each_row_has_its_hand_and_not_the_next(rt: HostRuntime) {
+fn each_row_has_its_han_and_its_hand_and_not_the_next(rt: HostRuntime) {
     for line in ROWS.lines() {
-        assert!(rt; is_told_apart(line) == Some(true), "{line}");
+        assert!(rt; is_row(line), "{line}");
     }
 }
 
 /// Hands and all their rows: a drawn closed pinfu without terminals or honours, equal runs, seven pairs, no row, a yakuman alone, and
-/// the first of several.
-const ALL_ROWS: &str = "\
-d r2m r5m r4p r6s 3s 1 7m|3 4 6
-- r2m r2m r5p r5p 8s 4 8s|6 31
-- pairs 234m 567p 8s|6 16
-o r2m r5p r3s R7s 2p 0 2m|
-r r2m tP tF tC W 0 2m|35
-d t1m t9m t1p t9p 1s 4 1s|34
-- orphans E|33
-o T1m T9p tW TN 9s 4 9s|17 21
-o T1m t9p t1s R7p 9s 4 9s|27
-o T1m T9p tW R7p 9s 4 9s|25
-- pairs 19m 19p 1s EC|16 21
-o tP tF TC TE W 4 W|35
-o tE tS tW TN P 4 P|37
-d t2s t3s t4s t6s F 4 F|34
-- r1m r1m r4m r7m 9m 0 1m|4 5 24 32
-o r2m r5p tP TF C 0 2m|9 10 22
-R t1m t1p t1s r7s 9m 0 1m|1 20 27
-- r2s r2s r6s tC F 0 2s|5 11 26";
+/// the first of several. Then hands, whether they are closed, their han, and what their rows are. Then complete hands, the winning
+/// tile, how it was won, whether a pon stands beside, and whether they have a yaku: by the draw, by twos to eights, by riichi, or by
+/// nothing; and where the winning tile is none of theirs.
+const CASES: &str = "\
+rows|d r2m r5m r4p r6s 3s 1 7m|3 4 6
+rows|- r2m r2m r5p r5p 8s 4 8s|6 31
+rows|- pairs 234m 567p 8s|6 16
+rows|o r2m r5p r3s R7s 2p 0 2m|
+rows|r r2m tP tF tC W 0 2m|35
+rows|d t1m t9m t1p t9p 1s 4 1s|34
+rows|- orphans E|33
+rows|o T1m T9p tW TN 9s 4 9s|17 21
+rows|o T1m t9p t1s R7p 9s 4 9s|27
+rows|o T1m T9p tW R7p 9s 4 9s|25
+rows|- pairs 19m 19p 1s EC|16 21
+rows|o tP tF TC TE W 4 W|35
+rows|o tE tS tW TN P 4 P|37
+rows|d t2s t3s t4s t6s F 4 F|34
+rows|- r1m r1m r4m r7m 9m 0 1m|4 5 24 32
+rows|o r2m r5p tP TF C 0 2m|9 10 22
+rows|R t1m t1p t1s r7s 9m 0 1m|1 20 27
+rows|- r2s r2s r6s tC F 0 2s|5 11 26
+sum|d r2m r5m r4p r6s 3s 1 7m|closed|3|some
+sum|- r2m r2m r5p r5p 8s 4 8s|closed|4|some
+sum|- pairs 234m 567p 8s|closed|3|some
+sum|o r2m r5p r3s R7s 2p 0 2m|open|0|none
+sum|o r1m r4m t9m R6m 2m 0 2m|open|5|some
+sum|- orphans E|closed|100|yakuman
+complete|234567m 456p 33678s|7m|d|no|yes
+complete|234567m 456p 33678s|7m|-|no|yes
+complete|234567m 456p 33678s|9m|-|no|no
+complete|123m 456p 234789s EE|2m|-|no|no
+complete|123m 456p 234789s EE|2m|r|no|yes
+complete|234m 456p 33789s|9s|d|pon|no
+complete|234m 456p 33678s|8s|d|pon|no";
 
-fn has_all_rows(line: &str) -> Option<bool> {
-    let [hand, rows, ..] = fields(line);
-    has_just(hand, numbers(rows)?)
-}
-
-#[test]
-fn hands_have_all_their_rows(rt: HostRuntime) {
-    for line in ALL_ROWS.lines() {
-        assert!(rt; has_all_rows(line) == Some(true), "{line}");
+fn holds(line: &str) -> bool {
+    let [question, hand, second, third, fourth, told, ..] = fields(line);
+    match question {
+        "rows" => has_just(yaku_of(hand), numbers(second)),
+        "sum" => has_sum(yaku_of(hand), second == "closed", number(third), fourth),
+        _ => is_worth_a_win(
+            &counts(hand),
+            kind(second),
+            case(third),
+            fourth,
+            told == "yes",
+        ),
     }
 }
 
-fn has_han(line: &str) -> Option<bool> {
-    let [row, closed, open, ..] = fields(line);
-    let (row, closed, open) = (number(row)?, number(closed)?, number(open)?);
-    if row < 28 || (30 < row && row < 45) {
-        return Some(han_of(row, true) == closed && han_of(row, false) == open);
+/// Whether a set has just the rows of these numbers.
+fn has_just(found: YakuSet, rows: u64) -> bool {
+    let mut right = true;
+    for row in 0..46 {
+        right = right && found.has(row) == (rows & bit(row) != 0);
     }
-    None
+    right
 }
 
-#[test]
-fn each_row_has_its_han(rt: HostRuntime) {
-    for line in ROWS.lines() {
-        assert!(rt; has_han(line) == Some(true), "{line}");
-    }
+fn has_sum(set: YakuSet, closed: bool, han: u8, rows: &str) -> bool {
+    set.han(closed) == han
+        && set.is_empty() == (rows == "none")
+        && set.is_yakuman() == (rows == "yakuman")
 }
 
-/// Hands, whether they are closed, their han, and what their rows are.
-const SUMS: &str = "\
-d r2m r5m r4p r6s 3s 1 7m|closed|3|some
-- r2m r2m r5p r5p 8s 4 8s|closed|4|some
-- pairs 234m 567p 8s|closed|3|some
-o r2m r5p r3s R7s 2p 0 2m|open|0|none
-o r1m r4m t9m R6m 2m 0 2m|open|5|some
-- orphans E|closed|100|yakuman";
-
-fn has_sum(line: &str) -> Option<bool> {
-    let [hand, closed, han, rows, ..] = fields(line);
-    let (set, han) = (yaku_of(hand)?, number(han)?);
-    Some(
-        set.han(closed == "closed") == han
-            && set.is_empty() == (rows == "none")
-            && set.is_yakuman() == (rows == "yakuman"),
-    )
-}
-
-#[test]
-fn sets_of_yaku_have_their_han(rt: HostRuntime) {
-    for line in SUMS.lines() {
-        assert!(rt; has_sum(line) == Some(true), "{line}");
-    }
-}
-
-fn some_yaku(hand: &str, win: &str, open: bool) -> Option<bool> {
-    let (held, win, pon) = (counts(hand)?, kind(win)?, meld(Form::Pon, "1m")?);
-    let mut case = case("d");
-    if open {
-        let melds = [pon];
+/// Whether a hand is complete, and has a yaku or none, whichever way that is asked.
+fn is_worth_a_win(held: &Counts, win: Kind, mut case: Case, beside: &str, told: bool) -> bool {
+    if beside == "pon" {
+        let melds = [meld(Form::Pon, "1m")];
         case.closed = is_closed(&melds);
-        return Some(has_yaku(&held, &melds, win, &case));
+        return is_complete(held, 1)
+            && complete_has_yaku(held, &melds, win, &case) == told
+            && has_yaku(held, &melds, win, &case) == told;
     }
     case.closed = is_closed(&[]);
-    Some(has_yaku(&held, &[], win, &case))
+    is_complete(held, 0)
+        && complete_has_yaku(held, &[], win, &case) == told
+        && has_yaku(held, &[], win, &case) == told
 }
 
 #[test]
-fn some_reading_has_a_yaku(rt: HostRuntime) {
-    assert!(rt; some_yaku("234567m 456p 33678s", "7m", false) == Some(true));
-    assert!(rt; some_yaku("234m 456p 78933s", "9s", true) == Some(false));
-}
-
-/// Complete hands, the winning tile, how it was won, whether a pon stands beside, and whether they have a yaku: by the draw, by
-/// twos to eights, by riichi, or by nothing; and where the winning tile is none of theirs.
-const COMPLETE: &str = "\
-234567m 456p 33678s|7m|d|no|yes
-234567m 456p 33678s|7m|-|no|yes
-234567m 456p 33678s|9m|-|no|no
-123m 456p 234789s EE|2m|-|no|no
-123m 456p 234789s EE|2m|r|no|yes
-234m 456p 33789s|9s|d|pon|no
-234m 456p 33678s|8s|d|pon|no";
-
-/// None where the hand is not complete.
-fn complete_yaku(hand: &str, win: &str, marks: &str, open: bool) -> Option<bool> {
-    let (held, win, pon) = (counts(hand)?, kind(win)?, meld(Form::Pon, "1m")?);
-    let mut case = case(marks);
-    if open {
-        let melds = [pon];
-        case.closed = is_closed(&melds);
-        if is_complete(&held, 1) {
-            return Some(complete_has_yaku(&held, &melds, win, &case));
-        }
-        return None;
-    }
-    case.closed = is_closed(&[]);
-    if is_complete(&held, 0) {
-        return Some(complete_has_yaku(&held, &[], win, &case));
-    }
-    None
-}
-
-fn is_worth_a_win(line: &str) -> Option<bool> {
-    let [hand, win, marks, pon, wanted, ..] = fields(line);
-    Some(complete_yaku(hand, win, marks, pon == "pon")? == (wanted == "yes"))
-}
-
-#[test]
-fn a_complete_hand_has_a_yaku_or_none(rt: HostRuntime) {
-    for line in COMPLETE.lines() {
-        assert!(rt; is_worth_a_win(line) == Some(true), "{line}");
+fn hands_have_all_their_rows_and_a_yaku_or_none(rt: HostRuntime) {
+    for line in CASES.lines() {
+        assert!(rt; holds(line), "{line}");
     }
 }

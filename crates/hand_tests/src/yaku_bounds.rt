@@ -230,16 +230,16 @@ const SETS: &str = "\
 42|no|o T2m Q5p Q3s Q6s W 4 W";
 
 /// Whether the hand has the row or not, as the line says.
-fn is_told(line: &str) -> Option<bool> {
-    let [row, wanted, hand, ..] = fields(line);
-    Some(yaku_of(hand)?.has(number(row)?) == (wanted == "yes"))
+fn is_told(line: &str) -> bool {
+    let [row, told, hand, ..] = fields(line);
+    yaku_of(hand).has(number(row)) == (told == "yes")
 }
 
 #[test]
 fn each_row_ends_where_its_rule_does(rt: HostRuntime) {
     for rows in [WINS, RUNS, SUITS, CLASSES, ENDS, SETS] {
         for line in rows.lines() {
-            assert!(rt; is_told(line) == Some(true), "{line}");
+            assert!(rt; is_told(line), "{line}");
         }
     }
 }
