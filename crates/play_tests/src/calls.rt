@@ -1,6 +1,7 @@
 use crate::deed_words::deed;
-use crate::words::{counts, fields, kind, kinds, tile, words, yes};
+use crate::words::{counts, fields, kind, kinds, tile, yes};
 use mj_calls::{banned, chi_shape, riichi_kan, same_kind};
+use mj_deeds::Deed;
 use mj_tiles::{Counts, Form, Kind, Meld, Tile};
 use std::alloc::Global;
 
@@ -29,82 +30,69 @@ pon 2 0 5sr 5s 5s|5s
 open 2 0 5m 5m 5m 5m|
 draw 0 4m|";
 
-fn bans(alloc: Global, line: &str) -> Option<bool> {
-    let [call, wanted, ..] = fields(line);
-    let call = deed(alloc, call)?;
-    Some(banned(&call) == kinds(wanted))
+fn bans(deed: Option<Deed>, told: &str) -> bool {
+    match deed {
+        Some(deed) => banned(&deed) == kinds(told),
+        None => false,
+    }
+}
+
+fn line_bans(alloc: Global, line: &str) -> bool {
+    let [call, told, ..] = fields(line);
+    bans(deed(alloc, call), told)
 }
 
 #[test]
 fn a_call_bans_its_tile_and_what_makes_its_run_anew(rt: HostRuntime) {
     for line in BANS.lines() {
-        assert!(rt; bans(rt.alloc(), line) == Some(true), "{line}");
+        assert!(rt; line_bans(rt.alloc(), line), "{line}");
     }
 }
 
-/// Three tiles, and whether they make a run.
-const RUNS: &str = "\
-1m 2m 3m yes
-3m 1m 2m yes
-8m 7m 9m yes
-4m 5mr 6m yes
-9s 7s 8s yes
-8m 9m 1p no
-9m 1p 2p no
-8s 9s E no
-E S W no
-5m 5mr 6m no
-1m 2m 4m no
-5p 5mr 4p no";
+/// Three tiles, and whether they make a run; two tiles, and whether they are alike; the concealed tiles before a draw, `1p` where a
+/// concealed kan of that was made, the drawn kind and that of the kan, and whether a seat in riichi may make it.
+const SETS: &str = "\
+run|1m|2m|3m|yes
+run|3m|1m|2m|yes
+run|8m|7m|9m|yes
+run|4m|5mr|6m|yes
+run|9s|7s|8s|yes
+run|8m|9m|1p|no
+run|9m|1p|2p|no
+run|8s|9s|E|no
+run|E|S|W|no
+run|5m|5mr|6m|no
+run|1m|2m|4m|no
+run|5p|5mr|4p|no
+alike|5m|5mr||yes
+alike|5p|5mr||no
+alike|E|E||yes
+alike|1m|1p||no
+kan|123456m 11p 555s EE||5s|5s|yes
+kan|123456m 11p 555s EE||E|E|no
+kan|123456m 11p 555s EE||5s|E|no
+kan|123456m 55667s EEE||E|E|yes
+kan|123456m 11p 34555s||5s|5s|no
+kan|123456m 2223p EEE||E|E|yes
+kan|123456m 2223p EEE||2p|2p|no
+kan|123m 22233344p 55s||2p|2p|no
+kan|111222333m 45p 99s||1m|1m|no
+kan|2223334445556m||6m|6m|no
+kan|123p 11m 77s EEE|1p|E|E|yes
+kan|123456m 7p 555s EEE||5s|5s|yes
+kan|123456m 7p 555s EEE||E|5s|no
+kan|123456m 7p 555s EEE||5s|E|no";
 
-fn makes_run(line: &str) -> Option<bool> {
-    let [a, b, c, wanted, ..] = words(line);
-    Some(chi_shape(tile(a)?, tile(b)?, tile(c)?) == yes(wanted)?)
-}
-
-fn is_alike(line: &str) -> Option<bool> {
-    let [a, b, wanted, ..] = words(line);
-    Some(same_kind(tile(a)?, tile(b)?) == yes(wanted)?)
-}
-
-#[test]
-fn a_run_lies_within_one_suit(rt: HostRuntime) {
-    for line in RUNS.lines() {
-        assert!(rt; makes_run(line) == Some(true), "{line}");
+fn holds(line: &str) -> bool {
+    let [question, first, second, third, fourth, told, ..] = fields(line);
+    match question {
+        "run" => chi_shape(tile(first), tile(second), tile(third)) == yes(fourth),
+        "alike" => same_kind(tile(first), tile(second)) == yes(fourth),
+        _ if second.is_empty() => {
+            is_lawful_alone(&counts(first), kind(third), kind(fourth)) == Some(yes(told))
+        }
+        _ => is_lawful_beside_a_kan(&counts(first), kind(third), kind(fourth)) == Some(yes(told)),
     }
-    for line in ["5m 5mr yes", "5p 5mr no", "E E yes", "1m 1p no"] {
-        assert!(rt; is_alike(line) == Some(true), "{line}");
-    }
-}
-
-/// The concealed tiles before a draw, `1p` where a concealed kan of that was made, the drawn kind and that of the kan; and whether a seat in
-/// riichi may make it.
-const KANS: &str = "\
-123456m 11p 555s EE||5s|5s|yes
-123456m 11p 555s EE||E|E|no
-123456m 11p 555s EE||5s|E|no
-123456m 55667s EEE||E|E|yes
-123456m 11p 34555s||5s|5s|no
-123456m 2223p EEE||E|E|yes
-123456m 2223p EEE||2p|2p|no
-123m 22233344p 55s||2p|2p|no
-111222333m 45p 99s||1m|1m|no
-2223334445556m||6m|6m|no
-123p 11m 77s EEE|1p|E|E|yes
-123456m 7p 555s EEE||5s|5s|yes
-123456m 7p 555s EEE||E|5s|no
-123456m 7p 555s EEE||5s|E|no";
-
-fn is_lawful(line: &str) -> Option<bool> {
-    let [before, made, drawn, kan, wanted, ..] = fields(line);
-    let before = counts(before)?;
-    let (drawn, kan) = (kind(drawn)?, kind(kan)?);
-    let found = if made.is_empty() {
-        is_lawful_alone(&before, drawn, kan)?
-    } else {
-        is_lawful_beside_a_kan(&before, drawn, kan)?
-    };
-    Some(found == yes(wanted)?)
 }
 
 /// Without a meld.
@@ -130,8 +118,8 @@ fn is_lawful_beside_a_kan(before: &Counts, drawn: Kind, kan: Kind) -> Option<boo
 }
 
 #[test]
-fn a_riichi_kan_changes_neither_waits_nor_readings(rt: HostRuntime) {
-    for line in KANS.lines() {
-        assert!(rt; is_lawful(line) == Some(true), "{line}");
+fn a_run_lies_within_one_suit_and_a_riichi_kan_changes_no_waits_or_readings(rt: HostRuntime) {
+    for line in SETS.lines() {
+        assert!(rt; holds(line), "{line}");
     }
 }

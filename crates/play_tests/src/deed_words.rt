@@ -7,11 +7,12 @@
 //! after it where there is another, the tiles of the dealer, and of how many tiles the other hands are; `end`;
 //! `over|30000 30000 30000 30000|0`.
 
-use crate::words::{fields, kind, number, points, tile, tiles, truths, words};
+use crate::words::{fields, kind, number, number_or_none, points, tile, tiles, truths, words};
 use mj_deeds::{
     Answer, Bid, Deed, Four, Hands, Names, Pai, Reason, SeatList, ShownHands, Tiles, YakuList,
 };
 use mj_ports::Name;
+use mj_tiles::Tile;
 use std::alloc::Global;
 
 /// The deed of a line.
@@ -22,17 +23,8 @@ pub(crate) fn deed(alloc: Global, line: &str) -> Option<Deed> {
     let words = words(line);
     match words[0] {
         "game" => start_game(alloc),
-        "draw" => draw(&words, false),
-        "replace" => draw(&words, true),
-        "discard" | "cut" | "closed" | "added" => deed_by_itself(&words),
-        "dora" => Some(Deed::Dora {
-            tile: tile(words[1])?,
-        }),
-        "reach" => Some(Deed::Reach {
-            seat: number(words[1])?,
-        }),
-        "end" => Some(Deed::EndHand),
-        _ => bid(line)?.deed(),
+        "chi" | "pon" | "open" => bid(line).deed(),
+        _ => deed_by_itself(&words),
     }
 }
 
@@ -40,39 +32,51 @@ fn deed_of_fields(alloc: Global, fields: &[&str; 8]) -> Option<Deed> {
     match fields[0] {
         "hand" => start_hand(alloc, fields),
         "deal" => start_later(alloc, fields),
-        "accepted" => Some(Deed::ReachAccepted {
-            seat: number(fields[1])?,
-            points: points(fields[2])?,
-            then: bid(fields[3]).unwrap_or(Bid::NoBid),
-        }),
         "win" => win(alloc, fields),
         "drawn" => drawn_hand(alloc, fields),
-        _ => Some(Deed::EndGame {
-            points: points(fields[1])?,
-            deposits: u32::from(number(fields[2])?),
-        }),
+        "accepted" => Some(accepted(fields)),
+        _ => Some(game_end(fields)),
+    }
+}
+
+fn accepted(fields: &[&str; 8]) -> Deed {
+    Deed::ReachAccepted {
+        seat: number(fields[1]),
+        points: points(fields[2]),
+        then: bid(fields[3]),
+    }
+}
+
+fn game_end(fields: &[&str; 8]) -> Deed {
+    Deed::EndGame {
+        points: points(fields[1]),
+        deposits: u32::from(number(fields[2])),
     }
 }
 
 fn win(alloc: Global, fields: &[&str; 8]) -> Option<Deed> {
-    let (seat, target, tile) = (number(fields[1])?, number(fields[2])?, tile(fields[3])?);
-    let (deltas, points) = (points(fields[4])?, points(fields[5])?);
+    match (tiles(alloc, fields[7]), yaku(alloc, fields[7])) {
+        (Some(hand), Some(yaku)) => Some(win_with(alloc, fields, hand, yaku)),
+        _ => None,
+    }
+}
+
+fn win_with(alloc: Global, fields: &[&str; 8], hand: Tiles, yaku: YakuList) -> Deed {
     let (fu, han, value) = worth(fields[7]);
-    let yaku = yaku(alloc, fields[7])?;
-    Some(Deed::Win {
-        seat,
-        target,
-        tile,
+    Deed::Win {
+        seat: number(fields[1]),
+        target: number(fields[2]),
+        tile: tile(fields[3]),
         unders: Tiles::new(alloc),
-        hand: tiles(alloc, fields[7])?,
+        hand,
         yaku,
         fu,
         han,
         value,
-        deltas,
-        points,
+        deltas: points(fields[4]),
+        points: points(fields[5]),
         rest: seats(fields[6]),
-    })
+    }
 }
 
 /// The fu, the han and the value of a hand that is shown, or of one that isn't.
@@ -95,7 +99,7 @@ fn yaku(alloc: Global, hand: &str) -> Option<YakuList> {
 /// At most two seats.
 pub(crate) fn seats(text: &str) -> SeatList {
     match words(text) {
-        [first, second, ..] => match (number(first), number(second)) {
+        [first, second, ..] => match (number_or_none(first), number_or_none(second)) {
             (Some(first), Some(second)) => SeatList::of(&[first, second]),
             (Some(first), None) => SeatList::of(&[first]),
             _ => SeatList::of(&[]),
@@ -104,22 +108,21 @@ pub(crate) fn seats(text: &str) -> SeatList {
 }
 
 fn drawn_hand(alloc: Global, fields: &[&str; 8]) -> Option<Deed> {
-    let ready = truths(fields[1])?;
-    let (deltas, points) = (points(fields[2])?, points(fields[3])?);
-    let hands = first_hand(alloc, fields[5])?;
-    Some(Deed::DrawnHand {
-        reason: reason(fields[4]),
-        hands: ShownHands::of(alloc, hands, hidden(fields[6])).ok()?,
-        ready,
-        deltas,
-        points,
-    })
+    let hands = hands(alloc, [fields[5], "", "", ""])?;
+    match ShownHands::of(alloc, hands, hidden(fields[6])) {
+        Ok(shown) => Some(drawn_with(fields, shown)),
+        Err(_) => None,
+    }
 }
 
-/// The tiles of the first seat alone.
-fn first_hand(alloc: Global, text: &str) -> Option<Hands> {
-    let first = tiles(alloc, text)?;
-    Hands::of(alloc, first.as_slice(), &[], &[], &[]).ok()
+fn drawn_with(fields: &[&str; 8], hands: ShownHands) -> Deed {
+    Deed::DrawnHand {
+        reason: reason(fields[4]),
+        hands,
+        ready: truths(fields[1]),
+        deltas: points(fields[2]),
+        points: points(fields[3]),
+    }
 }
 
 /// Of how many tiles the hands are that aren't shown: those of all seats where there is no text.
@@ -135,9 +138,9 @@ fn hidden(text: &str) -> Four<Option<u8>> {
     }
     Four {
         first: None,
-        second: number(second),
-        third: number(third),
-        fourth: number(fourth),
+        second: number_or_none(second),
+        third: number_or_none(third),
+        fourth: number_or_none(fourth),
     }
 }
 
@@ -153,44 +156,41 @@ pub(crate) fn reason(text: &str) -> Reason {
 }
 
 fn start_game(alloc: Global) -> Option<Deed> {
-    let names = Four {
+    let four = Four {
         first: Name::of(b"a"),
         second: Name::of(b"b"),
         third: Name::of(b"c"),
         fourth: Name::of(b"d"),
     };
-    Some(Deed::StartGame {
-        names: Names::of(alloc, names).ok()?,
-    })
+    match Names::of(alloc, four) {
+        Ok(names) => Some(Deed::StartGame { names }),
+        Err(_) => None,
+    }
 }
 
 fn start_hand(alloc: Global, fields: &[&str; 8]) -> Option<Deed> {
-    let (round, indicator) = (kind("E")?, tile(fields[1])?);
-    Some(Deed::StartHand {
-        round,
-        number: 1,
-        honba: 0,
-        deposits: 0,
-        dealer: 0,
-        indicator,
-        hands: hands(alloc, [fields[2], fields[3], fields[4], fields[5]])?,
-    })
+    let hands = hands(alloc, [fields[2], fields[3], fields[4], fields[5]])?;
+    Some(start(["E", "0", "0", "0"], tile(fields[1]), hands))
 }
 
 /// A hand of another standing: its round, the number of its dealer, the honba and the deposits.
 fn start_later(alloc: Global, fields: &[&str; 8]) -> Option<Deed> {
     let [round, dealer, honba, deposits, ..] = words(fields[1]);
-    let (round, dealer, indicator) = (kind(round)?, number(dealer)?, tile(fields[2])?);
-    let (honba, deposits) = (number(honba)?, number(deposits)?);
-    Some(Deed::StartHand {
-        round,
+    let hands = hands(alloc, [fields[3], fields[4], fields[5], fields[6]])?;
+    Some(start([round, dealer, honba, deposits], tile(fields[2]), hands))
+}
+
+fn start(standing: [&str; 4], indicator: Tile, hands: Hands) -> Deed {
+    let dealer = number(standing[1]);
+    Deed::StartHand {
+        round: kind(standing[0]),
         number: dealer.saturating_add(1),
-        honba: u32::from(honba),
-        deposits: u32::from(deposits),
+        honba: u32::from(number(standing[2])),
+        deposits: u32::from(number(standing[3])),
         dealer,
         indicator,
-        hands: hands(alloc, [fields[3], fields[4], fields[5], fields[6]])?,
-    })
+        hands,
+    }
 }
 
 /// The tiles of the four seats, each told by a text.
@@ -199,111 +199,185 @@ pub(crate) fn hands(alloc: Global, texts: [&str; 4]) -> Option<Hands> {
     for text in texts {
         hands.push(tiles(alloc, text)?).ok()?;
     }
-    let [first, second, third, fourth] = hands.as_slice() else {
-        return None;
-    };
-    Hands::of(
-        alloc,
-        first.as_slice(),
-        second.as_slice(),
-        third.as_slice(),
-        fourth.as_slice(),
-    )
-    .ok()
+    match hands.as_slice() {
+        [first, second, third, fourth] => Hands::of(
+            alloc,
+            first.as_slice(),
+            second.as_slice(),
+            third.as_slice(),
+            fourth.as_slice(),
+        )
+        .ok(),
+        _ => None,
+    }
 }
 
-fn draw(words: &[&str; 8], replacement: bool) -> Option<Deed> {
-    Some(Deed::Draw {
-        seat: number(words[1])?,
-        tile: tile(words[2])?,
-        replacement,
-    })
-}
-
-/// What a seat does by itself in a line's words, in an enum whose variants name it in this way, with tiles read in this
-/// way.
-macro_rules! by_itself {
-    ($deeds:ident, $seat:ident, $read:ident, $words:expr) => {{
-        let [word, seat, a, b, c, d, ..] = *$words;
-        let (seat, first) = (number(seat)?, $read(a)?);
-        match word {
-            "discard" => Some($deeds::Discard { $seat: seat, tile: first, drawn: false }),
-            "cut" => Some($deeds::Discard { $seat: seat, tile: first, drawn: true }),
-            "closed" => {
-                let (b, c, d) = ($read(b)?, $read(c)?, $read(d)?);
-                Some($deeds::ClosedKan { $seat: seat, a: first, b, c, d })
-            }
-            "added" => {
-                let (a, b, c) = ($read(b)?, $read(c)?, $read(d)?);
-                Some($deeds::AddedKan { $seat: seat, tile: first, a, b, c })
-            }
-            _ => None,
-        }
-    }};
-}
-
+/// What a seat does by itself in a line's words, or another deed without fields.
 fn deed_by_itself(words: &[&str; 8]) -> Option<Deed> {
-    by_itself!(Deed, seat, tile, words)
+    let [word, seat, text, b, c, d, ..] = *words;
+    let (seat, first) = (number(seat), tile(text));
+    let (b, c, d) = (tile(b), tile(c), tile(d));
+    match word {
+        "draw" | "replace" => Some(Deed::Draw {
+            seat,
+            tile: first,
+            replacement: word == "replace",
+        }),
+        "discard" | "cut" => Some(Deed::Discard {
+            seat,
+            tile: first,
+            drawn: word == "cut",
+        }),
+        "closed" => Some(Deed::ClosedKan {
+            seat,
+            a: first,
+            b,
+            c,
+            d,
+        }),
+        "added" => Some(Deed::AddedKan {
+            seat,
+            tile: first,
+            a: b,
+            b: c,
+            c: d,
+        }),
+        "dora" => Some(Deed::Dora {
+            tile: tile(words[1]),
+        }),
+        "reach" => Some(Deed::Reach { seat }),
+        "end" => Some(Deed::EndHand),
+        _ => None,
+    }
 }
 
-/// The call of a line's words, in an enum whose variants name its seat in this way, with tiles read in this way.
-macro_rules! call {
-    ($calls:ident, $seat:ident, $read:ident, $words:expr) => {{
-        let [word, seat, target, called, a, b, c, ..] = $words;
-        let (seat, target, called) = (number(seat)?, number(target)?, $read(called)?);
-        let (a, b) = ($read(a)?, $read(b)?);
-        match word {
-            "chi" => Some($calls::Chi { $seat: seat, target, tile: called, a, b }),
-            "pon" => Some($calls::Pon { $seat: seat, target, tile: called, a, b }),
-            "open" => Some($calls::OpenKan { $seat: seat, target, tile: called, a, b, c: $read(c)? }),
-            _ => None,
-        }
-    }};
+/// The bid of a line: a chi, a pon or an open kan, or none.
+pub(crate) fn bid(line: &str) -> Bid {
+    let [word, seat, target, called, a, b, c, ..] = words(line);
+    let (seat, target, called) = (number(seat), number(target), tile(called));
+    let (a, b, c) = (tile(a), tile(b), tile(c));
+    match word {
+        "chi" => Bid::Chi {
+            seat,
+            target,
+            tile: called,
+            a,
+            b,
+        },
+        "pon" => Bid::Pon {
+            seat,
+            target,
+            tile: called,
+            a,
+            b,
+        },
+        "open" => Bid::OpenKan {
+            seat,
+            target,
+            tile: called,
+            a,
+            b,
+            c,
+        },
+        _ => Bid::NoBid,
+    }
 }
 
-/// The bid of a line: a chi, a pon or an open kan.
-pub(crate) fn bid(line: &str) -> Option<Bid> {
-    call!(Bid, seat, tile, words(line))
-}
-
-/// The answer of a line, which stands as a deed's, or is `unread`, `pass`, or `pass 0` with its actor, `ron 1 0` or
-/// `ron 1 0 5p` by seat 1 on a tile of seat 0, or `nine 0`. A hidden tile is `*`. Take it by `let`, since rattle has no
-/// proof of a `?` that gives an answer which is used from there on.
-pub(crate) fn answer(line: &str) -> Option<Answer> {
+/// The answer of a line, which stands as a deed's, or is `pass`, or `pass 0` with its actor, `ron 1 0` or `ron 1 0 5p` by seat 1
+/// on a tile of seat 0, or `nine 0`; `unread` and another word are an unread one. A hidden tile is `*`.
+pub(crate) fn answer(line: &str) -> Answer {
     let words = words(line);
     match words[0] {
-        "unread" => Some(Answer::Unread),
-        "pass" => Some(Answer::Pass {
+        "pass" => Answer::Pass {
+            actor: number_or_none(words[1]),
+        },
+        "reach" => Answer::Reach {
             actor: number(words[1]),
-        }),
-        "discard" | "cut" | "closed" | "added" => answer_by_itself(&words),
-        "reach" => Some(Answer::Reach {
-            actor: number(words[1])?,
-        }),
-        "ron" => Some(Answer::Win {
-            actor: number(words[1])?,
-            target: number(words[2])?,
-            tile: pai(words[3]),
-        }),
-        "nine" => Some(Answer::NineKinds {
-            actor: number(words[1])?,
-        }),
-        _ => answer_by_call(&words),
+        },
+        "ron" => Answer::Win {
+            actor: number(words[1]),
+            target: number(words[2]),
+            tile: pai_or_none(words[3]),
+        },
+        "nine" => Answer::NineKinds {
+            actor: number(words[1]),
+        },
+        "chi" | "pon" | "open" => answer_by_call(&words),
+        _ => answer_by_itself(&words),
     }
 }
 
 /// The tile of a text, or a hidden one.
-fn pai(text: &str) -> Option<Pai> {
+fn pai(text: &str) -> Pai {
     if text == "*" {
-        return Some(Pai::Hidden);
+        Pai::Hidden
+    } else {
+        Pai::Known(tile(text))
     }
-    Some(Pai::Known(tile(text)?))
 }
 
-fn answer_by_itself(words: &[&str; 8]) -> Option<Answer> {
-    by_itself!(Answer, actor, pai, words)
+fn pai_or_none(text: &str) -> Option<Pai> {
+    if text.is_empty() {
+        None
+    } else {
+        Some(pai(text))
+    }
 }
 
-fn answer_by_call(words: &[&str; 8]) -> Option<Answer> {
-    call!(Answer, actor, pai, *words)
+fn answer_by_itself(words: &[&str; 8]) -> Answer {
+    let [word, actor, tile, b, c, d, ..] = *words;
+    let (actor, tile) = (number(actor), pai(tile));
+    let (b, c, d) = (pai(b), pai(c), pai(d));
+    match word {
+        "discard" | "cut" => Answer::Discard {
+            actor,
+            tile,
+            drawn: word == "cut",
+        },
+        "closed" => Answer::ClosedKan {
+            actor,
+            a: tile,
+            b,
+            c,
+            d,
+        },
+        "added" => Answer::AddedKan {
+            actor,
+            tile,
+            a: b,
+            b: c,
+            c: d,
+        },
+        _ => Answer::Unread,
+    }
+}
+
+fn answer_by_call(words: &[&str; 8]) -> Answer {
+    let [word, actor, target, tile, a, b, c, ..] = *words;
+    let (actor, target, tile) = (number(actor), number(target), pai(tile));
+    let (a, b, c) = (pai(a), pai(b), pai(c));
+    match word {
+        "chi" => Answer::Chi {
+            actor,
+            target,
+            tile,
+            a,
+            b,
+        },
+        "pon" => Answer::Pon {
+            actor,
+            target,
+            tile,
+            a,
+            b,
+        },
+        _ => Answer::OpenKan {
+            actor,
+            target,
+            tile,
+            a,
+            b,
+            c,
+        },
+    }
 }

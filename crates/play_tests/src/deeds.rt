@@ -36,42 +36,54 @@ concealed 0? 120m";
 fn wrong_line<'a>(alloc: Global, game: &'a str) -> &'a str {
     let mut deeds = Vec::new(alloc);
     for line in game.lines() {
-        if follow(alloc, &mut deeds, line) != Some(true) {
+        if !follow(alloc, &mut deeds, line) {
             return line;
         }
     }
     ""
 }
 
-fn follow(alloc: Global, deeds: &mut Vec<Deed>, line: &str) -> Option<bool> {
+fn follow(alloc: Global, deeds: &mut Vec<Deed>, line: &str) -> bool {
     if let Some((question, told)) = line.split_once('?') {
         return tells(alloc, deeds.as_slice(), question, told.trim());
     }
-    Some(deeds.push(deed(alloc, line)?).is_ok())
-}
-
-/// Whether deeds tell this to a question.
-fn tells(alloc: Global, deeds: &[Deed], question: &str, told: &str) -> Option<bool> {
-    let words = words(question);
-    let seat = number(words[1])?;
-    match words[0] {
-        "concealed" => Some(has_concealed(alloc, deeds, seat, told)?),
-        "river" => Some(are(river(alloc, deeds, seat).ok()?.as_slice(), told)),
-        "meld" => Some(has_meld(alloc, deeds, seat, number(words[2])?, told)?),
-        _ => None,
+    match deed(alloc, line) {
+        Some(deed) => deeds.push(deed).is_ok(),
+        None => false,
     }
 }
 
-/// Whether a seat has this meld at a place, the first one at 0.
-fn has_meld(alloc: Global, deeds: &[Deed], seat: u8, place: u8, told: &str) -> Option<bool> {
-    let found = melds(alloc, deeds, seat).ok()?;
-    Some(found.get(usize::from(place)).copied() == meld(told))
+/// Whether deeds tell this to a question.
+fn tells(alloc: Global, deeds: &[Deed], question: &str, told: &str) -> bool {
+    let [question, seat, place, ..] = words(question);
+    match question {
+        "concealed" => has_concealed(alloc, deeds, number(seat), told),
+        "river" => has_river(alloc, deeds, number(seat), told),
+        _ => has_meld(alloc, deeds, number(seat), number(place), told),
+    }
 }
 
-fn has_concealed(alloc: Global, deeds: &[Deed], seat: u8, told: &str) -> Option<bool> {
-    let wanted = tiles(alloc, told)?;
-    let found = concealed(alloc, deeds, seat).ok()?;
-    Some(found.as_slice() == wanted.as_slice())
+fn has_river(alloc: Global, deeds: &[Deed], seat: u8, told: &str) -> bool {
+    match river(alloc, deeds, seat) {
+        Ok(found) => are(found.as_slice(), told),
+        Err(_) => false,
+    }
+}
+
+/// Whether a seat has this meld at a place, the first one at 0, or none there.
+fn has_meld(alloc: Global, deeds: &[Deed], seat: u8, place: u8, told: &str) -> bool {
+    match melds(alloc, deeds, seat) {
+        Ok(found) if told == "none" => found.get(usize::from(place)).is_none(),
+        Ok(found) => found.get(usize::from(place)).copied() == Some(meld(told)),
+        Err(_) => false,
+    }
+}
+
+fn has_concealed(alloc: Global, deeds: &[Deed], seat: u8, told: &str) -> bool {
+    match (concealed(alloc, deeds, seat), tiles(alloc, told)) {
+        (Ok(found), Some(told)) => found.as_slice() == told.as_slice(),
+        _ => false,
+    }
 }
 
 #[test]
@@ -80,20 +92,20 @@ fn deeds_tell_what_a_seat_has(rt: HostRuntime) {
 }
 
 /// Whether a list keeps tiles in their order, and stands so in tile order.
-fn stand_so(alloc: Global, text: &str, wanted: &str) -> Option<bool> {
+fn stand_so(alloc: Global, text: &str, wanted: &str) -> Result<bool, AllocError> {
     let mut list = Tiles::new(alloc);
     for word in text.split_whitespace() {
-        list.push(tile(word)?).ok()?;
+        list.push(tile(word))?;
     }
-    let sorted = Tiles::sorted(alloc, list.as_slice()).ok()?;
-    Some(are(list.as_slice(), text) && are(sorted.as_slice(), wanted))
+    let sorted = Tiles::sorted(alloc, list.as_slice())?;
+    Ok(are(list.as_slice(), text) && are(sorted.as_slice(), wanted))
 }
 
 #[test]
-fn a_red_five_stands_behind_the_plain_ones(rt: HostRuntime) {
-    let sorted = stand_so(rt.alloc(), "C 5pr 6m 5p 5mr 5m 5p", "5m 5mr 6m 5p 5p 5pr C");
-    assert!(rt; sorted == Some(true));
-    assert!(rt; Some(ordered(5)) == tile("5mr"));
+fn a_red_five_stands_behind_the_plain_ones(rt: HostRuntime) -> Result<(), AllocError> {
+    let sorted = stand_so(rt.alloc(), "C 5pr 6m 5p 5mr 5m 5p", "5m 5mr 6m 5p 5p 5pr C")?;
+    assert!(rt; sorted && ordered(5) == tile("5mr"));
+    Ok(())
 }
 
 /// So many tiles of one face, and one of another behind them.
@@ -118,14 +130,6 @@ fn keeps_so_many(alloc: Global, number: usize) -> Result<bool, AllocError> {
     Ok(are_so_many(tiles, number) && copied.as_slice() == tiles && listed.as_slice() == tiles)
 }
 
-#[test]
-fn a_list_of_tiles_has_no_bound(rt: HostRuntime) -> Result<(), AllocError> {
-    for number in [0, 12, 13, 14, 15, 40] {
-        assert!(rt; keeps_so_many(rt.alloc(), number)?, "{number}");
-    }
-    Ok(())
-}
-
 /// Whether these hands stand at their seats.
 fn stand_at_their_seats(hands: &Hands, texts: [&str; 4]) -> bool {
     are(hands.at(0), texts[0])
@@ -135,16 +139,16 @@ fn stand_at_their_seats(hands: &Hands, texts: [&str; 4]) -> bool {
 }
 
 /// Whether four hands stand at their seats, and so do copies of them.
-fn keep_their_seats(alloc: Global, texts: [&str; 4]) -> Option<bool> {
-    let four = hands(alloc, texts)?;
-    let copied = four.copy().ok()?;
-    Some(stand_at_their_seats(&four, texts) && stand_at_their_seats(&copied, texts))
-}
-
-#[test]
-fn each_seat_has_its_own_hand(rt: HostRuntime) {
-    let texts = ["1m 2m 3m", "5p 5p 6p", "", "E E S C"];
-    assert!(rt; keep_their_seats(rt.alloc(), texts) == Some(true));
+fn keep_their_seats(alloc: Global, texts: [&str; 4]) -> bool {
+    match hands(alloc, texts) {
+        Some(four) => match four.copy() {
+            Ok(copied) => {
+                stand_at_their_seats(&four, texts) && stand_at_their_seats(&copied, texts)
+            }
+            Err(_) => false,
+        },
+        None => false,
+    }
 }
 
 /// Whether the first hand and the last are shown, and of the others the numbers alone.
@@ -163,22 +167,30 @@ fn are_shown(shown: &ShownHands, texts: [&str; 4]) -> bool {
 }
 
 /// Whether hands are shown or hidden so, and so are copies of them.
-fn stay_shown(alloc: Global, texts: [&str; 4]) -> Option<bool> {
+fn stay_shown(alloc: Global, texts: [&str; 4]) -> bool {
+    match hands(alloc, texts) {
+        Some(four) => stay_shown_of(alloc, four, texts) == Ok(true),
+        None => false,
+    }
+}
+
+fn stay_shown_of(alloc: Global, four: Hands, texts: [&str; 4]) -> Result<bool, AllocError> {
     let hidden = Four {
         first: None,
         second: Some(13),
         third: Some(0),
         fourth: None,
     };
-    let shown = ShownHands::of(alloc, hands(alloc, texts)?, hidden).ok()?;
-    let copied = shown.copy().ok()?;
-    Some(are_shown(&shown, texts) && are_shown(&copied, texts))
+    let shown = ShownHands::of(alloc, four, hidden)?;
+    let copied = shown.copy()?;
+    Ok(are_shown(&shown, texts) && are_shown(&copied, texts))
 }
 
+const TEXTS: [&str; 4] = ["1m 2m 3m", "5p 5p 6p", "", "E E S C"];
+
 #[test]
-fn each_hand_is_shown_or_hidden(rt: HostRuntime) {
-    let texts = ["1m 2m 3m", "5p 5p 6p", "", "E E S C"];
-    assert!(rt; stay_shown(rt.alloc(), texts) == Some(true));
+fn each_seat_has_its_own_hand_shown_or_hidden(rt: HostRuntime) {
+    assert!(rt; keep_their_seats(rt.alloc(), TEXTS) && stay_shown(rt.alloc(), TEXTS));
 }
 
 /// Whether each seat has its name.
@@ -198,6 +210,18 @@ fn stay_named(alloc: Global, four: Four<Name>) -> Result<bool, AllocError> {
     Ok(are_named(&names, &four) && are_named(&copied, &four))
 }
 
+/// Whether each seat has its own of four, and its next.
+fn seats_are_four() -> bool {
+    let four = Four {
+        first: 10,
+        second: 11,
+        third: 12,
+        fourth: 13,
+    };
+    [*four.at(0), *four.at(1), *four.at(2), *four.at(3)] == [10, 11, 12, 13]
+        && [next_seat(0), next_seat(1), next_seat(2), next_seat(3)] == [1, 2, 3, 0]
+}
+
 #[test]
 fn each_seat_has_its_own_name(rt: HostRuntime) -> Result<(), AllocError> {
     let four = Four {
@@ -206,67 +230,60 @@ fn each_seat_has_its_own_name(rt: HostRuntime) -> Result<(), AllocError> {
         third: Name::of(b"c"),
         fourth: Name::of(b"d"),
     };
-    assert!(rt; stay_named(rt.alloc(), four)?);
+    assert!(rt; stay_named(rt.alloc(), four)? && seats_are_four());
     Ok(())
 }
 
-#[test]
-fn each_seat_has_its_own_and_its_next(rt: HostRuntime) {
-    let four = Four {
-        first: 10,
-        second: 11,
-        third: 12,
-        fourth: 13,
-    };
-    assert_eq!(rt;
-        [*four.at(0), *four.at(1), *four.at(2), *four.at(3)],
-        [10, 11, 12, 13]
-    );
-    assert_eq!(rt;
-        [next_seat(0), next_seat(1), next_seat(2), next_seat(3)],
-        [1, 2, 3, 0]
-    );
+/// A deed, and whether it is a call, the seat that makes a kan by it, and whether it starts a hand.
+const NAMED: [(&str, bool, Option<u8>, bool); 8] = [
+    ("chi 1 0 3m 4m 5m", true, None, false),
+    ("pon 1 0 3m 3m 3m", true, None, false),
+    ("open 3 0 3m 3m 3m 3m", true, Some(3), false),
+    ("closed 2 1p 1p 1p 1p", true, Some(2), false),
+    ("added 1 1p 1p 1p 1p", true, Some(1), false),
+    ("cut 2 1p", false, None, false),
+    ("dora 1p", false, None, false),
+    ("hand|P|1m|1m|1m|1m", false, None, true),
+];
+
+/// Whether a copy of a deed is so.
+fn is_so(deed: Option<Deed>, call: bool, kan: Option<u8>, start: bool) -> bool {
+    match deed {
+        Some(deed) => copy_is_so(&deed, call, kan, start),
+        None => false,
+    }
 }
 
-/// Whether a deed is a call, the seat that makes a kan by it, and whether it starts a hand, each on a copy.
-fn is_so(alloc: Global, line: &str) -> Option<(bool, Option<u8>, bool)> {
-    let deed = deed(alloc, line)?.copy().ok()?;
-    if is_kan(&deed) != seat_of_kan(&deed).is_some() {
-        return None;
+fn copy_is_so(deed: &Deed, call: bool, kan: Option<u8>, start: bool) -> bool {
+    match deed.copy() {
+        Ok(copy) => {
+            is_call(&copy) == call
+                && seat_of_kan(&copy) == kan
+                && is_kan(&copy) == kan.is_some()
+                && is_hand_start(&copy) == start
+        }
+        Err(_) => false,
     }
-    Some((is_call(&deed), seat_of_kan(&deed), is_hand_start(&deed)))
 }
 
 #[test]
 fn a_kan_is_a_call_of_its_seat(rt: HostRuntime) {
-    for (line, wanted) in [
-        ("chi 1 0 3m 4m 5m", (true, None, false)),
-        ("pon 1 0 3m 3m 3m", (true, None, false)),
-        ("open 3 0 3m 3m 3m 3m", (true, Some(3), false)),
-        ("closed 2 1p 1p 1p 1p", (true, Some(2), false)),
-        ("added 1 1p 1p 1p 1p", (true, Some(1), false)),
-        ("cut 2 1p", (false, None, false)),
-        ("dora 1p", (false, None, false)),
-        ("hand|P|1m|1m|1m|1m", (false, None, true)),
-    ] {
-        assert!(rt; is_so(rt.alloc(), line) == Some(wanted), "{line}");
+    for (line, call, kan, start) in NAMED {
+        assert!(rt; is_so(deed(rt.alloc(), line), call, kan, start), "{line}");
     }
 }
 
 #[test]
 fn a_hidden_tile_is_not_known(rt: HostRuntime) {
-    let red = tile("5pr");
-    if let Some(tile) = red {
-        assert!(rt; Pai::Known(tile).known() == red);
-    }
-    assert!(rt; red.is_some() && Pai::Hidden.known().is_none());
+    assert!(rt;
+        [Pai::Known(tile("5pr")).known(), Pai::Hidden.known()] == [Some(tile("5pr")), None]
+    );
 }
 
-#[test]
-fn a_list_keeps_its_rows(rt: HostRuntime) -> Result<(), AllocError> {
-    let list = YakuList::of(rt.alloc(), &[(3, 1), (28, 2)])?;
-    assert!(rt; list.as_slice() == [(3, 1), (28, 2)].as_slice());
-    Ok(())
+/// Whether a list keeps the rows put in.
+fn keeps_these(alloc: Global) -> Result<bool, AllocError> {
+    let list = YakuList::of(alloc, &[(3, 1), (28, 2)])?;
+    Ok(list.as_slice() == [(3, 1), (28, 2)].as_slice())
 }
 
 /// Whether a list keeps so many rows, at most 45, and so does a copy of it.
@@ -283,10 +300,20 @@ fn keeps_rows(alloc: Global, number: u8) -> Result<bool, AllocError> {
     Ok(list.as_slice() == wanted.as_slice() && copied.as_slice() == wanted.as_slice())
 }
 
-#[test]
-fn a_list_of_rows_has_no_bound(rt: HostRuntime) -> Result<(), AllocError> {
-    for number in [0, 6, 7, 8, 45] {
-        assert!(rt; keeps_rows(rt.alloc(), number)?, "{number}");
+/// Whether lists of tiles and of rows have no bound.
+fn are_unbounded(alloc: Global) -> Result<bool, AllocError> {
+    let mut all = keeps_these(alloc)?;
+    for number in [0, 12, 13, 14, 15, 40] {
+        all = keeps_so_many(alloc, number)? && all;
     }
+    for number in [0, 6, 7, 8, 45] {
+        all = keeps_rows(alloc, number)? && all;
+    }
+    Ok(all)
+}
+
+#[test]
+fn a_list_of_tiles_or_rows_has_no_bound(rt: HostRuntime) -> Result<(), AllocError> {
+    assert!(rt; are_unbounded(rt.alloc())?);
     Ok(())
 }

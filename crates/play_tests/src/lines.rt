@@ -3,7 +3,8 @@
 ghost use Rattle.std.specs.Prelude.{◌≡◌, ◌<◌};
 
 use crate::deed_words::{answer, deed};
-use crate::views::viewer_of;
+use crate::views::seen_by;
+use crate::words::{number_or_none, parted};
 use mj_deeds::{Answer, Deed, Rule, Viewer};
 use mj_ports::{JoinLine, Picked, SitRefused};
 use mjai_answers::read_room;
@@ -49,10 +50,12 @@ record end={\"type\":\"end_kyoku\"}
 record over|30000 30000 31000 28000|1={\"type\":\"end_game\",\"scores\":[30000,30000,31000,28000],\"kyotaku\":1}";
 
 /// Whether a deed and its copy are written so.
-fn is_written(alloc: Global, row: &str) -> Option<bool> {
-    let (told, line) = row.split_once('=')?;
-    let (viewer, told) = told.split_once(' ')?;
-    Some(both_written(alloc, viewer_of(viewer), deed(alloc, told)?, line))
+fn is_written(alloc: Global, row: &str) -> bool {
+    let (viewer, told, line) = seen_by(row);
+    match deed(alloc, told) {
+        Some(deed) => both_written(alloc, viewer, deed, line),
+        None => false,
+    }
 }
 
 fn both_written(alloc: Global, viewer: Viewer, deed: Deed, line: &str) -> bool {
@@ -86,7 +89,7 @@ fn writes_on<L: Ledger>(
 #[test]
 fn a_deed_has_its_line_for_each_viewer(rt: HostRuntime) {
     for row in DEEDS.lines() {
-        assert!(rt; is_written(rt.alloc(), row) == Some(true), "{row}");
+        assert!(rt; is_written(rt.alloc(), row), "{row}");
     }
 }
 
@@ -158,18 +161,18 @@ const ANSWERS: &str = "\
 {\"type\":\"dahai\",\"actor\":0,\"pai\":\"0m\",\"tsumogiri\":true}=unread
 {\"type\":\"ankan\",\"consumed\":[\"N\",\"N\",\"N\",\"N\"]}=unread";
 
-fn reads(alloc: Global, row: &str) -> Option<bool> {
-    let (line, told) = row.split_once('=')?;
+fn reads(alloc: Global, row: &str) -> bool {
+    let (line, told) = parted(row, '=');
     match read_answer(alloc, line.as_bytes()) {
-        Ok(found) => Some(Some(found) == answer(told)),
-        Err(_) => None,
+        Ok(found) => found == answer(told),
+        Err(_) => false,
     }
 }
 
 #[test]
 fn a_line_reads_as_the_answer_that_it_is(rt: HostRuntime) {
     for row in ANSWERS.lines() {
-        assert!(rt; reads(rt.alloc(), row) == Some(true), "{row}");
+        assert!(rt; reads(rt.alloc(), row), "{row}");
     }
     let no_text = b"{\"type\":\"none\",\"x\":\"\xff\"}";
     assert!(rt; matches!(read_answer(rt.alloc(), no_text), Ok(Answer::Unread)));
@@ -187,12 +190,12 @@ const JOINS: &str = "\
 {\"type\":\"join\",\"name\":\"nnnnnnnnnnnnnnnnnnnnnnnnnnnnnnnnnnnnnnnnnnnnnnnnnnnnnnnnnnnnnnnnn\",\"key\":\"k\"}=
 {\"type\":\"join\",\"name\":\"n\",\"key\":\"kkkkkkkkkkkkkkkkkkkkkkkkkkkkkkkkkkkkkkkkkkkkkkkkkkkkkkkkkkkkkkkkk\"}=";
 
-fn is_join(alloc: Global, row: &str) -> Option<bool> {
-    let (line, told) = row.split_once('=')?;
+fn is_join(alloc: Global, row: &str) -> bool {
+    let (line, told) = parted(row, '=');
     match read_join(alloc, line.as_bytes()) {
-        Ok(Some(join)) => Some(is_named(&join, told)),
-        Ok(None) => Some(told.is_empty()),
-        Err(_) => None,
+        Ok(Some(join)) => is_named(&join, told),
+        Ok(None) => told.is_empty(),
+        Err(_) => false,
     }
 }
 
@@ -209,7 +212,7 @@ fn is_named(join: &JoinLine, told: &str) -> bool {
 #[test]
 fn a_join_has_a_name_and_perhaps_a_key(rt: HostRuntime) {
     for row in JOINS.lines() {
-        assert!(rt; is_join(rt.alloc(), row) == Some(true), "{row}");
+        assert!(rt; is_join(rt.alloc(), row), "{row}");
     }
 }
 
@@ -229,28 +232,19 @@ const ROOMS: &str = "\
 {\"type\":\"none\",\"name\":\"a\",\"room\":\"room1\"}=no name
 join room1=no name";
 
-fn is_picked(alloc: Global, row: &str) -> Option<bool> {
-    let (line, told) = row.split_once('=')?;
+fn is_picked(alloc: Global, row: &str) -> bool {
+    let (line, told) = parted(row, '=');
     match read_room(alloc, line.as_bytes(), 3) {
-        Ok(picked) => Some(picked == table(told)?),
-        Err(_) => None,
-    }
-}
-
-fn table(told: &str) -> Option<Picked> {
-    match told {
-        "no name" => Some(Picked::BadName),
-        "no room" => Some(Picked::NoRoom),
-        "0" => Some(Picked::Table(0)),
-        "1" => Some(Picked::Table(1)),
-        "2" => Some(Picked::Table(2)),
-        _ => None,
+        Ok(Picked::BadName) => told == "no name",
+        Ok(Picked::NoRoom) => told == "no room",
+        Ok(Picked::Table(table)) => number_or_none(told) == Some(table),
+        Err(_) => false,
     }
 }
 
 #[test]
 fn a_join_is_for_the_table_whose_room_it_names(rt: HostRuntime) {
     for row in ROOMS.lines() {
-        assert!(rt; is_picked(rt.alloc(), row) == Some(true), "{row}");
+        assert!(rt; is_picked(rt.alloc(), row), "{row}");
     }
 }

@@ -1,12 +1,15 @@
 //! Games as texts, played line by line on a table. A line is a deed, or a question and what the table tells: `live?
 //! 64`.
 
-ghost use Rattle.std.specs.Prelude.{IfSome, ◌≤◌};
+ghost use Rattle.std.specs.Prelude.{◌≤◌};
 
 use crate::deed_words::{answer, deed};
 use crate::rounds::{end, standing};
 use crate::safety::why;
-use crate::words::{are, counts, kind, kinds, number, points, tile, tile_or_none, words, yes};
+use crate::words::{
+    are, counts, kind, kinds, number, number_or_none, parted, points, seat, tile, tile_or_none,
+    words, yes,
+};
 use mj_bot::choose;
 use mj_deeds::{Answer, Deed, Reason, Rule};
 use mj_judge::{case_of, default, is_lawful, judge, possible};
@@ -27,7 +30,7 @@ pub(crate) fn wrong_line<'a>(alloc: Global, game: &'a str) -> &'a str {
 
 fn first_wrong<'a>(alloc: Global, table: &mut Table, game: &'a str) -> &'a str {
     for line in game.lines() {
-        if follow(alloc, table, line) != Some(true) {
+        if !follow(alloc, table, line) {
             return line;
         }
     }
@@ -44,47 +47,51 @@ pub(crate) fn rules(game: &str) -> Rules {
 }
 
 /// Adds the deed of a line, or asks its question.
-pub(crate) fn follow(alloc: Global, table: &mut Table, line: &str) -> Option<bool> {
+pub(crate) fn follow(alloc: Global, table: &mut Table, line: &str) -> bool {
     if let Some((question, told)) = line.split_once('?') {
         return tells(alloc, table, question, told.trim());
     }
-    if let Some(number) = line.strip_prefix("draws ") {
-        return draws(table, number);
+    if let Some(times) = line.strip_prefix("draws ") {
+        return draws(table, number(times));
     }
-    add(table, deed(alloc, line)?)
+    match deed(alloc, line) {
+        Some(deed) => add(table, deed),
+        None => false,
+    }
 }
 
-/// Adds a deed that fits.
-pub(crate) fn add(table: &mut Table, deed: Deed) -> Option<bool> {
-    if !table.fits(&deed) {
-        return Some(false);
-    }
-    Some(table.push(&deed).is_ok())
+/// Adds a deed, and tells whether it fits.
+pub(crate) fn add(table: &mut Table, deed: Deed) -> bool {
+    table.fits(&deed) && table.push(&deed).is_ok()
 }
 
 /// Seat 3 draws so many tiles: each of the circles and bamboos four times.
-fn draws(table: &mut Table, times: &str) -> Option<bool> {
-    for k in 0..number(times)? {
-        let tile = Tile::of((k / 4).saturating_add(9))?;
-        let drawn = add(
+fn draws(table: &mut Table, times: u8) -> bool {
+    let mut all = true;
+    for k in 0..times {
+        all = all && adds_draw(table, (k / 4).saturating_add(9));
+    }
+    all
+}
+
+fn adds_draw(table: &mut Table, face: u8) -> bool {
+    match Tile::of(face) {
+        Some(tile) => add(
             table,
             Deed::Draw {
                 seat: 3,
                 tile,
                 replacement: false,
             },
-        );
-        if drawn != Some(true) {
-            return drawn;
-        }
+        ),
+        None => false,
     }
-    Some(true)
 }
 
 /// Whether a table tells this to a question.
-fn tells(alloc: Global, table: &Table, question: &str, told: &str) -> Option<bool> {
+fn tells(alloc: Global, table: &Table, question: &str, told: &str) -> bool {
     if let Some(line) = question.strip_prefix("fits ") {
-        return Some(fits(alloc, table, line)? == yes(told)?);
+        return fits(table, deed(alloc, line), yes(told));
     }
     if let Some(line) = question.strip_prefix("judge ") {
         return judges(table, line, told);
@@ -92,31 +99,29 @@ fn tells(alloc: Global, table: &Table, question: &str, told: &str) -> Option<boo
     let words = words(question);
     match words[0] {
         "live" | "live_drawn" | "kans" | "shown" | "deposits" => {
-            Some(number_told(table, words[0]) == usize::from(number(told)?))
+            number_told(table, words[0]) == usize::from(number(told))
         }
-        "newest" => Some(name(table.newest()) == told),
-        "cause" => Some(name(table.cause()) == told),
-        "reason" => Some(reason(table) == told),
-        "points" => Some(table.points() == points(told)?),
-        "winner" => Some(table.has_winner() == yes(told)?),
-        "ended" => Some(table.hand_end() == end(told)?),
-        "dealer_won" => Some(table.dealer_won() == yes(told)?),
-        "before_wins" => Some(name(table.before_wins()) == told),
-        "concealed" => Some(has_concealed(alloc, table, seat_of(words[1])?, told)),
-        "standing" => Some(table.standing() == standing(told)?),
-        "kan_seat" => Some(table.kan_seat() == number(told)),
-        "default" => Some(default_is(table, seat_of(words[1])?, told)),
-        "choose" => Some(choice_is(table, seat_of(words[1])?, told)),
-        "possible" => Some(may_answer(alloc, table, seat_of(words[1])?, told)),
-        "indicator" => Some(table.indicator(number(words[1])?) == tile_or_none(told)?),
+        "newest" | "cause" | "before_wins" => name(deed_told(table, words[0])) == told,
+        "reason" => reason(table) == told,
+        "points" => table.points() == points(told),
+        "winner" => table.has_winner() == yes(told),
+        "ended" => table.hand_end() == end(told),
+        "dealer_won" => table.dealer_won() == yes(told),
+        "standing" => Some(table.standing()) == standing(told),
+        "kan_seat" => table.kan_seat() == number_or_none(told),
+        "indicator" => table.indicator(number(words[1])) == tile_or_none(told),
+        "concealed" => has_concealed(alloc, table, seat(words[1]), told),
+        "possible" => may_answer(alloc, table, seat(words[1]), told),
         _ => tells_of_seat(table, &words, told),
     }
 }
 
-/// Whether the deed of a line fits.
-fn fits(alloc: Global, table: &Table, line: &str) -> Option<bool> {
-    let deed = deed(alloc, line)?;
-    Some(table.fits(&deed))
+/// Whether a deed fits, or doesn't, as told.
+fn fits(table: &Table, deed: Option<Deed>, told: bool) -> bool {
+    match deed {
+        Some(deed) => table.fits(&deed) == told,
+        None => false,
+    }
 }
 
 fn has_concealed(alloc: Global, table: &Table, seat: u8, told: &str) -> bool
@@ -129,42 +134,40 @@ fn has_concealed(alloc: Global, table: &Table, seat: u8, told: &str) -> bool
 }
 
 /// Whether a table tells this to a question about a seat.
-fn tells_of_seat(table: &Table, words: &[&str; 8], told: &str) -> Option<bool> {
-    let [word, seat, a, b, c, d, ..] = *words;
-    let seat = seat_of(seat)?;
+fn tells_of_seat(table: &Table, words: &[&str; 8], told: &str) -> bool {
+    let [word, who, a, b, c, d, ..] = *words;
+    let who = seat(who);
     match word {
-        "drawn" => Some(table.drawn(seat) == tile_or_none(told)?),
-        "holds" => Some(table.holds(seat) == counts(told)?),
-        "reds" => Some(has_reds(table, seat, told)),
-        "held" => Some(table.held_count(seat, tile(a)?) == usize::from(number(told)?)),
-        "own" => Some(table.own(seat) == kinds(told)),
-        "passed" => Some(table.passed(seat) == kinds(told)),
-        "melds" => Some(table.melds(seat).as_slice().len() == usize::from(number(told)?)),
-        "meld" => Some(meld_at(table, seat, a)? == meld(told)?),
-        "first" => Some(
-            table.marks(seat).first == yes(told)? && table.is_first(seat) == yes(told)?,
-        ),
-        "riichi" => Some(table.is_in_riichi(seat) == yes(told)?),
-        "since_reach" => Some(table.passed_in_riichi(seat) == kinds(told)),
-        "marks" => Some(has_marks(table, seat, told)),
-        "room" => Some(table.room(seat).get(kind(a)?) == number(told)?),
-        "case" => has_case(table, seat, told),
-        "sees" => Some(table.seen(seat).get(kind(a)?) == number(told)?),
-        "safe" => Some(why(table, seat, seat_of(a)?, kind(b)?) == told),
-        "triplet" => Some(has_triplet(table, seat, [a, b, c, d])? == yes(told)?),
-        _ => None,
+        "default" => default(table, who) == answer(told),
+        "choose" => choose(table, who) == answer(told),
+        "drawn" => table.drawn(who) == tile_or_none(told),
+        "holds" => table.holds(who) == counts(told),
+        "reds" => has_reds(table, who, told),
+        "held" => table.held_count(who, tile(a)) == usize::from(number(told)),
+        "own" | "passed" | "since_reach" => kinds_told(table, who, word) == kinds(told),
+        "melds" => table.melds(who).as_slice().len() == usize::from(number(told)),
+        "meld" => meld_at(table, who, number(a)) == Some(meld(told)),
+        "first" => [table.marks(who).first, table.is_first(who)] == [yes(told); 2],
+        "riichi" => table.is_in_riichi(who) == yes(told),
+        "marks" => has_marks(table, who, told),
+        "room" => table.room(who).get(kind(a)) == number(told),
+        "case" => has_case(table, who, told),
+        "sees" => table.seen(who).get(kind(a)) == number(told),
+        "safe" => why(table, who, seat(a), kind(b)) == told,
+        "triplet" => table.has_triplet(who, tile(a), tile(b), tile(c), tile(d)) == yes(told),
+        _ => false,
     }
 }
 
-/// A seat, 0 to 3.
-fn seat_of(text: &str) -> Option<u8>
-    ensures { IfSome result (λ seat. seat ≤ 3) }
+/// Kinds that a table tells of a seat.
+fn kinds_told(table: &Table, seat: u8, word: &str) -> Kinds
+    requires { seat ≤ 3 }
 {
-    let seat = number(text)?;
-    if seat > 3 {
-        return None;
+    match word {
+        "own" => table.own(seat),
+        "passed" => table.passed(seat),
+        _ => table.passed_in_riichi(seat),
     }
-    Some(seat)
 }
 
 /// A number that a table tells of its newest hand.
@@ -175,6 +178,15 @@ fn number_told(table: &Table, word: &str) -> usize {
         "kans" => usize::from(table.kans()),
         "shown" => table.shown(),
         _ => table.deposits() as usize,
+    }
+}
+
+/// A deed that a table tells.
+fn deed_told<'a>(table: &'a Table, word: &str) -> Option<&'a Deed> {
+    match word {
+        "newest" => table.newest(),
+        "cause" => table.cause(),
+        _ => table.before_wins(),
     }
 }
 
@@ -241,73 +253,63 @@ fn has_word(text: &str, word: &str) -> bool {
 }
 
 /// Whether a win of a seat would have these circumstances: its wind, that of the round, and what else holds.
-fn has_case(table: &Table, seat: u8, told: &str) -> Option<bool>
+fn has_case(table: &Table, seat: u8, told: &str) -> bool
     requires { seat ≤ 3 }
 {
     let case = case_of(table, seat);
     let [seat_wind, round_wind, ..] = words(told);
-    let winds = case.seat_wind == kind(seat_wind)? && case.round_wind == kind(round_wind)?;
-    let riichi = match case.riichi {
-        Riichi::No => !has_word(told, "single") && !has_word(told, "double"),
-        Riichi::Single => has_word(told, "single"),
-        Riichi::Double => has_word(told, "double"),
-    };
-    let way = case.by_draw == has_word(told, "draw")
-        && case.rinshan == has_word(told, "replacement")
-        && case.robbed == has_word(told, "robbed");
-    let time = case.first == has_word(told, "first")
-        && case.last == has_word(told, "last")
-        && case.ippatsu == has_word(told, "ippatsu");
-    Some(winds && riichi && way && time && case.closed == has_word(told, "closed"))
+    [case.seat_wind, case.round_wind] == [kind(seat_wind), kind(round_wind)]
+        && has_word(told, "single") == (case.riichi == Riichi::Single)
+        && has_word(told, "double") == (case.riichi == Riichi::Double)
+        && [
+            case.closed,
+            case.by_draw,
+            case.rinshan,
+            case.robbed,
+            case.first,
+            case.last,
+            case.ippatsu,
+        ] == [
+            has_word(told, "closed"),
+            has_word(told, "draw"),
+            has_word(told, "replacement"),
+            has_word(told, "robbed"),
+            has_word(told, "first"),
+            has_word(told, "last"),
+            has_word(told, "ippatsu"),
+        ]
 }
 
-fn has_triplet(table: &Table, seat: u8, texts: [&str; 4]) -> Option<bool>
+fn meld_at(table: &Table, seat: u8, place: u8) -> Option<Meld>
     requires { seat ≤ 3 }
 {
-    let [added, a, b, c] = texts;
-    let (added, a, b, c) = (tile(added)?, tile(a)?, tile(b)?, tile(c)?);
-    Some(table.has_triplet(seat, added, a, b, c))
-}
-
-fn meld_at(table: &Table, seat: u8, place: &str) -> Option<Meld>
-    requires { seat ≤ 3 }
-{
-    let place = usize::from(number(place)?);
-    table.melds(seat).as_slice().get(place).copied()
+    table
+        .melds(seat)
+        .as_slice()
+        .get(usize::from(place))
+        .copied()
 }
 
 /// A meld: its form and its tiles, as `chi 2m 3m 4m`.
-pub(crate) fn meld(text: &str) -> Option<Meld> {
+pub(crate) fn meld(text: &str) -> Meld {
     let [form, a, b, c, d, ..] = words(text);
-    let (a, b, c) = (tile(a)?, tile(b)?, tile(c)?);
-    let form = match form {
+    Meld {
+        form: form_of(form),
+        a: tile(a),
+        b: tile(b),
+        c: tile(c),
+        d: tile_or_none(d),
+    }
+}
+
+fn form_of(word: &str) -> Form {
+    match word {
         "chi" => Form::Chi,
         "pon" => Form::Pon,
         "open" => Form::OpenKan,
         "closed" => Form::ClosedKan,
         _ => Form::AddedKan,
-    };
-    Some(Meld {
-        form,
-        a,
-        b,
-        c,
-        d: tile(d),
-    })
-}
-
-/// Whether that answer stands for a seat which gives none.
-fn default_is(table: &Table, seat: u8, told: &str) -> bool
-    requires { seat ≤ 3 }
-{
-    Some(default(table, seat)) == answer(told)
-}
-
-/// Whether the built-in player answers so for a seat.
-fn choice_is(table: &Table, seat: u8, told: &str) -> bool
-    requires { seat ≤ 3 }
-{
-    Some(choose(table, seat)) == answer(told)
+    }
 }
 
 /// Whether a seat may answer just so, the answers parted by commas.
@@ -326,7 +328,7 @@ fn are_answers(answers: &[Answer], told: &str) -> bool {
         let Some((first, others)) = rest.split_first() else {
             return false;
         };
-        if Some(*first) != answer(text.trim()) {
+        if *first != answer(text.trim()) {
             return false;
         }
         rest = others;
@@ -335,16 +337,14 @@ fn are_answers(answers: &[Answer], told: &str) -> bool {
 }
 
 /// Whether an answer of a seat breaks that rule first, or none where it is `lawful`.
-fn judges(table: &Table, line: &str, told: &str) -> Option<bool> {
-    let (seat, line) = line.split_once(' ')?;
-    let seat = seat_of(seat)?;
-    let Some(answer) = answer(line) else {
-        return None;
-    };
-    let stands = is_lawful(table, seat, &answer);
-    match judge(table, seat, &answer) {
-        Ok(()) => Some(stands && told == "lawful"),
-        Err(broken_rule) => Some(!stands && rule(broken_rule) == told),
+fn judges(table: &Table, line: &str, told: &str) -> bool {
+    let (who, line) = parted(line, ' ');
+    let who = seat(who);
+    let answer = answer(line);
+    let stands = is_lawful(table, who, &answer);
+    match judge(table, who, &answer) {
+        Ok(()) => stands && told == "lawful",
+        Err(broken_rule) => !stands && rule(broken_rule) == told,
     }
 }
 

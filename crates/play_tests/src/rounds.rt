@@ -38,8 +38,7 @@ pub(crate) fn standing(text: &str) -> Option<Standing>
     ensures { IfSome result (λ now. MayStand now) }
 {
     let [round, dealer, honba, hand, ..] = words(text);
-    let (round, dealer) = (kind(round)?, number(dealer)?);
-    let (honba, hand) = (number(honba)?, number(hand)?);
+    let (round, dealer, honba, hand) = (kind(round), number(dealer), number(honba), number(hand));
     if round.number() != 27 && round.number() != 28 || dealer > 3 || honba > 199 || hand > 199 {
         return None;
     }
@@ -51,34 +50,33 @@ pub(crate) fn standing(text: &str) -> Option<Standing>
     })
 }
 
-/// How a hand ended.
-pub(crate) fn end(text: &str) -> Option<HandEnd> {
+/// How a hand ended; abortively where no other word stands.
+pub(crate) fn end(text: &str) -> HandEnd {
     match text {
-        "dealer won" => Some(Won { dealer_among: true }),
-        "another won" => Some(Won {
+        "dealer won" => Won { dealer_among: true },
+        "another won" => Won {
             dealer_among: false,
-        }),
-        "ready" => Some(Drawn { dealer_ready: true }),
-        "not ready" => Some(Drawn {
+        },
+        "ready" => Drawn { dealer_ready: true },
+        "not ready" => Drawn {
             dealer_ready: false,
-        }),
-        "aborted" => Some(Aborted),
-        _ => None,
+        },
+        _ => Aborted,
     }
 }
 
-fn follows(line: &str) -> Option<bool> {
+fn follows(line: &str) -> bool {
     let [now, ended, next, ..] = fields(line);
-    match next_hand(&standing(now)?, end(ended)?) {
-        Some(following) => Some(following == standing(next)?),
-        None => Some(next == "over"),
+    match standing(now) {
+        Some(now) => next_hand(&now, end(ended)) == standing(next),
+        None => false,
     }
 }
 
 #[test]
 fn hands_follow_by_who_won_and_who_was_ready(rt: HostRuntime) {
     for line in HANDS.lines() {
-        assert!(rt; follows(line) == Some(true), "{line}");
+        assert!(rt; follows(line), "{line}");
     }
     assert!(rt; Some(first()) == standing("E 0 0 0"));
 }

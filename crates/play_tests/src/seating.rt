@@ -1,4 +1,4 @@
-use crate::words::{fields, number, words};
+use crate::words::{fields, number, parted, words};
 use mj_ports::{JoinLine, Key, Name, SitRefused};
 use mj_seating::{Desk, Placed};
 
@@ -32,34 +32,21 @@ a b:k -1 c b:k|back 1|a b c
 a b:k -1 b:q b b:k|back 1|a b
 a:k b:k c:k d:k -3 -0 d:k|back 3|-a b c d";
 
-fn name(text: &str) -> Option<Name> {
-    let bytes = text.as_bytes();
-    if bytes.len() > 64 {
-        return None;
-    }
-    Some(Name::of(bytes))
-}
-
-fn key(text: &str) -> Option<Key> {
-    let bytes = text.as_bytes();
-    if bytes.len() > 64 {
-        return None;
-    }
-    Some(Key::of(bytes))
-}
-
-/// The join of a name, or of a name and a key.
+/// The join of a name, or of a name and a key, each of at most 64 bytes.
 fn join(word: &str) -> Option<JoinLine> {
-    match word.split_once(':') {
-        None => Some(JoinLine {
-            name: name(word)?,
-            key: None,
-        }),
-        Some((who, by)) => Some(JoinLine {
-            name: name(who)?,
-            key: Some(key(by)?),
-        }),
+    let (name, key) = parted(word, ':');
+    if name.len() > 64 || key.len() > 64 {
+        return None;
     }
+    let has_key = name.len() < word.len();
+    Some(JoinLine {
+        name: Name::of(name.as_bytes()),
+        key: if has_key {
+            Some(Key::of(key.as_bytes()))
+        } else {
+            None
+        },
+    })
 }
 
 /// A seat leaves, which nothing answers.
@@ -72,10 +59,10 @@ fn leaves(desk: &mut Desk, seat: u8) -> Option<Placed> {
 
 /// A join of this word.
 fn sits(desk: &mut Desk, word: &str) -> Option<Placed> {
-    let Some(join) = join(word) else {
-        return None;
-    };
-    Some(desk.sit(&join))
+    match join(word) {
+        Some(join) => Some(desk.sit(&join)),
+        None => None,
+    }
 }
 
 /// Seat 0 leaves and joins so many times.
@@ -90,31 +77,25 @@ fn returns(desk: &mut Desk, times: u8, word: &str) -> Option<Placed> {
 
 /// What one word is answered.
 fn step(desk: &mut Desk, word: &str) -> Option<Placed> {
-    if let Some(("", seat)) = word.split_once('-') {
-        return leaves(desk, number(seat)?);
+    if let Some(seat) = word.strip_prefix("-") {
+        return leaves(desk, number(seat));
     }
     match word.split_once('*') {
         None => sits(desk, word),
-        Some((times, word)) => returns(desk, number(times)?, word),
+        Some((times, word)) => returns(desk, number(times), word),
     }
 }
 
 /// What an answer is called.
 fn answer(text: &str) -> Option<Placed> {
-    match text.split_once(' ') {
-        Some(("sat", seat)) => Some(Placed::Sat(number(seat)?)),
-        Some(("back", seat)) => Some(Placed::Back(number(seat)?)),
-        _ => Some(Placed::Refused(refusal(text)?)),
-    }
-}
-
-fn refusal(word: &str) -> Option<SitRefused> {
-    match word {
-        "full" => Some(SitRefused::Full),
-        "taken" => Some(SitRefused::NameTaken),
-        "keyless" => Some(SitRefused::NoKey),
-        "other" => Some(SitRefused::WrongKey),
-        "often" => Some(SitRefused::TooOften),
+    match parted(text, ' ') {
+        ("sat", seat) => Some(Placed::Sat(number(seat))),
+        ("back", seat) => Some(Placed::Back(number(seat))),
+        ("full", _) => Some(Placed::Refused(SitRefused::Full)),
+        ("taken", _) => Some(Placed::Refused(SitRefused::NameTaken)),
+        ("keyless", _) => Some(Placed::Refused(SitRefused::NoKey)),
+        ("other", _) => Some(Placed::Refused(SitRefused::WrongKey)),
+        ("often", _) => Some(Placed::Refused(SitRefused::TooOften)),
         _ => None,
     }
 }
@@ -137,24 +118,19 @@ fn is_seat(desk: &Desk, seat: u8, word: &str) -> bool {
 }
 
 fn stands(desk: &Desk, seats: &str) -> bool {
-    let words = words(seats);
-    for seat in 0..4 {
-        if !is_seat(desk, seat, words[usize::from(seat)]) {
-            return false;
-        }
-    }
-    true
+    let [a, b, c, d, ..] = words(seats);
+    is_seat(desk, 0, a) && is_seat(desk, 1, b) && is_seat(desk, 2, c) && is_seat(desk, 3, d)
 }
 
 /// Whether a line is as it says.
 fn holds(line: &str) -> bool {
-    let fields = fields(line);
+    let [words, answered, seats, ..] = fields(line);
     let mut desk = Desk::new();
     let mut last = None;
-    for word in fields[0].split_whitespace() {
+    for word in words.split_whitespace() {
         last = step(&mut desk, word);
     }
-    last.is_some() && last == answer(fields[1]) && stands(&desk, fields[2])
+    last.is_some() && last == answer(answered) && stands(&desk, seats)
 }
 
 #[test]

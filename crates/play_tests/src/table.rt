@@ -1,4 +1,3 @@
-use crate::deed_words::deed;
 use crate::play::{add, follow, reason, rules, wrong_line};
 use crate::words::{fields, tile};
 use mj_deeds::{Deed, next_seat};
@@ -429,49 +428,42 @@ game draws|S S S E|none
 game draws|S W S S|none
 game draws|F F F F|none";
 
-fn ends_so(alloc: Global, line: &str) -> Option<bool> {
+fn ends_so(alloc: Global, line: &str) -> bool {
     let [game, tiles, told, ..] = fields(line);
-    let mut table = Table::new(rules(game)).ok()?;
-    let discarded = deal(alloc, &mut table) == Some(true)
-        && discard(&mut table, tiles) == Some(true);
-    Some(discarded && reason(&table) == told)
-}
-
-/// Deals each seat three winds and a dragon.
-fn deal(alloc: Global, table: &mut Table) -> Option<bool> {
-    for line in ["game", "hand|C|ESWF|ESWF|ESWF|ESWF"] {
-        if add(table, deed(alloc, line)?) != Some(true) {
-            return None;
+    match Table::new(rules(game)) {
+        Ok(mut table) => {
+            follow(alloc, &mut table, "game")
+                && follow(alloc, &mut table, "hand|C|ESWF|ESWF|ESWF|ESWF")
+                && discard(&mut table, tiles)
+                && reason(&table) == told
         }
+        Err(_) => false,
     }
-    Some(true)
 }
 
 /// Each seat discards one of these tiles in turn.
-fn discard(table: &mut Table, tiles: &str) -> Option<bool> {
+fn discard(table: &mut Table, tiles: &str) -> bool {
+    let mut all = true;
     let mut seat = 0;
     for text in tiles.split_whitespace() {
-        let tile = tile(text)?;
-        if add(
-            table,
-            Deed::Discard {
-                seat,
-                tile,
-                drawn: false,
-            },
-        ) != Some(true)
-        {
-            return None;
-        }
+        all = all
+            && add(
+                table,
+                Deed::Discard {
+                    seat,
+                    tile: tile(text),
+                    drawn: false,
+                },
+            );
         seat = next_seat(seat);
     }
-    Some(true)
+    all
 }
 
 #[test]
 fn four_first_discards_of_one_wind_end_the_hand(rt: HostRuntime) {
     for line in FIRST_DISCARDS.lines() {
-        assert!(rt; ends_so(rt.alloc(), line) == Some(true), "{line}");
+        assert!(rt; ends_so(rt.alloc(), line), "{line}");
     }
 }
 
@@ -487,7 +479,7 @@ fn copied(alloc: Global) -> Option<(bool, u8, u8)> {
 fn copied_from(alloc: Global, table: &Table) -> Option<(bool, u8, u8)> {
     match table.copy() {
         Ok(mut copy) => {
-            let added = follow(alloc, &mut copy, "game") == Some(true);
+            let added = follow(alloc, &mut copy, "game");
             let same = copy.rules() == table.rules() && table.rules().red && added;
             Some((
                 same && table.points() == [30_000; 4],

@@ -1,6 +1,6 @@
 use crate::deed_words::{bid, deed, seats};
-use crate::words::{are, fields, number, tile, tile_or_none, words, yes};
-use mj_deeds::{Four, Reason, ShownHands, Tiles, Token, Viewer};
+use crate::words::{are, fields, number, number_or_none, parted, tile, tile_or_none, words, yes};
+use mj_deeds::{Deed, Four, Reason, ShownHands, Tiles, Token, Viewer};
 use mj_ports::Name;
 use mj_tiles::Tile;
 use mj_view::{Masked, SeenHands, mask, token};
@@ -32,23 +32,42 @@ const TOKENS: &str = "\
 0 win|1|0|5p|-1000 1000 0 0|29000 31000 30000 30000|2=1 0 5p
 1 win|1|0|5p|-1000 1000 0 0|29000 31000 30000 30000|=1 0 5p";
 
-fn has_token(alloc: Global, line: &str) -> Option<bool> {
-    let (told, wanted) = line.split_once('=')?;
-    let (seat, told) = told.split_once(' ')?;
-    let seat = number(seat)?;
-    let deed = deed(alloc, told)?;
-    match token(alloc, seat, &deed) {
-        Ok(found) => is_token(&found, wanted),
-        Err(_) => None,
+/// The viewer, the deed and what is told of it, in a line.
+pub(crate) fn seen_by(line: &str) -> (Viewer, &str, &str) {
+    let (deed, told) = parted(line, '=');
+    let (viewer, deed) = parted(deed, ' ');
+    (viewer_of(viewer), deed, told)
+}
+
+/// The seat of a number, or the record.
+fn viewer_of(text: &str) -> Viewer {
+    match number_or_none(text) {
+        Some(seat) => Viewer::Seat(seat),
+        None => Viewer::Record,
     }
 }
 
-fn is_token(found: &Token, wanted: &str) -> Option<bool> {
+fn has_token(alloc: Global, line: &str) -> bool {
+    let (viewer, told, wanted) = seen_by(line);
+    match (viewer, deed(alloc, told)) {
+        (Viewer::Seat(seat), Some(deed)) => is_told(alloc, seat, &deed, wanted),
+        _ => false,
+    }
+}
+
+fn is_told(alloc: Global, seat: u8, deed: &Deed, wanted: &str) -> bool {
+    match token(alloc, seat, deed) {
+        Ok(found) => is_token(&found, wanted),
+        Err(_) => false,
+    }
+}
+
+fn is_token(found: &Token, wanted: &str) -> bool {
     match found {
-        Token::StartGame { names } => Some(are_names(names, wanted)),
+        Token::StartGame { names } => are_names(names, wanted),
         Token::Draw { seat, tile } => is_draw(*seat, *tile, wanted),
         Token::Discard { seat, tile, drawn } => is_discard(*seat, *tile, *drawn, wanted),
-        Token::DrawnHand { reason, hands } => Some(is_drawn_hand(*reason, hands, wanted)),
+        Token::DrawnHand { reason, hands } => is_drawn_hand(*reason, hands, wanted),
         Token::StartHand { indicator, hand } => is_start(*indicator, hand, wanted),
         Token::Win {
             seat,
@@ -56,19 +75,19 @@ fn is_token(found: &Token, wanted: &str) -> Option<bool> {
             tile,
             unders,
             hand,
-        } => Some(is_win(*seat, *target, *tile, wanted)? && are_none(unders) && are_none(hand)),
-        _ => Some(false),
+        } => is_win(*seat, *target, *tile, wanted) && are_none(unders) && are_none(hand),
+        _ => false,
     }
 }
 
-fn is_draw(seat: u8, drawn: Option<Tile>, wanted: &str) -> Option<bool> {
+fn is_draw(seat: u8, drawn: Option<Tile>, wanted: &str) -> bool {
     let [who, tile, ..] = words(wanted);
-    Some(seat == number(who)? && drawn == tile_or_none(tile)?)
+    seat == number(who) && drawn == tile_or_none(tile)
 }
 
-fn is_start(indicator: Tile, hand: &Tiles, wanted: &str) -> Option<bool> {
+fn is_start(indicator: Tile, hand: &Tiles, wanted: &str) -> bool {
     let [shown, own, ..] = fields(wanted);
-    Some(indicator == tile(shown)? && are(hand.as_slice(), own))
+    indicator == tile(shown) && are(hand.as_slice(), own)
 }
 
 fn are_names(names: &Four<Name>, wanted: &str) -> bool {
@@ -79,9 +98,9 @@ fn are_names(names: &Four<Name>, wanted: &str) -> bool {
         && names.fourth.as_slice() == fourth.as_bytes()
 }
 
-fn is_discard(seat: u8, discarded: Tile, drawn: bool, wanted: &str) -> Option<bool> {
+fn is_discard(seat: u8, discarded: Tile, drawn: bool, wanted: &str) -> bool {
     let [_, _, by_draw, ..] = words(wanted);
-    Some(is_draw(seat, Some(discarded), wanted)? && drawn == yes(by_draw)?)
+    is_draw(seat, Some(discarded), wanted) && drawn == yes(by_draw)
 }
 
 fn is_drawn_hand(reason: Reason, hands: &ShownHands, wanted: &str) -> bool {
@@ -90,14 +109,14 @@ fn is_drawn_hand(reason: Reason, hands: &ShownHands, wanted: &str) -> bool {
     reason == Reason::Fanpai
         && hands.hidden(0).is_none()
         && are(hands.at(0), shown)
-        && hands.hidden(1) == number(second)
-        && hands.hidden(2) == number(third)
-        && hands.hidden(3) == number(fourth)
+        && hands.hidden(1) == number_or_none(second)
+        && hands.hidden(2) == number_or_none(third)
+        && hands.hidden(3) == number_or_none(fourth)
 }
 
-fn is_win(seat: u8, target: u8, won: Tile, wanted: &str) -> Option<bool> {
+fn is_win(seat: u8, target: u8, won: Tile, wanted: &str) -> bool {
     let [who, from, on, ..] = words(wanted);
-    Some(seat == number(who)? && target == number(from)? && won == tile(on)?)
+    seat == number(who) && target == number(from) && won == tile(on)
 }
 
 fn are_none(tiles: &Tiles) -> bool {
@@ -107,7 +126,7 @@ fn are_none(tiles: &Tiles) -> bool {
 #[test]
 fn a_token_has_the_own_tiles_alone(rt: HostRuntime) {
     for line in TOKENS.lines() {
-        assert!(rt; has_token(rt.alloc(), line) == Some(true), "{line}");
+        assert!(rt; has_token(rt.alloc(), line), "{line}");
     }
 }
 
@@ -126,54 +145,50 @@ record accepted|0|29000 30000 30000 30000|pon 1 0 E E E=pon 1 0 E E E
 2 win|1|0|5p|-1000 1000 0 0|29000 31000 30000 30000|2=none
 record win|1|0|5p|-1000 1000 0 0|29000 31000 30000 30000|2=2";
 
-fn has_mask(alloc: Global, line: &str) -> Option<bool> {
-    let (told, wanted) = line.split_once('=')?;
-    let (viewer, told) = told.split_once(' ')?;
-    let deed = deed(alloc, told)?;
-    match mask(alloc, viewer_of(viewer), &deed) {
+fn has_mask(alloc: Global, line: &str) -> bool {
+    let (viewer, told, wanted) = seen_by(line);
+    match deed(alloc, told) {
+        Some(deed) => is_masked(alloc, viewer, &deed, wanted),
+        None => false,
+    }
+}
+
+fn is_masked(alloc: Global, viewer: Viewer, deed: &Deed, wanted: &str) -> bool {
+    match mask(alloc, viewer, deed) {
         Ok(found) => is_mask(&found, wanted),
-        Err(_) => None,
+        Err(_) => false,
     }
 }
 
-/// The seat of a number, or the record.
-pub(crate) fn viewer_of(text: &str) -> Viewer {
-    match number(text) {
-        Some(seat) => Viewer::Seat(seat),
-        None => Viewer::Record,
-    }
-}
-
-fn is_mask(found: &Masked, wanted: &str) -> Option<bool> {
+fn is_mask(found: &Masked, wanted: &str) -> bool {
     match found {
         Masked::Draw { seat, tile, .. } => is_draw(*seat, *tile, wanted),
         Masked::StartHand { hands, .. } => are_hands(hands, &fields(wanted)),
-        Masked::ReachAccepted { then, .. } => Some(*then == bid(wanted)),
-        Masked::Win { rest, .. } if wanted == "none" => Some(rest.is_none()),
-        Masked::Win { rest, .. } => Some(*rest == Some(seats(wanted))),
-        _ => Some(false),
+        Masked::ReachAccepted { then, .. } if wanted == "none" => then.is_none(),
+        Masked::ReachAccepted { then, .. } => *then == Some(bid(wanted)),
+        Masked::Win { rest, .. } if wanted == "none" => rest.is_none(),
+        Masked::Win { rest, .. } => *rest == Some(seats(wanted)),
+        _ => false,
     }
 }
 
-fn are_hands(hands: &SeenHands, wanted: &[&str; 8]) -> Option<bool> {
-    Some(
-        is_hand(hands.at(0), hands.hidden(0), wanted[0])?
-            && is_hand(hands.at(1), hands.hidden(1), wanted[1])?
-            && is_hand(hands.at(2), hands.hidden(2), wanted[2])?
-            && is_hand(hands.at(3), hands.hidden(3), wanted[3])?,
-    )
+fn are_hands(hands: &SeenHands, wanted: &[&str; 8]) -> bool {
+    is_hand(hands.at(0), hands.hidden(0), wanted[0])
+        && is_hand(hands.at(1), hands.hidden(1), wanted[1])
+        && is_hand(hands.at(2), hands.hidden(2), wanted[2])
+        && is_hand(hands.at(3), hands.hidden(3), wanted[3])
 }
 
-fn is_hand(seen: &[Tile], hidden: Option<usize>, wanted: &str) -> Option<bool> {
+fn is_hand(seen: &[Tile], hidden: Option<usize>, wanted: &str) -> bool {
     match wanted.strip_prefix("hidden ") {
-        Some(text) => Some(seen.is_empty() && hidden == Some(usize::from(number(text)?))),
-        None => Some(hidden.is_none() && are(seen, wanted)),
+        Some(text) => seen.is_empty() && hidden == Some(usize::from(number(text))),
+        None => hidden.is_none() && are(seen, wanted),
     }
 }
 
 #[test]
 fn a_seat_sees_its_own_tiles_and_the_record_all(rt: HostRuntime) {
     for line in MASKS.lines() {
-        assert!(rt; has_mask(rt.alloc(), line) == Some(true), "{line}");
+        assert!(rt; has_mask(rt.alloc(), line), "{line}");
     }
 }

@@ -1,7 +1,7 @@
 use crate::words::{are, fields, number, tile, words};
 use mj_tiles::Tile;
 use mj_wall::{Rules, Setting, Wall, Walls};
-use std::alloc::Global;
+use std::alloc::{AllocError, Global};
 
 /// How many tiles of the sorted wall are read (after its 136 one C more), with tiles put into places, in a game with
 /// red fives or without; and the place that is wrong, if it is no wall.
@@ -18,75 +18,75 @@ const WALLS: &str = "\
 136|19 5mr 55 5pr 91 5sr|red|wall
 136|19 5mr 55 5pr 91 5sr|plain|19";
 
-/// The sorted wall, four of each kind, and one tile more, with tiles put into places.
-fn changed(changes: &str) -> Option<[Tile; 137]> {
-    let mut tiles = [tile("C")?; 137];
-    for place in 0..136 {
-        tiles[place] = Tile::of(place as u8 / 4)?;
+/// The sorted wall, four of each kind, and one C more, with tiles put into places.
+fn changed(changes: &str) -> [Tile; 137] {
+    let mut tiles = [Tile::at(33); 137];
+    for place in 0..136u8 {
+        tiles[usize::from(place)] = Tile::at(place / 4);
     }
     let [p, a, q, b, r, c, ..] = words(changes);
     for (place, text) in [(p, a), (q, b), (r, c)] {
-        if let Some(place) = number(place) {
-            *tiles.get_mut(usize::from(place))? = tile(text)?;
+        if !text.is_empty() && number(place) < 137 {
+            tiles[usize::from(number(place))] = tile(text);
         }
     }
-    Some(tiles)
+    tiles
 }
 
-fn is_read(line: &str) -> Option<bool> {
+fn is_read(line: &str) -> bool {
     let [length, changes, red, wanted, ..] = fields(line);
-    let tiles = changed(changes)?;
-    let tiles = tiles.get(..usize::from(number(length)?))?;
-    match Wall::read(tiles, red == "red") {
-        Ok(_) => Some(wanted == "wall"),
-        Err(e) => Some(number(wanted).map(u32::from) == Some(e.place)),
+    let tiles = changed(changes);
+    match Wall::read(&tiles[..usize::from(number(length).min(137))], red == "red") {
+        Ok(_) => wanted == "wall",
+        Err(e) => wanted.parse() == Ok(e.place),
     }
 }
 
 #[test]
 fn tiles_that_are_no_wall_show_the_place(rt: HostRuntime) {
     for line in WALLS.lines() {
-        assert!(rt; is_read(line) == Some(true), "{line}");
+        assert!(rt; is_read(line), "{line}");
     }
 }
 
 /// Whether the tiles of the sorted wall come from their places.
-fn takes() -> Option<bool> {
-    let tiles = changed("")?;
-    let wall = Wall::read(&tiles[..136], false).ok()?;
+fn takes(wall: &Wall) -> bool {
     let dealt = are(&[wall.dealt(1, 0), wall.dealt(3, 12)], "4m 4p");
     let drawn = are(
         &[wall.draw(0), wall.draw(69), wall.replacement(3)],
         "5p N C",
     );
     let shown = [wall.indicator(0), wall.indicator(4), wall.under(1)];
-    Some(dealt && drawn && are(&shown, "F N F") && wall.tiles() == &tiles[..136])
+    dealt && drawn && are(&shown, "F N F") && wall.tiles() == &changed("")[..136]
 }
 
-/// Whether a setting has just the wall that it was given.
-fn has_its_wall(alloc: Global) -> Option<bool> {
-    let tiles = changed("")?;
-    let wall = Wall::read(&tiles[..136], false).ok()?;
-    let mut walls = Vec::new(alloc);
-    walls.push(wall).ok()?;
+/// Whether a setting has just the wall that it is given.
+fn has_its_wall(alloc: Global, wall: Wall) -> Result<bool, AllocError> {
     let setting = Setting {
-        walls: Walls::from_vec(walls),
+        walls: Walls::from_vec(vec![in alloc; wall]?),
         rules: Rules {
             limit: 1,
             draws: false,
             red: false,
         },
     };
-    let [kept] = setting.walls.as_slice() else {
-        return None;
-    };
-    Some(kept.tiles() == &tiles[..136])
+    match setting.walls.as_slice() {
+        [kept] => Ok(takes(kept)),
+        _ => Ok(false),
+    }
+}
+
+fn are_in_place(alloc: Global) -> Result<bool, AllocError> {
+    match Wall::read(&changed("")[..136], false) {
+        Ok(wall) => has_its_wall(alloc, wall),
+        Err(_) => Ok(false),
+    }
 }
 
 #[test]
-fn tiles_are_taken_from_their_places(rt: HostRuntime) {
-    assert!(rt; takes() == Some(true));
-    assert!(rt; has_its_wall(rt.alloc()) == Some(true));
+fn tiles_are_taken_from_their_places(rt: HostRuntime) -> Result<(), AllocError> {
+    assert!(rt; are_in_place(rt.alloc())?);
+    Ok(())
 }
 
 /// A wall of the seed that has 7 in its first byte and then zeros, with red fives or without: its number, and its tiles in
@@ -112,19 +112,31 @@ fn has_tiles(wall: &Wall, text: &str) -> bool {
 }
 
 /// Whether the wall of a number, alone and among the first of the seed, has the tiles.
-fn is_shuffled(alloc: Global, line: &str) -> Option<bool> {
+fn is_shuffled(alloc: Global, line: &str) -> bool {
     let [n, red, wanted, ..] = fields(line);
-    let (n, red) = (number(n)?, red == "red");
     let mut seed = [0; 32];
     seed[0] = 7;
-    let walls = Walls::shuffled(alloc, seed, 2, red).ok()?;
-    let wall = walls.as_slice().get(usize::from(n))?;
-    Some(has_tiles(&Wall::shuffled(seed, u64::from(n), red), wanted) && has_tiles(wall, wanted))
+    match Walls::shuffled(alloc, seed, 2, red == "red") {
+        Ok(walls) => {
+            has_tiles(
+                &Wall::shuffled(seed, u64::from(number(n)), red == "red"),
+                wanted,
+            ) && wall_has_tiles(walls.as_slice().get(usize::from(number(n))), wanted)
+        }
+        Err(_) => false,
+    }
+}
+
+fn wall_has_tiles(wall: Option<&Wall>, wanted: &str) -> bool {
+    match wall {
+        Some(wall) => has_tiles(wall, wanted),
+        None => false,
+    }
 }
 
 #[test]
 fn a_seed_gives_its_walls(rt: HostRuntime) {
     for line in SHUFFLED.lines() {
-        assert!(rt; is_shuffled(rt.alloc(), line) == Some(true), "{line}");
+        assert!(rt; is_shuffled(rt.alloc(), line), "{line}");
     }
 }

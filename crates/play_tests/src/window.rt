@@ -1,6 +1,6 @@
 use crate::deed_words::{answer, bid, deed};
 use crate::play::name;
-use crate::words::{fields, number, words};
+use crate::words::{fields, number, number_or_none, parted, words};
 use mj_deeds::{Answer, Bid, Four};
 use mj_window::{Decision, Seats, Window, decide};
 use std::alloc::Global;
@@ -30,79 +30,71 @@ added 2 7m 7m 7m 7m|||||pass
 draw 2 1p|ron 0 2||ron 2 2|cut 3 1p|act ron 2 2
 dora 1p||cut 1 1p|||pass";
 
-fn said(field: &str) -> Option<Answer> {
+fn said(field: &str) -> Answer {
     if field.is_empty() {
-        return Some(Answer::Pass { actor: None });
+        Answer::Pass { actor: None }
+    } else {
+        answer(field)
     }
-    answer(field)
 }
 
-/// The answers in four fields of a line.
-fn answers(fields: &[&str; 8]) -> Option<Four<Answer>> {
-    Some(Four {
-        first: said(fields[1])?,
-        second: said(fields[2])?,
-        third: said(fields[3])?,
-        fourth: said(fields[4])?,
-    })
-}
-
-/// A decision: `pass`, a call, or the act of the seat that its answer names.
-fn decision(text: &str) -> Option<Decision> {
-    match text.split_once(' ') {
-        None => Some(Decision::Pass),
-        Some(("call", line)) => Some(Decision::Call(bid(line)?)),
-        Some(("rons", seats)) => Some(Decision::Rons(winners(seats)?)),
-        Some((_, line)) => Some(Decision::Act(actor(line)?, answer(line)?)),
+/// A decision: `pass`, a call, the winners, or the act of the seat that its answer names.
+fn decision(text: &str) -> Decision {
+    match parted(text, ' ') {
+        ("call", line) => Decision::Call(bid(line)),
+        ("rons", seats) => Decision::Rons(winners(seats)),
+        ("act", line) => Decision::Act(number(words(line)[1]), answer(line)),
+        _ => Decision::Pass,
     }
 }
 
 /// The seats that win.
-fn winners(text: &str) -> Option<Seats> {
+fn winners(text: &str) -> Seats {
     let [first, second, third, ..] = words(text);
-    Some(Seats {
-        first: number(first)?,
-        second: number(second),
-        third: number(third),
-    })
+    Seats {
+        first: number(first),
+        second: number_or_none(second),
+        third: number_or_none(third),
+    }
 }
 
-fn actor(line: &str) -> Option<u8> {
-    number(line.split_once(' ')?.1.split_once(' ')?.0)
-}
-
-fn decides(alloc: Global, line: &str) -> Option<bool> {
-    let fields = fields(line);
-    let last = deed(alloc, fields[0])?;
-    match (answers(&fields), decision(fields[5])) {
-        (Some(answers), Some(wanted)) => Some(decide(&last, &answers) == wanted),
-        _ => None,
+fn decides(alloc: Global, line: &str) -> bool {
+    let [last, first, second, third, fourth, told, ..] = fields(line);
+    let answers = Four {
+        first: said(first),
+        second: said(second),
+        third: said(third),
+        fourth: said(fourth),
+    };
+    match deed(alloc, last) {
+        Some(last) => decide(&last, &answers) == decision(told),
+        None => false,
     }
 }
 
 #[test]
 fn a_pon_or_a_kan_comes_before_a_chi_and_who_drew_acts(rt: HostRuntime) {
     for line in DECISIONS.lines() {
-        assert!(rt; decides(rt.alloc(), line) == Some(true), "{line}");
+        assert!(rt; decides(rt.alloc(), line), "{line}");
     }
 }
 
-/// The word for the deed that a bid becomes.
-fn becomes(line: &str) -> Option<&'static str> {
-    let deed = bid(line)?.deed();
-    Some(name(deed.as_ref()))
+/// Whether a bid becomes the deed of this word, and none becomes none.
+fn becomes(bid: Bid, word: &str) -> bool {
+    let deed = bid.deed();
+    name(deed.as_ref()) == word
 }
 
 #[test]
 fn a_bid_becomes_its_call(rt: HostRuntime) {
-    for (line, word) in [
-        ("chi 1 0 7m 5m 6m", "chi"),
-        ("pon 2 0 7m 7m 7m", "pon"),
-        ("open 3 0 7m 7m 7m 7m", "open"),
+    for line in [
+        "chi 1 0 7m 5m 6m",
+        "pon 2 0 7m 7m 7m",
+        "open 3 0 7m 7m 7m 7m",
+        "none",
     ] {
-        assert!(rt; becomes(line) == Some(word), "{line}");
+        assert!(rt; becomes(bid(line), words(line)[0]), "{line}");
     }
-    assert!(rt; Bid::NoBid.deed().is_none());
 }
 
 /// A window that these seats have passed in.
@@ -125,32 +117,40 @@ fn held(window: &Window) -> [bool; 4] {
     held
 }
 
-#[test]
-fn a_slot_holds_the_answer_of_its_seat(rt: HostRuntime) {
-    for seats in [
-        [false; 4],
-        [false, false, true, false],
-        [true, false, false, true],
-    ] {
-        assert_eq!(rt; held(&passed_by(seats)), seats);
-    }
+/// Whether just these seats hold their answers, and with these seats present the window closes or not.
+fn is_window(answered: [bool; 4], present: [bool; 4], closes: bool) -> bool {
+    let window = passed_by(answered);
+    held(&window) == answered && window.ready_to_close(present) == closes
 }
+
+const NOBODY: [bool; 4] = [false; 4];
+
+const FIRST: [bool; 4] = [true, false, false, false];
+
+const TWO: [bool; 4] = [true, true, false, false];
+
+const THREE: [bool; 4] = [true, true, true, false];
+
+const ALL: [bool; 4] = [true; 4];
+
+/// The seats that have answered, those that are present, and whether the window closes.
+const WINDOWS: [([bool; 4], [bool; 4], bool); 11] = [
+    (NOBODY, NOBODY, false),
+    (NOBODY, FIRST, false),
+    (FIRST, FIRST, true),
+    (FIRST, TWO, false),
+    (FIRST, NOBODY, false),
+    (THREE, ALL, false),
+    (THREE, THREE, true),
+    (ALL, ALL, true),
+    (ALL, TWO, true),
+    ([false, false, true, false], ALL, false),
+    ([true, false, false, true], FIRST, true),
+];
 
 #[test]
 fn a_window_closes_once_each_present_seat_has_answered(rt: HostRuntime) {
-    let (nobody, first, all) = ([false; 4], [true, false, false, false], [true; 4]);
-    let (two, three) = ([true, true, false, false], [true, true, true, false]);
-    for (answered, present, closes) in [
-        (nobody, nobody, false),
-        (nobody, first, false),
-        (first, first, true),
-        (first, two, false),
-        (first, nobody, false),
-        (three, all, false),
-        (three, three, true),
-        (all, all, true),
-        (all, two, true),
-    ] {
-        assert_eq!(rt; passed_by(answered).ready_to_close(present), closes);
+    for (answered, present, closes) in WINDOWS {
+        assert!(rt; is_window(answered, present, closes));
     }
 }

@@ -1,5 +1,7 @@
 //! Numbers, tiles and kinds as texts, read for the tests.
 
+ghost use Rattle.std.specs.Prelude.{◌≤◌};
+
 use mj_deeds::Tiles;
 use mj_tiles::{Counts, Kind, Kinds, Tile};
 use std::alloc::Global;
@@ -26,53 +28,85 @@ pub(crate) fn words(line: &str) -> [&str; 8] {
     words
 }
 
-/// A number below 256.
-pub(crate) fn number(text: &str) -> Option<u8> {
+/// What stands before the first mark of a line and behind it.
+pub(crate) fn parted(line: &str, mark: char) -> (&str, &str) {
+    match line.split_once(mark) {
+        Some(parts) => parts,
+        None => (line, ""),
+    }
+}
+
+/// A number below 256, or none.
+pub(crate) fn number_or_none(text: &str) -> Option<u8> {
     text.parse().ok()
 }
 
+/// A number below 256; 255 where there is none.
+pub(crate) fn number(text: &str) -> u8 {
+    match text.parse() {
+        Ok(number) => number,
+        Err(_) => 255,
+    }
+}
+
+/// A seat, 3 where there is no lower one.
+pub(crate) fn seat(text: &str) -> u8
+    ensures { result ≤ 3 }
+{
+    match text {
+        "0" => 0,
+        "1" => 1,
+        "2" => 2,
+        _ => 3,
+    }
+}
+
 /// Four numbers, below zero with `-`.
-pub(crate) fn points(text: &str) -> Option<[i32; 4]> {
-    let [a, b, c, d, ..] = words(text);
-    Some([
-        a.parse().ok()?,
-        b.parse().ok()?,
-        c.parse().ok()?,
-        d.parse().ok()?,
-    ])
+pub(crate) fn points(text: &str) -> [i32; 4] {
+    let mut points = [i32::MIN; 4];
+    for (place, word) in text.split_whitespace().enumerate() {
+        if place < 4 {
+            points[place] = signed(word);
+        }
+    }
+    points
 }
 
-/// `yes` or `no` four times.
-pub(crate) fn truths(text: &str) -> Option<[bool; 4]> {
-    let [a, b, c, d, ..] = words(text);
-    Some([yes(a)?, yes(b)?, yes(c)?, yes(d)?])
+/// A number that may be below zero; the least one where there is none.
+fn signed(text: &str) -> i32 {
+    match text.parse() {
+        Ok(number) => number,
+        Err(_) => i32::MIN,
+    }
 }
 
-/// The tile of a text, as `1m`, `5mr` or `E`.
-pub(crate) fn tile(text: &str) -> Option<Tile> {
+/// Whether each of the first four words is `yes`.
+pub(crate) fn truths(text: &str) -> [bool; 4] {
+    let [a, b, c, d, ..] = words(text);
+    [yes(a), yes(b), yes(c), yes(d)]
+}
+
+/// The tile of a text, as `1m`, `5mr` or `E`; 5sr where there is none.
+pub(crate) fn tile(text: &str) -> Tile {
+    match tile_or_none(text) {
+        Some(tile) => tile,
+        None => Tile::at(36),
+    }
+}
+
+/// The tile of a text, or none.
+pub(crate) fn tile_or_none(text: &str) -> Option<Tile> {
     Tile::read(text.as_bytes())
 }
 
-/// The same, or `none`.
-pub(crate) fn tile_or_none(text: &str) -> Option<Option<Tile>> {
-    if text == "none" {
-        return Some(None);
-    }
-    Some(Some(tile(text)?))
-}
-
 /// The kind of the tile of a text.
-pub(crate) fn kind(text: &str) -> Option<Kind> {
-    Some(tile(text)?.kind())
+pub(crate) fn kind(text: &str) -> Kind {
+    tile(text).kind()
 }
 
-/// `yes` or `no`.
-pub(crate) fn yes(text: &str) -> Option<bool> {
-    match text {
-        "yes" => Some(true),
-        "no" => Some(false),
-        _ => None,
-    }
+/// Whether a text is `yes`.
+pub(crate) fn yes(text: &str) -> bool {
+    text == "yes"
 }
 
 /// Tiles that stand suit by suit, with 0 for a red five and each honour by its letter, as `123m 055p EES`. They come
@@ -89,8 +123,8 @@ pub(crate) fn tiles(alloc: Global, text: &str) -> Option<Tiles> {
     Tiles::sorted(alloc, items.as_slice()).ok()
 }
 
-/// How often each kind stands among such tiles.
-pub(crate) fn counts(text: &str) -> Option<Counts> {
+/// How often each kind stands among such tiles; none does where one stands more than four times.
+pub(crate) fn counts(text: &str) -> Counts {
     let mut numbers = [0; 34];
     let mut suit = 0;
     for byte in text.as_bytes().iter().rev() {
@@ -100,7 +134,10 @@ pub(crate) fn counts(text: &str) -> Option<Counts> {
             numbers[place] = more(numbers[place]);
         }
     }
-    Counts::of(numbers)
+    match Counts::of(numbers) {
+        Some(counts) => counts,
+        None => Counts::from_numbers([0; 34]),
+    }
 }
 
 fn more(number: u8) -> u8 {
@@ -143,7 +180,7 @@ fn tile_in(byte: u8, suit: u8) -> Option<Tile> {
 pub(crate) fn are(tiles: &[Tile], text: &str) -> bool {
     let mut number: usize = 0;
     for word in text.split_whitespace() {
-        if tiles.get(number).copied() != tile(word) {
+        if tiles.get(number).copied() != tile_or_none(word) {
             return false;
         }
         number = number.saturating_add(1);
