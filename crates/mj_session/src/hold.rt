@@ -4,12 +4,21 @@ ghost use Rattle.std.specs.Prelude.{◌≡◌, ◌<◌, ℕ, false, [], Some, Al
 ghost use Rattle.mj_connection.specs.Seating.{LeftAlone};
 ghost use Rattle.mj_ports.specs.Entries.{author_of};
 ghost use Rattle.mj_session.specs.Histories.{Enters};
+ghost use Rattle.mj_session.specs.Waits.{progress_of};
 ghost use Rattle.turn_lock.specs.Notes.{Follows};
 ghost use Rattle.turn_lock.specs.Turns.{IsIdle, IsBusy, IsSeenIn, taken, given};
 
 use crate::shared_game::SharedGame;
 use std::sync::Wait;
 use turn_lock::{Held, Pass, Turn};
+
+/// How far a game is, as those who wait for a change see it.
+#[derive(Clone, Copy, PartialEq, Eq)]
+pub struct Progress {
+    pub deeds: u32,
+    pub window: Option<u32>,
+    pub over: bool,
+}
 
 /// Takes the table in its turn. Since the pass gave it back, others entered what they entered.
 pub fn take<T: SharedGame, R: Wait>(turn: &Turn<T>, rt: &R, pass: &mut Pass<T>) -> Held<T>
@@ -57,8 +66,19 @@ pub fn give_unchanged<T: SharedGame>(
     turn.give_unchanged(pass, held);
 }
 
-/// Gives the table back, with at most one entry more, of the pass's number, and with none where nothing was changed. Then
-/// nobody who waits for a change is woken, but by the mark where memory was wanting.
+/// How far the game is now.
+pub fn progress_of<T: SharedGame>(table: &T) -> Progress
+    ensures { result ≡ progress_of (T.after (T.Seated.setting table.now) (T.history table.now)) }
+{
+    Progress {
+        deeds: table.deeds(),
+        window: table.open(),
+        over: table.over(),
+    }
+}
+
+/// Gives the table back as `give` does. Nobody who waits for a change is woken where nothing was changed that any of them
+/// waits for, and memory wasn't wanting.
 pub fn give_back<T: SharedGame>(
     turn: &Turn<T>,
     pass: &mut Pass<T>,
@@ -69,13 +89,15 @@ pub fn give_back<T: SharedGame>(
     requires busy { IsBusy T.Noted.setting turn.now pass.old }
     requires setting { T.Seated.setting held ≡ T.Noted.setting turn.now.opening }
     requires entries { Follows author_of pass.old.number pass.old.seen (T.history held) }
-    requires same { changed ≡ false → T.history held ≡ pass.old.seen }
+    requires same { changed ≡ false
+        → progress_of (T.after (T.Noted.setting turn.now.opening) (T.history held))
+        ≡ progress_of (T.after (T.Noted.setting turn.now.opening) pass.old.seen) }
     ensures { pass.new ≡ given pass.old (T.history held) (if wanting then T.dried held else held) }
 {
-    if changed {
+    if changed || wanting {
         give(turn, pass, held, wanting);
     } else {
-        give_unchanged(turn, pass, held, wanting);
+        turn.give_quietly(pass, held);
     }
 }
 

@@ -109,8 +109,9 @@ fn play<T: SharedGame, L: Link, R: Wait>(
     unreachable!()
 }
 
-// Lets a connection that is open do what it waits for: it hears its next line, or looks for what it is to be told. Where
-// that isn't due yet, and the game isn't over for it, this waits until others have changed something.
+// Lets a connection that is open do what it waits for: it hears its next line, or looks for what it is to be told. One that
+// has a seat and nothing to answer looked in its last turn, and found nothing: it waits first until others have changed
+// something.
 fn go_on<T: SharedGame, L: Link, R: Wait>(
     turn: &Turn<T>,
     rt: &R,
@@ -131,11 +132,13 @@ fn go_on<T: SharedGame, L: Link, R: Wait>(
     match talk.connection {
         Connection::Greeted => hear_next(turn, rt, pass, wire, talk),
         Connection::Asked(_) => hear_next(turn, rt, pass, wire, talk),
+        Connection::Free(_) => {
+            turn.await_change(rt, pass);
+            in_turn(turn, rt, pass, Doing::Look, talk);
+            send(turn, rt, pass, wire, talk)
+        }
         _ => {
             in_turn(turn, rt, pass, Doing::Look, talk);
-            if let Connection::Free(_) = talk.connection {
-                turn.await_change(rt, pass);
-            }
             send(turn, rt, pass, wire, talk)
         }
     }

@@ -1,9 +1,10 @@
 // A turn of a session: the table is taken, the connection does one thing, and the table is given back.
-ghost use Rattle.std.specs.Prelude.{◌≡◌, ◌⊎◌, [], false};
-ghost use Rattle.mj_connection.specs.Spoken.{Takes};
-ghost use Rattle.mj_connection.specs.Stages.{Fits};
+ghost use Rattle.std.specs.Prelude.{◌≡◌, [], ◌∷◌};
+ghost use Rattle.mj_connection.specs.Seating.{AddsOne};
+ghost use Rattle.mj_connection.specs.Spoken.{Takes, IsQuiet};
+ghost use Rattle.mj_connection.specs.Stages.{Fits, Listens};
+ghost use Rattle.mj_connection.specs.declared.stage.Connection.TheVariants.{Greeted};
 ghost use Rattle.mj_ports.specs.Entries.{author_of};
-ghost use Rattle.mj_session.specs.declared.talk.Doing.TheVariants.{Look, Cut};
 ghost use Rattle.mj_session.specs.Inner.Talks.{CanDo, Leaves, heard_by, ended_of};
 ghost use Rattle.turn_lock.specs.Notes.{Follows};
 ghost use Rattle.turn_lock.specs.Turns.{IsIdle};
@@ -89,10 +90,12 @@ pub(crate) fn turn_with<T: SharedGame, R: Wait>(
 {
     let number = pass.number();
     let mut held = hold::take(turn, rt, pass);
+    let before = hold::progress_of(held.value());
     text.clear();
     *connection = act(held.value(), number, doing, *connection, line, text);
     let wanting = matches!(ended_of(*connection, Ended::GameOver), Ended::NoMemory);
-    hold::give_back(turn, pass, held, wanting, may_change(doing));
+    let changed = hold::progress_of(held.value()) != before;
+    hold::give_back(turn, pass, held, wanting, changed);
 }
 
 // Does one thing, which tells something after what the text has. A table that is marked cuts the connection off.
@@ -108,7 +111,6 @@ fn act<T: SharedGame>(
         (T.after (T.Seated.setting table.old) (T.history table.old)) }
     ensures setting { T.Seated.setting table.new ≡ T.Seated.setting table.old }
     ensures entries { Follows author_of author (T.history table.old) (T.history table.new) }
-    ensures same { (doing ≡ Look) ⊎ (doing ≡ Cut) → T.history table.new ≡ T.history table.old }
     ensures takes { Takes T.Seated (T.Seated.setting table.old) author connection result
         (T.history table.old) (T.history table.new) text.old.items text.new.items
         (heard_by doing line.now) }
@@ -120,21 +122,33 @@ fn act<T: SharedGame>(
     }
     match doing {
         Doing::Look => connection.look(table, text),
-        Doing::Hear => connection.hear(table, author, line, text),
+        Doing::Hear => hear_on(table, author, connection, line, text),
         Doing::Lose => connection.lose(table, author, text),
         Doing::Cut => connection.cut(),
     }
 }
 
-// Whether something may be entered by it.
-fn may_change(doing: Doing) -> bool
-    ensures { result ≡ false → (doing ≡ Look) ⊎ (doing ≡ Cut) }
+// Lets a line be heard, and then looks at once for what is to be told, where nothing else is waited for.
+fn hear_on<T: SharedGame>(
+    table: &mut T,
+    author: u8,
+    connection: Connection,
+    line: &[u8],
+    text: &mut Vec<u8>,
+) -> Connection
+    requires listens { Listens connection }
+    requires fits { Fits connection author
+        (T.after (T.Seated.setting table.old) (T.history table.old)) }
+    ensures setting { T.Seated.setting table.new ≡ T.Seated.setting table.old }
+    ensures adds { AddsOne author (T.history table.old) (T.history table.new) }
+    ensures takes { Takes T.Seated (T.Seated.setting table.old) author connection result
+        (T.history table.old) (T.history table.new) text.old.items text.new.items (line.now ∷ []) }
+    ensures quiet { IsQuiet (connection ≡ Greeted) result text.old.items text.new.items }
 {
-    match doing {
-        Doing::Look => false,
-        Doing::Hear => true,
-        Doing::Lose => true,
-        Doing::Cut => false,
+    let heard = connection.hear(table, author, line, text);
+    match heard {
+        Connection::Free(_) => heard.look(table, text),
+        _ => heard,
     }
 }
 
