@@ -6,6 +6,7 @@ pub use Rattle.mj_connection.specs.Seating.{Entry, JoinLine, SitAnswer, Heard, C
 use Rattle.mj_ports.specs.declared.entry.Entry.TheVariants.{Gone}
 use Rattle.mj_ports.specs.declared.answers.SitAnswer.TheVariants as sit
 use Rattle.mj_ports.specs.declared.answers.Control.TheVariants as control
+use Rattle.mj_ports.specs.declared.seated.Seated.{Ghosts}
 use Rattle.mj_ports.specs.Seats.{script}
 pub use Rattle.mj_session.specs.declared.served.Ended.{Ended}
 pub use Rattle.mj_session.specs.declared.served.Ended.TheVariants.{GameOver, PeerEnded, LinkFault, LineTooLong, TooManyRefusals, NotSeated, NoMemory}
@@ -103,5 +104,6 @@ module _ {A R : Type 0} (after : List (Entry A) → Showing) (reads : List ℕ �
   SessionAt author old new x y ended None = SeatlessSession sits says author old new x y ended
   SessionAt author old new x y ended (Some place) = SeatedSession author old new x y ended place
 
-  abbrev pub Session : ℕ → List (Entry A) → List (Entry A) → WireState → WireState → Served → Type 0
-  Session author old new x y served = SessionAt author old new x y served.ended served.place
+-- The session of a link, of a game with this setting.
+abbrev pub Session : {G S A R : Type 0} → Ghosts G S A R → S → ℕ → List (Entry A) → List (Entry A) → WireState → WireState → Served → Type 0
+Session g s author old new x y served = SessionAt (g.after s) g.reads g.joins (g.sits s) (g.hears s) g.says author old new x y served.ended served.place

@@ -3,7 +3,7 @@
 ghost use Rattle.std.specs.Prelude.{◌≡◌, [], ◌∷◌};
 ghost use Rattle.mj_ports.specs.declared.answers.Control.TheVariants.{Hello};
 ghost use Rattle.mj_session.specs.Sessions.{Session};
-ghost use Rattle.mj_session.specs.Wires.{WireState, Took, Wrote, at_wire};
+ghost use Rattle.mj_session.specs.Wires.{WireState, Took, Wrote, wire_state};
 ghost use Rattle.turn_lock.specs.Turns.{IsIdle};
 
 use crate::serve::join_on;
@@ -29,14 +29,10 @@ pub fn serve_joined<T: SharedGame, L: Link, R: Wait>(
     requires { IsIdle T.Noted.setting turn.now pass.old }
     ensures idle { IsIdle T.Noted.setting turn.now pass.new × (pass.new.number ≡ pass.old.number) }
     ensures session { (x : WireState)
-        → Took x (at_wire L.was_read L.left L.written L.read_faults L.write_faults wire.old)
-        (line.now ∷ []) []
-        → Wrote x (at_wire L.was_read L.left L.written L.read_faults L.write_faults wire.old)
-        (T.says Hello)
-        → Session (T.after (T.Noted.setting turn.now.opening)) T.reads T.joins
-        (T.sits (T.Noted.setting turn.now.opening)) (T.hears (T.Noted.setting turn.now.opening))
-        T.says pass.old.number pass.old.seen pass.new.seen x
-        (at_wire L.was_read L.left L.written L.read_faults L.write_faults wire.new) result }
+        → Took x (wire_state L.Link wire.old) (line.now ∷ []) []
+        → Wrote x (wire_state L.Link wire.old) (T.says Hello)
+        → Session T.Seated (T.Noted.setting turn.now.opening) pass.old.number pass.old.seen
+        pass.new.seen x (wire_state L.Link wire.new) result }
 {
     let mut talk = Talk {
         connection: Connection::Greeted,

@@ -7,7 +7,7 @@ ghost use Rattle.mj_connection.specs.Stages.{Fits};
 ghost use Rattle.mj_session.specs.declared.talk.Doing.TheVariants.{Look, Hear};
 ghost use Rattle.mj_session.specs.Sessions.{Session};
 ghost use Rattle.mj_session.specs.Inner.Talks.{CanDo, Ends, Goes};
-ghost use Rattle.mj_session.specs.Wires.{WireState, Took, Wrote, at_wire};
+ghost use Rattle.mj_session.specs.Wires.{WireState, Took, Wrote, wire_state};
 ghost use Rattle.turn_lock.specs.Turns.{IsIdle};
 
 use crate::served::{Ended, Served};
@@ -31,11 +31,9 @@ pub fn serve_seat<T: SharedGame, L: Link, R: Wait>(
 ) -> Served
     requires { IsIdle T.Noted.setting turn.now pass.old }
     ensures idle { IsIdle T.Noted.setting turn.now pass.new × (pass.new.number ≡ pass.old.number) }
-    ensures session { Session (T.after (T.Noted.setting turn.now.opening)) T.reads T.joins
-        (T.sits (T.Noted.setting turn.now.opening)) (T.hears (T.Noted.setting turn.now.opening))
-        T.says pass.old.number pass.old.seen pass.new.seen
-        (at_wire L.was_read L.left L.written L.read_faults L.write_faults wire.old)
-        (at_wire L.was_read L.left L.written L.read_faults L.write_faults wire.new) result }
+    ensures session { Session T.Seated (T.Noted.setting turn.now.opening) pass.old.number
+        pass.old.seen pass.new.seen (wire_state L.Link wire.old) (wire_state L.Link wire.new)
+        result }
 {
     let mut talk = Talk {
         connection: Connection::New,
@@ -62,13 +60,10 @@ pub(crate) fn join_on<T: SharedGame, L: Link, R: Wait>(
     requires greeted { talk.old.connection ≡ Greeted }
     ensures idle { IsIdle T.Noted.setting turn.now pass.new × (pass.new.number ≡ pass.old.number) }
     ensures ends { (x : WireState)
-        → Took x (at_wire L.was_read L.left L.written L.read_faults L.write_faults wire.old)
-        (line.now ∷ []) []
-        → Wrote x (at_wire L.was_read L.left L.written L.read_faults L.write_faults wire.old)
-        (T.says Hello)
+        → Took x (wire_state L.Link wire.old) (line.now ∷ []) []
+        → Wrote x (wire_state L.Link wire.old) (T.says Hello)
         → Ends T.Seated (T.Noted.setting turn.now.opening) pass.old.number pass.old.seen result
-        talk.new.connection pass.new.seen x
-        (at_wire L.was_read L.left L.written L.read_faults L.write_faults wire.new) }
+        talk.new.connection pass.new.seen x (wire_state L.Link wire.new) }
 {
     turn_with(
         turn,
@@ -99,7 +94,7 @@ fn play<T: SharedGame, L: Link, R: Wait>(
     ensures idle { IsIdle T.Noted.setting turn.now pass.new × (pass.new.number ≡ pass.old.number) }
     ensures goes { Goes T.Seated (T.Noted.setting turn.now.opening) pass.old.number (Some result)
         talk.old.connection talk.new.connection pass.old.seen pass.new.seen []
-        (at_wire L.was_read L.left L.written L.read_faults L.write_faults) wire.old wire.new }
+        (wire_state L.Link) wire.old wire.new }
 {
     for _ in rt.forever() {
         if let Some(ended) = go_on(turn, rt, pass, wire, talk) {
@@ -127,7 +122,7 @@ fn go_on<T: SharedGame, L: Link, R: Wait>(
         (T.after (T.Noted.setting turn.now.opening) pass.new.seen)) }
     ensures goes { Goes T.Seated (T.Noted.setting turn.now.opening) pass.old.number result
         talk.old.connection talk.new.connection pass.old.seen pass.new.seen []
-        (at_wire L.was_read L.left L.written L.read_faults L.write_faults) wire.old wire.new }
+        (wire_state L.Link) wire.old wire.new }
 {
     match talk.connection {
         Connection::Greeted => hear_next(turn, rt, pass, wire, talk),
@@ -160,7 +155,7 @@ fn hear_next<T: SharedGame, L: Link, R: Wait>(
         (T.after (T.Noted.setting turn.now.opening) pass.new.seen)) }
     ensures goes { Goes T.Seated (T.Noted.setting turn.now.opening) pass.old.number result
         talk.old.connection talk.new.connection pass.old.seen pass.new.seen []
-        (at_wire L.was_read L.left L.written L.read_faults L.write_faults) wire.old wire.new }
+        (wire_state L.Link) wire.old wire.new }
 {
     match wire.read_line(&mut talk.line) {
         LineRead::Line => {
@@ -202,7 +197,7 @@ fn send<T: SharedGame, L: Link, R: Wait>(
         (T.after (T.Noted.setting turn.now.opening) pass.new.seen)) }
     ensures goes { Goes T.Seated (T.Noted.setting turn.now.opening) pass.old.number result
         talk.old.connection talk.new.connection pass.old.seen pass.new.seen talk.old.text.items
-        (at_wire L.was_read L.left L.written L.read_faults L.write_faults) wire.old wire.new }
+        (wire_state L.Link) wire.old wire.new }
 {
     match talk.connection.end() {
         Some(_) => {
