@@ -3,11 +3,11 @@ use Rattle.std.proofs.Common.{ℕ, List, refl, arith, inl}
 use Rattle.std.specs.Prelude.{Option}
 use Rattle.std.proofs.KnownBytes.{Keeps-refl}
 use Rattle.mj_front.specs.declared.hand.HandLinesEnd.TheVariants as hands
-use Rattle.mj_front.specs.declared.keep.KeepEnd.TheVariants as keeps
-use Rattle.mj_front.specs.declared.referee.RefereeEnd.TheVariants as referees
-use Rattle.mj_front.specs.declared.replay.ReplayEnd.TheVariants as replays
+use Rattle.mj_refereeing.specs.declared.keep.KeepEnd.TheVariants as keeps
+use Rattle.mj_refereeing.specs.declared.referee.RefereeEnd.TheVariants as referees
+use Rattle.mj_checking.specs.declared.replay.ReplayEnd.TheVariants as replays
 use Rattle.mj_front.specs.declared.self_game.SelfPlayEnd.TheVariants as games
-use Rattle.mj_front.specs.declared.status.Status.TheVariants as statuses
+use Rattle.mj_runs.specs.declared.status.Status.TheVariants as statuses
 use Rattle.mj_front.specs.Run.{Asked, RefereeOf, ServingOf, SummaryOfRecord, HandOf, SelfPlayOf, ViewOfRecord, KeepOf, SafeOf, TablesOf, Nothing, Runs, RunsDisk, MeetsReadFaults, IsAlone}
 
 -- Where memory is wanting before the words were read, nothing is read or written, whatever they ask for.

@@ -1,14 +1,4 @@
-pub mod Inputs
-pub mod Referee
-pub mod Observe
-pub mod Keep
-pub mod Safe
-pub mod Replay
 pub mod Hand
 pub mod SelfPlay
-pub mod Serve
-pub mod Tables
 pub mod Statuses
-pub mod Faults
 pub mod Run
-pub mod Inner

@@ -3,21 +3,24 @@ use Rattle.std.specs.Prelude.{◌≡◌, ℕ, ◌<◌, ◌≤◌, Bool, false, L
 use Rattle.std.specs.Io.KnownBytes.{Keeps}
 pub use Rattle.mj_words.specs.Asked.{Asked, ServedWith, RefereeOf, ServingOf, SummaryOfRecord, HandOf, SelfPlayOf, ViewOfRecord, KeepOf, SafeOf, TablesOf, Nothing, asked_by}
 use Rattle.mj_front.specs.declared.hand.HandLinesEnd.{HandLinesEnd}
-use Rattle.mj_front.specs.declared.keep.KeepEnd.{KeepEnd}
-use Rattle.mj_front.specs.declared.referee.RefereeEnd.{RefereeEnd}
-use Rattle.mj_front.specs.declared.replay.ReplayEnd.{ReplayEnd}
+use Rattle.mj_refereeing.specs.declared.keep.KeepEnd.{KeepEnd}
+use Rattle.mj_refereeing.specs.declared.referee.RefereeEnd.{RefereeEnd}
+use Rattle.mj_checking.specs.declared.replay.ReplayEnd.{ReplayEnd}
 use Rattle.mj_front.specs.declared.self_game.SelfPlayEnd.{SelfPlayEnd}
-use Rattle.mj_front.specs.declared.serve.ServeEnd.{ServeEnd}
-use Rattle.mj_front.specs.declared.status.Status.{Status}
-use Rattle.mj_front.specs.declared.status.Status.TheVariants as statuses
-use Rattle.mj_front.specs.Statuses.{referee_status, serve_status, replay_status, hand_status, self_play_status, keep_status}
+use Rattle.mj_hosting.specs.declared.serve.ServeEnd.{ServeEnd}
+use Rattle.mj_runs.specs.declared.status.Status.{Status}
+use Rattle.mj_runs.specs.declared.status.Status.TheVariants as statuses
+use Rattle.mj_refereeing.specs.Statuses.{referee_status, keep_status}
+use Rattle.mj_checking.specs.Statuses.{replay_status}
+use Rattle.mj_hosting.specs.Statuses.{serve_status}
+use Rattle.mj_front.specs.Statuses.{hand_status, self_play_status}
 use Rattle.mj_history.specs.Legal.{Game}
-use Rattle.mj_front.specs.Referee.{IsTold, Referees}
-use Rattle.mj_front.specs.Keep.{KeepsAll}
-use Rattle.mj_front.specs.Faults.{CountsDiskFaults}
-use Rattle.mj_front.specs.Safe.{IsSafeTold}
-use Rattle.mj_front.specs.Replay.{Replays}
-use Rattle.mj_front.specs.Observe.{Observes}
+use Rattle.mj_refereeing.specs.Referee.{IsTold, Referees}
+use Rattle.mj_refereeing.specs.Keep.{KeepsAll}
+use Rattle.mj_runs.specs.Faults.{CountsDiskFaults}
+use Rattle.mj_refereeing.specs.Safe.{IsSafeTold}
+use Rattle.mj_checking.specs.Replay.{Replays}
+use Rattle.mj_checking.specs.Observe.{Observes}
 use Rattle.mj_front.specs.Hand.{WritesHand}
 use Rattle.mj_front.specs.SelfPlay.{WritesSelfPlay}
 

@@ -6,37 +6,10 @@ use Rattle.mj_replay.specs.declared.checking.Cause.{Cause}
 use Rattle.mj_replay.specs.declared.checking.Cause.TheVariants as causes
 use Rattle.mj_front.specs.declared.hand.HandLinesEnd.{HandLinesEnd}
 use Rattle.mj_front.specs.declared.hand.HandLinesEnd.TheVariants as hands
-use Rattle.mj_front.specs.declared.intake.End.TheVariants as ends
-use Rattle.mj_front.specs.declared.keep.KeepEnd.{KeepEnd}
-use Rattle.mj_front.specs.declared.keep.KeepEnd.TheVariants as keeping
-use Rattle.mj_front.specs.declared.referee.RefereeEnd.{RefereeEnd}
-use Rattle.mj_front.specs.declared.referee.RefereeEnd.TheVariants as referees
-use Rattle.mj_front.specs.declared.replay.ReplayEnd.{ReplayEnd}
-use Rattle.mj_front.specs.declared.replay.ReplayEnd.TheVariants as replays
 use Rattle.mj_front.specs.declared.self_game.SelfPlayEnd.{SelfPlayEnd}
 use Rattle.mj_front.specs.declared.self_game.SelfPlayEnd.TheVariants as games
-use Rattle.mj_front.specs.declared.serve.ServeEnd.{ServeEnd}
-use Rattle.mj_front.specs.declared.serve.ServeEnd.TheVariants as serving
-use Rattle.mj_front.specs.declared.status.Status.{Status}
-use Rattle.mj_front.specs.declared.status.Status.TheVariants as statuses
-
--- The status that the end of the referee gives, and of the command `safe`.
-abbrev pub referee_status : RefereeEnd → Status
-referee_status (referees.Told ends.Whole) = statuses.Done
-referee_status (referees.Told (ends.Bad line)) = statuses.BadArrival line
-referee_status referees.WriteFault = statuses.WriteFault
-referee_status referees.ReadFault = statuses.ReadFault
-referee_status referees.TooLong = statuses.TooLong
-referee_status referees.NoMemory = statuses.NoMemory
-
--- The status that the end of a command gives that reads a record.
-abbrev pub replay_status : ReplayEnd → Status
-replay_status replays.Written = statuses.Done
-replay_status (replays.Bad line cause) = statuses.BadRecord line cause
-replay_status replays.WriteFault = statuses.WriteFault
-replay_status replays.ReadFault = statuses.ReadFault
-replay_status replays.TooLong = statuses.TooLong
-replay_status replays.NoMemory = statuses.NoMemory
+use Rattle.mj_runs.specs.declared.status.Status.{Status}
+use Rattle.mj_runs.specs.declared.status.Status.TheVariants as statuses
 
 -- The status that the end of the command `hand` gives.
 abbrev pub hand_status : HandLinesEnd → Status
@@ -50,26 +23,6 @@ abbrev pub self_play_status : SelfPlayEnd → Status
 self_play_status games.Written = statuses.Done
 self_play_status games.WriteFault = statuses.WriteFault
 self_play_status games.NoMemory = statuses.NoMemory
-
--- The status that the end of the commands `serve` and `tables` gives.
-abbrev pub serve_status : ServeEnd → Status
-serve_status serving.Over = statuses.Done
-serve_status serving.HostLost = statuses.HostFault
-serve_status serving.NotOpened = statuses.HostFault
-serve_status serving.WriteFault = statuses.WriteFault
-serve_status serving.NoMemory = statuses.NoMemory
-
--- The status that the end of the command `keep` gives.
-abbrev pub keep_status : KeepEnd → Status
-keep_status (keeping.Told ends.Whole) = statuses.Done
-keep_status (keeping.Told (ends.Bad line)) = statuses.BadArrival line
-keep_status keeping.WriteFault = statuses.WriteFault
-keep_status keeping.DiskFault = statuses.DiskFault
-keep_status keeping.OtherGame = statuses.OtherGame
-keep_status (keeping.BadJournal place) = statuses.BadJournal place
-keep_status keeping.ReadFault = statuses.ReadFault
-keep_status keeping.TooLong = statuses.TooLong
-keep_status keeping.NoMemory = statuses.NoMemory
 
 -- The exit code; 0 for success alone.
 abbrev pub code_of : Status → ℕ

@@ -5,25 +5,19 @@ ghost use Rattle.std.specs.String.{string_bytes};
 ghost use Rattle.mj_words.specs.Asked.{asked_by};
 ghost use Rattle.mj_words.specs.Commands.{asked_by_command};
 ghost use Rattle.mj_front.specs.Run.{Runs, RunsAny, RunsDisk, MeetsReadFaults, LeavesAlone, begins_with, is_waiting, IsAlone};
-ghost use Rattle.mj_front.specs.Serve.{Serves, outside};
-ghost use Rattle.mj_front.specs.Tables.{PlaysAll};
-ghost use Rattle.mj_front.specs.Faults.{CountsReadFaults, CountsWriteFaults};
+ghost use Rattle.mj_hosting.specs.Serve.{Serves, outside};
+ghost use Rattle.mj_hosting.specs.Tables.{PlaysAll};
+ghost use Rattle.mj_runs.specs.Faults.{CountsReadFaults, CountsWriteFaults};
 
 use crate::hand::write_hand;
-use crate::intake::Question;
-use crate::keep::keep_of;
-use crate::observe::observe_of;
-use crate::referee::referee_of;
-use crate::replay::replay_of;
 use crate::self_game::write_self_play;
-use crate::serve::serve;
-use crate::status::{
-    Status, status_of_hand, status_of_keep, status_of_referee, status_of_replay,
-    status_of_self_play, status_of_serve,
-};
-use crate::tables::serve_tables;
+use crate::status::{status_of_hand, status_of_self_play};
+use mj_checking::{observe_of, replay_of, status_of_replay};
+use mj_hosting::{serve_game, serve_tables, status_of_serve};
 use mj_journal::Disk;
 use mj_links::{Clock, Host, Sink, Source};
+use mj_refereeing::{Question, keep_of, referee_of, status_of_keep, status_of_referee};
+use mj_runs::Status;
 use mj_words::{Command, command_of, serving_of, tables_of};
 use std::alloc::Global;
 use std::sync::Wait;
@@ -79,7 +73,7 @@ pub fn run<S: Source, K: Sink, H: Host, C: Clock, D: Disk, R: Threads + Wait + S
     }
     if begins_with(words, "serve") {
         return match serving_of(alloc, words) {
-            Ok(Some(serving)) => status_of_serve(serve(rt, alloc, &serving, sink, host, clock)),
+            Ok(Some(serving)) => status_of_serve(serve_game(rt, alloc, &serving, sink, host, clock)),
             Ok(None) => Status::Words,
             Err(_) => Status::NoMemory,
         };

@@ -4,7 +4,7 @@ ghost use Rattle.std.specs.Prelude.{map};
 ghost use Rattle.std.specs.String.{string_bytes};
 ghost use Rattle.mj_front.specs.Hand.{WritesHand};
 ghost use Rattle.mj_front.specs.Statuses.{hand_status};
-ghost use Rattle.mj_front.specs.Faults.{CountsWriteFaults};
+ghost use Rattle.mj_runs.specs.Faults.{CountsWriteFaults};
 
 use mj_hand::hand_lines;
 use mj_links::{Sink, WriteAll, write_all};

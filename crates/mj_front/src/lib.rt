@@ -4,24 +4,12 @@
 //! records written to a sink.
 #![tactic(auto)]
 
-mod arriving;
-mod base;
 mod commands;
-mod form;
 mod hand;
-mod input;
-mod intake;
-mod keep;
-mod keeping;
-mod observe;
-mod referee;
-mod replay;
 mod self_game;
-mod serve;
 mod status;
-mod tables;
-mod watched;
 
 pub use commands::{is_for_waiting, run, run_alone};
 pub use mj_replay::Cause;
-pub use status::{Status, exit_code, status_text};
+pub use mj_runs::Status;
+pub use status::{exit_code, status_text};

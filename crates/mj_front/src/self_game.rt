@@ -3,7 +3,7 @@
 ghost use Rattle.std.specs.Prelude.{IfOk};
 ghost use Rattle.mj_front.specs.SelfPlay.{IsSelfText, WritesSelfPlay};
 ghost use Rattle.mj_front.specs.Statuses.{self_play_status};
-ghost use Rattle.mj_front.specs.Faults.{CountsWriteFaults};
+ghost use Rattle.mj_runs.specs.Faults.{CountsWriteFaults};
 
 use mj_links::{Sink, WriteAll, write_all};
 use mj_selfplay::{self_play, summary_lines};

@@ -1,82 +1,15 @@
-//! How a run ended.
+//! The code and the text that a run ends with, and the statuses that the ends of two commands give.
 
 ghost use Rattle.std.specs.Prelude.{◌≡◌, IfOk, OnOk, OnErr, codes};
 ghost use Rattle.mj_bytes.specs.Adds.{Adds};
-ghost use Rattle.mj_front.specs.Statuses.{referee_status, serve_status, replay_status, hand_status, self_play_status, keep_status, code_of, cause_number, status_words, at_line, bad_record, bad_journal, usage};
+ghost use Rattle.mj_front.specs.Statuses.{hand_status, self_play_status, code_of, cause_number, status_words, at_line, bad_record, bad_journal, usage};
 
 use crate::hand::HandLinesEnd;
-use crate::intake::End;
-use crate::keep::KeepEnd;
-use crate::referee::RefereeEnd;
-use crate::replay::ReplayEnd;
 use crate::self_game::SelfPlayEnd;
-use crate::serve::ServeEnd;
 use mj_bytes::{push_all, push_number};
 use mj_replay::Cause;
+use mj_runs::Status;
 use std::alloc::{AllocError, Global};
-
-/// How a run ended. Where several fit, the first of this order answers: `Words`; `ReadFault` or `TooLong`, whichever is met
-/// first; `BadRecord`; `DiskFault`, `OtherGame` or `BadJournal`; `WriteFault`; `BadArrival` or `HostFault`; `Done`.
-#[derive(Clone, Copy, Debug, PartialEq, Eq)]
-pub enum Status {
-    /// The input was read to its end and is valid, and what it tells the seat, the kinds that are safe for it, or the summary or the
-    /// public view of its record, is written; or the lines of a hand or of a self-played game are written; or a served game is over,
-    /// its links are given back, and its record is written.
-    Done,
-    /// The words ask for no command, or for one with other arguments than its own, as `hand` with words that name no hand, or
-    /// `selfplay` with a word that is no number. Nothing is written.
-    Words,
-    /// A read failed. Nothing is written.
-    ReadFault,
-    /// A write failed. What is written is a prefix of what was to be.
-    WriteFault,
-    /// Memory was wanting. Nothing is written.
-    NoMemory,
-    /// The line, counted from 1, is the first that is no arrival in its place. What the lines before it tell is written.
-    BadArrival(u32),
-    /// The line, counted from 1, is the first that breaks the form of a record, by this cause. Nothing is written.
-    BadRecord(u32, Cause),
-    /// The host was not opened, and nothing is written; or it failed each handler of a served game that is not over, whose
-    /// links are given back and whose record so far is written.
-    HostFault,
-    /// The input has more than 67,108,864 bytes. Nothing is written.
-    TooLong,
-    /// The disk of a kept game failed. Nothing is written, and what its journal had stands there.
-    DiskFault,
-    /// The journal is that of another game: of another header or other walls. Nothing is written, there or here.
-    OtherGame,
-    /// The open gate at this byte of the journal is the first whose record isn't whole, or tells no arrival in its place that
-    /// adds an entry. Nothing is written, there or here.
-    BadJournal(u64),
-}
-
-/// The status that the end of the referee gives, and of the command `safe`.
-pub(crate) fn status_of_referee(end: RefereeEnd) -> Status
-    ensures { result ≡ referee_status end }
-{
-    match end {
-        RefereeEnd::Told(End::Whole) => Status::Done,
-        RefereeEnd::Told(End::Bad(line)) => Status::BadArrival(line),
-        RefereeEnd::WriteFault => Status::WriteFault,
-        RefereeEnd::ReadFault => Status::ReadFault,
-        RefereeEnd::TooLong => Status::TooLong,
-        RefereeEnd::NoMemory => Status::NoMemory,
-    }
-}
-
-/// The status that the end of a command gives that reads a record.
-pub(crate) fn status_of_replay(end: ReplayEnd) -> Status
-    ensures { result ≡ replay_status end }
-{
-    match end {
-        ReplayEnd::Written => Status::Done,
-        ReplayEnd::Bad(line, cause) => Status::BadRecord(line, cause),
-        ReplayEnd::WriteFault => Status::WriteFault,
-        ReplayEnd::ReadFault => Status::ReadFault,
-        ReplayEnd::TooLong => Status::TooLong,
-        ReplayEnd::NoMemory => Status::NoMemory,
-    }
-}
 
 /// The status that the end of the command `hand` gives.
 pub(crate) fn status_of_hand(end: HandLinesEnd) -> Status
@@ -98,36 +31,6 @@ pub(crate) fn status_of_self_play(end: SelfPlayEnd) -> Status
         SelfPlayEnd::Written => Status::Done,
         SelfPlayEnd::WriteFault => Status::WriteFault,
         SelfPlayEnd::NoMemory => Status::NoMemory,
-    }
-}
-
-/// The status that the end of the command `serve` gives.
-pub(crate) fn status_of_serve(end: ServeEnd) -> Status
-    ensures { result ≡ serve_status end }
-{
-    match end {
-        ServeEnd::Over => Status::Done,
-        ServeEnd::HostLost => Status::HostFault,
-        ServeEnd::NotOpened => Status::HostFault,
-        ServeEnd::WriteFault => Status::WriteFault,
-        ServeEnd::NoMemory => Status::NoMemory,
-    }
-}
-
-/// The status that the end of the command `keep` gives.
-pub(crate) fn status_of_keep(end: KeepEnd) -> Status
-    ensures { result ≡ keep_status end }
-{
-    match end {
-        KeepEnd::Told(End::Whole) => Status::Done,
-        KeepEnd::Told(End::Bad(line)) => Status::BadArrival(line),
-        KeepEnd::WriteFault => Status::WriteFault,
-        KeepEnd::DiskFault => Status::DiskFault,
-        KeepEnd::OtherGame => Status::OtherGame,
-        KeepEnd::BadJournal(place) => Status::BadJournal(place),
-        KeepEnd::ReadFault => Status::ReadFault,
-        KeepEnd::TooLong => Status::TooLong,
-        KeepEnd::NoMemory => Status::NoMemory,
     }
 }
 

@@ -2,8 +2,8 @@
 use Rattle.std.specs.Prelude.{ℕ, ◌≡◌, ◌||◌, ◌&&◌, not, Bool, if◌then◌else◌, List, [], Option, Some, None, codes, option_and_then}
 use Rattle.std.specs.List.{list_all}
 use Rattle.std.specs.Str.{is_utf8}
-use Rattle.mj_front.specs.declared.status.Status.{Status}
-use Rattle.mj_front.specs.declared.status.Status.TheVariants as statuses
+use Rattle.mj_runs.specs.declared.status.Status.{Status}
+use Rattle.mj_runs.specs.declared.status.Status.TheVariants as statuses
 use Rattle.mj_front.specs.Statuses.{code_of, status_words}
 use Rattle.mj_front.specs.Run.{Runs, begins_with, is_waiting, asked_by}
 use Rattle.riichi_c.specs.Calls.{Writes}

@@ -12,8 +12,8 @@ pub returns-in-Ok-Some-clause-run : goal.returns-in-Ok-Some-clause-run
 returns-in-Ok-Some-clause-run g c =
     let begins : begins_with (codes "serve") (map string_bytes c.args.words.now) ≡ true = sym c.begins_with.ensures ∙ c.if-begins_with.true in
     let asks : asked_by_serving (Some c.in-Ok-Some.serving) ≡ serve_asked (map string_bytes c.args.words.now) = search rules in
-    runs_serve _ _ _ c.in-Ok-Some.serving _ c.serve.result _ _ _ (asked_serving (map string_bytes c.args.words.now) (Some c.in-Ok-Some.serving) begins
-    asks) c.status_of_serve.ensures c.serve.ensures.serves
+    runs_serve _ _ _ c.in-Ok-Some.serving _ c.serve_game.result _ _ _ (asked_serving (map string_bytes c.args.words.now) (Some c.in-Ok-Some.serving) begins
+    asks) c.status_of_serve.ensures c.serve_game.ensures.serves
 
 pub returns-in-Err-clause-run : goal.returns-in-Err-clause-run
 returns-in-Err-clause-run g c = runs_none _ _ (λ s. Keeps-refl _) (map string_bytes c.args.words.now) _ _ (sym c.begins_with.ensures ∙ c.if-begins_with.true)

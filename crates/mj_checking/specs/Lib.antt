@@ -1,0 +1,4 @@
+pub mod Replay
+pub mod Observe
+pub mod Statuses
+pub mod Inner

@@ -1,0 +1,4 @@
+pub mod Serve
+pub mod Tables
+pub mod Statuses
+pub mod Inner

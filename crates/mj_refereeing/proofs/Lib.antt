@@ -1,0 +1,17 @@
+pub mod AskLaws
+pub mod FieldLaws
+pub mod Placing
+pub mod Telling
+pub mod Returning
+pub mod PlayLaws
+pub mod WallLaws
+pub mod RunLaws
+pub mod WatchLaws
+pub mod PlayedLaws
+pub mod NoteLaws
+pub mod KeepLaws
+pub mod Fronts
+pub mod WalkLaws
+pub mod SafeLaws
+pub mod BaseLaws
+pub mod InputLaws
