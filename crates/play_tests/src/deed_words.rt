@@ -55,10 +55,9 @@ fn game_end(fields: &[&str; 8]) -> Deed {
 }
 
 fn win(alloc: Global, fields: &[&str; 8]) -> Option<Deed> {
-    match (tiles(alloc, fields[7]), yaku(alloc, fields[7])) {
-        (Some(hand), Some(yaku)) => Some(win_with(alloc, fields, hand, yaku)),
-        _ => None,
-    }
+    let hand = tiles(alloc, fields[7])?;
+    let yaku = yaku(alloc, fields[7])?;
+    Some(win_with(alloc, fields, hand, yaku))
 }
 
 fn win_with(alloc: Global, fields: &[&str; 8], hand: Tiles, yaku: YakuList) -> Deed {

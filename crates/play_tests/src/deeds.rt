@@ -80,9 +80,16 @@ fn has_meld(alloc: Global, deeds: &[Deed], seat: u8, place: u8, told: &str) -> b
 }
 
 fn has_concealed(alloc: Global, deeds: &[Deed], seat: u8, told: &str) -> bool {
-    match (concealed(alloc, deeds, seat), tiles(alloc, told)) {
-        (Ok(found), Some(told)) => found.as_slice() == told.as_slice(),
-        _ => false,
+    match tiles(alloc, told) {
+        Some(told) => are_concealed(alloc, deeds, seat, told.as_slice()),
+        None => false,
+    }
+}
+
+fn are_concealed(alloc: Global, deeds: &[Deed], seat: u8, told: &[Tile]) -> bool {
+    match concealed(alloc, deeds, seat) {
+        Ok(found) => found.as_slice() == told,
+        Err(_) => false,
     }
 }
 

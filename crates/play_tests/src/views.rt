@@ -49,13 +49,16 @@ fn viewer_of(text: &str) -> Viewer {
 
 fn has_token(alloc: Global, line: &str) -> bool {
     let (viewer, told, wanted) = seen_by(line);
-    match (viewer, deed(alloc, told)) {
-        (Viewer::Seat(seat), Some(deed)) => is_told(alloc, seat, &deed, wanted),
-        _ => false,
+    match deed(alloc, told) {
+        Some(deed) => is_told(alloc, viewer, &deed, wanted),
+        None => false,
     }
 }
 
-fn is_told(alloc: Global, seat: u8, deed: &Deed, wanted: &str) -> bool {
+fn is_told(alloc: Global, viewer: Viewer, deed: &Deed, wanted: &str) -> bool {
+    let Viewer::Seat(seat) = viewer else {
+        return false;
+    };
     match token(alloc, seat, deed) {
         Ok(found) => is_token(&found, wanted),
         Err(_) => false,

@@ -26,8 +26,9 @@ fn changed(changes: &str) -> [Tile; 137] {
     }
     let [p, a, q, b, r, c, ..] = words(changes);
     for (place, text) in [(p, a), (q, b), (r, c)] {
-        if !text.is_empty() && number(place) < 137 {
-            tiles[usize::from(number(place))] = tile(text);
+        let place = usize::from(number(place));
+        if place < 137 {
+            tiles[place] = tile(text);
         }
     }
     tiles

@@ -136,8 +136,13 @@ pub(crate) fn counts(text: &str) -> Counts {
     }
     match Counts::of(numbers) {
         Some(counts) => counts,
-        None => Counts::from_numbers([0; 34]),
+        None => none_held(),
     }
+}
+
+/// The counts of no tile.
+fn none_held() -> Counts {
+    Counts::from_numbers([0; 34])
 }
 
 fn more(number: u8) -> u8 {
