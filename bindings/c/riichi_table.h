@@ -5,10 +5,13 @@
  * beyond what it was given, and gives back what memory it took (a table's memory when it is closed). What each call promises is proved
  * of the code behind it, for every caller that keeps three rules:
  *
- *   1. Each pointer is not NULL and points to what its type says; a text is a pointer and the number of its bytes, and for 0 bytes any
+ *   1. Each pointer points to what its type says; a text is a pointer and the number of its bytes, and for 0 bytes any
  *      pointer but NULL serves. Places that are written don't overlap others of the same call.
  *   2. A table is all zero before its first use (RIICHI_TABLE_EMPTY), is never copied, and its fields are left alone.
  *   3. A table is used by one call at a time. Several tables may be used side by side, each by its own thread.
+ *
+ * A pointer that is NULL is answered by RIICHI_NULL. That isn't proved: the code behind the calls takes no NULL, and the lines at the end of
+ * this file look for it first. Who calls the library without this file, from another language, has to look himself.
  *
  * Memory comes from malloc, realloc and free. No call keeps a pointer that it was given, starts a thread, waits, reads a clock, a
  * file or a socket, or writes to one.
@@ -47,6 +50,8 @@ enum {
     RIICHI_NO_CHOICE = 26,    /* choose: the seat has no answer of that number */
     /* turn, choose: so many seats have passed, a million, that turn has to be called again. */
     RIICHI_GO_ON = 27,
+    /* every call: a pointer is NULL; the library isn't called. */
+    RIICHI_NULL = 28,
     /* sit: why no seat is given. */
     RIICHI_FULL = 32,         /* all four seats are held by others */
     RIICHI_NAME_TAKEN = 33,   /* a present seat has the name */
@@ -155,6 +160,113 @@ uint32_t riichi_table_pending(riichi_table *table, uint32_t seat, uint8_t *room,
 /* The record of the game so far: its header, its walls, and a line for each deed, which hides nothing. DONE, NO_ROOM, NO_GAME or
  * NO_MEMORY. */
 uint32_t riichi_table_record(riichi_table *table, uint8_t *room, size_t room_length, uint64_t *length);
+
+/* The calls above, each after a look for NULL. */
+
+static inline uint32_t riichi_looked_run(const uint8_t *words, size_t words_length, const uint8_t *input, size_t input_length,
+                                         uint8_t *room, size_t room_length, uint64_t *length, uint8_t *told, size_t told_room,
+                                         uint64_t *told_length) {
+    if (!words || !input || !room || !length || !told || !told_length) return RIICHI_NULL;
+    return riichi_run(words, words_length, input, input_length, room, room_length, length, told, told_room, told_length);
+}
+
+static inline uint32_t riichi_looked_table_open(riichi_table *table, const uint8_t *setting, size_t setting_length) {
+    if (!table || !setting) return RIICHI_NULL;
+    return riichi_table_open(table, setting, setting_length);
+}
+
+static inline uint32_t riichi_looked_table_open_seed(riichi_table *table, const uint8_t *seed, size_t seed_length, uint64_t first,
+                                                     uint32_t walls, uint64_t limit, bool draws, bool red) {
+    if (!table || !seed) return RIICHI_NULL;
+    return riichi_table_open_seed(table, seed, seed_length, first, walls, limit, draws, red);
+}
+
+static inline uint32_t riichi_looked_table_close(riichi_table *table) {
+    if (!table) return RIICHI_NULL;
+    return riichi_table_close(table);
+}
+
+static inline uint32_t riichi_looked_table_sit(riichi_table *table, const uint8_t *line, size_t line_length, uint32_t *seat) {
+    if (!table || !line || !seat) return RIICHI_NULL;
+    return riichi_table_sit(table, line, line_length, seat);
+}
+
+static inline uint32_t riichi_looked_table_say(riichi_table *table, uint32_t seat, const uint8_t *line, size_t line_length,
+                                               uint32_t *rule) {
+    if (!table || !line || !rule) return RIICHI_NULL;
+    return riichi_table_say(table, seat, line, line_length, rule);
+}
+
+static inline uint32_t riichi_looked_table_gone(riichi_table *table, uint32_t seat) {
+    if (!table) return RIICHI_NULL;
+    return riichi_table_gone(table, seat);
+}
+
+static inline uint32_t riichi_looked_table_expire(riichi_table *table, uint32_t window, uint64_t t1, uint64_t t2) {
+    if (!table) return RIICHI_NULL;
+    return riichi_table_expire(table, window, t1, t2);
+}
+
+static inline uint32_t riichi_looked_table_turn(riichi_table *table, riichi_turn *turn) {
+    if (!table || !turn) return RIICHI_NULL;
+    return riichi_table_turn(table, turn);
+}
+
+static inline uint32_t riichi_looked_table_choices(riichi_table *table, uint32_t seat, uint64_t *count) {
+    if (!table || !count) return RIICHI_NULL;
+    return riichi_table_choices(table, seat, count);
+}
+
+static inline uint32_t riichi_looked_table_choose(riichi_table *table, uint32_t seat, uint32_t k, uint32_t *rule, riichi_turn *turn) {
+    if (!table || !rule || !turn) return RIICHI_NULL;
+    return riichi_table_choose(table, seat, k, rule, turn);
+}
+
+static inline uint32_t riichi_looked_table_state(riichi_table *table, riichi_state *state) {
+    if (!table || !state) return RIICHI_NULL;
+    return riichi_table_state(table, state);
+}
+
+static inline uint32_t riichi_looked_table_seat(riichi_table *table, uint32_t seat, riichi_seat *into) {
+    if (!table || !into) return RIICHI_NULL;
+    return riichi_table_seat(table, seat, into);
+}
+
+static inline uint32_t riichi_looked_table_line(riichi_table *table, uint32_t seat, uint32_t k, uint8_t *room, size_t room_length,
+                                                uint64_t *length) {
+    if (!table || !room || !length) return RIICHI_NULL;
+    return riichi_table_line(table, seat, k, room, room_length, length);
+}
+
+static inline uint32_t riichi_looked_table_pending(riichi_table *table, uint32_t seat, uint8_t *room, size_t room_length,
+                                                   uint64_t *length) {
+    if (!table || !room || !length) return RIICHI_NULL;
+    return riichi_table_pending(table, seat, room, room_length, length);
+}
+
+static inline uint32_t riichi_looked_table_record(riichi_table *table, uint8_t *room, size_t room_length, uint64_t *length) {
+    if (!table || !room || !length) return RIICHI_NULL;
+    return riichi_table_record(table, room, room_length, length);
+}
+
+#define riichi_run(words, words_length, input, input_length, room, room_length, length, told, told_room, told_length) \
+    riichi_looked_run(words, words_length, input, input_length, room, room_length, length, told, told_room, told_length)
+#define riichi_table_open(table, setting, setting_length) riichi_looked_table_open(table, setting, setting_length)
+#define riichi_table_open_seed(table, seed, seed_length, first, walls, limit, draws, red) \
+    riichi_looked_table_open_seed(table, seed, seed_length, first, walls, limit, draws, red)
+#define riichi_table_close(table) riichi_looked_table_close(table)
+#define riichi_table_sit(table, line, line_length, seat) riichi_looked_table_sit(table, line, line_length, seat)
+#define riichi_table_say(table, seat, line, line_length, rule) riichi_looked_table_say(table, seat, line, line_length, rule)
+#define riichi_table_gone(table, seat) riichi_looked_table_gone(table, seat)
+#define riichi_table_expire(table, window, t1, t2) riichi_looked_table_expire(table, window, t1, t2)
+#define riichi_table_turn(table, turn) riichi_looked_table_turn(table, turn)
+#define riichi_table_choices(table, seat, count) riichi_looked_table_choices(table, seat, count)
+#define riichi_table_choose(table, seat, k, rule, turn) riichi_looked_table_choose(table, seat, k, rule, turn)
+#define riichi_table_state(table, state) riichi_looked_table_state(table, state)
+#define riichi_table_seat(table, seat, into) riichi_looked_table_seat(table, seat, into)
+#define riichi_table_line(table, seat, k, room, room_length, length) riichi_looked_table_line(table, seat, k, room, room_length, length)
+#define riichi_table_pending(table, seat, room, room_length, length) riichi_looked_table_pending(table, seat, room, room_length, length)
+#define riichi_table_record(table, room, room_length, length) riichi_looked_table_record(table, room, room_length, length)
 
 #ifdef __cplusplus
 }

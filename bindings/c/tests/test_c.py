@@ -58,9 +58,20 @@ class InC(unittest.TestCase):
             self.assertEqual((lines[0][:2], lines[0][2:]), (lines[2], lines[3]))
 
     def test_wrong_calls(self) -> None:
-        """Each call with numbers and bytes at random answers."""
+        """Each call with numbers and bytes at random answers, and so does each with a NULL."""
         program = self.built(HERE / "wrong_calls.c")
         self.assertTrue(self.ran(program, CALLS).startswith("answers "))
+
+    @unittest.skipUnless(shutil.which("c++"), "no C++ compiler")
+    def test_header_in_another_language(self) -> None:
+        """C++ takes the header, and its calls answer a NULL there too."""
+        source, out = (str(Path(self.room.name) / name) for name in ("header.cpp", "header"))
+        text = "int main() { riichi_turn turn; return riichi_table_turn(nullptr, &turn) == RIICHI_NULL ? 0 : 1; }"
+        Path(source).write_text(f"#include <riichi_table.h>\n{text}\n")
+        library = Path(LIBRARY).resolve()
+        words = ["c++", "-Wall", "-Wextra", "-Werror", "-o", out, source, f"-I{HERE.parent}", str(library), f"-Wl,-rpath,{library.parent}"]
+        subprocess.run(words, check=True)
+        self.ran(out)
 
     @unittest.skipUnless(shutil.which("valgrind"), "no valgrind")
     def test_valgrind(self) -> None:

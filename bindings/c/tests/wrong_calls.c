@@ -1,5 +1,6 @@
 /* So many calls with numbers and bytes at random, on a table without a game and on one with a game, which goes on: for valgrind and the
- * address sanitizer. Each text stands in a block of its own size, and so does each room, so that a byte beyond is seen. */
+ * address sanitizer. Each text stands in a block of its own size, and so does each room, so that a byte beyond is seen. Before them each
+ * call once with each of its pointers NULL, which leaves the table as it was. */
 #include <riichi_table.h>
 #include <stdio.h>
 #include <stdlib.h>
@@ -26,6 +27,36 @@ static uint32_t seat_of(void) {
     return k < 5 ? k : number();
 }
 
+/* How many calls with a NULL are answered by anything but RIICHI_NULL. */
+static int calls_without(riichi_table *table) {
+    uint8_t text[] = "hand\n", room[9];
+    uint32_t seat, rule;
+    uint64_t size, other;
+    riichi_state state;
+    riichi_seat at;
+    riichi_turn turn;
+    const uint32_t answers[] = {
+        riichi_run(NULL, 5, text, 0, room, 9, &size, room, 0, &other), riichi_run(text, 5, NULL, 0, room, 9, &size, room, 0, &other),
+        riichi_run(text, 5, text, 0, NULL, 9, &size, room, 0, &other), riichi_run(text, 5, text, 0, room, 9, NULL, room, 0, &other),
+        riichi_run(text, 5, text, 0, room, 9, &size, NULL, 0, &other), riichi_run(text, 5, text, 0, room, 9, &size, room, 0, NULL),
+        riichi_table_open(NULL, text, 5), riichi_table_open(table, NULL, 0),
+        riichi_table_open_seed(NULL, text, 5, 0, 1, 1, true, true), riichi_table_open_seed(table, NULL, 0, 0, 1, 1, true, true),
+        riichi_table_close(NULL), riichi_table_gone(NULL, 0), riichi_table_expire(NULL, 0, 0, 0),
+        riichi_table_sit(NULL, text, 5, &seat), riichi_table_sit(table, NULL, 0, &seat), riichi_table_sit(table, text, 5, NULL),
+        riichi_table_say(NULL, 0, text, 5, &rule), riichi_table_say(table, 0, NULL, 0, &rule), riichi_table_say(table, 0, text, 5, NULL),
+        riichi_table_turn(NULL, &turn), riichi_table_turn(table, NULL),
+        riichi_table_choices(NULL, 0, &size), riichi_table_choices(table, 0, NULL),
+        riichi_table_choose(NULL, 0, 0, &rule, &turn), riichi_table_choose(table, 0, 0, NULL, &turn), riichi_table_choose(table, 0, 0, &rule, NULL),
+        riichi_table_state(NULL, &state), riichi_table_state(table, NULL), riichi_table_seat(NULL, 0, &at), riichi_table_seat(table, 0, NULL),
+        riichi_table_line(NULL, 0, 0, room, 9, &size), riichi_table_line(table, 0, 0, NULL, 9, &size), riichi_table_line(table, 0, 0, room, 9, NULL),
+        riichi_table_pending(NULL, 0, room, 9, &size), riichi_table_pending(table, 0, NULL, 9, &size), riichi_table_pending(table, 0, room, 9, NULL),
+        riichi_table_record(NULL, room, 9, &size), riichi_table_record(table, NULL, 9, &size), riichi_table_record(table, room, 9, NULL),
+    };
+    int wrong = 0;
+    for (size_t k = 0; k < sizeof answers / sizeof *answers; k++) wrong += answers[k] != RIICHI_NULL;
+    return wrong;
+}
+
 int main(int words, char **word) {
     riichi_table empty = RIICHI_TABLE_EMPTY, table = RIICHI_TABLE_EMPTY;
     riichi_state state;
@@ -40,6 +71,11 @@ int main(int words, char **word) {
         char line[] = "{\"type\":\"join\",\"name\":\"a\"}";
         line[23] = (char)('a' + i);
         riichi_table_sit(&table, (uint8_t *)line, sizeof line - 1, &seat);
+    }
+    int wrong = calls_without(&table);
+    if (wrong || riichi_table_state(&table, &state) != RIICHI_DONE || state.entries != 4) {
+        fprintf(stderr, "%d calls with a NULL are answered otherwise\n", wrong);
+        return 1;
     }
     for (int calls = words > 1 ? atoi(word[1]) : 10000; calls > 0; calls--) {
         size_t size, other, most = (size_t)rand() % 3 ? (size_t)rand() % 200 : 70000;
