@@ -1,17 +1,17 @@
 #!/usr/bin/env bash
 # Builds crates/riichi_page for a browser: the same source, proved again for 64-bit WebAssembly, as riichi_page.wasm.
 #
-# usage: build.sh FILE.wasm
+# usage: build.sh [FILE.wasm]      without FILE.wasm the one beside this file, which viewer/build.py puts into the viewer
 #
 # The list of crates has it as a static library of this machine, since that is what the merge gate proves; here it stands in a list of
 # its own. Libraries that are built already are taken over.
 set -e
 root=$(cd "$(dirname "$0")/../.." && pwd)
-if [ $# -ne 1 ]; then
-    echo "usage: build.sh FILE.wasm" >&2
+if [ $# -gt 1 ]; then
+    echo "usage: build.sh [FILE.wasm]" >&2
     exit 2
 fi
-to=$(realpath -m "$1")
+to=$(realpath -m "${1:-$(dirname "$0")/riichi_page.wasm}")
 room=$(mktemp -d)
 trap 'rm -rf "$room"' EXIT
 git init -q "$room"

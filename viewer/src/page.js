@@ -1,4 +1,5 @@
 // The page: what is open and shown, and what a user does with it.
+import {load} from "../../bindings/page/riichi_page.js";
 import {Reader, textOf} from "./read.js";
 import {isSeat, nearnessOf, seenBy, stateAt} from "./state.js";
 import {symbolsOfTiles} from "./faces.js";
@@ -25,6 +26,8 @@ const page = {
   /** @type {number | undefined} */
   writing: undefined,
   turned: 0, wide: 0, isLive: false, address: "",
+  /** @type {import("../../bindings/page/riichi_page.js").Hands | null} where shanten, waits and furiten come from */
+  library: null,
 };
 /** Milliseconds between two deeds while the page plays. */
 const SPEEDS = {slow: 2000, medium: 1000, fast: 400};
@@ -53,7 +56,7 @@ function show(hand, deed) {
   const whole = stateAt(game.hands[page.hand], page.deed);
   const state = page.isOpen ? whole : seenBy(whole, page.bottom);
   const told = teller(page.isOpen ? null : page.bottom);
-  const nearness = game.names.map((_, seat) => nearnessOf(state, seat));
+  const nearness = game.names.map((_, seat) => nearnessOf(state, seat, page.library));
   showIn(find("table"), tableOf(sceneOf(state, nearness, game.names, page.bottom, texts())));
   const words = wordsAt(game, page.hand, page.deed, told, texts());
   find("deed").textContent = words.sentence;
@@ -464,10 +467,20 @@ function listenToFiles() {
   }
 }
 
+/** Loads the library of numbers, which stands in the page; where the browser can't run it there are none. */
+function loadLibrary() {
+  const text = atob(find("library").textContent ?? "");
+  const bytes = new Uint8Array(text.length);
+  for (let place = 0; place < text.length; place += 1) bytes[place] = text.charCodeAt(place);
+  page.library = load(bytes);
+  find("seats").hidden = !page.library;
+}
+
 /** Makes the page live; a page that `page.py` made holds its record in itself, one that `live.py` serves names where lines come from. */
 export function start() {
   page.address = location.hash;
   find("faces").innerHTML = symbolsOfTiles();
+  loadLibrary();
   const wanted = new URLSearchParams(location.hash.slice(1)).get("lang");
   page.isLanguageChosen = wanted !== null && Object.hasOwn(TEXTS, wanted);
   setLanguage(page.isLanguageChosen ? /** @type {Language} */ (wanted) : usersLanguage());

@@ -1,6 +1,5 @@
 // The state of a hand, and what each deed changes in it.
-import {HIDDEN, kindOf, placeOf, sorted} from "./tiles.js";
-import {countsOf, readingOf} from "./waits.js";
+import {HIDDEN, KINDS, countsOf, kindOf, placeOf, sorted} from "./tiles.js";
 
 /**
  * A deed as its line tells it. The fields are those of mjai.
@@ -225,21 +224,30 @@ function leftFor(state, index) {
   return countsOf(seen.filter(tile => tile !== HIDDEN)).map(count => Math.max(0, 4 - count));
 }
 
+/** @type {Record<string, import("../../bindings/page/riichi_page.js").PageMeld["form"]>} */
+const FORM_OF = {chi: "run", pon: "triplet", daiminkan: "kan", ankan: "kan", kakan: "kan"};
+
 /**
  * How near a seat's hand is: shanten and the waits of its thirteen tiles, of who has drawn before the draw, with the
- * tiles of each wait that it doesn't see. Null where the hand is hidden. After a call the hand has a tile too many: its
- * shanten is that after the best discard, and it has no waits.
+ * tiles of each wait that it doesn't see. After a call the hand has a tile too many: its shanten is that after the best discard, and it
+ * has no waits. Null where the hand is hidden, where there is no library for such numbers, and where its tiles are no hand.
  * @typedef {{shanten: number, waits: {kind: string, left: number}[], isFuriten: boolean}} Nearness
- * @param {State} state @param {number} index @returns {Nearness | null}
+ * @param {State} state @param {number} index @param {import("../../bindings/page/riichi_page.js").Hands | null} library @returns {Nearness | null}
  */
-export function nearnessOf(state, index) {
+export function nearnessOf(state, index, library) {
   const seat = state.seats[index];
-  if (seat.hand.includes(HIDDEN)) return null;
-  const {shanten, waits} = readingOf(seat.hand, seat.melds.map(tilesOf));
+  if (!library || seat.hand.includes(HIDDEN)) return null;
+  const held = countsOf(seat.hand);
+  const melds = seat.melds.map(meld => ({form: FORM_OF[meld.type], low: Math.min(...tilesOf(meld).map(placeOf))}));
+  const spare = library.bestDiscard(held, melds);
+  if (spare !== null) held[spare] -= 1;
+  const nearest = library.shanten(held, melds);
+  if (!nearest) return null;
+  const waits = spare === null && library.waits(held, melds) || [];
   const left = leftFor(state, index);
-  const own = new Set(seat.river.map(tile => kindOf(tile.pai)));
-  const isFuriten = waits.some(kind => own.has(kind) || seat.passed.has(kind) || seat.passedInRiichi.has(kind));
-  return {shanten, waits: waits.map(kind => ({kind, left: left[placeOf(kind)]})), isFuriten};
+  const own = seat.river.map(tile => placeOf(tile.pai));
+  const isFuriten = library.furiten(waits, own, [...seat.passed].map(placeOf), [...seat.passedInRiichi].map(placeOf));
+  return {shanten: nearest.number, waits: waits.map(place => ({kind: KINDS[place], left: left[place]})), isFuriten};
 }
 
 /**

@@ -29,6 +29,16 @@ export const isTile = value => typeof value === "string" && PLACES.has(value);
  */
 export const isShown = value => value === HIDDEN || isTile(value);
 
+/**
+ * How many of each kind there are.
+ * @param {string[]} tiles
+ */
+export function countsOf(tiles) {
+  const counts = new Array(34).fill(0);
+  for (const tile of tiles) counts[placeOf(tile)] += 1;
+  return counts;
+}
+
 /** @param {string} tile */
 export const isRed = tile => tile.length === 3;
 

@@ -4,26 +4,31 @@ import {readFileSync} from "node:fs";
 import test from "node:test";
 import path from "node:path";
 
+const HERE = import.meta.dirname ?? path.dirname(new URL(import.meta.url).pathname);
+const LIBRARY = path.join(HERE, "..", "..", "bindings", "page", "riichi_page");
 // (the parts are modules; without a package.json node has to be told so)
-const load = async name => {
-  const text = readFileSync(path.join(import.meta.dirname ?? path.dirname(new URL(import.meta.url).pathname), "..", "src", `${name}.js`), "utf8");
-  const linked = await Promise.all([...text.matchAll(/from "\.\/(\w+)\.js"/g)].map(async ([, other]) => [other, await address(other)]));
-  const body = linked.reduce((all, [other, url]) => all.replaceAll(`"./${other}.js"`, `"${url}"`), text);
-  return `data:text/javascript;base64,${Buffer.from(body).toString("base64")}`;
+const textAddress = text => `data:text/javascript;base64,${Buffer.from(text).toString("base64")}`;
+const linked = async name => {
+  const text = readFileSync(path.join(HERE, "..", "src", `${name}.js`), "utf8");
+  const others = await Promise.all([...text.matchAll(/from "\.\/(\w+)\.js"/g)].map(async ([, other]) => [other, await address(other)]));
+  return textAddress(others.reduce((all, [other, url]) => all.replaceAll(`"./${other}.js"`, `"${url}"`), text));
 };
 const addresses = new Map();
 const address = name => {
-  if (!addresses.has(name)) addresses.set(name, load(name));
+  if (!addresses.has(name)) addresses.set(name, linked(name));
   return addresses.get(name);
 };
 const part = async name => import(await address(name));
 
 const {doraOf, sorted} = await part("tiles");
-const {readingOf} = await part("waits");
 const {apply, begin, nearnessOf, seenBy, toldTo} = await part("state");
 const {Reader} = await part("read");
 const {TEXTS} = await part("texts");
 const {faultIn, sentenceOf, tileIn} = await part("tell");
+const {load} = await import(textAddress(readFileSync(`${LIBRARY}.js`, "utf8")));
+// null where this node has no 64-bit memories
+const library = load(readFileSync(`${LIBRARY}.wasm`));
+const counted = {skip: library ? false : "no 64-bit memories"};
 
 /** Tiles from a short text, as 123m4p. */
 const tiles = text => [...text.matchAll(/([1-9]+)([mps])|([ESWNPFC])/g)].flatMap(([, numbers, suit, honour]) =>
@@ -37,11 +42,36 @@ const HANDS = [
   ["147m258p369sESWN", [], 6, ""],
 ];
 
-test("shanten and waits", () => {
+/** The state of a hand whose seat 0 has these tiles and melds. */
+const holding = (hand, melds) => {
+  const state = stateAfter([]);
+  const typeOf = meld => meld.length === 4 ? "ankan" : meld[0] === meld[1] ? "pon" : "chi";
+  Object.assign(state.seats[0], {hand: tiles(hand), melds: melds.map(tiles).map(it => ({type: typeOf(it), tiles: it, called: null, target: 0, added: null, isRobbed: false}))});
+  return state;
+};
+
+test("shanten and waits", counted, () => {
   for (const [hand, melds, shanten, waits] of HANDS) {
-    const reading = readingOf(tiles(hand), melds.map(tiles));
-    assert.deepEqual([reading.shanten, reading.waits.join(" ")], [shanten, waits], hand);
+    const nearness = nearnessOf(holding(hand, melds), 0, library);
+    assert.deepEqual([nearness.shanten, nearness.waits.map(it => it.kind).join(" ")], [shanten, waits], hand);
   }
+});
+
+test("a hand with a tile too many has the shanten after its best discard, and no waits", counted, () => {
+  for (const [hand, melds, shanten] of [["123m456p789sEESSN", [], 0], ["23m456p789sEEN", ["123m"], 0], ["147m258p369sESWNP", [], 6]]) {
+    assert.deepEqual(nearnessOf(holding(hand, melds), 0, library), {shanten, waits: [], isFuriten: false}, hand);
+  }
+});
+
+test("what is no hand, and any hand without the library, has no numbers", counted, () => {
+  for (const [hand, melds] of [["123m", []], ["11111m22233344p", []], ["1234m", ["89m1p", "234p", "EEE"]], ["1234m", ["111p", "234p"]]]) {
+    assert.equal(nearnessOf(holding(hand, melds), 0, library), null, hand);
+  }
+  assert.equal(nearnessOf(holding("123m456p789sEESS", []), 0, null), null);
+});
+
+test("there is no library where its bytes can't be run", () => {
+  assert.equal(load(new Uint8Array(8)), null);
 });
 
 test("dora go round in their suit, winds and dragons", () => {
@@ -56,9 +86,9 @@ const START = {
 const drawn = (actor, pai) => ({type: "tsumo", actor, pai});
 const discarded = (actor, pai, tsumogiri = true) => ({type: "dahai", actor, pai, tsumogiri});
 const stateAfter = deeds => deeds.reduce((state, deed) => { apply(state, deed); return state; }, begin(START, [30000, 30000, 30000, 30000], 0));
-const isFuriten = deeds => nearnessOf(stateAfter(deeds), 0).isFuriten;
+const isFuriten = deeds => nearnessOf(stateAfter(deeds), 0, library).isFuriten;
 
-test("a seat is furiten by its own river, by what it let pass, and in riichi for good", () => {
+test("a seat is furiten by its own river, by what it let pass, and in riichi for good", counted, () => {
   const own = [drawn(0, "1p"), discarded(0, "1p")];
   assert.equal(isFuriten([]), false);
   assert.equal(isFuriten(own.slice(0, 1)), false);
@@ -77,8 +107,8 @@ test("a seat is furiten by its own river, by what it let pass, and in riichi for
   assert.equal(isFuriten([...reach, drawn(1, "9p"), discarded(1, "9p"), drawn(2, "1m")]), false);
 });
 
-test("tiles left of a wait are those that the seat doesn't see", () => {
-  const left = deeds => nearnessOf(stateAfter(deeds), 0).waits.map(({kind, left: count}) => `${kind} ${count}`).join(", ");
+test("tiles left of a wait are those that the seat doesn't see", counted, () => {
+  const left = deeds => nearnessOf(stateAfter(deeds), 0, library).waits.map(({kind, left: count}) => `${kind} ${count}`).join(", ");
   assert.equal(left([]), "1p 4, 4p 4");
   assert.equal(left([drawn(0, "1p")]), "1p 3, 4p 4");
   const passed = [drawn(0, "C"), discarded(0, "C"), drawn(1, "4p"), discarded(1, "4p")];
@@ -93,7 +123,7 @@ test("one seat's view has backs for the others' tiles", () => {
   const state = seenBy(stateAfter([drawn(0, "1p")]), 1);
   assert.deepEqual([new Set(state.seats[0].hand), state.seats[0].drawn], [new Set(["?"]), "?"]);
   assert.deepEqual(state.seats[1].hand, sorted(START.tehais[1]));
-  assert.equal(nearnessOf(state, 0), null);
+  assert.equal(nearnessOf(state, 0, library), null);
   assert.equal(toldTo(drawn(0, "1p"), 1).pai, "?");
   assert.equal(toldTo(drawn(0, "1p"), 0).pai, "1p");
 });

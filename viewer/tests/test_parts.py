@@ -13,6 +13,7 @@ import build
 
 HERE = pathlib.Path(__file__).parent
 SOURCES = sorted((HERE.parent / "src").glob("*.js"))
+LIBRARY = build.LIBRARY.with_suffix(".js")
 TYPES = ["--allowJs", "--checkJs", "--noEmit", "--strict", "--target", "es2022", "--module", "es2022", "--lib", "es2022,dom,dom.iterable"]
 
 
@@ -46,13 +47,15 @@ class Parts(unittest.TestCase):
 
     @unittest.skipUnless(shutil.which("tsc"), "no tsc: install node-typescript")
     def test_the_types_hold(self) -> None:
-        told = subprocess.run(["tsc", *TYPES, *SOURCES], capture_output=True, text=True, timeout=200)
+        told = subprocess.run(["tsc", *TYPES, LIBRARY, *SOURCES], capture_output=True, text=True, timeout=200)
         self.assertEqual((told.stdout, told.returncode), ("", 0))
 
     @unittest.skipUnless(shutil.which("node"), "no node: install nodejs")
     def test_the_model(self) -> None:
-        told = subprocess.run(["node", "--no-warnings", "--test", HERE / "model.test.mjs"], capture_output=True, text=True, timeout=100)
+        words = ["node", "--no-warnings", "--experimental-wasm-memory64", "--test", str(HERE / "model.test.mjs")]
+        told = subprocess.run(words, capture_output=True, text=True, timeout=100)
         self.assertEqual(told.returncode, 0, told.stdout + told.stderr)
+        self.assertIn("# skipped 0", told.stdout)
 
 
 if __name__ == "__main__":

@@ -415,6 +415,19 @@ class Viewer(Page):
                             self.assertEqual(count, left[kind], f"{name} hand {place + 1} deed {deed} seat {seat} {kind}")
         self.assertGreater(len(answers), 500)
 
+    def test_without_64_bit_memories_no_numbers_are_shown(self) -> None:
+        """All else is shown as ever."""
+        old = self.browser.call("Page.addScriptToEvaluateOnNewDocument", source="WebAssembly.validate = () => false;")["identifier"]
+        self.addCleanup(self.browser.call, "Page.removeScriptToEvaluateOnNewDocument", identifier=old)
+        text = RECORDS["each_call"]
+        self.drop(text, "#hand=1&deed=1&lang=en")
+        self.assertEqual(self.text("problem"), "")
+        self.assertEqual(self.tables(), list(model.tables_of(text)))
+        shown = "[document.getElementById('seats').checkVisibility(), document.querySelectorAll('[data-wait]').length, document.body.innerText]"
+        is_there, waits, words = self.browser.run(shown)
+        self.assertEqual((is_there, waits), (False, 0))
+        self.assertNotIn("-shanten", words)
+
     def test_words_in_each_language(self) -> None:
         self.drop(RECORDS["whole_game"], "#hand=8&deed=75&lang=en")
         said = {}

@@ -1,7 +1,8 @@
 #!/usr/bin/env python3
 """The page's numbers of a hand, in node, beside those of the command `hand`.
 
-usage: RIICHI_PAGE=riichi_page.wasm RIICHI_TABLE=riichi_table test_page.py     Without the two, or without node, all tests are skipped.
+usage: RIICHI_TABLE=riichi_table test_page.py     Without the program or without node all tests are skipped. With RIICHI_PAGE, a library that build.sh has
+just made, that one is tried, and it must be the one that stands here.
 """
 from __future__ import annotations
 
@@ -15,15 +16,17 @@ from pathlib import Path
 from typing import Any
 
 HERE = Path(__file__).resolve().parent
-PAGE, PROGRAM, NODE = os.environ.get("RIICHI_PAGE", ""), os.environ.get("RIICHI_TABLE", ""), shutil.which("node")
+STORED = HERE.parent / "riichi_page.wasm"
+PAGE, PROGRAM, NODE = os.environ.get("RIICHI_PAGE", str(STORED)), os.environ.get("RIICHI_TABLE", ""), shutil.which("node")
 NAMES = [f"{number}{suit}" for suit in "mps" for number in range(1, 10)] + list("ESWNPFC")
+# (a module is named by its text, since node takes a file of this name for none)
 ASK = r"""
 const fs = require("fs");
-const { load } = require(process.argv[1]);
-load(fs.readFileSync(process.argv[2])).then((hands) => {
+const text = fs.readFileSync(process.argv[1]).toString("base64");
+import(`data:text/javascript;base64,${text}`).then(({load}) => {
+    const hands = load(fs.readFileSync(process.argv[2]));
     const asked = JSON.parse(fs.readFileSync(0, "utf8"));
-    const told = asked.map(([call, ...given]) => { const answer = hands[call](...given); return answer === undefined ? null : answer; });
-    process.stdout.write(JSON.stringify(told));
+    process.stdout.write(JSON.stringify(asked.map(([call, ...given]) => hands[call](...given))));
 });
 """
 
@@ -78,9 +81,13 @@ def told_by_program(held: list[int], melds: list[dict[str, Any]]) -> tuple[int, 
     return int(lines[0][1]), lines[1][1:], [kind for kind in lines[2][1:] if kind != "-"]
 
 
-@unittest.skipUnless(PAGE and PROGRAM and NODE, "no RIICHI_PAGE, RIICHI_TABLE or node")
+@unittest.skipUnless(PROGRAM and NODE, "no RIICHI_TABLE or node")
 class Page(unittest.TestCase):
     """The calls of the page."""
+
+    def test_the_library_is_the_one_that_stands_here(self) -> None:
+        """What was built now has the bytes of the stored one."""
+        self.assertEqual(Path(PAGE).read_bytes(), STORED.read_bytes(), "run bindings/page/build.sh")
 
     def test_shanten_target_and_waits(self) -> None:
         """Of hands at random they are those of the command `hand`."""
