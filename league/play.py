@@ -141,7 +141,8 @@ class Game:
         """Waits until the server ends, and raises Broken where it doesn't end well."""
         _, said = await server.communicate()
         if server.returncode:
-            raise Broken(f"the server {how_it_ended(server.returncode)}: {said.decode('utf-8', 'replace').strip()}")
+            words = [f"the server {how_it_ended(server.returncode)}", said.decode("utf-8", "replace").strip()]
+            raise Broken(": ".join(filter(None, words)))
 
     async def seat_all(self) -> None:
         """Seats the programs one after the other, and waits until their bridges have ended."""

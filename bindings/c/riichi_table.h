@@ -106,8 +106,8 @@ uint32_t riichi_run(const uint8_t *words, size_t words_length, const uint8_t *in
  * lines "wall ..", each with its newline, as a record begins. DONE, IN_PLAY, BAD_SETTING or NO_MEMORY. */
 uint32_t riichi_table_open(riichi_table *table, const uint8_t *setting, size_t setting_length);
 
-/* The same with the walls number `first` on of a seed of 32 bytes: 1 to 200 walls, a limit of 1 to 3,600,000 milliseconds for a window,
- * whether the draw reasons are in force, and whether the walls have red fives. */
+/* Puts a game on a table that has none, with the walls number `first` on of a seed of 32 bytes: 1 to 200 walls, a limit of 1 to 3,600,000
+ * milliseconds for a window, whether the draw reasons are in force, and whether the walls have red fives. */
 uint32_t riichi_table_open_seed(riichi_table *table, const uint8_t *seed, size_t seed_length, uint64_t first, uint32_t walls,
                                 uint64_t limit, bool draws, bool red);
 

@@ -45,7 +45,7 @@ arrivals += [f'say {seat} {{"type":"none"}}' for _ in ("start of the game", "sta
 print(safe(0, "\n".join([*arrivals, ""])))
 print(selfplay(7))
 
-# %% The same as a turn-based environment, in PettingZoo's form
+# %% A turn-based environment, in PettingZoo's form
 from riichi_table.aec import RiichiEnv  # noqa: E402
 
 env = RiichiEnv(red=False)

@@ -157,7 +157,7 @@ class DyingServer(unittest.TestCase):
     def test_a_server_that_fails_is_said_and_tried_again(self) -> None:
         told = self.league.play(4, "--tries", "2", program="/bin/false")
         self.assertEqual(told.returncode, 1)
-        self.assertIn("game 1: broke, try 2 of 2: the server ended with 1: \n", told.stderr)
+        self.assertIn("game 1: broke, try 2 of 2: the server ended with 1\n", told.stderr)
         self.assertIn(" broke 2 times, the last time since the server ended with 1", told.stderr)
 
     def test_a_server_that_dies_is_seen_within_a_second(self) -> None:

@@ -129,7 +129,7 @@ class Table:
         return self.sit_line(json.dumps(join).encode())
 
     def sit_line(self, line: bytes) -> int:
-        """The same for a line as it came."""
+        """`sit` by a line as it came."""
         self._check(lib.LIBRARY.riichi_table_sit(self._at, line, len(line), self._number_at))
         return self._number.value
 
@@ -164,7 +164,7 @@ class Table:
         return self.say(seat, json.dumps(action).encode())
 
     def say(self, seat: int, line: bytes) -> bool:
-        """The same for a line as it came."""
+        """`step` by a line as it came."""
         answer = lib.LIBRARY.riichi_table_say(self._at, _seat(seat), line, len(line), self._number_at)
         return self._check(answer) == lib.DONE
 

@@ -153,7 +153,7 @@ class Commands(unittest.TestCase):
         self.assertGreater(found, 700)
 
     def test_other_cases(self) -> None:
-        """The same of a folder of cases that RIICHI_CASES names."""
+        """So does each run of a folder of cases that RIICHI_CASES names."""
         folder = os.environ.get("RIICHI_CASES")
         if not folder:
             self.skipTest("no RIICHI_CASES")

@@ -50,7 +50,7 @@ fn sit(alloc: Global, core: &mut Core, line: &[u8], seat: &mut u32) -> u32
     sit_within(alloc, core, line, seat)
 }
 
-// The same of a line that isn't too long.
+// Somebody wants a seat by a line that isn't too long.
 fn sit_within(alloc: Global, core: &mut Core, line: &[u8], seat: &mut u32) -> u32
     ensures { SitsWithin line.now seat.old seat.new core.old core.new result }
 {

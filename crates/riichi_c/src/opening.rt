@@ -34,9 +34,9 @@ pub extern "C" fn riichi_table_open(alloc: Global, table: &mut Table, setting: &
     }
 }
 
-/// The same with the walls `first`, `first + 1`, and so on of a seed of 32 bytes, 1 to 200 of them, the limit of a window, 1 to
-/// 3600000 milliseconds, and whether the draw reasons are in force and red fives are in the walls. BAD_SETTING where one of these is
-/// out of its range.
+/// A game is put on a table that has none, with the walls `first`, `first + 1`, and so on of a seed of 32 bytes, 1 to 200 of them, the
+/// limit of a window, 1 to 3600000 milliseconds, and whether the draw reasons are in force and red fives are in the walls. BAD_SETTING
+/// where one of these is out of its range.
 #[unsafe(no_mangle)]
 pub extern "C" fn riichi_table_open_seed(
     alloc: Global,
