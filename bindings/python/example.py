@@ -50,7 +50,9 @@ from riichi_table.aec import RiichiEnv  # noqa: E402
 
 env = RiichiEnv(red=False)
 env.reset(seed=1)
+total = dict.fromkeys(env.possible_agents, 0.0)
 for agent in env.agent_iter():
     observation, reward, termination, truncation, info = env.last()
-    env.step(None if termination else observation["action_mask"].index(1))
-print(env.rewards)
+    total[agent] += reward
+    env.step(None if termination or truncation else env.action_space(agent).sample(observation["action_mask"]))
+print(total)

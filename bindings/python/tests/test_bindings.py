@@ -5,6 +5,7 @@ usage: RIICHI_TABLE_LIBRARY=libriichi_table.so test_bindings.py     Without the 
 """
 from __future__ import annotations
 
+import importlib.util
 import os
 import random
 import subprocess
@@ -17,9 +18,9 @@ from pathlib import Path
 from typing import Any, Callable, Iterator, cast
 
 ROOT = Path(__file__).resolve().parents[3]
-CASES = ROOT / "crates" / "riichi_cases" / "data"
+CASES, PYTHON = ROOT / "crates" / "riichi_cases" / "data", ROOT / "bindings" / "python"
 LIBRARY = os.environ.get("RIICHI_TABLE_LIBRARY", "")
-sys.path.insert(0, str(ROOT / "bindings" / "python"))
+sys.path.insert(0, str(PYTHON))
 HELLO = b'{"type":"hello","protocol":"mjsonp","protocol_version":3}\n'
 
 if LIBRARY:
@@ -316,6 +317,91 @@ class Tables(unittest.TestCase):
             turns += 1
         self.assertGreater(turns, 100)
         self.assertEqual(env.agents, [])
+
+    def test_order_of_calls_of_an_environment(self) -> None:
+        """The rules that PettingZoo's own test of environments checks, over two games with random actions."""
+        env = RiichiEnv(walls=200)
+        actions, observations = env.action_space("seat_0"), env.observation_space("seat_0")
+        for seed in (3, 4):
+            env.reset(seed=seed)
+            gathered, alive = dict.fromkeys(env.agents, 0.0), set(env.agents)
+            finished: set[str] = set()
+            self.assertEqual((env.agents, env.num_agents, env.max_num_agents), (env.possible_agents, 4, 4))
+            self.assertFalse(any(env.terminations.values()) or any(env.truncations.values()))
+            for agent in env.agent_iter(1_000_000):
+                self.assertNotIn(agent, finished)
+                seen, reward, termination, truncation, info = env.last()
+                self.assertEqual(env.last(observe=False)[:2], (None, reward))
+                self.assertTrue(observations.contains(seen))
+                self.assertEqual(reward, gathered[agent])
+                self.assertLessEqual(alive, set(env.agents))
+                self.assertIs(env.action_space(agent), actions)
+                gathered[agent] = 0.0
+                if termination:
+                    alive.remove(agent)
+                    finished.add(agent)
+                    with self.assertRaises(ValueError):
+                        env.step(0)
+                    env.step(None)
+                else:
+                    for wrong in (None, -1, len(info["actions"])):
+                        with self.assertRaises(ValueError):
+                            env.step(wrong)
+                    env.step(actions.sample(seen["action_mask"]))
+                for other, more in env.rewards.items():
+                    gathered[other] += more
+                for kept in cast(list[dict[str, Any]], [env.rewards, env.terminations, env.truncations, env.infos]):
+                    self.assertEqual(set(kept), set(env.agents))
+                self.assertEqual(env.num_agents, len(env.agents))
+            self.assertEqual((finished, env.agents), (set(env.possible_agents), []))
+        # a game may be left in its midst
+        env.reset(seed=5)
+        for agent in env.agent_iter(20):
+            env.step(actions.sample(env.last()[0]["action_mask"]))
+        env.reset()
+        env.close()
+
+    def test_environment_where_pettingzoo_is(self) -> None:
+        """It is one of PettingZoo's then, its spaces are Gymnasium's, and its masks are arrays. (The three packages are played here.)"""
+        modules = {
+            "pettingzoo": "class AECEnv: pass\n", "numpy": "def array(bits, dtype): return (dtype, tuple(bits))\n", "gymnasium/__init__": "",
+            "gymnasium/spaces": "class Space: pass\nclass Discrete(Space):\n    def __init__(self, n): self.n = n\n",
+        }
+        code = """
+import gymnasium.spaces, pettingzoo
+from riichi_table.aec import RiichiEnv
+env = RiichiEnv()
+assert isinstance(env, pettingzoo.AECEnv)
+assert isinstance(env.action_space("seat_0"), gymnasium.spaces.Discrete) and env.action_space("seat_0").n == 128
+assert isinstance(env.observation_space("seat_0"), gymnasium.spaces.Space)
+env.reset(seed=7)
+kind, bits = env.last()[0]["action_mask"]
+assert kind == "int8" and len(bits) == 128 and sum(bits) == len(env.last()[4]["actions"])
+"""
+        with tempfile.TemporaryDirectory() as folder:
+            (Path(folder) / "gymnasium").mkdir()
+            for name, text in modules.items():
+                (Path(folder) / f"{name}.py").write_text(text)
+            path = os.pathsep.join([folder, sys.path[0]])
+            subprocess.run([sys.executable, "-c", code], check=True, env={**os.environ, "PYTHONPATH": path})
+
+    @unittest.skipUnless(importlib.util.find_spec("ensurepip"), "no pip for a new environment: install python3-venv")
+    def test_wheel(self) -> None:
+        """The wheel, installed without the network in an environment of its own, runs the example; made twice it has the same bytes."""
+        builder, library = PYTHON / "wheel_builder.py", str(Path(LIBRARY).resolve())
+        with tempfile.TemporaryDirectory() as folder:
+            built = []
+            for name in ("one", "two"):
+                words = [sys.executable, str(builder), "--library", library, os.path.join(folder, name)]
+                built.append(subprocess.run(words, capture_output=True, text=True, check=True).stdout.strip())
+            self.assertEqual(*(Path(path).read_bytes() for path in built))
+            subprocess.run([sys.executable, "-m", "venv", os.path.join(folder, "env")], check=True)
+            python = os.path.join(folder, "env", "bin", "python")
+            subprocess.run([python, "-m", "pip", "install", "-q", "--no-index", "--disable-pip-version-check", built[0]], check=True)
+            known = {key: value for key, value in os.environ.items() if key not in ("PYTHONPATH", "RIICHI_TABLE_LIBRARY")}
+            ran = subprocess.run([python, "-I", str(PYTHON / "example.py")], capture_output=True, text=True, env=known)
+            self.assertEqual((ran.returncode, ran.stderr), (0, ""))
+            self.assertIn("'shanten': 0", ran.stdout)
 
     def test_import_is_quick(self) -> None:
         """The package is there in less than 50 milliseconds of the processor."""
