@@ -34,9 +34,9 @@ TESTS='
 400 league/tests/test_cluster.py
 300 tools/tests/test_release.py
 900 viewer/tests/test_viewer.py
-60 bindings/page/tests/test_page.py
+120 bindings/page/tests/test_page.py
 400 bindings/c/tests/test_c.py
-200 bindings/python/tests/test_bindings.py
+400 bindings/python/tests/test_bindings.py
 '
 
 say() {
