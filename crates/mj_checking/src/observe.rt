@@ -8,20 +8,16 @@ ghost use Rattle.mj_checking.specs.Inner.Observing.{WritesView};
 ghost use Rattle.mj_checking.specs.Statuses.{replay_status};
 ghost use Rattle.mj_runs.specs.Faults.{CountsReadFaults, CountsWriteFaults};
 
-use mj_runs::{LONGEST, with_room};
 use crate::replay::ReplayEnd;
 use mj_links::{ReadAll, Sink, Source, WriteAll, read_all, write_all};
 use mj_observe::Observer;
 use mj_replay::{Deeds, Played, read_played};
+use mj_runs::{LONGEST, with_room};
 use std::alloc::{AllocError, Global};
 
 /// Reads the whole input and writes the public view of its record.
 #[tactic(auto, using(crate::proofs::ObserveLaws::viewed))]
-pub fn observe_of<S: Source, K: Sink>(
-    alloc: Global,
-    source: &mut S,
-    sink: &mut K,
-) -> ReplayEnd
+pub fn observe_of<S: Source, K: Sink>(alloc: Global, source: &mut S, sink: &mut K) -> ReplayEnd
     ensures run { Observes result (S.left source.old) (S.left source.new) (K.written sink.old)
         (K.written sink.new) }
     ensures reads { CountsReadFaults (replay_status result) (S.read_faults source.old)

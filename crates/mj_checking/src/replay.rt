@@ -6,9 +6,9 @@ ghost use Rattle.mj_checking.specs.Inner.Replaying.{WritesSummary};
 ghost use Rattle.mj_checking.specs.Statuses.{replay_status};
 ghost use Rattle.mj_runs.specs.Faults.{CountsReadFaults, CountsWriteFaults};
 
-use mj_runs::{LONGEST, with_room};
 use mj_links::{ReadAll, Sink, Source, WriteAll, read_all, write_all};
 use mj_replay::{Cause, Checked, Summary, check};
+use mj_runs::{LONGEST, with_room};
 use mj_selfplay::result_lines;
 use std::alloc::Global;
 
@@ -31,11 +31,7 @@ pub enum ReplayEnd {
 
 /// Reads the whole input and writes what its record comes to.
 #[tactic(auto, using(crate::proofs::ReplayLaws::replayed))]
-pub fn replay_of<S: Source, K: Sink>(
-    alloc: Global,
-    source: &mut S,
-    sink: &mut K,
-) -> ReplayEnd
+pub fn replay_of<S: Source, K: Sink>(alloc: Global, source: &mut S, sink: &mut K) -> ReplayEnd
     ensures run { Replays result (S.left source.old) (S.left source.new) (K.written sink.old)
         (K.written sink.new) }
     ensures reads { CountsReadFaults (replay_status result) (S.read_faults source.old)

@@ -73,7 +73,9 @@ pub fn run<S: Source, K: Sink, H: Host, C: Clock, D: Disk, R: Threads + Wait + S
     }
     if begins_with(words, "serve") {
         return match serving_of(alloc, words) {
-            Ok(Some(serving)) => status_of_serve(serve_game(rt, alloc, &serving, sink, host, clock)),
+            Ok(Some(serving)) => status_of_serve(serve_game(
+                rt, alloc, &serving, sink, host, clock,
+            )),
             Ok(None) => Status::Words,
             Err(_) => Status::NoMemory,
         };

@@ -14,13 +14,13 @@ ghost use Rattle.mj_refereeing.specs.Statuses.{keep_status};
 ghost use Rattle.mj_runs.specs.Faults.{CountsReadFaults, CountsWriteFaults, CountsDiskFaults};
 
 use crate::base::{Base, Founded, read_base};
-use mj_runs::{LONGEST, with_room};
 use crate::intake::End;
 use crate::keeping::{AllNoted, keep_lines};
 use crate::watched::Watched;
 use mj_core::Core;
 use mj_journal::{Disk, Kept, NotOpened};
 use mj_links::{ReadAll, Sink, Source, WriteAll, read_all, write_all};
+use mj_runs::{LONGEST, with_room};
 use std::alloc::Global;
 
 /// How the command `keep` ends.

@@ -8,9 +8,9 @@ ghost use Rattle.mj_refereeing.specs.Inner.Refereeing.{RefereesInput};
 ghost use Rattle.mj_refereeing.specs.Statuses.{referee_status};
 ghost use Rattle.mj_runs.specs.Faults.{CountsReadFaults, CountsWriteFaults};
 
-use mj_runs::{LONGEST, with_room};
 use crate::intake::{End, Question, take_in};
 use mj_links::{ReadAll, Sink, Source, WriteAll, read_all, write_all};
+use mj_runs::{LONGEST, with_room};
 use std::alloc::Global;
 
 /// How the commands `referee` and `safe` end.
