@@ -11,7 +11,9 @@ use Rattle.mj_ports.specs.declared.entry.Entry.TheVariants.{Sat, Back}
 use Rattle.mj_ports.specs.declared.answers.SitAnswer.TheVariants as sit
 use Rattle.mj_ports.specs.Entries.{author_of}
 use Rattle.mj_session.specs.Histories.{Enters, begins_one, places_from, places_of}
-use Rattle.mj_session.specs.Sessions.{Ended, GameOver, PeerEnded, LinkFault, LineTooLong, TooManyRefusals, NotSeated, NoMemory, SeatedSession, GivesSeat, said_by, last_entry}
+use Rattle.mj_session.specs.declared.served.Ended.{Ended}
+use Rattle.mj_session.specs.declared.served.Ended.TheVariants.{GameOver, PeerEnded, LinkFault, LineTooLong, TooManyRefusals, NotSeated, NoMemory}
+use Rattle.mj_session.specs.Sessions.{SeatedSession, GivesSeat, said_by, last_entry}
 use Rattle.mj_seats.specs.Handlers.{Session, Handled}
 use Rattle.mj_session.specs.Wires.{WireState}
 

@@ -13,7 +13,9 @@ use Rattle.mj_ports.specs.Entries.{author_of, IsAside}
 use Rattle.mj_ports.specs.Seats.{Stays, StaysEnded, Unmoved, Answers, Leaves, Adds}
 use Rattle.mj_seats.specs.declared.handle.HandlerEnd.TheVariants as end
 use Rattle.mj_session.specs.Histories.{Enters, begins_one, places_of}
-use Rattle.mj_session.specs.Sessions.{Ended, GameOver, PeerEnded, LinkFault, LineTooLong, TooManyRefusals, NotSeated, NoMemory, said_by, last_entry}
+use Rattle.mj_session.specs.declared.served.Ended.{Ended}
+use Rattle.mj_session.specs.declared.served.Ended.TheVariants.{GameOver, PeerEnded, LinkFault, LineTooLong, TooManyRefusals, NotSeated, NoMemory}
+use Rattle.mj_session.specs.Sessions.{said_by, last_entry}
 use Rattle.mj_seats.specs.Handlers.{HandlerEnd, Session, Handled, HandlerEnds, WantsMemory}
 use Rattle.mj_seats.specs.Inner.Joined.{AllLeft}
 use Rattle.mj_seats.specs.Ticks.{Ticks, Timed}
