@@ -2,6 +2,7 @@ mod Brought
 mod CourseKept
 pub mod EachSeat
 mod FewKept
+mod FitsKept
 pub mod Gathered
 pub mod HandsKept
 mod KindsAmong

@@ -1,2 +1,3 @@
 -- What only this crate and its proofs name.
+pub mod Fitting
 pub mod Passing

@@ -52,8 +52,8 @@ fn bring_tiles(brought: &mut [u8; KINDS], tiles: &[Tile])
     }
 }
 
-/// Whether no kind is brought in a fifth time by a deed, where so many tiles of each kind were before, four at most.
-pub fn keeps_kinds(before: &[u8; KINDS], deed: &Deed) -> bool
+// Whether no kind is brought in a fifth time by a deed, where so many tiles of each kind were before, four at most.
+pub(crate) fn keeps_kinds(before: &[u8; KINDS], deed: &Deed) -> bool
     ensures { ((kind : ℕ) → kind < 34 → slice_index before.now kind ≤ 4) → result
         ≡ list_all (λ kind. nat_le
         (slice_index before.now kind + number_of (brought_by deed.now) kind) 4) all_kinds }

@@ -7,7 +7,7 @@ use Rattle.std.proofs.lemmas.Bool.{cases_eq, cases_lt, lt-ltb, le-ltb, eq-eqb, n
 use Rattle.std.proofs.lemmas.List.{append_assoc, replicate-append-replicate}
 use Rattle.mj_tiles.specs.Counts.{all_kinds}
 use Rattle.mj_shanten.specs.Shanten.{sorted_kinds}
-use Rattle.mj_suits.proofs.Choices.{cmp_after}
+use Rattle.mj_suits.proofs.Comparing.{cmp_after}
 use Rattle.mj_shanten.proofs.Sums.{sum-cons}
 
 -- the kinds from one on, each so often

@@ -10,6 +10,7 @@ pub mod Ends
 pub mod Best
 pub mod Made
 pub mod Nine
+pub mod Comparing
 pub mod Choices
 pub mod Tables
 pub mod Walks

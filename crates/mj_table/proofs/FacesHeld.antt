@@ -26,7 +26,8 @@ use Rattle.mj_table.proofs.OneLess.{none_left, some_left}
 use Rattle.mj_table.proofs.Readers.{gained_within, holds_few}
 use Rattle.mj_table.specs.Plays.{Play}
 use Rattle.mj_wall.specs.declared.setting.Rules.{Rules}
-use Rattle.mj_table.specs.Inner.Kept.{Holds, Moves, tiles_held, held_before}
+use Rattle.mj_facts.specs.Holding.{Holds}
+use Rattle.mj_table.specs.Inner.Kept.{Moves, tiles_held, held_before}
 
 -- one tile further
 

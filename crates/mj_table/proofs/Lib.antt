@@ -1,6 +1,5 @@
 mod FacesHeld
 mod FaceSums
-mod FitsKept
 mod HeldKinds
 pub mod InHand
 mod LatestKept

@@ -34,7 +34,8 @@ use Rattle.mj_deeds.specs.declared.four.Four.{Four}
 use Rattle.mj_deeds.specs.Four.{at_seat}
 use Rattle.mj_facts.specs.declared.hand_facts.HandFacts.{HandFacts}
 use Rattle.mj_facts.specs.Hands.{Knows, hand_with}
-use Rattle.mj_table.specs.Inner.Kept.{Stands, Holds, beside}
+use Rattle.mj_facts.specs.Holding.{Holds}
+use Rattle.mj_table.specs.Inner.Kept.{Stands, beside}
 use Rattle.mj_table.specs.Inner.Latest.{previous_with}
 use Rattle.mj_deeds.proofs.FitSteps.{number_of_four}
 use Rattle.mj_deeds.proofs.Fitted.{all_fit-append, four_of_kind, parts_of}

@@ -1,7 +1,8 @@
 ghost use Rattle.std.specs.Prelude.{◌≡◌, ◌≤◌, ◌+◌, ◌-◌, [], ℕ, slice_index};
 ghost use Rattle.mj_tiles.specs.Faces.{number_in};
 ghost use Rattle.mj_deeds.specs.Four.{at_seat};
-ghost use Rattle.mj_table.specs.Inner.Kept.{Holds, Moves};
+ghost use Rattle.mj_facts.specs.Holding.{Holds};
+ghost use Rattle.mj_table.specs.Inner.Kept.{Moves};
 
 use mj_deeds::{Deed, Four};
 use mj_tiles::{FACES, Tile};

@@ -3,7 +3,6 @@
 
 mod counting;
 mod course;
-mod fitting;
 mod held;
 mod latest;
 mod room;

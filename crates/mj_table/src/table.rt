@@ -21,7 +21,6 @@ ghost use Rattle.mj_deeds.specs.Standings.{standing};
 
 use crate::counting::{kinds_held, tiles_held};
 use crate::course::{before_wins, cause, drawn, taken};
-use crate::fitting::fits_in;
 use crate::held::{move_tiles, nothing_held};
 use crate::latest::{Latest, copy_of};
 use crate::room::room_beside;
@@ -30,7 +29,9 @@ use crate::standing::stand;
 use mj_deeds::{
     Deed, Four, Reason, Tiles, deposits_after, has_points, is_hand_start, is_in_place, points_after,
 };
-use mj_facts::{HandFacts, Marks, SeatFacts, hand_end, has_triplet, learn, no_facts, reason};
+use mj_facts::{
+    HandFacts, Marks, SeatFacts, fits_in, hand_end, has_triplet, learn, no_facts, reason,
+};
 use mj_past::Past;
 use mj_rounds::{HandEnd, Standing, first};
 use mj_tiles::{Counts, FACES, Kinds, Melds, Tile};

@@ -85,7 +85,8 @@ pub record ByBegin (aim : Aim) (level : Level) (others : List Level) (plan : Pla
   pub rest : List ℕ
   pub tiles_are : tiles ≡ tiles_at plan begin ∷ rest
   pub may : MayBegin aim level plan begin
-  pub more : Goes_on aim others begin.runs plan.before (plan.sets - (begin.runs + begin.triplets)) (plan.pairs - begin.pairs) (plan.left + (tiles_at plan begin - level.held)) rest sets_after pairs_after
+  pub more : Goes_on aim others begin.runs plan.before (plan.sets - (begin.runs + begin.triplets)) (plan.pairs - begin.pairs)
+      (plan.left + (tiles_at plan begin - level.held)) rest sets_after pairs_after
 
 -- the same where so many tiles begin there: runs and a triplet or none, or runs and a pair
 abbrev pub sets_alone : ℕ → Begin

@@ -5,7 +5,7 @@ use Rattle.mj_rounds.specs.declared.rounds.Standing.{Standing}
 use Rattle.mj_deeds.specs.declared.deed.Deed.{Deed}
 use Rattle.mj_deeds.specs.declared.four.Four.{Four}
 use Rattle.mj_deeds.specs.Four.{at_seat}
-use Rattle.mj_deeds.specs.Facts.{newest, gains_by, losses_by, tiles_gained, tiles_lost}
+use Rattle.mj_deeds.specs.Facts.{newest, gains_by, losses_by}
 use Rattle.mj_deeds.specs.Fits.{all_fit}
 use Rattle.mj_deeds.specs.Hand.{is_hand_start, hand}
 use Rattle.mj_deeds.specs.Points.{points, deposits}
@@ -13,13 +13,10 @@ use Rattle.mj_deeds.specs.Standings.{standing}
 use Rattle.mj_wall.specs.declared.setting.Rules.{Rules}
 use Rattle.mj_facts.specs.declared.hand_facts.HandFacts.{HandFacts}
 use Rattle.mj_facts.specs.Hands.{Knows}
+use Rattle.mj_facts.specs.Holding.{Holds}
 use Rattle.mj_table.specs.Inner.Latest.{previous}
 
--- A seat holds so many tiles of each face in one hand: those that it holds and those that it put down are those given to it.
-abbrev pub Holds : List Deed → ℕ → List ℕ → Type 0
-Holds deeds seat held = (face : ℕ) → face < 37 → slice_index held face + number_in (tiles_lost deeds seat) face ≡ number_in (tiles_gained deeds seat) face
-
--- The same of each seat in the newest hand.
+-- How many tiles of each face each seat holds in the newest hand.
 abbrev pub AllHold : List Deed → Four (List ℕ) → Type 0
 AllHold deeds tiles = (seat : ℕ) → seat ≤ 3 → Holds (hand deeds) seat (at_seat tiles seat)
 

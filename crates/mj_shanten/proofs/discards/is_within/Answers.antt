@@ -6,7 +6,8 @@ pub returns-then-not-has : goal.returns-then-not-has
 returns-then-not-has c = λ discard. not_among _ _ _ _ _ _ c.has.result c.has.ensures c.if-not-has.true discard
 
 pub returns-then-held-number-eq0 : goal.returns-then-held-number-eq0
-returns-then-held-number-eq0 c = λ discard. not_held _ _ _ _ _ _ _ c.held.ensures.size c.held.ensures.held (ap (λ k. get_or c.held.result.now k 0) (sym c.number.ensures.value) ∙ c.if-held-number-eq0.true) discard
+returns-then-held-number-eq0 c = λ discard. not_held _ _ _ _ _ _ _ c.held.ensures.size c.held.ensures.held
+    (ap (λ k. get_or c.held.result.now k 0) (sym c.number.ensures.value) ∙ c.if-held-number-eq0.true) discard
 
 pub returns : goal.returns
 returns c =

@@ -6,7 +6,10 @@ pub loop-number-init : goal.loop-number-init
 loop-number-init c = (omega arith, more_from_last _ _ _ _ _ _ (omega arith))
 
 pub loop-number-preserved : goal.loop-number-preserved
-loop-number-preserved c = (omega arith, more_from_here _ _ _ _ _ _ _ _ (omega arith) (omega arith) c.at-kind.ensures (when_false _ _ _ c.is_within.ensures c.if-is_within.false) c.loop-number.invariant.1)
+loop-number-preserved c = (
+  omega arith,
+  more_from_here _ _ _ _ _ _ _ _ (omega arith) (omega arith) c.at-kind.ensures (when_false _ _ _ c.is_within.ensures c.if-is_within.false) c.loop-number.invariant.1,
+)
 
 pub returns-then-is_within : goal.returns-then-is_within
 returns-then-is_within c =

@@ -12,10 +12,12 @@ loop-kind-preserved c = record {
 
 pub from_numbers-requires : goal.from_numbers-requires
 from_numbers-requires c =
-    let same : c.loop-kind.numbers ≡ take 34 c.args.wide.now = copied_all c.args.wide.now c.loop-kind.numbers c.loop-kind.kind c.loop-kind.invariant.size (omega arith) (omega arith) c.loop-kind.invariant.written in
+    let same : c.loop-kind.numbers ≡ take 34 c.args.wide.now =
+    copied_all c.args.wide.now c.loop-kind.numbers c.loop-kind.kind c.loop-kind.invariant.size (omega arith) (omega arith) c.loop-kind.invariant.written in
     subst NoFifth (sym same) c.requires.within
 
 pub returns : goal.returns
 returns c =
-    let same : c.loop-kind.numbers ≡ take 34 c.args.wide.now = copied_all c.args.wide.now c.loop-kind.numbers c.loop-kind.kind c.loop-kind.invariant.size (omega arith) (omega arith) c.loop-kind.invariant.written in
+    let same : c.loop-kind.numbers ≡ take 34 c.args.wide.now =
+    copied_all c.args.wide.now c.loop-kind.numbers c.loop-kind.kind c.loop-kind.invariant.size (omega arith) (omega arith) c.loop-kind.invariant.written in
     c.from_numbers.ensures ∙ same

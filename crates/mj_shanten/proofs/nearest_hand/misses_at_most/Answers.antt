@@ -11,5 +11,6 @@ returns-then-melds-gt0 c = sets_decide _ _ _ _ _ c.requires.few (omega arith) c.
 
 pub returns : goal.returns
 returns c =
-    all_decide _ _ c.held-held.result.now _ _ c.from-2.result _ (omega arith) c.held-held.ensures.held c.requires.room c.held-held.ensures.size c.held-held.ensures.room_size c.missing_of_sets-sets.ensures.least
+    all_decide _ _ c.held-held.result.now _ _ c.from-2.result _
+    (omega arith) c.held-held.ensures.held c.requires.room c.held-held.ensures.size c.held-held.ensures.room_size c.missing_of_sets-sets.ensures.least
     (subst (λ n. IsLeastWith c.held-held.result.now (IsSpecial 0) c.missing_of_sets-sets.result n) (sym c.from-2.ensures) c.with_special.ensures)

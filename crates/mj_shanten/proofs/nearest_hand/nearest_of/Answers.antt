@@ -5,13 +5,16 @@ use Rattle.mj_shanten.proofs.Least.{least_exchanges}
 use Rattle.mj_shanten.proofs.nearest_hand.nearest_of.Goals as goal
 
 pub overflow_sub-result : goal.overflow_sub-result
-overflow_sub-result c = (answer_says _ _ _ _ c.in-Some.answer _ _ c.requires c.held.ensures.size c.held.ensures.room_size c.held.ensures.held c.take_sets.ensures c.take_special.ensures c.in-Some.is).some
+overflow_sub-result c = (answer_says _ _ _ _ c.in-Some.answer _ _ c.requires c.held.ensures.size c.held.ensures.room_size c.held.ensures.held c.take_sets.ensures c.take_special.ensures
+    c.in-Some.is).some
 
 pub overflow_cast-result : goal.overflow_cast-result
-overflow_cast-result c = (let s = answer_says _ _ _ _ c.in-Some.answer _ _ c.requires c.held.ensures.size c.held.ensures.room_size c.held.ensures.held c.take_sets.ensures c.take_special.ensures c.in-Some.is in let f = s.few in omega arith)
+overflow_cast-result c = (let s = answer_says _ _ _ _ c.in-Some.answer _ _ c.requires c.held.ensures.size c.held.ensures.room_size c.held.ensures.held c.take_sets.ensures
+    c.take_special.ensures c.in-Some.is in let f = s.few in omega arith)
 
 pub counts_among-requires : goal.counts_among-requires
-counts_among-requires c = (answer_says _ _ _ _ c.in-Some.answer _ _ c.requires c.held.ensures.size c.held.ensures.room_size c.held.ensures.held c.take_sets.ensures c.take_special.ensures c.in-Some.is).are_counts
+counts_among-requires c = (answer_says _ _ _ _ c.in-Some.answer _ _ c.requires c.held.ensures.size c.held.ensures.room_size c.held.ensures.held c.take_sets.ensures
+    c.take_special.ensures c.in-Some.is).are_counts
 
 pub unreachable-requires : goal.unreachable-requires
 unreachable-requires c = never_none _ _ _ _ _ _ c.requires c.held.ensures.room_size c.held.ensures.held c.take_sets.ensures c.take_special.ensures c.in-None.is
@@ -23,4 +26,5 @@ returns c = record {
 }
   where
     nearest : IsShanten c.args.hand.now.counts c.args.hand.now.room c.args.melds (c.in-Some.answer.0 - 1) c.counts_among.result
-    nearest = (let s = answer_says _ _ _ _ c.in-Some.answer _ _ c.requires c.held.ensures.size c.held.ensures.room_size c.held.ensures.held c.take_sets.ensures c.take_special.ensures c.in-Some.is in subst (λ t. IsShanten c.args.hand.now.counts c.args.hand.now.room c.args.melds (c.in-Some.answer.0 - 1) t) (sym c.counts_among.ensures) s.shanten)
+    nearest = (let s = answer_says _ _ _ _ c.in-Some.answer _ _ c.requires c.held.ensures.size c.held.ensures.room_size c.held.ensures.held c.take_sets.ensures c.take_special.ensures
+        c.in-Some.is in subst (λ t. IsShanten c.args.hand.now.counts c.args.hand.now.room c.args.melds (c.in-Some.answer.0 - 1) t) (sym c.counts_among.ensures) s.shanten)

@@ -29,7 +29,8 @@ loop-kind-preserved c =
     let ones : c.loop-kind.once - bool_byte (leb 1 (get_or c.args.held.now c.loop-kind.kind 0)) ≡ so_often 1 (drop (c.loop-kind.kind + 1) (take 34 c.args.held.now)) = omega arith in
     record {
       size = length-set _ _ _ ∙ c.loop-kind.invariant.size;
-      whole = whole_kept c.args.held.now c.loop-kind.target _ c.loop-kind.kind c.loop-kind.left _ _ _ (omega arith) c.loop-kind.invariant.size (omega arith) c.loop-kind.invariant.whole twos ones c.is_taken-taken.ensures;
+      whole = whole_kept c.args.held.now c.loop-kind.target _ c.loop-kind.kind c.loop-kind.left _ _ _ (omega arith) c.loop-kind.invariant.size
+          (omega arith) c.loop-kind.invariant.whole twos ones c.is_taken-taken.ensures;
       twice = twos;
       once = ones;
       later = later_kept _ _ _ c.loop-kind.invariant.later;

@@ -10,8 +10,10 @@ read_more nine numbers from n inside before k few = elim (cases_eq k n) [
   | inr other ↦ get_or-set_other nine n k (get_or numbers (from + n) 0) 0 other ∙ before k (omega arith)
 ]
 
-read_all : (nine numbers : List ℕ) (from n : ℕ) → length nine ≡ 9 → length numbers ≡ 36 → from ≤ 27 → 9 ≤ n → ((k : ℕ) → k < n → get_or nine k 0 ≡ get_or numbers (from + k) 0) → nine ≡ take 9 (drop from numbers)
-read_all nine numbers from n a b far last read = ext_get_or 0 nine (take 9 (drop from numbers)) (a ∙ sym size) (λ k inside. read k (omega arith) ∙ sym (get_or-drop from numbers k 0) ∙ sym (get_or-take 9 (drop from numbers) k 0 (omega arith)))
+read_all : (nine numbers : List ℕ) (from n : ℕ) → length nine ≡ 9 → length numbers ≡ 36 → from ≤ 27 → 9 ≤ n → ((k : ℕ) → k < n → get_or nine k 0 ≡ get_or numbers (from + k) 0)
+    → nine ≡ take 9 (drop from numbers)
+read_all nine numbers from n a b far last read =
+    ext_get_or 0 nine (take 9 (drop from numbers)) (a ∙ sym size) (λ k inside. read k (omega arith) ∙ sym (get_or-drop from numbers k 0) ∙ sym (get_or-take 9 (drop from numbers) k 0 (omega arith)))
   where
     size : length (take 9 (drop from numbers)) ≡ 9
     size = length-take-le 9 (drop from numbers) (let d = length-drop from numbers in omega arith)

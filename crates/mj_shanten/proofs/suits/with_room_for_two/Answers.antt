@@ -10,4 +10,5 @@ pub loop-kind-preserved : goal.loop-kind-preserved
 loop-kind-preserved c = written_more (λ k. get_or c.numbers-numbers.result.now k 0) _ _ _ (omega arith) refl c.loop-kind.invariant
 
 pub returns-clause-value : goal.returns-clause-value
-returns-clause-value c = written_all (λ k. get_or c.numbers-numbers.result.now k 0) c.args.counts.now c.loop-kind.kind c.loop-kind.wide (omega arith) c.numbers-numbers.ensures.size (λ k low. ap (λ xs. get_or xs k 0) (sym c.numbers-numbers.ensures.value)) c.loop-kind.invariant
+returns-clause-value c = written_all (λ k. get_or c.numbers-numbers.result.now k 0) c.args.counts.now c.loop-kind.kind c.loop-kind.wide (omega arith) c.numbers-numbers.ensures.size
+    (λ k low. ap (λ xs. get_or xs k 0) (sym c.numbers-numbers.ensures.value)) c.loop-kind.invariant

@@ -1,5 +1,5 @@
 use Rattle.std.proofs.Common.{refl, inl}
-use Rattle.mj_suits.proofs.Choices.{not_greater-equal, not_greater-back}
+use Rattle.mj_suits.proofs.Comparing.{not_greater-equal, not_greater-back}
 use Rattle.mj_suits.proofs.choosing.greater_of.Goals as goal
 
 pub returns-in-Equal : goal.returns-in-Equal

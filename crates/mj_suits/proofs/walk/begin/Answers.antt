@@ -5,7 +5,8 @@ use Rattle.mj_suits.proofs.walk.begin.Goals as goal
 
 pub returns : goal.returns
 returns c =
-    let runs : Holds c.more_set-runs.result.lanes (taken 2 0 (lane c.args.two.lanes)) = record { at = λ s p few one. c.more_set-runs.ensures.at s p few one ∙ taken_again _ _ 1 0 1 0 c.more_set.ensures s p few one } in
+    let runs : Holds c.more_set-runs.result.lanes (taken 2 0 (lane c.args.two.lanes)) =
+    record { at = λ s p few one. c.more_set-runs.ensures.at s p few one ∙ taken_again _ _ 1 0 1 0 c.more_set.ensures s p few one } in
     record {
       none_is = record { at = λ s p few one. refl };
       one_is = c.more_set-run.ensures;

@@ -1,7 +1,7 @@
 use Rattle.std.proofs.Common.{[], replicate}
 use Rattle.mj_table.proofs.FacesHeld.{holds_nothing}
 use Rattle.mj_facts.proofs.EachSeat.{each_seat}
-use Rattle.mj_table.specs.Inner.Kept.{Holds}
+use Rattle.mj_facts.specs.Holding.{Holds}
 use Rattle.mj_table.proofs.held.nothing_held.Goals as goal
 
 pub returns : goal.returns

@@ -19,7 +19,7 @@ use Rattle.mj_facts.specs.declared.hand_facts.HandFacts.{HandFacts}
 use Rattle.mj_facts.specs.declared.seat_facts.SeatFacts.{SeatFacts}
 use Rattle.mj_deeds.specs.declared.four.Four.{Four}
 use Rattle.mj_deeds.specs.Four.{at_seat}
-use Rattle.mj_table.specs.Inner.Fitting.{are_four, adds_to_own, has_places, has_tile_left, reaches_first, fits_by}
+use Rattle.mj_facts.specs.Inner.Fitting.{are_four, adds_to_own, has_places, has_tile_left, reaches_first, fits_by}
 use Rattle.mj_facts.specs.Hands.{Knows, Few}
 
 -- tiles that are held

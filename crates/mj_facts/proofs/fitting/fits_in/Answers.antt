@@ -1,5 +1,5 @@
-use Rattle.mj_table.proofs.FitsKept.{few_brought, few_melds, fits_kept, kinds_kept, places_kept}
-use Rattle.mj_table.proofs.fitting.fits_in.Goals as goal
+use Rattle.mj_facts.proofs.FitsKept.{few_brought, few_melds, fits_kept, kinds_kept, places_kept}
+use Rattle.mj_facts.proofs.fitting.fits_in.Goals as goal
 
 pub returns : goal.returns
 returns c hand holds few known =

@@ -1,7 +1,7 @@
 use Rattle.std.proofs.Common.{[], ◌∷◌, ap}
 use Rattle.mj_deeds.specs.Facts.{losses_by}
-use Rattle.mj_table.proofs.FitsKept.{own_held}
-use Rattle.mj_table.proofs.fitting.holds_own.Goals as goal
+use Rattle.mj_facts.proofs.FitsKept.{own_held}
+use Rattle.mj_facts.proofs.fitting.holds_own.Goals as goal
 
 pub returns-in-Discard : goal.returns-in-Discard
 returns-in-Discard c =

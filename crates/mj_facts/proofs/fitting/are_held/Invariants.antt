@@ -3,7 +3,7 @@ use Rattle.std.specs.Prelude.{nat_le}
 use Rattle.std.specs.List.{list_all}
 use Rattle.mj_tiles.specs.Faces.{number_in}
 use Rattle.mj_deeds.specs.Fits.{are_held}
-use Rattle.mj_table.proofs.fitting.are_held.Given as goal
+use Rattle.mj_facts.proofs.fitting.are_held.Given as goal
 
 abbrev pub invariant-loop-tile : goal.invariant-loop-tile
 invariant-loop-tile l =

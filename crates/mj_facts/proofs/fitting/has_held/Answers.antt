@@ -1,7 +1,7 @@
 use Rattle.std.proofs.Common.{arith}
 use Rattle.mj_deeds.specs.Facts.{tiles_gained, tiles_lost}
-use Rattle.mj_table.proofs.FitsKept.{all_held}
-use Rattle.mj_table.proofs.fitting.has_held.Goals as goal
+use Rattle.mj_facts.proofs.FitsKept.{all_held}
+use Rattle.mj_facts.proofs.fitting.has_held.Goals as goal
 
 pub returns : goal.returns
 returns c hand holds =

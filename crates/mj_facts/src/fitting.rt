@@ -4,16 +4,20 @@ ghost use Rattle.mj_deeds.specs.declared.deed.Deed.{Deed};
 ghost use Rattle.mj_deeds.specs.Facts.{losses_by, makes_by};
 ghost use Rattle.mj_deeds.specs.Fits.{are_held, fits_in, has_held, has_seats};
 ghost use Rattle.mj_deeds.specs.Four.{at_seat};
-ghost use Rattle.mj_table.specs.Inner.Fitting.{fits_by, adds_to_own, are_four, has_place_for, has_places, has_tile_left, reaches_first};
+ghost use Rattle.mj_facts.specs.Inner.Fitting.{fits_by, adds_to_own, are_four, has_place_for, has_places, has_tile_left, reaches_first};
 ghost use Rattle.mj_facts.specs.Hands.{Knows, Few};
-ghost use Rattle.mj_table.specs.Inner.Kept.{Holds};
+ghost use Rattle.mj_facts.specs.Holding.{Holds};
 
+use crate::bringing::keeps_kinds;
+use crate::hand_facts::HandFacts;
+use crate::meld_steps::has_triplet;
+use crate::seat_facts::SeatFacts;
 use mj_deeds::{Deed, Four, has_seats, has_tiles, is_call, is_kan, made};
-use mj_facts::{HandFacts, SeatFacts, has_triplet, keeps_kinds};
 use mj_tiles::{FACES, Tile, number_among};
 
-// Whether a deed fits after the deeds before it in its own hand, of which is kept what the seats hold, and their facts.
-pub(crate) fn fits_in(red: bool, held: &Four<[u8; FACES]>, facts: &HandFacts, deed: &Deed) -> bool
+/// Whether a deed fits after the deeds before it in its own hand, of which is kept how many tiles of each face each seat holds,
+/// and its facts. `red` says whether there are red fives.
+pub fn fits_in(red: bool, held: &Four<[u8; FACES]>, facts: &HandFacts, deed: &Deed) -> bool
     ensures { (hand : List Deed)
         → ((seat : ℕ) → seat ≤ 3 → Holds hand seat (at_seat held.now seat)) → Few hand
         → Knows hand facts.now → result ≡ fits_in red hand deed.now }

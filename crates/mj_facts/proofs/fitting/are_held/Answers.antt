@@ -1,6 +1,6 @@
 use Rattle.std.proofs.Common.{sym, ap, ◌∙◌, get_or, arith}
-use Rattle.mj_table.proofs.FitsKept.{held_more, held_no_more}
-use Rattle.mj_table.proofs.fitting.are_held.Goals as goal
+use Rattle.mj_facts.proofs.FitsKept.{held_more, held_no_more}
+use Rattle.mj_facts.proofs.fitting.are_held.Goals as goal
 
 pub returns-then-from-number_among : goal.returns-then-from-number_among
 returns-then-from-number_among c got gone holds =
