@@ -1,30 +1,14 @@
 -- Pieces that are written one after the other, and lists of them.
-use Rattle.std.proofs.Common.{◌≡◌, ℕ, ◌+◌, ◌-◌, ◌≤◌, zero, suc, List, [], ◌∷◌, ◌++◌, flat_map, replicate, refl, sym, ap, ◌∙◌, subst, append_assoc, arith}
+use Rattle.std.proofs.Common.{◌≡◌, ℕ, ◌+◌, ◌-◌, ◌≤◌, zero, suc, List, [], ◌∷◌, ◌++◌, flat_map, replicate, sym, ap, ◌∙◌, arith}
 use Rattle.std.proofs.lemmas.Grind.{flat_map-append}
 use Rattle.std.proofs.lemmas.List.{replicate-append-replicate}
 use Rattle.std.specs.Prelude.{codes}
 use Rattle.mj_bytes.specs.Adds.{Adds}
-use Rattle.mj_bytes.proofs.AddLaws.{adds_more}
 use Rattle.mj_forms.specs.Lines.{bracketed, hidden_tile}
-
-infixl 30 ◌▸◌
--- one piece and then another
-pub ◌▸◌ : {a b c x y : List ℕ} → Adds a b x → Adds b c y → Adds a c (x ++ y)
-p ▸ q = adds_more _ _ _ _ _ p q
-
--- a piece by another word for it
-pub as_piece : {a b x y : List ℕ} → x ≡ y → Adds a b x → Adds a b y
-as_piece {a} {b} e p = subst (Adds a b) e p
 
 -- what is written after nothing
 pub alone : {a b x : List ℕ} → a ≡ [] → Adds a b x → b ≡ x
 alone {b = b} {x = x} e p = p.is ∙ ap (λ (front : List ℕ). front ++ x) e
-
--- four pieces in brackets, as they are written one after the other
-pub bracketed_four : (a b c d : List ℕ) →
-    bracketed (a ∷ b ∷ c ∷ d ∷ []) ≡ codes "[" ++ a ++ codes "," ++ b ++ codes "," ++ c ++ codes "," ++ d ++ codes "]"
-unfolding bracketed
-bracketed_four a b c d = simp append_assoc refl
 
 -- so many hidden tiles in brackets, the first and then the others, each after a comma
 first_hidden : (number : ℕ) → 1 ≤ number → replicate number hidden_tile ≡ hidden_tile ∷ replicate (number - 1) hidden_tile

@@ -13,6 +13,7 @@ ghost use Rattle.mj_records.specs.Usual.{deed_of, IsActOf};
 use mj_bytes::split_at_first;
 use mj_deeds::Deed;
 use mj_tiles::Tile;
+use mjai_answers::seat_first;
 
 /// A draw or a discard, as its line tells it.
 #[derive(Drop)]
@@ -105,7 +106,7 @@ fn discard_in(line: &[u8]) -> Option<Act>
     let Some((seat, face, end)) = seat_and_face(act) else {
         return None;
     };
-    let Some(drawn) = mark_last(end) else {
+    let Some(drawn) = mark_alone(end) else {
         return None;
     };
     let tile = Tile::at(face);
@@ -120,17 +121,6 @@ fn seat_and_face(text: &[u8]) -> Option<(u8, u8, &[u8])>
     let name = after(rest, b",\"pai\":\"")?;
     let (face, end) = face_first(name)?;
     Some((seat, face, end))
-}
-
-// The seat that a text begins with, and what stands after it.
-fn seat_first(text: &[u8]) -> Option<(u8, &[u8])>
-    ensures within { IfSome result (λ x. x.0 < 4) }
-    ensures parts { IfSome result (λ x. text.now ≡ (48 + x.0) ∷ x.1.now) }
-{
-    match text {
-        [digit @ b'0'..=b'3', rest @ ..] => Some((*digit - b'0', rest)),
-        _ => None,
-    }
 }
 
 // The face of the tile whose text a text begins with, up to the quotation mark behind it, and what stands after that.
@@ -166,7 +156,7 @@ fn is_end(text: &[u8]) -> bool
 }
 
 // The mark that a discard ends with.
-fn mark_last(text: &[u8]) -> Option<bool>
+fn mark_alone(text: &[u8]) -> Option<bool>
     ensures { IfSome result (λ drawn. text.now ≡ codes ",\"tsumogiri\":" ++ (truth drawn
         ++ codes "}\n")) }
 {

@@ -99,21 +99,24 @@ pub characters_ahead : (text : List ℕ) (tile : ℕ) → 3 ≤ length text → 
 characters_ahead [] tile long least most letter space is = absurd (omega arith)
 characters_ahead (a ∷ []) tile long least most letter space is = absurd (omega arith)
 characters_ahead (a ∷ b ∷ []) tile long least most letter space is = absurd (omega arith)
-characters_ahead (a ∷ b ∷ c ∷ rest) tile long least most letter space is = three a b c rest 0 tile (omega arith) least most (omega (arith, letter)) space is (λ n few. ap (λ x. face_of ((49 + n) ∷ x ∷ [])) letter ∙ characters n few)
+characters_ahead (a ∷ b ∷ c ∷ rest) tile long least most letter space is =
+    three a b c rest 0 tile (omega arith) least most (omega (arith, letter)) space is (λ n few. ap (λ x. face_of ((49 + n) ∷ x ∷ [])) letter ∙ characters n few)
 
 pub circles_ahead : (text : List ℕ) (tile : ℕ) → 3 ≤ length text → 49 ≤ get_or text 0 0 → get_or text 0 0 < 58 → get_or text 1 0 ≡ 112 → get_or text 2 0 ≡ 32 →
     tile ≡ 9 + (get_or text 0 0 - 49) → BeginsWithTile text (Some tile) (take (length text - 3) (drop 3 text))
 circles_ahead [] tile long least most letter space is = absurd (omega arith)
 circles_ahead (a ∷ []) tile long least most letter space is = absurd (omega arith)
 circles_ahead (a ∷ b ∷ []) tile long least most letter space is = absurd (omega arith)
-circles_ahead (a ∷ b ∷ c ∷ rest) tile long least most letter space is = three a b c rest 9 tile (omega arith) least most (omega (arith, letter)) space is (λ n few. ap (λ x. face_of ((49 + n) ∷ x ∷ [])) letter ∙ circles n few)
+circles_ahead (a ∷ b ∷ c ∷ rest) tile long least most letter space is =
+    three a b c rest 9 tile (omega arith) least most (omega (arith, letter)) space is (λ n few. ap (λ x. face_of ((49 + n) ∷ x ∷ [])) letter ∙ circles n few)
 
 pub bamboo_ahead : (text : List ℕ) (tile : ℕ) → 3 ≤ length text → 49 ≤ get_or text 0 0 → get_or text 0 0 < 58 → get_or text 1 0 ≡ 115 → get_or text 2 0 ≡ 32 →
     tile ≡ 18 + (get_or text 0 0 - 49) → BeginsWithTile text (Some tile) (take (length text - 3) (drop 3 text))
 bamboo_ahead [] tile long least most letter space is = absurd (omega arith)
 bamboo_ahead (a ∷ []) tile long least most letter space is = absurd (omega arith)
 bamboo_ahead (a ∷ b ∷ []) tile long least most letter space is = absurd (omega arith)
-bamboo_ahead (a ∷ b ∷ c ∷ rest) tile long least most letter space is = three a b c rest 18 tile (omega arith) least most (omega (arith, letter)) space is (λ n few. ap (λ x. face_of ((49 + n) ∷ x ∷ [])) letter ∙ bamboo n few)
+bamboo_ahead (a ∷ b ∷ c ∷ rest) tile long least most letter space is =
+    three a b c rest 18 tile (omega arith) least most (omega (arith, letter)) space is (λ n few. ap (λ x. face_of ((49 + n) ∷ x ∷ [])) letter ∙ bamboo n few)
 
 pub any_ahead : (text field rest : List ℕ) (tile : Option ℕ) → BeginsWithField text field rest → tile ≡ face_of field → BeginsWithTile text tile rest
 any_ahead text field rest tile b e = record { field = field; begins = b; named = e }

@@ -15,3 +15,4 @@ pub use answer::read_answer;
 pub use join::read_join;
 pub use room::read_room;
 pub use setting::{read_rules, read_tiles, three_fields};
+pub use usual::seat_first;

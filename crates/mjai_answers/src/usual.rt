@@ -4,7 +4,8 @@
 ghost use Rattle.std.specs.Prelude.{◌≡◌, ◌∷◌, ◌++◌, IfSome, IsTrue, codes};
 ghost use Rattle.mj_forms.specs.AnswerForms.{answer_of};
 ghost use Rattle.mj_forms.specs.Lines.{truth};
-ghost use Rattle.mjai_answers.specs.Inner.Spellings.{BeginsWithSeat, tile_front, mark_text};
+ghost use Rattle.mjai_answers.specs.Fronts.{BeginsWithSeat};
+ghost use Rattle.mjai_answers.specs.Inner.Spellings.{tile_front, mark_text};
 
 use crate::answer::pai_of;
 use mj_bytes::split_at_first;
@@ -213,8 +214,8 @@ fn text_first(text: &[u8]) -> Option<(&[u8], &[u8])>
     Some((first, rest))
 }
 
-// The seat that a text begins with, and the rest after it.
-fn seat_first(text: &[u8]) -> Option<(u8, &[u8])>
+/// The seat, 0 to 3, that a text begins with as a digit, and what stands behind it; None where it begins otherwise.
+pub fn seat_first(text: &[u8]) -> Option<(u8, &[u8])>
     ensures { IfSome result (λ x. BeginsWithSeat text.now x.0 x.1.now) }
 {
     match text {

@@ -1,4 +1,4 @@
-mod Chains
-mod Lists
+pub mod Chains
+pub mod Lists
 mod Rows
 mod Wins

@@ -1,18 +1,19 @@
 ghost use Rattle.std.specs.Prelude.{◌≡◌, ◌+◌, ◌<◌, ◌∷◌, ◌++◌, [], OnOk, OnErr, codes, decimal, option_copied};
 ghost use Rattle.mj_bytes.specs.Adds.{Adds};
 ghost use Rattle.mj_forms.specs.Choices.{line_listing};
-ghost use Rattle.mj_forms.specs.Lines.{line as line_for, quoted, bracketed, seat_in_line as seat_written, start_game_line, draw_line, discard_line, call_line, call_object, closed_kan_line, added_kan_line, dora_line, hands_seen, quoted_tile, tile_seen, truth};
+ghost use Rattle.mj_forms.specs.Lines.{line as line_for, bracketed, seat_in_line as seat_written, start_game_line, draw_line, discard_line, call_line, call_object, closed_kan_line, added_kan_line, dora_line, hands_seen, tile_seen, truth};
 
 use crate::choices::list_answers;
 use crate::ending::{push_drawn_hand, push_end_game};
 use crate::pieces::{push_quoted, push_tile, push_tile_seen, push_tiles_seen};
 use crate::riichi::{push_reach, push_reach_accepted};
+use crate::starts::{push_names, push_place};
 use crate::steps::Steps;
 use crate::winning::{push_changes, push_rest, push_winner, push_worth};
 use mj_bytes::{push_all, push_number};
 use mj_deeds::{Answers, Deed, Four, Hands, Viewer};
 use mj_ports::Name;
-use mj_tiles::{Kind, Tile};
+use mj_tiles::Tile;
 use mj_view::sees;
 use std::alloc::{AllocError, Global};
 use std::sync::ledger::Ledger;
@@ -219,61 +220,6 @@ fn push_start_game(line: &mut Vec<u8>, id: u8, names: &Four<Name>) -> Result<(),
     push_names(line, names)?;
     push_all(line, b"}\n")?;
     Ok(())
-}
-
-// Writes the four names, in brackets.
-fn push_names(line: &mut Vec<u8>, names: &Four<Name>) -> Result<(), AllocError>
-    ensures { OnOk result (Adds line.old.items line.new.items (bracketed
-        (quoted names.now.first ∷ quoted names.now.second ∷ quoted names.now.third
-        ∷ quoted names.now.fourth ∷ []))) }
-{
-    push_all(line, b"[")?;
-    push_quoted(line, names.first.as_slice())?;
-    push_all(line, b",")?;
-    push_quoted(line, names.second.as_slice())?;
-    push_all(line, b",")?;
-    push_quoted(line, names.third.as_slice())?;
-    push_all(line, b",")?;
-    push_quoted(line, names.fourth.as_slice())?;
-    push_all(line, b"]")?;
-    Ok(())
-}
-
-// Writes the front of the start of a hand, up to its dealer.
-fn push_place(
-    line: &mut Vec<u8>,
-    round: Kind,
-    number: u8,
-    honba: u32,
-    deposits: u32,
-    dealer: u8,
-) -> Result<(), AllocError>
-    ensures { OnOk result (Adds line.old.items line.new.items
-        (codes "{\"type\":\"start_kyoku\",\"bakaze\":" ++ quoted_tile round
-        ++ codes ",\"kyoku\":" ++ decimal number ++ codes ",\"honba\":" ++ decimal honba
-        ++ codes ",\"kyotaku\":" ++ decimal deposits ++ codes ",\"oya\":" ++ decimal dealer)) }
-{
-    push_all(line, b"{\"type\":\"start_kyoku\",\"bakaze\":")?;
-    push_kind(line, round)?;
-    push_all(line, b",\"kyoku\":")?;
-    push_number(line, u64::from(number))?;
-    push_all(line, b",\"honba\":")?;
-    push_number(line, u64::from(honba))?;
-    push_all(line, b",\"kyotaku\":")?;
-    push_number(line, u64::from(deposits))?;
-    push_all(line, b",\"oya\":")?;
-    push_number(line, u64::from(dealer))?;
-    Ok(())
-}
-
-// Writes the wind of a round, as its tile: each kind is the face of a plain tile.
-fn push_kind(line: &mut Vec<u8>, kind: Kind) -> Result<(), AllocError>
-    ensures { OnOk result (Adds line.old.items line.new.items (quoted_tile kind)) }
-{
-    match Tile::of(kind.number()) {
-        Some(tile) => push_tile(line, tile),
-        None => Ok(()),
-    }
 }
 
 // Writes the four hands as the viewer sees them, in brackets.

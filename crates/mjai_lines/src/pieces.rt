@@ -17,9 +17,9 @@ pub(crate) fn push_quoted(line: &mut Vec<u8>, text: &[u8]) -> Result<(), AllocEr
     Ok(())
 }
 
-// Writes a tile.
+/// Writes a tile between quotation marks after a text. On an error the text may be any.
 #[tactic(auto, unfolding(mj_forms::specs::Lines::quoted_tile))]
-pub(crate) fn push_tile(line: &mut Vec<u8>, tile: Tile) -> Result<(), AllocError>
+pub fn push_tile(line: &mut Vec<u8>, tile: Tile) -> Result<(), AllocError>
     ensures { OnOk result (Adds line.old.items line.new.items (quoted_tile tile)) }
 {
     push_short(line, tile.text())?;

@@ -1,10 +1,5 @@
 -- Lines of players in their usual spelling: without spaces, and the fields in one order.
-use Rattle.std.specs.Prelude.{◌≡◌, ℕ, ◌+◌, ◌<◌, List, ◌∷◌, ◌++◌, codes, Bool, true, false}
-
--- A text that begins with a seat, and what is after it.
-pub record BeginsWithSeat (text : List ℕ) (seat : ℕ) (behind : List ℕ) : Type 0 where
-  pub within : seat < 4
-  pub parts : text ≡ (48 + seat) ∷ behind
+use Rattle.std.specs.Prelude.{ℕ, ◌+◌, List, ◌∷◌, ◌++◌, codes, Bool, true, false}
 
 -- How a pass begins that names its actor.
 abbrev pub pass_front : List ℕ

@@ -1,5 +1,5 @@
 use Rattle.mj_observe.specs.Views.{hand_shown_line}
-use Rattle.mj_observe.proofs.Pieces.{◌▸◌}
+use Rattle.mjai_lines.proofs.Chains.{◌▸◌}
 use Rattle.mj_observe.proofs.public.push_count.Goals as goal
 
 pub returns : goal.returns

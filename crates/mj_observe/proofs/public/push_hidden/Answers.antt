@@ -1,6 +1,7 @@
 use Rattle.std.proofs.Common.{◌≤◌, sym, arith}
 use Rattle.mj_forms.specs.Lines.{bracketed}
-use Rattle.mj_observe.proofs.Pieces.{◌▸◌, as_piece, bracketed_hidden}
+use Rattle.mjai_lines.proofs.Chains.{◌▸◌, as_piece}
+use Rattle.mj_observe.proofs.Pieces.{bracketed_hidden}
 use Rattle.mj_observe.proofs.public.push_hidden.Goals as goal
 
 pub returns-then-number-eq0 : goal.returns-then-number-eq0

@@ -1,7 +1,8 @@
 use Rattle.std.proofs.Common.{◌≡◌, ℕ, List, length, replicate, ap, sym}
 use Rattle.mj_bytes.specs.Adds.{Adds}
 use Rattle.mj_forms.specs.Lines.{bracketed, hidden_tile}
-use Rattle.mj_observe.proofs.Pieces.{◌▸◌, as_piece, bracketed_four}
+use Rattle.mjai_lines.proofs.Chains.{◌▸◌, as_piece}
+use Rattle.mjai_lines.proofs.Lists.{bracketed_four}
 use Rattle.mj_observe.proofs.public.push_hidden_hands.Goals as goal
 
 hand : {a b : List ℕ} {tiles dealt : List ℕ} → tiles ≡ dealt → Adds a b (bracketed (replicate (length tiles) hidden_tile)) → Adds a b (bracketed (replicate (length dealt) hidden_tile))

@@ -1,4 +1,5 @@
-use Rattle.mj_observe.proofs.Pieces.{◌▸◌, as_piece, one_more_hidden}
+use Rattle.mjai_lines.proofs.Chains.{◌▸◌, as_piece}
+use Rattle.mj_observe.proofs.Pieces.{one_more_hidden}
 use Rattle.mj_observe.proofs.public.push_more_hidden.Goals as goal
 
 pub loop-copy-preserved : goal.loop-copy-preserved

@@ -1,7 +1,8 @@
 use Rattle.std.proofs.Common.{ap, sym, ◌∙◌}
 use Rattle.mj_forms.specs.Lines.{start_hand_line}
 use Rattle.mj_observe.specs.Views.{public_line}
-use Rattle.mj_observe.proofs.Pieces.{◌▸◌, alone}
+use Rattle.mjai_lines.proofs.Chains.{◌▸◌}
+use Rattle.mj_observe.proofs.Pieces.{alone}
 use Rattle.mj_observe.proofs.public.write_public.Goals as goal
 
 pub returns-in_ok-push_all-in-StartHand-3 : goal.returns-in_ok-push_all-in-StartHand-3

@@ -7,7 +7,7 @@ use Rattle.mj_deeds.specs.declared.deed.Deed.{Deed}
 use Rattle.mj_observe.specs.Views.{public_line, public_part}
 use Rattle.mj_observe.specs.Inner.Kept.{of_hand, shown_at}
 use Rattle.mj_observe.proofs.Keeping.{kept_as, kept_first, kept_next, count_small, part_next}
-use Rattle.mj_observe.proofs.Pieces.{as_piece}
+use Rattle.mjai_lines.proofs.Chains.{as_piece}
 use Rattle.mj_observe.proofs.observer.Observer.push.Goals as goal
 
 pub invariant_of-self-then-is_hand_start : goal.invariant_of-self-then-is_hand_start

@@ -2,7 +2,7 @@ use Rattle.std.proofs.Common.{ap, sym}
 use Rattle.mj_forms.specs.Lines.{quoted}
 use Rattle.mjai_lines.proofs.Chains.{◌▸◌, as_piece}
 use Rattle.mjai_lines.proofs.Lists.{bracketed_four}
-use Rattle.mjai_lines.proofs.deed.push_names.Goals as goal
+use Rattle.mjai_lines.proofs.starts.push_names.Goals as goal
 
 pub returns : goal.returns
 returns c = as_piece (sym (bracketed_four _ _ _ _))

@@ -1,7 +1,7 @@
 use Rattle.std.proofs.Common.{ap}
 use Rattle.std.specs.Prelude.{decimal}
-use Rattle.mj_observe.proofs.Pieces.{◌▸◌, as_piece}
-use Rattle.mj_observe.proofs.public.push_place.Goals as goal
+use Rattle.mjai_lines.proofs.Chains.{◌▸◌, as_piece}
+use Rattle.mjai_lines.proofs.starts.push_place.Goals as goal
 
 pub returns : goal.returns
 returns c =
