@@ -13,7 +13,7 @@ use Rattle.mj_history.specs.Shown.{line_at}
 use Rattle.mj_history.proofs.LinesGrow.{lines_for-more, length-lines, no_line_behind}
 use Rattle.mj_bytes.specs.Adds.{Adds}
 use Rattle.mj_streams.specs.Streams.{with_deed}
-use Rattle.mj_core.specs.Inner.States.{lines_of_all, possible_of_all}
+use Rattle.mj_core.specs.Inner.Streamed.{lines_of_all, possible_of_all}
 
 -- A deed more that is told to the seats, each with what it may answer to it, is a line more for each.
 pub told_more : (rules : Rules) (deeds : List Deed) (deed : Deed) →

@@ -11,3 +11,4 @@ pub mod Turns
 pub mod Readers
 pub mod KeptLines
 pub mod ByEntries
+pub mod NearLaws

@@ -1,5 +1,5 @@
 -- What a state does with what comes, over what its code holds.
-use Rattle.std.proofs.Common.{◌≡◌, ℕ, ◌<◌, ◌≤◌, ◌&&◌, List, [], ◌∷◌, ◌++◌, length, get_or, Bool, true, false, refl, ap, ◌∙◌, sym, subst, arith}
+use Rattle.std.proofs.Common.{◌≡◌, ℕ, ◌<◌, ◌≤◌, ◌&&◌, List, [], ◌∷◌, ◌++◌, length, get_or, true, ap, ◌∙◌, sym, subst, arith}
 use Rattle.std.specs.Prelude.{Option, Some, None, is_some, slice_get, slice_set}
 use Rattle.std.proofs.lemmas.Bool.{and_parts}
 use Rattle.mj_ports.specs.declared.entry.Entry.TheVariants.{Back, Gone, Expired}
@@ -12,7 +12,7 @@ use Rattle.mj_deeds.specs.declared.deed.Deed.{Deed}
 use Rattle.mj_deeds.specs.declared.answer.Answer.{Answer}
 use Rattle.mj_wall.specs.declared.setting.Rules.{Rules}
 use Rattle.mj_wall.specs.declared.setting.Setting.{Setting}
-use Rattle.mj_window.specs.Slots.{empty_slots, closes}
+use Rattle.mj_window.specs.Slots.{closes}
 use Rattle.mj_rules.specs.Broken.{broken_rule}
 use Rattle.mj_history.specs.After.{Verdict, verdict, progress_after, author_after, slots_after, due_on_return}
 use Rattle.mj_core.specs.Calls.{open_window}
@@ -23,33 +23,35 @@ use Rattle.mj_core.proofs.Steps.{first_player}
 use Rattle.mj_core.proofs.Pieces.{position, desk-behind, TakesChair, settles-closed, expires, read-chair, leaves-can, due-at, refused-at, IsSaid, hears-can, hears, leaves, returns}
 
 -- A window closes: the state has the deed that was added, and its seat as it has changed.
-pub settled : (setting : Setting) (old mid : Position) (seat place : ℕ) (desk : List Occupant) (player : Player) (slots : Four (Option Answer)) →
-    CanSettle setting old seat desk player slots → length old.players ≡ length old.desk → place ≡ seat
-    → (is_some (open_window old.deeds) && closes slots (presence_at desk)) ≡ true → Advances setting old mid slots
-    → Settles setting (changed old desk (slice_set old.players seat player) slots) (position mid.rules mid.deeds desk (slice_set mid.players place player) empty_slots)
-settled setting old mid seat place desk player slots c m at h a =
-    settles-closed setting old (position mid.rules mid.deeds desk (slice_set mid.players place player) empty_slots) seat desk player slots a.deed m c
-    (and_parts (is_some (open_window old.deeds)) (closes slots (presence_at desk)) h).0 (and_parts (is_some (open_window old.deeds)) (closes slots (presence_at desk)) h).1 a.adds.follows
-    (ap (λ (n : ℕ). position mid.rules mid.deeds desk (slice_set mid.players n player) empty_slots) at
-    ∙ ap (λ (p : Position). position p.rules p.deeds desk (slice_set p.players seat player) empty_slots) a.adds.new_is)
+pub settled : (setting : Setting) (old mid : Position) (seat place : ℕ) (desk : List Occupant) (player : Player) →
+    CanSettle setting old seat desk player old.slots → length old.players ≡ length old.desk → place ≡ seat
+    → (is_some (open_window old.deeds) && closes old.slots (presence_at desk)) ≡ true → Advances setting old mid
+    → Settles setting (changed old desk (slice_set old.players seat player) old.slots)
+    (position mid.rules mid.deeds desk (slice_set mid.players place player) mid.slots)
+settled setting old mid seat place desk player c m at h a =
+    let both = and_parts (is_some (open_window old.deeds)) (closes old.slots (presence_at desk)) h in
+    settles-closed setting old (position mid.rules mid.deeds desk (slice_set mid.players place player) mid.slots) seat desk player
+    old.slots a.deed m c both.0 both.1 a.adds.follows
+    (ap (λ (n : ℕ). position mid.rules mid.deeds desk (slice_set mid.players n player) mid.slots) at
+    ∙ ap (λ (p : Position). position p.rules p.deeds desk (slice_set p.players seat player) p.slots) a.adds.new_is)
 
--- The same of a seat that stays at the desk as it is.
-pub settled_here : (setting : Setting) (old mid : Position) (seat place : ℕ) (player : Player) (slots : Four (Option Answer)) →
-    CanSettle setting old seat old.desk player slots → length old.players ≡ length old.desk → place ≡ seat
-    → (is_some (open_window old.deeds) && closes slots (presence_at old.desk)) ≡ true → Advances setting old mid slots
-    → Settles setting (changed old old.desk (slice_set old.players seat player) slots) (position mid.rules mid.deeds mid.desk (slice_set mid.players place player) empty_slots)
-settled_here setting old mid seat place player slots c m at h a =
-    settles-closed setting old (position mid.rules mid.deeds mid.desk (slice_set mid.players place player) empty_slots) seat old.desk player slots a.deed m c
-    (and_parts (is_some (open_window old.deeds)) (closes slots (presence_at old.desk)) h).0 (and_parts (is_some (open_window old.deeds)) (closes slots (presence_at old.desk)) h).1 a.adds.follows
-    (ap (λ (n : ℕ). position mid.rules mid.deeds mid.desk (slice_set mid.players n player) empty_slots) at
-    ∙ ap (λ (p : Position). position p.rules p.deeds p.desk (slice_set p.players seat player) empty_slots) a.adds.new_is)
+-- Its seat stays at the desk as it is.
+pub settled_here : (setting : Setting) (old mid : Position) (seat place : ℕ) (player : Player) →
+    CanSettle setting old seat old.desk player old.slots → length old.players ≡ length old.desk → place ≡ seat
+    → (is_some (open_window old.deeds) && closes old.slots (presence_at old.desk)) ≡ true → Advances setting old mid
+    → Settles setting (changed old old.desk (slice_set old.players seat player) old.slots)
+    (position mid.rules mid.deeds mid.desk (slice_set mid.players place player) mid.slots)
+settled_here setting old mid seat place player c m at h a =
+    let both = and_parts (is_some (open_window old.deeds)) (closes old.slots (presence_at old.desk)) h in
+    settles-closed setting old (position mid.rules mid.deeds mid.desk (slice_set mid.players place player) mid.slots) seat old.desk player
+    old.slots a.deed m c both.0 both.1 a.adds.follows
+    (ap (λ (n : ℕ). position mid.rules mid.deeds mid.desk (slice_set mid.players n player) mid.slots) at
+    ∙ ap (λ (p : Position). position p.rules p.deeds p.desk (slice_set p.players seat player) p.slots) a.adds.new_is)
 
 -- The time of the open window has run out.
-pub expired : (setting : Setting) (old mid : Position) → CanExpire setting old → Advances setting old mid old.slots → (author window t1 t2 : ℕ)
-    → Steps setting old (position mid.rules mid.deeds mid.desk mid.players empty_slots) (Expired author window t1 t2)
-expired setting old mid c a author window t1 t2 =
-    expires setting old (position mid.rules mid.deeds mid.desk mid.players empty_slots) a.deed c.window a.adds.follows
-    (ap (λ (p : Position). position p.rules p.deeds p.desk p.players empty_slots) a.adds.new_is) author window t1 t2
+pub expired : (setting : Setting) (old new : Position) → CanExpire setting old → Advances setting old new → (author window t1 t2 : ℕ)
+    → Steps setting old new (Expired author window t1 t2)
+expired setting old new c a author window t1 t2 = expires setting old new a.deed c.window a.adds.follows a.adds.new_is author window t1 t2
 
 -- The seat that the code reads is that of both tables.
 pub record ReadsSeat (old : Position) (seat place : ℕ) (player : Player) : Type 0 where

@@ -3,5 +3,7 @@
 pub mod Untold
 pub mod Verdicts
 pub mod States
+pub mod Streamed
+pub mod Near
 pub mod Kept
 pub mod Entries

@@ -12,7 +12,7 @@ use std::alloc::{AllocError, Global};
 // The first line of each connection.
 const HELLO: &[u8] = b"{\"type\":\"hello\",\"protocol\":\"mjsonp\",\"protocol_version\":3}\n";
 
-// Writes a line that is no deed's after a text. The only error is running out of memory, and then the text stays as it was.
+/// Writes a line that is no deed's after a text. The only error is running out of memory, and then the text stays as it was.
 pub fn write_control(
     alloc: Global,
     control: &Control<Rule>,

@@ -1,54 +1,37 @@
-ghost use Rattle.std.specs.Prelude.{◌≡◌, ℕ, ◌≤◌, ◌<◌, length, [], Some, None, true, false, is_some, IfOk, MatchOption, OnOk, OnErr, IsTrue};
+ghost use Rattle.std.specs.Prelude.{◌≡◌, ℕ, ◌≤◌, ◌<◌, length, [], Some, None, true, is_some, IfOk, MatchOption, OnOk, OnErr, IsTrue};
 ghost use Rattle.std.specs.List.{list_all};
 ghost use Rattle.mj_bytes.specs.Adds.{Adds};
-ghost use Rattle.mj_ports.specs.Names.{is_name};
 ghost use Rattle.mj_wall.specs.Places.{is_wall};
 ghost use Rattle.mj_deeds.specs.Answers.{is_in_form};
 ghost use Rattle.mj_forms.specs.AnswerForms.{answer_of, join_of};
 ghost use Rattle.mj_history.specs.Legal.{IsLegal, can_say, is_over};
-ghost use Rattle.mj_history.specs.Sitting.{placing};
 ghost use Rattle.mj_history.specs.Shown.{control_line, line_at};
-ghost use Rattle.mj_seating.specs.declared.desk.Placed.TheVariants.{Sat, Back};
-ghost use Rattle.mj_core.specs.Calls.{IsSitAnswer, IsHeard, IsLeft, IsExpiry, after_of, is_here, may_expire, author_of_seat, due_of, open_window, may_say_at, pending_at, line_of, record_of};
-ghost use Rattle.mj_core.specs.Inner.Verdicts.{heard_by};
+ghost use Rattle.mj_core.specs.Calls.{IsSitAnswer, IsHeard, IsLeft, IsExpiry, after_of, is_here, author_of_seat, due_of, open_window, may_say_at, pending_at, line_of, record_of};
 
 use crate::answers::{Expiry, Heard, Left, SitAnswer};
 use crate::control::write_control;
-use crate::entered::Entered;
-use crate::state::State;
-use crate::verdict::Verdict;
+use crate::streamed::Streamed;
+use crate::umpire::Umpire;
 use mj_bytes::push_all;
 use mj_deeds::{Answer, Rule};
-use mj_ports::{Control, JoinLine, SitRefused};
-use mj_seating::Placed;
+use mj_ports::Control;
 use mj_table::Table;
 use mj_wall::{Rules, Setting, Wall, Walls};
-use mjai_answers::{read_answer, read_join};
-use mjai_lines::{Steps, write_record};
 use std::alloc::{AllocError, Global};
-use std::marker::{Brand, Model};
-use std::sync::ledger::{Blank, Ledger};
+use std::marker::Model;
 
-// For so many entries there is room from the start.
-const ENTRIES: usize = 8_192;
-
-/// One game: what it is played with, and all that was entered so far.
+/// One game: what it is played with, and all that was entered so far, with the lines that its four seats are told.
 #[derive(Drop)]
 pub struct Core {
-    setting: Setting,
-    entries: Vec<Entered>,
-    state: State,
+    umpire: Umpire<Streamed>,
 }
 
 impl Model for Core {
     ghost use Rattle.mj_history.specs.Legal.{Game};
-    ghost use Rattle.mj_core.specs.Inner.Kept.{IsKept};
 
     ghost Value = { Game };
 
-    ghost view = { λ c. record { setting = c.setting; entries = c.entries.items } };
-
-    ghost invariant = { λ c. IsKept c.setting c.entries.items c.state };
+    ghost view = { λ c. c.umpire };
 }
 
 impl Core {
@@ -66,7 +49,7 @@ impl Core {
         Core::with_walls(alloc, Walls::from_vec(walls), rules)
     }
 
-    /// The same with a list of walls.
+    /// A game before its first entry, as `new` makes it, with a list of walls.
     pub fn with_walls(alloc: Global, walls: Walls, rules: Rules) -> Result<Core, AllocError>
         requires some { 1 ≤ length walls }
         requires few { length walls ≤ 200 }
@@ -76,11 +59,9 @@ impl Core {
         ensures { IfOk result (λ core. core
             ≡ record { setting = record { walls = walls; rules = rules }; entries = [] }) }
     {
-        Ok(Core {
-            setting: Setting { walls, rules },
-            entries: Vec::with_capacity(alloc, ENTRIES)?,
-            state: State::new(alloc, rules)?,
-        })
+        let told = Streamed::new(alloc, rules)?;
+        let umpire = Umpire::new(alloc, walls, rules, told)?;
+        Ok(Core { umpire })
     }
 
     /// A line that wants a seat: the next seat is given under the name and key of the line, or a seat that is gone is
@@ -89,68 +70,7 @@ impl Core {
     pub fn sit(&mut self, alloc: Global, author: u8, line: &[u8]) -> SitAnswer
         ensures { IsSitAnswer result self.old self.new author (join_of line.now) }
     {
-        match read_join(alloc, line) {
-            Ok(Some(join)) => self.seat(alloc, author, &join),
-            Ok(None) => SitAnswer::Refused(SitRefused::BadName),
-            Err(_) => SitAnswer::NoMemory,
-        }
-    }
-
-    // A seat for a join, whose name is of the right form.
-    fn seat(&mut self, alloc: Global, author: u8, join: &JoinLine) -> SitAnswer
-        requires { is_name join.now.name ≡ true }
-        ensures { IsSitAnswer result self.old self.new author (Some join.now) }
-    {
-        if self.state.is_over() {
-            return SitAnswer::Refused(SitRefused::Over);
-        }
-        match self.state.place(join) {
-            Placed::Refused(why) => SitAnswer::Refused(why),
-            Placed::Sat(seat) => self.take_seat(alloc, author, seat, join),
-            Placed::Back(seat) => self.take_back(alloc, author, seat, join),
-        }
-    }
-
-    // The seat, which is the next one, is taken by a join.
-    fn take_seat(&mut self, alloc: Global, author: u8, seat: u8, join: &JoinLine) -> SitAnswer
-        requires name { is_name join.now.name ≡ true }
-        requires placing { placing (after_of self.old) (Some join.now) ≡ Sat seat }
-        ensures { IsSitAnswer result self.old self.new author (Some join.now) }
-    {
-        if self.entries.reserve(1).is_err() {
-            return SitAnswer::NoMemory;
-        }
-        let Ok(entered) = Entered::sat(alloc, author, join) else {
-            return SitAnswer::NoMemory;
-        };
-        match self.state.take_seat(alloc, author, join) {
-            Ok(()) => {
-                self.entries.push_reserved(entered);
-                SitAnswer::Sat(seat)
-            }
-            Err(_) => SitAnswer::NoMemory,
-        }
-    }
-
-    // The seat, which is gone, is taken back by a join.
-    fn take_back(&mut self, alloc: Global, author: u8, seat: u8, join: &JoinLine) -> SitAnswer
-        requires name { is_name join.now.name ≡ true }
-        requires placing { placing (after_of self.old) (Some join.now) ≡ Back seat }
-        ensures { IsSitAnswer result self.old self.new author (Some join.now) }
-    {
-        if self.entries.reserve(1).is_err() {
-            return SitAnswer::NoMemory;
-        }
-        match self
-            .state
-            .take_back(alloc, &self.setting, author, seat, join)
-        {
-            Ok(()) => {
-                self.entries.push_reserved(Entered::back(author, seat));
-                SitAnswer::Back(seat)
-            }
-            Err(_) => SitAnswer::NoMemory,
-        }
+        self.umpire.sit(alloc, author, line)
     }
 
     /// A line of a seat, 0 to 3, which is present by this author and whose due deed exists. The answer that the line
@@ -159,29 +79,16 @@ impl Core {
         requires { can_say (after_of self.old) author seat ≡ true }
         ensures { IsHeard result self.old self.new author seat (answer_of line.now) }
     {
-        match read_answer(alloc, line) {
-            Ok(answer) => self.hear(alloc, author, seat, &answer),
-            Err(_) => Heard::NoMemory,
-        }
+        self.umpire.said(alloc, author, seat, line)
     }
 
-    // An answer of a seat, which is in form.
-    fn hear(&mut self, alloc: Global, author: u8, seat: u8, answer: &Answer) -> Heard
+    /// An answer of a seat, as `said` enters the line that reads as it. It is in form, as any answer is that a line reads as.
+    pub fn answered(&mut self, alloc: Global, author: u8, seat: u8, answer: &Answer) -> Heard
         requires may { can_say (after_of self.old) author seat ≡ true }
         requires form { is_in_form answer.now ≡ true }
         ensures { IsHeard result self.old self.new author seat answer.now }
     {
-        if self.entries.reserve(1).is_err() {
-            return Heard::NoMemory;
-        }
-        match self.state.hear(alloc, &self.setting, seat, answer) {
-            Ok(verdict) => {
-                self.entries
-                    .push_reserved(Entered::said(author, seat, answer));
-                heard_by(&verdict)
-            }
-            Err(_) => Heard::NoMemory,
-        }
+        self.umpire.answered(alloc, author, seat, answer)
     }
 
     /// The seat, which is present by this author, is gone.
@@ -189,16 +96,7 @@ impl Core {
         requires { is_here self.old author seat ≡ true }
         ensures { IsLeft result self.old self.new author seat }
     {
-        if self.entries.reserve(1).is_err() {
-            return Left::NoMemory;
-        }
-        match self.state.leave(alloc, &self.setting, seat) {
-            Ok(()) => {
-                self.entries.push_reserved(Entered::gone(author, seat));
-                Left::Gone
-            }
-            Err(_) => Left::NoMemory,
-        }
+        self.umpire.gone(alloc, author, seat)
     }
 
     /// The time of a window may have run out between two readings of a clock, in milliseconds: stale exactly where the
@@ -206,74 +104,42 @@ impl Core {
     pub fn expire(&mut self, alloc: Global, author: u8, window: u32, t1: u64, t2: u64) -> Expiry
         ensures { IsExpiry result self.old self.new author window t1 t2 }
     {
-        if self.open() != Some(window) {
-            return Expiry::Stale;
-        }
-        if t2 < t1 || t2 - t1 < self.setting.rules.limit {
-            return Expiry::Early;
-        }
-        self.close(alloc, author, window, t1, t2)
-    }
-
-    // The open window closes, since its time has run out.
-    fn close(&mut self, alloc: Global, author: u8, window: u32, t1: u64, t2: u64) -> Expiry
-        requires { may_expire self.old window t1 t2 ≡ true }
-        ensures { IsExpiry result self.old self.new author window t1 t2 }
-    {
-        if self.entries.reserve(1).is_err() {
-            return Expiry::NoMemory;
-        }
-        let Ok(entered) = Entered::expired(alloc, author, window, t1, t2) else {
-            return Expiry::NoMemory;
-        };
-        match self.state.expire(alloc, &self.setting) {
-            Ok(()) => {
-                self.entries.push_reserved(entered);
-                Expiry::Closed
-            }
-            Err(_) => Expiry::NoMemory,
-        }
+        self.umpire.expire(alloc, author, window, t1, t2)
     }
 
     /// Whether a seat is present.
     pub fn present(&self, seat: u8) -> bool
         ensures { result ≡ is_some (author_of_seat self.now seat) }
     {
-        self.author(seat).is_some()
+        self.umpire.present(seat)
     }
 
     /// The author by whom a seat is present; None exactly where it isn't.
     pub fn author(&self, seat: u8) -> Option<u8>
         ensures { result ≡ author_of_seat self.now seat }
     {
-        match self.state.seat(seat) {
-            Some(held) => held.author(),
-            None => None,
-        }
+        self.umpire.author(seat)
     }
 
     /// The number of the deed that a seat's next line answers; 0 for a seat that isn't held.
     pub fn due(&self, seat: u8) -> u32
         ensures { result ≡ due_of self.now seat }
     {
-        match self.state.seat(seat) {
-            Some(held) => held.due() as u32,
-            None => 0,
-        }
+        self.umpire.due(seat)
     }
 
     /// The number of deeds.
     pub fn deeds(&self) -> u32
         ensures { result ≡ length (after_of self.now).deeds }
     {
-        self.state.deeds().len() as u32
+        self.umpire.deeds()
     }
 
     /// The table that stands for the deeds so far.
     pub fn table(&self) -> &Table
         ensures { result.now ≡ record { rules = self.now.setting.rules; deeds = (after_of self.now).deeds } }
     {
-        self.state.table()
+        self.umpire.table()
     }
 
     /// The number of the open window, that of the newest deed; None exactly before the first deed and after the game's
@@ -281,17 +147,14 @@ impl Core {
     pub fn open(&self) -> Option<u32>
         ensures { result ≡ open_window (after_of self.now).deeds }
     {
-        match self.state.open() {
-            Some(window) => Some(window as u32),
-            None => None,
-        }
+        self.umpire.open()
     }
 
     /// Whether the game has ended.
     pub fn over(&self) -> bool
         ensures { result ≡ is_over (after_of self.now).deeds }
     {
-        self.state.is_over()
+        self.umpire.over()
     }
 
     /// The number of entries, each of which is permitted where it stands.
@@ -299,7 +162,7 @@ impl Core {
         ensures number { result ≡ length self.now.entries }
         ensures legal { IsLegal self.now.setting self.now.entries }
     {
-        self.entries.len() as u64
+        self.umpire.entries()
     }
 
     /// Whether a seat is present and the deed that its next line answers exists.
@@ -309,10 +172,7 @@ impl Core {
             → author_of_seat self.now seat ≡ Some author
             → can_say (after_of self.now) author seat ≡ true }
     {
-        match self.state.seat(seat) {
-            Some(held) => held.is_present() && held.due() < self.state.deeds().len(),
-            None => false,
-        }
+        self.umpire.may_say(seat)
     }
 
     /// Writes after what stands in `into` what is still to be told to a seat: the line of its due deed as soon as that
@@ -321,16 +181,10 @@ impl Core {
         ensures ok { OnOk result (Adds into.old.items into.new.items (pending_at self.now seat)) }
         ensures err { OnErr result (into.new.items ≡ into.old.items) }
     {
-        let Some(held) = self.state.seat(seat) else {
-            return Ok(());
-        };
-        if !held.is_present() {
-            return Ok(());
+        match self.umpire.owed(seat) {
+            Some(k) => self.push_line(seat, k, into),
+            None => Ok(()),
         }
-        if !held.is_fresh() {
-            return Ok(());
-        }
-        self.push_line(seat, held.due() as u32, into)
     }
 
     /// Line `k` of a seat, 0 to 3, as it was rendered when its deed was added; None exactly where there is no deed `k` yet.
@@ -340,7 +194,7 @@ impl Core {
             (λ l. (k < length (after_of self.now).deeds)
             × (l.now ≡ line_at self.now.setting.rules (after_of self.now).deeds seat k)) }
     {
-        self.state.line(seat, k)
+        self.umpire.told().line(seat, k)
     }
 
     /// Writes a line that is no deed's after what stands in `into`: the first line of a connection, the head of the lines
@@ -365,31 +219,7 @@ impl Core {
         ensures ok { OnOk result (Adds into.old.items into.new.items (record_of self.now)) }
         ensures err { OnErr result (into.new.items ≡ into.old.items) }
     {
-        self.record_on::<Brand>(alloc, into, Blank::new(1))
-    }
-
-    // Writes the record, its lines counted on a new ledger.
-    fn record_on<L: Ledger>(
-        &self,
-        alloc: Global,
-        into: &mut Vec<u8>,
-        blank: Blank,
-    ) -> Result<(), AllocError>
-        requires name { blank.name ≡ L.name }
-        requires parts { blank.parts ≡ L.parts }
-        requires some { 0 < blank.parts }
-        ensures ok { OnOk result (Adds into.old.items into.new.items (record_of self.now)) }
-        ensures err { OnErr result (into.new.items ≡ into.old.items) }
-    {
-        let mut steps = Steps::<L>::new(blank);
-        write_record(
-            alloc,
-            self.setting.rules,
-            self.setting.walls.as_slice(),
-            self.state.deeds(),
-            into,
-            &mut steps,
-        )
+        self.umpire.record(alloc, into)
     }
 
     // Writes the line of a seat with this number, where there is one.
@@ -403,17 +233,5 @@ impl Core {
             Some(line) => push_all(into, line),
             None => Ok(()),
         }
-    }
-}
-
-// What a seat is answered by its verdict.
-fn heard_by(verdict: &Verdict) -> Heard
-    ensures { result ≡ heard_by verdict.now }
-{
-    match verdict {
-        Verdict::Taken => Heard::Taken,
-        Verdict::Late => Heard::Late,
-        Verdict::Refused(rule) => Heard::Refused(*rule),
-        Verdict::Closing(rule) => Heard::Closing(*rule),
     }
 }

@@ -6,10 +6,18 @@ mod chair;
 mod control;
 mod entered;
 mod game;
+mod seat_game;
 mod seated;
 mod state;
+mod streamed;
+mod telling;
+mod umpire;
 mod verdict;
 mod window;
 
 pub use answers::{Expiry, Heard, Left, SitAnswer};
+pub use control::write_control;
 pub use game::Core;
+pub use seat_game::{NOBODY, SeatGame};
+pub use telling::{Telling, Untold};
+pub use umpire::Umpire;

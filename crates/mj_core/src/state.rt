@@ -1,100 +1,81 @@
-ghost use Rattle.std.specs.Prelude.{◌≡◌, ◌≤◌, ◌<◌, ◌==◌, ◌-◌, ◌&&◌, ◌++◌, ◌∷◌, [], ℕ, length, slice_get, slice_set, true, false, not, is_some, Some, None, OnOk, OnErr, IfOk, option_copied, option_map, if◌then◌else◌};
-ghost use Rattle.std.specs.Option.{option_map_or};
+ghost use Rattle.std.specs.Prelude.{◌≡◌, ◌≤◌, ◌<◌, ◌==◌, ◌-◌, ◌&&◌, [], ℕ, slice_get, slice_set, true, is_some, Some, None, OnOk, OnErr, IfOk, option_copied, option_map, if◌then◌else◌};
 ghost use Rattle.mj_ports.specs.declared.entry.Entry.TheVariants.{Sat, Back, Gone, Expired};
 ghost use Rattle.mj_seating.specs.Sitting.{is_present_at};
 ghost use Rattle.mj_wall.specs.declared.setting.Setting.{Setting};
-ghost use Rattle.mj_window.specs.Slots.{closes};
+ghost use Rattle.mj_window.specs.Slots.{closes, put_at};
+ghost use Rattle.mj_deeds.specs.Four.{at_seat};
 ghost use Rattle.mj_rules.specs.Outcome.{goes_on};
 ghost use Rattle.mj_deeds.specs.Facts.{newest};
-ghost use Rattle.mj_history.specs.After.{due_on_return, lines_for};
+ghost use Rattle.mj_history.specs.After.{due_on_return};
 ghost use Rattle.mj_history.specs.Legal.{is_over};
 ghost use Rattle.mj_core.specs.Calls.{open_window};
-ghost use Rattle.mj_core.specs.Inner.States.{Steps, Hears, Advances, Settles, CanTakeSeat, CanTakeBack, CanHear, CanLeave, CanExpire, CanSettle, HasWalls, MayAdd, CanCatchUp, changed, now_of, nobody, desk_after, player_in, placed_in, presence_at, desk_name, desk_names, possible_of_all};
+ghost use Rattle.mj_core.specs.Inner.States.{Steps, Hears, Advances, Settles, CanTakeSeat, CanTakeBack, CanHear, CanLeave, CanExpire, CanSettle, HasWalls, MayAdd, changed, now_of, nobody, desk_after, player_in, placed_in, presence_at, desk_name, desk_names};
 ghost use Rattle.mj_core.specs.Inner.Verdicts.{verdict_given};
 
 use crate::chair::Chair;
+use crate::telling::Telling;
 use crate::verdict::Verdict;
-use crate::window::{answers_in, slots_after};
-use mj_deeds::{Answer, Answers, Deed, Four, Names};
-use mj_judge::possible_over;
-use mj_machine::next;
+use crate::window::answers_in;
+use mj_deeds::{Answer, Deed, Four, Names};
 use mj_ports::{JoinLine, Name};
 use mj_seating::{Desk, Placed};
-use mj_streams::Streams;
-use mj_table::Table;
-use mj_wall::{Rules, Setting};
+use mj_wall::Setting;
 use mj_window::Window;
 use std::alloc::{AllocError, Global};
 use std::marker::Model;
-use std::mem;
 
 // For so many deeds there is room from the start.
 const DEEDS: usize = 2_048;
 
-// What the entries of a game come to: the deeds so far, the table that they make and the lines that the seats are told of
-// them, the seats as they are held and how far each has come, and the window on the newest deed. A second table stands by: a
-// deed is added to it, made the same as the first, and they change places once the deed is told, since that may want memory.
-// So it then lacks the newest deed alone, and becomes the same by that one.
+// What the entries of a game come to: the deeds so far, the table that they make with what is told of them, the seats as they are
+// held and how far each has come, and the window on the newest deed.
 #[derive(Drop)]
-pub struct State {
-    table: Box<Table>,
-    spare: Box<Table>,
-    // the spare table lacks the newest deed alone; else it may have any deeds
-    is_behind: bool,
+pub struct State<T: Telling> {
+    told: T,
     deeds: Vec<Deed>,
-    streams: Streams,
-    // the answers that each seat may give to the deed that was told last, kept for their memory alone
-    lists: Four<Answers>,
     desk: Desk,
     chairs: Vec<Chair>,
     window: Window,
 }
 
-impl Model for State {
+impl<T: Telling> Model for State<T> {
     ghost use Rattle.mj_core.specs.Inner.States.{Position, AreKept};
 
     ghost Value = { Position };
 
     ghost view = { λ s. record {
-      rules = s.table.value.rules;
+      rules = (T.play s.told).rules;
       deeds = s.deeds.items;
       desk = s.desk;
       players = s.chairs.items;
       slots = s.window;
     } };
 
-    ghost invariant = { λ s. AreKept s.table.value.rules s.table.value.deeds s.streams s.deeds.items
-        s.desk s.chairs.items s.is_behind s.spare.value };
+    ghost invariant = { λ s. AreKept (T.play s.told).deeds s.deeds.items s.desk s.chairs.items };
 }
 
-impl State {
-    // A state without seats.
-    pub fn new(alloc: Global, rules: Rules) -> Result<State, AllocError>
-        ensures { IfOk result (λ state. state ≡ nobody rules) }
+impl<T: Telling> State<T> {
+    // A state without seats, on a table without a deed.
+    pub fn new(alloc: Global, told: T) -> Result<State<T>, AllocError>
+        requires { (T.play told).deeds ≡ [] }
+        ensures { IfOk result (λ state. state ≡ nobody (T.play told).rules) }
     {
         let deeds = Vec::with_capacity(alloc, DEEDS)?;
         let chairs = Vec::with_capacity(alloc, 4)?;
-        let streams = Streams::new(alloc)?;
-        let table = Box::new(alloc, Table::new(rules)?)?;
-        let spare = Box::new(alloc, Table::new(rules)?)?;
         Ok(State {
-            table,
-            spare,
-            is_behind: false,
+            told,
             deeds,
-            streams,
-            lists: passes(),
             desk: Desk::new(),
             chairs,
             window: Window::new(),
         })
     }
 
-    // The table that the deeds so far make.
-    pub fn table(&self) -> &Table
-        ensures { result.now ≡ record { rules = self.now.rules; deeds = self.now.deeds } }
+    // The table that the deeds so far make, with what is told of them.
+    pub fn told(&self) -> &T
+        ensures { T.play result.now ≡ record { rules = self.now.rules; deeds = self.now.deeds } }
     {
-        &self.table
+        &self.told
     }
 
     // The deeds so far.
@@ -102,14 +83,6 @@ impl State {
         ensures { result.now ≡ self.now.deeds }
     {
         self.deeds.as_slice()
-    }
-
-    // Line k of a seat, 0 to 3; None exactly where there is no deed k yet.
-    pub fn line(&self, seat: u8, k: u32) -> Option<&[u8]>
-        requires { seat < 4 }
-        ensures { option_copied result ≡ slice_get (lines_for self.now.rules seat self.now.deeds) k }
-    {
-        self.streams.line(seat, k)
     }
 
     // A seat, where it is held.
@@ -165,7 +138,6 @@ impl State {
             (Sat author join.now.name join.now.key)) }
         ensures err { OnErr result (self.new ≡ self.old) }
     {
-        self.is_behind = false;
         self.deeds.reserve(1)?;
         self.chairs.reserve(1)?;
         let mut desk = self.desk;
@@ -173,15 +145,11 @@ impl State {
         if desk.held() == 4 {
             let seated = Names::of(alloc, names(&desk))?;
             let deed = Deed::StartGame { names: seated };
-            self.table.copy_over(&mut self.spare)?;
-            self.spare.push(&deed)?;
-            list_possible(alloc, &self.spare, &mut self.lists)?;
-            self.streams.push_alone(alloc, &deed, &self.lists)?;
-            mem::swap(&mut self.table, &mut self.spare);
+            self.told.push(alloc, &deed)?;
             self.deeds.push_reserved(deed);
             self.chairs.push_reserved(Chair::new(author));
             self.desk = desk;
-            self.window = Window::new();
+            self.window.clear_all();
             return Ok(());
         }
         self.chairs.push_reserved(Chair::new(author));
@@ -206,8 +174,7 @@ impl State {
         desk.sit(join);
         let mut chair = self.chairs[usize::from(seat)];
         chair.come_back(author, self.due_on_return(seat));
-        let window = self.window;
-        self.settle(alloc, setting, seat, &desk, chair, &window)
+        self.settle(alloc, setting, seat, &desk, chair)
     }
 
     // The deed that a seat answers next where it comes back: the newest one where its slot is empty, else the one after
@@ -236,14 +203,17 @@ impl State {
         ensures err { OnErr result (self.new ≡ self.old) }
     {
         let mut chair = self.chairs[usize::from(seat)];
-        let verdict = chair.verdict(&self.table, self.deeds.len(), seat, answer);
+        let verdict = chair.verdict(self.told.table(), self.deeds.len(), seat, answer);
         chair.go_on(&verdict);
-        let window = slots_after(&self.window, &verdict, seat, answer);
-        if !verdict.is_closing() {
-            self.settle_here(alloc, setting, seat, chair, &window)?;
+        if verdict.is_taken() {
+            self.settle_filled(alloc, setting, seat, answer, chair)?;
             return Ok(verdict);
         }
-        self.settle_closing(alloc, setting, seat, &verdict, chair, &window)?;
+        if !verdict.is_closing() {
+            self.settle_here(alloc, setting, seat, chair)?;
+            return Ok(verdict);
+        }
+        self.settle_closing(alloc, setting, seat, &verdict, chair)?;
         Ok(verdict)
     }
 
@@ -258,8 +228,7 @@ impl State {
         desk.leave(seat);
         let mut chair = self.chairs[usize::from(seat)];
         chair.leave();
-        let window = self.window;
-        self.settle(alloc, setting, seat, &desk, chair, &window)
+        self.settle(alloc, setting, seat, &desk, chair)
     }
 
     // The time of the open window has run out.
@@ -269,13 +238,10 @@ impl State {
             (Expired author window t1 t2)) }
         ensures err { OnErr result (self.new ≡ self.old) }
     {
-        let window = self.window;
-        self.advance(alloc, setting, &window)?;
-        self.window = Window::new();
-        Ok(())
+        self.advance(alloc, setting)
     }
 
-    // A seat changes, and its slot perhaps; then the window closes where nobody is waited for.
+    // A seat changes; then the window closes where nobody is waited for.
     fn settle(
         &mut self,
         alloc: Global,
@@ -283,28 +249,25 @@ impl State {
         seat: u8,
         desk: &Desk,
         chair: Chair,
-        window: &Window,
     ) -> Result<(), AllocError>
-        requires { CanSettle setting.now self.old seat desk.now chair window.now }
+        requires { CanSettle setting.now self.old seat desk.now chair self.old.slots }
         ensures ok { OnOk result (Settles setting.now
-            (changed self.old desk.now (slice_set self.old.players seat chair) window.now)
+            (changed self.old desk.now (slice_set self.old.players seat chair) self.old.slots)
             self.new) }
         ensures err { OnErr result (self.new ≡ self.old) }
     {
-        if self.is_closed(desk, window) {
-            self.advance(alloc, setting, window)?;
+        if self.is_closed(desk) {
+            self.advance(alloc, setting)?;
             self.chairs[usize::from(seat)] = chair;
             self.desk = *desk;
-            self.window = Window::new();
             return Ok(());
         }
         self.chairs[usize::from(seat)] = chair;
         self.desk = *desk;
-        self.window = *window;
         Ok(())
     }
 
-    // The same of a seat whose answer is refused for good, so that it leaves the desk.
+    // A seat whose answer is refused for good changes, and leaves the desk.
     fn settle_closing(
         &mut self,
         alloc: Global,
@@ -312,118 +275,92 @@ impl State {
         seat: u8,
         verdict: &Verdict,
         chair: Chair,
-        window: &Window,
     ) -> Result<(), AllocError>
         requires present { is_present_at self.old.desk seat ≡ true }
         requires can { CanSettle setting.now self.old seat
-            (desk_after (verdict_given verdict.now) self.old.desk seat) chair window.now }
+            (desk_after (verdict_given verdict.now) self.old.desk seat) chair self.old.slots }
         ensures ok { OnOk result (Settles setting.now
             (changed self.old (desk_after (verdict_given verdict.now) self.old.desk seat)
-            (slice_set self.old.players seat chair) window.now) self.new) }
+            (slice_set self.old.players seat chair) self.old.slots) self.new) }
         ensures err { OnErr result (self.new ≡ self.old) }
     {
         let desk = desk_after(&self.desk, verdict, seat);
-        self.settle(alloc, setting, seat, &desk, chair, window)
+        self.settle(alloc, setting, seat, &desk, chair)
     }
 
-    // The same of a seat that stays at the desk as it is.
+    // A seat changes that stays at the desk as it is.
     fn settle_here(
         &mut self,
         alloc: Global,
         setting: &Setting,
         seat: u8,
         chair: Chair,
-        window: &Window,
     ) -> Result<(), AllocError>
-        requires { CanSettle setting.now self.old seat self.old.desk chair window.now }
+        requires { CanSettle setting.now self.old seat self.old.desk chair self.old.slots }
         ensures ok { OnOk result (Settles setting.now
-            (changed self.old self.old.desk (slice_set self.old.players seat chair) window.now)
+            (changed self.old self.old.desk (slice_set self.old.players seat chair) self.old.slots)
             self.new) }
         ensures err { OnErr result (self.new ≡ self.old) }
     {
-        if self.is_closed(&self.desk, window) {
-            self.advance(alloc, setting, window)?;
+        if self.is_closed(&self.desk) {
+            self.advance(alloc, setting)?;
             self.chairs[usize::from(seat)] = chair;
-            self.window = Window::new();
             return Ok(());
         }
         self.chairs[usize::from(seat)] = chair;
-        self.window = *window;
         Ok(())
     }
 
-    // Whether the window closes: it is open, and nobody at the desk is waited for.
-    fn is_closed(&self, desk: &Desk, window: &Window) -> bool
-        ensures { result ≡ (is_some (open_window self.now.deeds)
-            && closes window.now (presence_at desk.now)) }
-    {
-        self.open().is_some() && window.ready_to_close(presence(desk))
-    }
-
-    // The deed that follows by the answers in a window is added.
-    fn advance(
+    // A seat changes whose answer is taken, and fills its slot, which is empty.
+    fn settle_filled(
         &mut self,
         alloc: Global,
         setting: &Setting,
-        window: &Window,
+        seat: u8,
+        answer: &Answer,
+        chair: Chair,
     ) -> Result<(), AllocError>
-        requires ground { HasWalls setting.now self.old }
-        requires on { goes_on (newest self.old.deeds) ≡ true }
-        requires may { MayAdd setting.now self.old.deeds window.now }
-        ensures ok { OnOk result (Advances setting.now self.old self.new window.now) }
+        requires empty { at_seat self.old.slots seat ≡ None }
+        requires can { CanSettle setting.now self.old seat self.old.desk chair
+            (put_at self.old.slots seat answer.now) }
+        ensures ok { OnOk result (Settles setting.now
+            (changed self.old self.old.desk (slice_set self.old.players seat chair)
+            (put_at self.old.slots seat answer.now)) self.new) }
         ensures err { OnErr result (self.new ≡ self.old) }
     {
-        let is_behind = self.is_behind;
-        self.is_behind = false;
+        self.window.fill(seat, *answer);
+        match self.settle_here(alloc, setting, seat, chair) {
+            Ok(()) => Ok(()),
+            Err(e) => {
+                self.window.clear(seat);
+                Err(e)
+            }
+        }
+    }
+
+    // Whether the window closes: it is open, and nobody at the desk is waited for.
+    fn is_closed(&self, desk: &Desk) -> bool
+        ensures { result ≡ (is_some (open_window self.now.deeds)
+            && closes self.now.slots (presence_at desk.now)) }
+    {
+        self.open().is_some() && self.window.ready_to_close(presence(desk))
+    }
+
+    // The deed that follows by the answers in the window is added, and its window opens.
+    fn advance(&mut self, alloc: Global, setting: &Setting) -> Result<(), AllocError>
+        requires ground { HasWalls setting.now self.old }
+        requires on { goes_on (newest self.old.deeds) ≡ true }
+        requires may { MayAdd setting.now self.old.deeds self.old.slots }
+        ensures ok { OnOk result (Advances setting.now self.old self.new) }
+        ensures err { OnErr result (self.new ≡ self.old) }
+    {
         self.deeds.reserve(1)?;
-        let answers = answers_in(&self.table, window);
-        let newest = self.deeds.as_slice().last();
-        catch_up(&self.table, &mut self.spare, is_behind, newest)?;
-        let deed = next(alloc, &mut self.spare, setting.walls.as_slice(), &answers)?;
-        list_possible(alloc, &self.spare, &mut self.lists)?;
-        self.streams.push_alone(alloc, &deed, &self.lists)?;
-        mem::swap(&mut self.table, &mut self.spare);
+        let answers = answers_in(self.told.table(), &self.window);
+        let deed = self.told.next(alloc, setting.walls.as_slice(), &answers)?;
         self.deeds.push_reserved(deed);
-        self.is_behind = true;
+        self.window.clear_all();
         Ok(())
     }
-}
-
-// The list of a pass alone, four times.
-fn passes() -> Four<Answers> {
-    Four {
-        first: Answers::pass_alone(),
-        second: Answers::pass_alone(),
-        third: Answers::pass_alone(),
-        fourth: Answers::pass_alone(),
-    }
-}
-
-// Makes the spare table the same as the first: where it lacks the newest deed alone, that is added to it.
-fn catch_up(
-    table: &Table,
-    spare: &mut Table,
-    is_behind: bool,
-    newest: Option<&Deed>,
-) -> Result<(), AllocError>
-    requires { CanCatchUp is_behind spare.old table.now (option_copied newest) }
-    ensures { OnOk result (spare.new ≡ table.now) }
-{
-    match newest {
-        Some(deed) if is_behind => spare.push(deed),
-        _ => table.copy_over(spare),
-    }
-}
-
-// What each of the four seats may answer to the newest deed of a table, in place of four lists.
-fn list_possible(alloc: Global, table: &Table, lists: &mut Four<Answers>) -> Result<(), AllocError>
-    ensures { OnOk result (lists.new ≡ possible_of_all table.now.rules table.now.deeds) }
-{
-    possible_over(alloc, table, 0, &mut lists.first)?;
-    possible_over(alloc, table, 1, &mut lists.second)?;
-    possible_over(alloc, table, 2, &mut lists.third)?;
-    possible_over(alloc, table, 3, &mut lists.fourth)?;
-    Ok(())
 }
 
 // The desk once an answer of a seat has this verdict: one that is refused for good makes the seat leave.

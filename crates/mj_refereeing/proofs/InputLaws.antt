@@ -154,25 +154,25 @@ keeps-nothing told may_leave moment secured_since seat input end written disk is
 -- A journal that was opened, and what then becomes of the lines after the tag.
 module _ {D : Type 0} (told : D → Option Bytes) (may_leave : D → Bytes → Type 0) (moment : D → ℕ) (secured_since : D → ℕ → Bytes → Type 0) (seat : ℕ) (base : Base) (input : Bytes)
     (founds : base_of input ≡ Some base) (old mid new : D) (kept : Kept Watched) (old_written new_written : Option Bytes)
-    (w : Watched) (start : w.core ≡ record { setting = base.setting; entries = [] }) (of_seat : w.seat ≡ seat) (wall : (length base.setting.walls == 0) ≡ false) where
-  same : w.core.setting ≡ base.setting
+    (w : Watched) (start : w.core.game ≡ record { setting = base.setting; entries = [] }) (of_seat : w.core.seat ≡ seat) (wall : (length base.setting.walls == 0) ≡ false) where
+  same : w.core.game.setting ≡ base.setting
   same = ap (λ (g : Game). g.setting) start
 
   both : setting_in w ≡ (base.setting, seat)
   both = λ i. (same i, of_seat i)
 
   pub keeps-opened : IsInPlay setting_in (setting_in w) (game_of kept) → ((bytes : Bytes) → told old ≡ Some bytes →
-      OpensGame setting_in entries_in (setting_in w) (opens (play_of w.core.setting) base.tag bytes) (game_of kept) (end_of kept))
+      OpensGame setting_in entries_in (setting_in w) (opens (play_of w.core.game.setting) base.tag bytes) (game_of kept) (end_of kept))
       → TellsOn (told old) (told mid)
       → ((bytes : Bytes) (found : Entries) → told old ≡ Some bytes → Only bytes (may_leave old) → Gives (opens_for base bytes) found
       → SyncsOnly moment secured_since old mid (λ image. Gives (opens_for base image) found))
       → IsAtRest (told mid) (may_leave mid) (end_of kept) →
-      IfKept (game_of kept) (λ v. TellsGame (opens (play_of w.core.setting) base.tag) (told mid) v.core.entries (end_of kept)) → (end : KeepEnd)
+      IfKept (game_of kept) (λ v. TellsGame (opens (play_of w.core.game.setting) base.tag) (told mid) v.core.game.entries (end_of kept)) → (end : KeepEnd)
       → ((game : Game) → base.setting ≡ game.setting → GoesOn told may_leave base.tag seat kept mid game → KeepsOn told may_leave moment secured_since end base seat game.entries input old_written new_written mid new)
       → KeepsInput told may_leave moment secured_since end seat input old_written new_written old new
   keeps-opened play opened on before rest tells end does =
       let play_now = subst (λ (s : Setting × ℕ). IsInPlay setting_in s (game_of kept)) both play in
-      let tells_now = subst (λ (s : Setting). IfKept (game_of kept) (λ v. TellsGame (opens (play_of s) base.tag) (told mid) v.core.entries (end_of kept))) same tells in
+      let tells_now = subst (λ (s : Setting). IfKept (game_of kept) (λ v. TellsGame (opens (play_of s) base.tag) (told mid) v.core.game.entries (end_of kept))) same tells in
       let o = opened-goes told may_leave base.tag seat base.setting kept mid wall rest play_now tells_now in
       let had = λ (bytes : Bytes) (is : told old ≡ Some bytes).
       opened-gives (opens_for base bytes) base.setting seat kept o.game o.is
@@ -180,27 +180,27 @@ module _ {D : Type 0} (told : D → Option Bytes) (may_leave : D → Bytes → T
       keeps_input told may_leave moment secured_since seat base input founds old o.game.entries old_written new_written mid new had on before end (does o.game (sym o.same) o.goes)
 
 -- How the disk opens for a watched game without entries.
-pub opened-as : (setting : Setting) (w : Watched) (tag bytes : Bytes) (o : Opening Entries) → w.core ≡ record { setting = setting; entries = [] } →
-    opens (play_of w.core.setting) tag bytes ≡ o → opens (play_of setting) tag bytes ≡ o
+pub opened-as : (setting : Setting) (w : Watched) (tag bytes : Bytes) (o : Opening Entries) → w.core.game ≡ record { setting = setting; entries = [] } →
+    opens (play_of w.core.game.setting) tag bytes ≡ o → opens (play_of setting) tag bytes ≡ o
 opened-as setting w tag bytes o start e = ap (λ (g : Game). opens (play_of g.setting) tag bytes) (sym start) ∙ e
 
 -- So where the journal is another game's, or bad.
 module _ (w : Watched) (setting : Setting) (tag bytes : Bytes) (result : Result (Kept Watched) NotOpened) (error : NotOpened)
-    (start : w.core ≡ record { setting = setting; entries = [] }) (is : result ≡ Err error)
-    (opened : OpensAs setting_in entries_in (setting_in w) (opens (play_of w.core.setting) tag bytes) result) where
-  failed-as : OpensAs setting_in entries_in (setting_in w) (opens (play_of w.core.setting) tag bytes) (Err error)
-  failed-as = subst (λ (r : Result (Kept Watched) NotOpened). OpensAs setting_in entries_in (setting_in w) (opens (play_of w.core.setting) tag bytes) r) is opened
+    (start : w.core.game ≡ record { setting = setting; entries = [] }) (is : result ≡ Err error)
+    (opened : OpensAs setting_in entries_in (setting_in w) (opens (play_of w.core.game.setting) tag bytes) result) where
+  failed-as : OpensAs setting_in entries_in (setting_in w) (opens (play_of w.core.game.setting) tag bytes) (Err error)
+  failed-as = subst (λ (r : Result (Kept Watched) NotOpened). OpensAs setting_in entries_in (setting_in w) (opens (play_of w.core.game.setting) tag bytes) r) is opened
 
   pub other-as : error ≡ not_opened.OtherGame → opens (play_of setting) tag bytes ≡ Other
-  other-as why = opened-as setting w tag bytes Other start (subst (λ (e : NotOpened). OpensAs setting_in entries_in (setting_in w) (opens (play_of w.core.setting) tag bytes) (Err e)) why failed-as)
+  other-as why = opened-as setting w tag bytes Other start (subst (λ (e : NotOpened). OpensAs setting_in entries_in (setting_in w) (opens (play_of w.core.game.setting) tag bytes) (Err e)) why failed-as)
 
   pub bad-as : (place : ℕ) → error ≡ not_opened.BadJournal place → opens (play_of setting) tag bytes ≡ Bad place
   bad-as place why = opened-as setting w tag bytes (Bad place) start
-      (subst (λ (e : NotOpened). OpensAs setting_in entries_in (setting_in w) (opens (play_of w.core.setting) tag bytes) (Err e)) why failed-as)
+      (subst (λ (e : NotOpened). OpensAs setting_in entries_in (setting_in w) (opens (play_of w.core.game.setting) tag bytes) (Err e)) why failed-as)
 
 -- What writes a script counts no fault of the disk.
 pub counts-script : (result : KeepEnd) (end : End) (o : Option Watched) (old_written new_written : Option Bytes) (old new : ℕ) →
-    IsPlayed o (Unit {0}) → ((w : Watched) → o ≡ Some w → WritesScript result end w.seat w.core old_written new_written) → old ≤ new
+    IsPlayed o (Unit {0}) → ((w : Watched) → o ≡ Some w → WritesScript result end w.core.seat w.core.game old_written new_written) → old ≤ new
     → CountsDiskFaults (keep_status result) old new
 counts-script (ends.Told known.Whole) end o ow nw old new played writes more = more
 counts-script (ends.Told (known.Bad line)) end o ow nw old new played writes more = more

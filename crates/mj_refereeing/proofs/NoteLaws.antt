@@ -137,10 +137,10 @@ expiry-adds expiry.Early right author window t1 t2 es fs had is = is.1 ∙ sym (
 expiry-adds expiry.NoMemory right author window t1 t2 es fs had is = absurd had
 
 abbrev pub setting_in : Watched → Setting × ℕ
-setting_in w = (w.core.setting, w.seat)
+setting_in w = (w.core.game.setting, w.core.seat)
 
 abbrev pub entries_in : Watched → List (Entry Answer)
-entries_in w = w.core.entries
+entries_in w = w.core.game.entries
 
 -- A call adds its entry, where it has one.
 abbrev pub Adds_entry : {T : Type 0} → GameCall → T → Setting × ℕ → List (Entry Answer) → List (Entry Answer) → Type 0
@@ -172,31 +172,31 @@ ExpiresSo author window t1 t2 answer s es fs = HadMemory (of_expiry answer) × A
 pub answers-sit : (result : Answered SitAnswer) (author : ℕ) (line : List ℕ) (w : Watched) (b : Option Watched) → Answers setting_in entries_in result
     (SitsSo author line) (Some w) b → Answers setting_in entries_in result (Adds_entry (Sit author line)) (Some w) b
 answers-sit result author line w b h =
-    let right = sits_of w.core.setting w.core.entries line in
+    let right = sits_of w.core.game.setting w.core.game.entries line in
     answers-more result (SitsSo author line) (Adds_entry (Sit author line)) w b
     (λ answer fs p. sit-adds answer right author (join_of line) (entries_in w) fs p.0 p.1) h
 
 pub answers-said : (result : Answered (Heard Rule)) (author seat : ℕ) (line : List ℕ) (w : Watched) (b : Option Watched) →
-    is_asked (shown_of w.core.setting w.core.entries) author seat ≡ true → Answers setting_in entries_in result (SaysSo author seat line) (Some w) b
+    is_asked (shown_of w.core.game.setting w.core.game.entries) author seat ≡ true → Answers setting_in entries_in result (SaysSo author seat line) (Some w) b
     → Answers setting_in entries_in result (Adds_entry (Say author seat line)) (Some w) b
 answers-said result author seat line w b asked h =
-    let right = hears_of w.core.setting w.core.entries seat (answer_of line) in
-    let is = is_asked (shown_of w.core.setting w.core.entries) author seat in
+    let right = hears_of w.core.game.setting w.core.game.entries seat (answer_of line) in
+    let is = is_asked (shown_of w.core.game.setting w.core.game.entries) author seat in
     answers-more result (SaysSo author seat line) (Adds_entry (Say author seat line)) w b
     (λ answer fs p. said-adds answer right author seat (answer_of line) is (entries_in w) fs asked p.0 p.1) h
 
-pub answers-gone : (result : Answered Left) (author seat : ℕ) (w : Watched) (b : Option Watched) → is_by (shown_of w.core.setting w.core.entries)
+pub answers-gone : (result : Answered Left) (author seat : ℕ) (w : Watched) (b : Option Watched) → is_by (shown_of w.core.game.setting w.core.game.entries)
     author seat ≡ true → Answers setting_in entries_in result (GoesSo author seat) (Some w) b
     → Answers setting_in entries_in result (Adds_entry (Leave author seat)) (Some w) b
 answers-gone result author seat w b here h =
-    let is = is_by (shown_of w.core.setting w.core.entries) author seat in
+    let is = is_by (shown_of w.core.game.setting w.core.game.entries) author seat in
     answers-more result (GoesSo author seat) (Adds_entry (Leave author seat)) w b
     (λ answer fs p. gone-adds answer author seat is (entries_in w) fs here p.0 p.1) h
 
 pub answers-expiry : (result : Answered Expiry) (author window t1 t2 : ℕ) (w : Watched) (b : Option Watched) → Answers setting_in entries_in result (ExpiresSo author window t1 t2) (Some w) b
     → Answers setting_in entries_in result (Adds_entry (Expire author window t1 t2)) (Some w) b
 answers-expiry result author window t1 t2 w b h =
-    let right = expires_of w.core.setting w.core.entries window t1 t2 in
+    let right = expires_of w.core.game.setting w.core.game.entries window t1 t2 in
     answers-more result (ExpiresSo author window t1 t2) (Adds_entry (Expire author window t1 t2)) w b
     (λ answer fs p. expiry-adds answer right author window t1 t2 (entries_in w) fs p.0 p.1) h
 
@@ -206,12 +206,12 @@ no_game g e = cc e
 module _ {D : Type 0} (told : D → Option (List ℕ)) (may_leave : D → List ℕ → Type 0) (moment : D → ℕ) (left_since secured_since : D → ℕ → List ℕ → Type 0)
     (counts_now : (disk : D) (t : ℕ) (image : List ℕ) → t ≤ moment disk → may_leave disk image → left_since disk t image)
     (T : Type 0) (tag : List ℕ) (seat : ℕ) (kept new_kept : Kept Watched) (old new : D) (call : GameCall) (arrival : Arrival) where
-  same_core : (v w : Watched) (es : List (Entry Answer)) → v.core.setting ≡ w.core.setting → v.core.entries ≡ es → v.core ≡ record { setting = w.core.setting; entries = es }
+  same_core : (v w : Watched) (es : List (Entry Answer)) → v.core.game.setting ≡ w.core.game.setting → v.core.game.entries ≡ es → v.core.game ≡ record { setting = w.core.game.setting; entries = es }
   same_core v w es p q = λ i. record { setting = p i; entries = q i }
 
-  goes_as : (v w : Watched) (es : List (Entry Answer)) → game_of new_kept ≡ Some v → setting_in v ≡ setting_in w → v.core.entries ≡ es → w.seat ≡ seat → (length w.core.setting.walls == 0) ≡ false
-      → IsAtRest (told new) (may_leave new) (end_of new_kept) → TellsGame (opens (play_of w.core.setting) tag) (told new) v.core.entries (end_of new_kept)
-      → GoesOn told may_leave tag seat new_kept new (record { setting = w.core.setting; entries = es })
+  goes_as : (v w : Watched) (es : List (Entry Answer)) → game_of new_kept ≡ Some v → setting_in v ≡ setting_in w → v.core.game.entries ≡ es → w.core.seat ≡ seat → (length w.core.game.setting.walls == 0) ≡ false
+      → IsAtRest (told new) (may_leave new) (end_of new_kept) → TellsGame (opens (play_of w.core.game.setting) tag) (told new) v.core.game.entries (end_of new_kept)
+      → GoesOn told may_leave tag seat new_kept new (record { setting = w.core.game.setting; entries = es })
   goes_as v w es is same entries of_seat wall rest tells = record {
     watched = v;
     is = is;
@@ -219,52 +219,52 @@ module _ {D : Type 0} (told : D → Option (List ℕ)) (may_leave : D → List �
     of_seat = ap (λ (s : Setting × ℕ). s.1) same ∙ of_seat;
     wall = wall;
     rest = rest;
-    tells = subst (λ (es : List (Entry Answer)). TellsGame (opens (play_of w.core.setting) tag) (told new) es (end_of new_kept)) entries tells;
+    tells = subst (λ (es : List (Entry Answer)). TellsGame (opens (play_of w.core.game.setting) tag) (told new) es (end_of new_kept)) entries tells;
   }
 
-  module _ (w : Watched) (of_seat : w.seat ≡ seat) (wall : (length w.core.setting.walls == 0) ≡ false)
-      (tells : TellsGame (opens (play_of w.core.setting) tag) (told old) w.core.entries (end_of kept)) (leads : IsArrivalOf arrival w.core call) where
+  module _ (w : Watched) (of_seat : w.core.seat ≡ seat) (wall : (length w.core.game.setting.walls == 0) ≡ false)
+      (tells : TellsGame (opens (play_of w.core.game.setting) tag) (told old) w.core.game.entries (end_of kept)) (leads : IsArrivalOf arrival w.core.game call) where
     noted_at : (result : Answered T) (b : Option Watched) → game_of new_kept ≡ b → Answers setting_in entries_in result (Adds_entry call) (Some w) b →
         IfKept b (λ g. IsAtRest (told new) (may_leave new) (end_of new_kept))
-        → AnyMoment told moment left_since secured_since (play_of w.core.setting) w.core.entries (end_of kept) call result old new
-        → IfBoth (Some w) b (λ g h. Acknowledged told may_leave moment secured_since (play_of g.core.setting) old new g.core.entries (end_of kept) h.core.entries (end_of new_kept))
-        → Notes told may_leave moment secured_since (noted_by result) tag seat w.core new_kept old new arrival
+        → AnyMoment told moment left_since secured_since (play_of w.core.game.setting) w.core.game.entries (end_of kept) call result old new
+        → IfBoth (Some w) b (λ g h. Acknowledged told may_leave moment secured_since (play_of g.core.game.setting) old new g.core.game.entries (end_of kept) h.core.game.entries (end_of new_kept))
+        → Notes told may_leave moment secured_since (noted_by result) tag seat w.core.game new_kept old new arrival
     noted_at (answered.Done answer) None is h rest any after = absurd h
     noted_at (answered.Done answer) (Some v) is h rest any after = record {
-      next = with_call w.core call;
+      next = with_call w.core.game call;
       leads = leads;
       setting = refl;
-      goes = goes_as v w (w.core.entries ++ list_of (entered (play_of w.core.setting) w.core.entries call)) is h.0 h.1 of_seat wall rest (after.tells tag tells);
+      goes = goes_as v w (w.core.game.entries ++ list_of (entered (play_of w.core.game.setting) w.core.game.entries call)) is h.0 h.1 of_seat wall rest (after.tells tag tells);
       on = after.on;
       syncs = λ bytes is.
           weaker moment secured_since old new _ _ (any tag bytes is (tells bytes is)).1
-          (λ image o. front-by (opens (play_of w.core.setting) tag) w.core.entries image (entered (play_of w.core.setting) w.core.entries call) o);
+          (λ image o. front-by (opens (play_of w.core.game.setting) tag) w.core.game.entries image (entered (play_of w.core.game.setting) w.core.game.entries call) o);
     }
     noted_at answered.DiskFault b is h rest any after = record {
-      next = with_call w.core call;
-      entry = entered (play_of w.core.setting) w.core.entries call;
+      next = with_call w.core.game call;
+      entry = entered (play_of w.core.game.setting) w.core.game.entries call;
       leads = leads;
       setting = refl;
       entries = refl;
       each = λ bytes image is left. let run = (any tag bytes is (tells bytes is)).0 in run.each image (counts_now new (moment old) image run.later left);
       syncs = λ bytes is.
-          weaker moment secured_since old new _ _ (any tag bytes is (tells bytes is)).1 (λ image o. front-to (opens (play_of w.core.setting) tag) w.core.entries image o);
+          weaker moment secured_since old new _ _ (any tag bytes is (tells bytes is)).1 (λ image o. front-to (opens (play_of w.core.game.setting) tag) w.core.game.entries image o);
     }
     noted_at answered.Stopped b is h rest any after = absurd (no_game w h.0)
     noted_at answered.NoMemory None is h rest any after = absurd h
     noted_at answered.NoMemory (Some v) is h rest any after = record {
-      goes = goes_as v w w.core.entries is h.0 h.1 of_seat wall rest (after.tells tag tells);
+      goes = goes_as v w w.core.game.entries is h.0 h.1 of_seat wall rest (after.tells tag tells);
       on = after.on;
       syncs = λ bytes is.
-          weaker moment secured_since old new _ _ (any tag bytes is (tells bytes is)).1 (λ image o. front-to (opens (play_of w.core.setting) tag) w.core.entries image o);
+          weaker moment secured_since old new _ _ (any tag bytes is (tells bytes is)).1 (λ image o. front-to (opens (play_of w.core.game.setting) tag) w.core.game.entries image o);
     }
 
   -- So for a game that goes on.
   pub noted : (result : Answered T) (game : Game) → GoesOn told may_leave tag seat kept old game → IsArrivalOf arrival game call
       → ((w : Watched) → game_of kept ≡ Some w → Answers setting_in entries_in result (Adds_entry call) (Some w) (game_of new_kept)) →
       IfKept (game_of new_kept) (λ g. IsAtRest (told new) (may_leave new) (end_of new_kept))
-      → IfKept (game_of kept) (λ g. AnyMoment told moment left_since secured_since (play_of g.core.setting) g.core.entries (end_of kept) call result old new)
-      → IfBoth (game_of kept) (game_of new_kept) (λ g h. Acknowledged told may_leave moment secured_since (play_of g.core.setting) old new g.core.entries (end_of kept) h.core.entries (end_of new_kept))
+      → IfKept (game_of kept) (λ g. AnyMoment told moment left_since secured_since (play_of g.core.game.setting) g.core.game.entries (end_of kept) call result old new)
+      → IfBoth (game_of kept) (game_of new_kept) (λ g h. Acknowledged told may_leave moment secured_since (play_of g.core.game.setting) old new g.core.game.entries (end_of kept) h.core.game.entries (end_of new_kept))
       → Notes told may_leave moment secured_since (noted_by result) tag seat game new_kept old new arrival
   noted result game g leads answers rest any after =
       let w = g.watched in
@@ -272,9 +272,9 @@ module _ {D : Type 0} (told : D → Option (List ℕ)) (may_leave : D → List �
       (noted_at w g.of_seat (subst (λ (x : Game). (length x.setting.walls == 0) ≡ false) (sym g.core) g.wall)
       (subst (λ (x : Game). TellsGame (opens (play_of x.setting) tag) (told old) x.entries (end_of kept)) (sym g.core) g.tells)
       (subst (λ (x : Game). IsArrivalOf arrival x call) (sym g.core) leads) result (game_of new_kept) refl (answers w g.is) rest
-      (subst (λ (x : Option Watched). IfKept x (λ g. AnyMoment told moment left_since secured_since (play_of g.core.setting) g.core.entries (end_of kept) call result old new)) g.is any)
-      (subst (λ (x : Option Watched). IfBoth x (game_of new_kept) (λ g h. Acknowledged told may_leave moment secured_since (play_of g.core.setting) old new g.core.entries
-      (end_of kept) h.core.entries (end_of new_kept))) g.is after))
+      (subst (λ (x : Option Watched). IfKept x (λ g. AnyMoment told moment left_since secured_since (play_of g.core.game.setting) g.core.game.entries (end_of kept) call result old new)) g.is any)
+      (subst (λ (x : Option Watched). IfBoth x (game_of new_kept) (λ g h. Acknowledged told may_leave moment secured_since (play_of g.core.game.setting) old new g.core.game.entries
+      (end_of kept) h.core.game.entries (end_of new_kept))) g.is after))
 
 -- By the line that is heard.
 pub arrives-by : (game : Game) (line : List ℕ) (form : ArrivalForm) → form ≡ form_of line → arrives (intake_of game) line ≡ behind_header (intake_of game) form
@@ -293,9 +293,9 @@ module _ {D : Type 0} (told : D → Option (List ℕ)) (may_leave : D → List �
 module _ {D : Type 0} (told : D → Option (List ℕ)) (may_leave : D → List ℕ → Type 0) (moment : D → ℕ) (left_since secured_since : D → ℕ → List ℕ → Type 0)
     (counts_now : (disk : D) (t : ℕ) (image : List ℕ) → t ≤ moment disk → may_leave disk image → left_since disk t image) (kept new_kept : Kept Watched) (old new : D)
     (tag : List ℕ) (seat : ℕ) (game : Game) (goes : GoesOn told may_leave tag seat kept old game) (rest : IfKept (game_of new_kept) (λ g. IsAtRest (told new) (may_leave new) (end_of new_kept)))
-    (after : IfBoth (game_of kept) (game_of new_kept) (λ g h. Acknowledged told may_leave moment secured_since (play_of g.core.setting) old new g.core.entries (end_of kept) h.core.entries (end_of new_kept))) where
+    (after : IfBoth (game_of kept) (game_of new_kept) (λ g h. Acknowledged told may_leave moment secured_since (play_of g.core.game.setting) old new g.core.game.entries (end_of kept) h.core.game.entries (end_of new_kept))) where
   abbrev AnyMomentOf : {T : Type 0} → GameCall → Answered T → Type 0
-  AnyMomentOf call result = IfKept (game_of kept) (λ g. AnyMoment told moment left_since secured_since (play_of g.core.setting) g.core.entries (end_of kept) call result old new)
+  AnyMomentOf call result = IfKept (game_of kept) (λ g. AnyMoment told moment left_since secured_since (play_of g.core.game.setting) g.core.game.entries (end_of kept) call result old new)
 
   abbrev AnswersAs : {T : Type 0} → Answered T → (T → Setting × ℕ → List (Entry Answer) → List (Entry Answer) → Type 0) → Option Watched → Type 0
   AnswersAs result P o = Answers setting_in entries_in result P o (game_of new_kept)
@@ -319,38 +319,38 @@ module _ {D : Type 0} (told : D → Option (List ℕ)) (may_leave : D → List �
   asked-for author speaker g a = asked_of (shown_of g.setting g.entries) author speaker a.within a.here a.due
 
   pub noted-say : (result : Answered (Heard Rule)) (n : Noted) (who speaker author : ℕ) (line : List ℕ) → n ≡ noted_by result →
-      ((w : Watched) → game_of kept ≡ Some w → ◌≡◌ {A = Option (ℕ × ℕ)} (Some (speaker, author)) (asked_in w.core who))
+      ((w : Watched) → game_of kept ≡ Some w → ◌≡◌ {A = Option (ℕ × ℕ)} (Some (speaker, author)) (asked_in w.core.game who))
       → AnswersAs result (SaysSo author speaker line) (game_of kept)
       → AnyMomentOf (Say author speaker line) result → Notes told may_leave moment secured_since n tag seat game new_kept old new (say_arrives (intake_of game) who line)
   noted-say result n who speaker author line is asked answers any =
       let w = goes.watched in
-      let a = is-asked w.core who speaker author w.few (asked w goes.is) in
+      let a = is-asked w.core.game who speaker author w.few (asked w goes.is) in
       let here = subst (λ (g : Game). IsAsked g author speaker) goes.core a.1 in
       let leads = subst (λ (m : ℕ). IsArrivalOf (say_arrives (intake_of game) m line) game (Say author speaker line)) a.0
       (say-arrival game author speaker line here.here (said-can game author speaker here.here here.due) (asked-for author speaker game here)) in
       noted-as result n (Say author speaker line) (say_arrives (intake_of game) who line) is leads
-      (λ v at. answers-said result author speaker line v (game_of new_kept) (asked-for author speaker v.core (is-asked v.core who speaker author v.few (asked v at)).1)
+      (λ v at. answers-said result author speaker line v (game_of new_kept) (asked-for author speaker v.core.game (is-asked v.core.game who speaker author v.few (asked v at)).1)
       (subst (λ (o : Option Watched). AnswersAs result (SaysSo author speaker line) o) at answers)) any
 
   by-for : (author leaver : ℕ) (g : Game) → leaver < 4 → author_of_seat g leaver ≡ Some author → is_by (shown_of g.setting g.entries) author leaver ≡ true
   by-for author leaver g within here = by_of (shown_of g.setting g.entries) author leaver within here
 
   pub noted-gone : (result : Answered Left) (n : Noted) (who leaver author : ℕ) → n ≡ noted_by result → leaver < 4 →
-      ((w : Watched) → game_of kept ≡ Some w → ◌≡◌ {A = Option (ℕ × ℕ)} (Some (leaver, author)) (present_in w.core who))
+      ((w : Watched) → game_of kept ≡ Some w → ◌≡◌ {A = Option (ℕ × ℕ)} (Some (leaver, author)) (present_in w.core.game who))
       → AnswersAs result (GoesSo author leaver) (game_of kept)
       → AnyMomentOf (Leave author leaver) result → Notes told may_leave moment secured_since n tag seat game new_kept old new (gone_arrives (intake_of game) who)
   noted-gone result n who leaver author is within here answers any =
       let w = goes.watched in
-      let found = present-is (author_of_seat w.core who) leaver author who (here w goes.is) in
+      let found = present-is (author_of_seat w.core.game who) leaver author who (here w goes.is) in
       let of_game : author_of_seat game leaver ≡ Some author = subst (λ (m : ℕ). author_of_seat game m ≡ Some author) (sym found.1)
       (subst (λ (g : Game). author_of_seat g who ≡ Some author) goes.core found.0) in
       let leads = subst (λ (m : ℕ). IsArrivalOf (gone_arrives (intake_of game) m) game (Leave author leaver)) found.1
       (gone-arrival game author leaver of_game (by-for author leaver game within of_game)) in
       noted-as result n (Leave author leaver) (gone_arrives (intake_of game) who) is leads
       (λ v at.
-      let is_at = present-is (author_of_seat v.core who) leaver author who (here v at) in
-      let of_v : author_of_seat v.core leaver ≡ Some author = subst (λ (m : ℕ). author_of_seat v.core m ≡ Some author) (sym is_at.1) is_at.0 in
-      answers-gone result author leaver v (game_of new_kept) (by-for author leaver v.core within of_v)
+      let is_at = present-is (author_of_seat v.core.game who) leaver author who (here v at) in
+      let of_v : author_of_seat v.core.game leaver ≡ Some author = subst (λ (m : ℕ). author_of_seat v.core.game m ≡ Some author) (sym is_at.1) is_at.0 in
+      answers-gone result author leaver v (game_of new_kept) (by-for author leaver v.core.game within of_v)
       (subst (λ (o : Option Watched). AnswersAs result (GoesSo author leaver) o) at answers)) any
 
   pub noted-expiry : (result : Answered Expiry) (n : Noted) (window t1 t2 : ℕ) → n ≡ noted_by result

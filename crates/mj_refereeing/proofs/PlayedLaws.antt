@@ -114,19 +114,19 @@ asked-not game who text h = by (author_of_seat game who) (may_say_at game who) r
 
 -- So of the game of a journal that is in play.
 pub if-asked : (o : Option Watched) (Held : Type 0) (who speaker author : ℕ) → IsPlayed o Held →
-    ((w : Watched) → o ≡ Some w → ◌≡◌ {A = Option (ℕ × ℕ)} (Some (speaker, author)) (asked_in w.core who)) →
-    (speaker < 4) × IfKept o (λ w. IsAsked w.core author speaker)
+    ((w : Watched) → o ≡ Some w → ◌≡◌ {A = Option (ℕ × ℕ)} (Some (speaker, author)) (asked_in w.core.game who)) →
+    (speaker < 4) × IfKept o (λ w. IsAsked w.core.game author speaker)
 if-asked None Held who speaker author played asked = absurd played
-if-asked (Some w) Held who speaker author played asked = let a = is-asked w.core who speaker author w.few (asked w refl) in (a.1.within, a.1)
+if-asked (Some w) Held who speaker author played asked = let a = is-asked w.core.game who speaker author w.few (asked w refl) in (a.1.within, a.1)
 
 pub if-present : (o : Option Watched) (Held : Type 0) (who leaver author : ℕ) → IsPlayed o Held →
-    ((w : Watched) → o ≡ Some w → ◌≡◌ {A = Option (ℕ × ℕ)} (Some (leaver, author)) (present_in w.core who)) →
-    (leaver < 4) × IfKept o (λ w. author_of_seat w.core leaver ≡ Some author)
+    ((w : Watched) → o ≡ Some w → ◌≡◌ {A = Option (ℕ × ℕ)} (Some (leaver, author)) (present_in w.core.game who)) →
+    (leaver < 4) × IfKept o (λ w. author_of_seat w.core.game leaver ≡ Some author)
 if-present None Held who leaver author played here = absurd played
 if-present (Some w) Held who leaver author played here =
-    let is = present-is (author_of_seat w.core who) leaver author who (here w refl) in
-    let by : author_of_seat w.core leaver ≡ Some author = subst (λ (n : ℕ). author_of_seat w.core n ≡ Some author) (sym is.1) is.0 in
-    (seat-below w.core leaver author w.few by, by)
+    let is = present-is (author_of_seat w.core.game who) leaver author who (here w refl) in
+    let by : author_of_seat w.core.game leaver ≡ Some author = subst (λ (n : ℕ). author_of_seat w.core.game n ≡ Some author) (sym is.1) is.0 in
+    (seat-below w.core.game leaver author w.few by, by)
 
 pub if-more : {G : Type 0} (o : Option G) (P Q : G → Type 0) → ((g : G) → P g → Q g) → IfKept o P → IfKept o Q
 if-more None P Q more held = record {}

@@ -51,11 +51,11 @@ tells-script IsWritten seat game bytes legal is written = record {
 
 -- So of the game that is watched.
 pub script-told : (IsWritten : List ℕ → Type 0) (o : Option Watched) (v w : Watched) (bytes : List ℕ) → o ≡ Some v → o ≡ Some w →
-    IsLegal v.core.setting v.core.entries → bytes ≡ scripts v.seat v.core.setting v.core.entries → IsWritten bytes → IsTold IsWritten w.seat w.core
+    IsLegal v.core.game.setting v.core.game.entries → bytes ≡ scripts v.core.seat v.core.game.setting v.core.game.entries → IsWritten bytes → IsTold IsWritten w.core.seat w.core.game
 script-told IsWritten o v w bytes p q legal is written =
     let found : Some v ≡ Some w = sym p ∙ q in
     let same : v ≡ w = cc found in
-    subst (λ (x : Watched). IsTold IsWritten x.seat x.core) same (tells-script IsWritten v.seat v.core bytes legal is written)
+    subst (λ (x : Watched). IsTold IsWritten x.core.seat x.core.game) same (tells-script IsWritten v.core.seat v.core.game bytes legal is written)
 
 -- The lines after the tag, as they were heard.
 module _ {D : Type 0} (told : D → Option (List ℕ)) (may_leave : D → List ℕ → Type 0) (moment : D → ℕ) (secured_since : D → ℕ → List ℕ → Type 0)
@@ -152,17 +152,17 @@ module _ {D : Type 0} (told : D → Option (List ℕ)) (may_leave : D → List �
 
   pub keeps-on : (result : KeepEnd) (end : End) (kept : Kept Watched) (old_written new_written : Option (List ℕ)) →
       NotesEach told may_leave moment secured_since base.tag seat end game kept old new (intake_from (intake_of game) base.number (whole_lines rest) (unfinished rest))
-      → ((w : Watched) → game_of kept ≡ Some w → WritesScript result end w.seat w.core old_written new_written) → KeepsOn told may_leave moment secured_since result base
+      → ((w : Watched) → game_of kept ≡ Some w → WritesScript result end w.core.seat w.core.game old_written new_written) → KeepsOn told may_leave moment secured_since result base
       seat game.entries input old_written new_written old new
   keeps-on result end kept ow nw n writes =
       keeps-by result end kept n ow nw
-      (subst (λ (g : Game). WritesScript result end seat g ow nw) n.goes.core (subst (λ (s : ℕ). WritesScript result end s n.goes.watched.core ow nw) n.goes.of_seat (writes n.goes.watched n.goes.is)))
+      (subst (λ (g : Game). WritesScript result end seat g ow nw) n.goes.core (subst (λ (s : ℕ). WritesScript result end s n.goes.watched.core.game ow nw) n.goes.of_seat (writes n.goes.watched n.goes.is)))
 
   -- So of lines that were numbered from the first after the tag.
   module _ (number : ℕ) (numbered : base.number ≡ number) where
     pub keeps-whole : (result : KeepEnd) (end : End) (kept : Kept Watched) (old_written new_written : Option (List ℕ)) →
         NotesEach told may_leave moment secured_since base.tag seat end game kept old new (intake_from (intake_of game) number (whole_lines rest) (unfinished rest))
-        → ((w : Watched) → game_of kept ≡ Some w → WritesScript result end w.seat w.core old_written new_written) → KeepsOn told may_leave moment secured_since result base
+        → ((w : Watched) → game_of kept ≡ Some w → WritesScript result end w.core.seat w.core.game old_written new_written) → KeepsOn told may_leave moment secured_since result base
         seat game.entries input old_written new_written old new
     keeps-whole result end kept ow nw n writes =
         keeps-on result end kept ow nw (subst (λ (k : ℕ). NotesEach told may_leave moment secured_since base.tag seat end game kept old new
@@ -246,19 +246,19 @@ module _ {D : Type 0} (told : D → Option (List ℕ)) (may_leave : D → List �
 -- A journal that was opened.
 pub record IsOpened {D : Type 0} (told : D → Option (List ℕ)) (may_leave : D → List ℕ → Type 0) (tag : List ℕ) (seat : ℕ) (setting : Setting) (kept : Kept Watched) (new : D) : Type 0 where
   pub game : Game
-  pub is : (w : Watched) × (game_of kept ≡ Some w) × (w.core ≡ game)
+  pub is : (w : Watched) × (game_of kept ≡ Some w) × (w.core.game ≡ game)
   pub same : game.setting ≡ setting
   pub goes : GoesOn told may_leave tag seat kept new game
 
 module _ {D : Type 0} (told : D → Option (List ℕ)) (may_leave : D → List ℕ → Type 0) (tag : List ℕ) (seat : ℕ) (setting : Setting)
     (kept : Kept Watched) (new : D) (wall : (length setting.walls == 0) ≡ false) (rest : IsAtRest (told new) (may_leave new) (end_of kept)) where
   goes-by : (o : Option Watched) → game_of kept ≡ o → IsInPlay setting_in (setting, seat) o →
-      IfKept o (λ w. TellsGame (opens (play_of setting) tag) (told new) w.core.entries (end_of kept)) → IsOpened told may_leave tag seat setting kept
+      IfKept o (λ w. TellsGame (opens (play_of setting) tag) (told new) w.core.game.entries (end_of kept)) → IsOpened told may_leave tag seat setting kept
       new
   goes-by None is play tells = absurd play
   goes-by (Some w) is play tells =
-      let same : w.core.setting ≡ setting = ap (λ (s : Setting × ℕ). s.0) play in record {
-        game = w.core;
+      let same : w.core.game.setting ≡ setting = ap (λ (s : Setting × ℕ). s.0) play in record {
+        game = w.core.game;
         is = (w, is, refl);
         same = same;
         goes = record {
@@ -268,23 +268,23 @@ module _ {D : Type 0} (told : D → Option (List ℕ)) (may_leave : D → List �
           of_seat = ap (λ (s : Setting × ℕ). s.1) play;
           wall = subst (λ (s : Setting). (length s.walls == 0) ≡ false) (sym same) wall;
           rest = rest;
-          tells = subst (λ (s : Setting). TellsGame (opens (play_of s) tag) (told new) w.core.entries (end_of kept)) (sym same) tells;
+          tells = subst (λ (s : Setting). TellsGame (opens (play_of s) tag) (told new) w.core.game.entries (end_of kept)) (sym same) tells;
         };
       }
 
   pub opened-goes : IsInPlay setting_in (setting, seat) (game_of kept) →
-      IfKept (game_of kept) (λ w. TellsGame (opens (play_of setting) tag) (told new) w.core.entries (end_of kept)) →
+      IfKept (game_of kept) (λ w. TellsGame (opens (play_of setting) tag) (told new) w.core.game.entries (end_of kept)) →
       IsOpened told may_leave tag seat setting kept new
   opened-goes play tells = goes-by (game_of kept) refl play tells
 
 -- And the entries that it gave.
 gives-by : (opening : Opening Entries) (setting : Setting) (seat end : ℕ) (o : Option Watched) (w : Watched) → o ≡ Some w →
-    OpensGame setting_in entries_in (setting, seat) opening o end → Gives opening w.core.entries
+    OpensGame setting_in entries_in (setting, seat) opening o end → Gives opening w.core.game.entries
 gives-by opening setting seat end None w is opens = absurd (cc is)
 gives-by opening setting seat end (Some v) w is opens =
-    let same : v ≡ w = cc is in subst (λ (x : Watched). Gives opening x.core.entries) same (gives-entries opening v.core.entries end opens.1)
+    let same : v ≡ w = cc is in subst (λ (x : Watched). Gives opening x.core.game.entries) same (gives-entries opening v.core.game.entries end opens.1)
 
-pub opened-gives : (opening : Opening Entries) (setting : Setting) (seat : ℕ) (kept : Kept Watched) (game : Game) → (w : Watched) × (game_of kept ≡ Some w) × (w.core ≡ game)
+pub opened-gives : (opening : Opening Entries) (setting : Setting) (seat : ℕ) (kept : Kept Watched) (game : Game) → (w : Watched) × (game_of kept ≡ Some w) × (w.core.game ≡ game)
     → OpensGame setting_in entries_in (setting, seat) opening (game_of kept) (end_of kept) → Gives opening game.entries
 opened-gives opening setting seat kept game is opens =
     subst (λ (g : Game). Gives opening g.entries) is.2 (gives-by opening setting seat (end_of kept) (game_of kept) is.0 is.1 opens)

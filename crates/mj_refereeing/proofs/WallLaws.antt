@@ -205,11 +205,11 @@ begun-game rules walls start s = rw s
 pub unbegun : (game : Game) → game.entries ≡ [] → game ≡ record { setting = record { walls = game.setting.walls; rules = game.setting.rules }; entries = [] }
 unbegun game none = let with : List (Entry Answer) → Game = λ entries. record { setting = game.setting; entries = entries } in ap with none
 
-pub tells-walls : (question : Question) (seat number : ℕ) (end : End) (rules : Rules) (walls : List (List ℕ)) (start game : Game) (lines : List (List ℕ)) (rest told all : List ℕ) →
+pub tells-walls : (question : Question) (seat heard number : ℕ) (end : End) (rules : Rules) (walls : List (List ℕ)) (start game : Game) (lines : List (List ℕ)) (rest told all : List ℕ) →
     start ≡ record { setting = record { walls = walls; rules = rules }; entries = [] } → (length lines == 0) ≡ false → begin_with_wall lines ≡ false →
-    HearsAll (intake_from (intake_of start) number lines rest) seat end game told → all ≡ answer_to question seat game →
+    HearsAll (intake_from (intake_of start) number lines rest) heard end game told → all ≡ answer_to question seat game →
     Tells question (intake_from (intake_with_walls rules walls) number lines rest) seat end all
-tells-walls question seat number end rules walls start game lines rest told all s some other h is =
+tells-walls question seat heard number end rules walls start game lines rest told all s some other h is =
     let alike = begun-alike rules walls number lines rest some other in
     let same : intake_from (begun_with rules walls) number lines rest ≡ intake_from (intake_of start) number lines rest =
     ap (λ (reading : Intake). intake_from reading number lines rest) (begun-game rules walls start s) in

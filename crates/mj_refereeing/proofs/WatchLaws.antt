@@ -256,3 +256,7 @@ module _ (seat : ℕ) (old new : Game) (told : List ℕ) (before : Bool) (few : 
 
   pub expiry-told : (answer : Expiry) (author window t1 t2 : ℕ) → IsExpiry answer old new author window t1 t2 → before ≡ true → told ≡ told_in seat (after_of new)
   expiry-told answer author window t1 t2 h e = (watches-expiry answer seat author window t1 t2 old new told h (watches-so e)).bytes
+
+-- The bytes of a seat, by a number that is the same.
+pub of-seat : (old new : ℕ) (game : Game) (told : List ℕ) → new ≡ old → told ≡ told_in old (after_of game) → told ≡ told_in new (after_of game)
+of-seat old new game told e h = h ∙ ap (λ (seat : ℕ). told_in seat (after_of game)) (sym e)

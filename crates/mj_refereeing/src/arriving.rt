@@ -2,15 +2,13 @@
 
 ghost use Rattle.std.specs.Prelude.{◌≡◌, ◌≤◌, ◌<◌, ◌==◌, ℕ, true, false, List, Some, None, length, IfOk, OnOk};
 ghost use Rattle.mj_bytes.specs.Adds.{Adds};
-ghost use Rattle.mj_history.specs.Shown.{line_at};
 ghost use Rattle.mj_history.specs.Legal.{can_say};
 ghost use Rattle.mj_history.specs.Arrivals.{arrives, sit_arrives, say_arrives, gone_arrives, expiry_arrives};
 ghost use Rattle.mj_core.specs.Calls.{author_of_seat, after_of};
 ghost use Rattle.mj_refereeing.specs.Inner.Intake.{intake_of, greeting, greeting_again, told_again_in, present_in, last_lines, InPlay, Does};
 
 use crate::form::{ArrivalForm, read_form};
-use mj_bytes::push_all;
-use mj_core::{Core, Expiry, Heard, Left, SitAnswer};
+use mj_core::{Expiry, Heard, Left, SeatGame, SitAnswer, Umpire, Untold, write_control};
 use mj_ports::Control;
 use std::alloc::{AllocError, Global};
 
@@ -33,21 +31,22 @@ pub(crate) enum Arrived {
 #[tactic(auto, using(crate::proofs::PlayLaws::late_walls), unfolding(mj_history::specs::Arrivals::arrives))]
 pub(crate) fn take_line(
     alloc: Global,
-    seat: u8,
-    core: &mut Core,
+    core: &mut SeatGame,
     told: &mut Vec<u8>,
     line: &[u8],
 ) -> Result<Arrived, AllocError>
-    requires { InPlay seat core.old told.old.items }
-    ensures { IfOk result (λ step. Does step seat core.old core.new told.old.items told.new.items
-        (arrives (intake_of core.old) line.now)) }
+    requires { InPlay core.old.seat core.old.game told.old.items }
+    ensures does { IfOk result (λ step. Does step core.old.seat core.old.game core.new.game told.old.items
+        told.new.items
+        (arrives (intake_of core.old.game) line.now)) }
+    ensures seat { core.new.seat ≡ core.old.seat }
 {
     match read_form(alloc, line)? {
         ArrivalForm::Header(_) => Ok(Arrived::Bad),
         ArrivalForm::Wall(_) => Ok(Arrived::Bad),
-        ArrivalForm::Sit(line) => sit(alloc, seat, core, told, line),
-        ArrivalForm::Say { seat: who, line } => say(alloc, seat, core, told, who, line),
-        ArrivalForm::Leave(who) => leave(alloc, seat, core, told, who),
+        ArrivalForm::Sit(line) => sit(alloc, core, told, line),
+        ArrivalForm::Say { seat: who, line } => say(alloc, core, told, who, line),
+        ArrivalForm::Leave(who) => leave(alloc, core, told, who),
         ArrivalForm::Expire { window, t1, t2 } => expire(alloc, core, window, t1, t2),
         ArrivalForm::NoForm => Ok(Arrived::Bad),
     }
@@ -57,22 +56,24 @@ pub(crate) fn take_line(
 // comes back.
 fn sit(
     alloc: Global,
-    seat: u8,
-    core: &mut Core,
+    core: &mut SeatGame,
     told: &mut Vec<u8>,
     line: &[u8],
 ) -> Result<Arrived, AllocError>
-    requires { InPlay seat core.old told.old.items }
-    ensures { IfOk result (λ step. Does step seat core.old core.new told.old.items told.new.items
-        (sit_arrives (intake_of core.old) line.now)) }
+    requires { InPlay core.old.seat core.old.game told.old.items }
+    ensures does { IfOk result (λ step. Does step core.old.seat core.old.game core.new.game told.old.items
+        told.new.items
+        (sit_arrives (intake_of core.old.game) line.now)) }
+    ensures seat { core.new.seat ≡ core.old.seat }
 {
+    let seat = core.seat();
     match core.sit(alloc, JOINER, line) {
         SitAnswer::Sat(taken) => {
-            greet(alloc, core, told, taken, seat)?;
+            greet(alloc, told, taken, seat)?;
             Ok(Arrived::Leads)
         }
         SitAnswer::Back(taken) => {
-            greet_again(alloc, core, told, taken, seat)?;
+            greet_again(alloc, core, told, taken)?;
             Ok(Arrived::Leads)
         }
         SitAnswer::Refused(_) => Ok(Arrived::Leads),
@@ -83,7 +84,6 @@ fn sit(
 // Greets a seat, where it is the one that was taken.
 pub(crate) fn greet(
     alloc: Global,
-    core: &Core,
     told: &mut Vec<u8>,
     taken: u8,
     seat: u8,
@@ -91,119 +91,109 @@ pub(crate) fn greet(
     ensures { OnOk result (Adds told.old.items told.new.items (greeting taken seat)) }
 {
     if taken == seat {
-        return core.control(alloc, &Control::Hello, told);
+        return write_control(alloc, &Control::Hello, told);
     }
     Ok(())
 }
 
-// Greets a seat, where it is the one that was taken back.
+// Greets the seat, where it is the one that was taken back.
 pub(crate) fn greet_again(
     alloc: Global,
-    core: &Core,
+    core: &SeatGame,
     told: &mut Vec<u8>,
     taken: u8,
-    seat: u8,
 ) -> Result<(), AllocError>
     requires { taken < 4 }
     ensures { OnOk result (Adds told.old.items told.new.items
-        (greeting_again taken seat core.now)) }
+        (greeting_again taken core.now.seat core.now.game)) }
 {
-    if taken == seat {
-        return tell_again(alloc, seat, core, told);
+    if taken == core.seat() {
+        return tell_again(alloc, core, told);
     }
     Ok(())
 }
 
-// Tells a seat that is back how many lines it is told again, and these lines.
-fn tell_again(alloc: Global, seat: u8, core: &Core, told: &mut Vec<u8>) -> Result<(), AllocError>
-    requires { seat < 4 }
-    ensures { OnOk result (Adds told.old.items told.new.items (told_again_in seat core.now)) }
-{
-    let due = core.due(seat);
-    core.control(alloc, &Control::Hello, told)?;
-    core.control(alloc, &Control::Head(due), told)?;
-    for k in 0..due {
-        tell_line(seat, k, core, told)?;
-    }
-    Ok(())
-}
-
-// Tells a seat its line with this number; nothing where there is none.
-#[tactic(auto, using(mj_core::proofs::KeptLines::no_line))]
-fn tell_line(seat: u8, k: u32, core: &Core, told: &mut Vec<u8>) -> Result<(), AllocError>
-    requires { seat < 4 }
+// Tells the seat, which is back, how many lines it is told again, and these lines.
+fn tell_again(alloc: Global, core: &SeatGame, told: &mut Vec<u8>) -> Result<(), AllocError>
+    requires { core.now.seat < 4 }
     ensures { OnOk result (Adds told.old.items told.new.items
-        (line_at core.now.setting.rules (after_of core.now).deeds seat k)) }
+        (told_again_in core.now.seat core.now.game)) }
 {
-    match core.line(seat, k) {
-        Some(line) => push_all(told, line),
-        None => Ok(()),
+    let due = core.umpire().due(core.seat());
+    write_control(alloc, &Control::Hello, told)?;
+    write_control(alloc, &Control::Head(due), told)?;
+    for k in 0..due {
+        core.push_line(k, told)?;
     }
+    Ok(())
 }
 
 // Somebody says a line.
 #[tactic(auto, using(crate::proofs::PlayLaws::saying))]
 fn say(
     alloc: Global,
-    seat: u8,
-    core: &mut Core,
+    core: &mut SeatGame,
     told: &mut Vec<u8>,
     who: u64,
     line: &[u8],
 ) -> Result<Arrived, AllocError>
-    requires { InPlay seat core.old told.old.items }
-    ensures { IfOk result (λ step. Does step seat core.old core.new told.old.items told.new.items
-        (say_arrives (intake_of core.old) who line.now)) }
+    requires { InPlay core.old.seat core.old.game told.old.items }
+    ensures does { IfOk result (λ step. Does step core.old.seat core.old.game core.new.game told.old.items
+        told.new.items
+        (say_arrives (intake_of core.old.game) who line.now)) }
+    ensures seat { core.new.seat ≡ core.old.seat }
 {
-    let Some((speaker, author)) = present(core, who) else {
+    let Some((speaker, author)) = present(core.umpire(), who) else {
         return Ok(Arrived::Bad);
     };
-    if !core.may_say(speaker) {
+    if !core.umpire().may_say(speaker) {
         return Ok(Arrived::Bad);
     }
-    if speaker == seat {
-        return own_line(alloc, seat, core, told, author, line);
+    if speaker == core.seat() {
+        return own_line(alloc, core, told, author, line);
     }
     others_line(alloc, core, author, speaker, line)
 }
 
 // A seat that is present, with its author.
-pub(crate) fn present(core: &Core, who: u64) -> Option<(u8, u8)>
-    requires { length (after_of core.now).chairs ≤ 4 }
-    ensures { result ≡ present_in core.now who }
+pub(crate) fn present(game: &Umpire<Untold>, who: u64) -> Option<(u8, u8)>
+    requires { length (after_of game.now).chairs ≤ 4 }
+    ensures { result ≡ present_in game.now who }
 {
     if who > 3 {
         return None;
     }
     let who = who as u8;
-    Some((who, core.author(who)?))
+    Some((who, game.author(who)?))
 }
 
 // The seat itself says a line, once its due deed exists. It is first told what is pending, and then the rule that it breaks.
 fn own_line(
     alloc: Global,
-    seat: u8,
-    core: &mut Core,
+    core: &mut SeatGame,
     told: &mut Vec<u8>,
     author: u8,
     line: &[u8],
 ) -> Result<Arrived, AllocError>
-    requires play { InPlay seat core.old told.old.items }
-    requires present { author_of_seat core.old seat ≡ Some author }
-    requires asked { can_say (after_of core.old) author seat ≡ true }
-    ensures { IfOk result (λ step. Does step seat core.old core.new told.old.items told.new.items
-        (say_arrives (intake_of core.old) seat line.now)) }
+    requires play { InPlay core.old.seat core.old.game told.old.items }
+    requires present { author_of_seat core.old.game core.old.seat ≡ Some author }
+    requires asked { can_say (after_of core.old.game) author core.old.seat ≡ true }
+    ensures does { IfOk result (λ step. Does step core.old.seat core.old.game core.new.game told.old.items
+        told.new.items
+        (say_arrives (intake_of core.old.game) core.old.seat line.now)) }
+    ensures seat { core.new.seat ≡ core.old.seat }
 {
-    core.pending(seat, told)?;
+    let seat = core.seat();
+    core.pending(told)?;
     match core.said(alloc, author, seat, line) {
         Heard::Taken => Ok(Arrived::Leads),
         Heard::Late => Ok(Arrived::Leads),
         Heard::Refused(rule) => {
-            core.control(alloc, &Control::Refused(rule), told)?;
+            write_control(alloc, &Control::Refused(rule), told)?;
             Ok(Arrived::Leads)
         }
         Heard::Closing(rule) => {
-            core.control(alloc, &Control::Refused(rule), told)?;
+            write_control(alloc, &Control::Refused(rule), told)?;
             Ok(Arrived::Leads)
         }
         Heard::NoMemory => Err(AllocError),
@@ -213,16 +203,17 @@ fn own_line(
 // A seat says a line, once its due deed exists, which tells no other seat anything.
 fn others_line(
     alloc: Global,
-    core: &mut Core,
+    core: &mut SeatGame,
     author: u8,
     who: u8,
     line: &[u8],
 ) -> Result<Arrived, AllocError>
-    requires present { author_of_seat core.old who ≡ Some author }
-    requires asked { can_say (after_of core.old) author who ≡ true }
-    ensures { IfOk result (λ step. (seat : ℕ) (told : List ℕ) → (who == seat) ≡ false
-        → InPlay seat core.old told → Does step seat core.old core.new told told
-        (say_arrives (intake_of core.old) who line.now)) }
+    requires present { author_of_seat core.old.game who ≡ Some author }
+    requires asked { can_say (after_of core.old.game) author who ≡ true }
+    ensures does { IfOk result (λ step. (seat : ℕ) (told : List ℕ) → (who == seat) ≡ false
+        → InPlay seat core.old.game told → Does step seat core.old.game core.new.game told told
+        (say_arrives (intake_of core.old.game) who line.now)) }
+    ensures seat { core.new.seat ≡ core.old.seat }
 {
     match core.said(alloc, author, who, line) {
         Heard::Taken => Ok(Arrived::Leads),
@@ -237,36 +228,33 @@ fn others_line(
 #[tactic(auto, using(crate::proofs::PlayLaws::leaving))]
 fn leave(
     alloc: Global,
-    seat: u8,
-    core: &mut Core,
+    core: &mut SeatGame,
     told: &mut Vec<u8>,
     who: u64,
 ) -> Result<Arrived, AllocError>
-    requires { InPlay seat core.old told.old.items }
-    ensures { IfOk result (λ step. Does step seat core.old core.new told.old.items told.new.items
-        (gone_arrives (intake_of core.old) who)) }
+    requires { InPlay core.old.seat core.old.game told.old.items }
+    ensures does { IfOk result (λ step. Does step core.old.seat core.old.game core.new.game told.old.items
+        told.new.items
+        (gone_arrives (intake_of core.old.game) who)) }
+    ensures seat { core.new.seat ≡ core.old.seat }
 {
-    let Some((leaver, author)) = present(core, who) else {
+    let Some((leaver, author)) = present(core.umpire(), who) else {
         return Ok(Arrived::Bad);
     };
-    tell_last(core, told, leaver, seat)?;
+    tell_last(core, told, leaver)?;
     match core.gone(alloc, author, leaver) {
         Left::Gone => Ok(Arrived::Leads),
         Left::NoMemory => Err(AllocError),
     }
 }
 
-// Tells a seat what is pending, where it is the one that leaves.
-pub(crate) fn tell_last(
-    core: &Core,
-    told: &mut Vec<u8>,
-    leaver: u8,
-    seat: u8,
-) -> Result<(), AllocError>
-    ensures { OnOk result (Adds told.old.items told.new.items (last_lines leaver seat core.now)) }
+// Tells the seat what is pending, where it is the one that leaves.
+pub(crate) fn tell_last(core: &SeatGame, told: &mut Vec<u8>, leaver: u8) -> Result<(), AllocError>
+    ensures { OnOk result (Adds told.old.items told.new.items
+        (last_lines leaver core.now.seat core.now.game)) }
 {
-    if leaver == seat {
-        return core.pending(seat, told);
+    if leaver == core.seat() {
+        return core.pending(told);
     }
     Ok(())
 }
@@ -274,14 +262,15 @@ pub(crate) fn tell_last(
 // The time of a window may have run out, which tells no seat anything.
 fn expire(
     alloc: Global,
-    core: &mut Core,
+    core: &mut SeatGame,
     window: u32,
     t1: u64,
     t2: u64,
 ) -> Result<Arrived, AllocError>
-    ensures { IfOk result (λ step. (seat : ℕ) (told : List ℕ) → InPlay seat core.old told
-        → Does step seat core.old core.new told told
-        (expiry_arrives (intake_of core.old) window t1 t2)) }
+    ensures does { IfOk result (λ step. (seat : ℕ) (told : List ℕ) → InPlay seat core.old.game told
+        → Does step seat core.old.game core.new.game told told
+        (expiry_arrives (intake_of core.old.game) window t1 t2)) }
+    ensures seat { core.new.seat ≡ core.old.seat }
 {
     match core.expire(alloc, CLOCK, window, t1, t2) {
         Expiry::Closed => Ok(Arrived::Leads),

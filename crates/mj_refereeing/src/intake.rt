@@ -8,12 +8,12 @@ ghost use Rattle.mj_history.specs.Arrivals.{Input, Intake, intake_from, intake_o
 ghost use Rattle.mj_runs.specs.Inputs.{longest};
 ghost use Rattle.mj_refereeing.specs.Referee.{ending};
 ghost use Rattle.mj_history.specs.After.{scripts};
-ghost use Rattle.mj_refereeing.specs.Inner.Intake.{answer_to, first_answer, intake_of, intake_with_walls, begin_with_wall, HasNothing, InPlay, HearsAll, Tells};
+ghost use Rattle.mj_refereeing.specs.Inner.Intake.{answer_to, first_answer, intake_of, intake_with_walls, begin_with_wall, HasNothing, InPlay, HearsAll, Tells, TellsSeat};
 
 use crate::arriving::{Arrived, take_line};
 use crate::form::{ArrivalForm, read_form};
 use mj_bytes::split_line;
-use mj_core::Core;
+use mj_core::{NOBODY, SeatGame};
 use mj_safe::{no_safe_lines, safe_lines};
 use mj_tiles::Tile;
 use mj_wall::{Rules, Wall};
@@ -180,62 +180,75 @@ fn take_walled(
     if walls.is_empty() {
         return nothing_told(alloc, question, End::Bad(number));
     }
-    let mut core = Core::new(alloc, walls, rules)?;
+    let mut core = SeatGame::new(alloc, walls, rules, told_seat(question, seat))?;
     let told = take_game(alloc, question, seat, &mut core, input, number);
     drop(core);
     told
 }
 
-// The same of a game before its first entry.
+// The seat that is told what comes: the one that is asked for, where its script is asked for, and else nobody.
+fn told_seat(question: Question, seat: u8) -> u8
+    ensures { TellsSeat question seat result }
+{
+    match question {
+        Question::Script => seat,
+        Question::SafeKinds => NOBODY,
+    }
+}
+
+// What is asked of an input, over a game before its first entry.
 fn take_game(
     alloc: Global,
     question: Question,
     seat: u8,
-    core: &mut Core,
+    core: &mut SeatGame,
     input: &[u8],
     number: u32,
 ) -> Result<Told, AllocError>
-    requires new { core.old.entries ≡ [] }
-    requires some { (length core.old.setting.walls == 0) ≡ false }
+    requires new { core.old.game.entries ≡ [] }
+    requires some { (length core.old.game.setting.walls == 0) ≡ false }
     requires fits { number + length input.now ≤ u32.MAX }
     requires seat { seat ≤ 3 }
+    requires tells { TellsSeat question seat core.old.seat }
     requires line { (length (whole_lines input.now) == 0) ≡ false }
     requires other { begin_with_wall (whole_lines input.now) ≡ false }
     ensures { IfOk result (λ told. Tells question
-        (intake_from (intake_with_walls core.old.setting.rules core.old.setting.walls) number
+        (intake_from (intake_with_walls core.old.game.setting.rules core.old.game.setting.walls) number
         (whole_lines input.now) (unfinished input.now)) seat told.end told.bytes.items) }
 {
     let mut told = Vec::new(alloc);
-    let end = take_lines(alloc, seat, core, &mut told, input, number)?;
+    let end = take_lines(alloc, core, &mut told, input, number)?;
     let bytes = answer(alloc, question, seat, core, told)?;
     Ok(Told { end, bytes })
 }
 
-// What is asked of a game in play, of which the seat was told this.
+// What is asked of a game in play, of which its seat was told this.
 fn answer(
     alloc: Global,
     question: Question,
     seat: u8,
-    core: &Core,
+    core: &SeatGame,
     told: Vec<u8>,
 ) -> Result<Vec<u8>, AllocError>
-    requires play { InPlay seat core.now told.items }
+    requires play { InPlay core.now.seat core.now.game told.items }
     requires seat { seat ≤ 3 }
-    ensures { IfOk result (λ bytes. bytes.items ≡ answer_to question seat core.now) }
+    requires tells { TellsSeat question seat core.now.seat }
+    ensures { IfOk result (λ bytes. bytes.items ≡ answer_to question seat core.now.game) }
 {
     match question {
-        Question::Script => whole_script(seat, core, told),
-        Question::SafeKinds => safe_lines(alloc, core.table(), seat),
+        Question::Script => whole_script(core, told),
+        Question::SafeKinds => safe_lines(alloc, core.umpire().table(), seat),
     }
 }
 
-// What a seat was told, and what is pending for it.
-fn whole_script(seat: u8, core: &Core, told: Vec<u8>) -> Result<Vec<u8>, AllocError>
-    requires { InPlay seat core.now told.items }
-    ensures { IfOk result (λ bytes. bytes.items ≡ scripts seat core.now.setting core.now.entries) }
+// What the seat was told, and what is pending for it.
+fn whole_script(core: &SeatGame, told: Vec<u8>) -> Result<Vec<u8>, AllocError>
+    requires { InPlay core.now.seat core.now.game told.items }
+    ensures { IfOk result (λ bytes. bytes.items
+        ≡ scripts core.now.seat core.now.game.setting core.now.game.entries) }
 {
     let mut bytes = told;
-    core.pending(seat, &mut bytes)?;
+    core.pending(&mut bytes)?;
     Ok(bytes)
 }
 
@@ -253,22 +266,22 @@ pub(crate) fn end_at(rest: &[u8], number: u32) -> End
 // Hears all lines of a game in play, the first of which has this number.
 fn take_lines(
     alloc: Global,
-    seat: u8,
-    core: &mut Core,
+    core: &mut SeatGame,
     told: &mut Vec<u8>,
     input: &[u8],
     first: u32,
 ) -> Result<End, AllocError>
-    requires play { InPlay seat core.old told.old.items }
+    requires play { InPlay core.old.seat core.old.game told.old.items }
     requires fits { first + length input.now ≤ u32.MAX }
-    ensures { IfOk result (λ end. HearsAll
-        (intake_from (intake_of core.old) first (whole_lines input.now) (unfinished input.now))
-        seat end core.new told.new.items) }
+    ensures hears { IfOk result (λ end. HearsAll
+        (intake_from (intake_of core.old.game) first (whole_lines input.now) (unfinished input.now))
+        core.old.seat end core.new.game told.new.items) }
+    ensures seat { core.new.seat ≡ core.old.seat }
 {
     let mut rest = input;
     let mut number = first;
     while let Some((line, others)) = split_line(rest) {
-        match take_line(alloc, seat, core, told, line)? {
+        match take_line(alloc, core, told, line)? {
             Arrived::Leads => {}
             Arrived::Bad => return Ok(End::Bad(number)),
         }

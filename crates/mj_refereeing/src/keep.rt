@@ -17,7 +17,7 @@ use crate::base::{Base, Founded, read_base};
 use crate::intake::End;
 use crate::keeping::{AllNoted, keep_lines};
 use crate::watched::Watched;
-use mj_core::Core;
+use mj_core::SeatGame;
 use mj_journal::{Disk, Kept, NotOpened};
 use mj_links::{ReadAll, Sink, Source, WriteAll, read_all, write_all};
 use mj_runs::{LONGEST, with_room};
@@ -111,10 +111,10 @@ fn keep_game<K: Sink, D: Disk>(
     ensures disk { CountsDiskFaults (keep_status result) (D.disk_faults disk.old)
         (D.disk_faults disk.new) }
 {
-    let Ok(core) = Core::new(alloc, base.walls, base.rules) else {
+    let Ok(core) = SeatGame::new(alloc, base.walls, base.rules, seat) else {
         return KeepEnd::NoMemory;
     };
-    match Kept::open(alloc, Watched::new(alloc, seat, core), base.tag, disk) {
+    match Kept::open(alloc, Watched::new(alloc, core), base.tag, disk) {
         Ok(kept) => keep_on(alloc, kept, base.rest, base.number, sink, disk),
         Err(NotOpened::DiskFault) => KeepEnd::DiskFault,
         Err(NotOpened::OtherGame) => KeepEnd::OtherGame,
@@ -167,7 +167,7 @@ fn keep_on<K: Sink, D: Disk>(
 fn write_script<K: Sink>(alloc: Global, kept: &Kept<Watched>, end: End, sink: &mut K) -> KeepEnd
     requires { IsPlayed (game_of kept.now) (Unit {0}) }
     ensures writes_script { (w : Watched) → game_of kept.now ≡ Some w
-        → WritesScript result end w.seat w.core (K.written sink.old) (K.written sink.new) }
+        → WritesScript result end w.core.seat w.core.game (K.written sink.old) (K.written sink.new) }
     ensures writes { CountsWriteFaults (keep_status result) (K.write_faults sink.old)
         (K.write_faults sink.new) }
 {

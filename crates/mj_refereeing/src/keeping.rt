@@ -144,11 +144,11 @@ fn keep_leaving<D: Disk>(kept: &mut Kept<Watched>, disk: &mut D, who: u64) -> No
 
 // A seat that is present and whose due deed exists, with its author.
 fn speaker_of(kept: &Kept<Watched>, who: u64) -> Option<(u8, u8)>
-    ensures { (w : Watched) → game_of kept.now ≡ Some w → result ≡ asked_in w.core who }
+    ensures { (w : Watched) → game_of kept.now ≡ Some w → result ≡ asked_in w.core.game who }
 {
-    let core = kept.game()?.core();
-    let (speaker, author) = present(core, who)?;
-    if !core.may_say(speaker) {
+    let game = kept.game()?.umpire();
+    let (speaker, author) = present(game, who)?;
+    if !game.may_say(speaker) {
         return None;
     }
     Some((speaker, author))
@@ -156,9 +156,9 @@ fn speaker_of(kept: &Kept<Watched>, who: u64) -> Option<(u8, u8)>
 
 // A seat that is present, with its author.
 fn leaver_of(kept: &Kept<Watched>, who: u64) -> Option<(u8, u8)>
-    ensures { (w : Watched) → game_of kept.now ≡ Some w → result ≡ present_in w.core who }
+    ensures { (w : Watched) → game_of kept.now ≡ Some w → result ≡ present_in w.core.game who }
 {
-    present(kept.game()?.core(), who)
+    present(kept.game()?.umpire(), who)
 }
 
 // What is noted of a line by the answer of its call.

@@ -156,7 +156,7 @@ kept_turned full newest places kept =
       size = λ long. absurd (omega (arith, long));
     }
 
--- The same as the code does it.
+-- It is so as the code adds the line.
 pub kept_added : (full : List (List ℕ)) (newest line newest' : List ℕ) (places places' : List Place) (place : Place) →
     newest' ≡ newest ++ line → places' ≡ places ++ place ∷ [] → IsKept full newest places → Fits newest (length line) →
     place.page ≡ length full → place.start ≡ length newest → place.end ≡ length newest' → IsKept full newest' places'

@@ -2,7 +2,9 @@
 #![tactic(auto)]
 
 mod pages;
+mod seat_lines;
 mod stream;
 mod streams;
 
+pub use seat_lines::SeatLines;
 pub use streams::Streams;

@@ -104,6 +104,13 @@ impl Stream {
         });
     }
 
+    // The number of lines.
+    pub(crate) fn count(&self) -> usize
+        ensures { result ≡ length (told self.now) }
+    {
+        self.places.len()
+    }
+
     // Line k.
     pub(crate) fn line(&self, k: u32) -> Option<&[u8]>
         ensures { option_copied result ≡ slice_get (told self.now) k }

@@ -137,7 +137,7 @@ fn turn<L: Ledger>(
 }
 
 // Writes the line of a deed for a seat in place of another.
-fn write_over<L: Ledger>(
+pub(crate) fn write_over<L: Ledger>(
     alloc: Global,
     line: &mut Vec<u8>,
     seat: u8,

@@ -12,16 +12,13 @@ use Rattle.mj_deeds.specs.declared.four.Four.{Four}
 use Rattle.mj_deeds.specs.Four.{at_seat}
 use Rattle.mj_deeds.specs.declared.answer.Answer.{Answer}
 use Rattle.mj_deeds.specs.declared.deed.Deed.{Deed}
-use Rattle.mj_deeds.specs.Fits.{fits}
-use Rattle.mj_table.specs.Plays.{Play}
 use Rattle.mj_wall.specs.declared.setting.Rules.{Rules}
 use Rattle.mj_wall.specs.declared.setting.Setting.{Setting}
 use Rattle.mj_wall.specs.Places.{is_wall}
 use Rattle.mj_window.specs.Slots.{empty_slots}
 use Rattle.mj_rules.specs.Outcome.{outcome}
-use Rattle.mj_rules.specs.Possible.{possible}
 use Rattle.mj_rules.specs.Played.{IsPlayed, AllLawful}
-use Rattle.mj_history.specs.After.{After, Chair, Progress, Verdict, Closing, is_present, is_expiry, answers_in, verdict_on, own_part, next_deed, step, lines_for}
+use Rattle.mj_history.specs.After.{After, Chair, Progress, Verdict, Closing, is_present, is_expiry, answers_in, verdict_on, own_part, next_deed, step}
 use Rattle.mj_history.specs.Laws.{CanGoOn}
 use Rattle.mj_history.specs.Sitting.{held_of}
 use Rattle.mj_core.specs.Calls.{open_window}
@@ -61,41 +58,10 @@ pub record AreSeated (desk : List Occupant) (players : List Player) : Type 0 whe
   pub many : length players ≡ length desk
   pub held : map held_of (chairs_of desk players) ≡ desk
 
--- The lines of the four seats, and the answers that each may give to the newest deed.
-abbrev pub lines_of_all : Rules → List Deed → Four (List (List ℕ))
-lines_of_all rules deeds = record { first = lines_for rules 0 deeds; second = lines_for rules 1 deeds; third = lines_for rules 2 deeds; fourth = lines_for rules 3 deeds }
-
-abbrev pub possible_of_all : Rules → List Deed → Four (List Answer)
-possible_of_all rules deeds = record { first = possible rules deeds 0; second = possible rules deeds 1; third = possible rules deeds 2; fourth = possible rules deeds 3 }
-
--- A table of these rules lacks the newest of the deeds alone.
-pub record LacksNewest (spare : Play) (rules : Rules) (deeds : List Deed) : Type 0 where
-  pub newest : Deed
-  pub same_rules : spare.rules ≡ rules
-  pub others : deeds ≡ spare.deeds ++ newest ∷ []
-
--- It does where a state says so.
-abbrev pub Follows : Bool → Play → Rules → List Deed → Type 0
-Follows true spare rules deeds = LacksNewest spare rules deeds
-Follows false spare rules deeds = Unit {0}
-
--- It becomes the same as a table that has them all by its newest deed, which fits.
-pub record CatchesUp (spare table : Play) (deed : Deed) : Type 0 where
-  pub fit : IsTrue (fits spare.rules.red spare.deeds deed)
-  pub same : table ≡ record { rules = spare.rules; deeds = spare.deeds ++ deed ∷ [] }
-
-abbrev pub CanCatchUp : Bool → Play → Play → Option Deed → Type 0
-CanCatchUp true spare table (Some deed) = CatchesUp spare table deed
-CanCatchUp other spare table newest = Unit {0}
-
--- What a state keeps: its table has the deeds, its streams the lines of these, and its desk the seats; and its spare table
--- lacks the newest deed alone, where it says so.
-pub record AreKept (rules : Rules) (told : List Deed) (streamed : Four (List (List ℕ))) (deeds : List Deed) (desk : List Occupant)
-    (players : List Player) (is_behind : Bool) (spare : Play) : Type 0 where
+-- What a state keeps: its table has the deeds, and its desk the seats.
+pub record AreKept (told deeds : List Deed) (desk : List Occupant) (players : List Player) : Type 0 where
   pub same : told ≡ deeds
-  pub lines : streamed ≡ lines_of_all rules deeds
   pub seated : AreSeated desk players
-  pub follows : Follows is_behind spare rules deeds
 
 -- How far a player has come, and the player that has come so far.
 abbrev pub progress_of : Player → Progress
@@ -142,15 +108,19 @@ pub record MayAdd (setting : Setting) (deeds : List Deed) (slots : Four (Option 
   pub played : IsPlayed setting.rules setting.walls deeds
   pub lawful : AllLawful setting.rules deeds (answers_in setting.rules deeds slots)
 
--- A state with one more deed.
-pub record Adds (setting : Setting) (old new : Position) (slots : Four (Option Answer)) (deed : Deed) : Type 0 where
-  pub follows : outcome setting.rules setting.walls old.deeds (answers_in setting.rules old.deeds slots) ≡ Some deed
-  pub new_is : new ≡ record old { deeds = old.deeds ++ deed ∷ [] }
+-- With the next deed, if there is one, and its window with empty slots.
+abbrev pub with_next : Position → Option Deed → Position
+with_next p None = p
+with_next p (Some deed) = record p { deeds = p.deeds ++ deed ∷ []; slots = empty_slots }
 
--- It is the one that follows by the answers in these slots.
-pub record Advances (setting : Setting) (old new : Position) (slots : Four (Option Answer)) : Type 0 where
+-- The deed that follows by the answers in the slots has been added.
+pub record Adds (setting : Setting) (old new : Position) (deed : Deed) : Type 0 where
+  pub follows : outcome setting.rules setting.walls old.deeds (answers_in setting.rules old.deeds old.slots) ≡ Some deed
+  pub new_is : new ≡ with_next old (Some deed)
+
+pub record Advances (setting : Setting) (old new : Position) : Type 0 where
   pub deed : Deed
-  pub adds : Adds setting old new slots deed
+  pub adds : Adds setting old new deed
 
 -- A state of which a seat has changed, and perhaps its slot.
 abbrev pub changed : Position → List Occupant → List Player → Four (Option Answer) → Position
@@ -160,11 +130,6 @@ changed p desk players slots = record p { desk = desk; players = players; slots 
 abbrev pub desk_after : Verdict → List Occupant → ℕ → List Occupant
 desk_after (Closing rule) desk seat = changed_at desk seat gone
 desk_after other desk seat = desk
-
--- With the next deed, if there is one, and its window with empty slots.
-abbrev pub with_next : Position → Option Deed → Position
-with_next p None = p
-with_next p (Some deed) = record p { deeds = p.deeds ++ deed ∷ []; slots = empty_slots }
 
 -- A seat has changed by an entry that is no expiry, and the window is closed where nobody is waited for.
 abbrev pub Settles : Setting → Position → Position → Type 0

@@ -75,6 +75,11 @@ abbrev pub answer_to : Question → ℕ → Game → List ℕ
 answer_to questions.Script seat game = scripts seat game.setting game.entries
 answer_to questions.SafeKinds seat game = safe_text (after_of game).deeds seat
 
+-- The seat of a question is told what comes, where its script is asked for.
+abbrev pub TellsSeat : Question → ℕ → ℕ → Type 0
+TellsSeat questions.Script seat told = told ≡ seat
+TellsSeat questions.SafeKinds seat told = Unit {0}
+
 -- What answers it before the first entry.
 abbrev pub first_answer : Question → List ℕ
 first_answer questions.Script = []

@@ -81,8 +81,8 @@ module _ {D : Type 0} (told : D → Option (List ℕ)) (may_leave : D → List �
   pub record GoesOn (tag : List ℕ) (seat : ℕ) (kept : Kept Watched) (disk : D) (game : Game) : Type 0 where
     pub watched : Watched
     pub is : game_of kept ≡ Some watched
-    pub core : watched.core ≡ game
-    pub of_seat : watched.seat ≡ seat
+    pub core : watched.core.game ≡ game
+    pub of_seat : watched.core.seat ≡ seat
     pub wall : (length game.setting.walls == 0) ≡ false
     pub rest : IsAtRest (told disk) (may_leave disk) (end_of kept)
     pub tells : TellsGame (opens (play_of game.setting) tag) (told disk) game.entries (end_of kept)

@@ -1,14 +1,14 @@
 use Rattle.mj_refereeing.proofs.PlayLaws.{others}
 use Rattle.mj_refereeing.proofs.arriving.others_line.Goals as goal
 
-pub returns-in-Taken : goal.returns-in-Taken
-returns-in-Taken c = λ seat told another play. others _ _ seat _ _ _ told _ another play c.requires.present c.requires.asked c.in-Taken.ensures
+pub returns-in-Taken-clause-does : goal.returns-in-Taken-clause-does
+returns-in-Taken-clause-does c = λ seat told another play. others _ _ seat _ _ _ told _ another play c.requires.present c.requires.asked c.in-Taken.ensures.hears
 
-pub returns-in-Late : goal.returns-in-Late
-returns-in-Late c = λ seat told another play. others _ _ seat _ _ _ told _ another play c.requires.present c.requires.asked c.in-Late.ensures
+pub returns-in-Late-clause-does : goal.returns-in-Late-clause-does
+returns-in-Late-clause-does c = λ seat told another play. others _ _ seat _ _ _ told _ another play c.requires.present c.requires.asked c.in-Late.ensures.hears
 
-pub returns-in-Refused : goal.returns-in-Refused
-returns-in-Refused c = λ seat told another play. others _ _ seat _ _ _ told _ another play c.requires.present c.requires.asked c.in-Refused.ensures
+pub returns-in-Refused-clause-does : goal.returns-in-Refused-clause-does
+returns-in-Refused-clause-does c = λ seat told another play. others _ _ seat _ _ _ told _ another play c.requires.present c.requires.asked c.in-Refused.ensures.hears
 
-pub returns-in-Closing : goal.returns-in-Closing
-returns-in-Closing c = λ seat told another play. others _ _ seat _ _ _ told _ another play c.requires.present c.requires.asked c.in-Closing.ensures
+pub returns-in-Closing-clause-does : goal.returns-in-Closing-clause-does
+returns-in-Closing-clause-does c = λ seat told another play. others _ _ seat _ _ _ told _ another play c.requires.present c.requires.asked c.in-Closing.ensures.hears

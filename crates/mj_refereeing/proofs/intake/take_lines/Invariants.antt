@@ -6,8 +6,9 @@ use Rattle.mj_refereeing.proofs.intake.take_lines.Given as goal
 
 abbrev pub invariant-loop-line : goal.invariant-loop-line
 invariant-loop-line l = record {
-  same : intake_from (intake_of l.fn.core) l.first (whole_lines l.input) (unfinished l.input) ≡ intake_from (intake_of l.core) l.number (whole_lines l.rest) (unfinished l.rest);
-  play : InPlay l.seat l.core l.told.items;
+  same : intake_from (intake_of l.fn.core.game) l.first (whole_lines l.input) (unfinished l.input) ≡ intake_from (intake_of l.core.game) l.number (whole_lines l.rest) (unfinished l.rest);
+  play : InPlay l.fn.core.seat l.core.game l.told.items;
+  seat : l.core.seat ≡ l.fn.core.seat;
   count : l.number + length l.rest ≤ length l.input + l.first;
 }
 

@@ -3,4 +3,4 @@ use Rattle.mj_core.proofs.Pieces.{player-at}
 use Rattle.mj_core.proofs.state.State.seat.Goals as goal
 
 pub returns : goal.returns
-returns c = c.chair.ensures ∙ rw (← c.self.view_is) (player-at c.self.inside.desk c.self.inside.chairs.items c.args.seat c.self.invariant.seated.many)
+returns g c = c.chair.ensures ∙ rw (← c.self.view_is) (player-at c.self.inside.desk c.self.inside.chairs.items c.args.seat c.self.invariant.seated.many)
