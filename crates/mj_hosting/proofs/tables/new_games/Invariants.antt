@@ -1,6 +1,0 @@
-use Rattle.mj_words.specs.Commands.{served_with}
-use Rattle.mj_hosting.specs.Inner.Hosting.{AreNew}
-use Rattle.mj_hosting.proofs.tables.new_games.Given as goal
-
-abbrev pub invariant-loop-table : goal.invariant-loop-table
-invariant-loop-table l = AreNew (served_with l.hosting.serving) l.table l.games.items

@@ -1,5 +1,0 @@
-pub mod Hands
-pub mod Columns
-pub mod Staffs
-pub mod Desks
-pub mod Joined
