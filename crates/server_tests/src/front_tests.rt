@@ -43,6 +43,14 @@ fn end<S: Source, K: Sink>(
     }
 }
 
+// How a run on the words of a line ends.
+fn came<S: Source, K: Sink>(alloc: Global, line: &str, source: &mut S, sink: &mut K) -> Status {
+    match words_of(alloc, line) {
+        Ok(words) => end(alloc, words.as_slice(), source, sink),
+        Err(_) => Status::NoMemory,
+    }
+}
+
 // A source one of whose reads fails.
 fn source_of(alloc: Global, bytes: &[u8], fails: u64) -> Result<MemSource, AllocError> {
     let reads = [fails].to_vec(alloc)?;
@@ -67,29 +75,25 @@ enum Reads {
 struct Run(&'static str, Reads, u64, Status, &'static [u8]);
 
 fn ends_so(alloc: Global, run: Run) -> Result<bool, AllocError> {
-    let words = words_of(alloc, run.0)?;
-    ends_on_words(alloc, run, words.as_slice())
-}
-
-fn ends_on_words(alloc: Global, run: Run, words: &[String]) -> Result<bool, AllocError> {
     match run.1 {
-        Reads::Whole(fails) => writes(alloc, run, words, source_of(alloc, ONE_SEAT, fails)?),
+        Reads::Whole(fails) => writes(alloc, run, source_of(alloc, ONE_SEAT, fails)?),
         Reads::AByteEach(fails) => {
-            let source = source_of(alloc, ONE_SEAT, fails)?;
-            writes(alloc, run, words, SlowSource(source))
+            writes(alloc, run, SlowSource(source_of(alloc, ONE_SEAT, fails)?))
         }
     }
 }
 
-fn writes<S: Source + Drop>(
+fn writes<S: Source + Drop>(alloc: Global, run: Run, source: S) -> Result<bool, AllocError> {
+    Ok(writes_into(alloc, run, source, slow_sink(alloc, run.2)?))
+}
+
+fn writes_into<S: Source + Drop>(
     alloc: Global,
     run: Run,
-    words: &[String],
     mut source: S,
-) -> Result<bool, AllocError> {
-    let mut sink = slow_sink(alloc, run.2)?;
-    let status = end(alloc, words, &mut source, &mut sink);
-    Ok(status == run.3 && sink.0.written() == run.4)
+    mut sink: SlowSink,
+) -> bool {
+    came(alloc, run.0, &mut source, &mut sink) == run.3 && sink.0.written() == run.4
 }
 
 const NOTHING: &[u8] = b"";
@@ -146,6 +150,9 @@ fn a_fault_of_a_read_tells_nothing_and_one_of_a_write_leaves_a_prefix(
     Ok(())
 }
 
+// Arrivals that end in a line.
+const CUT: &[u8] = b"game limit=1000 draws=0 red=0\nwall";
+
 // Runs on one source and one sink, one after the other, and how each ends.
 const ON_ONE_SOURCE: [(&str, Status); 5] = [
     (READY, Status::Done),
@@ -164,22 +171,12 @@ const SELFPLAY: [(&str, Status); 6] = [
     ("selfplay 18446744073709551616", Status::Words),
 ];
 
-fn came<S: Source, K: Sink>(
-    alloc: Global,
-    line: &str,
-    source: &mut S,
-    sink: &mut K,
-) -> Result<Status, AllocError> {
-    let words = words_of(alloc, line)?;
-    Ok(end(alloc, words.as_slice(), source, sink))
-}
-
 // Whether runs on one source end so, and this is then written.
 fn end_so(alloc: Global, mut source: MemSource, runs: &[(&str, Status)], text: &[u8]) -> bool {
     let mut sink = MemSink::new(Vec::new(alloc));
     let mut right = true;
     for (line, status) in runs {
-        right = right && came(alloc, *line, &mut source, &mut sink) == Ok(*status);
+        right = right && came(alloc, *line, &mut source, &mut sink) == *status;
     }
     right && sink.written() == text
 }
@@ -187,10 +184,22 @@ fn end_so(alloc: Global, mut source: MemSource, runs: &[(&str, Status)], text: &
 #[test]
 fn commands_that_read_nothing_leave_the_source_as_it_was(rt: HostRuntime) -> Result<(), Fail> {
     let alloc = rt.alloc();
-    let source = source_of(alloc, b"game limit=1000 draws=0 red=0\nwall", 0)?;
-    assert!(rt; end_so(alloc, source, &ON_ONE_SOURCE, LINES_OF_READY));
-    let source = source_of(alloc, ONE_SEAT, 1)?;
-    assert!(rt; end_so(alloc, source, &SELFPLAY, LINES_OF_SEVEN));
+    assert!(rt;
+        end_so(
+            alloc,
+            source_of(alloc, CUT, 0)?,
+            &ON_ONE_SOURCE,
+            LINES_OF_READY
+        )
+    );
+    assert!(rt;
+        end_so(
+            alloc,
+            source_of(alloc, ONE_SEAT, 1)?,
+            &SELFPLAY,
+            LINES_OF_SEVEN
+        )
+    );
     Ok(())
 }
 

@@ -59,39 +59,41 @@ fn comes_so(host: &MemHost, wanted: [Seen; 4]) -> bool {
     right
 }
 
+// The accepts that fail, and what comes.
+const ACCEPTS: [(&[u64], [Seen; 4]); 3] = [
+    (
+        &[],
+        [
+            Seen::Link(b'a'),
+            Seen::Link(b'b'),
+            Seen::Nothing,
+            Seen::Nothing,
+        ],
+    ),
+    (
+        &[2],
+        [
+            Seen::Link(b'a'),
+            Seen::Failed(1),
+            Seen::Link(b'b'),
+            Seen::Nothing,
+        ],
+    ),
+    (
+        &[1, 4],
+        [
+            Seen::Failed(0),
+            Seen::Link(b'a'),
+            Seen::Link(b'b'),
+            Seen::Failed(3),
+        ],
+    ),
+];
+
 #[test]
 fn links_come_in_their_order_and_planned_accepts_fail(rt: HostRuntime) -> Result<(), Fail> {
-    let alloc = rt.alloc();
-    for (accepts, wanted) in [
-        (
-            [].as_slice(),
-            [
-                Seen::Link(b'a'),
-                Seen::Link(b'b'),
-                Seen::Nothing,
-                Seen::Nothing,
-            ],
-        ),
-        (
-            [2].as_slice(),
-            [
-                Seen::Link(b'a'),
-                Seen::Failed(1),
-                Seen::Link(b'b'),
-                Seen::Nothing,
-            ],
-        ),
-        (
-            [1, 4].as_slice(),
-            [
-                Seen::Failed(0),
-                Seen::Link(b'a'),
-                Seen::Link(b'b'),
-                Seen::Failed(3),
-            ],
-        ),
-    ] {
-        assert!(rt; comes_so(&host(alloc, false, accepts)?, wanted));
+    for (accepts, wanted) in ACCEPTS {
+        assert!(rt; comes_so(&host(rt.alloc(), false, accepts)?, wanted));
     }
     Ok(())
 }
@@ -109,15 +111,6 @@ fn open_two(host: &mut MemHost, fails: bool) -> bool {
     hold && host.ports() == [11600, 11601].as_slice()
 }
 
-#[test]
-fn ports_are_opened_or_not_as_planned(rt: HostRuntime) -> Result<(), Fail> {
-    let alloc = rt.alloc();
-    for fails in [false, true] {
-        assert!(rt; open_two(&mut host(alloc, fails, &[])?, fails));
-    }
-    Ok(())
-}
-
 // Whether a link comes, and is kept once it is given back with this place.
 fn gives_back(host: &mut MemHost, place: u64) -> bool {
     match host.accept(0) {
@@ -133,7 +126,9 @@ fn keeps_places(host: &mut MemHost) -> bool {
 }
 
 #[test]
-fn links_given_back_keep_their_places(rt: HostRuntime) -> Result<(), Fail> {
+fn ports_are_opened_as_planned_and_links_keep_their_places(rt: HostRuntime) -> Result<(), Fail> {
+    assert!(rt; open_two(&mut host(rt.alloc(), true, &[])?, true));
+    assert!(rt; open_two(&mut host(rt.alloc(), false, &[])?, false));
     assert!(rt; keeps_places(&mut host(rt.alloc(), false, &[])?));
     Ok(())
 }
@@ -158,16 +153,17 @@ fn no_link_comes_twice_to_two_threads(rt: HostRuntime) -> Result<(), Fail> {
     Ok(())
 }
 
+// The first reading of a clock, its step, and its first readings.
+const CLOCKS: [(u64, u64, [u64; 3]); 3] = [
+    (5, 1000, [5, 1005, 2005]),
+    (7, 0, [7, 7, 7]),
+    (u64::MAX - 1, 3, [u64::MAX - 1, 1, 4]),
+];
+
 #[test]
 fn a_clock_in_memory_goes_on_by_its_step(rt: HostRuntime) {
-    for (first, step, wanted) in [
-        (5, 1000, [5, 1005, 2005]),
-        (7, 0, [7, 7, 7]),
-        (u64::MAX - 1, 3, [u64::MAX - 1, 1, 4]),
-    ] {
+    for (first, step, wanted) in CLOCKS {
         let mut clock = MemClock::new(first, step);
-        for reading in wanted {
-            assert!(rt; clock.now() == reading);
-        }
+        assert!(rt; [clock.now(), clock.now(), clock.now()] == wanted);
     }
 }

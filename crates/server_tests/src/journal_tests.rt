@@ -6,7 +6,7 @@ use crate::core_tests::before_all;
 use mj_core::Core;
 use mj_journal::{Answered, Disk, FileDisk, Kept, MemDisk, NotOpened};
 use mj_ports::{Left, SitAnswer};
-use std::alloc::Global;
+use std::alloc::{AllocError, Global};
 use std::fs;
 use std::test::Fail;
 
@@ -32,128 +32,149 @@ fn entries(kept: &Kept<Core>) -> Option<u64> {
     Some(kept.game()?.entries())
 }
 
-#[test]
-fn a_journal_has_these_bytes(rt: HostRuntime) -> Result<(), Fail> {
-    let alloc = rt.alloc();
-    let mut disk = MemDisk::new(b"", Vec::new(alloc))?;
-    let Ok(mut kept) = opened(alloc, &mut disk) else {
-        return Err("a new disk opens".into());
-    };
-    assert!(rt; disk.bytes() == b"\x01\0\0\0\x01t\0".as_slice());
-    let answered = kept.sit(&mut disk, 1, JOIN);
-    assert!(rt; matches!(answered, Answered::Done(SitAnswer::Sat(0))));
-    let bytes = disk.bytes();
-    assert!(rt; bytes.len() == BYTES_OF_JOIN);
-    assert!(rt; bytes.get(6..11) == Some(b"\x01\0\0\0\x20".as_slice()));
-    assert!(rt; bytes.get(11..17) == Some(b"1 sit ".as_slice()));
-    assert!(rt; bytes.get(43) == Some(&0));
-    Ok(())
+// A disk with these bytes, whose call of a number fails, or none for 0.
+fn disk_of(alloc: Global, bytes: &[u8], fails: u64) -> Result<MemDisk, AllocError> {
+    MemDisk::new(bytes, [fails].to_vec(alloc)?)
+}
+
+// Whether the first seat is given.
+fn sits<D: Disk>(kept: &mut Kept<Core>, disk: &mut D) -> bool
+    requires { IfKept (game_of kept.old) (λ g.
+        IsAtRest (D.told disk.old) (D.may_leave disk.old) (end_of kept.old)) }
+{
+    matches!(kept.sit(disk, 1, JOIN), Answered::Done(SitAnswer::Sat(0)))
+}
+
+// Whether a journal has the bytes of the tag and the join.
+fn is_joined(bytes: &[u8]) -> bool {
+    bytes.len() == BYTES_OF_JOIN
+        && bytes.get(6..11) == Some(b"\x01\0\0\0\x20".as_slice())
+        && bytes.get(11..17) == Some(b"1 sit ".as_slice())
+        && bytes.get(43) == Some(&0)
+}
+
+// Whether a new disk has the bytes of the tag, and then of the tag and the join.
+fn has_these_bytes(alloc: Global, mut disk: MemDisk) -> bool {
+    match opened(alloc, &mut disk) {
+        Ok(mut kept) => {
+            let is_tagged = disk.bytes() == b"\x01\0\0\0\x01t\0".as_slice();
+            is_tagged && sits(&mut kept, &mut disk) && is_joined(disk.bytes())
+        }
+        Err(_) => false,
+    }
+}
+
+// Whether a refused join writes nothing.
+fn refuses(alloc: Global, mut disk: MemDisk) -> bool {
+    match opened(alloc, &mut disk) {
+        Ok(mut kept) => {
+            let calls = disk.calls().len();
+            let answered = kept.sit(&mut disk, 1, b"{}");
+            matches!(answered, Answered::Done(SitAnswer::Refused(_)))
+                && disk.calls().len() == calls
+                && entries(&kept) == Some(0)
+        }
+        Err(_) => false,
+    }
+}
+
+// Whether a game is stopped by a fault of the tenth call of the disk, and then doesn't call it.
+fn stops(alloc: Global, mut disk: MemDisk) -> bool {
+    match opened(alloc, &mut disk) {
+        Ok(mut kept) => {
+            matches!(kept.sit(&mut disk, 1, JOIN), Answered::DiskFault)
+                && kept.game().is_none()
+                && matches!(kept.expire(&mut disk, 0, 0, 5, 9), Answered::Stopped)
+                && disk.calls().len() == 10
+        }
+        Err(_) => false,
+    }
 }
 
 #[test]
-fn a_refused_join_writes_nothing(rt: HostRuntime) -> Result<(), Fail> {
+fn an_entry_is_written_before_its_answer_and_a_stopped_game_writes_none(
+    rt: HostRuntime,
+) -> Result<(), Fail> {
     let alloc = rt.alloc();
-    let mut disk = MemDisk::new(b"", Vec::new(alloc))?;
-    let Ok(mut kept) = opened(alloc, &mut disk) else {
-        return Err("a new disk opens".into());
-    };
-    let calls = disk.calls().len();
-    let answered = kept.sit(&mut disk, 1, b"{}");
-    assert!(rt; matches!(answered, Answered::Done(SitAnswer::Refused(_))));
-    assert!(rt; disk.calls().len() == calls && entries(&kept) == Some(0));
+    assert!(rt; has_these_bytes(alloc, disk_of(alloc, b"", 0)?));
+    assert!(rt; refuses(alloc, disk_of(alloc, b"", 0)?));
+    assert!(rt; stops(alloc, disk_of(alloc, b"", 10)?));
     Ok(())
 }
 
-#[test]
-fn a_stopped_game_does_not_call_the_disk(rt: HostRuntime) -> Result<(), Fail> {
-    let alloc = rt.alloc();
-    let mut failing = Vec::new(alloc);
-    failing.push(10)?;
-    let mut disk = MemDisk::new(b"", failing)?;
-    let Ok(mut kept) = opened(alloc, &mut disk) else {
-        return Err("a new disk opens".into());
-    };
-    assert!(rt; matches!(kept.sit(&mut disk, 1, JOIN), Answered::DiskFault));
-    assert!(rt; kept.game().is_none());
-    assert!(rt; matches!(kept.expire(&mut disk, 0, 0, 5, 9), Answered::Stopped));
-    assert!(rt; disk.calls().len() == 10);
-    Ok(())
-}
+// The bytes of a journal, and why it isn't opened.
+const JOURNALS: [(&[u8], Option<NotOpened>); 10] = [
+    (b"\x01", None),
+    (b"\x02\x01\x01", None),
+    (b"\x01\0\0\0\x01u\0", Some(NotOpened::OtherGame)),
+    (b"\x01\0\0\0\x01u\x01", Some(NotOpened::OtherGame)),
+    (b"\x01\0", Some(NotOpened::BadJournal(0))),
+    (b"\x01\0\0\0\x01u", Some(NotOpened::BadJournal(0))),
+    (b"\x01\0\0\0\x01t\x01", Some(NotOpened::BadJournal(6))),
+    (
+        b"\x01\0\0\0\x01t\x01\0\0\0\x01x\0",
+        Some(NotOpened::BadJournal(6)),
+    ),
+    (
+        b"\x01\0\0\0\x01t\x01\0\0\0\x0801 sit x\0",
+        Some(NotOpened::BadJournal(6)),
+    ),
+    // a refused join adds no entry
+    (
+        b"\x01\0\0\0\x01t\x01\0\0\0\x071 sit x\0",
+        Some(NotOpened::BadJournal(6)),
+    ),
+];
 
-// Why a journal of these bytes isn't opened.
-fn refused(alloc: Global, bytes: &[u8]) -> Result<Option<NotOpened>, Fail> {
-    let mut disk = MemDisk::new(bytes, Vec::new(alloc))?;
-    Ok(opened(alloc, &mut disk).err())
+fn is_refused(alloc: Global, mut disk: MemDisk, cause: &Option<NotOpened>) -> bool {
+    opened(alloc, &mut disk).err() == *cause
 }
 
 #[test]
 fn bad_journals_are_refused(rt: HostRuntime) -> Result<(), Fail> {
-    let alloc = rt.alloc();
-    let cases: [(&[u8], Option<NotOpened>); 10] = [
-        (b"\x01", None),
-        (b"\x02\x01\x01", None),
-        (b"\x01\0\0\0\x01u\0", Some(NotOpened::OtherGame)),
-        (b"\x01\0\0\0\x01u\x01", Some(NotOpened::OtherGame)),
-        (b"\x01\0", Some(NotOpened::BadJournal(0))),
-        (b"\x01\0\0\0\x01u", Some(NotOpened::BadJournal(0))),
-        (b"\x01\0\0\0\x01t\x01", Some(NotOpened::BadJournal(6))),
-        (
-            b"\x01\0\0\0\x01t\x01\0\0\0\x01x\0",
-            Some(NotOpened::BadJournal(6)),
-        ),
-        (
-            b"\x01\0\0\0\x01t\x01\0\0\0\x0801 sit x\0",
-            Some(NotOpened::BadJournal(6)),
-        ),
-        // a refused join adds no entry
-        (
-            b"\x01\0\0\0\x01t\x01\0\0\0\x071 sit x\0",
-            Some(NotOpened::BadJournal(6)),
-        ),
-    ];
-    for (bytes, cause) in &cases {
-        assert!(rt; refused(alloc, bytes)? == *cause);
+    for (bytes, cause) in &JOURNALS {
+        assert!(rt; is_refused(rt.alloc(), disk_of(rt.alloc(), bytes, 0)?, cause));
     }
     Ok(())
 }
 
-// The first seat leaves, where it is present; None where it isn't.
-fn leaves<D: Disk>(kept: &mut Kept<Core>, disk: &mut D) -> Option<Answered<Left>>
+// Whether the first seat leaves, where it is present.
+fn leaves<D: Disk>(kept: &mut Kept<Core>, disk: &mut D) -> bool
     requires { IfKept (game_of kept.old) (λ g.
         IsAtRest (D.told disk.old) (D.may_leave disk.old) (end_of kept.old)) }
 {
-    if kept.game()?.author(0) != Some(1) {
-        return None;
+    match kept.game() {
+        Some(game) if game.author(0) == Some(1) => {
+            matches!(kept.gone(disk, 1, 0), Answered::Done(Left::Gone))
+        }
+        _ => false,
     }
-    Some(kept.gone(disk, 1, 0))
+}
+
+// Whether the first seat is given in the game of a disk.
+fn is_entered<D: Disk>(alloc: Global, disk: &mut D) -> bool {
+    match opened(alloc, disk) {
+        Ok(mut kept) => sits(&mut kept, disk),
+        Err(_) => false,
+    }
+}
+
+// Whether the game of a disk has one entry, and one more once its first seat has left.
+fn goes_on<D: Disk>(alloc: Global, disk: &mut D) -> bool {
+    match opened(alloc, disk) {
+        Ok(mut kept) => {
+            entries(&kept) == Some(1) && leaves(&mut kept, disk) && entries(&kept) == Some(2)
+        }
+        Err(_) => false,
+    }
 }
 
 #[test]
 fn a_journal_stands_in_a_file(rt: HostRuntime) -> Result<(), Fail> {
-    let alloc = rt.alloc();
     let _ = fs::remove_file(&rt, "riichi.journal");
-    let mut disk = FileDisk::new(&rt);
-    match opened(alloc, &mut disk) {
-        Ok(mut kept) => {
-            assert!(rt; matches!(kept.sit(&mut disk, 1, JOIN), Answered::Done(_)));
-        }
-        Err(_) => return Err("a new file opens".into()),
-    }
+    assert!(rt; is_entered(rt.alloc(), &mut FileDisk::new(&rt)));
     assert!(rt; fs::read(&rt, "riichi.journal")?.len() == BYTES_OF_JOIN);
-    let mut again = FileDisk::new(&rt);
-    match opened(alloc, &mut again) {
-        Ok(mut kept) => {
-            assert!(rt; entries(&kept) == Some(1));
-            assert!(rt;
-                matches!(
-                    leaves(&mut kept, &mut again),
-                    Some(Answered::Done(Left::Gone))
-                )
-            );
-            assert!(rt; entries(&kept) == Some(2));
-        }
-        Err(_) => return Err("the file opens again".into()),
-    }
+    assert!(rt; goes_on(rt.alloc(), &mut FileDisk::new(&rt)));
     fs::remove_file(&rt, "riichi.journal")?;
     Ok(())
 }

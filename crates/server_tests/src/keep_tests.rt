@@ -26,10 +26,6 @@ const CALLS_OF_ENTRY: usize = 4;
 // The entries of the joins and of the passes.
 const ENTRIES: usize = 8;
 
-// Two runs over one journal, the second where the first one ended: how many entries stand before it, how many its arrivals make,
-// how many writes it makes, and the arrivals. Beside those of its entries the first run writes the first gate and the tag.
-const RUNS: [(usize, usize, usize, &[u8]); 2] = [(0, 4, 11, JOINS), (4, 4, 8, PASSES)];
-
 // Three joins, and a fourth with a key.
 const FOUR_JOINS: &[u8] =
     b"sit {\"type\":\"join\",\"name\":\"a\"}\nsit {\"type\":\"join\",\"name\":\"b\"}\nsit {\"type\":\"join\",\"name\":\"c\"}\nsit {\"type\":\"join\",\"name\":\"k\",\"key\":\"k\"}\n";
@@ -52,30 +48,62 @@ struct Ran {
     bytes: Vec<u8>,
 }
 
+fn words_of(alloc: Global, name: &str) -> Result<Vec<String>, AllocError> {
+    let mut words = Vec::new(alloc);
+    words.push(String::from_str(alloc, name)?)?;
+    words.push(String::from_str(alloc, "0")?)?;
+    Ok(words)
+}
+
+fn source_of(alloc: Global, input: &[&[u8]]) -> Result<MemSource, AllocError> {
+    let mut bytes = Vec::new(alloc);
+    for part in input {
+        bytes.extend_from_slice(part)?;
+    }
+    Ok(MemSource::new(bytes, Vec::new(alloc)))
+}
+
 // Runs a command of seat 0 on an input of these parts.
-fn told_by(
+fn told_by(alloc: Global, name: &str, input: &[&[u8]], disk: &mut MemDisk) -> Ran {
+    match run_of(alloc, name, input, disk) {
+        Ok(ran) => ran,
+        Err(_) => Ran {
+            status: Status::NoMemory,
+            bytes: Vec::new(alloc),
+        },
+    }
+}
+
+fn run_of(
     alloc: Global,
     name: &str,
     input: &[&[u8]],
     disk: &mut MemDisk,
 ) -> Result<Ran, AllocError> {
-    let mut words = Vec::new(alloc);
-    words.push(String::from_str(alloc, name)?)?;
-    words.push(String::from_str(alloc, "0")?)?;
-    let mut bytes = Vec::new(alloc);
-    for part in input {
-        bytes.extend_from_slice(part)?;
-    }
-    let mut source = MemSource::new(bytes, Vec::new(alloc));
+    let words = words_of(alloc, name)?;
+    let source = source_of(alloc, input)?;
+    run_on(alloc, words.as_slice(), source, disk)
+}
+
+fn run_on(
+    alloc: Global,
+    words: &[String],
+    mut source: MemSource,
+    disk: &mut MemDisk,
+) -> Result<Ran, AllocError> {
     let mut sink = MemSink::new(Vec::new(alloc));
-    if is_for_waiting(words.as_slice()) {
-        return Err(AllocError);
-    }
-    let status = run_alone(alloc, words.as_slice(), &mut source, &mut sink, disk);
-    Ok(Ran {
-        status,
-        bytes: sink.written().to_vec(alloc)?,
-    })
+    let status = if is_for_waiting(words) {
+        Status::Words
+    } else {
+        run_alone(alloc, words, &mut source, &mut sink, disk)
+    };
+    let bytes = sink.written().to_vec(alloc)?;
+    Ok(Ran { status, bytes })
+}
+
+// How such a run ends that keeps a game.
+fn keeps(alloc: Global, input: &[&[u8]], disk: &mut MemDisk) -> Status {
+    told_by(alloc, "keep", input, disk).status
 }
 
 fn disk_of(alloc: Global, image: &[u8]) -> Result<MemDisk, AllocError> {
@@ -108,11 +136,17 @@ fn records(image: &[u8]) -> usize {
 }
 
 // How many entries a disk opens to; None where it doesn't open.
-fn entries_of(alloc: Global, image: &[u8]) -> Result<Option<usize>, AllocError> {
-    let mut disk = disk_of(alloc, image)?;
-    match told_by(alloc, "keep", &[GAME, WALL], &mut disk)?.status {
-        Status::Done => Ok(records(disk.bytes()).checked_sub(1)),
-        _ => Ok(None),
+fn entries_of(alloc: Global, image: &[u8]) -> Option<usize> {
+    match disk_of(alloc, image) {
+        Ok(mut disk) => entries_on(alloc, &mut disk),
+        Err(_) => None,
+    }
+}
+
+fn entries_on(alloc: Global, disk: &mut MemDisk) -> Option<usize> {
+    match keeps(alloc, &[GAME, WALL], disk) {
+        Status::Done => records(disk.bytes()).checked_sub(1),
+        _ => None,
     }
 }
 
@@ -128,34 +162,39 @@ const OVER_ONE_JOURNAL: [(&[&[u8]], Status, &[&[u8]]); 4] = [
     (&[GAME, WALL], Status::Done, &[GAME, WALL, JOINS, PASSES]),
 ];
 
-#[test]
-fn a_kept_game_goes_on_where_its_journal_ends(rt: HostRuntime) -> Result<(), Fail> {
-    let alloc = rt.alloc();
-    let mut disk = disk_of(alloc, NOTHING)?;
-    for (input, status, alike) in OVER_ONE_JOURNAL {
-        let kept = told_by(alloc, "keep", input, &mut disk)?;
-        let told = told_by(alloc, "referee", alike, &mut disk)?;
-        assert!(rt; kept.status == status && kept.bytes.as_slice() == told.bytes.as_slice());
-    }
-    assert!(rt; records(disk.bytes()) == ENTRIES + 1);
-    Ok(())
+// Whether a run ends so, and tells what the referee tells on that input.
+fn is_run_so(
+    alloc: Global,
+    disk: &mut MemDisk,
+    input: &[&[u8]],
+    status: Status,
+    alike: &[&[u8]],
+) -> bool {
+    let kept = told_by(alloc, "keep", input, disk);
+    let told = told_by(alloc, "referee", alike, disk);
+    kept.status == status && kept.bytes.as_slice() == told.bytes.as_slice()
 }
 
-#[test]
-fn an_input_without_a_wall_touches_no_disk(rt: HostRuntime) -> Result<(), Fail> {
-    let alloc = rt.alloc();
-    let cases: [(&[&[u8]], Status); 4] = [
-        (&[], Status::Done),
-        (&[GAME], Status::Done),
-        (&[GAME, JOINS], Status::BadArrival(2)),
-        (&[WALL, JOINS], Status::BadArrival(1)),
-    ];
-    for (input, status) in cases {
-        let mut disk = disk_of(alloc, b"\x01")?;
-        let end = told_by(alloc, "keep", input, &mut disk)?;
-        assert!(rt; end.status == status && end.bytes.is_empty() && disk.calls().is_empty());
+// Whether runs over one journal end and tell so, and leave so many records.
+fn goes_on(alloc: Global, mut disk: MemDisk) -> bool {
+    let mut right = true;
+    for (input, status, alike) in OVER_ONE_JOURNAL {
+        right = right && is_run_so(alloc, &mut disk, input, status, alike);
     }
-    Ok(())
+    right && records(disk.bytes()) == ENTRIES + 1
+}
+
+// Inputs that touch no disk, and how the run ends.
+const UNTOUCHED: [(&[&[u8]], Status); 4] = [
+    (&[], Status::Done),
+    (&[GAME], Status::Done),
+    (&[GAME, JOINS], Status::BadArrival(2)),
+    (&[WALL, JOINS], Status::BadArrival(1)),
+];
+
+fn is_untouched(alloc: Global, mut disk: MemDisk, input: &[&[u8]], status: Status) -> bool {
+    let end = told_by(alloc, "keep", input, &mut disk);
+    end.status == status && end.bytes.is_empty() && disk.calls().is_empty()
 }
 
 // What stands on a disk and what is read, how the run ends, whether it writes something, and how many entries the disk then
@@ -177,14 +216,29 @@ const SPOILT: [(&[u8], &[&[u8]], Status, bool, Option<usize>); 2] = [
     ),
 ];
 
+fn ends_so(
+    alloc: Global,
+    mut disk: MemDisk,
+    input: &[&[u8]],
+    status: Status,
+    tells: bool,
+    entries: Option<usize>,
+) -> bool {
+    let end = told_by(alloc, "keep", input, &mut disk);
+    end.status == status
+        && end.bytes.is_empty() != tells
+        && entries_of(alloc, disk.bytes()) == entries
+}
+
 #[test]
-fn a_bad_line_keeps_the_arrivals_before_it(rt: HostRuntime) -> Result<(), Fail> {
+fn a_kept_game_goes_on_where_its_journal_ends(rt: HostRuntime) -> Result<(), Fail> {
     let alloc = rt.alloc();
+    assert!(rt; goes_on(alloc, disk_of(alloc, NOTHING)?));
+    for (input, status) in UNTOUCHED {
+        assert!(rt; is_untouched(alloc, disk_of(alloc, b"\x01")?, input, status));
+    }
     for (image, input, status, tells, entries) in SPOILT {
-        let mut disk = disk_of(alloc, image)?;
-        let end = told_by(alloc, "keep", input, &mut disk)?;
-        assert!(rt; end.status == status && end.bytes.is_empty() != tells);
-        assert!(rt; entries_of(alloc, disk.bytes())? == entries);
+        assert!(rt; ends_so(alloc, disk_of(alloc, image)?, input, status, tells, entries));
     }
     Ok(())
 }
@@ -227,27 +281,32 @@ impl Tear<'_> {
 }
 
 // Whether a disk opens to so many entries, or to one more.
-fn opens_near(alloc: Global, image: &[u8], entries: usize) -> Result<bool, AllocError> {
-    match entries_of(alloc, image)? {
-        Some(opened) => Ok(opened == entries || opened.checked_sub(1) == Some(entries)),
-        None => Ok(false),
+fn opens_near(alloc: Global, image: &[u8], entries: usize) -> bool {
+    match entries_of(alloc, image) {
+        Some(opened) => opened == entries || opened.checked_sub(1) == Some(entries),
+        None => false,
     }
 }
 
-// Whether each image that a crash in this write may leave opens so. Of a long piece some tears are tried.
+fn tear_opens(alloc: Global, tear: &Tear<'_>, entries: usize) -> bool {
+    match tear.image(alloc) {
+        Ok(image) => opens_near(alloc, image.as_slice(), entries),
+        Err(_) => false,
+    }
+}
+
+// Whether each image that a crash in a write of this piece may leave opens so. Of a long piece some tears are tried.
 fn each_tear_opens(
     alloc: Global,
     before: &[u8],
     place: usize,
     piece: &[u8],
     entries: usize,
-) -> Result<bool, AllocError> {
+) -> bool {
     let mut hold = true;
     for kept in 0..=piece.len() {
+        let is_tried = kept <= 6 || kept % 16 == 0 || kept == piece.len();
         for from_end in [false, true] {
-            if kept > 6 && kept % 16 != 0 && kept != piece.len() {
-                continue;
-            }
             let tear = Tear {
                 before,
                 place,
@@ -255,10 +314,10 @@ fn each_tear_opens(
                 kept,
                 from_end,
             };
-            hold = hold && opens_near(alloc, &tear.image(alloc)?, entries)?;
+            hold = hold && (!is_tried || tear_opens(alloc, &tear, entries));
         }
     }
-    Ok(hold)
+    hold
 }
 
 // The calls of a run on a disk with these bytes, over a journal with so many entries, after so many calls of its opening.
@@ -278,29 +337,48 @@ impl Course<'_> {
     }
 
     // Whether each image that a crash may leave in one of the writes from this call on opens to what is acknowledged before it.
-    fn each_write_holds(&self, alloc: Global, from: usize) -> Result<bool, AllocError> {
-        let mut hold = true;
-        let mut bytes = self.start.to_vec(alloc)?;
+    fn each_write_holds(&self, alloc: Global, from: usize) -> bool {
+        let mut bytes = Vec::new(alloc);
+        let mut hold = bytes.extend_from_slice(self.start).is_ok();
         for (before, call) in self.calls.iter().enumerate() {
-            if let DiskCall::Write { place, piece } = &call.what {
-                let place = *place as usize;
-                let tried = before >= from;
-                let entries = self.acknowledged(before);
-                hold = hold
-                    && (!tried || each_tear_opens(alloc, bytes.as_slice(), place, piece, entries)?);
-                if !call.failed {
-                    let whole = Tear {
-                        before: bytes.as_slice(),
-                        place,
-                        piece,
-                        kept: piece.len(),
-                        from_end: false,
-                    };
-                    bytes = whole.image(alloc)?;
-                }
-            }
+            hold = hold && self.write_holds(alloc, &mut bytes, call, before, before >= from);
         }
-        Ok(hold)
+        hold
+    }
+
+    // Whether that is so of one call with so many before it, where it is tried. What it writes comes onto the bytes.
+    fn write_holds(
+        &self,
+        alloc: Global,
+        bytes: &mut Vec<u8>,
+        call: &CallMade,
+        before: usize,
+        tried: bool,
+    ) -> bool {
+        let DiskCall::Write { place, piece } = &call.what else {
+            return true;
+        };
+        let (place, entries) = (*place as usize, self.acknowledged(before));
+        let holds = !tried || each_tear_opens(alloc, bytes.as_slice(), place, piece, entries);
+        holds && (call.failed || write_whole(alloc, bytes, place, piece))
+    }
+}
+
+// Writes a whole piece onto bytes.
+fn write_whole(alloc: Global, bytes: &mut Vec<u8>, place: usize, piece: &[u8]) -> bool {
+    let whole = Tear {
+        before: bytes.as_slice(),
+        place,
+        piece,
+        kept: piece.len(),
+        from_end: false,
+    };
+    match whole.image(alloc) {
+        Ok(image) => {
+            *bytes = image;
+            true
+        }
+        Err(_) => false,
     }
 }
 
@@ -319,25 +397,33 @@ fn calls_of_opening(calls: &[CallMade], entries: usize) -> usize {
         .saturating_sub(entries.saturating_mul(CALLS_OF_ENTRY))
 }
 
-#[test]
-fn a_stop_at_each_write_of_two_runs_loses_nothing(rt: HostRuntime) -> Result<(), Fail> {
-    let alloc = rt.alloc();
-    let mut start = Vec::new(alloc);
-    for (had, made, written, arrivals) in RUNS {
-        let mut disk = disk_of(alloc, start.as_slice())?;
-        let end = told_by(alloc, "keep", &[GAME, WALL, arrivals], &mut disk)?;
-        assert!(rt; end.status == Status::Done && writes(disk.calls()) == written);
-        let course = Course {
-            start: start.as_slice(),
-            had,
-            opening: calls_of_opening(disk.calls(), made),
-            calls: disk.calls(),
-        };
-        assert!(rt; course.each_write_holds(alloc, 0)?);
-        start = disk.bytes().to_vec(alloc)?;
-        assert!(rt; entries_of(alloc, start.as_slice())? == Some(had.saturating_add(made)));
+// Whether a run over a journal of so many entries makes so many more by so many writes, a stop at each of which loses nothing, and
+// none does where a call of its fails.
+fn loses_none(
+    alloc: Global,
+    start: &[u8],
+    disk: &mut MemDisk,
+    had: usize,
+    made: usize,
+    written: usize,
+    arrivals: &[u8],
+) -> bool {
+    let status = keeps(alloc, &[GAME, WALL, arrivals], disk);
+    let opening = calls_of_opening(disk.calls(), made);
+    let course = Course {
+        start,
+        had,
+        opening,
+        calls: disk.calls(),
+    };
+    let mut hold = status == Status::Done
+        && writes(disk.calls()) == written
+        && course.each_write_holds(alloc, 0)
+        && entries_of(alloc, disk.bytes()) == Some(had.saturating_add(made));
+    for number in 1..=disk.calls().len() {
+        hold = hold && loses_nothing(alloc, start, had, opening, number, arrivals);
     }
-    Ok(())
+    hold
 }
 
 // Whether a run on these bytes whose call of this number fails ends by that, writes nothing, and loses nothing, whatever a crash
@@ -349,11 +435,30 @@ fn loses_nothing(
     opening: usize,
     number: usize,
     arrivals: &[u8],
-) -> Result<bool, AllocError> {
-    let failing = [number as u64].to_vec(alloc)?;
-    let mut disk = MemDisk::new(start, failing)?;
-    let end = told_by(alloc, "keep", &[GAME, WALL, arrivals], &mut disk)?;
-    let faulted = end.status == Status::DiskFault && end.bytes.is_empty();
+) -> bool {
+    match failing_disk(alloc, start, number) {
+        Ok(mut disk) => fault_loses_nothing(
+            alloc, start, &mut disk, had, opening, number, arrivals,
+        ),
+        Err(_) => false,
+    }
+}
+
+// A disk with these bytes whose call of this number fails.
+fn failing_disk(alloc: Global, start: &[u8], number: usize) -> Result<MemDisk, AllocError> {
+    MemDisk::new(start, [number as u64].to_vec(alloc)?)
+}
+
+fn fault_loses_nothing(
+    alloc: Global,
+    start: &[u8],
+    disk: &mut MemDisk,
+    had: usize,
+    opening: usize,
+    number: usize,
+    arrivals: &[u8],
+) -> bool {
+    let end = told_by(alloc, "keep", &[GAME, WALL, arrivals], disk);
     let course = Course {
         start,
         had,
@@ -361,40 +466,50 @@ fn loses_nothing(
         calls: disk.calls(),
     };
     let before = number.saturating_sub(1);
-    Ok(
-        faulted
-            && disk.calls().len() == number
-            && opens_near(alloc, disk.bytes(), course.acknowledged(before))?
-            && course.each_write_holds(alloc, before.saturating_sub(1))?,
-    )
+    end.status == Status::DiskFault
+        && end.bytes.is_empty()
+        && disk.calls().len() == number
+        && opens_near(alloc, disk.bytes(), course.acknowledged(before))
+        && course.each_write_holds(alloc, before.saturating_sub(1))
+}
+
+// What a run leaves on a disk with these bytes.
+fn left_by(alloc: Global, start: &[u8], arrivals: &[u8]) -> Result<MemDisk, AllocError> {
+    let mut disk = disk_of(alloc, start)?;
+    let _status = keeps(alloc, &[GAME, WALL, arrivals], &mut disk);
+    Ok(disk)
 }
 
 #[test]
-fn each_failing_call_of_two_runs_loses_nothing(rt: HostRuntime) -> Result<(), Fail> {
+fn a_stop_or_a_fault_at_each_call_of_two_runs_loses_nothing(rt: HostRuntime) -> Result<(), Fail> {
     let alloc = rt.alloc();
-    let mut start = Vec::new(alloc);
-    for (had, made, _, arrivals) in RUNS {
-        let mut disk = disk_of(alloc, start.as_slice())?;
-        let end = told_by(alloc, "keep", &[GAME, WALL, arrivals], &mut disk)?;
-        assert!(rt; end.status == Status::Done);
-        let calls = disk.calls().len();
-        let opening = calls_of_opening(disk.calls(), made);
-        for number in 1..=calls {
-            assert!(rt; loses_nothing(alloc, start.as_slice(), had, opening, number, arrivals)?);
-        }
-        start = disk.bytes().to_vec(alloc)?;
-    }
+    // Beside those of its entries the first run writes the first gate and the tag.
+    assert!(rt;
+        loses_none(
+            alloc,
+            NOTHING,
+            &mut disk_of(alloc, NOTHING)?,
+            0,
+            4,
+            11,
+            JOINS
+        )
+    );
+    let first = left_by(alloc, NOTHING, JOINS)?;
+    let start = first.bytes();
+    assert!(rt; loses_none(alloc, start, &mut disk_of(alloc, start)?, 4, 4, 8, PASSES));
     Ok(())
+}
+
+fn has_records(alloc: Global, mut disk: MemDisk) -> bool {
+    keeps(alloc, &[GAME, WALL, FOUR_JOINS, EACH_ARRIVAL], &mut disk) == Status::Done
+        && disk.bytes().ends_with(RECORDS)
+        && disk.bytes().starts_with(TAG)
+        && entries_of(alloc, disk.bytes()) == Some(ENTRIES)
 }
 
 #[test]
 fn each_entry_is_a_record_of_these_bytes(rt: HostRuntime) -> Result<(), Fail> {
-    let alloc = rt.alloc();
-    let mut disk = disk_of(alloc, NOTHING)?;
-    let input = [GAME, WALL, FOUR_JOINS, EACH_ARRIVAL];
-    let end = told_by(alloc, "keep", &input, &mut disk)?;
-    assert!(rt; end.status == Status::Done && disk.bytes().ends_with(RECORDS));
-    assert!(rt; disk.bytes().starts_with(TAG));
-    assert!(rt; entries_of(alloc, disk.bytes())? == Some(ENTRIES));
+    assert!(rt; has_records(rt.alloc(), disk_of(rt.alloc(), NOTHING)?));
     Ok(())
 }

@@ -15,15 +15,11 @@ fn line(alloc: Global, fails: u64) -> Result<MemSource, AllocError> {
 }
 
 // Whether a source is read to such an end, after a text, and the text is then this one.
-fn reads<S: Source>(
-    alloc: Global,
-    source: &mut S,
-    limit: u64,
-    end: ReadAll,
-    text: &[u8],
-) -> Result<bool, AllocError> {
-    let mut read = Vec::from_slice(alloc, b"> ")?;
-    Ok(read_all(source, limit, &mut read) == end && read.as_slice() == text)
+fn reads<S: Source>(alloc: Global, source: &mut S, limit: u64, end: ReadAll, text: &[u8]) -> bool {
+    match Vec::from_slice(alloc, b"> ") {
+        Ok(mut read) => read_all(source, limit, &mut read) == end && read.as_slice() == text,
+        Err(_) => false,
+    }
 }
 
 // Whether reads of two bytes each come so, and the bytes are then these.
@@ -45,49 +41,53 @@ fn go_so(sink: &mut MemSink, writes: &[(Put, &[u8])]) -> bool {
     right
 }
 
+// Of a source of a line the number of the read that fails, the limit, how it is read, and the text then.
+const WHOLE: [(u64, u64, ReadAll, &[u8]); 5] = [
+    (0, 7, ReadAll::Whole, b"> gone 2\n"),
+    (0, 6, ReadAll::TooLong, b"> gone 2\n"),
+    (1, 7, ReadAll::Fault, b"> "),
+    (2, 7, ReadAll::Fault, b"> gone 2\n"),
+    (3, 7, ReadAll::Whole, b"> gone 2\n"),
+];
+
+// Of one that gives a byte a read.
+const BY_BYTES: [(u64, u64, ReadAll, &[u8]); 3] = [
+    (0, 7, ReadAll::Whole, b"> gone 2\n"),
+    (2, 7, ReadAll::Fault, b"> g"),
+    (0, 3, ReadAll::TooLong, b"> gone"),
+];
+
+fn reads_slowly(alloc: Global, source: MemSource, limit: u64, end: ReadAll, text: &[u8]) -> bool {
+    reads(alloc, &mut SlowSource(source), limit, end, text)
+}
+
 #[test]
 fn a_source_is_read_to_its_end_or_a_fault_or_past_the_limit(rt: HostRuntime) -> Result<(), Fail> {
     let alloc = rt.alloc();
-    for (fails, limit, end, text) in [
-        (0, 7, ReadAll::Whole, b"> gone 2\n".as_slice()),
-        (0, 6, ReadAll::TooLong, b"> gone 2\n".as_slice()),
-        (1, 7, ReadAll::Fault, b"> ".as_slice()),
-        (2, 7, ReadAll::Fault, b"> gone 2\n".as_slice()),
-        (3, 7, ReadAll::Whole, b"> gone 2\n".as_slice()),
-    ] {
-        assert!(rt; reads(alloc, &mut line(alloc, fails)?, limit, end, text)?);
+    for (fails, limit, end, text) in WHOLE {
+        assert!(rt; reads(alloc, &mut line(alloc, fails)?, limit, end, text));
+    }
+    for (fails, limit, end, text) in BY_BYTES {
+        assert!(rt; reads_slowly(alloc, line(alloc, fails)?, limit, end, text));
     }
     Ok(())
 }
 
-#[test]
-fn a_source_that_gives_a_byte_a_read_is_read_alike(rt: HostRuntime) -> Result<(), Fail> {
-    let alloc = rt.alloc();
-    for (fails, limit, end, text) in [
-        (0, 7, ReadAll::Whole, b"> gone 2\n".as_slice()),
-        (2, 7, ReadAll::Fault, b"> g".as_slice()),
-        (0, 3, ReadAll::TooLong, b"> gone".as_slice()),
-    ] {
-        let mut slow = SlowSource(line(alloc, fails)?);
-        assert!(rt; reads(alloc, &mut slow, limit, end, text)?);
-    }
-    Ok(())
+// The number of the write that fails, how a piece is written byte by byte, and what then is.
+const WRITTEN: [(u64, WriteAll, &[u8]); 4] = [
+    (0, WriteAll::Whole, b"riichi"),
+    (1, WriteAll::Failed, b""),
+    (3, WriteAll::Failed, b"ri"),
+    (7, WriteAll::Whole, b"riichi"),
+];
+
+fn sink(alloc: Global, fails: u64) -> Result<MemSink, AllocError> {
+    Ok(MemSink::new([fails].to_vec(alloc)?))
 }
 
-#[test]
-fn a_piece_is_written_whole_or_up_to_a_fault(rt: HostRuntime) -> Result<(), Fail> {
-    let alloc = rt.alloc();
-    for (fails, end, text) in [
-        (0, WriteAll::Whole, b"riichi".as_slice()),
-        (1, WriteAll::Failed, b"".as_slice()),
-        (3, WriteAll::Failed, b"ri".as_slice()),
-        (7, WriteAll::Whole, b"riichi".as_slice()),
-    ] {
-        let writes = [fails].to_vec(alloc)?;
-        let mut slow = SlowSink(MemSink::new(writes));
-        assert!(rt; write_all(&mut slow, b"riichi") == end && slow.0.written() == text);
-    }
-    Ok(())
+fn is_written(sink: MemSink, end: WriteAll, text: &[u8]) -> bool {
+    let mut slow = SlowSink(sink);
+    write_all(&mut slow, b"riichi") == end && slow.0.written() == text
 }
 
 const READS: [(Got, [u8; 2]); 5] = [
@@ -98,35 +98,39 @@ const READS: [(Got, [u8; 2]); 5] = [
     (Got::End, *b"no"),
 ];
 
-#[test]
-fn a_read_of_a_planned_number_fails(rt: HostRuntime) -> Result<(), Fail> {
-    let alloc = rt.alloc();
-    let reads = [1, 3].to_vec(alloc)?;
-    let mut source = MemSource::new(b"pon".to_vec(alloc)?, reads);
-    assert!(rt; come_so(&mut source, &READS));
-    Ok(())
-}
-
 const WRITES: [(Put, &[u8]); 3] = [
     (Put::Took(3), b"chi"),
     (Put::Failed, b"chi"),
     (Put::Took(3), b"chichi"),
 ];
 
-#[test]
-fn a_write_of_a_planned_number_fails(rt: HostRuntime) -> Result<(), Fail> {
-    let mut sink = MemSink::new([2].to_vec(rt.alloc())?);
-    assert!(rt; go_so(&mut sink, &WRITES));
-    Ok(())
+// A source of a word whose first and third reads fail.
+fn word(alloc: Global) -> Result<MemSource, AllocError> {
+    let reads = [1, 3].to_vec(alloc)?;
+    Ok(MemSource::new(b"pon".to_vec(alloc)?, reads))
 }
 
 #[test]
-fn readers_and_writers_are_sources_and_sinks(rt: HostRuntime) -> Result<(), Fail> {
+fn a_piece_is_written_whole_or_up_to_a_fault_and_planned_calls_fail(
+    rt: HostRuntime,
+) -> Result<(), Fail> {
     let alloc = rt.alloc();
-    let mut source = ReaderSource::new(b"ron".as_slice());
-    assert!(rt; reads(alloc, &mut source, 3, ReadAll::Whole, b"> ron")?);
-    let mut sink = WriterSink::new(Vec::new(alloc));
-    assert!(rt; sink.write(b"ron") == Put::Took(3));
-    let _ = FaultCount::new().more();
+    for (fails, end, text) in WRITTEN {
+        assert!(rt; is_written(sink(alloc, fails)?, end, text));
+    }
+    assert!(rt; come_so(&mut word(alloc)?, &READS));
+    assert!(rt; go_so(&mut sink(alloc, 2)?, &WRITES));
     Ok(())
+}
+
+fn adapters_carry(alloc: Global) -> bool {
+    let mut source = ReaderSource::new(b"ron".as_slice());
+    let mut sink = WriterSink::new(Vec::new(alloc));
+    let _ = FaultCount::new().more();
+    reads(alloc, &mut source, 3, ReadAll::Whole, b"> ron") && sink.write(b"ron") == Put::Took(3)
+}
+
+#[test]
+fn readers_and_writers_are_sources_and_sinks(rt: HostRuntime) {
+    assert!(rt; adapters_carry(rt.alloc()));
 }

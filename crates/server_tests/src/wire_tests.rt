@@ -38,78 +38,43 @@ fn reads<L: Link + Drop>(alloc: Global, link: L, end: LineRead, wanted: &[u8]) -
     first == Ok(end) && second == Ok(LineRead::Ended) && text.as_slice() == wanted
 }
 
+// Bytes, the number of the read that fails, how the lines first end, and they.
+const LINES: [(&[u8], u64, LineRead, &[u8]); 4] = [
+    (b"chi\n\nron\r\n", 0, LineRead::Ended, b"chi||ron\r|ron\r"),
+    (b"chi\npo", 0, LineRead::Ended, b"chi|chi"),
+    (b"chi\npon\n", 1, LineRead::Fault, b"chi|pon|pon"),
+    (b"chi\npon\n", 2, LineRead::Fault, b"chi|pon|pon"),
+];
+
+// Where a byte comes a read.
+const BY_BYTES: [(&[u8], u64, LineRead, &[u8]); 3] = [
+    (b"chi\n\nron\r\n", 0, LineRead::Ended, b"chi||ron\r|ron\r"),
+    (b"chi\npo", 0, LineRead::Ended, b"chi|chi"),
+    (b"chi\npon\n", 7, LineRead::Fault, b"chi|chipon|pon"),
+];
+
 #[test]
 fn a_line_is_the_bytes_before_the_next_newline(rt: HostRuntime) -> Result<(), Fail> {
     let alloc = rt.alloc();
-    for (bytes, fails, end, text) in [
-        (
-            b"chi\n\nron\r\n".as_slice(),
-            0,
-            LineRead::Ended,
-            b"chi||ron\r|ron\r".as_slice(),
-        ),
-        (
-            b"chi\npo".as_slice(),
-            0,
-            LineRead::Ended,
-            b"chi|chi".as_slice(),
-        ),
-        (
-            b"chi\npon\n".as_slice(),
-            1,
-            LineRead::Fault,
-            b"chi|pon|pon".as_slice(),
-        ),
-        (
-            b"chi\npon\n".as_slice(),
-            2,
-            LineRead::Fault,
-            b"chi|pon|pon".as_slice(),
-        ),
-    ] {
+    for (bytes, fails, end, text) in LINES {
         assert!(rt; reads(alloc, link(alloc, bytes, fails)?, end, text));
     }
-    Ok(())
-}
-
-#[test]
-fn a_line_that_comes_a_byte_a_read_is_read_alike(rt: HostRuntime) -> Result<(), Fail> {
-    let alloc = rt.alloc();
-    for (bytes, fails, end, text) in [
-        (
-            b"chi\n\nron\r\n".as_slice(),
-            0,
-            LineRead::Ended,
-            b"chi||ron\r|ron\r".as_slice(),
-        ),
-        (
-            b"chi\npo".as_slice(),
-            0,
-            LineRead::Ended,
-            b"chi|chi".as_slice(),
-        ),
-        (
-            b"chi\npon\n".as_slice(),
-            7,
-            LineRead::Fault,
-            b"chi|chipon|pon".as_slice(),
-        ),
-    ] {
+    for (bytes, fails, end, text) in BY_BYTES {
         assert!(rt; reads(alloc, SlowLink(link(alloc, bytes, fails)?), end, text));
     }
     Ok(())
 }
 
-// So many bytes, and then some more.
-fn long(alloc: Global, count: usize, last: &[u8]) -> Result<Vec<u8>, AllocError> {
+// A link from which so many bytes are read, and then some more.
+fn long(alloc: Global, count: usize, last: &[u8]) -> Result<MemLink, AllocError> {
     let mut bytes = Vec::new(alloc);
     bytes.resize(count, b'1')?;
     bytes.extend_from_slice(last)?;
-    Ok(bytes)
+    Ok(MemLink::new(bytes, Vec::new(alloc), Vec::new(alloc)))
 }
 
-// How the first reading of these bytes ends, how the next one does, and how long the line then is.
-fn first_two<L: Link + Drop>(alloc: Global, link: L) -> (LineRead, LineRead, usize) {
+// How the first reading of a link ends, how the next one does, and how long the line then is.
+fn first_two(alloc: Global, link: MemLink) -> (LineRead, LineRead, usize) {
     let mut wire = Wire::new(link);
     let mut line = Vec::new(alloc);
     let first = wire.read_line(&mut line);
@@ -117,21 +82,17 @@ fn first_two<L: Link + Drop>(alloc: Global, link: L) -> (LineRead, LineRead, usi
     (first, second, line.len())
 }
 
+const LONG: [(usize, &[u8], (LineRead, LineRead, usize)); 4] = [
+    (4095, b"\n", (LineRead::Line, LineRead::Ended, 4095)),
+    (4095, b"", (LineRead::Ended, LineRead::Ended, 0)),
+    (4096, b"\n", (LineRead::TooLong, LineRead::TooLong, 0)),
+    (4096, b"", (LineRead::TooLong, LineRead::TooLong, 0)),
+];
+
 #[test]
 fn a_line_has_fewer_than_4096_bytes(rt: HostRuntime) -> Result<(), Fail> {
-    let alloc = rt.alloc();
-    for (count, last, ends) in [
-        (
-            4095,
-            b"\n".as_slice(),
-            (LineRead::Line, LineRead::Ended, 4095),
-        ),
-        (4095, b"", (LineRead::Ended, LineRead::Ended, 0)),
-        (4096, b"\n", (LineRead::TooLong, LineRead::TooLong, 0)),
-        (4096, b"", (LineRead::TooLong, LineRead::TooLong, 0)),
-    ] {
-        let bytes = long(alloc, count, last)?;
-        assert!(rt; first_two(alloc, link(alloc, bytes.as_slice(), 0)?) == ends);
+    for (count, last, ends) in LONG {
+        assert!(rt; first_two(rt.alloc(), long(rt.alloc(), count, last)?) == ends);
     }
     Ok(())
 }
@@ -160,27 +121,27 @@ fn sends_slowly(link: SlowLink, first: Sent, second: Sent, text: &[u8]) -> bool 
     sent.0 == first && sent.1 == second && sent.2.0.written() == text
 }
 
+// The number of the write that fails, how two pieces are sent, and what is written.
+const SENT: [(u64, Sent, Sent, &[u8]); 3] = [
+    (0, Sent::Whole, Sent::Whole, b"chiron"),
+    (1, Sent::Failed, Sent::Whole, b"ron"),
+    (2, Sent::Whole, Sent::Failed, b"chi"),
+];
+
+// Where a byte is taken a write: a piece goes on where the last write ended.
+const SENT_BY_BYTES: [(u64, Sent, Sent, &[u8]); 3] = [
+    (0, Sent::Whole, Sent::Whole, b"chiron"),
+    (3, Sent::Failed, Sent::Whole, b"chron"),
+    (6, Sent::Whole, Sent::Failed, b"chiro"),
+];
+
 #[test]
 fn a_piece_is_sent_whole_or_up_to_a_fault(rt: HostRuntime) -> Result<(), Fail> {
     let alloc = rt.alloc();
-    for (fails, first, second, text) in [
-        (0, Sent::Whole, Sent::Whole, b"chiron".as_slice()),
-        (1, Sent::Failed, Sent::Whole, b"ron".as_slice()),
-        (2, Sent::Whole, Sent::Failed, b"chi".as_slice()),
-    ] {
+    for (fails, first, second, text) in SENT {
         assert!(rt; sends(mute(alloc, fails)?, first, second, text));
     }
-    Ok(())
-}
-
-#[test]
-fn a_piece_goes_on_where_the_last_write_ended(rt: HostRuntime) -> Result<(), Fail> {
-    let alloc = rt.alloc();
-    for (fails, first, second, text) in [
-        (0, Sent::Whole, Sent::Whole, b"chiron".as_slice()),
-        (3, Sent::Failed, Sent::Whole, b"chron".as_slice()),
-        (6, Sent::Whole, Sent::Failed, b"chiro".as_slice()),
-    ] {
+    for (fails, first, second, text) in SENT_BY_BYTES {
         assert!(rt; sends_slowly(SlowLink(mute(alloc, fails)?), first, second, text));
     }
     Ok(())

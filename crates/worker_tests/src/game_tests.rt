@@ -5,13 +5,14 @@ ghost use Rattle.std.specs.Prelude.{◌≡◌, []};
 use crate::hall::shuffled_game;
 use crate::handler_tests::host;
 use crate::meeting::{AskingClock, Meeting, MeetingHost, Sign};
-use mj_links::{Clock, Host};
+use mj_links::{Clock, Host, MemHost};
 use mj_ports::Seated;
 use mj_seats::run_workers;
 use std::alloc::Global;
 use std::sync::Wait;
 use std::test::Fail;
 use std::thread::Threads;
+use std::time;
 
 const A_AND_PASS: &str = "{\"type\":\"join\",\"name\":\"a\"}\n{\"type\":\"none\"}";
 
@@ -48,21 +49,40 @@ fn play<G: Seated, H: Host, K: Clock, R: Threads + Wait + Sync>(
     }
 }
 
-// Each window but the first is closed by two readings, and the first one by answers between its own two.
+// Whether so many readings are two for each window of so many deeds but the first, and one to three more.
+fn are_pairs(deeds: u32, readings: u32) -> bool {
+    let pairs = deeds.saturating_sub(2).saturating_mul(2);
+    readings > pairs && readings <= pairs.saturating_add(3)
+}
+
+// Whether workers play a game over a host of four links, by two readings for each window but the first, and at most three before.
+fn plays<R: Threads + Wait + time::Clock + Sync>(
+    rt: &R,
+    alloc: Global,
+    links: MemHost,
+    busy: u32,
+) -> bool {
+    let meeting = Meeting::new(4, 27);
+    let host = MeetingHost::new(rt, &meeting, Sign::Asked, links);
+    let mut clock = AskingClock::new(rt, &meeting, busy);
+    match shuffled_game(alloc) {
+        Ok(game) => match play(rt, alloc, game, &host, &mut clock) {
+            Some(left) => left.over && left.sessions == 4 && are_pairs(left.deeds, clock.made()),
+            None => false,
+        },
+        Err(_) => false,
+    }
+}
+
+const LINES: [&str; 4] = [A_AND_PASS, B_AND_PASS, C_AND_PASS, D_AND_PASS];
+
+// Each window but the first is closed by two readings, and the first one by answers while a reading is made.
 #[test]
 fn the_first_reading_for_a_window_is_made_once_it_was_seen_open(
     rt: HostRuntime,
 ) -> Result<(), Fail> {
-    let alloc = rt.alloc();
     for busy in [1, 2] {
-        let meeting = Meeting::new(4, 27);
-        let links = host(alloc, &[A_AND_PASS, B_AND_PASS, C_AND_PASS, D_AND_PASS], 0)?;
-        let game = shuffled_game(alloc)?;
-        let host = MeetingHost::new(&rt, &meeting, Sign::Asked, links);
-        let mut clock = AskingClock::new(&rt, &meeting, busy);
-        let left = play(&rt, alloc, game, &host, &mut clock).ok_or("no memory")?;
-        assert!(rt; left.over && left.sessions == 4);
-        assert!(rt; clock.made() == left.deeds.saturating_sub(1).saturating_mul(2));
+        assert!(rt; plays(&rt, rt.alloc(), host(rt.alloc(), &LINES, 0)?, busy));
     }
     Ok(())
 }

@@ -9,19 +9,17 @@ use mj_seats::{Lost, Room};
 use mj_tiles::Tile;
 use mj_wall::{Rules, Wall};
 use std::alloc::{AllocError, Global};
-use std::test::Fail;
 
 /// A room with the core of a game.
 pub type Hall = Room<Core, MemFault>;
 
 /// So many places, with a fault of each of these numbers.
-pub fn lost(alloc: Global, places: u8, numbers: &[u8]) -> Result<Lost<MemFault>, Fail> {
+pub fn lost(alloc: Global, places: u8, numbers: &[u8]) -> Result<Lost<MemFault>, AllocError> {
     let host = faulty_host(alloc)?;
     let mut lost = Lost::new(alloc, places)?;
     for number in numbers {
-        match host.accept(*number) {
-            Came::Failed(fault) => lost.set(fault),
-            Came::Link(_) | Came::Nothing => return Err("no fault".into()),
+        if let Came::Failed(fault) = host.accept(*number) {
+            lost.set(fault);
         }
     }
     Ok(lost)
@@ -57,16 +55,17 @@ fn game_on(alloc: Global, wall: Wall) -> Result<Core, AllocError>
     Core::new(alloc, vec![in alloc; wall]?, rules)
 }
 
-fn sorted_wall() -> Result<Wall, Fail>
+// The wall in tile order. No text names an error for it, since its tiles are right.
+fn sorted_wall() -> Result<Wall, AllocError>
     ensures { IfOk result (λ wall. is_wall false wall ≡ true) }
 {
-    let mut tiles = [Tile::of(0).ok_or("no tile")?; 136];
+    let mut tiles = [Tile::at(0); 136];
     for place in 0..136u8 {
-        tiles[usize::from(place)] = Tile::of(place / 4).ok_or("no tile")?;
+        tiles[usize::from(place)] = Tile::at(place / 4);
     }
     match Wall::read(&tiles, false) {
         Ok(wall) => Ok(wall),
-        Err(_) => Err("no wall".into()),
+        Err(_) => Err(AllocError),
     }
 }
 
@@ -78,11 +77,11 @@ pub fn shuffled_game(alloc: Global) -> Result<Core, AllocError>
 }
 
 /// A room with a game on the wall in tile order, which default answers go on with for very long.
-pub fn sorted_hall(alloc: Global) -> Result<Hall, Fail>
+pub fn sorted_hall(alloc: Global) -> Result<Hall, AllocError>
     ensures { IfOk result (λ hall. hall.game.entries ≡ []) }
 {
     let wall = sorted_wall()?;
-    Ok(hall_on(alloc, wall, Lost::new(alloc, 8)?)?)
+    hall_on(alloc, wall, Lost::new(alloc, 8)?)
 }
 
 /// A room with a game on a shuffled wall, and with these faults.

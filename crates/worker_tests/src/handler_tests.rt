@@ -3,7 +3,7 @@
 ghost use Rattle.std.specs.Prelude.{◌≡◌, [], IfOk};
 ghost use Rattle.mj_links.specs.FreshLinks.{IsFreshLink};
 
-use crate::hall::{shuffled_hall, sorted_hall};
+use crate::hall::{Hall, shuffled_hall, sorted_hall};
 use crate::lines::{HELLO, Part, START, are_made_of};
 use crate::player::{A, D, GONE, KEY, Shown, Step, THREE, act_all, is_lost, look};
 use mj_links::{MemClock, MemFault, MemHost, MemLink, Numbered};
@@ -32,9 +32,11 @@ pub fn host(alloc: Global, lines: &[&str], fails: u64) -> Result<MemHost, AllocE
     Ok(MemHost::new(links, false, [fails].to_vec(alloc)?))
 }
 
-// How a handler ended, whether its fault is kept, what others see then, and the sessions that it kept.
+// Whether the other pass has done all that it was to do, how a handler ended, whether its fault is kept, what others see then, and
+// the sessions that it kept.
 #[derive(Drop)]
 struct Handled {
+    done: bool,
     end: HandlerEnd<MemFault>,
     lost: bool,
     shown: Shown,
@@ -56,12 +58,11 @@ fn handle<G: Seated, R: Wait>(
     };
     let mut pass = passes.pop().unwrap();
     let mut player = passes.pop().unwrap();
-    if !act_all(&turn, rt, alloc, &mut player, before) {
-        return None;
-    }
+    let done = act_all(&turn, rt, alloc, &mut player, before);
     let mut sessions = Vec::new(alloc);
     let end = handler(&turn, rt, &mut pass, &host, &mut sessions);
     Some(Handled {
+        done,
         end,
         lost: is_lost(&turn, rt, &mut player, 1),
         shown: look(&turn, rt, &mut player),
@@ -98,16 +99,19 @@ fn is_as_wanted(handled: Handled, case: Case) -> bool {
         HandlerEnd::Over | HandlerEnd::NoMemory => false,
     };
     failed
+        && handled.done
         && handled.lost
         && handled.shown.entries == case.entries
         && are_kept(handled.sessions.as_slice(), case.kept)
 }
 
-fn holds<R: Wait>(rt: &R, alloc: Global, case: Case) -> Result<bool, Fail> {
-    let host = host(alloc, case.lines, case.fails)?;
-    match handle(rt, alloc, sorted_hall(alloc)?, &THREE, host) {
-        Some(handled) => Ok(is_as_wanted(handled, case)),
-        None => Err("no table".into()),
+fn holds<R: Wait>(rt: &R, alloc: Global, host: MemHost, case: Case) -> bool {
+    match sorted_hall(alloc) {
+        Ok(hall) => match handle(rt, alloc, hall, &THREE, host) {
+            Some(handled) => is_as_wanted(handled, case),
+            None => false,
+        },
+        Err(_) => false,
     }
 }
 
@@ -148,48 +152,55 @@ const NONE_AGAIN: &str = "{\"type\":\"replay\",\"count\":0}\n";
 #[test]
 fn links_that_had_a_seat_are_kept_until_the_host_fails(rt: HostRuntime) -> Result<(), Fail> {
     for case in CASES {
-        assert!(rt; holds(&rt, rt.alloc(), case)?);
+        assert!(rt;
+            holds(
+                &rt,
+                rt.alloc(),
+                host(rt.alloc(), case.lines, case.fails)?,
+                case
+            )
+        );
     }
     Ok(())
 }
 
-// How a handler ends that comes to a game which is over, at a host whose first accept fails.
+// Whether a handler ends at once that comes to a game which is over, at a host whose first accept fails.
 fn handle_late<G: Seated, R: Wait>(
     rt: &R,
     alloc: Global,
     room: Room<G, MemFault>,
     host: MemHost,
-) -> Option<HandlerEnd<MemFault>>
+) -> bool
     requires { G.history room.game ≡ [] }
 {
     let Ok((turn, mut passes)) = Turn::new(alloc, room, 2) else {
-        return None;
+        return false;
     };
     let mut pass = passes.pop().unwrap();
     let mut player = passes.pop().unwrap();
-    if !act_all(&turn, rt, alloc, &mut player, &GONE) {
-        return None;
-    }
+    let done = act_all(&turn, rt, alloc, &mut player, &GONE);
     let mut clock = MemClock::new(0, 1000);
-    if tick(&turn, rt, alloc, &mut player, &mut clock) != Ticked::Over {
-        return None;
-    }
+    let ticked = tick(&turn, rt, alloc, &mut player, &mut clock);
     let mut sessions = Vec::new(alloc);
-    Some(handler(&turn, rt, &mut pass, &host, &mut sessions))
+    let end = handler(&turn, rt, &mut pass, &host, &mut sessions);
+    done && ticked == Ticked::Over && matches!(&end, HandlerEnd::Over)
 }
 
-fn ends_late<R: Wait>(rt: &R, alloc: Global) -> Result<bool, Fail> {
-    let host = host(alloc, &[], 1)?;
-    let hall = shuffled_hall(alloc, Lost::new(alloc, 8)?)?;
-    match handle_late(rt, alloc, hall, host) {
-        Some(HandlerEnd::Over) => Ok(true),
-        Some(HandlerEnd::Host(_) | HandlerEnd::NoMemory) => Ok(false),
-        None => Err("no table".into()),
+fn late_hall(alloc: Global) -> Result<Hall, AllocError>
+    ensures { IfOk result (λ hall. hall.game.entries ≡ []) }
+{
+    shuffled_hall(alloc, Lost::new(alloc, 8)?)
+}
+
+fn ends_late<R: Wait>(rt: &R, alloc: Global, host: MemHost) -> bool {
+    match late_hall(alloc) {
+        Ok(hall) => handle_late(rt, alloc, hall, host),
+        Err(_) => false,
     }
 }
 
 #[test]
 fn a_handler_asks_its_host_no_more_once_the_game_is_over(rt: HostRuntime) -> Result<(), Fail> {
-    assert!(rt; ends_late(&rt, rt.alloc())?);
+    assert!(rt; ends_late(&rt, rt.alloc(), host(rt.alloc(), &[], 1)?));
     Ok(())
 }

@@ -14,18 +14,20 @@ fn has(lost: &Lost<MemFault>, numbers: &[u8]) -> bool {
     just
 }
 
+// How many places there are, the numbers of faults, and those that are kept.
+const CASES: [(u8, &[u8], &[u8]); 6] = [
+    (8, &[], &[]),
+    (8, &[7, 0, 3], &[0, 3, 7]),
+    (8, &[8, 255, 5, 5], &[5]),
+    (1, &[1, 0], &[0]),
+    (0, &[0, 1], &[]),
+    (255, &[254, 255], &[254]),
+];
+
 #[test]
 fn a_fault_is_kept_where_its_number_has_a_place(rt: HostRuntime) -> Result<(), Fail> {
-    let alloc = rt.alloc();
-    for (places, numbers, kept) in [
-        (8, [].as_slice(), [].as_slice()),
-        (8, [7, 0, 3].as_slice(), [0, 3, 7].as_slice()),
-        (8, [8, 255, 5, 5].as_slice(), [5].as_slice()),
-        (1, [1, 0].as_slice(), [0].as_slice()),
-        (0, [0, 1].as_slice(), [].as_slice()),
-        (255, [254, 255].as_slice(), [254].as_slice()),
-    ] {
-        assert!(rt; has(&lost(alloc, places, numbers)?, kept));
+    for (places, numbers, kept) in CASES {
+        assert!(rt; has(&lost(rt.alloc(), places, numbers)?, kept));
     }
     Ok(())
 }

@@ -95,10 +95,11 @@ fn link(alloc: Global, case: Case) -> Result<MemLink, AllocError> {
     Ok(MemLink::new(bytes, reads, case.writes.to_vec(alloc)?))
 }
 
-// How the session of a link ended, what is written on the link, what others see then, and whether the seat is taken by its
-// key after it.
+// Whether the other player has done all that it was to do, how the session of a link ended, what is written on the link, what
+// others see then, and whether the seat is taken by its key after it.
 #[derive(Drop)]
 struct Outcome<L> {
+    done: bool,
     served: Served,
     link: L,
     shown: Shown,
@@ -121,20 +122,31 @@ fn serve<G: Seated, F: Numbered, L: Link + Drop, R: Wait>(
     };
     let mut player = passes.pop().unwrap();
     let mut pass = passes.pop().unwrap();
-    if !act_all(&turn, rt, alloc, &mut player, before) {
-        return None;
-    }
-    if !act_often(&turn, rt, alloc, &mut player, &ONCE_MORE, returns) {
-        return None;
-    }
+    let done = act_all(&turn, rt, alloc, &mut player, before)
+        && act_often(&turn, rt, alloc, &mut player, &ONCE_MORE, returns);
     let mut wire = Wire::new(link);
     let served = serve_seat(&turn, rt, alloc, &mut pass, &mut wire);
     Some(Outcome {
+        done,
         served,
         link: wire.into_link(),
         shown: look(&turn, rt, &mut player),
         taken: act(&turn, rt, alloc, &mut player, Step::Sits(KEY)),
     })
+}
+
+// Serves a link at a new game.
+fn serve_anew<L: Link + Drop, R: Wait>(
+    rt: &R,
+    alloc: Global,
+    before: &[Step],
+    returns: u32,
+    link: L,
+) -> Option<Outcome<L>> {
+    match sorted_hall(alloc) {
+        Ok(hall) => serve(rt, alloc, hall, before, returns, link),
+        Err(_) => None,
+    }
 }
 
 // Whether all came as the case says, and the seat of the link is gone.
@@ -146,32 +158,18 @@ fn is_as_wanted(served: Served, written: &[u8], shown: Shown, case: Case) -> boo
         && !shown.present[3]
 }
 
-fn holds<R: Wait>(rt: &R, alloc: Global, case: Case) -> Result<bool, Fail> {
-    let hall = sorted_hall(alloc)?;
-    let link = link(alloc, case)?;
-    match serve(rt, alloc, hall, case.before, case.returns, link) {
-        Some(outcome) => Ok(is_as_wanted(
-            outcome.served,
-            outcome.link.written(),
-            outcome.shown,
-            case,
-        )),
-        None => Err("no table".into()),
+fn holds<R: Wait>(rt: &R, alloc: Global, link: MemLink, case: Case) -> bool {
+    match serve_anew(rt, alloc, case.before, case.returns, link) {
+        Some(it) => it.done && is_as_wanted(it.served, it.link.written(), it.shown, case),
+        None => false,
     }
 }
 
 // The same with a link that gives a byte a read.
-fn holds_slowly<R: Wait>(rt: &R, alloc: Global, case: Case) -> Result<bool, Fail> {
-    let hall = sorted_hall(alloc)?;
-    let link = SlowLink(link(alloc, case)?);
-    match serve(rt, alloc, hall, case.before, case.returns, link) {
-        Some(outcome) => Ok(is_as_wanted(
-            outcome.served,
-            outcome.link.0.written(),
-            outcome.shown,
-            case,
-        )),
-        None => Err("no table".into()),
+fn holds_slowly<R: Wait>(rt: &R, alloc: Global, link: MemLink, case: Case) -> bool {
+    match serve_anew(rt, alloc, case.before, case.returns, SlowLink(link)) {
+        Some(it) => it.done && is_as_wanted(it.served, it.link.0.written(), it.shown, case),
+        None => false,
     }
 }
 
@@ -467,24 +465,19 @@ const SEATED: [Case; 9] = [
 #[test]
 fn a_link_that_is_given_no_seat_enters_nothing(rt: HostRuntime) -> Result<(), Fail> {
     for case in UNSEATED {
-        assert!(rt; holds(&rt, rt.alloc(), case)?);
-    }
-    Ok(())
-}
-
-#[test]
-fn a_seat_is_gone_once_its_link_has_ended_the_session(rt: HostRuntime) -> Result<(), Fail> {
-    for case in SEATED {
-        assert!(rt; holds(&rt, rt.alloc(), case)?);
+        assert!(rt; holds(&rt, rt.alloc(), link(rt.alloc(), case)?, case));
     }
     Ok(())
 }
 
 // Where no read is to fail, it is all the same how many bytes come by each.
 #[test]
-fn a_line_that_comes_a_byte_a_read_is_answered_alike(rt: HostRuntime) -> Result<(), Fail> {
+fn a_seat_is_gone_once_its_link_has_ended_the_session(rt: HostRuntime) -> Result<(), Fail> {
     for case in SEATED {
-        assert!(rt; !case.reads.is_empty() || holds_slowly(&rt, rt.alloc(), case)?);
+        assert!(rt; holds(&rt, rt.alloc(), link(rt.alloc(), case)?, case));
+        if case.reads.is_empty() {
+            assert!(rt; holds_slowly(&rt, rt.alloc(), link(rt.alloc(), case)?, case));
+        }
     }
     Ok(())
 }
@@ -499,32 +492,36 @@ fn long_text(alloc: Global) -> Result<Vec<u8>, AllocError> {
     Ok(text)
 }
 
-// Whether a link of which these reads and writes fail ends its session by that, with a front of what it is told; and whether
-// a seat that it had is taken back by its key.
-fn breaks<R: Wait>(
-    rt: &R,
-    alloc: Global,
-    reads: &[u64],
-    writes: &[u64],
-    seated: bool,
-) -> Result<bool, Fail> {
-    let link = MemLink::new(
-        long_text(alloc)?,
-        reads.to_vec(alloc)?,
-        writes.to_vec(alloc)?,
-    );
-    let whole = bytes_of(
+// A link of which these reads and writes fail.
+fn frail(alloc: Global, reads: &[u64], writes: &[u64]) -> Result<MemLink, AllocError> {
+    let text = long_text(alloc)?;
+    let reads = reads.to_vec(alloc)?;
+    Ok(MemLink::new(text, reads, writes.to_vec(alloc)?))
+}
+
+// Whether bytes are a front of what a link is told whose reads and writes don't fail.
+fn is_front(alloc: Global, written: &[u8]) -> bool {
+    match bytes_of(
         alloc,
         &[Part(HELLO, 1), Part(START, 1), Part(UNREADABLE, 11)],
-    )?;
-    match serve(rt, alloc, sorted_hall(alloc)?, &THREE, 0, link) {
-        Some(outcome) => Ok(
-            outcome.served.ended == Ended::LinkFault
-                && outcome.served.place.is_some() == seated
-                && whole.as_slice().starts_with(outcome.link.written())
-                && outcome.taken,
-        ),
-        None => Err("no table".into()),
+    ) {
+        Ok(whole) => whole.as_slice().starts_with(written),
+        Err(_) => false,
+    }
+}
+
+// Whether a link ends its session by its fault, with a front of what it is told; and whether a seat that it had is taken back by
+// its key.
+fn breaks<R: Wait>(rt: &R, alloc: Global, link: MemLink, seated: bool) -> bool {
+    match serve_anew(rt, alloc, &THREE, 0, link) {
+        Some(it) => {
+            it.done
+                && it.served.ended == Ended::LinkFault
+                && it.served.place.is_some() == seated
+                && is_front(alloc, it.link.written())
+                && it.taken
+        }
+        None => false,
     }
 }
 
@@ -532,8 +529,8 @@ fn breaks<R: Wait>(
 fn a_seat_outlives_the_link_that_fails_at_any_read_or_write(rt: HostRuntime) -> Result<(), Fail> {
     let alloc = rt.alloc();
     for k in 1..13u64 {
-        assert!(rt; breaks(&rt, alloc, &[k], &[], k > 1)?);
-        assert!(rt; breaks(&rt, alloc, &[], &[k], k > 1)?);
+        assert!(rt; breaks(&rt, alloc, frail(alloc, &[k], &[])?, k > 1));
+        assert!(rt; breaks(&rt, alloc, frail(alloc, &[], &[k])?, k > 1));
     }
     Ok(())
 }

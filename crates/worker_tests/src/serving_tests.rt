@@ -16,6 +16,7 @@ use std::sync::Wait;
 use std::sync::atomic::AtomicU32;
 use std::test::Fail;
 use std::thread::Threads;
+use std::time;
 
 const SERVE: [&str; 5] = [
     "serve",
@@ -43,6 +44,36 @@ pub fn words_and(alloc: Global, texts: &[&str], more: &[&str]) -> Result<Vec<Str
     Ok(words)
 }
 
+/// How the run on these words over a host ends; as without memory where the words are wanting.
+pub fn run_on<H: Host, K: Clock, R: Threads + Wait + Sync>(
+    rt: &R,
+    alloc: Global,
+    words: Result<Vec<String>, AllocError>,
+    host: &mut H,
+    clock: &mut K,
+    sink: &mut MemSink,
+) -> Status {
+    match words {
+        Ok(words) => run_words(rt, alloc, words.as_slice(), host, clock, sink),
+        Err(_) => Status::NoMemory,
+    }
+}
+
+fn run_words<H: Host, K: Clock, R: Threads + Wait + Sync>(
+    rt: &R,
+    alloc: Global,
+    words: &[String],
+    host: &mut H,
+    clock: &mut K,
+    sink: &mut MemSink,
+) -> Status {
+    let mut source = MemSource::new(Vec::new(alloc), Vec::new(alloc));
+    match MemDisk::new(b"", Vec::new(alloc)) {
+        Ok(mut disk) => run(rt, alloc, words, &mut source, sink, host, clock, &mut disk),
+        Err(_) => Status::NoMemory,
+    }
+}
+
 // Serves one game over a host.
 fn serve<H: Host, K: Clock, R: Threads + Wait + Sync>(
     rt: &R,
@@ -50,45 +81,38 @@ fn serve<H: Host, K: Clock, R: Threads + Wait + Sync>(
     host: &mut H,
     clock: &mut K,
     sink: &mut MemSink,
-) -> Result<Status, AllocError> {
-    serve_with(rt, alloc, &[], host, clock, sink)
-}
-
-// Serves one game over a host, with these words more.
-fn serve_with<H: Host, K: Clock, R: Threads + Wait + Sync>(
-    rt: &R,
-    alloc: Global,
-    more: &[&str],
-    host: &mut H,
-    clock: &mut K,
-    sink: &mut MemSink,
-) -> Result<Status, AllocError> {
-    let words = words_and(alloc, &SERVE, more)?;
-    let mut source = MemSource::new(Vec::new(alloc), Vec::new(alloc));
-    let mut disk = MemDisk::new(b"", Vec::new(alloc))?;
-    Ok(run(
-        rt,
-        alloc,
-        words.as_slice(),
-        &mut source,
-        sink,
-        host,
-        clock,
-        &mut disk,
-    ))
+) -> Status {
+    run_on(rt, alloc, words_of(alloc, &SERVE), host, clock, sink)
 }
 
 /// Whether a record is good.
-pub fn is_good(alloc: Global, record: &[u8]) -> Result<bool, AllocError> {
-    let words = words_of(alloc, &["replay"])?;
-    let mut source = MemSource::new(record.to_vec(alloc)?, Vec::new(alloc));
+pub fn is_good(alloc: Global, record: &[u8]) -> bool {
+    match words_of(alloc, &["replay"]) {
+        Ok(words) => is_replayed(alloc, words.as_slice(), record),
+        Err(_) => false,
+    }
+}
+
+fn is_replayed(alloc: Global, words: &[String], record: &[u8]) -> bool {
+    match source_of(alloc, record) {
+        Ok(mut source) => ends_well(alloc, words, &mut source),
+        Err(_) => false,
+    }
+}
+
+fn source_of(alloc: Global, bytes: &[u8]) -> Result<MemSource, AllocError> {
+    Ok(MemSource::new(bytes.to_vec(alloc)?, Vec::new(alloc)))
+}
+
+fn ends_well(alloc: Global, words: &[String], source: &mut MemSource) -> bool {
     let mut sink = MemSink::new(Vec::new(alloc));
-    let mut disk = MemDisk::new(b"", Vec::new(alloc))?;
-    Ok(
-        !is_for_waiting(words.as_slice())
-            && run_alone(alloc, words.as_slice(), &mut source, &mut sink, &mut disk)
-                == Status::Done,
-    )
+    match MemDisk::new(b"", Vec::new(alloc)) {
+        Ok(mut disk) => {
+            !is_for_waiting(words)
+                && run_alone(alloc, words, source, &mut sink, &mut disk) == Status::Done
+        }
+        Err(_) => false,
+    }
 }
 
 /// What the first deed tells after the seat, where a link holds the hello line and that of this deed alone, which may only be
@@ -125,25 +149,24 @@ fn are_told(returned: &[(MemLink, u64)]) -> bool {
     all
 }
 
-// Whether four players that leave are served a game by a host whose accept of this number fails.
-fn serves_four<R: Threads + Wait + Sync>(rt: &R, alloc: Global, fails: u64) -> Result<bool, Fail> {
-    let mut host = host(alloc, &[A, B, C, D], fails)?;
+// Whether a game of four is served over a host, which opens its port.
+fn serves_four<R: Threads + Wait + Sync>(rt: &R, alloc: Global, mut host: MemHost) -> bool {
     let mut sink = MemSink::new(Vec::new(alloc));
     let mut clock = MemClock::new(0, 1000);
-    let status = serve(rt, alloc, &mut host, &mut clock, &mut sink)?;
-    let record = sink.written();
-    Ok(
-        status == Status::Done
-            && host.ports() == [11600].as_slice()
-            && are_told(host.returned())
-            && is_good(alloc, record)?
-            && is_ended(record),
-    )
+    serve(rt, alloc, &mut host, &mut clock, &mut sink) == Status::Done
+        && host.ports() == [11600].as_slice()
+        && are_told(host.returned())
+        && is_good(alloc, sink.written())
+        && is_ended(sink.written())
 }
 
+// Seven workers are enough: of the second host the third accept fails.
 #[test]
 fn four_players_that_leave_are_served_a_game(rt: HostRuntime) -> Result<(), Fail> {
-    assert!(rt; serves_four(&rt, rt.alloc(), 0)?);
+    let alloc = rt.alloc();
+    for fails in [0, 3] {
+        assert!(rt; serves_four(&rt, alloc, host(alloc, &[A, B, C, D], fails)?));
+    }
     Ok(())
 }
 
@@ -194,39 +217,44 @@ fn crowd(alloc: Global) -> Result<MemHost, AllocError> {
 
 #[test]
 fn links_that_get_no_seat_keep_nobody_from_playing(rt: HostRuntime) -> Result<(), Fail> {
-    let alloc = rt.alloc();
-    let mut host = crowd(alloc)?;
-    let mut sink = MemSink::new(Vec::new(alloc));
-    let mut clock = MemClock::new(0, 1000);
-    assert!(rt; serve(&rt, alloc, &mut host, &mut clock, &mut sink)? == Status::Done);
-    assert!(rt; are_told(host.returned()) && is_ended(sink.written()));
+    assert!(rt; serves_four(&rt, rt.alloc(), crowd(rt.alloc())?));
     Ok(())
 }
 
-#[test]
-fn seven_workers_are_enough(rt: HostRuntime) -> Result<(), Fail> {
-    assert!(rt; serves_four(&rt, rt.alloc(), 3)?);
-    Ok(())
+// A host that serves nobody, whose `open` fails or whose accepts of these numbers do.
+fn nobody(alloc: Global, open_fails: bool, accepts: &[u64]) -> Result<MemHost, AllocError> {
+    Ok(MemHost::new(Vec::new(alloc), open_fails, accepts.to_vec(alloc)?))
 }
 
-// What is written under these words more by a host that serves nobody, whose `open` fails or whose accepts of these numbers do.
-fn written_without_players<R: Threads + Wait + Sync>(
+/// Whether a run ended by a fault of its host.
+pub fn is_host_fault(alloc: Global, status: &Status) -> bool {
+    match status_text(alloc, status) {
+        Ok(text) => exit_code(status) == 8 && text.as_slice() == b"host fault\n".as_slice(),
+        Err(_) => false,
+    }
+}
+
+// Whether a run with these words more ends by a fault of its host and writes a record of so many lines, which begins so.
+fn leaves<R: Threads + Wait + Sync>(
     rt: &R,
     alloc: Global,
     more: &[&str],
-    open_fails: bool,
-    accepts: &[u64],
-) -> Result<MemSink, Fail> {
-    let mut host = MemHost::new(Vec::new(alloc), open_fails, accepts.to_vec(alloc)?);
+    mut host: MemHost,
+    lines: usize,
+    front: &str,
+) -> bool {
     let mut sink = MemSink::new(Vec::new(alloc));
     let mut clock = MemClock::new(0, 1000);
-    let status = serve_with(rt, alloc, more, &mut host, &mut clock, &mut sink)?;
-    if exit_code(&status) != 8
-        || status_text(alloc, &status)?.as_slice() != b"host fault\n".as_slice()
-    {
-        return Err("no fault of the host".into());
-    }
-    Ok(sink)
+    let words = words_and(alloc, &SERVE, more);
+    let status = run_on(rt, alloc, words, &mut host, &mut clock, &mut sink);
+    is_host_fault(alloc, &status) && has_lines(alloc, sink.written(), lines, front)
+}
+
+fn has_lines(alloc: Global, written: &[u8], lines: usize, front: &str) -> bool {
+    let found = written.iter().filter(|byte| **byte == b'\n').count();
+    found == lines
+        && written.starts_with(front.as_bytes())
+        && (lines == 0 || is_good(alloc, written))
 }
 
 /// The first wall of the seed, with red fives.
@@ -248,21 +276,15 @@ const LEFT: [(&[&str], &str); 3] = [
 ];
 
 #[test]
-fn a_host_that_fails_everybody_leaves_the_walls(rt: HostRuntime) -> Result<(), Fail> {
+fn a_host_that_fails_everybody_leaves_the_walls_and_a_port_unopened_nothing(
+    rt: HostRuntime,
+) -> Result<(), Fail> {
     let alloc = rt.alloc();
     for (more, front) in LEFT {
-        let sink = written_without_players(&rt, alloc, more, false, &[1, 2, 3, 4, 5, 6, 7, 8])?;
-        let lines = sink.written().iter().filter(|byte| **byte == b'\n').count();
-        assert!(rt; lines == 201 && sink.written().starts_with(front.as_bytes()));
-        assert!(rt; is_good(alloc, sink.written())?);
+        let host = nobody(alloc, false, &[1, 2, 3, 4, 5, 6, 7, 8])?;
+        assert!(rt; leaves(&rt, alloc, more, host, 201, front));
     }
-    Ok(())
-}
-
-#[test]
-fn nothing_is_written_where_the_port_is_not_opened(rt: HostRuntime) -> Result<(), Fail> {
-    let sink = written_without_players(&rt, rt.alloc(), &[], true, &[])?;
-    assert!(rt; sink.written().is_empty());
+    assert!(rt; leaves(&rt, alloc, &[], nobody(alloc, true, &[])?, 0, ""));
     Ok(())
 }
 
@@ -277,15 +299,22 @@ pub fn is_ended(record: &[u8]) -> bool {
     }
 }
 
-#[test]
-fn four_links_are_served_side_by_side(rt: HostRuntime) -> Result<(), Fail> {
-    let alloc = rt.alloc();
+// Whether links that wait for one another are served.
+fn serves_meeting<R: Threads + Wait + time::Clock + Sync>(
+    rt: &R,
+    alloc: Global,
+    links: MemHost,
+) -> bool {
     let meeting = Meeting::new(4, 27);
-    let links = host(alloc, &[A, B, C, D], 0)?;
-    let mut host = MeetingHost::new(&rt, &meeting, Sign::AllStarted, links);
+    let mut host = MeetingHost::new(rt, &meeting, Sign::AllStarted, links);
     let mut sink = MemSink::new(Vec::new(alloc));
     let mut clock = MemClock::new(0, 1000);
-    assert!(rt; serve(&rt, alloc, &mut host, &mut clock, &mut sink)? == Status::Done);
+    serve(rt, alloc, &mut host, &mut clock, &mut sink) == Status::Done
+}
+
+#[test]
+fn four_links_are_served_side_by_side(rt: HostRuntime) -> Result<(), Fail> {
+    assert!(rt; serves_meeting(&rt, rt.alloc(), host(rt.alloc(), &[A, B, C, D], 0)?));
     Ok(())
 }
 
@@ -301,15 +330,21 @@ const TWICE: [&str; 8] = [
     KEY,
 ];
 
+// Whether a patient host gets eight links back.
+fn serves_all<R: Threads + Wait + time::Clock + Sync>(
+    rt: &R,
+    alloc: Global,
+    links: MemHost,
+) -> bool {
+    let again = AtomicU32::new(0);
+    let mut host = PatientHost::new(rt, &again, links);
+    let mut clock = PatientClock::new(rt, &again);
+    let mut sink = MemSink::new(Vec::new(alloc));
+    serve(rt, alloc, &mut host, &mut clock, &mut sink) == Status::Done && host.returned() == 8
+}
+
 #[test]
 fn no_link_of_any_worker_is_dropped_and_each_window_runs_out(rt: HostRuntime) -> Result<(), Fail> {
-    let alloc = rt.alloc();
-    let again = AtomicU32::new(0);
-    let links = host(alloc, &TWICE, 0)?;
-    let mut host = PatientHost::new(&rt, &again, links);
-    let mut clock = PatientClock::new(&rt, &again);
-    let mut sink = MemSink::new(Vec::new(alloc));
-    assert!(rt; serve(&rt, alloc, &mut host, &mut clock, &mut sink)? == Status::Done);
-    assert!(rt; host.returned() == 8);
+    assert!(rt; serves_all(&rt, rt.alloc(), host(rt.alloc(), &TWICE, 0)?));
     Ok(())
 }

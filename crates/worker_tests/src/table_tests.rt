@@ -1,17 +1,21 @@
-//! Games that the command `tables` plays side by side.
+//! Games that are played side by side.
 
-ghost use Rattle.std.specs.Prelude.{◌≡◌};
+ghost use Rattle.std.specs.Prelude.{◌≡◌, [], All, IfOk, length};
 
+use crate::hall::shuffled_game;
 use crate::handler_tests::host;
 use crate::meeting::{Meeting, MeetingHost, Sign};
-use crate::serving_tests::{is_ended, is_good, names_told, words_and};
-use mj_front::{Status, exit_code, run};
-use mj_journal::MemDisk;
-use mj_links::{Clock, Host, MemClock, MemHost, MemLink, MemSink, MemSource};
+use crate::serving_tests::{is_ended, is_good, names_told, run_on, words_and};
+use mj_core::Core;
+use mj_front::{Status, exit_code};
+use mj_links::{Clock, Host, MemClock, MemHost, MemLink, MemSink};
+use mj_ports::{Picked, Picker};
+use mj_tables::run_tables;
 use std::alloc::{AllocError, Global};
 use std::sync::Wait;
 use std::test::Fail;
 use std::thread::Threads;
+use std::time;
 
 /// How long the line of a join is here, with its newline.
 const JOIN: usize = 42;
@@ -29,41 +33,32 @@ const NINE: [&str; 9] = [
     "{\"type\":\"join\",\"name\":\"d\",\"room\":\"room2\"}",
 ];
 
-// Plays so many games over a host, with these words more.
+const TABLES: [&str; 6] = [
+    "tables",
+    "--seed",
+    "0707070707070707070707070707070707070707070707070707070707070707",
+    "--limit",
+    "1000",
+    "--rooms",
+];
+
+// Plays games over a host, with the number of the rooms and these words more.
 fn play<H: Host, K: Clock, R: Threads + Wait + Sync>(
     rt: &R,
     alloc: Global,
-    rooms: &str,
     more: &[&str],
     host: &mut H,
     clock: &mut K,
     sink: &mut MemSink,
-) -> Result<Status, AllocError> {
-    let words = words_and(
-        alloc,
-        &[
-            "tables",
-            "--seed",
-            "0707070707070707070707070707070707070707070707070707070707070707",
-            "--limit",
-            "1000",
-            "--rooms",
-            rooms,
-        ],
-        more,
-    )?;
-    let mut source = MemSource::new(Vec::new(alloc), Vec::new(alloc));
-    let mut disk = MemDisk::new(b"", Vec::new(alloc))?;
-    Ok(run(
+) -> Status {
+    run_on(
         rt,
         alloc,
-        words.as_slice(),
-        &mut source,
-        sink,
+        words_and(alloc, &TABLES, more),
         host,
         clock,
-        &mut disk,
-    ))
+        sink,
+    )
 }
 
 // The two records that are written, each behind the line of its table.
@@ -77,12 +72,17 @@ fn records_of(written: &[u8]) -> Option<(&[u8], &[u8])> {
 }
 
 // Whether good records of two whole games are written, which differ.
-fn are_good(alloc: Global, written: &[u8]) -> Result<bool, AllocError> {
-    let Some((first, second)) = records_of(written) else {
-        return Ok(false);
-    };
-    let are_two = first != second && is_ended(first) && is_ended(second);
-    Ok(are_two && is_good(alloc, first)? && is_good(alloc, second)?)
+fn are_good(alloc: Global, written: &[u8]) -> bool {
+    match records_of(written) {
+        Some((first, second)) => {
+            first != second
+                && is_ended(first)
+                && is_ended(second)
+                && is_good(alloc, first)
+                && is_good(alloc, second)
+        }
+        None => false,
+    }
 }
 
 // What the first deed told the two links of a seat, where there are two.
@@ -115,93 +115,176 @@ fn are_told(returned: &[(MemLink, u64)]) -> bool {
     all
 }
 
+// Whether players of two rooms are served a game each over a host.
+fn serves_two<R: Threads + Wait + Sync>(rt: &R, alloc: Global, mut host: MemHost) -> bool {
+    let mut sink = MemSink::new(Vec::new(alloc));
+    let mut clock = MemClock::new(0, 1000);
+    play(rt, alloc, &["2"], &mut host, &mut clock, &mut sink) == Status::Done
+        && are_told(host.returned())
+        && are_good(alloc, sink.written())
+}
+
 #[test]
 fn players_of_two_rooms_that_leave_are_served_a_game_each(rt: HostRuntime) -> Result<(), Fail> {
-    let alloc = rt.alloc();
-    let mut host = host(alloc, &NINE[1..], 0)?;
+    assert!(rt; serves_two(&rt, rt.alloc(), host(rt.alloc(), &NINE[1..], 0)?));
+    Ok(())
+}
+
+// Whether eight of these links, which wait for one another, are given back, and so many are told that there is no such room.
+fn serves_meeting<R: Threads + Wait + time::Clock + Sync>(
+    rt: &R,
+    alloc: Global,
+    links: MemHost,
+    refused: u32,
+) -> bool {
+    let meeting = Meeting::new(8, JOIN);
+    let mut host = MeetingHost::new(rt, &meeting, Sign::AllStarted, links);
     let mut sink = MemSink::new(Vec::new(alloc));
     let mut clock = MemClock::new(0, 1000);
-    assert!(rt; play(&rt, alloc, "2", &[], &mut host, &mut clock, &mut sink)? == Status::Done);
-    assert!(rt; are_told(host.returned()) && are_good(alloc, sink.written())?);
-    Ok(())
+    play(rt, alloc, &["2"], &mut host, &mut clock, &mut sink) == Status::Done
+        && meeting.refused() == refused
+        && host.returned() == 8
+        && are_good(alloc, sink.written())
 }
 
 #[test]
-fn two_rooms_are_served_side_by_side(rt: HostRuntime) -> Result<(), Fail> {
+fn two_rooms_are_served_side_by_side_and_a_link_for_none_is_told_so(
+    rt: HostRuntime,
+) -> Result<(), Fail> {
     let alloc = rt.alloc();
-    let meeting = Meeting::new(8, JOIN);
-    let links = host(alloc, &NINE[1..], 0)?;
-    let mut host = MeetingHost::new(&rt, &meeting, Sign::AllStarted, links);
-    let mut sink = MemSink::new(Vec::new(alloc));
-    let mut clock = MemClock::new(0, 1000);
-    assert!(rt; play(&rt, alloc, "2", &[], &mut host, &mut clock, &mut sink)? == Status::Done);
-    assert!(rt; host.returned() == 8 && are_good(alloc, sink.written())?);
+    assert!(rt; serves_meeting(&rt, alloc, host(alloc, &NINE[1..], 0)?, 0));
+    assert!(rt; serves_meeting(&rt, alloc, host(alloc, &NINE, 0)?, 1));
     Ok(())
 }
 
-#[test]
-fn a_link_for_no_room_is_told_so_and_not_given_back(rt: HostRuntime) -> Result<(), Fail> {
-    let alloc = rt.alloc();
-    let meeting = Meeting::new(8, JOIN);
-    let links = host(alloc, &NINE, 0)?;
-    let mut host = MeetingHost::new(&rt, &meeting, Sign::AllStarted, links);
-    let mut sink = MemSink::new(Vec::new(alloc));
-    let mut clock = MemClock::new(0, 1000);
-    assert!(rt; play(&rt, alloc, "2", &[], &mut host, &mut clock, &mut sink)? == Status::Done);
-    assert!(rt; meeting.refused() == 1 && host.returned() == 8);
-    Ok(())
-}
-
-// Words more, and how the record of the second table begins and ends by them that has no deeds: with its header, with wall 200 of
+// The rooms and words more, and how the record of the second table begins and ends by them that has no deeds: with its header, with wall 200 of
 // the seed, and with wall 399. A program of the shuffle over the cipher as it is published, which is no part of this one, gives
 // these walls.
 const SECOND: [(&[&str], &str, &str); 2] = [
     (
-        &[],
+        &["2"],
         "game limit=1000 draws=0 red=0\nwall C 2p 2s S P 5m 1s E 9m 2m 5p C 2m 5p 4s 8s 1m F 6s 2p 7m 8p 5m N 6m 7s 4m 7p 3m 6m 1p P 4s 2p 8m 1m N S 5m 9m 7p 6p 7p 7s 1s 9p 8s 6s 4m F 8p 7m 1p E 5s E 3p 2m 9p P 8p 6p 4p 4p 1p 2m F N W 9s W 9p 6s 3p 3s 8m C W P 8s 3p 5s 4m 8m 3m 2s 3m 7m 3m 6s 6m W 3s 7p 4p N 4s 6m 4s 8p 7s 5p 1s 5s 6p 2s 7m 3s 4p 9s E 5m 1m 9s 2p 9s 4m 6p 1m 9m 7s S 1p 3p 8m 2s 5p C S 9p 5s 8s 9m 1s 3s F\n",
         "\nwall 6s 6p C C 5s 7m 8s W E 1p 9s 3s 1m 1s F 4p 4m 9p 3s 3s 9s 4s 1s 4s 8s 5m 3m 7p 9m 5s 7m W E 3m 6m 8m 8p 9m 3p 6p 2p 9m S E 2m 7s W 6m P 9p P C W 2s 5p 4m E 2s 6p 9p 3p 9s 5p N 4s 5m 2p 8p F 8s 2s 4m S 5s 2m P 1s 8p 5m 9p 1m 7m 3m 1m 9s 7s 7p C 2m S 4s 6s 3s 1m 4m 8p 2p P 6p 1p 8m N 2m 4p 5s 1s S 4p 3m 7s 7m 5m 9m 3p 3p 8m 5p 6s 6s 1p 7p 7s N 2s F 1p F 4p 8m 8s 7p 6m 5p N 6m 2p\n",
     ),
     (
-        &["--red"],
+        &["2", "--red"],
         "game limit=1000 draws=0 red=1\nwall C 2p 2s S P 5m 1s E 9m 2m 5p C 2m 5p 4s 8s 1m F 6s 2p 7m 8p 5m N 6m 7s 4m 7p 3m 6m 1p P 4s 2p 8m 1m N S 5m 9m 7p 6p 7p 7s 1s 9p 8s 6s 4m F 8p 7m 1p E 5s E 3p 2m 9p P 8p 6p 4p 4p 1p 2m F N W 9s W 9p 6s 3p 3s 8m C W P 8s 3p 5sr 4m 8m 3m 2s 3m 7m 3m 6s 6m W 3s 7p 4p N 4s 6m 4s 8p 7s 5p 1s 5s 6p 2s 7m 3s 4p 9s E 5mr 1m 9s 2p 9s 4m 6p 1m 9m 7s S 1p 3p 8m 2s 5pr C S 9p 5s 8s 9m 1s 3s F\n",
         "\nwall 6s 6p C C 5s 7m 8s W E 1p 9s 3s 1m 1s F 4p 4m 9p 3s 3s 9s 4s 1s 4s 8s 5m 3m 7p 9m 5s 7m W E 3m 6m 8m 8p 9m 3p 6p 2p 9m S E 2m 7s W 6m P 9p P C W 2s 5p 4m E 2s 6p 9p 3p 9s 5p N 4s 5m 2p 8p F 8s 2s 4m S 5s 2m P 1s 8p 5m 9p 1m 7m 3m 1m 9s 7s 7p C 2m S 4s 6s 3s 1m 4m 8p 2p P 6p 1p 8m N 2m 4p 5sr 1s S 4p 3m 7s 7m 5mr 9m 3p 3p 8m 5p 6s 6s 1p 7p 7s N 2s F 1p F 4p 8m 8s 7p 6m 5pr N 6m 2p\n",
     ),
 ];
 
 // Whether what is written has two good records, the second of which begins and ends so.
-fn is_second(alloc: Global, written: &[u8], front: &str, end: &str) -> Result<bool, AllocError> {
-    let Some((first, second)) = records_of(written) else {
-        return Ok(false);
-    };
-    let stands = second.starts_with(front.as_bytes()) && second.ends_with(end.as_bytes());
-    Ok(stands && is_good(alloc, first)? && is_good(alloc, second)?)
+fn is_second(alloc: Global, written: &[u8], front: &str, end: &str) -> bool {
+    match records_of(written) {
+        Some((first, second)) => {
+            second.starts_with(front.as_bytes())
+                && second.ends_with(end.as_bytes())
+                && is_good(alloc, first)
+                && is_good(alloc, second)
+        }
+        None => false,
+    }
+}
+
+// A host of no links, which is not opened, or all of whose accepts fail.
+fn nobody(alloc: Global, open_fails: bool) -> Result<MemHost, AllocError> {
+    let accepts = [1, 2, 3, 4, 5, 6, 7, 8, 9, 10].to_vec(alloc)?;
+    Ok(MemHost::new(Vec::new(alloc), open_fails, accepts))
+}
+
+fn leaves_second<R: Threads + Wait + Sync>(
+    rt: &R,
+    alloc: Global,
+    more: &[&str],
+    mut host: MemHost,
+    front: &str,
+    end: &str,
+) -> bool {
+    let mut sink = MemSink::new(Vec::new(alloc));
+    let mut clock = MemClock::new(0, 1000);
+    let status = play(rt, alloc, more, &mut host, &mut clock, &mut sink);
+    exit_code(&status) == 8 && is_second(alloc, sink.written(), front, end)
 }
 
 #[test]
 fn the_second_table_has_the_next_walls_of_the_seed(rt: HostRuntime) -> Result<(), Fail> {
     let alloc = rt.alloc();
     for (more, front, end) in SECOND {
-        let accepts = [1, 2, 3, 4, 5, 6, 7, 8, 9, 10].to_vec(alloc)?;
-        let mut host = MemHost::new(Vec::new(alloc), false, accepts);
-        let mut sink = MemSink::new(Vec::new(alloc));
-        let mut clock = MemClock::new(0, 1000);
-        let status = play(&rt, alloc, "2", more, &mut host, &mut clock, &mut sink)?;
-        assert!(rt; exit_code(&status) == 8);
-        assert!(rt; is_second(alloc, sink.written(), front, end)?);
+        assert!(rt; leaves_second(&rt, alloc, more, nobody(alloc, false)?, front, end));
     }
     Ok(())
+}
+
+fn is_refused<R: Threads + Wait + Sync>(
+    rt: &R,
+    alloc: Global,
+    rooms: &str,
+    mut host: MemHost,
+) -> bool {
+    let mut sink = MemSink::new(Vec::new(alloc));
+    let mut clock = MemClock::new(0, 1000);
+    let status = play(rt, alloc, &[rooms], &mut host, &mut clock, &mut sink);
+    status == Status::Words
+        && exit_code(&status) == 2
+        && host.ports().is_empty()
+        && sink.written().is_empty()
 }
 
 #[test]
 fn there_are_one_to_eight_rooms(rt: HostRuntime) -> Result<(), Fail> {
     let alloc = rt.alloc();
     for rooms in ["0", "9", "01", "x"] {
-        let mut host = MemHost::new(Vec::new(alloc), true, Vec::new(alloc));
-        let mut sink = MemSink::new(Vec::new(alloc));
-        let mut clock = MemClock::new(0, 1000);
-        let status = play(&rt, alloc, rooms, &[], &mut host, &mut clock, &mut sink)?;
-        assert!(rt; status == Status::Words && exit_code(&status) == 2);
-        assert!(rt; host.ports().is_empty() && sink.written().is_empty());
+        assert!(rt; is_refused(&rt, alloc, rooms, nobody(alloc, true)?));
     }
+    Ok(())
+}
+
+// Every line is for the first table.
+#[derive(Drop)]
+struct FirstTable;
+
+impl Picker for FirstTable {
+    ghost use Rattle.mj_ports.specs.declared.picking.Picked.TheVariants.{Table};
+
+    ghost picks = { λ _ line. Table 0 };
+
+    fn pick(&self, alloc: Global, line: &[u8]) -> Result<Picked, AllocError> {
+        Ok(Picked::Table(0))
+    }
+}
+
+// The games of two tables before their first entries.
+fn two_games(alloc: Global) -> Result<Vec<Core>, AllocError>
+    ensures two { IfOk result (λ games. length games.items ≡ 2) }
+    ensures new { IfOk result (λ games. All (λ g. g.entries ≡ []) games.items) }
+{
+    let first = shuffled_game(alloc)?;
+    let second = shuffled_game(alloc)?;
+    Ok(vec![in alloc; first, second]?)
+}
+
+// Whether two games come back from a host that fails each of ten handlers.
+fn come_back<R: Threads + Wait + Sync>(
+    rt: &R,
+    alloc: Global,
+    games: Vec<Core>,
+    host: MemHost,
+) -> bool
+    requires two { length games.items ≡ 2 }
+    requires new { All (λ g. g.entries ≡ []) games.items }
+{
+    let mut clock = MemClock::new(0, 1000);
+    match run_tables(rt, alloc, games, &FirstTable, &host, &mut clock) {
+        Ok(closed) => {
+            closed.games.len() == 2 && closed.sessions.is_empty() && closed.ends.len() == 10
+        }
+        Err(_) => false,
+    }
+}
+
+#[test]
+fn games_come_back_where_the_host_fails_each_handler(rt: HostRuntime) -> Result<(), Fail> {
+    let alloc = rt.alloc();
+    assert!(rt; come_back(&rt, alloc, two_games(alloc)?, nobody(alloc, false)?));
     Ok(())
 }
