@@ -102,8 +102,8 @@ impl Table {
         };
     }
 
-    // A table without a game.
-    fn empty() -> Table
+    /// A table without a game.
+    pub(crate) fn empty() -> Table
         ensures { result.held.game ≡ None }
     {
         Table {

@@ -10,6 +10,8 @@ mod opening;
 mod out;
 mod reads;
 mod run;
+#[cfg(test)]
+mod tests;
 mod turns;
 
 pub use arrivals::{riichi_table_expire, riichi_table_gone, riichi_table_say, riichi_table_sit};

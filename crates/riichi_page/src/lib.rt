@@ -6,6 +6,8 @@ mod answers;
 mod hand;
 mod melds;
 mod sets;
+#[cfg(test)]
+mod tests;
 
 pub use answers::{
     riichi_page_best_discard, riichi_page_furiten, riichi_page_shanten, riichi_page_waits,
