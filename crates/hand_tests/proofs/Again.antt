@@ -18,7 +18,8 @@ back_again counts kind inside =
     let b = one_more_at counts kind k inside in
     omega arith))
 
-pub more_held : (counts more : List ℕ) (kind : ℕ) (suits : Tiles) → length counts ≡ 34 → kind < 34 → more ≡ one_more counts kind → suits ≡ record { counts = more; room = replicate 34 4 } → 0 < get_or suits.counts kind 0
+pub more_held : (counts more : List ℕ) (kind : ℕ) (suits : Tiles) → length counts ≡ 34 → kind < 34 → more ≡ one_more counts kind
+    → suits ≡ record { counts = more; room = replicate 34 4 } → 0 < get_or suits.counts kind 0
 more_held counts more kind suits size low is_more is =
     let a : get_or suits.counts kind 0 ≡ get_or (one_more counts kind) kind 0 = ap (λ (t : Tiles). get_or t.counts kind 0) is ∙ ap (λ m. get_or m kind 0) is_more in
     let b = one_more_at counts kind kind (omega arith) in
@@ -28,7 +29,8 @@ more_held counts more kind suits size low is_more is =
 pub same_hand : (counts more : List ℕ) (kind total : ℕ) (suits again : Tiles) → total ≡ sum counts → total ≡ 13 → length counts ≡ 34 → NoFifth counts → kind < 34 → more ≡ one_more counts kind
     → suits ≡ record { counts = more; room = replicate 34 4 } → again ≡ record { counts = one_less suits.counts kind; room = suits.room } → IsHand again.counts again.room 0
 same_hand counts more kind total suits again all thirteen size few low is_more is is_again =
-    let held : again.counts ≡ counts = ap (λ (t : Tiles). t.counts) is_again ∙ ap (λ (t : Tiles). one_less t.counts kind) is ∙ ap (λ m. one_less m kind) is_more ∙ back_again counts kind (omega arith) in
+    let held : again.counts ≡ counts = ap (λ (t : Tiles). t.counts) is_again ∙ ap (λ (t : Tiles). one_less t.counts kind) is ∙ ap (λ m. one_less m kind) is_more
+    ∙ back_again counts kind (omega arith) in
     let room : again.room ≡ replicate 34 4 = ap (λ (t : Tiles). t.room) is_again ∙ ap (λ (t : Tiles). t.room) is in
     subst (λ c. IsHand c again.room 0) (sym held) (closed_hand counts again.room total all thirteen few room)
 

@@ -9,8 +9,8 @@ use Rattle.mj_words.specs.declared.serving.Serving.{Serving}
 use Rattle.mj_words.specs.Asked.{Asked, ServedWith, RefereeOf, ServingOf, SummaryOfRecord, HandOf, SelfPlayOf, ViewOfRecord, KeepOf, SafeOf, TablesOf, Nothing, asked_by, seat_named, referee_by, referee_asked, keep_by, keep_asked, serve_asked, replay_by, replay_asked, hand_by, hand_asked, self_play_by, self_play_asked, observe_by, observe_asked, serving_by, safe_by, safe_asked, tables_by, tables_asked}
 use Rattle.mj_words.specs.Lines.{referee_line, safe_line, value_in}
 use Rattle.mj_words.specs.Commands.{served_with, asked_by_serving, asked_by_hosting}
-use Rattle.mj_hosting.specs.declared.serve.ServeEnd.{ServeEnd}
-use Rattle.mj_hosting.specs.declared.serve.ServeEnd.TheVariants as ends
+use Rattle.mj_hosting.specs.declared.plays.ServeEnd.{ServeEnd}
+use Rattle.mj_hosting.specs.declared.plays.ServeEnd.TheVariants as ends
 use Rattle.mj_runs.specs.declared.status.Status.{Status}
 use Rattle.mj_runs.specs.declared.status.Status.TheVariants as statuses
 use Rattle.mj_hosting.specs.Statuses.{serve_status}

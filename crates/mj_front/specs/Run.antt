@@ -7,7 +7,7 @@ use Rattle.mj_refereeing.specs.declared.keep.KeepEnd.{KeepEnd}
 use Rattle.mj_refereeing.specs.declared.referee.RefereeEnd.{RefereeEnd}
 use Rattle.mj_checking.specs.declared.replay.ReplayEnd.{ReplayEnd}
 use Rattle.mj_front.specs.declared.self_game.SelfPlayEnd.{SelfPlayEnd}
-use Rattle.mj_hosting.specs.declared.serve.ServeEnd.{ServeEnd}
+use Rattle.mj_hosting.specs.declared.plays.ServeEnd.{ServeEnd}
 use Rattle.mj_runs.specs.declared.status.Status.{Status}
 use Rattle.mj_runs.specs.declared.status.Status.TheVariants as statuses
 use Rattle.mj_refereeing.specs.Statuses.{referee_status, keep_status}

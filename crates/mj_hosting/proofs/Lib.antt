@@ -1,2 +1,5 @@
-pub mod ServeLaws
-pub mod TablesLaws
+pub mod RoomLaws
+pub mod NewLaws
+pub mod GiveLaws
+pub mod PlayLaws
+pub mod One

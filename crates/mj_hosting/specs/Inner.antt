@@ -1,3 +1,3 @@
 -- What single steps of served games come to. No definition outside the crate names them, and no public clause.
-pub mod Serving
-pub mod Hosting
+pub mod Rooms
+pub mod Steps

@@ -1,3 +1,5 @@
+pub mod Plans
+pub mod Plays
 pub mod Serve
 pub mod Tables
 pub mod Statuses

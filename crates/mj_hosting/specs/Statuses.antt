@@ -1,6 +1,6 @@
 -- The status that the end of a command over a host gives.
-use Rattle.mj_hosting.specs.declared.serve.ServeEnd.{ServeEnd}
-use Rattle.mj_hosting.specs.declared.serve.ServeEnd.TheVariants as serving
+use Rattle.mj_hosting.specs.declared.plays.ServeEnd.{ServeEnd}
+use Rattle.mj_hosting.specs.declared.plays.ServeEnd.TheVariants as serving
 use Rattle.mj_runs.specs.declared.status.Status.{Status}
 use Rattle.mj_runs.specs.declared.status.Status.TheVariants as statuses
 

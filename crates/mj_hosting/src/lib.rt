@@ -1,10 +1,13 @@
 //! The commands over a host: `serve`, which plays a game with whoever connects, and `tables`, which plays several side by side.
 #![tactic(auto)]
 
+mod giving;
+mod plays;
+mod rooms;
 mod serve;
 mod status;
-mod tables;
+mod writing;
 
-pub use serve::{ServeEnd, serve_game};
+pub use plays::ServeEnd;
+pub use serve::{serve_game, serve_tables};
 pub use status::status_of_serve;
-pub use tables::serve_tables;

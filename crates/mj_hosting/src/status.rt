@@ -3,10 +3,10 @@
 ghost use Rattle.std.specs.Prelude.{◌≡◌};
 ghost use Rattle.mj_hosting.specs.Statuses.{serve_status};
 
-use crate::serve::ServeEnd;
+use crate::plays::ServeEnd;
 use mj_runs::Status;
 
-/// The status that the end of the command `serve` gives.
+/// The status that the end of the commands `serve` and `tables` gives.
 pub fn status_of_serve(end: ServeEnd) -> Status
     ensures { result ≡ serve_status end }
 {

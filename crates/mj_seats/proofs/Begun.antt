@@ -103,8 +103,8 @@ module _ {A : Type 0} where
       by false b f g ih = ih
       by true false f g ih = let near : author_of e < n = All-head (BeginsBelow n) e es h f in absurd (grind (arith, nat_tests, near, g))
 
-  pub begun_is : (n : ℕ) (es : List (Entry A)) → All (BeginsBelow n) es → IsPermutation (begun_from 0 es) (parts_from 0 n es)
-  begun_is n es h = subst (λ (l : List ℕ). IsPermutation l (parts_from 0 n es)) (sym (all_below 0 n es h)) (all_authors 0 n es)
+  pub begun_is : (from n : ℕ) (es : List (Entry A)) → All (BeginsBelow n) es → IsPermutation (begun_from from es) (parts_from from n es)
+  begun_is from n es h = subst (λ (l : List ℕ). IsPermutation l (parts_from from n es)) (sym (all_below from n es h)) (all_authors from n es)
 
   -- what each author enters is of one kind
   abbrev pub is_expiry : Entry A → Bool

@@ -1,157 +1,82 @@
--- What is left of handlers that were joined, one handler more at a time.
-use Rattle.std.proofs.Common.{◌≡◌, ℕ, zero, suc, ◌+◌, List, [], ◌∷◌, ◌++◌, length, map, refl, sym, ap, ◌∙◌, subst, arith, append_assoc, append-nil}
-use Rattle.std.specs.Prelude.{All, flat_map, Option, Some, None, MatchOption}
-use Rattle.std.specs.Option.{option_to_list}
-use Rattle.std.proofs.lemmas.List.{length-append, map-append}
-use Rattle.std.proofs.lemmas.List.Elements.{All-nil, All-push, All-pop}
-use Rattle.turn_lock.specs.Passes.{TurnState, PassState}
-use Rattle.turn_lock.specs.Turns.{IsIdle, new_pass, new_passes}
-use Rattle.mj_connection.specs.Seating.{Entry, JoinLine, SitAnswer, Heard, Control, Showing}
-use Rattle.mj_seats.specs.Handlers.{HandlerEnd, Session, WantsMemory}
-use Rattle.mj_seats.specs.declared.worker.Done.{Done}
-use Rattle.mj_seats.specs.Inner.Joined.{IsLeft, IsDone, AllDone, AllLeft}
-use Rattle.mj_session.specs.Wires.{WireState}
+-- What several handlers leave, put together.
+use Rattle.std.proofs.Common.{◌≡◌, ℕ, suc, ◌+◌, ◌<◌, ◌≤◌, List, [], ◌∷◌, ◌++◌, length, map, get_or, take, take_all, refl, sym, ap, ◌∙◌, subst, arith}
+use Rattle.std.specs.Prelude.{All, flat_map, Some, slice_get, Vec, Result, IfOk, Ok, Err}
+use Rattle.std.specs.declared.alloc.Global.{Global}
+use Rattle.std.proofs.lemmas.List.{length-map}
+use Rattle.std.proofs.lemmas.Option.{slice_get_within, get_or_from_slice_get}
+use Rattle.std.proofs.lemmas.List.Elements.{All-push}
+use Rattle.std.proofs.Math.Seq.{take-suc}
+use Rattle.mj_seats.specs.declared.handle.HandlerEnd.TheVariants as end
+use Rattle.mj_seats.specs.declared.handle.Session.{Session}
+use Rattle.mj_seats.specs.Beside.{Beside}
+use Rattle.mj_seats.specs.Handlers.{HandlerEnd, WantsMemory, rows}
+use Rattle.mj_seats.specs.Inner.Staffs.{AreJoined, sessions_of}
+use Rattle.mj_seats.proofs.Besides.{found, all_at, unmapped, map_snoc}
+use Rattle.mj_seats.proofs.Snocs.{flat_one}
 
-module _ {X : Type 0} where
-  no_snoc : {B : Type 0} (xs : List X) (x : X) → [] ≡ xs ++ x ∷ [] → B
-  no_snoc xs x e = absurd (let long : 0 ≡ length (xs ++ x ∷ []) = ap length e in omega (arith, long, length-append xs (x ∷ [])))
+module _ {L : Type 0} where
+  abbrev items : Vec (Session L) Global → List (Session L)
+  items v = v.items
 
-  same_head : (x y : X) (xs ys : List X) → x ∷ xs ≡ y ∷ ys → x ≡ y
-  same_head x y xs ys e = cc
+  abbrev at : ℕ → List (List (Session L)) → List (Session L)
+  at t k = get_or k t []
 
-  same_tail : (x y : X) (xs ys : List X) → x ∷ xs ≡ y ∷ ys → xs ≡ ys
-  same_tail x y xs ys e = cc
+  -- without handlers there are no sessions
+  pub joined_none : (tables : ℕ) (kept : List (Vec (Vec (Session L) Global) Global)) (all : List (Vec (Session L) Global)) → kept ≡ [] → length all ≡ tables
+      → All (λ (v : Vec (Session L) Global). v.items ≡ []) all →
+      AreJoined tables (sessions_of kept) (rows all)
+  joined_none tables kept all none many empty = record {
+    many = length-map all items ∙ many;
+    each = λ t ss e.
+        let v = unmapped items all t ss e in
+        sym v.2 ∙ (all_at (λ (v : Vec (Session L) Global). v.items ≡ []) all t v.0 empty v.1 ∙
+        sym (ap (λ (l : List (Vec (Vec (Session L) Global) Global)). flat_map (at t) (sessions_of l)) none));
+  }
 
-  pub same_snoc : (xs ys : List X) (x y : X) → xs ++ x ∷ [] ≡ ys ++ y ∷ [] → (xs ≡ ys) × (x ≡ y)
-  same_snoc [] [] x y e = (refl, same_head x y [] [] e)
-  same_snoc [] (b ∷ ys) x y e = no_snoc ys y (same_tail x b [] (ys ++ y ∷ []) e)
-  same_snoc (a ∷ xs) [] x y e = no_snoc xs x (sym (same_tail a y (xs ++ x ∷ []) [] e))
-  same_snoc (a ∷ xs) (b ∷ ys) x y e =
-      let rest = same_snoc xs ys x y (same_tail a b (xs ++ x ∷ []) (ys ++ y ∷ []) e) in
-      ((λ i. same_head a b (xs ++ x ∷ []) (ys ++ y ∷ []) e i ∷ rest.0 i), rest.1)
-
--- what comes of a value that is there or not
-pub by_cases : {X : Type 0} (r : Option X) (P : Type 0) (Q : X → Type 0) → (r ≡ None → P) → ((x : X) → r ≡ Some x → Q x) → MatchOption r P Q
-by_cases None P Q none some = none refl
-by_cases (Some x) P Q none some = some x refl
-
-module _ {D X : Type 0} (f : D → List X) where
-  pub flat_one : (ds : List D) (d : D) → flat_map f (ds ++ d ∷ []) ≡ flat_map f ds ++ f d
-  flat_one [] d = append-nil (f d)
-  flat_one (e ∷ ds) d = ap (λ (l : List X). f e ++ l) (flat_one ds d) ∙ sym (append_assoc (f e) (flat_map f ds) (f d))
-
-module _ {D : Type 0} (ds rest : List D) (r : Option D) (d : D) (items : ds ≡ rest ++ option_to_list r) (this : r ≡ Some d) where
-  was : ds ≡ rest ++ d ∷ []
-  was = items ∙ ap (λ (o : Option D). rest ++ option_to_list o) this
-
-  pub map_popped : {X : Type 0} (f : D → X) → map f ds ≡ map f rest ++ f d ∷ []
-  map_popped f = ap (λ (l : List D). map f l) was ∙ map-append f rest (d ∷ [])
-
-  pub flat_popped : {X : Type 0} (f : D → List X) → flat_map f ds ≡ flat_map f rest ++ f d
-  flat_popped f = ap (λ (l : List D). flat_map f l) was ∙ flat_one f rest d
-
-  pub all_popped : (P : D → Type 0) → All P rest → P d → All P ds
-  all_popped P h k = subst (λ (l : List D). All P l) (sym was) (All-push P rest d h k)
-
-module _ {T S N : Type 0} (turn : TurnState T) (fixed : S) where
-  new_count : (passes : List (PassState T S N)) (count : ℕ) → passes ≡ new_passes turn.id fixed count → length passes ≡ count
-  new_count passes zero e = ap length e
-  new_count passes (suc count) e =
-      let before : List (PassState T S N) = new_passes turn.id fixed count in
-      let long : length passes ≡ length (before ++ new_pass turn.id fixed count ∷ []) = ap length e in
-      let ih = new_count before count refl in
-      omega (arith, long, length-append before (new_pass turn.id fixed count ∷ []), ih)
-
-  -- new passes are as many as their number says
-  pub are_new : (passes : List (PassState T S N)) (count : ℕ) → passes ≡ new_passes turn.id fixed count → (length passes ≡ count) × (passes ≡ new_passes turn.id fixed (length passes))
-  are_new passes count e = (new_count passes count e, e ∙ ap (λ (n : ℕ). new_passes turn.id fixed n) (sym (new_count passes count e)))
-
-  -- the last of some new passes, and those before it
-  pub popped_new : (passes rest : List (PassState T S N)) (r : Option (PassState T S N)) (p : PassState T S N) →
-      passes ≡ new_passes turn.id fixed (length passes) → passes ≡ rest ++ option_to_list r → r ≡ Some p
-      → (p ≡ new_pass turn.id fixed (length rest)) × (rest ≡ new_passes turn.id fixed (length rest)) × (length passes ≡ length rest + 1) × (p ≡ new_pass turn.id fixed p.number)
-  popped_new passes rest r p all items this =
-      let pop : passes ≡ rest ++ p ∷ [] = was passes rest r p items this in
-      let long : length passes ≡ length (rest ++ p ∷ []) = ap length pop in
-      let count : length passes ≡ length rest + 1 = omega (arith, long, length-append rest (p ∷ [])) in
-      let next : length rest + 1 ≡ suc (length rest) = omega arith in
-      let both = same_snoc rest (new_passes turn.id fixed (length rest)) p (new_pass turn.id fixed (length rest)) (sym pop ∙ (all ∙ ap (λ (n : ℕ). new_passes turn.id fixed n) (count ∙ next))) in
-      (both.1, both.0, count, both.1 ∙ ap (λ (n : ℕ). new_pass turn.id fixed n) (sym (ap (λ (q : PassState T S N). q.number) both.1)))
-
-  -- the last of so many new passes and one, and those before it
-  pub popped_last : (count : ℕ) (passes rest : List (PassState T S N)) (r : Option (PassState T S N)) (p : PassState T S N) →
-      passes ≡ new_passes turn.id fixed (count + 1) → passes ≡ rest ++ option_to_list r → r ≡ Some p
-      → (p.number ≡ count) × (rest ≡ new_passes turn.id fixed (length rest)) × (length rest ≡ count) × (p ≡ new_pass turn.id fixed p.number)
-  popped_last count passes rest r p e items this =
-      let all = are_new passes (count + 1) e in
-      let new = popped_new passes rest r p all.1 items this in
-      let long = all.0 in
-      let less = new.2 in
-      let same : length rest ≡ count = omega (arith, long, less) in
-      (ap (λ (q : PassState T S N). q.number) new.0 ∙ same, new.1, same, new.3)
-
-module _ {T A R L F S : Type 0} (after : List (Entry A) → Showing) (reads : List ℕ → A) (joins : List ℕ → Option JoinLine) (sits : List (Entry A) →
-    List ℕ → SitAnswer) (hears : List (Entry A) → ℕ → ℕ → A → Heard R) (says : Control R → List ℕ) (at : List ℕ → L → WireState) (made : F → Type 0)
-    (number : F → ℕ) (setting : T → S) (turn : TurnState T) where
-  pub left_count : (n : ℕ) (ps : List (PassState T S (Entry A))) (sessions : List (Session L)) (ends : List (HandlerEnd F)) →
-      AllLeft after reads joins sits hears says at made number setting turn n ps sessions ends → length ps ≡ n
-  left_count zero ps sessions ends (a, b, c) = ap length a
-  left_count (suc n) all sessions ends (ps, p, before, own, es, end, a, b, c, left, one, memory) =
-      let e : length all ≡ length (ps ++ p ∷ []) = ap length a in
-      let ih : length ps ≡ n = left_count n ps before es left in
-      omega (arith, e, length-append ps (p ∷ []), ih)
-
-  pub left_idle : (n : ℕ) (ps : List (PassState T S (Entry A))) (sessions : List (Session L)) (ends : List (HandlerEnd F)) →
-      AllLeft after reads joins sits hears says at made number setting turn n ps sessions ends → All (IsIdle setting turn) ps
-  left_idle zero ps sessions ends (a, b, c) = subst (λ (l : List (PassState T S (Entry A))). All (IsIdle setting turn) l) (sym a) (All-nil (IsIdle setting turn))
-  left_idle (suc n) all sessions ends (ps, p, before, own, es, end, a, b, c, left, one, memory) =
-      subst (λ (l : List (PassState T S (Entry A))). All (IsIdle setting turn) l) (sym a) (All-push (IsIdle setting turn) ps p (left_idle n ps before es left) one.idle)
-
-module _ {T A R L F S : Type 0} (after : List (Entry A) → Showing) (reads : List ℕ → A) (joins : List ℕ → Option JoinLine) (sits : List (Entry A) →
-    List ℕ → SitAnswer) (hears : List (Entry A) → ℕ → ℕ → A → Heard R) (says : Control R → List ℕ) (at : List ℕ → L → WireState) (made : F → Type 0)
-    (number : F → ℕ) (setting : T → S) (turn : TurnState T) where
-  -- what is left of all, put together
-  pub left_of : (n : ℕ) (ds : List (Done (PassState T S (Entry A)) L F)) → AllDone after reads joins sits hears says at made number setting turn n ds
-      → All (λ (d : Done (PassState T S (Entry A)) L F). WantsMemory d.end → ⊥) ds
-      → AllLeft after reads joins sits hears says at made number setting turn n (map (λ (d : Done (PassState T S (Entry A)) L F). d.pass) ds)
-      (flat_map (λ (d : Done (PassState T S (Entry A)) L F). d.sessions.items) ds) (map (λ (d : Done (PassState T S (Entry A)) L F). d.end) ds)
-  left_of zero ds e m = (
-    ap (λ (l : List (Done (PassState T S (Entry A)) L F)). map (λ (d : Done (PassState T S (Entry A)) L F). d.pass) l) e,
-    ap (λ (l : List (Done (PassState T S (Entry A)) L F)). flat_map (λ (d : Done (PassState T S (Entry A)) L F). d.sessions.items) l) e,
-    ap (λ (l : List (Done (PassState T S (Entry A)) L F)). map (λ (d : Done (PassState T S (Entry A)) L F). d.end) l) e,
-  )
-  left_of (suc n) ds (before, d, e, done, one) m =
-      let parted = All-pop (λ (x : Done (PassState T S (Entry A)) L F). WantsMemory x.end → ⊥) ds before (Some d) e m in (
-        map (λ (x : Done (PassState T S (Entry A)) L F). x.pass) before,
-        d.pass,
-        flat_map (λ (x : Done (PassState T S (Entry A)) L F). x.sessions.items) before,
-        d.sessions.items,
-        map (λ (x : Done (PassState T S (Entry A)) L F). x.end) before,
-        d.end,
-        ap (λ (l : List (Done (PassState T S (Entry A)) L F)). map (λ (x : Done (PassState T S (Entry A)) L F). x.pass) l) e
-            ∙ map-append (λ (x : Done (PassState T S (Entry A)) L F). x.pass) before (d ∷ []),
-        ap (λ (l : List (Done (PassState T S (Entry A)) L F)). flat_map (λ (x : Done (PassState T S (Entry A)) L F). x.sessions.items) l) e
-            ∙ flat_one (λ (x : Done (PassState T S (Entry A)) L F). x.sessions.items) before d,
-        ap (λ (l : List (Done (PassState T S (Entry A)) L F)). map (λ (x : Done (PassState T S (Entry A)) L F). x.end) l) e
-            ∙ map-append (λ (x : Done (PassState T S (Entry A)) L F). x.end) before (d ∷ []),
-        left_of n before done parted.0,
-        one,
-        parted.1,
-      )
+  pub joined_new : {E : Type 0} (tables : ℕ) (kept : List (Vec (Vec (Session L) Global) Global)) (r : Result (Vec (Vec (Session L) Global) Global) E) → kept ≡ [] →
+      IfOk r (λ rs. length rs.items ≡ tables) → IfOk r (λ rs. All (λ row. row.items ≡ []) rs.items) → IfOk r (λ ss. AreJoined tables (sessions_of kept) (rows ss.items))
+  joined_new tables kept (Ok lists) none many empty = joined_none tables kept lists.items none many empty
+  joined_new tables kept (Err e) none many empty = tt
 
   -- one handler more
-  pub one_more : (n : ℕ) (p : PassState T S (Entry A)) (fixed : S) (before all : List (Done (PassState T S (Entry A)) L F))
-      (d : Done (PassState T S (Entry A)) L F) (count : ℕ) → p ≡ new_pass turn.id fixed n → AllDone after reads joins sits hears says at made number
-      setting turn n before
-      → IsDone after reads joins sits hears says at made number setting turn p d → all ≡ before ++ d ∷ [] → count ≡ n + 1 →
-      AllDone after reads joins sits hears says at made number setting turn count all
-  one_more n p fixed before all d count is done one e c =
-      let next : n + 1 ≡ suc n = omega arith in
-      subst (λ (k : ℕ). AllDone after reads joins sits hears says at made number setting turn k all) (sym (c ∙ next)) (
-        before,
-        d,
-        e,
-        done,
-        subst (λ (k : ℕ). IsLeft after reads joins sits hears says at made number setting turn k d.pass d.sessions.items d.end)
-            (ap (λ (q : PassState T S (Entry A)). q.number) is) one,
-      )
+  pub joined_more : (tables : ℕ) (kept kept' : List (Vec (Vec (Session L) Global) Global)) (own : Vec (Vec (Session L) Global) Global) (olds news : List (Vec (Session L) Global))
+      → kept' ≡ kept ++ own ∷ [] →
+      AreJoined tables (sessions_of kept) (rows olds) →
+      Beside (λ (t : ℕ) (before mine after : List (Session L)). after ≡ before ++ mine) (rows olds) (rows own.items) (rows news) → AreJoined tables (sessions_of kept') (rows news)
+  joined_more tables kept kept' own olds news more joined each = record {
+    many = each.third ∙ joined.many;
+    each = λ t ss e. one t ss e (slice_get_within (rows news) t ss e);
+  }
+    where
+      one : (t : ℕ) (ss : List (Session L)) → slice_get (rows news) t ≡ Some ss → t < length (rows news) → ss ≡ flat_map (at t) (sessions_of kept')
+      one t ss e near =
+          let old = found (rows olds) t (omega (arith, near, each.third)) in
+          let mine = found (rows own.items) t (omega (arith, near, each.third, each.second)) in
+          let before : old.0 ≡ flat_map (at t) (sessions_of kept) = joined.each t old.0 old.1 in
+          let here : get_or (rows own.items) t [] ≡ mine.0 = get_or_from_slice_get (rows own.items) t mine.0 [] mine.1 in
+          let all : sessions_of kept' ≡ sessions_of kept ++ rows own.items ∷ [] = map_snoc (λ (k : Vec (Vec (Session L) Global) Global). rows k.items) kept' kept own more in
+          each.each t old.0 mine.0 ss old.1 mine.1 e ∙ (ap (λ (l : List (Session L)). l ++ mine.0) before ∙ (ap (λ (l : List (Session L)). flat_map (at t) (sessions_of kept) ++ l) (sym here) ∙
+          sym (ap (flat_map (at t)) all ∙ flat_one (at t) (sessions_of kept) (rows own.items))))
+
+module _ {F : Type 0} where
+  abbrev Served : HandlerEnd F → Type 0
+  Served e = WantsMemory e → ⊥
+
+  no_want : (e : HandlerEnd F) → (e ≡ end.NoMemory → ⊥) → Served e
+  no_want end.Over other w = w
+  no_want (end.Host fault) other w = w
+  no_want end.NoMemory other w = other refl
+
+  -- the ends of handlers, looked at one after the other
+  pub one_more : (ends seen : List (HandlerEnd F)) (i : ℕ) (e : HandlerEnd F) → seen ≡ ends → i < length seen → e ≡ get_or seen i e → (e ≡ end.NoMemory → ⊥) → All Served (take i ends) →
+      All Served (take (i + 1) ends)
+  one_more ends seen i e same near is other all =
+      let near' : i < length ends = subst (λ (l : List (HandlerEnd F)). i < length l) same near in
+      let is' : e ≡ get_or ends i e = subst (λ (l : List (HandlerEnd F)). e ≡ get_or l i e) same is in
+      let long : i + 1 ≡ suc i = omega arith in
+      subst (λ (n : ℕ). All Served (take n ends)) (sym long)
+      (subst (λ (l : List (HandlerEnd F)). All Served l) (sym (take-suc ends i e near')) (All-push Served (take i ends) (get_or ends i e) all (subst Served is' (no_want e other))))
+
+  pub all_looked : (ends seen : List (HandlerEnd F)) (i : ℕ) → seen ≡ ends → length seen ≤ i → All Served (take i ends) → All Served ends
+  all_looked ends seen i same far all =
+      subst (λ (l : List (HandlerEnd F)). All Served l) (take_all i ends (subst (λ (l : List (HandlerEnd F)). length l ≤ i) same far)) all

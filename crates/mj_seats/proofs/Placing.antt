@@ -31,7 +31,7 @@ module _ {A : Type 0} where
   none_said reads author seat [] = tt
   none_said reads author seat (l ∷ ls) = (refl, none_said reads author seat ls)
 
-  places_append : (from number : ℕ) (xs ys : List (Entry A)) → places_from from number (xs ++ ys) ≡ places_from from number xs ++ places_from (from + length xs) number ys
+  pub places_append : (from number : ℕ) (xs ys : List (Entry A)) → places_from from number (xs ++ ys) ≡ places_from from number xs ++ places_from (from + length xs) number ys
   places_append from number [] ys = let e : from ≡ from + 0 = omega arith in ap (λ (k : ℕ). places_from k number ys) e
   places_append from number (x ∷ xs) ys =
       let e : from + 1 + length xs ≡ from + suc (length xs) = omega arith in

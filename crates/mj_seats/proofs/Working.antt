@@ -2,30 +2,25 @@
 use Rattle.std.proofs.Common.{◌≡◌, inl, inr, ℕ, zero, suc, ◌+◌, ◌<◌, true, List, [], ◌∷◌, ◌++◌, length, map, refl, sym, ap, ◌∙◌, subst, arith, append-nil}
 use Rattle.std.specs.Prelude.{All, IsPermutation, Option, Some, None}
 use Rattle.std.proofs.lemmas.Bool.Decides.{eqb_tells}
-use Rattle.std.proofs.lemmas.List.{map-append}
-use Rattle.std.proofs.lemmas.List.Elements.{All-nil, All-cons, All-append, All-pop}
+use Rattle.std.proofs.lemmas.List.{map-append, append_cancel_left}
+use Rattle.std.proofs.lemmas.List.Elements.{All-nil, All-cons, All-append}
 use Rattle.turn_lock.specs.Notes.{notes_of}
-use Rattle.turn_lock.specs.Passes.{TurnState, PassState}
-use Rattle.turn_lock.specs.Turns.{IsSeenIn}
 use Rattle.mj_connection.specs.Seating.{Entry, JoinLine, SitAnswer, Heard, Control, Showing}
 use Rattle.mj_ports.specs.declared.entry.Entry.TheVariants.{Sat, Back, Said, Gone, Expired}
 use Rattle.mj_ports.specs.Entries.{author_of, IsAside}
 use Rattle.mj_ports.specs.Seats.{Stays, StaysEnded, Unmoved, Answers, Leaves, Adds}
-use Rattle.mj_seats.specs.declared.handle.HandlerEnd.TheVariants as end
-use Rattle.mj_session.specs.Histories.{Enters, begins_one, places_of}
+use Rattle.mj_session.specs.Histories.{Enters, begins_one, places_from, places_of}
 use Rattle.mj_session.specs.declared.served.Ended.{Ended}
 use Rattle.mj_session.specs.declared.served.Ended.TheVariants.{GameOver, PeerEnded, LinkFault, LineTooLong, TooManyRefusals, NotSeated, NoMemory}
 use Rattle.mj_session.specs.Sessions.{said_by, last_entry}
-use Rattle.mj_seats.specs.Handlers.{HandlerEnd, Session, Handled, HandlerEnds, WantsMemory}
-use Rattle.mj_seats.specs.Inner.Joined.{AllLeft}
+use Rattle.mj_seats.specs.Handlers.{Session, Handled}
 use Rattle.mj_seats.specs.Ticks.{Ticks, Timed}
-use Rattle.mj_seats.specs.Workers.{AllServe, AllEnd, EndsIn, ExpiresBy, begun}
+use Rattle.mj_seats.specs.Workers.{AllServe, IsPlayedBy, ExpiresBy, begun_from}
 use Rattle.mj_session.specs.Wires.{WireState}
 use Rattle.mj_connection.proofs.Growing.{enters_chain, enters_one}
-use Rattle.mj_session.proofs.Entering.{enters_seen}
-use Rattle.mj_seats.proofs.Placing.{places_still, begins_by}
-use Rattle.mj_seats.proofs.Handling.{handled_excused}
-use Rattle.mj_seats.proofs.Whole.{stays_from, serves_all}
+use Rattle.mj_seats.proofs.Besides.{all_after}
+use Rattle.mj_seats.proofs.Placing.{places_append, places_still, handled_places, begins_by}
+use Rattle.mj_seats.proofs.Whole.{serves_all}
 use Rattle.mj_seats.proofs.Begun.{parts_from, begun_is, NoExpiry, AnExpiry, all_expiries, all_begin_below}
 
 module _ {A : Type 0} where
@@ -48,9 +43,9 @@ module _ {A : Type 0} where
       by : (x : Entry A) → x ≡ Expired author window t1 t2 → AnExpiry x
       by x s = subst AnExpiry (sym s) refl
 
-  -- of the whole history an author has the notes that it entered from the beginning on
-  mine_is : (author : ℕ) (all mine : List (Entry A)) → Enters author [] all mine → notes_of author_of author all ≡ mine
-  mine_is author all mine e = ap (notes_of author_of author) e.grown ∙ e.mine_are
+  -- of what came since an author has the notes that it entered
+  mine_is : (author : ℕ) (first since all mine : List (Entry A)) → all ≡ first ++ since → Enters author first all mine → notes_of author_of author since ≡ mine
+  mine_is author first since all mine is e = ap (notes_of author_of author) (append_cancel_left first since e.since (sym is ∙ e.grown)) ∙ e.mine_are
 
   pub ticks_on : (author : ℕ) (old seen all : List (Entry A)) (r0 r1 : Option (List ℕ)) → Ticks author old seen r0 r1 → Enters author seen all [] → Ticks author old all r0 r1
   ticks_on author old seen all r0 r1 t e = record {
@@ -61,8 +56,10 @@ module _ {A : Type 0} where
     made = t.made;
   }
 
-  ticks_expire : (author : ℕ) (all : List (Entry A)) (r0 r1 : Option (List ℕ)) → Ticks author [] all r0 r1 → All AnExpiry (notes_of author_of author all)
-  ticks_expire author all r0 r1 t = subst (λ (l : List (Entry A)). All AnExpiry l) (sym (mine_is author all t.mine t.entered)) (all_timed author t.readings t.mine t.timed)
+  ticks_expire : (author : ℕ) (first since all : List (Entry A)) (r0 r1 : Option (List ℕ)) → all ≡ first ++ since → Ticks author first all r0 r1 →
+      All AnExpiry (notes_of author_of author since)
+  ticks_expire author first since all r0 r1 is t =
+      subst (λ (l : List (Entry A)). All AnExpiry l) (sym (mine_is author first since all t.mine is t.entered)) (all_timed author t.readings t.mine t.timed)
 
 none_gone : (A : Type 0) (author seat : ℕ) → All (NoExpiry {A = A}) (Gone author seat ∷ [])
 none_gone A author seat = All-cons (NoExpiry {A = A}) (Gone author seat) [] refl (All-nil (NoExpiry {A = A}))
@@ -98,10 +95,21 @@ module _ {A R L : Type 0} (after : List (Entry A) → Showing) (reads : List ℕ
             rest.2,
       )
 
-module _ {T A R L F S : Type 0} (after : List (Entry A) → Showing) (is_legal : List (Entry A) → Type 0)
+-- Of handlers, numbered from 0, at one table: what each served, up to the history that it has seen, since when others alone
+-- entered something.
+module _ {A R L : Type 0} (after : List (Entry A) → Showing) (reads : List ℕ → A) (joins : List ℕ → Option JoinLine) (sits : List (Entry A) → List ℕ →
+    SitAnswer) (hears : List (Entry A) → ℕ → ℕ → A → Heard R) (says : Control R → List ℕ) (at : List ℕ → L → WireState) (first all : List (Entry A)) where
+  abbrev pub AllLeft : ℕ → List (Session L) → Type 0
+  AllLeft zero sessions = sessions ≡ []
+  AllLeft (suc by) sessions =
+      (before : List (Session L)) × (own : List (Session L)) × (seen : List (Entry A)) × (sessions ≡ before ++ own) × AllLeft by before
+      × Handled after reads joins sits hears says at ⊥ by first seen own × Enters by seen all []
+
+module _ {A R L : Type 0} (after : List (Entry A) → Showing) (is_legal : List (Entry A) → Type 0)
     (legal_before : (es fs : List (Entry A)) → is_legal (es ++ fs) → is_legal es)
     (stays : (es : List (Entry A)) (e : Entry A) → is_legal (es ++ e ∷ []) → Stays (after es) (after (es ++ e ∷ [])))
-    (ended_law : (es : List (Entry A)) (e : Entry A) (place : ℕ) → is_legal (es ++ e ∷ []) → place < length es → (after es).seat_of place ≡ None → StaysEnded place (after es) (after (es ++ e ∷ [])))
+    (ended_law : (es : List (Entry A)) (e : Entry A) (place : ℕ) → is_legal (es ++ e ∷ []) → place < length es →
+    (after es).seat_of place ≡ None → StaysEnded place (after es) (after (es ++ e ∷ [])))
     (hears : List (Entry A) → ℕ → ℕ → A → Heard R) (says : Control R → List ℕ)
     (others : (es : List (Entry A)) (e : Entry A) (author seat : ℕ) → is_legal (es ++ e ∷ []) → (after es).present seat ≡ Some author →
     IsAside author seat es e → Unmoved seat (after es) (after (es ++ e ∷ [])))
@@ -109,82 +117,64 @@ module _ {T A R L F S : Type 0} (after : List (Entry A) → Showing) (is_legal :
     Answers says (hears es author seat answer) seat (after es) (after (es ++ Said author seat answer ∷ [])))
     (leaves : (es : List (Entry A)) (author seat : ℕ) → is_legal (es ++ Gone author seat ∷ []) →
     Leaves seat (after es) (after (es ++ Gone author seat ∷ [])) × Adds seat [] (after es) (after (es ++ Gone author seat ∷ [])))
-    (reads : List ℕ → A) (joins : List ℕ → Option JoinLine) (sits : List (Entry A) → List ℕ → SitAnswer) (at : List ℕ → L → WireState) (made : F →
-    Type 0) (number : F → ℕ) (setting : T → S) (turn : TurnState T)
-    (all : List (Entry A)) (legal : is_legal all) where
-  -- others alone entered something since
-  since_seen : (by : ℕ) (p : PassState T S (Entry A)) → p.number ≡ by → IsSeenIn author_of all p → Enters by p.seen all []
-  since_seen by p same seen = subst (λ (n : ℕ). Enters n p.seen all []) same (enters_seen all p seen)
+    (reads : List ℕ → A) (joins : List ℕ → Option JoinLine) (sits : List (Entry A) → List ℕ → SitAnswer) (at : List ℕ → L → WireState)
+    (first since all : List (Entry A)) (all_is : all ≡ first ++ since) (legal : is_legal all) where
+  abbrev Left : ℕ → List (Session L) → Type 0
+  Left n ss = AllLeft after reads joins sits hears says at first all n ss
 
-  pub all_serve : (n : ℕ) (ps : List (PassState T S (Entry A))) (ss : List (Session L)) (es : List (HandlerEnd F)) →
-      AllLeft after reads joins sits hears says at made number setting turn n ps ss es → All (IsSeenIn author_of all) ps →
-      AllServe after reads joins sits hears says at n all ss
-  all_serve zero passes sessions ends (a, b, c) seen = b
-  all_serve (suc n) passes sessions ends (ps, p, before, own, es, end, a, b, c, left, one, memory) seen =
-      let parted = All-pop (IsSeenIn author_of all) passes ps (Some p) a seen in (
-        before,
-        own,
-        b,
-        all_serve n ps before es left parted.0,
-        serves_all after is_legal legal_before stays ended_law hears says others answers leaves reads joins sits at n [] p.seen all own legal (since_seen n p one.number_is parted.1)
-            (handled_excused after reads joins sits hears says at (WantsMemory end) ⊥ memory n [] p.seen own one.handled),
-      )
+  all_serve : (n : ℕ) (ss : List (Session L)) → Left n ss → AllServe after reads joins sits hears says at first n all ss
+  all_serve zero ss e = e
+  all_serve (suc n) ss (before, own, seen, is, left, handled, later) = (
+    before,
+    own,
+    is,
+    all_serve n before left,
+    serves_all after is_legal legal_before stays ended_law hears says others answers leaves reads joins sits at n first seen all own legal later handled,
+  )
 
-  end_in : (by : ℕ) (seen : List (Entry A)) (end : HandlerEnd F) → (WantsMemory end → ⊥) → Stays (after seen) (after all) →
-      HandlerEnds after made number end by seen → EndsIn after made number by all end
-  end_in by seen end.Over m s h = s.over h
-  end_in by seen (end.Host f) m s h = (h.0, h.1)
-  end_in by seen end.NoMemory m s h = m tt
-
-  pub all_end : (n : ℕ) (ps : List (PassState T S (Entry A))) (ss : List (Session L)) (es : List (HandlerEnd F)) →
-      AllLeft after reads joins sits hears says at made number setting turn n ps ss es → All (IsSeenIn author_of all) ps →
-      AllEnd after made number n all es
-  all_end zero passes sessions ends (a, b, c) seen = c
-  all_end (suc n) passes sessions ends (ps, p, before, own, es, end, a, b, c, left, one, memory) seen =
-      let parted = All-pop (IsSeenIn author_of all) passes ps (Some p) a seen in
-      let since = since_seen n p one.number_is parted.1 in
-      (es, end, c, all_end n ps before es left parted.0, end_in n p.seen end memory (stays_from after is_legal legal_before stays p.seen all since.since legal since.grown) one.ended)
-
-  all_places : (n : ℕ) (ps : List (PassState T S (Entry A))) (ss : List (Session L)) (es : List (HandlerEnd F)) → AllLeft after reads joins sits hears
-      says at made number setting turn n ps ss es → All (IsSeenIn author_of all) ps
-      → parts_from 0 n all ≡ map (λ (s : Session L). s.place) ss
-  all_places zero passes sessions ends (a, b, c) seen = sym (ap (λ (l : List (Session L)). map (λ (s : Session L). s.place) l) b)
-  all_places (suc n) passes sessions ends (ps, p, before, own, es, end, a, b, c, left, one, memory) seen =
-      let parted = All-pop (IsSeenIn author_of all) passes ps (Some p) a seen in
-      let mine : places_of n all ≡ map (λ (s : Session L). s.place) own = places_still n p.seen all (since_seen n p one.number_is parted.1) ∙ one.places in
-      (λ i. all_places n ps before es left parted.0 i ++ mine i)
+  all_places : (n : ℕ) (ss : List (Session L)) → Left n ss → parts_from (length first) n since ≡ map (λ (s : Session L). s.place) ss
+  all_places zero ss e = sym (ap (λ (l : List (Session L)). map (λ (s : Session L). s.place) l) e)
+  all_places (suc n) ss (before, own, seen, is, left, handled, later) =
+      let own_places : places_of n seen ≡ places_of n first ++ map (λ (s : Session L). s.place) own =
+      handled_places after reads joins sits hears says at ⊥ n first seen own handled in
+      let from : 0 + length first ≡ length first = omega arith in
+      let parted : places_of n all ≡ places_of n first ++ places_from (length first) n since =
+      ap (places_of n) all_is ∙ (places_append 0 n first since ∙ ap (λ (k : ℕ). places_of n first ++ places_from k n since) from) in
+      let mine : places_from (length first) n since ≡ map (λ (s : Session L). s.place) own =
+      append_cancel_left (places_of n first) _ _ (sym parted ∙ (places_still n seen all later ∙ own_places)) in
+      (λ i. all_places n before left i ++ mine i)
       ∙ (sym (map-append (λ (s : Session L). s.place) before own)
-      ∙ sym (ap (λ (l : List (Session L)). map (λ (s : Session L). s.place) l) b))
+      ∙ sym (ap (λ (l : List (Session L)). map (λ (s : Session L). s.place) l) is))
 
-  no_expiries : (n : ℕ) (ps : List (PassState T S (Entry A))) (ss : List (Session L)) (es : List (HandlerEnd F)) →
-      AllLeft after reads joins sits hears says at made number setting turn n ps ss es → All (IsSeenIn author_of all) ps
-      → (k : ℕ) → k < n → All NoExpiry (notes_of author_of k all)
-  no_expiries zero passes sessions ends left seen k near = absurd (omega (arith, near))
-  no_expiries (suc n) passes sessions ends (ps, p, before, own, es, end, a, b, c, left, one, memory) seen k near =
-      let parted = All-pop (IsSeenIn author_of all) passes ps (Some p) a seen in
-      elim (eqb_tells k n) [ inl s ↦ here parted.1 s.1 | inr s ↦ no_expiries n ps before es left parted.0 k (less s.1) ]
+  no_expiries : (n : ℕ) (ss : List (Session L)) → Left n ss → (k : ℕ) → k < n → All NoExpiry (notes_of author_of k since)
+  no_expiries zero ss e k near = absurd (omega (arith, near))
+  no_expiries (suc n) ss (before, own, seen, is, left, handled, later) k near =
+      elim (eqb_tells k n) [ inl s ↦ here s.1 | inr s ↦ no_expiries n before left k (less s.1) ]
     where
-      here : IsSeenIn author_of all p → k ≡ n → All NoExpiry (notes_of author_of k all)
-      here this e =
-          let h = handled_notes after reads joins sits hears says at (WantsMemory end) n [] p.seen own one.handled in
-          let whole : Enters n [] all h.0 = subst (λ (l : List (Entry A)). Enters n [] all l) (append-nil h.0) (enters_chain n [] p.seen all h.0 [] h.1 (since_seen n p one.number_is this)) in
-          subst (λ (j : ℕ). All NoExpiry (notes_of author_of j all)) (sym e) (subst (λ (l : List (Entry A)). All NoExpiry l) (sym (mine_is n all h.0 whole)) h.2)
+      here : k ≡ n → All NoExpiry (notes_of author_of k since)
+      here e =
+          let h = handled_notes after reads joins sits hears says at ⊥ n first seen own handled in
+          let whole : Enters n first all h.0 =
+          subst (λ (l : List (Entry A)). Enters n first all l) (append-nil h.0) (enters_chain n first seen all h.0 [] h.1 later) in
+          subst (λ (j : ℕ). All NoExpiry (notes_of author_of j since)) (sym e)
+          (subst (λ (l : List (Entry A)). All NoExpiry l) (sym (mine_is n first since all h.0 all_is whole)) h.2)
 
       less : (k ≡ n → ⊥) → k < n
       less ne = omega (arith, near, ne)
 
   -- all of it
-  module _ (n : ℕ) (ps : List (PassState T S (Entry A))) (ss : List (Session L)) (es : List (HandlerEnd F))
-      (left : AllLeft after reads joins sits hears says at made number setting turn n ps ss es) (seen : All (IsSeenIn author_of all) ps)
-      (few : All (λ (e : Entry A). author_of e < n + 1) all) where
-    pub expiries_are : All (ExpiresBy n) all
-    expiries_are = all_expiries n all few (no_expiries n ps ss es left seen)
-
-    pub places_are : (r0 r1 : Option (List ℕ)) → Ticks n [] all r0 r1 → IsPermutation (begun all) (map (λ (s : Session L). s.place) ss)
-    places_are r0 r1 t = subst (λ (l : List ℕ). IsPermutation (begun all) l) (all_places n ps ss es left seen) (begun_is n all (all_begin_below n all few (ticks_expire n all r0 r1 t)))
-
-    pub serve_is : AllServe after reads joins sits hears says at n all ss
-    serve_is = all_serve n ps ss es left seen
-
-    pub ends_are : AllEnd after made number n all es
-    ends_are = all_end n ps ss es left seen
+  pub played_is : (n : ℕ) (ss : List (Session L)) (r0 r1 : Option (List ℕ)) → Left n ss → All (λ (e : Entry A). author_of e < n + 1) all → Ticks n first all r0 r1 →
+      IsPlayedBy after reads joins sits hears says at n first all ss r0 r1
+  played_is n ss r0 r1 left few ticks =
+      let fewer : All (λ (e : Entry A). author_of e < n + 1) since =
+      all_after (λ (e : Entry A). author_of e < n + 1) first since (subst (λ (l : List (Entry A)). All (λ (e : Entry A). author_of e < n + 1) l) all_is few) in
+      record {
+        since = since;
+        grown = all_is;
+        authors = few;
+        sessions_are = all_serve n ss left;
+        places = subst (λ (l : List ℕ). IsPermutation (begun_from (length first) since) l) (all_places n ss left)
+            (begun_is (length first) n since (all_begin_below n since fewer (ticks_expire n first since all r0 r1 all_is ticks)));
+        ticks = ticks;
+        expiries = all_expiries n since fewer (no_expiries n ss left);
+      }

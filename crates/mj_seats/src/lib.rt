@@ -1,14 +1,22 @@
-//! The workers that play a seated game under a turn: one that serves a seat over a link, one that takes links, and one
-//! that tells the time.
+//! The workers that play seated games under turns, one game or several over one host: handlers, each of which takes links
+//! and serves every link at the table that its first line is for, and one that tells the time.
 #![tactic(auto)]
 
+mod columns;
+mod door;
 mod gather;
+mod hand;
 mod handle;
+mod lobby;
+mod one;
+mod open;
+mod play;
+mod rooms;
 mod ticker;
 mod worker;
-mod workers;
 
-pub use handle::{Finding, HandlerEnd, Session, ask, handler, lose};
+pub use handle::{HandlerEnd, Session};
 pub use mj_session::{Ended, Lost, Room, Served, SharedGame, hold, serve_joined, serve_seat};
-pub use ticker::{Ticked, Watch, tick};
-pub use workers::{Closed, ClosedGame, run_workers};
+pub use one::{Closed, ClosedGame, handler, run_workers};
+pub use play::{Played, PlayedBy, play_tables};
+pub use ticker::{Ticked, tick};

@@ -1,187 +1,271 @@
 // Handlers side by side, and the ticker beside them.
-ghost use Rattle.std.specs.Prelude.{◌≡◌, ◌≤◌, ◌+◌, [], length, vec_capacity, MatchOption};
+ghost use Rattle.std.specs.Prelude.{◌≡◌, ◌≤◌, ◌<◌, ◌+◌, ℕ, List, All, ◌∷◌, ◌++◌, [], length, vec_len, vec_capacity};
 ghost use Rattle.std.specs.Thread.{IsSync};
-ghost use Rattle.mj_seats.specs.Handlers.{at_link};
-ghost use Rattle.mj_seats.specs.Inner.Joined.{IsNewPass, AreNewPasses, IsDone, AllDone};
-ghost use Rattle.mj_seats.specs.Ticks.{Ticks};
-ghost use Rattle.turn_lock.specs.Turns.{IsIdle, new_pass};
+ghost use Rattle.mj_seats.specs.Handlers.{rows, link_state};
+ghost use Rattle.mj_seats.specs.Tables.{IsBelow};
+ghost use Rattle.mj_seats.specs.Inner.Columns.{items_of};
+ghost use Rattle.mj_seats.specs.Inner.Hands.{IsLobby};
+ghost use Rattle.mj_seats.specs.Inner.Staffs.{AreNewRows, AreNewPasses, AreEmpty, IsReady, HasRoom, HasRoomOf, IsDone, AllDone, sessions_of};
+ghost use Rattle.mj_seats.specs.Inner.Watches.{AreWatched};
 
-use crate::handle::{HandlerEnd, Session, handle_at};
-use crate::ticker::tick_at;
-use mj_links::{Clock, Host};
+use crate::columns::take_column;
+use crate::door::Door;
+use crate::hand::handle;
+use crate::handle::{HandlerEnd, Session};
+use crate::lobby::Lobby;
+use crate::ticker::{Sight, tick_all};
+use mj_links::Clock;
 use mj_session::SharedGame;
 use std::alloc::Global;
 use std::sync::Wait;
 use std::thread::{Threads, join};
 use turn_lock::{Noted, Pass, Turn};
 
+// What a worker has at tables: a pass of each, and the sessions with a seat that it served at each.
+#[derive(Drop)]
+pub(crate) struct Hand<P, L> {
+    pub passes: Vec<P>,
+    pub kept: Vec<Vec<Session<L>>>,
+}
+
 // What is left of a handler.
 #[derive(Drop)]
 pub(crate) struct Done<P, L, F> {
-    pub pass: P,
-    pub sessions: Vec<Session<L>>,
+    pub hand: Hand<P, L>,
     pub end: HandlerEnd<F>,
 }
 
-// What is left of a handler with a pass of this turn.
-pub(crate) type DoneAt<T, H> = Done<Pass<T>, <H as Host>::Link, <H as Host>::Fault>;
+// What is left of handlers, in the order of their numbers: the passes of each, its sessions, and how it ended.
+#[derive(Drop)]
+pub(crate) struct Back<P, L, F> {
+    pub columns: Vec<Vec<P>>,
+    pub kept: Vec<Vec<Vec<Session<L>>>>,
+    pub ends: Vec<HandlerEnd<F>>,
+}
 
-// Handles links with each of these passes, and tells the time with one more, all side by side. What is left of the
-// handlers is put into `dones`, which has room for it.
+// What handlers begin with.
+#[derive(Drop)]
+pub(crate) struct Staff<P, L, F> {
+    // A row of passes for each table.
+    pub rows: Vec<Vec<P>>,
+    // Room for what each handler has at the tables.
+    pub hands: Vec<Hand<P, L>>,
+    // Room for what is left of them.
+    pub back: Back<P, L, F>,
+}
+
+// What the ticker has at tables: a pass of each, and what it knows of each.
+#[derive(Drop)]
+pub(crate) struct Desk<P> {
+    pub passes: Vec<P>,
+    pub sights: Vec<Sight>,
+}
+
+// These of tables and of a door.
+pub(crate) type DoneAt<T, D> = Done<Pass<T>, <D as Door>::Link, <D as Door>::Fault>;
+
+pub(crate) type BackAt<T, D> = Back<Pass<T>, <D as Door>::Link, <D as Door>::Fault>;
+
+pub(crate) type StaffAt<T, D> = Staff<Pass<T>, <D as Door>::Link, <D as Door>::Fault>;
+
+// Handles links with each column of the passes, and tells the time at the desk, all side by side.
 pub(crate) fn work<
     T: SharedGame,
-    H: Host<Fault = <T as SharedGame>::Fault>,
+    D: Door<Fault = <T as SharedGame>::Fault>,
     C: Clock,
     R: Threads + Wait + Sync,
 >(
-    turn: &Turn<T>,
+    turns: &Vec<Turn<T>>,
     rt: &R,
     alloc: Global,
-    host: &H,
+    lobby: &Lobby,
+    door: &D,
     clock: &mut C,
-    passes: Vec<Pass<T>>,
-    dones: Vec<DoneAt<T, H>>,
-    last: Pass<T>,
-) -> (Vec<DoneAt<T, H>>, Pass<T>)
-    requires passes { AreNewPasses T.Noted.setting turn.now passes.items }
-    requires empty { dones.items ≡ [] }
-    requires room { length passes.items ≤ vec_capacity dones }
-    requires last { IsNewPass T.Noted.setting turn.now last }
-    ensures done { AllDone (T.after (T.Noted.setting turn.now.opening)) T.reads T.joins
-        (T.sits (T.Noted.setting turn.now.opening))
-        (T.hears (T.Noted.setting turn.now.opening)) T.says (at_link H.Link.was_read
-        H.Link.left H.Link.written H.Link.read_faults H.Link.write_faults)
-        (H.made_by host.now) T.Fault.number T.Noted.setting turn.now (length passes.items)
-        result.0.items }
-    ensures count { length result.0.items ≡ length passes.items }
-    ensures last { IsIdle T.Noted.setting turn.now result.1 × (result.1.number ≡ last.number) }
-    ensures ticks { Ticks last.number [] result.1.seen (C.readings clock.old) (C.readings clock.new) }
+    handlers: u8,
+    staff: StaffAt<T, D>,
+    desk: Desk<Pass<T>>,
+) -> (BackAt<T, D>, Desk<Pass<T>>)
+    requires lobby { IsLobby T.says lobby.now }
+    requires picks { (line : List ℕ) → IsBelow (length turns.now.items) (D.picks door.now line) }
+    requires rows { AreNewRows T.Noted.setting T.history turns.now.items (length staff.hands.items)
+        (items_of staff.rows.items) }
+    requires hands { All (IsReady (length turns.now.items)) staff.hands.items }
+    requires few { length staff.hands.items < 256 }
+    requires back { HasRoom (length staff.hands.items) staff.back }
+    requires desk { AreWatched T.Seated T.lost handlers T.Noted.setting handlers (λ t. T.history t.opening)
+        (C.readings clock.old) (C.readings clock.old) turns.now.items desk.passes.items desk.sights.items }
+    ensures done { AllDone T.Seated T.Noted.setting (link_state D.Link.Link) (D.picks door.now) (D.made_by door.now) T.Fault.number
+        turns.now.items (length staff.hands.items) (items_of result.0.columns.items)
+        (sessions_of result.0.kept.items) result.0.ends.items }
+    ensures room { HasRoomOf staff.back result.0 }
+    ensures ticks { AreWatched T.Seated T.lost handlers T.Noted.setting handlers (λ t. T.history t.opening)
+        (C.readings clock.old) (C.readings clock.new) turns.now.items result.1.passes.items
+        result.1.sights.items }
 {
-    let (dones, (last, clock)) = join(
+    let (back, (desk, clock)) = join(
         rt,
-        move || -> Vec<DoneAt<T, H>>
-            requires { AreNewPasses T.Noted.setting turn.now passes.items × (dones.items ≡ [])
-                × (length passes.items ≤ vec_capacity dones) × IsSync R.row }
-            ensures { AllDone (T.after (T.Noted.setting turn.entry.now.opening)) T.reads T.joins
-                (T.sits (T.Noted.setting turn.entry.now.opening))
-                (T.hears (T.Noted.setting turn.entry.now.opening)) T.says (at_link H.Link.was_read
-                H.Link.left H.Link.written H.Link.read_faults H.Link.write_faults)
-                (H.made_by host.entry.now) T.Fault.number T.Noted.setting turn.entry.now
-                (length passes.items) result.items × (length result.items ≡ length passes.items) }
-        { handle_all(turn, rt, alloc, host, passes, dones) },
-        move || -> (Pass<T>, &mut C)
-            requires { IsNewPass T.Noted.setting turn.now last × IsSync R.row }
+        move || -> BackAt<T, D>
+            requires { IsLobby T.says lobby.now
+                × ((line : List ℕ) → IsBelow (length turns.now.items) (D.picks door.now line))
+                × AreNewRows T.Noted.setting T.history turns.now.items (length staff.hands.items)
+                (items_of staff.rows.items)
+                × All (IsReady (length turns.now.items)) staff.hands.items
+                × (length staff.hands.items < 256) × HasRoom (length staff.hands.items) staff.back
+                × IsSync R.row }
+            ensures { AllDone T.Seated T.Noted.setting (link_state D.Link.Link) (D.picks door.entry.now) (D.made_by door.entry.now) T.Fault.number
+                turns.entry.now.items (length staff.hands.items) (items_of result.columns.items)
+                (sessions_of result.kept.items) result.ends.items × HasRoomOf staff.back result }
+        { handle_all(turns, rt, alloc, lobby, door, staff) },
+        move || -> (Desk<Pass<T>>, &mut C)
+            requires { AreWatched T.Seated T.lost handlers T.Noted.setting handlers (λ t. T.history t.opening)
+                (C.readings clock.now) (C.readings clock.now) turns.now.items desk.passes.items
+                desk.sights.items × IsSync R.row }
             ensures { (result.1.ghost_name ≡ clock.entry.ghost_name)
-                × IsIdle T.Noted.setting turn.entry.now result.0
-                × (result.0.number ≡ last.number)
-                × Ticks last.number [] result.0.seen (C.readings clock.entry.now)
-                (C.readings result.1.now) }
-        { tick_one(turn, rt, alloc, clock, last) },
+                × AreWatched T.Seated T.lost handlers T.Noted.setting handlers (λ t. T.history t.opening)
+                (C.readings clock.entry.now) (C.readings result.1.now) turns.entry.now.items
+                result.0.passes.items result.0.sights.items }
+        { tick_at(turns, rt, alloc, handlers, desk, clock) },
     );
     take_back(clock);
-    (dones, last)
+    (back, desk)
 }
 
-// Handles links with each of these passes, side by side: the last one here, the others in a thread beside it.
+// Handles links with each column of the passes, side by side: the last one here, the others in a thread beside it.
 #[cycle(handling)]
-fn handle_all<T: SharedGame, H: Host<Fault = <T as SharedGame>::Fault>, R: Threads + Wait + Sync>(
-    turn: &Turn<T>,
+fn handle_all<T: SharedGame, D: Door<Fault = <T as SharedGame>::Fault>, R: Threads + Wait + Sync>(
+    turns: &Vec<Turn<T>>,
     rt: &R,
     alloc: Global,
-    host: &H,
-    mut passes: Vec<Pass<T>>,
-    dones: Vec<DoneAt<T, H>>,
-) -> Vec<DoneAt<T, H>>
-    requires passes { AreNewPasses T.Noted.setting turn.now passes.items }
-    requires empty { dones.items ≡ [] }
-    requires room { length passes.items ≤ vec_capacity dones }
-    ensures done { AllDone (T.after (T.Noted.setting turn.now.opening)) T.reads T.joins
-        (T.sits (T.Noted.setting turn.now.opening))
-        (T.hears (T.Noted.setting turn.now.opening)) T.says (at_link H.Link.was_read
-        H.Link.left H.Link.written H.Link.read_faults H.Link.write_faults)
-        (H.made_by host.now) T.Fault.number T.Noted.setting turn.now (length passes.items)
-        result.items }
-    ensures count { length result.items ≡ length passes.items }
-    ensures room { vec_capacity result ≡ vec_capacity dones }
+    lobby: &Lobby,
+    door: &D,
+    mut staff: StaffAt<T, D>,
+) -> BackAt<T, D>
+    requires lobby { IsLobby T.says lobby.now }
+    requires picks { (line : List ℕ) → IsBelow (length turns.now.items) (D.picks door.now line) }
+    requires rows { AreNewRows T.Noted.setting T.history turns.now.items (length staff.hands.items)
+        (items_of staff.rows.items) }
+    requires hands { All (IsReady (length turns.now.items)) staff.hands.items }
+    requires few { length staff.hands.items < 256 }
+    requires back { HasRoom (length staff.hands.items) staff.back }
+    ensures done { AllDone T.Seated T.Noted.setting (link_state D.Link.Link) (D.picks door.now) (D.made_by door.now) T.Fault.number
+        turns.now.items (length staff.hands.items) (items_of result.columns.items)
+        (sessions_of result.kept.items) result.ends.items }
+    ensures room { HasRoomOf staff.back result }
 {
-    let Some(pass) = last_new(turn, &mut passes) else {
-        return dones;
+    let Some(hand) = staff.hands.pop() else {
+        return staff.back;
     };
-    let (mut dones, done) = join(
+    let number = staff.hands.len() as u8;
+    let Hand { passes, kept } = hand;
+    let passes = take_column(&mut staff.rows, passes);
+    let (mut back, done) = join(
         rt,
-        move || -> Vec<DoneAt<T, H>>
-            requires { AreNewPasses T.Noted.setting turn.now passes.items × (dones.items ≡ [])
-                × (length passes.items ≤ vec_capacity dones) × IsSync R.row }
-            ensures { AllDone (T.after (T.Noted.setting turn.entry.now.opening)) T.reads T.joins
-                (T.sits (T.Noted.setting turn.entry.now.opening))
-                (T.hears (T.Noted.setting turn.entry.now.opening)) T.says (at_link H.Link.was_read
-                H.Link.left H.Link.written H.Link.read_faults H.Link.write_faults)
-                (H.made_by host.entry.now) T.Fault.number T.Noted.setting turn.entry.now
-                (length passes.items) result.items × (length result.items ≡ length passes.items)
-                × (vec_capacity result ≡ vec_capacity dones) }
-        { handle_all(turn, rt, alloc, host, passes, dones) },
-        move || -> DoneAt<T, H>
-            requires { IsNewPass T.Noted.setting turn.now pass × IsSync R.row }
-            ensures { IsDone (T.after (T.Noted.setting turn.entry.now.opening)) T.reads T.joins
-                (T.sits (T.Noted.setting turn.entry.now.opening))
-                (T.hears (T.Noted.setting turn.entry.now.opening)) T.says (at_link H.Link.was_read
-                H.Link.left H.Link.written H.Link.read_faults H.Link.write_faults)
-                (H.made_by host.entry.now) T.Fault.number T.Noted.setting turn.entry.now pass result }
-        { handle_one(turn, rt, alloc, host, pass) },
+        move || -> BackAt<T, D>
+            requires { IsLobby T.says lobby.now
+                × ((line : List ℕ) → IsBelow (length turns.now.items) (D.picks door.now line))
+                × AreNewRows T.Noted.setting T.history turns.now.items (length staff.hands.items)
+                (items_of staff.rows.items)
+                × All (IsReady (length turns.now.items)) staff.hands.items
+                × (length staff.hands.items < 256) × HasRoom (length staff.hands.items) staff.back
+                × IsSync R.row }
+            ensures { AllDone T.Seated T.Noted.setting (link_state D.Link.Link) (D.picks door.entry.now) (D.made_by door.entry.now) T.Fault.number
+                turns.entry.now.items (length staff.hands.items) (items_of result.columns.items)
+                (sessions_of result.kept.items) result.ends.items × HasRoomOf staff.back result }
+        { handle_all(turns, rt, alloc, lobby, door, staff) },
+        move || -> DoneAt<T, D>
+            requires { IsLobby T.says lobby.now
+                × ((line : List ℕ) → IsBelow (length turns.now.items) (D.picks door.now line))
+                × AreNewPasses T.Noted.setting T.history turns.now.items number passes.items
+                × AreEmpty (length turns.now.items) kept.items × IsSync R.row }
+            ensures { IsDone T.Seated T.Noted.setting (link_state D.Link.Link) (D.picks door.entry.now) (D.made_by door.entry.now) T.Fault.number
+                turns.entry.now.items number result.hand.passes.items (rows result.hand.kept.items) result.end }
+        { handle_one(turns, rt, alloc, lobby, door, number, passes, kept) },
     );
-    dones.push_reserved(done);
-    dones
+    add_done(&mut back, done);
+    back
 }
 
-// Takes the last of some new passes.
-fn last_new<T: SharedGame>(turn: &Turn<T>, passes: &mut Vec<Pass<T>>) -> Option<Pass<T>>
-    requires { AreNewPasses T.Noted.setting turn.now passes.old.items }
-    ensures { MatchOption result (passes.old.items ≡ []) (λ p.
-        (p ≡ new_pass turn.now.id (T.Noted.setting turn.now.opening) (length passes.new.items))
-        × AreNewPasses T.Noted.setting turn.now passes.new.items
-        × (length passes.old.items ≡ length passes.new.items + 1)
-        × IsNewPass T.Noted.setting turn.now p) }
-{
-    passes.pop()
-}
-
-fn handle_one<T: SharedGame, H: Host<Fault = <T as SharedGame>::Fault>, R: Wait>(
-    turn: &Turn<T>,
+// Handles links with these new passes.
+fn handle_one<T: SharedGame, D: Door<Fault = <T as SharedGame>::Fault>, R: Wait>(
+    turns: &Vec<Turn<T>>,
     rt: &R,
     alloc: Global,
-    host: &H,
-    mut pass: Pass<T>,
-) -> DoneAt<T, H>
-    requires { IsNewPass T.Noted.setting turn.now pass }
-    ensures { IsDone (T.after (T.Noted.setting turn.now.opening)) T.reads T.joins
-        (T.sits (T.Noted.setting turn.now.opening))
-        (T.hears (T.Noted.setting turn.now.opening)) T.says (at_link H.Link.was_read
-        H.Link.left H.Link.written H.Link.read_faults H.Link.write_faults)
-        (H.made_by host.now) T.Fault.number T.Noted.setting turn.now pass result }
+    lobby: &Lobby,
+    door: &D,
+    number: u8,
+    mut passes: Vec<Pass<T>>,
+    mut kept: Vec<Vec<Session<D::Link>>>,
+) -> DoneAt<T, D>
+    requires lobby { IsLobby T.says lobby.now }
+    requires picks { (line : List ℕ) → IsBelow (length turns.now.items) (D.picks door.now line) }
+    requires passes { AreNewPasses T.Noted.setting T.history turns.now.items number passes.items }
+    requires kept { AreEmpty (length turns.now.items) kept.items }
+    ensures { IsDone T.Seated T.Noted.setting (link_state D.Link.Link) (D.picks door.now) (D.made_by door.now) T.Fault.number
+        turns.now.items number result.hand.passes.items (rows result.hand.kept.items) result.end }
 {
-    let mut sessions = Vec::new(alloc);
-    let end = handle_at(turn, rt, &mut pass, host, &mut sessions);
+    let end = handle(
+        turns.as_slice(),
+        rt,
+        alloc,
+        lobby,
+        door,
+        number,
+        passes.as_mut_slice(),
+        kept.as_mut_slice(),
+    );
     Done {
-        pass,
-        sessions,
+        hand: Hand { passes, kept },
         end,
     }
 }
 
-fn tick_one<'a, T: SharedGame, C: Clock, R: Wait>(
-    turn: &Turn<T>,
+// Puts what is left of one handler more after the others.
+fn add_done<P, L, F>(back: &mut Back<P, L, F>, done: Done<P, L, F>)
+    requires columns { vec_len back.old.columns + 1 ≤ vec_capacity back.old.columns }
+    requires kept { vec_len back.old.kept + 1 ≤ vec_capacity back.old.kept }
+    requires ends { vec_len back.old.ends + 1 ≤ vec_capacity back.old.ends }
+    ensures columns { back.new.columns.items ≡ back.old.columns.items ++ done.hand.passes ∷ [] }
+    ensures kept { back.new.kept.items ≡ back.old.kept.items ++ done.hand.kept ∷ [] }
+    ensures ends { back.new.ends.items ≡ back.old.ends.items ++ done.end ∷ [] }
+    ensures room { HasRoomOf back.old back.new }
+{
+    let Done { hand, end } = done;
+    back.columns.push_reserved(hand.passes);
+    back.kept.push_reserved(hand.kept);
+    back.ends.push_reserved(end);
+}
+
+// Tells the time at tables.
+fn tick_at<'a, T: SharedGame, C: Clock, R: Wait>(
+    turns: &Vec<Turn<T>>,
     rt: &R,
     alloc: Global,
+    handlers: u8,
+    desk: Desk<Pass<T>>,
     clock: &'a mut C,
-    mut pass: Pass<T>,
-) -> (Pass<T>, &'a mut C)
-    requires { IsNewPass T.Noted.setting turn.now pass }
+) -> (Desk<Pass<T>>, &'a mut C)
+    requires { AreWatched T.Seated T.lost handlers T.Noted.setting handlers (λ t. T.history t.opening)
+        (C.readings clock.now) (C.readings clock.now) turns.now.items desk.passes.items
+        desk.sights.items }
     ensures { (result.1.ghost_name ≡ clock.entry.ghost_name)
-        × IsIdle T.Noted.setting turn.now result.0 × (result.0.number ≡ pass.number)
-        × Ticks pass.number [] result.0.seen (C.readings clock.entry.now) (C.readings result.1.now) }
+        × AreWatched T.Seated T.lost handlers T.Noted.setting handlers (λ t. T.history t.opening)
+        (C.readings clock.entry.now) (C.readings result.1.now) turns.now.items
+        result.0.passes.items result.0.sights.items }
 {
-    let _ticked = tick_at(turn, rt, alloc, &mut pass, clock);
-    (pass, clock)
+    let Desk {
+        mut passes,
+        mut sights,
+    } = desk;
+    tick_all(
+        turns.as_slice(),
+        rt,
+        alloc,
+        handlers,
+        passes.as_mut_slice(),
+        sights.as_mut_slice(),
+        clock,
+    );
+    (Desk { passes, sights }, clock)
 }
 
 // Does nothing, but this use of a returned reference is what ties it, for the borrow checker, to the parameter that lent it.

@@ -1,12 +1,2 @@
-pub mod Places
-pub mod Handing
-pub mod Receiving
-pub mod Joined
-pub mod Desking
-pub mod Staffing
-pub mod Matching
-pub mod Rows
-pub mod Closing
-pub mod Together
-pub mod Final
-pub mod Rooms
+pub mod Sitting
+pub mod Coming

@@ -1,16 +1,8 @@
-//! Many tables over one host: each has a game under a turn of its own, handlers take links and serve each at the table that
-//! its first line is for, and one ticker goes round the tables.
+//! Many games over one host, each at a table of its own, with more handlers the more tables there are.
 #![tactic(auto)]
 
 mod closed;
-mod columns;
-mod door;
-mod hand;
-mod lobby;
-mod open;
 mod tables;
-mod ticker;
-mod worker;
 
 pub use closed::{ClosedTables, TableSession};
 pub use tables::{Tables, run_tables};

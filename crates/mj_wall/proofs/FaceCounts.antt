@@ -57,7 +57,8 @@ face_counts-none = refl
 pub face_counts-fits : (counts tiles : List ℕ) (i t place : ℕ) → i < length tiles → length tiles ≤ 255 → place ≡ t → t < 37 → counts ≡ face_counts (take i tiles) →
     get_or counts place 0 + 1 < 256
 face_counts-fits counts tiles i t place inside most is below before =
-    rw (before, is) (fits _ _ _ i (length tiles) (get_or-face_counts (take i tiles) t below) (count_by-le-length (λ tile. eqb tile t) (take i tiles)) (length-take-le i tiles (omega arith)) inside most)
+    rw (before, is) (fits _ _ _ i (length tiles) (get_or-face_counts (take i tiles) t below) (count_by-le-length (λ tile. eqb tile t) (take i tiles))
+    (length-take-le i tiles (omega arith)) inside most)
   where
     fits : (a b n i m : ℕ) → a ≡ b → b ≤ n → n ≡ i → i < m → m ≤ 255 → a + 1 < 256
     fits a b n i m e f g h k = omega arith

@@ -26,7 +26,8 @@ nothing : (a b c d : Option ℕ) (seat : ℕ) → rons_or (rons_on seat (four_pa
 unfolding best_bid
 nothing a b c d seat = rw (no_win a b c d ((seat + 1) % 4), no_win a b c d ((seat + 2) % 4), no_win a b c d ((seat + 3) % 4)) refl
 
-are_these : (given : Four Answer) (passes : ArePasses given) → record { first = answers.Pass passes.first.actor; second = answers.Pass passes.second.actor; third = answers.Pass passes.third.actor; fourth = answers.Pass passes.fourth.actor } ≡ given
+are_these : (given : Four Answer) (passes : ArePasses given)
+    → record { first = answers.Pass passes.first.actor; second = answers.Pass passes.second.actor; third = answers.Pass passes.third.actor; fourth = answers.Pass passes.fourth.actor } ≡ given
 are_these given passes = grind (arith, passes.first.is, passes.second.is, passes.third.is, passes.fourth.is)
 
 -- Whoever has discarded.

@@ -21,4 +21,5 @@ returns-then-not-has_each_red_once c =
 pub returns : goal.returns
 returns c =
     whole_hand c.args.gathered.now.held.items c.args.gathered.now.melded.items _ _ _ _ c.are_within_four.result (omega arith) (c.in-Some.ensures.1 ∙ ap kind_counts c.as_slice.ensures.value)
-    (c.in-Some-counts_of.ensures.1 ∙ ap kind_counts c.as_slice-2.ensures.value) c.room_left.ensures c.are_within_four.ensures c.if-not-are_within_four.false _ _ c.has_each_red_once.result c.as_slice-3.ensures.value c.as_slice-4.ensures.value c.has_each_red_once.ensures c.if-not-has_each_red_once.false
+    (c.in-Some-counts_of.ensures.1 ∙ ap kind_counts c.as_slice-2.ensures.value) c.room_left.ensures c.are_within_four.ensures c.if-not-are_within_four.false _ _
+    c.has_each_red_once.result c.as_slice-3.ensures.value c.as_slice-4.ensures.value c.has_each_red_once.ensures c.if-not-has_each_red_once.false

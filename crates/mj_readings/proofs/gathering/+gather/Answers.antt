@@ -39,7 +39,8 @@ gather_branch-returns-then-runs-triplets-eq0 t c =
 pub gather_branch-returns : goal.gather_branch-returns
 gather_branch-returns t c =
     on_ok_weaker c.gather-2.result
-    (branch_on c.args.others.now c.args.spot.now c.args.found.now.items c.gather-2.new.found.items c.args.melds.now c.args.sets.now c.sets_with-made.result c.args.winning c.args.runs c.args.triplets c.args.pair
+    (branch_on c.args.others.now c.args.spot.now c.args.found.now.items c.gather-2.new.found.items c.args.melds.now c.args.sets.now c.sets_with-made.result c.args.winning c.args.runs
+    c.args.triplets c.args.pair
     c.can_begin.result c.can_begin.ensures c.if-not-can_begin.false
     (c.sets_with-made.ensures ∙ ap (λ kind. c.args.sets.now ++ sets_at kind c.args.runs c.args.triplets) c.at.ensures)) c.gather-2.ensures
 

@@ -10,4 +10,5 @@ returns-then-spot-gt0 c = none_more _ c.args.melds.now c.args.winning c.args.set
 
 pub returns : goal.returns
 returns c = on_ok_weaker c.gather_wins.result
-    (end_wins c.args.found.now.items c.gather_wins.new.found.items c.args.melds.now c.args.sets.now c.args.winning c.in-Some.pair c.args.spot.now.left c.args.spot.now.pair c.in-Some.is c.if-spot-gt0.false) c.gather_wins.ensures
+    (end_wins c.args.found.now.items c.gather_wins.new.found.items c.args.melds.now c.args.sets.now c.args.winning c.in-Some.pair c.args.spot.now.left c.args.spot.now.pair c.in-Some.is
+    c.if-spot-gt0.false) c.gather_wins.ensures

@@ -12,7 +12,8 @@ loop-number-preserved c =
     elim c.if-count-eq2.branch [
       | then-count-eq2 w ↦
           pairs_with c.numbers-count-items.result.now c.args.counts.now c.loop-number.number c.loop-number.kinds c.if-count-eq2.kinds w.at.result
-          c.numbers-count-items.ensures.value w.if-count-eq2.true c.loop-number.invariant (omega (arith, c.loop-number-test.true, c.numbers-count-items.ensures.size)) w.at.ensures (w.kinds-is ∙ w.with-kinds.ensures)
+          c.numbers-count-items.ensures.value w.if-count-eq2.true c.loop-number.invariant (omega (arith, c.loop-number-test.true, c.numbers-count-items.ensures.size)) w.at.ensures
+          (w.kinds-is ∙ w.with-kinds.ensures)
       | else-count-eq2 w ↦
           pairs_without c.numbers-count-items.result.now c.args.counts.now c.loop-number.number c.loop-number.kinds c.if-count-eq2.kinds
           c.numbers-count-items.ensures.value w.if-count-eq2.false c.loop-number.invariant w.kinds-is

@@ -33,6 +33,8 @@ loop-number-preserved c =
 
 pub returns : goal.returns
 returns c = record {
-  value = waits-value c.args.counts.now c.args.room.now c.args.melds c.loop-number.kinds c.loop-number.number c.loop-number.invariant (omega (arith, c.loop-number-test.false, c.loop-number.auto.number-end));
-  law = waits-law c.args.counts.now c.args.room.now c.args.melds c.loop-number.kinds c.loop-number.number c.loop-number.invariant (omega (arith, c.loop-number-test.false, c.loop-number.auto.number-end));
+  value = waits-value c.args.counts.now c.args.room.now c.args.melds c.loop-number.kinds c.loop-number.number c.loop-number.invariant
+      (omega (arith, c.loop-number-test.false, c.loop-number.auto.number-end));
+  law = waits-law c.args.counts.now c.args.room.now c.args.melds c.loop-number.kinds c.loop-number.number c.loop-number.invariant
+      (omega (arith, c.loop-number-test.false, c.loop-number.auto.number-end));
 }

@@ -1,0 +1,152 @@
+-- What a handler has come to at tables.
+use Rattle.std.specs.Prelude.{◌≡◌, ℕ, ◌<◌, true, false, List, [], ◌∷◌, ◌++◌, length, Option, Some, None, slice_get}
+use Rattle.turn_lock.specs.Passes.{TurnState, PassState}
+use Rattle.turn_lock.specs.Turns.{IsIdle}
+use Rattle.mj_ports.specs.declared.entry.Entry.{Entry}
+use Rattle.mj_ports.specs.declared.picking.Picked.{Picked}
+use Rattle.mj_ports.specs.declared.picking.Picked.TheVariants as picked
+use Rattle.mj_ports.specs.declared.sitting.SitRefused.{SitRefused}
+use Rattle.mj_ports.specs.declared.sitting.SitRefused.TheVariants as refused
+use Rattle.mj_ports.specs.declared.answers.Control.{Control}
+use Rattle.mj_ports.specs.declared.answers.Control.TheVariants as control
+use Rattle.mj_ports.specs.declared.seated.Seated.{Ghosts}
+use Rattle.mj_session.specs.declared.served.Ended.{Ended}
+use Rattle.mj_session.specs.declared.served.Ended.TheVariants.{PeerEnded, LinkFault, LineTooLong, NotSeated}
+use Rattle.mj_session.specs.Histories.{Enters}
+use Rattle.mj_session.specs.Sessions.{WireEnds}
+use Rattle.mj_session.specs.Wires.{WireState, Took, Wrote, ToldInPart}
+use Rattle.mj_seats.specs.declared.lobby.Lobby.{Lobby}
+use Rattle.mj_seats.specs.declared.lobby.Received.{Received}
+use Rattle.mj_seats.specs.declared.lobby.Received.TheVariants as received
+use Rattle.mj_seats.specs.Handlers.{HandlerEnd, Over, Host, NoMemory, Session, IsNew, HandledIn}
+use Rattle.mj_seats.specs.Tables.{at_table}
+
+-- These are the lines of games that write lines so.
+pub record IsLobby {R : Type 0} (says : Control R → List ℕ) (l : Lobby) : Type 0 where
+  pub hello : l.hello.items ≡ says control.Hello
+  pub bad_name : l.bad_name.items ≡ says (control.SitRefused refused.BadName)
+  pub no_room : l.no_room.items ≡ says (control.SitRefused refused.NoRoom)
+
+-- A line is refused so that is for no table.
+abbrev pub RefusedBy : Picked → SitRefused → Type 0
+RefusedBy (picked.Table table) why = ⊥
+RefusedBy picked.BadName why = why ≡ refused.BadName
+RefusedBy picked.NoRoom why = why ≡ refused.NoRoom
+
+-- The session of a link without a table ended before its first line came, or by the refusal of this line.
+abbrev pub NoTableFor : (List ℕ → Picked) → Ended → List (List ℕ) → Type 0
+NoTableFor picks PeerEnded lines = lines ≡ []
+NoTableFor picks LinkFault lines = lines ≡ []
+NoTableFor picks LineTooLong lines = lines ≡ []
+NoTableFor picks (NotSeated why) lines = (line : List ℕ) × (lines ≡ line ∷ []) × RefusedBy (picks line) why
+NoTableFor picks _ lines = ⊥
+
+-- What is written on such a link: the hello line, and the line of its refusal.
+abbrev pub turned_away_by : Lobby → Ended → List ℕ
+turned_away_by l (NotSeated refused.BadName) = l.hello.items ++ l.bad_name.items
+turned_away_by l (NotSeated refused.NoRoom) = l.hello.items ++ l.no_room.items
+turned_away_by l _ = l.hello.items
+
+-- The session of a link without a table. After a failed write a prefix is written.
+pub record IsTurnedAway (picks : List ℕ → Picked) (l : Lobby) (x y : WireState) : Type 0 where
+  pub ended : Ended
+  pub lines : List (List ℕ)
+  pub rest : List ℕ
+  pub took : Took x y lines rest
+  pub no_table : NoTableFor picks ended lines
+  pub wrote : ToldInPart ⊥ x y [] (turned_away_by l ended)
+  pub wire_ends : WireEnds ended x y rest
+
+-- A link that was received was greeted, and one line came that is for the table; or its session ended without a table.
+abbrev pub Receives : (List ℕ → Picked) → Lobby → Received → WireState → WireState → Type 0
+Receives picks l (received.At table line) x y = (picks line.items ≡ picked.Table table) × Took x y (line.items ∷ []) [] × Wrote x y l.hello.items
+Receives picks l received.Nowhere x y = IsTurnedAway picks l x y
+Receives picks l received.NoMemory x y = Unit {0}
+
+-- A link that was greeted, and one line of which came, is told a refusal.
+abbrev pub Refuses : List ℕ → WireState → WireState → Type 0
+Refuses refusal y z =
+    (x : WireState) (hello line : List ℕ) → Took x y (line ∷ []) [] → Wrote x y hello
+    → Took x z (line ∷ []) [] × ToldInPart ⊥ x z [] (hello ++ refusal)
+
+-- The link of a wire was received: from when it came on it was greeted, and this line came alone.
+pub record WasReceived {L : Type 0} (at : List ℕ → L → WireState) (hello line : List ℕ) (y : WireState) : Type 0 where
+  pub start : L
+  pub is_new : IsNew (at [] start)
+  pub took : Took (at [] start) y (line ∷ []) []
+  pub told : Wrote (at [] start) y hello
+
+module _ {T S N : Type 0} (turns : List (TurnState T)) where
+  -- At each table below one the turn and the pass in its place are so.
+  abbrev pub AllBelow : (TurnState T → PassState T S N → Type 0) → ℕ → List (PassState T S N) → Type 0
+  AllBelow P count passes = (t : ℕ) (turn : TurnState T) (p : PassState T S N) → t < count → slice_get turns t ≡ Some turn → slice_get passes t ≡ Some p → P turn p
+
+module _ {T S N : Type 0} (setting : T → S) (turns : List (TurnState T)) where
+  -- Each pass is one of the turn in its place, and not busy.
+  abbrev pub AllIdle : List (PassState T S N) → Type 0
+  AllIdle passes = (t : ℕ) (turn : TurnState T) (p : PassState T S N) → slice_get turns t ≡ Some turn → slice_get passes t ≡ Some p → IsIdle setting turn p
+
+module _ {T S A : Type 0} (setting : T → S) (turns : List (TurnState T)) where
+  -- A pass took turns, and entered nothing.
+  pub record IsQuiet (turn : TurnState T) (p q : PassState T S (Entry A)) : Type 0 where
+    pub idle : IsIdle setting turn q
+    pub number_is : q.number ≡ p.number
+    pub nothing : Enters p.number p.seen q.seen []
+
+  -- So did each.
+  pub record AllQuiet (old new : List (PassState T S (Entry A))) : Type 0 where
+    pub many : length new ≡ length old
+    pub each : (t : ℕ) (turn : TurnState T) (p q : PassState T S (Entry A)) → slice_get turns t ≡ Some turn → slice_get old t ≡ Some p → slice_get new t ≡ Some q → IsQuiet turn p q
+
+module _ {T S A R : Type 0} (g : Ghosts T S A R) (setting : T → S) where
+  -- The history that a pass has seen is legal, and in it the game is over.
+  abbrev pub IsLegalAt : TurnState T → PassState T S (Entry A) → Type 0
+  IsLegalAt turn p = g.is_legal (setting turn.opening) p.seen
+
+  abbrev pub IsOverAt : TurnState T → PassState T S (Entry A) → Type 0
+  IsOverAt turn p = (g.after (setting turn.opening) p.seen).over ≡ true
+
+  module _ (turns : List (TurnState T)) where
+    abbrev pub AllLegal : List (PassState T S (Entry A)) → Type 0
+    AllLegal passes = AllBelow turns IsLegalAt (length turns) passes
+
+    -- The games of the tables below one are over in the histories seen.
+    abbrev pub AreOver : ℕ → List (PassState T S (Entry A)) → Type 0
+    AreOver count passes = AllBelow turns IsOverAt count passes
+
+    -- The game of a table below one goes on in the history seen.
+    pub record SomeGoesOn (count : ℕ) (passes : List (PassState T S (Entry A))) : Type 0 where
+      pub table : ℕ
+      pub turn : TurnState T
+      pub pass : PassState T S (Entry A)
+      pub below : table < count
+      pub turn_is : slice_get turns table ≡ Some turn
+      pub pass_is : slice_get passes table ≡ Some pass
+      pub on : (g.after (setting turn.opening) pass.seen).over ≡ false
+
+    -- How a handler ends: all games are over in the histories seen; or some goes on there, and the host failed the handler with
+    -- its number.
+    abbrev pub HandEnds : {F : Type 0} → (F → Type 0) → (F → ℕ) → HandlerEnd F → ℕ → List (PassState T S (Entry A)) → Type 0
+    HandEnds made number Over by passes = AreOver (length turns) passes
+    HandEnds made number (Host fault) by passes = made fault × (number fault ≡ by) × SomeGoesOn (length turns) passes
+    HandEnds made number NoMemory by passes = Unit {0}
+
+    abbrev pub HandEndsTo : {F : Type 0} → (F → Type 0) → (F → ℕ) → Option (HandlerEnd F) → ℕ → List (PassState T S (Entry A)) → Type 0
+    HandEndsTo made number None by passes = Unit {0}
+    HandEndsTo made number (Some end) by passes = HandEnds made number end by passes
+
+module _ {T S A R L : Type 0} (g : Ghosts T S A R) (setting : T → S) (at : List ℕ → L → WireState) (picks : List ℕ → Picked) where
+  -- At a table a handler's pass has this number, and, where the history that it has seen is legal, its sessions there are all that
+  -- it entered since the first entries.
+  pub record IsAtTable (excuse : Type 0) (by t : ℕ) (first : List (Entry A)) (turn : TurnState T) (p : PassState T S (Entry A)) (sessions : List (Session L)) : Type 0 where
+    pub number_is : p.number ≡ by
+    pub handled : IsLegalAt g setting turn p → HandledIn (at_table g picks t) (setting turn.opening) at excuse by first p.seen sessions
+
+  -- The same at each table.
+  abbrev pub IsHand : Type 0 → ℕ → (TurnState T → List (Entry A)) → List (TurnState T) → List (PassState T S (Entry A)) → List (List (Session L)) → Type 0
+  IsHand excuse by first turns passes kept = (t : ℕ) (turn : TurnState T) (p : PassState T S (Entry A)) (ss : List (Session L)) → slice_get turns t ≡ Some turn →
+      slice_get passes t ≡ Some p → slice_get kept t ≡ Some ss → IsAtTable excuse by t (first turn) turn p ss
+
+  -- What was so of all sessions before is so of them now, but for what running out of memory excuses.
+  abbrev pub Handles : Type 0 → ℕ → List (TurnState T) → List (PassState T S (Entry A)) → List (List (Session L)) → List (PassState T S (Entry A)) → List (List (Session L)) → Type 0
+  Handles excuse by turns passes kept passes' kept' = (first : TurnState T → List (Entry A)) → IsHand ⊥ by first turns passes kept → IsHand excuse by first turns passes' kept'
