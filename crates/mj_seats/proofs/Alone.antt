@@ -1,12 +1,11 @@
 -- A handler at one table.
-use Rattle.std.proofs.Common.{◌≡◌, ℕ, zero, suc, ◌+◌, ◌<◌, Bool, true, false, List, [], ◌∷◌, ◌++◌, length, map, refl, sym, ap, ◌∙◌, subst, arith, get_or}
-use Rattle.std.specs.Prelude.{Option, Some, None, slice_get, Vec}
+use Rattle.std.proofs.Common.{◌≡◌, ℕ, zero, suc, ◌<◌, false, List, [], ◌∷◌, length, refl, sym, ap, ◌∙◌, subst, arith, get_or}
+use Rattle.std.specs.Prelude.{Some, slice_get, Vec}
 use Rattle.std.specs.declared.alloc.Global.{Global}
 use Rattle.std.proofs.lemmas.Option.{slice_get-get_or}
 use Rattle.turn_lock.specs.Passes.{TurnState, PassState}
 use Rattle.turn_lock.specs.Turns.{IsIdle}
 use Rattle.mj_ports.specs.declared.entry.Entry.{Entry}
-use Rattle.mj_ports.specs.declared.picking.Picked.{Picked}
 use Rattle.mj_ports.specs.declared.picking.Picked.TheVariants.{Table}
 use Rattle.mj_ports.specs.declared.seated.Seated.{Ghosts}
 use Rattle.mj_seats.specs.declared.handle.Session.{Session}
@@ -15,8 +14,9 @@ use Rattle.mj_seats.specs.declared.handle.HandlerEnd.TheVariants.{Over, Host, No
 use Rattle.mj_seats.specs.Handlers.{HandlerEnds, rows}
 use Rattle.mj_session.specs.Histories.{Enters}
 use Rattle.mj_session.specs.Wires.{WireState}
-use Rattle.mj_seats.specs.Inner.Hands.{IsLegalAt, AllIdle, AllLegal, IsAtTable, IsHand, Handles, HandEnds}
-use Rattle.mj_seats.proofs.Besides.{same_some, no_some}
+use Rattle.mj_ticker.specs.Idle.{AllIdle}
+use Rattle.mj_seats.specs.Inner.Hands.{IsLegalAt, AllLegal, IsAtTable, IsHand, Handles, HandEnds}
+use Rattle.mj_ticker.proofs.Besides.{same_some, no_some}
 
 module _ {T S A : Type 0} (setting : T → S) where
   pub idle_one : (turn : TurnState T) (p : PassState T S (Entry A)) → IsIdle setting turn p → AllIdle setting (turn ∷ []) (p ∷ [])

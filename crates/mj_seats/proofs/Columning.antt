@@ -1,12 +1,11 @@
 -- Rows and columns, one of them more or less.
 use Rattle.std.proofs.Common.{◌≡◌, inl, inr, ℕ, zero, suc, ◌+◌, ◌<◌, ◌≤◌, List, [], ◌∷◌, ◌++◌, length, map, refl, sym, ap, ◌∙◌, subst, arith}
-use Rattle.std.specs.Prelude.{All, Option, Some, None, slice_get, Vec, vec_len, vec_capacity}
+use Rattle.std.specs.Prelude.{All, Some, slice_get, Vec, vec_len, vec_capacity}
 use Rattle.std.specs.declared.alloc.Global.{Global}
 use Rattle.std.proofs.lemmas.Option.{slice_get_within}
-use Rattle.std.proofs.lemmas.List.{length-append, length-map, map-append}
-use Rattle.std.proofs.lemmas.List.Elements.{All-weaker, All-pop}
+use Rattle.std.proofs.lemmas.List.{length-append, length-map}
 use Rattle.mj_seats.specs.Inner.Columns.{IsTaken, AreColumns, AreRows, items_of}
-use Rattle.mj_seats.proofs.Besides.{at_snoc, snoc_left, snoc_last, found, all_from, all_at, mapped, unmapped, map_snoc, same_some}
+use Rattle.mj_ticker.proofs.Besides.{at_snoc, snoc_left, snoc_last, found, all_from, all_at, mapped}
 
 -- two lists come to the same, place by place
 pub map_same : {X Y Z : Type 0} (f : X → Z) (h : Y → Z) (xs : List X) (ys : List Y) → length ys ≡ length xs

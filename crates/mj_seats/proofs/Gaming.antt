@@ -1,19 +1,18 @@
 -- What is so of rooms is so of the games in them, and what is so of one table is so of its game.
-use Rattle.std.proofs.Common.{◌≡◌, ℕ, zero, suc, ◌+◌, ◌<◌, List, [], ◌∷◌, ◌++◌, true, length, map, sym, ap, ◌∙◌, subst, subst₂, arith}
+use Rattle.std.proofs.Common.{◌≡◌, ℕ, zero, suc, ◌+◌, List, [], ◌∷◌, ◌++◌, true, length, map, sym, ap, ◌∙◌, subst, subst₂, arith}
 use Rattle.std.specs.Prelude.{All, Option, Some, slice_get, Result, Ok, Err, IfOk}
 use Rattle.std.specs.Option.{option_to_list}
 use Rattle.std.proofs.lemmas.List.{length-map}
 use Rattle.std.proofs.lemmas.List.Elements.{All-nil, All-cons, All-head, All-tail}
 use Rattle.mj_ports.specs.declared.entry.Entry.{Entry}
-use Rattle.mj_ports.specs.declared.picking.Picked.{Picked}
 use Rattle.mj_ports.specs.declared.picking.Picked.TheVariants.{Table}
 use Rattle.mj_ports.specs.declared.seated.Seated.{Ghosts}
 use Rattle.mj_session.specs.Wires.{WireState}
 use Rattle.mj_seats.specs.declared.handle.HandlerEnd.TheVariants as end
-use Rattle.mj_seats.specs.Beside.{Matches, Beside}
+use Rattle.mj_ticker.specs.Beside.{Matches, Beside}
 use Rattle.mj_seats.specs.Handlers.{HandlerEnd, Session}
 use Rattle.mj_seats.specs.Tables.{EndsWith, AllEndWith, IsOver, IsPlayedIn, IsPlayedAt, ArePlayed}
-use Rattle.mj_seats.proofs.Besides.{all_at, unmapped, popped, one_less}
+use Rattle.mj_ticker.proofs.Besides.{all_at, unmapped, popped, one_less}
 
 module _ {V G : Type 0} (f : V → G) where
   pub as_many : (rooms : List V) (games : List G) → map f rooms ≡ games → length rooms ≡ length games

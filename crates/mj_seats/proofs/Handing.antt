@@ -1,5 +1,5 @@
 -- What a handler does at tables.
-use Rattle.std.proofs.Common.{◌≡◌, ℕ, zero, suc, ◌+◌, ◌<◌, ◌==◌, if◌then◌else◌, Bool, true, false, List, [], ◌∷◌, ◌++◌, length, map, refl, sym, ap, ◌∙◌, subst, arith, set, get_or}
+use Rattle.std.proofs.Common.{◌≡◌, ℕ, zero, suc, ◌<◌, ◌==◌, if◌then◌else◌, Bool, true, false, List, [], ◌∷◌, ◌++◌, length, refl, sym, ap, ◌∙◌, subst, arith, set, get_or}
 use Rattle.std.specs.Prelude.{Some, slice_get, Vec}
 use Rattle.std.specs.declared.alloc.Global.{Global}
 use Rattle.std.proofs.lemmas.Option.{slice_get_read, slice_get_within, slice_get-get_or}
@@ -15,10 +15,10 @@ use Rattle.mj_ports.specs.SeatCalls.{IsRefused}
 use Rattle.mj_ports.specs.Seats.{Stays}
 use Rattle.mj_session.specs.Histories.{Enters}
 use Rattle.mj_session.specs.Wires.{WireState}
-use Rattle.mj_seats.specs.Handlers.{Session, Noted, HandledIn, rows}
-use Rattle.mj_seats.specs.Tables.{sits_by, sits_at, at_table}
-use Rattle.mj_seats.specs.Inner.Hands.{IsLegalAt, AllQuiet, IsAtTable, IsHand, Handles}
-use Rattle.mj_seats.proofs.Besides.{found, at_set, set_here, set_there, mapped}
+use Rattle.mj_seats.specs.Handlers.{Session, Noted, rows}
+use Rattle.mj_seats.specs.Tables.{sits_by, sits_at}
+use Rattle.mj_seats.specs.Inner.Hands.{AllQuiet, IsAtTable, IsHand, Handles}
+use Rattle.mj_ticker.proofs.Besides.{found, at_set, set_here, set_there}
 use Rattle.mj_seats.proofs.Handling.{IsOn, handled_on, handled_excused, handled_pushed, kept_grown}
 use Rattle.mj_seats.proofs.Whole.{seated_on}
 

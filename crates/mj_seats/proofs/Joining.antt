@@ -1,5 +1,5 @@
 -- What several handlers leave, put together.
-use Rattle.std.proofs.Common.{◌≡◌, ℕ, suc, ◌+◌, ◌<◌, ◌≤◌, List, [], ◌∷◌, ◌++◌, length, map, get_or, take, take_all, refl, sym, ap, ◌∙◌, subst, arith}
+use Rattle.std.proofs.Common.{◌≡◌, ℕ, suc, ◌+◌, ◌<◌, ◌≤◌, List, [], ◌∷◌, ◌++◌, length, get_or, take, take_all, refl, sym, ap, ◌∙◌, subst, arith}
 use Rattle.std.specs.Prelude.{All, flat_map, Some, slice_get, Vec, Result, IfOk, Ok, Err}
 use Rattle.std.specs.declared.alloc.Global.{Global}
 use Rattle.std.proofs.lemmas.List.{length-map}
@@ -8,10 +8,10 @@ use Rattle.std.proofs.lemmas.List.Elements.{All-push}
 use Rattle.std.proofs.Math.Seq.{take-suc}
 use Rattle.mj_seats.specs.declared.handle.HandlerEnd.TheVariants as end
 use Rattle.mj_seats.specs.declared.handle.Session.{Session}
-use Rattle.mj_seats.specs.Beside.{Beside}
+use Rattle.mj_ticker.specs.Beside.{Beside}
 use Rattle.mj_seats.specs.Handlers.{HandlerEnd, WantsMemory, rows}
 use Rattle.mj_seats.specs.Inner.Staffs.{AreJoined, sessions_of}
-use Rattle.mj_seats.proofs.Besides.{found, all_at, unmapped, map_snoc}
+use Rattle.mj_ticker.proofs.Besides.{found, all_at, unmapped, map_snoc}
 use Rattle.mj_seats.proofs.Snocs.{flat_one}
 
 module _ {L : Type 0} where

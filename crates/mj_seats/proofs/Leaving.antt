@@ -1,5 +1,5 @@
 -- What all tables come to, once their turns have ended.
-use Rattle.std.proofs.Common.{◌≡◌, ℕ, zero, suc, ◌+◌, ◌<◌, Bool, true, List, [], ◌∷◌, ◌++◌, length, map, get_or, refl, sym, ap, ◌∙◌, subst, arith, append_assoc}
+use Rattle.std.proofs.Common.{◌≡◌, ℕ, zero, suc, ◌+◌, ◌<◌, Bool, true, List, [], ◌∷◌, ◌++◌, length, map, get_or, sym, ap, ◌∙◌, subst, arith, append_assoc}
 use Rattle.std.specs.Prelude.{All, flat_map, Option, Some, None, slice_get}
 use Rattle.std.proofs.lemmas.List.{length-append, map-append}
 use Rattle.std.proofs.lemmas.List.Elements.{All-nil, All-push, All-pop}
@@ -16,23 +16,23 @@ use Rattle.mj_session.specs.Histories.{Enters}
 use Rattle.mj_session.specs.Wires.{WireState}
 use Rattle.mj_session.proofs.Entering.{enters_seen}
 use Rattle.mj_seats.specs.declared.handle.HandlerEnd.TheVariants as end
-use Rattle.mj_seats.specs.declared.ticker.Sight.{Sight}
-use Rattle.mj_seats.specs.Beside.{Matches, Beside}
+use Rattle.mj_ticker.specs.declared.ticker.Sight.{Sight}
+use Rattle.mj_ticker.specs.Beside.{Matches}
 use Rattle.mj_seats.specs.Handlers.{HandlerEnd, Session, WantsMemory}
-use Rattle.mj_seats.specs.Ticks.{Ticks}
+use Rattle.mj_ticker.specs.Ticks.{Ticks}
 use Rattle.mj_seats.specs.Workers.{IsPlayedBy}
 use Rattle.mj_seats.specs.Tables.{sits_at, IsOver, ComesBack, IsPlayedAt, ArePlayed, EndsWith, AllEndWith}
-use Rattle.mj_seats.specs.Inner.Columns.{AreColumns, AreRows}
+use Rattle.mj_seats.specs.Inner.Columns.{AreRows}
 use Rattle.mj_seats.specs.Inner.Ended.{HasEnded}
 use Rattle.mj_seats.specs.Inner.Hands.{AreOver, HandEnds}
 use Rattle.mj_seats.specs.Inner.Opened.{IsOpened, IsFullRow, IsClosed}
-use Rattle.mj_seats.specs.Inner.Staffs.{IsDone, AllDone, AreJoined}
-use Rattle.mj_seats.specs.Inner.Watches.{watch_of, IsWatched, AreWatched}
-use Rattle.mj_seats.proofs.Besides.{found, all_from, all_at, mapped}
+use Rattle.mj_seats.specs.Inner.Staffs.{AllDone, AreJoined}
+use Rattle.mj_ticker.specs.Watches.{watch_of, IsWatched, AreWatched}
+use Rattle.mj_ticker.proofs.Besides.{found, all_from, all_at}
 use Rattle.mj_seats.proofs.Handling.{handled_excused}
 use Rattle.mj_seats.proofs.Opening.{back_closed}
 use Rattle.mj_seats.proofs.Snocs.{flat_one, none_mapped, some_snoc}
-use Rattle.mj_seats.proofs.Timing.{ticks_of}
+use Rattle.mj_ticker.proofs.Timing.{ticks_of}
 use Rattle.mj_seats.proofs.Whole.{stays_from}
 use Rattle.mj_seats.proofs.Working.{AllLeft, ticks_on, played_is}
 

@@ -1,5 +1,5 @@
 -- Turns that are made of tables, and tables whose turns have ended.
-use Rattle.std.proofs.Common.{◌≡◌, ℕ, zero, suc, ◌+◌, ◌<◌, ◌≤◌, List, [], ◌∷◌, ◌++◌, length, map, refl, sym, ap, ◌∙◌, subst, arith, append_assoc, append-nil}
+use Rattle.std.proofs.Common.{◌≡◌, ℕ, zero, suc, ◌<◌, List, [], ◌∷◌, ◌++◌, length, map, refl, sym, ap, ◌∙◌, subst, arith, append_assoc, append-nil}
 use Rattle.std.specs.Prelude.{All, Some, slice_get, Vec, vec_len}
 use Rattle.std.specs.declared.alloc.Global.{Global}
 use Rattle.std.proofs.lemmas.List.{length-append, length-map}
@@ -10,10 +10,10 @@ use Rattle.turn_lock.specs.Turns.{IsIdle, IsSeenIn, pass_from, passes_from}
 use Rattle.mj_ports.specs.declared.entry.Entry.{Entry}
 use Rattle.mj_ports.specs.declared.seated.Seated.{Ghosts}
 use Rattle.mj_ports.specs.Entries.{author_of}
-use Rattle.mj_seats.specs.Beside.{Matches}
+use Rattle.mj_ticker.specs.Beside.{Matches}
 use Rattle.mj_seats.specs.Tables.{ComesBack}
 use Rattle.mj_seats.specs.Inner.Opened.{IsOpened, IsNewRow, IsFullRow, IsClosed, AllClosed}
-use Rattle.mj_seats.proofs.Besides.{same_some, found, mapped, all_at, all_from}
+use Rattle.mj_ticker.proofs.Besides.{same_some, found, mapped, all_at, all_from}
 
 module _ {T S N : Type 0} (turn : TurnState T) (fixed : S) (seen : List N) where
   -- passes of a turn that began with these notes: how many, none is busy, and each has seen them
@@ -102,7 +102,7 @@ module _ {T S A R : Type 0} (g : Ghosts T S A R) where
         longer : (xs ys zs mid all : List (Entry A)) → mid ≡ xs ++ ys → mid ++ zs ≡ all → xs ++ (ys ++ zs) ≡ all
         longer xs ys zs mid all e f = sym (append_assoc xs ys zs) ∙ (ap (λ (l : List (Entry A)). l ++ zs) (sym e) ∙ f)
 
-    -- the same of tables whose turns took no turn
+    -- tables whose turns were made new and have ended come back
     pub back_new : (count : ℕ) (tables olds : List T) (turns : List (TurnState T)) (rows : List (List (PassState T S (Entry A)))) → 0 < count → Matches (IsOpened count) olds turns →
         Matches (IsNewRow setting g.history count) turns rows → AllClosed g setting turns rows tables → Matches (ComesBack g) olds tables
     back_new count tables olds turns rows some opened new closed = record {

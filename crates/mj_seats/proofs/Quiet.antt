@@ -1,5 +1,5 @@
 -- Turns of a handler at tables, in which it enters nothing.
-use Rattle.std.proofs.Common.{◌≡◌, inl, inr, ℕ, zero, suc, ◌+◌, ◌<◌, ◌≤◌, Bool, true, false, ◌&&◌, true≢false, List, [], ◌∷◌, length, refl, sym, ap, ◌∙◌, subst, arith, set, get_or}
+use Rattle.std.proofs.Common.{◌≡◌, ℕ, zero, suc, ◌+◌, ◌<◌, ◌≤◌, Bool, true, false, ◌&&◌, true≢false, List, [], ◌∷◌, length, refl, sym, ◌∙◌, subst, arith, set, get_or}
 use Rattle.std.specs.Prelude.{Some, slice_get}
 use Rattle.std.proofs.lemmas.List.{length-set}
 use Rattle.std.proofs.lemmas.Option.{slice_get_read, slice_get_within, slice_get-get_or}
@@ -9,22 +9,9 @@ use Rattle.mj_ports.specs.declared.entry.Entry.{Entry}
 use Rattle.mj_ports.specs.declared.seated.Seated.{Ghosts}
 use Rattle.mj_session.specs.Histories.{Enters}
 use Rattle.mj_connection.proofs.Growing.{enters_chain, enters_nothing}
-use Rattle.mj_seats.specs.Inner.Hands.{AllBelow, AllIdle, IsQuiet, AllQuiet, SomeGoesOn}
-use Rattle.mj_seats.proofs.Besides.{same_some, found, at_set}
-
-module _ {T S N : Type 0} (setting : T → S) (turns : List (TurnState T)) where
-  pub idle_read : (passes : List (PassState T S N)) (i : ℕ) (turn : TurnState T) (p : PassState T S N) → i < length turns → length passes ≡ length turns →
-      turn ≡ get_or turns i turn → p ≡ get_or passes i p → AllIdle setting turns passes → IsIdle setting turn p
-  idle_read passes i turn p near many this here idle = idle i turn p (slice_get_read turns (length turns) i turn refl near this) (slice_get_read passes (length turns) i p (sym many) near here)
-
-  pub idle_at : (passes : List (PassState T S N)) (i : ℕ) (turn : TurnState T) (d : PassState T S N) → i < length turns → length passes ≡ length turns →
-      turn ≡ get_or turns i turn → AllIdle setting turns passes → IsIdle setting turn (get_or passes i d)
-  idle_at passes i turn d near many this idle = idle i turn (get_or passes i d) (slice_get_read turns (length turns) i turn refl near this) (slice_get-get_or passes i d (omega (arith, near, many)))
-
-  -- passes that are not busy stay so where one is put in place of another
-  pub idle_set : (passes : List (PassState T S N)) (i : ℕ) (turn : TurnState T) (q : PassState T S N) → i < length turns → turn ≡ get_or turns i turn →
-      IsIdle setting turn q → AllIdle setting turns passes → AllIdle setting turns (set passes i q)
-  idle_set passes i turn q near this idle all = at_set (λ t a b. IsIdle setting a b) (λ t a b. IsIdle setting a b) turns passes i turn q near this idle (λ t a b other h. h) all
+use Rattle.mj_ticker.specs.Idle.{AllIdle}
+use Rattle.mj_seats.specs.Inner.Hands.{AllBelow, IsQuiet, AllQuiet, SomeGoesOn}
+use Rattle.mj_ticker.proofs.Besides.{same_some, found, at_set}
 
 module _ {T S A : Type 0} (setting : T → S) (turns : List (TurnState T)) where
   -- passes that took no turn
@@ -65,11 +52,6 @@ module _ {T S A : Type 0} (setting : T → S) (turns : List (TurnState T)) where
 
 pub no_false : {B : Type 0} → true ≡ false → B
 no_false e = absurd (true≢false e)
-
-pub both_true : (a b : Bool) → (a && b) ≡ true → (a ≡ true) × (b ≡ true)
-both_true true true e = (refl, refl)
-both_true true false e = (refl, e)
-both_true false b e = absurd (true≢false (sym e))
 
 module _ {T S N : Type 0} (turns : List (TurnState T)) (P : TurnState T → PassState T S N → Type 0) where
   pub below_none : (passes : List (PassState T S N)) → AllBelow turns P 0 passes

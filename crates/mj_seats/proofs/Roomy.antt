@@ -1,10 +1,10 @@
 -- Lists in which there is room for one more.
-use Rattle.std.proofs.Common.{◌≡◌, inl, inr, ℕ, zero, suc, ◌+◌, ◌<◌, ◌≤◌, List, [], ◌∷◌, length, map, refl, sym, ap, ◌∙◌, subst, arith, set, get_or, vec_len, vec_capacity}
+use Rattle.std.proofs.Common.{◌≡◌, inl, inr, ℕ, zero, suc, ◌+◌, ◌<◌, ◌≤◌, List, [], ◌∷◌, length, refl, sym, ap, subst, arith, set, get_or, vec_len, vec_capacity}
 use Rattle.std.specs.Prelude.{Some, slice_get, Vec}
 use Rattle.std.specs.declared.alloc.Global.{Global}
 use Rattle.std.proofs.lemmas.Bool.Decides.{eqb_tells}
 use Rattle.mj_seats.specs.declared.handle.Session.{Session}
-use Rattle.mj_seats.proofs.Besides.{set_here, set_there}
+use Rattle.mj_ticker.proofs.Besides.{set_here, set_there}
 use Rattle.mj_seats.specs.Handlers.{rows}
 
 module _ {L : Type 0} where

@@ -1,6 +1,6 @@
 -- How handlers and the ticker begin, and what is left of one handler more.
-use Rattle.std.proofs.Common.{◌≡◌, ℕ, zero, suc, ◌+◌, ◌<◌, ◌≤◌, Bool, List, [], ◌∷◌, ◌++◌, length, map, get_or, refl, sym, ap, ◌∙◌, subst, subst₂, arith}
-use Rattle.std.specs.Prelude.{All, Option, Some, None, slice_get, Vec, vec_len, vec_capacity}
+use Rattle.std.proofs.Common.{◌≡◌, ℕ, zero, suc, ◌+◌, ◌<◌, ◌≤◌, Bool, List, [], ◌∷◌, ◌++◌, length, refl, sym, ap, ◌∙◌, subst, subst₂, arith}
+use Rattle.std.specs.Prelude.{All, Option, Some, slice_get, Vec, vec_len, vec_capacity}
 use Rattle.std.specs.declared.alloc.Global.{Global}
 use Rattle.std.proofs.lemmas.List.{length-append, length-map}
 use Rattle.std.proofs.lemmas.List.Elements.{All-nil, All-push, All-pop}
@@ -12,19 +12,19 @@ use Rattle.mj_ports.specs.declared.picking.Picked.{Picked}
 use Rattle.mj_ports.specs.declared.seated.Seated.{Ghosts}
 use Rattle.mj_connection.proofs.Growing.{enters_nothing}
 use Rattle.mj_session.specs.Wires.{WireState}
-use Rattle.mj_seats.specs.declared.ticker.Watch.{Watch}
-use Rattle.mj_seats.specs.declared.ticker.Sight.{Sight}
-use Rattle.mj_seats.specs.declared.ticker.Sight.TheVariants as sight
+use Rattle.mj_ticker.specs.declared.ticker.Sight.{Sight}
+use Rattle.mj_ticker.specs.declared.ticker.Sight.TheVariants as sight
 use Rattle.mj_seats.specs.declared.worker.Back.{Back}
 use Rattle.mj_seats.specs.declared.worker.Hand.{Hand}
 use Rattle.mj_seats.specs.Handlers.{HandlerEnd, Session, WantsMemory, rows}
-use Rattle.mj_seats.specs.Inner.Hands.{AllIdle, IsHand, IsAtTable, Handles, HandEnds}
+use Rattle.mj_ticker.specs.Idle.{AllIdle}
+use Rattle.mj_seats.specs.Inner.Hands.{IsHand, IsAtTable, Handles, HandEnds}
 use Rattle.mj_seats.specs.Inner.Columns.{IsTaken, AreColumns, AreRows, items_of}
 use Rattle.mj_seats.specs.Inner.Staffs.{AreNewRows, AreNewPasses, AreEmpty, IsReady, HasRoom, HasRoomOf, IsDone, AllDone, sessions_of}
-use Rattle.mj_seats.specs.Inner.Watches.{IsWatched, AreWatched}
-use Rattle.mj_seats.proofs.Besides.{found, all_at, all_from, mapped, unmapped, map_snoc}
+use Rattle.mj_ticker.specs.Watches.{IsWatched, AreWatched}
+use Rattle.mj_ticker.proofs.Besides.{found, all_at, all_from, mapped, unmapped, map_snoc}
 use Rattle.mj_seats.proofs.Snocs.{same_snoc}
-use Rattle.mj_seats.proofs.Visiting.{watched_start}
+use Rattle.mj_ticker.proofs.Visiting.{watched_start}
 
 next : (k : ℕ) → k + 1 ≡ suc k
 next k = omega arith
@@ -59,7 +59,7 @@ module _ {T S N : Type 0} (setting : T → S) (notes : T → List N) (turns : Li
           let left = found new t (omega (arith, near, rows.many, taken.second)) in
           (parted t turn row.0 left.0 p gt row.1 left.1 gp).1
 
-  -- the same, by a count
+  -- the last pass of each row of so many new passes
   pub taken_last : (n count : ℕ) (old new : List (List (PassState T S N))) (column : List (PassState T S N)) → count ≡ n + 1 → IsTaken old new column →
       AreNewRows setting notes turns count old → AreNewRows setting notes turns n new × AreNewPasses setting notes turns n column
   taken_last n count old new column more taken rows = taken_new n old new column taken (subst (λ (k : ℕ). AreNewRows setting notes turns k old) (more ∙ next n) rows)
@@ -68,7 +68,7 @@ module _ {T S N : Type 0} (setting : T → S) (notes : T → List N) (turns : Li
   pub new_idle : (number : ℕ) (passes : List (PassState T S N)) → AreNewPasses setting notes turns number passes → AllIdle setting turns passes
   new_idle number passes new t turn p gt gp = subst (λ (q : PassState T S N). IsIdle setting turn q) (sym (new.each t turn p gt gp)) (record { turn_is = refl; setting_is = refl; busy_is = refl })
 
-  -- the same of slices
+  -- new passes that slices hold are not busy
   pub idle_begun : (turns' : List (TurnState T)) (number : ℕ) (passes passes' : List (PassState T S N)) → turns' ≡ turns → passes' ≡ passes →
       AreNewPasses setting notes turns number passes → AllIdle setting turns' passes'
   idle_begun turns' number passes passes' same is new =

@@ -9,7 +9,7 @@ use Rattle.mj_ports.specs.declared.answers.SitAnswer.{SitAnswer}
 use Rattle.mj_ports.specs.declared.answers.SitAnswer.TheVariants as sit
 use Rattle.mj_ports.specs.declared.seated.Seated.{Ghosts}
 use Rattle.mj_session.specs.Wires.{WireState}
-use Rattle.mj_seats.specs.Beside.{Beside}
+use Rattle.mj_ticker.specs.Beside.{Beside}
 use Rattle.mj_seats.specs.Handlers.{HandlerEnd, Over, Host, NoMemory, Session}
 use Rattle.mj_seats.specs.Workers.{IsPlayedBy}
 
@@ -56,7 +56,7 @@ module _ {G S A R L : Type 0} (g : Ghosts G S A R) (at : List ℕ → L → Wire
       (g.setting game ≡ g.setting was) × g.is_legal (g.setting was) (g.history game)
       × IsPlayedIn (at_table g picks table) (g.setting was) at handlers (g.history was) (g.history game) sessions was_read read
 
-  -- The same of games at the tables in their places.
+  -- What comes of games that were played at the tables in their places.
   abbrev pub ArePlayed : List G → List G → List (List (Session L)) → Type 0
   ArePlayed were games sessions = Beside IsPlayedAt were games sessions
 

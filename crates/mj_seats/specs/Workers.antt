@@ -9,7 +9,7 @@ use Rattle.mj_ports.specs.Seats.{script}
 use Rattle.mj_session.specs.Histories.{Enters, begins_one}
 use Rattle.mj_session.specs.Wires.{WireState}
 use Rattle.mj_seats.specs.Handlers.{Session, Noted}
-use Rattle.mj_seats.specs.Ticks.{Ticks}
+use Rattle.mj_ticker.specs.Ticks.{Ticks}
 
 module _ {A : Type 0} where
   -- The places of all Sat and Back entries, the oldest first, where the first entry has this place.

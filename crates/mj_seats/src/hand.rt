@@ -7,7 +7,8 @@ ghost use Rattle.mj_ports.specs.declared.picking.Picked.TheVariants.{Table};
 ghost use Rattle.mj_seats.specs.declared.handle.Finding.TheVariants as finding;
 ghost use Rattle.mj_seats.specs.Handlers.{WantsMemory, rows, link_state};
 ghost use Rattle.mj_seats.specs.Tables.{IsBelow};
-ghost use Rattle.mj_seats.specs.Inner.Hands.{AllIdle, AllQuiet, AllLegal, AreOver, SomeGoesOn, HandEnds, HandEndsTo, IsLobby, WasReceived, Handles};
+ghost use Rattle.mj_ticker.specs.Idle.{AllIdle};
+ghost use Rattle.mj_seats.specs.Inner.Hands.{AllQuiet, AllLegal, AreOver, SomeGoesOn, HandEnds, HandEndsTo, IsLobby, WasReceived, Handles};
 ghost use Rattle.mj_session.specs.Sessions.{IsExcused};
 ghost use Rattle.mj_session.specs.Wires.{wire_state};
 

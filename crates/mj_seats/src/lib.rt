@@ -12,11 +12,10 @@ mod one;
 mod open;
 mod play;
 mod rooms;
-mod ticker;
 mod worker;
 
 pub use handle::{HandlerEnd, Session};
 pub use mj_session::{Ended, Lost, Room, Served, SharedGame, hold, serve_joined, serve_seat};
+pub use mj_ticker::{Ticked, tick};
 pub use one::{Closed, ClosedGame, handler, run_workers};
 pub use play::{Played, PlayedBy, play_tables};
-pub use ticker::{Ticked, tick};

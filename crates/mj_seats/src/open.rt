@@ -1,7 +1,7 @@
 // How turns of tables are made, and how they end.
 ghost use Rattle.std.specs.Prelude.{◌≡◌, ◌≤◌, ◌<◌, ◌+◌, ◌++◌, [], ◌∷◌, All, IfOk, IfErr, List, length, vec_len, vec_capacity};
 ghost use Rattle.mj_ports.specs.Entries.{author_of};
-ghost use Rattle.mj_seats.specs.Beside.{Matches};
+ghost use Rattle.mj_ticker.specs.Beside.{Matches};
 ghost use Rattle.mj_seats.specs.Tables.{ComesBack};
 ghost use Rattle.mj_seats.specs.Inner.Columns.{items_of};
 ghost use Rattle.mj_seats.specs.Inner.Opened.{IsOpened, Opens, IsNewRow, IsFullRow, AllClosed};

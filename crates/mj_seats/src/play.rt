@@ -2,14 +2,14 @@
 
 ghost use Rattle.std.specs.Prelude.{◌≡◌, ◌≤◌, ◌<◌, ◌+◌, ℕ, List, [], All, IfOk, length, vec_capacity, vec_len};
 ghost use Rattle.mj_ports.specs.Entries.{author_of};
-ghost use Rattle.mj_seats.specs.Beside.{Matches};
+ghost use Rattle.mj_ticker.specs.Beside.{Matches};
 ghost use Rattle.mj_seats.specs.Handlers.{rows, link_state};
 ghost use Rattle.mj_seats.specs.Tables.{IsBelow, ComesBack, ArePlayed, AllEndWith, IsOver};
 ghost use Rattle.mj_seats.specs.Inner.Columns.{items_of};
 ghost use Rattle.mj_seats.specs.Inner.Hands.{IsLobby};
 ghost use Rattle.mj_seats.specs.Inner.Opened.{IsOpened};
 ghost use Rattle.mj_seats.specs.Inner.Staffs.{AreNewRows, IsReady, HasRoom, sessions_of};
-ghost use Rattle.mj_seats.specs.Inner.Watches.{AreWatched};
+ghost use Rattle.mj_ticker.specs.Watches.{AreWatched};
 ghost use Rattle.mj_seats.specs.Inner.Ended.{HasEnded};
 
 use crate::columns::{fill_rows, take_column};
@@ -70,7 +70,7 @@ pub fn play_tables<G: Seated, H: Host, C: Clock, P: Picker, R: Threads + Wait + 
     played
 }
 
-// The same at any tables.
+// Plays the games at any tables to their ends, or until the host has failed each handler.
 fn run_in<
     T: SharedGame,
     H: Host<Fault = <T as SharedGame>::Fault>,

@@ -1,15 +1,15 @@
 // Games in their rooms, and what is reserved before workers play.
 ghost use Rattle.std.specs.Prelude.{◌≡◌, ◌≤◌, ◌<◌, ◌+◌, [], All, IfOk, IfErr, length, map, vec_len, vec_capacity};
-ghost use Rattle.mj_seats.specs.declared.ticker.Sight.TheVariants.{Nothing};
+ghost use Rattle.mj_ticker.specs.declared.ticker.Sight.TheVariants.{Nothing};
 ghost use Rattle.mj_seats.specs.Inner.Staffs.{IsReady, HasRoom};
 
 use crate::gather::empty_lists;
 use crate::open::Opened;
-use crate::ticker::Sight;
 use crate::worker::{Back, Desk, Hand};
 use mj_links::Numbered;
 use mj_ports::Seated;
 use mj_session::{Lost, Room};
+use mj_ticker::Sight;
 use std::alloc::{AllocError, Global};
 use turn_lock::{Noted, Pass, Turn};
 

@@ -6,16 +6,16 @@ ghost use Rattle.mj_seats.specs.Tables.{IsBelow};
 ghost use Rattle.mj_seats.specs.Inner.Columns.{items_of};
 ghost use Rattle.mj_seats.specs.Inner.Hands.{IsLobby};
 ghost use Rattle.mj_seats.specs.Inner.Staffs.{AreNewRows, AreNewPasses, AreEmpty, IsReady, HasRoom, HasRoomOf, IsDone, AllDone, sessions_of};
-ghost use Rattle.mj_seats.specs.Inner.Watches.{AreWatched};
+ghost use Rattle.mj_ticker.specs.Watches.{AreWatched};
 
 use crate::columns::take_column;
 use crate::door::Door;
 use crate::hand::handle;
 use crate::handle::{HandlerEnd, Session};
 use crate::lobby::Lobby;
-use crate::ticker::{Sight, tick_all};
 use mj_links::Clock;
 use mj_session::SharedGame;
+use mj_ticker::{Sight, tick_all};
 use std::alloc::Global;
 use std::sync::Wait;
 use std::thread::{Threads, join};

@@ -115,16 +115,6 @@ pub fn close<T: SharedGame>(turn: Turn<T>, passes: Vec<Pass<T>>) -> T
     table
 }
 
-/// Marks that memory was wanting, and enters nothing.
-pub fn give_up<T: SharedGame, R: Wait>(turn: &Turn<T>, rt: &R, pass: &mut Pass<T>)
-    requires { IsIdle T.Noted.setting turn.now pass.old }
-    ensures idle { IsIdle T.Noted.setting turn.now pass.new × (pass.new.number ≡ pass.old.number) }
-    ensures nothing { Enters pass.old.number pass.old.seen pass.new.seen [] }
-{
-    let held = take(turn, rt, pass);
-    give(turn, pass, held, true);
-}
-
 fn mark<T: SharedGame>(table: &mut T, wanting: bool)
     ensures value { table.new ≡ (if wanting then T.dried table.old else table.old) }
     ensures setting { T.Seated.setting table.new ≡ T.Seated.setting table.old }

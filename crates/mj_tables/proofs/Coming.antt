@@ -8,7 +8,7 @@ use Rattle.mj_ports.specs.declared.seated.Seated.{Ghosts}
 use Rattle.mj_seats.specs.declared.handle.Session.{Session}
 use Rattle.mj_seats.specs.Handlers.{WireState}
 use Rattle.mj_seats.specs.Tables.{IsPlayedIn, ArePlayed, at_table}
-use Rattle.mj_seats.proofs.Besides.{found, all_from, all_at}
+use Rattle.mj_ticker.proofs.Besides.{found, all_from, all_at}
 
 module _ {G S A R : Type 0} (g : Ghosts G S A R) where
   abbrev pub IsNew : G → Type 0

@@ -6,7 +6,7 @@ use Rattle.std.proofs.lemmas.Option.{slice_get_within}
 use Rattle.mj_seats.specs.declared.handle.Session.{Session}
 use Rattle.mj_tables.specs.declared.closed.TableSession.{TableSession}
 use Rattle.mj_tables.specs.Tables.{sessions_at}
-use Rattle.mj_seats.proofs.Besides.{at_snoc}
+use Rattle.mj_ticker.proofs.Besides.{at_snoc}
 
 same_number : (n : ℕ) → (n == n) ≡ true
 same_number n = grind arith

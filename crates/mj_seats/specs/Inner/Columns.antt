@@ -1,7 +1,7 @@
 -- Rows and columns of values.
 use Rattle.std.specs.Prelude.{◌≡◌, ℕ, All, List, [], ◌∷◌, ◌++◌, length, map, Some, slice_get, Vec}
 use Rattle.std.specs.declared.alloc.Global.{Global}
-use Rattle.mj_seats.specs.Beside.{Beside}
+use Rattle.mj_ticker.specs.Beside.{Beside}
 
 module _ {X : Type 0} where
   -- What lists hold.

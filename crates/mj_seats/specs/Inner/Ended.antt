@@ -1,18 +1,16 @@
 -- What is left of the games of turns, once they have ended.
-use Rattle.std.specs.Prelude.{◌≡◌, ℕ, ◌+◌, Bool, zero, suc, List, [], ◌∷◌, ◌++◌, length, Option, map}
+use Rattle.std.specs.Prelude.{ℕ, Bool, List, [], ◌∷◌, ◌++◌, length, Option}
 use Rattle.turn_lock.specs.Passes.{TurnState, PassState}
-use Rattle.turn_lock.specs.Turns.{IsIdle}
 use Rattle.mj_ports.specs.declared.entry.Entry.{Entry}
 use Rattle.mj_ports.specs.declared.picking.Picked.{Picked}
 use Rattle.mj_ports.specs.declared.seated.Seated.{Ghosts}
-use Rattle.mj_session.specs.Histories.{places_of}
 use Rattle.mj_session.specs.Wires.{WireState}
-use Rattle.mj_seats.specs.declared.ticker.Sight.{Sight}
-use Rattle.mj_seats.specs.Handlers.{HandlerEnd, Session, HandledIn}
+use Rattle.mj_ticker.specs.declared.ticker.Sight.{Sight}
+use Rattle.mj_seats.specs.Handlers.{HandlerEnd, Session}
 use Rattle.mj_seats.specs.Inner.Columns.{AreRows}
 use Rattle.mj_seats.specs.Inner.Opened.{AllClosed}
 use Rattle.mj_seats.specs.Inner.Staffs.{AllDone}
-use Rattle.mj_seats.specs.Inner.Watches.{AreWatched}
+use Rattle.mj_ticker.specs.Watches.{AreWatched}
 
 module _ {T S A R L F : Type 0} (g : Ghosts T S A R) (lost : T → ℕ → Bool) (setting : T → S) (at : List ℕ → L → WireState) (picks : List ℕ → Picked) (made : F → Type 0)
     (number : F → ℕ) (handlers : ℕ) (turns : List (TurnState T)) (r0 r1 : Option (List ℕ)) where

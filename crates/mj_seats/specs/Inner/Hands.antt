@@ -81,11 +81,6 @@ module _ {T S N : Type 0} (turns : List (TurnState T)) where
   abbrev pub AllBelow : (TurnState T → PassState T S N → Type 0) → ℕ → List (PassState T S N) → Type 0
   AllBelow P count passes = (t : ℕ) (turn : TurnState T) (p : PassState T S N) → t < count → slice_get turns t ≡ Some turn → slice_get passes t ≡ Some p → P turn p
 
-module _ {T S N : Type 0} (setting : T → S) (turns : List (TurnState T)) where
-  -- Each pass is one of the turn in its place, and not busy.
-  abbrev pub AllIdle : List (PassState T S N) → Type 0
-  AllIdle passes = (t : ℕ) (turn : TurnState T) (p : PassState T S N) → slice_get turns t ≡ Some turn → slice_get passes t ≡ Some p → IsIdle setting turn p
-
 module _ {T S A : Type 0} (setting : T → S) (turns : List (TurnState T)) where
   -- A pass took turns, and entered nothing.
   pub record IsQuiet (turn : TurnState T) (p q : PassState T S (Entry A)) : Type 0 where
@@ -142,7 +137,7 @@ module _ {T S A R L : Type 0} (g : Ghosts T S A R) (setting : T → S) (at : Lis
     pub number_is : p.number ≡ by
     pub handled : IsLegalAt g setting turn p → HandledIn (at_table g picks t) (setting turn.opening) at excuse by first p.seen sessions
 
-  -- The same at each table.
+  -- At each table a handler's pass has its number, and, where the history seen is legal, its sessions are all that it entered.
   abbrev pub IsHand : Type 0 → ℕ → (TurnState T → List (Entry A)) → List (TurnState T) → List (PassState T S (Entry A)) → List (List (Session L)) → Type 0
   IsHand excuse by first turns passes kept = (t : ℕ) (turn : TurnState T) (p : PassState T S (Entry A)) (ss : List (Session L)) → slice_get turns t ≡ Some turn →
       slice_get passes t ≡ Some p → slice_get kept t ≡ Some ss → IsAtTable excuse by t (first turn) turn p ss

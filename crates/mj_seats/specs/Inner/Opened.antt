@@ -5,7 +5,7 @@ use Rattle.turn_lock.specs.Turns.{IsIdle, IsSeenIn, passes_from}
 use Rattle.mj_ports.specs.declared.entry.Entry.{Entry}
 use Rattle.mj_ports.specs.declared.seated.Seated.{Ghosts}
 use Rattle.mj_ports.specs.Entries.{author_of}
-use Rattle.mj_seats.specs.Beside.{Beside}
+use Rattle.mj_ticker.specs.Beside.{Beside}
 
 -- A turn with so many passes was made with the value.
 pub record IsOpened {T : Type 0} (passes : ℕ) (x : T) (turn : TurnState T) : Type 0 where

@@ -9,9 +9,10 @@ use Rattle.mj_ports.specs.declared.seated.Seated.{Ghosts}
 use Rattle.mj_session.specs.Wires.{WireState}
 use Rattle.mj_seats.specs.declared.worker.Hand.{Hand}
 use Rattle.mj_seats.specs.declared.worker.Back.{Back}
-use Rattle.mj_seats.specs.Beside.{Matches}
+use Rattle.mj_ticker.specs.Beside.{Matches}
 use Rattle.mj_seats.specs.Handlers.{HandlerEnd, Session, WantsMemory, rows}
-use Rattle.mj_seats.specs.Inner.Hands.{AllIdle, IsHand, HandEnds}
+use Rattle.mj_ticker.specs.Idle.{AllIdle}
+use Rattle.mj_seats.specs.Inner.Hands.{IsHand, HandEnds}
 use Rattle.mj_seats.specs.Inner.Opened.{IsNewRow}
 
 module _ {T S N : Type 0} (setting : T → S) (notes : T → List N) (turns : List (TurnState T)) where
@@ -69,7 +70,7 @@ module _ {T S A R L F : Type 0} (g : Ghosts T S A R) (setting : T → S) (at : L
     pub hand : IsHand g setting at picks (WantsMemory end) by (λ turn. g.history turn.opening) turns passes kept
     pub ended : HandEnds g setting turns made number end by passes
 
-  -- The same of so many handlers, numbered from 0, in this order.
+  -- What is left of so many handlers, numbered from 0, in this order.
   abbrev pub AllDone : ℕ → List (List (PassState T S (Entry A))) → List (List (List (Session L))) → List (HandlerEnd F) → Type 0
   AllDone zero columns kept ends = (columns ≡ []) × (kept ≡ []) × (ends ≡ [])
   AllDone (suc by) columns kept ends =

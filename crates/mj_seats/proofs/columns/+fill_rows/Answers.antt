@@ -1,7 +1,7 @@
 use Rattle.std.proofs.Common.{◌≡◌, ◌≤◌, ◌+◌, [], length, sym, subst, vec_len, vec_capacity, rules}
 use Rattle.std.proofs.lemmas.List.Elements.{All-pop}
 use Rattle.mj_seats.specs.Inner.Columns.{AreColumns, AreRows, items_of}
-use Rattle.mj_seats.proofs.Besides.{one_less, map_snoc}
+use Rattle.mj_ticker.proofs.Besides.{one_less, map_snoc}
 use Rattle.mj_seats.proofs.Columning.{columns_some, columns_less, rows_fill, room_as}
 use Rattle.mj_seats.proofs.columns.+fill_rows.Goals as goal
 

@@ -1,6 +1,6 @@
 use Rattle.std.proofs.Common.{◌≡◌, ◌++◌, ◌∷◌, [], rules}
 use Rattle.std.specs.Prelude.{Some}
-use Rattle.mj_seats.proofs.Besides.{beside_more, map_snoc, popped}
+use Rattle.mj_ticker.proofs.Besides.{beside_more, map_snoc, popped}
 use Rattle.mj_seats.proofs.columns.+take_column.Goals as goal
 
 pub returns-clause-taken : goal.returns-clause-taken

@@ -1,6 +1,6 @@
 use Rattle.std.proofs.Common.{◌≡◌, [], rules}
 use Rattle.mj_seats.proofs.Joining.{joined_new, joined_more}
-use Rattle.mj_seats.proofs.Besides.{popped}
+use Rattle.mj_ticker.proofs.Besides.{popped}
 use Rattle.mj_seats.proofs.gather.+join_all.Goals as goal
 
 pub returns-in-None : goal.returns-in-None

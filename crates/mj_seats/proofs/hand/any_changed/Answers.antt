@@ -1,5 +1,5 @@
 use Rattle.std.proofs.Common.{◌<◌, length, arith}
-use Rattle.mj_seats.proofs.Quiet.{idle_read}
+use Rattle.mj_ticker.proofs.Idling.{idle_read}
 use Rattle.mj_seats.proofs.hand.any_changed.Goals as goal
 
 pub has_changed-requires-after_bounds : goal.has_changed-requires-after_bounds

@@ -1,6 +1,7 @@
 use Rattle.std.proofs.Common.{◌<◌, ◌≤◌, length, ◌∙◌, arith}
 use Rattle.mj_seats.specs.Inner.Hands.{IsLegalAt}
-use Rattle.mj_seats.proofs.Quiet.{quiet_start, quiet_more, all_idle, idle_at, below_none, below_more, below_all}
+use Rattle.mj_ticker.proofs.Idling.{idle_at}
+use Rattle.mj_seats.proofs.Quiet.{quiet_start, quiet_more, all_idle, below_none, below_more, below_all}
 use Rattle.mj_seats.proofs.hand.give_up_all.Goals as goal
 
 pub loop-t-init : goal.loop-t-init

@@ -1,7 +1,8 @@
 use Rattle.std.proofs.Common.{◌≡◌, length}
 use Rattle.mj_session.specs.Wires.{at_link}
 use Rattle.mj_seats.specs.Handlers.{rows}
-use Rattle.mj_seats.specs.Inner.Hands.{AllIdle, Handles}
+use Rattle.mj_ticker.specs.Idle.{AllIdle}
+use Rattle.mj_seats.specs.Inner.Hands.{Handles}
 use Rattle.mj_seats.proofs.hand.handle.Given as goal
 
 abbrev pub invariant-loop : goal.invariant-loop

@@ -1,6 +1,8 @@
 use Rattle.std.proofs.Common.{◌<◌, ◌≤◌, length, sym, ◌∙◌, arith}
 use Rattle.mj_seats.specs.Inner.Hands.{IsLegalAt, IsOverAt}
-use Rattle.mj_seats.proofs.Quiet.{quiet_start, quiet_more, all_idle, idle_at, below_none, below_more, below_all, tells_on, no_false, both_true, on_all}
+use Rattle.mj_ticker.proofs.Idling.{idle_at}
+use Rattle.mj_ticker.proofs.Rounds.{both_true}
+use Rattle.mj_seats.proofs.Quiet.{quiet_start, quiet_more, all_idle, below_none, below_more, below_all, tells_on, no_false, on_all}
 use Rattle.mj_seats.proofs.hand.lose_all.Goals as goal
 
 pub loop-t-init : goal.loop-t-init

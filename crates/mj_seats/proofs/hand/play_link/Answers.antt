@@ -1,13 +1,14 @@
-use Rattle.std.proofs.Common.{◌≡◌, ◌<◌, length, refl, sym, subst, arith, set, get_or}
+use Rattle.std.proofs.Common.{◌<◌, length, arith, get_or}
 use Rattle.std.proofs.lemmas.Option.{slice_get-get_or}
 use Rattle.mj_session.specs.Sessions.{IsExcused}
 use Rattle.mj_session.specs.Wires.{at_link, at_wire}
 use Rattle.mj_seats.specs.Handlers.{rows}
 use Rattle.mj_seats.proofs.AtTable.{joined_kept, joined_nothing}
-use Rattle.mj_seats.proofs.Besides.{mapped}
+use Rattle.mj_ticker.proofs.Besides.{mapped}
 use Rattle.mj_seats.proofs.Handing.{hand_seated, quiet_handles, rows_pushed}
 use Rattle.mj_seats.proofs.Handling.{wire_shut}
-use Rattle.mj_seats.proofs.Quiet.{idle_at, idle_set, quiet_start, quiet_more}
+use Rattle.mj_ticker.proofs.Idling.{idle_at, idle_set}
+use Rattle.mj_seats.proofs.Quiet.{quiet_start, quiet_more}
 use Rattle.mj_seats.proofs.hand.play_link.Goals as goal
 
 pub serve_joined-served-requires-after_bounds : goal.serve_joined-served-requires-after_bounds

@@ -1,7 +1,7 @@
 use Rattle.std.proofs.Common.{◌≡◌, rules}
 use Rattle.std.specs.Prelude.{Some}
 use Rattle.mj_seats.specs.Inner.Opened.{IsFullRow, IsClosed}
-use Rattle.mj_seats.proofs.Besides.{matches_popped, beside_more, map_snoc, popped}
+use Rattle.mj_ticker.proofs.Besides.{matches_popped, beside_more, map_snoc, popped}
 use Rattle.mj_seats.proofs.open.+close_all.Goals as goal
 
 pub close_all-requires-clause-rows : goal.close_all-requires-clause-rows

@@ -1,9 +1,9 @@
 use Rattle.std.proofs.Common.{sym, subst}
 use Rattle.std.proofs.lemmas.Result.{IfOk-weaker, IfErr-weaker}
-use Rattle.mj_seats.specs.Beside.{Matches}
+use Rattle.mj_ticker.specs.Beside.{Matches}
 use Rattle.mj_seats.specs.Tables.{ComesBack}
 use Rattle.mj_seats.specs.Inner.Opened.{IsOpened}
-use Rattle.mj_seats.proofs.Besides.{matches_more, popped}
+use Rattle.mj_ticker.proofs.Besides.{matches_more, popped}
 use Rattle.mj_seats.proofs.Opening.{passes_of_all, back_one}
 use Rattle.mj_seats.proofs.open.+open_all.Goals as goal
 

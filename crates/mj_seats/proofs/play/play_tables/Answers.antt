@@ -1,4 +1,4 @@
-use Rattle.std.proofs.Common.{◌≡◌, ◌≤◌, ◌<◌, ◌+◌, ◌∙◌, length, map, sym, ap, subst, arith}
+use Rattle.std.proofs.Common.{◌<◌, ◌+◌, sym, subst, arith}
 use Rattle.std.specs.Prelude.{All}
 use Rattle.std.proofs.lemmas.Result.{IfOk-weaker}
 use Rattle.mj_ports.specs.Entries.{author_of}
@@ -6,7 +6,6 @@ use Rattle.mj_session.specs.Wires.{at_link}
 use Rattle.mj_seats.specs.Handlers.{rows}
 use Rattle.mj_seats.specs.Tables.{IsBelow, ComesBack, IsPlayedAt, IsOver}
 use Rattle.mj_seats.proofs.Gaming.{as_many, to_rooms, to_games, matches_games, beside_games, ends_more}
-use Rattle.mj_seats.proofs.Opening.{back_itself}
 use Rattle.mj_seats.proofs.play.play_tables.Goals as goal
 
 pub run_in-played-requires-clause-below : goal.run_in-played-requires-clause-below

@@ -1,9 +1,9 @@
-use Rattle.std.proofs.Common.{◌≡◌, ◌≤◌, ◌<◌, ◌+◌, ◌∙◌, length, map, refl, sym, ap, subst, rules, arith, vec_len, vec_capacity}
+use Rattle.std.proofs.Common.{◌≡◌, ◌+◌, ◌∙◌, length, refl, sym, subst, arith}
 use Rattle.std.specs.Prelude.{All}
 use Rattle.std.proofs.lemmas.List.{length-map}
 use Rattle.mj_session.specs.Wires.{at_link}
 use Rattle.mj_seats.specs.Handlers.{rows}
-use Rattle.mj_seats.specs.Tables.{IsBelow, ArePlayed, AllEndWith, IsOver}
+use Rattle.mj_seats.specs.Tables.{IsBelow, AllEndWith, IsOver}
 use Rattle.mj_seats.specs.Inner.Columns.{items_of}
 use Rattle.mj_seats.specs.Inner.Staffs.{IsReady, AreJoined, sessions_of}
 use Rattle.mj_seats.proofs.Gaming.{ok_both}

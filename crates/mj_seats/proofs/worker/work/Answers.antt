@@ -1,4 +1,4 @@
-use Rattle.std.proofs.Common.{rules, sym, ap, ◌∙◌}
+use Rattle.std.proofs.Common.{rules}
 use Rattle.mj_seats.proofs.Staffing.{watched_read}
 use Rattle.mj_seats.proofs.worker.work.Goals as goal
 

@@ -1,7 +1,7 @@
 use Rattle.std.proofs.Common.{◌<◌, sym, subst}
 use Rattle.std.specs.Prelude.{All}
 use Rattle.std.proofs.lemmas.List.Elements.{All-push}
-use Rattle.mj_seats.proofs.Besides.{popped}
+use Rattle.mj_ticker.proofs.Besides.{popped}
 use Rattle.mj_tables.proofs.Sitting.{sessions_last}
 use Rattle.mj_tables.proofs.tables.+add.Goals as goal
 

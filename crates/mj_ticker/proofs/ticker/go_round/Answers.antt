@@ -1,8 +1,8 @@
 use Rattle.std.proofs.Common.{◌<◌, ◌≤◌, length, ◌∙◌, arith}
 use Rattle.std.proofs.lemmas.List.{length-set}
-use Rattle.mj_seats.proofs.Quiet.{idle_at, idle_set}
-use Rattle.mj_seats.proofs.Rounds.{visited_none, visited_more, visited_all, ended_none, ended_more, ended_all}
-use Rattle.mj_seats.proofs.ticker.go_round.Goals as goal
+use Rattle.mj_ticker.proofs.Idling.{idle_at, idle_set}
+use Rattle.mj_ticker.proofs.Rounds.{visited_none, visited_more, visited_all, ended_none, ended_more, ended_all}
+use Rattle.mj_ticker.proofs.ticker.go_round.Goals as goal
 
 pub loop-t-init : goal.loop-t-init
 loop-t-init g c = record {

@@ -1,17 +1,19 @@
 -- A round of the ticker: what it does at one table leaves what it has come to at the others.
-use Rattle.std.proofs.Common.{◌≡◌, inl, inr, ℕ, ◌+◌, ◌<◌, ◌≤◌, Bool, true, false, ◌&&◌, nat_lt, if◌then◌else◌, List, [], ◌∷◌, ◌++◌, length, refl, sym, ap, ◌∙◌, subst, arith, set, get_or}
-use Rattle.std.specs.Prelude.{All, Option, Some, None, slice_get}
+use Rattle.std.proofs.Common.{◌≡◌, inl, inr, ℕ, ◌+◌, ◌<◌, ◌≤◌, Bool, true, false, true≢false, ◌&&◌, nat_lt, if◌then◌else◌, List, length, refl, sym, ap, ◌∙◌, subst, arith, set, get_or}
+use Rattle.std.specs.Prelude.{Option, Some, slice_get}
 use Rattle.std.proofs.lemmas.Bool.Decides.{eqb_tells}
 use Rattle.std.proofs.lemmas.Option.{slice_get_read, slice_get_within, slice_get-get_or}
 use Rattle.turn_lock.specs.Passes.{TurnState, PassState}
-use Rattle.turn_lock.specs.Turns.{IsIdle}
 use Rattle.mj_ports.specs.declared.entry.Entry.{Entry}
 use Rattle.mj_ports.specs.declared.seated.Seated.{Ghosts}
-use Rattle.mj_seats.specs.declared.ticker.Sight.{Sight}
-use Rattle.mj_seats.specs.Inner.Hands.{AllIdle}
-use Rattle.mj_seats.specs.Inner.Watches.{is_ended, AreEnded, IsWatched, AreWatched}
-use Rattle.mj_seats.proofs.Besides.{at_set, set_here, set_there}
-use Rattle.mj_seats.proofs.Quiet.{both_true}
+use Rattle.mj_ticker.specs.declared.ticker.Sight.{Sight}
+use Rattle.mj_ticker.specs.Watches.{is_ended, AreEnded, IsWatched, AreWatched}
+use Rattle.mj_ticker.proofs.Besides.{at_set, set_here, set_there}
+
+pub both_true : (a b : Bool) → (a && b) ≡ true → (a ≡ true) × (b ≡ true)
+both_true true true e = (refl, refl)
+both_true true false e = (refl, e)
+both_true false b e = absurd (true≢false (sym e))
 
 -- the reading up to which a table was visited in a round that has come to another
 abbrev pub reached : ℕ → ℕ → Option (List ℕ) → Option (List ℕ) → Option (List ℕ)

@@ -1,5 +1,5 @@
-use Rattle.mj_seats.proofs.Visiting.{watched_ended, watched_open, watched_nothing, watched_early, watched_stale, watched_gone, watched_closed}
-use Rattle.mj_seats.proofs.ticker.watch_window.Goals as goal
+use Rattle.mj_ticker.proofs.Visiting.{watched_ended, watched_open, watched_nothing, watched_early, watched_stale, watched_gone, watched_closed}
+use Rattle.mj_ticker.proofs.ticker.watch_window.Goals as goal
 
 pub returns-in-Ended-clause-visits : goal.returns-in-Ended-clause-visits
 returns-in-Ended-clause-visits g c =

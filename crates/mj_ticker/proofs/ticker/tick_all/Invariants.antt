@@ -2,9 +2,9 @@ use Rattle.std.proofs.Common.{◌≡◌, ℕ, List, length}
 use Rattle.std.specs.Prelude.{Option}
 use Rattle.mj_ports.specs.declared.entry.Entry.{Entry}
 use Rattle.turn_lock.specs.Passes.{TurnState}
-use Rattle.mj_seats.specs.Inner.Hands.{AllIdle}
-use Rattle.mj_seats.specs.Inner.Watches.{AreWatched}
-use Rattle.mj_seats.proofs.ticker.tick_all.Given as goal
+use Rattle.mj_ticker.specs.Idle.{AllIdle}
+use Rattle.mj_ticker.specs.Watches.{AreWatched}
+use Rattle.mj_ticker.proofs.ticker.tick_all.Given as goal
 
 abbrev pub invariant-loop : goal.invariant-loop
 invariant-loop g l =

@@ -3,10 +3,10 @@ use Rattle.std.specs.Prelude.{Option}
 use Rattle.std.specs.Io.KnownBytes.{Appends}
 use Rattle.mj_ports.specs.declared.entry.Entry.{Entry}
 use Rattle.turn_lock.specs.Passes.{TurnState}
-use Rattle.mj_seats.specs.Inner.Hands.{AllIdle}
-use Rattle.mj_seats.specs.Inner.Watches.{AreEnded, AreWatched}
-use Rattle.mj_seats.proofs.Rounds.{AreVisited}
-use Rattle.mj_seats.proofs.ticker.go_round.Given as goal
+use Rattle.mj_ticker.specs.Idle.{AllIdle}
+use Rattle.mj_ticker.specs.Watches.{AreEnded, AreWatched}
+use Rattle.mj_ticker.proofs.Rounds.{AreVisited}
+use Rattle.mj_ticker.proofs.ticker.go_round.Given as goal
 
 abbrev pub invariant-loop-t : goal.invariant-loop-t
 invariant-loop-t g l = record {

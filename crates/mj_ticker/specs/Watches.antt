@@ -7,13 +7,13 @@ use Rattle.mj_ports.specs.declared.entry.Entry.{Entry}
 use Rattle.mj_ports.specs.declared.entry.Entry.TheVariants.{Expired}
 use Rattle.mj_ports.specs.declared.seated.Seated.{Ghosts}
 use Rattle.mj_session.specs.Histories.{Enters}
-use Rattle.mj_seats.specs.declared.ticker.Watch.{Watch}
-use Rattle.mj_seats.specs.declared.ticker.Sight.{Sight}
-use Rattle.mj_seats.specs.declared.ticker.Sight.TheVariants as sight
-use Rattle.mj_seats.specs.declared.ticker.Closing.{Closing}
-use Rattle.mj_seats.specs.declared.ticker.Closing.TheVariants as closing
-use Rattle.mj_seats.specs.Beside.{Beside}
-use Rattle.mj_seats.specs.Ticks.{Timed, TicksAs}
+use Rattle.mj_ticker.specs.declared.ticker.Watch.{Watch}
+use Rattle.mj_ticker.specs.declared.ticker.Sight.{Sight}
+use Rattle.mj_ticker.specs.declared.ticker.Sight.TheVariants as sight
+use Rattle.mj_ticker.specs.declared.ticker.Closing.{Closing}
+use Rattle.mj_ticker.specs.declared.ticker.Closing.TheVariants as closing
+use Rattle.mj_ticker.specs.Beside.{Beside}
+use Rattle.mj_ticker.specs.Ticks.{Timed, TicksAs}
 
 -- The window that is watched.
 abbrev pub watch_of : Sight → Option Watch
@@ -27,7 +27,7 @@ abbrev pub is_ended : Sight → Bool
 is_ended (sight.Ended ticked) = true
 is_ended _ = false
 
--- The same at the tables below one.
+-- Nothing more is to be told at the tables below one.
 abbrev pub AreEnded : ℕ → List Sight → Type 0
 AreEnded count sights = (t : ℕ) (s : Sight) → t < count → slice_get sights t ≡ Some s → is_ended s ≡ true
 
@@ -58,7 +58,7 @@ module _ {T S A R : Type 0} (g : Ghosts T S A R) (lost : T → ℕ → Bool) (ha
   Closes fixed closing.Closed author watch now old new last = new ≡ old ++ Expired author watch.window watch.since now ∷ []
   Closes fixed _ author watch now old new last = new ≡ old
 
-  -- The same, where others entered something before.
+  -- What comes of a try to close a window that is watched, where others entered something before.
   pub record ClosesAt (fixed : S) (what : Closing) (author : ℕ) (watch : Watch) (now : ℕ) (old new : List (Entry A)) (last : Option T) : Type 0 where
     pub until : List (Entry A)
     pub nothing : Enters author old until []
@@ -72,6 +72,6 @@ module _ {T S A R : Type 0} (g : Ghosts T S A R) (lost : T → ℕ → Bool) (ha
       pub ticking : Ticking by first p.seen start read (watch_of s)
       pub ended : EndsAs (setting turn.opening) s p.seen p.last
 
-    -- The same at each table.
+    -- At each table the ticker has a pass that is not busy, and entered expiries alone since the first entries there.
     abbrev pub AreWatched : (TurnState T → List (Entry A)) → Option (List ℕ) → Option (List ℕ) → List (TurnState T) → List (PassState T S (Entry A)) → List Sight → Type 0
     AreWatched first start read turns passes sights = Beside (λ t turn p s. IsWatched (first turn) start read turn p s) turns passes sights

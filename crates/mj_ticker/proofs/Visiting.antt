@@ -1,5 +1,5 @@
 -- One visit of a table.
-use Rattle.std.proofs.Common.{◌≡◌, ℕ, Bool, List, [], ◌∷◌, ◌++◌, refl, sym, ap, ◌∙◌, subst}
+use Rattle.std.proofs.Common.{◌≡◌, ℕ, Bool, List, [], ◌∷◌, ◌++◌, sym, ◌∙◌, subst}
 use Rattle.std.specs.Prelude.{Option, Some, None}
 use Rattle.std.specs.Io.KnownBytes.{Appends}
 use Rattle.turn_lock.specs.Passes.{TurnState, PassState}
@@ -7,16 +7,15 @@ use Rattle.turn_lock.specs.Turns.{IsIdle}
 use Rattle.mj_ports.specs.declared.entry.Entry.{Entry}
 use Rattle.mj_ports.specs.declared.entry.Entry.TheVariants.{Expired}
 use Rattle.mj_ports.specs.declared.seated.Seated.{Ghosts}
-use Rattle.mj_seats.specs.declared.ticker.Watch.{Watch}
-use Rattle.mj_seats.specs.declared.ticker.Ticked.{Ticked}
+use Rattle.mj_ticker.specs.declared.ticker.Watch.{Watch}
+use Rattle.mj_ticker.specs.declared.ticker.Ticked.{Ticked}
 use Rattle.mj_session.specs.Histories.{Enters}
-use Rattle.mj_seats.specs.Ticks.{Ticks, TicksAs}
-use Rattle.mj_seats.proofs.Timing.{ticks_of, tick_start, tick_seen, tick_read, tick_watch, tick_drop, tick_close, enters_still}
-use Rattle.mj_seats.specs.declared.ticker.Sight.{Sight}
-use Rattle.mj_seats.specs.declared.ticker.Sight.TheVariants as sight
-use Rattle.mj_seats.specs.declared.ticker.Closing.{Closing}
-use Rattle.mj_seats.specs.declared.ticker.Closing.TheVariants as closing
-use Rattle.mj_seats.specs.Inner.Watches.{Ticking, watch_of, EndsAs, ClosesAt, IsWatched}
+use Rattle.mj_ticker.specs.Ticks.{Ticks, TicksAs}
+use Rattle.mj_ticker.proofs.Timing.{ticks_of, tick_start, tick_seen, tick_read, tick_watch, tick_drop, tick_close, enters_still}
+use Rattle.mj_ticker.specs.declared.ticker.Sight.{Sight}
+use Rattle.mj_ticker.specs.declared.ticker.Sight.TheVariants as sight
+use Rattle.mj_ticker.specs.declared.ticker.Closing.TheVariants as closing
+use Rattle.mj_ticker.specs.Watches.{Ticking, watch_of, EndsAs, ClosesAt, IsWatched}
 
 module _ {T S A R : Type 0} (g : Ghosts T S A R) (lost : T → ℕ → Bool) (handlers : ℕ) (setting : T → S) where
   -- a table that was not looked at yet

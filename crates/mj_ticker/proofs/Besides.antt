@@ -5,8 +5,8 @@ use Rattle.std.specs.Option.{option_to_list}
 use Rattle.std.proofs.lemmas.Bool.Decides.{eqb_tells}
 use Rattle.std.proofs.lemmas.List.{length-append, length-map, map-append, length-set, get_or-set_same, get_or-set_other}
 use Rattle.std.proofs.lemmas.List.Elements.{All-nil, All-cons, All-tail, All-get_or}
-use Rattle.std.proofs.lemmas.Option.{slice_get_read, slice_get_within, slice_get_past, get_or_from_slice_get, slice_get-get_or}
-use Rattle.mj_seats.specs.Beside.{Matches, Beside}
+use Rattle.std.proofs.lemmas.Option.{slice_get_read, slice_get_within, get_or_from_slice_get}
+use Rattle.mj_ticker.specs.Beside.{Matches, Beside}
 
 module _ {X : Type 0} where
   pub same_some : (x y : X) → Some x ≡ Some y → x ≡ y

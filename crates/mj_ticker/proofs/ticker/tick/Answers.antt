@@ -1,6 +1,6 @@
 use Rattle.std.proofs.Common.{refl}
-use Rattle.mj_seats.proofs.Visiting.{watched_start, watched_ticks}
-use Rattle.mj_seats.proofs.ticker.tick.Goals as goal
+use Rattle.mj_ticker.proofs.Visiting.{watched_start, watched_ticks}
+use Rattle.mj_ticker.proofs.ticker.tick.Goals as goal
 
 pub loop-init : goal.loop-init
 loop-init g c = (tt, tt, watched_start g.T.Seated g.T.SharedGame.lost 8 g.T.Noted.setting c.args.pass.now.number (g.C.Clock.readings c.args.clock.now) c.args.turn.now c.args.pass.now refl c.requires)

@@ -1,6 +1,6 @@
 use Rattle.std.proofs.Common.{◌<◌, length, arith}
-use Rattle.mj_seats.proofs.Quiet.{idle_read}
-use Rattle.mj_seats.proofs.ticker.await_one.Goals as goal
+use Rattle.mj_ticker.proofs.Idling.{idle_read}
+use Rattle.mj_ticker.proofs.ticker.await_one.Goals as goal
 
 pub await_change-requires-after_bounds : goal.await_change-requires-after_bounds
 await_change-requires-after_bounds g c κs within =

@@ -6,7 +6,7 @@ pub record Matches {X Y : Type 0} (P : X → Y → Type 0) (xs : List X) (ys : L
   pub many : length ys ≡ length xs
   pub each : (t : ℕ) (x : X) (y : Y) → slice_get xs t ≡ Some x → slice_get ys t ≡ Some y → P x y
 
--- The same of three lists, by the place too.
+-- What is in one place of three lists, which are as long, is so related, by the place too.
 pub record Beside {X Y Z : Type 0} (P : ℕ → X → Y → Z → Type 0) (xs : List X) (ys : List Y) (zs : List Z) : Type 0 where
   pub second : length ys ≡ length xs
   pub third : length zs ≡ length xs

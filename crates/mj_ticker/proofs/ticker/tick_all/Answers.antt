@@ -1,4 +1,4 @@
-use Rattle.mj_seats.proofs.ticker.tick_all.Goals as goal
+use Rattle.mj_ticker.proofs.ticker.tick_all.Goals as goal
 
 pub returns-then-go_round : goal.returns-then-go_round
 returns-then-go_round g c = record {

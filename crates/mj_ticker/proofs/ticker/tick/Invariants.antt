@@ -1,6 +1,5 @@
-use Rattle.std.proofs.Common.{◌≡◌}
-use Rattle.mj_seats.specs.Inner.Watches.{IsWatched}
-use Rattle.mj_seats.proofs.ticker.tick.Given as goal
+use Rattle.mj_ticker.specs.Watches.{IsWatched}
+use Rattle.mj_ticker.proofs.ticker.tick.Given as goal
 
 abbrev pub invariant-loop : goal.invariant-loop
 invariant-loop g l =

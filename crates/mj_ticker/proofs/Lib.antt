@@ -1,0 +1,5 @@
+pub mod Besides
+pub mod Idling
+pub mod Timing
+pub mod Visiting
+pub mod Rounds

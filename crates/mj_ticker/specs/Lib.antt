@@ -1,0 +1,4 @@
+pub mod Beside
+pub mod Idle
+pub mod Ticks
+pub mod Watches
