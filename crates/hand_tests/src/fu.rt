@@ -24,8 +24,8 @@ d|r2m r5p r3s qW N 0 2m|60|no
 d|pairs 12m 35p 79s E|25|no
 d|orphans E|0|no";
 
-/// The same of sums that are whole tens, and then of sums that are 2 above: of each form and place of a triplet and of a kan, of each
-/// pair and wait, of each way to win.
+/// Rows whose sums are whole tens, and then rows whose sums are 2 above: of each form and place of a triplet and of a kan, of
+/// each pair and wait, of each way to win.
 const PARTS: &str = "\
 o|T2m t9p r3s r6s W 2 5s|30|no
 o|T2m t9p r3s r6s W 2 4s|40|no

@@ -95,7 +95,7 @@ fn sets_are_those_of_their_vector(rt: HostRuntime) -> Result<(), AllocError> {
 /// The room of a suit of which no tile is seen.
 const FULL: [u8; 9] = [4; 9];
 
-/// The same for honours, which have seven kinds.
+/// The room of the honours, which have seven kinds, of which no tile is seen.
 const HONOURS: [u8; 9] = [4, 4, 4, 4, 4, 4, 4, 0, 0];
 
 /// Whether these targets of a suit are the nearest.

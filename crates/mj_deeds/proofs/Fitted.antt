@@ -245,7 +245,7 @@ past_before past EndHand h k l = result_past past.newest h
 past_before past (EndGame points deposits) h k l = after_past past.newest h
 past_before past other h k l = in_hand_past past.newest (in_hand_before past other h refl refl)
 
--- The same of the deeds of a game.
+-- A deed in its place among those of a game that starts neither a game nor a hand stands after a start of the game.
 pub past_of : (ds : List Deed) (d : Deed) → is_in_place (ground_of ds) d ≡ true → is_hand_start d ≡ false → is_past_start (Some d) ≡ true → is_past_start (newest ds) ≡ true
 unfolding ground_of
 past_of ds d h k l = past_before (ground_of ds) d h k l

@@ -144,7 +144,7 @@ pub enum Deed {
 }
 
 impl Deed {
-    /// The same deed once more.
+    /// A copy of the deed.
     pub fn copy(&self) -> Result<Deed, AllocError>
         ensures { IfOk result (λ d. d ≡ self.now) }
     {

@@ -48,7 +48,7 @@ impl Hands {
         }))
     }
 
-    /// The same of four lists.
+    /// The hands of four seats, with these four lists of tiles.
     pub fn from_four(hands: Four<Tiles>) -> Hands
         ensures { result ≡ hands }
     {
@@ -63,7 +63,7 @@ impl Hands {
         self.hands.at(seat).as_slice()
     }
 
-    /// The same hands once more.
+    /// A copy of the hands.
     pub fn copy(&self) -> Result<Hands, AllocError>
         ensures { IfOk result (λ h. h ≡ self.now) }
     {

@@ -37,7 +37,7 @@ impl Names {
         self.names.as_ref()
     }
 
-    /// The same names once more. `Err` is running out of memory.
+    /// A copy of the names. `Err` is running out of memory.
     pub fn copy(&self) -> Result<Names, AllocError>
         ensures { IfOk result (λ n. n ≡ self.now) }
     {

@@ -30,7 +30,7 @@ impl<T: Copy + Drop, const N: usize> ShortList<T, N> {
         }
     }
 
-    // The same items once more.
+    // A copy of the list.
     pub(crate) fn again(&self) -> ShortList<T, N>
         ensures { result ≡ self.now }
     {

@@ -73,7 +73,7 @@ impl ShownHands {
         }
     }
 
-    /// The same once more.
+    /// A copy of what is shown.
     pub fn copy(&self) -> Result<ShownHands, AllocError>
         ensures { IfOk result (λ s. s ≡ self.now) }
     {

@@ -62,7 +62,7 @@ impl<T: Copy + Drop, const N: usize> SmallList<T, N> {
         }
     }
 
-    // The same list once more.
+    // A copy of the list.
     pub(crate) fn copy(&self) -> Result<SmallList<T, N>, AllocError>
         ensures { IfOk result (λ l. l ≡ self.now) }
     {
@@ -102,7 +102,7 @@ impl<T: Copy + Drop, const N: usize> Kept<T, N> {
     }
 }
 
-// The same items in memory of their own.
+// A copy of the items in memory of its own.
 fn all_of<T: Copy + Drop>(alloc: Global, items: &[T]) -> Result<Box<Vec<T>>, AllocError>
     ensures { IfOk result (λ many. many.value.items ≡ items.now) }
 {

@@ -60,7 +60,7 @@ impl YakuList {
         self.list.as_slice()
     }
 
-    /// The same list once more.
+    /// A copy of the list.
     pub fn copy(&self) -> Result<YakuList, AllocError>
         ensures { IfOk result (λ l. l ≡ self.now) }
     {

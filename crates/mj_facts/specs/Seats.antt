@@ -43,6 +43,6 @@ pub record Keeps (deeds : List Deed) (seat : ℕ) (facts : SeatFacts) : Type 0 w
   pub marks : KeepsMarks deeds seat facts.marks
   pub won : facts.won ≡ dealer_won deeds seat
 
--- The same of each seat.
+-- What is kept of each of the four seats says its facts of the deeds.
 abbrev pub AllKeep : List Deed → Four SeatFacts → Type 0
 AllKeep deeds facts = (seat : ℕ) → seat ≤ 3 → Keeps deeds seat (at_seat facts seat)

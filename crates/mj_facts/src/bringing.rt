@@ -78,7 +78,7 @@ fn tile_brought(deed: &Deed) -> Option<Tile>
     }
 }
 
-// The same, kind after kind.
+// Whether no kind is brought in a fifth time by a deed, tested kind after kind.
 fn keeps_each_kind(before: &[u8; KINDS], deed: &Deed) -> bool
     ensures { result ≡ list_all (λ kind. nat_le
         (slice_index before.now kind + number_of (brought_by deed.now) kind) 4) all_kinds }

@@ -28,8 +28,8 @@ pub fn fits_in(red: bool, held: &Four<[u8; FACES]>, facts: &HandFacts, deed: &De
     fits_by(red, held, kinds, places, facts, deed)
 }
 
-// The same, where the seats hold the tiles that they put down, or don't, no kind is brought in a fifth time, or one is,
-// and no seat has a fifth meld, or one has.
+// Whether a deed fits, where it is known whether the seats hold the tiles that they put down, no kind is brought in a fifth
+// time, and no seat has a fifth meld.
 #[tactic(auto, unfolding(crate::specs::Inner::Fitting::fits_by))]
 fn fits_by(red: bool, held: bool, kinds: bool, places: bool, facts: &HandFacts, deed: &Deed) -> bool
     ensures { result ≡ fits_by red held kinds places facts.now deed.now }

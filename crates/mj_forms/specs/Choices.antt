@@ -29,7 +29,7 @@ consumed_field tiles = codes ",\"consumed\":" ++ bracketed (map pai_text tiles)
 unfoldable pub tsumogiri_field : Bool → List ℕ
 tsumogiri_field drawn = codes ",\"tsumogiri\":" ++ truth drawn
 
--- The front of an answer, its type.
+-- The beginning of an answer, its type.
 unfoldable pub type_field : List ℕ → List ℕ
 type_field type = codes "{\"type\":" ++ quoted type
 

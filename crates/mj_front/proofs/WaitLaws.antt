@@ -215,11 +215,15 @@ serve_unread status end count e = subst (λ (s : Status). CountsReadFaults s cou
 pub serve_spares : {D : Type 0} (told : D → Option (List ℕ)) (may_leave : D → List ℕ → Type 0) (moment : D → ℕ) (secured_since : D → ℕ → List ℕ → Type 0) (faults : D → ℕ) (disk : D) (asked : Asked)
     (serving : Option Serving) (status : Status) (ol nl ow nw : Option (List ℕ)) → asked ≡ asked_by_serving serving
     → RunsDisk told may_leave moment secured_since faults asked status ol nl ow nw disk disk
-serve_spares told may_leave moment secured_since faults disk asked None status ol nl ow nw e = subst (λ (a : Asked). RunsDisk told may_leave moment secured_since faults a status ol nl ow nw disk disk) (sym e) refl
-serve_spares told may_leave moment secured_since faults disk asked (Some serving) status ol nl ow nw e = subst (λ (a : Asked). RunsDisk told may_leave moment secured_since faults a status ol nl ow nw disk disk) (sym e) refl
+serve_spares told may_leave moment secured_since faults disk asked None status ol nl ow nw e =
+    subst (λ (a : Asked). RunsDisk told may_leave moment secured_since faults a status ol nl ow nw disk disk) (sym e) refl
+serve_spares told may_leave moment secured_since faults disk asked (Some serving) status ol nl ow nw e =
+    subst (λ (a : Asked). RunsDisk told may_leave moment secured_since faults a status ol nl ow nw disk disk) (sym e) refl
 
 pub tables_spare : {D : Type 0} (told : D → Option (List ℕ)) (may_leave : D → List ℕ → Type 0) (moment : D → ℕ) (secured_since : D → ℕ → List ℕ → Type 0) (faults : D → ℕ) (disk : D) (asked : Asked)
     (hosting : Option Hosting) (status : Status) (ol nl ow nw : Option (List ℕ)) → asked ≡ asked_by_hosting hosting
     → RunsDisk told may_leave moment secured_since faults asked status ol nl ow nw disk disk
-tables_spare told may_leave moment secured_since faults disk asked None status ol nl ow nw e = subst (λ (a : Asked). RunsDisk told may_leave moment secured_since faults a status ol nl ow nw disk disk) (sym e) refl
-tables_spare told may_leave moment secured_since faults disk asked (Some hosting) status ol nl ow nw e = subst (λ (a : Asked). RunsDisk told may_leave moment secured_since faults a status ol nl ow nw disk disk) (sym e) refl
+tables_spare told may_leave moment secured_since faults disk asked None status ol nl ow nw e =
+    subst (λ (a : Asked). RunsDisk told may_leave moment secured_since faults a status ol nl ow nw disk disk) (sym e) refl
+tables_spare told may_leave moment secured_since faults disk asked (Some hosting) status ol nl ow nw e =
+    subst (λ (a : Asked). RunsDisk told may_leave moment secured_since faults a status ol nl ow nw disk disk) (sym e) refl

@@ -84,8 +84,10 @@ pub record RunsKeep {D : Type 0} (told : D → Option (List ℕ)) (may_leave : D
   pub counts : CountsDiskFaults status (faults old) (faults new)
 
 -- What a run does to the disk and by it: a kept game goes by `RunsKeep`, and nothing else touches the disk.
-abbrev pub RunsDisk : {D : Type 0} → (D → Option (List ℕ)) → (D → List ℕ → Type 0) → (D → ℕ) → (D → ℕ → List ℕ → Type 0) → (D → ℕ) → Asked → Status → Option (List ℕ) → Option (List ℕ) → Option (List ℕ) → Option (List ℕ) → D → D → Type 0
-RunsDisk told may_leave moment secured_since faults (KeepOf seat) status old_left new_left old_written new_written old new = RunsKeep told may_leave moment secured_since faults status seat old_left new_left old_written new_written old new
+abbrev pub RunsDisk : {D : Type 0} → (D → Option (List ℕ)) → (D → List ℕ → Type 0) → (D → ℕ) → (D → ℕ → List ℕ → Type 0) → (D → ℕ) → Asked → Status → Option (List ℕ) → Option (List ℕ)
+    → Option (List ℕ) → Option (List ℕ) → D → D → Type 0
+RunsDisk told may_leave moment secured_since faults (KeepOf seat) status old_left new_left old_written new_written old new =
+    RunsKeep told may_leave moment secured_since faults status seat old_left new_left old_written new_written old new
 RunsDisk told may_leave moment secured_since faults asked status old_left new_left old_written new_written old new = new ≡ old
 
 -- The first word is this one.

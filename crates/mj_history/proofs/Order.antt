@@ -314,7 +314,7 @@ ends setting window now entry (second ∷ entries) seats h =
       last = more.last;
     }
 
--- The same accepted answers, the same end.
+-- Equal accepted answers have an equal end: deeds, authors, what is due and slots.
 record IsSameRest (now other : After) : Type 0 where
   deeds : now.deeds ≡ other.deeds
   authors : authors now.chairs ≡ authors other.chairs

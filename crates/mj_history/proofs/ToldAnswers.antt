@@ -185,7 +185,7 @@ pub win_is_lawful : (rules : Rules) (ds : List Deed) (seat : ℕ) (answer : Answ
 win_is_lawful rules ds seat (answers.Win actor target tile) l h = record { form = refl; clean = unnamed rules seat (view_of ds seat) actor target tile l.clean }
 win_is_lawful rules ds seat other l h = cc
 
--- The same where the window is told.
+-- In a window whose deed is known, a lawful win is lawful at its target with the tile left unnamed.
 pub win_in : (rules : Rules) (ds : List Deed) (n : Deed) (seat target : ℕ) (answer : Answer) → newest ds ≡ Some n →
     target_in seat (turn_by n) ≡ target → IsLawful rules ds seat answer → is_win answer ≡ true →
     IsLawful rules ds seat (answers.Win seat target None)

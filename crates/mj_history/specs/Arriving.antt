@@ -14,7 +14,7 @@ use Rattle.mj_history.specs.Legal.{is_over, is_open, can_sit, can_say}
 use Rattle.mj_history.specs.Sitting.{placing}
 use Rattle.mj_history.specs.Shown.{due_at, hears_of, expires_of}
 
--- The same deeds, or one more after them.
+-- The others are the deeds, or the deeds and one more after them.
 abbrev pub HasOneMore : List Deed → List Deed → Type 0
 HasOneMore deeds others = (others ≡ deeds) ⊎ ((deed : Deed) × (others ≡ deeds ++ deed ∷ []))
 

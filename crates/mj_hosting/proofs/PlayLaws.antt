@@ -143,7 +143,8 @@ module _ {L F : Type 0} (read left written : L → Option (List ℕ)) (read_faul
     -- The game of each table is served there by the plan.
     pub served_each : (handlers : ℕ) (were games : List Game) (rows : List (List (Session L))) → handlers ≡ handlers_for rooms → AreNew s (count_of rooms) were
         → length games ≡ length were → length rows ≡ length were
-        → ((t : ℕ) (was game : Game) (sessions : List (Session L)) → slice_get were t ≡ Some was → slice_get games t ≡ Some game → slice_get rows t ≡ Some sessions → IsPlayed handlers t was game sessions)
+        → ((t : ℕ) (was game : Game) (sessions : List (Session L)) → slice_get were t ≡ Some was → slice_get games t ≡ Some game → slice_get rows t ≡ Some sessions
+        → IsPlayed handlers t was game sessions)
         → (t : ℕ) (table : TableGame L) → slice_get (tables_of games rows) t ≡ Some table
         → PlaysAt read left written read_faults write_faults (plan_for rooms s) t table old_readings new_readings
     served_each handlers were games rows same new games_many rows_many played t table at =
@@ -159,7 +160,8 @@ module _ {L F : Type 0} (read left written : L → Option (List ℕ)) (read_faul
   module _ (rooms : Rooms) (s : ServedWith) (games : List Game) (rows : List (List (Session L))) (old new : Outside L)
       (many : length games ≡ count_of rooms) (rows_many : length rows ≡ length games) (opened : Appends old.ports new.ports (s.port ∷ []))
       (none : new.open_faults ≡ old.open_faults)
-      (served_is : (t : ℕ) (table : TableGame L) → slice_get (tables_of games rows) t ≡ Some table → PlaysAt read left written read_faults write_faults (plan_for rooms s) t table old.readings new.readings)
+      (served_is : (t : ℕ) (table : TableGame L) → slice_get (tables_of games rows) t ≡ Some table
+      → PlaysAt read left written read_faults write_faults (plan_for rooms s) t table old.readings new.readings)
       (back : AppendsLinks old.returned new.returned (reverse (links_in rows)))
       (lost : (have_ended games → ⊥) → HasLostEach made number (handlers_for rooms)) where
     abbrev Abandoned : List Game → Type 0

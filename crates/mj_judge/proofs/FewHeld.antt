@@ -122,7 +122,7 @@ too_few view kind red named all few none =
     no : (n a b : ℕ) → n ≤ a → a ≤ b → b < n → ⊥
     no n a b h k l = omega (arith, h, k, l)
 
--- The same behind a first tile, whatever it is.
+-- Fewer are held than are named behind a first tile, whatever that is.
 too_few_behind : (view : SeatView) (kind : ℕ) (red : Option ℕ) (first : ℕ) (named : List ℕ) → All (Counts kind red) named → held_with view kind red < length named →
     list_any (λ face. nat_lt (held_count view face) (number_in (first ∷ named) face)) (first ∷ named) ≡ false → ⊥
 too_few_behind view kind red first named all few none =

@@ -94,7 +94,7 @@ chis_end rules ds seat who tile last place old now past within far is =
     (faces_pass rules ds seat (chis_with seat who tile) place (37 - place) old now (omega (arith, within))
     (λ i low high. no_far_chis rules ds seat who tile (slice_index tile_order i) (far i (omega (arith, past, low)) (omega (arith, high, within)))) is)
 
--- The same of the other tile.
+-- The chis with one own tile, from the first face on that may be near as the other, and up to the last one.
 pub chi_start : (rules : Rules) (ds : List Deed) (seat who tile a first : ℕ) (old : List Answer) → first ≤ 37 → ((place : ℕ) → place < first → is_near tile (slice_index tile_order place) ≡ false) →
     old ≡ old ++ lawful_among rules ds seat (map (λ b. Chi seat who (Known tile) (Known a) (Known b)) (take first tile_order))
 chi_start rules ds seat who tile a first old within far =

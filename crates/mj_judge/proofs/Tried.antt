@@ -336,7 +336,7 @@ not_drawn-discard : (rules : Rules) (seat : ℕ) (view : SeatView) (face : ℕ) 
 not_drawn-discard rules seat view face wrong = false_from_ne_true (is_lawful rules seat view (Discard seat (Known face) true))
     (λ lawful. both_ways (is_wrongly_marked view (Known face) true) (lawful_clear rules seat view (Discard seat (Known face) true) lawful).1.1.1.1.1.1.1.0 wrong)
 
--- The same of lists of them.
+-- In lists of such answers none is lawful.
 
 pub no_discards_of : (rules : Rules) (ds : List Deed) (seat face : ℕ) → held_count (view_of ds seat) face ≡ 0 → lawful_among rules ds seat (discards_of seat face) ≡ []
 unfolding lawful_among
@@ -561,7 +561,7 @@ pub faces_end : (rules : Rules) (ds : List Deed) (seat : ℕ) (f : ℕ → List 
     now ≡ old ++ lawful_among rules ds seat (flat_map f (take i tile_order)) → now ≡ old ++ lawful_among rules ds seat (flat_map f tile_order)
 faces_end rules ds seat f i old now all is = is ∙ ap (λ (xs : List ℕ). old ++ lawful_among rules ds seat (flat_map f xs)) (take_all i tile_order (past i all))
 
--- The same of one answer a face.
+-- Going through the faces with one answer a face.
 
 pub mapped_start : (rules : Rules) (ds : List Deed) (seat : ℕ) (g : ℕ → Answer) (old now : List Answer) → now ≡ old → now ≡ old ++ lawful_among rules ds seat (map g (take 0 tile_order))
 unfolding lawful_among

@@ -38,7 +38,7 @@ pub(crate) fn push_calls(table: &Table, seat: u8, items: &mut Vec<Answer>) -> Re
     }
 }
 
-// The same of a tile that a seat discarded.
+// Adds the lawful calls of a tile that a seat discarded.
 fn push_calls_of(
     table: &Table,
     seat: u8,

@@ -46,7 +46,7 @@ pub(crate) fn is_not_drawn(table: &Table, seat: u8, answer: &Answer) -> bool
     }
 }
 
-// The same in a game with red fives or without.
+// A named tile is one that a game with red fives or without doesn't have.
 fn names_tile_outside(red: bool, answer: &Answer) -> bool
     ensures { result ≡ is_no_such_tile red answer.now }
 {

@@ -33,8 +33,8 @@ pub fn possible(alloc: Global, table: &Table, seat: u8) -> Result<Answers, Alloc
     Ok(list)
 }
 
-/// The same in place of another list, whose memory they take. The only error is running out of memory, and then the list stays
-/// as it was.
+/// Puts the answers that `possible` lists in place of another list, whose memory they take. The only error is running out of
+/// memory, and then the list stays as it was.
 pub fn possible_over(
     alloc: Global,
     table: &Table,
@@ -198,7 +198,7 @@ fn push_win(table: &Table, seat: u8, items: &mut Vec<Answer>) -> Result<(), Allo
     }
 }
 
-// The same of the seat that gives the tile.
+// Adds the win on the tile of this seat, drawn by it or given, where it is lawful.
 fn push_win_from(
     table: &Table,
     seat: u8,

@@ -67,7 +67,7 @@ fn tiles_of(counts: &Counts) -> u32
     tiles
 }
 
-// The same asked of each kind.
+// Whether some discard leaves the hand ready, asked of each kind.
 fn some_kind_does(counts: &Counts, room: &Counts, melds: u8) -> bool
     ensures no { result ≡ false → (kind : ℕ) → kind < 34
         → leaves_ready counts.now room.now melds kind ≡ false }

@@ -205,7 +205,7 @@ fn push_added_kans_of(
     Ok(())
 }
 
-// The same to the triplets among some melds.
+// The kans by adding a tile of one face to the triplets among some melds.
 fn push_added_to(
     table: &Table,
     seat: u8,
@@ -224,7 +224,7 @@ fn push_added_to(
     Ok(())
 }
 
-// The same to one meld.
+// The kan by adding a tile of one face to a meld, where that is a triplet.
 fn push_added_kan(
     table: &Table,
     seat: u8,

@@ -59,8 +59,8 @@ pub fn judge(table: &Table, seat: u8, answer: &Answer) -> Result<(), Rule>
     }
 }
 
-// The same by all rules in their order, whatever the answer: a pass, a discard and a win that are open to the seat are asked rules of
-// their own alone.
+// Judges an answer by all rules in their order, whatever it is: a pass, a discard and a win that are open to the seat are
+// asked rules of their own alone.
 #[tactic(auto, unfolding(mj_rules::specs::Broken::broken_by))]
 fn judge_in_order(table: &Table, seat: u8, answer: &Answer) -> Result<(), Rule>
     requires { seat ≤ 3 }
@@ -72,7 +72,7 @@ fn judge_in_order(table: &Table, seat: u8, answer: &Answer) -> Result<(), Rule>
     judge_act(table, seat, answer)
 }
 
-// The same of an answer that is open to the seat.
+// Judges an answer that is open to the seat, by the rules after the first three.
 fn judge_act(table: &Table, seat: u8, answer: &Answer) -> Result<(), Rule>
     requires { seat ≤ 3 }
     ensures { result_err result ≡ first_broken (drop 3 (questions table.now.rules seat

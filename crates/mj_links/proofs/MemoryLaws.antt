@@ -13,7 +13,7 @@ none_past (x ∷ xs) made h g =
     let e : (x == made + 1) ≡ false = grind (arith, nat_tests, fits.fits) in
     rw e (none_past xs made (λ i. h (suc i)) g)
 
--- what stands at the front of a copy
+-- what stands at the beginning of a copy
 pub front_copied : (rest into front : List ℕ) (count : ℕ) → front ≡ take count rest → count ≤ length rest → take count (front ++ drop count into) ≡ take count rest
 front_copied rest into front count f some =
     let long : length front ≡ count = ap length f ∙ omega (arith, length-take count rest) in

@@ -29,7 +29,7 @@ ReadsOn got into old_read new_read = Appends old_read new_read (got_bytes got in
 abbrev pub has_newline : List ℕ → Bool
 has_newline text = list_any (λ b. b == 10) text
 
--- some bytes came from the link, those that were held come before them, and of all these the front is gone and the rest is held
+-- some bytes came from the link, those that were held come before them, and of all these a prefix is gone and the rest is held
 pub record Passes (old_left new_left old_read new_read : Option (List ℕ)) (old_held new_held front : List ℕ) : Type 0 where
   pub bytes : List ℕ
   pub taken : Consumes old_left new_left bytes

@@ -7,7 +7,7 @@ ghost use Rattle.mj_links.specs.declared.sink.Put.{Put};
 /// What one write took.
 #[derive(Clone, Copy, PartialEq, Eq, Debug)]
 pub enum Put {
-    /// So many bytes, at least one, from the front of the piece.
+    /// So many bytes, at least one, from the beginning of the piece.
     Took(usize),
     /// A fault of the sink. Nothing was written.
     Failed,
@@ -25,7 +25,7 @@ pub trait Sink {
     // what else a kind of sink says of each write, as a link does of its reading half
     ghost also_writes: { Put → List ℕ → Self → Self → Type 0 } = { λ put piece old new. Unit {0} };
 
-    /// Writes some bytes, at least one, from the front of a piece that isn't empty. `Failed` comes only
+    /// Writes some bytes, at least one, from the beginning of a piece that isn't empty. `Failed` comes only
     /// with a fault, and the count of faults never falls.
     fn write(&mut self, piece: &[u8]) -> Put
         requires { 0 < length piece.now }

@@ -30,14 +30,14 @@ impl<E> Past<E> {
         Past { of: PhantomData }
     }
 
-    /// The same and one item more.
+    /// What happened so far, and then this item.
     pub fn and(&self, item: &E) -> Past<E>
         ensures { result.items ≡ self.now.items ++ item.now ∷ [] }
     {
         Past { of: PhantomData }
     }
 
-    /// The same once more.
+    /// What happened so far, once more.
     pub fn again(&self) -> Past<E>
         ensures { result.items ≡ self.now.items }
     {

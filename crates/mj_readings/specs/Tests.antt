@@ -1,4 +1,4 @@
--- The same rules as tests that compute.
+-- The rules of complete hands as tests that compute.
 use Rattle.std.specs.Prelude.{ℕ, slice_index, slice_set, ◌+◌, ◌-◌, ◌==◌, Bool, false, nat_le, ◌&&◌, ◌||◌, List, Option, is_some, find, map, bytes_eq}
 use Rattle.mj_tiles.specs.Counts.{all_kinds}
 use Rattle.mj_tiles.specs.Terminals.{is_terminal_or_honour}

@@ -105,7 +105,7 @@ fn completes(numbers: &[u8], kind: u8, first: u8, second: u8, left: StillWanted)
     completes_at(*count, others, kind, first, second, left)
 }
 
-/// The same of so many tiles of a kind and the tiles of those after it.
+/// Whether so many tiles of a kind and the tiles of those after it can be made into what is left to make.
 #[cycle(completes)]
 #[tactic(auto, unfolding(crate::specs::Inner::Ways::has_way))]
 fn completes_at(
@@ -132,7 +132,8 @@ fn completes_at(
     completes_with_more(others, kind, second, free, left)
 }
 
-/// The same where two tiles of the kind or more are free to begin runs or to be the triplet or the pair.
+/// Whether what is left can be made, where two tiles of the kind or more are free to begin runs, or to be the triplet or the
+/// pair.
 #[cycle(completes)]
 fn completes_with_more(others: &[u8], kind: u8, second: u8, free: u8, left: StillWanted) -> bool
     requires kinds { kind + length others.now < 34 }
@@ -158,7 +159,7 @@ fn completes_with_more(others: &[u8], kind: u8, second: u8, free: u8, left: Stil
         || !left.paired && goes_on(others, kind, second, free - 2, 0, with_pair)
 }
 
-/// The same after a kind at which so many runs and triplets begin.
+/// Whether so many runs and triplets can begin at a kind, and the kinds after it be made into what is then left to make.
 #[cycle(completes)]
 fn goes_on(others: &[u8], kind: u8, second: u8, runs: u8, triplets: u8, left: StillWanted) -> bool
     requires kinds { kind + length others.now < 34 }

@@ -94,7 +94,7 @@ struct Known {
 }
 
 impl Known {
-    /// The same with the suits that lack the pair.
+    /// What is known of the hand: which suits lack the pair is told by its counts and what is over.
     fn of(counts: &Counts, melds: u8, over: Over, special: bool) -> Known
         requires hand { IsOver counts.now over }
         requires other { special ≡ false → NoSpecial counts.now melds }
@@ -223,7 +223,7 @@ fn is_standard_with(counts: &Counts, kind: Kind, known: &Known) -> bool
     are_sets_with(counts, kind, known)
 }
 
-/// The same, set by set where the sums do not refuse it.
+/// Whether one tile more of the kind makes the hand sets and a pair, set by set where the sums do not refuse it.
 #[inline(never)]
 fn are_sets_with(counts: &Counts, kind: Kind, known: &Known) -> bool
     requires hand { IsKnown counts.now known.now }

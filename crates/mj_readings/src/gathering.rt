@@ -70,7 +70,7 @@ fn spot_after(spot: &Spot) -> Spot
     }
 }
 
-/// The same with a triplet of the spot's kind and runs that begin there.
+/// Adds the readings of the ways with a triplet of the spot's kind and runs that begin there.
 #[cycle(gather)]
 fn gather_triplet(
     others: &[u8],
@@ -103,7 +103,7 @@ fn gather_triplet(
     )
 }
 
-/// The same with the pair of the spot's kind and runs that begin there.
+/// Adds the readings of the ways with the pair of the spot's kind and runs that begin there.
 #[cycle(gather)]
 fn gather_pair(
     others: &[u8],
@@ -130,7 +130,7 @@ fn gather_pair(
     gather_branch(others, spot, free - 2, 0, pair, sets, melds, winning, found)
 }
 
-/// The same with so many runs and triplets that begin at the spot's kind, and this pair from there on.
+/// Adds the readings of the ways with so many runs and triplets that begin at the spot's kind, and this pair from there on.
 #[cycle(gather)]
 fn gather_branch(
     others: &[u8],

@@ -230,7 +230,7 @@ won_each P rules walls ds n p (seat ∷ a ∷ b ∷ more) other h f g =
     let l = and_parts (p a) (list_all p (b ∷ more)) k.1 in
     f seat (a ∷ b ∷ []) k.0 (and_from (p a) _ l.0 (and_from (p b) true (and_parts (p b) (list_all p more) l.1).0 refl)) (omega arith)
 
--- The same of seats.
+-- The first winner among seats 0 to 3, where there is one, or what is decided otherwise; at most two others win.
 pub won_few : (P : Deed → Type 0) (rules : Rules) (walls : List (List ℕ)) (ds : List Deed) (n : Deed) (seats : List ℕ) (other : Decision) → list_all (λ seat. nat_lt seat 4) seats ≡ true →
     ((seat : ℕ) (rest : List ℕ) → seat < 4 → list_all (λ s. nat_lt s 4) rest ≡ true → length rest ≤ 2 →
     P (win_deed (wall_now walls ds) ds seat (seat_of n) (won_tile n) rest)) → IfAny P (follows rules walls ds n other) →
@@ -238,7 +238,7 @@ pub won_few : (P : Deed → Type 0) (rules : Rules) (walls : List (List ℕ)) (d
 won_few P rules walls ds n seats other low f g =
     won_each P rules walls ds n (λ seat. nat_lt seat 4) seats other low (λ seat rest there others few. f seat rest (ltb-true seat 4 there) others few) g
 
--- The same where it doesn't matter how many win.
+-- The first winner among seats 0 to 3, where there is one, however many others win, or what is decided otherwise.
 pub won_or : (P : Deed → Type 0) (rules : Rules) (walls : List (List ℕ)) (ds : List Deed) (n : Deed) (seats : List ℕ) (other : Decision) → list_all (λ seat. nat_lt seat 4) seats ≡ true →
     ((seat : ℕ) (rest : List ℕ) → seat < 4 → list_all (λ s. nat_lt s 4) rest ≡ true →
     P (win_deed (wall_now walls ds) ds seat (seat_of n) (won_tile n) rest)) → IfAny P (follows rules walls ds n other) →
@@ -273,7 +273,7 @@ behind_or P rules wall ds seat bid f drawn g h =
     by_test true k l = k refl
     by_test false k l = l
 
--- The same by what is decided.
+-- What is after a discard that nobody wins on, where a call or a pass is decided.
 pub called_or_on : (P : Deed → Type 0) (rules : Rules) (walls : List (List ℕ)) (ds : List Deed) (who tile : ℕ) (drawn : Bool) (bid : Bid) → P (behind_discard rules (wall_now walls ds) ds who bid) →
     IfAny P (follows rules walls ds (Discard who tile drawn) (call_or_pass bid))
 called_or_on P rules walls ds who tile drawn bids.NoBid f = f

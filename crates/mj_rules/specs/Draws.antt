@@ -63,6 +63,6 @@ draw_shown deeds reason hands =
     let changes = draw_changes ready in
     DrawnHand reason hands ready changes (points_with (points deeds) changes)
 
--- The same by the deeds of the hand.
+-- The end of a hand without a winner, by the deeds of the hand.
 abbrev pub drawn_hand : List Deed → Reason → Deed
 drawn_hand deeds reason = draw_shown deeds reason (hands_at_draw reason (hand deeds))

@@ -41,7 +41,8 @@ first_wall =
     (4, 19) ∷ (1, 20) ∷ (4, 21) ∷ (4, 22) ∷ (4, 23) ∷ (4, 24) ∷ (4, 25) ∷ (4, 26) ∷ (4, 27) ∷ (4, 28) ∷ (4, 29) ∷ (4, 30) ∷
     (4, 31) ∷ (4, 32) ∷ (4, 33) ∷ [])
 
--- The same with other tiles for the other seats and another second draw, and with the tiles that seats 1 and 3 discard and take.
+-- The first wall with other tiles for the other seats and another second draw, and with the tiles that seats 1 and 3 discard
+-- and take.
 abbrev first_other_wall : List ℕ
 first_other_wall =
     tiles ((4, 0) ∷ (4, 1) ∷ (4, 2) ∷ (1, 3) ∷ (2, 12) ∷ (4, 11) ∷ (4, 10) ∷ (2, 9) ∷ (1, 20) ∷ (2, 9) ∷ (4, 8) ∷ (4, 7) ∷
@@ -57,7 +58,7 @@ second_wall =
     (4, 18) ∷ (4, 19) ∷ (1, 20) ∷ (4, 21) ∷ (4, 22) ∷ (4, 23) ∷ (4, 24) ∷ (4, 25) ∷ (4, 26) ∷ (4, 27) ∷ (4, 28) ∷ (4, 29) ∷
     (1, 30) ∷ (4, 31) ∷ (4, 32) ∷ (4, 33) ∷ [])
 
--- The same with other tiles for seat 0, and another first draw.
+-- The second wall with other tiles for seat 0, and another first draw.
 abbrev second_other_wall : List ℕ
 second_other_wall =
     tiles ((4, 0) ∷ (4, 1) ∷ (2, 2) ∷ (1, 21) ∷ (1, 22) ∷ (1, 30) ∷ (4, 3) ∷ (4, 4) ∷ (4, 5) ∷ (4, 6) ∷ (4, 7) ∷ (4, 8) ∷

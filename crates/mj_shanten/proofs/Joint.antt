@@ -24,7 +24,7 @@ cmp_before [] (y ∷ ys) zs same = absurd (omega arith)
 cmp_before (x ∷ xs) [] zs same = absurd (omega arith)
 cmp_before (x ∷ xs) (y ∷ ys) zs same = ap (λ o. ordering_then (nat_cmp x y) o) (cmp_before xs ys zs (omega arith))
 
--- of lists of one length the fronts decide, and where they are the same the rests
+-- of lists of one length the prefixes decide, and where they are the same the rests
 cmp_parts : (xs ys us vs : List ℕ) → length xs ≡ length ys → slice_cmp nat_cmp (xs ++ us) (ys ++ vs) ≡ ordering_then (slice_cmp nat_cmp xs ys) (slice_cmp nat_cmp us vs)
 cmp_parts [] [] us vs same = refl
 cmp_parts [] (y ∷ ys) us vs same = absurd (omega arith)

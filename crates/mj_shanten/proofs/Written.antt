@@ -33,7 +33,7 @@ written_all f counts kind target last size each h =
     front : length (take 34 target) ≡ 34
     front = length-take-le 34 target (let s = h.size in omega arith)
 
--- the front of a longer list
+-- the beginning of a longer list
 pub copied_more : (wide numbers : List ℕ) (kind : ℕ) → kind < length numbers → ((k : ℕ) → k < kind → get_or numbers k 0 ≡ get_or wide k 0) → (k : ℕ) → k < kind + 1
     → get_or (set numbers kind (get_or wide kind 0)) k 0 ≡ get_or wide k 0
 copied_more wide numbers kind inside before k few = here (cases_eq k kind)

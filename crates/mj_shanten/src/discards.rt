@@ -28,8 +28,9 @@ impl Suits {
         self.best_discard_of(kinds, melds, missing)
     }
 
-    /// The same where it is known how many tiles the nearest complete hand misses. Conditions: `missing` is that number, the
-    /// least of all; the tiles are counted by the 34 kinds; the melds are at most four, and the room is what they leave.
+    /// The answer of `best_discard`, where it is known how many tiles the nearest complete hand misses. Conditions:
+    /// `missing` is that number, the least of all; the tiles are counted by the 34 kinds; the melds are at most four, and
+    /// the room is what they leave.
     pub fn best_discard_of(&self, kinds: Kinds, melds: u8, missing: u8) -> Option<Kind>
         requires few { melds ≤ 4 }
         requires room { IsRoom self.now.room melds }

@@ -50,8 +50,8 @@ pub fn shanten(counts: &Counts, room: &Counts, melds: u8) -> Nearest
 }
 
 impl Suits {
-    /// The same of a hand whose suits are walked: its concealed tiles and three for each of so many melds are 13, and its
-    /// room is what the melds leave.
+    /// The shanten of a hand whose suits are walked, and the nearest complete hand: the concealed tiles and three for each
+    /// of so many melds are 13, and the room is what the melds leave.
     pub fn shanten(&self, melds: u8) -> Nearest
         requires { IsHand self.now.counts self.now.room melds }
         ensures nearest { IsShanten self.now.counts self.now.room melds result.number
@@ -63,7 +63,7 @@ impl Suits {
     }
 }
 
-// The same of a hand with two numbers more, which no kind has.
+// The shanten and the nearest complete hand of a hand with two numbers more, which no kind has.
 fn nearest_of(hand: &WideHand, melds: u8) -> Nearest
     requires { IsHand hand.now.counts hand.now.room melds }
     ensures nearest { IsShanten hand.now.counts hand.now.room melds result.number result.target }

@@ -108,7 +108,7 @@ fn from_characters(held: [u8; 36], room: [u8; 36], start: Row) -> Suits
     from_circles(held, room, start, characters)
 }
 
-// The same where the row of the characters is known.
+// The suits of a wide hand whose row of the characters is known.
 #[inline(always)]
 fn from_circles(held: [u8; 36], room: [u8; 36], start: Row, characters: Row) -> Suits
     requires wide { IsWide held room }
@@ -121,7 +121,7 @@ fn from_circles(held: [u8; 36], room: [u8; 36], start: Row, characters: Row) -> 
     from_bamboo(held, room, start, characters, circles)
 }
 
-// The same where the rows of characters and circles are known.
+// The suits of a wide hand whose rows of characters and circles are known.
 #[inline(always)]
 fn from_bamboo(held: [u8; 36], room: [u8; 36], start: Row, characters: Row, circles: Row) -> Suits
     requires wide { IsWide held room }
@@ -135,7 +135,7 @@ fn from_bamboo(held: [u8; 36], room: [u8; 36], start: Row, characters: Row, circ
     from_honours(held, room, start, characters, circles, bamboo)
 }
 
-// The same where all rows but that of the honours are known.
+// The suits of a wide hand whose rows are known, all but that of the honours.
 #[inline(always)]
 fn from_honours(
     held: [u8; 36],

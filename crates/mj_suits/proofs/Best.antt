@@ -154,7 +154,7 @@ step_bound runs next held most before earlier s p r t e of_four few one within o
     nothing : (begun next left whole : ℕ) → begun ≤ left → begun ≡ next → left ≡ 0 → next ≤ whole
     nothing begun next left whole a b c = omega arith
 
--- the same for tiles that go on from the number
+-- tiles that go on from the number leave at most what it leaves and they miss
 goes_bound : (runs : Bool) (next : ℕ → ℕ → ℕ → ℕ → ℕ) (room : List ℕ) (most have before earlier sets pairs : ℕ) (held tiles : List ℕ) (sl pl spare : ℕ)
     (goes : Goes runs (Ends runs room) most before earlier sets pairs tiles) → most ≤ 4 → goes.begin ≤ 2 → pairs + pl ≤ 1
     → spare ≤ next goes.begin before (goes.sets_later + sl) (goes.pairs_later + pl) + missing goes.rest held

@@ -215,7 +215,7 @@ merged P Q R front one other to cases first second order =
       ];
     }
 
--- the same property
+-- the greatest of a property is the greatest of one that holds of as much
 same_greatest : (P R : List ℕ → ℕ → ℕ → Type 0) (front : List ℕ) (choice : Choice) → ((t : List ℕ) (s p : ℕ) → P t s p → R t s p) → ((t : List ℕ) (s p : ℕ) → R t s p → P t s p)
     → IsGreatest P front choice → IsGreatest R front choice
 same_greatest P R front choice to from is = record {

@@ -89,7 +89,7 @@ past_are after rows alone none = record {
           ∙ sym (walked_past true (lane after.lanes) [] before earlier s p ∙ ap (λ t. cond t (lane after.lanes s p) 0) under_way);
     }
 
--- the same state by the walk
+-- the row of a step at a number is that of the walk from it on
 walked_holds : (result : List ℕ) (after : ℕ → ℕ → ℕ) (most have : ℕ) (room held : List ℕ) (before earlier : ℕ)
     → Holds result (stepped true have most (walked true after room held) before earlier) → Holds result (walked true after (most ∷ room) (have ∷ held) before earlier)
 walked_holds result after most have room held before earlier holds = record {

@@ -138,7 +138,7 @@ nearest_chosen counts room runs start row melds number paired target s p is few 
           chosen.greatest other 0 0 (subst (λ l. LeavesBy counts room runs start melds (pairs paired) l other 0 0) left by);
     }
 
--- the same by the lane that is read
+-- that none fits, the fewest and the nearest target, by the lane that is read
 pub none_read : (suit : Suit) (counts room : List ℕ) (runs : Bool) (start row : List ℕ) (melds p left : ℕ) (paired : Bool) → suit_of counts room runs ≡ suit
     → IsTable counts room runs start row → melds ≤ 4 → p ≡ pairs paired → left ≡ lane row melds p → left ≡ 0 → (target : List ℕ) → IsTarget suit.room suit.runs melds paired target → ⊥
 none_read suit counts room runs start row melds p left paired same is few pair read none =
@@ -162,7 +162,7 @@ nearest_read suit counts room runs start row melds p left paired target s q same
     (nearest_chosen counts room runs start row melds (15 - left) paired target s q is few some (ap (λ l. 15 - l) lane_is)
     (subst (λ p. IsChosen counts room runs start melds p (lane row melds p) target s q) pair chosen.1))
 
--- the same suit
+-- an answer for a suit is one for its counts, its room and its runs
 pub same_suit : (suit : Suit) (counts room : List ℕ) (runs : Bool) (melds : ℕ) (paired : Bool) (best : Option (ℕ × List ℕ)) → suit ≡ suit_of counts room runs
     → MatchOption best ((target : List ℕ) → IsTarget suit.room suit.runs melds paired target → ⊥) (λ answer. IsNearest suit.counts (IsTarget suit.room suit.runs melds paired) answer.0 answer.1)
     → MatchOption best ((target : List ℕ) → IsTarget room runs melds paired target → ⊥) (λ answer. IsNearest counts (IsTarget room runs melds paired) answer.0 answer.1)

@@ -71,7 +71,7 @@ all_chosen walk aim levels row s p left choice same is few one read some greates
       (record { are = is.are; rooms_are = refl; helds_are = refl }) refl refl refl few one read greatest,
 )
 
--- the same suit before the same, by two rows that leave the most
+-- what a walk chose for a suit is chosen by each row that leaves the most of it
 pub same_chosen : (walk : Walk) (counts room : List ℕ) (runs : Bool) (after row : List ℕ) (s p : ℕ) (choice : Option Choice) → walk.suit ≡ suit_of counts room runs → walk.after ≡ after
     → LeavesMost counts room runs after walk.row → LeavesMost counts room runs after row → s < 8 → p < 2
     → MatchOption choice (lane walk.row s p ≡ 0) (ChosenBy walk s p)

@@ -29,7 +29,7 @@ set_places = 16 ∷ 0 ∷ 1 ∷ 2 ∷ 3 ∷ 4 ∷ 5 ∷ 6 ∷ 16 ∷ 8 ∷ 9 ∷
 abbrev pub price : ℕ → ℕ → ℕ → ℕ
 price held room tiles = max (tiles - held) (16 * tiles - 16 * room)
 
--- the same for none to four tiles
+-- what none to four tiles of a number cost
 abbrev pub prices : ℕ → ℕ → List ℕ
 prices held room = 0 ∷ price held room 1 ∷ price held room 2 ∷ price held room 3 ∷ price held room 4 ∷ []
 
@@ -43,7 +43,7 @@ most_left (left ∷ lefts) (cost ∷ costs) = max (left - cost) (most_left lefts
 abbrev pub begun : (ℕ → ℕ → ℕ → ℕ) → ℕ → ℕ → ℕ → ℕ → ℕ → ℕ
 begun next runs triplets pairs s p = taken (runs + triplets) pairs (next runs) s p
 
--- the same by how many tiles begin, from none to four
+-- the most that is left at a number by how many tiles begin there, from none to four
 abbrev pub begun_by_tiles : Bool → (ℕ → ℕ → ℕ → ℕ) → ℕ → ℕ → List ℕ
 begun_by_tiles true next s p =
     begun next 0 0 0 s p
@@ -59,7 +59,7 @@ abbrev pub stepped : Bool → ℕ → ℕ → (ℕ → ℕ → ℕ → ℕ → �
 stepped runs held room next before earlier s p =
     most_left (begun_by_tiles runs (λ begin. next begin before) s p) (drop (before + earlier) (prices held room))
 
--- the same over all numbers from one on, after which `after` is left
+-- the most that is left over all numbers from one on, after which `after` is left
 unfoldable pub walked : Bool → (ℕ → ℕ → ℕ) → List ℕ → List ℕ → ℕ → ℕ → ℕ → ℕ → ℕ
 walked runs after [] held before earlier s p = if (before == 0) && (earlier == 0) then after s p else 0
 walked runs after (most ∷ room) [] before earlier s p = 0

@@ -103,7 +103,7 @@ fn choose_from(aim: &Aim, levels: &[Level], plan: &Plan, target: &[u8; 9]) -> Ch
     }
 }
 
-// The same where either of these begins at the plan's number.
+// Chooses the tiles of the numbers from the plan's on, where either of these begins at it: the greater of both choices.
 #[cycle(choosing)]
 fn choose_both(
     aim: &Aim,
@@ -126,7 +126,7 @@ fn choose_both(
     )
 }
 
-// The same where these runs, triplets and pairs begin at it.
+// Chooses the tiles of the numbers from the plan's on, where these runs, triplets and pairs begin at it.
 #[cycle(choosing)]
 fn choose_next(
     aim: &Aim,
@@ -235,7 +235,7 @@ fn ways_within(
     ways_of(aim, level, others, plan, tiles)
 }
 
-// The same for any number of tiles.
+// What begins with so many tiles, four at most; none where none of these targets leaves as many.
 #[inline(always)]
 fn ways_of(aim: &Aim, level: &Level, others: &[Level], plan: &Plan, tiles: u8) -> Option<Ways>
     requires few { tiles ≤ 4 }

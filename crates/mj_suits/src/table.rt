@@ -71,7 +71,8 @@ impl SuitTable {
         Some(15 - left)
     }
 
-    /// The same with the target that misses so few: of several the one whose counts are lexicographically greatest.
+    /// The number that `number` answers, with the target that misses so few: of several the one whose counts are
+    /// lexicographically greatest.
     pub fn best(&self, melds: u8, pair: bool) -> Option<(u8, [u8; 9])>
         requires { melds ≤ 4 }
         ensures { MatchOption result

@@ -45,7 +45,7 @@ fn cost_of(tiles: u8, held: Row, room: Row) -> Row
     missing.greater(over)
 }
 
-// The same where there is room for four.
+// The costs of a number of which so many are held, where there is room for four.
 #[inline(always)]
 fn costs_in_full_room(held: u8) -> Costs
     ensures { AreCosts held 4 result }
@@ -69,7 +69,7 @@ struct Begun {
     four: Row,
 }
 
-// The same by what is left after the number, where no run, one and two runs begin at it.
+// What is left where none to four tiles begin at a number, by what is left after it with no run, one and two runs from it.
 #[inline(always)]
 fn begin(none: Row, one: Row, two: Row) -> Begun
     ensures { AreBegun none.lanes one.lanes two.lanes result }
@@ -99,7 +99,7 @@ impl Begun {
         self.none.greater(one)
     }
 
-    // The same where one tile of them does.
+    // What is left where one tile of earlier runs stands at the number.
     #[inline(always)]
     fn beside_one(&self, costs: &Costs) -> Row
         ensures { Holds result.lanes
@@ -111,7 +111,7 @@ impl Begun {
         self.none.less(costs.one).greater(one)
     }
 
-    // The same where two tiles of them do.
+    // What is left where two tiles of earlier runs stand at the number.
     #[inline(always)]
     fn beside_two(&self, costs: &Costs) -> Row
         ensures { Holds result.lanes
@@ -122,7 +122,7 @@ impl Begun {
         self.none.less(costs.two).greater(one)
     }
 
-    // The same where three tiles of them do.
+    // What is left where three tiles of earlier runs stand at the number.
     #[inline(always)]
     fn beside_three(&self, costs: &Costs) -> Row
         ensures { Holds result.lanes
@@ -132,7 +132,7 @@ impl Begun {
         self.none.less(costs.three).greater(one)
     }
 
-    // The same where four tiles of them do.
+    // What is left where four tiles of earlier runs stand at the number.
     #[inline(always)]
     fn beside_four(&self, costs: &Costs) -> Row
         ensures { Holds result.lanes
@@ -150,7 +150,7 @@ pub(crate) struct ByRuns {
     two: Row,
 }
 
-// The same for each number of runs that began two numbers before.
+// A row for each number of runs that began one number and two numbers before: none, one and two of each.
 #[derive(Clone, Copy)]
 pub(crate) struct Rows {
     none: ByRuns,
@@ -220,7 +220,7 @@ pub(crate) fn rows_before(next: &Rows, held: u8, room: u8) -> Rows
     rows_at_cost(next, &costs_of(held, room))
 }
 
-// The same where there is room for four.
+// The rows from a number on, of which so many are held and four may be, by those after it.
 #[inline(always)]
 fn rows_in_full_room(next: &Rows, held: u8) -> Rows
     ensures { (after : ℕ → ℕ → ℕ) (rooms counts : List ℕ)
@@ -230,7 +230,7 @@ fn rows_in_full_room(next: &Rows, held: u8) -> Rows
     rows_at_cost(next, &costs_in_full_room(held))
 }
 
-// The same at these costs of the number.
+// The rows from a number on, whose tiles cost so much, by those after it.
 #[inline(always)]
 fn rows_at_cost(next: &Rows, costs: &Costs) -> Rows
     ensures { (after : ℕ → ℕ → ℕ) (rooms counts : List ℕ) (held room : ℕ)
@@ -260,7 +260,7 @@ fn rows_at_cost(next: &Rows, costs: &Costs) -> Rows
     }
 }
 
-// The same for honours, which have no runs: the row from a number on, by the row after it.
+// The row of honours, which have no runs, from a number on, by the row after it.
 #[inline(always)]
 pub(crate) fn honours_before(next: Row, held: u8, room: u8) -> Row
     requires { room ≤ 4 }
@@ -271,7 +271,7 @@ pub(crate) fn honours_before(next: Row, held: u8, room: u8) -> Row
     honours_at_cost(next, &costs_of(held, room))
 }
 
-// The same where there is room for four.
+// The row of honours from a number on, of which so many are held and four may be, by the row after it.
 #[inline(always)]
 fn honours_in_full_room(next: Row, held: u8) -> Row
     ensures { (after : ℕ → ℕ → ℕ) (rooms counts : List ℕ)
@@ -281,7 +281,7 @@ fn honours_in_full_room(next: Row, held: u8) -> Row
     honours_at_cost(next, &costs_in_full_room(held))
 }
 
-// The same at these costs of the number.
+// The row of honours from a number on, whose tiles cost so much, by the row after it.
 #[inline(always)]
 fn honours_at_cost(next: Row, costs: &Costs) -> Row
     ensures { (after : ℕ → ℕ → ℕ) (rooms counts : List ℕ) (held room : ℕ)
@@ -330,7 +330,7 @@ fn runs_within(after: Row, counts: &[u8; 9], room: &[u8; 9]) -> Row
     first.none.none
 }
 
-// The same where there is room for four of each number.
+// The row of a suit with runs where there is room for four of each number.
 fn runs_in_full_room(after: Row, counts: &[u8; 9]) -> Row
     ensures { Holds result.lanes (walked true (lane after.lanes) (replicate 9 4) counts.now 0 0) }
 {

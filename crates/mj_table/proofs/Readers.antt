@@ -212,7 +212,7 @@ next_started ds kept now is at some = by_hand kept is some
     by_hand [] e k = absurd (omega (arith, k))
     by_hand (x ∷ xs) e k = plus _ _ _ (ap (λ (n : Standing). n.hand) at) (standing_hand ds) (some_kept is_hand_start ds (has_start ds x xs (sym e)))
 
--- The same by whether the newest hand has begun.
+-- The newest hand has no deeds where it hasn't begun, and some where it has.
 empty_hand : (n : ℕ) → false ≡ not (n == 0) → n ≡ 0
 empty_hand zero h = refl
 empty_hand (suc n) h = absurd (both (h ∙ ap not (ne_eqb (suc n) 0 (λ e. omega (arith, e)))))

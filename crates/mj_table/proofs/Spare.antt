@@ -135,7 +135,7 @@ few_spare red ds seat tile small fit e = by_kind (cases_lt (kind_of tile) 34)
     by_kind (inr high) =
         past _ (get_or_past (kind_counts (concealed_tiles (hand ds) seat)) (kind_of tile) 0 (subst (λ (n : ℕ). n ≤ kind_of tile) (sym (length-kind_counts (concealed_tiles (hand ds) seat))) high))
 
--- The same of counts that are those of a seat.
+-- Where deeds fit, the counts of a seat have at most three of the kind of the tile that the newest deed offers.
 pub few_held : (red : Bool) (ds kept : List Deed) (seat : ℕ) (counts : List ℕ) → kept ≡ hand ds → all_fit red [] ds ≡ true → counts ≡ kind_counts (concealed_tiles kept seat) →
     seat ≤ 3 → (tile : ℕ) → offered_tile ds ≡ Some tile → get_or counts (kind_of tile) 0 < 4
 few_held red ds kept seat counts is fit told low tile e =

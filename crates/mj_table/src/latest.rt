@@ -103,7 +103,7 @@ pub(crate) fn is_after_win(newest: Option<&Deed>) -> bool
     }
 }
 
-// The same deed once more. Draws and discards, nine of ten deeds, are made here: the copy of any deed costs more.
+// A copy of a deed. Draws and discards, nine of ten deeds, are made here: the copy of any deed costs more.
 fn once_more(deed: &Deed) -> Result<Deed, AllocError>
     ensures { IfOk result (λ copy. copy ≡ deed.now) }
 {
@@ -126,7 +126,7 @@ fn once_more(deed: &Deed) -> Result<Deed, AllocError>
     }
 }
 
-// The same deed once more, where there is one.
+// A copy of a deed, where there is one.
 pub(crate) fn copy_of(deed: Option<&Deed>) -> Result<Option<Deed>, AllocError>
     ensures { IfOk result (λ copy. copy ≡ option_copied deed.entry) }
 {

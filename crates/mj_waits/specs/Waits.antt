@@ -10,7 +10,7 @@ use Rattle.mj_readings.specs.Tests.{complete, one_more}
 abbrev pub IsWait : List ℕ → List ℕ → ℕ → ℕ → Type 0
 IsWait counts room melds kind = (slice_index counts kind < slice_index room kind) × IsComplete (one_more counts kind) melds
 
--- The same as a test.
+-- The test whether a kind is a wait.
 abbrev pub is_wait : List ℕ → List ℕ → ℕ → ℕ → Bool
 is_wait counts room melds kind = nat_lt (slice_index counts kind) (slice_index room kind) && complete (one_more counts kind) melds
 

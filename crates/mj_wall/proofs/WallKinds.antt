@@ -91,7 +91,7 @@ up-split f m (suc n) (suc k) e =
     more : (a b c x y : ℕ) → a ≡ b + c → x ≡ y → a + x ≡ b + (c + y)
     more a b c x y e f = omega arith
 
--- The sum over the front of a list, place by place.
+-- The sum over the beginning of a list, place by place.
 pub up-take : (f : ℕ → ℕ) (xs : List ℕ) (n : ℕ) → n ≤ length xs → sum_by f (take n xs) ≡ up (λ i. f (get_or xs i 0)) n
 unfolding up
 up-take f xs zero h = refl

@@ -197,7 +197,7 @@ fn triplet_bid(seat: u8, answer: &Answer) -> Bid
     known_triplet(seat, answer).unwrap_or(Bid::NoBid)
 }
 
-// The same where all its tiles are known, and else none.
+// The bid of a pon or a kan all of whose tiles are known; of another answer none.
 fn known_triplet(seat: u8, answer: &Answer) -> Option<Bid>
     ensures { unwrap_or result NoBid ≡ triplet_bid seat answer.now }
 {
@@ -241,7 +241,7 @@ fn run_bid(seat: u8, answer: &Answer) -> Bid
     known_run(seat, answer).unwrap_or(Bid::NoBid)
 }
 
-// The same where all its tiles are known, and else none.
+// The bid of a chi all of whose tiles are known; of another answer none.
 fn known_run(seat: u8, answer: &Answer) -> Option<Bid>
     ensures { unwrap_or result NoBid ≡ run_bid seat answer.now }
 {

@@ -24,7 +24,7 @@ rows_from-has rows set row before d next within gathered holds =
     ∙ ap (λ n. with_row (rows_from n (drop row rows)) before) next
     ∙ sym (ap (rows_from before) (rest_from rows row before d true next within holds))
 
--- The same where it doesn't.
+-- The rows from the one before on, where that one doesn't hold.
 pub rows_from-lacks : (rows : List Bool) (set row before : ℕ) (d : Bool) → row ≡ before + 1 → before < length rows →
     set ≡ rows_from row (drop row rows) → get_or rows before d ≡ false → set ≡ rows_from before (drop before rows)
 unfolding rows_from

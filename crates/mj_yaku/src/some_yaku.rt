@@ -35,9 +35,9 @@ pub fn has_yaku(counts: &Counts, melds: &[Meld], win: Kind, case: &Case) -> bool
     false
 }
 
-/// The same of a complete hand: where the way in which it was won gives a yaku, or all its tiles are twos to eights, it has one by
-/// whatever reading, and none is looked for. Conditions: `closed` of the case is true exactly where all melds are concealed
-/// kans, and the tiles are a complete hand with as many melds.
+/// Whether a complete hand has a yaku: where the way in which it was won gives one, or all its tiles are twos to eights, it has
+/// one by whatever reading, and none is looked for. Conditions: `closed` of the case is true exactly where all melds are
+/// concealed kans, and the tiles are a complete hand with as many melds.
 pub fn complete_has_yaku(counts: &Counts, melds: &[Meld], win: Kind, case: &Case) -> bool
     requires closed { case.now.closed ≡ are_concealed melds.now }
     requires complete { complete counts.now (length melds.now) ≡ true }

@@ -106,7 +106,7 @@ fn none_first(text: &[u8]) -> Option<&[u8]>
     }
 }
 
-// The same of a discard.
+// What stands after the type of a discard.
 fn dahai_first(text: &[u8]) -> Option<&[u8]>
     ensures { IfSome result (λ rest. text.now ≡ codes "dahai\"" ++ rest.now) }
 {

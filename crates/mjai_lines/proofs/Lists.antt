@@ -18,7 +18,7 @@ pub bracketed_four : (a b c d : List ℕ) →
 unfolding bracketed
 bracketed_four a b c d = simp append_assoc refl
 
--- the same of four items, by their places
+-- four items in brackets, by their places, as they are written one after the other
 pub bracketed_items : {A : Type 0} (f : A → List ℕ) (items : List A) (other : A) → length items ≡ 4 →
     bracketed (map f items) ≡ codes "[" ++ f (get_or items 0 other) ++ codes "," ++ f (get_or items 1 other) ++ codes ","
     ++ f (get_or items 2 other) ++ codes "," ++ f (get_or items 3 other) ++ codes "]"

@@ -98,7 +98,7 @@ impl Job {
         }
     }
 
-    // The same for the jobs that ask of hands.
+    // Goes through so many hands for a job that asks of hands, and answers a checksum.
     fn asked(self, alloc: Global, hands: &mut Hands, times: u32) -> Result<u64, AllocError> {
         let kinds = all_kinds();
         let mut sum = 0u64;

@@ -88,7 +88,8 @@ pub none-left : (text : List ℕ) (words : List (List ℕ)) (rest : List ℕ) �
 none-left text words rest taken ends is = sym (ap (λ (b : Bool). option_and_then heard (if b then Some (whole_lines text) else None)) (sym (left_over text rest taken.ending ends) ∙ is))
 
 given : (text : List ℕ) (words : List (List ℕ)) (rest : List ℕ) → TakesWords text words rest → HasNoLine rest → (length rest == 0) ≡ true → words_of text ≡ heard words
-given text words rest taken ends is = ap (λ (b : Bool). option_and_then heard (if b then Some (whole_lines text) else None)) (sym (left_over text rest taken.ending ends) ∙ is) ∙ ap heard (all_read text words rest taken ends)
+given text words rest taken ends is =
+    ap (λ (b : Bool). option_and_then heard (if b then Some (whole_lines text) else None)) (sym (left_over text rest taken.ending ends) ∙ is) ∙ ap heard (all_read text words rest taken ends)
 
 hears : (words : List (List ℕ)) (b : Bool) → list_all is_utf8 words ≡ true → is_apart words ≡ b → heard words ≡ (if not b then Some words else None)
 hears words b texts is = ap (λ (c : Bool). if c && not (is_apart words) then Some words else None) texts ∙ ap (λ (c : Bool). if not c then Some words else None) is

@@ -117,7 +117,8 @@ pub data ReadsSeat (seat : ℕ) (old_at at : Seat) (old new : Game) (answer : �
 pub data ReadsLine (seat k : ℕ) (old_room room : List ℕ) (many : ℕ) (old new : Game) (answer : ℕ) : Type 0 where
   LineNoSeat : 3 < seat → new ≡ old → answer ≡ no_seat → many ≡ 0 → room ≡ old_room → ReadsLine seat k old_room room many old new answer
   NoLine : seat ≤ 3 → length (after_of old).deeds ≤ k → new ≡ old → answer ≡ no_line → many ≡ 0 → room ≡ old_room → ReadsLine seat k old_room room many old new answer
-  Line : seat ≤ 3 → k < length (after_of old).deeds → new ≡ old → Writes (line_at old.setting.rules (after_of old).deeds seat k) answer old_room room many → ReadsLine seat k old_room room many old new answer
+  Line : seat ≤ 3 → k < length (after_of old).deeds → new ≡ old → Writes (line_at old.setting.rules (after_of old).deeds seat k) answer old_room room many
+      → ReadsLine seat k old_room room many old new answer
 
 -- What is pending for a seat.
 pub data ReadsPending (seat : ℕ) (old_room room : List ℕ) (many : ℕ) (old new : Game) (answer : ℕ) : Type 0 where

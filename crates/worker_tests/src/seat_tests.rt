@@ -165,7 +165,7 @@ fn holds<R: Wait>(rt: &R, alloc: Global, link: MemLink, case: Case) -> bool {
     }
 }
 
-// The same with a link that gives a byte a read.
+// Whether a case holds with a link that gives a byte a read.
 fn holds_slowly<R: Wait>(rt: &R, alloc: Global, link: MemLink, case: Case) -> bool {
     match serve_anew(rt, alloc, case.before, case.returns, SlowLink(link)) {
         Some(it) => it.done && is_as_wanted(it.served, it.link.0.written(), it.shown, case),
@@ -499,7 +499,7 @@ fn frail(alloc: Global, reads: &[u64], writes: &[u64]) -> Result<MemLink, AllocE
     Ok(MemLink::new(text, reads, writes.to_vec(alloc)?))
 }
 
-// Whether bytes are a front of what a link is told whose reads and writes don't fail.
+// Whether bytes are a prefix of what a link is told whose reads and writes don't fail.
 fn is_front(alloc: Global, written: &[u8]) -> bool {
     match bytes_of(
         alloc,
@@ -510,7 +510,7 @@ fn is_front(alloc: Global, written: &[u8]) -> bool {
     }
 }
 
-// Whether a link ends its session by its fault, with a front of what it is told; and whether a seat that it had is taken back by
+// Whether a link ends its session by its fault, with a prefix of what it is told; and whether a seat that it had is taken back by
 // its key.
 fn breaks<R: Wait>(rt: &R, alloc: Global, link: MemLink, seated: bool) -> bool {
     match serve_anew(rt, alloc, &THREE, 0, link) {

@@ -49,7 +49,7 @@ ways (count ∷ others) kind first second left pair =
     then at_kind (λ runs left pair. ways others (kind + 1) second runs left pair) kind (count - (first + second)) left pair
     else []
 
--- The same as a test: whether there is a way.
+-- The test whether there is a way, which lists none.
 abbrev pub begins : (ℕ → ℕ → Bool → Bool) → ℕ → ℕ → ℕ → ℕ → Bool → Bool
 begins next kind runs triplets left paired =
     (runs == 0 || begins_run kind) && nat_le (runs + triplets) left && next runs (left - (runs + triplets)) paired

@@ -1,4 +1,4 @@
--- The same order of sets of rows by a walk over the rows.
+-- The order of sets of rows, by a walk over the rows.
 use Rattle.std.specs.Prelude.{ℕ, Bool, false, not, if◌then◌else◌, List, [], ◌∷◌}
 use Rattle.std.specs.List.{list_any}
 use Rattle.mj_yaku.specs.Rows.{has_row}

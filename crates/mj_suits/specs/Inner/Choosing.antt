@@ -80,7 +80,7 @@ pub record LeavesAsMany (aim : Aim) (level : Level) (plan : Plan) (begin : Begin
   pub may : MayBegin aim level plan begin
   pub left_is : lane (row_at level.rows begin.runs plan.before) (plan.sets - (begin.runs + begin.triplets)) (plan.pairs - begin.pairs) ≡ plan.left + (tiles_at plan begin - level.held)
 
--- the same where these runs, triplets and pairs begin at the plan's number
+-- these begin at the plan's number, and with the tiles after it as many are left as the plan says
 pub record ByBegin (aim : Aim) (level : Level) (others : List Level) (plan : Plan) (begin : Begin) (tiles : List ℕ) (sets_after pairs_after : ℕ) : Type 0 where
   pub rest : List ℕ
   pub tiles_are : tiles ≡ tiles_at plan begin ∷ rest
@@ -88,7 +88,7 @@ pub record ByBegin (aim : Aim) (level : Level) (others : List Level) (plan : Pla
   pub more : Goes_on aim others begin.runs plan.before (plan.sets - (begin.runs + begin.triplets)) (plan.pairs - begin.pairs)
       (plan.left + (tiles_at plan begin - level.held)) rest sets_after pairs_after
 
--- the same where so many tiles begin there: runs and a triplet or none, or runs and a pair
+-- so many tiles begin at the plan's number, and as many are left: runs and a triplet or none, or runs and a pair
 abbrev pub sets_alone : ℕ → Begin
 sets_alone tiles = record { runs = tiles % 3; triplets = tiles / 3; pairs = 0 }
 

@@ -57,9 +57,11 @@ module _ {M : Type 1} where
       (passed 𝓡.env (code.calls-std_heap::GlobalAllocator::allocate 𝓡.env wired) (code.calls-std_heap::GlobalAllocator::deallocate 𝓡.env wired)
       (code.calls-std_heap::GlobalAllocator::grow 𝓡.env wired) (code.calls-std_heap::GlobalAllocator::shrink 𝓡.env wired) M 𝓤 𝓛 𝓜 𝓡)
       (undropping.glues "riichi_c::Destruct++none::drop" 𝓡.env (code.calls-riichi_c::Destruct++none::drop 𝓡.env wired) Heap heap_is M 𝓤 𝓛 𝓜 𝓡) in
-      proved_at 𝓛 f.ended stayed c 𝓜 𝓡 (Goes-blank 𝓛 0 (plain (λ _. Held)) yes (λ κs x w. tt), (Goes-blank 𝓛 0 (plain (λ _. heap.the_row)) yes (λ κs x w. tt), tt)) f.Key.name fn (code.unfolded 𝓤 H 𝓜 𝓡 wired) (λ z are.
+      proved_at 𝓛 f.ended stayed c 𝓜 𝓡 (Goes-blank 𝓛 0 (plain (λ _. Held)) yes (λ κs x w. tt), (Goes-blank 𝓛 0 (plain (λ _. heap.the_row)) yes (λ κs x w. tt), tt)) f.Key.name fn
+      (code.unfolded 𝓤 H 𝓜 𝓡 wired) (λ z are.
       let d = z.0.3.0 in let a = z.0.3.1.0 in let inGame = [] ⊑ Game.lives in let inHeap = [] ⊑ Heap.lives in
-      qed 𝓛 ((‵ ftrue ⊛ ‵ (owns (types_at f.signature.params z.0.0) z.0.3 z.0.4)) ∷ raw (fact 𝓤 (IsTrue (is_some d.game))) ∷ []) ∵ move ! (1 ∷ []) $ heard ! (IsTrue (is_some d.game)) (λ full. split ! $ drop ! $ fsplit ! $
+      qed 𝓛 ((‵ ftrue ⊛ ‵ (owns (types_at f.signature.params z.0.0) z.0.3 z.0.4)) ∷ raw (fact 𝓤 (IsTrue (is_some d.game))) ∷ []) ∵ move ! (1 ∷ []) $ heard ! (IsTrue (is_some d.game))
+      (λ full. split ! $ drop ! $ fsplit ! $
       held_out ! d z.0.4.0 (λ is. held_lies ! Core d.at d.game full (λ b o x e same. move ! (1 ∷ []) $ fsplit ! $
       handle_tells heap_al ! a z.0.4.1.0 (λ hv isHeap fits.
       -- [the handle; nothing; what the pointer owns]
@@ -68,13 +70,15 @@ module _ {M : Type 1} where
       let y : G.Ghost = ((([], ([], tt)), (full_share, (full_share, tt)), tt, (a, (block_ptr b o, tt)), (hv ∷ [], (vptr b o ∷ [], tt))), x) in
       move ! (1 ∷ []) $ feq_i ! (List Val) (vptr b o ∷ []) (vptr b o ∷ []) refl $ fjoin ! $ move ! (1 ∷ 0 ∷ []) $ fjoin ! $
       nothing ! $ use0 𝓛 (‵ (flft [] full_share)) (𝓛.lfts.lft-nil full_share) $ join ! $ use0 𝓛 (‵ (flft [] full_share)) (𝓛.lfts.lft-nil full_share) $ join ! $ join ! $
-      move ! (1 ∷ []) $ use0 𝓛 (raw (fact 𝓤 inHeap)) (fact_i 𝓤 inHeap (emp 𝓤) (⊑_static [])) $ join ! $ use0 𝓛 (raw (fact 𝓤 inGame)) (fact_i 𝓤 inGame (emp 𝓤) (⊑_static [])) $ join ! $ move ! (1 ∷ []) $ join ! $
+      move ! (1 ∷ []) $ use0 𝓛 (raw (fact 𝓤 inHeap)) (fact_i 𝓤 inHeap (emp 𝓤) (⊑_static [])) $ join ! $ use0 𝓛 (raw (fact 𝓤 inGame))
+      (fact_i 𝓤 inGame (emp 𝓤) (⊑_static [])) $ join ! $ move ! (1 ∷ []) $ join ! $
       use1 𝓛 (raw (G.pre y)) (id⊢ 𝓤 _) $
       enter ! 𝓣.C 𝓣.Λ fn (word (block_ptr b o) ∷ hv ∷ []) (W.post z) $ alloc_all ! (λ l. pass_all ! refl ((tt, (tt, tt)), (fits, tt)) $
       sets ! (of_opd ! (get_in ! (fld ! refl (stop !)) (sub ! 0 refl (whole !)))) refl (tt, tt) $ first ! $ blocks ! $
       calls_at_last ! (framed 𝓤 H 𝓜 𝓣) G known y (and_then ! (get ! refl) (and_then ! (get ! refl) (no_more !))) (λ u.
       use1 𝓛 (later (some (λ (r : (box.B E).Denot). ((‵ (flft [] full_share) ⊛ ‵ (flft [] full_share) ⊛ ‵ ftrue) ⊛ ‵ ((box.B E).own_val r (u ∷ []))) ⊛
-      some (λ (ls : Lasts (g.ended Game Heap ghosts dict undropped) y.0.0 y.0.3). ‵ (lasts (g.ended Game Heap ghosts dict undropped) y.0.0 y.0.3 ls) ⊛ (raw (fact 𝓤 (r.value ≡ x)) ⊛ raw (fact 𝓤 (r.alloc ≡ a))))))) (id⊢ 𝓤 _) $
+      some (λ (ls : Lasts (g.ended Game Heap ghosts dict undropped) y.0.0 y.0.3). ‵ (lasts (g.ended Game Heap ghosts dict undropped) y.0.0 y.0.3 ls) ⊛
+      (raw (fact 𝓤 (r.value ≡ x)) ⊛ raw (fact 𝓤 (r.alloc ≡ a))))))) (id⊢ 𝓤 _) $
       await ! tt $ pick ! (λ r. split ! $ move ! (1 ∷ []) $ pick ! (λ ls. split3 ! $ drop ! $ heard ! (r.value ≡ x) (λ value. drop ! $ split ! $ drop ! $
       box_out E ! r (u ∷ []) (λ b' o' hv' e' us fits'. box_in E ! r b' o' r.value e' refl $ rewrite ! 0 (λ (xs : List Val). ‵ ((box.B E).own_val r xs)) (sym us) refl $
       let typed = subst (λ (s : Val). lib.Dec.T (mir.Val.has_ty (box.box_ty E) s) × mir.Val.WT s) (sym (ap only us)) (box.box_typed E hv' b' o' fits') in

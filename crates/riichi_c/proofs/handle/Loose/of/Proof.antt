@@ -55,7 +55,8 @@ module _ {M : Type 1} where
   of_spec 𝓤 𝓛 𝓜 𝓡 wired T L drops dropped =
       let H = 𝓛.H in let 𝓣 = tables 𝓤 H 𝓜 𝓡 𝓡.env in let R : RattleType = param 0 T in let E : box.Bx = record { row = T; laws = L; al = heap_al } in
       let args : Args = bounded (a_type ∷ []) (T, tt) (dcons drops dnil) in let fn = inst_fn args code.function in
-      let En = f.ended T drops in let c = f.clauses T drops 𝓛 𝓜.mem 𝓡.returns in let hs : Stays En.signature.params En.kept = (stay_dropped (plain (λ _. boxed.the_row R heap.the_row ghosts)) no, tt) in let W = walk_of 𝓛 En hs c in
+      let En = f.ended T drops in let c = f.clauses T drops 𝓛 𝓜.mem 𝓡.returns in
+      let hs : Stays En.signature.params En.kept = (stay_dropped (plain (λ _. boxed.the_row R heap.the_row ghosts)) no, tt) in let W = walk_of 𝓛 En hs c in
       let G = triple_of 𝓛 (g.signature T Heap ghosts dict undropped drops) (g.spec T Heap ghosts dict undropped drops 𝓛 𝓜.mem 𝓡.returns) in
       let known = met 𝓤 𝓛 𝓜 𝓡 (code.calls-std_alloc::boxed::Box::into_raw 𝓡.env wired) T Heap L heap_is ghosts dict undropped drops
       (passed 𝓡.env (code.calls-std_heap::GlobalAllocator::allocate 𝓡.env wired) (code.calls-std_heap::GlobalAllocator::deallocate 𝓡.env wired)
