@@ -1,5 +1,5 @@
 -- What is read of a line is a value of the type of deeds: each field is read within its bounds.
-use Rattle.std.proofs.Common.{◌≡◌, ℕ, ◌+◌, ◌<◌, subst, ◌^◌, List, [], ◌∷◌, Bool, true, false, refl, sym, arith, cond, zero, suc}
+use Rattle.std.proofs.Common.{◌≡◌, ℕ, ◌+◌, ◌<◌, subst, ◌^◌, List, [], ◌∷◌, ◌++◌, Bool, true, false, refl, ap, sym, ◌∙◌, arith, cond, zero, suc}
 use Rattle.std.specs.Prelude.{Option, Some, None, ℤ, pos, negsuc, ◌==◌, ◌&&◌, nat_lt, nat_le, length, codes, bytes_eq, option_map, option_and_then}
 use Rattle.std.specs.Option.{option_or}
 use Rattle.std.specs.List.{list_all}
@@ -15,6 +15,7 @@ use Rattle.mj_deeds.specs.declared.bid.Bid.{Bid}
 use Rattle.mj_deeds.specs.declared.bid.Bid.TheVariants as bids
 use Rattle.mj_deeds.specs.declared.reason.Reason.{Reason}
 use Rattle.mj_deeds.specs.Bids.{call_of_bid}
+use Rattle.mj_deeds.specs.Hand.{is_hand_start}
 use Rattle.mj_deeds.specs.Shown.{Shown}
 use Rattle.mj_deeds.specs.declared.deed.Deed.{Deed}
 use Rattle.mj_deeds.specs.declared.deed.Deed.TheVariants.{Chi, Pon, OpenKan, EndHand}
@@ -520,3 +521,30 @@ deed_ok text = onward-any Value _ _ (λ kind. deed_by_ok kind.0 kind.1)
 pub read_is_value : (text : List ℕ) (deed : Deed) → Some deed ≡ deed_in text → is_deed deed ≡ true
 unfolding IfRead
 read_is_value text deed e = subst (λ (o : Option Deed). IfRead o Value) (sym e) (deed_ok text)
+
+-- of a line that begins as that of a start of a hand nothing else is read
+abbrev Starts : Deed → Type 0
+Starts deed = is_hand_start deed ≡ true
+
+start_by_starts : (round number honba deposits : ℕ) (text : List ℕ) → IfRead (start_by round number honba deposits text) Starts
+unfolding start_by
+start_by_starts round number honba deposits text =
+    onward-any Starts _ (byte_field (codes ",\"oya\":") text) (λ dealer.
+    onward-any Starts _ (tile_field (codes ",\"dora_marker\":") dealer.1) (λ indicator.
+    last-any Starts _ (hands_at indicator.1) (λ hands. refl)))
+
+start_hand_starts : (text : List ℕ) → IfRead (start_hand_in text) Starts
+unfolding start_hand_in
+start_hand_starts text =
+    onward-any Starts _ (kind_field (codes ",\"bakaze\":") text) (λ round.
+    onward-any Starts _ (byte_field (codes ",\"kyoku\":") round.1) (λ number.
+    onward-any Starts _ (word_field (codes ",\"honba\":") number.1) (λ honba.
+    onward-any Starts _ (word_field (codes ",\"kyotaku\":") honba.1) (λ deposits. start_by_starts round.0 number.0 honba.0 deposits.0 deposits.1))))
+
+begun_starts : (rest : List ℕ) → IfRead (deed_in (codes "{\"type\":\"start_kyoku\"" ++ rest)) Starts
+unfolding deed_in deed_by quoted_at
+begun_starts rest = start_hand_starts rest
+
+pub read_start : (text rest : List ℕ) (deed : Deed) → text ≡ codes "{\"type\":\"start_kyoku\"" ++ rest → deed_in text ≡ Some deed → is_hand_start deed ≡ true
+unfolding IfRead
+read_start text rest deed e r = subst (λ (o : Option Deed). IfRead o Starts) (sym (ap deed_in e) ∙ r) (begun_starts rest)

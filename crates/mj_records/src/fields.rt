@@ -1,4 +1,4 @@
-//! Fields at the front of a text: each gives its value and what stands after it. What a field is followed by is not looked at.
+//! Fields that begin a text: each gives its value and what stands after it. What a field is followed by is not looked at.
 
 ghost use Rattle.std.specs.Prelude.{◌≡◌, ◌<◌, ◌≤◌, ◌^◌, length, take, drop, option_map, option_and_then, pos};
 ghost use Rattle.mj_records.specs.Inner.Fields.{digits_front, behind_digits, below, number_at, signed_at, negative_of, and_rest, points_at, quoted_at, tile_at, truth_at, byte_field, word_field, tile_field, truth_field, points_field, signed_field};

@@ -22,4 +22,4 @@ pub use laws::{
 };
 pub use reading::deed_in;
 pub use setting::{header_of, wall_of};
-pub use usual::{Act, act_in, has_line_of};
+pub use usual::{Act, act_first, begins_hand, has_line_of};

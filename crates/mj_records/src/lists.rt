@@ -1,4 +1,4 @@
-//! Lists in brackets at the front of a text, with commas between.
+//! Lists in brackets at the beginning of a text, with commas between.
 
 ghost use Rattle.std.specs.Prelude.{◌≡◌, [], IfOk, IfSome, All, ◌≤◌, length, codes, option_map};
 ghost use Rattle.mj_bytes.specs.Parts.{behind};

@@ -1,16 +1,17 @@
 //! Draws and discards, which most lines of a record tell: they are read whole, so that the line is the deed's to its last byte,
-//! and without a deed, which has room for every kind.
+//! and without a deed, which has room for every kind. And which lines tell a start of a hand, whose tiles needn't be read.
 
-ghost use Rattle.std.specs.Prelude.{◌≡◌, ◌<◌, ◌+◌, ◌∷◌, ◌++◌, Some, None, IfSome, IsTrue, Bool, codes};
+ghost use Rattle.std.specs.Prelude.{◌≡◌, ◌<◌, ◌+◌, ◌∷◌, ◌++◌, Some, None, IfSome, IsTrue, Bool, true, codes};
 ghost use Rattle.mj_tiles.specs.Faces.{text_of};
+ghost use Rattle.mj_deeds.specs.Hand.{is_hand_start};
+ghost use Rattle.mj_deeds.specs.declared.deed.Deed.{Deed};
 ghost use Rattle.mj_deeds.specs.declared.deed.Deed.TheVariants.{Draw, Discard};
 ghost use Rattle.mj_deeds.specs.declared.deed.Viewer.TheVariants.{Record};
 ghost use Rattle.mj_forms.specs.Lines.{line as line_for, truth};
-ghost use Rattle.mj_history.specs.Records.{IsLineOf};
 ghost use Rattle.mj_records.specs.Deeds.{deed_in};
-ghost use Rattle.mj_records.specs.Usual.{deed_of, IsActOf};
+ghost use Rattle.mj_records.specs.Usual.{deed_of, IsActOf, BeginsWithAct};
 
-use mj_bytes::split_at_first;
+use mj_bytes::{split_at_first, strip};
 use mj_deeds::Deed;
 use mj_tiles::Tile;
 use mjai_answers::seat_first;
@@ -24,15 +25,14 @@ pub enum Act {
     Discard { seat: u8, tile: Tile, drawn: bool },
 }
 
-/// The draw or the discard whose line a text is; none where it is another line, or one of a seat above 3. Which of them it may
-/// be is seen by the first letter of its type.
-pub fn act_in(line: &[u8]) -> Option<Act>
-    ensures line { IfSome result (λ act. IsLineOf line.now (deed_of act)) }
-    ensures read { IfSome result (λ act. deed_in line.now ≡ Some (deed_of act)) }
+/// The draw or the discard whose line a text begins with, and what follows the line; none where it begins with another line, or
+/// with one of a seat above 3. Which of them it may be is seen by the first letter of its type.
+pub fn act_first(text: &[u8]) -> Option<(Act, &[u8])>
+    ensures { IfSome result (λ x. BeginsWithAct text.now x.0 x.1.now) }
 {
-    match line {
-        [_, _, _, _, _, _, _, _, _, b't', ..] => draw_in(line),
-        [_, _, _, _, _, _, _, _, _, b'd', ..] => discard_in(line),
+    match text {
+        [_, _, _, _, _, _, _, _, _, b't', ..] => draw_first(text),
+        [_, _, _, _, _, _, _, _, _, b'd', ..] => discard_first(text),
         _ => None,
     }
 }
@@ -45,6 +45,16 @@ pub fn has_line_of(deed: &Deed, act: &Act) -> bool
         Deed::Draw { seat, tile, .. } => is_draw_of(act, *seat, *tile),
         Deed::Discard { seat, tile, drawn } => is_discard_of(act, *seat, *tile, *drawn),
         _ => false,
+    }
+}
+
+/// Whether a line begins as that of a start of a hand, so that nothing but a start of a hand is read of it.
+pub fn begins_hand(line: &[u8]) -> bool
+    ensures { IsTrue result → (deed : Deed) → deed_in line.now ≡ Some deed → is_hand_start deed ≡ true }
+{
+    match after(line, b"{\"type\":\"start_kyoku\"") {
+        Some(_) => true,
+        None => false,
     }
 }
 
@@ -77,40 +87,38 @@ fn is_discard_of(act: &Act, seat: u8, tile: Tile, drawn: bool) -> bool
     }
 }
 
-// The draw of a line.
-fn draw_in(line: &[u8]) -> Option<Act>
-    ensures line { IfSome result (λ act. IsLineOf line.now (deed_of act)) }
-    ensures read { IfSome result (λ act. deed_in line.now ≡ Some (deed_of act)) }
+// The draw whose line a text begins with, and what follows it.
+fn draw_first(text: &[u8]) -> Option<(Act, &[u8])>
+    ensures { IfSome result (λ x. BeginsWithAct text.now x.0 x.1.now) }
 {
-    let Some(act) = after(line, b"{\"type\":\"tsumo\",\"actor\":") else {
+    let Some(act) = seat_after(text, b"\"tsumo\",") else {
         return None;
     };
     let Some((seat, face, end)) = seat_and_face(act) else {
         return None;
     };
-    if !is_end(end) {
+    let Some(rest) = end_first(end) else {
         return None;
-    }
+    };
     let tile = Tile::at(face);
-    Some(Act::Draw { seat, tile })
+    Some((Act::Draw { seat, tile }, rest))
 }
 
-// The discard of a line.
-fn discard_in(line: &[u8]) -> Option<Act>
-    ensures line { IfSome result (λ act. IsLineOf line.now (deed_of act)) }
-    ensures read { IfSome result (λ act. deed_in line.now ≡ Some (deed_of act)) }
+// The discard whose line a text begins with, and what follows it.
+fn discard_first(text: &[u8]) -> Option<(Act, &[u8])>
+    ensures { IfSome result (λ x. BeginsWithAct text.now x.0 x.1.now) }
 {
-    let Some(act) = after(line, b"{\"type\":\"dahai\",\"actor\":") else {
+    let Some(act) = seat_after(text, b"\"dahai\",") else {
         return None;
     };
     let Some((seat, face, end)) = seat_and_face(act) else {
         return None;
     };
-    let Some(drawn) = mark_alone(end) else {
+    let Some((drawn, rest)) = mark_first(end) else {
         return None;
     };
     let tile = Tile::at(face);
-    Some(Act::Discard { seat, tile, drawn })
+    Some((Act::Discard { seat, tile, drawn }, rest))
 }
 
 // The seat of an act and the face of its tile, and what stands after the tile.
@@ -148,79 +156,51 @@ fn name_first(text: &[u8]) -> Option<(&[u8], &[u8])>
     }
 }
 
-// The end of the line of a draw.
-fn is_end(text: &[u8]) -> bool
-    ensures { IsTrue result → text.now ≡ codes "}\n" }
-{
-    matches!(text, [b'}', b'\n'])
-}
-
-// The mark that a discard ends with.
-fn mark_alone(text: &[u8]) -> Option<bool>
-    ensures { IfSome result (λ drawn. text.now ≡ codes ",\"tsumogiri\":" ++ (truth drawn
-        ++ codes "}\n")) }
+// What follows the end of the line of a draw.
+fn end_first(text: &[u8]) -> Option<&[u8]>
+    ensures { IfSome result (λ rest. text.now ≡ codes "}\n" ++ rest.now) }
 {
     match text {
-        [
-            b',',
-            b'"',
-            b't',
-            b's',
-            b'u',
-            b'm',
-            b'o',
-            b'g',
-            b'i',
-            b'r',
-            b'i',
-            b'"',
-            b':',
-            b't',
-            b'r',
-            b'u',
-            b'e',
-            b'}',
-            b'\n',
-        ] => Some(true),
-        [
-            b',',
-            b'"',
-            b't',
-            b's',
-            b'u',
-            b'm',
-            b'o',
-            b'g',
-            b'i',
-            b'r',
-            b'i',
-            b'"',
-            b':',
-            b'f',
-            b'a',
-            b'l',
-            b's',
-            b'e',
-            b'}',
-            b'\n',
-        ] => Some(false),
+        [b'}', b'\n', rest @ ..] => Some(rest),
         _ => None,
     }
 }
 
-// What stands after a beginning of a text.
+// The mark that the line of a discard ends with, and what follows the line.
+fn mark_first(text: &[u8]) -> Option<(bool, &[u8])>
+    ensures { IfSome result (λ x. text.now ≡ codes ",\"tsumogiri\":" ++ (truth x.0
+        ++ (codes "}\n" ++ x.1.now))) }
+{
+    let mark = after(text, b",\"tsumog")?;
+    if let Some(end) = after(mark, b"iri\":tru") {
+        return match end {
+            [b'e', b'}', b'\n', rest @ ..] => Some((true, rest)),
+            _ => None,
+        };
+    }
+    let end = after(mark, b"iri\":fal")?;
+    match end {
+        [b's', b'e', b'}', b'\n', rest @ ..] => Some((false, rest)),
+        _ => None,
+    }
+}
+
+// What stands behind a type of a line and the key of its seat.
+#[inline(always)]
+fn seat_after<'a>(text: &'a [u8], kind: &[u8]) -> Option<&'a [u8]>
+    ensures { IfSome result (λ rest. text.now ≡ codes "{\"type\":" ++ (kind.now
+        ++ (codes "\"actor\":" ++ rest.now))) }
+{
+    let typed = after(text, b"{\"type\":")?;
+    let acted = after(typed, kind)?;
+    after(acted, b"\"actor\":")
+}
+
+// What stands after a beginning of a text. One of eight bytes, which is a constant, is compared as one number.
 #[inline(always)]
 fn after<'a>(text: &'a [u8], beginning: &[u8]) -> Option<&'a [u8]>
     ensures { IfSome result (λ rest. text.now ≡ beginning.now ++ rest.now) }
 {
-    let many = beginning.len();
-    if text.len() < many {
-        return None;
-    }
-    for at in 0..many {
-        if text[at] != beginning[at] {
-            return None;
-        }
-    }
-    Some(&text[many..])
+    let rest = strip(text, beginning)?;
+    Some(rest)
 }

@@ -1,5 +1,5 @@
 -- The steps of a check, said of plain lists.
-use Rattle.std.proofs.Common.{◌≡◌, ℕ, ◌+◌, ◌≤◌, ◌<◌, List, [], ◌∷◌, ◌++◌, Bool, true, false, refl, ap, sym, ◌∙◌, subst, length, arith, append_assoc, append-nil, take, suc}
+use Rattle.std.proofs.Common.{◌≡◌, ℕ, ◌+◌, ◌-◌, ◌≤◌, ◌<◌, List, [], ◌∷◌, ◌++◌, Bool, true, false, refl, ap, sym, ◌∙◌, subst, length, arith, append_assoc, append-nil, take, suc}
 use Rattle.std.specs.Prelude.{Some, None, Option, option_to_list, if◌then◌else◌, ◌==◌, ◌&&◌, nat_le, bytes_eq, codes, flat_map}
 use Rattle.std.specs.List.{list_all}
 use Rattle.std.proofs.lemmas.Bool.{false≢true}
@@ -34,7 +34,9 @@ use Rattle.mj_replay.specs.declared.checking.Summary.{Summary as Said}
 use Rattle.mj_history.specs.Told.{Summary}
 use Rattle.mj_replay.specs.Checks.{fault_of, summary_said, Tells, IsRecordOf}
 use Rattle.mj_records.specs.Settings.{IsHeader, IsNoHeader}
-use Rattle.mj_replay.specs.Inner.Steps.{cause_at_end, IsNext, IsNoNext, NoneNeeded, Follows, FollowsOr, IsList, TellsKept}
+use Rattle.mj_records.specs.Usual.{BeginsWithAct}
+use Rattle.mj_records.specs.declared.usual.Act.{Act}
+use Rattle.mj_replay.specs.Inner.Steps.{cause_at_end, BeginsWithWhole, IsNext, IsNoNext, IsOfAct, NoneNeeded, Follows, FollowsOr, IsList, TellsKept}
 use Rattle.mj_records.proofs.SettingLaws.{behind-is, bytes-same}
 
 not_empty : (n : ℕ) → (suc n == 0) ≡ true → ⊥
@@ -224,6 +226,21 @@ whole_line rest first others e =
     ap (take (length first + 1)) (e ∙ sym (append_assoc first (10 ∷ []) others)) ∙ ap (λ n. take n (first ++ 10 ∷ [] ++ others))
     (sym (length-append first (10 ∷ []))) ∙ take-append_seam (first ++ 10 ∷ []) others
 
+pub whole_first : (text front rest : List ℕ) (many : ℕ) → BeginsWithLine text front rest → many ≡ length front + 1 → BeginsWithWhole text (take many text) rest
+whole_first text front rest many b e = record { front = front; begins = b; is = ap (λ n. take n text) e ∙ whole_line text front rest b.parts }
+
+act_many : (text front rest : List ℕ) → text ≡ front ++ 10 ∷ rest → length text - length rest ≡ length front + 1
+act_many text front rest e = let long : length text ≡ length front + suc (length rest) = ap length e ∙ length-append front (10 ∷ rest) in omega (arith, long)
+
+act_first : (text rest : List ℕ) (act : Act) (many : ℕ) → (b : BeginsWithAct text act rest) → many ≡ length text - length rest → take many text ≡ b.front ++ 10 ∷ []
+act_first text rest act many b e = ap (λ n. take n text) (e ∙ act_many text b.front rest b.begins.parts) ∙ whole_line text b.front rest b.begins.parts
+
+pub act_begins : (text rest : List ℕ) (act : Act) (many : ℕ) → BeginsWithAct text act rest → many ≡ length text - length rest → BeginsWithWhole text (take many text) rest
+act_begins text rest act many b e = record { front = b.front; begins = b.begins; is = act_first text rest act many b e }
+
+pub act_line : (text rest : List ℕ) (act : Act) (many : ℕ) → BeginsWithAct text act rest → many ≡ length text - length rest → IsOfAct (take many text) act
+act_line text rest act many b e = subst (λ (xs : List ℕ). IsOfAct xs act) (sym (act_first text rest act many b e)) (record { line_of = b.line_of; read = b.read })
+
 after_walls : (walls : List (List ℕ)) (deeds : List Deed) (deed : Deed) (text : List ℕ) → 1 ≤ length walls → needs_wall walls (deeds ++ deed ∷ []) text ≡ false
 after_walls [] deeds deed text h = absurd (omega (arith, h))
 after_walls (wall ∷ walls) [] deed text h = refl
@@ -232,16 +249,16 @@ after_walls (wall ∷ walls) (first ∷ deeds) deed text h = refl
 pub play_begins : (rules : Rules) (walls : List (List ℕ)) (text : List ℕ) (play : Play) → play ≡ record { rules = rules; deeds = [] } → NoneNeeded walls [] text → InPlay rules walls text text play 0
 play_begins rules walls text play e n = rw e (record { said = refl; rules_are = refl; played = tt; count = refl; other = n })
 
-pub play_goes_on : (rules : Rules) (walls : List (List ℕ)) (text rest first others told : List ℕ) (before after : Play) (number : ℕ) →
-    1 ≤ length walls → InPlay rules walls text rest before number → BeginsWithLine rest first others → told ≡ take (length first + 1) rest →
-    Follows walls before after told →
+pub play_goes_on : (rules : Rules) (walls : List (List ℕ)) (text rest others told : List ℕ) (before after : Play) (number : ℕ) →
+    1 ≤ length walls → InPlay rules walls text rest before number → BeginsWithWhole rest told others → Follows walls before after told →
     InPlay rules walls text others after (number + 1)
-play_goes_on rules walls text rest first others told before after number some p b t f =
+play_goes_on rules walls text rest others told before after number some p b f =
+    let first = b.front in
     let deeds : after.deeds ≡ before.deeds ++ f.deed ∷ [] = ap (λ (x : Play). x.deeds) f.more in
-    let is : line Record f.deed ≡ first ++ 10 ∷ [] = f.line_is ∙ t ∙ whole_line rest first others b.parts in
+    let is : line Record f.deed ≡ first ++ 10 ∷ [] = f.line_is ∙ b.is in
     record {
       said =
-          p.said ∙ ap (λ xs. record_text rules walls before.deeds ++ xs) (b.parts ∙ sym (append_assoc first (10 ∷ []) others) ∙ ap (λ xs. xs ++ others) (sym is))
+          p.said ∙ ap (λ xs. record_text rules walls before.deeds ++ xs) (b.begins.parts ∙ sym (append_assoc first (10 ∷ []) others) ∙ ap (λ xs. xs ++ others) (sym is))
           ∙ sym (append_assoc (record_text rules walls before.deeds) (line Record f.deed) others)
           ∙ ap (λ xs. xs ++ others) (sym (deed_more rules walls before.deeds f.deed)) ∙ ap (λ ds. record_text rules walls ds ++ others) (sym deeds);
       rules_are = ap (λ (x : Play). x.rules) f.more ∙ p.rules_are;
@@ -293,16 +310,15 @@ line_breaks false rules walls before after told causes.Header r n f = absurd f
 line_breaks false rules walls before after told causes.Wall r n f = absurd f
 line_breaks false rules walls before after told causes.Cut r n f = absurd f
 
-pub bad_deed : (rules : Rules) (walls : List (List ℕ)) (text rest one others told : List ℕ) (before after : Play) (number first : ℕ) (cause : Cause) →
-    Walled rules walls → InPlay rules walls text rest before number → first ≡ length walls + 2 → BeginsWithLine rest one others →
-    told ≡ take (length one + 1) rest →
+pub bad_deed : (rules : Rules) (walls : List (List ℕ)) (text rest others told : List ℕ) (before after : Play) (number first : ℕ) (cause : Cause) →
+    Walled rules walls → InPlay rules walls text rest before number → first ≡ length walls + 2 → BeginsWithWhole rest told others →
     FollowsOr (Some cause) walls before after told → Tells (record_text rules walls [] ++ text) (Bad (first + number) cause)
-bad_deed rules walls text rest one others told before after number first cause w p f b t broken =
-    let is : told ≡ one ++ 10 ∷ [] = t ∙ whole_line rest one others b.parts in
+bad_deed rules walls text rest others told before after number first cause w p f b broken =
+    let one = b.front in
     no_record rules walls text rest before number first (fault_of cause) w p f
-    (breaks_at (Lines rules walls before.deeds) rest one others (fault_of cause) b
+    (breaks_at (Lines rules walls before.deeds) rest one others (fault_of cause) b.begins
     (line_breaks (needs_wall walls before.deeds (one ++ 10 ∷ [])) rules walls before after (one ++ 10 ∷ []) cause p.rules_are
-    (p.other one others b.parts b.plain) (subst (λ xs. FollowsOr (Some cause) walls before after xs) is broken)))
+    (p.other one others b.begins.parts b.begins.plain) (subst (λ xs. FollowsOr (Some cause) walls before after xs) b.is broken)))
 
 cut_breaks : (before : Before) (rest : List ℕ) → HasNoLine rest → (length rest == 0) ≡ false → Breaks before (whole_lines rest) (unfinished rest) CutFault
 cut_breaks before rest n some = by_rest rest n.ending n.lines some

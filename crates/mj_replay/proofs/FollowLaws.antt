@@ -7,12 +7,14 @@ use Rattle.std.proofs.lemmas.Slice.Eq.{bytes_eq-Decides}
 use Rattle.mj_ports.specs.Names.{is_name, are_different}
 use Rattle.mj_deeds.specs.declared.four.Four.{Four}
 use Rattle.mj_deeds.specs.declared.answer.Answer.{Answer}
+use Rattle.mj_deeds.specs.declared.answer.Answer.TheVariants.{Pass}
 use Rattle.mj_deeds.specs.declared.deed.Deed.{Deed}
 use Rattle.mj_deeds.specs.declared.deed.Deed.TheVariants.{StartGame, StartHand, Draw, Discard, Chi, Pon, OpenKan, ClosedKan, AddedKan, Dora, Reach, ReachAccepted, Win, DrawnHand, EndHand, EndGame}
 use Rattle.mj_deeds.specs.declared.deed.Viewer.TheVariants.{Record}
 use Rattle.mj_deeds.specs.Facts.{newest}
 use Rattle.mj_deeds.specs.Fits.{fits}
 use Rattle.mj_deeds.specs.Four.{for_each_seat}
+use Rattle.mj_deeds.specs.Hand.{is_hand_start}
 use Rattle.mj_wall.specs.declared.setting.Rules.{Rules}
 use Rattle.mj_wall.specs.Places.{is_wall}
 use Rattle.mj_rules.specs.Outcome.{outcome, goes_on}
@@ -29,7 +31,7 @@ use Rattle.mj_records.specs.Laws.{as_read}
 use Rattle.mj_records.specs.declared.usual.Act.{Act}
 use Rattle.mj_records.specs.declared.usual.Act.TheVariants as acts
 use Rattle.mj_records.specs.Usual.{deed_of}
-use Rattle.mj_replay.specs.Inner.Steps.{Follows, FollowsBy, has_different_names}
+use Rattle.mj_replay.specs.Inner.Steps.{Follows, FollowsBy, IsLine, IsLineIf, has_different_names}
 use Rattle.mj_records.proofs.ReadLaws.{read_deeds_tell_the_same}
 use Rattle.mj_records.proofs.ValueLaws.{read_is_value}
 
@@ -210,6 +212,60 @@ act_none rules walls deeds text act answers some whole played r on e none = none
 pub act_next : (rules : Rules) (walls : List (List ℕ)) (deeds : List Deed) (text : List ℕ) (act : Act) → IsLineOf text (deed_of act) →
     ((other : Deed) → IsLineOf text other → IsPlayedBehind rules walls deeds other → ⊥) → IsOfNoNext rules walls deeds text
 act_next rules walls deeds text act l never = record { deed = deed_of act; line_of = l; never = never }
+
+-- a start of a hand is no start of a game, and tells of four passes after whatever deed
+record IsUntold (deed : Deed) : Type 0 where
+  no_names : has_different_names deed ≡ false
+  tells : (last : Option Deed) (seat : ℕ) → told_of last deed seat ≡ Pass None
+
+hand_starts : (deed : Deed) → is_hand_start deed ≡ true → IsUntold deed
+hand_starts (StartHand round number honba deposits dealer indicator hands) h = record { no_names = refl; tells = λ last seat. refl }
+hand_starts (StartGame names) h = absurd (false≢true h)
+hand_starts (Draw seat tile replacement) h = absurd (false≢true h)
+hand_starts (Discard seat tile drawn) h = absurd (false≢true h)
+hand_starts (Chi seat target tile a b) h = absurd (false≢true h)
+hand_starts (Pon seat target tile a b) h = absurd (false≢true h)
+hand_starts (OpenKan seat target tile a b c) h = absurd (false≢true h)
+hand_starts (ClosedKan seat a b c d) h = absurd (false≢true h)
+hand_starts (AddedKan seat tile a b c) h = absurd (false≢true h)
+hand_starts (Dora tile) h = absurd (false≢true h)
+hand_starts (Reach seat) h = absurd (false≢true h)
+hand_starts (ReachAccepted seat points bid) h = absurd (false≢true h)
+hand_starts (Win seat target tile unders hand yaku fu han value deltas points rest) h = absurd (false≢true h)
+hand_starts (DrawnHand reason hands ready deltas points) h = absurd (false≢true h)
+hand_starts EndHand h = absurd (false≢true h)
+hand_starts (EndGame points deposits) h = absurd (false≢true h)
+
+untold : (text : List ℕ) (other : Deed) → ((deed : Deed) → deed_in text ≡ Some deed → is_hand_start deed ≡ true) → IsLineOf text other → IsUntold (as_read other)
+untold text other start l = hand_starts (as_read other) (start (as_read other) (read_as text other l))
+
+all_pass : (last : Option Deed) (deed : Deed) → IsUntold deed → for_each_seat (told_of last deed) ≡ for_each_seat (λ (seat : ℕ). Pass None)
+all_pass last deed u = rw (u.tells last 0, u.tells last 1, u.tells last 2, u.tells last 3) refl
+
+pub start_over : (rules : Rules) (walls : List (List ℕ)) (deeds : List Deed) (text : List ℕ) → goes_on (newest deeds) ≡ false →
+    ((deed : Deed) → deed_in text ≡ Some deed → is_hand_start deed ≡ true) → (other : Deed) → IsLineOf text other → IsPlayedBehind rules walls deeds other → ⊥
+start_over rules walls [] text h start other l p =
+    let u = untold text other start l in
+    no_start rules walls [] text (as_read other) refl (sym (read_as text other l)) u.no_names other l p
+start_over rules walls (first ∷ others) text h start other l p = over rules walls (first ∷ others) other h (has_newest first others) p
+
+pub start_none : (rules : Rules) (walls : List (List ℕ)) (deeds : List Deed) (text : List ℕ) (answers : Four Answer) → 1 ≤ length walls →
+    list_all (is_wall rules.red) walls ≡ true → IsPlayed rules walls deeds →
+    ((deed : Deed) → deed_in text ≡ Some deed → is_hand_start deed ≡ true) → goes_on (newest deeds) ≡ true → answers ≡ for_each_seat (λ (seat : ℕ). Pass None) →
+    ((other : Deed) → line Record other ≡ text → AllLawful rules deeds answers → outcome rules walls deeds answers ≡ Some other → ⊥) →
+    (other : Deed) → IsLineOf text other → IsPlayedBehind rules walls deeds other → ⊥
+start_none rules walls deeds text answers some whole played start on e none other l p =
+    none_told rules walls deeds text (as_read other) answers some whole played (sym (read_as text other l)) on
+    (e ∙ sym (all_pass (newest deeds) (as_read other) (untold text other start l))) none other l p
+
+-- a line that is that of a deed, or of none
+pub is_line : (text : List ℕ) (deed : Deed) (same : Bool) → Some deed ≡ deed_in text → same ≡ bytes_eq (line Record deed) text → IsLineIf same text
+is_line text deed true r s = record { deed = deed; line_of = record { fits = read_is_value text deed r; is = line_is text deed true s refl } }
+is_line text deed false r s = other_line text deed false r s refl
+
+pub line_next : (rules : Rules) (walls : List (List ℕ)) (deeds : List Deed) (text : List ℕ) → IsLine text →
+    ((other : Deed) → IsLineOf text other → IsPlayedBehind rules walls deeds other → ⊥) → IsOfNoNext rules walls deeds text
+line_next rules walls deeds text l never = record { deed = l.deed; line_of = l.line_of; never = never }
 
 pub ruleset following = (over)
 

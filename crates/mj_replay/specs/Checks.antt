@@ -35,7 +35,8 @@ pub record IsRecordOf (text : List ℕ) (deeds : List Deed) : Type 0 where
   pub record_is : IsRecord text summary
   pub deeds_are : record_is.deeds ≡ deeds
 
--- The same with the deeds in place of what they come to.
+-- An answer says that a text is the record of these deeds, or that it is none and which line is the first that breaks its form,
+-- and how. Running out of memory says nothing.
 abbrev pub TellsPlayed : List ℕ → Played → Type 0
 TellsPlayed text (played.Good deeds) = IsRecordOf text deeds
 TellsPlayed text (played.Bad number cause) = IsNoRecord text number (fault_of cause)

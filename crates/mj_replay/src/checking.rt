@@ -1,20 +1,21 @@
 //! The records of games, checked line by line.
 
-ghost use Rattle.std.specs.Prelude.{◌≡◌, ◌≤◌, ◌++◌, ◌∷◌, [], length, true, if◌then◌else◌, option_to_list, IfOk, IsTrue, MatchOption};
+ghost use Rattle.std.specs.Prelude.{◌≡◌, ◌≤◌, ◌++◌, ◌∷◌, [], length, true, if◌then◌else◌, option_to_list, IfOk, IfSome, IsTrue, MatchOption};
 ghost use Rattle.std.specs.List.{list_all};
+ghost use Rattle.mj_bytes.specs.Parts.{HasNoLine};
 ghost use Rattle.mj_wall.specs.Places.{is_wall};
 ghost use Rattle.mj_deeds.specs.Facts.{newest};
 ghost use Rattle.mj_history.specs.Records.{are_rules, needs_wall};
 ghost use Rattle.mj_forms.specs.RecordTexts.{record_text};
 ghost use Rattle.mj_forms.specs.Headers.{header_line};
 ghost use Rattle.mj_replay.specs.Checks.{Tells};
-ghost use Rattle.mj_replay.specs.Inner.Steps.{cause_at_end, IsNext, IsNoNext, NoneNeeded, TellsKept};
+ghost use Rattle.mj_replay.specs.Inner.Steps.{cause_at_end, BeginsWithWhole, IsNext, IsNoNext, IsOfAct, NoneNeeded, TellsKept};
 ghost use Rattle.mj_replay.specs.declared.checking.Checked.TheVariants.{Bad};
 
 use crate::following::follow;
 use mj_bytes::{split_line, strip};
 use mj_deeds::Deed;
-use mj_records::{header_of, wall_of};
+use mj_records::{Act, act_first, header_of, wall_of};
 use mj_table::Table;
 use mj_wall::{Rules, Wall};
 use std::alloc::{AllocError, Global};
@@ -181,7 +182,7 @@ fn behind_walls(
     put_deeds(alloc, &mut table, walls, text, &mut room, keeps, kept)
 }
 
-// The same for the table, on which the deeds of the text are put in turn. The room is for their lines.
+// What a text is after its walls: its deeds are put on the table in turn. The room is for their lines.
 fn put_deeds(
     alloc: Global,
     table: &mut Table,
@@ -204,9 +205,8 @@ fn put_deeds(
     let mut deeds = 0;
     let mut rest = text;
     let first = walls.len() as u32 + 2;
-    while let Some((line, others)) = split_line(rest) {
-        let line = &rest[..line.len() + 1];
-        if let Some(cause) = follow(alloc, table, walls, line, room)? {
+    while let Some((line, act, others)) = next_line(rest) {
+        if let Some(cause) = follow(alloc, table, walls, act, line, room)? {
             return Ok(Checked::Bad(first + deeds, cause));
         }
         keep_newest(table, keeps, kept)?;
@@ -221,6 +221,20 @@ fn put_deeds(
         points: table.points(),
         deposits: table.deposits(),
     }))
+}
+
+// The first line of a text, with its newline, the act that it tells, where it is the line of one, and what follows it. Where the
+// line of an act ends is known once it is read.
+fn next_line(text: &[u8]) -> Option<(&[u8], Option<Act>, &[u8])>
+    ensures cases { MatchOption result (HasNoLine text.now)
+        (λ x. BeginsWithWhole text.now x.0.now x.2.now) }
+    ensures act { IfSome result (λ x. IfSome x.1 (λ act. IsOfAct x.0.now act)) }
+{
+    if let Some((act, rest)) = act_first(text) {
+        return Some((&text[..text.len() - rest.len()], Some(act), rest));
+    }
+    let (front, rest) = split_line(text)?;
+    Some((&text[..front.len() + 1], None, rest))
 }
 
 // Puts the newest deed of a table into a list, where deeds are kept.

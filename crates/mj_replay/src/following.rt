@@ -1,23 +1,25 @@
 //! Whether the deed that a line tells may follow the deeds on a table.
 
-ghost use Rattle.std.specs.Prelude.{◌≡◌, ◌<◌, ◌≤◌, ◌↔◌, [], length, Some, None, IfOk, OnOk, IfSome, IsTrue, bytes_eq, is_none};
+ghost use Rattle.std.specs.Prelude.{◌≡◌, ◌<◌, ◌≤◌, ◌↔◌, [], length, Some, None, IfOk, OnOk, IfSome, IsTrue, true, bytes_eq, is_none};
 ghost use Rattle.std.specs.List.{list_all};
 ghost use Rattle.mj_wall.specs.Places.{is_wall};
 ghost use Rattle.mj_deeds.specs.Facts.{newest};
+ghost use Rattle.mj_deeds.specs.Hand.{is_hand_start};
+ghost use Rattle.mj_deeds.specs.declared.deed.Deed.{Deed};
 ghost use Rattle.mj_deeds.specs.declared.deed.Viewer.TheVariants.{Record};
 ghost use Rattle.mj_rules.specs.Outcome.{goes_on};
 ghost use Rattle.mj_rules.specs.Played.{IsPlayed, AllLawful};
 ghost use Rattle.mj_forms.specs.Lines.{line as line_for};
 ghost use Rattle.mj_records.specs.Deeds.{deed_in};
 ghost use Rattle.mj_records.specs.Usual.{deed_of};
-ghost use Rattle.mj_replay.specs.Inner.Steps.{FollowsOr, FollowsIf, FollowsBy, has_different_names};
+ghost use Rattle.mj_replay.specs.Inner.Steps.{FollowsOr, FollowsIf, FollowsBy, IsLineIf, IsOfAct, has_different_names};
 
 use crate::checking::Cause;
-use crate::told::{act_told, told};
+use crate::told::{act_told, four_passes, told};
 use mj_deeds::{Answer, Deed, Four, Viewer};
 use mj_judge::is_lawful;
 use mj_machine::next;
-use mj_records::{Act, act_in, deed_in, has_line_of};
+use mj_records::{Act, begins_hand, deed_in, has_line_of};
 use mj_table::Table;
 use mj_wall::Wall;
 use mjai_lines::{Steps, write};
@@ -25,12 +27,13 @@ use std::alloc::{AllocError, Global};
 use std::marker::Brand;
 use std::sync::ledger::{Blank, Ledger};
 
-/// Puts the deed of a line, which ends with its newline, on the table, where some four lawful answers give it; else says
-/// what is wrong with the line. The room is for the lines of deeds that are compared with it.
+/// Puts the deed of a line, which ends with its newline and may be known to be that of an act, on the table, where some four
+/// lawful answers give it; else says what is wrong with the line. The room is for the lines of deeds that are compared with it.
 pub(crate) fn follow(
     alloc: Global,
     table: &mut Table,
     walls: &[Wall],
+    act: Option<Act>,
     line: &[u8],
     room: &mut Vec<u8>,
 ) -> Result<Option<Cause>, AllocError>
@@ -38,13 +41,17 @@ pub(crate) fn follow(
     requires few { length walls.now ≤ 200 }
     requires whole { IsTrue (list_all (is_wall table.old.rules.red) walls.now) }
     requires played { IsPlayed table.old.rules walls.now table.old.deeds }
+    requires act { IfSome act (λ a. IsOfAct line.now a) }
     ensures { IfOk result (λ cause. FollowsOr cause walls.now table.old table.new line.now) }
 {
-    if let Some(act) = act_in(line) {
+    if let Some(act) = act {
         if acts(alloc, table, walls, act, line, room)? {
             return Ok(None);
         }
         return Ok(Some(Cause::Next));
+    }
+    if begins_hand(line) {
+        return follow_start(alloc, table, walls, line, room);
     }
     match &deed_in(alloc, line)? {
         Some(deed) => follow_deed(alloc, table, walls, deed, line, room),
@@ -52,7 +59,7 @@ pub(crate) fn follow(
     }
 }
 
-// The same for a line of which this deed was read.
+// Puts the deed that was read of a line on the table, where some four lawful answers give it; else says what is wrong.
 fn follow_deed(
     alloc: Global,
     table: &mut Table,
@@ -75,6 +82,41 @@ fn follow_deed(
         return Ok(Some(Cause::Next));
     }
     Ok(Some(Cause::Line))
+}
+
+// Puts the start of a hand whose line a text is on the table, where it follows; else says what is wrong. No answer tells
+// anything of a start, so it is read only where another line follows.
+fn follow_start(
+    alloc: Global,
+    table: &mut Table,
+    walls: &[Wall],
+    line: &[u8],
+    room: &mut Vec<u8>,
+) -> Result<Option<Cause>, AllocError>
+    requires some { 1 ≤ length walls.now }
+    requires few { length walls.now ≤ 200 }
+    requires whole { IsTrue (list_all (is_wall table.old.rules.red) walls.now) }
+    requires played { IsPlayed table.old.rules walls.now table.old.deeds }
+    requires start { (deed : Deed) → deed_in line.now ≡ Some deed → is_hand_start deed ≡ true }
+    ensures { IfOk result (λ cause. FollowsOr cause walls.now table.old table.new line.now) }
+{
+    if starts_hand(alloc, table, walls, line, room)? {
+        return Ok(None);
+    }
+    if is_line(alloc, line, room)? {
+        return Ok(Some(Cause::Next));
+    }
+    Ok(Some(Cause::Line))
+}
+
+// Whether a text is the record's line of any deed.
+fn is_line(alloc: Global, line: &[u8], room: &mut Vec<u8>) -> Result<bool, AllocError>
+    ensures { IfOk result (λ yes. IsLineIf yes line.now) }
+{
+    match &deed_in(alloc, line)? {
+        Some(deed) => is_line_of(alloc, room, deed, line),
+        None => Ok(false),
+    }
 }
 
 // Whether a text is the record's line of a deed, which is written in the room for one.
@@ -107,7 +149,8 @@ fn write_over<L: Ledger>(
     write(alloc, Viewer::Record, deed, None, room, &mut steps)
 }
 
-// The same where the text may be known to be the line of an act: the deed is compared with that one first.
+// Whether a text is the record's line of a deed. Where it is known to be the line of an act, the deed is compared with that one
+// first.
 #[tactic(auto, using(mj_records::proofs::UsualLaws::same_line))]
 fn is_known_line(
     alloc: Global,
@@ -150,6 +193,32 @@ fn acts(
     }
     let answers = act_told(&act);
     if follows_by(alloc, table, walls, &answers, &Some(act), line, room)? {
+        return Ok(true);
+    }
+    Ok(false)
+}
+
+// Puts the deed that four passes give on the table, where they are lawful; says whether it has the line, of which nothing but a
+// start of a hand is read.
+fn starts_hand(
+    alloc: Global,
+    table: &mut Table,
+    walls: &[Wall],
+    line: &[u8],
+    room: &mut Vec<u8>,
+) -> Result<bool, AllocError>
+    requires some { 1 ≤ length walls.now }
+    requires few { length walls.now ≤ 200 }
+    requires whole { IsTrue (list_all (is_wall table.old.rules.red) walls.now) }
+    requires played { IsPlayed table.old.rules walls.now table.old.deeds }
+    requires start { (deed : Deed) → deed_in line.now ≡ Some deed → is_hand_start deed ≡ true }
+    ensures { IfOk result (λ yes. FollowsIf yes walls.now table.old table.new line.now) }
+{
+    if !can_go_on(table) {
+        return Ok(false);
+    }
+    let answers = four_passes();
+    if follows_by(alloc, table, walls, &answers, &None, line, room)? {
         return Ok(true);
     }
     Ok(false)

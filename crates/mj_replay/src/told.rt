@@ -1,6 +1,6 @@
 //! The four answers that a deed tells of.
 
-ghost use Rattle.std.specs.Prelude.{◌≡◌, ◌==◌, ◌∷◌, None, option_and_then};
+ghost use Rattle.std.specs.Prelude.{◌≡◌, ℕ, ◌==◌, ◌∷◌, None, option_and_then};
 ghost use Rattle.std.specs.List.{list_any};
 ghost use Rattle.std.specs.Option.{option_copied};
 ghost use Rattle.mj_deeds.specs.declared.answer.Pai.TheVariants.{Known};
@@ -30,18 +30,25 @@ pub(crate) fn act_told(act: &Act) -> Four<Answer>
     ensures { result ≡ for_each_seat (told_of None (deed_of act.now)) }
 {
     match act {
-        Act::Draw { .. } => Four {
-            first: Answer::Pass { actor: None },
-            second: Answer::Pass { actor: None },
-            third: Answer::Pass { actor: None },
-            fourth: Answer::Pass { actor: None },
-        },
+        Act::Draw { .. } => four_passes(),
         Act::Discard { seat, tile, drawn } => Four {
             first: discard_told(*seat, *tile, *drawn, 0),
             second: discard_told(*seat, *tile, *drawn, 1),
             third: discard_told(*seat, *tile, *drawn, 2),
             fourth: discard_told(*seat, *tile, *drawn, 3),
         },
+    }
+}
+
+/// Each seat passes.
+pub(crate) fn four_passes() -> Four<Answer>
+    ensures { result ≡ for_each_seat (λ (seat : ℕ). answers.Pass None) }
+{
+    Four {
+        first: Answer::Pass { actor: None },
+        second: Answer::Pass { actor: None },
+        third: Answer::Pass { actor: None },
+        fourth: Answer::Pass { actor: None },
     }
 }
 

@@ -1,4 +1,4 @@
--- Lists in brackets at the front of a text, with commas between.
+-- Lists in brackets at the beginning of a text, with commas between.
 use Rattle.std.specs.Prelude.{ℕ, zero, suc, ◌==◌, if◌then◌else◌, List, [], ◌∷◌, length, codes, bytes_eq, position, Option, Some, None, option_map, option_and_then}
 use Rattle.mj_bytes.specs.Parts.{behind}
 use Rattle.mj_yaku.specs.Han.{table}

@@ -1,6 +1,6 @@
 -- What the steps of a check come to.
 use Rattle.std.specs.Prelude.{◌≡◌, ℕ, ◌<◌, Bool, true, false, List, [], ◌∷◌, ◌++◌, Option, Some, None}
-use Rattle.mj_bytes.specs.Parts.{has_byte}
+use Rattle.mj_bytes.specs.Parts.{has_byte, BeginsWithLine}
 use Rattle.mj_ports.specs.Names.{are_different}
 use Rattle.mj_deeds.specs.declared.four.Four.{Four}
 use Rattle.mj_deeds.specs.declared.answer.Answer.{Answer}
@@ -18,7 +18,10 @@ use Rattle.mj_replay.specs.declared.checking.Cause.TheVariants as causes
 use Rattle.mj_replay.specs.declared.checking.Checked.{Checked}
 use Rattle.mj_replay.specs.declared.checking.Checked.TheVariants.{Good, Bad, NoMemory}
 use Rattle.mj_replay.specs.Checks.{summary_said, fault_of}
+use Rattle.mj_records.specs.Deeds.{deed_in}
 use Rattle.mj_records.specs.Settings.{IsWallLine, IsNoWallLine}
+use Rattle.mj_records.specs.Usual.{deed_of}
+use Rattle.mj_records.specs.declared.usual.Act.{Act}
 
 -- Where a text ends, the cause is that nothing is left, or that what is left has no newline.
 abbrev pub cause_at_end : List ℕ → Cause → Cause
@@ -37,6 +40,17 @@ IsNoNext red before line = before < 200 → IsNoWallLine red line
 abbrev pub NoneNeeded : List (List ℕ) → List Deed → List ℕ → Type 0
 NoneNeeded walls deeds text = (first others : List ℕ) → text ≡ first ++ 10 ∷ others → has_byte 10 first ≡ false → needs_wall walls deeds (first ++ 10 ∷ []) ≡ false
 
+-- The text begins with a line, which stands here with its newline, and the rest follows it.
+pub record BeginsWithWhole (text line rest : List ℕ) : Type 0 where
+  pub front : List ℕ
+  pub begins : BeginsWithLine text front rest
+  pub is : line ≡ front ++ 10 ∷ []
+
+-- The text is the line of an act, of which its deed is read.
+pub record IsOfAct (text : List ℕ) (act : Act) : Type 0 where
+  pub line_of : IsLineOf text (deed_of act)
+  pub read : deed_in text ≡ Some (deed_of act)
+
 -- A start of a game with four different names.
 abbrev pub has_different_names : Deed → Bool
 has_different_names (StartGame names) = are_different (names.first ∷ names.second ∷ names.third ∷ names.fourth ∷ [])
@@ -53,6 +67,15 @@ pub record Follows (walls : List (List ℕ)) (before after : Play) (text : List 
 abbrev pub FollowsIf : Bool → List (List ℕ) → Play → Play → List ℕ → Type 0
 FollowsIf true walls before after text = Follows walls before after text
 FollowsIf false walls before after text = (deed : Deed) → IsLineOf text deed → IsPlayedBehind before.rules walls before.deeds deed → ⊥
+
+-- A text is the line of a deed, or of none.
+pub record IsLine (text : List ℕ) : Type 0 where
+  pub deed : Deed
+  pub line_of : IsLineOf text deed
+
+abbrev pub IsLineIf : Bool → List ℕ → Type 0
+IsLineIf true text = IsLine text
+IsLineIf false text = (deed : Deed) → IsLineOf text deed → ⊥
 
 -- Or four answers are not lawful, or give no deed with the line.
 abbrev pub FollowsBy : Bool → List (List ℕ) → Play → Play → Four Answer → List ℕ → Type 0

@@ -15,7 +15,7 @@ overflow_add-result c = let small = few_played _ _ _ _ _ _ c.requires.some c.req
 pub returns-in-Some-2 : goal.returns-in-Some-2
 returns-in-Some-2 c =
     let walled : Walled c.args.table.now.rules c.args.walls.now = record { rules_fit = c.requires.rules; some = c.requires.some; few = c.requires.few; whole = c.requires.whole } in
-    bad_deed _ _ _ _ _ _ _ _ _ _ _ _ walled c.loop-line.invariant.play refl c.in-Some.ensures refl (rw c.in-Some-2.is at c.in_ok-cause.ensures)
+    bad_deed _ _ _ _ _ _ _ _ _ _ _ walled c.loop-line.invariant.play refl c.in-Some.ensures.cases (rw c.in-Some-2.is at c.in_ok-cause.ensures)
 
 pub overflow_add-deeds : goal.overflow_add-deeds
 overflow_add-deeds c = let small = few_played _ _ _ _ _ _ c.requires.some c.requires.whole c.loop-line.invariant.play in omega (arith, small)
@@ -24,7 +24,7 @@ pub loop-line-preserved : goal.loop-line-preserved
 loop-line-preserved c =
     let follows : Follows c.args.walls.now _ _ _ = rw c.in_default-2.is at c.in_ok-cause.ensures in
     record {
-      play = play_goes_on _ _ _ _ _ _ _ _ _ _ c.requires.some c.loop-line.invariant.play c.in-Some.ensures refl follows;
+      play = play_goes_on _ _ _ _ _ _ _ _ _ c.requires.some c.loop-line.invariant.play c.in-Some.ensures.cases follows;
       list = list_more c.args.keeps _ _ _ _ _ _ c.loop-line.invariant.list follows c.in_ok-keep_newest.ensures;
     }
 
@@ -35,7 +35,7 @@ pub returns-then-not-is_empty : goal.returns-then-not-is_empty
 returns-then-not-is_empty c =
     let walled : Walled c.args.table.now.rules c.args.walls.now = record { rules_fit = c.requires.rules; some = c.requires.some; few = c.requires.few; whole = c.requires.whole } in
     let some : c.is_empty.result ≡ false = search rules in
-    cut _ _ _ _ _ _ _ _ walled c.loop-line.invariant.play refl c.in_default.ensures c.is_empty.ensures some
+    cut _ _ _ _ _ _ _ _ walled c.loop-line.invariant.play refl c.in_default.ensures.cases c.is_empty.ensures some
 
 pub returns : goal.returns
 returns c =

@@ -1,0 +1,10 @@
+use Rattle.std.proofs.Common.{ℕ, sym, subst}
+use Rattle.mj_records.specs.Usual.{IsActOf}
+use Rattle.mj_records.proofs.UsualLaws.{draw_begins}
+use Rattle.mj_records.proofs.usual.draw_first.Goals as goal
+
+pub returns : goal.returns
+returns c =
+    draw_begins c.args.text.now c.in-Some.act.now c.in-Some-seat_and_face.end.now c.in-Some-end_first.rest.now c.in-Some-seat_and_face.seat c.at-tile.result c.in-Some.ensures
+    (subst (λ (t : ℕ). IsActOf c.in-Some.act.now c.in-Some-seat_and_face.seat t c.in-Some-seat_and_face.end.now) (sym c.at-tile.ensures) c.in-Some-seat_and_face.ensures)
+    c.in-Some-end_first.ensures
