@@ -20,7 +20,7 @@ use Rattle.mj_deeds.specs.Fits.{fits, fits_in, fits_behind, ground_of}
 use Rattle.mj_deeds.specs.Hand.{hand}
 use Rattle.mj_wall.specs.declared.setting.Rules.{Rules}
 use Rattle.mj_wall.specs.declared.setting.Setting.{Setting}
-use Rattle.mj_window.specs.Slots.{empty_slots, closes}
+use Rattle.mj_window.specs.Slots.{empty_slots, closes, is_waited_for}
 use Rattle.mj_rules.specs.Outcome.{outcome}
 use Rattle.mj_history.specs.After.{After, Chair, Verdict, verdict_on, progress_after, author_after, slots_after, due_on_return, own_part, names_of, answers_in, is_present, is_expiry, next_deed}
 use Rattle.mj_history.specs.Legal.{is_over}
@@ -353,3 +353,20 @@ returns setting old new author seat due h p next desk d c e n q settled =
     (q ∙ ap (λ (m : ℕ). let r : Player = record { author = Some author; due = m; refused = 0 } in r) n)
     ∙ back-own setting old author seat h p d c)
     (settled (Back author seat) refl)
+
+-- While the last seat is waited for the window stays open.
+pub waits-for-last : (slots : Four (Option Answer)) (desk : List Occupant) → is_waited_for (is_present_at desk 3) slots.fourth ≡ true → closes slots (presence_at desk) ≡ false
+waits-for-last slots desk h =
+    let first : Bool = is_present_at desk 0 in
+    let second : Bool = is_present_at desk 1 in
+    let third : Bool = is_present_at desk 2 in
+    ap (λ (waits : Bool). (first || second || third || is_present_at desk 3)
+    && not (is_waited_for first slots.first || is_waited_for second slots.second || is_waited_for third slots.third || waits)) h
+    ∙ by (first || second || third || is_present_at desk 3) (is_waited_for first slots.first) (is_waited_for second slots.second) (is_waited_for third slots.third)
+  where
+    by : (some a b c : Bool) → (some && not (a || b || c || true)) ≡ false
+    by false a b c = refl
+    by true true b c = refl
+    by true false true c = refl
+    by true false false true = refl
+    by true false false false = refl

@@ -16,11 +16,11 @@ use Rattle.mj_window.specs.Slots.{closes}
 use Rattle.mj_rules.specs.Broken.{broken_rule}
 use Rattle.mj_history.specs.After.{Verdict, verdict, progress_after, author_after, slots_after, due_on_return}
 use Rattle.mj_core.specs.Calls.{open_window}
-use Rattle.mj_core.specs.Inner.States.{Position, presence_at, AreSeated, progress_of, player_of, now_of, Steps, Advances, changed, desk_after, Settles, CanSettle, CanTakeSeat, CanTakeBack, CanHear, CanLeave, CanExpire, Hears}
+use Rattle.mj_core.specs.Inner.States.{Position, presence_at, AreSeated, progress_of, player_of, now_of, is_due, Steps, Advances, changed, desk_after, Settles, CanSettle, CanTakeSeat, CanTakeBack, CanHear, CanLeave, CanExpire, Hears}
 use Rattle.mj_core.specs.declared.chair.Chair.{Chair as Player}
 use Rattle.mj_core.proofs.Seats.{HasParts, parts-at}
 use Rattle.mj_core.proofs.Steps.{first_player}
-use Rattle.mj_core.proofs.Pieces.{position, desk-behind, TakesChair, settles-closed, expires, read-chair, leaves-can, due-at, refused-at, IsSaid, hears-can, hears, leaves, returns}
+use Rattle.mj_core.proofs.Pieces.{position, desk-behind, TakesChair, settles-closed, expires, read-chair, leaves-can, due-at, refused-at, IsSaid, hears-can, hears, leaves, returns, due-within}
 
 -- A window closes: the state has the deed that was added, and its seat as it has changed.
 pub settled : (setting : Setting) (old mid : Position) (seat place : ℕ) (desk : List Occupant) (player : Player) →
@@ -59,6 +59,10 @@ pub record ReadsSeat (old : Position) (seat place : ℕ) (player : Player) : Typ
   pub within : seat < length old.players
   pub place_is : place ≡ seat
   pub read : player ≡ get_or old.players place player
+
+pub reads-due : (old : Position) (seat place : ℕ) (player : Player) → AreSeated old.desk old.players → is_due (now_of old) seat ≡ true → place ≡ seat →
+    player ≡ get_or old.players place player → ReadsSeat old seat place player
+reads-due old seat place player s due at read = record { seated = s; within = due-within old seat s due; place_is = at; read = read }
 
 pub place-within : (place seat many len : ℕ) → seat < many → place ≡ seat → len ≡ many → place < len
 place-within place seat many len h e f = omega arith
@@ -134,6 +138,22 @@ pub record Finds (setting : Setting) (old : Position) (told : List Deed) (seat p
   pub on : (lines : List (List ℕ)) → next ≡ player_of (author_after v player.author) (progress_after lines v (progress_of player))
   pub desk_is : desk ≡ desk_after v old.desk seat
   pub slots_is : slots ≡ slots_after v old.slots seat answer
+
+pub finds : (setting : Setting) (old : Position) (told : List Deed) (seat place many : ℕ) (answer : Answer) (player next : Player) (v : Verdict)
+    (desk : List Occupant) (slots : Four (Option Answer)) → CanHear setting old seat answer → told ≡ old.deeds → ReadsSeat old seat place player → many ≡ length old.deeds
+    → v ≡ verdict player.due player.refused many (broken_rule old.rules told seat answer)
+    → ((lines : List (List ℕ)) → next ≡ player_of (author_after v player.author) (progress_after lines v (progress_of player)))
+    → desk ≡ desk_after v old.desk seat → slots ≡ slots_after v old.slots seat answer → Finds setting old told seat place many answer player next v desk slots
+finds setting old told seat place many answer player next v desk slots can same reads few judged on left filled = record {
+  can = can;
+  told_is = same;
+  reads = reads;
+  many_is = few;
+  judged = judged;
+  on = on;
+  desk_is = left;
+  slots_is = filled;
+}
 
 found : (setting : Setting) (old : Position) (told : List Deed) (seat place many : ℕ) (answer : Answer) (player next : Player) (v : Verdict)
     (desk : List Occupant) (slots : Four (Option Answer)) → (f : Finds setting old told seat place many answer player next v desk slots)

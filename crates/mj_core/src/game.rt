@@ -2,7 +2,6 @@ ghost use Rattle.std.specs.Prelude.{◌≡◌, ℕ, ◌≤◌, ◌<◌, length, 
 ghost use Rattle.std.specs.List.{list_all};
 ghost use Rattle.mj_bytes.specs.Adds.{Adds};
 ghost use Rattle.mj_wall.specs.Places.{is_wall};
-ghost use Rattle.mj_deeds.specs.Answers.{is_in_form};
 ghost use Rattle.mj_forms.specs.AnswerForms.{answer_of, join_of};
 ghost use Rattle.mj_history.specs.Legal.{IsLegal, can_say, is_over};
 ghost use Rattle.mj_history.specs.Shown.{control_line, line_at};
@@ -13,7 +12,7 @@ use crate::control::write_control;
 use crate::streamed::Streamed;
 use crate::umpire::Umpire;
 use mj_bytes::push_all;
-use mj_deeds::{Answer, Rule};
+use mj_deeds::Rule;
 use mj_ports::Control;
 use mj_table::Table;
 use mj_wall::{Rules, Setting, Wall, Walls};
@@ -80,15 +79,6 @@ impl Core {
         ensures { IsHeard result self.old self.new author seat (answer_of line.now) }
     {
         self.umpire.said(alloc, author, seat, line)
-    }
-
-    /// An answer of a seat, as `said` enters the line that reads as it. It is in form, as any answer is that a line reads as.
-    pub fn answered(&mut self, alloc: Global, author: u8, seat: u8, answer: &Answer) -> Heard
-        requires may { can_say (after_of self.old) author seat ≡ true }
-        requires form { is_in_form answer.now ≡ true }
-        ensures { IsHeard result self.old self.new author seat answer.now }
-    {
-        self.umpire.answered(alloc, author, seat, answer)
     }
 
     /// The seat, which is present by this author, is gone.

@@ -1,6 +1,7 @@
 ghost use Rattle.std.specs.Prelude.{◌≡◌, ◌≤◌, ◌<◌, length, [], true, IfOk, OnOk, OnErr, IsTrue};
 ghost use Rattle.std.specs.List.{list_all};
 ghost use Rattle.mj_bytes.specs.Adds.{Adds};
+ghost use Rattle.mj_deeds.specs.Answers.{is_in_form};
 ghost use Rattle.mj_wall.specs.Places.{is_wall};
 ghost use Rattle.mj_forms.specs.AnswerForms.{answer_of, join_of};
 ghost use Rattle.mj_history.specs.Legal.{can_say};
@@ -11,10 +12,11 @@ use crate::answers::{Expiry, Heard, Left, SitAnswer};
 use crate::telling::Untold;
 use crate::umpire::Umpire;
 use mj_bytes::push_all;
-use mj_deeds::Answers;
+use mj_deeds::{Answer, Answers};
 use mj_judge::possible_over;
 use mj_streams::SeatLines;
 use mj_wall::{Rules, Wall, Walls};
+use mjai_answers::read_answer;
 use std::alloc::{AllocError, Global};
 use std::marker::Model;
 
@@ -105,10 +107,23 @@ impl SeatGame {
         ensures hears { IsHeard result self.old.game self.new.game author seat (answer_of line.now) }
         ensures seat { self.new.seat ≡ self.old.seat }
     {
+        match read_answer(alloc, line) {
+            Ok(answer) => self.hear(alloc, author, seat, &answer),
+            Err(_) => Heard::NoMemory,
+        }
+    }
+
+    /// An answer of a seat, as `hear` of an umpire takes it.
+    pub fn hear(&mut self, alloc: Global, author: u8, seat: u8, answer: &Answer) -> Heard
+        requires may { can_say (after_of self.old.game) author seat ≡ true }
+        requires form { is_in_form answer.now ≡ true }
+        ensures hears { IsHeard result self.old.game self.new.game author seat answer.now }
+        ensures seat { self.new.seat ≡ self.old.seat }
+    {
         let Ok(()) = self.rendered.catch_up(alloc, &self.umpire, self.seat) else {
             return Heard::NoMemory;
         };
-        let heard = self.umpire.said(alloc, author, seat, line);
+        let heard = self.umpire.hear(alloc, author, seat, answer);
         let _ = self.rendered.catch_up(alloc, &self.umpire, self.seat);
         heard
     }

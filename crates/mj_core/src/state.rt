@@ -2,7 +2,7 @@ ghost use Rattle.std.specs.Prelude.{◌≡◌, ◌≤◌, ◌<◌, ◌==◌, ◌
 ghost use Rattle.mj_ports.specs.declared.entry.Entry.TheVariants.{Sat, Back, Gone, Expired};
 ghost use Rattle.mj_seating.specs.Sitting.{is_present_at};
 ghost use Rattle.mj_wall.specs.declared.setting.Setting.{Setting};
-ghost use Rattle.mj_window.specs.Slots.{closes, put_at};
+ghost use Rattle.mj_window.specs.Slots.{closes, is_waited_for, put_at};
 ghost use Rattle.mj_deeds.specs.Four.{at_seat};
 ghost use Rattle.mj_rules.specs.Outcome.{goes_on};
 ghost use Rattle.mj_deeds.specs.Facts.{newest};
@@ -289,6 +289,7 @@ impl<T: Telling> State<T> {
     }
 
     // A seat changes that stays at the desk as it is.
+    #[inline(always)]
     fn settle_here(
         &mut self,
         alloc: Global,
@@ -343,7 +344,17 @@ impl<T: Telling> State<T> {
         ensures { result ≡ (is_some (open_window self.now.deeds)
             && closes self.now.slots (presence_at desk.now)) }
     {
+        if self.waits_for_last(desk) {
+            return false;
+        }
         self.open().is_some() && self.window.ready_to_close(presence(desk))
+    }
+
+    // Whether the last seat is waited for. It is asked before all four: mostly somebody still is, and the window stays open.
+    fn waits_for_last(&self, desk: &Desk) -> bool
+        ensures { result ≡ is_waited_for (is_present_at desk.now 3) self.now.slots.fourth }
+    {
+        desk.present(3) && self.window.slots().fourth.is_none()
     }
 
     // The deed that follows by the answers in the window is added, and its window opens.

@@ -85,8 +85,7 @@ impl Telling for Untold {
         &self.table
     }
 
-    fn push(&mut self, alloc: Global, deed: &Deed) -> Result<(), AllocError> {
-        let _ = alloc;
+    fn push(&mut self, _alloc: Global, deed: &Deed) -> Result<(), AllocError> {
         self.table.push(deed)
     }
 

@@ -146,13 +146,14 @@ impl<T: Telling> Umpire<T> {
         ensures { IsHeard result self.old self.new author seat (answer_of line.now) }
     {
         match read_answer(alloc, line) {
-            Ok(answer) => self.answered(alloc, author, seat, &answer),
+            Ok(answer) => self.hear(alloc, author, seat, &answer),
             Err(_) => Heard::NoMemory,
         }
     }
 
-    /// An answer of a seat, as `said` enters the line that reads as it. It is in form, as any answer is that a line reads as.
-    pub fn answered(&mut self, alloc: Global, author: u8, seat: u8, answer: &Answer) -> Heard
+    /// An answer of a seat, as `said` takes what the line of the seat reads as. The own tiles that it names together stand in
+    /// tile order, hidden ones last.
+    pub fn hear(&mut self, alloc: Global, author: u8, seat: u8, answer: &Answer) -> Heard
         requires may { can_say (after_of self.old) author seat ≡ true }
         requires form { is_in_form answer.now ≡ true }
         ensures { IsHeard result self.old self.new author seat answer.now }

@@ -16,7 +16,8 @@ use Rattle.mj_refereeing.specs.declared.intake.End.{End}
 use Rattle.mj_runs.specs.Inputs.{longest}
 use Rattle.mj_refereeing.specs.Referee.{ending}
 use Rattle.mj_refereeing.specs.Keep.{Base, is_wall_form, intake_with_walls, wall_leads, base_from, base_in, base_of, with_a_wall, after_header_line}
-use Rattle.mj_refereeing.specs.Inner.Bases.{StopsAt, IsFit, IsWalled, IsBase, IsFounded, base_meant, end_without}
+use Rattle.mj_refereeing.specs.Bases.{IsFit, IsBase, IsFounded, base_meant}
+use Rattle.mj_refereeing.specs.Inner.Bases.{StopsAt, IsWalled, end_without}
 use Rattle.mj_refereeing.specs.Inner.Forms.{meaning}
 use Rattle.mj_refereeing.proofs.WallLaws.{IsWallLine, wall-more, wall-none, read-wall, heard-wall, few-more, whole-more, arrives-alone}
 

@@ -42,7 +42,8 @@ Entries = List (Entry Answer)
 abbrev Bytes : Type 0
 Bytes = List ℕ
 
-module _ {D : Type 0} (told : D → Option Bytes) (may_leave : D → Bytes → Type 0) (moment : D → ℕ) (secured_since : D → ℕ → Bytes → Type 0) (seat : ℕ) (base : Base) (input : Bytes) (founds : base_of input ≡ Some base) (old : D) where
+module _ {D : Type 0} (told : D → Option Bytes) (may_leave : D → Bytes → Type 0) (moment : D → ℕ) (secured_since : D → ℕ → Bytes → Type 0) (seat : ℕ) (base : Base) (input : Bytes)
+    (founds : base_of input ≡ Some base) (old : D) where
   -- Once the journal was opened.
   module _ (kept : Entries) (old_written new_written : Option Bytes) (mid new : D) (had : (bytes : Bytes) → told old ≡ Some bytes →
       Gives (opens_for base bytes) kept) (on : TellsOn (told old) (told mid))
@@ -73,7 +74,8 @@ module _ {D : Type 0} (told : D → Option Bytes) (may_leave : D → Bytes → T
         safe-on found (before bytes found is only gives)
         (subst (λ (es : Entries). IsSafe may_leave moment secured_since base es input mid new) (gives-one (opens_for base bytes) kept found (had bytes is) gives) (safe b.0 b.1)))
 
-    pub keeps_input : (end : KeepEnd) → KeepsOn told may_leave moment secured_since end base seat kept input old_written new_written mid new → KeepsInput told may_leave moment secured_since end seat input old_written new_written old new
+    pub keeps_input : (end : KeepEnd) → KeepsOn told may_leave moment secured_since end base seat kept input old_written new_written mid new
+        → KeepsInput told may_leave moment secured_since end seat input old_written new_written old new
     keeps_input (ends.Told e) k =
         subst (λ (o : Option Base). KeepsWhole told may_leave o (ending e) seat input old_written new_written old new) (sym founds)
         (record { kept = kept; had = had; ends = k.ends; tells = k.tells; stands = λ bytes is. let b = on bytes is in k.stands b.0 b.1 })
@@ -109,16 +111,19 @@ module _ {D : Type 0} (told : D → Option Bytes) (may_leave : D → Bytes → T
         subst (λ (o : Option Base). IsRefused told may_leave o why old new) (sym founds)
         (λ bytes is.
         let so = is_so bytes is in
-        let seen = looks bytes is (other-fresh told may_leave moment left_since secured_since counts_now base input old new looks any_moment syncs bytes why not_new so) in (so, seen.reads, seen.crash))
+        let seen = looks bytes is (other-fresh told may_leave moment left_since secured_since counts_now base input old new looks any_moment syncs bytes why not_new so) in
+        (so, seen.reads, seen.crash))
 
     pub other_open : ((bytes : Bytes) → told old ≡ Some bytes → opens_for base bytes ≡ Other) → KeepsInput told may_leave moment secured_since ends.OtherGame seat input written written old new
     other_open is_so = (Keeps-refl written, refused_by Other (λ e. absurd (cc e)) is_so)
 
-    pub bad_open : (place : ℕ) → ((bytes : Bytes) → told old ≡ Some bytes → opens_for base bytes ≡ Bad place) → KeepsInput told may_leave moment secured_since (ends.BadJournal place) seat input written written old new
+    pub bad_open : (place : ℕ) → ((bytes : Bytes) → told old ≡ Some bytes → opens_for base bytes ≡ Bad place)
+        → KeepsInput told may_leave moment secured_since (ends.BadJournal place) seat input written written old new
     bad_open place is_so = (Keeps-refl written, refused_by (Bad place) (λ e. absurd (cc e)) is_so)
 
 -- What becomes of an input that was read.
-module _ {D : Type 0} (told : D → Option Bytes) (may_leave : D → Bytes → Type 0) (moment : D → ℕ) (secured_since : D → ℕ → Bytes → Type 0) (seat : ℕ) (old_left new_left old_written new_written : Option Bytes) (old new : D) where
+module _ {D : Type 0} (told : D → Option Bytes) (may_leave : D → Bytes → Type 0) (moment : D → ℕ) (secured_since : D → ℕ → Bytes → Type 0) (seat : ℕ)
+    (old_left new_left old_written new_written : Option Bytes) (old new : D) where
   read-is : (start input : Bytes) (limit : ℕ) → start ≡ [] → limit ≡ longest → TakesOver old_left new_left start input → IsAtEnd new_left →
       length input ≤ length start + limit → IsRead old_left new_left input
   read-is start input limit none is takes ends fits = record {
@@ -140,9 +145,11 @@ module _ {D : Type 0} (told : D → Option Bytes) (may_leave : D → Bytes → T
 
   pub keeps-all : (end : KeepEnd) (start input seen : Bytes) (limit : ℕ) → start ≡ [] → limit ≡ longest → seen ≡ input →
       TakesOver old_left new_left start input × IsAtEnd new_left × (length input ≤ length start + limit)
-      → KeepsInput told may_leave moment secured_since end seat seen old_written new_written old new → KeepsAll told may_leave moment secured_since end seat old_left new_left old_written new_written old new
+      → KeepsInput told may_leave moment secured_since end seat seen old_written new_written old new
+      → KeepsAll told may_leave moment secured_since end seat old_left new_left old_written new_written old new
   keeps-all end start input seen limit none is same read does =
-      by-end end input (read-is start input limit none is read.0 read.1 read.2) (subst (λ (i : Bytes). KeepsInput told may_leave moment secured_since end seat i old_written new_written old new) same does)
+      by-end end input (read-is start input limit none is read.0 read.1 read.2)
+      (subst (λ (i : Bytes). KeepsInput told may_leave moment secured_since end seat i old_written new_written old new) same does)
 
 -- An input that founds no game.
 pub keeps-nothing : {D : Type 0} (told : D → Option Bytes) (may_leave : D → Bytes → Type 0) (moment : D → ℕ) (secured_since : D → ℕ → Bytes → Type 0) (seat : ℕ) (input : Bytes) (end : End)
@@ -168,7 +175,8 @@ module _ {D : Type 0} (told : D → Option Bytes) (may_leave : D → Bytes → T
       → SyncsOnly moment secured_since old mid (λ image. Gives (opens_for base image) found))
       → IsAtRest (told mid) (may_leave mid) (end_of kept) →
       IfKept (game_of kept) (λ v. TellsGame (opens (play_of w.core.game.setting) base.tag) (told mid) v.core.game.entries (end_of kept)) → (end : KeepEnd)
-      → ((game : Game) → base.setting ≡ game.setting → GoesOn told may_leave base.tag seat kept mid game → KeepsOn told may_leave moment secured_since end base seat game.entries input old_written new_written mid new)
+      → ((game : Game) → base.setting ≡ game.setting → GoesOn told may_leave base.tag seat kept mid game
+      → KeepsOn told may_leave moment secured_since end base seat game.entries input old_written new_written mid new)
       → KeepsInput told may_leave moment secured_since end seat input old_written new_written old new
   keeps-opened play opened on before rest tells end does =
       let play_now = subst (λ (s : Setting × ℕ). IsInPlay setting_in s (game_of kept)) both play in
@@ -192,7 +200,8 @@ module _ (w : Watched) (setting : Setting) (tag bytes : Bytes) (result : Result 
   failed-as = subst (λ (r : Result (Kept Watched) NotOpened). OpensAs setting_in entries_in (setting_in w) (opens (play_of w.core.game.setting) tag bytes) r) is opened
 
   pub other-as : error ≡ not_opened.OtherGame → opens (play_of setting) tag bytes ≡ Other
-  other-as why = opened-as setting w tag bytes Other start (subst (λ (e : NotOpened). OpensAs setting_in entries_in (setting_in w) (opens (play_of w.core.game.setting) tag bytes) (Err e)) why failed-as)
+  other-as why = opened-as setting w tag bytes Other start
+      (subst (λ (e : NotOpened). OpensAs setting_in entries_in (setting_in w) (opens (play_of w.core.game.setting) tag bytes) (Err e)) why failed-as)
 
   pub bad-as : (place : ℕ) → error ≡ not_opened.BadJournal place → opens (play_of setting) tag bytes ≡ Bad place
   bad-as place why = opened-as setting w tag bytes (Bad place) start

@@ -4,6 +4,7 @@ pub mod Placing
 pub mod Telling
 pub mod Returning
 pub mod PlayLaws
+pub mod PassLaws
 pub mod WallLaws
 pub mod RunLaws
 pub mod WatchLaws

@@ -23,7 +23,7 @@ use Rattle.mj_history.specs.After.{Chair, Verdict, Taken, Late, Refused, Closing
 use Rattle.mj_history.specs.Legal.{Game, can_say, is_open}
 use Rattle.mj_history.specs.Sitting.{placing, entries_of_placing}
 use Rattle.mj_history.specs.Shown.{shown_of, sits_of, sit_answer, heard_of, hears_of, expires_of}
-use Rattle.mj_history.specs.Arrivals.{ArrivalForm, form_of, Arrival, Leads, Bad, with_entries, arrives, behind_header, sit_arrives, say_arrives, gone_arrives, expiry_arrives}
+use Rattle.mj_history.specs.Arrivals.{Arrival, Leads, Bad, with_entries, sit_arrives, say_arrives, gone_arrives, expiry_arrives}
 use Rattle.mj_core.specs.Calls.{after_of, author_of_seat, may_expire}
 use Rattle.mj_core.proofs.ByEntries.{said-can}
 use Rattle.mj_journal.specs.Calls.{GameCall, Sit, Say, Leave, Expire}
@@ -209,7 +209,8 @@ module _ {D : Type 0} (told : D → Option (List ℕ)) (may_leave : D → List �
   same_core : (v w : Watched) (es : List (Entry Answer)) → v.core.game.setting ≡ w.core.game.setting → v.core.game.entries ≡ es → v.core.game ≡ record { setting = w.core.game.setting; entries = es }
   same_core v w es p q = λ i. record { setting = p i; entries = q i }
 
-  goes_as : (v w : Watched) (es : List (Entry Answer)) → game_of new_kept ≡ Some v → setting_in v ≡ setting_in w → v.core.game.entries ≡ es → w.core.seat ≡ seat → (length w.core.game.setting.walls == 0) ≡ false
+  goes_as : (v w : Watched) (es : List (Entry Answer)) → game_of new_kept ≡ Some v → setting_in v ≡ setting_in w → v.core.game.entries ≡ es → w.core.seat ≡ seat
+      → (length w.core.game.setting.walls == 0) ≡ false
       → IsAtRest (told new) (may_leave new) (end_of new_kept) → TellsGame (opens (play_of w.core.game.setting) tag) (told new) v.core.game.entries (end_of new_kept)
       → GoesOn told may_leave tag seat new_kept new (record { setting = w.core.game.setting; entries = es })
   goes_as v w es is same entries of_seat wall rest tells = record {
@@ -264,7 +265,8 @@ module _ {D : Type 0} (told : D → Option (List ℕ)) (may_leave : D → List �
       → ((w : Watched) → game_of kept ≡ Some w → Answers setting_in entries_in result (Adds_entry call) (Some w) (game_of new_kept)) →
       IfKept (game_of new_kept) (λ g. IsAtRest (told new) (may_leave new) (end_of new_kept))
       → IfKept (game_of kept) (λ g. AnyMoment told moment left_since secured_since (play_of g.core.game.setting) g.core.game.entries (end_of kept) call result old new)
-      → IfBoth (game_of kept) (game_of new_kept) (λ g h. Acknowledged told may_leave moment secured_since (play_of g.core.game.setting) old new g.core.game.entries (end_of kept) h.core.game.entries (end_of new_kept))
+      → IfBoth (game_of kept) (game_of new_kept)
+      (λ g h. Acknowledged told may_leave moment secured_since (play_of g.core.game.setting) old new g.core.game.entries (end_of kept) h.core.game.entries (end_of new_kept))
       → Notes told may_leave moment secured_since (noted_by result) tag seat game new_kept old new arrival
   noted result game g leads answers rest any after =
       let w = g.watched in
@@ -275,11 +277,6 @@ module _ {D : Type 0} (told : D → Option (List ℕ)) (may_leave : D → List �
       (subst (λ (x : Option Watched). IfKept x (λ g. AnyMoment told moment left_since secured_since (play_of g.core.game.setting) g.core.game.entries (end_of kept) call result old new)) g.is any)
       (subst (λ (x : Option Watched). IfBoth x (game_of new_kept) (λ g h. Acknowledged told may_leave moment secured_since (play_of g.core.game.setting) old new g.core.game.entries
       (end_of kept) h.core.game.entries (end_of new_kept))) g.is after))
-
--- By the line that is heard.
-pub arrives-by : (game : Game) (line : List ℕ) (form : ArrivalForm) → form ≡ form_of line → arrives (intake_of game) line ≡ behind_header (intake_of game) form
-unfolding arrives
-arrives-by game line form e = ap (behind_header (intake_of game)) (sym e)
 
 module _ {D : Type 0} (told : D → Option (List ℕ)) (may_leave : D → List ℕ → Type 0) (moment : D → ℕ) (secured_since : D → ℕ → List ℕ → Type 0)
     (kept : Kept Watched) (disk : D) (none_secured : (bytes : List ℕ) → secured_since disk (moment disk) bytes → ⊥) (tag : List ℕ) (seat : ℕ)
@@ -293,7 +290,8 @@ module _ {D : Type 0} (told : D → Option (List ℕ)) (may_leave : D → List �
 module _ {D : Type 0} (told : D → Option (List ℕ)) (may_leave : D → List ℕ → Type 0) (moment : D → ℕ) (left_since secured_since : D → ℕ → List ℕ → Type 0)
     (counts_now : (disk : D) (t : ℕ) (image : List ℕ) → t ≤ moment disk → may_leave disk image → left_since disk t image) (kept new_kept : Kept Watched) (old new : D)
     (tag : List ℕ) (seat : ℕ) (game : Game) (goes : GoesOn told may_leave tag seat kept old game) (rest : IfKept (game_of new_kept) (λ g. IsAtRest (told new) (may_leave new) (end_of new_kept)))
-    (after : IfBoth (game_of kept) (game_of new_kept) (λ g h. Acknowledged told may_leave moment secured_since (play_of g.core.game.setting) old new g.core.game.entries (end_of kept) h.core.game.entries (end_of new_kept))) where
+    (after : IfBoth (game_of kept) (game_of new_kept)
+    (λ g h. Acknowledged told may_leave moment secured_since (play_of g.core.game.setting) old new g.core.game.entries (end_of kept) h.core.game.entries (end_of new_kept))) where
   abbrev AnyMomentOf : {T : Type 0} → GameCall → Answered T → Type 0
   AnyMomentOf call result = IfKept (game_of kept) (λ g. AnyMoment told moment left_since secured_since (play_of g.core.game.setting) g.core.game.entries (end_of kept) call result old new)
 

@@ -156,7 +156,8 @@ module _ {D : Type 0} (told : D → Option (List ℕ)) (may_leave : D → List �
       seat game.entries input old_written new_written old new
   keeps-on result end kept ow nw n writes =
       keeps-by result end kept n ow nw
-      (subst (λ (g : Game). WritesScript result end seat g ow nw) n.goes.core (subst (λ (s : ℕ). WritesScript result end s n.goes.watched.core.game ow nw) n.goes.of_seat (writes n.goes.watched n.goes.is)))
+      (subst (λ (g : Game). WritesScript result end seat g ow nw) n.goes.core
+      (subst (λ (s : ℕ). WritesScript result end s n.goes.watched.core.game ow nw) n.goes.of_seat (writes n.goes.watched n.goes.is)))
 
   -- So of lines that were numbered from the first after the tag.
   module _ (number : ℕ) (numbered : base.number ≡ number) where
@@ -170,7 +171,8 @@ module _ {D : Type 0} (told : D → Option (List ℕ)) (may_leave : D → List �
 
     pub keeps-safe : NotesPart told may_leave moment secured_since base.tag game old new (intake_from (intake_of game) number (whole_lines rest) (unfinished rest)) →
         StaysSafe told may_leave moment secured_since base game.entries input old new
-    keeps-safe n = stays-safe (subst (λ (k : ℕ). NotesPart told may_leave moment secured_since base.tag game old new (intake_from (intake_of game) k (whole_lines rest) (unfinished rest))) (sym numbered) n)
+    keeps-safe n = stays-safe (subst (λ (k : ℕ). NotesPart told may_leave moment secured_since base.tag game old new
+        (intake_from (intake_of game) k (whole_lines rest) (unfinished rest))) (sym numbered) n)
 
 -- A journal gives one list of entries.
 pub gives-one : (opening : Opening Entries) (one other : Entries) → Gives opening one → Gives opening other → one ≡ other

@@ -127,7 +127,8 @@ module _ {D : Type 0} (told : D → Option (List ℕ)) (may_leave : D → List �
               let b = w.on bytes is in
               ⊎_elim (λ o. inl (opens-to image o)) (λ o. inr (opens-with image f.entry o)) (f.each b.0 image b.1 left);
           syncs = λ bytes is.
-              subst (λ (es : Entries). SyncsOnly moment secured_since old new (λ image. GivesFront (opens_of game tag image) es)) w.begins.is (syncs-on w.at.entries (begins-itself w.at.entries) f.syncs bytes is);
+              subst (λ (es : Entries). SyncsOnly moment secured_since old new (λ image. GivesFront (opens_of game tag image) es)) w.begins.is
+              (syncs-on w.at.entries (begins-itself w.at.entries) f.syncs bytes is);
         }
 
     pub walks-want : NotesNone told may_leave moment secured_since tag seat w.at new_kept now new → NotesPart told may_leave moment secured_since tag game old new input
@@ -141,7 +142,8 @@ module _ {D : Type 0} (told : D → Option (List ℕ)) (may_leave : D → List �
               let b = tells-on now new w.on n.on bytes is in
               inl (opens-to image (end_of new_kept, ap (opens (play_of w.at.setting) tag) (n.goes.rest.kept b.0 b.1 image left) ∙ n.goes.tells b.0 b.1));
           syncs = λ bytes is.
-              subst (λ (es : Entries). SyncsOnly moment secured_since old new (λ image. GivesFront (opens_of game tag image) es)) w.begins.is (syncs-on w.at.entries (begins-itself w.at.entries) n.syncs bytes is);
+              subst (λ (es : Entries). SyncsOnly moment secured_since old new (λ image. GivesFront (opens_of game tag image) es)) w.begins.is
+              (syncs-on w.at.entries (begins-itself w.at.entries) n.syncs bytes is);
         }
 
   pub walks-end : (kept : Kept Watched) (now : D) (number : ℕ) (rest : List ℕ) (input : Input) (end : End) → Walks kept now number rest input →

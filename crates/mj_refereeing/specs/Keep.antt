@@ -163,7 +163,8 @@ module _ {D : Type 0} (told : D → Option (List ℕ)) (may_leave : D → List �
     abbrev pub LosesNothing : Option Base → List ℕ → D → D → Type 0
     LosesNothing None input old new = ⊥
     LosesNothing (Some base) input old new =
-        (bytes : List ℕ) (kept : List (Entry Answer)) → told old ≡ Some bytes → Only bytes (may_leave old) → Gives (opens_for base bytes) kept → IsSafe may_leave moment secured_since base kept input old new
+        (bytes : List ℕ) (kept : List (Entry Answer)) → told old ≡ Some bytes → Only bytes (may_leave old) → Gives (opens_for base bytes) kept
+        → IsSafe may_leave moment secured_since base kept input old new
 
     -- What is written and what becomes of the disk once an input was read, by the end; no read can fail any more.
     abbrev pub KeepsInput : KeepEnd → ℕ → List ℕ → Option (List ℕ) → Option (List ℕ) → D → D → Type 0

@@ -2,5 +2,6 @@ pub mod Referee
 pub mod Safe
 pub mod Questions
 pub mod Keep
+pub mod Bases
 pub mod Statuses
 pub mod Inner

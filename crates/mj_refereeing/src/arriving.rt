@@ -2,14 +2,19 @@
 
 ghost use Rattle.std.specs.Prelude.{◌≡◌, ◌≤◌, ◌<◌, ◌==◌, ℕ, true, false, List, Some, None, length, IfOk, OnOk};
 ghost use Rattle.mj_bytes.specs.Adds.{Adds};
+ghost use Rattle.mj_deeds.specs.Answers.{is_in_form};
+ghost use Rattle.mj_forms.specs.AnswerForms.{answer_of};
 ghost use Rattle.mj_history.specs.Legal.{can_say};
 ghost use Rattle.mj_history.specs.Arrivals.{arrives, sit_arrives, say_arrives, gone_arrives, expiry_arrives};
 ghost use Rattle.mj_core.specs.Calls.{author_of_seat, after_of};
+ghost use Rattle.mj_refereeing.specs.Inner.Forms.{line_of, pass_text, IsOfSeat};
 ghost use Rattle.mj_refereeing.specs.Inner.Intake.{intake_of, greeting, greeting_again, told_again_in, present_in, last_lines, InPlay, Does};
 
-use crate::form::{ArrivalForm, read_form};
+use crate::form::{ArrivalForm, FirstLine, read_form};
 use mj_core::{Expiry, Heard, Left, SeatGame, SitAnswer, Umpire, Untold, write_control};
+use mj_deeds::Answer;
 use mj_ports::Control;
+use mjai_answers::read_answer;
 use std::alloc::{AllocError, Global};
 
 /// The author of each line that wants a seat.
@@ -27,9 +32,39 @@ pub(crate) enum Arrived {
     Bad,
 }
 
-/// Hears one line of a game in play, and writes what it tells the seat after what the seat was told.
+/// What a seat that passes says in the usual spelling, as it reads.
+pub(crate) fn usual_pass(alloc: Global) -> Result<Answer, AllocError>
+    ensures { IfOk result (λ pass. pass ≡ answer_of pass_text) }
+{
+    read_answer(alloc, b"{\"type\":\"none\"}")
+}
+
+/// Hears the first line of what arrives in a game in play, and writes what it tells the seat after what the seat was told. What the
+/// usual pass reads as is given.
+pub(crate) fn take_first(
+    alloc: Global,
+    core: &mut SeatGame,
+    told: &mut Vec<u8>,
+    first: FirstLine<'_>,
+    pass: &Answer,
+) -> Result<Arrived, AllocError>
+    requires play { InPlay core.old.seat core.old.game told.old.items }
+    requires seat { IsOfSeat first }
+    requires pass { pass.now ≡ answer_of pass_text }
+    ensures does { IfOk result (λ step. Does step core.old.seat core.old.game core.new.game told.old.items
+        told.new.items
+        (arrives (intake_of core.old.game) (line_of first.entry))) }
+    ensures seat { core.new.seat ≡ core.old.seat }
+{
+    match first {
+        FirstLine::Pass(who) => say(alloc, core, told, u64::from(who), pass),
+        FirstLine::Other(line) => take_line(alloc, core, told, line),
+    }
+}
+
+// Hears one line.
 #[tactic(auto, using(crate::proofs::PlayLaws::late_walls), unfolding(mj_history::specs::Arrivals::arrives))]
-pub(crate) fn take_line(
+fn take_line(
     alloc: Global,
     core: &mut SeatGame,
     told: &mut Vec<u8>,
@@ -45,7 +80,7 @@ pub(crate) fn take_line(
         ArrivalForm::Header(_) => Ok(Arrived::Bad),
         ArrivalForm::Wall(_) => Ok(Arrived::Bad),
         ArrivalForm::Sit(line) => sit(alloc, core, told, line),
-        ArrivalForm::Say { seat: who, line } => say(alloc, core, told, who, line),
+        ArrivalForm::Say { seat: who, line } => say_line(alloc, core, told, who, line),
         ArrivalForm::Leave(who) => leave(alloc, core, told, who),
         ArrivalForm::Expire { window, t1, t2 } => expire(alloc, core, window, t1, t2),
         ArrivalForm::NoForm => Ok(Arrived::Bad),
@@ -129,8 +164,7 @@ fn tell_again(alloc: Global, core: &SeatGame, told: &mut Vec<u8>) -> Result<(), 
 }
 
 // Somebody says a line.
-#[tactic(auto, using(crate::proofs::PlayLaws::saying))]
-fn say(
+fn say_line(
     alloc: Global,
     core: &mut SeatGame,
     told: &mut Vec<u8>,
@@ -143,6 +177,29 @@ fn say(
         (say_arrives (intake_of core.old.game) who line.now)) }
     ensures seat { core.new.seat ≡ core.old.seat }
 {
+    match read_answer(alloc, line) {
+        Ok(answer) => say(alloc, core, told, who, &answer),
+        Err(e) => Err(e),
+    }
+}
+
+// Somebody says what reads as this answer.
+#[inline(always)]
+#[tactic(auto, using(crate::proofs::PlayLaws::saying))]
+fn say(
+    alloc: Global,
+    core: &mut SeatGame,
+    told: &mut Vec<u8>,
+    who: u64,
+    answer: &Answer,
+) -> Result<Arrived, AllocError>
+    requires play { InPlay core.old.seat core.old.game told.old.items }
+    requires form { is_in_form answer.now ≡ true }
+    ensures does { IfOk result (λ step. (text : List ℕ) → answer.now ≡ answer_of text
+        → Does step core.old.seat core.old.game core.new.game told.old.items told.new.items
+        (say_arrives (intake_of core.old.game) who text)) }
+    ensures seat { core.new.seat ≡ core.old.seat }
+{
     let Some((speaker, author)) = present(core.umpire(), who) else {
         return Ok(Arrived::Bad);
     };
@@ -150,9 +207,9 @@ fn say(
         return Ok(Arrived::Bad);
     }
     if speaker == core.seat() {
-        return own_line(alloc, core, told, author, line);
+        return own_answer(alloc, core, told, author, answer);
     }
-    others_line(alloc, core, author, speaker, line)
+    others_answer(alloc, core, author, speaker, answer)
 }
 
 // A seat that is present, with its author.
@@ -167,25 +224,26 @@ pub(crate) fn present(game: &Umpire<Untold>, who: u64) -> Option<(u8, u8)>
     Some((who, game.author(who)?))
 }
 
-// The seat itself says a line, once its due deed exists. It is first told what is pending, and then the rule that it breaks.
-fn own_line(
+// The seat itself answers, once its due deed exists. It is first told what is pending, and then the rule that it breaks.
+fn own_answer(
     alloc: Global,
     core: &mut SeatGame,
     told: &mut Vec<u8>,
     author: u8,
-    line: &[u8],
+    answer: &Answer,
 ) -> Result<Arrived, AllocError>
     requires play { InPlay core.old.seat core.old.game told.old.items }
+    requires form { is_in_form answer.now ≡ true }
     requires present { author_of_seat core.old.game core.old.seat ≡ Some author }
     requires asked { can_say (after_of core.old.game) author core.old.seat ≡ true }
-    ensures does { IfOk result (λ step. Does step core.old.seat core.old.game core.new.game told.old.items
-        told.new.items
-        (say_arrives (intake_of core.old.game) core.old.seat line.now)) }
+    ensures does { IfOk result (λ step. (text : List ℕ) → answer.now ≡ answer_of text
+        → Does step core.old.seat core.old.game core.new.game told.old.items told.new.items
+        (say_arrives (intake_of core.old.game) core.old.seat text)) }
     ensures seat { core.new.seat ≡ core.old.seat }
 {
     let seat = core.seat();
     core.pending(told)?;
-    match core.said(alloc, author, seat, line) {
+    match core.hear(alloc, author, seat, answer) {
         Heard::Taken => Ok(Arrived::Leads),
         Heard::Late => Ok(Arrived::Leads),
         Heard::Refused(rule) => {
@@ -200,22 +258,24 @@ fn own_line(
     }
 }
 
-// A seat says a line, once its due deed exists, which tells no other seat anything.
-fn others_line(
+// A seat answers, once its due deed exists, which tells no other seat anything.
+fn others_answer(
     alloc: Global,
     core: &mut SeatGame,
     author: u8,
     who: u8,
-    line: &[u8],
+    answer: &Answer,
 ) -> Result<Arrived, AllocError>
+    requires form { is_in_form answer.now ≡ true }
     requires present { author_of_seat core.old.game who ≡ Some author }
     requires asked { can_say (after_of core.old.game) author who ≡ true }
-    ensures does { IfOk result (λ step. (seat : ℕ) (told : List ℕ) → (who == seat) ≡ false
-        → InPlay seat core.old.game told → Does step seat core.old.game core.new.game told told
-        (say_arrives (intake_of core.old.game) who line.now)) }
+    ensures does { IfOk result (λ step. (seat : ℕ) (told text : List ℕ) → answer.now ≡ answer_of text
+        → (who == seat) ≡ false → InPlay seat core.old.game told
+        → Does step seat core.old.game core.new.game told told
+        (say_arrives (intake_of core.old.game) who text)) }
     ensures seat { core.new.seat ≡ core.old.seat }
 {
-    match core.said(alloc, author, who, line) {
+    match core.hear(alloc, author, who, answer) {
         Heard::Taken => Ok(Arrived::Leads),
         Heard::Late => Ok(Arrived::Leads),
         Heard::Refused(_) => Ok(Arrived::Leads),

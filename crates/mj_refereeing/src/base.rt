@@ -8,7 +8,8 @@ ghost use Rattle.mj_runs.specs.Inputs.{longest};
 ghost use Rattle.mj_refereeing.specs.Keep.{base_of};
 ghost use Rattle.mj_history.specs.Arrivals.{Intake, at_end, form_of, Header, input_of};
 ghost use Rattle.mj_refereeing.specs.Referee.{ending};
-ghost use Rattle.mj_refereeing.specs.Inner.Bases.{IsFounded, IsWalled, end_without};
+ghost use Rattle.mj_refereeing.specs.Bases.{IsFounded};
+ghost use Rattle.mj_refereeing.specs.Inner.Bases.{IsWalled, end_without};
 ghost use Rattle.mj_wall.specs.declared.setting.Rules.{Rules};
 
 use crate::form::{ArrivalForm, read_form};
@@ -20,17 +21,17 @@ use std::alloc::{AllocError, Global};
 /// What founds a kept game: its rules and walls, the tag of its journal, and what stands after these, with the number of
 /// its first line.
 #[derive(Drop)]
-pub(crate) struct Base<'a> {
-    pub(crate) rules: Rules,
-    pub(crate) walls: Vec<Wall>,
-    pub(crate) tag: &'a [u8],
-    pub(crate) rest: &'a [u8],
-    pub(crate) number: u32,
+pub struct Base<'a> {
+    pub rules: Rules,
+    pub walls: Vec<Wall>,
+    pub tag: &'a [u8],
+    pub rest: &'a [u8],
+    pub number: u32,
 }
 
 /// What an input founds.
 #[derive(Drop)]
-pub(crate) enum Founded<'a> {
+pub enum Founded<'a> {
     /// Nothing, since it has no header with a wall after it. It ends so.
     Nothing(End),
     /// A game.
@@ -38,7 +39,7 @@ pub(crate) enum Founded<'a> {
 }
 
 /// What an input, of at most 67,108,864 bytes, founds.
-pub(crate) fn read_base(alloc: Global, input: &[u8]) -> Result<Founded<'_>, AllocError>
+pub fn read_base(alloc: Global, input: &[u8]) -> Result<Founded<'_>, AllocError>
     requires { length input.now ≤ longest }
     ensures { IfOk result (λ founded. IsFounded founded input.now) }
 {

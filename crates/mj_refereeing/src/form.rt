@@ -1,15 +1,15 @@
 //! The forms that a line of the arrivals may have.
 
-ghost use Rattle.std.specs.Prelude.{◌≡◌, ◌<◌, ◌^◌, ◌+◌, ◌++◌, ◌∷◌, IfOk, IfSome, codes};
+ghost use Rattle.std.specs.Prelude.{◌≡◌, ◌<◌, ◌^◌, ◌+◌, ◌++◌, ◌∷◌, IfOk, IfSome, MatchOption, codes};
 ghost use Rattle.std.specs.Option.{SomeIff, option_map_or};
 ghost use Rattle.mj_bytes.specs.Numbers.{decimal_of};
-ghost use Rattle.mj_bytes.specs.Parts.{fields, parted};
+ghost use Rattle.mj_bytes.specs.Parts.{BeginsWithLine, HasNoLine, fields, parted};
 ghost use Rattle.mj_history.specs.Arrivals.{Header, WallOf, Leave, NoForm, form_of, numbers_in};
 ghost use Rattle.mj_forms.specs.Headers.{rules_of, tiles_in};
 ghost use Rattle.mj_history.specs.Arrivals.{form_by as form_meant, sit_form as sit_meant, say_form as say_meant, expire_form as expire_meant};
-ghost use Rattle.mj_refereeing.specs.Inner.Forms.{meaning, expiry_meant, HasLimit};
+ghost use Rattle.mj_refereeing.specs.Inner.Forms.{meaning, expiry_meant, HasLimit, line_of, IsOfSeat};
 
-use mj_bytes::{read_number, split_space};
+use mj_bytes::{read_number, split_line, split_space};
 use mj_tiles::Tile;
 use mj_wall::Rules;
 use mjai_answers::{read_rules, read_tiles, three_fields};
@@ -35,6 +35,68 @@ pub(crate) enum ArrivalForm<'a> {
     Expire { window: u32, t1: u64, t2: u64 },
     /// None of these.
     NoForm,
+}
+
+/// The first line of what arrives.
+#[derive(Clone, Copy)]
+pub(crate) enum FirstLine<'a> {
+    /// A seat, 0 to 3, says that it passes, and names no actor: the line is spelled as most passes are.
+    Pass(u8),
+    /// Any line, without its newline.
+    Other(&'a [u8]),
+}
+
+/// The first line of a text, and all that follows its newline; none where the text has no whole line. Most lines are passes:
+/// these are seen before a line is searched for its end.
+pub(crate) fn first_line(text: &[u8]) -> Option<(FirstLine<'_>, &[u8])>
+    ensures line { MatchOption result (HasNoLine text.now)
+        (λ x. BeginsWithLine text.now (line_of x.0) x.1.now) }
+    ensures seat { IfSome result (λ x. IsOfSeat x.0) }
+{
+    if let Some((seat, rest)) = pass_first(text) {
+        return Some((FirstLine::Pass(seat), rest));
+    }
+    match split_line(text) {
+        Some((line, rest)) => Some((FirstLine::Other(line), rest)),
+        None => None,
+    }
+}
+
+// The seat that passes by the first line of a text, in its usual spelling, and what follows the line's newline; none where
+// another line stands first.
+fn pass_first(text: &[u8]) -> Option<(u8, &[u8])>
+    ensures within { IfSome result (λ x. x.0 < 4) }
+    ensures parts { IfSome result (λ x. text.now
+        ≡ codes "say " ++ (48 + x.0) ∷ codes " {\"type\":\"none\"}\n" ++ x.1.now) }
+{
+    match text {
+        [
+            b's',
+            b'a',
+            b'y',
+            b' ',
+            digit @ b'0'..=b'3',
+            b' ',
+            b'{',
+            b'"',
+            b't',
+            b'y',
+            b'p',
+            b'e',
+            b'"',
+            b':',
+            b'"',
+            b'n',
+            b'o',
+            b'n',
+            b'e',
+            b'"',
+            b'}',
+            b'\n',
+            rest @ ..,
+        ] => Some((*digit - b'0', rest)),
+        _ => None,
+    }
 }
 
 /// The form of a line, which stands here without its newline.

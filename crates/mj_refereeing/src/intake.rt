@@ -8,12 +8,15 @@ ghost use Rattle.mj_history.specs.Arrivals.{Input, Intake, intake_from, intake_o
 ghost use Rattle.mj_runs.specs.Inputs.{longest};
 ghost use Rattle.mj_refereeing.specs.Referee.{ending};
 ghost use Rattle.mj_history.specs.After.{scripts};
+ghost use Rattle.mj_forms.specs.AnswerForms.{answer_of};
+ghost use Rattle.mj_refereeing.specs.Inner.Forms.{pass_text};
 ghost use Rattle.mj_refereeing.specs.Inner.Intake.{answer_to, first_answer, intake_of, intake_with_walls, begin_with_wall, HasNothing, InPlay, HearsAll, Tells, TellsSeat};
 
-use crate::arriving::{Arrived, take_line};
-use crate::form::{ArrivalForm, read_form};
+use crate::arriving::{Arrived, take_first, usual_pass};
+use crate::form::{ArrivalForm, first_line, read_form};
 use mj_bytes::split_line;
 use mj_core::{NOBODY, SeatGame};
+use mj_deeds::Answer;
 use mj_safe::{no_safe_lines, safe_lines};
 use mj_tiles::Tile;
 use mj_wall::{Rules, Wall};
@@ -278,10 +281,33 @@ fn take_lines(
         core.old.seat end core.new.game told.new.items) }
     ensures seat { core.new.seat ≡ core.old.seat }
 {
+    match usual_pass(alloc) {
+        Ok(pass) => take_each(alloc, core, told, input, first, &pass),
+        Err(e) => Err(e),
+    }
+}
+
+// Hears each of these lines. What the usual pass reads as is given.
+fn take_each(
+    alloc: Global,
+    core: &mut SeatGame,
+    told: &mut Vec<u8>,
+    input: &[u8],
+    first: u32,
+    pass: &Answer,
+) -> Result<End, AllocError>
+    requires play { InPlay core.old.seat core.old.game told.old.items }
+    requires fits { first + length input.now ≤ u32.MAX }
+    requires pass { pass.now ≡ answer_of pass_text }
+    ensures hears { IfOk result (λ end. HearsAll
+        (intake_from (intake_of core.old.game) first (whole_lines input.now) (unfinished input.now))
+        core.old.seat end core.new.game told.new.items) }
+    ensures seat { core.new.seat ≡ core.old.seat }
+{
     let mut rest = input;
     let mut number = first;
-    while let Some((line, others)) = split_line(rest) {
-        match take_line(alloc, core, told, line)? {
+    while let Some((line, others)) = first_line(rest) {
+        match take_first(alloc, core, told, line, pass)? {
             Arrived::Leads => {}
             Arrived::Bad => return Ok(End::Bad(number)),
         }

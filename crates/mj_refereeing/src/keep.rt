@@ -6,7 +6,7 @@ ghost use Rattle.mj_history.specs.Legal.{Game};
 ghost use Rattle.mj_journal.specs.Journals.{IsAtRest};
 ghost use Rattle.mj_journal.specs.Keeping.{game_of, end_of};
 ghost use Rattle.mj_refereeing.specs.declared.watched.Watched.{Watched};
-ghost use Rattle.mj_refereeing.specs.Inner.Bases.{IsFit, IsBase};
+ghost use Rattle.mj_refereeing.specs.Bases.{IsFit, IsBase};
 ghost use Rattle.mj_refereeing.specs.Inner.Keeping.{IsPlayed, GoesOn, KeepsOn, WritesScript};
 ghost use Rattle.mj_runs.specs.Inputs.{longest};
 ghost use Rattle.mj_refereeing.specs.Keep.{Base as Founding, KeepsAll, KeepsInput};

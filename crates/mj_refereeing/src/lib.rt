@@ -12,6 +12,7 @@ mod referee;
 mod status;
 mod watched;
 
+pub use base::{Base, Founded, read_base};
 pub use intake::{End, Question};
 pub use keep::{KeepEnd, keep_of};
 pub use referee::{RefereeEnd, referee_of};

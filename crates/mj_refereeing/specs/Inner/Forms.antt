@@ -1,8 +1,10 @@
 -- What the value that a line was read as stands for.
-use Rattle.std.specs.Prelude.{ℕ, Option, Some, None}
+use Rattle.std.specs.Prelude.{ℕ, ◌+◌, ◌<◌, List, ◌∷◌, ◌++◌, codes, Option, Some, None}
 use Rattle.mjai_answers.specs.Settings.{IsLimited}
 use Rattle.mj_refereeing.specs.declared.form.ArrivalForm.{ArrivalForm}
 use Rattle.mj_refereeing.specs.declared.form.ArrivalForm.TheVariants as read
+use Rattle.mj_refereeing.specs.declared.form.FirstLine.{FirstLine}
+use Rattle.mj_refereeing.specs.declared.form.FirstLine.TheVariants as firsts
 use Rattle.mj_history.specs.Arrivals.{ArrivalForm as Meaning}
 use Rattle.mj_history.specs.Arrivals as arrivals
 
@@ -30,3 +32,19 @@ HasLimit (read.Say seat line) = Unit {0}
 HasLimit (read.Leave seat) = Unit {0}
 HasLimit (read.Expire window t1 t2) = Unit {0}
 HasLimit read.NoForm = Unit {0}
+
+-- What a seat says that passes, in its usual spelling, and the line of such a seat.
+abbrev pub pass_text : List ℕ
+pass_text = codes "{\"type\":\"none\"}"
+
+abbrev pub pass_line : ℕ → List ℕ
+pass_line seat = codes "say " ++ (48 + seat) ∷ 32 ∷ pass_text
+
+-- The first line, as it was seen. A seat that passes is one of the four.
+abbrev pub line_of : FirstLine → List ℕ
+line_of (firsts.Pass seat) = pass_line seat
+line_of (firsts.Other line) = line.now
+
+abbrev pub IsOfSeat : FirstLine → Type 0
+IsOfSeat (firsts.Pass seat) = seat < 4
+IsOfSeat (firsts.Other line) = Unit {0}

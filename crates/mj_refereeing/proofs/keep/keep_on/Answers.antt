@@ -5,7 +5,8 @@ use Rattle.mj_refereeing.proofs.keep.keep_on.Goals as goal
 
 pub returns-in-Whole-clause-does : goal.returns-in-Whole-clause-does
 returns-in-Whole-clause-does g c = λ base seat input game numbered lines unread setting goes.
-    keeps-whole g.D.Disk.told g.D.Disk.may_leave g.D.Disk.moment g.D.Disk.secured_since base seat input c.args.rest.now game c.args.disk.now c.keep_lines.new.disk setting lines unread c.args.number numbered
+    keeps-whole g.D.Disk.told g.D.Disk.may_leave g.D.Disk.moment g.D.Disk.secured_since base seat input c.args.rest.now game c.args.disk.now c.keep_lines.new.disk setting lines unread
+    c.args.number numbered
     c.write_script-told.result c.in-Whole.end c.keep_lines.new.kept (g.K.Sink.written c.args.sink.now) (g.K.Sink.written c.write_script-told.new.sink)
     (c.in-Whole.ensures.notes base.tag seat game goes) c.write_script-told.ensures.writes_script
 

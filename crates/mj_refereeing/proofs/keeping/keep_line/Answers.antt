@@ -2,8 +2,8 @@ use Rattle.std.proofs.Common.{sym, subst, ◌∙◌}
 use Rattle.mj_history.specs.Arrivals.{Header, WallOf, Sit, Say, Leave, Expire, NoForm, Arrival}
 use Rattle.mj_refereeing.specs.Inner.Keeping.{Notes}
 use Rattle.mj_refereeing.proofs.KeepLaws.{HasLine, line-has}
-use Rattle.mj_refereeing.proofs.PlayLaws.{wall-late}
-use Rattle.mj_refereeing.proofs.NoteLaws.{arrives-by, bad-noted, noted-sit, noted-expiry}
+use Rattle.mj_refereeing.proofs.PlayLaws.{arrives-by, wall-late}
+use Rattle.mj_refereeing.proofs.NoteLaws.{bad-noted, noted-sit, noted-expiry}
 use Rattle.mj_refereeing.proofs.keeping.keep_line.Goals as goal
 
 pub sit-requires-clause-line : goal.sit-requires-clause-line
@@ -33,17 +33,20 @@ returns-in-Sit-clause-notes g c = λ tag seat game goes.
 
 pub returns-in-Say-clause-notes : goal.returns-in-Say-clause-notes
 returns-in-Say-clause-notes g c = λ tag seat game goes.
-    subst (λ (a : Arrival). Notes g.D.Disk.told g.D.Disk.may_leave g.D.Disk.moment g.D.Disk.secured_since c.keep_saying.result tag seat game c.keep_saying.new.kept c.args.disk.now c.keep_saying.new.disk a)
+    subst (λ (a : Arrival). Notes g.D.Disk.told g.D.Disk.may_leave g.D.Disk.moment g.D.Disk.secured_since c.keep_saying.result tag seat game c.keep_saying.new.kept c.args.disk.now
+    c.keep_saying.new.disk a)
     (sym (arrives-by game c.args.line.now (Say c.in-Say.seat c.in-Say.line.now) (rw c.in-Say.is at c.in-Ok.ensures.form))) (c.keep_saying.ensures.notes tag seat game goes)
 
 pub returns-in-Leave-clause-notes : goal.returns-in-Leave-clause-notes
 returns-in-Leave-clause-notes g c = λ tag seat game goes.
-    subst (λ (a : Arrival). Notes g.D.Disk.told g.D.Disk.may_leave g.D.Disk.moment g.D.Disk.secured_since c.keep_leaving.result tag seat game c.keep_leaving.new.kept c.args.disk.now c.keep_leaving.new.disk a)
+    subst (λ (a : Arrival). Notes g.D.Disk.told g.D.Disk.may_leave g.D.Disk.moment g.D.Disk.secured_since c.keep_leaving.result tag seat game c.keep_leaving.new.kept c.args.disk.now
+    c.keep_leaving.new.disk a)
     (sym (arrives-by game c.args.line.now (Leave c.in-Leave.seat) (rw c.in-Leave.is at c.in-Ok.ensures.form))) (c.keep_leaving.ensures.notes tag seat game goes)
 
 pub returns-in-Expire-clause-notes : goal.returns-in-Expire-clause-notes
 returns-in-Expire-clause-notes g c = λ tag seat game goes.
-    subst (λ (a : Arrival). Notes g.D.Disk.told g.D.Disk.may_leave g.D.Disk.moment g.D.Disk.secured_since c.noted_by-in-Expire.result tag seat game c.expire.new.self c.args.disk.now c.expire.new.disk a)
+    subst (λ (a : Arrival). Notes g.D.Disk.told g.D.Disk.may_leave g.D.Disk.moment g.D.Disk.secured_since c.noted_by-in-Expire.result tag seat game c.expire.new.self c.args.disk.now
+    c.expire.new.disk a)
     (sym (arrives-by game c.args.line.now (Expire c.in-Expire.window c.in-Expire.t1 c.in-Expire.t2) (rw c.in-Expire.is at c.in-Ok.ensures.form)))
     (noted-expiry g.D.Disk.told g.D.Disk.may_leave g.D.Disk.moment g.D.Disk.left_since g.D.Disk.secured_since g.met.D.Disk.counts_now c.args.kept.now c.expire.new.self
     c.args.disk.now c.expire.new.disk tag seat game goes c.expire.ensures.rest c.expire.ensures.after
@@ -51,4 +54,5 @@ returns-in-Expire-clause-notes g c = λ tag seat game goes.
 
 pub returns-in-NoForm-clause-notes : goal.returns-in-NoForm-clause-notes
 returns-in-NoForm-clause-notes g c = λ tag seat game goes.
-    bad-noted g.D.Disk.told g.D.Disk.may_leave g.D.Disk.moment g.D.Disk.secured_since c.args.kept.now c.args.disk.now (g.met.D.Disk.none_secured c.args.disk.now) tag seat game goes _ (arrives-by game c.args.line.now NoForm (rw c.in-NoForm.is at c.in-Ok.ensures.form))
+    bad-noted g.D.Disk.told g.D.Disk.may_leave g.D.Disk.moment g.D.Disk.secured_since c.args.kept.now c.args.disk.now (g.met.D.Disk.none_secured c.args.disk.now) tag seat game goes _
+    (arrives-by game c.args.line.now NoForm (rw c.in-NoForm.is at c.in-Ok.ensures.form))

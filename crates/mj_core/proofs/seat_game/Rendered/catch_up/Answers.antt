@@ -11,6 +11,7 @@ returns-in_default-clause-ok c = λ h. whole-none _ c.args.seat _ _ (rw c.table-
 pub returns-clause-ok : goal.returns-clause-ok
 returns-clause-ok c =
     on_ok_weaker c.push.result
-    (λ pushed h. whole-caught _ c.args.seat _ _ _ _ _ _ _ c.count.ensures c.deeds.ensures c.if-count-deeds.false (rw c.table-table.ensures at c.in-Some.ensures) (rw c.table-table.ensures at c.in_ok-possible_over.ensures.ok)
+    (λ pushed h. whole-caught _ c.args.seat _ _ _ _ _ _ _ c.count.ensures c.deeds.ensures c.if-count-deeds.false (rw c.table-table.ensures at c.in-Some.ensures)
+    (rw c.table-table.ensures at c.in_ok-possible_over.ensures.ok)
     pushed (c.requires h))
     c.push.ensures.ok

@@ -1,10 +1,5 @@
-use Rattle.mj_core.proofs.NearLaws.{near-hearing, near-caught}
+use Rattle.mj_core.proofs.Games.{heard-form}
 use Rattle.mj_core.proofs.seat_game.SeatGame.said.Goals as goal
 
-pub catch_up-requires-2 : goal.catch_up-requires-2
-catch_up-requires-2 c = near-hearing c.said-heard.result c.self.inside.seat c.args.author c.args.seat _ _ _ _ c.said-heard.ensures c.in-Ok.ensures.ok
-
-pub invariant_of-self-2 : goal.invariant_of-self-2
-invariant_of-self-2 c =
-    near-caught c.catch_up-2.result c.self.inside.seat c.said-heard.new.self _ _ c.catch_up-2.ensures.ok c.catch_up-2.ensures.err
-    (near-hearing c.said-heard.result c.self.inside.seat c.args.author c.args.seat _ _ _ _ c.said-heard.ensures c.in-Ok.ensures.ok)
+pub hear-requires-clause-form : goal.hear-requires-clause-form
+hear-requires-clause-form c = heard-form c.args.line.now c.in-Ok.answer c.in-Ok.ensures

@@ -3,32 +3,22 @@ use Rattle.mj_window.specs.Slots.{put_at}
 use Rattle.mj_history.specs.After.{Verdict, slots_after}
 use Rattle.mj_core.specs.Inner.States.{desk_after}
 use Rattle.mj_core.specs.Inner.Verdicts.{verdict_given}
-use Rattle.mj_core.proofs.Pieces.{position, due-within, present-at-desk}
-use Rattle.mj_core.proofs.Turns.{hear-due, hear-refused, hear-settles, hear-hears}
+use Rattle.mj_core.proofs.Pieces.{position, present-at-desk}
+use Rattle.mj_core.proofs.Turns.{reads-due, finds, hear-due, hear-refused, hear-settles, hear-hears}
 use Rattle.mj_core.proofs.state.State.hear.Goals as goal
 
 pub verdict-verdict-requires-clause-due : goal.verdict-verdict-requires-clause-due
 verdict-verdict-requires-clause-due g c =
     let old = position (g.T.Telling.play c.self.inside.told).rules c.self.inside.deeds.items c.self.inside.desk c.self.inside.chairs.items c.self.inside.window in
     hear-due c.args.setting.now old c.args.seat c.from.result c.len.result c.args.answer.now c.index.result.now (rw (← c.self.view_is) at c.requires)
-    (record {
-      seated = c.self.invariant.seated;
-      within = due-within old c.args.seat c.self.invariant.seated (rw (← c.self.view_is) at c.requires.due);
-      place_is = c.from.ensures;
-      read = c.index.ensures;
-    })
+    (reads-due old c.args.seat _ _ c.self.invariant.seated (rw (← c.self.view_is) at c.requires.due) c.from.ensures c.index.ensures)
     (c.len.ensures ∙ c.self.inside.deeds.ok.0)
 
 pub go_on-requires-clause-due : goal.go_on-requires-clause-due
 go_on-requires-clause-due g c =
     let old = position (g.T.Telling.play c.self.inside.told).rules c.self.inside.deeds.items c.self.inside.desk c.self.inside.chairs.items c.self.inside.window in
     let less = hear-due c.args.setting.now old c.args.seat c.from.result c.len.result c.args.answer.now c.index.result.now (rw (← c.self.view_is) at c.requires)
-    (record {
-      seated = c.self.invariant.seated;
-      within = due-within old c.args.seat c.self.invariant.seated (rw (← c.self.view_is) at c.requires.due);
-      place_is = c.from.ensures;
-      read = c.index.ensures;
-    })
+    (reads-due old c.args.seat _ _ c.self.invariant.seated (rw (← c.self.view_is) at c.requires.due) c.from.ensures c.index.ensures)
     (c.len.ensures ∙ c.self.inside.deeds.ok.0) in
     omega (arith, less, c.len.type_inv)
 
@@ -36,12 +26,7 @@ pub go_on-requires-clause-refused : goal.go_on-requires-clause-refused
 go_on-requires-clause-refused g c =
     let old = position (g.T.Telling.play c.self.inside.told).rules c.self.inside.deeds.items c.self.inside.desk c.self.inside.chairs.items c.self.inside.window in
     hear-refused c.args.setting.now old c.args.seat c.from.result c.args.answer.now c.index.result.now (rw (← c.self.view_is) at c.requires)
-    (record {
-      seated = c.self.invariant.seated;
-      within = due-within old c.args.seat c.self.invariant.seated (rw (← c.self.view_is) at c.requires.due);
-      place_is = c.from.ensures;
-      read = c.index.ensures;
-    })
+    (reads-due old c.args.seat _ _ c.self.invariant.seated (rw (← c.self.view_is) at c.requires.due) c.from.ensures c.index.ensures)
 
 pub settle_filled-requires-clause-empty : goal.settle_filled-requires-clause-empty
 settle_filled-requires-clause-empty g c κs within = c.requires.order.empty c.args.seat c.requires.due
@@ -53,21 +38,11 @@ settle_filled-requires-clause-can g c κs within =
     (hear-settles c.args.setting.now old (g.T.Telling.play c.self.inside.told).deeds c.args.seat c.from.result c.len.result
     c.args.answer.now c.index.result.now c.go_on.new.self (verdict_given c.verdict-verdict.result)
     c.self.inside.desk (put_at c.self.inside.window c.args.seat c.args.answer.now)
-    (record {
-      can = rw (← c.self.view_is) at c.requires;
-      told_is = c.self.invariant.same;
-      reads = record {
-        seated = c.self.invariant.seated;
-        within = due-within old c.args.seat c.self.invariant.seated (rw (← c.self.view_is) at c.requires.due);
-        place_is = c.from.ensures;
-        read = c.index.ensures;
-      };
-      many_is = c.len.ensures ∙ c.self.inside.deeds.ok.0;
-      judged = rw c.table.ensures at c.verdict-verdict.ensures;
-      on = c.go_on.ensures;
-      desk_is = ap (λ (v : Verdict). desk_after v c.self.inside.desk c.args.seat) (sym (c.is_taken.ensures.taken c.if-is_taken.true));
-      slots_is = ap (λ (v : Verdict). slots_after v c.self.inside.window c.args.seat c.args.answer.now) (sym (c.is_taken.ensures.taken c.if-is_taken.true));
-    }))
+    (finds _ old _ _ _ _ _ _ _ _ _ _ (rw (← c.self.view_is) at c.requires) c.self.invariant.same
+    (reads-due old c.args.seat _ _ c.self.invariant.seated (rw (← c.self.view_is) at c.requires.due) c.from.ensures c.index.ensures)
+    (c.len.ensures ∙ c.self.inside.deeds.ok.0) (rw c.table.ensures at c.verdict-verdict.ensures) c.go_on.ensures
+    (ap (λ (v : Verdict). desk_after v c.self.inside.desk c.args.seat) (sym (c.is_taken.ensures.taken c.if-is_taken.true)))
+    (ap (λ (v : Verdict). slots_after v c.self.inside.window c.args.seat c.args.answer.now) (sym (c.is_taken.ensures.taken c.if-is_taken.true)))))
 
 pub returns-then-is_taken-clause-ok : goal.returns-then-is_taken-clause-ok
 returns-then-is_taken-clause-ok g c =
@@ -76,21 +51,11 @@ returns-then-is_taken-clause-ok g c =
     (hear-hears c.args.setting.now old c.settle_filled.new.self (g.T.Telling.play c.self.inside.told).deeds c.args.seat c.from.result c.len.result
     c.args.answer.now c.index.result.now c.go_on.new.self (verdict_given c.verdict-verdict.result)
     c.self.inside.desk (put_at c.self.inside.window c.args.seat c.args.answer.now)
-    (record {
-      can = rw (← c.self.view_is) at c.requires;
-      told_is = c.self.invariant.same;
-      reads = record {
-        seated = c.self.invariant.seated;
-        within = due-within old c.args.seat c.self.invariant.seated (rw (← c.self.view_is) at c.requires.due);
-        place_is = c.from.ensures;
-        read = c.index.ensures;
-      };
-      many_is = c.len.ensures ∙ c.self.inside.deeds.ok.0;
-      judged = rw c.table.ensures at c.verdict-verdict.ensures;
-      on = c.go_on.ensures;
-      desk_is = ap (λ (v : Verdict). desk_after v c.self.inside.desk c.args.seat) (sym (c.is_taken.ensures.taken c.if-is_taken.true));
-      slots_is = ap (λ (v : Verdict). slots_after v c.self.inside.window c.args.seat c.args.answer.now) (sym (c.is_taken.ensures.taken c.if-is_taken.true));
-    })
+    (finds _ old _ _ _ _ _ _ _ _ _ _ (rw (← c.self.view_is) at c.requires) c.self.invariant.same
+    (reads-due old c.args.seat _ _ c.self.invariant.seated (rw (← c.self.view_is) at c.requires.due) c.from.ensures c.index.ensures)
+    (c.len.ensures ∙ c.self.inside.deeds.ok.0) (rw c.table.ensures at c.verdict-verdict.ensures) c.go_on.ensures
+    (ap (λ (v : Verdict). desk_after v c.self.inside.desk c.args.seat) (sym (c.is_taken.ensures.taken c.if-is_taken.true)))
+    (ap (λ (v : Verdict). slots_after v c.self.inside.window c.args.seat c.args.answer.now) (sym (c.is_taken.ensures.taken c.if-is_taken.true))))
     (rw (← c.self.view_is) at c.in_ok-settle_filled.ensures.ok))
 
 pub settle_closing-requires-clause-present : goal.settle_closing-requires-clause-present
@@ -105,21 +70,11 @@ settle_here-requires-after_bounds g c κs within =
     (hear-settles c.args.setting.now old (g.T.Telling.play c.self.inside.told).deeds c.args.seat c.from.result c.len.result
     c.args.answer.now c.index.result.now c.go_on.new.self (verdict_given c.verdict-verdict.result)
     c.self.inside.desk c.self.inside.window
-    (record {
-      can = rw (← c.self.view_is) at c.requires;
-      told_is = c.self.invariant.same;
-      reads = record {
-        seated = c.self.invariant.seated;
-        within = due-within old c.args.seat c.self.invariant.seated (rw (← c.self.view_is) at c.requires.due);
-        place_is = c.from.ensures;
-        read = c.index.ensures;
-      };
-      many_is = c.len.ensures ∙ c.self.inside.deeds.ok.0;
-      judged = rw c.table.ensures at c.verdict-verdict.ensures;
-      on = c.go_on.ensures;
-      desk_is = c.is_closing.ensures c.if-not-is_closing.true c.self.inside.desk c.args.seat;
-      slots_is = c.is_taken.ensures.other c.if-is_taken.false c.self.inside.window c.args.seat c.args.answer.now;
-    }))
+    (finds _ old _ _ _ _ _ _ _ _ _ _ (rw (← c.self.view_is) at c.requires) c.self.invariant.same
+    (reads-due old c.args.seat _ _ c.self.invariant.seated (rw (← c.self.view_is) at c.requires.due) c.from.ensures c.index.ensures)
+    (c.len.ensures ∙ c.self.inside.deeds.ok.0) (rw c.table.ensures at c.verdict-verdict.ensures) c.go_on.ensures
+    (c.is_closing.ensures c.if-not-is_closing.true c.self.inside.desk c.args.seat)
+    (c.is_taken.ensures.other c.if-is_taken.false c.self.inside.window c.args.seat c.args.answer.now)))
 
 pub returns-then-not-is_closing-clause-ok : goal.returns-then-not-is_closing-clause-ok
 returns-then-not-is_closing-clause-ok g c =
@@ -128,21 +83,11 @@ returns-then-not-is_closing-clause-ok g c =
     (hear-hears c.args.setting.now old c.settle_here.new.self (g.T.Telling.play c.self.inside.told).deeds c.args.seat c.from.result c.len.result
     c.args.answer.now c.index.result.now c.go_on.new.self (verdict_given c.verdict-verdict.result)
     c.self.inside.desk c.self.inside.window
-    (record {
-      can = rw (← c.self.view_is) at c.requires;
-      told_is = c.self.invariant.same;
-      reads = record {
-        seated = c.self.invariant.seated;
-        within = due-within old c.args.seat c.self.invariant.seated (rw (← c.self.view_is) at c.requires.due);
-        place_is = c.from.ensures;
-        read = c.index.ensures;
-      };
-      many_is = c.len.ensures ∙ c.self.inside.deeds.ok.0;
-      judged = rw c.table.ensures at c.verdict-verdict.ensures;
-      on = c.go_on.ensures;
-      desk_is = c.is_closing.ensures c.if-not-is_closing.true c.self.inside.desk c.args.seat;
-      slots_is = c.is_taken.ensures.other c.if-is_taken.false c.self.inside.window c.args.seat c.args.answer.now;
-    })
+    (finds _ old _ _ _ _ _ _ _ _ _ _ (rw (← c.self.view_is) at c.requires) c.self.invariant.same
+    (reads-due old c.args.seat _ _ c.self.invariant.seated (rw (← c.self.view_is) at c.requires.due) c.from.ensures c.index.ensures)
+    (c.len.ensures ∙ c.self.inside.deeds.ok.0) (rw c.table.ensures at c.verdict-verdict.ensures) c.go_on.ensures
+    (c.is_closing.ensures c.if-not-is_closing.true c.self.inside.desk c.args.seat)
+    (c.is_taken.ensures.other c.if-is_taken.false c.self.inside.window c.args.seat c.args.answer.now))
     (rw (← c.self.view_is) at c.in_ok-settle_here.ensures.ok))
 
 pub settle_closing-requires-clause-can : goal.settle_closing-requires-clause-can
@@ -152,21 +97,11 @@ settle_closing-requires-clause-can g c κs within =
     (hear-settles c.args.setting.now old (g.T.Telling.play c.self.inside.told).deeds c.args.seat c.from.result c.len.result
     c.args.answer.now c.index.result.now c.go_on.new.self (verdict_given c.verdict-verdict.result)
     (desk_after (verdict_given c.verdict-verdict.result) c.self.inside.desk c.args.seat) c.self.inside.window
-    (record {
-      can = rw (← c.self.view_is) at c.requires;
-      told_is = c.self.invariant.same;
-      reads = record {
-        seated = c.self.invariant.seated;
-        within = due-within old c.args.seat c.self.invariant.seated (rw (← c.self.view_is) at c.requires.due);
-        place_is = c.from.ensures;
-        read = c.index.ensures;
-      };
-      many_is = c.len.ensures ∙ c.self.inside.deeds.ok.0;
-      judged = rw c.table.ensures at c.verdict-verdict.ensures;
-      on = c.go_on.ensures;
-      desk_is = refl;
-      slots_is = c.is_taken.ensures.other c.if-is_taken.false c.self.inside.window c.args.seat c.args.answer.now;
-    }))
+    (finds _ old _ _ _ _ _ _ _ _ _ _ (rw (← c.self.view_is) at c.requires) c.self.invariant.same
+    (reads-due old c.args.seat _ _ c.self.invariant.seated (rw (← c.self.view_is) at c.requires.due) c.from.ensures c.index.ensures)
+    (c.len.ensures ∙ c.self.inside.deeds.ok.0) (rw c.table.ensures at c.verdict-verdict.ensures) c.go_on.ensures
+    refl
+    (c.is_taken.ensures.other c.if-is_taken.false c.self.inside.window c.args.seat c.args.answer.now)))
 
 pub returns-clause-ok : goal.returns-clause-ok
 returns-clause-ok g c =
@@ -175,19 +110,9 @@ returns-clause-ok g c =
     (hear-hears c.args.setting.now old c.settle_closing.new.self (g.T.Telling.play c.self.inside.told).deeds c.args.seat c.from.result c.len.result
     c.args.answer.now c.index.result.now c.go_on.new.self (verdict_given c.verdict-verdict.result)
     (desk_after (verdict_given c.verdict-verdict.result) c.self.inside.desk c.args.seat) c.self.inside.window
-    (record {
-      can = rw (← c.self.view_is) at c.requires;
-      told_is = c.self.invariant.same;
-      reads = record {
-        seated = c.self.invariant.seated;
-        within = due-within old c.args.seat c.self.invariant.seated (rw (← c.self.view_is) at c.requires.due);
-        place_is = c.from.ensures;
-        read = c.index.ensures;
-      };
-      many_is = c.len.ensures ∙ c.self.inside.deeds.ok.0;
-      judged = rw c.table.ensures at c.verdict-verdict.ensures;
-      on = c.go_on.ensures;
-      desk_is = refl;
-      slots_is = c.is_taken.ensures.other c.if-is_taken.false c.self.inside.window c.args.seat c.args.answer.now;
-    })
+    (finds _ old _ _ _ _ _ _ _ _ _ _ (rw (← c.self.view_is) at c.requires) c.self.invariant.same
+    (reads-due old c.args.seat _ _ c.self.invariant.seated (rw (← c.self.view_is) at c.requires.due) c.from.ensures c.index.ensures)
+    (c.len.ensures ∙ c.self.inside.deeds.ok.0) (rw c.table.ensures at c.verdict-verdict.ensures) c.go_on.ensures
+    refl
+    (c.is_taken.ensures.other c.if-is_taken.false c.self.inside.window c.args.seat c.args.answer.now))
     (rw (← c.self.view_is) at c.in_ok-settle_closing.ensures.ok))

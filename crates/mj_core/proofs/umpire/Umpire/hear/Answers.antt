@@ -1,6 +1,6 @@
 use Rattle.mj_ports.specs.declared.entry.Entry.TheVariants.{Said}
 use Rattle.mj_core.proofs.Games.{hear-can, said-may, kept-more, hear-entered}
-use Rattle.mj_core.proofs.umpire.Umpire.answered.Goals as goal
+use Rattle.mj_core.proofs.umpire.Umpire.hear.Goals as goal
 
 pub hear-requires-after_bounds : goal.hear-requires-after_bounds
 hear-requires-after_bounds g c κs within = hear-can _ _ c.self.inside.state c.args.author c.args.seat c.args.answer.now c.self.invariant (rw (← c.self.view_is) at c.requires.may) c.requires.form

@@ -2,7 +2,7 @@ use Rattle.std.proofs.Common.{◌≡◌, ◌+◌, ◌≤◌, length}
 use Rattle.mj_bytes.specs.Parts.{whole_lines, unfinished}
 use Rattle.mj_history.specs.Arrivals.{intake_from}
 use Rattle.mj_refereeing.specs.Inner.Intake.{intake_of, InPlay}
-use Rattle.mj_refereeing.proofs.intake.take_lines.Given as goal
+use Rattle.mj_refereeing.proofs.intake.take_each.Given as goal
 
 abbrev pub invariant-loop-line : goal.invariant-loop-line
 invariant-loop-line l = record {
