@@ -2,6 +2,8 @@ pub mod Chosen
 pub mod Lawful
 pub mod Locked
 pub mod Unready
+pub mod Incomplete
+pub mod Silent
 pub mod Offered
 pub mod Promises
 pub mod One

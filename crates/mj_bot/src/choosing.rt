@@ -4,12 +4,13 @@ ghost use Rattle.mj_deeds.specs.declared.answer.Pai.TheVariants as pais;
 ghost use Rattle.mj_fu.specs.Forms.{has_value};
 ghost use Rattle.mj_rules.specs.View.{view_of};
 ghost use Rattle.mj_bot.specs.Choice.{win_in, pon_in, first_lawful, IsChoice};
-ghost use Rattle.mj_bot.specs.Inner.Turns.{IsNeverReady};
+ghost use Rattle.mj_bot.specs.Inner.Turns.{has_say, IsNeverReady, IsIncomplete};
 
 use crate::discards::{best_discard, has_drawn};
 use mj_deeds::{Answer, Deed, Pai};
 use mj_fu::is_dragon;
 use mj_judge::{discard, judge, seat_wind};
+use mj_memory::Memory;
 use mj_table::Table;
 use mj_tiles::{Kind, Tile};
 
@@ -19,13 +20,16 @@ use mj_tiles::{Kind, Tile};
 /// order, marked exactly where the tile has the face of the drawn one; a lawful pon of a dragon, its own wind or the
 /// round wind; a pass.
 ///
-/// It is lawful as long as some discard right after the seat's own reach, chi or pon is.
-pub fn choose(table: &Table, seat: u8) -> Answer
+/// It is lawful as long as some discard right after the seat's own reach, chi or pon is. What is remembered changes no answer.
+pub fn choose(table: &Table, seat: u8, memory: &mut Memory) -> Answer
     requires { seat ≤ 3 }
     ensures { IsChoice table.now.rules table.now.deeds seat result }
 {
-    let best = best_discard(table, seat);
-    if let Some(win) = lawful_win(table, seat) {
+    if !has_say(table, seat) {
+        return Answer::Pass { actor: None };
+    }
+    let best = best_discard(table, seat, memory);
+    if let Some(win) = lawful_win(table, seat, best.incomplete, memory) {
         return win;
     }
     if let Some(reach) = lawful_reach(table, seat, best.unready) {
@@ -40,15 +44,54 @@ pub fn choose(table: &Table, seat: u8) -> Answer
     }
 }
 
-// The win on the tile in question, where it is lawful.
-fn lawful_win(table: &Table, seat: u8) -> Option<Answer>
-    requires { seat ≤ 3 }
+// Another answer than a pass is open to the seat in the window on the newest deed.
+#[tactic(auto, unfolding(mj_rules::specs::View::view_of))]
+fn has_say(table: &Table, seat: u8) -> bool
+    ensures { result ≡ has_say seat (view_of table.now.deeds seat).turn }
+{
+    match table.newest() {
+        Some(Deed::Draw { seat: who, .. }) => *who == seat,
+        Some(Deed::Discard { seat: who, .. }) => *who != seat,
+        Some(Deed::AddedKan { seat: who, .. }) => *who != seat,
+        Some(Deed::Reach { seat: who }) => *who == seat,
+        Some(Deed::Chi { seat: who, .. }) => *who == seat,
+        Some(Deed::Pon { seat: who, .. }) => *who == seat,
+        _ => false,
+    }
+}
+
+// The win on the tile in question, where it is lawful: it isn't where it is known that the tiles aren't complete.
+fn lawful_win(table: &Table, seat: u8, incomplete: bool, memory: &Memory) -> Option<Answer>
+    requires seat { seat ≤ 3 }
+    requires incomplete { IsTrue incomplete → IsIncomplete (view_of table.now.deeds seat) }
     ensures { let view = view_of table.now.deeds seat in
         result ≡ first_lawful table.now.rules seat view (win_in seat view view.turn) }
 {
+    if incomplete {
+        return None;
+    }
+    if is_far(table, seat, memory) {
+        return None;
+    }
     match win(table, seat) {
         Some(win) => if_lawful(table, seat, &win),
         None => None,
+    }
+}
+
+// Whether it is known that the newest deed discards a tile that doesn't complete the seat's hand.
+#[tactic(auto, unfolding(mj_rules::specs::View::view_of))]
+fn is_far(table: &Table, seat: u8, memory: &Memory) -> bool
+    requires { seat ≤ 3 }
+    ensures { IsTrue result → IsIncomplete (view_of table.now.deeds seat) }
+{
+    match table.newest() {
+        Some(Deed::Discard { tile, .. }) => {
+            let melds = table.melds(seat);
+            let number = melds.as_slice().len() as u8;
+            memory.is_far(seat, &table.holds(seat), number, tile.kind())
+        }
+        _ => false,
     }
 }
 

@@ -1,4 +1,4 @@
-ghost use Rattle.std.specs.Prelude.{◌≡◌, ◌<◌, ◌≤◌, ◌==◌, ◌&&◌, ℕ, [], Some, not, IsTrue, MatchOption, filter, is_none, length, map, option_map, slice_index};
+ghost use Rattle.std.specs.Prelude.{◌≡◌, ◌<◌, ◌≤◌, ◌==◌, ◌&&◌, ℕ, [], true, Some, not, IsTrue, MatchOption, filter, is_none, length, map, option_map, slice_index};
 ghost use Rattle.std.specs.Option.{option_map_or};
 ghost use Rattle.mj_tiles.specs.Faces.{kind_of};
 ghost use Rattle.mj_tiles.specs.Counts.{kind_counts};
@@ -10,34 +10,39 @@ ghost use Rattle.mj_rules.specs.Default.{discard_of, lawful_faces, last_face};
 ghost use Rattle.mj_judge.specs.Measured.{is_measured};
 ghost use Rattle.mj_bot.specs.Choice.{IsBest, lawful_of};
 ghost use Rattle.mj_bot.specs.Inner.Measured.{IsMeasuredHand, IsLockedDiscard};
-ghost use Rattle.mj_bot.specs.Inner.Turns.{is_own_turn, is_own_draw, is_free, is_among, IsNeverReady};
+ghost use Rattle.mj_bot.specs.Inner.Turns.{is_own_turn, is_own_draw, is_free, is_among, IsNeverReady, IsIncomplete};
 
 use mj_deeds::{Deed, is_face, ordered};
 use mj_judge::{discard, is_measured, judge};
-use mj_shanten::Suits;
+use mj_memory::{Memory, Ways};
 use mj_table::Table;
 use mj_tiles::{Counts, FACES, KINDS, Kind, Kinds, Meld, Tile};
 
-// The best discard of a seat, and whether it is known that a reach would leave the hand unready.
+// The best discard of a seat, whether it is known that a reach would leave the hand unready, and whether that the tiles aren't
+// complete.
 #[derive(Clone, Copy)]
 pub(crate) struct Best {
     pub(crate) tile: Option<Tile>,
     pub(crate) unready: bool,
+    pub(crate) incomplete: bool,
 }
 
 // Of the tiles whose discard breaks no rule the one that leaves the least shanten, and of several the last in tile order;
-// none exactly where no discard is lawful. Unready is said only where no discard, lawful or not, leaves the hand ready.
-pub(crate) fn best_discard(table: &Table, seat: u8) -> Best
+// none exactly where no discard is lawful. Unready is said only where no discard, lawful or not, leaves the hand ready, and
+// incomplete only where no win would be with complete tiles.
+pub(crate) fn best_discard(table: &Table, seat: u8, memory: &mut Memory) -> Best
     requires { seat ≤ 3 }
     ensures tile { let rules = table.now.rules in
         let view = view_of table.now.deeds seat in
         MatchOption result.tile (lawful_faces rules seat view ≡ []) (IsBest rules seat view) }
     ensures unready { IsTrue result.unready → IsNeverReady (view_of table.now.deeds seat) }
+    ensures incomplete { IsTrue result.incomplete → IsIncomplete (view_of table.now.deeds seat) }
 {
     if !has_turn(table, seat) {
         return Best {
             tile: None,
             unready: false,
+            incomplete: false,
         };
     }
     let melds = table.melds(seat);
@@ -46,6 +51,7 @@ pub(crate) fn best_discard(table: &Table, seat: u8) -> Best
         return Best {
             tile: Some(tile),
             unready: false,
+            incomplete: false,
         };
     }
     let counts = table.holds(seat);
@@ -55,9 +61,10 @@ pub(crate) fn best_discard(table: &Table, seat: u8) -> Best
         return Best {
             tile: last_lawful(table, seat, kinds),
             unready: false,
+            incomplete: false,
         };
     }
-    measured_discard(table, seat, &counts, &room, melds)
+    measured_discard(table, seat, &counts, &room, melds, memory)
 }
 
 // The tile that a seat in riichi has drawn, where its discard breaks no rule: then no other may go.
@@ -90,9 +97,17 @@ fn if_lawful(table: &Table, seat: u8, tile: Tile) -> Option<Tile>
     }
 }
 
-// The same where shanten is said of the hand.
-fn measured_discard(table: &Table, seat: u8, counts: &Counts, left: &Counts, melds: &[Meld]) -> Best
+// The best discard where shanten is said of the hand: unready where the nearest complete hand misses two tiles or more.
+fn measured_discard(
+    table: &Table,
+    seat: u8,
+    counts: &Counts,
+    left: &Counts,
+    melds: &[Meld],
+    memory: &mut Memory,
+) -> Best
     requires seat { seat ≤ 3 }
+    requires turn { is_own_turn seat (view_of table.now.deeds seat).turn ≡ true }
     requires counts { counts.now ≡ kind_counts (concealed (view_of table.now.deeds seat)) }
     requires left { left.now ≡ room (view_of table.now.deeds seat) }
     requires melds { melds.now ≡ (view_of table.now.deeds seat).melds }
@@ -102,19 +117,31 @@ fn measured_discard(table: &Table, seat: u8, counts: &Counts, left: &Counts, mel
         let view = view_of table.now.deeds seat in
         MatchOption result.tile (lawful_faces rules seat view ≡ []) (IsBest rules seat view) }
     ensures unready { IsTrue result.unready → IsNeverReady (view_of table.now.deeds seat) }
+    ensures incomplete { IsTrue result.incomplete → IsIncomplete (view_of table.now.deeds seat) }
 {
     let number = melds.len() as u8;
-    let suits = Suits::new(counts, left);
+    let suits = Ways::new(counts, left, memory);
     let missing = suits.missing(number);
+    if missing > 1 {
+        memory.keep_far(seat, counts, left, number, missing);
+    }
     Best {
-        tile: nearest_discard(table, seat, &suits, number, missing),
+        tile: nearest_discard(table, seat, &suits, number, missing, memory),
         unready: missing > 1,
+        incomplete: missing > 0,
     }
 }
 
 // Of the tiles whose discard breaks no rule the one that leaves the least shanten, and of several the last in tile order;
 // none exactly where no discard is lawful. Most often each held tile may go, so the best of all of them is asked first.
-fn nearest_discard(table: &Table, seat: u8, suits: &Suits, number: u8, missing: u8) -> Option<Tile>
+fn nearest_discard(
+    table: &Table,
+    seat: u8,
+    suits: &Ways,
+    number: u8,
+    missing: u8,
+    memory: &mut Memory,
+) -> Option<Tile>
     requires seat { seat ≤ 3 }
     requires hand { IsMeasuredHand (view_of table.now.deeds seat) suits.now.counts suits.now.room
         number missing }
@@ -122,28 +149,42 @@ fn nearest_discard(table: &Table, seat: u8, suits: &Suits, number: u8, missing: 
         let view = view_of table.now.deeds seat in
         MatchOption result (lawful_faces rules seat view ≡ []) (IsBest rules seat view) }
 {
-    if let Some(tile) = best_held(table, seat, suits, number, missing) {
+    if let Some(tile) = best_held(table, seat, suits, number, missing, memory) {
         return Some(tile);
     }
-    best_lawful(table, seat, suits, number, missing)
+    best_lawful(table, seat, suits, number, missing, memory)
 }
 
 // The best of all held tiles, where a discard of its kind breaks no rule.
-fn best_held(table: &Table, seat: u8, suits: &Suits, number: u8, missing: u8) -> Option<Tile>
+fn best_held(
+    table: &Table,
+    seat: u8,
+    suits: &Ways,
+    number: u8,
+    missing: u8,
+    memory: &mut Memory,
+) -> Option<Tile>
     requires seat { seat ≤ 3 }
     requires hand { IsMeasuredHand (view_of table.now.deeds seat) suits.now.counts suits.now.room
         number missing }
     ensures { (tile : ℕ) → result ≡ Some tile
         → IsBest table.now.rules seat (view_of table.now.deeds seat) tile }
 {
-    match suits.best_discard_of(every_kind(), number, missing) {
+    match suits.best_discard_of(every_kind(), number, missing, memory) {
         Some(kind) => last_of(table, seat, kind),
         None => None,
     }
 }
 
 // The best of the tiles whose discard breaks no rule.
-fn best_lawful(table: &Table, seat: u8, suits: &Suits, number: u8, missing: u8) -> Option<Tile>
+fn best_lawful(
+    table: &Table,
+    seat: u8,
+    suits: &Ways,
+    number: u8,
+    missing: u8,
+    memory: &mut Memory,
+) -> Option<Tile>
     requires seat { seat ≤ 3 }
     requires hand { IsMeasuredHand (view_of table.now.deeds seat) suits.now.counts suits.now.room
         number missing }
@@ -152,7 +193,7 @@ fn best_lawful(table: &Table, seat: u8, suits: &Suits, number: u8, missing: u8) 
         MatchOption result (lawful_faces rules seat view ≡ []) (IsBest rules seat view) }
 {
     let kinds = lawful_kinds(table, seat);
-    match suits.best_discard_of(kinds, number, missing) {
+    match suits.best_discard_of(kinds, number, missing, memory) {
         Some(kind) => last_of(table, seat, kind),
         None => None,
     }

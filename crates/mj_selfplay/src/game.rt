@@ -12,6 +12,7 @@ use crate::tally::{Summary, Tally};
 use mj_bot::choose;
 use mj_deeds::{Answer, Deed, Four, Names};
 use mj_machine::next;
+use mj_memory::Memory;
 use mj_ports::Name;
 use mj_table::Table;
 use mj_wall::{Rules, Walls};
@@ -52,9 +53,10 @@ fn play_on(alloc: Global, seed: [u8; 32], table: &mut Table) -> Result<Summary, 
     let mut walls = first_walls(alloc, seed)?;
     let begun = start(alloc)?;
     let mut tally = Tally::none().with(begun);
+    let mut memory = Memory::new(alloc)?;
     while goes_on(table) {
         walls = enough_walls(alloc, seed, walls, tally.hands)?;
-        let deed = step(alloc, table, &walls)?;
+        let deed = step(alloc, table, &walls, &mut memory)?;
         tally = tally.with(deed);
     }
     Ok(tally.summary(table))
@@ -73,7 +75,12 @@ fn started(alloc: Global) -> Result<Table, AllocError>
 }
 
 // The deed that the choices of the four seats give, which is pushed on the table.
-fn step(alloc: Global, table: &mut Table, walls: &Walls) -> Result<Deed, AllocError>
+fn step(
+    alloc: Global,
+    table: &mut Table,
+    walls: &Walls,
+    memory: &mut Memory,
+) -> Result<Deed, AllocError>
     requires some { 1 ≤ length walls.now }
     requires few { length walls.now ≤ 200 }
     requires whole { IsTrue (list_all (is_wall table.old.rules.red) walls.now) }
@@ -84,19 +91,19 @@ fn step(alloc: Global, table: &mut Table, walls: &Walls) -> Result<Deed, AllocEr
         ≡ record { rules = table.old.rules; deeds = table.old.deeds ++ d ∷ [] }) }
     ensures played { IfOk result (λ d. IsPlayed table.old.rules walls.now table.new.deeds) }
 {
-    let answers = choices(table);
+    let answers = choices(table, memory);
     next(alloc, table, walls.as_slice(), &answers)
 }
 
 // What each of the four seats answers.
-fn choices(table: &Table) -> Four<Answer>
+fn choices(table: &Table, memory: &mut Memory) -> Four<Answer>
     ensures { AreChoices table.now.rules table.now.deeds result }
 {
     Four {
-        first: choose(table, 0),
-        second: choose(table, 1),
-        third: choose(table, 2),
-        fourth: choose(table, 3),
+        first: choose(table, 0, memory),
+        second: choose(table, 1, memory),
+        third: choose(table, 2, memory),
+        fourth: choose(table, 3, memory),
     }
 }
 

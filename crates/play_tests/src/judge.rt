@@ -66,7 +66,7 @@ judge 0 pass? lawful
 default 1? discard 1 F
 default 2? pass";
 
-/// The same, but the last tile in order is one that may not be discarded.
+/// Seat 1 takes 3m for a run, and the last of its tiles in order, 6m, is one that it may not discard.
 const LAST_BANNED: &str = "\
 game
 hand|P|3m|14566m|1p|E

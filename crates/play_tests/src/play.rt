@@ -13,6 +13,7 @@ use crate::words::{
 use mj_bot::choose;
 use mj_deeds::{Answer, Deed, Reason, Rule};
 use mj_judge::{case_of, default, is_lawful, judge, possible};
+use mj_memory::Memory;
 use mj_readings::Riichi;
 use mj_table::Table;
 use mj_tiles::{Form, Kinds, Meld, Tile};
@@ -112,6 +113,7 @@ fn tells(alloc: Global, table: &Table, question: &str, told: &str) -> bool {
         "indicator" => table.indicator(number(words[1])) == tile_or_none(told),
         "concealed" => has_concealed(alloc, table, seat(words[1]), told),
         "possible" => may_answer(alloc, table, seat(words[1]), told),
+        "choose" => chooses(alloc, table, seat(words[1]), told),
         _ => tells_of_seat(table, &words, told),
     }
 }
@@ -133,13 +135,26 @@ fn has_concealed(alloc: Global, table: &Table, seat: u8, told: &str) -> bool
     }
 }
 
+// The built-in player gives this answer, with nothing remembered and with what it remembers of giving it.
+fn chooses(alloc: Global, table: &Table, seat: u8, told: &str) -> bool
+    requires { seat ≤ 3 }
+{
+    match Memory::new(alloc) {
+        Ok(mut memory) => {
+            let first = choose(table, seat, &mut memory);
+            let again = choose(table, seat, &mut memory);
+            first == answer(told) && again == answer(told)
+        }
+        Err(_) => false,
+    }
+}
+
 /// Whether a table tells this to a question about a seat.
 fn tells_of_seat(table: &Table, words: &[&str; 8], told: &str) -> bool {
     let [word, who, a, b, c, d, ..] = *words;
     let who = seat(who);
     match word {
         "default" => default(table, who) == answer(told),
-        "choose" => choose(table, who) == answer(told),
         "drawn" => table.drawn(who) == tile_or_none(told),
         "holds" => table.holds(who) == counts(told),
         "reds" => has_reds(table, who, told),

@@ -4,10 +4,12 @@ use Rattle.mj_tiles.proofs.CountSteps.{length-kind_counts}
 use Rattle.mj_readings.specs.Sets.{set_of_meld}
 use Rattle.mj_shanten.specs.Room.{IsRoom}
 use Rattle.mj_shanten.specs.Walked.{Tiles}
+use Rattle.mj_shanten.proofs.Goal.{counts_from}
 use Rattle.mj_rules.specs.View.{view_of, concealed}
 use Rattle.mj_judge.specs.Measured.{is_measured}
 use Rattle.mj_judge.proofs.Measured.{room_of, within_of}
 use Rattle.mj_bot.proofs.Unready.{never_ready}
+use Rattle.mj_bot.proofs.Incomplete.{turn_short}
 use Rattle.mj_bot.proofs.discards.measured_discard.Goals as goal
 
 pub new-suits-requires : goal.new-suits-requires
@@ -39,3 +41,15 @@ returns-clause-unready c = λ so.
     (room_of c.args.counts.now c.args.left.now c.args.melds.now (length c.args.melds.now) _ refl c.requires.measured refl)
     (within_of c.args.counts.now c.args.left.now c.args.melds.now _ refl c.requires.measured)
     c.missing-missing.ensures.least (ltb-true 1 c.missing-missing.result so)
+
+pub returns-clause-incomplete : goal.returns-clause-incomplete
+returns-clause-incomplete c = λ so.
+    turn_short c.args.seat (view_of c.args.table.now.deeds c.args.seat) c.args.counts.now c.args.left.now c.new-suits.result.counts c.new-suits.result.room
+    (length c.args.melds.now) c.missing-missing.result
+    c.requires.turn c.requires.counts (ap length c.requires.melds) (ap (λ (t : Tiles). t.counts) c.new-suits.ensures) (ap (λ (t : Tiles). t.room) c.new-suits.ensures)
+    (counts_from c.args.left.now c.args.counts.now (length c.args.melds.now)
+    (room_of c.args.counts.now c.args.left.now c.args.melds.now (length c.args.melds.now) _ refl c.requires.measured refl)
+    (ap length c.requires.counts ∙ length-kind_counts (concealed (view_of c.args.table.now.deeds c.args.seat)))
+    (within_of c.args.counts.now c.args.left.now c.args.melds.now _ refl c.requires.measured))
+    (within_of c.args.counts.now c.args.left.now c.args.melds.now _ refl c.requires.measured)
+    c.missing-missing.ensures.least (ltb-true 0 c.missing-missing.result so)

@@ -1,0 +1,10 @@
+-- The numbers written so far, and none of the others.
+use Rattle.std.proofs.Common.{◌≡◌, ◌+◌, ◌<◌, ◌≤◌, ℕ, get_or, length}
+use Rattle.mj_memory.proofs.counting.seven_honours.Given as goal
+
+abbrev pub invariant-loop-n : goal.invariant-loop-n
+invariant-loop-n l = record {
+  size : length l.nine ≡ 9;
+  read : (k : ℕ) → k < l.n → get_or l.nine k 0 ≡ get_or l.numbers (27 + k) 0;
+  rest : (k : ℕ) → l.n ≤ k → get_or l.nine k 0 ≡ 0;
+}
