@@ -138,8 +138,9 @@ class Release(unittest.TestCase):
         told = subprocess.run(["groff", "-man", "-Tascii", "-ww", "-z"], input=text, capture_output=True, timeout=60)
         self.assertEqual((told.returncode, told.stderr), (0, b""))
         usage = subprocess.run([helpers.PROGRAM], capture_output=True, text=True, timeout=60).stderr
-        for command in usage.removeprefix("usage: riichi_table ").split(" | "):
-            self.assertIn(f"riichi_table {command.split()[0]}".encode(), text)
+        for line in usage.splitlines():
+            for command in line.removeprefix("usage: riichi_table ").split(" | "):
+                self.assertIn(f"riichi_table {command.split()[0]}".encode(), text)
 
     def test_one_command_plays_a_game_and_the_others_run(self) -> None:
         folder = self.folder / "game"

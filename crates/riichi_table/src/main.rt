@@ -6,35 +6,51 @@
 //! the target and the waits of the hand that the words name; `riichi_table selfplay N` writes what the game of four built-in
 //! players with the walls of a number comes to; `riichi_table observe` reads a record and writes what a watcher without tiles is
 //! told of it; `riichi_table keep SEAT` is `referee SEAT` over a game whose entries stand in the file `riichi.journal`, and goes on
-//! where that ends; `riichi_table safe SEAT` reads arrivals and writes which tiles the seat may discard that can't be won on.
+//! where that ends; `riichi_table safe SEAT` reads arrivals and writes which tiles the seat may discard that can't be won on;
+//! `riichi_table record` reads such a journal and writes the record of its game so far.
 #![tactic(auto)]
 
 use mj_front::{Status, exit_code, run, status_text};
 use mj_journal::FileDisk;
 use mj_links::{MachineClock, ReaderSource, TcpHost, WriterSink};
+use mj_record::{is_for_record, run_record};
 use mj_words::{serving_of, tables_of};
 use std::alloc::{AllocError, Global};
 use std::env;
 use std::io::{ErrorKind, Write};
 use std::process::ExitCode;
 
+// How the program is called with the words that `run` doesn't know.
+const USAGE: &[u8] = b"usage: riichi_table record\n";
+
 fn main(rt: HostRuntime) -> ExitCode {
     let alloc = rt.alloc();
+    let source = &mut ReaderSource::new(rt.stdin());
+    let sink = &mut WriterSink::new(rt.stdout());
     let status = match words(&rt) {
-        Ok(words) => run(
-            &rt,
-            alloc,
-            words.as_slice(),
-            &mut ReaderSource::new(rt.stdin()),
-            &mut WriterSink::new(rt.stdout()),
-            &mut TcpHost::new(&rt, limit_of(alloc, words.as_slice())),
-            &mut MachineClock::new(&rt),
-            &mut FileDisk::new(&rt),
-        ),
+        Ok(words) => {
+            if is_for_record(words.as_slice()) {
+                run_record(alloc, words.as_slice(), source, sink)
+            } else {
+                run(
+                    &rt,
+                    alloc,
+                    words.as_slice(),
+                    source,
+                    sink,
+                    &mut TcpHost::new(&rt, limit_of(alloc, words.as_slice())),
+                    &mut MachineClock::new(&rt),
+                    &mut FileDisk::new(&rt),
+                )
+            }
+        }
         Err(_) => Status::NoMemory,
     };
     if let Ok(text) = status_text(alloc, &status) {
         let _ = rt.stderr().write_all(text.as_slice());
+    }
+    if let Status::Words = status {
+        let _ = rt.stderr().write_all(USAGE);
     }
     ExitCode::from(exit_code(&status))
 }

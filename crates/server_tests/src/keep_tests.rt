@@ -4,18 +4,18 @@ use mj_links::{MemSink, MemSource};
 use std::alloc::{AllocError, Global};
 use std::test::Fail;
 
-const GAME: &[u8] = b"game limit=1000 draws=0 red=0\n";
+pub(crate) const GAME: &[u8] = b"game limit=1000 draws=0 red=0\n";
 
 const OTHER_GAME: &[u8] = b"game limit=2000 draws=0 red=0\n";
 
 // A wall in tile order.
-const WALL: &[u8] =
+pub(crate) const WALL: &[u8] =
     b"wall 1m 1m 1m 1m 2m 2m 2m 2m 3m 3m 3m 3m 4m 4m 4m 4m 5m 5m 5m 5m 6m 6m 6m 6m 7m 7m 7m 7m 8m 8m 8m 8m 9m 9m 9m 9m 1p 1p 1p 1p 2p 2p 2p 2p 3p 3p 3p 3p 4p 4p 4p 4p 5p 5p 5p 5p 6p 6p 6p 6p 7p 7p 7p 7p 8p 8p 8p 8p 9p 9p 9p 9p 1s 1s 1s 1s 2s 2s 2s 2s 3s 3s 3s 3s 4s 4s 4s 4s 5s 5s 5s 5s 6s 6s 6s 6s 7s 7s 7s 7s 8s 8s 8s 8s 9s 9s 9s 9s E E E E S S S S W W W W N N N N P P P P F F F F C C C C\n";
 
-const JOINS: &[u8] =
+pub(crate) const JOINS: &[u8] =
     b"sit {\"type\":\"join\",\"name\":\"a\",\"room\":\"default\"}\nsit {\"type\":\"join\",\"name\":\"b\",\"room\":\"default\"}\nsit {\"type\":\"join\",\"name\":\"c\",\"room\":\"default\"}\nsit {\"type\":\"join\",\"name\":\"d\",\"room\":\"default\"}\n";
 
-const PASSES: &[u8] =
+pub(crate) const PASSES: &[u8] =
     b"say 0 {\"type\":\"none\"}\nsay 1 {\"type\":\"none\"}\nsay 2 {\"type\":\"none\"}\nsay 3 {\"type\":\"none\"}\n";
 
 const NOTHING: &[u8] = b"";
@@ -43,9 +43,9 @@ const RECORDS: &[u8] =
 
 // How a run ends, and what it writes.
 #[derive(Drop)]
-struct Ran {
-    status: Status,
-    bytes: Vec<u8>,
+pub(crate) struct Ran {
+    pub(crate) status: Status,
+    pub(crate) bytes: Vec<u8>,
 }
 
 fn words_of(alloc: Global, name: &str) -> Result<Vec<String>, AllocError> {
@@ -63,8 +63,8 @@ fn source_of(alloc: Global, input: &[&[u8]]) -> Result<MemSource, AllocError> {
     Ok(MemSource::new(bytes, Vec::new(alloc)))
 }
 
-// Runs a command of seat 0 on an input of these parts.
-fn told_by(alloc: Global, name: &str, input: &[&[u8]], disk: &mut MemDisk) -> Ran {
+/// Runs a command of seat 0 on an input of these parts.
+pub(crate) fn told_by(alloc: Global, name: &str, input: &[&[u8]], disk: &mut MemDisk) -> Ran {
     match run_of(alloc, name, input, disk) {
         Ok(ran) => ran,
         Err(_) => Ran {
@@ -106,7 +106,8 @@ fn keeps(alloc: Global, input: &[&[u8]], disk: &mut MemDisk) -> Status {
     told_by(alloc, "keep", input, disk).status
 }
 
-fn disk_of(alloc: Global, image: &[u8]) -> Result<MemDisk, AllocError> {
+/// A disk on which these bytes stand.
+pub(crate) fn disk_of(alloc: Global, image: &[u8]) -> Result<MemDisk, AllocError> {
     MemDisk::new(image, Vec::new(alloc))
 }
 

@@ -13,6 +13,8 @@ mod journal_tests;
 #[cfg(test)]
 mod keep_tests;
 #[cfg(test)]
+mod kept_record_tests;
+#[cfg(test)]
 mod links_tests;
 #[cfg(test)]
 mod record_tests;

@@ -1,0 +1,3 @@
+pub mod Record
+pub mod Statuses
+pub mod Inner
