@@ -11,3 +11,4 @@ pub mod Hosts
 pub mod MemFaults
 pub mod FreshLinks
 pub mod MemHosts
+pub mod TcpLinks

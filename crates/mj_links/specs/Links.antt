@@ -3,6 +3,7 @@ use Rattle.std.specs.Prelude.{◌≡◌, ℕ, ◌≤◌, ◌<◌, List, [], ◌�
 use Rattle.std.specs.Io.KnownBytes.{Consumes, Appends, IsAtEnd}
 use Rattle.std.specs.List.{list_any}
 use Rattle.mj_links.specs.declared.source.Got.{Got}
+use Rattle.mj_links.specs.declared.source.Got.TheVariants.{Bytes, End, Failed as ReadFailed}
 use Rattle.mj_links.specs.Sources.{got_bytes}
 use Rattle.mj_links.specs.declared.wire.LineRead.{LineRead}
 use Rattle.mj_links.specs.declared.wire.LineRead.TheVariants.{Line, Ended, Fault, TooLong, NoMemory}
@@ -24,6 +25,12 @@ pub record ReadingStays (old_read new_read old_left new_left : Option (List ℕ)
 -- the bytes of a read on a link stand after what was read
 abbrev pub ReadsOn : Got → List ℕ → Option (List ℕ) → Option (List ℕ) → Type 0
 ReadsOn got into old_read new_read = Appends old_read new_read (got_bytes got into)
+
+-- a read gives the end or a fault
+abbrev pub GivesNone : Got → Type 0
+GivesNone (Bytes n) = ⊥
+GivesNone End = Unit {0}
+GivesNone ReadFailed = Unit {0}
 
 -- whether a text has a newline
 abbrev pub has_newline : List ℕ → Bool
@@ -64,6 +71,14 @@ ReadsLine Ended ol nl or nr oh nh old new = EndsFirst ol nl or nr oh nh × (new 
 ReadsLine Fault ol nl or nr oh nh old new = KeepsAll ol nl or nr oh nh old new × (has_newline nh ≡ false) × (length nh < 4096)
 ReadsLine TooLong ol nl or nr oh nh old new = KeepsAll ol nl or nr oh nh old new × (length nh ≡ 4096) × (has_newline nh ≡ false)
 ReadsLine NoMemory ol nl or nr oh nh old new = KeepsAll ol nl or nr oh nh old new
+
+-- a reading finds the end or a fault
+abbrev pub FindsEnd : LineRead → Type 0
+FindsEnd Line = ⊥
+FindsEnd Ended = Unit {0}
+FindsEnd Fault = Unit {0}
+FindsEnd TooLong = ⊥
+FindsEnd NoMemory = ⊥
 
 -- the count of read faults never falls, and rises with each fault
 abbrev pub CountsFaultOfLine : LineRead → ℕ → ℕ → Type 0

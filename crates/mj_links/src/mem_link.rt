@@ -102,9 +102,18 @@ impl Link for MemLink {
 
     ghost was_read = { λ l. Some (link_gone l) };
 
+    // it says nothing of its end before it is read
+    ghost at_end = { λ _. ⊥ };
+
     fn shut(&mut self) {}
 
+    fn has_ended(&mut self) -> bool {
+        false
+    }
+
     ghost reads_apart = { λ got into old new h. h };
+
+    ghost ends = { λ got into old new h none. absurd none };
 
     ghost writes_apart = { λ put piece old new h. h };
 }

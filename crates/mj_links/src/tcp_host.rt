@@ -6,7 +6,7 @@ use crate::faults::FaultCount;
 use crate::host::{Came, Given, Host, Numbered, Opened};
 use crate::machine_clock::reading;
 use crate::pause::pause;
-use crate::tcp_link::{TcpLink, set_up};
+use crate::tcp_link::{Ahead, TcpLink, set_up};
 use std::io;
 use std::io::ErrorKind;
 use std::net::{Ipv4Addr, Net, TcpListener, TcpStream};
@@ -87,6 +87,7 @@ impl<'a, R: Net<Listener = TcpListener, Stream = TcpStream> + Clock + Sync> Host
                 since: reading(self.rt).unwrap_or(0),
                 joined: false,
                 patience: 0,
+                ahead: Ahead::Unknown,
                 read_faults: FaultCount::new(),
                 write_faults: FaultCount::new(),
             }),

@@ -2,7 +2,8 @@
 
 ghost use Rattle.std.specs.Prelude.{◌≡◌, None};
 ghost use Rattle.std.specs.Io.{ReadsAtMost, WritesAtMost};
-ghost use Rattle.mj_links.specs.Links.{ReadingStays, WritingStays};
+ghost use Rattle.mj_links.specs.Links.{ReadingStays, WritingStays, GivesNone};
+ghost use Rattle.mj_links.specs.TcpLinks.{IsStop};
 
 use crate::faults::FaultCount;
 use crate::link::Link;
@@ -14,8 +15,11 @@ use std::io::{ErrorKind, Read, Write};
 use std::net::{Shutdown, TcpStream};
 use std::time::{Clock, Duration};
 
-/// How long a link waits for its first line, and for its peer to take what is written, in milliseconds. For a later line it
-/// waits so much longer than a window lasts.
+/// How long a link waits for its first line, in milliseconds.
+const JOIN_MS: u64 = 5_000;
+
+/// How much longer than a window lasts a link waits for a later line, and how long for its peer to take what is written, in
+/// milliseconds.
 const GRACE_MS: u64 = 30_000;
 
 // How often a call that the system broke off is made in all.
@@ -24,10 +28,18 @@ const TRIES: u32 = 1000;
 // How many times 4,096 bytes that nobody wants are read off a stream before it is closed.
 const LEFTOVERS: u32 = 16;
 
+// What comes next from a stream, as far as a look at it showed.
+#[derive(Clone, Copy)]
+pub(crate) enum Ahead {
+    Unknown,
+    End,
+    Fault,
+}
+
 /// A link over a TCP stream, with a clock. It tells nothing of the bytes, and each error of the system is a fault. It has
-/// patience for a line: reading fails 30 seconds after the last write on it where no line has come yet, and later once the
-/// limit of a window and 30 seconds have gone by since then, however many bytes have come. A write fails for which the peer
-/// makes room in none of 30 seconds.
+/// patience for a line: reading fails 5 seconds after the last write on it where no line has come yet, and later once the limit
+/// of a window and 30 seconds have gone by since then, however many bytes have come. A write fails for which the peer makes
+/// room in none of 30 seconds.
 #[derive(Drop)]
 pub struct TcpLink<'a, R> {
     pub(crate) rt: &'a R,
@@ -41,6 +53,7 @@ pub struct TcpLink<'a, R> {
     pub(crate) joined: bool,
     // How long a read of the stream waits, in milliseconds; 0 where that was not set.
     pub(crate) patience: u64,
+    pub(crate) ahead: Ahead,
     pub(crate) read_faults: FaultCount,
     pub(crate) write_faults: FaultCount,
 }
@@ -57,12 +70,25 @@ impl<'a, R: Clock> Source for TcpLink<'a, R> {
 
     ghost read_faults = { λ l. l.read_faults.count };
 
-    ghost also_reads = { λ _ _ old new.
-        WritingStays None None old.write_faults.count new.write_faults.count };
+    ghost also_reads = { λ got _ old new.
+        WritingStays None None old.write_faults.count new.write_faults.count
+        × (IsStop old.ahead → GivesNone got) };
 
     fn read(&mut self, into: &mut [u8]) -> Got {
-        let patience = if self.joined { self.limit } else { 0 };
-        let until = self.since.saturating_add(patience).saturating_add(GRACE_MS);
+        match self.ahead {
+            Ahead::Unknown => {}
+            Ahead::End => return Got::End,
+            Ahead::Fault => {
+                self.read_faults = self.read_faults.more();
+                return Got::Failed;
+            }
+        }
+        let patience = if self.joined {
+            self.limit.saturating_add(GRACE_MS)
+        } else {
+            JOIN_MS
+        };
+        let until = self.since.saturating_add(patience);
         match read_until(self.rt, &self.stream, until, &mut self.patience, into) {
             Ok(0) => Got::End,
             Ok(count) => {
@@ -102,11 +128,25 @@ impl<'a, R: Clock> Sink for TcpLink<'a, R> {
 impl<'a, R: Clock> Link for TcpLink<'a, R> {
     ghost was_read = { λ _. None };
 
+    ghost at_end = { λ l. IsStop l.ahead };
+
     fn shut(&mut self) {
         close(self.stream.take());
     }
 
-    ghost reads_apart = { λ got into old new h. (tt, h) };
+    fn has_ended(&mut self) -> bool {
+        if let Ahead::Unknown = self.ahead {
+            self.ahead = look_ahead(&self.stream);
+        }
+        match self.ahead {
+            Ahead::Unknown => false,
+            Ahead::End | Ahead::Fault => true,
+        }
+    }
+
+    ghost reads_apart = { λ got into old new h. (tt, h.0) };
+
+    ghost ends = { λ got into old new h. h.1 };
 
     ghost writes_apart = { λ put piece old new h. h };
 }
@@ -152,6 +192,29 @@ fn read_once<R: Clock>(
         *patience = left;
     }
     stream.read(into)
+}
+
+// Looks what comes next from a stream, without waiting. An error that a read would have met is met here, and kept.
+fn look_ahead(stream: &Option<TcpStream>) -> Ahead {
+    let Some(stream) = stream else {
+        return Ahead::Fault;
+    };
+    if stream.set_nonblocking(true).is_err() {
+        return Ahead::Unknown;
+    }
+    let mut byte = [0; 1];
+    let seen = stream.peek(&mut byte);
+    if stream.set_nonblocking(false).is_err() {
+        return Ahead::Fault;
+    }
+    match seen {
+        Ok(0) => Ahead::End,
+        Ok(_) => Ahead::Unknown,
+        Err(error) => match error.kind() {
+            ErrorKind::WouldBlock | ErrorKind::Interrupted => Ahead::Unknown,
+            _ => Ahead::Fault,
+        },
+    }
 }
 
 // Whether a read was broken off by the system, or ended by the stream's own patience before the clock shows this.

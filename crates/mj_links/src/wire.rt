@@ -1,8 +1,8 @@
 //! A link that is read line by line.
 
-ghost use Rattle.std.specs.Prelude.{◌≡◌, ℕ, [], ◌++◌, length, ◌<◌};
+ghost use Rattle.std.specs.Prelude.{◌≡◌, ℕ, [], ◌++◌, length, ◌<◌, true};
 ghost use Rattle.mj_links.specs.LineBuffers.{held_bytes, wire_held, wire_link};
-ghost use Rattle.mj_links.specs.Links.{ReadsLine, CountsFaultOfLine, ReadingStays, WritingStays, ReadsOn, Sends, CountsFaultOfSending};
+ghost use Rattle.mj_links.specs.Links.{ReadsLine, CountsFaultOfLine, FindsEnd, GivesNone, ReadingStays, WritingStays, ReadsOn, Sends, CountsFaultOfSending};
 ghost use Rattle.mj_links.specs.Fills.{Fills};
 ghost use Rattle.mj_links.specs.Sources.{CountsReadFault};
 
@@ -56,7 +56,8 @@ impl<L: Link> Wire<L> {
 
     /// Reads the bytes before the next newline in place of what stands in the line. With any answer
     /// but `Line` the line is as it was, and with any but `Line` and `Ended` the wire keeps all that it
-    /// read. A line has fewer than 4,096 bytes.
+    /// read. A line has fewer than 4,096 bytes. Where `has_ended` has just said yes, it gives `Ended` or
+    /// `Fault`.
     #[tactic(auto, using(crate::proofs::WireLaws::reading_lines))]
     pub fn read_line(&mut self, line: &mut Vec<u8>) -> LineRead
         ensures bytes { ReadsLine result
@@ -65,6 +66,7 @@ impl<L: Link> Wire<L> {
             (wire_held self.old) (wire_held self.new) line.old.items line.new.items }
         ensures faults { CountsFaultOfLine result (L.read_faults (wire_link self.old))
             (L.read_faults (wire_link self.new)) }
+        ensures ends { wire_held self.old ≡ [] → L.at_end (wire_link self.old) → FindsEnd result }
         ensures writing { WritingStays
             (L.written (wire_link self.old)) (L.written (wire_link self.new))
             (L.write_faults (wire_link self.old)) (L.write_faults (wire_link self.new)) }
@@ -88,6 +90,25 @@ impl<L: Link> Wire<L> {
                 Got::Failed => return LineRead::Fault,
             }
         }
+    }
+
+    /// Whether the end of the link, or a fault, is the next thing to be read: nothing is held, and the
+    /// link says so. It doesn't wait, and reads nothing.
+    pub fn has_ended(&mut self) -> bool
+        ensures ended { result ≡ true → (wire_held self.new ≡ []) × L.at_end (wire_link self.new) }
+        ensures reading { ReadingStays
+            (L.was_read (wire_link self.old)) (L.was_read (wire_link self.new))
+            (L.left (wire_link self.old)) (L.left (wire_link self.new))
+            (L.read_faults (wire_link self.old)) (L.read_faults (wire_link self.new)) }
+        ensures writing { WritingStays
+            (L.written (wire_link self.old)) (L.written (wire_link self.new))
+            (L.write_faults (wire_link self.old)) (L.write_faults (wire_link self.new)) }
+        ensures held { wire_held self.new ≡ wire_held self.old }
+    {
+        if !self.held.all().is_empty() {
+            return false;
+        }
+        self.link.has_ended()
     }
 
     /// Writes a whole piece, in as many writes as it takes. `Failed` comes only with a fault of writing.
@@ -123,6 +144,7 @@ fn pull<L: Link>(link: &mut L, held: &mut LineBuffer) -> Got
     ensures writing { WritingStays (L.written link.old) (L.written link.new)
         (L.write_faults link.old) (L.write_faults link.new) }
     ensures faults { CountsReadFault result (L.read_faults link.old) (L.read_faults link.new) }
+    ensures ends { L.at_end link.old → GivesNone result }
 {
     held.fill(link)
 }

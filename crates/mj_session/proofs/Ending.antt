@@ -91,6 +91,16 @@ module _ {G S A R : Type 0} (g : Ghosts G S A R) (s : S) (author : ℕ) (first n
   faulty at [] line lines before is (inl one) = inl refl
   faulty at (l ∷ ls) line lines before is (inl one) = let long : length lines ≡ suc (suc (length (ls ++ []))) = ap length is in absurd (omega (arith, long, one))
 
+  unsaid : (at : SeatAt) (said : List (List ℕ)) (line : List ℕ) (lines : List (List ℕ)) → lines ≡ line ∷ (said ++ []) →
+      EndsBy (g.after s) at.seat at.place new (Gone author at.seat) (λ before. (length lines ≡ 1) ⊎ Owes (g.after s before) at.seat) →
+      EndsBy (g.after s) at.seat at.place new (Gone author at.seat) (λ before. (said ≡ []) ⊎ Owes (g.after s before) at.seat)
+  unsaid at said line lines is e = record {
+    before = e.before;
+    last_is = e.last_is;
+    was_of = e.was_of;
+    right = faulty at said line lines e.before is e.right;
+  }
+
   pub ends_session : (ended : Ended) (c : Connection) (place : Option ℕ) → place ≡ place_of c → Done ended c → Comes ended place
   ends_session ended c place is e = subst (λ (p : Option ℕ). Comes ended p) (sym is) (by ended c e e.ends_as)
     where
@@ -102,17 +112,14 @@ module _ {G S A R : Type 0} (g : Ghosts G S A R) (s : S) (author : ℕ) (first n
         e.at.fits.2,
       )
       by PeerEnded connection.Greeted e h = unheard PeerEnded e refl refl
-      by PeerEnded (connection.Ended (over.Left at)) e h = seated PeerEnded _ e at [] e.at.entered.0 refl (whole PeerEnded _ e _ e.at.tells) (owed at h)
+      by PeerEnded (connection.Ended (over.Left at)) e h =
+          let k = e.at.entered.0 in
+          seated PeerEnded _ e at [] k refl (whole PeerEnded _ e _ e.at.tells) (unsaid at k.said k.line e.lines k.lines_are h)
       by PeerEnded _ e h = absurd h
       by LinkFault connection.Greeted e h = unheard LinkFault e refl refl
       by LinkFault (connection.Ended (over.Left at)) e h =
           let k = e.at.entered.0 in
-          seated LinkFault _ e at [] k refl (whole LinkFault _ e _ e.at.tells) (record {
-            before = h.before;
-            last_is = h.last_is;
-            was_of = h.was_of;
-            right = faulty at k.said k.line e.lines h.before k.lines_are h.right;
-          })
+          seated LinkFault _ e at [] k refl (whole LinkFault _ e _ e.at.tells) (unsaid at k.said k.line e.lines k.lines_are h)
       by LinkFault _ e h = absurd h
       by LineTooLong connection.Greeted e h = unheard LineTooLong e refl refl
       by LineTooLong (connection.Ended (over.Left at)) e h = seated LineTooLong _ e at [] e.at.entered.0 refl (whole LineTooLong _ e _ e.at.tells) (owed at h)

@@ -11,14 +11,15 @@ use Rattle.mj_connection.specs.Seating.{Entry, Showing, Owes}
 use Rattle.mj_connection.specs.declared.stage.End.{End}
 use Rattle.mj_connection.specs.declared.stage.End.TheVariants.{Refused, Left, Dry, Cut}
 use Rattle.mj_connection.specs.declared.stage.Connection.{Connection}
+use Rattle.mj_connection.specs.declared.stage.SeatAt.{SeatAt}
 use Rattle.mj_connection.specs.Stages.{Listens, IsOpen}
 use Rattle.mj_connection.specs.Spoken.{IsAt, Takes, IsQuiet, IsShort, IsLost}
 use Rattle.mj_connection.proofs.Growing.{enters_nothing}
 use Rattle.mj_session.specs.declared.talk.Doing.TheVariants as doing
 use Rattle.mj_session.specs.Sessions.{Ended, LinkFault, NoMemory, IsExcused, WireEnds}
-use Rattle.mj_session.specs.Inner.Talks.{EndsAs, Leaves, Owing, Ends, ended_of}
+use Rattle.mj_session.specs.Inner.Talks.{EndsAs, Leaves, Owing, Joined, Ends, ended_of}
 use Rattle.mj_session.specs.Wires.{WireState, Took, Wrote, ToldInPart}
-use Rattle.mj_session.proofs.Wiring.{took_chain, took_nothing, took_itself, wrote_itself, wrote_still, wrote_sent, told_all, told_more, told_failed, told_sent}
+use Rattle.mj_session.proofs.Wiring.{took_chain, took_nothing, took_itself, took_on, wrote_itself, wrote_still, wrote_sent, told_all, told_more, told_failed, told_sent}
 
 quiet_more : (unless more : Type 0) (c : Connection) (text : List ℕ) → (unless → more) → IsQuiet unless c [] text → IsQuiet more c [] text
 quiet_more unless more connection.New text f (inl none) = inl none
@@ -143,6 +144,61 @@ module _ {G S A R : Type 0} (g : Ghosts G S A R) (s : S) (author : ℕ) (start :
     quiet = quiet_more (b ≡ connection.Greeted) (length (line ∷ []) ≡ 1) c text (λ e. refl) quiet;
   }
 
+  pub first_joined : (b c : Connection) (new : List (Entry A)) (y : WireState) (line text : List ℕ) → b ≡ connection.Greeted → Took x y (line ∷ []) [] →
+      Wrote x y (g.says Hello) → From b c start new text (line ∷ []) → IsQuiet (b ≡ connection.Greeted) c [] text → (o : Due c new y text) × (length o.lines ≡ 1)
+  unfolding due_joined
+  first_joined b c new y line text is took told t quiet = (due_joined b c new y line text is took told t quiet, refl)
+
+  -- of a connection that was given its seat, and on which nothing was said yet
+  module _ (b : Connection) (old : List (Entry A)) (y : WireState) (j : Joined g s author start b old x y) where
+    -- its link was asked whether it has ended
+    pub joined_still : (z : WireState) → ReadingStays y.read z.read y.left z.left y.read_faults z.read_faults →
+        WritingStays y.written z.written y.write_faults z.write_faults → z.held ≡ y.held → Joined g s author start b old x z
+    joined_still z reading writing held = (
+      record {
+        lines = j.0.lines;
+        out = j.0.out;
+        at = j.0.at;
+        took = took_on x y z j.0.lines [] j.0.took reading held;
+        told = wrote_still x y z j.0.out j.0.told writing;
+        quiet = j.0.quiet;
+      },
+      j.1,
+    )
+
+    -- it looked
+    module _ (c : Connection) (new : List (Entry A)) (text : List ℕ) (t : From b c old new text []) (quiet : IsQuiet ⊥ c [] text) where
+      -- and still waits for a look
+      pub joined_look : (at : SeatAt) → c ≡ connection.Free at → Joined g s author start c new x y
+      joined_look at is =
+          let none : text ≡ [] = elim (subst (λ (k : Connection). IsQuiet ⊥ k [] text) is quiet) [ inl e ↦ e | inr u ↦ absurd u ] in (
+            record {
+              lines = j.0.lines ++ [];
+              out = j.0.out;
+              at = subst (λ (l : List ℕ). Is c new (j.0.lines ++ []) (j.0.out ++ l)) none (turned b c old new text [] j.0.lines j.0.out t j.0.at);
+              took = took_chain x y y j.0.lines [] [] j.0.took (took_itself y);
+              told = j.0.told;
+              quiet = subst (λ (k : Connection). IsQuiet (length (j.0.lines ++ []) ≡ 1) k [] []) (sym is) (inl refl);
+            },
+            ap length (append-nil j.0.lines) ∙ j.1,
+          )
+
+    -- its link ended, and what was still to be told was written
+    pub joined_lost : (c : Connection) (new : List (Entry A)) (z u : WireState) (text rest : List ℕ) (ended : Ended) (sent : Sent) → Took y z [] rest →
+        WritingStays y.written z.written y.write_faults z.write_faults → From b c old new text [] → Leaves (g.after s) author doing.Lose b c new [] text →
+        ReadingStays z.read u.read z.left u.left z.read_faults u.read_faults → u.held ≡ z.held → Sends sent z.written u.written text →
+        CountsFaultOfSending sent z.write_faults u.write_faults → has_newline rest ≡ false → WireEnds ended x u rest
+        → ((lines : List (List ℕ)) → IsLost (g.after s) author (length lines ≡ 1) c new → EndsAs (g.after s) author ended c new lines) → Done (ended_of c ended) c new u
+    joined_lost c new z u text rest ended sent took writing t leaves reading held bytes faults unfinished wire how =
+        by_loss (g.after s) author new (λ (e : Ended). Done e c new u) (Listens b → ⊥) ended c leaves.0
+        (λ l. ends_so ended wire (how (j.0.lines ++ []) (owed (g.after s) author new (Listens b → ⊥) (length (j.0.lines ++ []) ≡ 1) c
+        (λ _. ap length (append-nil j.0.lines) ∙ j.1) l))) (ends_so NoMemory unfinished)
+      where
+        ends_so : (e : Ended) → WireEnds e x u rest → EndsAs (g.after s) author e c new (j.0.lines ++ []) → Done e c new u
+        ends_so e wire h = done e c new u (j.0.lines ++ []) (j.0.out ++ text) rest (turned b c old new text [] j.0.lines j.0.out t j.0.at)
+            (took_on x z u (j.0.lines ++ []) rest (took_chain x y z j.0.lines [] rest j.0.took took) reading held)
+            (told_sent x z u j.0.out text (wrote_still x y z j.0.out j.0.told writing) (IsExcused e) sent bytes faults) wire h
+
   -- what the last turn told was written
   module _ (c : Connection) (es : List (Entry A)) (y z : WireState) (text : List ℕ) (o : Due c es y text) (reading : ReadingStays y.read z.read y.left
       z.left y.read_faults z.read_faults) (held : z.held ≡ y.held) where
@@ -162,6 +218,10 @@ module _ {G S A R : Type 0} (g : Ghosts G S A R) (s : S) (author : ℕ) (start :
       told = wrote_sent x y z o.out text o.told sent up;
       quiet = quiet_none (length o.lines ≡ 1) c here;
     }
+
+    pub sent_joined : length o.lines ≡ 1 → IsOpen c → Appends y.written z.written text → y.write_faults ≤ z.write_faults → Joined g s author start c es x z
+    unfolding sent_goes
+    sent_joined one here sent up = (sent_goes here sent up, one)
 
     -- whole or not, to a connection that has ended
     pub sent_last : (how : End) (sent : Sent) → c ≡ connection.Ended how → Sends sent y.written z.written text →

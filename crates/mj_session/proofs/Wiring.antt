@@ -51,6 +51,18 @@ passes_same l l' r r' h h' a b c =
 pub took_nothing : (x y : WireState) → ReadingStays x.read y.read x.left y.left x.read_faults y.read_faults → y.held ≡ x.held → Took x y [] []
 took_nothing x y s h = record { passes = passes_same x.left y.left x.read y.read x.held y.held s.left s.read h; whole = All-nil IsLine; risen = omega (arith, s.faults) }
 
+-- nothing is read meanwhile
+pub took_on : (x y z : WireState) (lines : List (List ℕ)) (rest : List ℕ) → Took x y lines rest → ReadingStays y.read z.read y.left z.left y.read_faults z.read_faults → z.held ≡ y.held → Took x z lines rest
+took_on x y z lines rest t s h =
+    let front = with_newlines lines ++ rest in
+    record {
+      passes = subst (λ (v : Option (List ℕ)). Passes x.left v x.read z.read x.held z.held front) (sym s.left)
+          (subst (λ (v : Option (List ℕ)). Passes x.left y.left x.read v x.held z.held front) (sym s.read)
+          (subst (λ (v : List ℕ). Passes x.left y.left x.read y.read x.held v front) (sym h) t.passes));
+      whole = t.whole;
+      risen = omega (arith, s.faults, t.risen);
+    }
+
 pub took_itself : (x : WireState) → Took x x [] []
 took_itself x = record { passes = passes_nothing x.left x.read x.held; whole = All-nil IsLine; risen = omega arith }
 

@@ -41,11 +41,12 @@ LeavesOut _ lines = lines ≡ []
 
 -- What the history shows of the end of the session of a seat that said these lines. The game is over, the connection goes on,
 -- and the seat, which is present by the author, has no deed to answer. Else the last entry is that the seat is gone or that it
--- was refused for good, and before that entry it had a deed to answer; only a link that failed before anything was said on it
--- may have ended while there was none.
+-- was refused for good, and before that entry it had a deed to answer; only a link that ended or failed before anything was said
+-- on it may have done so while there was none.
 abbrev pub HistoryEnds : {A R : Type 0} → (List (Entry A) → Showing) → (List (Entry A) → ℕ → ℕ → A → Heard R) → Ended → ℕ → ℕ → ℕ → List (List ℕ) → List (Entry A) → Type 0
 HistoryEnds after hears GameOver author seat place said new =
     ((after new).over ≡ true) × ((after new).present seat ≡ Some author) × ((after new).seat_of place ≡ Some seat) × ((after new).deeds ≤ (after new).due seat)
+HistoryEnds after hears PeerEnded author seat place said new = EndsBy after seat place new (Gone author seat) (λ before. (said ≡ []) ⊎ Owes (after before) seat)
 HistoryEnds after hears LinkFault author seat place said new = EndsBy after seat place new (Gone author seat) (λ before. (said ≡ []) ⊎ Owes (after before) seat)
 HistoryEnds after hears TooManyRefusals author seat place said new = EndsByRefusal after hears author seat place new
 HistoryEnds after hears (NotSeated why) author seat place said new = ⊥

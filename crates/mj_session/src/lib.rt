@@ -7,6 +7,7 @@ mod lost;
 mod room;
 mod serve;
 mod served;
+mod settle;
 mod shared_game;
 mod talk;
 

@@ -6,11 +6,12 @@ ghost use Rattle.mj_connection.specs.declared.stage.Connection.TheVariants.{Gree
 ghost use Rattle.mj_connection.specs.Stages.{Fits};
 ghost use Rattle.mj_session.specs.declared.talk.Doing.TheVariants.{Look, Hear};
 ghost use Rattle.mj_session.specs.Sessions.{Session};
-ghost use Rattle.mj_session.specs.Inner.Talks.{CanDo, Ends, Goes};
+ghost use Rattle.mj_session.specs.Inner.Talks.{CanDo, Ends, Goes, StaysJoined};
 ghost use Rattle.mj_session.specs.Wires.{WireState, Took, Wrote, wire_state};
 ghost use Rattle.turn_lock.specs.Turns.{IsIdle};
 
 use crate::served::{Ended, Served};
+use crate::settle::settle;
 use crate::shared_game::SharedGame;
 use crate::talk::{Doing, Talk, ended_of, in_turn, turn_with};
 use mj_connection::Connection;
@@ -75,7 +76,10 @@ pub(crate) fn join_on<T: SharedGame, L: Link, R: Wait>(
         &mut talk.text,
     );
     match send(turn, rt, pass, wire, talk) {
-        None => play(turn, rt, pass, wire, talk),
+        None => match settle(turn, rt, pass, wire, talk) {
+            None => play(turn, rt, pass, wire, talk),
+            Some(ended) => ended,
+        },
         Some(ended) => ended,
     }
 }
@@ -182,7 +186,7 @@ fn hear_next<T: SharedGame, L: Link, R: Wait>(
 }
 
 // Writes what the last turn told, and says how the session ended by it: its connection is over, or a write failed.
-fn send<T: SharedGame, L: Link, R: Wait>(
+pub(crate) fn send<T: SharedGame, L: Link, R: Wait>(
     turn: &Turn<T>,
     rt: &R,
     pass: &mut Pass<T>,
@@ -198,6 +202,9 @@ fn send<T: SharedGame, L: Link, R: Wait>(
     ensures goes { Goes T.Seated (T.Noted.setting turn.now.opening) pass.old.number result
         talk.old.connection talk.new.connection pass.old.seen pass.new.seen talk.old.text.items
         (wire_state L.Link) wire.old wire.new }
+    ensures joined { IfNone result (StaysJoined T.Seated (T.Noted.setting turn.now.opening) pass.old.number
+        talk.old.connection talk.new.connection pass.old.seen pass.new.seen talk.old.text.items
+        (wire_state L.Link) wire.old wire.new) }
 {
     match talk.connection.end() {
         Some(_) => {

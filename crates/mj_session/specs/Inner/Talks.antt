@@ -40,10 +40,10 @@ module _ {A : Type 0} (after : List (Entry A) → Showing) (author : ℕ) where
   Leaves Cut b c es before text = IsShort c
 
   -- Which end the connection has of a session that ended so. A seat whose link ended the session had a deed to answer, but
-  -- where a write failed before anything was said.
+  -- where the link ended or failed before anything was said.
   abbrev pub EndsAs : Ended → Connection → List (Entry A) → List (List ℕ) → Type 0
   EndsAs GameOver (connection.Ended (over.Over at)) es lines = Unit {0}
-  EndsAs PeerEnded c es lines = IsLost after author ⊥ c es
+  EndsAs PeerEnded c es lines = IsLost after author (length lines ≡ 1) c es
   EndsAs LinkFault c es lines = IsLost after author (length lines ≡ 1) c es
   EndsAs LineTooLong c es lines = IsLost after author ⊥ c es
   EndsAs TooManyRefusals (connection.Ended (over.Closed at)) es lines = Unit {0}
@@ -61,6 +61,10 @@ module _ {G S A R : Type 0} (g : Ghosts G S A R) (s : S) (author : ℕ) where
       pub took : Took x y lines []
       pub told : Wrote x y out
       pub quiet : IsQuiet (length lines ≡ 1) c [] text
+
+    -- The session goes on, and no line has come since the one that was given the seat.
+    abbrev pub Joined : Connection → List (Entry A) → WireState → WireState → Type 0
+    Joined c es x y = (owing : Owing c es x y []) × (length owing.lines ≡ 1)
 
     -- The session has ended: a rest of a line may have come, and the end of the text may be missing.
     pub record Ends (ended : Ended) (c : Connection) (es : List (Entry A)) (x y : WireState) : Type 0 where
@@ -81,3 +85,12 @@ module _ {G S A R : Type 0} (g : Ghosts G S A R) (s : S) (author : ℕ) where
   -- One connection became another, while the wire went from y to z, and this was still to be written before.
   abbrev pub Goes : {W : Type 0} → Option Ended → Connection → Connection → List (Entry A) → List (Entry A) → List ℕ → (W → WireState) → W → W → Type 0
   Goes met b c old new text at y z = (start : List (Entry A)) (x : WireState) → Owing start b old x (at y) text → Comes start met c new x (at z)
+
+  -- What becomes of a connection, where no line had come since the one that was given the seat.
+  abbrev pub GoesJoined : {W : Type 0} → Option Ended → Connection → Connection → List (Entry A) → List (Entry A) → (W → WireState) → W → W → Type 0
+  GoesJoined met b c old new at y z = (start : List (Entry A)) (x : WireState) → Joined start b old x (at y) → Comes start met c new x (at z)
+
+  -- The text is written, and no line has come meanwhile either.
+  abbrev pub StaysJoined : {W : Type 0} → Connection → Connection → List (Entry A) → List (Entry A) → List ℕ → (W → WireState) → W → W → Type 0
+  StaysJoined b c old new text at y z =
+      (start : List (Entry A)) (x : WireState) (o : Owing start b old x (at y) text) → length o.lines ≡ 1 → Joined start c new x (at z)

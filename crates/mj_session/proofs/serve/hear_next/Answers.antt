@@ -15,7 +15,7 @@ returns-in-Ended-clause-goes g c = λ start x o.
     let e = c.in-Ended.ensures in
     let b = e.bytes.0 in
     rw c.ended_of.ensures (done_lost _ _ _ start x _ _ _ _ _ _ _ o e.writing PeerEnded b.rest (took_end _ _ b e.faults)
-    c.in_turn-in-Ended.ensures.takes c.requires.can.0 c.in_turn-in-Ended.ensures.leaves b.unfinished (b.unfinished, b.none, b.ended) (λ l. l))
+    c.in_turn-in-Ended.ensures.takes c.requires.can.0 c.in_turn-in-Ended.ensures.leaves b.unfinished (b.unfinished, b.none, b.ended) (λ l. owed _ _ _ _ _ _ (λ u. absurd u) l))
 
 pub returns-in-Fault-clause-goes : goal.returns-in-Fault-clause-goes
 returns-in-Fault-clause-goes g c = λ start x o.
