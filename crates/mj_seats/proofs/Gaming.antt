@@ -8,9 +8,10 @@ use Rattle.mj_ports.specs.declared.entry.Entry.{Entry}
 use Rattle.mj_ports.specs.declared.picking.Picked.TheVariants.{Table}
 use Rattle.mj_ports.specs.declared.seated.Seated.{Ghosts}
 use Rattle.mj_session.specs.Wires.{WireState}
-use Rattle.mj_seats.specs.declared.handle.HandlerEnd.TheVariants as end
+use Rattle.mj_handlers.specs.declared.visit.HandlerEnd.TheVariants as end
 use Rattle.mj_ticker.specs.Beside.{Matches, Beside}
-use Rattle.mj_seats.specs.Handlers.{HandlerEnd, Session}
+use Rattle.mj_handlers.specs.declared.visit.HandlerEnd.{HandlerEnd}
+use Rattle.mj_handlers.specs.declared.visit.Session.{Session}
 use Rattle.mj_seats.specs.Tables.{EndsWith, AllEndWith, IsOver, IsPlayedIn, IsPlayedAt, ArePlayed}
 use Rattle.mj_ticker.proofs.Besides.{all_at, unmapped, popped, one_less}
 

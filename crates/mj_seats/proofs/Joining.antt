@@ -6,13 +6,15 @@ use Rattle.std.proofs.lemmas.List.{length-map}
 use Rattle.std.proofs.lemmas.Option.{slice_get_within, get_or_from_slice_get}
 use Rattle.std.proofs.lemmas.List.Elements.{All-push}
 use Rattle.std.proofs.Math.Seq.{take-suc}
-use Rattle.mj_seats.specs.declared.handle.HandlerEnd.TheVariants as end
-use Rattle.mj_seats.specs.declared.handle.Session.{Session}
+use Rattle.mj_handlers.specs.declared.visit.HandlerEnd.TheVariants as end
+use Rattle.mj_handlers.specs.declared.visit.Session.{Session}
 use Rattle.mj_ticker.specs.Beside.{Beside}
-use Rattle.mj_seats.specs.Handlers.{HandlerEnd, WantsMemory, rows}
-use Rattle.mj_seats.specs.Inner.Staffs.{AreJoined, sessions_of}
+use Rattle.mj_handlers.specs.declared.visit.HandlerEnd.{HandlerEnd}
+use Rattle.mj_handlers.specs.Handlers.{WantsMemory, rows}
+use Rattle.mj_seats.specs.Inner.Joined.{AreJoined}
+use Rattle.mj_workers.specs.Staffs.{sessions_of}
 use Rattle.mj_ticker.proofs.Besides.{found, all_at, unmapped, map_snoc}
-use Rattle.mj_seats.proofs.Snocs.{flat_one}
+use Rattle.mj_workers.proofs.Snocs.{flat_one}
 
 module _ {L : Type 0} where
   abbrev items : Vec (Session L) Global → List (Session L)

@@ -15,25 +15,29 @@ use Rattle.mj_ports.specs.Seats.{Stays, StaysEnded, Unmoved, Answers, Leaves, Ad
 use Rattle.mj_session.specs.Histories.{Enters}
 use Rattle.mj_session.specs.Wires.{WireState}
 use Rattle.mj_session.proofs.Entering.{enters_seen}
-use Rattle.mj_seats.specs.declared.handle.HandlerEnd.TheVariants as end
+use Rattle.mj_handlers.specs.declared.visit.HandlerEnd.TheVariants as end
 use Rattle.mj_ticker.specs.declared.ticker.Sight.{Sight}
 use Rattle.mj_ticker.specs.Beside.{Matches}
-use Rattle.mj_seats.specs.Handlers.{HandlerEnd, Session, WantsMemory}
+use Rattle.mj_handlers.specs.declared.visit.HandlerEnd.{HandlerEnd}
+use Rattle.mj_handlers.specs.declared.visit.Session.{Session}
+use Rattle.mj_handlers.specs.Handlers.{WantsMemory}
 use Rattle.mj_ticker.specs.Ticks.{Ticks}
 use Rattle.mj_seats.specs.Workers.{IsPlayedBy}
-use Rattle.mj_seats.specs.Tables.{sits_at, IsOver, ComesBack, IsPlayedAt, ArePlayed, EndsWith, AllEndWith}
-use Rattle.mj_seats.specs.Inner.Columns.{AreRows}
+use Rattle.mj_seats.specs.Tables.{IsOver, ComesBack, IsPlayedAt, ArePlayed, EndsWith, AllEndWith}
+use Rattle.mj_handlers.specs.Picks.{sits_at}
+use Rattle.mj_workers.specs.Columns.{AreRows}
 use Rattle.mj_seats.specs.Inner.Ended.{HasEnded}
-use Rattle.mj_seats.specs.Inner.Hands.{AreOver, HandEnds}
+use Rattle.mj_handlers.specs.Hands.{AreOver, HandEnds}
 use Rattle.mj_seats.specs.Inner.Opened.{IsOpened, IsFullRow, IsClosed}
-use Rattle.mj_seats.specs.Inner.Staffs.{AllDone, AreJoined}
+use Rattle.mj_seats.specs.Inner.Joined.{AreJoined}
+use Rattle.mj_workers.specs.Staffs.{AllDone}
 use Rattle.mj_ticker.specs.Watches.{watch_of, IsWatched, AreWatched}
 use Rattle.mj_ticker.proofs.Besides.{found, all_from, all_at}
-use Rattle.mj_seats.proofs.Handling.{handled_excused}
+use Rattle.mj_handlers.proofs.Handling.{handled_excused}
 use Rattle.mj_seats.proofs.Opening.{back_closed}
-use Rattle.mj_seats.proofs.Snocs.{flat_one, none_mapped, some_snoc}
+use Rattle.mj_workers.proofs.Snocs.{flat_one, none_mapped, some_snoc}
 use Rattle.mj_ticker.proofs.Timing.{ticks_of}
-use Rattle.mj_seats.proofs.Whole.{stays_from}
+use Rattle.mj_handlers.proofs.Staying.{stays_from}
 use Rattle.mj_seats.proofs.Working.{AllLeft, ticks_on, played_is}
 
 module _ {T S A R L F : Type 0} (g : Ghosts T S A R) (setting : T → S) (at : List ℕ → L → WireState) (picks : List ℕ → Picked) (made : F → Type 0) (number : F → ℕ) (turns : List (TurnState T)) where

@@ -12,22 +12,10 @@ use Rattle.mj_ports.specs.declared.seated.Seated.{Ghosts}
 use Rattle.mj_ports.specs.Entries.{author_of}
 use Rattle.mj_ticker.specs.Beside.{Matches}
 use Rattle.mj_seats.specs.Tables.{ComesBack}
-use Rattle.mj_seats.specs.Inner.Opened.{IsOpened, IsNewRow, IsFullRow, IsClosed, AllClosed}
-use Rattle.mj_ticker.proofs.Besides.{same_some, found, mapped, all_at, all_from}
-
-module _ {T S N : Type 0} (turn : TurnState T) (fixed : S) (seen : List N) where
-  -- passes of a turn that began with these notes: how many, none is busy, and each has seen them
-  pub count_from : (count : ℕ) → length (passes_from {T = T} turn.id fixed seen count) ≡ count
-  count_from zero = refl
-  count_from (suc count) =
-      let before : List (PassState T S N) = passes_from turn.id fixed seen count in
-      let last : PassState T S N = pass_from turn.id fixed seen count in
-      let rest = count_from count in
-      omega (arith, length-append before (last ∷ []), rest)
-
-  pub each_from : (P : PassState T S N → Type 0) (count : ℕ) → ((k : ℕ) → P (pass_from turn.id fixed seen k)) → All P (passes_from turn.id fixed seen count)
-  each_from P zero f = All-nil P
-  each_from P (suc count) f = All-push P (passes_from turn.id fixed seen count) (pass_from turn.id fixed seen count) (each_from P count f) (f count)
+use Rattle.mj_seats.specs.Inner.Opened.{IsOpened, IsFullRow, IsClosed, AllClosed}
+use Rattle.mj_workers.specs.Staffs.{IsNewRow}
+use Rattle.mj_workers.proofs.Rows.{count_from, each_from}
+use Rattle.mj_ticker.proofs.Besides.{same_some, found, all_at, all_from}
 
 module _ {T S N : Type 0} (setting : T → S) (notes : T → List N) where
   -- the row of a turn that was made of this value, whose notes go by two names
@@ -59,22 +47,6 @@ module _ {T S N : Type 0} (setting : T → S) (notes : T → List N) where
         let x = found tables t (omega (arith, slice_get_within turns t turn eu, opened.many)) in
         full_new count turn row (opened.each t x.0 turn x.1 eu).passes_are (new.each t turn row eu er);
   }
-
-  -- rows of new passes have some
-  pub some_new : (count : ℕ) (turns : List (TurnState T)) (rows : List (Vec (PassState T S N) Global)) →
-      Matches (IsNewRow setting notes count) turns (map (λ (v : Vec (PassState T S N) Global). v.items) rows) → 0 < count → All (λ (v : Vec (PassState T S N) Global). 0 < vec_len v) rows
-  some_new count turns rows m some = all_from (λ (v : Vec (PassState T S N) Global). 0 < vec_len v) rows (λ t v e. one t v e (slice_get_within rows t v e))
-    where
-      items : Vec (PassState T S N) Global → List (PassState T S N)
-      items v = v.items
-
-      one : (t : ℕ) (v : Vec (PassState T S N) Global) → slice_get rows t ≡ Some v → t < length rows → 0 < vec_len v
-      one t v e near =
-          let turn = found turns t (omega (arith, near, m.many, length-map rows items)) in
-          let new = m.each t turn.0 v.items turn.1 (mapped items rows t v e) in
-          let long : length v.items ≡ count = ap length new ∙ count_from turn.0 (setting turn.0.opening) (notes turn.0.opening) count in
-          let len : v.len ≡ length v.items = v.ok.0 in
-          omega (arith, some, long, len)
 
 -- turns that were made with so many passes have so many
 pub passes_of_all : {T : Type 0} (count : ℕ) (tables : List T) (turns : List (TurnState T)) → Matches (IsOpened count) tables turns → All (λ (turn : TurnState T). turn.passes ≡ count) turns

@@ -13,13 +13,14 @@ use Rattle.mj_session.specs.Histories.{Enters, begins_one, places_from, places_o
 use Rattle.mj_session.specs.declared.served.Ended.{Ended}
 use Rattle.mj_session.specs.declared.served.Ended.TheVariants.{GameOver, PeerEnded, LinkFault, LineTooLong, TooManyRefusals, NotSeated, NoMemory}
 use Rattle.mj_session.specs.Sessions.{said_by, last_entry}
-use Rattle.mj_seats.specs.Handlers.{Session, Handled}
+use Rattle.mj_handlers.specs.declared.visit.Session.{Session}
+use Rattle.mj_handlers.specs.Handlers.{Handled}
 use Rattle.mj_ticker.specs.Ticks.{Ticks, Timed}
 use Rattle.mj_seats.specs.Workers.{AllServe, IsPlayedBy, begun_from}
 use Rattle.mj_session.specs.Wires.{WireState}
 use Rattle.mj_connection.proofs.Growing.{enters_chain, enters_one}
 use Rattle.mj_ticker.proofs.Besides.{all_after}
-use Rattle.mj_seats.proofs.Placing.{places_append, places_still, handled_places, begins_by}
+use Rattle.mj_handlers.proofs.Placing.{places_append, places_still, handled_places, begins_by}
 use Rattle.mj_seats.proofs.Whole.{serves_all}
 use Rattle.mj_seats.proofs.Begun.{parts_from, begun_is, NoExpiry, AnExpiry, all_expiries, all_begin_below}
 

@@ -1,42 +1,22 @@
 -- What handlers and a ticker leave at one table of several.
-use Rattle.std.specs.Prelude.{◌≡◌, ℕ, zero, suc, ◌+◌, ◌*◌, ◌<◌, ◌==◌, true, List, [], ◌∷◌, ◌++◌, if◌then◌else◌, Option}
+use Rattle.std.specs.Prelude.{◌≡◌, ℕ, zero, suc, ◌+◌, ◌*◌, true, List, [], ◌∷◌, ◌++◌, Option}
 use mathlib.Core.List.{IsPrefix}
 use Rattle.mj_ports.specs.declared.entry.Entry.{Entry}
 use Rattle.mj_ports.specs.declared.picking.Picked.{Picked}
-use Rattle.mj_ports.specs.declared.picking.Picked.TheVariants as picked
-use Rattle.mj_ports.specs.declared.sitting.SitRefused.TheVariants.{BadName, NoRoom}
-use Rattle.mj_ports.specs.declared.answers.SitAnswer.{SitAnswer}
-use Rattle.mj_ports.specs.declared.answers.SitAnswer.TheVariants as sit
 use Rattle.mj_ports.specs.declared.seated.Seated.{Ghosts}
 use Rattle.mj_session.specs.Wires.{WireState}
 use Rattle.mj_ticker.specs.Beside.{Beside}
-use Rattle.mj_seats.specs.Handlers.{HandlerEnd, Over, Host, NoMemory, Session}
+use Rattle.mj_handlers.specs.declared.visit.HandlerEnd.{HandlerEnd}
+use Rattle.mj_handlers.specs.declared.visit.HandlerEnd.TheVariants.{Over, Host, NoMemory}
+use Rattle.mj_handlers.specs.declared.visit.Session.{Session}
+use Rattle.mj_handlers.specs.Picks.{at_table}
 use Rattle.mj_seats.specs.Workers.{IsPlayedBy}
 
 -- How many handlers there are at so many tables of a host that has several. The ticker has the number after theirs.
 abbrev pub handlers_of : ℕ → ℕ
 handlers_of tables = 4 * tables + 2
 
--- What is said at a table to a line that wants a seat: what the game there says to it, where the line is for that table.
-abbrev pub sits_by : Picked → ℕ → SitAnswer → SitAnswer
-sits_by (picked.Table t) table answer = if t == table then answer else sit.Refused NoRoom
-sits_by picked.BadName table answer = sit.Refused BadName
-sits_by picked.NoRoom table answer = sit.Refused NoRoom
-
-abbrev pub sits_at : {A : Type 0} → (List ℕ → Picked) → ℕ → (List (Entry A) → List ℕ → SitAnswer) → List (Entry A) → List ℕ → SitAnswer
-sits_at picks table sits entries line = sits_by (picks line) table (sits entries line)
-
--- A line is for one of so many tables, or for none.
-abbrev pub IsBelow : ℕ → Picked → Type 0
-IsBelow tables (picked.Table t) = t < tables
-IsBelow tables picked.BadName = Unit {0}
-IsBelow tables picked.NoRoom = Unit {0}
-
 module _ {G S A R : Type 0} (g : Ghosts G S A R) where
-  -- What is shown of a game at this table, where lines that want a seat are picked so.
-  abbrev pub at_table : (List ℕ → Picked) → ℕ → Ghosts G S A R
-  at_table picks table = record g { sits = λ s. sits_at picks table (g.sits s) }
-
   -- What `IsPlayedBy` says, of a game with this setting.
   abbrev pub IsPlayedIn : {L : Type 0} → S → (List ℕ → L → WireState) → ℕ → List (Entry A) → List (Entry A) → List (Session L) → Option (List ℕ) → Option (List ℕ) → Type 0
   IsPlayedIn s at handlers first entries sessions was_read read = IsPlayedBy (g.after s) g.reads g.joins (g.sits s) (g.hears s) g.says at handlers first entries sessions was_read read

@@ -8,7 +8,8 @@ use Rattle.mj_ports.specs.Entries.{author_of}
 use Rattle.mj_ports.specs.Seats.{script}
 use Rattle.mj_session.specs.Histories.{Enters, begins_one}
 use Rattle.mj_session.specs.Wires.{WireState}
-use Rattle.mj_seats.specs.Handlers.{Session, Noted}
+use Rattle.mj_handlers.specs.declared.visit.Session.{Session}
+use Rattle.mj_handlers.specs.Handlers.{Noted}
 use Rattle.mj_ticker.specs.Ticks.{Ticks}
 
 module _ {A : Type 0} where

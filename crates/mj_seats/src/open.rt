@@ -3,8 +3,9 @@ ghost use Rattle.std.specs.Prelude.{◌≡◌, ◌≤◌, ◌<◌, ◌+◌, ◌+
 ghost use Rattle.mj_ports.specs.Entries.{author_of};
 ghost use Rattle.mj_ticker.specs.Beside.{Matches};
 ghost use Rattle.mj_seats.specs.Tables.{ComesBack};
-ghost use Rattle.mj_seats.specs.Inner.Columns.{items_of};
-ghost use Rattle.mj_seats.specs.Inner.Opened.{IsOpened, Opens, IsNewRow, IsFullRow, AllClosed};
+ghost use Rattle.mj_workers.specs.Columns.{items_of};
+ghost use Rattle.mj_seats.specs.Inner.Opened.{IsOpened, Opens, IsFullRow, AllClosed};
+ghost use Rattle.mj_workers.specs.Staffs.{IsNewRow};
 
 use mj_session::{SharedGame, hold};
 use std::alloc::{AllocError, Global};

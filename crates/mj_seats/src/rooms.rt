@@ -1,15 +1,15 @@
 // Games in their rooms, and what is reserved before workers play.
 ghost use Rattle.std.specs.Prelude.{◌≡◌, ◌≤◌, ◌<◌, ◌+◌, [], All, IfOk, IfErr, length, map, vec_len, vec_capacity};
 ghost use Rattle.mj_ticker.specs.declared.ticker.Sight.TheVariants.{Nothing};
-ghost use Rattle.mj_seats.specs.Inner.Staffs.{IsReady, HasRoom};
+ghost use Rattle.mj_workers.specs.Staffs.{IsReady, HasRoom};
 
 use crate::gather::empty_lists;
 use crate::open::Opened;
-use crate::worker::{Back, Desk, Hand};
 use mj_links::Numbered;
 use mj_ports::Seated;
 use mj_session::{Lost, Room};
 use mj_ticker::Sight;
+use mj_workers::{Back, Desk, Hand};
 use std::alloc::{AllocError, Global};
 use turn_lock::{Noted, Pass, Turn};
 
@@ -115,21 +115,45 @@ pub(crate) fn reserve<T: Noted, L: Drop, F: Drop>(
 {
     let count = usize::from(handlers) + 1;
     Ok(Reserved {
-        opened: Opened {
-            turns: Vec::with_capacity(alloc, tables)?,
-            rows: Vec::with_capacity(alloc, tables)?,
-        },
-        desk: Desk {
-            passes: Vec::with_capacity(alloc, tables)?,
-            sights: sights_for(alloc, tables)?,
-        },
+        opened: opened_for(alloc, tables)?,
+        desk: desk_for(alloc, tables)?,
         hands: hands_for(alloc, handlers, tables)?,
-        back: Back {
-            columns: Vec::with_capacity(alloc, count)?,
-            kept: Vec::with_capacity(alloc, count)?,
-            ends: Vec::with_capacity(alloc, count)?,
-        },
+        back: back_for(alloc, count)?,
         rows: rows_for(alloc, tables, count)?,
+    })
+}
+
+fn opened_for<T: Noted>(alloc: Global, tables: usize) -> Result<Opened<T>, AllocError>
+    ensures empty { IfOk result (λ o. (o.turns.items ≡ []) × (o.rows.items ≡ [])) }
+    ensures room { IfOk result (λ o. (tables ≤ vec_capacity o.turns) × (tables ≤ vec_capacity o.rows)) }
+{
+    Ok(Opened {
+        turns: Vec::with_capacity(alloc, tables)?,
+        rows: Vec::with_capacity(alloc, tables)?,
+    })
+}
+
+fn desk_for<P: Drop>(alloc: Global, tables: usize) -> Result<Desk<P>, AllocError>
+    ensures { IfOk result (λ d. (d.passes.items ≡ []) × (tables ≤ vec_capacity d.passes)
+        × (length d.sights.items ≡ tables) × All (λ s. s ≡ Nothing) d.sights.items) }
+{
+    Ok(Desk {
+        sights: sights_for(alloc, tables)?,
+        passes: Vec::with_capacity(alloc, tables)?,
+    })
+}
+
+// Room for what is left of so many.
+fn back_for<P: Drop, L: Drop, F: Drop>(
+    alloc: Global,
+    count: usize,
+) -> Result<Back<P, L, F>, AllocError>
+    ensures { IfOk result (HasRoom count) }
+{
+    Ok(Back {
+        columns: Vec::with_capacity(alloc, count)?,
+        kept: Vec::with_capacity(alloc, count)?,
+        ends: Vec::with_capacity(alloc, count)?,
     })
 }
 

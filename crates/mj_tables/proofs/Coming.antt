@@ -5,9 +5,10 @@ use Rattle.std.proofs.lemmas.Option.{slice_get_within}
 use Rattle.mj_ports.specs.declared.entry.Entry.{Entry}
 use Rattle.mj_ports.specs.declared.picking.Picked.{Picked}
 use Rattle.mj_ports.specs.declared.seated.Seated.{Ghosts}
-use Rattle.mj_seats.specs.declared.handle.Session.{Session}
-use Rattle.mj_seats.specs.Handlers.{WireState}
-use Rattle.mj_seats.specs.Tables.{IsPlayedIn, ArePlayed, at_table}
+use Rattle.mj_handlers.specs.declared.visit.Session.{Session}
+use Rattle.mj_handlers.specs.Handlers.{WireState}
+use Rattle.mj_seats.specs.Tables.{IsPlayedIn, ArePlayed}
+use Rattle.mj_handlers.specs.Picks.{at_table}
 use Rattle.mj_ticker.proofs.Besides.{found, all_from, all_at}
 
 module _ {G S A R : Type 0} (g : Ghosts G S A R) where

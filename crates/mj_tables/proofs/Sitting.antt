@@ -3,7 +3,7 @@ use Rattle.std.proofs.Common.{◌≡◌, inl, inr, ℕ, ◌<◌, ◌==◌, if◌
 use Rattle.std.specs.Prelude.{All, Some, slice_get}
 use Rattle.std.proofs.lemmas.List.Elements.{All-head, All-tail}
 use Rattle.std.proofs.lemmas.Option.{slice_get_within}
-use Rattle.mj_seats.specs.declared.handle.Session.{Session}
+use Rattle.mj_handlers.specs.declared.visit.Session.{Session}
 use Rattle.mj_tables.specs.declared.closed.TableSession.{TableSession}
 use Rattle.mj_tables.specs.Tables.{sessions_at}
 use Rattle.mj_ticker.proofs.Besides.{at_snoc}

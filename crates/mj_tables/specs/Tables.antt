@@ -1,6 +1,6 @@
 -- The sessions at one of many tables.
 use Rattle.std.specs.Prelude.{ℕ, ◌==◌, List, [], ◌∷◌, if◌then◌else◌}
-use Rattle.mj_seats.specs.declared.handle.Session.{Session}
+use Rattle.mj_handlers.specs.declared.visit.Session.{Session}
 use Rattle.mj_tables.specs.declared.closed.TableSession.{TableSession}
 
 -- The sessions at a table, in order.

@@ -1,8 +1,9 @@
 //! Many games over one host.
 
 ghost use Rattle.std.specs.Prelude.{◌≡◌, ◌==◌, ◌≤◌, ◌<◌, ◌++◌, ℕ, [], All, IfOk, OnOk, List, length, slice_get, Some, true, if◌then◌else◌};
-ghost use Rattle.mj_seats.specs.Handlers.{rows, link_state};
-ghost use Rattle.mj_seats.specs.Tables.{IsBelow, IsOver, IsPlayedIn, AllEndWith, at_table, handlers_of};
+ghost use Rattle.mj_handlers.specs.Handlers.{rows, link_state};
+ghost use Rattle.mj_seats.specs.Tables.{IsOver, IsPlayedIn, AllEndWith, handlers_of};
+ghost use Rattle.mj_handlers.specs.Picks.{IsBelow, at_table};
 ghost use Rattle.mj_tables.specs.Tables.{sessions_at};
 
 use crate::closed::{ClosedTables, TableSession};

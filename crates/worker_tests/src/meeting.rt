@@ -165,11 +165,19 @@ impl<'a, R> Sink for MeetingLink<'a, R> {
 impl<'a, R: time::Clock> Link for MeetingLink<'a, R> {
     ghost was_read = { λ _. None };
 
+    ghost at_end = { λ _. ⊥ };
+
     fn shut(&mut self) {
         self.link.shut();
     }
 
+    fn has_ended(&mut self) -> bool {
+        false
+    }
+
     ghost reads_apart = { λ got into old new h. (tt, h) };
+
+    ghost ends = { λ got into old new h none. absurd none };
 
     ghost writes_apart = { λ put piece old new h. h };
 }

@@ -6,10 +6,11 @@ use Rattle.mj_ports.specs.declared.picking.Picked.{Picked}
 use Rattle.mj_ports.specs.declared.seated.Seated.{Ghosts}
 use Rattle.mj_session.specs.Wires.{WireState}
 use Rattle.mj_ticker.specs.declared.ticker.Sight.{Sight}
-use Rattle.mj_seats.specs.Handlers.{HandlerEnd, Session}
-use Rattle.mj_seats.specs.Inner.Columns.{AreRows}
+use Rattle.mj_handlers.specs.declared.visit.HandlerEnd.{HandlerEnd}
+use Rattle.mj_handlers.specs.declared.visit.Session.{Session}
+use Rattle.mj_workers.specs.Columns.{AreRows}
 use Rattle.mj_seats.specs.Inner.Opened.{AllClosed}
-use Rattle.mj_seats.specs.Inner.Staffs.{AllDone}
+use Rattle.mj_workers.specs.Staffs.{AllDone}
 use Rattle.mj_ticker.specs.Watches.{AreWatched}
 
 module _ {T S A R L F : Type 0} (g : Ghosts T S A R) (lost : T → ℕ → Bool) (setting : T → S) (at : List ℕ → L → WireState) (picks : List ℕ → Picked) (made : F → Type 0)

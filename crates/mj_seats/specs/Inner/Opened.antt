@@ -1,7 +1,7 @@
 -- How turns of tables begin and end.
 use Rattle.std.specs.Prelude.{◌≡◌, ℕ, ◌<◌, All, List, [], ◌∷◌, ◌++◌, length}
 use Rattle.turn_lock.specs.Passes.{TurnState, PassState}
-use Rattle.turn_lock.specs.Turns.{IsIdle, IsSeenIn, passes_from}
+use Rattle.turn_lock.specs.Turns.{IsIdle, IsSeenIn}
 use Rattle.mj_ports.specs.declared.entry.Entry.{Entry}
 use Rattle.mj_ports.specs.declared.seated.Seated.{Ghosts}
 use Rattle.mj_ports.specs.Entries.{author_of}
@@ -17,10 +17,6 @@ abbrev pub Opens : {T : Type 0} → ℕ → T → List (TurnState T) → List (T
 Opens {T} passes x old new = (turn : TurnState T) × (new ≡ old ++ turn ∷ []) × IsOpened passes x turn
 
 module _ {T S N : Type 0} (setting : T → S) where
-  -- So many new passes of the turn, numbered from 0, which have seen what its value began with.
-  abbrev pub IsNewRow : (T → List N) → ℕ → TurnState T → List (PassState T S N) → Type 0
-  IsNewRow notes count turn row = row ≡ passes_from turn.id (setting turn.opening) (notes turn.opening) count
-
   -- All passes of the turn, none of which is busy.
   pub record IsFullRow (turn : TurnState T) (row : List (PassState T S N)) : Type 0 where
     pub all : length row ≡ turn.passes

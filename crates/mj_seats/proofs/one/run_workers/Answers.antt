@@ -3,7 +3,7 @@ use Rattle.std.specs.Prelude.{All, Some}
 use Rattle.std.proofs.lemmas.List.{length-map}
 use Rattle.mj_ports.specs.Entries.{author_of}
 use Rattle.mj_session.specs.Wires.{at_link}
-use Rattle.mj_seats.specs.Handlers.{rows}
+use Rattle.mj_handlers.specs.Handlers.{rows}
 use Rattle.mj_seats.proofs.Gaming.{sole, all_sole, all_none, one_setting, one_legal, one_played, one_ends}
 use Rattle.mj_seats.proofs.one.run_workers.Goals as goal
 

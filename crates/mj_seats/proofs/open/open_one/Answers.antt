@@ -1,7 +1,7 @@
 use Rattle.std.proofs.Common.{◌++◌, ◌∷◌, [], refl, sym, subst}
 use Rattle.mj_seats.specs.Tables.{ComesBack}
-use Rattle.mj_seats.specs.Inner.Columns.{items_of}
-use Rattle.mj_seats.specs.Inner.Opened.{IsNewRow}
+use Rattle.mj_workers.specs.Columns.{items_of}
+use Rattle.mj_workers.specs.Staffs.{IsNewRow}
 use Rattle.mj_ticker.proofs.Besides.{matches_more, map_snoc}
 use Rattle.mj_seats.proofs.Opening.{new_row, full_all, back_one, back_new}
 use Rattle.mj_seats.proofs.open.open_one.Goals as goal

@@ -3,8 +3,9 @@ use Rattle.std.specs.Prelude.{All}
 use Rattle.std.proofs.lemmas.Result.{IfOk-weaker}
 use Rattle.mj_ports.specs.Entries.{author_of}
 use Rattle.mj_session.specs.Wires.{at_link}
-use Rattle.mj_seats.specs.Handlers.{rows}
-use Rattle.mj_seats.specs.Tables.{IsBelow, ComesBack, IsPlayedAt, IsOver}
+use Rattle.mj_handlers.specs.Handlers.{rows}
+use Rattle.mj_seats.specs.Tables.{ComesBack, IsPlayedAt, IsOver}
+use Rattle.mj_handlers.specs.Picks.{IsBelow}
 use Rattle.mj_seats.proofs.Gaming.{as_many, to_rooms, to_games, matches_games, beside_games, ends_more}
 use Rattle.mj_seats.proofs.play.play_tables.Goals as goal
 

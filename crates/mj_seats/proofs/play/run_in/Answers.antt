@@ -2,14 +2,17 @@ use Rattle.std.proofs.Common.{◌≡◌, ◌+◌, ◌∙◌, length, refl, sym, 
 use Rattle.std.specs.Prelude.{All}
 use Rattle.std.proofs.lemmas.List.{length-map}
 use Rattle.mj_session.specs.Wires.{at_link}
-use Rattle.mj_seats.specs.Handlers.{rows}
-use Rattle.mj_seats.specs.Tables.{IsBelow, AllEndWith, IsOver}
-use Rattle.mj_seats.specs.Inner.Columns.{items_of}
-use Rattle.mj_seats.specs.Inner.Staffs.{IsReady, AreJoined, sessions_of}
+use Rattle.mj_handlers.specs.Handlers.{rows}
+use Rattle.mj_seats.specs.Tables.{AllEndWith, IsOver}
+use Rattle.mj_handlers.specs.Picks.{IsBelow}
+use Rattle.mj_workers.specs.Columns.{items_of}
+use Rattle.mj_seats.specs.Inner.Joined.{AreJoined}
+use Rattle.mj_workers.specs.Staffs.{IsReady, sessions_of}
 use Rattle.mj_seats.proofs.Gaming.{ok_both}
 use Rattle.mj_seats.proofs.Leaving.{back_ended, played_all, ends_are}
-use Rattle.mj_seats.proofs.Opening.{some_new, passes_of_all, back_itself}
-use Rattle.mj_seats.proofs.Staffing.{taken_last, desk_new, done_columns, kept_long}
+use Rattle.mj_seats.proofs.Opening.{passes_of_all, back_itself}
+use Rattle.mj_workers.proofs.Rows.{some_new}
+use Rattle.mj_workers.proofs.Staffing.{taken_last, desk_new, done_columns, kept_long}
 use Rattle.mj_seats.proofs.play.run_in.Goals as goal
 
 pub open_all-requires-clause-passes : goal.open_all-requires-clause-passes

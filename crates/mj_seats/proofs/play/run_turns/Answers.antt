@@ -1,10 +1,10 @@
 use Rattle.std.proofs.Common.{◌≡◌, ◌+◌, ◌∙◌, length, refl, sym, subst, arith, vec_len, vec_capacity}
 use Rattle.std.proofs.lemmas.List.{length-map}
 use Rattle.mj_session.specs.Wires.{at_link}
-use Rattle.mj_seats.specs.Inner.Columns.{items_of}
-use Rattle.mj_seats.specs.Inner.Staffs.{AreNewRows, AllDone, sessions_of}
+use Rattle.mj_workers.specs.Columns.{items_of}
+use Rattle.mj_workers.specs.Staffs.{AreNewRows, AllDone, sessions_of}
 use Rattle.mj_seats.proofs.Leaving.{full_rows}
-use Rattle.mj_seats.proofs.Staffing.{done_count, done_columns, room_less, room_for, columns_more, rows_wide, rows_put}
+use Rattle.mj_workers.proofs.Staffing.{done_count, done_columns, room_less, room_for, columns_more, rows_wide, rows_put}
 use Rattle.mj_seats.proofs.play.run_turns.Goals as goal
 
 pub work-back-requires-clause-rows : goal.work-back-requires-clause-rows

@@ -1,6 +1,6 @@
 use Rattle.std.proofs.Common.{◌≡◌, ◌≤◌, length, vec_capacity}
 use Rattle.std.specs.Prelude.{All}
-use Rattle.mj_seats.specs.Inner.Staffs.{IsReady}
+use Rattle.mj_workers.specs.Staffs.{IsReady}
 use Rattle.mj_seats.proofs.rooms.hands_for.Given as goal
 
 abbrev pub invariant-loop : goal.invariant-loop

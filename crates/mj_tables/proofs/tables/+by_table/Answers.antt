@@ -1,7 +1,7 @@
 use Rattle.std.proofs.Common.{◌≡◌, ◌<◌, length, vec_len, sym, ◌∙◌, subst}
 use Rattle.std.specs.Prelude.{All}
 use Rattle.std.proofs.lemmas.List.{length-map}
-use Rattle.mj_seats.specs.Handlers.{rows}
+use Rattle.mj_handlers.specs.Handlers.{rows}
 use Rattle.mj_ticker.proofs.Besides.{map_snoc, popped}
 use Rattle.mj_tables.proofs.Sitting.{table_more}
 use Rattle.mj_tables.proofs.tables.+by_table.Goals as goal

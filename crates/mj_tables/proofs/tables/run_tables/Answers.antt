@@ -1,7 +1,7 @@
 use Rattle.std.proofs.Common.{◌≡◌, ◌<◌, length, sym, ◌∙◌, subst, rules}
 use Rattle.std.specs.Prelude.{All}
 use Rattle.std.proofs.lemmas.List.{length-map}
-use Rattle.mj_seats.specs.Handlers.{rows}
+use Rattle.mj_handlers.specs.Handlers.{rows}
 use Rattle.mj_tables.specs.Tables.{sessions_at}
 use Rattle.mj_tables.proofs.Coming.{all_legal, played_new}
 use Rattle.mj_tables.proofs.tables.run_tables.Goals as goal

@@ -1,0 +1,9 @@
+pub mod Handling
+pub mod Placing
+pub mod Staying
+pub mod Quiet
+pub mod Roomy
+pub mod AtTable
+pub mod Handing
+pub mod Receiving
+pub mod Alone

@@ -1,0 +1,4 @@
+pub mod Snocs
+pub mod Columning
+pub mod Rows
+pub mod Staffing
