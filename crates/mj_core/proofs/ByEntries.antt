@@ -1,5 +1,5 @@
 -- What the calls of a core enter, told as what the calls of a seated game enter.
-use Rattle.std.proofs.Common.{◌≡◌, ℕ, suc, ◌+◌, ◌<◌, ◌==◌, not, List, [], ◌∷◌, ◌++◌, length, Bool, true, false, refl, ap, ◌∙◌, arith}
+use Rattle.std.proofs.Common.{◌≡◌, ℕ, suc, ◌+◌, ◌<◌, ◌==◌, not, List, [], ◌∷◌, ◌++◌, length, Bool, true, false, refl, ap, ◌∙◌, sym, arith}
 use Rattle.std.specs.Prelude.{if◌then◌else◌, Option, Some, None, map, slice_get, nat_le, nat_lt, Result, OnOk, Ok, Err}
 use Rattle.std.specs.Option.{option_map_or}
 use Rattle.std.specs.declared.alloc.AllocError.{AllocError}
@@ -31,8 +31,9 @@ use Rattle.mj_history.specs.Sitting.{placing, held_of, author_at}
 use Rattle.mj_history.specs.Shown.{due_at, sit_answer, sits_of, heard_of, hears_of, expires_of}
 use Rattle.mj_forms.specs.AnswerForms.{join_of}
 use Rattle.mj_history.proofs.Entered.{seats-are}
-use Rattle.mj_core.specs.Calls.{after_of, IsSitAnswer, IsHeard, IsLeft, IsExpiry, is_here, may_expire}
-use Rattle.mj_core.proofs.Games.{placing-sat, expire-open}
+use Rattle.mj_core.specs.Calls.{after_of, IsSitAnswer, IsHeard, IsLeft, IsExpiry, is_here}
+use Rattle.mj_core.proofs.Games.{placing-sat}
+use Rattle.mj_core.proofs.Foreseen.{foreseen-stale, foreseen-early, foreseen-closed}
 
 -- A held seat is never the next one.
 not-next : {A : Type 0} (seat : ℕ) (held : Occupant) (said : Option (List ℕ)) (given : ℕ) → at_held seat held said ≡ places.Sat given → A
@@ -150,20 +151,11 @@ expire-setting expiry.Stale old new author window t1 t2 h = ap (λ (g : Game). g
 expire-setting expiry.Early old new author window t1 t2 h = ap (λ (g : Game). g.setting) h.2
 expire-setting expiry.NoMemory old new author window t1 t2 h = ap (λ (g : Game). g.setting) h
 
-abbrev comes_of : Bool → Bool → Expiry
-comes_of on out = if on then (if out then expiry.Closed else expiry.Early) else expiry.Stale
-
 pub expire-enters : (answer : Expiry) (old new : Game) (author window t1 t2 : ℕ) → IsExpiry answer old new author window t1 t2
     → AnswersExpiry old.entries new.entries answer (expires_of old.setting old.entries window t1 t2) author window t1 t2
-expire-enters expiry.Closed old new author window t1 t2 h = (
-  ap (λ (on : Bool). comes_of on (may_expire old window t1 t2)) (expire-open old.setting.rules.limit (after_of old).deeds window t1 t2 h.0) ∙ ap (λ (out : Bool). comes_of true out) h.0,
-  h.1.entries,
-)
-expire-enters expiry.Stale old new author window t1 t2 h = (ap (λ (on : Bool). comes_of on (may_expire old window t1 t2)) h.0, ap (λ (g : Game). g.entries) h.1)
-expire-enters expiry.Early old new author window t1 t2 h = (
-  ap (λ (on : Bool). comes_of on (may_expire old window t1 t2)) h.0 ∙ ap (λ (out : Bool). comes_of true out) h.1,
-  ap (λ (g : Game). g.entries) h.2,
-)
+expire-enters expiry.Closed old new author window t1 t2 h = (sym (foreseen-closed old window t1 t2 h.0), h.1.entries)
+expire-enters expiry.Stale old new author window t1 t2 h = (sym (foreseen-stale old window t1 t2 h.0), ap (λ (g : Game). g.entries) h.1)
+expire-enters expiry.Early old new author window t1 t2 h = (sym (foreseen-early old window t1 t2 h.0 h.1), ap (λ (g : Game). g.entries) h.2)
 expire-enters expiry.NoMemory old new author window t1 t2 h = ap (λ (g : Game). g.entries) h
 
 -- What was written.

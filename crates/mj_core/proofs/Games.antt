@@ -155,15 +155,15 @@ pub bad-name : (now : After) → placing now None ≡ places.Refused BadName
 unfolding placing
 bad-name now = refl
 
-pub sit-over : (setting : Setting) (entries : List (Entry Answer)) (state : Position) (author : ℕ) (join : JoinLine) → IsKept setting entries state → is_over state.deeds ≡ true
-    → IsSitAnswer (sits.Refused Over) (game setting entries) (game setting entries) author (Some join)
-sit-over setting entries state author join k h = (placing-over (after setting entries) join (ap is_over (sym (kept-deeds setting entries state k)) ∙ h), refl)
+pub placed-over : (setting : Setting) (entries : List (Entry Answer)) (state : Position) (join : JoinLine) → IsKept setting entries state → is_over state.deeds ≡ true
+    → places.Refused Over ≡ placing (after_of (game setting entries)) (Some join)
+placed-over setting entries state join k h = sym (placing-over (after setting entries) join (ap is_over (sym (kept-deeds setting entries state k)) ∙ h))
 
-pub sit-placed : (setting : Setting) (entries : List (Entry Answer)) (state : Position) (join : JoinLine) (place : Placed) →
+pub placed-open : (setting : Setting) (entries : List (Entry Answer)) (state : Position) (join : JoinLine) (place : Placed) →
     IsKept setting entries state → is_over state.deeds ≡ false → place ≡ placed_in (now_of state) join
-    → placing (after_of (game setting entries)) (Some join) ≡ place
-sit-placed setting entries state join place k h e =
-    placing-open (after setting entries) join (ap is_over (sym (kept-deeds setting entries state k)) ∙ h) ∙ sym (kept-placed setting entries state join k) ∙ sym e
+    → place ≡ placing (after_of (game setting entries)) (Some join)
+placed-open setting entries state join place k h e =
+    e ∙ kept-placed setting entries state join k ∙ sym (placing-open (after setting entries) join (ap is_over (sym (kept-deeds setting entries state k)) ∙ h))
 
 pub sat-may : (setting : Setting) (entries : List (Entry Answer)) (state : Position) (author seat : ℕ) (join : JoinLine) →
     IsKept setting entries state → is_name join.name ≡ true → placing (after_of (game setting entries)) (Some join) ≡ places.Sat seat

@@ -9,6 +9,7 @@ pub mod Pieces
 pub mod Spare
 pub mod Turns
 pub mod Readers
+pub mod Foreseen
 pub mod KeptLines
 pub mod ByEntries
 pub mod NearLaws

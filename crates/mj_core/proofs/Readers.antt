@@ -2,6 +2,7 @@
 use Rattle.std.proofs.Common.{◌≡◌, ℕ, ◌-◌, ◌≤◌, ◌==◌, ◌&&◌, not, inl, inr, List, [], ◌++◌, length, Bool, true, false, refl, ap, ◌∙◌, sym, subst, arith, append-nil}
 use Rattle.std.specs.Prelude.{if◌then◌else◌, Option, Some, None, is_some, option_map, slice_get, nat_lt, Result, OnOk}
 use Rattle.std.specs.Option.{option_eq}
+use Rattle.std.proofs.lemmas.Bool.{eq-eqb}
 use Rattle.std.proofs.lemmas.Bool.Decides.{eqb_tells}
 use Rattle.std.proofs.lemmas.Option.{same_Some}
 use Rattle.std.specs.declared.alloc.AllocError.{AllocError}
@@ -20,7 +21,7 @@ use Rattle.mj_core.specs.Calls.{after_of, open_window, may_say_at, pending_at, a
 use Rattle.mj_core.specs.Inner.States.{Position, now_of, player_in}
 use Rattle.mj_core.specs.Inner.Kept.{IsKept}
 use Rattle.mj_core.specs.declared.chair.Chair.{Chair as Player}
-use Rattle.mj_core.proofs.Games.{bad-name, is_the_open, game, kept-deeds, reads-some, reads-none, asked-can, pending-stale}
+use Rattle.mj_core.proofs.Games.{bad-name, is_the_open, stale, game, kept-deeds, reads-some, reads-none, asked-can, pending-stale}
 
 -- The open window of so few deeds has a small number.
 pub window-few : (deeds : List Deed) (window : ℕ) → Some window ≡ open_window deeds → length deeds ≤ 60002 → window ≤ 60002
@@ -90,6 +91,17 @@ same-window (Some number) window e = elim (eqb_tells number window) [ inl p ↦ 
 
 pub opened : (o : Option ℕ) (deeds : List Deed) (window : ℕ) → false ≡ not (option_eq (λ (a b : ℕ). a == b) o (Some window)) → o ≡ open_window deeds → is_open deeds window ≡ true
 opened o deeds window e f = is_the_open deeds window (sym f ∙ same-window o window e)
+
+pub unopened : (o : Option ℕ) (deeds : List Deed) (window : ℕ) → true ≡ not (option_eq (λ (a b : ℕ). a == b) o (Some window)) → o ≡ open_window deeds → is_open deeds window ≡ false
+unopened o deeds window e f = stale deeds window (λ same. other o e (f ∙ same))
+  where
+    differ : (b : Bool) → b ≡ true → true ≡ not b → ⊥
+    differ true f g = cc
+    differ false f g = cc
+
+    other : (o : Option ℕ) → true ≡ not (option_eq (λ (a b : ℕ). a == b) o (Some window)) → o ≡ Some window → ⊥
+    other None e h = cc
+    other (Some number) e h = differ (number == window) (eq-eqb number window (same_Some number window h)) e
 
 -- What was written is the piece, by another name of it.
 pub adds-same : (result : Result (Unit {0}) AllocError) (old new piece other : List ℕ) → piece ≡ other → OnOk result (Adds old new other) → OnOk result (Adds old new piece)

@@ -1,5 +1,5 @@
 -- What the calls of a core answer and enter.
-use Rattle.std.specs.Prelude.{◌≡◌, ℕ, ◌&&◌, Bool, true, false, nat_lt, if◌then◌else◌, List, [], ◌∷◌, ◌++◌, length, Option, Some, None, slice_get}
+use Rattle.std.specs.Prelude.{◌≡◌, ℕ, ◌&&◌, Bool, true, false, nat_lt, if◌then◌else◌, List, [], ◌∷◌, ◌++◌, length, Option, Some, None, IsSome, slice_get}
 use Rattle.std.specs.Option.{option_map_or}
 use Rattle.mj_ports.specs.declared.entry.Entry.{Entry}
 use Rattle.mj_ports.specs.declared.entry.Entry.TheVariants.{Sat, Back, Said, Gone, Expired}
@@ -48,6 +48,14 @@ IsSitAnswer (sits.Sat seat) old new author join = (placing (after_of old) join �
 IsSitAnswer (sits.Back seat) old new author join = (placing (after_of old) join ≡ places.Back seat) × Enters old new (Back author seat)
 IsSitAnswer (sits.Refused why) old new author join = (placing (after_of old) join ≡ places.Refused why) × (new ≡ old)
 IsSitAnswer sits.NoMemory old new author join = new ≡ old
+
+-- A line that wants a seat would be answered as is right, unless memory is wanting; a seat that would be given for the first
+-- time is asked for by a join.
+abbrev pub Foresees : SitAnswer → SitAnswer → Option JoinLine → Type 0
+Foresees (sits.Sat seat) right join = (right ≡ sits.Sat seat) × IsSome join
+Foresees (sits.Back seat) right join = right ≡ sits.Back seat
+Foresees (sits.Refused why) right join = right ≡ sits.Refused why
+Foresees sits.NoMemory right join = Unit {0}
 
 -- The verdict on what a held seat says.
 abbrev pub verdict_at : Game → ℕ → Answer → Option Verdict

@@ -4,8 +4,8 @@ ghost use Rattle.mj_bytes.specs.Adds.{Adds};
 ghost use Rattle.mj_wall.specs.Places.{is_wall};
 ghost use Rattle.mj_forms.specs.AnswerForms.{answer_of, join_of};
 ghost use Rattle.mj_history.specs.Legal.{IsLegal, can_say, is_over};
-ghost use Rattle.mj_history.specs.Shown.{control_line, line_at};
-ghost use Rattle.mj_core.specs.Calls.{IsSitAnswer, IsHeard, IsLeft, IsExpiry, after_of, is_here, author_of_seat, due_of, open_window, may_say_at, pending_at, line_of, record_of};
+ghost use Rattle.mj_history.specs.Shown.{control_line, line_at, sits_of, expires_of};
+ghost use Rattle.mj_core.specs.Calls.{IsSitAnswer, Foresees, IsHeard, IsLeft, IsExpiry, after_of, is_here, author_of_seat, due_of, open_window, may_say_at, pending_at, line_of, record_of};
 
 use crate::answers::{Expiry, Heard, Left, SitAnswer};
 use crate::control::write_control;
@@ -72,6 +72,14 @@ impl Core {
         self.umpire.sit(alloc, author, line)
     }
 
+    /// What `sit` would answer now if memory is had after the line is read. Nothing changes.
+    pub fn would_sit(&self, alloc: Global, line: &[u8]) -> SitAnswer
+        ensures { Foresees result (sits_of self.now.setting self.now.entries line.now)
+            (join_of line.now) }
+    {
+        self.umpire.would_sit(alloc, line)
+    }
+
     /// A line of a seat, 0 to 3, which is present by this author and whose due deed exists. The answer that the line
     /// reads as is entered and judged; the sixteenth that is refused to one deed makes the seat gone.
     pub fn said(&mut self, alloc: Global, author: u8, seat: u8, line: &[u8]) -> Heard
@@ -95,6 +103,13 @@ impl Core {
         ensures { IsExpiry result self.old self.new author window t1 t2 }
     {
         self.umpire.expire(alloc, author, window, t1, t2)
+    }
+
+    /// What `expire` would come to now if memory is had. Nothing changes.
+    pub fn would_expire(&self, window: u32, t1: u64, t2: u64) -> Expiry
+        ensures { result ≡ expires_of self.now.setting self.now.entries window t1 t2 }
+    {
+        self.umpire.would_expire(window, t1, t2)
     }
 
     /// Whether a seat is present.

@@ -6,9 +6,10 @@ ghost use Rattle.mj_wall.specs.Places.{is_wall};
 ghost use Rattle.mj_deeds.specs.Answers.{is_in_form};
 ghost use Rattle.mj_forms.specs.AnswerForms.{answer_of, join_of};
 ghost use Rattle.mj_history.specs.Legal.{IsLegal, can_say, is_over};
+ghost use Rattle.mj_history.specs.Shown.{sit_answer, sits_of, expires_of};
 ghost use Rattle.mj_history.specs.Sitting.{placing};
 ghost use Rattle.mj_seating.specs.declared.desk.Placed.TheVariants.{Sat, Back};
-ghost use Rattle.mj_core.specs.Calls.{IsSitAnswer, IsHeard, IsLeft, IsExpiry, after_of, is_here, may_expire, author_of_seat, due_of, open_window, may_say_at, pending_at, line_of, record_of};
+ghost use Rattle.mj_core.specs.Calls.{IsSitAnswer, Foresees, IsHeard, IsLeft, IsExpiry, after_of, is_here, may_expire, author_of_seat, due_of, open_window, may_say_at, pending_at, line_of, record_of};
 ghost use Rattle.mj_core.specs.Inner.Verdicts.{heard_by};
 
 use crate::answers::{Expiry, Heard, Left, SitAnswer};
@@ -82,19 +83,38 @@ impl<T: Telling> Umpire<T> {
         }
     }
 
+    /// What `sit` would answer now if memory is had after the line is read. Nothing changes.
+    pub fn would_sit(&self, alloc: Global, line: &[u8]) -> SitAnswer
+        ensures { Foresees result (sits_of self.now.setting self.now.entries line.now)
+            (join_of line.now) }
+    {
+        match read_join(alloc, line) {
+            Ok(Some(join)) => sit_answer(self.place(&join)),
+            Ok(None) => SitAnswer::Refused(SitRefused::BadName),
+            Err(_) => SitAnswer::NoMemory,
+        }
+    }
+
     // A seat for a join, whose name is of the right form.
     fn seat(&mut self, alloc: Global, author: u8, join: &JoinLine) -> SitAnswer
         requires { is_name join.now.name ≡ true }
         ensures { IsSitAnswer result self.old self.new author (Some join.now) }
     {
-        if self.state.is_over() {
-            return SitAnswer::Refused(SitRefused::Over);
-        }
-        match self.state.place(join) {
+        match self.place(join) {
             Placed::Refused(why) => SitAnswer::Refused(why),
             Placed::Sat(seat) => self.take_seat(alloc, author, seat, join),
             Placed::Back(seat) => self.take_back(alloc, author, seat, join),
         }
+    }
+
+    // What becomes of a join.
+    fn place(&self, join: &JoinLine) -> Placed
+        ensures { result ≡ placing (after_of self.now) (Some join.now) }
+    {
+        if self.state.is_over() {
+            return Placed::Refused(SitRefused::Over);
+        }
+        self.state.place(join)
     }
 
     // The seat, which is the next one, is taken by a join.
@@ -193,13 +213,25 @@ impl<T: Telling> Umpire<T> {
     pub fn expire(&mut self, alloc: Global, author: u8, window: u32, t1: u64, t2: u64) -> Expiry
         ensures { IsExpiry result self.old self.new author window t1 t2 }
     {
+        match self.would_expire(window, t1, t2) {
+            Expiry::Closed => self.close(alloc, author, window, t1, t2),
+            Expiry::Stale => Expiry::Stale,
+            Expiry::Early => Expiry::Early,
+            Expiry::NoMemory => Expiry::NoMemory,
+        }
+    }
+
+    /// What `expire` would come to now if memory is had. Nothing changes.
+    pub fn would_expire(&self, window: u32, t1: u64, t2: u64) -> Expiry
+        ensures { result ≡ expires_of self.now.setting self.now.entries window t1 t2 }
+    {
         if self.open() != Some(window) {
             return Expiry::Stale;
         }
         if t2 < t1 || t2 - t1 < self.setting.rules.limit {
             return Expiry::Early;
         }
-        self.close(alloc, author, window, t1, t2)
+        Expiry::Closed
     }
 
     // The open window closes, since its time has run out.
@@ -359,6 +391,17 @@ impl<T: Telling> Umpire<T> {
             into,
             &mut steps,
         )
+    }
+}
+
+// What a line that wants a seat is answered, by what becomes of its join.
+fn sit_answer(place: Placed) -> SitAnswer
+    ensures { result ≡ sit_answer place }
+{
+    match place {
+        Placed::Sat(seat) => SitAnswer::Sat(seat),
+        Placed::Back(seat) => SitAnswer::Back(seat),
+        Placed::Refused(why) => SitAnswer::Refused(why),
     }
 }
 

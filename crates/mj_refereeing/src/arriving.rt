@@ -184,7 +184,6 @@ fn say_line(
 }
 
 // Somebody says what reads as this answer.
-#[inline(always)]
 #[tactic(auto, using(crate::proofs::PlayLaws::saying))]
 fn say(
     alloc: Global,

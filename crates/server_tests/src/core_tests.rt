@@ -10,7 +10,7 @@ use std::alloc::Global;
 
 const PASS: &str = "{\"type\":\"none\"}";
 
-// What is done with a game, and what comes of it.
+// What is done with a game, and what comes of it, as is said beforehand.
 #[derive(Clone, Copy)]
 enum Step {
     // One that wants a seat says a line.
@@ -60,6 +60,16 @@ pub(crate) fn before_all(alloc: Global) -> Option<Core>
         red: false,
     };
     Core::new(alloc, vec![in alloc; wall].ok()?, rules).ok()
+}
+
+// Whether a line that wants a seat is answered so, as is said beforehand.
+fn sat(core: &mut Core, alloc: Global, line: &[u8], answer: SitAnswer) -> bool {
+    core.would_sit(alloc, line) == answer && core.sit(alloc, 1, line) == answer
+}
+
+// Whether this comes of a window whose time may have run out, as is said beforehand.
+fn expired(core: &mut Core, alloc: Global, window: u32, t1: u64, t2: u64, answer: Expiry) -> bool {
+    core.would_expire(window, t1, t2) == answer && core.expire(alloc, 0, window, t1, t2) == answer
 }
 
 // What a seat is answered that may say a line.
@@ -146,11 +156,11 @@ fn asks(core: &Core, held: u8, asked: [bool; 4]) -> bool {
 
 fn holds(core: &mut Core, alloc: Global, step: Step) -> bool {
     match step {
-        Step::Sits(line, answer) => core.sit(alloc, 1, line.as_bytes()) == answer,
+        Step::Sits(line, answer) => sat(core, alloc, line.as_bytes(), answer),
         Step::Says(seat, line, heard) => said(core, alloc, seat, line) == Some(heard),
         Step::AllPass => all_pass(core, alloc),
         Step::Leaves(seat, answer) => left(core, alloc, seat) == Some(answer),
-        Step::Expires(window, t1, t2, answer) => core.expire(alloc, 0, window, t1, t2) == answer,
+        Step::Expires(window, t1, t2, answer) => expired(core, alloc, window, t1, t2, answer),
         Step::RunOut(windows) => run_out(core, alloc, windows),
         Step::IsTold(seat, line) => is_told(core, alloc, seat, line),
         Step::HasLine(seat, k, line) => has_line(core, seat, k, line),

@@ -61,11 +61,19 @@ impl Sink for SlowLink {
 impl Link for SlowLink {
     ghost was_read = { λ s. ⟦<MemLink as Link>⟧.was_read s.0 };
 
+    ghost at_end = { λ s. ⟦<MemLink as Link>⟧.at_end s.0 };
+
     fn shut(&mut self) {
         self.0.shut();
     }
 
+    fn has_ended(&mut self) -> bool {
+        self.0.has_ended()
+    }
+
     ghost reads_apart = { λ got into old new h. h };
+
+    ghost ends = { λ got into old new h none. absurd none };
 
     ghost writes_apart = { λ put piece old new h. h };
 }

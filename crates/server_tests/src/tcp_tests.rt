@@ -30,16 +30,19 @@ fn await_link<H: Host>(host: &H) -> Option<H::Link> {
     None
 }
 
-// Answers the one line that comes on the first link: whether all went well, and the input ended then.
+// Answers the one line that comes on the first link: whether all went well, and the input ended then, not before.
 fn answer<H: Host>(alloc: Global, host: &H) -> bool {
     let Some(link) = await_link(host) else {
         return false;
     };
     let mut wire = Wire::new(link);
     let mut line = Vec::new(alloc);
-    let read = wire.read_line(&mut line) == LineRead::Line
+    let read = !wire.has_ended()
+        && wire.read_line(&mut line) == LineRead::Line
         && line.as_slice() == b"chi".as_slice()
         && wire.send(b"ron\n") == Sent::Whole
+        && wire.read_line(&mut line) == LineRead::Ended
+        && wire.has_ended()
         && wire.read_line(&mut line) == LineRead::Ended;
     wire.into_link().shut();
     read

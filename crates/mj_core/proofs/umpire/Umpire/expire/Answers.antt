@@ -1,22 +1,14 @@
-use Rattle.std.proofs.Common.{refl, ◌≡◌, true}
-use Rattle.mj_history.specs.Legal.{is_open}
-use Rattle.mj_core.specs.Calls.{after_of}
-use Rattle.mj_core.proofs.Games.{too-early, too-short, run-out}
-use Rattle.mj_core.proofs.Readers.{opened}
-use Rattle.mj_core.proofs.umpire.Umpire.expire.Goals.{then-t2-t1-via-then-t2-t1, then-t2-t1-via-else-t2-t1+then-t2-t1-2}
+use Rattle.std.proofs.Common.{refl}
+use Rattle.mj_core.proofs.Foreseen.{is-stale, is-early, is-closed}
 use Rattle.mj_core.proofs.umpire.Umpire.expire.Goals as goal
 
-pub returns-then-t2-t1 : goal.returns-then-t2-t1
-returns-then-t2-t1 g c = (
-  opened _ (after_of c.args.self.now).deeds _ c.if-ne.ensures c.open.ensures,
-  rw (← c.self.view_is) (elim c.then-t2-t1.branch [
-    | then-t2-t1-via-then-t2-t1 w ↦ too-early _ _ _ _ _ w.if-t2-t1.true
-    | then-t2-t1-via-else-t2-t1+then-t2-t1-2 w ↦ too-short _ _ _ _ _ w.if-t2-t1-2.true
-  ]),
-  refl,
-)
-
 pub close-requires-after_bounds : goal.close-requires-after_bounds
-close-requires-after_bounds g c κs within =
-    let open_is : is_open (after_of c.args.self.now).deeds c.args.window ≡ true = opened _ (after_of c.args.self.now).deeds _ c.if-ne.ensures c.open.ensures in
-    rw (← c.self.view_is) (run-out _ _ _ _ _ (rw (← c.self.view_is) at open_is) c.if-t2-t1.false c.if-t2-t1-2.false)
+close-requires-after_bounds g c κs within = is-closed c.args.self.now _ _ _ (rw c.in-Closed.is at c.would_expire.ensures)
+
+pub returns-in-Stale : goal.returns-in-Stale
+returns-in-Stale g c = (is-stale c.args.self.now _ c.args.t1 c.args.t2 (rw c.in-Stale.is at c.would_expire.ensures), refl)
+
+pub returns-in-Early : goal.returns-in-Early
+returns-in-Early g c =
+    let early = is-early c.args.self.now _ _ _ (rw c.in-Early.is at c.would_expire.ensures) in
+    (early.0, early.1, refl)
