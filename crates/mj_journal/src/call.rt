@@ -1,11 +1,11 @@
 //! The calls that a journal keeps, and their texts.
 
-ghost use Rattle.std.specs.Prelude.{◌≡◌, ◌<◌, ◌^◌, ◌++◌, ◌∷◌, [], false, codes, option_map, option_and_then, IfOk, IfSome, OnOk};
+ghost use Rattle.std.specs.Prelude.{◌≡◌, ◌↔◌, ◌<◌, ◌^◌, ◌++◌, ◌∷◌, [], false, codes, option_map, option_and_then, IfOk, IfSome, OnOk, IsTrue};
 ghost use Rattle.std.specs.Option.{SomeIff};
 ghost use Rattle.mj_bytes.specs.Adds.{Adds};
 ghost use Rattle.mj_bytes.specs.Numbers.{number_text, decimal_of};
 ghost use Rattle.mj_bytes.specs.Parts.{has_byte, parted};
-ghost use Rattle.mj_journal.specs.Calls.{IsSized, author_of_call, text_of, arrival_text, times_text, number_below, call_of, arrival_of, call_by, sit_of, say_of, gone_of, expire_of, times_of};
+ghost use Rattle.mj_journal.specs.Calls.{IsLine, IsSized, author_of_call, text_of, arrival_text, times_text, number_below, call_of, arrival_of, call_by, sit_of, say_of, gone_of, expire_of, times_of};
 ghost use Rattle.mj_journal.specs.Meant.{meant};
 
 use crate::record::Record;
@@ -17,7 +17,7 @@ const LINE_LIMIT: usize = 4095;
 
 /// A call on a game, and its author. A seat is 0 to 3, and times are in milliseconds.
 #[derive(Drop)]
-pub(crate) enum GameCall<'a> {
+pub enum GameCall<'a> {
     /// Somebody wants a seat.
     Sit {
         author: u8,
@@ -67,6 +67,13 @@ pub(crate) fn read_call(payload: &[u8]) -> Option<GameCall<'_>>
     let (author, text) = split_space(payload)?;
     let author = read_below(author, 256)? as u8;
     read_arrival(author, text)
+}
+
+/// Whether a text is a line that a journal keeps: it has at most 4,095 bytes, and none is a newline.
+pub fn is_line(text: &[u8]) -> bool
+    ensures { IsTrue result ↔ IsLine text.now }
+{
+    text.len() <= LINE_LIMIT && !has_newline(text)
 }
 
 #[tactic(auto, using(crate::proofs::CallTexts::newline_at))]
@@ -173,9 +180,9 @@ fn read_times<'a>(author: u8, window: u32, text: &[u8]) -> Option<GameCall<'a>>
     })
 }
 
-/// The record of a call, as a journal keeps it.
+/// The record of a call, as a journal keeps it. Its seat is 0 to 3, and the line of a player is one that a journal keeps.
 #[tactic(auto, using(crate::proofs::CallTexts::text_short))]
-pub(crate) fn call_record(alloc: Global, call: &GameCall<'_>) -> Result<Record, AllocError>
+pub fn call_record(alloc: Global, call: &GameCall<'_>) -> Result<Record, AllocError>
     requires { IsSized (meant call.now) }
     ensures { IfOk result (λ entry. entry ≡ text_of (meant call.now)) }
 {

@@ -25,6 +25,8 @@ mod replaying;
 mod through;
 
 pub use answered::Answered;
+pub use appending::append_record;
+pub use call::{GameCall, call_record, is_line};
 pub use disk::{Disk, Filled, Size, Synced, Wrote};
 pub use file_disk::FileDisk;
 pub use game::Entering;
@@ -32,3 +34,6 @@ pub use kept::Kept;
 pub use mem_call::{CallMade, DiskCall};
 pub use mem_disk::MemDisk;
 pub use not_opened::NotOpened;
+pub use opening::open_entries;
+pub use outcome::{Outcome, expiry_outcome, gone_outcome, said_outcome, sit_outcome};
+pub use record::Record;
