@@ -5,10 +5,11 @@ use Rattle.std.specs.declared.alloc.Global.{Global}
 use Rattle.std.proofs.lemmas.List.{append_assoc, append-nil, map-append, reverse-append}
 use Rattle.mj_links.specs.Hosts.{GivesBack}
 use Rattle.mj_links.specs.declared.host.Given.TheVariants as given
-use Rattle.mj_seats.specs.declared.handle.Session.{Session}
-use Rattle.mj_seats.specs.Handlers.{rows}
+use Rattle.mj_handlers.specs.declared.visit.Session.{Session}
+use Rattle.mj_handlers.specs.Handlers.{rows}
 use Rattle.mj_hosting.specs.Plays.{AppendsLinks}
-use Rattle.mj_hosting.specs.Inner.Steps.{placed_link, links_at, links_in, Giving}
+use Rattle.mj_hosting.specs.Steps.{placed_link, links_at, links_in}
+use Rattle.mj_hosting.specs.Inner.Giving.{Giving}
 
 module _ {X : Type 0} where
   appends_more : (old now next : Option (List X)) (taken more : List X) → AppendsLinks old now taken → AppendsLinks now next more → AppendsLinks old next (taken ++ more)

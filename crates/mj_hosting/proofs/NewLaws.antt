@@ -9,7 +9,7 @@ use Rattle.mj_ports.specs.declared.entry.Entry.{Entry}
 use Rattle.mj_deeds.specs.declared.answer.Answer.{Answer}
 use Rattle.mj_history.specs.Legal.{Game}
 use Rattle.mj_hosting.specs.Plans.{table_setting}
-use Rattle.mj_hosting.specs.Inner.Steps.{AreNew}
+use Rattle.mj_hosting.specs.Steps.{AreNew}
 
 module _ {X : Type 0} where
   pub in_none : (t : ℕ) (x : X) → slice_get {X = X} [] t ≡ Some x → ⊥

@@ -9,16 +9,19 @@ use Rattle.std.proofs.lemmas.List.Elements.{All-nil, All-cons, All-head, All-tai
 use Rattle.std.proofs.lemmas.List.Sorted.{IsPermutation-refl, IsPermutation-reverse}
 use Rattle.mj_links.specs.Sinks.{WritesPrefix}
 use Rattle.mj_words.specs.Asked.{ServedWith}
+use Rattle.mj_ports.specs.declared.entry.Entry.{Entry}
+use Rattle.mj_deeds.specs.declared.answer.Answer.{Answer}
 use Rattle.mj_history.specs.After.{after}
 use Rattle.mj_forms.specs.AnswerForms.{answer_of, join_of}
 use Rattle.mj_history.specs.Shown.{shown_of, sits_of, hears_of, control_line}
 use Rattle.mj_history.specs.Legal.{Game, IsLegal, is_over}
-use Rattle.mj_seats.specs.declared.handle.HandlerEnd.{HandlerEnd}
-use Rattle.mj_seats.specs.declared.handle.HandlerEnd.TheVariants as handled
-use Rattle.mj_seats.specs.declared.handle.Session.{Session}
+use Rattle.mj_handlers.specs.declared.visit.HandlerEnd.{HandlerEnd}
+use Rattle.mj_handlers.specs.declared.visit.HandlerEnd.TheVariants as handled
+use Rattle.mj_handlers.specs.declared.visit.Session.{Session}
 use Rattle.mj_session.specs.Wires.{at_link}
 use Rattle.mj_seats.specs.Workers.{IsPlayedBy}
-use Rattle.mj_seats.specs.Tables.{sits_at, AllEndWith, EndsWith}
+use Rattle.mj_seats.specs.Tables.{AllEndWith, EndsWith}
+use Rattle.mj_handlers.specs.Picks.{sits_at}
 use Rattle.mj_served.specs.Served.{has_ended}
 use Rattle.mj_served.specs.Plans.{TableGame, PlaysAt}
 use Rattle.mj_served.proofs.Serving.{served}
@@ -26,8 +29,8 @@ use Rattle.mj_hosting.specs.declared.plays.ServeEnd.{ServeEnd}
 use Rattle.mj_hosting.specs.declared.plays.ServeEnd.TheVariants as ends
 use Rattle.mj_hosting.specs.declared.rooms.Rooms.{Rooms}
 use Rattle.mj_hosting.specs.Plays.{AppendsLinks, Outside, outside, PlaysBy, AreAbandoned, HasLostEach, games_of, have_ended}
-use Rattle.mj_hosting.specs.Inner.Rooms.{count_of, handlers_for, picked_for, text_for, plan_for}
-use Rattle.mj_hosting.specs.Inner.Steps.{AreNew, WritesGames, all_over, links_at, links_in}
+use Rattle.mj_hosting.specs.Rooms.{count_of, handlers_for, picked_for, text_for, plan_from}
+use Rattle.mj_hosting.specs.Steps.{AreBegun, WritesGames, all_over, links_at, links_in}
 use Rattle.mj_hosting.proofs.NewLaws.{in_none, beside}
 
 -- What follows an opening that neither failed nor gave a link back.
@@ -81,7 +84,7 @@ module _ {L : Type 0} where
     pub in_rows : slice_get rows t ≡ Some sessions
     pub is : record { game = game; links = links_at sessions } ≡ table
 
-  table_at : (games : List Game) (rows : List (List (Session L))) (t : ℕ) (table : TableGame L) → length rows ≡ length games → slice_get (tables_of games rows) t ≡ Some table → IsAt games rows t table
+  pub table_at : (games : List Game) (rows : List (List (Session L))) (t : ℕ) (table : TableGame L) → length rows ≡ length games → slice_get (tables_of games rows) t ≡ Some table → IsAt games rows t table
   unfolding tables_of
   table_at [] rows t table size at = absurd (in_none t table at)
   table_at (game ∷ games) [] t table size at = absurd (omega (arith, size))
@@ -131,7 +134,7 @@ not_ended games off all = false≢true (sym off ∙ over games all)
 -- the command
 
 module _ {L F : Type 0} (read left written : L → Option (List ℕ)) (read_faults write_faults : L → ℕ) (made : F → Type 0) (number : F → ℕ) where
-  module _ (rooms : Rooms) (s : ServedWith) (old_readings new_readings : Option (List ℕ)) where
+  module _ (rooms : Rooms) (s : ServedWith) (first : ℕ → List (Entry Answer)) (old_readings new_readings : Option (List ℕ)) where
     -- What comes of a game that was played at this table.
     abbrev IsPlayed : ℕ → ℕ → Game → Game → List (Session L) → Type 0
     IsPlayed handlers t was game sessions =
@@ -141,33 +144,33 @@ module _ {L F : Type 0} (read left written : L → Option (List ℕ)) (read_faul
         handlers was.entries game.entries sessions old_readings new_readings
 
     -- The game of each table is served there by the plan.
-    pub served_each : (handlers : ℕ) (were games : List Game) (rows : List (List (Session L))) → handlers ≡ handlers_for rooms → AreNew s (count_of rooms) were
+    pub served_each : (handlers : ℕ) (were games : List Game) (rows : List (List (Session L))) → handlers ≡ handlers_for rooms → AreBegun s first (count_of rooms) were
         → length games ≡ length were → length rows ≡ length were
         → ((t : ℕ) (was game : Game) (sessions : List (Session L)) → slice_get were t ≡ Some was → slice_get games t ≡ Some game → slice_get rows t ≡ Some sessions
         → IsPlayed handlers t was game sessions)
         → (t : ℕ) (table : TableGame L) → slice_get (tables_of games rows) t ≡ Some table
-        → PlaysAt read left written read_faults write_faults (plan_for rooms s) t table old_readings new_readings
+        → PlaysAt read left written read_faults write_faults (plan_from rooms s first) t table old_readings new_readings
     served_each handlers were games rows same new games_many rows_many played t table at =
         let found = table_at games rows t table (rows_many ∙ sym games_many) at in
         let before = beside games were t found.game (sym games_many) found.in_games in
         let is = subst (λ (was : Game). IsPlayed (handlers_for rooms) t was found.game found.sessions) (new.each t before.0 before.1)
         (subst (λ (h : ℕ). IsPlayed h t before.0 found.game found.sessions) same (played t before.0 found.game found.sessions before.1 found.in_games found.in_rows)) in
-        subst (λ (x : TableGame L). PlaysAt read left written read_faults write_faults (plan_for rooms s) t x old_readings new_readings) found.is
-        (served read left written read_faults write_faults (plan_for rooms s) t found.game found.sessions (links_at found.sessions) old_readings new_readings
+        subst (λ (x : TableGame L). PlaysAt read left written read_faults write_faults (plan_from rooms s first) t x old_readings new_readings) found.is
+        (served read left written read_faults write_faults (plan_from rooms s first) t found.game found.sessions (links_at found.sessions) old_readings new_readings
         is.0 is.1 is.2 (IsPermutation-refl (links_at found.sessions)))
 
   -- The end of a command, by what was written of the games.
-  module _ (rooms : Rooms) (s : ServedWith) (games : List Game) (rows : List (List (Session L))) (old new : Outside L)
+  module _ (rooms : Rooms) (s : ServedWith) (first : ℕ → List (Entry Answer)) (games : List Game) (rows : List (List (Session L))) (old new : Outside L)
       (many : length games ≡ count_of rooms) (rows_many : length rows ≡ length games) (opened : Appends old.ports new.ports (s.port ∷ []))
       (none : new.open_faults ≡ old.open_faults)
       (served_is : (t : ℕ) (table : TableGame L) → slice_get (tables_of games rows) t ≡ Some table
-      → PlaysAt read left written read_faults write_faults (plan_for rooms s) t table old.readings new.readings)
+      → PlaysAt read left written read_faults write_faults (plan_from rooms s first) t table old.readings new.readings)
       (back : AppendsLinks old.returned new.returned (reverse (links_in rows)))
       (lost : (have_ended games → ⊥) → HasLostEach made number (handlers_for rooms)) where
     abbrev Abandoned : List Game → Type 0
     Abandoned gs = AreAbandoned read left written read_faults write_faults made number (handlers_for rooms) gs
 
-    pub plays_by : (end : ServeEnd) → WritesGames end (text_for rooms) games old.written new.written → PlaysBy read left written read_faults write_faults made number end (plan_for rooms s) old new
+    pub plays_by : (end : ServeEnd) → WritesGames end (text_for rooms) games old.written new.written → PlaysBy read left written read_faults write_faults made number end (plan_from rooms s first) old new
     plays_by ends.Over h = record {
       tables = tables_of games rows;
       links = reverse (links_in rows);
@@ -210,3 +213,19 @@ module _ {L F : Type 0} (read left written : L → Option (List ℕ)) (read_faul
         either true e = inl (ended games e)
         either false e = inr (not_ended games e, lost (not_ended games e))
     plays_by ends.NoMemory h = h
+
+    -- The tables are those of the games and their sessions.
+    abbrev pub HasTables : (end : ServeEnd) → PlaysBy read left written read_faults write_faults made number end (plan_from rooms s first) old new → Type 0
+    HasTables ends.Over p = p.tables ≡ tables_of games rows
+    HasTables ends.HostLost p = p.tables ≡ tables_of games rows
+    HasTables ends.NotOpened p = Unit {0}
+    HasTables ends.WriteFault p = p.tables ≡ tables_of games rows
+    HasTables ends.NoMemory p = Unit {0}
+
+    pub tables_are : (end : ServeEnd) (h : WritesGames end (text_for rooms) games old.written new.written) → HasTables end (plays_by end h)
+    unfolding plays_by
+    tables_are ends.Over h = refl
+    tables_are ends.HostLost h = refl
+    tables_are ends.NotOpened h = absurd h
+    tables_are ends.WriteFault h = refl
+    tables_are ends.NoMemory h = tt

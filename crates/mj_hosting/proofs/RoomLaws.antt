@@ -8,11 +8,11 @@ use Rattle.serde_json.specs.Find.{get, as_str}
 use Rattle.mj_ports.specs.declared.sitting.JoinLine.{JoinLine}
 use Rattle.mj_ports.specs.declared.picking.Picked.TheVariants.{BadName}
 use Rattle.mj_forms.specs.AnswerForms.{join_of, join_in, value_of, picked_of, picked_in, picked_by, room_by, room_below, room_number}
-use Rattle.mj_seats.specs.Tables.{IsBelow}
+use Rattle.mj_handlers.specs.Picks.{IsBelow}
 use Rattle.mj_hosting.specs.declared.rooms.Rooms.{Rooms}
 use Rattle.mj_hosting.specs.declared.rooms.Rooms.TheVariants.{One, Many}
 use Rattle.mj_hosting.specs.Plans.{picked_by_join, picked_for_one}
-use Rattle.mj_hosting.specs.Inner.Rooms.{AreWithin, count_of, handlers_for, picked_for}
+use Rattle.mj_hosting.specs.Rooms.{AreWithin, count_of, handlers_for, picked_for}
 
 below_by : (rooms : ℕ) → 1 ≤ rooms → (room : Option Data) (t : ℕ) → room_by rooms room ≡ Some t → t < rooms
 below_by rooms some None t e = omega (arith, some, first t e)

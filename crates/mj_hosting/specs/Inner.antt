@@ -1,3 +1,2 @@
--- What single steps of served games come to. No definition outside the crate names them, and no public clause.
-pub mod Rooms
-pub mod Steps
+-- What the giving back of links keeps while it goes. No definition outside the crate names it, and no public clause.
+pub mod Giving

@@ -1,14 +1,14 @@
 //! How the links of sessions go back to their host.
 
 ghost use Rattle.std.specs.Prelude.{◌≡◌, reverse};
-ghost use Rattle.mj_seats.specs.Handlers.{rows};
-ghost use Rattle.mj_hosting.specs.Inner.Steps.{GivesAllBack, links_at, links_in};
+ghost use Rattle.mj_handlers.specs.Handlers.{rows};
+ghost use Rattle.mj_hosting.specs.Steps.{GivesAllBack, links_at, links_in};
 
 use mj_links::{Given, Host};
 use mj_seats::Session;
 
 /// Gives back the links of the sessions at all tables, each with the place of its connection.
-pub(crate) fn give_all<H: Host>(host: &mut H, mut sessions: Vec<Vec<Session<H::Link>>>) -> Given
+pub fn give_all<H: Host>(host: &mut H, mut sessions: Vec<Vec<Session<H::Link>>>) -> Given
     ensures back { GivesAllBack result (H.returned host.old) (H.returned host.new)
         (reverse (links_in (rows sessions.items))) }
     ensures ports { H.ports host.new ≡ H.ports host.old }

@@ -8,6 +8,9 @@ mod serve;
 mod status;
 mod writing;
 
-pub use plays::ServeEnd;
+pub use giving::give_all;
+pub use plays::{ServeEnd, has_thread, new_games};
+pub use rooms::Rooms;
 pub use serve::{serve_game, serve_tables};
 pub use status::status_of_serve;
+pub use writing::write_games;

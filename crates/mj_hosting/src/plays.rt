@@ -7,8 +7,8 @@ ghost use Rattle.mj_words.specs.Commands.{served_with};
 ghost use Rattle.mj_hosting.specs.Plans.{table_setting};
 ghost use Rattle.mj_hosting.specs.Plays.{PlaysBy, outside};
 ghost use Rattle.mj_hosting.specs.Statuses.{serve_status};
-ghost use Rattle.mj_hosting.specs.Inner.Rooms.{AreWithin, count_of, plan_for};
-ghost use Rattle.mj_hosting.specs.Inner.Steps.{AreNew};
+ghost use Rattle.mj_hosting.specs.Rooms.{AreWithin, count_of, plan_for};
+ghost use Rattle.mj_hosting.specs.Steps.{AreNew};
 ghost use Rattle.mj_runs.specs.Faults.{CountsWriteFaults};
 
 use crate::giving::give_all;
@@ -72,8 +72,8 @@ pub(crate) fn play_games<K: Sink, H: Host, C: Clock, R: Threads + Wait + Sync>(
     }
 }
 
-// Whether the system gives a thread. Without one the workers would come one after another, and no game would begin.
-fn has_thread<R: Threads>(rt: &R) -> bool {
+/// Whether the system gives a thread. Without one the workers would come one after another, and no game would begin.
+pub fn has_thread<R: Threads>(rt: &R) -> bool {
     match spawn(rt, || {}) {
         Ok(handle) => {
             handle.join(rt);
@@ -83,8 +83,8 @@ fn has_thread<R: Threads>(rt: &R) -> bool {
     }
 }
 
-// The games of all rooms before their first entries.
-fn new_games(alloc: Global, rooms: Rooms, serving: &Serving) -> Result<Vec<Core>, AllocError>
+/// The games of all rooms before their first entries.
+pub fn new_games(alloc: Global, rooms: Rooms, serving: &Serving) -> Result<Vec<Core>, AllocError>
     ensures { IfOk result (λ games. AreNew (served_with serving.now) (count_of rooms) games.items) }
 {
     let mut games = Vec::new(alloc);

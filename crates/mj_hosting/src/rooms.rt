@@ -2,7 +2,7 @@
 
 ghost use Rattle.std.specs.Prelude.{◌≡◌, IfOk};
 ghost use Rattle.mj_hosting.specs.Plans.{picked_for_one};
-ghost use Rattle.mj_hosting.specs.Inner.Rooms.{AreWithin, count_of, handlers_for};
+ghost use Rattle.mj_hosting.specs.Rooms.{AreWithin, count_of, handlers_for};
 
 use mj_ports::{Picked, Picker};
 use mjai_answers::{read_join, read_room};
@@ -10,16 +10,16 @@ use std::alloc::{AllocError, Global};
 
 /// Which rooms a host has, with a table in each.
 #[derive(Clone, Copy)]
-pub(crate) enum Rooms {
-    /// The one of the command `serve`.
+pub enum Rooms {
+    /// The one that each join is for, as of the command `serve`.
     One,
-    /// Those of the command `tables`, 1 to 8.
+    /// So many, 1 to 8, that joins name, as of the command `tables`.
     Many(u8),
 }
 
 impl Rooms {
     /// How many there are.
-    pub(crate) fn count(self) -> u8
+    pub fn count(self) -> u8
         ensures { result ≡ count_of self }
     {
         match self {
@@ -29,7 +29,7 @@ impl Rooms {
     }
 
     /// How many handlers take links for them; the ticker has the number after theirs.
-    pub(crate) fn handlers(self) -> u8
+    pub fn handlers(self) -> u8
         requires { AreWithin self }
         ensures { result ≡ handlers_for self }
     {
@@ -42,7 +42,7 @@ impl Rooms {
 
 /// Picks the table of a join: the one there is, or by its room.
 impl Picker for Rooms {
-    ghost use Rattle.mj_hosting.specs.Inner.Rooms.{picked_for};
+    ghost use Rattle.mj_hosting.specs.Rooms.{picked_for};
 
     ghost picks = { λ rooms line. picked_for rooms line };
 

@@ -4,8 +4,8 @@ ghost use Rattle.std.specs.Prelude.{◌≡◌, ◌<◌, ◌+◌, ◌^◌, OnOk, 
 ghost use Rattle.mj_bytes.specs.Adds.{Adds};
 ghost use Rattle.mj_hosting.specs.Plans.{record_of_one, records_from};
 ghost use Rattle.mj_hosting.specs.Statuses.{serve_status};
-ghost use Rattle.mj_hosting.specs.Inner.Rooms.{text_for};
-ghost use Rattle.mj_hosting.specs.Inner.Steps.{WritesGames, all_over};
+ghost use Rattle.mj_hosting.specs.Rooms.{text_for};
+ghost use Rattle.mj_hosting.specs.Steps.{WritesGames, all_over};
 ghost use Rattle.mj_runs.specs.Faults.{CountsWriteFaults};
 
 use crate::plays::ServeEnd;
@@ -16,12 +16,7 @@ use mj_links::{Sink, WriteAll, write_all};
 use std::alloc::{AllocError, Global};
 
 /// Writes what there is of the games of the rooms: the record of the one, or the records of many, in order.
-pub(crate) fn write_games<K: Sink>(
-    alloc: Global,
-    rooms: Rooms,
-    games: &[Core],
-    sink: &mut K,
-) -> ServeEnd
+pub fn write_games<K: Sink>(alloc: Global, rooms: Rooms, games: &[Core], sink: &mut K) -> ServeEnd
     ensures games { WritesGames result (text_for rooms) games.now (K.written sink.old) (K.written sink.new) }
     ensures writes { CountsWriteFaults (serve_status result) (K.write_faults sink.old)
         (K.write_faults sink.new) }

@@ -1,5 +1,6 @@
 use Rattle.std.proofs.Common.{◌≡◌, vec_len}
-use Rattle.mj_hosting.specs.Inner.Steps.{Giving, links_at}
+use Rattle.mj_hosting.specs.Steps.{links_at}
+use Rattle.mj_hosting.specs.Inner.Giving.{Giving}
 use Rattle.mj_hosting.proofs.giving.give.Given as goal
 
 abbrev pub invariant-loop-session : goal.invariant-loop-session

@@ -1,6 +1,7 @@
 use Rattle.std.proofs.Common.{◌≡◌, vec_len}
-use Rattle.mj_seats.specs.Handlers.{rows}
-use Rattle.mj_hosting.specs.Inner.Steps.{Giving, links_in}
+use Rattle.mj_handlers.specs.Handlers.{rows}
+use Rattle.mj_hosting.specs.Steps.{links_in}
+use Rattle.mj_hosting.specs.Inner.Giving.{Giving}
 use Rattle.mj_hosting.proofs.giving.give_all.Given as goal
 
 abbrev pub invariant-loop-own : goal.invariant-loop-own

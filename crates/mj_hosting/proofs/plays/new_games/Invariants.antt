@@ -1,5 +1,5 @@
 use Rattle.mj_words.specs.Commands.{served_with}
-use Rattle.mj_hosting.specs.Inner.Steps.{AreNew}
+use Rattle.mj_hosting.specs.Steps.{AreNew}
 use Rattle.mj_hosting.proofs.plays.new_games.Given as goal
 
 abbrev pub invariant-loop-table : goal.invariant-loop-table

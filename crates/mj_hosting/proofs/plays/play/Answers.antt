@@ -5,11 +5,11 @@ use Rattle.mj_ports.specs.declared.entry.Entry.{Entry}
 use Rattle.mj_ports.specs.Entries.{author_of}
 use Rattle.mj_deeds.specs.declared.answer.Answer.{Answer}
 use Rattle.mj_history.specs.Legal.{Game}
-use Rattle.mj_seats.specs.Handlers.{rows}
-use Rattle.mj_seats.specs.Tables.{IsBelow}
+use Rattle.mj_handlers.specs.Handlers.{rows}
+use Rattle.mj_handlers.specs.Picks.{IsBelow}
 use Rattle.mj_hosting.specs.Plays.{HasLostEach, have_ended}
-use Rattle.mj_hosting.specs.Inner.Rooms.{picked_for, text_for}
-use Rattle.mj_hosting.specs.Inner.Steps.{WritesGames}
+use Rattle.mj_hosting.specs.Rooms.{picked_for, text_for}
+use Rattle.mj_hosting.specs.Steps.{WritesGames}
 use Rattle.mj_hosting.proofs.RoomLaws.{rooms_below, some_room, few_handlers}
 use Rattle.mj_hosting.proofs.NewLaws.{none_entered}
 use Rattle.mj_hosting.proofs.PlayLaws.{served_each, plays_by, each_lost, more_lost}
@@ -30,12 +30,12 @@ play_tables-requires-clause-picks g c = λ κs o line. subst (λ (n : ℕ). IsBe
 pub returns-in-Kept-clause-plays : goal.returns-in-Kept-clause-plays
 returns-in-Kept-clause-plays g c = λ s first new opened.
     plays_by g.H.Link.Link.was_read g.H.Link.Source.left g.H.Link.Sink.written g.H.Link.Source.read_faults g.H.Link.Sink.write_faults
-    (g.H.Host.made_by c.give_all.new.host) g.H.Fault.Numbered.number c.args.rooms s c.play_tables.new.games.items (rows c.in-Ok.played.sessions.items) _ _
+    (g.H.Host.made_by c.give_all.new.host) g.H.Fault.Numbered.number c.args.rooms s (λ t. []) c.play_tables.new.games.items (rows c.in-Ok.played.sessions.items) _ _
     (c.in-Ok.ensures.games.many ∙ new.many) (c.in-Ok.ensures.played.third ∙ sym c.in-Ok.ensures.played.second)
     (subst (λ (o : Option (List ℕ)). Appends first o (s.port ∷ [])) (sym c.in-Kept.ensures.ports) opened)
     c.in-Kept.ensures.openings
     (served_each g.H.Link.Link.was_read g.H.Link.Source.left g.H.Link.Sink.written g.H.Link.Source.read_faults g.H.Link.Sink.write_faults
-    (g.H.Host.made_by c.give_all.new.host) g.H.Fault.Numbered.number c.args.rooms s _ _ c.handlers-handlers.result c.args.games.items
+    (g.H.Host.made_by c.give_all.new.host) g.H.Fault.Numbered.number c.args.rooms s (λ t. []) _ _ c.handlers-handlers.result c.args.games.items
     c.play_tables.new.games.items (rows c.in-Ok.played.sessions.items) c.handlers-handlers.ensures new
     c.in-Ok.ensures.played.second c.in-Ok.ensures.played.third c.in-Ok.ensures.played.each)
     c.in-Kept.ensures.back

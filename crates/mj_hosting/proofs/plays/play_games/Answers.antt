@@ -1,6 +1,6 @@
 use Rattle.mj_words.specs.Commands.{served_with}
 use Rattle.mj_hosting.specs.Plays.{outside, PlaysBy}
-use Rattle.mj_hosting.specs.Inner.Rooms.{plan_for}
+use Rattle.mj_hosting.specs.Rooms.{plan_for}
 use Rattle.mj_hosting.proofs.PlayLaws.{after_opening}
 use Rattle.mj_hosting.proofs.plays.play_games.Goals as goal
 

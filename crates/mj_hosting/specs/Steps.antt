@@ -1,23 +1,29 @@
 -- What single steps of served games come to.
-use Rattle.std.specs.Prelude.{◌≡◌, ℕ, Bool, true, false, List, [], ◌∷◌, ◌++◌, length, map, reverse, Option, Some, slice_get}
+use Rattle.std.specs.Prelude.{◌≡◌, ℕ, Bool, true, false, List, [], ◌∷◌, ◌++◌, length, map, Option, Some, slice_get}
 use Rattle.std.specs.List.{list_all}
 use Rattle.std.specs.Io.KnownBytes.{Appends, Keeps}
 use Rattle.mj_words.specs.Asked.{ServedWith}
+use Rattle.mj_ports.specs.declared.entry.Entry.{Entry}
+use Rattle.mj_deeds.specs.declared.answer.Answer.{Answer}
 use Rattle.mj_links.specs.declared.host.Given.{Given}
 use Rattle.mj_links.specs.declared.host.Given.TheVariants as given
 use Rattle.mj_links.specs.Sinks.{WritesPrefix}
 use Rattle.mj_history.specs.After.{after}
 use Rattle.mj_history.specs.Legal.{Game, is_over}
-use Rattle.mj_seats.specs.declared.handle.Session.{Session}
+use Rattle.mj_handlers.specs.declared.visit.Session.{Session}
 use Rattle.mj_hosting.specs.declared.plays.ServeEnd.{ServeEnd}
 use Rattle.mj_hosting.specs.declared.plays.ServeEnd.TheVariants as ends
 use Rattle.mj_hosting.specs.Plans.{table_setting}
 use Rattle.mj_hosting.specs.Plays.{AppendsLinks}
 
--- So many games are those of the tables before their first entries.
-pub record AreNew (s : ServedWith) (count : ℕ) (games : List Game) : Type 0 where
+-- So many games are those of the tables, each with these entries.
+pub record AreBegun (s : ServedWith) (first : ℕ → List (Entry Answer)) (count : ℕ) (games : List Game) : Type 0 where
   pub many : length games ≡ count
-  pub each : (t : ℕ) (game : Game) → slice_get games t ≡ Some game → game ≡ record { setting = table_setting s t; entries = [] }
+  pub each : (t : ℕ) (game : Game) → slice_get games t ≡ Some game → game ≡ record { setting = table_setting s t; entries = first t }
+
+-- Before their first entries.
+abbrev pub AreNew : ServedWith → ℕ → List Game → Type 0
+AreNew s count games = AreBegun s (λ t. []) count games
 
 -- A link with the place of its connection.
 abbrev pub placed_link : {L : Type 0} → Session L → L × ℕ
@@ -35,12 +41,6 @@ links_in (sessions ∷ rows) = links_at sessions ++ links_in rows
 abbrev pub GivesAllBack : {X : Type 0} → Given → Option (List X) → Option (List X) → List X → Type 0
 GivesAllBack given.Kept old new links = AppendsLinks old new links
 GivesAllBack given.NoMemory old new links = Unit {0}
-
--- So many links were given back, from the last one on, and the rest of them is left.
-pub record Giving {X : Type 0} (old now : Option (List X)) (all rest : List X) : Type 0 where
-  pub taken : List X
-  pub back : AppendsLinks old now taken
-  pub left : reverse all ≡ taken ++ reverse rest
 
 -- All games are over.
 abbrev pub all_over : List Game → Bool

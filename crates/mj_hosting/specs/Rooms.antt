@@ -1,7 +1,9 @@
 -- What is asked of the rooms of a host.
 use Rattle.std.specs.Prelude.{ℕ, ◌≤◌, List, []}
 use Rattle.mj_words.specs.Asked.{ServedWith}
+use Rattle.mj_ports.specs.declared.entry.Entry.{Entry}
 use Rattle.mj_ports.specs.declared.picking.Picked.{Picked}
+use Rattle.mj_deeds.specs.declared.answer.Answer.{Answer}
 use Rattle.mj_forms.specs.AnswerForms.{picked_of}
 use Rattle.mj_history.specs.Legal.{Game}
 use Rattle.mj_seats.specs.Tables.{handlers_of}
@@ -34,14 +36,18 @@ abbrev pub text_for : Rooms → List Game → List ℕ
 text_for rooms.One = record_of_one
 text_for (rooms.Many n) = λ games. records_from games 0
 
--- The plan of the command: at `One` and at `Many` it is `one_table` and `many_tables`.
-abbrev pub plan_for : Rooms → ServedWith → Plan
-plan_for rooms s = record {
+-- The plan of the command where the games begin with these entries; where they begin with none it is `one_table` at `One`, and
+-- `many_tables` at `Many`.
+abbrev pub plan_from : Rooms → ServedWith → (ℕ → List (Entry Answer)) → Plan
+plan_from rooms s first = record {
   tables = count_of rooms;
   handlers = handlers_for rooms;
   picked = picked_for rooms;
   setting = table_setting s;
-  first = λ t. [];
+  first = first;
   port = s.port;
   text = text_for rooms;
 }
+
+abbrev pub plan_for : Rooms → ServedWith → Plan
+plan_for rooms s = plan_from rooms s (λ t. [])
