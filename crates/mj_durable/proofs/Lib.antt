@@ -1,0 +1,7 @@
+pub mod JournalLaws
+pub mod SendLaws
+pub mod TagLaws
+pub mod OpeningLaws
+pub mod GoingLaws
+pub mod HostLaws
+pub mod EndLaws

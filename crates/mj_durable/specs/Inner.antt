@@ -1,0 +1,2 @@
+-- What single steps of hosted games come to. No definition outside the crate names them, and no public clause.
+pub mod Steps

@@ -1,0 +1,5 @@
+pub mod Words
+pub mod Journals
+pub mod Host
+pub mod Statuses
+pub mod Inner

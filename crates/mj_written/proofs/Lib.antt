@@ -1,0 +1,4 @@
+pub mod Writings
+pub mod Authoring
+pub mod Vacatings
+pub mod Present

@@ -1,0 +1,4 @@
+pub mod Authors
+pub mod Hearing
+pub mod Vacating
+pub mod Writing
