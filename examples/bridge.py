@@ -14,6 +14,11 @@ is stood in for: it passes, or discards the tile that it drew. For an answer tha
 stands in. The first time of each is said on standard error; all of it,
 what the bridge changed and the program's standard error go to a log. The exit code is 0 where the game was played to its
 end and each answer is the program's own, 1 where it was not, and 2 where the words are wrong.
+
+With --led, as a league seats a program, it says that it is there, and joins when a line has come on its standard input. It says that
+it is ready once it has been told all that it was told before, and gives its first answer after another line. It keeps its counts
+in the report's file, and the next bridge of the seat goes on with them; what the seat might have done in windows that were over
+when it came back is counted as stood in for.
 """
 from __future__ import annotations
 
@@ -224,12 +229,30 @@ class Report:
     starts: int = 0
     returns: int = 0  # connections that broke and were made again
     asked: int = 0  # events that the program was to answer
+    events: int = 0  # of the game, as far as they were answered
     stood_in: int = 0  # answers that the bridge or the table gave in its place
     restarts: int = 0  # starts after the first
     run_out: int = 0  # windows that were over by the limit before the answer was sent
     late: int = 0  # answers of the program that came after their time
     ended: list[Event] = dataclasses.field(default_factory=list)  # each time that it ended: event, code, stderr
     never_answered: bool = False
+
+    @classmethod
+    def of(cls, words: argparse.Namespace) -> Report:
+        """A new one, or for a league that of the bridge before, where there was one."""
+        if not words.led or not os.path.exists(words.report):
+            return cls(words.name)
+        with open(words.report, encoding="utf-8") as file:
+            found = cls(**json.load(file))
+        found.starts = max(0, found.starts - 1)  # the next start is no restart
+        found.problem = None
+        return found
+
+    def keep(self, path: str) -> None:
+        """Writes it to its file, which is never there in part."""
+        with open(path + ".part", "w", encoding="utf-8") as file:
+            json.dump(dataclasses.asdict(self), file)
+        os.replace(path + ".part", path)
 
     def count_start(self) -> None:
         self.starts += 1
@@ -271,7 +294,9 @@ class Player:
         self.is_own = False  # whether the first of these is the program's
         self.has_left = False  # whether it ended by itself when the game was over
         self.silent = 0  # how often in a row
-        self.report = Report(words.name)
+        self.report = Report.of(words)
+        self.asked = 0  # events that the program was to answer
+        self.is_ready = self.is_let = False  # to answer; by the league
         self.warned: set[str] = set()
 
     def say(self, text: str) -> None:
@@ -298,6 +323,28 @@ class Player:
         self.events.append(told)
         return told
 
+    def hear_past(self, line: str, event: Event) -> None:
+        """Takes an event that wants no answer any more."""
+        told = self.hear(line, event)
+        if self.words.led and told.is_asked:
+            self.asked += 1
+            if self.asked > self.report.asked:
+                self.report.asked = self.asked
+                self.report.stood_in += may_act(event, self.hand.seat)
+
+    def is_back(self) -> None:
+        """It has been told all that it was told before."""
+        if self.words.led and not self.is_ready:
+            self.is_ready = True
+            print(f"{self.words.name} is ready", flush=True)
+
+    def wait_for_the_others(self) -> None:
+        """Before the first answer, until a league says that all are ready: who answers while others are away closes windows."""
+        self.is_back()
+        if self.words.led and not self.is_let:
+            self.is_let = True
+            sys.stdin.readline()
+
     def is_asked(self, event: Event) -> bool:
         """Whether the program answers an event."""
         if self.words.style == "line":
@@ -316,7 +363,8 @@ class Player:
         if not told.is_asked:
             self.tell_only()
             return self.answers[0]
-        self.report.asked += 1
+        self.asked += 1
+        self.report.asked = self.asked
         answer = self.ask()
         if answer is not None:
             self.report.answers += 1
@@ -545,12 +593,14 @@ class Connection:
                 self.table.join()
             elif kind == "replay":
                 self.past = event["count"]
+                if self.past == 0:
+                    self.player.is_back()
             elif kind == "error" and "sit" in event:
                 if event["message"] == "NameTaken" and self.player.report.returns:
                     return None  # the server hasn't seen yet that the connection before is gone
                 raise Lost(f"no seat: {event['message']}")
             elif kind == "error":
-                self.table.send(self.player.refused(event["message"]))
+                self.reply(self.player.refused(event["message"]))
             else:
                 self.hear(line, event)
                 if kind == "end_game":
@@ -561,20 +611,31 @@ class Connection:
         # a table that has waited in vain went on at once, and tells of it only after the answer that it no longer wants
         since = min(time.monotonic(), self.over)
         self.heard += 1
+        if event["type"] == "start_game" and not self.player.events:
+            print(f"{self.table.words.name} has seat {event['id']}", flush=True)
         if self.past > 0:
             self.past -= 1
             if self.heard > len(self.player.events):
-                self.player.hear(line, event)
+                self.player.hear_past(line, event)
+            if self.past == 0:
+                self.player.is_back()
             return
+        self.player.wait_for_the_others()
         is_known = self.heard == len(self.player.events) and self.player.answers
         answer = self.player.answers[0] if is_known else self.player.answer(line, event)
         taken, limit = time.monotonic() - since, self.table.words.limit / 1000
         self.over = since + limit if taken >= limit else math.inf
         if taken >= limit:
             self.player.ran_out(taken)
+        self.reply(answer)
+
+    def reply(self, answer: str) -> None:
+        """Sends an answer, of which the report tells already."""
+        report = self.player.report
+        report.events = len(self.player.events)
+        if self.table.words.led:
+            report.keep(self.table.words.report)
         self.table.send(answer)
-        if event["type"] == "start_game":
-            print(f"{self.table.words.name} has seat {event['id']}", flush=True)
 
 
 def play(table: Table, player: Player) -> Event:
@@ -628,8 +689,12 @@ def read_words() -> argparse.Namespace:
         parser.add_argument(word, default=text, metavar=unit, help=purpose)
     for word, unit, number, purpose in numbers:
         parser.add_argument(word, type=int, default=number, metavar=unit, help=purpose + " (default: %(default)s)")
+    parser.add_argument("--led", action="store_true", help="let a league lead it, with a --report that goes on")
     parser.add_argument("command", nargs="+", metavar="COMMAND", help="the program and its words, after --")
-    return parser.parse_args()
+    words = parser.parse_args()
+    if words.led and not words.report:
+        parser.error("--led wants a --report")
+    return words
 
 
 def run(words: argparse.Namespace, player: Player, table: Table) -> None:
@@ -639,6 +704,9 @@ def run(words: argparse.Namespace, player: Player, table: Table) -> None:
             raise FileNotFoundError(2, os.strerror(2), words.command[0])
         if not any(SEAT in word for word in words.command):
             player.start()
+        if words.led:
+            print(f"{words.name} is there", flush=True)
+            sys.stdin.readline()
         player.report.scores = play(table, player)["scores"]
     except Lost as lost:
         player.report.problem = str(lost)
@@ -665,10 +733,9 @@ def main() -> None:
     report = player.report
     if words.report:
         try:
-            with open(words.report, "w", encoding="utf-8") as file:
-                json.dump(dataclasses.asdict(report), file)
+            report.keep(words.report)
         except OSError as error:
-            report.problem = report.problem or f"the report {error.filename}: {error.strerror}"
+            report.problem = report.problem or f"the report {words.report}: {error.strerror}"
     if report.problem or report.scores is None:
         sys.exit(f"{words.name}: {report.problem}")
     print(f"{words.name}: scores", *report.scores)

@@ -17,7 +17,7 @@ import tables
 import walls
 from console import Console, Level, Say
 from folder import League, games_of
-from play import Broken, Game, Outcome, Task
+from play import Broken, Game, Outcome, Task, forget
 from programs import Program, Wrong
 
 PAGE = pathlib.Path(__file__).resolve().parent.parent / "viewer" / "page.py"
@@ -85,6 +85,8 @@ class Run:
             await self.engine.close()
 
     async def play_blocks(self) -> None:
+        for number in self.league.games:
+            forget(self.league.file(number, ""))
         blocks = self.words.games // 4
         first = self.first_blocks(blocks)
         for part in (*(range(block, block + 1) for block in range(first)), range(first, blocks)):
@@ -164,11 +166,13 @@ class Run:
         league, record = self.league, outcome["record"]
         seed = walls.seed_of(self.seed, number // 4)
         if problem := await asyncio.to_thread(check.problem_of_record, league, number, seed, record, self.words.program):
+            forget(league.file(number, ""))
             raise Broken(problem)
         for name, text in outcome["logs"].items():
             (league.folder / "games" / pathlib.PurePath(name).name).write_text(text, encoding="utf-8")
         rows = {name: {**row, **results.reported(outcome["reports"][name])} for name, row in results.counted(record).items()}
         league.keep(number, record, {"record": check.hash_of(record), "broken": breaks, "programs": rows})
+        forget(league.file(number, ""))
         if self.words.pages:
             make_page(league, number)
 

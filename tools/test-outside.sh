@@ -33,6 +33,7 @@ TESTS='
 400 league/tests/test_faults.py
 400 league/tests/test_cluster.py
 300 tools/tests/test_release.py
+400 tools/tests/test_host.py
 900 viewer/tests/test_viewer.py
 120 bindings/page/tests/test_page.py
 400 bindings/c/tests/test_c.py

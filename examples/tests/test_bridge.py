@@ -42,7 +42,7 @@ class Seated(unittest.TestCase):
 
     def run_bridge(self, *words: object) -> subprocess.CompletedProcess[str]:
         command = [sys.executable, BRIDGE, "--name", "anna", "--log", self.folder / "log", "--report", self.folder / "report", *words]
-        return subprocess.run([str(it) for it in command], capture_output=True, text=True, timeout=60)
+        return subprocess.run([str(it) for it in command], stdin=subprocess.DEVNULL, capture_output=True, text=True, timeout=60)
 
     def read(self) -> list[Any]:
         """The lines that the program was given."""
@@ -242,6 +242,22 @@ class Bridge(Seated):
         self.assertEqual(self.bridge(table).returncode, 0)
         self.assertEqual(table.answers[2:], [discard(1, "N"), NONE])
         self.assertEqual(self.read(), as_told(START_GAME, START_HAND, draw(0, "?"), discard(0, "C"), draw(1, "N"), END_GAME))
+
+    def test_a_league_leads_it_on_with_the_counts_of_the_bridge_before(self) -> None:
+        def script(it: Table) -> None:
+            it.send({"type": "replay", "count": 4})
+            for event in [START_GAME, START_HAND, draw(0, "?"), discard(0, "C")]:
+                it.send(event)
+            it.ask(draw(1, "N"), END_GAME)
+
+        # it had answered two events, so the others were over before it was back, and at one of these it might have called
+        before = {"name": "anna", "asked": 2, "answers": 2, "events": 2, "starts": 1, "silences": 1, "problem": "stopped"}
+        (self.folder / "report").write_text(json.dumps(before))
+        ended = self.bridge(Table(script), words=["--led"])
+        self.assertEqual(ended.stdout, "anna is there\nanna joins\nanna has seat 1\nanna is ready\nanna: scores 30000 30000 30000 30000\n")
+        report = self.report()
+        self.assertEqual([report[name] for name in ("asked", "answers", "events", "stood_in")], [6, 4, 6, 1])
+        self.assertEqual([report[name] for name in ("starts", "restarts", "silences", "problem")], [1, 0, 1, None])
 
     def test_what_goes_wrong_is_said(self) -> None:
         table = Table(lambda it: it.send({"type": "error", "sit": 3, "message": "WrongKey"}))

@@ -31,6 +31,12 @@ GAMES = 8
 NAMES = ["anna", "bert", "carl", "dora"]
 
 
+def record_of(journal: pathlib.Path) -> str:
+    """The record so far of a journal."""
+    with open(journal, encoding="latin-1") as file:
+        return subprocess.run([PROGRAM, "record"], stdin=file, capture_output=True, text=True).stdout
+
+
 @unittest.skipUnless(PROGRAM, "no program: set RIICHI_TABLE to its path")
 class Killed(unittest.TestCase):
     """A league that is killed in its first block, begun again, and checked."""
@@ -40,6 +46,7 @@ class Killed(unittest.TestCase):
     second: Said
     left_behind: dict[int, str]
     before: dict[str, bytes]
+    begun: dict[str, str]
 
     @classmethod
     def setUpClass(cls) -> None:
@@ -71,6 +78,7 @@ class Killed(unittest.TestCase):
             time.sleep(0.05)
         cls.left_behind = processes_with(*words)
         cls.before = {path.name: path.read_bytes() for path in cls.out.glob("games/*.json")}
+        cls.begun = {path.parent.name: record_of(path) for path in cls.out.glob("games/*/riichi.journal")}
         return told, cls.league.play(GAMES, "--jobs", "4", "--publish", "--pages")
 
     def test_killed_and_begun_again_no_game_is_played_twice(self) -> None:
@@ -83,6 +91,18 @@ class Killed(unittest.TestCase):
         told = re.findall(r"^(game \d+): anna ", "".join(re.sub(r"\b(bert|carl|dora)\b", "anna", self.first + self.second.stdout)), re.M)
         self.assertEqual(sorted(told), sorted(set(told)))
         self.assertEqual(len(self.league.records()), GAMES)
+
+    def test_games_that_were_begun_go_on_where_they_were(self) -> None:
+        middle = {name: record.count("\n{") for name, record in self.begun.items() if f"{name}.json" not in self.before}
+        self.assertGreater(max(middle.values()), 100)
+        log, games = self.league.log(), self.out / "games"
+        for name, events in middle.items():
+            if events:
+                self.assertIn(f"Z game {int(name)}: goes on after {events} events\n", log)
+            self.assertTrue((games / f"{name}.record").read_text().startswith(self.begun[name]))
+        self.assertEqual([path for path in games.iterdir() if path.is_dir()], [])
+        # none of the programs that answer at once was stood in for, though each bridge came back after others
+        self.assertEqual([game["anna"]["stood_in"] for game in (it["programs"] for it in self.league.games())], [0] * GAMES)
 
     def test_it_says_what_it_does(self) -> None:
         said = self.second.stdout
