@@ -1,0 +1,17 @@
+//! Tests of games that are hosted: over players, a host, a clock and disks in memory, with a stop at each call of the disk.
+#![tactic(auto)]
+
+#[cfg(test)]
+mod board;
+#[cfg(test)]
+mod guests;
+#[cfg(test)]
+mod images;
+#[cfg(test)]
+mod player;
+#[cfg(test)]
+mod row_tests;
+#[cfg(test)]
+mod running;
+#[cfg(test)]
+mod stop_tests;

@@ -1,0 +1,161 @@
+//! Runs of the command `host` over players and disks in memory.
+
+ghost use Rattle.std.specs.Prelude.{◌≤◌};
+
+use crate::board::Board;
+use crate::guests::{GuestHost, Guests};
+use mj_durable::{HostEnd, Hosted, host_games};
+use mj_hosting::Rooms;
+use mj_journal::MemDisk;
+use mj_links::{MemClock, MemSink, MemSource};
+use mj_record::{RecordEnd, record_of};
+use mj_replay::{Checked, check};
+use mj_words::Serving;
+use std::alloc::{AllocError, Global};
+use std::sync::Wait;
+use std::thread::Threads;
+use std::time;
+
+/// Four players who answer to the end.
+pub const FOUR: Guests = Guests {
+    players: 4,
+    answers: u32::MAX,
+    fails: false,
+    step: 0,
+    shut: false,
+};
+
+/// Four players who leave after an answer each, without whom the time of each window runs out.
+pub const LEAVING: Guests = Guests {
+    players: 4,
+    answers: 1,
+    fails: false,
+    step: 1000,
+    shut: false,
+};
+
+/// Four players who leave after an answer each, and a host that has failed by then.
+pub const BRIEF: Guests = Guests {
+    players: 4,
+    answers: 1,
+    fails: true,
+    step: 0,
+    shut: false,
+};
+
+/// Nobody comes, and the port can't be opened.
+pub const NOBODY: Guests = Guests {
+    players: 0,
+    answers: 0,
+    fails: true,
+    step: 0,
+    shut: true,
+};
+
+/// How a run ended, what it wrote, its disk, and what it told.
+#[derive(Drop)]
+pub struct Ran {
+    pub end: HostEnd,
+    pub record: Vec<u8>,
+    pub disk: MemDisk,
+    pub board: Board,
+}
+
+/// What the games of a seed are served with.
+pub fn serving(seed: u8, limit: u64) -> Serving
+    requires { (1 ≤ limit) × (limit ≤ 3600000) }
+{
+    Serving {
+        seed: [seed; 32],
+        limit,
+        port: 11600,
+        draws: false,
+        red: false,
+    }
+}
+
+/// A disk with these bytes whose call of this number fails, or none for 0.
+pub fn disk_of(alloc: Global, image: &[u8], fails: u64) -> Result<MemDisk, AllocError> {
+    MemDisk::new(image, [fails].to_vec(alloc)?)
+}
+
+/// Hosts the game of a seed on a disk.
+pub fn host_one<R: Threads + Wait + time::Clock + Sync>(
+    rt: &R,
+    alloc: Global,
+    guests: Guests,
+    disk: MemDisk,
+) -> Result<Ran, AllocError> {
+    let board = Board::new(alloc, guests.players)?;
+    let (end, record, disk) = host_over(rt, alloc, serving(7, 1000), &board, guests, disk)?;
+    Ok(Ran {
+        end,
+        record,
+        disk,
+        board,
+    })
+}
+
+/// Hosts a game on a disk, and tells its players on a board; how it ended, what it wrote, and the disk.
+pub fn host_over<R: Threads + Wait + time::Clock + Sync>(
+    rt: &R,
+    alloc: Global,
+    serving: Serving,
+    board: &Board,
+    guests: Guests,
+    disk: MemDisk,
+) -> Result<(HostEnd, Vec<u8>, MemDisk), AllocError> {
+    let hosted = Hosted {
+        rooms: Rooms::One,
+        serving,
+    };
+    let mut host = GuestHost::new(rt, alloc, board, guests);
+    let mut sink = MemSink::new(Vec::new(alloc));
+    let mut clock = MemClock::new(0, guests.step);
+    let mut disks = vec![in alloc; disk]?;
+    let end = host_games(
+        rt, alloc, &hosted, &mut sink, &mut host, &mut clock, &mut disks,
+    );
+    let record = sink.written().to_vec(alloc)?;
+    match disks.pop() {
+        Some(disk) => Ok((end, record, disk)),
+        None => Err(AllocError),
+    }
+}
+
+/// Whether a text is a record.
+pub fn is_record(alloc: Global, text: &[u8]) -> bool {
+    match check(alloc, text) {
+        Checked::Good(_) => true,
+        Checked::Bad(_, _) => false,
+        Checked::NoMemory => false,
+    }
+}
+
+/// Whether the record of a journal is a beginning of this one; that of a journal without a game is empty.
+pub fn is_kept(alloc: Global, journal: &[u8], record: &[u8]) -> bool {
+    match kept_in(alloc, journal) {
+        Some(kept) => record.starts_with(kept.as_slice()),
+        None => false,
+    }
+}
+
+/// Whether the record of a journal is this one.
+pub fn is_kept_whole(alloc: Global, journal: &[u8], record: &[u8]) -> bool {
+    match kept_in(alloc, journal) {
+        Some(kept) => record == kept.as_slice(),
+        None => false,
+    }
+}
+
+// The record of a journal; none where the journal is bad.
+fn kept_in(alloc: Global, journal: &[u8]) -> Option<Vec<u8>> {
+    let bytes = Vec::from_slice(alloc, journal).ok()?;
+    let mut source = MemSource::new(bytes, Vec::new(alloc));
+    let mut sink = MemSink::new(Vec::new(alloc));
+    match record_of(alloc, &mut source, &mut sink) {
+        RecordEnd::Written => sink.written().to_vec(alloc).ok(),
+        RecordEnd::Bad(0) => Some(Vec::new(alloc)),
+        _ => None,
+    }
+}
