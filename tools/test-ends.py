@@ -17,6 +17,7 @@ import subprocess
 import sys
 import threading
 import time
+from typing import Any
 
 
 class Player:
@@ -24,10 +25,11 @@ class Player:
         self.link = socket.create_connection(("127.0.0.1", port), timeout=60)
         self.file = self.link.makefile("rb")
 
-    def line(self) -> dict:
-        return json.loads(self.file.readline() or b"{}")
+    def line(self) -> dict[str, Any]:
+        told: dict[str, Any] = json.loads(self.file.readline() or b"{}")
+        return told
 
-    def say(self, **fields) -> None:
+    def say(self, **fields: Any) -> None:
         self.link.sendall(json.dumps(fields).encode() + b"\n")
 
     def join(self, name: str) -> bool:
