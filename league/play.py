@@ -185,6 +185,8 @@ class Game:
                 with contextlib.suppress(ProcessLookupError):
                     os.kill(process.pid, signal.SIGKILL)
                 await process.wait()
+            if process.stdin:
+                process.stdin.close()
 
     def server_command(self) -> list[str]:
         task = self.task
