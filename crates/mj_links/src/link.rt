@@ -1,6 +1,6 @@
 //! A connection, which is read from and written to.
 
-ghost use Rattle.std.specs.Prelude.{◌≡◌, ℕ, List, Option, true};
+ghost use Rattle.std.specs.Prelude.{◌≡◌, ℕ, List, Option, None, true};
 ghost use Rattle.mj_links.specs.declared.source.Got.{Got};
 ghost use Rattle.mj_links.specs.declared.sink.Put.{Put};
 ghost use Rattle.mj_links.specs.Links.{ReadingStays, WritingStays, ReadsOn, GivesNone};
@@ -41,10 +41,13 @@ pub trait Link: Source + Sink {
         × WritingStays (Self.written old) (Self.written new)
         (Self.write_faults old) (Self.write_faults new) };
 
-    // a read at the end gives no bytes
+    // a read at the end gives no bytes, and the link stays there
     ghost ends: { (got : Got) → (into : List ℕ) → (old new : Self)
         → Self.also_reads got into old new
-        → at_end old → GivesNone got };
+        → at_end old → GivesNone got × at_end new };
+
+    // only a link that doesn't tell what is left may say that its end is seen
+    ghost untold: { (link : Self) → at_end link → Self.left link ≡ None };
 
     // a write leaves the reading half alone
     ghost writes_apart: { (put : Put) → (piece : List ℕ) → (old new : Self)

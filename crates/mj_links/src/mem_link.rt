@@ -115,5 +115,7 @@ impl Link for MemLink {
 
     ghost ends = { λ got into old new h none. absurd none };
 
+    ghost untold = { λ link none. absurd none };
+
     ghost writes_apart = { λ put piece old new h. h };
 }

@@ -1,6 +1,6 @@
 //! A link over TCP.
 
-ghost use Rattle.std.specs.Prelude.{◌≡◌, None};
+ghost use Rattle.std.specs.Prelude.{◌≡◌, None, refl};
 ghost use Rattle.std.specs.Io.{ReadsAtMost, WritesAtMost};
 ghost use Rattle.mj_links.specs.Links.{ReadingStays, WritingStays, GivesNone};
 ghost use Rattle.mj_links.specs.TcpLinks.{IsStop};
@@ -72,7 +72,7 @@ impl<'a, R: Clock> Source for TcpLink<'a, R> {
 
     ghost also_reads = { λ got _ old new.
         WritingStays None None old.write_faults.count new.write_faults.count
-        × (IsStop old.ahead → GivesNone got) };
+        × (IsStop old.ahead → GivesNone got × IsStop new.ahead) };
 
     fn read(&mut self, into: &mut [u8]) -> Got {
         match self.ahead {
@@ -147,6 +147,8 @@ impl<'a, R: Clock> Link for TcpLink<'a, R> {
     ghost reads_apart = { λ got into old new h. (tt, h.0) };
 
     ghost ends = { λ got into old new h. h.1 };
+
+    ghost untold = { λ link stop. refl };
 
     ghost writes_apart = { λ put piece old new h. h };
 }

@@ -1,6 +1,6 @@
 //! A link that is read line by line.
 
-ghost use Rattle.std.specs.Prelude.{◌≡◌, ℕ, [], ◌++◌, length, ◌<◌, true};
+ghost use Rattle.std.specs.Prelude.{◌≡◌, ℕ, [], ◌++◌, length, ◌<◌, true, None};
 ghost use Rattle.mj_links.specs.LineBuffers.{held_bytes, wire_held, wire_link};
 ghost use Rattle.mj_links.specs.Links.{ReadsLine, CountsFaultOfLine, FindsEnd, GivesNone, ReadingStays, WritingStays, ReadsOn, Sends, CountsFaultOfSending};
 ghost use Rattle.mj_links.specs.Fills.{Fills};
@@ -56,8 +56,8 @@ impl<L: Link> Wire<L> {
 
     /// Reads the bytes before the next newline in place of what stands in the line. With any answer
     /// but `Line` the line is as it was, and with any but `Line` and `Ended` the wire keeps all that it
-    /// read. A line has fewer than 4,096 bytes. Where `has_ended` has just said yes, it gives `Ended` or
-    /// `Fault`.
+    /// read. A line has fewer than 4,096 bytes. Where `has_ended` has just said yes, as no link does that
+    /// tells what is left to be read, it gives `Ended` or `Fault`.
     #[tactic(auto, using(crate::proofs::WireLaws::reading_lines))]
     pub fn read_line(&mut self, line: &mut Vec<u8>) -> LineRead
         ensures bytes { ReadsLine result
@@ -66,7 +66,8 @@ impl<L: Link> Wire<L> {
             (wire_held self.old) (wire_held self.new) line.old.items line.new.items }
         ensures faults { CountsFaultOfLine result (L.read_faults (wire_link self.old))
             (L.read_faults (wire_link self.new)) }
-        ensures ends { wire_held self.old ≡ [] → L.at_end (wire_link self.old) → FindsEnd result }
+        ensures ends { wire_held self.old ≡ [] → L.at_end (wire_link self.old)
+            → FindsEnd result × (L.left (wire_link self.new) ≡ None) }
         ensures writing { WritingStays
             (L.written (wire_link self.old)) (L.written (wire_link self.new))
             (L.write_faults (wire_link self.old)) (L.write_faults (wire_link self.new)) }
@@ -144,7 +145,7 @@ fn pull<L: Link>(link: &mut L, held: &mut LineBuffer) -> Got
     ensures writing { WritingStays (L.written link.old) (L.written link.new)
         (L.write_faults link.old) (L.write_faults link.new) }
     ensures faults { CountsReadFault result (L.read_faults link.old) (L.read_faults link.new) }
-    ensures ends { L.at_end link.old → GivesNone result }
+    ensures ends { L.at_end link.old → GivesNone result × (L.left link.new ≡ None) }
 {
     held.fill(link)
 }

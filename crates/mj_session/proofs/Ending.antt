@@ -1,6 +1,6 @@
 -- The session that comes of a connection which has ended.
 use Rattle.std.proofs.Common.{◌≡◌, ◌⊎◌, inl, inr, ℕ, suc, List, [], ◌∷◌, ◌++◌, length, refl, sym, ap, ◌∙◌, subst, arith}
-use Rattle.std.specs.Prelude.{Option, Some}
+use Rattle.std.specs.Prelude.{Option, Some, None}
 use Rattle.mj_ports.specs.declared.entry.Entry.TheVariants.{Gone}
 use Rattle.mj_ports.specs.declared.answers.Control.TheVariants as control
 use Rattle.mj_ports.specs.declared.sitting.SitRefused.{SitRefused}
@@ -48,7 +48,7 @@ module _ {G S A R : Type 0} (g : Ghosts G S A R) (s : S) (author : ℕ) (first n
   -- a session with a seat
   seated : (ended : Ended) (c : Connection) (e : Done ended c) (at : SeatAt) (left_out : List (List ℕ)) (k : Spoke g s author first new at e.lines
       left_out (last_entry ended author at.seat)) → LeavesOut ended left_out
-      → ToldInPart (IsExcused ended) x y [] (script (g.after s new) at.place) → HistoryEnds (g.after s) (g.hears s) ended author at.seat at.place k.said new → Comes ended (Some at.place)
+      → ToldInPart (IsExcused ended) x y [] (script (g.after s new) at.place) → HistoryEnds (g.after s) (g.hears s) y.left ended author at.seat at.place k.said new → Comes ended (Some at.place)
   seated ended c e at left_out k all_but wrote history = record {
     seat = at.seat;
     before = k.before;
@@ -86,14 +86,15 @@ module _ {G S A R : Type 0} (g : Ghosts G S A R) (s : S) (author : ℕ) (first n
 
   -- where one line came, and it was given the seat, nothing was said
   faulty : (at : SeatAt) (said : List (List ℕ)) (line : List ℕ) (lines : List (List ℕ)) (before : List (Entry A)) → lines ≡ line ∷ (said ++ []) →
-      (length lines ≡ 1) ⊎ Owes (g.after s before) at.seat → (said ≡ []) ⊎ Owes (g.after s before) at.seat
-  faulty at said line lines before is (inr o) = inr o
-  faulty at [] line lines before is (inl one) = inl refl
-  faulty at (l ∷ ls) line lines before is (inl one) = let long : length lines ≡ suc (suc (length (ls ++ []))) = ap length is in absurd (omega (arith, long, one))
+      ((length lines ≡ 1) ⊎ (y.left ≡ None)) ⊎ Owes (g.after s before) at.seat → (said ≡ []) ⊎ ((y.left ≡ None) ⊎ Owes (g.after s before) at.seat)
+  faulty at said line lines before is (inr o) = inr (inr o)
+  faulty at said line lines before is (inl (inr none)) = inr (inl none)
+  faulty at [] line lines before is (inl (inl one)) = inl refl
+  faulty at (l ∷ ls) line lines before is (inl (inl one)) = let long : length lines ≡ suc (suc (length (ls ++ []))) = ap length is in absurd (omega (arith, long, one))
 
   unsaid : (at : SeatAt) (said : List (List ℕ)) (line : List ℕ) (lines : List (List ℕ)) → lines ≡ line ∷ (said ++ []) →
-      EndsBy (g.after s) at.seat at.place new (Gone author at.seat) (λ before. (length lines ≡ 1) ⊎ Owes (g.after s before) at.seat) →
-      EndsBy (g.after s) at.seat at.place new (Gone author at.seat) (λ before. (said ≡ []) ⊎ Owes (g.after s before) at.seat)
+      EndsBy (g.after s) at.seat at.place new (Gone author at.seat) (λ before. ((length lines ≡ 1) ⊎ (y.left ≡ None)) ⊎ Owes (g.after s before) at.seat) →
+      EndsBy (g.after s) at.seat at.place new (Gone author at.seat) (λ before. (said ≡ []) ⊎ ((y.left ≡ None) ⊎ Owes (g.after s before) at.seat))
   unsaid at said line lines is e = record {
     before = e.before;
     last_is = e.last_is;
@@ -104,7 +105,7 @@ module _ {G S A R : Type 0} (g : Ghosts G S A R) (s : S) (author : ℕ) (first n
   pub ends_session : (ended : Ended) (c : Connection) (place : Option ℕ) → place ≡ place_of c → Done ended c → Comes ended place
   ends_session ended c place is e = subst (λ (p : Option ℕ). Comes ended p) (sym is) (by ended c e e.ends_as)
     where
-      by : (ended : Ended) (c : Connection) (e : Done ended c) → EndsAs (g.after s) author ended c new e.lines → Comes ended (place_of c)
+      by : (ended : Ended) (c : Connection) (e : Done ended c) → EndsAs (g.after s) author y.left ended c new e.lines → Comes ended (place_of c)
       by GameOver (connection.Ended (over.Over at)) e h = seated GameOver _ e at [] e.at.entered refl (whole GameOver _ e _ e.at.tells) (
         e.at.fits.1,
         e.at.fits.0.present,
@@ -112,9 +113,7 @@ module _ {G S A R : Type 0} (g : Ghosts G S A R) (s : S) (author : ℕ) (first n
         e.at.fits.2,
       )
       by PeerEnded connection.Greeted e h = unheard PeerEnded e refl refl
-      by PeerEnded (connection.Ended (over.Left at)) e h =
-          let k = e.at.entered.0 in
-          seated PeerEnded _ e at [] k refl (whole PeerEnded _ e _ e.at.tells) (unsaid at k.said k.line e.lines k.lines_are h)
+      by PeerEnded (connection.Ended (over.Left at)) e h = seated PeerEnded _ e at [] e.at.entered.0 refl (whole PeerEnded _ e _ e.at.tells) h
       by PeerEnded _ e h = absurd h
       by LinkFault connection.Greeted e h = unheard LinkFault e refl refl
       by LinkFault (connection.Ended (over.Left at)) e h =

@@ -1,5 +1,6 @@
 -- How a session goes on, with its wire.
 use Rattle.std.proofs.Common.{◌≡◌, ◌⊎◌, inl, inr, ℕ, ◌<◌, ◌≤◌, false, List, [], ◌∷◌, ◌++◌, length, refl, sym, ap, ◌∙◌, subst, arith, append-nil}
+use Rattle.std.specs.Prelude.{None}
 use Rattle.std.specs.Io.KnownBytes.{Appends}
 use Rattle.mj_links.specs.Sinks.{WritesPrefix}
 use Rattle.mj_links.specs.Links.{ReadingStays, WritingStays, Sends, CountsFaultOfSending, has_newline}
@@ -17,7 +18,7 @@ use Rattle.mj_connection.specs.Spoken.{IsAt, Takes, IsQuiet, IsShort, IsLost}
 use Rattle.mj_connection.proofs.Growing.{enters_nothing}
 use Rattle.mj_session.specs.declared.talk.Doing.TheVariants as doing
 use Rattle.mj_session.specs.Sessions.{Ended, LinkFault, NoMemory, IsExcused, WireEnds}
-use Rattle.mj_session.specs.Inner.Talks.{EndsAs, Leaves, Owing, Joined, Ends, ended_of}
+use Rattle.mj_session.specs.Inner.Talks.{EndsAs, Leaves, Owing, Ends, ended_of}
 use Rattle.mj_session.specs.Wires.{WireState, Took, Wrote, ToldInPart}
 use Rattle.mj_session.proofs.Wiring.{took_chain, took_nothing, took_itself, took_on, wrote_itself, wrote_still, wrote_sent, told_all, told_more, told_failed, told_sent}
 
@@ -70,7 +71,7 @@ module _ {G S A R : Type 0} (g : Ghosts G S A R) (s : S) (author : ℕ) (start :
   From b c old new text heard = Takes g s author b c old new [] text heard
 
   done : (ended : Ended) (c : Connection) (es : List (Entry A)) (y : WireState) (lines : List (List ℕ)) (out rest : List ℕ) → Is c es lines out →
-      Took x y lines rest → ToldInPart (IsExcused ended) x y [] out → WireEnds ended x y rest → EndsAs (g.after s) author ended c es lines →
+      Took x y lines rest → ToldInPart (IsExcused ended) x y [] out → WireEnds ended x y rest → EndsAs (g.after s) author y.left ended c es lines →
       Done ended c es y
   done ended c es y lines out rest at took told wire how = record { lines = lines; out = out; rest = rest; at = at; took = took; told = told; wire_ends = wire; ends_as = how }
 
@@ -116,12 +117,12 @@ module _ {G S A R : Type 0} (g : Ghosts G S A R) (s : S) (author : ℕ) (start :
       -- the wire ended, and the connection by it
       pub done_lost : (ended : Ended) (rest : List ℕ) → Took y z [] rest → From b c old new text [] → Listens b → Leaves (g.after s) author doing.Lose
           b c new [] text → has_newline rest ≡ false → WireEnds ended x z rest
-          → (IsLost (g.after s) author ⊥ c new → EndsAs (g.after s) author ended c new (o.lines ++ [])) → Done (ended_of c ended) c new z
+          → (IsLost (g.after s) author ⊥ c new → EndsAs (g.after s) author z.left ended c new (o.lines ++ [])) → Done (ended_of c ended) c new z
       done_lost ended rest took t listens leaves unfinished wire how =
           by_loss (g.after s) author new (λ (e : Ended). Done e c new z) (Listens b → ⊥) ended c leaves.0
           (λ l. ends_so ended wire (how (owed (g.after s) author new (Listens b → ⊥) ⊥ c (λ n. n listens) l))) (ends_so NoMemory unfinished)
         where
-          ends_so : (e : Ended) → WireEnds e x z rest → EndsAs (g.after s) author e c new (o.lines ++ []) → Done e c new z
+          ends_so : (e : Ended) → WireEnds e x z rest → EndsAs (g.after s) author z.left e c new (o.lines ++ []) → Done e c new z
           ends_so e wire h = done e c new z (o.lines ++ []) (o.out ++ text) rest (turned b c old new text [] o.lines o.out t o.at) (took_chain x y z o.lines [] rest o.took took)
               (told_all (IsExcused e) x z (o.out ++ text)
               (subst (λ (l : List ℕ). Wrote x z l) (sym (ap (λ (l : List ℕ). o.out ++ l) (leaves.1 listens) ∙ append-nil o.out))
@@ -144,60 +145,40 @@ module _ {G S A R : Type 0} (g : Ghosts G S A R) (s : S) (author : ℕ) (start :
     quiet = quiet_more (b ≡ connection.Greeted) (length (line ∷ []) ≡ 1) c text (λ e. refl) quiet;
   }
 
-  pub first_joined : (b c : Connection) (new : List (Entry A)) (y : WireState) (line text : List ℕ) → b ≡ connection.Greeted → Took x y (line ∷ []) [] →
-      Wrote x y (g.says Hello) → From b c start new text (line ∷ []) → IsQuiet (b ≡ connection.Greeted) c [] text → (o : Due c new y text) × (length o.lines ≡ 1)
-  unfolding due_joined
-  first_joined b c new y line text is took told t quiet = (due_joined b c new y line text is took told t quiet, refl)
-
-  -- of a connection that was given its seat, and on which nothing was said yet
-  module _ (b : Connection) (old : List (Entry A)) (y : WireState) (j : Joined g s author start b old x y) where
+  -- of a connection for which nothing is still to be written
+  module _ (b : Connection) (old : List (Entry A)) (y : WireState) (o : Due b old y []) where
     -- its link was asked whether it has ended
-    pub joined_still : (z : WireState) → ReadingStays y.read z.read y.left z.left y.read_faults z.read_faults →
-        WritingStays y.written z.written y.write_faults z.write_faults → z.held ≡ y.held → Joined g s author start b old x z
-    joined_still z reading writing held = (
-      record {
-        lines = j.0.lines;
-        out = j.0.out;
-        at = j.0.at;
-        took = took_on x y z j.0.lines [] j.0.took reading held;
-        told = wrote_still x y z j.0.out j.0.told writing;
-        quiet = j.0.quiet;
-      },
-      j.1,
-    )
+    pub due_asked : (z : WireState) → ReadingStays y.read z.read y.left z.left y.read_faults z.read_faults →
+        WritingStays y.written z.written y.write_faults z.write_faults → z.held ≡ y.held → Due b old z []
+    due_asked z reading writing held = record {
+      lines = o.lines;
+      out = o.out;
+      at = o.at;
+      took = took_on x y z o.lines [] o.took reading held;
+      told = wrote_still x y z o.out o.told writing;
+      quiet = o.quiet;
+    }
 
-    -- it looked
-    module _ (c : Connection) (new : List (Entry A)) (text : List ℕ) (t : From b c old new text []) (quiet : IsQuiet ⊥ c [] text) where
-      -- and still waits for a look
-      pub joined_look : (at : SeatAt) → c ≡ connection.Free at → Joined g s author start c new x y
-      joined_look at is =
-          let none : text ≡ [] = elim (subst (λ (k : Connection). IsQuiet ⊥ k [] text) is quiet) [ inl e ↦ e | inr u ↦ absurd u ] in (
-            record {
-              lines = j.0.lines ++ [];
-              out = j.0.out;
-              at = subst (λ (l : List ℕ). Is c new (j.0.lines ++ []) (j.0.out ++ l)) none (turned b c old new text [] j.0.lines j.0.out t j.0.at);
-              took = took_chain x y y j.0.lines [] [] j.0.took (took_itself y);
-              told = j.0.told;
-              quiet = subst (λ (k : Connection). IsQuiet (length (j.0.lines ++ []) ≡ 1) k [] []) (sym is) (inl refl);
-            },
-            ap length (append-nil j.0.lines) ∙ j.1,
-          )
+    -- it looked, and still waits for a look
+    pub due_free : (c : Connection) (new : List (Entry A)) (text : List ℕ) → From b c old new text [] → IsQuiet ⊥ c [] text → (at : SeatAt) → c ≡ connection.Free at → Due c new y []
+    due_free c new text t quiet at is =
+        let none : text ≡ [] = elim (subst (λ (k : Connection). IsQuiet ⊥ k [] text) is quiet) [ inl e ↦ e | inr u ↦ absurd u ] in
+        subst (λ (l : List ℕ). Due c new y l) none (due_look b c old new y text o t quiet)
 
-    -- its link ended, and what was still to be told was written
-    pub joined_lost : (c : Connection) (new : List (Entry A)) (z u : WireState) (text rest : List ℕ) (ended : Ended) (sent : Sent) → Took y z [] rest →
+    -- its link ended that doesn't tell what is left, and what was still to be told was written
+    pub left_early : (c : Connection) (new : List (Entry A)) (z u : WireState) (text rest : List ℕ) (ended : Ended) (sent : Sent) → Took y z [] rest →
         WritingStays y.written z.written y.write_faults z.write_faults → From b c old new text [] → Leaves (g.after s) author doing.Lose b c new [] text →
         ReadingStays z.read u.read z.left u.left z.read_faults u.read_faults → u.held ≡ z.held → Sends sent z.written u.written text →
-        CountsFaultOfSending sent z.write_faults u.write_faults → has_newline rest ≡ false → WireEnds ended x u rest
-        → ((lines : List (List ℕ)) → IsLost (g.after s) author (length lines ≡ 1) c new → EndsAs (g.after s) author ended c new lines) → Done (ended_of c ended) c new u
-    joined_lost c new z u text rest ended sent took writing t leaves reading held bytes faults unfinished wire how =
+        CountsFaultOfSending sent z.write_faults u.write_faults → has_newline rest ≡ false → WireEnds ended x u rest → u.left ≡ None
+        → ((lines : List (List ℕ)) → IsLost (g.after s) author (u.left ≡ None) c new → EndsAs (g.after s) author u.left ended c new lines) → Done (ended_of c ended) c new u
+    left_early c new z u text rest ended sent took writing t leaves reading held bytes faults unfinished wire untold how =
         by_loss (g.after s) author new (λ (e : Ended). Done e c new u) (Listens b → ⊥) ended c leaves.0
-        (λ l. ends_so ended wire (how (j.0.lines ++ []) (owed (g.after s) author new (Listens b → ⊥) (length (j.0.lines ++ []) ≡ 1) c
-        (λ _. ap length (append-nil j.0.lines) ∙ j.1) l))) (ends_so NoMemory unfinished)
+        (λ l. ends_so ended wire (how (o.lines ++ []) (owed (g.after s) author new (Listens b → ⊥) (u.left ≡ None) c (λ _. untold) l))) (ends_so NoMemory unfinished)
       where
-        ends_so : (e : Ended) → WireEnds e x u rest → EndsAs (g.after s) author e c new (j.0.lines ++ []) → Done e c new u
-        ends_so e wire h = done e c new u (j.0.lines ++ []) (j.0.out ++ text) rest (turned b c old new text [] j.0.lines j.0.out t j.0.at)
-            (took_on x z u (j.0.lines ++ []) rest (took_chain x y z j.0.lines [] rest j.0.took took) reading held)
-            (told_sent x z u j.0.out text (wrote_still x y z j.0.out j.0.told writing) (IsExcused e) sent bytes faults) wire h
+        ends_so : (e : Ended) → WireEnds e x u rest → EndsAs (g.after s) author u.left e c new (o.lines ++ []) → Done e c new u
+        ends_so e wire h = done e c new u (o.lines ++ []) (o.out ++ text) rest (turned b c old new text [] o.lines o.out t o.at)
+            (took_on x z u (o.lines ++ []) rest (took_chain x y z o.lines [] rest o.took took) reading held)
+            (told_sent x z u o.out text (wrote_still x y z o.out o.told writing) (IsExcused e) sent bytes faults) wire h
 
   -- what the last turn told was written
   module _ (c : Connection) (es : List (Entry A)) (y z : WireState) (text : List ℕ) (o : Due c es y text) (reading : ReadingStays y.read z.read y.left
@@ -219,10 +200,6 @@ module _ {G S A R : Type 0} (g : Ghosts G S A R) (s : S) (author : ℕ) (start :
       quiet = quiet_none (length o.lines ≡ 1) c here;
     }
 
-    pub sent_joined : length o.lines ≡ 1 → IsOpen c → Appends y.written z.written text → y.write_faults ≤ z.write_faults → Joined g s author start c es x z
-    unfolding sent_goes
-    sent_joined one here sent up = (sent_goes here sent up, one)
-
     -- whole or not, to a connection that has ended
     pub sent_last : (how : End) (sent : Sent) → c ≡ connection.Ended how → Sends sent y.written z.written text →
         CountsFaultOfSending sent y.write_faults z.write_faults → Done (ended_of c LinkFault) c es z
@@ -231,7 +208,8 @@ module _ {G S A R : Type 0} (g : Ghosts G S A R) (s : S) (author : ℕ) (start :
         done (ended_of c LinkFault) c es z o.lines (o.out ++ text) [] o.at took_still
         (told_sent x y z o.out text o.told (IsExcused (ended_of c LinkFault)) sent bytes faults) last.0 last.1
       where
-        last_as : (d : Connection) → IsQuiet (length o.lines ≡ 1) d [] text → (IsOpen d → ⊥) → WireEnds (ended_of d LinkFault) x z [] × EndsAs (g.after s) author (ended_of d LinkFault) d es o.lines
+        last_as : (d : Connection) → IsQuiet (length o.lines ≡ 1) d [] text → (IsOpen d → ⊥) →
+            WireEnds (ended_of d LinkFault) x z [] × EndsAs (g.after s) author z.left (ended_of d LinkFault) d es o.lines
         last_as (connection.Ended (Refused why)) k n = (refl, refl)
         last_as (connection.Ended (Left at)) k n = absurd k
         last_as (connection.Ended how) k n = (refl, tt)
@@ -244,8 +222,8 @@ module _ {G S A R : Type 0} (g : Ghosts G S A R) (s : S) (author : ℕ) (start :
     sent_failed d new more here t leaves sent up =
         let failed : x.write_faults < z.write_faults = omega (arith, up, o.told.risen) in
         by_loss (g.after s) author new (λ (e : Ended). Done e d new z) (Listens c → ⊥) LinkFault d leaves.0
-        (λ l. ends_so LinkFault failed (refl, inl failed) (owed (g.after s) author new (Listens c → ⊥) (length (o.lines ++ []) ≡ 1) d
-        (λ n. said (first_said c here o.quiet n)) l)) (ends_so NoMemory failed refl)
+        (λ l. ends_so LinkFault failed (refl, inl failed) (owed (g.after s) author new (Listens c → ⊥) ((length (o.lines ++ []) ≡ 1) ⊎ (z.left ≡ None)) d
+        (λ n. inl (said (first_said c here o.quiet n))) l)) (ends_so NoMemory failed refl)
       where
         said : length o.lines ≡ 1 → length (o.lines ++ []) ≡ 1
         said one = ap length (append-nil o.lines) ∙ one
@@ -257,7 +235,7 @@ module _ {G S A R : Type 0} (g : Ghosts G S A R) (s : S) (author : ℕ) (start :
         first_said _ going (inl none) n = let long : length text ≡ 0 = ap length none in let short = sent.short in absurd (omega (arith, long, short))
         first_said _ going (inr one) n = one
 
-        ends_so : (e : Ended) → x.write_faults < z.write_faults → WireEnds e x z [] → EndsAs (g.after s) author e d new (o.lines ++ []) → Done e d new z
+        ends_so : (e : Ended) → x.write_faults < z.write_faults → WireEnds e x z [] → EndsAs (g.after s) author z.left e d new (o.lines ++ []) → Done e d new z
         ends_so e failed wire how = done e d new z (o.lines ++ []) ((o.out ++ text) ++ more) [] (turned c d es new more [] o.lines (o.out ++ text) t
             still) (subst (λ (l : List (List ℕ)). Took x z l []) (sym (append-nil o.lines)) took_still)
             (told_more (IsExcused e) x z [] (o.out ++ text) ((o.out ++ text) ++ more) more (told_failed x y z o.out text o.told (IsExcused e) sent up) (inl failed) refl) wire how

@@ -39,19 +39,19 @@ abbrev pub LeavesOut : Ended → List (List ℕ) → Type 0
 LeavesOut NoMemory lines = length lines ≤ 1
 LeavesOut _ lines = lines ≡ []
 
--- What the history shows of the end of the session of a seat that said these lines. The game is over, the connection goes on,
--- and the seat, which is present by the author, has no deed to answer. Else the last entry is that the seat is gone or that it
--- was refused for good, and before that entry it had a deed to answer; only a link that ended or failed before anything was said
--- on it may have done so while there was none.
-abbrev pub HistoryEnds : {A R : Type 0} → (List (Entry A) → Showing) → (List (Entry A) → ℕ → ℕ → A → Heard R) → Ended → ℕ → ℕ → ℕ → List (List ℕ) → List (Entry A) → Type 0
-HistoryEnds after hears GameOver author seat place said new =
+-- What the history shows of the end of the session of a seat that said these lines, on a link of which this is left. The game
+-- is over, the connection goes on, and the seat, which is present by the author, has no deed to answer. Else the last entry is
+-- that the seat is gone or that it was refused for good, and before that entry it had a deed to answer. It may have had none only
+-- where its link failed before anything was said on it, or ended or failed and doesn't tell what is left.
+abbrev pub HistoryEnds : {A R : Type 0} → (List (Entry A) → Showing) → (List (Entry A) → ℕ → ℕ → A → Heard R) → Option (List ℕ) → Ended → ℕ → ℕ → ℕ → List (List ℕ) → List (Entry A) → Type 0
+HistoryEnds after hears left GameOver author seat place said new =
     ((after new).over ≡ true) × ((after new).present seat ≡ Some author) × ((after new).seat_of place ≡ Some seat) × ((after new).deeds ≤ (after new).due seat)
-HistoryEnds after hears PeerEnded author seat place said new = EndsBy after seat place new (Gone author seat) (λ before. (said ≡ []) ⊎ Owes (after before) seat)
-HistoryEnds after hears LinkFault author seat place said new = EndsBy after seat place new (Gone author seat) (λ before. (said ≡ []) ⊎ Owes (after before) seat)
-HistoryEnds after hears TooManyRefusals author seat place said new = EndsByRefusal after hears author seat place new
-HistoryEnds after hears (NotSeated why) author seat place said new = ⊥
-HistoryEnds after hears NoMemory author seat place said new = Unit {0}
-HistoryEnds after hears _ author seat place said new = EndsBy after seat place new (Gone author seat) (λ before. Owes (after before) seat)
+HistoryEnds after hears left PeerEnded author seat place said new = EndsBy after seat place new (Gone author seat) (λ before. (left ≡ None) ⊎ Owes (after before) seat)
+HistoryEnds after hears left LinkFault author seat place said new = EndsBy after seat place new (Gone author seat) (λ before. (said ≡ []) ⊎ ((left ≡ None) ⊎ Owes (after before) seat))
+HistoryEnds after hears left TooManyRefusals author seat place said new = EndsByRefusal after hears author seat place new
+HistoryEnds after hears left (NotSeated why) author seat place said new = ⊥
+HistoryEnds after hears left NoMemory author seat place said new = Unit {0}
+HistoryEnds after hears left _ author seat place said new = EndsBy after seat place new (Gone author seat) (λ before. Owes (after before) seat)
 
 -- What is written on the link of a session without a seat: the hello line, and the line of its refusal.
 abbrev pub turned_away : {R : Type 0} → (Control R → List ℕ) → Ended → List ℕ
@@ -98,7 +98,7 @@ module _ {A R : Type 0} (after : List (Entry A) → Showing) (reads : List ℕ �
     pub all_but : LeavesOut ended left_out
     pub wrote : ToldInPart (IsExcused ended) x y [] (script (after new) place)
     pub wire_ends : WireEnds ended x y rest
-    pub history_ends : HistoryEnds after hears ended author seat place lines new
+    pub history_ends : HistoryEnds after hears y.left ended author seat place lines new
 
   -- A session has a place exactly where it has a seat.
   abbrev pub SessionAt : ℕ → List (Entry A) → List (Entry A) → WireState → WireState → Ended → Option ℕ → Type 0

@@ -3,11 +3,11 @@
 
 pub mod hold;
 mod joined;
+mod leaving;
 mod lost;
 mod room;
 mod serve;
 mod served;
-mod settle;
 mod shared_game;
 mod talk;
 

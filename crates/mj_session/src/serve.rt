@@ -6,12 +6,12 @@ ghost use Rattle.mj_connection.specs.declared.stage.Connection.TheVariants.{Gree
 ghost use Rattle.mj_connection.specs.Stages.{Fits};
 ghost use Rattle.mj_session.specs.declared.talk.Doing.TheVariants.{Look, Hear};
 ghost use Rattle.mj_session.specs.Sessions.{Session};
-ghost use Rattle.mj_session.specs.Inner.Talks.{CanDo, Ends, Goes, StaysJoined};
+ghost use Rattle.mj_session.specs.Inner.Talks.{CanDo, Ends, Goes};
 ghost use Rattle.mj_session.specs.Wires.{WireState, Took, Wrote, wire_state};
 ghost use Rattle.turn_lock.specs.Turns.{IsIdle};
 
+use crate::leaving::leave_if_ended;
 use crate::served::{Ended, Served};
-use crate::settle::settle;
 use crate::shared_game::SharedGame;
 use crate::talk::{Doing, Talk, ended_of, in_turn, turn_with};
 use mj_connection::Connection;
@@ -76,10 +76,7 @@ pub(crate) fn join_on<T: SharedGame, L: Link, R: Wait>(
         &mut talk.text,
     );
     match send(turn, rt, pass, wire, talk) {
-        None => match settle(turn, rt, pass, wire, talk) {
-            None => play(turn, rt, pass, wire, talk),
-            Some(ended) => ended,
-        },
+        None => play(turn, rt, pass, wire, talk),
         Some(ended) => ended,
     }
 }
@@ -133,13 +130,35 @@ fn go_on<T: SharedGame, L: Link, R: Wait>(
         Connection::Asked(_) => hear_next(turn, rt, pass, wire, talk),
         Connection::Free(_) => {
             turn.await_change(rt, pass);
-            in_turn(turn, rt, pass, Doing::Look, talk);
-            send(turn, rt, pass, wire, talk)
+            look_on(turn, rt, pass, wire, talk)
         }
-        _ => {
-            in_turn(turn, rt, pass, Doing::Look, talk);
-            send(turn, rt, pass, wire, talk)
-        }
+        _ => look_on(turn, rt, pass, wire, talk),
+    }
+}
+
+// Looks for what a connection that is open is to be told, and writes it. One that still has nothing to answer leaves its seat
+// where its link has ended.
+fn look_on<T: SharedGame, L: Link, R: Wait>(
+    turn: &Turn<T>,
+    rt: &R,
+    pass: &mut Pass<T>,
+    wire: &mut Wire<L>,
+    talk: &mut Talk,
+) -> Option<Ended>
+    requires idle { IsIdle T.Noted.setting turn.now pass.old }
+    requires can { CanDo Look talk.old.connection pass.old.number
+        (T.after (T.Noted.setting turn.now.opening) pass.old.seen) }
+    ensures idle { IsIdle T.Noted.setting turn.now pass.new × (pass.new.number ≡ pass.old.number) }
+    ensures going { IfNone result (CanDo Look talk.new.connection pass.old.number
+        (T.after (T.Noted.setting turn.now.opening) pass.new.seen)) }
+    ensures goes { Goes T.Seated (T.Noted.setting turn.now.opening) pass.old.number result
+        talk.old.connection talk.new.connection pass.old.seen pass.new.seen []
+        (wire_state L.Link) wire.old wire.new }
+{
+    in_turn(turn, rt, pass, Doing::Look, talk);
+    match talk.connection {
+        Connection::Free(_) => leave_if_ended(turn, rt, pass, wire, talk),
+        _ => send(turn, rt, pass, wire, talk),
     }
 }
 
@@ -186,7 +205,7 @@ fn hear_next<T: SharedGame, L: Link, R: Wait>(
 }
 
 // Writes what the last turn told, and says how the session ended by it: its connection is over, or a write failed.
-pub(crate) fn send<T: SharedGame, L: Link, R: Wait>(
+fn send<T: SharedGame, L: Link, R: Wait>(
     turn: &Turn<T>,
     rt: &R,
     pass: &mut Pass<T>,
@@ -202,9 +221,6 @@ pub(crate) fn send<T: SharedGame, L: Link, R: Wait>(
     ensures goes { Goes T.Seated (T.Noted.setting turn.now.opening) pass.old.number result
         talk.old.connection talk.new.connection pass.old.seen pass.new.seen talk.old.text.items
         (wire_state L.Link) wire.old wire.new }
-    ensures joined { IfNone result (StaysJoined T.Seated (T.Noted.setting turn.now.opening) pass.old.number
-        talk.old.connection talk.new.connection pass.old.seen pass.new.seen talk.old.text.items
-        (wire_state L.Link) wire.old wire.new) }
 {
     match talk.connection.end() {
         Some(_) => {

@@ -75,5 +75,7 @@ impl Link for SlowLink {
 
     ghost ends = { λ got into old new h none. absurd none };
 
+    ghost untold = { λ link none. absurd none };
+
     ghost writes_apart = { λ put piece old new h. h };
 }

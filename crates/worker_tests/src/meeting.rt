@@ -179,6 +179,8 @@ impl<'a, R: time::Clock> Link for MeetingLink<'a, R> {
 
     ghost ends = { λ got into old new h none. absurd none };
 
+    ghost untold = { λ link none. absurd none };
+
     ghost writes_apart = { λ put piece old new h. h };
 }
 

@@ -39,17 +39,17 @@ module _ {A : Type 0} (after : List (Entry A) → Showing) (author : ℕ) where
   Leaves Lose b c es before text = (IsLost after author (Listens b → ⊥) c es ⊎ IsShort c) × (Listens b → text ≡ before)
   Leaves Cut b c es before text = IsShort c
 
-  -- Which end the connection has of a session that ended so. A seat whose link ended the session had a deed to answer, but
-  -- where the link ended or failed before anything was said.
-  abbrev pub EndsAs : Ended → Connection → List (Entry A) → List (List ℕ) → Type 0
-  EndsAs GameOver (connection.Ended (over.Over at)) es lines = Unit {0}
-  EndsAs PeerEnded c es lines = IsLost after author (length lines ≡ 1) c es
-  EndsAs LinkFault c es lines = IsLost after author (length lines ≡ 1) c es
-  EndsAs LineTooLong c es lines = IsLost after author ⊥ c es
-  EndsAs TooManyRefusals (connection.Ended (over.Closed at)) es lines = Unit {0}
-  EndsAs (NotSeated why) (connection.Ended (over.Refused found)) es lines = found ≡ why
-  EndsAs NoMemory c es lines = IsShort c
-  EndsAs _ c es lines = ⊥
+  -- Which end the connection has of a session that ended so, on a link of which this is left. A seat whose link ended the
+  -- session had a deed to answer, but where the link failed before anything was said, or doesn't tell what is left.
+  abbrev pub EndsAs : Option (List ℕ) → Ended → Connection → List (Entry A) → List (List ℕ) → Type 0
+  EndsAs left GameOver (connection.Ended (over.Over at)) es lines = Unit {0}
+  EndsAs left PeerEnded c es lines = IsLost after author (left ≡ None) c es
+  EndsAs left LinkFault c es lines = IsLost after author ((length lines ≡ 1) ⊎ (left ≡ None)) c es
+  EndsAs left LineTooLong c es lines = IsLost after author ⊥ c es
+  EndsAs left TooManyRefusals (connection.Ended (over.Closed at)) es lines = Unit {0}
+  EndsAs left (NotSeated why) (connection.Ended (over.Refused found)) es lines = found ≡ why
+  EndsAs left NoMemory c es lines = IsShort c
+  EndsAs left _ c es lines = ⊥
 
 module _ {G S A R : Type 0} (g : Ghosts G S A R) (s : S) (author : ℕ) where
   module _ (start : List (Entry A)) where
@@ -62,10 +62,6 @@ module _ {G S A R : Type 0} (g : Ghosts G S A R) (s : S) (author : ℕ) where
       pub told : Wrote x y out
       pub quiet : IsQuiet (length lines ≡ 1) c [] text
 
-    -- The session goes on, and no line has come since the one that was given the seat.
-    abbrev pub Joined : Connection → List (Entry A) → WireState → WireState → Type 0
-    Joined c es x y = (owing : Owing c es x y []) × (length owing.lines ≡ 1)
-
     -- The session has ended: a rest of a line may have come, and the end of the text may be missing.
     pub record Ends (ended : Ended) (c : Connection) (es : List (Entry A)) (x y : WireState) : Type 0 where
       pub lines : List (List ℕ)
@@ -75,7 +71,7 @@ module _ {G S A R : Type 0} (g : Ghosts G S A R) (s : S) (author : ℕ) where
       pub took : Took x y lines rest
       pub told : ToldInPart (IsExcused ended) x y [] out
       pub wire_ends : WireEnds ended x y rest
-      pub ends_as : EndsAs (g.after s) author ended c es lines
+      pub ends_as : EndsAs (g.after s) author y.left ended c es lines
 
     -- Where a session has come that ended so, or goes on.
     abbrev pub Comes : Option Ended → Connection → List (Entry A) → WireState → WireState → Type 0
@@ -85,12 +81,3 @@ module _ {G S A R : Type 0} (g : Ghosts G S A R) (s : S) (author : ℕ) where
   -- One connection became another, while the wire went from y to z, and this was still to be written before.
   abbrev pub Goes : {W : Type 0} → Option Ended → Connection → Connection → List (Entry A) → List (Entry A) → List ℕ → (W → WireState) → W → W → Type 0
   Goes met b c old new text at y z = (start : List (Entry A)) (x : WireState) → Owing start b old x (at y) text → Comes start met c new x (at z)
-
-  -- What becomes of a connection, where no line had come since the one that was given the seat.
-  abbrev pub GoesJoined : {W : Type 0} → Option Ended → Connection → Connection → List (Entry A) → List (Entry A) → (W → WireState) → W → W → Type 0
-  GoesJoined met b c old new at y z = (start : List (Entry A)) (x : WireState) → Joined start b old x (at y) → Comes start met c new x (at z)
-
-  -- The text is written, and no line has come meanwhile either.
-  abbrev pub StaysJoined : {W : Type 0} → Connection → Connection → List (Entry A) → List (Entry A) → List ℕ → (W → WireState) → W → W → Type 0
-  StaysJoined b c old new text at y z =
-      (start : List (Entry A)) (x : WireState) (o : Owing start b old x (at y) text) → length o.lines ≡ 1 → Joined start c new x (at z)

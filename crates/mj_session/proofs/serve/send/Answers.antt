@@ -1,4 +1,4 @@
-use Rattle.mj_session.proofs.Talking.{sent_goes, sent_joined, sent_last, sent_failed}
+use Rattle.mj_session.proofs.Talking.{sent_goes, sent_last, sent_failed}
 use Rattle.mj_session.proofs.serve.send.Goals as goal
 
 pub returns-in-Some-clause-goes : goal.returns-in-Some-clause-goes
@@ -10,11 +10,6 @@ pub returns-in-Whole-clause-goes : goal.returns-in-Whole-clause-goes
 returns-in-Whole-clause-goes g c = λ start x o.
     let bytes = rw c.as_slice-in-None.ensures.value at c.in-Whole.ensures.bytes in
     sent_goes _ _ _ start x _ _ _ _ _ o c.in-Whole.ensures.reading c.in-Whole.ensures.held c.in-None.ensures bytes c.in-Whole.ensures.faults
-
-pub returns-in-Whole-clause-joined : goal.returns-in-Whole-clause-joined
-returns-in-Whole-clause-joined g c = λ start x o one.
-    let bytes = rw c.as_slice-in-None.ensures.value at c.in-Whole.ensures.bytes in
-    sent_joined _ _ _ start x _ _ _ _ _ o c.in-Whole.ensures.reading c.in-Whole.ensures.held one c.in-None.ensures bytes c.in-Whole.ensures.faults
 
 pub returns-in-Failed-clause-goes : goal.returns-in-Failed-clause-goes
 returns-in-Failed-clause-goes g c = λ start x o.

@@ -26,3 +26,9 @@ returns-in-Failed-clause-bytes g c =
     let none = none_found (held_bytes held) (sym c.in_default.ensures) in
     let failed = reading_line-failed _ _ _ _ _ _ _ _ _ _ _ _ _ _ _ _ _ _ 0 _ c.loop-end.invariant.0 c.in-Failed.ensures.writing c.in-Failed.ensures.bytes in
     (failed.0, still_no_line _ _ _ _ _ _ c.in-Failed.ensures.bytes none, still_short _ _ _ _ _ _ c.in-Failed.ensures.bytes short)
+
+pub returns-in-End-clause-ends : goal.returns-in-End-clause-ends
+returns-in-End-clause-ends g c = λ none at. (tt, (c.in-End.ensures.ends (c.loop-end.invariant.1 none at).1).1)
+
+pub returns-in-Failed-clause-ends : goal.returns-in-Failed-clause-ends
+returns-in-Failed-clause-ends g c = λ none at. (tt, (c.in-Failed.ensures.ends (c.loop-end.invariant.1 none at).1).1)
