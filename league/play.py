@@ -39,6 +39,7 @@ BRIDGE = EXAMPLES / "bridge.py"
 JOURNAL = "riichi.journal"
 LOST = (2, 12, 13)  # what a server ends with that can't go on with a journal
 LONGEST = 1 << 24  # bytes of a line that a bridge says
+SAYS = ("listening on port ", "seat ")  # how its lines begin that tell of no fault
 PATIENCE = 60  # seconds for the server to open its port, and for the bridges to end once it has ended
 
 Report = dict[str, Any]
@@ -197,7 +198,7 @@ class Game:
         """Waits until the server ends, and raises Broken where it doesn't end well."""
         _, said = await server.communicate()
         if server.returncode:
-            lines = [line for line in said.decode("utf-8", "replace").splitlines() if not line.startswith("listening on port ")]
+            lines = [line for line in said.decode("utf-8", "replace").splitlines() if not line.startswith(SAYS)]
             words = [f"the server {how_it_ended(server.returncode)}", "; ".join(lines)]
             raise Broken(": ".join(filter(None, words)), server.returncode not in LOST)
 

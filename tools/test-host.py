@@ -9,10 +9,11 @@ player comes back by its name and key, unless the others have played to the end 
 be those of before. Before and after each stop `record` writes the record so far, which `replay` must take; in the end the server writes the
 record, each of those must be its beginning, and the journal must give it once more. Then a game on a small file system that
 gets full again and again, where this user may mount one; a second server and a `keep` on a journal that is taken; a journal of
-other walls, and one that was cut. The exit code is 0 where all this holds.
+other walls, and one that was cut; what the server says of seats. The exit code is 0 where all this holds.
 """
 from __future__ import annotations
 
+import contextlib
 import os
 import random
 import selectors
@@ -20,7 +21,9 @@ import socket
 import subprocess
 import sys
 import tempfile
+import threading
 import time
+from collections.abc import Callable, Iterator
 from typing import IO
 
 JOURNAL = "riichi.journal"
@@ -309,6 +312,63 @@ def refused(program: str, chance: random.Random, port: int) -> None:
     print("a second server, a keep, other walls, a port in use and a cut journal are refused")
 
 
+@contextlib.contextmanager
+def said_by(hosted: Hosted) -> Iterator[Callable[[str], None]]:
+    """A server, which is killed in the end, and a check that it says a line next."""
+    server = hosted.start()
+    late = threading.Timer(60, server.kill)
+    late.start()
+    try:
+        assert server.stderr is not None
+        lines = server.stderr
+
+        def says(line: str) -> None:
+            said = lines.readline().decode()
+            assert said == line + "\n", f"the server says {said!r} in place of {line!r}"
+
+        says(f"listening on port {hosted.port}")
+        yield says
+    finally:
+        late.cancel()
+        server.kill()
+        hosted.end_of(server)
+
+
+def seats(program: str, chance: random.Random, port: int) -> None:
+    """The server says which seats are taken, left and taken back, and a name can't break its lines."""
+    with tempfile.TemporaryDirectory() as folder:
+        hosted = Hosted(program, folder, seeds(chance), port)
+        third = hosted.players[2]
+        with said_by(hosted) as says:
+            for seat, player in enumerate(hosted.players):
+                player.connect(port)
+                player.hear()
+                says(f'seat {seat} is taken by "{player.name.decode()}"')
+            assert third.link is not None
+            third.link.close()
+            says("seat 2 is left")
+            assert b" gone 2" in hosted.journal(), "a seat is said to be left before that stands in the journal"
+            third.connect(port)
+            third.hear()
+            says("seat 2 is taken back")
+        with said_by(hosted) as says:
+            third.connect(port)
+            third.hear()
+            says("seat 2 is taken back")
+        for player in hosted.players:
+            if player.link is not None:
+                player.link.close()
+    with tempfile.TemporaryDirectory() as folder:
+        hosted = Hosted(program, folder, seeds(chance), port + 1)
+        hosted.words += ["--rooms", "2"]
+        with said_by(hosted) as says:
+            with socket.create_connection(("127.0.0.1", hosted.port)) as link:
+                link.sendall(b'{"type":"join","name":"\xc3\xa9\\u009b","room":"room2"}\n')
+                says('room2: seat 0 is taken by "\u00e9\\u{9b}"')
+            says("room2: seat 0 is left")
+    print("each seat that is taken, left and taken back is said")
+
+
 def main() -> None:
     if len(sys.argv) < 2:
         sys.exit(__doc__)
@@ -317,6 +377,7 @@ def main() -> None:
     chance = random.Random(seed)
     port = 11800
     refused(program, chance, port)
+    seats(program, chance, port + 50)
     killed(program, stops, games, chance, port + 10)
     full(program, chance, port + 40)
 

@@ -14,6 +14,7 @@ ghost use Rattle.mj_runs.specs.Faults.{CountsWriteFaults};
 use crate::hosted::Hosted;
 use crate::opening::{close_all, open_all};
 use crate::playing::play_on;
+use crate::seat_log::SeatLog;
 use mj_core::Core;
 use mj_hosting::{Rooms, has_thread, new_games};
 use mj_journal::{Disk, NotOpened};
@@ -46,8 +47,16 @@ pub enum HostEnd {
 
 /// Opens the journals of games, each on the disk in its place, plays the games from there on over the host, gives the links of
 /// their connections back, and writes their records. A new journal begins its game. Of a game that isn't over each seat that
-/// was present has left, and comes back by its name and key; one that is over stays over.
-pub fn host_games<K: Sink, H: Host, C: Clock, D: Disk + Drop + Send, R: Threads + Wait + Sync>(
+/// was present has left, and comes back by its name and key; one that is over stays over. The log is told of each seat that is
+/// taken, left and taken back from then on, once its disk has that.
+pub fn host_games<
+    K: Sink,
+    H: Host,
+    C: Clock,
+    D: Disk + Drop + Send,
+    L: SeatLog + Sync,
+    R: Threads + Wait + Sync,
+>(
     rt: &R,
     alloc: Global,
     hosted: &Hosted,
@@ -55,6 +64,7 @@ pub fn host_games<K: Sink, H: Host, C: Clock, D: Disk + Drop + Send, R: Threads 
     host: &mut H,
     clock: &mut C,
     disks: &mut Vec<D>,
+    log: &L,
 ) -> HostEnd
     requires { length disks.old.items ≡ count_of hosted.now.rooms }
     ensures hosts { Hosts H.Link.was_read H.Link.left H.Link.written H.Link.read_faults
@@ -93,6 +103,7 @@ pub fn host_games<K: Sink, H: Host, C: Clock, D: Disk + Drop + Send, R: Threads 
                 sink,
                 host,
                 clock,
+                log,
             )
         }
         Err(why) => by_reason(why),
@@ -100,7 +111,14 @@ pub fn host_games<K: Sink, H: Host, C: Clock, D: Disk + Drop + Send, R: Threads 
 }
 
 // Opens the host, and plays games over it whose journals are open.
-fn host_opened<K: Sink, H: Host, C: Clock, D: Disk + Drop + Send, R: Threads + Wait + Sync>(
+fn host_opened<
+    K: Sink,
+    H: Host,
+    C: Clock,
+    D: Disk + Drop + Send,
+    L: SeatLog + Sync,
+    R: Threads + Wait + Sync,
+>(
     rt: &R,
     alloc: Global,
     rooms: Rooms,
@@ -111,6 +129,7 @@ fn host_opened<K: Sink, H: Host, C: Clock, D: Disk + Drop + Send, R: Threads + W
     sink: &mut K,
     host: &mut H,
     clock: &mut C,
+    log: &L,
 ) -> HostEnd
     requires within { AreWithin rooms }
     requires opened { (s : ServedWith) × (were : List D) × AreOpenFor D.told D.may_leave D.moment D.left_since D.secured_since D.disk_faults rooms s were games.items }
@@ -132,7 +151,9 @@ fn host_opened<K: Sink, H: Host, C: Clock, D: Disk + Drop + Send, R: Threads + W
         (K.write_faults sink.new) }
 {
     match host.open(port) {
-        Opened::Ready => play_on(rt, alloc, rooms, games, cores, disks, sink, host, clock),
+        Opened::Ready => play_on(
+            rt, alloc, rooms, games, cores, disks, sink, host, clock, log,
+        ),
         Opened::Failed(_) => {
             close_all(games, cores, disks);
             HostEnd::NotOpened

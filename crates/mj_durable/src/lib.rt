@@ -5,12 +5,15 @@
 mod asked;
 mod hosted;
 mod hosting;
+mod logged;
 mod opening;
 mod playing;
 mod resuming;
+mod seat_log;
 mod status;
 
 pub use asked::{hosted_of, is_for_host};
 pub use hosted::Hosted;
 pub use hosting::{HostEnd, host_games};
+pub use seat_log::SeatLog;
 pub use status::status_of_host;

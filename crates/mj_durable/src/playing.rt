@@ -15,14 +15,16 @@ ghost use Rattle.mj_durable.specs.Statuses.{host_status};
 ghost use Rattle.mj_runs.specs.Faults.{CountsWriteFaults};
 
 use crate::hosting::HostEnd;
+use crate::logged::play_logged;
 use crate::opening::close_all;
 use crate::resuming::{resume_all, stop_of};
+use crate::seat_log::SeatLog;
 use mj_core::Core;
 use mj_hosting::{Rooms, ServeEnd, give_all, write_games};
 use mj_journal::Disk;
 use mj_links::{Clock, Given, Host, Sink};
 use mj_ports::Left;
-use mj_seats::{Played, PlayedBy, play_tables};
+use mj_seats::{Played, PlayedBy};
 use mj_written::{Foreseen, Stop, Written};
 use std::alloc::{AllocError, Global};
 use std::sync::Wait;
@@ -30,7 +32,14 @@ use std::thread::Threads;
 
 /// Plays games over an open host, from where their journals ended, to their ends; puts their disks back, gives the links of all
 /// connections back, and writes what there is of the games.
-pub(crate) fn play_on<K: Sink, H: Host, C: Clock, D: Disk + Drop + Send, R: Threads + Wait + Sync>(
+pub(crate) fn play_on<
+    K: Sink,
+    H: Host,
+    C: Clock,
+    D: Disk + Drop + Send,
+    L: SeatLog + Sync,
+    R: Threads + Wait + Sync,
+>(
     rt: &R,
     alloc: Global,
     rooms: Rooms,
@@ -40,6 +49,7 @@ pub(crate) fn play_on<K: Sink, H: Host, C: Clock, D: Disk + Drop + Send, R: Thre
     sink: &mut K,
     host: &mut H,
     clock: &mut C,
+    log: &L,
 ) -> HostEnd
     requires within { AreWithin rooms }
     requires opened { (s : ServedWith) × (were : List D) × AreOpenFor D.told D.may_leave D.moment D.left_since D.secured_since D.disk_faults rooms s were games.items }
@@ -60,7 +70,7 @@ pub(crate) fn play_on<K: Sink, H: Host, C: Clock, D: Disk + Drop + Send, R: Thre
     ensures writes { CountsWriteFaults (host_status result) (K.write_faults sink.old)
         (K.write_faults sink.new) }
 {
-    let played = play_all(rt, alloc, rooms, &mut games, host, clock);
+    let played = play_all(rt, alloc, rooms, &mut games, host, clock, log);
     let stop = stop_of(games.as_slice());
     close_all(games, cores, disks);
     match stop {
@@ -80,13 +90,14 @@ pub(crate) fn play_on<K: Sink, H: Host, C: Clock, D: Disk + Drop + Send, R: Thre
 }
 
 // Plays games from where their journals ended.
-fn play_all<H: Host, C: Clock, D: Disk + Drop + Send, R: Threads + Wait + Sync>(
+fn play_all<H: Host, C: Clock, D: Disk + Drop + Send, L: SeatLog + Sync, R: Threads + Wait + Sync>(
     rt: &R,
     alloc: Global,
     rooms: Rooms,
     games: &mut Vec<Written<Core, D>>,
     host: &H,
     clock: &mut C,
+    log: &L,
 ) -> Result<PlayedBy<H>, AllocError>
     requires within { AreWithin rooms }
     requires many { length games.old.items ≡ count_of rooms }
@@ -98,19 +109,27 @@ fn play_all<H: Host, C: Clock, D: Disk + Drop + Send, R: Threads + Wait + Sync>(
         (H.made_by host.now) H.Fault.number (handlers_for rooms) p.ends.items) }
 {
     match resume_all(alloc, games) {
-        Left::Gone => play_written(rt, alloc, rooms, games, host, clock),
+        Left::Gone => play_written(rt, alloc, rooms, games, host, clock, log),
         Left::NoMemory => Err(AllocError),
     }
 }
 
 // Plays written games, whatever these are.
-fn play_written<G: Foreseen, H: Host, C: Clock, D: Disk + Drop + Send, R: Threads + Wait + Sync>(
+fn play_written<
+    G: Foreseen,
+    H: Host,
+    C: Clock,
+    D: Disk + Drop + Send,
+    L: SeatLog + Sync,
+    R: Threads + Wait + Sync,
+>(
     rt: &R,
     alloc: Global,
     rooms: Rooms,
     games: &mut Vec<Written<G, D>>,
     host: &H,
     clock: &mut C,
+    log: &L,
 ) -> Result<PlayedBy<H>, AllocError>
     requires within { AreWithin rooms }
     requires many { length games.old.items ≡ count_of rooms }
@@ -122,7 +141,7 @@ fn play_written<G: Foreseen, H: Host, C: Clock, D: Disk + Drop + Send, R: Thread
         (H.made_by host.now) H.Fault.number (handlers_for rooms) p.ends.items) }
 {
     let handlers = rooms.handlers();
-    play_tables(rt, alloc, games, handlers, &rooms, host, clock)
+    play_logged(rt, alloc, games, handlers, &rooms, host, clock, log)
 }
 
 // The end of a command whose games are written, by that of one whose games are not.

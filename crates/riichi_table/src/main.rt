@@ -15,6 +15,7 @@ ghost use Rattle.std.specs.Prelude.{◌≡◌, IfOk, length};
 ghost use Rattle.mj_hosting.specs.Rooms.{AreWithin, count_of};
 
 mod announced;
+mod stderr_log;
 
 use announced::Announced;
 use mj_durable::{Hosted, host_games, hosted_of, is_for_host, status_of_host};
@@ -28,6 +29,7 @@ use std::alloc::{AllocError, Global};
 use std::env;
 use std::io::{ErrorKind, Write};
 use std::process::ExitCode;
+use stderr_log::StderrLog;
 
 // How the program is called with the words that `run` doesn't know.
 const USAGE: &[u8] =
@@ -43,7 +45,10 @@ fn main(rt: HostRuntime) -> ExitCode {
             Ok(mut disks) => {
                 let host = TcpHost::new(&rt, hosted.serving.limit);
                 let mut host = Announced::new(&rt, alloc, host);
-                let end = host_games(&rt, alloc, &hosted, sink, &mut host, clock, &mut disks);
+                let log = StderrLog::new(&rt, alloc, hosted.rooms);
+                let end = host_games(
+                    &rt, alloc, &hosted, sink, &mut host, clock, &mut disks, &log,
+                );
                 status_of_host(end)
             }
             Err(_) => Status::NoMemory,
