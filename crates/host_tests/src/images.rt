@@ -3,50 +3,61 @@
 use mj_journal::{CallMade, DiskCall, MemDisk};
 use std::alloc::{AllocError, Global};
 
-/// The image that a stop leaves: the disk as it reads, or of a write that no sync has secured the first half or the second one, and
-/// ones for the rest.
-pub fn left_by(alloc: Global, disk: &MemDisk, tear: u32) -> Result<Vec<u8>, AllocError> {
-    match pending(disk.calls()) {
-        Some((place, piece)) if tear > 0 => torn(alloc, disk.bytes(), place, piece, tear == 1),
-        _ => disk.bytes().to_vec(alloc),
-    }
-}
-
-// The write that no sync has secured, where there is one.
-fn pending(calls: &[CallMade]) -> Option<(u64, &[u8])> {
+/// The image that a stop leaves of a disk that had these bytes at first: of a write that no sync has secured nothing stands (0),
+/// or all of it (1), or its first half and ones for the rest (2), or other bytes in place of all (3).
+pub fn left_by(
+    alloc: Global,
+    start: &[u8],
+    disk: &MemDisk,
+    tear: u32,
+) -> Result<Vec<u8>, AllocError> {
+    let mut image = start.to_vec(alloc)?;
     let mut pending = None;
-    for call in calls {
-        match &call.what {
-            DiskCall::Write { place, piece } => pending = Some((*place, piece.as_slice())),
-            DiskCall::Sync => {
-                if !call.failed {
-                    pending = None;
-                }
+    for call in disk.calls() {
+        if let DiskCall::Write { place, piece } = &call.what {
+            pending = Some((*place as usize, piece.as_slice()));
+        }
+        if is_synced(call) {
+            if let Some((place, piece)) = pending {
+                put(&mut image, place, piece, 1)?;
             }
-            DiskCall::Size => {}
-            DiskCall::Read { place: _, count: _ } => {}
+            pending = None;
         }
     }
-    pending
-}
-
-fn torn(
-    alloc: Global,
-    bytes: &[u8],
-    place: u64,
-    piece: &[u8],
-    first: bool,
-) -> Result<Vec<u8>, AllocError> {
-    let place = place as usize;
-    let mut image = bytes.get(..place).unwrap_or(bytes).to_vec(alloc)?;
-    for (at, byte) in piece.iter().enumerate() {
-        let stands = (at < piece.len() / 2) == first;
-        image.push(if stands { *byte } else { 1 })?;
-    }
-    if let Some(rest) = bytes.get(image.len()..) {
-        image.extend_from_slice(rest)?;
+    if let Some((place, piece)) = pending {
+        put(&mut image, place, piece, tear)?;
     }
     Ok(image)
+}
+
+fn is_synced(call: &CallMade) -> bool {
+    matches!(&call.what, DiskCall::Sync) && !call.failed
+}
+
+// Puts at a place what is left of a piece that is torn so.
+fn put(image: &mut Vec<u8>, place: usize, piece: &[u8], tear: u32) -> Result<(), AllocError> {
+    if tear == 0 {
+        return Ok(());
+    }
+    for (at, byte) in piece.iter().enumerate() {
+        let left = left_of(*byte, at < piece.len() / 2, tear);
+        let at = place.saturating_add(at);
+        if at < image.len() {
+            image[at] = left;
+        } else {
+            image.push(left)?;
+        }
+    }
+    Ok(())
+}
+
+// What is left of a byte, of the first half or not.
+fn left_of(byte: u8, first: bool, tear: u32) -> u8 {
+    match tear {
+        1 => byte,
+        2 => { if first { byte } else { 1 } }
+        _ => 254,
+    }
 }
 
 // Where the record at a place ends, where an open gate stands there and the record is whole.

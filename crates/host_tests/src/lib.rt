@@ -4,9 +4,13 @@
 #[cfg(test)]
 mod board;
 #[cfg(test)]
+mod guest_host;
+#[cfg(test)]
 mod guests;
 #[cfg(test)]
 mod images;
+#[cfg(test)]
+mod paced;
 #[cfg(test)]
 mod player;
 #[cfg(test)]
@@ -14,4 +18,8 @@ mod row_tests;
 #[cfg(test)]
 mod running;
 #[cfg(test)]
+mod script;
+#[cfg(test)]
 mod stop_tests;
+#[cfg(test)]
+mod whole_tests;

@@ -4,20 +4,23 @@ ghost use Rattle.std.specs.Prelude.{◌≡◌, None, IfOk};
 ghost use Rattle.mj_links.specs.Links.{ReadingStays, WritingStays};
 
 use crate::board::Board;
+use crate::guests::Guests;
+use crate::script::row_at;
 use mj_links::{FaultCount, Got, Link, Put, Sink, Source};
 use std::alloc::{AllocError, Global};
-use std::time::Duration;
-use std::{thread, time};
+use std::time;
 
-const PASS: &[u8] = b"{\"type\":\"none\"}\n";
+const PASS: &[u8] = b"\"type\":\"none\"";
 
-const REPLAY: &[u8] = b"{\"type\":\"replay\",\"count\":";
+const HELLO: &[u8] = b"{\"type\":\"hello\"";
+
+const REPLAY: &[u8] = b"{\"type\":\"replay\"";
+
+const ERROR: &[u8] = b"{\"type\":\"error\"";
 
 const START: &[u8] = b"{\"type\":\"start_game\",\"id\":";
 
-const DRAW: &[u8] = b"{\"type\":\"tsumo\",\"actor\":";
-
-/// The link of a player. It gives the others a moment to come before the player's first answer, and tells nothing for proofs.
+/// The link of a player. It tells nothing for proofs.
 #[derive(Drop)]
 pub struct PlayerLink<'a, R> {
     rt: &'a R,
@@ -26,18 +29,22 @@ pub struct PlayerLink<'a, R> {
     write_faults: FaultCount,
 }
 
-// A player that joins, discards each tile that it draws, and passes else. After so many answers it leaves.
+// A player that joins, discards each tile that it draws, and passes else, but where the script has its answer. After so many
+// answers it leaves, and where the script has the answer of another seat. What it says stands in `said`, of which so much is gone;
+// `place` and `deeds` are the bytes and the lines that it was told of deeds on this link, and `newest` is the last of these.
 #[derive(Drop)]
 struct Player<'a> {
     board: &'a Board,
+    guests: Guests,
     number: u32,
     answers: u32,
-    unread: Vec<u8>,
-    join: usize,
+    said: Vec<u8>,
     gone: usize,
-    held: Vec<u8>,
-    again: u64,
-    seat: u8,
+    newest: Vec<u8>,
+    place: usize,
+    deeds: u32,
+    seat: u32,
+    is_back: bool,
 }
 
 impl<'a, R> PlayerLink<'a, R> {
@@ -46,14 +53,14 @@ impl<'a, R> PlayerLink<'a, R> {
         rt: &'a R,
         alloc: Global,
         board: &'a Board,
-        player: u32,
-        answers: u32,
+        number: u32,
+        guests: Guests,
     ) -> Result<PlayerLink<'a, R>, AllocError>
         ensures { IfOk result (λ l. (l.read_faults.count ≡ 0) × (l.write_faults.count ≡ 0)) }
     {
         Ok(PlayerLink {
             rt,
-            player: Player::new(alloc, board, player, answers)?,
+            player: Player::new(alloc, board, number, guests)?,
             read_faults: FaultCount::new(),
             write_faults: FaultCount::new(),
         })
@@ -65,61 +72,85 @@ impl<'a> Player<'a> {
         alloc: Global,
         board: &'a Board,
         number: u32,
-        answers: u32,
+        guests: Guests,
     ) -> Result<Player<'a>, AllocError> {
-        let unread = join_of(alloc, number)?;
         Ok(Player {
             board,
+            guests,
             number,
-            answers,
-            join: unread.len(),
-            unread,
+            answers: guests.answers,
+            said: join_of(alloc, number)?,
             gone: 0,
-            held: Vec::new(alloc),
-            again: 0,
+            newest: Vec::new(alloc),
+            place: 0,
+            deeds: 0,
             seat: 0,
+            is_back: false,
         })
     }
 
-    // Takes what it is told, line by line; false where memory is wanting.
+    // Takes whole lines that it is told; false where memory is wanting.
     fn hear(&mut self, piece: &[u8]) -> bool {
         let mut heard = true;
-        for byte in piece {
-            heard = heard && self.held.push(*byte).is_ok();
-            if *byte == b'\n' {
-                heard = heard && self.hear_line();
-                self.held.clear();
-            }
+        for line in piece.split_inclusive(|byte| *byte == b'\n') {
+            heard = heard && self.hear_line(line);
+        }
+        if !self.is_back && !piece.starts_with(HELLO) {
+            self.is_back = true;
+            self.board.come_back();
         }
         heard
     }
 
-    fn hear_line(&mut self) -> bool {
-        if let Some(rest) = self.held.strip_prefix(REPLAY) {
-            self.again = number_in(rest);
+    fn hear_line(&mut self, line: &[u8]) -> bool {
+        if line.starts_with(HELLO) || line.starts_with(REPLAY) {
             return true;
         }
-        if self.held.starts_with(b"{\"type\":\"hello\"")
-            || self.held.starts_with(b"{\"type\":\"error\"")
-        {
+        if line.starts_with(ERROR) {
+            self.board.tell_wrong();
             return true;
         }
-        if let Some([seat, ..]) = self.held.strip_prefix(START) {
-            self.seat = *seat;
+        if let Some([seat, ..]) = line.strip_prefix(START) {
+            self.seat = u32::from(seat.saturating_sub(b'0'));
+            self.board.sit(self.number, self.seat);
         }
-        self.board.add(self.number, self.held.as_slice()) && self.answer()
+        self.board.add(self.number, self.place, line);
+        self.place = self.place.saturating_add(line.len());
+        self.deeds = self.deeds.saturating_add(1);
+        self.newest.clear();
+        self.newest.extend_from_slice(line).is_ok()
     }
 
-    fn answer(&mut self) -> bool {
-        if self.again > 0 {
-            self.again -= 1;
-            return true;
-        }
+    // Says the answer to the newest line, once all have come; false where it leaves, or memory is wanting.
+    fn answer<R: time::Clock>(&mut self, rt: &R) -> bool {
+        self.board.await_all(rt, self.guests.pauses);
         if self.answers == 0 {
-            return true;
+            return false;
         }
         self.answers -= 1;
-        put_answer(&mut self.unread, self.held.as_slice(), self.seat).is_ok()
+        self.board.answer(self.deeds);
+        if !self.guests.scripted {
+            return self.say("\"tsumogiri\":true", "");
+        }
+        match row_at(self.deeds.saturating_sub(1)) {
+            Some(row) => {
+                if row.seat != self.seat {
+                    self.board.leave(self.number, row.seat);
+                    return false;
+                }
+                self.say(row.word, row.tile)
+            }
+            None => self.say("\"tsumogiri\":true", ""),
+        }
+    }
+
+    fn say(&mut self, word: &str, tile: &str) -> bool {
+        self.said.clear();
+        self.gone = 0;
+        match chosen(self.newest.as_slice(), word.as_bytes(), tile.as_bytes()) {
+            Some(answer) => put_answer(&mut self.said, answer).is_ok(),
+            None => put_answer(&mut self.said, PASS).is_ok(),
+        }
     }
 }
 
@@ -139,43 +170,25 @@ fn join_of(alloc: Global, player: u32) -> Result<Vec<u8>, AllocError> {
     Ok(line)
 }
 
-// The number that a text begins with.
-fn number_in(text: &[u8]) -> u64 {
-    let mut number = 0u64;
-    for byte in text {
-        if !byte.is_ascii_digit() {
-            return number;
+// The first possible answer of a line that has both words, without its braces.
+fn chosen<'a>(line: &'a [u8], word: &[u8], tile: &[u8]) -> Option<&'a [u8]> {
+    for text in line.split(|byte| *byte == b'{').skip(2) {
+        if has(text, word) && has(text, tile) {
+            let end = text.iter().position(|byte| *byte == b'}')?;
+            return text.get(..end);
         }
-        number = number
-            .saturating_mul(10)
-            .saturating_add(u64::from(byte.saturating_sub(b'0')));
     }
-    number
+    None
 }
 
-// The tile of a line that tells a seat its own draw.
-fn drawn(line: &[u8], seat: u8) -> Option<&[u8]> {
-    let [actor, rest @ ..] = line.strip_prefix(DRAW)? else {
-        return None;
-    };
-    if *actor != seat {
-        return None;
-    }
-    let tile = rest.strip_prefix(b",\"pai\":\"")?;
-    let end = tile.iter().position(|byte| *byte == b'"')?;
-    tile.get(..end)
+fn has(text: &[u8], word: &[u8]) -> bool {
+    word.is_empty() || text.windows(word.len()).any(|bytes| bytes == word)
 }
 
-fn put_answer(answers: &mut Vec<u8>, line: &[u8], seat: u8) -> Result<(), AllocError> {
-    let Some(tile) = drawn(line, seat) else {
-        answers.extend_from_slice(PASS)?;
-        return Ok(());
-    };
-    answers.extend_from_slice(b"{\"type\":\"dahai\",\"actor\":")?;
-    answers.push(seat)?;
-    answers.extend_from_slice(b",\"pai\":\"")?;
-    answers.extend_from_slice(tile)?;
-    answers.extend_from_slice(b"\",\"tsumogiri\":true}\n")?;
+fn put_answer(said: &mut Vec<u8>, answer: &[u8]) -> Result<(), AllocError> {
+    said.extend_from_slice(b"{")?;
+    said.extend_from_slice(answer)?;
+    said.extend_from_slice(b"}\n")?;
     Ok(())
 }
 
@@ -189,7 +202,10 @@ impl<'a, R: time::Clock> Source for PlayerLink<'a, R> {
 
     fn read(&mut self, into: &mut [u8]) -> Got {
         let player = &mut self.player;
-        let Some(rest) = player.unread.get(player.gone..) else {
+        if player.gone >= player.said.len() && !player.answer(self.rt) {
+            return Got::End;
+        }
+        let Some(rest) = player.said.get(player.gone..) else {
             return Got::End;
         };
         let count = rest.len().min(into.len());
@@ -197,9 +213,6 @@ impl<'a, R: time::Clock> Source for PlayerLink<'a, R> {
             return Got::End;
         }
         into[..count].copy_from_slice(&rest[..count]);
-        if player.gone == player.join {
-            thread::sleep(self.rt, Duration::from_millis(2));
-        }
         player.gone = player.gone.saturating_add(count);
         Got::Bytes(count)
     }
@@ -236,6 +249,8 @@ impl<'a, R: time::Clock> Link for PlayerLink<'a, R> {
     ghost reads_apart = { λ got into old new h. (tt, h) };
 
     ghost ends = { λ got into old new h none. absurd none };
+
+    ghost untold = { λ link none. absurd none };
 
     ghost writes_apart = { λ put piece old new h. h };
 }

@@ -1,15 +1,17 @@
 //! Journals from which no hosted game goes on, and what else ends a run.
 
 use crate::board::Board;
-use crate::guests::{GuestHost, Guests};
+use crate::guest_host::GuestHost;
+use crate::guests::Guests;
 use crate::images::front_of;
+use crate::paced::PacedClock;
 use crate::running::{
-    NOBODY, disk_of, host_one, host_over, is_kept, is_kept_whole, is_record, serving,
+    BRIEF, NOBODY, disk_of, host_one, host_over, is_kept, is_kept_whole, is_record, serving,
 };
 use mj_durable::{HostEnd, Hosted, host_games, hosted_of, is_for_host};
 use mj_hosting::Rooms;
 use mj_journal::MemDisk;
-use mj_links::{MemClock, MemSink};
+use mj_links::MemSink;
 use std::alloc::{AllocError, Global};
 use std::sync::Wait;
 use std::test::Fail;
@@ -20,6 +22,8 @@ use std::time;
 const EIGHT: Guests = Guests {
     players: 8,
     answers: 1,
+    scripted: false,
+    pauses: 20,
     fails: true,
     step: 0,
     shut: false,
@@ -90,7 +94,7 @@ fn are_refused<R: Threads + Wait + time::Clock + Sync>(
 ) -> Result<bool, AllocError> {
     let board = Board::new(alloc, 0)?;
     let disk = disk_of(alloc, tag, 0)?;
-    let (other, _, _) = host_over(rt, alloc, serving(7, 2000), &board, NOBODY, disk)?;
+    let (other, _, _) = host_over(rt, alloc, serving(2000), &board, NOBODY, disk)?;
     let cut = host_one(rt, alloc, NOBODY, disk_of(alloc, b"\x01\0", 0)?)?;
     Ok(ends_so(other, Wanted::OtherGame, 0) && ends_so(cut.end, Wanted::BadJournal, 0))
 }
@@ -115,6 +119,22 @@ fn journals_that_are_not_opened_stay_as_they_are(rt: HostRuntime) -> Result<(), 
     Ok(())
 }
 
+// Whether a log is told of four seats that are taken and left, and in a run from there of four that are taken back and left again.
+fn seats_are_logged<R: Threads + Wait + time::Clock + Sync>(
+    rt: &R,
+    alloc: Global,
+) -> Result<bool, AllocError> {
+    let new = host_one(rt, alloc, BRIEF, disk_of(alloc, b"", 0)?)?;
+    let again = host_one(rt, alloc, BRIEF, disk_of(alloc, new.disk.bytes(), 0)?)?;
+    Ok(new.board.has_seen(4, 0, 4) && again.board.has_seen(0, 4, 4))
+}
+
+#[test]
+fn a_log_is_told_of_seats(rt: HostRuntime) -> Result<(), Fail> {
+    assert!(rt; seats_are_logged(&rt, rt.alloc())?);
+    Ok(())
+}
+
 // Hosts two games on disks, tells nobody what the players are told, and gives back how it ended, what it wrote, and the disks.
 fn host_two<R: Threads + Wait + time::Clock + Sync>(
     rt: &R,
@@ -124,15 +144,15 @@ fn host_two<R: Threads + Wait + time::Clock + Sync>(
 ) -> Result<(HostEnd, Vec<u8>, Vec<MemDisk>), AllocError> {
     let hosted = Hosted {
         rooms: Rooms::Many(2),
-        serving: serving(7, 1000),
+        serving: serving(1000),
     };
     let board = Board::new(alloc, 8)?;
     let mut host = GuestHost::new(rt, alloc, &board, EIGHT);
     let mut sink = MemSink::new(Vec::new(alloc));
-    let mut clock = MemClock::new(0, 0);
+    let mut clock = PacedClock::new(rt, 0);
     let mut disks = vec![in alloc; first, second]?;
     let end = host_games(
-        rt, alloc, &hosted, &mut sink, &mut host, &mut clock, &mut disks,
+        rt, alloc, &hosted, &mut sink, &mut host, &mut clock, &mut disks, &board,
     );
     let written = sink.written().to_vec(alloc)?;
     Ok((end, written, disks))

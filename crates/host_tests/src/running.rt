@@ -3,11 +3,14 @@
 ghost use Rattle.std.specs.Prelude.{◌≤◌};
 
 use crate::board::Board;
-use crate::guests::{GuestHost, Guests};
+use crate::guest_host::GuestHost;
+use crate::guests::Guests;
+use crate::paced::PacedClock;
+use crate::script::SEED;
 use mj_durable::{HostEnd, Hosted, host_games};
 use mj_hosting::Rooms;
 use mj_journal::MemDisk;
-use mj_links::{MemClock, MemSink, MemSource};
+use mj_links::{MemSink, MemSource};
 use mj_record::{RecordEnd, record_of};
 use mj_replay::{Checked, check};
 use mj_words::Serving;
@@ -16,10 +19,15 @@ use std::sync::Wait;
 use std::thread::Threads;
 use std::time;
 
-/// Four players who answer to the end.
-pub const FOUR: Guests = Guests {
+/// A new journal.
+pub const NOTHING: &[u8] = b"";
+
+/// Four players who play the script.
+pub const SCRIPTED: Guests = Guests {
     players: 4,
     answers: u32::MAX,
+    scripted: true,
+    pauses: 20_000,
     fails: false,
     step: 0,
     shut: false,
@@ -29,6 +37,8 @@ pub const FOUR: Guests = Guests {
 pub const LEAVING: Guests = Guests {
     players: 4,
     answers: 1,
+    scripted: false,
+    pauses: 20,
     fails: false,
     step: 1000,
     shut: false,
@@ -38,6 +48,8 @@ pub const LEAVING: Guests = Guests {
 pub const BRIEF: Guests = Guests {
     players: 4,
     answers: 1,
+    scripted: false,
+    pauses: 20,
     fails: true,
     step: 0,
     shut: false,
@@ -47,6 +59,8 @@ pub const BRIEF: Guests = Guests {
 pub const NOBODY: Guests = Guests {
     players: 0,
     answers: 0,
+    scripted: false,
+    pauses: 0,
     fails: true,
     step: 0,
     shut: true,
@@ -61,12 +75,12 @@ pub struct Ran {
     pub board: Board,
 }
 
-/// What the games of a seed are served with.
-pub fn serving(seed: u8, limit: u64) -> Serving
+/// What games are served with.
+pub fn serving(limit: u64) -> Serving
     requires { (1 ≤ limit) × (limit ≤ 3600000) }
 {
     Serving {
-        seed: [seed; 32],
+        seed: SEED,
         limit,
         port: 11600,
         draws: false,
@@ -79,7 +93,7 @@ pub fn disk_of(alloc: Global, image: &[u8], fails: u64) -> Result<MemDisk, Alloc
     MemDisk::new(image, [fails].to_vec(alloc)?)
 }
 
-/// Hosts the game of a seed on a disk.
+/// Hosts a game on a disk.
 pub fn host_one<R: Threads + Wait + time::Clock + Sync>(
     rt: &R,
     alloc: Global,
@@ -87,7 +101,7 @@ pub fn host_one<R: Threads + Wait + time::Clock + Sync>(
     disk: MemDisk,
 ) -> Result<Ran, AllocError> {
     let board = Board::new(alloc, guests.players)?;
-    let (end, record, disk) = host_over(rt, alloc, serving(7, 1000), &board, guests, disk)?;
+    let (end, record, disk) = host_over(rt, alloc, serving(1000), &board, guests, disk)?;
     Ok(Ran {
         end,
         record,
@@ -111,16 +125,33 @@ pub fn host_over<R: Threads + Wait + time::Clock + Sync>(
     };
     let mut host = GuestHost::new(rt, alloc, board, guests);
     let mut sink = MemSink::new(Vec::new(alloc));
-    let mut clock = MemClock::new(0, guests.step);
+    let mut clock = PacedClock::new(rt, guests.step);
     let mut disks = vec![in alloc; disk]?;
     let end = host_games(
-        rt, alloc, &hosted, &mut sink, &mut host, &mut clock, &mut disks,
+        rt, alloc, &hosted, &mut sink, &mut host, &mut clock, &mut disks, board,
     );
     let record = sink.written().to_vec(alloc)?;
     match disks.pop() {
         Some(disk) => Ok((end, record, disk)),
         None => Err(AllocError),
     }
+}
+
+/// Whether a run ended well, wrote a record, and left the journal of it.
+pub fn is_whole(alloc: Global, ran: &Ran) -> bool {
+    let ended = matches!(ran.end, HostEnd::Over | HostEnd::HostLost);
+    ended
+        && is_record(alloc, ran.record.as_slice())
+        && is_kept_whole(alloc, ran.disk.bytes(), ran.record.as_slice())
+}
+
+/// Whether four players were told in a run all that they were told before.
+pub fn tells_again(now: &Board, before: &Board) -> bool {
+    let mut right = true;
+    for player in 0..4 {
+        right = right && now.goes_on(player, before);
+    }
+    right
 }
 
 /// Whether a text is a record.
