@@ -81,7 +81,8 @@ not_completed counts room held melds kind is size held_size of_four each low mor
 
 -- the numbers as they are read
 pub excluded : (counts room held counted read left : List ℕ) (melds same kind place : ℕ) → IsFar counts room same → melds ≡ same → read ≡ held → length held ≡ 34 → counted ≡ counts
-    → length counts ≡ 34 → left ≡ room → ((k : ℕ) → get_or room k 0 ≤ 4) → place ≡ kind → place < 34 → get_or read place 0 < get_or left place 0 → ((k : ℕ) → k < 34 → get_or read k 0 ≤ get_or counted k 0)
+    → length counts ≡ 34 → left ≡ room → ((k : ℕ) → get_or room k 0 ≤ 4) → place ≡ kind → place < 34 → get_or read place 0 < get_or left place 0
+    → ((k : ℕ) → k < 34 → get_or read k 0 ≤ get_or counted k 0)
     → complete (one_more held kind) melds ≡ false
 excluded counts room held counted read left melds same kind place is melds_are read_is held_size counted_is size left_is of_four at low more each =
     ap (λ m. complete (one_more held kind) m) melds_are

@@ -13,7 +13,7 @@ use Rattle.mj_shanten.specs.Suits.{IsJoint, suits_of, with_two}
 use Rattle.mj_shanten.specs.Walked.{Tiles, IsLeastOr}
 use Rattle.mj_shanten.proofs.Path.{one_less_at}
 use Rattle.mj_shanten.proofs.Special.{least_goal}
-use Rattle.mj_memory.specs.Lanes.{joined}
+use Rattle.mj_memory.specs.Joined.{joined}
 use Rattle.mj_memory.specs.Ways.{OfSuit, OfBoth, OfPlace, Beside, LeavesBest, AreWays}
 use Rattle.mj_memory.proofs.Joins.{both_best}
 use Rattle.mj_memory.proofs.Hands.{nine_of, least_of_both, others_less, wide_of}

@@ -14,7 +14,7 @@ use Rattle.mj_shanten.specs.Walked.{IsWide, IsLeastOr}
 use Rattle.mj_shanten.proofs.Goal.{wide_low, wide_size}
 use Rattle.mj_shanten.proofs.Joint.{counts_in, joint_tiles, pairs_eqb, eqb_pairs, parts_missing, target_long}
 use Rattle.mj_shanten.proofs.Whole.{four_are, four_nines, new_wide}
-use Rattle.mj_memory.specs.Lanes.{joined}
+use Rattle.mj_memory.specs.Joined.{joined}
 use Rattle.mj_memory.specs.Ways.{OfSuit, OfBoth, OfPlace, Beside, LeavesBest}
 use Rattle.mj_memory.proofs.Joins.{both_most, both_some}
 

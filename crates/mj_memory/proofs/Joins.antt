@@ -1,12 +1,12 @@
 -- The join of two rows has the most that both leave.
-use Rattle.std.proofs.Common.{◌≡◌, ℕ, zero, suc, ◌+◌, ◌-◌, ◌*◌, ◌/◌, ◌%◌, ◌<◌, ◌≤◌, eqb, ◌&&◌, cond, Bool, max, List, length, get_or, set, get_or-set_other, get_or-set_same, refl, sym, subst, ap, ap₂, ◌∙◌, inl, inr, arith}
-use Rattle.std.proofs.lemmas.Bool.{cases_lt, cases_eq, cases_Bool, and_parts, eqb-true}
+use Rattle.std.proofs.Common.{◌≡◌, ℕ, zero, suc, ◌+◌, ◌-◌, ◌<◌, ◌≤◌, eqb, ◌&&◌, cond, Bool, max, List, refl, sym, subst, ap, ap₂, ◌∙◌, inl, inr, arith}
+use Rattle.std.proofs.lemmas.Bool.{cases_lt, cases_Bool, and_parts, eqb-true}
 use Rattle.mj_suits.specs.Rows.{lane, Holds, start_lane, taken}
 use Rattle.mj_suits.specs.Left.{pairs, LeavesMost}
 use Rattle.mj_suits.specs.Targets.{missing, IsTarget}
 use Rattle.mj_suits.proofs.Taken.{taken_in, taken_none, taken_few_sets, taken_few_pairs, taken_again}
 use Rattle.mj_shanten.proofs.Joint.{pairs_eqb, eqb_pairs}
-use Rattle.mj_memory.specs.Lanes.{beside_moved, beside, joined}
+use Rattle.mj_memory.specs.Joined.{beside_moved, beside, joined}
 use Rattle.mj_memory.specs.Ways.{OfSuit, OfBoth, LeavesBest}
 
 -- ---- the lanes
@@ -234,14 +234,12 @@ both_best V W a b row first second held = record {
 -- ---- one suit
 
 -- its row before fifteen tiles
-pub suit_best : (counts room : List ℕ) (runs : Bool) (start row lanes : List ℕ) → Holds start start_lane → LeavesMost counts room runs start row → Holds lanes (lane row)
-    → LeavesBest (OfSuit counts room runs) lanes
-suit_best counts room runs start row lanes holds leaves held = record {
+pub suit_best : (counts room : List ℕ) (runs : Bool) (start row : List ℕ) → Holds start start_lane → LeavesMost counts room runs start row → LeavesBest (OfSuit counts room runs) row
+suit_best counts room runs start row holds leaves = record {
   most = λ sets pair missed few one way.
       (let m = way.missed_is in
-      let e = held.at sets pair (omega arith) one in
       elim (cases_lt 15 missed) [
-        | inl more ↦ far (lane lanes sets pair) missed more
+        | inl more ↦ far (lane row sets pair) missed more
         | inr within ↦
             (let full : lane start 0 0 ≡ 15 = holds.at 0 0 (omega arith) (omega arith) in
             let left : 15 - missed ≤ lane row sets pair = leaves.most sets pair (15 - missed) (omega arith) one record {
@@ -257,12 +255,11 @@ suit_best counts room runs start row lanes holds leaves held = record {
                 left_is = rest missed (missing way.target counts) (lane start 0 0) m full within;
               };
             } in
-            enough (lane lanes sets pair) (lane row sets pair) missed e left)
+            enough (lane row sets pair) missed left)
       ]);
   some = λ sets pair few one some.
-      (let e = held.at sets pair (omega arith) one in
       elim (leaves.some sets pair (omega arith) one) [
-        | inl none ↦ absurd (nothing (lane lanes sets pair) (lane row sets pair) e none some)
+        | inl none ↦ absurd (nothing (lane row sets pair) none some)
         | inr found ↦
             (let by = found.by in
             let sets_are = by.sets_are in
@@ -271,8 +268,8 @@ suit_best counts room runs start row lanes holds leaves held = record {
             let after : lane start found.sets_after found.pairs_after ≡ start_lane found.sets_after found.pairs_after =
             holds.at found.sets_after found.pairs_after (omega arith) (omega arith) in
             let pos : 0 < start_lane found.sets_after found.pairs_after =
-            positive (lane lanes sets pair) (lane row sets pair) (missing found.target counts) (lane start found.sets_after found.pairs_after)
-            (start_lane found.sets_after found.pairs_after) e left after some in
+            positive (lane row sets pair) (missing found.target counts) (lane start found.sets_after found.pairs_after)
+            (start_lane found.sets_after found.pairs_after) left after some in
             let none = nothing_after found.sets_after found.pairs_after pos in (
               missing found.target counts,
               (
@@ -283,11 +280,11 @@ suit_best counts room runs start row lanes holds leaves held = record {
                       (subst (λ n. IsTarget room runs n by.paired found.target) (let q : by.melds ≡ sets = (let z = none.0 in omega arith) in q) by.is_target);
                   missed_is = refl;
                 },
-                total (lane lanes sets pair) (lane row sets pair) (missing found.target counts) (lane start found.sets_after found.pairs_after)
-                    (start_lane found.sets_after found.pairs_after) e left after (ap₂ start_lane none.0 none.1),
+                total (lane row sets pair) (missing found.target counts) (lane start found.sets_after found.pairs_after)
+                    (start_lane found.sets_after found.pairs_after) left after (ap₂ start_lane none.0 none.1),
               ),
             ))
-      ]);
+      ];
 }
   where
     far : (lane missed : ℕ) → 15 < missed → 15 ≤ lane + missed
@@ -296,34 +293,20 @@ suit_best counts room runs start row lanes holds leaves held = record {
     rest : (missed m full : ℕ) → missed ≡ m → full ≡ 15 → missed ≤ 15 → full ≡ (15 - missed) + m
     rest missed m full a b c = omega arith
 
-    enough : (l r m : ℕ) → l ≡ r → 15 - m ≤ r → 15 ≤ l + m
-    enough l r m e f = omega arith
+    enough : (r m : ℕ) → 15 - m ≤ r → 15 ≤ r + m
+    enough r m f = omega arith
 
-    nothing : (l r : ℕ) → l ≡ r → r ≡ 0 → 0 < l → ⊥
-    nothing l r e f g = omega arith
+    nothing : (r : ℕ) → r ≡ 0 → 0 < r → ⊥
+    nothing r f g = omega arith
 
-    positive : (l r m a b : ℕ) → l ≡ r → a ≡ r + m → a ≡ b → 0 < l → 0 < b
-    positive l r m a b e f g h = omega arith
+    positive : (r m a b : ℕ) → a ≡ r + m → a ≡ b → 0 < r → 0 < b
+    positive r m a b f g h = omega arith
 
-    total : (l r m a b : ℕ) → l ≡ r → a ≡ r + m → a ≡ b → b ≡ 15 → l + m ≡ 15
-    total l r m a b e f g h = omega arith
+    total : (r m a b : ℕ) → a ≡ r + m → a ≡ b → b ≡ 15 → r + m ≡ 15
+    total r m a b f g h = omega arith
 
     nothing_after : (s p : ℕ) → 0 < start_lane s p → (s ≡ 0) × (p ≡ 0)
     nothing_after s p some = elim (cases_Bool ((eqb s 0) && (eqb p 0))) [
       | inl none ↦ (let parts = and_parts (eqb s 0) (eqb p 0) none in (eqb-true s 0 parts.0, eqb-true p 0 parts.1))
       | inr more ↦ absurd (let e : start_lane s p ≡ 0 = ap (λ t. cond t 15 0) more in omega arith)
     ]
-
--- ---- a row read lane by lane
-
-pub lane_more : (lanes row : List ℕ) (n m x : ℕ) → n < length lanes → x ≡ lane row (m % 8) (m / 8) → m ≡ n → ((k : ℕ) → k < n → get_or lanes k 0 ≡ get_or row k 0)
-    → (k : ℕ) → k < n + 1 → get_or (set lanes n x) k 0 ≡ get_or row k 0
-lane_more lanes row n m x inside is same before k few =
-    let place : 8 * (m / 8) + m % 8 ≡ n = omega arith in
-    elim (cases_eq k n) [
-      | inl here ↦ ap (λ j. get_or (set lanes n x) j 0) here ∙ get_or-set_same lanes n x 0 inside ∙ is ∙ ap (λ j. get_or row j 0) (place ∙ sym here)
-      | inr other ↦ get_or-set_other lanes n k x 0 other ∙ before k (omega arith)
-    ]
-
-pub lanes_read : (lanes row : List ℕ) (n : ℕ) → 16 ≤ n → ((k : ℕ) → k < n → get_or lanes k 0 ≡ get_or row k 0) → Holds lanes (lane row)
-lanes_read lanes row n last read = record { at = λ s p few one. read (8 * p + s) (omega arith) }

@@ -1,3 +1,3 @@
-pub mod Lanes
+pub mod Joined
 pub mod Ways
 pub mod Far

@@ -8,7 +8,6 @@ ghost use Rattle.mj_shanten.specs.Shanten.{IsGoal};
 ghost use Rattle.mj_memory.specs.Ways.{OfSuit, LeavesBest};
 
 use crate::far::Far;
-use crate::lanes::Lanes;
 use mj_suits::{Row, with_suit};
 use mj_tiles::{Counts, Kind};
 use std::alloc::{AllocError, Global};
@@ -30,7 +29,7 @@ struct KnownRow {
     counts: [u8; 9],
     room: [u8; 9],
     runs: bool,
-    lanes: Lanes,
+    lanes: Row,
 }
 
 impl Model for KnownRow {
@@ -91,7 +90,7 @@ impl Memory {
     }
 
     // What a suit leaves: where its row isn't known it is walked, and then known.
-    pub(crate) fn row(&mut self, counts: &[u8; 9], room: &[u8; 9], runs: bool) -> Lanes
+    pub(crate) fn row(&mut self, counts: &[u8; 9], room: &[u8; 9], runs: bool) -> Row
         requires { EachIndex room.now (λ n. slice_index room.now n ≤ 4) }
         ensures { LeavesBest (OfSuit counts.now room.now runs) result.lanes }
     {
@@ -104,7 +103,7 @@ impl Memory {
 
 impl KnownRow {
     // What the suit leaves, walked where this is another.
-    fn row(&mut self, counts: &[u8; 9], room: &[u8; 9], runs: bool) -> Lanes
+    fn row(&mut self, counts: &[u8; 9], room: &[u8; 9], runs: bool) -> Row
         requires { EachIndex room.now (λ n. slice_index room.now n ≤ 4) }
         ensures { LeavesBest (OfSuit counts.now room.now runs) result.lanes }
     {
@@ -154,6 +153,6 @@ fn walked(counts: &[u8; 9], room: &[u8; 9], runs: bool) -> KnownRow
         counts: *counts,
         room: *room,
         runs,
-        lanes: Lanes::of(with_suit(Row::start(), counts, room, runs)),
+        lanes: with_suit(Row::start(), counts, room, runs),
     }
 }

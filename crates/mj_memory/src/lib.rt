@@ -4,8 +4,8 @@
 
 mod counting;
 mod far;
+mod joining;
 mod known;
-mod lanes;
 mod ways;
 
 pub use known::Memory;

@@ -9,13 +9,14 @@ ghost use Rattle.mj_shanten.specs.Shanten.{IsGoal};
 ghost use Rattle.mj_shanten.specs.Discards.{IsDiscard, IsBestDiscard, LeavesAtMost, LeavesMore, MissesAtMost, MissesMore};
 ghost use Rattle.mj_shanten.specs.Suits.{IsJoint, suits_of, with_two};
 ghost use Rattle.mj_shanten.specs.Walked.{IsWide, IsLeastOr};
-ghost use Rattle.mj_memory.specs.Lanes.{joined};
+ghost use Rattle.mj_memory.specs.Joined.{joined};
 ghost use Rattle.mj_memory.specs.Ways.{LeavesBest, OfPlace, Beside};
 
 use crate::counting::{nine_of, with_pairs, without};
+use crate::joining::joined;
 use crate::known::Memory;
-use crate::lanes::Lanes;
 use mj_shanten::Suits;
+use mj_suits::Row;
 use mj_tiles::{Counts, Kind, Kinds};
 use std::marker::Model;
 
@@ -24,11 +25,11 @@ use std::marker::Model;
 pub struct Ways {
     counts: Counts,
     room: Counts,
-    characters: Lanes,
-    circles: Lanes,
-    bamboo: Lanes,
-    honours: Lanes,
-    suited: Lanes,
+    characters: Row,
+    circles: Row,
+    bamboo: Row,
+    honours: Row,
+    suited: Row,
 }
 
 impl Model for Ways {
@@ -53,8 +54,8 @@ impl Ways {
         let circles = row_at(counts, room, 1, memory);
         let bamboo = row_at(counts, room, 2, memory);
         let honours = row_at(counts, room, 3, memory);
-        let others = circles.joined(bamboo);
-        let suited = characters.joined(others);
+        let others = joined(circles, bamboo);
+        let suited = joined(characters, others);
         Ways {
             counts: *counts,
             room: *room,
@@ -162,7 +163,7 @@ impl Ways {
     fn is_within(
         &self,
         kind: Kind,
-        others: Lanes,
+        others: Row,
         kinds: Kinds,
         melds: u8,
         most: u16,
@@ -190,7 +191,7 @@ impl Ways {
     fn leaves_at_most(
         &self,
         kind: Kind,
-        others: Lanes,
+        others: Row,
         melds: u8,
         most: u16,
         memory: &mut Memory,
@@ -209,22 +210,22 @@ impl Ways {
     }
 
     // What the suits but one leave: characters, circles, bamboo and honours are 0 to 3.
-    fn beside(&self, suit: u8) -> Lanes
+    fn beside(&self, suit: u8) -> Row
         requires { suit < 4 }
         ensures { LeavesBest (Beside (with_two self.now.counts) (with_two self.now.room) suit) result.lanes }
     {
         match suit {
             0 => {
-                let others = self.bamboo.joined(self.honours);
-                self.circles.joined(others)
+                let others = joined(self.bamboo, self.honours);
+                joined(self.circles, others)
             }
             1 => {
-                let others = self.bamboo.joined(self.honours);
-                self.characters.joined(others)
+                let others = joined(self.bamboo, self.honours);
+                joined(self.characters, others)
             }
             2 => {
-                let others = self.circles.joined(self.honours);
-                self.characters.joined(others)
+                let others = joined(self.circles, self.honours);
+                joined(self.characters, others)
             }
             _ => self.suited,
         }
@@ -232,7 +233,7 @@ impl Ways {
 }
 
 // What a suit of a hand leaves.
-fn row_at(counts: &Counts, room: &Counts, suit: u8, memory: &mut Memory) -> Lanes
+fn row_at(counts: &Counts, room: &Counts, suit: u8, memory: &mut Memory) -> Row
     requires suit { suit < 4 }
     requires within { IsWithinRoom counts.now room.now }
     ensures best { LeavesBest (OfPlace (with_two counts.now) (with_two room.now) suit) result.lanes }
@@ -246,11 +247,11 @@ fn row_at(counts: &Counts, room: &Counts, suit: u8, memory: &mut Memory) -> Lane
 }
 
 // How many tiles the nearest hand of so many sets and a pair misses, where one suit leaves so much and the others so much.
-fn missing_of_sets(own: Lanes, others: Lanes, sets: u8) -> u8
+fn missing_of_sets(own: Row, others: Row, sets: u8) -> u8
     requires { sets ≤ 4 }
     ensures { result ≡ 15 - joined (lane own.lanes) (lane others.lanes) sets 1 }
 {
-    15u8.saturating_sub(own.joined(others).at(sets, 1))
+    15u8.saturating_sub(joined(own, others).at(sets, 1))
 }
 
 // How many tiles the nearest complete hand misses, where those of sets and a pair miss so many at least.

@@ -22,9 +22,9 @@ impl Row {
         }
     }
 
-    // The row that has one value in each lane.
+    /// The row that has one value in each lane.
     #[inline(always)]
-    pub(crate) fn all(value: u8) -> Row
+    pub fn all(value: u8) -> Row
         ensures { Holds result.lanes (λ s p. value) }
     {
         Row {
@@ -32,9 +32,9 @@ impl Row {
         }
     }
 
-    // Each lane less the other's, and 0 where that has more.
+    /// Each lane less the other's, and 0 where that has more.
     #[inline(always)]
-    pub(crate) fn less(self, other: Row) -> Row
+    pub fn less(self, other: Row) -> Row
         ensures { Holds result.lanes (λ s p. lane self.lanes s p - lane other.lanes s p) }
     {
         Row {
@@ -42,9 +42,9 @@ impl Row {
         }
     }
 
-    // The greater of each lane and the other's.
+    /// The greater of each lane and the other's.
     #[inline(always)]
-    pub(crate) fn greater(self, other: Row) -> Row
+    pub fn greater(self, other: Row) -> Row
         ensures { Holds result.lanes (λ s p. max (lane self.lanes s p) (lane other.lanes s p)) }
     {
         Row {
@@ -52,9 +52,9 @@ impl Row {
         }
     }
 
-    // Each lane moved to one pair more.
+    /// Each lane moved to one pair more.
     #[inline(always)]
-    pub(crate) fn more_pair(self) -> Row
+    pub fn more_pair(self) -> Row
         ensures { Holds result.lanes (taken 0 1 (lane self.lanes)) }
     {
         Row {
@@ -62,10 +62,10 @@ impl Row {
         }
     }
 
-    // Each lane moved to one set more.
+    /// Each lane moved to one set more.
     #[inline(always)]
     #[tactic(auto, using(crate::proofs::Lanes::holds_by_set))]
-    pub(crate) fn more_set(self) -> Row
+    pub fn more_set(self) -> Row
         ensures { Holds result.lanes (taken 1 0 (lane self.lanes)) }
     {
         Row {
