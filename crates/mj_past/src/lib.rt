@@ -2,7 +2,5 @@
 #![tactic(auto)]
 
 mod past;
-#[cfg(test)]
-mod tests;
 
 pub use past::Past;

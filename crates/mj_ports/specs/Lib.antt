@@ -2,4 +2,3 @@ pub mod Names
 pub mod Entries
 pub mod SeatCalls
 pub mod Seats
-pub mod Inner

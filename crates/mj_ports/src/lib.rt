@@ -6,8 +6,6 @@ mod answers;
 mod entry;
 mod picking;
 mod seated;
-#[cfg(test)]
-mod seated_tests;
 mod short_text;
 mod sitting;
 

@@ -1,0 +1,2 @@
+pub mod ToyGame
+pub mod ToyLaws

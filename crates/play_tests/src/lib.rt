@@ -31,6 +31,8 @@ mod seating;
 #[cfg(test)]
 mod table;
 #[cfg(test)]
+mod toy;
+#[cfg(test)]
 mod views;
 #[cfg(test)]
 mod wall;

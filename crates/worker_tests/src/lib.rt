@@ -1,4 +1,4 @@
-//! Tests of the workers by their public calls: faults that are kept, rooms, links that are served, handlers, and the telling of the
+//! Tests of the workers by their public calls: turns, lists that are kept for proofs, faults that are kept, rooms, links that are served, handlers, and the telling of the
 //! time, at the core of a game and over links, hosts and clocks in memory or of the tests' own.
 #![tactic(auto)]
 
@@ -14,6 +14,10 @@ mod lines;
 mod lost_tests;
 #[cfg(test)]
 mod meeting;
+#[cfg(test)]
+mod pass_tests;
+#[cfg(test)]
+mod past_tests;
 #[cfg(test)]
 mod patient;
 #[cfg(test)]

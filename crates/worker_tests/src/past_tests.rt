@@ -1,7 +1,9 @@
+//! Lists that are kept for proofs.
+
 ghost use Rattle.std.specs.Prelude.{◌≡◌, [], ◌∷◌, ◌++◌, ◌<◌, length, nat_lt};
 ghost use Rattle.std.specs.List.{list_any};
 
-use crate::Past;
+use mj_past::Past;
 use std::marker::Model;
 use std::mem::size_of;
 use std::test::Fail;

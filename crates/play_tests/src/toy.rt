@@ -1,12 +1,14 @@
+//! That the laws of a seated game can be met.
+
 ghost use Rattle.std.specs.Prelude.{◌≡◌, ◌∷◌, [], Some, None, IfSome};
 ghost use Rattle.mj_ports.specs.declared.entry.Entry.TheVariants as entry;
-ghost use Rattle.mj_ports.specs.declared.seated_tests.Toy.TheVariants.{Fresh, Begun, Dealt};
+ghost use Rattle.play_tests.specs.declared.toy.Toy.TheVariants.{Fresh, Begun, Dealt};
 ghost use Rattle.mj_ports.specs.declared.answers.SitAnswer.TheVariants as sits;
 ghost use Rattle.mj_ports.specs.declared.answers.Expiry.TheVariants.{Closed};
-ghost use Rattle.mj_ports.specs.Inner.Toy.{first, shown, played, toy_says, toy_hears, IsLegalFrom};
-ghost use Rattle.mj_ports.specs.Inner.ToyLaws as laws;
+ghost use Rattle.play_tests.specs.ToyGame.{first, shown, played, toy_says, toy_hears, IsLegalFrom};
+ghost use Rattle.play_tests.specs.ToyLaws as laws;
 
-use crate::{Control, Expiry, Heard, Left, Seated, SitAnswer};
+use mj_ports::{Control, Expiry, Heard, Left, Seated, SitAnswer};
 use std::alloc::{AllocError, Global};
 use std::test::Fail;
 
