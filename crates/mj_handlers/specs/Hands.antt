@@ -1,5 +1,5 @@
 -- What a handler has come to at tables.
-use Rattle.std.specs.Prelude.{◌≡◌, ℕ, ◌<◌, true, false, List, [], length, Some, slice_get}
+use Rattle.std.specs.Prelude.{◌≡◌, ℕ, ◌<◌, true, false, List, length, Some, slice_get}
 use Rattle.turn_lock.specs.Passes.{TurnState, PassState}
 use Rattle.mj_ports.specs.declared.entry.Entry.{Entry}
 use Rattle.mj_ports.specs.declared.picking.Picked.{Picked}

@@ -1,6 +1,6 @@
 //! A handler at tables: it takes links from the host, and serves each at the table that its first line is for.
 
-ghost use Rattle.std.specs.Prelude.{◌≡◌, ◌<◌, ◌≤◌, ◌+◌, ℕ, List, [], ◌∷◌, All, true, false, IfSome, IfOk, IsSomeAnd, length, vec_len, vec_capacity};
+ghost use Rattle.std.specs.Prelude.{◌≡◌, ◌<◌, ◌≤◌, ◌+◌, ℕ, List, All, true, false, IfSome, IfOk, IsSomeAnd, length, vec_len, vec_capacity};
 ghost use Rattle.mj_links.specs.Hosts.{IsFresh, ComesFresh, CameFault};
 ghost use Rattle.mj_ports.specs.declared.answers.Control.TheVariants.{Hello};
 ghost use Rattle.mj_ports.specs.declared.picking.Picked.{Picked};

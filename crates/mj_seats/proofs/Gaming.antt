@@ -1,6 +1,7 @@
 -- What is so of rooms is so of the games in them, and what is so of one table is so of its game.
-use Rattle.std.proofs.Common.{◌≡◌, ℕ, zero, suc, ◌+◌, List, [], ◌∷◌, ◌++◌, true, length, map, sym, ap, ◌∙◌, subst, subst₂, arith}
-use Rattle.std.specs.Prelude.{All, Option, Some, slice_get, Result, Ok, Err, IfOk}
+use Rattle.std.proofs.Common.{◌≡◌, ℕ, zero, suc, ◌+◌, ◌<◌, ◌≤◌, List, [], ◌∷◌, ◌++◌, true, length, map, sym, ap, ◌∙◌, subst, subst₂, arith}
+use Rattle.std.specs.Prelude.{All, Option, Some, slice_get, Result, Ok, Err, IfOk, Vec, vec_len}
+use Rattle.std.specs.declared.alloc.Global.{Global}
 use Rattle.std.specs.Option.{option_to_list}
 use Rattle.std.proofs.lemmas.List.{length-map}
 use Rattle.std.proofs.lemmas.List.Elements.{All-nil, All-cons, All-head, All-tail}
@@ -76,6 +77,16 @@ module _ {X : Type 0} where
       by : (rest : List X) → xs ≡ rest ++ x ∷ [] → length xs ≡ length rest + 1 → xs ≡ x ∷ []
       by [] e l = e
       by (y ∷ rest) e l = absurd (omega (arith, long, l))
+
+  -- there is one
+  pub sole_one : (xs : List X) (x : X) → xs ≡ x ∷ [] → 1 ≤ length xs
+  sole_one xs x e = let long : length xs ≡ 1 = ap length e in omega (arith, long)
+
+  pub sole_some : (xs : List X) (x : X) → xs ≡ x ∷ [] → 0 < length xs
+  sole_some xs x e = let long : length xs ≡ 1 = ap length e in omega (arith, long)
+
+  pub one_in : (v : Vec X Global) → length v.items ≡ 1 → 0 < vec_len v
+  one_in v one = let len : v.len ≡ length v.items = v.ok.0 in omega (arith, one, len)
 
   pub sole_at : (xs : List X) (x : X) → xs ≡ x ∷ [] → slice_get xs 0 ≡ Some x
   sole_at xs x e = ap (λ (l : List X). slice_get l 0) e

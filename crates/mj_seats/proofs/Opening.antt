@@ -1,12 +1,10 @@
 -- Turns that are made of tables, and tables whose turns have ended.
-use Rattle.std.proofs.Common.{◌≡◌, ℕ, zero, suc, ◌<◌, List, [], ◌∷◌, ◌++◌, length, map, refl, sym, ap, ◌∙◌, subst, arith, append_assoc, append-nil}
-use Rattle.std.specs.Prelude.{All, Some, slice_get, Vec, vec_len}
+use Rattle.std.proofs.Common.{◌≡◌, ℕ, ◌+◌, ◌<◌, ◌≤◌, List, [], ◌++◌, length, refl, sym, ap, ◌∙◌, subst, arith, append_assoc, append-nil}
+use Rattle.std.specs.Prelude.{All, Some, slice_get, Vec, vec_len, vec_capacity}
 use Rattle.std.specs.declared.alloc.Global.{Global}
-use Rattle.std.proofs.lemmas.List.{length-append, length-map}
-use Rattle.std.proofs.lemmas.List.Elements.{All-nil, All-push}
 use Rattle.std.proofs.lemmas.Option.{slice_get_within}
 use Rattle.turn_lock.specs.Passes.{TurnState, PassState}
-use Rattle.turn_lock.specs.Turns.{IsIdle, IsSeenIn, pass_from, passes_from}
+use Rattle.turn_lock.specs.Turns.{IsIdle, IsSeenIn, passes_from}
 use Rattle.mj_ports.specs.declared.entry.Entry.{Entry}
 use Rattle.mj_ports.specs.declared.seated.Seated.{Ghosts}
 use Rattle.mj_ports.specs.Entries.{author_of}
@@ -16,6 +14,30 @@ use Rattle.mj_seats.specs.Inner.Opened.{IsOpened, IsFullRow, IsClosed, AllClosed
 use Rattle.mj_workers.specs.Staffs.{IsNewRow}
 use Rattle.mj_workers.proofs.Rows.{count_from, each_from}
 use Rattle.mj_ticker.proofs.Besides.{same_some, found, all_at, all_from}
+
+-- how many passes so many handlers and a ticker have
+pub passes_some : (handlers : ℕ) → 0 < handlers + 1
+passes_some handlers = omega arith
+
+pub passes_few : (handlers : ℕ) → handlers < 64 → handlers + 1 ≤ 64
+passes_few handlers few = omega (arith, few)
+
+pub no_more : (count handlers : ℕ) → count ≡ handlers → count ≤ handlers + 1
+no_more count handlers is = omega (arith, is)
+
+-- what stands for each of some has room where these stood
+pub room_back : {X Y : Type 0} (turns : Vec X Global) (tables left : Vec Y Global) → length turns.items ≡ length tables.items → vec_capacity left ≡ vec_capacity tables →
+    vec_len turns ≤ vec_capacity left
+room_back turns tables left many room =
+    let long : turns.len ≡ length turns.items = turns.ok.0 in
+    let were : tables.len ≡ length tables.items = tables.ok.0 in
+    omega (arith, many, room, long, were, tables.ok.1)
+
+-- one more than so many
+pub one_after : {X : Type 0} (many : ℕ) (before after : Vec X Global) → length before.items ≡ many → vec_len after ≡ vec_len before + 1 → vec_len after ≡ many + 1
+one_after many before after long more =
+    let len : before.len ≡ length before.items = before.ok.0 in
+    omega (arith, long, more, len)
 
 module _ {T S N : Type 0} (setting : T → S) (notes : T → List N) where
   -- the row of a turn that was made of this value, whose notes go by two names

@@ -2,3 +2,4 @@ pub mod Snocs
 pub mod Columning
 pub mod Rows
 pub mod Staffing
+mod Told

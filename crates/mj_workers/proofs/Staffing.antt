@@ -1,7 +1,8 @@
 -- How handlers and the ticker begin, and what is left of one handler more.
-use Rattle.std.proofs.Common.{◌≡◌, ℕ, zero, suc, ◌+◌, ◌<◌, ◌≤◌, Bool, List, [], ◌∷◌, ◌++◌, length, refl, sym, ap, ◌∙◌, subst, subst₂, arith}
-use Rattle.std.specs.Prelude.{All, Option, Some, slice_get, Vec, vec_len, vec_capacity}
+use Rattle.std.proofs.Common.{◌≡◌, ℕ, zero, suc, ◌+◌, ◌*◌, ◌<◌, ◌≤◌, Bool, List, [], ◌∷◌, ◌++◌, length, refl, sym, ap, ◌∙◌, subst, subst₂, arith}
+use Rattle.std.specs.Prelude.{All, Option, Some, None, IsSome, ◌↔◌, slice_get, Vec, vec_len, vec_capacity}
 use Rattle.std.specs.declared.alloc.Global.{Global}
+use Rattle.std.proofs.lemmas.Bool.{false≢true}
 use Rattle.std.proofs.lemmas.List.{length-append, length-map}
 use Rattle.std.proofs.lemmas.List.Elements.{All-nil, All-push, All-pop}
 use Rattle.std.proofs.lemmas.Option.{slice_get_within}
@@ -30,6 +31,30 @@ use Rattle.mj_ticker.proofs.Visiting.{watched_start}
 
 next : (k : ℕ) → k + 1 ≡ suc k
 next k = omega arith
+
+module _ (n count : ℕ) (more : count ≡ n + 1) where
+  -- one of so many taken: there were some, fewer are left, and they are few still
+  pub some_were : 0 < count
+  some_were = omega (arith, more)
+
+  pub fewer_left : n ≤ count
+  fewer_left = omega (arith, more)
+
+  pub few_left : count < 256 → n < 256
+  few_left few = omega (arith, more, few)
+
+  -- what is left comes sooner to its end, a thread of its own counted
+  pub falls_by : (t : ℕ) → 3 * count ≡ t → 3 * n + 1 < t
+  falls_by t is = omega (arith, more, is)
+
+none_long : (n : ℕ) → (0 < n → ⊥) → n ≡ 0
+none_long zero none = refl
+none_long (suc n) none = absurd (none (omega arith))
+
+-- where nothing was popped there was nothing
+pub none_popped : {X : Type 0} (v : Vec X Global) (r : Option X) → (IsSome r ↔ (0 < vec_len v)) → ((x : X) → r ≡ Some x → ⊥) → length v.items ≡ 0
+none_popped v (Some x) some none = absurd (none x refl)
+none_popped v None some none = none_long (length v.items) (λ near. let len : v.len ≡ length v.items = v.ok.0 in false≢true (some.1 (omega (arith, near, len))))
 
 module _ {T S N : Type 0} (setting : T → S) (notes : T → List N) (turns : List (TurnState T)) where
   -- the last pass of each row of new passes
@@ -194,8 +219,15 @@ room_less n m b less h = record {
 }
 
 -- there is room for one more where so many fewer are there
-pub room_for : {X : Type 0} (n count : ℕ) (v : Vec X Global) (cap : ℕ) → length v.items ≡ n → count ≡ n + 1 → vec_capacity v ≡ cap → count ≤ cap → vec_len v + 1 ≤ vec_capacity v
+pub room_for : {X : Type 0} (n count : ℕ) (v : Vec X Global) (cap : ℕ) → length v.items ≡ n → count ≡ n + 1 → vec_capacity v ≡ cap → count ≤ cap → vec_len v < vec_capacity v
 room_for n count v cap long more same room = let len : v.len ≡ length v.items = v.ok.0 in omega (arith, long, more, same, room, len)
+
+-- a hand has room for a pass of each row
+pub rows_room : {X Y : Type 0} (tables : ℕ) (rows : Vec (Vec X Global) Global) (v : Vec Y Global) → length (items_of rows.items) ≡ tables → tables ≤ vec_capacity v →
+    vec_len rows ≤ vec_capacity v
+rows_room {X} tables rows v many room =
+    let len : rows.len ≡ length rows.items = rows.ok.0 in
+    omega (arith, many, room, len, length-map rows.items (λ (r : Vec X Global). r.items))
 
 -- one hand less
 pub last_ready : {P L : Type 0} (tables : ℕ) (hands rest : List (Hand P L)) (h : Hand P L) → hands ≡ rest ++ h ∷ [] → All (IsReady tables) hands → All (IsReady tables) rest × IsReady tables h

@@ -1,6 +1,6 @@
 //! Rows of passes, one row for each turn, and their columns, one for each number of a pass.
 
-ghost use Rattle.std.specs.Prelude.{◌≡◌, ◌≤◌, ◌<◌, [], All, length, map, vec_capacity, vec_len};
+ghost use Rattle.std.specs.Prelude.{◌≡◌, ◌≤◌, ◌<◌, [], All, length, vec_capacity, vec_len};
 ghost use Rattle.mj_workers.specs.Columns.{IsTaken, AreRows, AreColumns, items_of};
 
 /// Takes the last value of each row into a column, which has room for them.

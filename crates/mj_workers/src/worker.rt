@@ -1,6 +1,6 @@
 //! Handlers side by side, and the ticker beside them.
 
-ghost use Rattle.std.specs.Prelude.{◌≡◌, ◌≤◌, ◌<◌, ◌+◌, ℕ, List, All, ◌∷◌, ◌++◌, [], length, vec_len, vec_capacity};
+ghost use Rattle.std.specs.Prelude.{◌≡◌, ◌<◌, ℕ, List, All, ◌∷◌, ◌++◌, [], length, vec_len, vec_capacity};
 ghost use Rattle.std.specs.Thread.{IsSync};
 ghost use Rattle.mj_handlers.specs.Handlers.{rows, link_state};
 ghost use Rattle.mj_handlers.specs.Picks.{IsBelow};
@@ -24,13 +24,6 @@ use turn_lock::{Noted, Pass, Turn};
 pub struct Hand<P, L> {
     pub passes: Vec<P>,
     pub kept: Vec<Vec<Session<L>>>,
-}
-
-// What is left of a handler.
-#[derive(Drop)]
-pub(crate) struct Done<P, L, F> {
-    pub hand: Hand<P, L>,
-    pub end: HandlerEnd<F>,
 }
 
 /// What is left of handlers, in the order of their numbers: the passes of each, its sessions, and how it ended.
@@ -59,8 +52,11 @@ pub struct Desk<P> {
     pub sights: Vec<Sight>,
 }
 
-// What is left of a handler at tables and a door.
-type DoneAt<T, D> = Done<Pass<T>, <D as Door>::Link, <D as Door>::Fault>;
+// What is left of a handler at tables and a door: what it has there, and how it ended.
+type DoneAt<T, D> = (
+    Hand<Pass<T>, <D as Door>::Link>,
+    HandlerEnd<<D as Door>::Fault>,
+);
 
 /// What is left of handlers at tables and a door.
 pub type BackAt<T, D> = Back<Pass<T>, <D as Door>::Link, <D as Door>::Fault>;
@@ -158,7 +154,7 @@ fn handle_all<T: SharedGame, D: Door<Fault = <T as SharedGame>::Fault>, R: Threa
     let number = staff.hands.len() as u8;
     let Hand { passes, kept } = hand;
     let passes = take_column(&mut staff.rows, passes);
-    let (mut back, done) = join(
+    let (mut back, (hand, end)) = join(
         rt,
         move || -> BackAt<T, D>
             requires { IsLobby T.says lobby.now
@@ -178,10 +174,10 @@ fn handle_all<T: SharedGame, D: Door<Fault = <T as SharedGame>::Fault>, R: Threa
                 × AreNewPasses T.Noted.setting T.history turns.now.items number passes.items
                 × AreEmpty (length turns.now.items) kept.items × IsSync R.row }
             ensures { IsDone T.Seated T.Noted.setting (link_state D.Link.Link) (D.picks door.entry.now) (D.made_by door.entry.now) T.Fault.number
-                turns.entry.now.items number result.hand.passes.items (rows result.hand.kept.items) result.end }
+                turns.entry.now.items number result.0.passes.items (rows result.0.kept.items) result.1 }
         { handle_one(turns, rt, alloc, lobby, door, number, passes, kept) },
     );
-    add_done(&mut back, done);
+    add_done(&mut back, hand, end);
     back
 }
 
@@ -201,7 +197,7 @@ fn handle_one<T: SharedGame, D: Door<Fault = <T as SharedGame>::Fault>, R: Wait>
     requires passes { AreNewPasses T.Noted.setting T.history turns.now.items number passes.items }
     requires kept { AreEmpty (length turns.now.items) kept.items }
     ensures { IsDone T.Seated T.Noted.setting (link_state D.Link.Link) (D.picks door.now) (D.made_by door.now) T.Fault.number
-        turns.now.items number result.hand.passes.items (rows result.hand.kept.items) result.end }
+        turns.now.items number result.0.passes.items (rows result.0.kept.items) result.1 }
 {
     let end = handle(
         turns.as_slice(),
@@ -213,23 +209,19 @@ fn handle_one<T: SharedGame, D: Door<Fault = <T as SharedGame>::Fault>, R: Wait>
         passes.as_mut_slice(),
         kept.as_mut_slice(),
     );
-    Done {
-        hand: Hand { passes, kept },
-        end,
-    }
+    (Hand { passes, kept }, end)
 }
 
 // Puts what is left of one handler more after the others.
-fn add_done<P, L, F>(back: &mut Back<P, L, F>, done: Done<P, L, F>)
-    requires columns { vec_len back.old.columns + 1 ≤ vec_capacity back.old.columns }
-    requires kept { vec_len back.old.kept + 1 ≤ vec_capacity back.old.kept }
-    requires ends { vec_len back.old.ends + 1 ≤ vec_capacity back.old.ends }
-    ensures columns { back.new.columns.items ≡ back.old.columns.items ++ done.hand.passes ∷ [] }
-    ensures kept { back.new.kept.items ≡ back.old.kept.items ++ done.hand.kept ∷ [] }
-    ensures ends { back.new.ends.items ≡ back.old.ends.items ++ done.end ∷ [] }
+fn add_done<P, L, F>(back: &mut Back<P, L, F>, hand: Hand<P, L>, end: HandlerEnd<F>)
+    requires columns { vec_len back.old.columns < vec_capacity back.old.columns }
+    requires kept { vec_len back.old.kept < vec_capacity back.old.kept }
+    requires ends { vec_len back.old.ends < vec_capacity back.old.ends }
+    ensures columns { back.new.columns.items ≡ back.old.columns.items ++ hand.passes ∷ [] }
+    ensures kept { back.new.kept.items ≡ back.old.kept.items ++ hand.kept ∷ [] }
+    ensures ends { back.new.ends.items ≡ back.old.ends.items ++ end ∷ [] }
     ensures room { HasRoomOf back.old back.new }
 {
-    let Done { hand, end } = done;
     back.columns.push_reserved(hand.passes);
     back.kept.push_reserved(hand.kept);
     back.ends.push_reserved(end);

@@ -1,4 +1,4 @@
-use Rattle.std.proofs.Common.{◌<◌, ◌+◌, sym, subst, arith}
+use Rattle.std.proofs.Common.{◌<◌, ◌+◌, ◌∙◌, sym, subst}
 use Rattle.std.specs.Prelude.{All}
 use Rattle.std.proofs.lemmas.Result.{IfOk-weaker}
 use Rattle.mj_ports.specs.Entries.{author_of}
@@ -7,6 +7,7 @@ use Rattle.mj_handlers.specs.Handlers.{rows}
 use Rattle.mj_seats.specs.Tables.{ComesBack, IsPlayedAt, IsOver}
 use Rattle.mj_handlers.specs.Picks.{IsBelow}
 use Rattle.mj_seats.proofs.Gaming.{as_many, to_rooms, to_games, matches_games, beside_games, ends_more}
+use Rattle.mj_seats.proofs.Opening.{room_back}
 use Rattle.mj_seats.proofs.play.play_tables.Goals as goal
 
 pub run_in-played-requires-clause-below : goal.run_in-played-requires-clause-below
@@ -20,9 +21,9 @@ run_in-played-requires-clause-picks g c κs within = λ line.
     (c.requires.picks line)
 
 pub leave-requires-clause-room : goal.leave-requires-clause-room
-leave-requires-clause-room g c =
+leave-requires-clause-room g c κs within =
     let many = as_many (λ r. r.game) c.in_ok-rooms.rooms.items c.args.games.now.items c.in_ok-rooms.ensures.ok.0 in
-    omega (arith, c.run_in-played.new.tables.ok.0, c.run_in-played.ensures.tables.many, many, c.args.games.now.ok.0, c.args.games.now.ok.1, c.seat.ensures.room)
+    room_back c.run_in-played.new.tables c.args.games.now c.seat.new.games (c.run_in-played.ensures.tables.many ∙ many) c.seat.ensures.room
 
 pub returns-clause-games : goal.returns-clause-games
 returns-clause-games g c =
@@ -33,7 +34,6 @@ pub returns-clause-played : goal.returns-clause-played
 returns-clause-played g c =
     let at = at_link g.H.Link.Link.was_read g.H.Link.Source.left g.H.Link.Sink.written g.H.Link.Source.read_faults g.H.Link.Sink.write_faults in
     let picks = g.P.Picker.picks c.args.picker.now in
-    let made = g.H.Host.made_by c.args.host.now in
     let r0 = g.C.Clock.readings c.args.clock.now in
     let r1 = g.C.Clock.readings c.run_in-played.new.clock in
     IfOk-weaker c.run_in-played.result _ _ (λ p h.

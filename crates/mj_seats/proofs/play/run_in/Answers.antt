@@ -1,6 +1,5 @@
-use Rattle.std.proofs.Common.{◌≡◌, ◌+◌, ◌∙◌, length, refl, sym, subst, arith}
+use Rattle.std.proofs.Common.{◌≡◌, ◌+◌, ◌≤◌, ◌∙◌, length, refl, sym, subst, vec_capacity}
 use Rattle.std.specs.Prelude.{All}
-use Rattle.std.proofs.lemmas.List.{length-map}
 use Rattle.mj_session.specs.Wires.{at_link}
 use Rattle.mj_handlers.specs.Handlers.{rows}
 use Rattle.mj_seats.specs.Tables.{AllEndWith, IsOver}
@@ -10,37 +9,30 @@ use Rattle.mj_seats.specs.Inner.Joined.{AreJoined}
 use Rattle.mj_workers.specs.Staffs.{IsReady, sessions_of}
 use Rattle.mj_seats.proofs.Gaming.{ok_both}
 use Rattle.mj_seats.proofs.Leaving.{back_ended, played_all, ends_are}
-use Rattle.mj_seats.proofs.Opening.{passes_of_all, back_itself}
+use Rattle.mj_seats.proofs.Opening.{passes_of_all, back_itself, passes_some, passes_few, room_back}
 use Rattle.mj_workers.proofs.Rows.{some_new}
-use Rattle.mj_workers.proofs.Staffing.{taken_last, desk_new, done_columns, kept_long}
+use Rattle.mj_workers.proofs.Staffing.{taken_last, rows_room, desk_new, done_columns, kept_long}
 use Rattle.mj_seats.proofs.play.run_in.Goals as goal
 
 pub open_all-requires-clause-passes : goal.open_all-requires-clause-passes
-open_all-requires-clause-passes g c κs within = (omega arith, omega (arith, c.requires.few))
+open_all-requires-clause-passes g c κs within = (passes_some c.args.handlers, passes_few c.args.handlers c.requires.few)
 
 pub open_all-requires-clause-room : goal.open_all-requires-clause-room
 open_all-requires-clause-room g c κs within =
-    let room = c.in_ok-reserved.ensures.turns in
-    (omega (arith, room.0, c.len-number.ensures), omega (arith, room.1, c.len-number.ensures))
+    let opened = c.in_ok-reserved.reserved.opened in
+    subst (λ n. (n ≤ vec_capacity opened.turns) × (n ≤ vec_capacity opened.rows)) c.len-number.ensures c.in_ok-reserved.ensures.turns
 
 pub take_column-passes-requires-clause-room : goal.take_column-passes-requires-clause-room
 take_column-passes-requires-clause-room g c =
     let opened = c.in_ok-opened.opened in
-    omega (
-      arith,
-      opened.rows.ok.0,
-      length-map opened.rows.items (λ v. v.items),
-      c.in_ok-opened.ensures.rows.many,
-      c.in_ok-opened.ensures.turns.many,
-      c.args.tables.now.ok.0,
-      c.len-number.ensures,
-      c.in_ok-reserved.ensures.desk.1,
-    )
+    let number : c.len-number.result ≡ length opened.turns.items = c.len-number.ensures ∙ (c.args.tables.now.ok.0 ∙ sym c.in_ok-opened.ensures.turns.many) in
+    rows_room c.len-number.result opened.rows c.in_ok-reserved.reserved.desk.passes (c.in_ok-opened.ensures.rows.many ∙ sym number) c.in_ok-reserved.ensures.desk.1
 
 pub take_column-passes-requires-clause-some : goal.take_column-passes-requires-clause-some
 take_column-passes-requires-clause-some g c =
     let opened = c.in_ok-opened.opened in
-    some_new g.T.Noted.setting g.T.Seated.history (c.args.handlers + 1) opened.turns.items opened.rows.items c.in_ok-opened.ensures.rows (omega arith)
+    some_new g.T.Noted.setting g.T.Seated.history (c.args.handlers + 1) opened.turns.items opened.rows.items c.in_ok-opened.ensures.rows
+    (passes_some c.args.handlers)
 
 pub run_turns-kept-requires-clause-picks : goal.run_turns-kept-requires-clause-picks
 run_turns-kept-requires-clause-picks g c κs within = λ line.
@@ -50,7 +42,6 @@ pub run_turns-kept-requires-clause-rows : goal.run_turns-kept-requires-clause-ro
 run_turns-kept-requires-clause-rows g c κs within =
     let opened = c.in_ok-opened.opened in
     let turns = opened.turns.items in
-    let number : c.len-number.result ≡ length turns = c.len-number.ensures ∙ (c.args.tables.now.ok.0 ∙ sym c.in_ok-opened.ensures.turns.many) in
     let taken = taken_last g.T.Noted.setting g.T.Seated.history turns c.args.handlers (c.args.handlers + 1) (items_of opened.rows.items) (items_of c.take_column-passes.new.rows.items)
     c.take_column-passes.result.items refl c.take_column-passes.ensures.taken c.in_ok-opened.ensures.rows in
     taken.0
@@ -88,7 +79,7 @@ pub run_turns-kept-requires-clause-tables : goal.run_turns-kept-requires-clause-
 run_turns-kept-requires-clause-tables g c κs within =
     let opened = c.in_ok-opened.opened in (
       c.in_ok-opened.ensures.ok,
-      omega (arith, opened.turns.ok.0, c.in_ok-opened.ensures.turns.many, c.args.tables.now.ok.0, c.args.tables.now.ok.1, c.open_all.ensures.tables),
+      room_back opened.turns c.args.tables.now c.open_all.new.tables c.in_ok-opened.ensures.turns.many c.open_all.ensures.tables,
     )
 
 pub gather-requires : goal.gather-requires
@@ -99,10 +90,6 @@ gather-requires g c =
     let opened = c.in_ok-opened.opened in
     let turns = opened.turns.items in
     let number : c.len-number.result ≡ length turns = c.len-number.ensures ∙ (c.args.tables.now.ok.0 ∙ sym c.in_ok-opened.ensures.turns.many) in
-    let table = g.met.T.SharedGame g.world.𝓛 g.world.𝓜 g.world.𝓡 ((λ s x. x), (λ x. x), (λ x. x), λ x. x) in
-    let laws = g.met.T.Seated g.world.𝓛 g.world.𝓜 g.world.𝓡 ((λ s x. x), (λ x. x), (λ x. x), λ x. x) in
-    let r0 = g.C.Clock.readings c.args.clock.now in
-    let r1 = g.C.Clock.readings c.run_turns-kept.new.clock in
     let kept = sessions_of c.run_turns-kept.result.0.items in
     let ends = c.run_turns-kept.result.1.items in
     let h = c.run_turns-kept.ensures in
@@ -119,9 +106,7 @@ returns-clause-tables g c =
     let made = g.H.Host.made_by c.args.host.now in
     let opened = c.in_ok-opened.opened in
     let turns = opened.turns.items in
-    let number : c.len-number.result ≡ length turns = c.len-number.ensures ∙ (c.args.tables.now.ok.0 ∙ sym c.in_ok-opened.ensures.turns.many) in
     let table = g.met.T.SharedGame g.world.𝓛 g.world.𝓜 g.world.𝓡 ((λ s x. x), (λ x. x), (λ x. x), λ x. x) in
-    let laws = g.met.T.Seated g.world.𝓛 g.world.𝓜 g.world.𝓡 ((λ s x. x), (λ x. x), (λ x. x), λ x. x) in
     let r0 = g.C.Clock.readings c.args.clock.now in
     let r1 = g.C.Clock.readings c.run_turns-kept.new.clock in
     let kept = sessions_of c.run_turns-kept.result.0.items in
@@ -155,7 +140,6 @@ returns-clause-ends g c =
     let made = g.H.Host.made_by c.args.host.now in
     let opened = c.in_ok-opened.opened in
     let turns = opened.turns.items in
-    let number : c.len-number.result ≡ length turns = c.len-number.ensures ∙ (c.args.tables.now.ok.0 ∙ sym c.in_ok-opened.ensures.turns.many) in
     let table = g.met.T.SharedGame g.world.𝓛 g.world.𝓜 g.world.𝓡 ((λ s x. x), (λ x. x), (λ x. x), λ x. x) in
     let laws = g.met.T.Seated g.world.𝓛 g.world.𝓜 g.world.𝓡 ((λ s x. x), (λ x. x), (λ x. x), λ x. x) in
     let r0 = g.C.Clock.readings c.args.clock.now in

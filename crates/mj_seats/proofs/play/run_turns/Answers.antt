@@ -1,9 +1,10 @@
-use Rattle.std.proofs.Common.{◌≡◌, ◌+◌, ◌∙◌, length, refl, sym, subst, arith, vec_len, vec_capacity}
+use Rattle.std.proofs.Common.{◌≡◌, ◌+◌, ◌∙◌, length, refl, sym, subst, vec_len, vec_capacity}
 use Rattle.std.proofs.lemmas.List.{length-map}
 use Rattle.mj_session.specs.Wires.{at_link}
 use Rattle.mj_workers.specs.Columns.{items_of}
 use Rattle.mj_workers.specs.Staffs.{AreNewRows, AllDone, sessions_of}
 use Rattle.mj_seats.proofs.Leaving.{full_rows}
+use Rattle.mj_seats.proofs.Opening.{no_more, one_after}
 use Rattle.mj_workers.proofs.Staffing.{done_count, done_columns, room_less, room_for, columns_more, rows_wide, rows_put}
 use Rattle.mj_seats.proofs.play.run_turns.Goals as goal
 
@@ -14,7 +15,7 @@ work-back-requires-clause-rows g c κs within =
 pub work-back-requires-clause-back : goal.work-back-requires-clause-back
 work-back-requires-clause-back g c κs within =
     let count = c.requires.hands.0 in
-    room_less (length c.args.staff.hands.items) (c.args.handlers + 1) c.args.staff.back (omega (arith, count)) c.requires.back
+    room_less (length c.args.staff.hands.items) (c.args.handlers + 1) c.args.staff.back (no_more _ c.args.handlers count) c.requires.back
 
 pub push_reserved-requires : goal.push_reserved-requires
 push_reserved-requires g c =
@@ -29,8 +30,7 @@ push_reserved-requires g c =
     let done = subst (λ n. AllDone g.T.Seated g.T.Noted.setting at picks made number turns n (items_of back.columns.items) ks es) c.requires.hands.0 c.work-back.ensures.done in
     let counts = done_count g.T.Seated g.T.Noted.setting at picks made number turns c.args.handlers (items_of back.columns.items) ks es done in
     let long : length back.columns.items ≡ c.args.handlers = sym (length-map back.columns.items (λ v. v.items)) ∙ counts.0 in
-    let room = room_for c.args.handlers (c.args.handlers + 1) back.columns (vec_capacity c.args.staff.back.columns) long refl c.work-back.ensures.room.columns c.requires.back.columns in
-    omega (arith, room)
+    room_for c.args.handlers (c.args.handlers + 1) back.columns (vec_capacity c.args.staff.back.columns) long refl c.work-back.ensures.room.columns c.requires.back.columns
 
 pub fill_rows-requires-clause-columns : goal.fill_rows-requires-clause-columns
 fill_rows-requires-clause-columns g c =
@@ -60,7 +60,7 @@ fill_rows-requires-clause-rows g c =
     let done = subst (λ n. AllDone g.T.Seated g.T.Noted.setting at picks made number turns n (items_of back.columns.items) ks es) c.requires.hands.0 c.work-back.ensures.done in
     let counts = done_count g.T.Seated g.T.Noted.setting at picks made number turns c.args.handlers (items_of back.columns.items) ks es done in
     let long : length back.columns.items ≡ c.args.handlers = sym (length-map back.columns.items (λ v. v.items)) ∙ counts.0 in
-    let len : vec_len c.push_reserved.new.self ≡ c.args.handlers + 1 = omega (arith, c.push_reserved.ensures.len, long, back.columns.ok.0) in
+    let len = one_after c.args.handlers back.columns c.push_reserved.new.self long c.push_reserved.ensures.len in
     rows_wide (c.args.handlers + 1) (vec_len c.push_reserved.new.self) c.args.rows.items len c.requires.room.1
 
 pub close_all-requires-clause-rows : goal.close_all-requires-clause-rows
