@@ -4,6 +4,7 @@ ghost use Rattle.mj_tiles.specs.Faces.{tile_order};
 ghost use Rattle.mj_tiles.specs.Kinds.{set_of};
 ghost use Rattle.mj_deeds.specs.Facts.{newest, tiles_gained, tiles_lost};
 ghost use Rattle.mj_deeds.specs.Pais.{face_in};
+ghost use Rattle.mj_deeds.specs.declared.answer.Pai.TheVariants.{Known};
 ghost use Rattle.mj_rules.specs.Broken.{banned_in, is_banned_tile, is_swap_call, bans_of_chi, bans_of_pon, is_stuck_call};
 ghost use Rattle.mj_rules.specs.View.{view_of, turn_by, turn_in};
 ghost use Rattle.mj_deeds.specs.Hand.{hand};
@@ -70,15 +71,23 @@ fn banned_by_chi(tile: &Pai, a: &Pai, b: &Pai) -> Kinds
     ensures { result ≡ set_of (bans_of_chi tile.now a.now b.now) }
 {
     match (tile, a, b) {
-        (Pai::Known(tile), Pai::Known(a), Pai::Known(b)) => banned(&Deed::Chi {
-            seat: 0,
-            target: 0,
-            tile: *tile,
-            a: *a,
-            b: *b,
-        }),
+        (Pai::Known(tile), Pai::Known(a), Pai::Known(b)) => banned_by_run(*tile, *a, *b),
         _ => Kinds::none(),
     }
+}
+
+// What a chi of these known tiles bans.
+#[inline(always)]
+fn banned_by_run(tile: Tile, a: Tile, b: Tile) -> Kinds
+    ensures { result ≡ set_of (bans_of_chi (Known tile) (Known a) (Known b)) }
+{
+    banned(&Deed::Chi {
+        seat: 0,
+        target: 0,
+        tile,
+        a,
+        b,
+    })
 }
 
 // What a pon of the tile bans.

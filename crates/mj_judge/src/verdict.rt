@@ -84,6 +84,16 @@ fn judge_act(table: &Table, seat: u8, answer: &Answer) -> Result<(), Rule>
     refuse_if(is_not_held(table, seat, answer), Rule::NotHeld)?;
     refuse_if(is_not_drawn(table, seat, answer), Rule::NotDrawn)?;
     refuse_if(is_locked(table, seat, answer), Rule::Locked)?;
+    judge_sets(table, seat, answer)
+}
+
+// Judges it by the rules of sets, of swap calling and of kans, and those after them.
+#[inline(always)]
+fn judge_sets(table: &Table, seat: u8, answer: &Answer) -> Result<(), Rule>
+    requires { seat ≤ 3 }
+    ensures { result_err result ≡ first_broken (drop 9 (questions table.now.rules seat
+        (view_of table.now.deeds seat) answer.now)) }
+{
     refuse_if(is_bad_set(table, seat, answer), Rule::BadSet)?;
     refuse_if(is_not_left(table, seat, answer), Rule::NotLeft)?;
     refuse_if(is_swap_call(table, seat, answer), Rule::SwapCall)?;
@@ -91,6 +101,16 @@ fn judge_act(table: &Table, seat: u8, answer: &Answer) -> Result<(), Rule>
     refuse_if(is_kan_full(table, seat, answer), Rule::KanFull)?;
     refuse_if(is_kan_dry(table, seat, answer), Rule::KanDry)?;
     refuse_if(is_riichi_kan_broken(table, seat, answer), Rule::RiichiKan)?;
+    judge_reach(table, seat, answer)
+}
+
+// Judges it by the rules of a reach, and those after them.
+#[inline(always)]
+fn judge_reach(table: &Table, seat: u8, answer: &Answer) -> Result<(), Rule>
+    requires { seat ≤ 3 }
+    ensures { result_err result ≡ first_broken (drop 16 (questions table.now.rules seat
+        (view_of table.now.deeds seat) answer.now)) }
+{
     refuse_if(is_reach_open(table, seat, answer), Rule::ReachOpen)?;
     refuse_if(is_reach_poor(table, seat, answer), Rule::ReachPoor)?;
     refuse_if(is_reach_late(table, seat, answer), Rule::ReachLate)?;

@@ -2,8 +2,8 @@
 use Rattle.std.proofs.Common.{◌≡◌, ℕ, ◌+◌, ◌-◌, ◌≤◌, ◌<◌, List, [], ◌∷◌, ◌++◌, Bool, true, false, refl, ap, sym, ◌∙◌, subst, length, arith, append_assoc, append-nil, take, suc}
 use Rattle.std.specs.Prelude.{Some, None, Option, option_to_list, if◌then◌else◌, ◌==◌, ◌&&◌, nat_le, bytes_eq, codes, flat_map}
 use Rattle.std.specs.List.{list_all}
-use Rattle.std.proofs.lemmas.Bool.{false≢true}
-use Rattle.std.proofs.lemmas.Bool.Decides.{nat_tests, Decides-eqb}
+use Rattle.std.proofs.lemmas.Bool.{false≢true, le-leb, ltb-true}
+use Rattle.std.proofs.lemmas.Bool.Decides.{Decides-eqb}
 use Rattle.std.specs.Prelude.{ℤ}
 use Rattle.std.proofs.Math.Seq.{take-append_seam}
 use Rattle.std.proofs.lemmas.List.{length-append}
@@ -140,13 +140,13 @@ whole_more red walls after first wall before n a h = ap (list_all (is_wall red))
     ∙ both (list_all (is_wall red) walls) (is_wall red wall && true) h (both (is_wall red wall) true n.wall_is.whole refl)
 
 few_walls : (walls : List (List ℕ)) → length walls ≤ 200 → nat_le (length walls) 200 ≡ true
-few_walls walls h = grind (arith, nat_tests)
+few_walls walls h = le-leb (length walls) 200 h
 
 lines_of_walls : (rules : Rules) (walls : List (List ℕ)) → are_rules rules ≡ true → length walls ≤ 200 → list_all (is_wall rules.red) walls ≡ true → AreLines rules walls []
 lines_of_walls rules walls r few whole = record { rules_fit = r; walls_fit = both (nat_le (length walls) 200) (list_all (is_wall rules.red) walls) (few_walls walls few) whole; played = tt }
 
 no_next_wall : (rules : Rules) (walls : List (List ℕ)) (first : List ℕ) → IsNoNext rules.red (length walls) first → IsNextWall rules walls (first ++ 10 ∷ []) → ⊥
-no_next_wall rules walls first n w = let few = w.few in n (grind (arith, nat_tests)) w.tiles w.fits (sym w.is)
+no_next_wall rules walls first n w = n (ltb-true (length walls) 200 w.few) w.tiles w.fits (sym w.is)
 
 wall_breaks : (needed : Bool) (rules : Rules) (walls : List (List ℕ)) (first : List ℕ) → needed ≡ true → IsNoNext rules.red (length walls) first →
     BreaksByWall needed rules walls [] (first ++ 10 ∷ []) WallFault
@@ -275,7 +275,7 @@ few_played rules walls text rest play number some whole p =
 
 all_walls : (rules : Rules) (walls : List (List ℕ)) → 1 ≤ length walls → length walls ≤ 200 → list_all (is_wall rules.red) walls ≡ true → are_walls rules walls ≡ true
 all_walls rules walls some few whole =
-    let least : nat_le 1 (length walls) ≡ true = grind (arith, nat_tests) in
+    let least : nat_le 1 (length walls) ≡ true = le-leb 1 (length walls) some in
     both (nat_le 1 (length walls) && nat_le (length walls) 200) (list_all (is_wall rules.red) walls) (both (nat_le 1 (length walls)) (nat_le (length walls) 200) least (few_walls walls few)) whole
 
 first_walls : (rules : Rules) (walls : List (List ℕ)) (deeds : List Deed) → 1 ≤ length walls → length walls ≤ 200 → list_all (is_wall rules.red) walls ≡ true → are_first_walls rules walls deeds ≡ true

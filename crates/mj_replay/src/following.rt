@@ -53,8 +53,26 @@ pub(crate) fn follow(
     if begins_hand(line) {
         return follow_start(alloc, table, walls, line, room);
     }
-    match &deed_in(alloc, line)? {
-        Some(deed) => follow_deed(alloc, table, walls, deed, line, room),
+    follow_read(alloc, table, walls, line, room)
+}
+
+// Reads the deed of a line and puts it on the table, where some four lawful answers give it; else says what is wrong.
+#[inline(always)]
+fn follow_read(
+    alloc: Global,
+    table: &mut Table,
+    walls: &[Wall],
+    line: &[u8],
+    room: &mut Vec<u8>,
+) -> Result<Option<Cause>, AllocError>
+    requires some { 1 ≤ length walls.now }
+    requires few { length walls.now ≤ 200 }
+    requires whole { IsTrue (list_all (is_wall table.old.rules.red) walls.now) }
+    requires played { IsPlayed table.old.rules walls.now table.old.deeds }
+    ensures { IfOk result (λ cause. FollowsOr cause walls.now table.old table.new line.now) }
+{
+    match deed_in(alloc, line)? {
+        Some(deed) => follow_deed(alloc, table, walls, &deed, line, room),
         None => Ok(Some(Cause::Line)),
     }
 }
@@ -113,8 +131,8 @@ fn follow_start(
 fn is_line(alloc: Global, line: &[u8], room: &mut Vec<u8>) -> Result<bool, AllocError>
     ensures { IfOk result (λ yes. IsLineIf yes line.now) }
 {
-    match &deed_in(alloc, line)? {
-        Some(deed) => is_line_of(alloc, room, deed, line),
+    match deed_in(alloc, line)? {
+        Some(deed) => is_line_of(alloc, room, &deed, line),
         None => Ok(false),
     }
 }
@@ -289,10 +307,8 @@ fn follows_by(
     if !are_lawful(table, answers) {
         return Ok(false);
     }
-    match &next(alloc, table, walls, answers) {
-        Ok(followed) => is_known_line(alloc, room, followed, known, line),
-        Err(error) => Err(*error),
-    }
+    let followed = next(alloc, table, walls, answers)?;
+    is_known_line(alloc, room, &followed, known, line)
 }
 
 // Whether each of the four answers is lawful.

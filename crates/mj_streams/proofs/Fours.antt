@@ -10,6 +10,5 @@ pub four_is : (a b c d a' b' c' d' : List (List ℕ)) → a' ≡ a → b' ≡ b 
 four_is a b c d a' b' c' d' p q r s = λ i. record { first = p i; second = q i; third = r i; fourth = s i }
 
 -- The lines that a stream held before there was room, with the one that was rendered.
-pub one_more : (told told' told'' : List (List ℕ)) (slice text line : List ℕ) → told' ≡ told → told'' ≡ told' ++ slice ∷ [] → slice ≡ text → text ≡ line → told'' ≡ told ++ line ∷ []
-one_more told told' told'' slice text line same more is shown =
-    more ∙ ap (λ (ls : List (List ℕ)). ls ++ slice ∷ []) same ∙ ap (λ (l : List ℕ). told ++ l ∷ []) (is ∙ shown)
+pub one_more : (told told' told'' : List (List ℕ)) (text line : List ℕ) → told' ≡ told → told'' ≡ told' ++ text ∷ [] → text ≡ line → told'' ≡ told ++ line ∷ []
+one_more told told' told'' text line same more is = more ∙ ap (λ (ls : List (List ℕ)). ls ++ text ∷ []) same ∙ ap (λ (l : List ℕ). told ++ l ∷ []) is

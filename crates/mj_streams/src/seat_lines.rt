@@ -4,7 +4,7 @@ ghost use Rattle.mj_forms.specs.Lines.{line as line_for};
 ghost use Rattle.mj_forms.specs.Choices.{line_with};
 
 use crate::pages::Stream;
-use crate::streams::write_over;
+use crate::streams::prepare_line;
 use mj_deeds::{Answers, Deed};
 use mjai_lines::Steps;
 use std::alloc::{AllocError, Global};
@@ -71,9 +71,9 @@ impl SeatLines {
         ensures err { OnErr result (self.new ≡ self.old) }
         ensures steps { steps.new ≡ steps.old + 1 }
     {
-        write_over(alloc, &mut self.front, seat, deed, steps)?;
-        self.stream.prepare(alloc, self.front.as_slice(), possible)?;
-        self.stream.add();
+        let SeatLines { stream, front } = self;
+        prepare_line(alloc, stream, front, seat, deed, possible, steps)?;
+        stream.add();
         Ok(())
     }
 

@@ -1,8 +1,10 @@
-ghost use Rattle.std.specs.Prelude.{◌≡◌, ◌≤◌, ◌<◌, ◌+◌, IfOk, OnOk, OnErr, option_copied, slice_get};
+ghost use Rattle.std.specs.Prelude.{◌≡◌, ◌≤◌, ◌<◌, ◌+◌, IfOk, OnOk, OnErr, option_copied, slice_get, vec_len};
 ghost use Rattle.mj_deeds.specs.declared.deed.Viewer.TheVariants.{Seat};
 ghost use Rattle.mj_deeds.specs.Four.{at_seat};
 ghost use Rattle.mj_forms.specs.Lines.{line as line_for};
+ghost use Rattle.mj_forms.specs.Choices.{line_with};
 ghost use Rattle.mj_streams.specs.Inner.Alike.{are_told_alike};
+ghost use Rattle.mj_streams.specs.Inner.Told.{told, HasRoom};
 ghost use Rattle.mj_streams.specs.Streams.{no_lines, with_deed};
 
 use crate::pages::Stream;
@@ -71,22 +73,21 @@ impl Streams {
         ensures err { OnErr result (self.new ≡ self.old) }
         ensures steps { steps.new ≤ steps.old + 4 }
     {
-        write_over(alloc, &mut self.front, 0, deed, steps)?;
-        self.first
-            .prepare(alloc, self.front.as_slice(), &possible.first)?;
-        turn(alloc, &mut self.front, 0, 1, deed, steps)?;
-        self.second
-            .prepare(alloc, self.front.as_slice(), &possible.second)?;
-        turn(alloc, &mut self.front, 1, 2, deed, steps)?;
-        self.third
-            .prepare(alloc, self.front.as_slice(), &possible.third)?;
-        turn(alloc, &mut self.front, 2, 3, deed, steps)?;
-        self.fourth
-            .prepare(alloc, self.front.as_slice(), &possible.fourth)?;
-        self.first.add();
-        self.second.add();
-        self.third.add();
-        self.fourth.add();
+        let Streams {
+            first,
+            second,
+            third,
+            fourth,
+            front,
+        } = self;
+        prepare_line(alloc, first, front, 0, deed, &possible.first, steps)?;
+        prepare_next(alloc, second, front, 0, 1, deed, &possible.second, steps)?;
+        prepare_next(alloc, third, front, 1, 2, deed, &possible.third, steps)?;
+        prepare_next(alloc, fourth, front, 2, 3, deed, &possible.fourth, steps)?;
+        first.add();
+        second.add();
+        third.add();
+        fourth.add();
         Ok(())
     }
 
@@ -117,6 +118,52 @@ impl Streams {
     }
 }
 
+// Prepares the line of a deed for a seat, which is written in place of another, with the answers that the seat may give.
+#[inline(always)]
+pub(crate) fn prepare_line<L: Ledger>(
+    alloc: Global,
+    stream: &mut Stream,
+    line: &mut Vec<u8>,
+    seat: u8,
+    deed: &Deed,
+    possible: &Answers,
+    steps: &mut Steps<L>,
+) -> Result<(), AllocError>
+    ensures lines { told stream.new ≡ told stream.old }
+    ensures line { OnOk result (line.new.items ≡ line_for (Seat seat) deed.now) }
+    ensures text { OnOk result (stream.new.text.items
+        ≡ line_with possible.now (line_for (Seat seat) deed.now)) }
+    ensures room { OnOk result (HasRoom stream.new (vec_len stream.new.text)) }
+    ensures steps { steps.new ≡ steps.old + 1 }
+{
+    write_over(alloc, line, seat, deed, steps)?;
+    stream.prepare(alloc, line.as_slice(), possible)
+}
+
+// Prepares the line of a deed for the next seat, from that for a seat.
+#[inline(always)]
+fn prepare_next<L: Ledger>(
+    alloc: Global,
+    stream: &mut Stream,
+    line: &mut Vec<u8>,
+    seat: u8,
+    next: u8,
+    deed: &Deed,
+    possible: &Answers,
+    steps: &mut Steps<L>,
+) -> Result<(), AllocError>
+    requires { line.old.items ≡ line_for (Seat seat) deed.now }
+    ensures lines { told stream.new ≡ told stream.old }
+    ensures line { OnOk result (line.new.items ≡ line_for (Seat next) deed.now) }
+    ensures text { OnOk result (stream.new.text.items
+        ≡ line_with possible.now (line_for (Seat next) deed.now)) }
+    ensures room { OnOk result (HasRoom stream.new (vec_len stream.new.text)) }
+    ensures steps { steps.new ≤ steps.old + 1 }
+{
+    turn(alloc, line, seat, next, deed, steps)?;
+    stream.prepare(alloc, line.as_slice(), possible)
+}
+
 // From the line of a deed for a seat, that for another: it stays where the two are told the same.
 fn turn<L: Ledger>(
     alloc: Global,
@@ -137,7 +184,7 @@ fn turn<L: Ledger>(
 }
 
 // Writes the line of a deed for a seat in place of another.
-pub(crate) fn write_over<L: Ledger>(
+fn write_over<L: Ledger>(
     alloc: Global,
     line: &mut Vec<u8>,
     seat: u8,
