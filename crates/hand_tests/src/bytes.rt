@@ -1,4 +1,4 @@
-use crate::words::fields;
+use crate::words::{Question, ask, field};
 use mj_bytes::{
     push_all, push_number, push_signed, read_number, split_at_first, split_line, split_space, strip,
 };
@@ -13,11 +13,16 @@ fn written(alloc: Global) -> Result<Vec<u8>, AllocError> {
     Ok(text)
 }
 
+fn is_written(alloc: Global, wanted: &[u8]) -> bool {
+    match written(alloc) {
+        Ok(text) => text.as_slice() == wanted,
+        Err(_) => false,
+    }
+}
+
 #[test]
-fn pieces_and_numbers_stand_behind_the_text(rt: HostRuntime) -> Result<(), AllocError> {
-    let text = written(rt.alloc())?;
-    assert!(rt; text.as_slice() == b"points 18446744073709551615-80000".as_slice());
-    Ok(())
+fn pieces_and_numbers_stand_behind_the_text(rt: HostRuntime) {
+    assert!(rt; is_written(rt.alloc(), b"points 18446744073709551615-80000"));
 }
 
 const NUMBERS: &str = "\
@@ -30,20 +35,21 @@ const NUMBERS: &str = "\
 |-
 1 7|-";
 
-/// Whether the number of a text is the one after the bar.
-fn is_number(line: &str) -> bool {
-    let [text, wanted, ..] = fields(line);
-    match read_number(text.as_bytes()) {
-        Some(number) => wanted.parse() == Ok(number),
-        None => wanted == "-",
+/// The number of a text is the one after the bar.
+struct Number;
+
+impl Question for Number {
+    fn holds(_alloc: Global, line: &str) -> bool {
+        match read_number(field(line, 0).as_bytes()) {
+            Some(number) => field(line, 1).parse() == Ok(number),
+            None => field(line, 1) == "-",
+        }
     }
 }
 
 #[test]
 fn numbers_are_digits_without_sign_or_leading_zero(rt: HostRuntime) {
-    for line in NUMBERS.lines() {
-        assert!(rt; is_number(line), "{line}");
-    }
+    ask::<HostRuntime, Number>(&rt, rt.alloc(), NUMBERS);
 }
 
 /// Whether a split gave these two parts.

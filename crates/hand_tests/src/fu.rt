@@ -1,7 +1,8 @@
-use crate::words::{case, fields, number, reading};
+use crate::words::{Question, ask, case, field, number, reading};
 use mj_fu::{fu, is_concealed_at, is_dragon, is_pinfu, is_run};
-use mj_readings::{Set, SetForm};
+use mj_readings::{Case, Reading, Set, SetForm};
 use mj_tiles::Kind;
+use std::alloc::Global;
 
 /// Circumstances, a reading, its fu, and whether it is a pinfu. The third and the fourth have the pair of one wind of the two, and
 /// that of both.
@@ -81,19 +82,27 @@ d|r2m r5p r3s r6s W 0 3m|30|no
 d|pairs 12m 35p 79s E|25|no
 |pairs 12m 35p 79s E|25|no";
 
-fn has_fu(line: &str) -> bool {
-    let [marks, text, told, pinfu, ..] = fields(line);
-    let (reading, case) = (reading(text), case(marks));
-    fu(&reading, &case) == number(told) && is_pinfu(&reading, &case) == (pinfu == "pinfu")
+struct Row;
+
+impl Question for Row {
+    fn holds(_alloc: Global, line: &str) -> bool {
+        has_fu(
+            &reading(field(line, 1)),
+            &case(field(line, 0)),
+            number(field(line, 2)),
+            field(line, 3),
+        )
+    }
+}
+
+fn has_fu(reading: &Reading, case: &Case, told: u8, pinfu: &str) -> bool {
+    fu(reading, case) == told && is_pinfu(reading, case) == (pinfu == "pinfu")
 }
 
 #[test]
 fn the_parts_of_a_hand_are_added_and_rounded_up(rt: HostRuntime) {
-    for rows in [FU, PARTS] {
-        for line in rows.lines() {
-            assert!(rt; has_fu(line), "{line}");
-        }
-    }
+    ask::<HostRuntime, Row>(&rt, rt.alloc(), FU);
+    ask::<HostRuntime, Row>(&rt, rt.alloc(), PARTS);
 }
 
 fn set(form: SetForm) -> Set {

@@ -1,4 +1,4 @@
-use crate::words::fields;
+use crate::words::{Question, ask, field};
 use mj_hand::hand_lines;
 use std::alloc::{AllocError, Global};
 
@@ -62,27 +62,50 @@ fn written(alloc: Global, words: &str) -> Result<Option<Vec<u8>>, AllocError> {
     hand_lines(alloc, words.as_slice())
 }
 
-fn is_written(alloc: Global, line: &str) -> Result<bool, AllocError> {
-    let [words, shanten, target, waits, ..] = fields(line);
-    let wanted = format!(in alloc; "shanten {shanten}\ntarget {target}\nwaits {waits}\n")?;
-    match written(alloc, words)? {
-        Some(text) => Ok(text.as_slice() == wanted.as_bytes()),
-        None => Ok(false),
+/// Whether a text begins with a word, a space, what is told, and a newline; what stands behind.
+fn behind<'a>(text: &'a [u8], word: &str, told: &str) -> Option<&'a [u8]> {
+    text.strip_prefix(word.as_bytes())?
+        .strip_prefix(b" ")?
+        .strip_prefix(told.as_bytes())?
+        .strip_prefix(b"\n")
+}
+
+/// Whether a text is the shanten, the target and the waits of a line.
+fn are_told(text: &[u8], line: &str) -> bool {
+    match behind(text, "shanten", field(line, 1)) {
+        Some(text) => match behind(text, "target", field(line, 2)) {
+            Some(text) => behind(text, "waits", field(line, 3)) == Some(b"".as_slice()),
+            None => false,
+        },
+        None => false,
+    }
+}
+
+struct Hand;
+
+impl Question for Hand {
+    fn holds(alloc: Global, line: &str) -> bool {
+        match written(alloc, field(line, 0)) {
+            Ok(Some(text)) => are_told(text.as_slice(), line),
+            _ => false,
+        }
     }
 }
 
 #[test]
-fn three_lines_are_written_of_a_hand(rt: HostRuntime) -> Result<(), AllocError> {
-    for line in WRITTEN.lines() {
-        assert!(rt; is_written(rt.alloc(), line)?, "{line}");
+fn three_lines_are_written_of_a_hand(rt: HostRuntime) {
+    ask::<HostRuntime, Hand>(&rt, rt.alloc(), WRITTEN);
+}
+
+struct NotWritten;
+
+impl Question for NotWritten {
+    fn holds(alloc: Global, line: &str) -> bool {
+        matches!(written(alloc, line), Ok(None))
     }
-    Ok(())
 }
 
 #[test]
-fn words_that_are_no_hand_have_no_text(rt: HostRuntime) -> Result<(), AllocError> {
-    for line in NO_HAND.lines() {
-        assert!(rt; written(rt.alloc(), line)?.is_none(), "{line}");
-    }
-    Ok(())
+fn words_that_are_no_hand_have_no_text(rt: HostRuntime) {
+    ask::<HostRuntime, NotWritten>(&rt, rt.alloc(), NO_HAND);
 }

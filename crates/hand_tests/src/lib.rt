@@ -1,5 +1,5 @@
-//! Tests of the public calls of the hand layer, from bytes, tiles and payments to the worth of a hand: a file for each crate, a
-//! table of cases and a loop in each test. There is no code here but that of the tests.
+//! Tests of the public calls of the hand layer, from bytes, tiles and payments to the worth of a hand: a file for each crate, and
+//! tables of cases in it. There is no code here but that of the tests.
 #![tactic(auto)]
 
 #[cfg(test)]

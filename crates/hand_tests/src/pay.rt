@@ -1,5 +1,6 @@
-use crate::words::{fields, number};
+use crate::words::{Question, ask, field, number};
 use mj_pay::{base, deposit, draw_deltas, ron_deltas, tsumo_deltas};
+use std::alloc::Global;
 
 /// Han, fu and the base points in tens: below 5 han with the least fu, the most that stay below the limit, and the least that reach it.
 const BASES: &str = "\
@@ -41,9 +42,19 @@ const BASES: &str = "\
 78|30|800
 100|0|800";
 
-fn is_base(line: &str) -> bool {
-    let [han, fu, tens, ..] = fields(line);
-    let (han, fu) = (number(han), number(fu));
+struct Row;
+
+impl Question for Row {
+    fn holds(_alloc: Global, line: &str) -> bool {
+        is_base(
+            number(field(line, 0)),
+            number(field(line, 1)),
+            field(line, 2),
+        )
+    }
+}
+
+fn is_base(han: u8, fu: u8, tens: &str) -> bool {
     if han == 0 || fu > 170 || (han < 5 && fu < 20) {
         return false;
     }
@@ -52,9 +63,7 @@ fn is_base(line: &str) -> bool {
 
 #[test]
 fn base_points_follow_fu_below_five_han_and_the_limits_from_there(rt: HostRuntime) {
-    for line in BASES.lines() {
-        assert!(rt; is_base(line), "{line}");
-    }
+    ask::<HostRuntime, Row>(&rt, rt.alloc(), BASES);
 }
 
 /// Whether by ron the target alone pays.

@@ -1,9 +1,9 @@
-use crate::words::{counts, fields, kind, kinds, meld, number, reading};
+use crate::words::{Question, ask, counts, field, kind, kinds, meld, number, reading, yes};
 use mj_readings::{
     Reading, completing, is_complete, is_complete_with, is_completed_by, reading_at, readings,
 };
 use mj_tiles::{Counts, Form, Kind, Kinds};
-use std::alloc::{AllocError, Global};
+use std::alloc::Global;
 
 /// Concealed tiles, the number of melds, and whether they are a complete hand; such tiles and one more; the kinds that complete
 /// such a hand; and tiles, the winning one, and the first reading beside a pon of P, or without melds.
@@ -30,16 +30,42 @@ first|123m 456p 777s EE|5p|r1m r4p t7s TP E 1 5p
 first|119m 19p 19s ESWNPFC|C|orphans 1m
 first|1122m 3355p 7799s EE|E|pairs 12m 35p 79s E";
 
-fn holds(line: &str) -> bool {
-    let [question, hand, second, told, ..] = fields(line);
-    let held = counts(hand);
-    match question {
-        "complete" => is_complete(&held, number(second)) == (told == "yes"),
-        "with C" => completes(&held, Kind::at(33), number(second)) == (told == "yes"),
-        "with P" => completes(&held, Kind::at(31), number(second)) == (told == "yes"),
-        "completing" => are_completing(&held, number(second), kinds(told)),
-        _ => is_read(&held, kind(second), reading(told)),
+struct Case;
+
+impl Question for Case {
+    fn holds(_alloc: Global, line: &str) -> bool {
+        match field(line, 0) {
+            "complete" => is_told_complete(line),
+            "with C" => is_told_with(line, Kind::at(33)),
+            "with P" => is_told_with(line, Kind::at(31)),
+            "completing" => is_told_completing(line),
+            _ => is_told_first(line),
+        }
     }
+}
+
+fn is_told_complete(line: &str) -> bool {
+    is_complete(&counts(field(line, 1)), number(field(line, 2))) == yes(field(line, 3))
+}
+
+fn is_told_with(line: &str, more: Kind) -> bool {
+    completes(&counts(field(line, 1)), more, number(field(line, 2))) == yes(field(line, 3))
+}
+
+fn is_told_completing(line: &str) -> bool {
+    are_completing(
+        &counts(field(line, 1)),
+        number(field(line, 2)),
+        kinds(field(line, 3)),
+    )
+}
+
+fn is_told_first(line: &str) -> bool {
+    is_read(
+        &counts(field(line, 1)),
+        kind(field(line, 2)),
+        reading(field(line, 3)),
+    )
 }
 
 /// Whether a tile more, of a kind of which fewer than four are held, completes a hand.
@@ -68,9 +94,7 @@ fn is_read(held: &Counts, win: Kind, told: Reading) -> bool {
 
 #[test]
 fn hands_are_complete_and_read(rt: HostRuntime) {
-    for line in CASES.lines() {
-        assert!(rt; holds(line), "{line}");
-    }
+    ask::<HostRuntime, Case>(&rt, rt.alloc(), CASES);
 }
 
 /// Tiles, the winning one, and the number of readings.
@@ -81,23 +105,36 @@ const READINGS: &str = "\
 119m 19p 19s ESWNPFC|1m|1
 123m 456p 789s EEESW|E|0";
 
-/// Whether a hand has so many readings, each as it is read at its place, and none after them.
-fn has_readings(alloc: Global, line: &str) -> Result<bool, AllocError> {
-    let [hand, win, told, ..] = fields(line);
-    let (held, win) = (counts(hand), kind(win));
-    let found = readings(alloc, &held, &[], win)?;
-    let mut right = found.len() == usize::from(number(told))
-        && reading_at(&held, &[], win, found.len()).is_none();
-    for (place, reading) in found.iter().enumerate() {
-        right = right && reading_at(&held, &[], win, place) == Some(*reading);
+struct HasReadings;
+
+impl Question for HasReadings {
+    fn holds(alloc: Global, line: &str) -> bool {
+        has_readings(
+            alloc,
+            &counts(field(line, 0)),
+            kind(field(line, 1)),
+            number(field(line, 2)),
+        )
     }
-    Ok(right)
+}
+
+/// Whether a hand has so many readings, each as it is read at its place, and none after them.
+fn has_readings(alloc: Global, held: &Counts, win: Kind, told: u8) -> bool {
+    match readings(alloc, held, &[], win) {
+        Ok(found) => found.len() == usize::from(told) && are_read(held, win, found.as_slice()),
+        Err(_) => false,
+    }
+}
+
+fn are_read(held: &Counts, win: Kind, found: &[Reading]) -> bool {
+    let mut right = reading_at(held, &[], win, found.len()).is_none();
+    for (place, reading) in found.iter().enumerate() {
+        right = right && reading_at(held, &[], win, place) == Some(*reading);
+    }
+    right
 }
 
 #[test]
-fn hands_have_all_their_readings(rt: HostRuntime) -> Result<(), AllocError> {
-    for line in READINGS.lines() {
-        assert!(rt; has_readings(rt.alloc(), line)?, "{line}");
-    }
-    Ok(())
+fn hands_have_all_their_readings(rt: HostRuntime) {
+    ask::<HostRuntime, HasReadings>(&rt, rt.alloc(), READINGS);
 }

@@ -1,4 +1,4 @@
-use crate::words::{bit, case, counts, fields, kind, meld, number, numbers};
+use crate::words::{Question, ask, bit, case, counts, field, kind, meld, number, numbers, word};
 use mj_score::{Extra, Score, worth};
 use mj_tiles::Form;
 use mj_yaku::is_closed;
@@ -66,60 +66,72 @@ const DORA: [([u8; 3], u8); 7] = [
 ];
 
 fn is_worth(score: &Score, line: &str) -> bool {
-    let [_, _, _, _, han, fu, base, rows] = fields(line);
-    score.han == number(han)
-        && score.fu == number(fu)
-        && base.parse() == Ok(score.base / 10)
-        && score.base % 10 == 0
-        && has_just(score, numbers(rows))
+    [score.han, score.fu] == [number(field(line, 4)), number(field(line, 5))]
+        && has_base(score.base, field(line, 6))
+        && has_just(score, numbers(field(line, 7)))
+}
+
+fn has_base(base: u32, tens: &str) -> bool {
+    tens.parse() == Ok(base / 10) && base % 10 == 0
 }
 
 /// Three numbers that spaces part.
 fn three(text: &str) -> [u8; 3] {
-    let mut three = [255; 3];
-    for (place, word) in text.split(' ').enumerate() {
-        if place < 3 {
-            three[place] = number(word);
+    [
+        number(word(text, 0)),
+        number(word(text, 1)),
+        number(word(text, 2)),
+    ]
+}
+
+struct BestReading;
+
+impl Question for BestReading {
+    fn holds(alloc: Global, line: &str) -> bool {
+        match score(
+            alloc,
+            field(line, 0),
+            field(line, 1),
+            field(line, 2),
+            three(field(line, 3)),
+        ) {
+            Ok(Some(score)) => is_worth(&score, line),
+            _ => false,
         }
     }
-    three
-}
-
-fn has_worth(alloc: Global, line: &str) -> Result<bool, AllocError> {
-    let [marks, hand, win, dora, ..] = fields(line);
-    match score(alloc, marks, hand, win, three(dora))? {
-        Some(score) => Ok(is_worth(&score, line)),
-        None => Ok(false),
-    }
 }
 
 #[test]
-fn hands_are_worth_their_best_reading(rt: HostRuntime) -> Result<(), AllocError> {
-    for line in WORTH.lines() {
-        assert!(rt; has_worth(rt.alloc(), line)?, "{line}");
-    }
-    Ok(())
+fn hands_are_worth_their_best_reading(rt: HostRuntime) {
+    ask::<HostRuntime, BestReading>(&rt, rt.alloc(), WORTH);
 }
 
-/// Whether dora alone is no yaku, and each dora of whatever sort is one han.
-fn dora_counts(alloc: Global) -> Result<bool, AllocError> {
-    let mut right = score(alloc, "do", "234m 456p 78933s", "9s", [3, 0, 1])?.is_none();
+/// Whether dora alone is no yaku.
+fn dora_is_no_yaku(alloc: Global) -> bool {
+    matches!(
+        score(alloc, "do", "234m 456p 78933s", "9s", [3, 0, 1]),
+        Ok(None)
+    )
+}
+
+/// Whether each dora of whatever sort is one han.
+fn each_dora_counts(alloc: Global) -> bool {
+    let mut right = true;
     for (dora, told) in DORA {
-        right = right && han(alloc, dora)? == told;
+        right = right && han(alloc, dora) == Some(told);
     }
-    Ok(right)
+    right
 }
 
-/// The han of a drawn closed hand with these dora, and none where it is worth nothing.
-fn han(alloc: Global, dora: [u8; 3]) -> Result<u8, AllocError> {
-    match score(alloc, "d", "234567m 456p 33678s", "7m", dora)? {
-        Some(score) => Ok(score.han),
-        None => Ok(0),
+/// The han of a drawn closed hand with these dora; None where it is worth nothing.
+fn han(alloc: Global, dora: [u8; 3]) -> Option<u8> {
+    match score(alloc, "d", "234567m 456p 33678s", "7m", dora) {
+        Ok(Some(score)) => Some(score.han),
+        _ => None,
     }
 }
 
 #[test]
-fn each_dora_of_whatever_sort_is_one_han_beside_a_yaku(rt: HostRuntime) -> Result<(), AllocError> {
-    assert!(rt; dora_counts(rt.alloc())?);
-    Ok(())
+fn each_dora_of_whatever_sort_is_one_han_beside_a_yaku(rt: HostRuntime) {
+    assert!(rt; dora_is_no_yaku(rt.alloc()) && each_dora_counts(rt.alloc()));
 }

@@ -3,10 +3,10 @@ ghost use Rattle.mj_tiles.specs.Counts.{NoFifth};
 ghost use Rattle.mj_readings.specs.Tests.{one_more};
 ghost use Rattle.mj_shanten.specs.Exchanges.{IsNearestOf};
 
-use crate::words::{counts, fields, kinds, number};
+use crate::words::{Question, ask, counts, field, kinds, number};
 use mj_shanten::{Nearest, Suits, exchange_path, shanten};
 use mj_tiles::{Counts, Kind, Kinds};
-use std::alloc::{AllocError, Global};
+use std::alloc::Global;
 
 // Hands with melds are those of `hand`.
 
@@ -54,13 +54,31 @@ discard|1112345678999m W|1m 9m|9m
 discard|147m 258p 369s EESSC|147m 369s|9s
 discard|123m 456p 789s EESSC|WNPF|";
 
-fn holds(line: &str) -> bool {
-    let [question, hand, second, told, ..] = fields(line);
-    let held = counts(hand);
-    if question == "nearest" {
-        return is_nearest(&held, number(second), &counts(told));
+struct Hand;
+
+impl Question for Hand {
+    fn holds(_alloc: Global, line: &str) -> bool {
+        match field(line, 0) {
+            "nearest" => is_told_nearest(line),
+            _ => is_told_best(line),
+        }
     }
-    is_best(&held, kinds(second), kinds(told))
+}
+
+fn is_told_nearest(line: &str) -> bool {
+    is_nearest(
+        &counts(field(line, 1)),
+        number(field(line, 2)),
+        &counts(field(line, 3)),
+    )
+}
+
+fn is_told_best(line: &str) -> bool {
+    is_best(
+        &counts(field(line, 1)),
+        kinds(field(line, 2)),
+        kinds(field(line, 3)),
+    )
 }
 
 /// Whether a hand has this shanten and target, and so has it with a tile more and without it again.
@@ -143,24 +161,22 @@ fn best_discard_of(counts: &Counts, among: Kinds) -> Option<Kinds> {
 
 #[test]
 fn hands_have_their_shanten_and_best_discard(rt: HostRuntime) {
-    for line in CASES.lines() {
-        assert!(rt; holds(line), "{line}");
-    }
+    ask::<HostRuntime, Hand>(&rt, rt.alloc(), CASES);
 }
 
-/// The exchanges from the tiles of a text to the nearest complete hand.
-fn path_of(alloc: Global, text: &str) -> Result<Vec<(Kind, Kind)>, AllocError> {
-    let held = counts(text);
-    match nearest_closed(&held) {
-        Some(nearest) => exchange_path(alloc, &held, &nearest),
-        None => Ok(Vec::new(alloc)),
+/// Whether these are the exchanges from a hand to the nearest complete one.
+fn has_path(alloc: Global, held: &Counts, wanted: &[(Kind, Kind)]) -> bool {
+    match nearest_closed(held) {
+        Some(nearest) => match exchange_path(alloc, held, &nearest) {
+            Ok(path) => path.as_slice() == wanted,
+            Err(_) => false,
+        },
+        None => false,
     }
 }
 
 #[test]
-fn the_path_exchanges_surplus_for_missing_tiles(rt: HostRuntime) -> Result<(), AllocError> {
-    let path = path_of(rt.alloc(), "1111m 2222p 3333s E")?;
+fn the_path_exchanges_surplus_for_missing_tiles(rt: HostRuntime) {
     let wanted = [(Kind::at(10), Kind::at(1)), (Kind::at(20), Kind::at(2))];
-    assert!(rt; path.as_slice() == wanted.as_slice());
-    Ok(())
+    assert!(rt; has_path(rt.alloc(), &counts("1111m 2222p 3333s E"), &wanted));
 }

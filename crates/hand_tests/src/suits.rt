@@ -1,6 +1,6 @@
-use crate::words::{fields, number};
+use crate::words::{Question, ask, field, number};
 use mj_suits::{Split, SuitSet, SuitSets, SuitTable, nearest, partitions};
-use std::alloc::{AllocError, Global};
+use std::alloc::Global;
 
 /// A run from a number on.
 const fn run(low: u8) -> SuitSet {
@@ -42,12 +42,21 @@ fn suit(text: &str) -> [u8; 9] {
     numbers
 }
 
+struct HasWays;
+
+impl Question for HasWays {
+    fn holds(alloc: Global, line: &str) -> bool {
+        match partitions(alloc, suit(field(line, 0)), field(line, 1) == "runs") {
+            Ok(found) => are_told(found.as_slice(), line),
+            Err(_) => false,
+        }
+    }
+}
+
 /// Whether a suit is parted so: in so many ways, and, where there is one, in this.
-fn is_parted(alloc: Global, line: &str) -> Result<bool, AllocError> {
-    let [numbers, runs, ways, sets, pair, ..] = fields(line);
-    let found = partitions(alloc, suit(numbers), runs == "runs")?;
-    let has_way = is_among(found.as_slice(), sets, pair.parse().ok());
-    Ok(found.len() == usize::from(number(ways)) && has_way != found.is_empty())
+fn are_told(found: &[Split], line: &str) -> bool {
+    found.len() == usize::from(number(field(line, 2)))
+        && is_among(found, field(line, 3), field(line, 4).parse().ok()) != found.is_empty()
 }
 
 fn is_among(found: &[Split], sets: &str, pair: Option<u8>) -> bool {
@@ -78,18 +87,21 @@ fn is_set(set: &SuitSet, text: &str) -> bool {
 }
 
 #[test]
-fn counts_are_parted_in_all_ways(rt: HostRuntime) -> Result<(), AllocError> {
-    for line in PARTED.lines() {
-        assert!(rt; is_parted(rt.alloc(), line)?, "{line}");
+fn counts_are_parted_in_all_ways(rt: HostRuntime) {
+    ask::<HostRuntime, HasWays>(&rt, rt.alloc(), PARTED);
+}
+
+/// Whether the sets of a vector are these.
+fn are_kept(alloc: Global, sets: &[SuitSet]) -> bool {
+    match sets.to_vec(alloc) {
+        Ok(vector) => SuitSets::from_vec(vector).as_slice() == sets,
+        Err(_) => false,
     }
-    Ok(())
 }
 
 #[test]
-fn sets_are_those_of_their_vector(rt: HostRuntime) -> Result<(), AllocError> {
-    let sets = SuitSets::from_vec([run(2), triplet(2)].to_vec(rt.alloc())?);
-    assert!(rt; sets.as_slice() == [run(2), triplet(2)].as_slice());
-    Ok(())
+fn sets_are_those_of_their_vector(rt: HostRuntime) {
+    assert!(rt; are_kept(rt.alloc(), &[run(2), triplet(2)]));
 }
 
 /// The room of a suit of which no tile is seen.

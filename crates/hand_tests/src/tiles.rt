@@ -1,4 +1,4 @@
-use crate::words::{counts, fields, kind, number};
+use crate::words::{Question, ask, counts, field, kind, number};
 use mj_tiles::{
     Counts, Form, Kind, Kinds, Meld, Melds, Tile, after, counts_of, number_among, push_times,
 };
@@ -29,28 +29,32 @@ dora|N|E
 dora|P|F
 dora|C|P";
 
-fn holds(line: &str) -> bool {
-    let [question, text, second, third, ..] = fields(line);
-    if question == "dora" {
-        return after(kind(text)) == kind(second);
-    }
-    match Tile::read(text.as_bytes()) {
-        Some(tile) => {
-            is_tile(tile, number(second), number(third)) && tile.text() == text.as_bytes()
+struct Case;
+
+impl Question for Case {
+    fn holds(_alloc: Global, line: &str) -> bool {
+        match field(line, 0) {
+            "dora" => after(kind(field(line, 1))) == kind(field(line, 2)),
+            _ => names(field(line, 1), line),
         }
-        None => second == "-",
     }
 }
 
-fn is_tile(tile: Tile, face: u8, kind: u8) -> bool {
-    tile.face() == face && tile.kind().number() == kind
+/// Whether a text names the tile of a line, or none.
+fn names(text: &str, line: &str) -> bool {
+    match Tile::read(text.as_bytes()) {
+        Some(tile) => is_tile(tile, line) && tile.text() == text.as_bytes(),
+        None => field(line, 2) == "-",
+    }
+}
+
+fn is_tile(tile: Tile, line: &str) -> bool {
+    [tile.face(), tile.kind().number()] == [number(field(line, 2)), number(field(line, 3))]
 }
 
 #[test]
 fn texts_name_tiles_and_the_dora_follows_its_indicator(rt: HostRuntime) {
-    for line in CASES.lines() {
-        assert!(rt; holds(line), "{line}");
-    }
+    ask::<HostRuntime, Case>(&rt, rt.alloc(), CASES);
     assert!(rt; Tile::read(b"1m ").is_none());
 }
 
@@ -154,11 +158,16 @@ fn three_easts(alloc: Global) -> Result<Vec<Kind>, AllocError> {
     Ok(kinds)
 }
 
+/// Whether one 1m and three easts are added so.
+fn are_added(alloc: Global, wanted: &[Kind]) -> bool {
+    match three_easts(alloc) {
+        Ok(kinds) => kinds.as_slice() == wanted,
+        Err(_) => false,
+    }
+}
+
 #[test]
-fn a_kind_is_added_so_often(rt: HostRuntime) -> Result<(), AllocError> {
-    let kinds = three_easts(rt.alloc())?;
-    assert!(rt;
-        kinds.as_slice() == [Kind::at(0), Kind::at(27), Kind::at(27), Kind::at(27)].as_slice()
-    );
-    Ok(())
+fn a_kind_is_added_so_often(rt: HostRuntime) {
+    let wanted = [Kind::at(0), Kind::at(27), Kind::at(27), Kind::at(27)];
+    assert!(rt; are_added(rt.alloc(), &wanted));
 }

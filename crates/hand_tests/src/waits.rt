@@ -1,6 +1,7 @@
-use crate::words::{counts, fields, kinds, number};
+use crate::words::{Question, ask, counts, field, kinds, number, yes};
 use mj_tiles::{Counts, Kinds};
 use mj_waits::{Facts, furiten, misses_some, ready, waits};
+use std::alloc::Global;
 
 /// Concealed tiles, those of melds, how many melds they are, and the waits; then own discards, kinds passed, kinds passed in riichi,
 /// and whether that is furiten with the waits 2s and 5s.
@@ -21,12 +22,33 @@ furiten|1s|5s||yes
 furiten||1s|2s 9m|yes
 furiten|3s|1s|4s|no";
 
-fn holds(line: &str) -> bool {
-    let [question, a, b, c, told, ..] = fields(line);
-    if question == "waits" {
-        return has_waits(&counts(a), room_beside(&counts(b)), number(c), kinds(told));
+struct Case;
+
+impl Question for Case {
+    fn holds(_alloc: Global, line: &str) -> bool {
+        match field(line, 0) {
+            "waits" => is_told_waits(line),
+            _ => is_told_furiten(line),
+        }
     }
-    is_furiten(kinds(a), kinds(b), kinds(c), told == "yes")
+}
+
+fn is_told_waits(line: &str) -> bool {
+    has_waits(
+        &counts(field(line, 1)),
+        room_beside(&counts(field(line, 2))),
+        number(field(line, 3)),
+        kinds(field(line, 4)),
+    )
+}
+
+fn is_told_furiten(line: &str) -> bool {
+    is_furiten(
+        kinds(field(line, 1)),
+        kinds(field(line, 2)),
+        kinds(field(line, 3)),
+        yes(field(line, 4)),
+    )
 }
 
 /// Whether a hand has these waits, and is ready where there are some.
@@ -62,7 +84,5 @@ fn is_furiten(own: Kinds, passed: Kinds, passed_in_riichi: Kinds, told: bool) ->
 
 #[test]
 fn hands_have_their_waits_and_a_missed_one_makes_furiten(rt: HostRuntime) {
-    for line in CASES.lines() {
-        assert!(rt; holds(line), "{line}");
-    }
+    ask::<HostRuntime, Case>(&rt, rt.alloc(), CASES);
 }

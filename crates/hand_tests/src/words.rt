@@ -4,16 +4,41 @@ ghost use Rattle.std.specs.Prelude.{◌<◌};
 
 use mj_readings::{Case, Reading, Riichi, Set, SetForm};
 use mj_tiles::{Counts, Form, Kind, Kinds, Meld, Tile};
+use std::alloc::Global;
+use std::process::Abort;
 
-/// The fields of a line, at most eight, with empty ones after them.
-pub(crate) fn fields(line: &str) -> [&str; 8] {
-    let mut fields = [""; 8];
-    for (place, field) in line.split('|').enumerate() {
-        if place < 8 {
-            fields[place] = field.trim();
-        }
+/// What a test asks of each line of a table.
+pub(crate) trait Question {
+    /// Whether a line is as it says.
+    fn holds(alloc: Global, line: &str) -> bool;
+}
+
+/// Asserts that each line of a table is as it says.
+pub(crate) fn ask<R: Abort, Q: Question>(rt: &R, alloc: Global, lines: &str) {
+    for line in lines.lines() {
+        assert!(rt; Q::holds(alloc, line), "{line}");
     }
-    fields
+}
+
+/// The field of a line at a place, the first one at 0; empty where there is none.
+pub(crate) fn field(line: &str, place: usize) -> &str {
+    match line.split('|').nth(place) {
+        Some(field) => field.trim(),
+        None => "",
+    }
+}
+
+/// The word of a text at a place, the first one at 0; empty where there is none. Spaces part words.
+pub(crate) fn word(text: &str, place: usize) -> &str {
+    match text.split(' ').nth(place) {
+        Some(word) => word,
+        None => "",
+    }
+}
+
+/// Whether a text is `yes`.
+pub(crate) fn yes(text: &str) -> bool {
+    text == "yes"
 }
 
 /// A number of a line; 255 where it is no number below 256.
@@ -126,20 +151,14 @@ pub(crate) fn reading(text: &str) -> Reading {
 }
 
 fn standard(text: &str) -> Reading {
-    let mut words = [""; 7];
-    for (place, word) in text.split(' ').enumerate() {
-        if place < 7 {
-            words[place] = word;
-        }
-    }
     Reading::Standard {
-        a: set(words[0]),
-        b: set(words[1]),
-        c: set(words[2]),
-        d: set(words[3]),
-        pair: kind(words[4]),
-        win: number(words[5]),
-        winning: kind(words[6]),
+        a: set(word(text, 0)),
+        b: set(word(text, 1)),
+        c: set(word(text, 2)),
+        d: set(word(text, 3)),
+        pair: kind(word(text, 4)),
+        win: number(word(text, 5)),
+        winning: kind(word(text, 6)),
     }
 }
 
@@ -168,7 +187,7 @@ fn form(letter: &str) -> SetForm {
 }
 
 fn is_shown(letter: &str) -> bool {
-    letter == "R" || letter == "T" || letter == "Q"
+    matches!(letter, "R" | "T" | "Q")
 }
 
 /// The circumstances of a win by their marks: `d` drawn, `o` open, `r` riichi, `R` double riichi, `i` ippatsu, `l` the last tile,

@@ -1,7 +1,10 @@
-use crate::words::{bit, case, counts, fields, kind, meld, number, numbers, reading};
+use crate::words::{
+    Question, ask, bit, case, counts, field, kind, meld, number, numbers, reading, yes,
+};
 use mj_readings::{Case, is_complete};
 use mj_tiles::{Counts, Form, Kind};
 use mj_yaku::{YakuSet, complete_has_yaku, han_of, has_yaku, is_closed, yaku};
+use std::alloc::Global;
 
 /// Of each row its han in a closed and in an open hand, 100 for a yakuman and 0 where it asks for a closed hand, a hand that has the
 /// row, and one near to it that doesn't. A hand is its circumstances, or `-`, and its reading, with `q` for a concealed kan among its
@@ -77,12 +80,16 @@ fn yaku_closed(text: &str, mut case: Case) -> YakuSet {
     yaku(&reading(text), &[], &case)
 }
 
-/// Whether a line of a row tells its han, and the two hands apart.
-fn is_row(line: &str) -> bool {
-    let [row, closed, open, with, without, ..] = fields(line);
-    has_han(number(row), number(closed), number(open))
-        && yaku_of(with).has(number(row))
-        && !yaku_of(without).has(number(row))
+/// A line of a row tells its han, and the two hands apart.
+struct Row;
+
+impl Question for Row {
+    fn holds(_alloc: Global, line: &str) -> bool {
+        let row = number(field(line, 0));
+        has_han(row, number(field(line, 1)), number(field(line, 2)))
+            && yaku_of(field(line, 3)).has(row)
+            && !yaku_of(field(line, 4)).has(row)
+    }
 }
 
 fn has_han(row: u8, closed: u8, open: u8) -> bool {
@@ -94,9 +101,7 @@ fn has_han(row: u8, closed: u8, open: u8) -> bool {
 
 #[test]
 fn each_row_has_its_han_and_its_hand_and_not_the_next(rt: HostRuntime) {
-    for line in ROWS.lines() {
-        assert!(rt; is_row(line), "{line}");
-    }
+    ask::<HostRuntime, Row>(&rt, rt.alloc(), ROWS);
 }
 
 /// Hands and all their rows: a drawn closed pinfu without terminals or honours, equal runs, seven pairs, no row, a yakuman alone, and
@@ -136,18 +141,32 @@ complete|123m 456p 234789s EE|2m|r|no|yes
 complete|234m 456p 33789s|9s|d|pon|no
 complete|234m 456p 33678s|8s|d|pon|no";
 
-fn holds(line: &str) -> bool {
-    let [question, hand, second, third, fourth, told, ..] = fields(line);
-    match question {
-        "rows" => has_just(yaku_of(hand), numbers(second)),
-        "sum" => has_sum(yaku_of(hand), second == "closed", number(third), fourth),
-        _ => is_worth_a_win(
-            &counts(hand),
-            kind(second),
-            case(third),
-            fourth,
-            told == "yes",
-        ),
+struct Hand;
+
+impl Question for Hand {
+    fn holds(_alloc: Global, line: &str) -> bool {
+        match field(line, 0) {
+            "rows" => has_just(yaku_of(field(line, 1)), numbers(field(line, 2))),
+            "sum" => is_told_sum(line),
+            _ => is_told_win(line),
+        }
+    }
+}
+
+fn is_told_sum(line: &str) -> bool {
+    has_sum(
+        yaku_of(field(line, 1)),
+        field(line, 2) == "closed",
+        number(field(line, 3)),
+        field(line, 4),
+    )
+}
+
+fn is_told_win(line: &str) -> bool {
+    let (win, case) = (kind(field(line, 2)), case(field(line, 3)));
+    match field(line, 4) {
+        "pon" => wins_beside(&counts(field(line, 1)), win, case, yes(field(line, 5))),
+        _ => wins_closed(&counts(field(line, 1)), win, case, yes(field(line, 5))),
     }
 }
 
@@ -166,15 +185,17 @@ fn has_sum(set: YakuSet, closed: bool, han: u8, rows: &str) -> bool {
         && set.is_yakuman() == (rows == "yakuman")
 }
 
-/// Whether a hand is complete, and has a yaku or none, whichever way that is asked.
-fn is_worth_a_win(held: &Counts, win: Kind, mut case: Case, beside: &str, told: bool) -> bool {
-    if beside == "pon" {
-        let melds = [meld(Form::Pon, "1m")];
-        case.closed = is_closed(&melds);
-        return is_complete(held, 1)
-            && complete_has_yaku(held, &melds, win, &case) == told
-            && has_yaku(held, &melds, win, &case) == told;
-    }
+/// Whether a hand is complete beside a pon, and has a yaku or none, whichever way that is asked.
+fn wins_beside(held: &Counts, win: Kind, mut case: Case, told: bool) -> bool {
+    let melds = [meld(Form::Pon, "1m")];
+    case.closed = is_closed(&melds);
+    is_complete(held, 1)
+        && complete_has_yaku(held, &melds, win, &case) == told
+        && has_yaku(held, &melds, win, &case) == told
+}
+
+/// Whether that is so of a hand without melds.
+fn wins_closed(held: &Counts, win: Kind, mut case: Case, told: bool) -> bool {
     case.closed = is_closed(&[]);
     is_complete(held, 0)
         && complete_has_yaku(held, &[], win, &case) == told
@@ -183,7 +204,5 @@ fn is_worth_a_win(held: &Counts, win: Kind, mut case: Case, beside: &str, told: 
 
 #[test]
 fn hands_have_all_their_rows_and_a_yaku_or_none(rt: HostRuntime) {
-    for line in CASES.lines() {
-        assert!(rt; holds(line), "{line}");
-    }
+    ask::<HostRuntime, Hand>(&rt, rt.alloc(), CASES);
 }

@@ -1,5 +1,6 @@
-use crate::words::{fields, number};
+use crate::words::{Question, ask, field, number, yes};
 use crate::yaku::yaku_of;
+use std::alloc::Global;
 
 /// A row, whether a hand has it, and the hand, as `yaku` has them: how a hand was won.
 const WINS: &str = "\
@@ -229,17 +230,20 @@ const SETS: &str = "\
 42|yes|o Q2m q5p q3s q6s W 4 W
 42|no|o T2m Q5p Q3s Q6s W 4 W";
 
-/// Whether the hand has the row or not, as the line says.
-fn is_told(line: &str) -> bool {
-    let [row, told, hand, ..] = fields(line);
-    yaku_of(hand).has(number(row)) == (told == "yes")
+/// The hand has the row or not, as the line says.
+struct Row;
+
+impl Question for Row {
+    fn holds(_alloc: Global, line: &str) -> bool {
+        yaku_of(field(line, 2)).has(number(field(line, 0))) == yes(field(line, 1))
+    }
 }
+
+const ALL: [&str; 6] = [WINS, RUNS, SUITS, CLASSES, ENDS, SETS];
 
 #[test]
 fn each_row_ends_where_its_rule_does(rt: HostRuntime) {
-    for rows in [WINS, RUNS, SUITS, CLASSES, ENDS, SETS] {
-        for line in rows.lines() {
-            assert!(rt; is_told(line), "{line}");
-        }
+    for rows in ALL {
+        ask::<HostRuntime, Row>(&rt, rt.alloc(), rows);
     }
 }
