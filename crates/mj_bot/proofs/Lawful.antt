@@ -109,7 +109,44 @@ pub free_passes : (rules : Rules) (seat : ℕ) (view : SeatView) (face held : �
     → held ≡ min (held_count view face) 4 → (held ≡ 0 → ⊥) → true ≡ passes rules seat view face
 unfolding broken_by
 free_passes rules seat view face held free game much some =
-    sym (ap is_none (none_broken (questions rules seat view (discard_of seat view face)) (refl, (ap not itself, (ap (λ t. not (is_open rules seat t view.accepted (discard_of seat view face))) at ∙ ap (λ b. not (cond b true false)) itself, (neither (is_red face && not rules.red) (there rules.red game), (refl, (refl, (enough, (marked_right (is_that view.drawn face) refl, (ap (λ a. a && not (is_that view.drawn face)) (off view.accepted both.0), (refl, (refl, (ap (λ t. is_banned_tile (banned_in t) (Known face)) at, (refl, (refl, (refl, (refl, (refl, (refl, (refl, (ap (λ t. discards_unready view t (Known face)) at, (refl, (refl, (refl, (refl, tt))))))))))))))))))))))))))
+    sym (ap is_none (none_broken (questions rules seat view (discard_of seat view face)) (
+      refl,
+      (
+        ap not itself,
+        (
+          ap (λ t. not (is_open rules seat t view.accepted (discard_of seat view face))) at
+              ∙ ap (λ b. not (cond b true false)) itself,
+          (
+            neither (is_red face && not rules.red) (there rules.red game),
+            (
+              refl,
+              (
+                refl,
+                (
+                  enough,
+                  (
+                    marked_right (is_that view.drawn face) refl,
+                    (
+                      ap (λ a. a && not (is_that view.drawn face)) (off view.accepted both.0),
+                      (
+                        refl,
+                        (
+                          refl,
+                          (
+                            ap (λ t. is_banned_tile (banned_in t) (Known face)) at,
+                            (refl, (refl, (refl, (refl, (refl, (refl, (refl, (ap (λ t. discards_unready view t (Known face)) at, (refl, (refl, (refl, (refl, tt)))))))))))),
+                          ),
+                        ),
+                      ),
+                    ),
+                  ),
+                ),
+              ),
+            ),
+          ),
+        ),
+      ),
+    )))
   where
     none_with : (b : Bool) → not (b && false) ≡ true
     none_with true = refl

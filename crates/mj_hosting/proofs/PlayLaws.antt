@@ -84,7 +84,8 @@ module _ {L : Type 0} where
     pub in_rows : slice_get rows t ≡ Some sessions
     pub is : record { game = game; links = links_at sessions } ≡ table
 
-  pub table_at : (games : List Game) (rows : List (List (Session L))) (t : ℕ) (table : TableGame L) → length rows ≡ length games → slice_get (tables_of games rows) t ≡ Some table → IsAt games rows t table
+  pub table_at : (games : List Game) (rows : List (List (Session L))) (t : ℕ) (table : TableGame L) → length rows ≡ length games → slice_get (tables_of games rows) t ≡ Some table
+      → IsAt games rows t table
   unfolding tables_of
   table_at [] rows t table size at = absurd (in_none t table at)
   table_at (game ∷ games) [] t table size at = absurd (omega (arith, size))
@@ -170,7 +171,8 @@ module _ {L F : Type 0} (read left written : L → Option (List ℕ)) (read_faul
     abbrev Abandoned : List Game → Type 0
     Abandoned gs = AreAbandoned read left written read_faults write_faults made number (handlers_for rooms) gs
 
-    pub plays_by : (end : ServeEnd) → WritesGames end (text_for rooms) games old.written new.written → PlaysBy read left written read_faults write_faults made number end (plan_from rooms s first) old new
+    pub plays_by : (end : ServeEnd) → WritesGames end (text_for rooms) games old.written new.written
+        → PlaysBy read left written read_faults write_faults made number end (plan_from rooms s first) old new
     plays_by ends.Over h = record {
       tables = tables_of games rows;
       links = reverse (links_in rows);

@@ -128,7 +128,8 @@ module _ (journal tag : List ℕ) (first : HasFirst tag journal) where
       never_other = not_other (opens_for base journal) is_own
 
 -- What is written of a journal is written of what was read.
-pub taken_all : (end : RecordEnd) (journal : List ℕ) (old_left new_left old new : Option (List ℕ)) → IsRead old_left new_left journal → TakesJournal end journal old new → Records end old_left new_left old new
+pub taken_all : (end : RecordEnd) (journal : List ℕ) (old_left new_left old new : Option (List ℕ)) → IsRead old_left new_left journal → TakesJournal end journal old new
+    → Records end old_left new_left old new
 taken_all ends.Written journal old_left new_left old new read written = record { journal = journal; read = read; written = written }
 taken_all (ends.Bad place) journal old_left new_left old new read written = record { journal = journal; read = read; written = written }
 taken_all ends.WriteFault journal old_left new_left old new read written = record { journal = journal; read = read; written = written }

@@ -13,8 +13,19 @@ use Rattle.mj_rules.proofs.Questions.{AllNo, none_broken}
 pub pass_lawful : (rules : Rules) (seat : ℕ) (view : SeatView) → is_open rules seat view.turn view.accepted (Pass None) ≡ true → broken_by rules seat view (Pass None) ≡ None
 unfolding broken_by
 pass_lawful rules seat view opens =
-    let each : AllNo (questions rules seat view (Pass None)) =
-    (refl, (refl, (ap not opens, (refl, (refl, (refl, (refl, (refl, (never view.accepted, (refl, (refl, (refl, (refl, (refl, (refl, (refl, (refl, (refl, (refl, (refl, (refl, (refl, (refl, (refl, tt)))))))))))))))))))))))) in
+    let each : AllNo (questions rules seat view (Pass None)) = (
+      refl,
+      (
+        refl,
+        (
+          ap not opens,
+          (
+            refl,
+            (refl, (refl, (refl, (refl, (never view.accepted, (refl, (refl, (refl, (refl, (refl, (refl, (refl, (refl, (refl, (refl, (refl, (refl, (refl, (refl, (refl, tt)))))))))))))))))))),
+          ),
+        ),
+      ),
+    ) in
     none_broken (questions rules seat view (Pass None)) each
   where
     never : (b : Bool) → (b && false) ≡ false
@@ -33,6 +44,26 @@ pub discard_lawful : (rules : Rules) (seat tile : ℕ) (drawn : Bool) (view : Se
 unfolding broken_by
 discard_lawful rules seat tile drawn view opens real some marked free unlocked ready =
     let enough : ltb (held_count view tile) (number_in (tile ∷ []) tile) ≡ false = le-ltb (held_count view tile) (number_in (tile ∷ []) tile) (omega (arith, some, one_of tile)) in
-    let each : AllNo (questions rules seat view (Discard seat (Known tile) drawn)) =
-    (refl, (ap not (eq-eqb seat seat refl), (ap not opens, (ap (λ b. b || false) real, (refl, (refl, (ap (λ b. b || false) enough, (marked, (unlocked, (refl, (refl, (free, (refl, (refl, (refl, (refl, (refl, (refl, (refl, (ready, (refl, (refl, (refl, (refl, tt)))))))))))))))))))))))) in
+    let each : AllNo (questions rules seat view (Discard seat (Known tile) drawn)) = (
+      refl,
+      (
+        ap not (eq-eqb seat seat refl),
+        (
+          ap not opens,
+          (
+            ap (λ b. b || false) real,
+            (
+              refl,
+              (
+                refl,
+                (
+                  ap (λ b. b || false) enough,
+                  (marked, (unlocked, (refl, (refl, (free, (refl, (refl, (refl, (refl, (refl, (refl, (refl, (ready, (refl, (refl, (refl, (refl, tt))))))))))))))))),
+                ),
+              ),
+            ),
+          ),
+        ),
+      ),
+    ) in
     none_broken (questions rules seat view (Discard seat (Known tile) drawn)) each
