@@ -1,5 +1,5 @@
-use crate::deed_words::deed;
-use crate::words::{counts, fields, kind, kinds, tile, yes};
+use crate::deed_words::{OfDeed, deed, deed_is_as};
+use crate::words::{Question, ask, counts, field, kind, kinds, tile, yes};
 use mj_calls::{banned, chi_shape, riichi_kan, same_kind};
 use mj_deeds::Deed;
 use mj_tiles::{Counts, Form, Kind, Meld, Tile};
@@ -30,23 +30,26 @@ pon 2 0 5sr 5s 5s|5s
 open 2 0 5m 5m 5m 5m|
 draw 0 4m|";
 
-fn bans(deed: Option<Deed>, told: &str) -> bool {
-    match deed {
-        Some(deed) => banned(&deed) == kinds(told),
-        None => false,
+struct Ban;
+
+impl Question for Ban {
+    fn holds(alloc: Global, line: &str) -> bool {
+        deed_is_as::<Ban>(alloc, deed(alloc, field(line, 0)), line)
     }
 }
 
-fn line_bans(alloc: Global, line: &str) -> bool {
-    let [call, told, ..] = fields(line);
-    bans(deed(alloc, call), told)
+impl OfDeed for Ban {
+    fn is_as(_alloc: Global, deed: Option<&Deed>, line: &str) -> bool {
+        match deed {
+            Some(deed) => banned(deed) == kinds(field(line, 1)),
+            None => false,
+        }
+    }
 }
 
 #[test]
 fn a_call_bans_its_tile_and_what_makes_its_run_anew(rt: HostRuntime) {
-    for line in BANS.lines() {
-        assert!(rt; line_bans(rt.alloc(), line), "{line}");
-    }
+    ask::<HostRuntime, Ban>(&rt, rt.alloc(), BANS);
 }
 
 /// Three tiles, and whether they make a run; two tiles, and whether they are alike; the concealed tiles before a draw, `1p` where a
@@ -83,16 +86,30 @@ kan|123456m 7p 555s EEE||5s|5s|yes
 kan|123456m 7p 555s EEE||E|5s|no
 kan|123456m 7p 555s EEE||5s|E|no";
 
-fn holds(line: &str) -> bool {
-    let [question, first, second, third, fourth, told, ..] = fields(line);
-    match question {
-        "run" => chi_shape(tile(first), tile(second), tile(third)) == yes(fourth),
-        "alike" => same_kind(tile(first), tile(second)) == yes(fourth),
-        _ if second.is_empty() => {
-            is_lawful_alone(&counts(first), kind(third), kind(fourth)) == Some(yes(told))
+struct Set;
+
+impl Question for Set {
+    fn holds(_alloc: Global, line: &str) -> bool {
+        match field(line, 0) {
+            "run" => is_told_run(line),
+            "alike" => same_kind(tile(field(line, 1)), tile(field(line, 2))) == yes(field(line, 4)),
+            _ => lawful(line) == Some(yes(field(line, 5))),
         }
-        _ => is_lawful_beside_a_kan(&counts(first), kind(third), kind(fourth)) == Some(yes(told)),
     }
+}
+
+fn is_told_run(line: &str) -> bool {
+    let (first, second) = (tile(field(line, 1)), tile(field(line, 2)));
+    chi_shape(first, second, tile(field(line, 3))) == yes(field(line, 4))
+}
+
+/// Whether a seat in riichi may make the kan of a line.
+fn lawful(line: &str) -> Option<bool> {
+    let (drawn, kan) = (kind(field(line, 3)), kind(field(line, 4)));
+    if field(line, 2).is_empty() {
+        return is_lawful_alone(&counts(field(line, 1)), drawn, kan);
+    }
+    is_lawful_beside_a_kan(&counts(field(line, 1)), drawn, kan)
 }
 
 /// Without a meld.
@@ -119,7 +136,5 @@ fn is_lawful_beside_a_kan(before: &Counts, drawn: Kind, kan: Kind) -> Option<boo
 
 #[test]
 fn a_run_lies_within_one_suit_and_a_riichi_kan_changes_no_waits_or_readings(rt: HostRuntime) {
-    for line in SETS.lines() {
-        assert!(rt; holds(line), "{line}");
-    }
+    ask::<HostRuntime, Set>(&rt, rt.alloc(), SETS);
 }

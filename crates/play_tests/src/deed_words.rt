@@ -7,7 +7,7 @@
 //! after it where there is another, the tiles of the dealer, and of how many tiles the other hands are; `end`;
 //! `over|30000 30000 30000 30000|0`.
 
-use crate::words::{fields, kind, number, number_or_none, points, tile, tiles, truths, words};
+use crate::words::{field, kind, number, number_or_none, points, tile, tiles, truths, word};
 use mj_deeds::{
     Answer, Bid, Deed, Four, Hands, Names, Pai, Reason, SeatList, ShownHands, Tiles, YakuList,
 };
@@ -15,66 +15,76 @@ use mj_ports::Name;
 use mj_tiles::Tile;
 use std::alloc::Global;
 
+/// What a test asks of a deed.
+pub(crate) trait OfDeed {
+    /// Whether a deed, or none, is as a line says.
+    fn is_as(alloc: Global, deed: Option<&Deed>, line: &str) -> bool;
+}
+
+/// Whether a deed, or none, is as a line says.
+pub(crate) fn deed_is_as<Q: OfDeed>(alloc: Global, deed: Option<Deed>, line: &str) -> bool {
+    Q::is_as(alloc, deed.as_ref(), line)
+}
+
 /// The deed of a line.
 pub(crate) fn deed(alloc: Global, line: &str) -> Option<Deed> {
     if line.contains('|') {
-        return deed_of_fields(alloc, &fields(line));
+        return deed_of_fields(alloc, line);
     }
-    let words = words(line);
-    match words[0] {
+    match word(line, 0) {
         "game" => start_game(alloc),
         "chi" | "pon" | "open" => bid(line).deed(),
-        _ => deed_by_itself(&words),
+        _ => deed_by_itself(line),
     }
 }
 
-fn deed_of_fields(alloc: Global, fields: &[&str; 8]) -> Option<Deed> {
-    match fields[0] {
-        "hand" => start_hand(alloc, fields),
-        "deal" => start_later(alloc, fields),
-        "win" => win(alloc, fields),
-        "drawn" => drawn_hand(alloc, fields),
-        "accepted" => Some(accepted(fields)),
-        _ => Some(game_end(fields)),
+fn deed_of_fields(alloc: Global, line: &str) -> Option<Deed> {
+    match field(line, 0) {
+        "hand" => start_hand(alloc, line),
+        "deal" => start_later(alloc, line),
+        "win" => win(alloc, line),
+        "drawn" => drawn_hand(alloc, line),
+        "accepted" => Some(accepted(line)),
+        _ => Some(game_end(line)),
     }
 }
 
-fn accepted(fields: &[&str; 8]) -> Deed {
+fn accepted(line: &str) -> Deed {
     Deed::ReachAccepted {
-        seat: number(fields[1]),
-        points: points(fields[2]),
-        then: bid(fields[3]),
+        seat: number(field(line, 1)),
+        points: points(field(line, 2)),
+        then: bid(field(line, 3)),
     }
 }
 
-fn game_end(fields: &[&str; 8]) -> Deed {
+fn game_end(line: &str) -> Deed {
     Deed::EndGame {
-        points: points(fields[1]),
-        deposits: u32::from(number(fields[2])),
+        points: points(field(line, 1)),
+        deposits: u32::from(number(field(line, 2))),
     }
 }
 
-fn win(alloc: Global, fields: &[&str; 8]) -> Option<Deed> {
-    let hand = tiles(alloc, fields[7])?;
-    let yaku = yaku(alloc, fields[7])?;
-    Some(win_with(alloc, fields, hand, yaku))
+fn win(alloc: Global, line: &str) -> Option<Deed> {
+    let hand = tiles(alloc, field(line, 7))?;
+    let yaku = yaku(alloc, field(line, 7))?;
+    Some(win_with(alloc, line, hand, yaku))
 }
 
-fn win_with(alloc: Global, fields: &[&str; 8], hand: Tiles, yaku: YakuList) -> Deed {
-    let (fu, han, value) = worth(fields[7]);
+fn win_with(alloc: Global, line: &str, hand: Tiles, yaku: YakuList) -> Deed {
+    let (fu, han, value) = worth(field(line, 7));
     Deed::Win {
-        seat: number(fields[1]),
-        target: number(fields[2]),
-        tile: tile(fields[3]),
+        seat: number(field(line, 1)),
+        target: number(field(line, 2)),
+        tile: tile(field(line, 3)),
         unders: Tiles::new(alloc),
         hand,
         yaku,
         fu,
         han,
         value,
-        deltas: points(fields[4]),
-        points: points(fields[5]),
-        rest: seats(fields[6]),
+        deltas: points(field(line, 4)),
+        points: points(field(line, 5)),
+        rest: seats(field(line, 6)),
     }
 }
 
@@ -97,36 +107,33 @@ fn yaku(alloc: Global, hand: &str) -> Option<YakuList> {
 
 /// At most two seats.
 pub(crate) fn seats(text: &str) -> SeatList {
-    match words(text) {
-        [first, second, ..] => match (number_or_none(first), number_or_none(second)) {
-            (Some(first), Some(second)) => SeatList::of(&[first, second]),
-            (Some(first), None) => SeatList::of(&[first]),
-            _ => SeatList::of(&[]),
-        },
+    match (number_or_none(word(text, 0)), number_or_none(word(text, 1))) {
+        (Some(first), Some(second)) => SeatList::of(&[first, second]),
+        (Some(first), None) => SeatList::of(&[first]),
+        _ => SeatList::of(&[]),
     }
 }
 
-fn drawn_hand(alloc: Global, fields: &[&str; 8]) -> Option<Deed> {
-    let hands = hands(alloc, [fields[5], "", "", ""])?;
-    match ShownHands::of(alloc, hands, hidden(fields[6])) {
-        Ok(shown) => Some(drawn_with(fields, shown)),
+fn drawn_hand(alloc: Global, line: &str) -> Option<Deed> {
+    let hands = hands(alloc, [field(line, 5), "", "", ""])?;
+    match ShownHands::of(alloc, hands, hidden(field(line, 6))) {
+        Ok(shown) => Some(drawn_with(line, shown)),
         Err(_) => None,
     }
 }
 
-fn drawn_with(fields: &[&str; 8], hands: ShownHands) -> Deed {
+fn drawn_with(line: &str, hands: ShownHands) -> Deed {
     Deed::DrawnHand {
-        reason: reason(fields[4]),
+        reason: reason(field(line, 4)),
         hands,
-        ready: truths(fields[1]),
-        deltas: points(fields[2]),
-        points: points(fields[3]),
+        ready: truths(field(line, 1)),
+        deltas: points(field(line, 2)),
+        points: points(field(line, 3)),
     }
 }
 
 /// Of how many tiles the hands are that aren't shown: those of all seats where there is no text.
 fn hidden(text: &str) -> Four<Option<u8>> {
-    let [second, third, fourth, ..] = words(text);
     if text.is_empty() {
         return Four {
             first: Some(13),
@@ -137,9 +144,9 @@ fn hidden(text: &str) -> Four<Option<u8>> {
     }
     Four {
         first: None,
-        second: number_or_none(second),
-        third: number_or_none(third),
-        fourth: number_or_none(fourth),
+        second: number_or_none(word(text, 0)),
+        third: number_or_none(word(text, 1)),
+        fourth: number_or_none(word(text, 2)),
     }
 }
 
@@ -167,25 +174,40 @@ fn start_game(alloc: Global) -> Option<Deed> {
     }
 }
 
-fn start_hand(alloc: Global, fields: &[&str; 8]) -> Option<Deed> {
-    let hands = hands(alloc, [fields[2], fields[3], fields[4], fields[5]])?;
-    Some(start(["E", "0", "0", "0"], tile(fields[1]), hands))
+fn start_hand(alloc: Global, line: &str) -> Option<Deed> {
+    let hands = hands(
+        alloc,
+        [
+            field(line, 2),
+            field(line, 3),
+            field(line, 4),
+            field(line, 5),
+        ],
+    )?;
+    Some(start("E 0 0 0", tile(field(line, 1)), hands))
 }
 
 /// A hand of another standing: its round, the number of its dealer, the honba and the deposits.
-fn start_later(alloc: Global, fields: &[&str; 8]) -> Option<Deed> {
-    let [round, dealer, honba, deposits, ..] = words(fields[1]);
-    let hands = hands(alloc, [fields[3], fields[4], fields[5], fields[6]])?;
-    Some(start([round, dealer, honba, deposits], tile(fields[2]), hands))
+fn start_later(alloc: Global, line: &str) -> Option<Deed> {
+    let hands = hands(
+        alloc,
+        [
+            field(line, 3),
+            field(line, 4),
+            field(line, 5),
+            field(line, 6),
+        ],
+    )?;
+    Some(start(field(line, 1), tile(field(line, 2)), hands))
 }
 
-fn start(standing: [&str; 4], indicator: Tile, hands: Hands) -> Deed {
-    let dealer = number(standing[1]);
+fn start(standing: &str, indicator: Tile, hands: Hands) -> Deed {
+    let dealer = number(word(standing, 1));
     Deed::StartHand {
-        round: kind(standing[0]),
+        round: kind(word(standing, 0)),
         number: dealer.saturating_add(1),
-        honba: u32::from(number(standing[2])),
-        deposits: u32::from(number(standing[3])),
+        honba: u32::from(number(word(standing, 2))),
+        deposits: u32::from(number(word(standing, 3))),
         dealer,
         indicator,
         hands,
@@ -212,71 +234,85 @@ pub(crate) fn hands(alloc: Global, texts: [&str; 4]) -> Option<Hands> {
 }
 
 /// What a seat does by itself in a line's words, or another deed without fields.
-fn deed_by_itself(words: &[&str; 8]) -> Option<Deed> {
-    let [word, seat, text, b, c, d, ..] = *words;
-    let (seat, first) = (number(seat), tile(text));
-    let (b, c, d) = (tile(b), tile(c), tile(d));
-    match word {
-        "draw" | "replace" => Some(Deed::Draw {
-            seat,
-            tile: first,
-            replacement: word == "replace",
-        }),
-        "discard" | "cut" => Some(Deed::Discard {
-            seat,
-            tile: first,
-            drawn: word == "cut",
-        }),
-        "closed" => Some(Deed::ClosedKan {
-            seat,
-            a: first,
-            b,
-            c,
-            d,
-        }),
-        "added" => Some(Deed::AddedKan {
-            seat,
-            tile: first,
-            a: b,
-            b: c,
-            c: d,
-        }),
+fn deed_by_itself(line: &str) -> Option<Deed> {
+    match word(line, 0) {
+        "draw" => Some(draw(line, false)),
+        "replace" => Some(draw(line, true)),
+        "discard" => Some(discard(line, false)),
+        "cut" => Some(discard(line, true)),
+        "closed" => Some(closed_kan(line)),
+        "added" => Some(added_kan(line)),
         "dora" => Some(Deed::Dora {
-            tile: tile(words[1]),
+            tile: tile(word(line, 1)),
         }),
-        "reach" => Some(Deed::Reach { seat }),
+        "reach" => Some(Deed::Reach {
+            seat: number(word(line, 1)),
+        }),
         "end" => Some(Deed::EndHand),
         _ => None,
     }
 }
 
+fn draw(line: &str, replacement: bool) -> Deed {
+    Deed::Draw {
+        seat: number(word(line, 1)),
+        tile: tile(word(line, 2)),
+        replacement,
+    }
+}
+
+fn discard(line: &str, drawn: bool) -> Deed {
+    Deed::Discard {
+        seat: number(word(line, 1)),
+        tile: tile(word(line, 2)),
+        drawn,
+    }
+}
+
+fn closed_kan(line: &str) -> Deed {
+    Deed::ClosedKan {
+        seat: number(word(line, 1)),
+        a: tile(word(line, 2)),
+        b: tile(word(line, 3)),
+        c: tile(word(line, 4)),
+        d: tile(word(line, 5)),
+    }
+}
+
+fn added_kan(line: &str) -> Deed {
+    Deed::AddedKan {
+        seat: number(word(line, 1)),
+        tile: tile(word(line, 2)),
+        a: tile(word(line, 3)),
+        b: tile(word(line, 4)),
+        c: tile(word(line, 5)),
+    }
+}
+
 /// The bid of a line: a chi, a pon or an open kan, or none.
 pub(crate) fn bid(line: &str) -> Bid {
-    let [word, seat, target, called, a, b, c, ..] = words(line);
-    let (seat, target, called) = (number(seat), number(target), tile(called));
-    let (a, b, c) = (tile(a), tile(b), tile(c));
-    match word {
+    match word(line, 0) {
         "chi" => Bid::Chi {
-            seat,
-            target,
-            tile: called,
-            a,
-            b,
+            seat: number(word(line, 1)),
+            target: number(word(line, 2)),
+            tile: tile(word(line, 3)),
+            a: tile(word(line, 4)),
+            b: tile(word(line, 5)),
         },
         "pon" => Bid::Pon {
-            seat,
-            target,
-            tile: called,
-            a,
-            b,
+            seat: number(word(line, 1)),
+            target: number(word(line, 2)),
+            tile: tile(word(line, 3)),
+            a: tile(word(line, 4)),
+            b: tile(word(line, 5)),
         },
         "open" => Bid::OpenKan {
-            seat,
-            target,
-            tile: called,
-            a,
-            b,
-            c,
+            seat: number(word(line, 1)),
+            target: number(word(line, 2)),
+            tile: tile(word(line, 3)),
+            a: tile(word(line, 4)),
+            b: tile(word(line, 5)),
+            c: tile(word(line, 6)),
         },
         _ => Bid::NoBid,
     }
@@ -285,24 +321,23 @@ pub(crate) fn bid(line: &str) -> Bid {
 /// The answer of a line, which stands as a deed's, or is `pass`, or `pass 0` with its actor, `ron 1 0` or `ron 1 0 5p` by seat 1
 /// on a tile of seat 0, or `nine 0`; `unread` and another word are an unread one. A hidden tile is `*`.
 pub(crate) fn answer(line: &str) -> Answer {
-    let words = words(line);
-    match words[0] {
+    match word(line, 0) {
         "pass" => Answer::Pass {
-            actor: number_or_none(words[1]),
+            actor: number_or_none(word(line, 1)),
         },
         "reach" => Answer::Reach {
-            actor: number(words[1]),
+            actor: number(word(line, 1)),
         },
         "ron" => Answer::Win {
-            actor: number(words[1]),
-            target: number(words[2]),
-            tile: pai_or_none(words[3]),
+            actor: number(word(line, 1)),
+            target: number(word(line, 2)),
+            tile: pai_or_none(word(line, 3)),
         },
         "nine" => Answer::NineKinds {
-            actor: number(words[1]),
+            actor: number(word(line, 1)),
         },
-        "chi" | "pon" | "open" => answer_by_call(&words),
-        _ => answer_by_itself(&words),
+        "chi" | "pon" | "open" => answer_by_call(line),
+        _ => answer_by_itself(line),
     }
 }
 
@@ -323,60 +358,59 @@ fn pai_or_none(text: &str) -> Option<Pai> {
     }
 }
 
-fn answer_by_itself(words: &[&str; 8]) -> Answer {
-    let [word, actor, tile, b, c, d, ..] = *words;
-    let (actor, tile) = (number(actor), pai(tile));
-    let (b, c, d) = (pai(b), pai(c), pai(d));
-    match word {
-        "discard" | "cut" => Answer::Discard {
-            actor,
-            tile,
-            drawn: word == "cut",
-        },
+fn answer_by_itself(line: &str) -> Answer {
+    match word(line, 0) {
+        "discard" => discarded(line, false),
+        "cut" => discarded(line, true),
         "closed" => Answer::ClosedKan {
-            actor,
-            a: tile,
-            b,
-            c,
-            d,
+            actor: number(word(line, 1)),
+            a: pai(word(line, 2)),
+            b: pai(word(line, 3)),
+            c: pai(word(line, 4)),
+            d: pai(word(line, 5)),
         },
         "added" => Answer::AddedKan {
-            actor,
-            tile,
-            a: b,
-            b: c,
-            c: d,
+            actor: number(word(line, 1)),
+            tile: pai(word(line, 2)),
+            a: pai(word(line, 3)),
+            b: pai(word(line, 4)),
+            c: pai(word(line, 5)),
         },
         _ => Answer::Unread,
     }
 }
 
-fn answer_by_call(words: &[&str; 8]) -> Answer {
-    let [word, actor, target, tile, a, b, c, ..] = *words;
-    let (actor, target, tile) = (number(actor), number(target), pai(tile));
-    let (a, b, c) = (pai(a), pai(b), pai(c));
-    match word {
+fn discarded(line: &str, drawn: bool) -> Answer {
+    Answer::Discard {
+        actor: number(word(line, 1)),
+        tile: pai(word(line, 2)),
+        drawn,
+    }
+}
+
+fn answer_by_call(line: &str) -> Answer {
+    match word(line, 0) {
         "chi" => Answer::Chi {
-            actor,
-            target,
-            tile,
-            a,
-            b,
+            actor: number(word(line, 1)),
+            target: number(word(line, 2)),
+            tile: pai(word(line, 3)),
+            a: pai(word(line, 4)),
+            b: pai(word(line, 5)),
         },
         "pon" => Answer::Pon {
-            actor,
-            target,
-            tile,
-            a,
-            b,
+            actor: number(word(line, 1)),
+            target: number(word(line, 2)),
+            tile: pai(word(line, 3)),
+            a: pai(word(line, 4)),
+            b: pai(word(line, 5)),
         },
         _ => Answer::OpenKan {
-            actor,
-            target,
-            tile,
-            a,
-            b,
-            c,
+            actor: number(word(line, 1)),
+            target: number(word(line, 2)),
+            tile: pai(word(line, 3)),
+            a: pai(word(line, 4)),
+            b: pai(word(line, 5)),
+            c: pai(word(line, 6)),
         },
     }
 }

@@ -1,12 +1,14 @@
-use crate::deed_words::{deed, hands};
+use crate::deed_words::{OfDeed, deed, deed_is_as, hands};
 use crate::play::meld;
-use crate::words::{are, number, tile, tiles, words};
+use crate::words::{
+    Question, are, ask, none_is_wrong, number, number_or_none, parted, tile, tiles, word, yes,
+};
 use mj_deeds::{
     Deed, Four, Hands, Names, Pai, ShownHands, Tiles, YakuList, concealed, is_call, is_hand_start,
     is_kan, melds, next_seat, ordered, river, seat_of_kan,
 };
 use mj_ports::Name;
-use mj_tiles::Tile;
+use mj_tiles::{Meld, Tile};
 use std::alloc::{AllocError, Global};
 
 /// Deeds, whether they fit or not, and questions about those before.
@@ -48,18 +50,22 @@ fn follow(alloc: Global, deeds: &mut Vec<Deed>, line: &str) -> bool {
         return tells(alloc, deeds.as_slice(), question, told.trim());
     }
     match deed(alloc, line) {
-        Some(deed) => deeds.push(deed).is_ok(),
+        Some(deed) => add(deeds, deed),
         None => false,
     }
 }
 
+fn add(deeds: &mut Vec<Deed>, deed: Deed) -> bool {
+    deeds.push(deed).is_ok()
+}
+
 /// Whether deeds tell this to a question.
 fn tells(alloc: Global, deeds: &[Deed], question: &str, told: &str) -> bool {
-    let [question, seat, place, ..] = words(question);
-    match question {
-        "concealed" => has_concealed(alloc, deeds, number(seat), told),
-        "river" => has_river(alloc, deeds, number(seat), told),
-        _ => has_meld(alloc, deeds, number(seat), number(place), told),
+    let seat = number(word(question, 1));
+    match word(question, 0) {
+        "concealed" => has_concealed(alloc, deeds, seat, told),
+        "river" => has_river(alloc, deeds, seat, told),
+        _ => has_meld(alloc, deeds, seat, number(word(question, 2)), told),
     }
 }
 
@@ -73,10 +79,17 @@ fn has_river(alloc: Global, deeds: &[Deed], seat: u8, told: &str) -> bool {
 /// Whether a seat has this meld at a place, the first one at 0, or none there.
 fn has_meld(alloc: Global, deeds: &[Deed], seat: u8, place: u8, told: &str) -> bool {
     match melds(alloc, deeds, seat) {
-        Ok(found) if told == "none" => found.get(usize::from(place)).is_none(),
-        Ok(found) => found.get(usize::from(place)).copied() == Some(meld(told)),
+        Ok(found) => stands_at(found.as_slice(), place, told),
         Err(_) => false,
     }
+}
+
+fn stands_at(melds: &[Meld], place: u8, told: &str) -> bool {
+    let found = melds.get(usize::from(place)).copied();
+    if told == "none" {
+        return found.is_none();
+    }
+    found == Some(meld(told))
 }
 
 fn has_concealed(alloc: Global, deeds: &[Deed], seat: u8, told: &str) -> bool {
@@ -95,32 +108,39 @@ fn are_concealed(alloc: Global, deeds: &[Deed], seat: u8, told: &[Tile]) -> bool
 
 #[test]
 fn deeds_tell_what_a_seat_has(rt: HostRuntime) {
-    assert_eq!(rt; wrong_line(rt.alloc(), CALLS), "");
+    none_is_wrong(&rt, wrong_line(rt.alloc(), CALLS));
 }
 
 /// Whether a list keeps tiles in their order, and stands so in tile order.
-fn stand_so(alloc: Global, text: &str, wanted: &str) -> Result<bool, AllocError> {
+fn stand_so(alloc: Global, text: &str, wanted: &str) -> bool {
     let mut list = Tiles::new(alloc);
+    push_words(&mut list, text).is_ok() && stands_so(alloc, list.as_slice(), text, wanted)
+}
+
+fn push_words(list: &mut Tiles, text: &str) -> Result<(), AllocError> {
     for word in text.split_whitespace() {
         list.push(tile(word))?;
     }
-    let sorted = Tiles::sorted(alloc, list.as_slice())?;
-    Ok(are(list.as_slice(), text) && are(sorted.as_slice(), wanted))
-}
-
-#[test]
-fn a_red_five_stands_behind_the_plain_ones(rt: HostRuntime) -> Result<(), AllocError> {
-    let sorted = stand_so(rt.alloc(), "C 5pr 6m 5p 5mr 5m 5p", "5m 5mr 6m 5p 5p 5pr C")?;
-    assert!(rt; sorted && ordered(5) == tile("5mr"));
     Ok(())
 }
 
-/// So many tiles of one face, and one of another behind them.
-fn alike(alloc: Global, number: usize) -> Result<Tiles, AllocError> {
-    let mut list = Tiles::new(alloc);
+fn stands_so(alloc: Global, tiles: &[Tile], text: &str, wanted: &str) -> bool {
+    match Tiles::sorted(alloc, tiles) {
+        Ok(sorted) => are(tiles, text) && are(sorted.as_slice(), wanted),
+        Err(_) => false,
+    }
+}
+
+#[test]
+fn a_red_five_stands_behind_the_plain_ones(rt: HostRuntime) {
+    let sorted = stand_so(rt.alloc(), "C 5pr 6m 5p 5mr 5m 5p", "5m 5mr 6m 5p 5p 5pr C");
+    assert!(rt; sorted && ordered(5) == tile("5mr"));
+}
+
+/// Puts so many tiles of one face into a list, and one of another behind them.
+fn put_alike(list: &mut Tiles, number: usize) -> Result<(), AllocError> {
     list.put_copies(Tile::at(0), number)?;
-    list.push(Tile::at(31))?;
-    Ok(list)
+    list.push(Tile::at(31))
 }
 
 /// Whether there are so many tiles and one more, which is another.
@@ -129,12 +149,23 @@ fn are_so_many(tiles: &[Tile], number: usize) -> bool {
 }
 
 /// Whether a list keeps so many tiles and one more behind them, and so do a copy of it and a list of its tiles.
-fn keeps_so_many(alloc: Global, number: usize) -> Result<bool, AllocError> {
-    let list = alike(alloc, number)?;
-    let copied = list.copy()?;
-    let listed = Tiles::of(alloc, list.as_slice())?;
-    let tiles = list.as_slice();
-    Ok(are_so_many(tiles, number) && copied.as_slice() == tiles && listed.as_slice() == tiles)
+fn keeps_so_many(alloc: Global, number: usize) -> bool {
+    let mut list = Tiles::new(alloc);
+    put_alike(&mut list, number).is_ok() && stay_so_many(alloc, &list, number)
+}
+
+fn stay_so_many(alloc: Global, list: &Tiles, number: usize) -> bool {
+    are_so_many(list.as_slice(), number)
+        && are_those(list.copy(), list.as_slice())
+        && are_those(Tiles::of(alloc, list.as_slice()), list.as_slice())
+}
+
+/// Whether a list was made, of these tiles.
+fn are_those(made: Result<Tiles, AllocError>, tiles: &[Tile]) -> bool {
+    match made {
+        Ok(made) => made.as_slice() == tiles,
+        Err(_) => false,
+    }
 }
 
 /// Whether these hands stand at their seats.
@@ -148,13 +179,20 @@ fn stand_at_their_seats(hands: &Hands, texts: [&str; 4]) -> bool {
 /// Whether four hands stand at their seats, and so do copies of them.
 fn keep_their_seats(alloc: Global, texts: [&str; 4]) -> bool {
     match hands(alloc, texts) {
-        Some(four) => match four.copy() {
-            Ok(copied) => {
-                stand_at_their_seats(&four, texts) && stand_at_their_seats(&copied, texts)
-            }
-            Err(_) => false,
-        },
+        Some(four) => stay_at_their_seats(&four, texts),
         None => false,
+    }
+}
+
+fn stay_at_their_seats(four: &Hands, texts: [&str; 4]) -> bool {
+    stand_at_their_seats(four, texts) && are_made(four.copy(), texts)
+}
+
+/// Whether hands were made, and stand at their seats.
+fn are_made(made: Result<Hands, AllocError>, texts: [&str; 4]) -> bool {
+    match made {
+        Ok(made) => stand_at_their_seats(&made, texts),
+        Err(_) => false,
     }
 }
 
@@ -211,10 +249,14 @@ fn are_named(names: &Names, four: &Four<Name>) -> bool {
 }
 
 /// Whether four names stay at their seats, and so do copies of them.
-fn stay_named(alloc: Global, four: Four<Name>) -> Result<bool, AllocError> {
-    let names = Names::of(alloc, four)?;
-    let copied = names.copy()?;
-    Ok(are_named(&names, &four) && are_named(&copied, &four))
+fn stay_named(alloc: Global, four: Four<Name>) -> bool {
+    match Names::of(alloc, four) {
+        Ok(names) => match names.copy() {
+            Ok(copied) => are_named(&names, &four) && are_named(&copied, &four),
+            Err(_) => false,
+        },
+        Err(_) => false,
+    }
 }
 
 /// Whether each seat has its own of four, and its next.
@@ -230,54 +272,65 @@ fn seats_are_four() -> bool {
 }
 
 #[test]
-fn each_seat_has_its_own_name(rt: HostRuntime) -> Result<(), AllocError> {
+fn each_seat_has_its_own_name(rt: HostRuntime) {
     let four = Four {
         first: Name::of(b"a"),
         second: Name::of(b"b"),
         third: Name::of(b"c"),
         fourth: Name::of(b"d"),
     };
-    assert!(rt; stay_named(rt.alloc(), four)? && seats_are_four());
-    Ok(())
+    assert!(rt; stay_named(rt.alloc(), four) && seats_are_four());
 }
 
-/// A deed, and whether it is a call, the seat that makes a kan by it, and whether it starts a hand.
-const NAMED: [(&str, bool, Option<u8>, bool); 8] = [
-    ("chi 1 0 3m 4m 5m", true, None, false),
-    ("pon 1 0 3m 3m 3m", true, None, false),
-    ("open 3 0 3m 3m 3m 3m", true, Some(3), false),
-    ("closed 2 1p 1p 1p 1p", true, Some(2), false),
-    ("added 1 1p 1p 1p 1p", true, Some(1), false),
-    ("cut 2 1p", false, None, false),
-    ("dora 1p", false, None, false),
-    ("hand|P|1m|1m|1m|1m", false, None, true),
-];
+/// A deed, and whether it is a call, the seat that makes a kan by it, `-` for none, and whether it starts a hand.
+const NAMED: &str = "\
+chi 1 0 3m 4m 5m=yes - no
+pon 1 0 3m 3m 3m=yes - no
+open 3 0 3m 3m 3m 3m=yes 3 no
+closed 2 1p 1p 1p 1p=yes 2 no
+added 1 1p 1p 1p 1p=yes 1 no
+cut 2 1p=no - no
+dora 1p=no - no
+hand|P|1m|1m|1m|1m=no - yes";
 
-/// Whether a copy of a deed is so.
-fn is_so(deed: Option<Deed>, call: bool, kan: Option<u8>, start: bool) -> bool {
-    match deed {
-        Some(deed) => copy_is_so(&deed, call, kan, start),
-        None => false,
+struct IsNamed;
+
+impl Question for IsNamed {
+    fn holds(alloc: Global, line: &str) -> bool {
+        deed_is_as::<IsNamed>(alloc, deed(alloc, parted(line, '=').0), line)
     }
 }
 
-fn copy_is_so(deed: &Deed, call: bool, kan: Option<u8>, start: bool) -> bool {
-    match deed.copy() {
-        Ok(copy) => {
-            is_call(&copy) == call
-                && seat_of_kan(&copy) == kan
-                && is_kan(&copy) == kan.is_some()
-                && is_hand_start(&copy) == start
+impl OfDeed for IsNamed {
+    fn is_as(alloc: Global, deed: Option<&Deed>, line: &str) -> bool {
+        match deed {
+            Some(deed) => deed_is_as::<CopyIsNamed>(alloc, deed.copy().ok(), line),
+            None => false,
         }
-        Err(_) => false,
     }
+}
+
+struct CopyIsNamed;
+
+impl OfDeed for CopyIsNamed {
+    fn is_as(_alloc: Global, deed: Option<&Deed>, line: &str) -> bool {
+        match deed {
+            Some(deed) => is_so(deed, parted(line, '=').1),
+            None => false,
+        }
+    }
+}
+
+fn is_so(deed: &Deed, named: &str) -> bool {
+    let kan = number_or_none(word(named, 1));
+    seat_of_kan(deed) == kan
+        && [is_call(deed), is_kan(deed), is_hand_start(deed)]
+            == [yes(word(named, 0)), kan.is_some(), yes(word(named, 2))]
 }
 
 #[test]
 fn a_kan_is_a_call_of_its_seat(rt: HostRuntime) {
-    for (line, call, kan, start) in NAMED {
-        assert!(rt; is_so(deed(rt.alloc(), line), call, kan, start), "{line}");
-    }
+    ask::<HostRuntime, IsNamed>(&rt, rt.alloc(), NAMED);
 }
 
 #[test]
@@ -288,39 +341,56 @@ fn a_hidden_tile_is_not_known(rt: HostRuntime) {
 }
 
 /// Whether a list keeps the rows put in.
-fn keeps_these(alloc: Global) -> Result<bool, AllocError> {
-    let list = YakuList::of(alloc, &[(3, 1), (28, 2)])?;
-    Ok(list.as_slice() == [(3, 1), (28, 2)].as_slice())
+fn keeps_these(alloc: Global) -> bool {
+    are_rows(YakuList::of(alloc, &[(3, 1), (28, 2)]), &[(3, 1), (28, 2)])
+}
+
+/// Whether a list was made, of these rows.
+fn are_rows(made: Result<YakuList, AllocError>, rows: &[(u8, u8)]) -> bool {
+    match made {
+        Ok(made) => made.as_slice() == rows,
+        Err(_) => false,
+    }
 }
 
 /// Whether a list keeps so many rows, at most 45, and so does a copy of it.
-fn keeps_rows(alloc: Global, number: u8) -> Result<bool, AllocError> {
+fn keeps_rows(alloc: Global, number: u8) -> bool {
     let mut list = YakuList::new(alloc);
     let mut wanted = Vec::new(alloc);
+    push_rows(&mut list, &mut wanted, number).is_ok() && stay_rows(&list, wanted.as_slice())
+}
+
+fn push_rows(
+    list: &mut YakuList,
+    wanted: &mut Vec<(u8, u8)>,
+    number: u8,
+) -> Result<(), AllocError> {
     for row in 0..45 {
         if row < number {
             list.push(row, 1)?;
             wanted.push((row, 1))?;
         }
     }
-    let copied = list.copy()?;
-    Ok(list.as_slice() == wanted.as_slice() && copied.as_slice() == wanted.as_slice())
+    Ok(())
+}
+
+fn stay_rows(list: &YakuList, wanted: &[(u8, u8)]) -> bool {
+    list.as_slice() == wanted && are_rows(list.copy(), wanted)
 }
 
 /// Whether lists of tiles and of rows have no bound.
-fn are_unbounded(alloc: Global) -> Result<bool, AllocError> {
-    let mut all = keeps_these(alloc)?;
+fn are_unbounded(alloc: Global) -> bool {
+    let mut all = keeps_these(alloc);
     for number in [0, 12, 13, 14, 15, 40] {
-        all = keeps_so_many(alloc, number)? && all;
+        all = keeps_so_many(alloc, number) && all;
     }
     for number in [0, 6, 7, 8, 45] {
-        all = keeps_rows(alloc, number)? && all;
+        all = keeps_rows(alloc, number) && all;
     }
-    Ok(all)
+    all
 }
 
 #[test]
-fn a_list_of_tiles_or_rows_has_no_bound(rt: HostRuntime) -> Result<(), AllocError> {
-    assert!(rt; are_unbounded(rt.alloc())?);
-    Ok(())
+fn a_list_of_tiles_or_rows_has_no_bound(rt: HostRuntime) {
+    assert!(rt; are_unbounded(rt.alloc()));
 }

@@ -1,4 +1,4 @@
-use crate::play::wrong_line;
+use crate::play::ask_games;
 
 /// Seat 0 holds 1m and 5m twice and draws 5p: lines, seats and tiles that are none, and the mark of the drawn tile.
 const DRAWN: &str = "\
@@ -329,30 +329,30 @@ dora 1s
 replace 2 6p
 judge 2 nine 2? NotNine";
 
+const GAMES: [&str; 20] = [
+    DRAWN,
+    RED,
+    CALLED,
+    LAST_BANNED,
+    STUCK,
+    LAST_TILE,
+    ALIKE,
+    ADDED,
+    DRY,
+    FULL,
+    LOCKED,
+    CHANGING,
+    REACHES,
+    POOR,
+    LATE,
+    RONS,
+    MISSED,
+    MISSED_IN_RIICHI,
+    DEALT,
+    NINE,
+];
+
 #[test]
 fn an_answer_is_refused_by_the_first_rule_that_it_breaks(rt: HostRuntime) {
-    for game in [
-        DRAWN,
-        RED,
-        CALLED,
-        LAST_BANNED,
-        STUCK,
-        LAST_TILE,
-        ALIKE,
-        ADDED,
-        DRY,
-        FULL,
-        LOCKED,
-        CHANGING,
-        REACHES,
-        POOR,
-        LATE,
-        RONS,
-        MISSED,
-        MISSED_IN_RIICHI,
-        DEALT,
-        NINE,
-    ] {
-        assert_eq!(rt; wrong_line(rt.alloc(), game), "");
-    }
+    ask_games(&rt, rt.alloc(), &GAMES);
 }

@@ -1,5 +1,5 @@
 //! Tests of the public calls of the play layer, from names and rounds to the verdict on an answer, and of the lines of mjai:
-//! a file for each crate, a table of cases and a loop in each test. There is no code here but that of the tests.
+//! a file for each crate, and tables of cases in it. There is no code here but that of the tests.
 #![tactic(auto)]
 
 #[cfg(test)]

@@ -2,9 +2,9 @@
 
 ghost use Rattle.std.specs.Prelude.{◌≡◌, ◌<◌};
 
-use crate::deed_words::{answer, deed};
+use crate::deed_words::{OfDeed, answer, deed, deed_is_as};
 use crate::views::seen_by;
-use crate::words::{number_or_none, parted};
+use crate::words::{Question, ask, number_or_none, parted};
 use mj_deeds::{Answer, Deed, Rule, Viewer};
 use mj_ports::{JoinLine, Picked, SitRefused};
 use mjai_answers::read_room;
@@ -49,24 +49,42 @@ record drawn|yes no no no|3000 -1000 -1000 -1000|33000 29000 29000 29000|fanpai|
 record end={\"type\":\"end_kyoku\"}
 record over|30000 30000 31000 28000|1={\"type\":\"end_game\",\"scores\":[30000,30000,31000,28000],\"kyotaku\":1}";
 
-/// Whether a deed and its copy are written so.
-fn is_written(alloc: Global, row: &str) -> bool {
-    let (viewer, told, line) = seen_by(row);
-    match deed(alloc, told) {
-        Some(deed) => both_written(alloc, viewer, deed, line),
-        None => false,
+/// A deed and its copy are written so.
+struct Written;
+
+impl Question for Written {
+    fn holds(alloc: Global, line: &str) -> bool {
+        let (_, told, _) = seen_by(line);
+        deed_is_as::<Written>(alloc, deed(alloc, told), line)
     }
 }
 
-fn both_written(alloc: Global, viewer: Viewer, deed: Deed, line: &str) -> bool {
-    match deed.copy() {
-        Ok(copy) => writes(alloc, viewer, &deed, line) && writes(alloc, viewer, &copy, line),
-        Err(_) => false,
+impl OfDeed for Written {
+    fn is_as(alloc: Global, deed: Option<&Deed>, line: &str) -> bool {
+        match deed {
+            Some(deed) => {
+                writes(alloc, deed, line)
+                    && deed_is_as::<WrittenCopy>(alloc, deed.copy().ok(), line)
+            }
+            None => false,
+        }
     }
 }
 
-fn writes(alloc: Global, viewer: Viewer, deed: &Deed, line: &str) -> bool {
-    writes_on::<Brand>(alloc, viewer, deed, line.as_bytes(), Blank::new(1))
+struct WrittenCopy;
+
+impl OfDeed for WrittenCopy {
+    fn is_as(alloc: Global, deed: Option<&Deed>, line: &str) -> bool {
+        match deed {
+            Some(deed) => writes(alloc, deed, line),
+            None => false,
+        }
+    }
+}
+
+fn writes(alloc: Global, deed: &Deed, line: &str) -> bool {
+    let (viewer, _, written) = seen_by(line);
+    writes_on::<Brand>(alloc, viewer, deed, written.as_bytes(), Blank::new(1))
 }
 
 fn writes_on<L: Ledger>(
@@ -88,9 +106,7 @@ fn writes_on<L: Ledger>(
 
 #[test]
 fn a_deed_has_its_line_for_each_viewer(rt: HostRuntime) {
-    for row in DEEDS.lines() {
-        assert!(rt; is_written(rt.alloc(), row), "{row}");
-    }
+    ask::<HostRuntime, Written>(&rt, rt.alloc(), DEEDS);
 }
 
 const RULES: [Rule; 3] = [Rule::NotHeld, Rule::Unreadable, Rule::NotNine];
@@ -161,19 +177,21 @@ const ANSWERS: &str = "\
 {\"type\":\"dahai\",\"actor\":0,\"pai\":\"0m\",\"tsumogiri\":true}=unread
 {\"type\":\"ankan\",\"consumed\":[\"N\",\"N\",\"N\",\"N\"]}=unread";
 
-fn reads(alloc: Global, row: &str) -> bool {
-    let (line, told) = parted(row, '=');
-    match read_answer(alloc, line.as_bytes()) {
-        Ok(found) => found == answer(told),
-        Err(_) => false,
+struct Reads;
+
+impl Question for Reads {
+    fn holds(alloc: Global, line: &str) -> bool {
+        let (line, told) = parted(line, '=');
+        match read_answer(alloc, line.as_bytes()) {
+            Ok(found) => found == answer(told),
+            Err(_) => false,
+        }
     }
 }
 
 #[test]
 fn a_line_reads_as_the_answer_that_it_is(rt: HostRuntime) {
-    for row in ANSWERS.lines() {
-        assert!(rt; reads(rt.alloc(), row), "{row}");
-    }
+    ask::<HostRuntime, Reads>(&rt, rt.alloc(), ANSWERS);
     let no_text = b"{\"type\":\"none\",\"x\":\"\xff\"}";
     assert!(rt; matches!(read_answer(rt.alloc(), no_text), Ok(Answer::Unread)));
 }
@@ -190,12 +208,16 @@ const JOINS: &str = "\
 {\"type\":\"join\",\"name\":\"nnnnnnnnnnnnnnnnnnnnnnnnnnnnnnnnnnnnnnnnnnnnnnnnnnnnnnnnnnnnnnnnn\",\"key\":\"k\"}=
 {\"type\":\"join\",\"name\":\"n\",\"key\":\"kkkkkkkkkkkkkkkkkkkkkkkkkkkkkkkkkkkkkkkkkkkkkkkkkkkkkkkkkkkkkkkkk\"}=";
 
-fn is_join(alloc: Global, row: &str) -> bool {
-    let (line, told) = parted(row, '=');
-    match read_join(alloc, line.as_bytes()) {
-        Ok(Some(join)) => is_named(&join, told),
-        Ok(None) => told.is_empty(),
-        Err(_) => false,
+struct Join;
+
+impl Question for Join {
+    fn holds(alloc: Global, line: &str) -> bool {
+        let (line, told) = parted(line, '=');
+        match read_join(alloc, line.as_bytes()) {
+            Ok(Some(join)) => is_named(&join, told),
+            Ok(None) => told.is_empty(),
+            Err(_) => false,
+        }
     }
 }
 
@@ -211,9 +233,7 @@ fn is_named(join: &JoinLine, told: &str) -> bool {
 
 #[test]
 fn a_join_has_a_name_and_perhaps_a_key(rt: HostRuntime) {
-    for row in JOINS.lines() {
-        assert!(rt; is_join(rt.alloc(), row), "{row}");
-    }
+    ask::<HostRuntime, Join>(&rt, rt.alloc(), JOINS);
 }
 
 /// A line, and the number of the table, one of three, that it is for.
@@ -232,19 +252,21 @@ const ROOMS: &str = "\
 {\"type\":\"none\",\"name\":\"a\",\"room\":\"room1\"}=no name
 join room1=no name";
 
-fn is_picked(alloc: Global, row: &str) -> bool {
-    let (line, told) = parted(row, '=');
-    match read_room(alloc, line.as_bytes(), 3) {
-        Ok(Picked::BadName) => told == "no name",
-        Ok(Picked::NoRoom) => told == "no room",
-        Ok(Picked::Table(table)) => number_or_none(told) == Some(table),
-        Err(_) => false,
+struct Picks;
+
+impl Question for Picks {
+    fn holds(alloc: Global, line: &str) -> bool {
+        let (line, told) = parted(line, '=');
+        match read_room(alloc, line.as_bytes(), 3) {
+            Ok(Picked::BadName) => told == "no name",
+            Ok(Picked::NoRoom) => told == "no room",
+            Ok(Picked::Table(table)) => number_or_none(told) == Some(table),
+            Err(_) => false,
+        }
     }
 }
 
 #[test]
 fn a_join_is_for_the_table_whose_room_it_names(rt: HostRuntime) {
-    for row in ROOMS.lines() {
-        assert!(rt; is_picked(rt.alloc(), row), "{row}");
-    }
+    ask::<HostRuntime, Picks>(&rt, rt.alloc(), ROOMS);
 }

@@ -7,8 +7,8 @@ use crate::deed_words::{answer, deed};
 use crate::rounds::{end, standing};
 use crate::safety::why;
 use crate::words::{
-    are, counts, kind, kinds, number, number_or_none, parted, points, seat, tile, tile_or_none,
-    words, yes,
+    are, counts, kind, kinds, none_is_wrong, number, number_or_none, parted, points, seat, tile,
+    tile_or_none, word, yes,
 };
 use mj_bot::choose;
 use mj_deeds::{Answer, Deed, Reason, Rule};
@@ -16,13 +16,21 @@ use mj_judge::{case_of, default, is_lawful, judge, possible};
 use mj_memory::Memory;
 use mj_readings::Riichi;
 use mj_table::Table;
-use mj_tiles::{Form, Kinds, Meld, Tile};
+use mj_tiles::{Form, Kind, Kinds, Meld, Tile};
 use mj_wall::Rules;
 use std::alloc::Global;
+use std::process::Abort;
+
+/// Asserts that each line of some games is a deed that fits, or a question with the right answer.
+pub(crate) fn ask_games(rt: &impl Abort, alloc: Global, games: &[&str]) {
+    for game in games {
+        none_is_wrong(rt, wrong_line(alloc, *game));
+    }
+}
 
 /// The first line of a game that is no deed which fits, and no question with the right answer; empty where there is
 /// none.
-pub(crate) fn wrong_line<'a>(alloc: Global, game: &'a str) -> &'a str {
+fn wrong_line<'a>(alloc: Global, game: &'a str) -> &'a str {
     match Table::new(rules(game)) {
         Ok(mut table) => first_wrong(alloc, &mut table, game),
         Err(_) => "no memory",
@@ -97,24 +105,39 @@ fn tells(alloc: Global, table: &Table, question: &str, told: &str) -> bool {
     if let Some(line) = question.strip_prefix("judge ") {
         return judges(table, line, told);
     }
-    let words = words(question);
-    match words[0] {
+    let asked = word(question, 0);
+    match asked {
         "live" | "live_drawn" | "kans" | "shown" | "deposits" => {
-            number_told(table, words[0]) == usize::from(number(told))
+            number_told(table, asked) == usize::from(number(told))
         }
-        "newest" | "cause" | "before_wins" => name(deed_told(table, words[0])) == told,
+        "newest" | "cause" | "before_wins" => name(deed_told(table, asked)) == told,
         "reason" => reason(table) == told,
         "points" => table.points() == points(told),
-        "winner" => table.has_winner() == yes(told),
+        "winner" | "dealer_won" => truth_told(table, asked) == yes(told),
         "ended" => table.hand_end() == end(told),
-        "dealer_won" => table.dealer_won() == yes(told),
         "standing" => Some(table.standing()) == standing(told),
         "kan_seat" => table.kan_seat() == number_or_none(told),
-        "indicator" => table.indicator(number(words[1])) == tile_or_none(told),
-        "concealed" => has_concealed(alloc, table, seat(words[1]), told),
-        "possible" => may_answer(alloc, table, seat(words[1]), told),
-        "choose" => chooses(alloc, table, seat(words[1]), told),
-        _ => tells_of_seat(table, &words, told),
+        "indicator" => table.indicator(number(word(question, 1))) == tile_or_none(told),
+        _ => tells_seat(alloc, table, seat(word(question, 1)), question, told),
+    }
+}
+
+/// Whether a table tells this to a question about a seat.
+fn tells_seat(alloc: Global, table: &Table, who: u8, question: &str, told: &str) -> bool
+    requires { who ≤ 3 }
+{
+    match word(question, 0) {
+        "concealed" => has_concealed(alloc, table, who, told),
+        "possible" => may_answer(alloc, table, who, told),
+        "choose" => chooses(alloc, table, who, told),
+        _ => tells_of_seat(table, who, question, told),
+    }
+}
+
+fn truth_told(table: &Table, word: &str) -> bool {
+    match word {
+        "winner" => table.has_winner(),
+        _ => table.dealer_won(),
     }
 }
 
@@ -149,29 +172,61 @@ fn chooses(alloc: Global, table: &Table, seat: u8, told: &str) -> bool
     }
 }
 
-/// Whether a table tells this to a question about a seat.
-fn tells_of_seat(table: &Table, words: &[&str; 8], told: &str) -> bool {
-    let [word, who, a, b, c, d, ..] = *words;
-    let who = seat(who);
-    match word {
+/// Whether a table tells this to a question about a seat alone.
+fn tells_of_seat(table: &Table, who: u8, question: &str, told: &str) -> bool
+    requires { who ≤ 3 }
+{
+    let asked = word(question, 0);
+    match asked {
         "default" => default(table, who) == answer(told),
         "drawn" => table.drawn(who) == tile_or_none(told),
         "holds" => table.holds(who) == counts(told),
         "reds" => has_reds(table, who, told),
-        "held" => table.held_count(who, tile(a)) == usize::from(number(told)),
-        "own" | "passed" | "since_reach" => kinds_told(table, who, word) == kinds(told),
-        "melds" => table.melds(who).as_slice().len() == usize::from(number(told)),
-        "meld" => meld_at(table, who, number(a)) == Some(meld(told)),
+        "own" | "passed" | "since_reach" => kinds_told(table, who, asked) == kinds(told),
         "first" => [table.marks(who).first, table.is_first(who)] == [yes(told); 2],
         "riichi" => table.is_in_riichi(who) == yes(told),
         "marks" => has_marks(table, who, told),
-        "room" => table.room(who).get(kind(a)) == number(told),
         "case" => has_case(table, who, told),
-        "sees" => table.seen(who).get(kind(a)) == number(told),
-        "safe" => why(table, who, seat(a), kind(b)) == told,
-        "triplet" => table.has_triplet(who, tile(a), tile(b), tile(c), tile(d)) == yes(told),
+        _ => tells_of_tiles(table, who, question, told),
+    }
+}
+
+/// Whether a table tells this to a question about melds, kinds or tiles and a seat.
+fn tells_of_tiles(table: &Table, who: u8, question: &str, told: &str) -> bool
+    requires { who ≤ 3 }
+{
+    let asked = word(question, 0);
+    match asked {
+        "melds" => table.melds(who).as_slice().len() == usize::from(number(told)),
+        "meld" => meld_at(table, who, number(word(question, 2))) == Some(meld(told)),
+        "held" => { table.held_count(who, tile(word(question, 2))) == usize::from(number(told)) }
+        "room" | "sees" => number_of(table, who, asked, kind(word(question, 2))) == number(told),
+        "safe" => why(table, who, seat(word(question, 2)), kind(word(question, 3))) == told,
+        "triplet" => has_triplet(table, who, question) == yes(told),
         _ => false,
     }
+}
+
+/// How many of a kind a seat has room for or sees.
+fn number_of(table: &Table, seat: u8, word: &str, kind: Kind) -> u8
+    requires { seat ≤ 3 }
+{
+    match word {
+        "room" => table.room(seat).get(kind),
+        _ => table.seen(seat).get(kind),
+    }
+}
+
+fn has_triplet(table: &Table, seat: u8, question: &str) -> bool
+    requires { seat ≤ 3 }
+{
+    table.has_triplet(
+        seat,
+        tile(word(question, 2)),
+        tile(word(question, 3)),
+        tile(word(question, 4)),
+        tile(word(question, 5)),
+    )
 }
 
 /// Kinds that a table tells of a seat.
@@ -272,8 +327,7 @@ fn has_case(table: &Table, seat: u8, told: &str) -> bool
     requires { seat ≤ 3 }
 {
     let case = case_of(table, seat);
-    let [seat_wind, round_wind, ..] = words(told);
-    [case.seat_wind, case.round_wind] == [kind(seat_wind), kind(round_wind)]
+    [case.seat_wind, case.round_wind] == [kind(word(told, 0)), kind(word(told, 1))]
         && has_word(told, "single") == (case.riichi == Riichi::Single)
         && has_word(told, "double") == (case.riichi == Riichi::Double)
         && [
@@ -307,13 +361,12 @@ fn meld_at(table: &Table, seat: u8, place: u8) -> Option<Meld>
 
 /// A meld: its form and its tiles, as `chi 2m 3m 4m`.
 pub(crate) fn meld(text: &str) -> Meld {
-    let [form, a, b, c, d, ..] = words(text);
     Meld {
-        form: form_of(form),
-        a: tile(a),
-        b: tile(b),
-        c: tile(c),
-        d: tile_or_none(d),
+        form: form_of(word(text, 0)),
+        a: tile(word(text, 1)),
+        b: tile(word(text, 2)),
+        c: tile(word(text, 3)),
+        d: tile_or_none(word(text, 4)),
     }
 }
 

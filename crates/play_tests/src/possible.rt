@@ -1,4 +1,4 @@
-use crate::play::wrong_line;
+use crate::play::ask_games;
 
 /// The first draw of a wall in tile order: seat 0 holds four of three kinds, and the others may pass alone.
 const FIRST: &str = "\
@@ -115,11 +115,11 @@ possible 1? pass, chi 1 0 6m 4m 5m, ron 1 0
 discard 0 3m
 possible 1? pass, chi 1 0 3m 4m 5m";
 
+const GAMES: [&str; 10] = [
+    FIRST, CALLS, RED, MARKS, RIICHI, NINE, NO_NINE, ROBBED, STUCK, FURITEN,
+];
+
 #[test]
 fn the_possible_answers_are_the_lawful_ones_in_turn(rt: HostRuntime) {
-    for game in [
-        FIRST, CALLS, RED, MARKS, RIICHI, NINE, NO_NINE, ROBBED, STUCK, FURITEN,
-    ] {
-        assert_eq!(rt; wrong_line(rt.alloc(), game), "");
-    }
+    ask_games(&rt, rt.alloc(), &GAMES);
 }

@@ -1,9 +1,10 @@
 ghost use Rattle.std.specs.Prelude.{IfSome};
 ghost use Rattle.mj_rounds.specs.Rounds.{MayStand};
 
-use crate::words::{fields, kind, number, words};
+use crate::words::{Question, ask, field, kind, number, word};
 use mj_rounds::HandEnd::{Aborted, Drawn, Won};
 use mj_rounds::{HandEnd, Standing, first, next_hand};
+use std::alloc::Global;
 
 /// The round, the dealer, the honba and the hand; how it ended; and the same of the next hand, or `over`.
 const HANDS: &str = "\
@@ -37,8 +38,8 @@ E 0 198 198|ready|E 0 199 199";
 pub(crate) fn standing(text: &str) -> Option<Standing>
     ensures { IfSome result (λ now. MayStand now) }
 {
-    let [round, dealer, honba, hand, ..] = words(text);
-    let (round, dealer, honba, hand) = (kind(round), number(dealer), number(honba), number(hand));
+    let (round, dealer) = (kind(word(text, 0)), number(word(text, 1)));
+    let (honba, hand) = (number(word(text, 2)), number(word(text, 3)));
     if round.number() != 27 && round.number() != 28 || dealer > 3 || honba > 199 || hand > 199 {
         return None;
     }
@@ -65,18 +66,19 @@ pub(crate) fn end(text: &str) -> HandEnd {
     }
 }
 
-fn follows(line: &str) -> bool {
-    let [now, ended, next, ..] = fields(line);
-    match standing(now) {
-        Some(now) => next_hand(&now, end(ended)) == standing(next),
-        None => false,
+struct Follows;
+
+impl Question for Follows {
+    fn holds(_alloc: Global, line: &str) -> bool {
+        match standing(field(line, 0)) {
+            Some(now) => next_hand(&now, end(field(line, 1))) == standing(field(line, 2)),
+            None => false,
+        }
     }
 }
 
 #[test]
 fn hands_follow_by_who_won_and_who_was_ready(rt: HostRuntime) {
-    for line in HANDS.lines() {
-        assert!(rt; follows(line), "{line}");
-    }
+    ask::<HostRuntime, Follows>(&rt, rt.alloc(), HANDS);
     assert!(rt; Some(first()) == standing("E 0 0 0"));
 }

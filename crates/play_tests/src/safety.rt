@@ -2,7 +2,7 @@
 
 ghost use Rattle.std.specs.Prelude.{◌≤◌};
 
-use crate::play::wrong_line;
+use crate::play::ask_games;
 use mj_safe::{Reason, has_to_discard, safe};
 use mj_table::Table;
 use mj_tiles::Kind;
@@ -151,10 +151,9 @@ fn word(reason: Option<Reason>) -> &'static str {
     }
 }
 
+const GAMES: [&str; 6] = [ORPHANS, RUNS, THREE, CALLED, PASSED, SINCE_REACH];
+
 #[test]
 fn the_first_reason_is_given(rt: HostRuntime) {
-    for game in [ORPHANS, RUNS, THREE, CALLED, PASSED, SINCE_REACH] {
-        let wrong = wrong_line(rt.alloc(), game);
-        assert!(rt; wrong == "", "{wrong}");
-    }
+    ask_games(&rt, rt.alloc(), &GAMES);
 }

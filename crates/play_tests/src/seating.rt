@@ -1,6 +1,7 @@
-use crate::words::{fields, number, parted, words};
+use crate::words::{Question, ask, field, number, parted, word};
 use mj_ports::{JoinLine, Key, Name, SitRefused};
 use mj_seating::{Desk, Placed};
+use std::alloc::Global;
 
 /// What comes to an empty desk, what the last of it is answered, and the seats afterwards, `-` before one that is gone.
 /// A join is a name, or a name and a key; `-1` says that seat 1 leaves; `63*a:k` that seat 0 leaves and `a:k` joins, 63
@@ -118,24 +119,32 @@ fn is_seat(desk: &Desk, seat: u8, word: &str) -> bool {
 }
 
 fn stands(desk: &Desk, seats: &str) -> bool {
-    let [a, b, c, d, ..] = words(seats);
-    is_seat(desk, 0, a) && is_seat(desk, 1, b) && is_seat(desk, 2, c) && is_seat(desk, 3, d)
+    is_seat(desk, 0, word(seats, 0))
+        && is_seat(desk, 1, word(seats, 1))
+        && is_seat(desk, 2, word(seats, 2))
+        && is_seat(desk, 3, word(seats, 3))
 }
 
-/// Whether a line is as it says.
-fn holds(line: &str) -> bool {
-    let [words, answered, seats, ..] = fields(line);
-    let mut desk = Desk::new();
+/// What the last of some words is answered.
+fn steps(desk: &mut Desk, words: &str) -> Option<Placed> {
     let mut last = None;
     for word in words.split_whitespace() {
-        last = step(&mut desk, word);
+        last = step(desk, word);
     }
-    last.is_some() && last == answer(answered) && stands(&desk, seats)
+    last
+}
+
+struct Sitting;
+
+impl Question for Sitting {
+    fn holds(_alloc: Global, line: &str) -> bool {
+        let mut desk = Desk::new();
+        let last = steps(&mut desk, field(line, 0));
+        last.is_some() && last == answer(field(line, 1)) && stands(&desk, field(line, 2))
+    }
 }
 
 #[test]
 fn a_join_is_answered_by_the_table_of_sitting(rt: HostRuntime) {
-    for line in SITTINGS.lines() {
-        assert!(rt; holds(line), "{line}");
-    }
+    ask::<HostRuntime, Sitting>(&rt, rt.alloc(), SITTINGS);
 }

@@ -1,5 +1,5 @@
-use crate::play::{add, follow, reason, rules, wrong_line};
-use crate::words::{fields, tile};
+use crate::play::{add, ask_games, follow, reason, rules};
+use crate::words::{Question, ask, field, tile};
 use mj_deeds::{Deed, next_seat};
 use mj_table::Table;
 use std::alloc::Global;
@@ -397,27 +397,27 @@ end
 deal|E 1 0 0|C|1m|1m|1m|1m
 deposits? 0";
 
+const GAMES: [&str; 15] = [
+    BEGINNING,
+    KANS,
+    RED,
+    CHI,
+    PON,
+    OPEN,
+    WINDS,
+    CALL_BEFORE,
+    SEVERAL,
+    OF_ONE,
+    RIICHI,
+    WINS,
+    RIICHIS,
+    ENDS,
+    WON_AT_THE_REACH,
+];
+
 #[test]
 fn a_table_tells_what_its_deeds_come_to(rt: HostRuntime) {
-    for game in [
-        BEGINNING,
-        KANS,
-        RED,
-        CHI,
-        PON,
-        OPEN,
-        WINDS,
-        CALL_BEFORE,
-        SEVERAL,
-        OF_ONE,
-        RIICHI,
-        WINS,
-        RIICHIS,
-        ENDS,
-        WON_AT_THE_REACH,
-    ] {
-        assert_eq!(rt; wrong_line(rt.alloc(), game), "");
-    }
+    ask_games(&rt, rt.alloc(), &GAMES);
 }
 
 /// The rules, the first discards of the four seats, and the reason that ends the hand after them.
@@ -428,17 +428,22 @@ game draws|S S S E|none
 game draws|S W S S|none
 game draws|F F F F|none";
 
-fn ends_so(alloc: Global, line: &str) -> bool {
-    let [game, tiles, told, ..] = fields(line);
-    match Table::new(rules(game)) {
-        Ok(mut table) => {
-            follow(alloc, &mut table, "game")
-                && follow(alloc, &mut table, "hand|C|ESWF|ESWF|ESWF|ESWF")
-                && discard(&mut table, tiles)
-                && reason(&table) == told
+struct Ending;
+
+impl Question for Ending {
+    fn holds(alloc: Global, line: &str) -> bool {
+        match Table::new(rules(field(line, 0))) {
+            Ok(mut table) => ends_so(alloc, &mut table, line),
+            Err(_) => false,
         }
-        Err(_) => false,
     }
+}
+
+fn ends_so(alloc: Global, table: &mut Table, line: &str) -> bool {
+    follow(alloc, table, "game")
+        && follow(alloc, table, "hand|C|ESWF|ESWF|ESWF|ESWF")
+        && discard(table, field(line, 1))
+        && reason(table) == field(line, 2)
 }
 
 /// Each seat discards one of these tiles in turn.
@@ -462,9 +467,7 @@ fn discard(table: &mut Table, tiles: &str) -> bool {
 
 #[test]
 fn four_first_discards_of_one_wind_end_the_hand(rt: HostRuntime) {
-    for line in FIRST_DISCARDS.lines() {
-        assert!(rt; ends_so(rt.alloc(), line), "{line}");
-    }
+    ask::<HostRuntime, Ending>(&rt, rt.alloc(), FIRST_DISCARDS);
 }
 
 /// Whether a copy of an empty table has its rules and its points, and how many deeds each has once one was added to the

@@ -1,5 +1,7 @@
-use crate::deed_words::{bid, deed, seats};
-use crate::words::{are, fields, number, number_or_none, parted, tile, tile_or_none, words, yes};
+use crate::deed_words::{OfDeed, bid, deed, deed_is_as, seats};
+use crate::words::{
+    Question, are, ask, field, number, number_or_none, parted, tile, tile_or_none, word, yes,
+};
 use mj_deeds::{Deed, Four, Reason, ShownHands, Tiles, Token, Viewer};
 use mj_ports::Name;
 use mj_tiles::Tile;
@@ -47,11 +49,22 @@ fn viewer_of(text: &str) -> Viewer {
     }
 }
 
-fn has_token(alloc: Global, line: &str) -> bool {
-    let (viewer, told, wanted) = seen_by(line);
-    match deed(alloc, told) {
-        Some(deed) => is_told(alloc, viewer, &deed, wanted),
-        None => false,
+struct HasToken;
+
+impl Question for HasToken {
+    fn holds(alloc: Global, line: &str) -> bool {
+        let (_, told, _) = seen_by(line);
+        deed_is_as::<HasToken>(alloc, deed(alloc, told), line)
+    }
+}
+
+impl OfDeed for HasToken {
+    fn is_as(alloc: Global, deed: Option<&Deed>, line: &str) -> bool {
+        let (viewer, _, wanted) = seen_by(line);
+        match deed {
+            Some(deed) => is_told(alloc, viewer, deed, wanted),
+            None => false,
+        }
     }
 }
 
@@ -84,42 +97,47 @@ fn is_token(found: &Token, wanted: &str) -> bool {
 }
 
 fn is_draw(seat: u8, drawn: Option<Tile>, wanted: &str) -> bool {
-    let [who, tile, ..] = words(wanted);
-    seat == number(who) && drawn == tile_or_none(tile)
+    seat == number(word(wanted, 0)) && drawn == tile_or_none(word(wanted, 1))
 }
 
 fn is_start(indicator: Tile, hand: &Tiles, wanted: &str) -> bool {
-    let [shown, own, ..] = fields(wanted);
-    indicator == tile(shown) && are(hand.as_slice(), own)
+    indicator == tile(field(wanted, 0)) && are(hand.as_slice(), field(wanted, 1))
 }
 
 fn are_names(names: &Four<Name>, wanted: &str) -> bool {
-    let [first, second, third, fourth, ..] = words(wanted);
-    names.first.as_slice() == first.as_bytes()
-        && names.second.as_slice() == second.as_bytes()
-        && names.third.as_slice() == third.as_bytes()
-        && names.fourth.as_slice() == fourth.as_bytes()
+    is_name(&names.first, word(wanted, 0))
+        && is_name(&names.second, word(wanted, 1))
+        && is_name(&names.third, word(wanted, 2))
+        && is_name(&names.fourth, word(wanted, 3))
+}
+
+fn is_name(name: &Name, wanted: &str) -> bool {
+    name.as_slice() == wanted.as_bytes()
 }
 
 fn is_discard(seat: u8, discarded: Tile, drawn: bool, wanted: &str) -> bool {
-    let [_, _, by_draw, ..] = words(wanted);
-    is_draw(seat, Some(discarded), wanted) && drawn == yes(by_draw)
+    is_draw(seat, Some(discarded), wanted) && drawn == yes(word(wanted, 2))
 }
 
 fn is_drawn_hand(reason: Reason, hands: &ShownHands, wanted: &str) -> bool {
-    let [shown, numbers, ..] = fields(wanted);
-    let [second, third, fourth, ..] = words(numbers);
     reason == Reason::Fanpai
         && hands.hidden(0).is_none()
-        && are(hands.at(0), shown)
-        && hands.hidden(1) == number_or_none(second)
-        && hands.hidden(2) == number_or_none(third)
-        && hands.hidden(3) == number_or_none(fourth)
+        && are(hands.at(0), field(wanted, 0))
+        && have_hidden(hands, field(wanted, 1))
+}
+
+fn have_hidden(hands: &ShownHands, numbers: &str) -> bool {
+    [hands.hidden(1), hands.hidden(2), hands.hidden(3)]
+        == [
+            number_or_none(word(numbers, 0)),
+            number_or_none(word(numbers, 1)),
+            number_or_none(word(numbers, 2)),
+        ]
 }
 
 fn is_win(seat: u8, target: u8, won: Tile, wanted: &str) -> bool {
-    let [who, from, on, ..] = words(wanted);
-    seat == number(who) && target == number(from) && won == tile(on)
+    [seat, target] == [number(word(wanted, 0)), number(word(wanted, 1))]
+        && won == tile(word(wanted, 2))
 }
 
 fn are_none(tiles: &Tiles) -> bool {
@@ -128,9 +146,7 @@ fn are_none(tiles: &Tiles) -> bool {
 
 #[test]
 fn a_token_has_the_own_tiles_alone(rt: HostRuntime) {
-    for line in TOKENS.lines() {
-        assert!(rt; has_token(rt.alloc(), line), "{line}");
-    }
+    ask::<HostRuntime, HasToken>(&rt, rt.alloc(), TOKENS);
 }
 
 /// A seat or the record, a deed, and what it sees of it: of a draw its seat and its tile or `none`; of a start of a hand
@@ -148,11 +164,22 @@ record accepted|0|29000 30000 30000 30000|pon 1 0 E E E=pon 1 0 E E E
 2 win|1|0|5p|-1000 1000 0 0|29000 31000 30000 30000|2=none
 record win|1|0|5p|-1000 1000 0 0|29000 31000 30000 30000|2=2";
 
-fn has_mask(alloc: Global, line: &str) -> bool {
-    let (viewer, told, wanted) = seen_by(line);
-    match deed(alloc, told) {
-        Some(deed) => is_masked(alloc, viewer, &deed, wanted),
-        None => false,
+struct HasMask;
+
+impl Question for HasMask {
+    fn holds(alloc: Global, line: &str) -> bool {
+        let (_, told, _) = seen_by(line);
+        deed_is_as::<HasMask>(alloc, deed(alloc, told), line)
+    }
+}
+
+impl OfDeed for HasMask {
+    fn is_as(alloc: Global, deed: Option<&Deed>, line: &str) -> bool {
+        let (viewer, _, wanted) = seen_by(line);
+        match deed {
+            Some(deed) => is_masked(alloc, viewer, deed, wanted),
+            None => false,
+        }
     }
 }
 
@@ -166,7 +193,7 @@ fn is_masked(alloc: Global, viewer: Viewer, deed: &Deed, wanted: &str) -> bool {
 fn is_mask(found: &Masked, wanted: &str) -> bool {
     match found {
         Masked::Draw { seat, tile, .. } => is_draw(*seat, *tile, wanted),
-        Masked::StartHand { hands, .. } => are_hands(hands, &fields(wanted)),
+        Masked::StartHand { hands, .. } => are_hands(hands, wanted),
         Masked::ReachAccepted { then, .. } if wanted == "none" => then.is_none(),
         Masked::ReachAccepted { then, .. } => *then == Some(bid(wanted)),
         Masked::Win { rest, .. } if wanted == "none" => rest.is_none(),
@@ -175,11 +202,11 @@ fn is_mask(found: &Masked, wanted: &str) -> bool {
     }
 }
 
-fn are_hands(hands: &SeenHands, wanted: &[&str; 8]) -> bool {
-    is_hand(hands.at(0), hands.hidden(0), wanted[0])
-        && is_hand(hands.at(1), hands.hidden(1), wanted[1])
-        && is_hand(hands.at(2), hands.hidden(2), wanted[2])
-        && is_hand(hands.at(3), hands.hidden(3), wanted[3])
+fn are_hands(hands: &SeenHands, wanted: &str) -> bool {
+    is_hand(hands.at(0), hands.hidden(0), field(wanted, 0))
+        && is_hand(hands.at(1), hands.hidden(1), field(wanted, 1))
+        && is_hand(hands.at(2), hands.hidden(2), field(wanted, 2))
+        && is_hand(hands.at(3), hands.hidden(3), field(wanted, 3))
 }
 
 fn is_hand(seen: &[Tile], hidden: Option<usize>, wanted: &str) -> bool {
@@ -191,7 +218,5 @@ fn is_hand(seen: &[Tile], hidden: Option<usize>, wanted: &str) -> bool {
 
 #[test]
 fn a_seat_sees_its_own_tiles_and_the_record_all(rt: HostRuntime) {
-    for line in MASKS.lines() {
-        assert!(rt; has_mask(rt.alloc(), line), "{line}");
-    }
+    ask::<HostRuntime, HasMask>(&rt, rt.alloc(), MASKS);
 }

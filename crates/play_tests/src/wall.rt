@@ -1,7 +1,7 @@
-use crate::words::{are, fields, number, tile, words};
+use crate::words::{Question, are, ask, field, number, tile, word};
 use mj_tiles::Tile;
 use mj_wall::{Rules, Setting, Wall, Walls};
-use std::alloc::{AllocError, Global};
+use std::alloc::Global;
 
 /// How many tiles of the sorted wall are read (after its 136 one C more), with tiles put into places, in a game with
 /// red fives or without; and the place that is wrong, if it is no wall.
@@ -24,20 +24,30 @@ fn changed(changes: &str) -> [Tile; 137] {
     for place in 0..136u8 {
         tiles[usize::from(place)] = Tile::at(place / 4);
     }
-    let [p, a, q, b, r, c, ..] = words(changes);
-    for (place, text) in [(p, a), (q, b), (r, c)] {
-        let place = usize::from(number(place));
+    for change in 0..3 {
+        let place = usize::from(number(word(changes, 2 * change)));
         if place < 137 {
-            tiles[place] = tile(text);
+            tiles[place] = tile(word(changes, 2 * change + 1));
         }
     }
     tiles
 }
 
-fn is_read(line: &str) -> bool {
-    let [length, changes, red, wanted, ..] = fields(line);
-    let tiles = changed(changes);
-    match Wall::read(&tiles[..usize::from(number(length).min(137))], red == "red") {
+struct Read;
+
+impl Question for Read {
+    fn holds(_alloc: Global, line: &str) -> bool {
+        let length = usize::from(number(field(line, 0)).min(137));
+        is_read(
+            &changed(field(line, 1))[..length],
+            field(line, 2) == "red",
+            field(line, 3),
+        )
+    }
+}
+
+fn is_read(tiles: &[Tile], red: bool, wanted: &str) -> bool {
+    match Wall::read(tiles, red) {
         Ok(_) => wanted == "wall",
         Err(e) => wanted.parse() == Ok(e.place),
     }
@@ -45,26 +55,28 @@ fn is_read(line: &str) -> bool {
 
 #[test]
 fn tiles_that_are_no_wall_show_the_place(rt: HostRuntime) {
-    for line in WALLS.lines() {
-        assert!(rt; is_read(line), "{line}");
-    }
+    ask::<HostRuntime, Read>(&rt, rt.alloc(), WALLS);
 }
 
 /// Whether the tiles of the sorted wall come from their places.
 fn takes(wall: &Wall) -> bool {
-    let dealt = are(&[wall.dealt(1, 0), wall.dealt(3, 12)], "4m 4p");
-    let drawn = are(
-        &[wall.draw(0), wall.draw(69), wall.replacement(3)],
-        "5p N C",
-    );
-    let shown = [wall.indicator(0), wall.indicator(4), wall.under(1)];
-    dealt && drawn && are(&shown, "F N F") && wall.tiles() == &changed("")[..136]
+    let taken = [
+        wall.dealt(1, 0),
+        wall.dealt(3, 12),
+        wall.draw(0),
+        wall.draw(69),
+        wall.replacement(3),
+        wall.indicator(0),
+        wall.indicator(4),
+        wall.under(1),
+    ];
+    are(&taken, "4m 4p 5p N C F N F") && wall.tiles() == &changed("")[..136]
 }
 
 /// Whether a setting has just the wall that it is given.
-fn has_its_wall(alloc: Global, wall: Wall) -> Result<bool, AllocError> {
+fn has_its_wall(walls: Vec<Wall>) -> bool {
     let setting = Setting {
-        walls: Walls::from_vec(vec![in alloc; wall]?),
+        walls: Walls::from_vec(walls),
         rules: Rules {
             limit: 1,
             draws: false,
@@ -72,22 +84,24 @@ fn has_its_wall(alloc: Global, wall: Wall) -> Result<bool, AllocError> {
         },
     };
     match setting.walls.as_slice() {
-        [kept] => Ok(takes(kept)),
-        _ => Ok(false),
+        [kept] => takes(kept),
+        _ => false,
     }
 }
 
-fn are_in_place(alloc: Global) -> Result<bool, AllocError> {
+fn are_in_place(alloc: Global) -> bool {
     match Wall::read(&changed("")[..136], false) {
-        Ok(wall) => has_its_wall(alloc, wall),
-        Err(_) => Ok(false),
+        Ok(wall) => match vec![in alloc; wall] {
+            Ok(walls) => has_its_wall(walls),
+            Err(_) => false,
+        },
+        Err(_) => false,
     }
 }
 
 #[test]
-fn tiles_are_taken_from_their_places(rt: HostRuntime) -> Result<(), AllocError> {
-    assert!(rt; are_in_place(rt.alloc())?);
-    Ok(())
+fn tiles_are_taken_from_their_places(rt: HostRuntime) {
+    assert!(rt; are_in_place(rt.alloc()));
 }
 
 /// A wall of the seed that has 7 in its first byte and then zeros, with red fives or without: its number, and its tiles in
@@ -112,18 +126,30 @@ fn has_tiles(wall: &Wall, text: &str) -> bool {
     words.next().is_none()
 }
 
-/// Whether the wall of a number, alone and among the first of the seed, has the tiles.
-fn is_shuffled(alloc: Global, line: &str) -> bool {
-    let [n, red, wanted, ..] = fields(line);
+struct OfSeed;
+
+impl Question for OfSeed {
+    fn holds(alloc: Global, line: &str) -> bool {
+        let (n, red) = (number(field(line, 0)), field(line, 1) == "red");
+        is_shuffled(n, red, field(line, 2)) && is_among(alloc, n, red, field(line, 2))
+    }
+}
+
+fn seed() -> [u8; 32] {
     let mut seed = [0; 32];
     seed[0] = 7;
-    match Walls::shuffled(alloc, seed, 2, red == "red") {
-        Ok(walls) => {
-            has_tiles(
-                &Wall::shuffled(seed, u64::from(number(n)), red == "red"),
-                wanted,
-            ) && wall_has_tiles(walls.as_slice().get(usize::from(number(n))), wanted)
-        }
+    seed
+}
+
+/// Whether the wall of a number, shuffled alone, has the tiles.
+fn is_shuffled(n: u8, red: bool, wanted: &str) -> bool {
+    has_tiles(&Wall::shuffled(seed(), u64::from(n), red), wanted)
+}
+
+/// Whether that wall among the first of the seed has them.
+fn is_among(alloc: Global, n: u8, red: bool, wanted: &str) -> bool {
+    match Walls::shuffled(alloc, seed(), 2, red) {
+        Ok(walls) => wall_has_tiles(walls.as_slice().get(usize::from(n)), wanted),
         Err(_) => false,
     }
 }
@@ -137,7 +163,5 @@ fn wall_has_tiles(wall: Option<&Wall>, wanted: &str) -> bool {
 
 #[test]
 fn a_seed_gives_its_walls(rt: HostRuntime) {
-    for line in SHUFFLED.lines() {
-        assert!(rt; is_shuffled(rt.alloc(), line), "{line}");
-    }
+    ask::<HostRuntime, OfSeed>(&rt, rt.alloc(), SHUFFLED);
 }

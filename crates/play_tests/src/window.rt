@@ -1,7 +1,7 @@
-use crate::deed_words::{answer, bid, deed};
+use crate::deed_words::{OfDeed, answer, bid, deed, deed_is_as};
 use crate::play::name;
-use crate::words::{fields, number, number_or_none, parted, words};
-use mj_deeds::{Answer, Bid, Four};
+use crate::words::{Question, ask, field, number, number_or_none, parted, word};
+use mj_deeds::{Answer, Deed, Four};
 use mj_window::{Decision, Seats, Window, decide};
 use std::alloc::Global;
 
@@ -43,58 +43,76 @@ fn decision(text: &str) -> Decision {
     match parted(text, ' ') {
         ("call", line) => Decision::Call(bid(line)),
         ("rons", seats) => Decision::Rons(winners(seats)),
-        ("act", line) => Decision::Act(number(words(line)[1]), answer(line)),
+        ("act", line) => Decision::Act(number(word(line, 1)), answer(line)),
         _ => Decision::Pass,
     }
 }
 
 /// The seats that win.
 fn winners(text: &str) -> Seats {
-    let [first, second, third, ..] = words(text);
     Seats {
-        first: number(first),
-        second: number_or_none(second),
-        third: number_or_none(third),
+        first: number(word(text, 0)),
+        second: number_or_none(word(text, 1)),
+        third: number_or_none(word(text, 2)),
     }
 }
 
-fn decides(alloc: Global, line: &str) -> bool {
-    let [last, first, second, third, fourth, told, ..] = fields(line);
-    let answers = Four {
-        first: said(first),
-        second: said(second),
-        third: said(third),
-        fourth: said(fourth),
-    };
-    match deed(alloc, last) {
-        Some(last) => decide(&last, &answers) == decision(told),
-        None => false,
+struct Decided;
+
+impl Question for Decided {
+    fn holds(alloc: Global, line: &str) -> bool {
+        deed_is_as::<Decided>(alloc, deed(alloc, field(line, 0)), line)
     }
+}
+
+impl OfDeed for Decided {
+    fn is_as(_alloc: Global, deed: Option<&Deed>, line: &str) -> bool {
+        match deed {
+            Some(last) => decides(last, line),
+            None => false,
+        }
+    }
+}
+
+fn decides(last: &Deed, line: &str) -> bool {
+    let answers = Four {
+        first: said(field(line, 1)),
+        second: said(field(line, 2)),
+        third: said(field(line, 3)),
+        fourth: said(field(line, 4)),
+    };
+    decide(last, &answers) == decision(field(line, 5))
 }
 
 #[test]
 fn a_pon_or_a_kan_comes_before_a_chi_and_who_drew_acts(rt: HostRuntime) {
-    for line in DECISIONS.lines() {
-        assert!(rt; decides(rt.alloc(), line), "{line}");
+    ask::<HostRuntime, Decided>(&rt, rt.alloc(), DECISIONS);
+}
+
+const BIDS: &str = "\
+chi 1 0 7m 5m 6m
+pon 2 0 7m 7m 7m
+open 3 0 7m 7m 7m 7m
+none";
+
+/// A bid becomes the deed of its word, and none becomes none.
+struct Becomes;
+
+impl Question for Becomes {
+    fn holds(alloc: Global, line: &str) -> bool {
+        deed_is_as::<Becomes>(alloc, bid(line).deed(), line)
     }
 }
 
-/// Whether a bid becomes the deed of this word, and none becomes none.
-fn becomes(bid: Bid, word: &str) -> bool {
-    let deed = bid.deed();
-    name(deed.as_ref()) == word
+impl OfDeed for Becomes {
+    fn is_as(_alloc: Global, deed: Option<&Deed>, line: &str) -> bool {
+        name(deed) == word(line, 0)
+    }
 }
 
 #[test]
 fn a_bid_becomes_its_call(rt: HostRuntime) {
-    for line in [
-        "chi 1 0 7m 5m 6m",
-        "pon 2 0 7m 7m 7m",
-        "open 3 0 7m 7m 7m 7m",
-        "none",
-    ] {
-        assert!(rt; becomes(bid(line), words(line)[0]), "{line}");
-    }
+    ask::<HostRuntime, Becomes>(&rt, rt.alloc(), BIDS);
 }
 
 /// A window that these seats have passed in.
@@ -121,6 +139,14 @@ fn held(window: &Window) -> [bool; 4] {
 fn is_window(answered: [bool; 4], present: [bool; 4], closes: bool) -> bool {
     let window = passed_by(answered);
     held(&window) == answered && window.ready_to_close(present) == closes
+}
+
+fn are_windows(rows: &[([bool; 4], [bool; 4], bool)]) -> bool {
+    let mut all = true;
+    for (answered, present, closes) in rows {
+        all = all && is_window(*answered, *present, *closes);
+    }
+    all
 }
 
 const NOBODY: [bool; 4] = [false; 4];
@@ -150,7 +176,5 @@ const WINDOWS: [([bool; 4], [bool; 4], bool); 11] = [
 
 #[test]
 fn a_window_closes_once_each_present_seat_has_answered(rt: HostRuntime) {
-    for (answered, present, closes) in WINDOWS {
-        assert!(rt; is_window(answered, present, closes));
-    }
+    assert!(rt; are_windows(&WINDOWS));
 }

@@ -4,28 +4,41 @@ ghost use Rattle.std.specs.Prelude.{◌≤◌};
 
 use mj_deeds::Tiles;
 use mj_tiles::{Counts, Kind, Kinds, Tile};
-use std::alloc::Global;
+use std::alloc::{AllocError, Global};
+use std::process::Abort;
 
-/// The fields of a line, at most eight, with empty ones after them. Bars part them.
-pub(crate) fn fields(line: &str) -> [&str; 8] {
-    let mut fields = [""; 8];
-    for (place, field) in line.split('|').enumerate() {
-        if place < 8 {
-            fields[place] = field.trim();
-        }
-    }
-    fields
+/// What a test asks of each line of a table.
+pub(crate) trait Question {
+    /// Whether a line is as it says.
+    fn holds(alloc: Global, line: &str) -> bool;
 }
 
-/// The words of a line, at most eight, with empty ones after them.
-pub(crate) fn words(line: &str) -> [&str; 8] {
-    let mut words = [""; 8];
-    for (place, word) in line.split_whitespace().enumerate() {
-        if place < 8 {
-            words[place] = word;
-        }
+/// Asserts that each line of a table is as it says.
+pub(crate) fn ask<R: Abort, Q: Question>(rt: &R, alloc: Global, lines: &str) {
+    for line in lines.lines() {
+        assert!(rt; Q::holds(alloc, line), "{line}");
     }
-    words
+}
+
+/// Asserts that no line of a game is wrong.
+pub(crate) fn none_is_wrong(rt: &impl Abort, wrong: &str) {
+    assert!(rt; wrong.is_empty(), "{wrong}");
+}
+
+/// The field of a line at a place, the first one at 0; empty where there is none. Bars part fields.
+pub(crate) fn field(line: &str, place: usize) -> &str {
+    match line.split('|').nth(place) {
+        Some(field) => field.trim(),
+        None => "",
+    }
+}
+
+/// The word of a line at a place, the first one at 0; empty where there is none.
+pub(crate) fn word(line: &str, place: usize) -> &str {
+    match line.split_whitespace().nth(place) {
+        Some(word) => word,
+        None => "",
+    }
 }
 
 /// What stands before the first mark of a line and behind it.
@@ -63,13 +76,12 @@ pub(crate) fn seat(text: &str) -> u8
 
 /// Four numbers, below zero with `-`.
 pub(crate) fn points(text: &str) -> [i32; 4] {
-    let mut points = [i32::MIN; 4];
-    for (place, word) in text.split_whitespace().enumerate() {
-        if place < 4 {
-            points[place] = signed(word);
-        }
-    }
-    points
+    [
+        signed(word(text, 0)),
+        signed(word(text, 1)),
+        signed(word(text, 2)),
+        signed(word(text, 3)),
+    ]
 }
 
 /// A number that may be below zero; the least one where there is none.
@@ -82,8 +94,12 @@ fn signed(text: &str) -> i32 {
 
 /// Whether each of the first four words is `yes`.
 pub(crate) fn truths(text: &str) -> [bool; 4] {
-    let [a, b, c, d, ..] = words(text);
-    [yes(a), yes(b), yes(c), yes(d)]
+    [
+        yes(word(text, 0)),
+        yes(word(text, 1)),
+        yes(word(text, 2)),
+        yes(word(text, 3)),
+    ]
 }
 
 /// The tile of a text, as `1m`, `5mr` or `E`; 5sr where there is none.
@@ -113,14 +129,21 @@ pub(crate) fn yes(text: &str) -> bool {
 /// in tile order.
 pub(crate) fn tiles(alloc: Global, text: &str) -> Option<Tiles> {
     let mut items = Vec::new(alloc);
+    match push_tiles(&mut items, text) {
+        Ok(()) => Tiles::sorted(alloc, items.as_slice()).ok(),
+        Err(_) => None,
+    }
+}
+
+fn push_tiles(items: &mut Vec<Tile>, text: &str) -> Result<(), AllocError> {
     let mut suit = 0;
     for byte in text.as_bytes().iter().rev() {
         suit = suit_after(*byte, suit);
         if let Some(tile) = tile_in(*byte, suit) {
-            items.push(tile).ok()?;
+            items.push(tile)?;
         }
     }
-    Tiles::sorted(alloc, items.as_slice()).ok()
+    Ok(())
 }
 
 /// How often each kind stands among such tiles; none does where one stands more than four times.
