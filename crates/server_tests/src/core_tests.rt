@@ -47,9 +47,9 @@ enum Step {
 pub(crate) fn before_all(alloc: Global) -> Option<Core>
     ensures { IfSome result (λ core. core.entries ≡ []) }
 {
-    let mut tiles = [Tile::of(0)?; 136];
+    let mut tiles = [Tile::at(0); 136];
     for place in 0..136u8 {
-        tiles[usize::from(place)] = Tile::of(place / 4)?;
+        tiles[usize::from(place)] = Tile::at(place / 4);
     }
     let Ok(wall) = Wall::read(&tiles, false) else {
         return None;

@@ -53,53 +53,76 @@ fn is_joined(bytes: &[u8]) -> bool {
         && bytes.get(43) == Some(&0)
 }
 
-// Whether a new disk has the bytes of the tag, and then of the tag and the join.
-fn has_these_bytes(alloc: Global, mut disk: MemDisk) -> bool {
-    match opened(alloc, &mut disk) {
-        Ok(mut kept) => {
-            let is_tagged = disk.bytes() == b"\x01\0\0\0\x01t\0".as_slice();
-            is_tagged && sits(&mut kept, &mut disk) && is_joined(disk.bytes())
-        }
+// What is asked of a game that was opened from a new disk.
+#[derive(Clone, Copy)]
+enum Asked {
+    // Whether the disk has the bytes of the tag, and then of the tag and the join.
+    Joins,
+    // Whether a refused join writes nothing.
+    Refuses,
+    // Whether the game is stopped by a fault of the tenth call of the disk, and then doesn't call it.
+    Stops,
+}
+
+// Whether that is so where the disk's call of a number fails, or none for 0.
+fn is_so(alloc: Global, fails: u64, asked: Asked) -> bool {
+    match disk_of(alloc, b"", fails) {
+        Ok(mut disk) => is_so_on(alloc, &mut disk, asked),
         Err(_) => false,
     }
 }
 
-// Whether a refused join writes nothing.
-fn refuses(alloc: Global, mut disk: MemDisk) -> bool {
-    match opened(alloc, &mut disk) {
-        Ok(mut kept) => {
-            let calls = disk.calls().len();
-            let answered = kept.sit(&mut disk, 1, b"{}");
-            matches!(answered, Answered::Done(SitAnswer::Refused(_)))
-                && disk.calls().len() == calls
-                && entries(&kept) == Some(0)
-        }
+fn is_so_on(alloc: Global, disk: &mut MemDisk, asked: Asked) -> bool {
+    match opened(alloc, disk) {
+        Ok(mut kept) => comes_so(&mut kept, disk, asked),
         Err(_) => false,
     }
 }
 
-// Whether a game is stopped by a fault of the tenth call of the disk, and then doesn't call it.
-fn stops(alloc: Global, mut disk: MemDisk) -> bool {
-    match opened(alloc, &mut disk) {
-        Ok(mut kept) => {
-            matches!(kept.sit(&mut disk, 1, JOIN), Answered::DiskFault)
-                && kept.game().is_none()
-                && matches!(kept.expire(&mut disk, 0, 0, 5, 9), Answered::Stopped)
-                && disk.calls().len() == 10
-        }
-        Err(_) => false,
+fn comes_so(kept: &mut Kept<Core>, disk: &mut MemDisk, asked: Asked) -> bool
+    requires { IfKept (game_of kept.old) (λ g. IsAtRest (⟦<MemDisk as Disk>⟧.told disk.old)
+        (⟦<MemDisk as Disk>⟧.may_leave disk.old) (end_of kept.old)) }
+{
+    match asked {
+        Asked::Joins => has_these_bytes(kept, disk),
+        Asked::Refuses => refuses(kept, disk),
+        Asked::Stops => stops(kept, disk),
     }
+}
+
+fn has_these_bytes(kept: &mut Kept<Core>, disk: &mut MemDisk) -> bool
+    requires { IfKept (game_of kept.old) (λ g. IsAtRest (⟦<MemDisk as Disk>⟧.told disk.old)
+        (⟦<MemDisk as Disk>⟧.may_leave disk.old) (end_of kept.old)) }
+{
+    disk.bytes() == b"\x01\0\0\0\x01t\0".as_slice() && sits(kept, disk) && is_joined(disk.bytes())
+}
+
+fn refuses(kept: &mut Kept<Core>, disk: &mut MemDisk) -> bool
+    requires { IfKept (game_of kept.old) (λ g. IsAtRest (⟦<MemDisk as Disk>⟧.told disk.old)
+        (⟦<MemDisk as Disk>⟧.may_leave disk.old) (end_of kept.old)) }
+{
+    let calls = disk.calls().len();
+    let answered = kept.sit(disk, 1, b"{}");
+    matches!(answered, Answered::Done(SitAnswer::Refused(_)))
+        && disk.calls().len() == calls
+        && entries(kept) == Some(0)
+}
+
+fn stops(kept: &mut Kept<Core>, disk: &mut MemDisk) -> bool
+    requires { IfKept (game_of kept.old) (λ g. IsAtRest (⟦<MemDisk as Disk>⟧.told disk.old)
+        (⟦<MemDisk as Disk>⟧.may_leave disk.old) (end_of kept.old)) }
+{
+    matches!(kept.sit(disk, 1, JOIN), Answered::DiskFault)
+        && kept.game().is_none()
+        && matches!(kept.expire(disk, 0, 0, 5, 9), Answered::Stopped)
+        && disk.calls().len() == 10
 }
 
 #[test]
-fn an_entry_is_written_before_its_answer_and_a_stopped_game_writes_none(
-    rt: HostRuntime,
-) -> Result<(), Fail> {
-    let alloc = rt.alloc();
-    assert!(rt; has_these_bytes(alloc, disk_of(alloc, b"", 0)?));
-    assert!(rt; refuses(alloc, disk_of(alloc, b"", 0)?));
-    assert!(rt; stops(alloc, disk_of(alloc, b"", 10)?));
-    Ok(())
+fn an_entry_is_written_before_its_answer_and_a_stopped_game_writes_none(rt: HostRuntime) {
+    assert!(rt; is_so(rt.alloc(), 0, Asked::Joins));
+    assert!(rt; is_so(rt.alloc(), 0, Asked::Refuses));
+    assert!(rt; is_so(rt.alloc(), 10, Asked::Stops));
 }
 
 // The bytes of a journal, and why it isn't opened.
@@ -126,16 +149,24 @@ const JOURNALS: [(&[u8], Option<NotOpened>); 10] = [
     ),
 ];
 
-fn is_refused(alloc: Global, mut disk: MemDisk, cause: &Option<NotOpened>) -> bool {
-    opened(alloc, &mut disk).err() == *cause
+fn is_refused(alloc: Global, bytes: &[u8], cause: &Option<NotOpened>) -> bool {
+    match disk_of(alloc, bytes, 0) {
+        Ok(mut disk) => opened(alloc, &mut disk).err() == *cause,
+        Err(_) => false,
+    }
+}
+
+fn are_refused(alloc: Global) -> bool {
+    let mut all = true;
+    for (bytes, cause) in &JOURNALS {
+        all = all && is_refused(alloc, bytes, cause);
+    }
+    all
 }
 
 #[test]
-fn bad_journals_are_refused(rt: HostRuntime) -> Result<(), Fail> {
-    for (bytes, cause) in &JOURNALS {
-        assert!(rt; is_refused(rt.alloc(), disk_of(rt.alloc(), bytes, 0)?, cause));
-    }
-    Ok(())
+fn bad_journals_are_refused(rt: HostRuntime) {
+    assert!(rt; are_refused(rt.alloc()));
 }
 
 // Whether the first seat leaves, where it is present.
@@ -151,30 +182,31 @@ fn leaves<D: Disk>(kept: &mut Kept<Core>, disk: &mut D) -> bool
     }
 }
 
-// Whether the first seat is given in the game of a disk.
-fn is_entered<D: Disk>(alloc: Global, disk: &mut D) -> bool {
+// Whether the first seat is given in the game of a disk, or, again, the game has one entry, and one more once that seat has
+// left.
+fn is_kept_on<D: Disk>(alloc: Global, disk: &mut D, again: bool) -> bool {
     match opened(alloc, disk) {
-        Ok(mut kept) => sits(&mut kept, disk),
+        Ok(mut kept) => goes_on(&mut kept, disk, again),
         Err(_) => false,
     }
 }
 
-// Whether the game of a disk has one entry, and one more once its first seat has left.
-fn goes_on<D: Disk>(alloc: Global, disk: &mut D) -> bool {
-    match opened(alloc, disk) {
-        Ok(mut kept) => {
-            entries(&kept) == Some(1) && leaves(&mut kept, disk) && entries(&kept) == Some(2)
-        }
-        Err(_) => false,
+fn goes_on<D: Disk>(kept: &mut Kept<Core>, disk: &mut D, again: bool) -> bool
+    requires { IfKept (game_of kept.old) (λ g.
+        IsAtRest (D.told disk.old) (D.may_leave disk.old) (end_of kept.old)) }
+{
+    if !again {
+        return sits(kept, disk);
     }
+    entries(kept) == Some(1) && leaves(kept, disk) && entries(kept) == Some(2)
 }
 
 #[test]
 fn a_journal_stands_in_a_file(rt: HostRuntime) -> Result<(), Fail> {
     let _ = fs::remove_file(&rt, "riichi.journal");
-    assert!(rt; is_entered(rt.alloc(), &mut FileDisk::new(&rt)));
+    assert!(rt; is_kept_on(rt.alloc(), &mut FileDisk::new(&rt), false));
     assert!(rt; fs::read(&rt, "riichi.journal")?.len() == BYTES_OF_JOIN);
-    assert!(rt; goes_on(rt.alloc(), &mut FileDisk::new(&rt)));
+    assert!(rt; is_kept_on(rt.alloc(), &mut FileDisk::new(&rt), true));
     fs::remove_file(&rt, "riichi.journal")?;
     Ok(())
 }

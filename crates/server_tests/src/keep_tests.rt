@@ -1,8 +1,8 @@
+use crate::front_tests::words_of;
 use mj_front::{Status, is_for_waiting, run_alone};
 use mj_journal::{CallMade, DiskCall, MemDisk};
 use mj_links::{MemSink, MemSource};
 use std::alloc::{AllocError, Global};
-use std::test::Fail;
 
 pub(crate) const GAME: &[u8] = b"game limit=1000 draws=0 red=0\n";
 
@@ -48,13 +48,6 @@ pub(crate) struct Ran {
     pub(crate) bytes: Vec<u8>,
 }
 
-fn words_of(alloc: Global, name: &str) -> Result<Vec<String>, AllocError> {
-    let mut words = Vec::new(alloc);
-    words.push(String::from_str(alloc, name)?)?;
-    words.push(String::from_str(alloc, "0")?)?;
-    Ok(words)
-}
-
 fn source_of(alloc: Global, input: &[&[u8]]) -> Result<MemSource, AllocError> {
     let mut bytes = Vec::new(alloc);
     for part in input {
@@ -63,9 +56,9 @@ fn source_of(alloc: Global, input: &[&[u8]]) -> Result<MemSource, AllocError> {
     Ok(MemSource::new(bytes, Vec::new(alloc)))
 }
 
-/// Runs a command of seat 0 on an input of these parts.
-pub(crate) fn told_by(alloc: Global, name: &str, input: &[&[u8]], disk: &mut MemDisk) -> Ran {
-    match run_of(alloc, name, input, disk) {
+/// Runs the command of a line on an input of these parts.
+pub(crate) fn told_by(alloc: Global, line: &str, input: &[&[u8]], disk: &mut MemDisk) -> Ran {
+    match run_of(alloc, line, input, disk) {
         Ok(ran) => ran,
         Err(_) => Ran {
             status: Status::NoMemory,
@@ -76,11 +69,11 @@ pub(crate) fn told_by(alloc: Global, name: &str, input: &[&[u8]], disk: &mut Mem
 
 fn run_of(
     alloc: Global,
-    name: &str,
+    line: &str,
     input: &[&[u8]],
     disk: &mut MemDisk,
 ) -> Result<Ran, AllocError> {
-    let words = words_of(alloc, name)?;
+    let words = words_of(alloc, line)?;
     let source = source_of(alloc, input)?;
     run_on(alloc, words.as_slice(), source, disk)
 }
@@ -103,7 +96,7 @@ fn run_on(
 
 // How such a run ends that keeps a game.
 fn keeps(alloc: Global, input: &[&[u8]], disk: &mut MemDisk) -> Status {
-    told_by(alloc, "keep", input, disk).status
+    told_by(alloc, "keep 0", input, disk).status
 }
 
 /// A disk on which these bytes stand.
@@ -171,13 +164,16 @@ fn is_run_so(
     status: Status,
     alike: &[&[u8]],
 ) -> bool {
-    let kept = told_by(alloc, "keep", input, disk);
-    let told = told_by(alloc, "referee", alike, disk);
+    let kept = told_by(alloc, "keep 0", input, disk);
+    let told = told_by(alloc, "referee 0", alike, disk);
     kept.status == status && kept.bytes.as_slice() == told.bytes.as_slice()
 }
 
 // Whether runs over one journal end and tell so, and leave so many records.
-fn goes_on(alloc: Global, mut disk: MemDisk) -> bool {
+fn goes_on(alloc: Global, disk: Result<MemDisk, AllocError>) -> bool {
+    let Ok(mut disk) = disk else {
+        return false;
+    };
     let mut right = true;
     for (input, status, alike) in OVER_ONE_JOURNAL {
         right = right && is_run_so(alloc, &mut disk, input, status, alike);
@@ -193,9 +189,21 @@ const UNTOUCHED: [(&[&[u8]], Status); 4] = [
     (&[WALL, JOINS], Status::BadArrival(1)),
 ];
 
-fn is_untouched(alloc: Global, mut disk: MemDisk, input: &[&[u8]], status: Status) -> bool {
-    let end = told_by(alloc, "keep", input, &mut disk);
+fn is_untouched(alloc: Global, disk: &mut MemDisk, input: &[&[u8]], status: Status) -> bool {
+    let end = told_by(alloc, "keep 0", input, disk);
     end.status == status && end.bytes.is_empty() && disk.calls().is_empty()
+}
+
+fn are_untouched(alloc: Global) -> bool {
+    let mut all = true;
+    for (input, status) in &UNTOUCHED {
+        all = all
+            && match disk_of(alloc, b"\x01") {
+                Ok(mut disk) => is_untouched(alloc, &mut disk, input, *status),
+                Err(_) => false,
+            };
+    }
+    all
 }
 
 // What stands on a disk and what is read, how the run ends, whether it writes something, and how many entries the disk then
@@ -219,29 +227,34 @@ const SPOILT: [(&[u8], &[&[u8]], Status, bool, Option<usize>); 2] = [
 
 fn ends_so(
     alloc: Global,
-    mut disk: MemDisk,
+    disk: &mut MemDisk,
     input: &[&[u8]],
     status: Status,
     tells: bool,
     entries: Option<usize>,
 ) -> bool {
-    let end = told_by(alloc, "keep", input, &mut disk);
+    let end = told_by(alloc, "keep 0", input, disk);
     end.status == status
         && end.bytes.is_empty() != tells
         && entries_of(alloc, disk.bytes()) == entries
 }
 
+fn all_end_so(alloc: Global) -> bool {
+    let mut all = true;
+    for (image, input, status, tells, entries) in &SPOILT {
+        all = all
+            && match disk_of(alloc, image) {
+                Ok(mut disk) => ends_so(alloc, &mut disk, input, *status, *tells, *entries),
+                Err(_) => false,
+            };
+    }
+    all
+}
+
 #[test]
-fn a_kept_game_goes_on_where_its_journal_ends(rt: HostRuntime) -> Result<(), Fail> {
-    let alloc = rt.alloc();
-    assert!(rt; goes_on(alloc, disk_of(alloc, NOTHING)?));
-    for (input, status) in UNTOUCHED {
-        assert!(rt; is_untouched(alloc, disk_of(alloc, b"\x01")?, input, status));
-    }
-    for (image, input, status, tells, entries) in SPOILT {
-        assert!(rt; ends_so(alloc, disk_of(alloc, image)?, input, status, tells, entries));
-    }
-    Ok(())
+fn a_kept_game_goes_on_where_its_journal_ends(rt: HostRuntime) {
+    assert!(rt; goes_on(rt.alloc(), disk_of(rt.alloc(), NOTHING)));
+    assert!(rt; are_untouched(rt.alloc()) && all_end_so(rt.alloc()));
 }
 
 // What a crash in a write leaves: of the piece as many bytes as these, from its front or from its end, and junk for the
@@ -459,7 +472,7 @@ fn fault_loses_nothing(
     number: usize,
     arrivals: &[u8],
 ) -> bool {
-    let end = told_by(alloc, "keep", &[GAME, WALL, arrivals], disk);
+    let end = told_by(alloc, "keep 0", &[GAME, WALL, arrivals], disk);
     let course = Course {
         start,
         had,
@@ -481,28 +494,34 @@ fn left_by(alloc: Global, start: &[u8], arrivals: &[u8]) -> Result<MemDisk, Allo
     Ok(disk)
 }
 
-#[test]
-fn a_stop_or_a_fault_at_each_call_of_two_runs_loses_nothing(rt: HostRuntime) -> Result<(), Fail> {
-    let alloc = rt.alloc();
-    // Beside those of its entries the first run writes the first gate and the tag.
-    assert!(rt;
-        loses_none(
-            alloc,
-            NOTHING,
-            &mut disk_of(alloc, NOTHING)?,
-            0,
-            4,
-            11,
-            JOINS
-        )
-    );
-    let first = left_by(alloc, NOTHING, JOINS)?;
-    let start = first.bytes();
-    assert!(rt; loses_none(alloc, start, &mut disk_of(alloc, start)?, 4, 4, 8, PASSES));
-    Ok(())
+// Whether a run on a disk with these bytes makes four entries more by so many writes, and so loses none.
+fn loses_none_of(alloc: Global, start: &[u8], had: usize, written: usize, arrivals: &[u8]) -> bool {
+    match disk_of(alloc, start) {
+        Ok(mut disk) => loses_none(alloc, start, &mut disk, had, 4, written, arrivals),
+        Err(_) => false,
+    }
 }
 
-fn has_records(alloc: Global, mut disk: MemDisk) -> bool {
+// Whether a run on what a first one left loses none.
+fn second_loses_none(alloc: Global, first: Result<MemDisk, AllocError>) -> bool {
+    match first {
+        Ok(first) => loses_none_of(alloc, first.bytes(), 4, 8, PASSES),
+        Err(_) => false,
+    }
+}
+
+#[test]
+fn a_stop_or_a_fault_at_each_call_of_two_runs_loses_nothing(rt: HostRuntime) {
+    let alloc = rt.alloc();
+    // Beside those of its entries the first run writes the first gate and the tag.
+    assert!(rt; loses_none_of(alloc, NOTHING, 0, 11, JOINS));
+    assert!(rt; second_loses_none(alloc, left_by(alloc, NOTHING, JOINS)));
+}
+
+fn has_records(alloc: Global, disk: Result<MemDisk, AllocError>) -> bool {
+    let Ok(mut disk) = disk else {
+        return false;
+    };
     keeps(alloc, &[GAME, WALL, FOUR_JOINS, EACH_ARRIVAL], &mut disk) == Status::Done
         && disk.bytes().ends_with(RECORDS)
         && disk.bytes().starts_with(TAG)
@@ -510,7 +529,6 @@ fn has_records(alloc: Global, mut disk: MemDisk) -> bool {
 }
 
 #[test]
-fn each_entry_is_a_record_of_these_bytes(rt: HostRuntime) -> Result<(), Fail> {
-    assert!(rt; has_records(rt.alloc(), disk_of(rt.alloc(), NOTHING)?));
-    Ok(())
+fn each_entry_is_a_record_of_these_bytes(rt: HostRuntime) {
+    assert!(rt; has_records(rt.alloc(), disk_of(rt.alloc(), NOTHING)));
 }

@@ -4,7 +4,6 @@ use mj_links::{
     WriterSink, read_all, write_all,
 };
 use std::alloc::{AllocError, Global};
-use std::test::Fail;
 
 const LINE: &[u8] = b"gone 2\n";
 
@@ -57,20 +56,34 @@ const BY_BYTES: [(u64, u64, ReadAll, &[u8]); 3] = [
     (0, 3, ReadAll::TooLong, b"> gone"),
 ];
 
-fn reads_slowly(alloc: Global, source: MemSource, limit: u64, end: ReadAll, text: &[u8]) -> bool {
-    reads(alloc, &mut SlowSource(source), limit, end, text)
+fn is_read(alloc: Global, row: &(u64, u64, ReadAll, &[u8])) -> bool {
+    match line(alloc, row.0) {
+        Ok(mut source) => reads(alloc, &mut source, row.1, row.2, row.3),
+        Err(_) => false,
+    }
+}
+
+fn is_read_slowly(alloc: Global, row: &(u64, u64, ReadAll, &[u8])) -> bool {
+    match line(alloc, row.0) {
+        Ok(source) => reads(alloc, &mut SlowSource(source), row.1, row.2, row.3),
+        Err(_) => false,
+    }
+}
+
+fn are_read(alloc: Global) -> bool {
+    let mut all = true;
+    for row in &WHOLE {
+        all = all && is_read(alloc, row);
+    }
+    for row in &BY_BYTES {
+        all = all && is_read_slowly(alloc, row);
+    }
+    all
 }
 
 #[test]
-fn a_source_is_read_to_its_end_or_a_fault_or_past_the_limit(rt: HostRuntime) -> Result<(), Fail> {
-    let alloc = rt.alloc();
-    for (fails, limit, end, text) in WHOLE {
-        assert!(rt; reads(alloc, &mut line(alloc, fails)?, limit, end, text));
-    }
-    for (fails, limit, end, text) in BY_BYTES {
-        assert!(rt; reads_slowly(alloc, line(alloc, fails)?, limit, end, text));
-    }
-    Ok(())
+fn a_source_is_read_to_its_end_or_a_fault_or_past_the_limit(rt: HostRuntime) {
+    assert!(rt; are_read(rt.alloc()));
 }
 
 // The number of the write that fails, how a piece is written byte by byte, and what then is.
@@ -88,6 +101,18 @@ fn sink(alloc: Global, fails: u64) -> Result<MemSink, AllocError> {
 fn is_written(sink: MemSink, end: WriteAll, text: &[u8]) -> bool {
     let mut slow = SlowSink(sink);
     write_all(&mut slow, b"riichi") == end && slow.0.written() == text
+}
+
+fn are_written(alloc: Global) -> bool {
+    let mut all = true;
+    for (fails, end, text) in &WRITTEN {
+        all = all
+            && match sink(alloc, *fails) {
+                Ok(sink) => is_written(sink, *end, text),
+                Err(_) => false,
+            };
+    }
+    all
 }
 
 const READS: [(Got, [u8; 2]); 5] = [
@@ -110,17 +135,17 @@ fn word(alloc: Global) -> Result<MemSource, AllocError> {
     Ok(MemSource::new(b"pon".to_vec(alloc)?, reads))
 }
 
-#[test]
-fn a_piece_is_written_whole_or_up_to_a_fault_and_planned_calls_fail(
-    rt: HostRuntime,
-) -> Result<(), Fail> {
-    let alloc = rt.alloc();
-    for (fails, end, text) in WRITTEN {
-        assert!(rt; is_written(sink(alloc, fails)?, end, text));
+// Whether the reads of a word and the writes on a sink come as they are planned.
+fn come_as_planned(alloc: Global) -> bool {
+    match (word(alloc), sink(alloc, 2)) {
+        (Ok(mut source), Ok(mut sink)) => come_so(&mut source, &READS) && go_so(&mut sink, &WRITES),
+        _ => false,
     }
-    assert!(rt; come_so(&mut word(alloc)?, &READS));
-    assert!(rt; go_so(&mut sink(alloc, 2)?, &WRITES));
-    Ok(())
+}
+
+#[test]
+fn a_piece_is_written_whole_or_up_to_a_fault_and_planned_calls_fail(rt: HostRuntime) {
+    assert!(rt; are_written(rt.alloc()) && come_as_planned(rt.alloc()));
 }
 
 fn adapters_carry(alloc: Global) -> bool {

@@ -65,12 +65,11 @@ fn pieces<'a>(
     }
 }
 
-fn joined(alloc: Global, pieces: FourPieces<'_>) -> Result<Vec<u8>, AllocError> {
-    let mut text = Vec::from_slice(alloc, pieces.first)?;
+fn push_pieces(text: &mut Vec<u8>, pieces: FourPieces<'_>) -> Result<(), AllocError> {
+    text.extend_from_slice(pieces.first)?;
     text.extend_from_slice(pieces.second)?;
     text.extend_from_slice(pieces.third)?;
-    text.extend_from_slice(pieces.last)?;
-    Ok(text)
+    text.extend_from_slice(pieces.last)
 }
 
 // The first line, counted from 1, that breaks the form of a record of so many lines once the one at a place, counted from
@@ -98,10 +97,8 @@ fn is_checked(alloc: Global, text: &[u8], broken: Option<(u32, Cause)>) -> bool 
 }
 
 fn is_spoilt_so(alloc: Global, pieces: FourPieces<'_>, broken: Option<(u32, Cause)>) -> bool {
-    match joined(alloc, pieces) {
-        Ok(text) => is_checked(alloc, text.as_slice(), broken),
-        Err(_) => false,
-    }
+    let mut text = Vec::new(alloc);
+    push_pieces(&mut text, pieces).is_ok() && is_checked(alloc, text.as_slice(), broken)
 }
 
 // Whether a record of so many lines is refused where the line at a place is spoilt in each way.

@@ -4,25 +4,41 @@ use mj_deeds::{Answers, Deed, Four, SeatList, Tiles, YakuList};
 use mj_streams::Streams;
 use mj_tiles::Tile;
 use std::alloc::{AllocError, Global};
-use std::test::Fail;
 
-fn draw(tile: Tile) -> Deed {
-    Deed::Draw {
-        seat: 2,
-        tile,
-        replacement: false,
-    }
+// The tile 5p.
+fn five() -> Tile {
+    Tile::at(13)
+}
+
+// Whether a draw of seat 2 is added.
+fn push_draw(alloc: Global, streams: &mut Streams) -> bool {
+    push(
+        alloc,
+        streams,
+        Deed::Draw {
+            seat: 2,
+            tile: five(),
+            replacement: false,
+        },
+    )
+}
+
+fn push_reach(alloc: Global, streams: &mut Streams, seat: u8) -> bool {
+    push(alloc, streams, Deed::Reach { seat })
 }
 
 // Whether a deed is added to which each seat may only pass.
 fn push(alloc: Global, streams: &mut Streams, deed: Deed) -> bool {
-    let passes = Four {
+    streams.push_alone(alloc, &deed, &passes()).is_ok()
+}
+
+fn passes() -> Four<Answers> {
+    Four {
         first: Answers::pass_alone(),
         second: Answers::pass_alone(),
         third: Answers::pass_alone(),
         fourth: Answers::pass_alone(),
-    };
-    streams.push_alone(alloc, &deed, &passes).is_ok()
+    }
 }
 
 // Whether a reach of each seat in turn is added so many times.
@@ -30,7 +46,7 @@ fn push_reaches(alloc: Global, streams: &mut Streams, rounds: u16) -> bool {
     let mut added = true;
     for _ in 0..rounds {
         for seat in 0..4u8 {
-            added = push(alloc, streams, Deed::Reach { seat }) && added;
+            added = push_reach(alloc, streams, seat) && added;
         }
     }
     added
@@ -69,31 +85,39 @@ const FEW: [Line; 8] = [
 ];
 
 // Whether a draw and a reach of seat 2 are kept so.
-fn few_are_kept(alloc: Global, mut streams: Streams, tile: Tile) -> bool {
-    push(alloc, &mut streams, draw(tile))
-        && push(alloc, &mut streams, Deed::Reach { seat: 2 })
-        && have(&streams, &FEW)
+fn few_are_kept(alloc: Global, streams: &mut Streams) -> bool {
+    push_draw(alloc, streams) && push_reach(alloc, streams, 2) && have(streams, &FEW)
+}
+
+fn keep_few(alloc: Global, streams: Result<Streams, AllocError>) -> bool {
+    match streams {
+        Ok(mut streams) => few_are_kept(alloc, &mut streams),
+        Err(_) => false,
+    }
 }
 
 #[test]
-fn each_seat_has_its_line_of_each_deed_and_none_behind_the_last(
-    rt: HostRuntime,
-) -> Result<(), Fail> {
-    let tile = Tile::read(b"5p").ok_or("no tile")?;
-    assert!(rt; few_are_kept(rt.alloc(), Streams::new(rt.alloc())?, tile));
-    Ok(())
+fn each_seat_has_its_line_of_each_deed_and_none_behind_the_last(rt: HostRuntime) {
+    assert!(rt; keep_few(rt.alloc(), Streams::new(rt.alloc())));
 }
 
-// A win that shows so many tiles.
-fn win(alloc: Global, tile: Tile, shown: usize) -> Result<Deed, AllocError> {
-    let mut hand = Vec::new(alloc);
-    hand.resize(shown, tile)?;
+// Whether a win is added that shows so many tiles.
+fn push_win(alloc: Global, streams: &mut Streams, shown: usize) -> bool {
+    match win(alloc, shown) {
+        Ok(win) => push(alloc, streams, win),
+        Err(_) => false,
+    }
+}
+
+fn win(alloc: Global, shown: usize) -> Result<Deed, AllocError> {
+    let mut hand = Tiles::new(alloc);
+    hand.put_copies(five(), shown)?;
     Ok(Deed::Win {
         seat: 0,
         target: 0,
-        tile,
+        tile: five(),
         unders: Tiles::new(alloc),
-        hand: Tiles::of(alloc, hand.as_slice())?,
+        hand,
         yaku: YakuList::new(alloc),
         fu: 30,
         han: 1,
@@ -130,24 +154,26 @@ fn is_win(line: &[u8]) -> bool {
 }
 
 // Whether 2,800 reaches of the seats in turn, a win that shows 20,000 tiles, and a reach of seat 3 are kept so.
-fn many_are_kept(alloc: Global, mut streams: Streams, win: Deed) -> bool {
-    push_reaches(alloc, &mut streams, 700)
-        && push(alloc, &mut streams, win)
-        && push(alloc, &mut streams, Deed::Reach { seat: 3 })
-        && have(&streams, &LONG)
+fn many_are_kept(alloc: Global, streams: &mut Streams) -> bool {
+    push_reaches(alloc, streams, 700)
+        && push_win(alloc, streams, 20_000)
+        && push_reach(alloc, streams, 3)
+        && have(streams, &LONG)
         && match streams.line(1, 2800) {
             Some(line) => is_win(line),
             None => false,
         }
 }
 
+fn keep_many(alloc: Global, streams: Result<Streams, AllocError>) -> bool {
+    match streams {
+        Ok(mut streams) => many_are_kept(alloc, &mut streams),
+        Err(_) => false,
+    }
+}
+
 // A page has 65,536 bytes, so it takes 1,024 lines of a reach, and the win has a page of its own.
 #[test]
-fn lines_stay_as_they_are_at_the_end_of_a_page_and_beside_one_longer_than_a_page(
-    rt: HostRuntime,
-) -> Result<(), Fail> {
-    let tile = Tile::read(b"5p").ok_or("no tile")?;
-    let win = win(rt.alloc(), tile, 20_000)?;
-    assert!(rt; many_are_kept(rt.alloc(), Streams::new(rt.alloc())?, win));
-    Ok(())
+fn lines_stay_as_they_are_at_the_end_of_a_page_and_beside_one_longer_than_a_page(rt: HostRuntime) {
+    assert!(rt; keep_many(rt.alloc(), Streams::new(rt.alloc())));
 }
