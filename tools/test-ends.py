@@ -66,7 +66,7 @@ class Player:
         self.link.close()
 
     def draws(self, line: Line) -> bool:
-        return line["type"] == "tsumo" and line["actor"] == self.seat
+        return bool(line["type"] == "tsumo" and line["actor"] == self.seat)
 
     def answer(self, line: Line) -> None:
         if self.draws(line):
