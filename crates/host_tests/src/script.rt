@@ -86,9 +86,13 @@ const ROWS: [(u32, u32, &str, &str); 63] = [
 
 /// What is answered to a deed, if not the default answers.
 pub fn row_at(deed: u32) -> Option<Row> {
-    for (at, seat, word, tile) in ROWS {
-        if at == deed {
-            return Some(Row { seat, word, tile });
+    for (at, seat, word, tile) in &ROWS {
+        if *at == deed {
+            return Some(Row {
+                seat: *seat,
+                word,
+                tile,
+            });
         }
     }
     None
