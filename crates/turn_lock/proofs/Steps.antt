@@ -300,8 +300,10 @@ module _ {T S N : Type 0} (setting : T → S) (notes : T → List N) (author : N
         home = λ free. (x, refl, refl, refl);
       }
 
-  pub opens_at : (x' x : T) (xs : List (Option T)) (count : ℕ) → x' ≡ x → xs ≡ Some x ∷ [] → count < 256 → All (λ n. author n < count) (notes x)
-      → Holds setting notes author (setting x') count (opened (0 ∷ 0 ∷ 0 ∷ []) xs (view Idle (fresh (setting x') (notes x') 0 count)))
-  opens_at x' x xs count is items few below =
-      subst₂ (λ (z : T) (zs : List (Option T)). Holds setting notes author (setting z) count (opened (0 ∷ 0 ∷ 0 ∷ []) zs (view Idle (fresh (setting z) (notes z) 0 count)))) (sym is)
-      (sym items) (opens x count few below)
+  -- as it is by the setting and the notes of what it was made with
+  pub opens_at : (fixed : S) (seen : List N) (x : T) (xs : List (Option T)) (count : ℕ) → setting x ≡ fixed → notes x ≡ seen → xs ≡ Some x ∷ [] → count < 256 → All (λ n. author n < count) seen
+      → Holds setting notes author fixed count (opened (0 ∷ 0 ∷ 0 ∷ []) xs (view Idle (fresh fixed seen 0 count)))
+  opens_at fixed seen x xs count fixed_is seen_is items few below =
+      subst (λ (zs : List (Option T)). Holds setting notes author fixed count (opened (0 ∷ 0 ∷ 0 ∷ []) zs (view Idle (fresh fixed seen 0 count)))) (sym items)
+      (subst₂ (λ (f : S) (l : List N). Holds setting notes author f count (opened (0 ∷ 0 ∷ 0 ∷ []) (Some x ∷ []) (view Idle (fresh f l 0 count)))) fixed_is seen_is
+      (opens x count few (subst (All (λ n. author n < count)) (sym seen_is) below)))

@@ -120,10 +120,10 @@ module _ {T S N : Type 0} where
   pub dealt_is_pass : (me : Me (Option T) (View S N)) (fixed : S) (seen : List N) (number ticket : ℕ) → me ≡ (view Idle (own_of number fixed seen ∷ []), []) → IsPass number ticket me
   dealt_is_pass me fixed seen number ticket is = subst (λ (m : Me (Option T) (View S N)). IsPass number ticket m) (sym is) (record { own = refl; stands = refl })
 
-  pub dealt_state : (id turn : TableId) (fixed : S) (seen : List N) (number : ℕ) (me : Me (Option T) (View S N)) (last : Option T) → id ≡ turn
+  pub dealt_state : {U : Type 0} → (id turn : TableId) (fixed : S) (seen : List N) (number : ℕ) (me : Me (Option T) (View S N)) (last : Option U) → id ≡ turn
       → me ≡ (view Idle (own_of number fixed seen ∷ []), []) → last ≡ None
-      → record { turn = id; setting = setting_in me.0.own; number = number; seen = seen_in me.0.own; busy = is_serving me.0.stage; last = last } ≡ pass_from {T = T} turn fixed seen number
-  dealt_state id turn fixed seen number me last a c e =
+      → record { turn = id; setting = setting_in me.0.own; number = number; seen = seen_in me.0.own; busy = is_serving me.0.stage; last = last } ≡ pass_from {T = U} turn fixed seen number
+  dealt_state {U} id turn fixed seen number me last a c e =
       λ i. record { turn = a i; setting = setting_in (c i).0.own; number = number; seen = seen_in (c i).0.own; busy = is_serving (c i).0.stage; last = e i }
 
   -- the seat that has taken in another
