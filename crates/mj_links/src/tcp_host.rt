@@ -83,6 +83,7 @@ impl<'a, R: Net<Listener = TcpListener, Stream = TcpStream> + Clock + Sync> Host
             Ok(Some(stream)) => Came::Link(TcpLink {
                 rt: self.rt,
                 stream: Some(stream),
+                waits: true,
                 limit: self.limit,
                 since: reading(self.rt).unwrap_or(0),
                 joined: false,

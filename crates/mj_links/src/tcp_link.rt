@@ -1,6 +1,6 @@
 //! A link over TCP.
 
-ghost use Rattle.std.specs.Prelude.{◌≡◌, None, refl};
+ghost use Rattle.std.specs.Prelude.{◌≡◌, None, IfSome, refl};
 ghost use Rattle.std.specs.Io.{ReadsAtMost, WritesAtMost};
 ghost use Rattle.mj_links.specs.Links.{ReadingStays, WritingStays, GivesNone};
 ghost use Rattle.mj_links.specs.TcpLinks.{IsStop};
@@ -13,6 +13,7 @@ use crate::source::{Got, Source};
 use std::io;
 use std::io::{ErrorKind, Read, Write};
 use std::net::{Shutdown, TcpStream};
+use std::thread::yield_now;
 use std::time::{Clock, Duration};
 
 /// How long a link waits for its first line, in milliseconds.
@@ -21,6 +22,10 @@ const JOIN_MS: u64 = 5_000;
 /// How much longer than a window lasts a link waits for a later line, and how long for its peer to take what is written, in
 /// milliseconds.
 const GRACE_MS: u64 = 30_000;
+
+// How often a read looks for bytes, and lets other threads run, before it waits for some. What a peer sends at once is read so
+// without a wait, which costs more than some looks, since a thread has to be woken from it.
+const LOOKS: u32 = 50;
 
 // How often a call that the system broke off is made in all.
 const TRIES: u32 = 1000;
@@ -45,6 +50,8 @@ pub struct TcpLink<'a, R> {
     pub(crate) rt: &'a R,
     // None once the link is shut.
     pub(crate) stream: Option<TcpStream>,
+    // Whether calls on the stream wait, as those on a new one do.
+    pub(crate) waits: bool,
     // The limit of a window in milliseconds.
     pub(crate) limit: u64,
     // When the last write ended, or the link came.
@@ -58,8 +65,8 @@ pub struct TcpLink<'a, R> {
     pub(crate) write_faults: FaultCount,
 }
 
-/// Makes a stream one whose reads and writes block, and the latter no longer than the patience for them. Lines are short, so
-/// they are sent as they come. A stream that refuses one of these settings is taken as it is.
+/// Has writes on a stream wait no longer than the patience for them. Lines are short, so they are sent as they come. A stream
+/// that refuses one of these settings is taken as it is.
 pub(crate) fn set_up(stream: &TcpStream) {
     let _ = stream.set_write_timeout(Some(Duration::from_millis(GRACE_MS)));
     let _ = stream.set_nodelay(true);
@@ -89,7 +96,18 @@ impl<'a, R: Clock> Source for TcpLink<'a, R> {
             JOIN_MS
         };
         let until = self.since.saturating_add(patience);
-        match read_until(self.rt, &self.stream, until, &mut self.patience, into) {
+        let read = match read_soon(&self.stream, &mut self.waits, into) {
+            Some(read) => read,
+            None => read_until(
+                self.rt,
+                &self.stream,
+                &mut self.waits,
+                until,
+                &mut self.patience,
+                into,
+            ),
+        };
+        match read {
             Ok(0) => Got::End,
             Ok(count) => {
                 self.joined = self.joined | into[..count].contains(&b'\n');
@@ -112,7 +130,7 @@ impl<'a, R: Clock> Sink for TcpLink<'a, R> {
         ReadingStays None None None None old.read_faults.count new.read_faults.count };
 
     fn write(&mut self, piece: &[u8]) -> Put {
-        match write_some(&self.stream, piece) {
+        match write_some(&self.stream, &mut self.waits, piece) {
             Ok(0) | Err(_) => {
                 self.write_faults = self.write_faults.more();
                 Put::Failed
@@ -136,7 +154,7 @@ impl<'a, R: Clock> Link for TcpLink<'a, R> {
 
     fn has_ended(&mut self) -> bool {
         if let Ahead::Unknown = self.ahead {
-            self.ahead = look_ahead(&self.stream);
+            self.ahead = look_ahead(&self.stream, &mut self.waits);
         }
         match self.ahead {
             Ahead::Unknown => false,
@@ -153,11 +171,49 @@ impl<'a, R: Clock> Link for TcpLink<'a, R> {
     ghost writes_apart = { λ put piece old new h. h };
 }
 
+// Has calls on a stream wait, or not.
+fn set_waiting(stream: &TcpStream, waits: &mut bool, wanted: bool) -> io::Result<()> {
+    if *waits != wanted {
+        stream.set_nonblocking(!wanted)?;
+        *waits = wanted;
+    }
+    Ok(())
+}
+
+// Reads bytes off a stream that have come, or that come while other threads run for a little. None where there are none, and
+// where the stream can't be read so.
+fn read_soon(
+    stream: &Option<TcpStream>,
+    waits: &mut bool,
+    into: &mut [u8],
+) -> Option<io::Result<usize>>
+    ensures { IfSome result (λ r. ReadsAtMost r into.new) }
+{
+    let Some(stream) = stream else {
+        return None;
+    };
+    if set_waiting(stream, waits, false).is_err() {
+        return None;
+    }
+    let mut stream = stream;
+    for _ in 0..LOOKS {
+        let read = stream.read(into);
+        if !has_failed_by(&read, ErrorKind::WouldBlock)
+            && !has_failed_by(&read, ErrorKind::Interrupted)
+        {
+            return Some(read);
+        }
+        yield_now();
+    }
+    None
+}
+
 // Reads some bytes off a stream, and waits for them no longer than until the clock shows this. What has come by then is read
 // even later.
 fn read_until<R: Clock>(
     rt: &R,
     stream: &Option<TcpStream>,
+    waits: &mut bool,
     until: u64,
     patience: &mut u64,
     into: &mut [u8],
@@ -167,6 +223,7 @@ fn read_until<R: Clock>(
     let Some(stream) = stream else {
         return Err(io::Error::from(ErrorKind::NotConnected));
     };
+    set_waiting(stream, waits, true)?;
     for _ in 1..TRIES {
         let read = read_once(rt, stream, until, patience, into);
         if !is_ended_early(rt, &read, until) {
@@ -197,19 +254,15 @@ fn read_once<R: Clock>(
 }
 
 // Looks what comes next from a stream, without waiting. An error that a read would have met is met here, and kept.
-fn look_ahead(stream: &Option<TcpStream>) -> Ahead {
+fn look_ahead(stream: &Option<TcpStream>, waits: &mut bool) -> Ahead {
     let Some(stream) = stream else {
         return Ahead::Fault;
     };
-    if stream.set_nonblocking(true).is_err() {
+    if set_waiting(stream, waits, false).is_err() {
         return Ahead::Unknown;
     }
     let mut byte = [0; 1];
-    let seen = stream.peek(&mut byte);
-    if stream.set_nonblocking(false).is_err() {
-        return Ahead::Fault;
-    }
-    match seen {
+    match stream.peek(&mut byte) {
         Ok(0) => Ahead::End,
         Ok(_) => Ahead::Unknown,
         Err(error) => match error.kind() {
@@ -231,8 +284,8 @@ fn is_ended_early<R: Clock>(rt: &R, read: &io::Result<usize>, until: u64) -> boo
     }
 }
 
-// Writes some bytes of a piece.
-fn write_some(stream: &Option<TcpStream>, piece: &[u8]) -> io::Result<usize>
+// Writes some bytes of a piece, and waits for room where there is none.
+fn write_some(stream: &Option<TcpStream>, waits: &mut bool, piece: &[u8]) -> io::Result<usize>
     ensures { WritesAtMost result piece.now }
 {
     let Some(stream) = stream else {
@@ -241,18 +294,20 @@ fn write_some(stream: &Option<TcpStream>, piece: &[u8]) -> io::Result<usize>
     let mut stream = stream;
     for _ in 1..TRIES {
         let written = stream.write(piece);
-        if !is_broken_off(&written) {
+        if has_failed_by(&written, ErrorKind::WouldBlock) && !*waits {
+            set_waiting(stream, waits, true)?;
+        } else if !has_failed_by(&written, ErrorKind::Interrupted) {
             return written;
         }
     }
     stream.write(piece)
 }
 
-// Whether the system broke the call off, as it does where a process is stopped and goes on.
-fn is_broken_off(done: &io::Result<usize>) -> bool {
+// Whether a call failed by this. The system breaks calls off, as Interrupted, where a process is stopped and goes on.
+fn has_failed_by(done: &io::Result<usize>, kind: ErrorKind) -> bool {
     match done {
         Ok(_) => false,
-        Err(error) => error.kind() == ErrorKind::Interrupted,
+        Err(error) => error.kind() == kind,
     }
 }
 
