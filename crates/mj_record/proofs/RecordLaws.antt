@@ -3,17 +3,16 @@ use Rattle.std.proofs.Common.{◌≡◌, ℕ, ◌+◌, Bool, true, false, List, 
 use Rattle.std.specs.Prelude.{bytes_eq, option_and_then, Err}
 use Rattle.std.proofs.lemmas.Slice.Eq.{bytes_eq-Decides}
 use Rattle.std.specs.Io.KnownBytes.{Appends}
-use Rattle.std.proofs.KnownBytes.{Keeps-refl}
 use Rattle.mj_links.specs.Sinks.{WritesPrefix}
 use Rattle.mj_ports.specs.declared.entry.Entry.{Entry}
 use Rattle.mj_deeds.specs.declared.answer.Answer.{Answer}
 use Rattle.mj_wall.specs.declared.setting.Setting.{Setting}
 use Rattle.mj_history.specs.Legal.{Game}
 use Rattle.mj_core.specs.Calls.{record_of}
-use Rattle.mj_journal.specs.Founding.{HasFirst, GivesEntries, OpensGame, OpensAs}
+use Rattle.mj_journal.specs.Founding.{HasFirst, GivesEntries, EndsAs}
 use Rattle.mj_journal.specs.Journals.{first_record, journal as payloads, behind_journal}
 use Rattle.mj_journal.specs.Openings.{Opening, Fresh, Other, Bad, Open, begins_open, entries_from}
-use Rattle.mj_journal.specs.Playing.{opens, taken}
+use Rattle.mj_journal.specs.Playing.{taken}
 use Rattle.mj_journal.specs.declared.not_opened.NotOpened.{NotOpened}
 use Rattle.mj_journal.specs.declared.not_opened.NotOpened.TheVariants as not_opened
 use Rattle.mj_journal.proofs.Firsts.{opens_own}
@@ -21,8 +20,8 @@ use Rattle.mj_refereeing.specs.Keep.{Base, base_of, play_of, opens_for}
 use Rattle.mj_runs.specs.Inputs.{IsRead}
 use Rattle.mj_record.specs.declared.journal.RecordEnd.{RecordEnd}
 use Rattle.mj_record.specs.declared.journal.RecordEnd.TheVariants as ends
-use Rattle.mj_record.specs.Record.{if_whole, founded, opens_by, IsBad, TakesJournal, Records}
-use Rattle.mj_record.specs.Inner.Recording.{WritesRecord}
+use Rattle.mj_record.specs.Record.{if_whole, founded, opens_by, TakesJournal, Records}
+use Rattle.mj_record.specs.Inner.Recording.{WritesOpened, WritesRecord}
 
 -- It is neither a new journal nor that of another game.
 abbrev IsOwn : {E : Type 0} → Opening E → Type 0
@@ -90,39 +89,28 @@ module _ (journal tag : List ℕ) (first : HasFirst tag journal) where
           (sym (opens_own (play_of base.setting) base.tag journal base.tag has.0 has.1 ((bytes_eq-Decides base.tag base.tag).1 refl)))
           (own (taken (play_of base.setting)) [] (length base.tag + 5) (payloads (drop (length base.tag + 5) journal)) (behind_journal (drop (length base.tag + 5) journal)))
 
-      module _ (old new : Option (List ℕ)) where
-        by_end : (game : Game) (place : ℕ) → game.setting ≡ base.setting → opens_for base journal ≡ Open game.entries place → (e : RecordEnd)
-            → WritesRecord e (record_of game) old new → TakesJournal e journal old new
-        by_end game place set is ends.Written written = record {
-          base = base;
-          founds = founds;
-          entries = game.entries;
-          end = place;
-          opened = is;
-          record_is = subst (λ (s : Setting). Appends old new (record_of (record { setting = s; entries = game.entries }))) set written;
-        }
-        by_end game place set is (ends.Bad b) written = absurd written
-        by_end game place set is ends.WriteFault written = record {
-          base = base;
-          founds = founds;
-          entries = game.entries;
-          end = place;
-          opened = is;
-          record_is = subst (λ (s : Setting). WritesPrefix old new (record_of (record { setting = s; entries = game.entries }))) set written;
-        }
-        by_end game place set is ends.ReadFault written = absurd written
-        by_end game place set is ends.TooLong written = absurd written
-        by_end game place set is ends.NoMemory written = written
-
-        -- The journal was opened.
-        pub recorded : (o : Option Game) (place : ℕ) → OpensGame (λ (g : Game). g.setting) (λ (g : Game). g.entries) base.setting (opens_for base journal) o place → (e : RecordEnd)
-            → ((game : Game) → o ≡ Some game → WritesRecord e (record_of game) old new) → TakesJournal e journal old new
-        recorded None place so e writes = absurd so
-        recorded (Some game) place so e writes = by_end game place so.0 (given_open (opens_for base journal) game.entries place is_own so.1) e (writes game refl)
-
-      -- It is bad.
-      pub is_bad : (place : ℕ) (old : Option (List ℕ)) → opens_for base journal ≡ Bad place → IsBad place journal old old
-      is_bad place old bad = record { bad = ap (λ (o : Option Base). opens_by o journal) founds ∙ bad; unwritten = Keeps-refl old }
+      -- What is written of its journal.
+      pub takes : (old new : Option (List ℕ)) (e : RecordEnd) → WritesOpened e base.setting (opens_for base journal) old new → TakesJournal e journal old new
+      takes old new ends.Written written = record {
+        base = base;
+        founds = founds;
+        entries = written.entries;
+        end = written.end;
+        opened = given_open (opens_for base journal) written.entries written.end is_own written.gives;
+        record_is = written.record_is;
+      }
+      takes old new (ends.Bad place) written = record { bad = ap (λ (o : Option Base). opens_by o journal) founds ∙ written.0; unwritten = written.1 }
+      takes old new ends.WriteFault written = record {
+        base = base;
+        founds = founds;
+        entries = written.entries;
+        end = written.end;
+        opened = given_open (opens_for base journal) written.entries written.end is_own written.gives;
+        record_is = written.record_is;
+      }
+      takes old new ends.ReadFault written = absurd written
+      takes old new ends.TooLong written = absurd written
+      takes old new ends.NoMemory written = written
 
       pub never_other : opens_for base journal ≡ Other → ⊥
       never_other = not_other (opens_for base journal) is_own
@@ -137,14 +125,34 @@ taken_all ends.ReadFault journal old_left new_left old new read written = absurd
 taken_all ends.TooLong journal old_left new_left old new read written = absurd written
 taken_all ends.NoMemory journal old_left new_left old new read written = written
 
--- Why a journal isn't opened, in the setting that its game is in.
-module _ (s t : Setting) (same : s ≡ t) (tag journal : List ℕ) (why : NotOpened)
-    (so : OpensAs {G = Game} (λ (g : Game). g.setting) (λ (g : Game). g.entries) s (opens (play_of s) tag journal) (Err why)) where
-  answered : (other : NotOpened) → why ≡ other → OpensAs {G = Game} (λ (g : Game). g.setting) (λ (g : Game). g.entries) s (opens (play_of s) tag journal) (Err other)
-  answered other is = subst (λ (w : NotOpened). OpensAs {G = Game} (λ (g : Game). g.setting) (λ (g : Game). g.entries) s (opens (play_of s) tag journal) (Err w)) is so
+-- What is written of a game that was opened.
+module _ (s : Setting) (opening : Opening (List (Entry Answer))) (game : Game) (end : ℕ) (set : game.setting ≡ s) (gives : GivesEntries opening game.entries end)
+    (old new : Option (List ℕ)) where
+  pub writes : (e : RecordEnd) → WritesRecord e (record_of game) old new → WritesOpened e s opening old new
+  writes ends.Written is = record {
+    entries = game.entries;
+    end = end;
+    gives = gives;
+    record_is = subst (λ (t : Setting). Appends old new (record_of (record { setting = t; entries = game.entries }))) set is;
+  }
+  writes (ends.Bad place) is = absurd is
+  writes ends.WriteFault is = record {
+    entries = game.entries;
+    end = end;
+    gives = gives;
+    record_is = subst (λ (t : Setting). WritesPrefix old new (record_of (record { setting = t; entries = game.entries }))) set is;
+  }
+  writes ends.ReadFault is = absurd is
+  writes ends.TooLong is = absurd is
+  writes ends.NoMemory is = is
 
-  pub bad_as : (place : ℕ) → why ≡ not_opened.BadJournal place → opens (play_of t) tag journal ≡ Bad place
-  bad_as place is = subst (λ (u : Setting). opens (play_of u) tag journal ≡ Bad place) same (answered (not_opened.BadJournal place) is)
+-- Why a journal isn't opened.
+module _ (opening : Opening (List (Entry Answer))) (entries : List (Entry Answer)) (why : NotOpened) (so : EndsAs (Err why) opening entries) where
+  answered : (other : NotOpened) → why ≡ other → EndsAs (Err other) opening entries
+  answered other is = subst (λ (w : NotOpened). EndsAs (Err w) opening entries) is so
 
-  pub other_as : why ≡ not_opened.OtherGame → opens (play_of t) tag journal ≡ Other
-  other_as is = subst (λ (u : Setting). opens (play_of u) tag journal ≡ Other) same (answered not_opened.OtherGame is)
+  pub bad_as : (place : ℕ) → why ≡ not_opened.BadJournal place → opening ≡ Bad place
+  bad_as place is = answered (not_opened.BadJournal place) is
+
+  pub other_as : why ≡ not_opened.OtherGame → opening ≡ Other
+  other_as is = answered not_opened.OtherGame is

@@ -1,20 +1,21 @@
 //! The command `record`: the journal of a game read whole, and the record of what was played so far written.
 
-ghost use Rattle.std.specs.Prelude.{◌≡◌, ◌≤◌, ◌<◌, ℕ, List, Some, true, bytes_eq, length};
+ghost use Rattle.std.specs.Prelude.{◌≡◌, ◌≤◌, ◌<◌, ◌^◌, [], true, bytes_eq, length};
 ghost use Rattle.mj_core.specs.Calls.{record_of};
-ghost use Rattle.mj_history.specs.Legal.{Game};
-ghost use Rattle.mj_journal.specs.Founding.{HasFirst};
-ghost use Rattle.mj_journal.specs.Keeping.{game_of};
+ghost use Rattle.mj_journal.specs.Founding.{EndsAs, HasFirst};
+ghost use Rattle.mj_journal.specs.Openings.{Other};
+ghost use Rattle.mj_journal.specs.Playing.{opens};
 ghost use Rattle.mj_record.specs.Record.{Records, TakesJournal};
-ghost use Rattle.mj_record.specs.Inner.Recording.{IsInPlay, WritesRecord};
+ghost use Rattle.mj_record.specs.Inner.Recording.{WritesOpened, WritesRecord};
 ghost use Rattle.mj_record.specs.Statuses.{record_status};
 ghost use Rattle.mj_refereeing.specs.Bases.{IsBase};
+ghost use Rattle.mj_refereeing.specs.Keep.{play_of};
 ghost use Rattle.mj_runs.specs.Faults.{CountsReadFaults, CountsWriteFaults};
 ghost use Rattle.mj_runs.specs.Inputs.{longest};
 
 use crate::first::first_payload;
 use mj_core::Core;
-use mj_journal::{Kept, MemDisk, NotOpened};
+use mj_journal::{MemDisk, NotOpened, open_entries};
 use mj_links::{ReadAll, Sink, Source, WriteAll, read_all, write_all};
 use mj_refereeing::{Base, Founded, read_base};
 use mj_runs::{LONGEST, with_room};
@@ -96,14 +97,30 @@ fn record_game<K: Sink>(
     ensures writes { CountsWriteFaults (record_status result) (K.write_faults sink.old)
         (K.write_faults sink.new) }
 {
-    let Ok(core) = Core::new(alloc, base.walls, base.rules) else {
-        return RecordEnd::NoMemory;
-    };
-    let Ok(mut disk) = MemDisk::new(journal, Vec::new(alloc)) else {
-        return RecordEnd::NoMemory;
-    };
-    match Kept::open(alloc, core, base.tag, &mut disk) {
-        Ok(kept) => write_record(alloc, &kept, sink),
+    match Core::new(alloc, base.walls, base.rules) {
+        Ok(mut core) => record_core(alloc, &mut core, base.tag, journal, sink),
+        Err(_) => RecordEnd::NoMemory,
+    }
+}
+
+// Writes the record of a game, which has no entries yet, with those that a journal of its own keeps.
+fn record_core<K: Sink>(
+    alloc: Global,
+    core: &mut Core,
+    tag: &[u8],
+    journal: &[u8],
+    sink: &mut K,
+) -> RecordEnd
+    requires none { core.old.entries ≡ [] }
+    requires short { length tag.now < 2 ^ 32 }
+    requires own { opens (play_of core.old.setting) tag.now journal.now ≡ Other → ⊥ }
+    ensures writes_opened { WritesOpened result core.old.setting
+        (opens (play_of core.old.setting) tag.now journal.now) (K.written sink.old) (K.written sink.new) }
+    ensures writes { CountsWriteFaults (record_status result) (K.write_faults sink.old)
+        (K.write_faults sink.new) }
+{
+    match enter_all(alloc, core, tag, journal) {
+        Ok(_) => write_record(alloc, core, sink),
         Err(NotOpened::BadJournal(place)) => RecordEnd::Bad(place),
         Err(NotOpened::OtherGame) => unreachable!(),
         Err(NotOpened::DiskFault) => RecordEnd::NoMemory,
@@ -111,19 +128,29 @@ fn record_game<K: Sink>(
     }
 }
 
+// Gives a game, which has no entries yet, those that a journal keeps.
+fn enter_all(alloc: Global, core: &mut Core, tag: &[u8], journal: &[u8]) -> Result<u64, NotOpened>
+    requires none { core.old.entries ≡ [] }
+    requires short { length tag.now < 2 ^ 32 }
+    ensures setting { core.new.setting ≡ core.old.setting }
+    ensures opened { EndsAs result (opens (play_of core.old.setting) tag.now journal.now)
+        core.new.entries }
+{
+    match MemDisk::new(journal, Vec::new(alloc)) {
+        Ok(mut disk) => open_entries(alloc, core, tag, &mut disk),
+        Err(_) => Err(NotOpened::NoMemory),
+    }
+}
+
 // Writes the record of a game.
-fn write_record<K: Sink>(alloc: Global, kept: &Kept<Core>, sink: &mut K) -> RecordEnd
-    requires { IsInPlay (game_of kept.now) }
-    ensures writes_record { (game : Game) → game_of kept.now ≡ Some game
-        → WritesRecord result (record_of game) (K.written sink.old) (K.written sink.new) }
+fn write_record<K: Sink>(alloc: Global, core: &Core, sink: &mut K) -> RecordEnd
+    ensures writes_record { WritesRecord result (record_of core.now) (K.written sink.old)
+        (K.written sink.new) }
     ensures writes { CountsWriteFaults (record_status result) (K.write_faults sink.old)
         (K.write_faults sink.new) }
 {
-    let Some(game) = kept.game() else {
-        unreachable!();
-    };
     let mut text = Vec::new(alloc);
-    if game.record(alloc, &mut text).is_err() {
+    if core.record(alloc, &mut text).is_err() {
         return RecordEnd::NoMemory;
     }
     match write_all(sink, text.as_slice()) {
