@@ -1,4 +1,5 @@
 pub mod Chains
+mod Dealt
 pub mod Lists
 mod Rows
 mod Wins

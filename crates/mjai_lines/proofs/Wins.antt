@@ -36,13 +36,14 @@ eight w a b c d e f g h = simp append_assoc refl
 -- the pieces one after the other are the line
 pub win_in_pieces : (viewer : Viewer) (seat target tile : ℕ) (unders hand : List ℕ) (yaku : List (ℕ × ℕ)) (fu han value : ℕ)
     (deltas points : List ℤ) (rest : List ℕ) →
-    winner_piece seat target tile unders hand ++ worth_piece yaku fu han value ++ changes_piece deltas points ++ rest_piece viewer rest
+    winner_piece seat target tile unders hand ++ worth_piece yaku fu han value ++ (changes_piece deltas points ++ rest_piece viewer rest)
     ≡ win_line viewer seat target tile unders hand yaku fu han value deltas points rest
 unfolding win_line
 win_in_pieces viewer seat target tile unders hand yaku fu han value deltas points rest =
     let won : List ℕ = winner_piece seat target tile unders hand in
     let told : List ℕ = in_record viewer (codes ",\"rest\":" ++ bracketed (map decimal rest)) in
-    two (won ++ worth_piece yaku fu han value ++ changes_piece deltas points) told (codes "}\n")
+    two (won ++ worth_piece yaku fu han value) (changes_piece deltas points) (rest_piece viewer rest)
+    ∙ two (won ++ worth_piece yaku fu han value ++ changes_piece deltas points) told (codes "}\n")
     ∙ ap (λ front. front ++ told ++ codes "}\n")
     (four (won ++ worth_piece yaku fu han value) (codes ",\"deltas\":") (points_text deltas) (codes ",\"scores\":") (points_text points)
     ∙ ap (λ front. front ++ codes ",\"deltas\":" ++ points_text deltas ++ codes ",\"scores\":" ++ points_text points)

@@ -1,7 +1,8 @@
 ghost use Rattle.std.specs.Prelude.{◌≡◌, ◌+◌, ◌<◌, ◌∷◌, ◌++◌, [], OnOk, OnErr, codes, decimal, option_copied};
 ghost use Rattle.mj_bytes.specs.Adds.{Adds};
+ghost use Rattle.mj_view.specs.Seen.{sees};
 ghost use Rattle.mj_forms.specs.Choices.{line_listing};
-ghost use Rattle.mj_forms.specs.Lines.{line as line_for, bracketed, seat_in_line as seat_written, start_game_line, draw_line, discard_line, call_line, call_object, closed_kan_line, added_kan_line, dora_line, hands_seen, tile_seen, truth};
+ghost use Rattle.mj_forms.specs.Lines.{line as line_for, bracketed, quoted_tile, seat_in_line as seat_written, start_game_line, draw_line, discard_line, call_line, call_object, closed_kan_line, added_kan_line, dora_line, hands_seen, tile_seen, truth};
 
 use crate::choices::list_answers;
 use crate::ending::{push_drawn_hand, push_end_game};
@@ -9,7 +10,7 @@ use crate::pieces::{push_quoted, push_tile, push_tile_seen, push_tiles_seen};
 use crate::riichi::{push_reach, push_reach_accepted};
 use crate::starts::{push_names, push_place};
 use crate::steps::Steps;
-use crate::winning::{push_changes, push_rest, push_winner, push_worth};
+use crate::winning::{push_changes, push_winner, push_worth};
 use mj_bytes::{push_all, push_number};
 use mj_deeds::{Answers, Deed, Four, Hands, Viewer};
 use mj_ports::Name;
@@ -112,7 +113,7 @@ fn push_deed(line: &mut Vec<u8>, viewer: Viewer, deed: &Deed) -> Result<(), Allo
     ensures { OnOk result (Adds line.old.items line.new.items (line_for viewer deed.now)) }
 {
     match deed {
-        Deed::StartGame { names } => push_start_game(line, seat_in_line(viewer), names.four()),
+        Deed::StartGame { names } => push_start_game(line, viewer, names.four()),
         Deed::StartHand {
             round,
             number,
@@ -123,14 +124,10 @@ fn push_deed(line: &mut Vec<u8>, viewer: Viewer, deed: &Deed) -> Result<(), Allo
             hands,
         } => {
             push_place(line, *round, *number, *honba, *deposits, *dealer)?;
-            push_all(line, b",\"dora_marker\":")?;
-            push_tile(line, *indicator)?;
-            push_all(line, b",\"tehais\":")?;
-            push_hands(line, viewer, hands)?;
-            push_all(line, b"}\n")?;
+            push_dealt(line, viewer, *indicator, hands)?;
             Ok(())
         }
-        Deed::Draw { seat, tile, .. } => push_draw(line, *seat, sees(viewer, *seat), *tile),
+        Deed::Draw { seat, tile, .. } => push_draw(line, viewer, *seat, *tile),
         Deed::Discard { seat, tile, drawn } => push_discard(line, *seat, *tile, *drawn),
         Deed::Chi {
             seat,
@@ -183,8 +180,7 @@ fn push_deed(line: &mut Vec<u8>, viewer: Viewer, deed: &Deed) -> Result<(), Allo
         } => {
             push_winner(line, *seat, *target, *tile, unders, hand)?;
             push_worth(line, yaku, *fu, *han, *value)?;
-            push_changes(line, *deltas, *points)?;
-            push_rest(line, viewer, *rest)?;
+            push_changes(line, viewer, *deltas, *points, *rest)?;
             Ok(())
         }
         Deed::DrawnHand {
@@ -211,13 +207,38 @@ fn seat_in_line(viewer: Viewer) -> u8
 
 // Writes the start of a game.
 #[tactic(auto, unfolding(mj_forms::specs::Lines::start_game_line))]
-fn push_start_game(line: &mut Vec<u8>, id: u8, names: &Four<Name>) -> Result<(), AllocError>
-    ensures { OnOk result (Adds line.old.items line.new.items (start_game_line id names.now)) }
+fn push_start_game(line: &mut Vec<u8>, viewer: Viewer, names: &Four<Name>) -> Result<(), AllocError>
+    ensures { OnOk result (Adds line.old.items line.new.items
+        (start_game_line (seat_written viewer) names.now)) }
 {
     push_all(line, b"{\"type\":\"start_game\",\"id\":")?;
-    push_number(line, u64::from(id))?;
+    push_number(line, u64::from(seat_in_line(viewer)))?;
     push_all(line, b",\"names\":")?;
     push_names(line, names)?;
+    push_all(line, b"}\n")?;
+    Ok(())
+}
+
+// Writes the start of a hand behind its dealer: its indicator, and the hands as the viewer sees them.
+#[inline(always)]
+fn push_dealt(
+    line: &mut Vec<u8>,
+    viewer: Viewer,
+    indicator: Tile,
+    hands: &Hands,
+) -> Result<(), AllocError>
+    ensures { OnOk result (Adds line.old.items line.new.items
+        (codes ",\"dora_marker\":" ++ quoted_tile indicator ++ codes ",\"tehais\":"
+        ++ bracketed (bracketed (hands_seen viewer hands.now).first
+        ∷ bracketed (hands_seen viewer hands.now).second
+        ∷ bracketed (hands_seen viewer hands.now).third
+        ∷ bracketed (hands_seen viewer hands.now).fourth
+        ∷ []) ++ codes "}\n")) }
+{
+    push_all(line, b",\"dora_marker\":")?;
+    push_tile(line, indicator)?;
+    push_all(line, b",\"tehais\":")?;
+    push_hands(line, viewer, hands)?;
     push_all(line, b"}\n")?;
     Ok(())
 }
@@ -245,12 +266,12 @@ fn push_hands(line: &mut Vec<u8>, viewer: Viewer, hands: &Hands) -> Result<(), A
 
 // Writes a draw.
 #[tactic(auto, unfolding(mj_forms::specs::Lines::draw_line))]
-fn push_draw(line: &mut Vec<u8>, seat: u8, seen: bool, tile: Tile) -> Result<(), AllocError>
+fn push_draw(line: &mut Vec<u8>, viewer: Viewer, seat: u8, tile: Tile) -> Result<(), AllocError>
     ensures { OnOk result (Adds line.old.items line.new.items
-        (draw_line seat (tile_seen seen tile))) }
+        (draw_line seat (tile_seen (sees viewer seat) tile))) }
 {
     push_draw_front(line, seat)?;
-    push_tile_seen(line, seen, tile)?;
+    push_tile_seen(line, sees(viewer, seat), tile)?;
     push_all(line, b"}\n")?;
     Ok(())
 }

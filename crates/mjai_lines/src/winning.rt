@@ -62,29 +62,31 @@ pub(crate) fn push_worth(
     Ok(())
 }
 
-// Writes what each seat gains, and the points after it.
+// Writes what each seat gains, the points after it, the seats that win next, in the record alone, and the end of the line.
 pub(crate) fn push_changes(
     line: &mut Vec<u8>,
+    viewer: Viewer,
     deltas: [i32; 4],
     points: [i32; 4],
+    rest: SeatList,
 ) -> Result<(), AllocError>
     ensures { OnOk result (Adds line.old.items line.new.items
         (codes ",\"deltas\":" ++ points_text deltas ++ codes ",\"scores\":"
-        ++ points_text points)) }
+        ++ points_text points
+        ++ (in_record viewer (codes ",\"rest\":" ++ bracketed (map decimal rest))
+        ++ codes "}\n"))) }
 {
     push_all(line, b",\"deltas\":")?;
     push_points(line, deltas)?;
     push_all(line, b",\"scores\":")?;
     push_points(line, points)?;
+    push_rest(line, viewer, rest)?;
     Ok(())
 }
 
 // Writes the seats that win next, in the record alone, and the end of the line.
-pub(crate) fn push_rest(
-    line: &mut Vec<u8>,
-    viewer: Viewer,
-    rest: SeatList,
-) -> Result<(), AllocError>
+#[inline(always)]
+fn push_rest(line: &mut Vec<u8>, viewer: Viewer, rest: SeatList) -> Result<(), AllocError>
     ensures { OnOk result (Adds line.old.items line.new.items
         (in_record viewer (codes ",\"rest\":" ++ bracketed (map decimal rest)) ++ codes "}\n")) }
 {

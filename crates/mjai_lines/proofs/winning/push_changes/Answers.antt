@@ -7,3 +7,4 @@ returns c =
     ▸ c.in_ok-push_points.ensures
     ▸ c.in_ok-push_all-2.ensures.ok
     ▸ c.in_ok-push_points-2.ensures
+    ▸ c.in_ok-push_rest.ensures
