@@ -1,7 +1,8 @@
 //! Draws, discards, reaches, indicators and ends of a record, and the deeds that take no memory.
 
-ghost use Rattle.std.specs.Prelude.{◌≡◌};
-ghost use Rattle.mj_records.specs.Deeds.{small_by, draw_in, discard_in, dora_in, reach_in, end_game_in};
+ghost use Rattle.std.specs.Prelude.{◌≡◌, option_and_then};
+ghost use Rattle.mj_deeds.specs.Bids.{call_of_bid};
+ghost use Rattle.mj_records.specs.Deeds.{small_by, call_in, draw_in, discard_in, dora_in, reach_in, end_game_in};
 
 use crate::calls::{added_kan_in, call_in, closed_kan_in};
 use crate::fields::{byte_field, points_field, tile_field, truth_field, word_field};
@@ -20,13 +21,13 @@ pub(crate) fn small_by(kind: &[u8], fields: &[u8]) -> Option<Deed>
         return discard_in(fields);
     }
     if kind == b"chi".as_slice() {
-        return call_in(kind, fields)?.deed();
+        return called_in(kind, fields);
     }
     if kind == b"pon".as_slice() {
-        return call_in(kind, fields)?.deed();
+        return called_in(kind, fields);
     }
     if kind == b"daiminkan".as_slice() {
-        return call_in(kind, fields)?.deed();
+        return called_in(kind, fields);
     }
     if kind == b"ankan".as_slice() {
         return closed_kan_in(fields);
@@ -50,6 +51,14 @@ pub(crate) fn small_by(kind: &[u8], fields: &[u8]) -> Option<Deed>
         return end_game_in(fields);
     }
     None
+}
+
+// The deed of a call of a discard, under its kind.
+#[inline(always)]
+fn called_in(kind: &[u8], fields: &[u8]) -> Option<Deed>
+    ensures { result ≡ option_and_then call_of_bid (call_in kind.now fields.now) }
+{
+    call_in(kind, fields)?.deed()
 }
 
 #[tactic(auto, unfolding(crate::specs::Deeds::draw_in))]

@@ -1,13 +1,14 @@
 //! Starts of a hand of a record.
 
-ghost use Rattle.std.specs.Prelude.{◌≡◌, IfOk};
+ghost use Rattle.std.specs.Prelude.{◌≡◌, ℕ, List, Some, IfOk, codes};
+ghost use Rattle.mj_records.specs.Inner.Lists.{tiles_field};
 ghost use Rattle.mj_records.specs.Deeds.{hands_at, start_by, start_hand_in};
 
 use crate::fields::{byte_field, tile_field, word_field};
 use crate::lists::tiles_field;
 use crate::starts::kind_field;
 use mj_deeds::{Deed, Hands};
-use mj_tiles::Kind;
+use mj_tiles::{Kind, Tile};
 use std::alloc::{AllocError, Global};
 
 /// The start of a hand, read from the fields after its type.
@@ -75,20 +76,29 @@ fn hands_at(alloc: Global, text: &[u8]) -> Result<Option<Hands>, AllocError>
     let Some(rest) = tiles_field(rest, b",", &mut second)? else {
         return Ok(None);
     };
+    hands_behind(alloc, first.as_slice(), second.as_slice(), rest)
+}
+
+// The hands of the four seats of any text whose first two are these, and which goes on with this one.
+#[inline(always)]
+fn hands_behind(
+    alloc: Global,
+    first: &[Tile],
+    second: &[Tile],
+    text: &[u8],
+) -> Result<Option<Hands>, AllocError>
+    ensures { IfOk result (λ hands. (whole rest : List ℕ)
+        → Some (first.now, rest) ≡ tiles_field (codes ",\"tehais\":[") whole
+        → Some (second.now, text.now) ≡ tiles_field (codes ",") rest → hands ≡ hands_at whole) }
+{
     let mut third = Vec::new(alloc);
-    let Some(rest) = tiles_field(rest, b",", &mut third)? else {
+    let Some(rest) = tiles_field(text, b",", &mut third)? else {
         return Ok(None);
     };
     let mut fourth = Vec::new(alloc);
     let Some(_) = tiles_field(rest, b",", &mut fourth)? else {
         return Ok(None);
     };
-    let hands = Hands::of(
-        alloc,
-        first.as_slice(),
-        second.as_slice(),
-        third.as_slice(),
-        fourth.as_slice(),
-    )?;
+    let hands = Hands::of(alloc, first, second, third.as_slice(), fourth.as_slice())?;
     Ok(Some(hands))
 }

@@ -1,10 +1,11 @@
 //! Wins and drawn hands of a record.
 
-ghost use Rattle.std.specs.Prelude.{◌≡◌, [], IfOk, option_map};
+ghost use Rattle.std.specs.Prelude.{◌≡◌, ℕ, List, [], Some, IfOk, codes, option_map};
 ghost use Rattle.mj_deeds.specs.Shown.{Shown, shown_or_hidden};
 ghost use Rattle.mj_deeds.specs.declared.four.Four.{Four};
 ghost use Rattle.mj_deeds.specs.declared.reason.Reason.{Reason};
 ghost use Rattle.mj_deeds.specs.declared.deed.Deed.TheVariants.{DrawnHand};
+ghost use Rattle.mj_records.specs.Inner.Lists.{tiles_field};
 ghost use Rattle.mj_records.specs.Deeds.{win_in, win_with, win_by, worth_at, drawn_hand_in, drawn_with, drawn_by, shown_at, shown_field, reason_at, reason_of};
 
 use crate::fields::{byte_field, points_field, quoted_at, tile_field, truth_field, word_field};
@@ -60,12 +61,39 @@ fn win_with(
     let Some(rest) = tiles_field(rest, b",\"hora_tehais\":", &mut hand)? else {
         return Ok(None);
     };
+    win_behind(
+        alloc,
+        seat,
+        target,
+        tile,
+        unders.as_slice(),
+        hand.as_slice(),
+        rest,
+    )
+}
+
+// The win of a seat on a tile of the target, of any text whose tiles are these, and which goes on with this one.
+#[inline(always)]
+fn win_behind(
+    alloc: Global,
+    seat: u8,
+    target: u8,
+    tile: Tile,
+    unders: &[Tile],
+    hand: &[Tile],
+    text: &[u8],
+) -> Result<Option<Deed>, AllocError>
+    ensures { IfOk result (λ deed. (whole rest : List ℕ)
+        → Some (unders.now, rest) ≡ tiles_field (codes ",\"uradora_markers\":") whole
+        → Some (hand.now, text.now) ≡ tiles_field (codes ",\"hora_tehais\":") rest
+        → deed ≡ win_with seat target tile whole) }
+{
     let mut yaku = Vec::new(alloc);
-    let Some(rest) = rows_field(rest, b",\"yakus\":", &mut yaku)? else {
+    let Some(rest) = rows_field(text, b",\"yakus\":", &mut yaku)? else {
         return Ok(None);
     };
-    let unders = Tiles::of(alloc, unders.as_slice())?;
-    let hand = Tiles::of(alloc, hand.as_slice())?;
+    let unders = Tiles::of(alloc, unders)?;
+    let hand = Tiles::of(alloc, hand)?;
     let yaku = YakuList::of(alloc, yaku.as_slice())?;
     Ok(win_by(seat, target, tile, unders, hand, yaku, rest))
 }
@@ -152,21 +180,43 @@ fn drawn_with(alloc: Global, reason: Reason, text: &[u8]) -> Result<Option<Deed>
     let Some((b, rest)) = shown_field(rest, b",", &mut second)? else {
         return Ok(None);
     };
+    drawn_behind(
+        alloc,
+        reason,
+        a,
+        first.as_slice(),
+        b,
+        second.as_slice(),
+        rest,
+    )
+}
+
+// The drawn hand with its reason, of any text whose first two hands are these, each its tiles or how many stay hidden, and
+// which goes on with this one.
+#[inline(always)]
+fn drawn_behind(
+    alloc: Global,
+    reason: Reason,
+    a: Option<u8>,
+    first: &[Tile],
+    b: Option<u8>,
+    second: &[Tile],
+    text: &[u8],
+) -> Result<Option<Deed>, AllocError>
+    ensures { IfOk result (λ deed. (whole rest : List ℕ)
+        → Some (shown_or_hidden a first.now, rest) ≡ shown_field (codes ",\"tehais\":[") whole
+        → Some (shown_or_hidden b second.now, text.now) ≡ shown_field (codes ",") rest
+        → deed ≡ drawn_with reason whole) }
+{
     let mut third = Vec::new(alloc);
-    let Some((c, rest)) = shown_field(rest, b",", &mut third)? else {
+    let Some((c, rest)) = shown_field(text, b",", &mut third)? else {
         return Ok(None);
     };
     let mut fourth = Vec::new(alloc);
     let Some((d, rest)) = shown_field(rest, b",", &mut fourth)? else {
         return Ok(None);
     };
-    let tiles = Hands::of(
-        alloc,
-        first.as_slice(),
-        second.as_slice(),
-        third.as_slice(),
-        fourth.as_slice(),
-    )?;
+    let tiles = Hands::of(alloc, first, second, third.as_slice(), fourth.as_slice())?;
     let hidden = Four {
         first: a,
         second: b,
