@@ -1,7 +1,10 @@
-ghost use Rattle.std.specs.Prelude.{◌≡◌, ◌<◌, ◌++◌, ◌∷◌, [], OnOk, OnErr, IfOk};
+ghost use Rattle.std.specs.Prelude.{◌≡◌, ◌<◌, ◌++◌, ◌∷◌, [], List, OnOk, OnErr, IfOk};
 ghost use Rattle.mj_bytes.specs.Adds.{Adds};
-ghost use Rattle.mj_observe.specs.Views.{public_part, is_hand_end};
-ghost use Rattle.mj_observe.specs.Inner.Kept.{one_more, of_hand, shown_at};
+ghost use Rattle.mj_deeds.specs.declared.deed.Deed.{Deed};
+ghost use Rattle.mj_deeds.specs.declared.deed.Viewer.TheVariants.{Record};
+ghost use Rattle.mj_forms.specs.Lines.{line as line_for};
+ghost use Rattle.mj_observe.specs.Views.{public_line, public_part, is_hand_end};
+ghost use Rattle.mj_observe.specs.Inner.Kept.{KeepsHand, one_more, of_hand, shown_at};
 
 use crate::public::{push_in_full, write_public};
 use crate::rendering::write_over;
@@ -74,21 +77,44 @@ impl Observer {
         } = self;
         write_over(*alloc, line, Viewer::Record, deed)?;
         write_public(*alloc, text, deed)?;
-        if is_hand_start(deed) {
-            push_all(into, text.as_slice())?;
-            mem::swap(kept, line);
-            *count = 1;
-            *past = past.and(deed);
-            return Ok(());
-        }
-        let number = one_more(*count);
-        let last = of_hand(*count, line.as_slice());
-        push_shown(text, deed, number, kept.as_slice(), last)?;
-        push_both(kept, last, into, text.as_slice())?;
-        *count = number;
+        *count = keep(deed, *count, kept, line, text, into)?;
         *past = past.and(deed);
         Ok(())
     }
+}
+
+// Tells what a deed adds to the public view, whose public line stands in the text, and keeps its line of the record: a
+// start of a hand alone, and another deed after those kept before, of which there are so many. Gives the number of the
+// lines then kept.
+#[inline(always)]
+fn keep(
+    deed: &Deed,
+    count: usize,
+    kept: &mut Vec<u8>,
+    line: &mut Vec<u8>,
+    text: &mut Vec<u8>,
+    into: &mut Vec<u8>,
+) -> Result<usize, AllocError>
+    requires count { count < 18446744073709551615 }
+    requires line { line.old.items ≡ line_for Record deed.now }
+    requires text { text.old.items ≡ public_line deed.now }
+    ensures kept { IfOk result (λ number. (before : List Deed) → KeepsHand kept.old.items count before
+        → KeepsHand kept.new.items number (before ++ deed.now ∷ [])) }
+    ensures told { OnOk result ((before : List Deed) → KeepsHand kept.old.items count before
+        → Adds into.old.items into.new.items (public_part before deed.now)) }
+    ensures same { OnErr result (kept.new.items ≡ kept.old.items) }
+    ensures untold { OnErr result (into.new.items ≡ into.old.items) }
+{
+    if is_hand_start(deed) {
+        push_all(into, text.as_slice())?;
+        mem::swap(kept, line);
+        return Ok(1);
+    }
+    let number = one_more(count);
+    let last = of_hand(count, line.as_slice());
+    push_shown(text, deed, number, kept.as_slice(), last)?;
+    push_both(kept, last, into, text.as_slice())?;
+    Ok(number)
 }
 
 // The number of lines of a hand with one line more; none where no hand has started.
