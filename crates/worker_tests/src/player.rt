@@ -53,13 +53,14 @@ pub enum Step {
     Leaves(u8),
 }
 
-/// What is seen of a game.
-#[derive(Clone, Copy, PartialEq, Eq)]
+/// What is seen of a game, and whether a fault of number 1 is kept beside it.
+#[derive(Clone, Copy)]
 pub struct Shown {
     pub entries: u64,
     pub deeds: u32,
     pub over: bool,
     pub present: [bool; 4],
+    pub failed: bool,
 }
 
 // Whether a player has done this.
@@ -163,7 +164,8 @@ pub fn act_often<G: Seated, F: Numbered, R: Wait>(
     all
 }
 
-fn shown_by<G: Seated>(game: &G) -> Shown {
+fn shown_by<G: Seated, F: Numbered>(room: &Room<G, F>) -> Shown {
+    let game = &room.game;
     Shown {
         entries: game.entries(),
         deeds: game.deeds(),
@@ -174,6 +176,7 @@ fn shown_by<G: Seated>(game: &G) -> Shown {
             game.present(2),
             game.present(3),
         ],
+        failed: room.lost.has(1),
     }
 }
 
@@ -190,20 +193,4 @@ pub fn look<G: Seated, F: Numbered, R: Wait>(
     let shown = shown_by(held.value());
     turn.give(pass, held);
     shown
-}
-
-/// Whether a fault with this number is kept beside the game.
-pub fn is_lost<G: Seated, F: Numbered, R: Wait>(
-    turn: &Turn<Room<G, F>>,
-    rt: &R,
-    pass: &mut Pass<Room<G, F>>,
-    number: u8,
-) -> bool
-    requires { IsIdle ⟦<Room<G, F> as Noted>⟧.setting turn.now pass.old }
-    ensures { IsIdle ⟦<Room<G, F> as Noted>⟧.setting turn.now pass.new }
-{
-    let mut held = turn.take(rt, pass);
-    let lost = held.value().lost.has(number);
-    turn.give(pass, held);
-    lost
 }

@@ -1,6 +1,7 @@
 //! Links that are served.
 
 ghost use Rattle.std.specs.Prelude.{◌≡◌, []};
+ghost use Rattle.turn_lock.specs.Turns.{IsIdle};
 
 use crate::hall::sorted_hall;
 use crate::lines::{HEAD, HELLO, Part, START, are_made_of, bytes_of};
@@ -11,8 +12,7 @@ use mj_ports::{Seated, SitRefused};
 use mj_seats::{Ended, Room, Served, serve_seat};
 use std::alloc::{AllocError, Global};
 use std::sync::Wait;
-use std::test::Fail;
-use turn_lock::Turn;
+use turn_lock::{Noted, Pass, Turn};
 
 const FOUR: [Step; 9] = [
     Step::Sits(A),
@@ -89,7 +89,7 @@ struct Case {
     entries: u64,
 }
 
-fn link(alloc: Global, case: Case) -> Result<MemLink, AllocError> {
+fn link(alloc: Global, case: &Case) -> Result<MemLink, AllocError> {
     let bytes = bytes_of(alloc, case.read)?;
     let reads = case.reads.to_vec(alloc)?;
     Ok(MemLink::new(bytes, reads, case.writes.to_vec(alloc)?))
@@ -125,14 +125,28 @@ fn serve<G: Seated, F: Numbered, L: Link + Drop, R: Wait>(
     let done = act_all(&turn, rt, alloc, &mut player, before)
         && act_often(&turn, rt, alloc, &mut player, &ONCE_MORE, returns);
     let mut wire = Wire::new(link);
-    let served = serve_seat(&turn, rt, alloc, &mut pass, &mut wire);
+    let served = serve_wire(&turn, rt, alloc, &mut pass, &mut wire);
+    let shown = look(&turn, rt, &mut player);
+    let taken = act(&turn, rt, alloc, &mut player, Step::Sits(KEY));
     Some(Outcome {
         done,
         served,
         link: wire.into_link(),
-        shown: look(&turn, rt, &mut player),
-        taken: act(&turn, rt, alloc, &mut player, Step::Sits(KEY)),
+        shown,
+        taken,
     })
+}
+
+fn serve_wire<G: Seated, F: Numbered, L: Link, R: Wait>(
+    turn: &Turn<Room<G, F>>,
+    rt: &R,
+    alloc: Global,
+    pass: &mut Pass<Room<G, F>>,
+    wire: &mut Wire<L>,
+) -> Served
+    requires { IsIdle ⟦<Room<G, F> as Noted>⟧.setting turn.now pass.old }
+{
+    serve_seat(turn, rt, alloc, pass, wire)
 }
 
 // Serves a link at a new game.
@@ -150,7 +164,7 @@ fn serve_anew<L: Link + Drop, R: Wait>(
 }
 
 // Whether all came as the case says, and the seat of the link is gone.
-fn is_as_wanted(served: Served, written: &[u8], shown: Shown, case: Case) -> bool {
+fn is_as_wanted(served: Served, written: &[u8], shown: Shown, case: &Case) -> bool {
     served.ended == case.ended
         && served.place == case.place
         && are_made_of(written, case.written)
@@ -158,7 +172,7 @@ fn is_as_wanted(served: Served, written: &[u8], shown: Shown, case: Case) -> boo
         && !shown.present[3]
 }
 
-fn holds<R: Wait>(rt: &R, alloc: Global, link: MemLink, case: Case) -> bool {
+fn holds<R: Wait>(rt: &R, alloc: Global, link: MemLink, case: &Case) -> bool {
     match serve_anew(rt, alloc, case.before, case.returns, link) {
         Some(it) => it.done && is_as_wanted(it.served, it.link.written(), it.shown, case),
         None => false,
@@ -166,10 +180,36 @@ fn holds<R: Wait>(rt: &R, alloc: Global, link: MemLink, case: Case) -> bool {
 }
 
 // Whether a case holds with a link that gives a byte a read.
-fn holds_slowly<R: Wait>(rt: &R, alloc: Global, link: MemLink, case: Case) -> bool {
+fn holds_slowly<R: Wait>(rt: &R, alloc: Global, link: MemLink, case: &Case) -> bool {
     match serve_anew(rt, alloc, case.before, case.returns, SlowLink(link)) {
         Some(it) => it.done && is_as_wanted(it.served, it.link.0.written(), it.shown, case),
         None => false,
+    }
+}
+
+// Whether each case holds, and where no read is to fail also with links that give a byte a read, if those are asked.
+fn all_hold<R: Wait>(rt: &R, alloc: Global, cases: &[Case], slowly: bool) -> bool {
+    let mut all = true;
+    for case in cases {
+        all = all && case_holds(rt, alloc, case);
+        if slowly && case.reads.is_empty() {
+            all = all && case_holds_slowly(rt, alloc, case);
+        }
+    }
+    all
+}
+
+fn case_holds<R: Wait>(rt: &R, alloc: Global, case: &Case) -> bool {
+    match link(alloc, case) {
+        Ok(link) => holds(rt, alloc, link, case),
+        Err(_) => false,
+    }
+}
+
+fn case_holds_slowly<R: Wait>(rt: &R, alloc: Global, case: &Case) -> bool {
+    match link(alloc, case) {
+        Ok(link) => holds_slowly(rt, alloc, link, case),
+        Err(_) => false,
     }
 }
 
@@ -463,23 +503,14 @@ const SEATED: [Case; 9] = [
 ];
 
 #[test]
-fn a_link_that_is_given_no_seat_enters_nothing(rt: HostRuntime) -> Result<(), Fail> {
-    for case in UNSEATED {
-        assert!(rt; holds(&rt, rt.alloc(), link(rt.alloc(), case)?, case));
-    }
-    Ok(())
+fn a_link_that_is_given_no_seat_enters_nothing(rt: HostRuntime) {
+    assert!(rt; all_hold(&rt, rt.alloc(), &UNSEATED, false));
 }
 
 // Where no read is to fail, it is all the same how many bytes come by each.
 #[test]
-fn a_seat_is_gone_once_its_link_has_ended_the_session(rt: HostRuntime) -> Result<(), Fail> {
-    for case in SEATED {
-        assert!(rt; holds(&rt, rt.alloc(), link(rt.alloc(), case)?, case));
-        if case.reads.is_empty() {
-            assert!(rt; holds_slowly(&rt, rt.alloc(), link(rt.alloc(), case)?, case));
-        }
-    }
-    Ok(())
+fn a_seat_is_gone_once_its_link_has_ended_the_session(rt: HostRuntime) {
+    assert!(rt; all_hold(&rt, rt.alloc(), &SEATED, true));
 }
 
 // What a link of many reads gives: the first one the join, and each later one a line that is refused.
@@ -525,12 +556,17 @@ fn breaks<R: Wait>(rt: &R, alloc: Global, link: MemLink, seated: bool) -> bool {
     }
 }
 
-#[test]
-fn a_seat_outlives_the_link_that_fails_at_any_read_or_write(rt: HostRuntime) -> Result<(), Fail> {
-    let alloc = rt.alloc();
-    for k in 1..13u64 {
-        assert!(rt; breaks(&rt, alloc, frail(alloc, &[k], &[])?, k > 1));
-        assert!(rt; breaks(&rt, alloc, frail(alloc, &[], &[k])?, k > 1));
+fn breaks_at<R: Wait>(rt: &R, alloc: Global, reads: &[u64], writes: &[u64], seated: bool) -> bool {
+    match frail(alloc, reads, writes) {
+        Ok(link) => breaks(rt, alloc, link, seated),
+        Err(_) => false,
     }
-    Ok(())
+}
+
+#[test]
+fn a_seat_outlives_the_link_that_fails_at_any_read_or_write(rt: HostRuntime) {
+    for k in 1..13u64 {
+        assert!(rt; breaks_at(&rt, rt.alloc(), &[k], &[], k > 1));
+        assert!(rt; breaks_at(&rt, rt.alloc(), &[], &[k], k > 1));
+    }
 }

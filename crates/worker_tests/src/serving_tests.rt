@@ -14,7 +14,6 @@ use mj_links::{Clock, Host, MemClock, MemHost, MemLink, MemSink, MemSource};
 use std::alloc::{AllocError, Global};
 use std::sync::Wait;
 use std::sync::atomic::AtomicU32;
-use std::test::Fail;
 use std::thread::Threads;
 use std::time;
 
@@ -26,22 +25,19 @@ const SERVE: [&str; 5] = [
     "1000",
 ];
 
-/// Texts as the words of a command.
-pub fn words_of(alloc: Global, texts: &[&str]) -> Result<Vec<String>, AllocError> {
+/// Texts, and more of them, as the words of a command.
+pub fn words_and(alloc: Global, texts: &[&str], more: &[&str]) -> Result<Vec<String>, AllocError> {
     let mut words = Vec::new(alloc);
-    for text in texts {
-        words.push(String::from_str(alloc, *text)?)?;
-    }
+    push_words(alloc, &mut words, texts)?;
+    push_words(alloc, &mut words, more)?;
     Ok(words)
 }
 
-/// Texts, and more of them, as the words of a command.
-pub fn words_and(alloc: Global, texts: &[&str], more: &[&str]) -> Result<Vec<String>, AllocError> {
-    let mut words = words_of(alloc, texts)?;
-    for text in more {
+fn push_words(alloc: Global, words: &mut Vec<String>, texts: &[&str]) -> Result<(), AllocError> {
+    for text in texts {
         words.push(String::from_str(alloc, *text)?)?;
     }
-    Ok(words)
+    Ok(())
 }
 
 /// How the run on these words over a host ends; as without memory where the words are wanting.
@@ -82,12 +78,12 @@ fn serve<H: Host, K: Clock, R: Threads + Wait + Sync>(
     clock: &mut K,
     sink: &mut MemSink,
 ) -> Status {
-    run_on(rt, alloc, words_of(alloc, &SERVE), host, clock, sink)
+    run_on(rt, alloc, words_and(alloc, &SERVE, &[]), host, clock, sink)
 }
 
 /// Whether a record is good.
 pub fn is_good(alloc: Global, record: &[u8]) -> bool {
-    match words_of(alloc, &["replay"]) {
+    match words_and(alloc, &["replay"], &[]) {
         Ok(words) => is_replayed(alloc, words.as_slice(), record),
         Err(_) => false,
     }
@@ -150,24 +146,34 @@ fn are_told(returned: &[(MemLink, u64)]) -> bool {
 }
 
 // Whether a game of four is served over a host, which opens its port.
-fn serves_four<R: Threads + Wait + Sync>(rt: &R, alloc: Global, mut host: MemHost) -> bool {
+fn serves_four<R: Threads + Wait + Sync>(
+    rt: &R,
+    alloc: Global,
+    host: Result<MemHost, AllocError>,
+) -> bool {
+    let Ok(mut host) = host else {
+        return false;
+    };
     let mut sink = MemSink::new(Vec::new(alloc));
     let mut clock = MemClock::new(0, 1000);
     serve(rt, alloc, &mut host, &mut clock, &mut sink) == Status::Done
-        && host.ports() == [11600].as_slice()
+        && is_of_four(alloc, &host, sink.written())
+}
+
+// Whether a host has opened its port and got four links back, and the record is that of a whole game.
+fn is_of_four(alloc: Global, host: &MemHost, record: &[u8]) -> bool {
+    host.ports() == [11600].as_slice()
         && are_told(host.returned())
-        && is_good(alloc, sink.written())
-        && is_ended(sink.written())
+        && is_good(alloc, record)
+        && is_ended(record)
 }
 
 // Seven workers are enough: of the second host the third accept fails.
 #[test]
-fn four_players_that_leave_are_served_a_game(rt: HostRuntime) -> Result<(), Fail> {
-    let alloc = rt.alloc();
+fn four_players_that_leave_are_served_a_game(rt: HostRuntime) {
     for fails in [0, 3] {
-        assert!(rt; serves_four(&rt, alloc, host(alloc, &[A, B, C, D], fails)?));
+        assert!(rt; serves_four(&rt, rt.alloc(), host(rt.alloc(), &[A, B, C, D], fails)));
     }
-    Ok(())
 }
 
 // A link that is nobody's, or one of the four players': what is read from it, and which of its reads and writes fail.
@@ -216,10 +222,12 @@ fn crowd(alloc: Global) -> Result<MemHost, AllocError> {
 }
 
 #[test]
-fn links_that_get_no_seat_keep_nobody_from_playing(rt: HostRuntime) -> Result<(), Fail> {
-    assert!(rt; serves_four(&rt, rt.alloc(), crowd(rt.alloc())?));
-    Ok(())
+fn links_that_get_no_seat_keep_nobody_from_playing(rt: HostRuntime) {
+    assert!(rt; serves_four(&rt, rt.alloc(), crowd(rt.alloc())));
 }
+
+// The numbers of the accepts by which a host fails each worker.
+const ALL_FAIL: [u64; 8] = [1, 2, 3, 4, 5, 6, 7, 8];
 
 // A host that serves nobody, whose `open` fails or whose accepts of these numbers do.
 fn nobody(alloc: Global, open_fails: bool, accepts: &[u64]) -> Result<MemHost, AllocError> {
@@ -239,10 +247,13 @@ fn leaves<R: Threads + Wait + Sync>(
     rt: &R,
     alloc: Global,
     more: &[&str],
-    mut host: MemHost,
+    host: Result<MemHost, AllocError>,
     lines: usize,
     front: &str,
 ) -> bool {
+    let Ok(mut host) = host else {
+        return false;
+    };
     let mut sink = MemSink::new(Vec::new(alloc));
     let mut clock = MemClock::new(0, 1000);
     let words = words_and(alloc, &SERVE, more);
@@ -276,16 +287,21 @@ const LEFT: [(&[&str], &str); 3] = [
 ];
 
 #[test]
-fn a_host_that_fails_everybody_leaves_the_walls_and_a_port_unopened_nothing(
-    rt: HostRuntime,
-) -> Result<(), Fail> {
+fn a_host_that_fails_everybody_leaves_the_walls_and_a_port_unopened_nothing(rt: HostRuntime) {
     let alloc = rt.alloc();
     for (more, front) in LEFT {
-        let host = nobody(alloc, false, &[1, 2, 3, 4, 5, 6, 7, 8])?;
-        assert!(rt; leaves(&rt, alloc, more, host, 201, front));
+        assert!(rt;
+            leaves(
+                &rt,
+                alloc,
+                more,
+                nobody(alloc, false, &ALL_FAIL),
+                201,
+                front
+            )
+        );
     }
-    assert!(rt; leaves(&rt, alloc, &[], nobody(alloc, true, &[])?, 0, ""));
-    Ok(())
+    assert!(rt; leaves(&rt, alloc, &[], nobody(alloc, true, &[]), 0, ""));
 }
 
 /// Whether the last line of a record is that of the game's end.
@@ -303,8 +319,11 @@ pub fn is_ended(record: &[u8]) -> bool {
 fn serves_meeting<R: Threads + Wait + time::Clock + Sync>(
     rt: &R,
     alloc: Global,
-    links: MemHost,
+    links: Result<MemHost, AllocError>,
 ) -> bool {
+    let Ok(links) = links else {
+        return false;
+    };
     let meeting = Meeting::new(4, 27);
     let mut host = MeetingHost::new(rt, &meeting, Sign::AllStarted, links);
     let mut sink = MemSink::new(Vec::new(alloc));
@@ -313,9 +332,8 @@ fn serves_meeting<R: Threads + Wait + time::Clock + Sync>(
 }
 
 #[test]
-fn four_links_are_served_side_by_side(rt: HostRuntime) -> Result<(), Fail> {
-    assert!(rt; serves_meeting(&rt, rt.alloc(), host(rt.alloc(), &[A, B, C, D], 0)?));
-    Ok(())
+fn four_links_are_served_side_by_side(rt: HostRuntime) {
+    assert!(rt; serves_meeting(&rt, rt.alloc(), host(rt.alloc(), &[A, B, C, D], 0)));
 }
 
 // Four players that come, leave, and come again by their keys.
@@ -334,8 +352,11 @@ const TWICE: [&str; 8] = [
 fn serves_all<R: Threads + Wait + time::Clock + Sync>(
     rt: &R,
     alloc: Global,
-    links: MemHost,
+    links: Result<MemHost, AllocError>,
 ) -> bool {
+    let Ok(links) = links else {
+        return false;
+    };
     let again = AtomicU32::new(0);
     let mut host = PatientHost::new(rt, &again, links);
     let mut clock = PatientClock::new(rt, &again);
@@ -344,7 +365,6 @@ fn serves_all<R: Threads + Wait + time::Clock + Sync>(
 }
 
 #[test]
-fn no_link_of_any_worker_is_dropped_and_each_window_runs_out(rt: HostRuntime) -> Result<(), Fail> {
-    assert!(rt; serves_all(&rt, rt.alloc(), host(rt.alloc(), &TWICE, 0)?));
-    Ok(())
+fn no_link_of_any_worker_is_dropped_and_each_window_runs_out(rt: HostRuntime) {
+    assert!(rt; serves_all(&rt, rt.alloc(), host(rt.alloc(), &TWICE, 0)));
 }

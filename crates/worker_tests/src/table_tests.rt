@@ -13,7 +13,6 @@ use mj_ports::{Picked, Picker};
 use mj_tables::run_tables;
 use std::alloc::{AllocError, Global};
 use std::sync::Wait;
-use std::test::Fail;
 use std::thread::Threads;
 use std::time;
 
@@ -116,7 +115,14 @@ fn are_told(returned: &[(MemLink, u64)]) -> bool {
 }
 
 // Whether players of two rooms are served a game each over a host.
-fn serves_two<R: Threads + Wait + Sync>(rt: &R, alloc: Global, mut host: MemHost) -> bool {
+fn serves_two<R: Threads + Wait + Sync>(
+    rt: &R,
+    alloc: Global,
+    host: Result<MemHost, AllocError>,
+) -> bool {
+    let Ok(mut host) = host else {
+        return false;
+    };
     let mut sink = MemSink::new(Vec::new(alloc));
     let mut clock = MemClock::new(0, 1000);
     play(rt, alloc, &["2"], &mut host, &mut clock, &mut sink) == Status::Done
@@ -125,18 +131,20 @@ fn serves_two<R: Threads + Wait + Sync>(rt: &R, alloc: Global, mut host: MemHost
 }
 
 #[test]
-fn players_of_two_rooms_that_leave_are_served_a_game_each(rt: HostRuntime) -> Result<(), Fail> {
-    assert!(rt; serves_two(&rt, rt.alloc(), host(rt.alloc(), &NINE[1..], 0)?));
-    Ok(())
+fn players_of_two_rooms_that_leave_are_served_a_game_each(rt: HostRuntime) {
+    assert!(rt; serves_two(&rt, rt.alloc(), host(rt.alloc(), &NINE[1..], 0)));
 }
 
 // Whether eight of these links, which wait for one another, are given back, and so many are told that there is no such room.
 fn serves_meeting<R: Threads + Wait + time::Clock + Sync>(
     rt: &R,
     alloc: Global,
-    links: MemHost,
+    links: Result<MemHost, AllocError>,
     refused: u32,
 ) -> bool {
+    let Ok(links) = links else {
+        return false;
+    };
     let meeting = Meeting::new(8, JOIN);
     let mut host = MeetingHost::new(rt, &meeting, Sign::AllStarted, links);
     let mut sink = MemSink::new(Vec::new(alloc));
@@ -148,13 +156,10 @@ fn serves_meeting<R: Threads + Wait + time::Clock + Sync>(
 }
 
 #[test]
-fn two_rooms_are_served_side_by_side_and_a_link_for_none_is_told_so(
-    rt: HostRuntime,
-) -> Result<(), Fail> {
+fn two_rooms_are_served_side_by_side_and_a_link_for_none_is_told_so(rt: HostRuntime) {
     let alloc = rt.alloc();
-    assert!(rt; serves_meeting(&rt, alloc, host(alloc, &NINE[1..], 0)?, 0));
-    assert!(rt; serves_meeting(&rt, alloc, host(alloc, &NINE, 0)?, 1));
-    Ok(())
+    assert!(rt; serves_meeting(&rt, alloc, host(alloc, &NINE[1..], 0), 0));
+    assert!(rt; serves_meeting(&rt, alloc, host(alloc, &NINE, 0), 1));
 }
 
 // The rooms and words more, and how the record of the second table begins and ends by them that has no deeds: with its header, with wall 200 of
@@ -196,10 +201,13 @@ fn leaves_second<R: Threads + Wait + Sync>(
     rt: &R,
     alloc: Global,
     more: &[&str],
-    mut host: MemHost,
+    host: Result<MemHost, AllocError>,
     front: &str,
     end: &str,
 ) -> bool {
+    let Ok(mut host) = host else {
+        return false;
+    };
     let mut sink = MemSink::new(Vec::new(alloc));
     let mut clock = MemClock::new(0, 1000);
     let status = play(rt, alloc, more, &mut host, &mut clock, &mut sink);
@@ -207,20 +215,22 @@ fn leaves_second<R: Threads + Wait + Sync>(
 }
 
 #[test]
-fn the_second_table_has_the_next_walls_of_the_seed(rt: HostRuntime) -> Result<(), Fail> {
+fn the_second_table_has_the_next_walls_of_the_seed(rt: HostRuntime) {
     let alloc = rt.alloc();
     for (more, front, end) in SECOND {
-        assert!(rt; leaves_second(&rt, alloc, more, nobody(alloc, false)?, front, end));
+        assert!(rt; leaves_second(&rt, alloc, more, nobody(alloc, false), front, end));
     }
-    Ok(())
 }
 
 fn is_refused<R: Threads + Wait + Sync>(
     rt: &R,
     alloc: Global,
     rooms: &str,
-    mut host: MemHost,
+    host: Result<MemHost, AllocError>,
 ) -> bool {
+    let Ok(mut host) = host else {
+        return false;
+    };
     let mut sink = MemSink::new(Vec::new(alloc));
     let mut clock = MemClock::new(0, 1000);
     let status = play(rt, alloc, &[rooms], &mut host, &mut clock, &mut sink);
@@ -231,12 +241,10 @@ fn is_refused<R: Threads + Wait + Sync>(
 }
 
 #[test]
-fn there_are_one_to_eight_rooms(rt: HostRuntime) -> Result<(), Fail> {
-    let alloc = rt.alloc();
+fn there_are_one_to_eight_rooms(rt: HostRuntime) {
     for rooms in ["0", "9", "01", "x"] {
-        assert!(rt; is_refused(&rt, alloc, rooms, nobody(alloc, true)?));
+        assert!(rt; is_refused(&rt, rt.alloc(), rooms, nobody(rt.alloc(), true)));
     }
-    Ok(())
 }
 
 // Every line is for the first table.
@@ -268,11 +276,14 @@ fn come_back<R: Threads + Wait + Sync>(
     rt: &R,
     alloc: Global,
     games: Vec<Core>,
-    host: MemHost,
+    host: Result<MemHost, AllocError>,
 ) -> bool
     requires two { length games.items ≡ 2 }
     requires new { All (λ g. g.entries ≡ []) games.items }
 {
+    let Ok(host) = host else {
+        return false;
+    };
     let mut clock = MemClock::new(0, 1000);
     match run_tables(rt, alloc, games, &FirstTable, &host, &mut clock) {
         Ok(closed) => {
@@ -282,9 +293,14 @@ fn come_back<R: Threads + Wait + Sync>(
     }
 }
 
+fn two_come_back<R: Threads + Wait + Sync>(rt: &R, alloc: Global) -> bool {
+    match two_games(alloc) {
+        Ok(games) => come_back(rt, alloc, games, nobody(alloc, false)),
+        Err(_) => false,
+    }
+}
+
 #[test]
-fn games_come_back_where_the_host_fails_each_handler(rt: HostRuntime) -> Result<(), Fail> {
-    let alloc = rt.alloc();
-    assert!(rt; come_back(&rt, alloc, two_games(alloc)?, nobody(alloc, false)?));
-    Ok(())
+fn games_come_back_where_the_host_fails_each_handler(rt: HostRuntime) {
+    assert!(rt; two_come_back(&rt, rt.alloc()));
 }

@@ -9,7 +9,6 @@ use mj_ports::Seated;
 use mj_seats::{Lost, Room, Ticked, tick};
 use std::alloc::Global;
 use std::sync::Wait;
-use std::test::Fail;
 use turn_lock::Turn;
 
 // Whether the other pass has done all that it was to do, how the telling of the time ended, what others see then, and the next
@@ -48,9 +47,17 @@ fn tell<G: Seated, F: Numbered, R: Wait>(
 }
 
 // What comes of a clock that goes on by this step, at a game whose seats are all gone, beside faults that are kept.
-fn told_beside<R: Wait>(rt: &R, alloc: Global, lost: Lost<MemFault>, step: u64) -> Option<Told> {
+fn told_by<R: Wait>(rt: &R, alloc: Global, lost: Lost<MemFault>, step: u64) -> Option<Told> {
     match shuffled_hall(alloc, lost) {
         Ok(hall) => tell(rt, alloc, hall, &GONE, MemClock::new(0, step)),
+        Err(_) => None,
+    }
+}
+
+// That beside faults of these numbers.
+fn told_beside<R: Wait>(rt: &R, alloc: Global, numbers: &[u8], step: u64) -> Option<Told> {
+    match lost(alloc, 8, numbers) {
+        Ok(lost) => told_by(rt, alloc, lost, step),
         Err(_) => None,
     }
 }
@@ -90,15 +97,11 @@ fn ends_so(told: Option<Told>, wanted: Ticked) -> bool {
 #[test]
 fn each_window_is_closed_by_readings_that_are_the_limit_apart_until_all_eight_have_lost_their_host(
     rt: HostRuntime,
-) -> Result<(), Fail> {
-    let alloc = rt.alloc();
+) {
     for (step, readings) in STEPS {
-        let told = told_beside(&rt, alloc, lost(alloc, 8, &[])?, step);
-        assert!(rt; closes_by(told, step, readings));
+        assert!(rt; closes_by(told_beside(&rt, rt.alloc(), &[], step), step, readings));
     }
     for (numbers, wanted) in LOST {
-        let told = told_beside(&rt, alloc, lost(alloc, 8, numbers)?, 1000);
-        assert!(rt; ends_so(told, wanted));
+        assert!(rt; ends_so(told_beside(&rt, rt.alloc(), numbers, 1000), wanted));
     }
-    Ok(())
 }

@@ -9,7 +9,6 @@ use mj_ports::Seated;
 use mj_seats::Room;
 use std::alloc::Global;
 use std::sync::Wait;
-use std::test::Fail;
 use turn_lock::{Noted, Pass, Turn};
 
 // Whether two passes are told of a change: at first, after a turn of the second that ends in a change, after a turn of the
@@ -58,11 +57,14 @@ fn told<G: Seated, F: Numbered, R: Wait>(
     Some([new, changed, seen, again])
 }
 
+fn are_told<R: Wait>(rt: &R, alloc: Global) -> bool {
+    match sorted_hall(alloc) {
+        Ok(hall) => told(rt, alloc, hall) == Some(WANTED),
+        Err(_) => false,
+    }
+}
+
 #[test]
-fn a_pass_is_told_of_each_change_by_another_until_it_has_looked(
-    rt: HostRuntime,
-) -> Result<(), Fail> {
-    let alloc = rt.alloc();
-    assert!(rt; told(&rt, alloc, sorted_hall(alloc)?) == Some(WANTED));
-    Ok(())
+fn a_pass_is_told_of_each_change_by_another_until_it_has_looked(rt: HostRuntime) {
+    assert!(rt; are_told(&rt, rt.alloc()));
 }
