@@ -1,6 +1,5 @@
 //! Where two texts first differ.
 
-use bstr::ByteSlice;
 use mj_bytes::{push_all, push_number};
 use std::alloc::AllocError;
 
@@ -26,9 +25,9 @@ pub fn push_difference(
 
 // The first line that differs: its number, counted from 1, and how it stands in either text.
 fn first_difference<'a>(came: &'a [u8], wanted: &'a [u8]) -> Option<(u64, &'a [u8], &'a [u8])> {
-    let mut others = wanted.split_str(b"\n");
+    let mut others = wanted.split(|byte| *byte == b'\n');
     let mut number = 0u64;
-    for line in came.split_str(b"\n") {
+    for line in came.split(|byte| *byte == b'\n') {
         number = number.saturating_add(1);
         let other = others.next().unwrap_or(b"(the end)");
         if line != other {
