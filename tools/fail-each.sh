@@ -112,7 +112,7 @@ fail_serving() {
 
 failed=0
 fail_all crates/riichi_table/stdin referee 0
-fail_all crates/riichi_bench/data/self_played_record replay
+fail_all tools/fail-each/self_played_record replay
 fail_all /dev/null hand 1m 2m 3m 4p 5p 6p 7s 8s 9s E E S S
 fail_serving
 exit $failed

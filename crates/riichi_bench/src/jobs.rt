@@ -3,15 +3,11 @@
 ghost use Rattle.std.specs.Prelude.{◌≡◌, sum};
 ghost use Rattle.mj_tiles.specs.Counts.{NoFifth};
 
-use crate::half_played::{half_played, is_safe, may_discard};
 use crate::hands::{Hands, OpenHand, ROOM, first_kind, without_first};
-use crate::told::{line_sum, told};
-use crate::winning::{awaited, may_win};
 use mj_readings::{Case, Riichi, readings};
 use mj_score::{Extra, worth};
 use mj_shanten::{Suits, shanten};
 use mj_suits::partitions;
-use mj_table::Table;
 use mj_tiles::{Counts, Form, Kind, Kinds, Meld, Tile};
 use mj_waits::waits;
 use mj_yaku::is_closed;
@@ -28,18 +24,13 @@ pub enum Job {
     Shanten,
     Number,
     BestDiscard,
-    Judge,
-    JudgeWin,
     WaitsOfOpen,
     ReadingsOfOpen,
     WorthOfOpen,
-    EarlyLine,
-    LateLine,
-    Safe,
 }
 
 /// All jobs, in the order in which they are printed.
-pub const JOBS: [Job; 16] = [
+pub const JOBS: [Job; 11] = [
     Job::Waits,
     Job::WaitsOfReady,
     Job::Readings,
@@ -48,20 +39,10 @@ pub const JOBS: [Job; 16] = [
     Job::Shanten,
     Job::Number,
     Job::BestDiscard,
-    Job::Judge,
-    Job::JudgeWin,
     Job::WaitsOfOpen,
     Job::ReadingsOfOpen,
     Job::WorthOfOpen,
-    Job::EarlyLine,
-    Job::LateLine,
-    Job::Safe,
 ];
-
-// The places of the lines that are asked for.
-const EARLY: u32 = 100;
-
-const LATE: u32 = 10_000;
 
 impl Job {
     /// What the job is called.
@@ -75,31 +56,14 @@ impl Job {
             Job::Shanten => "shanten of 13 tiles",
             Job::Number => "shanten of 13 tiles, the number alone",
             Job::BestDiscard => "best discard of 14 tiles",
-            Job::Judge => "judge of a discard in the middle of a hand",
-            Job::JudgeWin => "judge of a win in the middle of a hand",
             Job::WaitsOfOpen => "waits of a ready open hand",
             Job::ReadingsOfOpen => "readings of a complete open hand",
             Job::WorthOfOpen => "worth of an open hand",
-            Job::EarlyLine => "line 100 of a seat",
-            Job::LateLine => "line 10000 of a seat",
-            Job::Safe => "safe of a held kind in the middle of a hand",
         }
     }
 
     /// Goes through so many hands, and answers a checksum.
     pub fn run(self, alloc: Global, hands: &mut Hands, times: u32) -> Result<u64, AllocError> {
-        match self {
-            Job::EarlyLine => lines_asked(alloc, hands, times, EARLY),
-            Job::LateLine => lines_asked(alloc, hands, times, LATE),
-            Job::Judge => discards_judged(alloc, hands, times),
-            Job::JudgeWin => wins_judged(alloc, hands, times),
-            Job::Safe => kinds_asked(alloc, hands, times),
-            _ => self.asked(alloc, hands, times),
-        }
-    }
-
-    // Goes through so many hands for a job that asks of hands, and answers a checksum.
-    fn asked(self, alloc: Global, hands: &mut Hands, times: u32) -> Result<u64, AllocError> {
         let kinds = all_kinds();
         let mut sum = 0u64;
         for _ in 0..times {
@@ -115,61 +79,11 @@ impl Job {
                 Job::WaitsOfOpen => waits_of_open(&hands.open_hand()),
                 Job::ReadingsOfOpen => readings_of_open(alloc, &hands.open_hand())?,
                 Job::WorthOfOpen => worth_of_open(alloc, &hands.open_hand())?,
-                Job::Judge | Job::JudgeWin | Job::EarlyLine | Job::LateLine | Job::Safe => 0,
             };
             sum = sum.wrapping_mul(31).wrapping_add(part);
         }
         Ok(sum)
     }
-}
-
-// Judges so many discards in the middle of a hand.
-fn discards_judged(alloc: Global, hands: &mut Hands, times: u32) -> Result<u64, AllocError> {
-    let table = half_played(alloc)?;
-    let mut sum = 0u64;
-    for _ in 0..times {
-        let part = judged(&table, &hands.numbers(1));
-        sum = sum.wrapping_mul(31).wrapping_add(part);
-    }
-    Ok(sum)
-}
-
-// Judges a win in the middle of a hand so many times.
-fn wins_judged(alloc: Global, hands: &mut Hands, times: u32) -> Result<u64, AllocError> {
-    let won = awaited(alloc)?;
-    let mut sum = 0u64;
-    for _ in 0..times {
-        let part = u64::from(hands.numbers(1)[0]).wrapping_add(may_win(&won));
-        sum = sum.wrapping_mul(31).wrapping_add(part);
-    }
-    Ok(sum)
-}
-
-// Asks so many times whether a kind that a seat holds is safe, in the middle of a hand.
-fn kinds_asked(alloc: Global, hands: &mut Hands, times: u32) -> Result<u64, AllocError> {
-    let table = half_played(alloc)?;
-    let mut sum = 0u64;
-    for turn in 0..times {
-        let part = u64::from(hands.numbers(1)[0]).wrapping_add(is_safe(&table, turn));
-        sum = sum.wrapping_mul(31).wrapping_add(part);
-    }
-    Ok(sum)
-}
-
-// Asks so many times for the line of a seat at one place, of as many as the latest place wants.
-fn lines_asked(
-    alloc: Global,
-    hands: &mut Hands,
-    times: u32,
-    place: u32,
-) -> Result<u64, AllocError> {
-    let streams = told(alloc, LATE + 1)?;
-    let mut sum = 0u64;
-    for _ in 0..times {
-        let part = line_sum(&streams, hands.numbers(1)[0], place);
-        sum = sum.wrapping_mul(31).wrapping_add(part);
-    }
-    Ok(sum)
 }
 
 /// Makes the hands of a job and asks nothing, so that the time of making them can be taken off.
@@ -180,9 +94,6 @@ pub fn make_only(job: Job, hands: &mut Hands, times: u32) -> u64 {
             Job::Waits => hands.mixed_numbers(),
             Job::Shanten | Job::Number => hands.numbers(13),
             Job::BestDiscard => hands.numbers(14),
-            Job::Judge | Job::JudgeWin | Job::EarlyLine | Job::LateLine | Job::Safe => {
-                hands.numbers(1)
-            }
             Job::WaitsOfReady => hands.ready_numbers(),
             Job::Readings | Job::Partitions | Job::Worth => hands.complete_numbers(),
             Job::WaitsOfOpen => without_first(&hands.open_hand().numbers),
@@ -379,16 +290,5 @@ fn worth_beside(
     match worth(alloc, &counts, melds, win, &case, extra)? {
         Some(score) => Ok(u64::from(score.base)),
         None => Ok(0),
-    }
-}
-
-// Whether a discard of a kind is taken.
-fn judged(table: &Table, numbers: &[u8; 34]) -> u64 {
-    let Some(counts) = Counts::of(*numbers) else {
-        return 0;
-    };
-    match first_kind(&counts) {
-        Some(kind) => may_discard(table, kind),
-        None => 0,
     }
 }
