@@ -1,6 +1,6 @@
 #!/usr/bin/env bash
-# What a deed costs over TCP, beside the least that any server of such games could take: a line to each of four links and a line
-# from each, without a rule (tools/bench-tcp/limit.c). Both are played with the same four players a table, which answer at once
+# What a deed costs over TCP, beside what it costs a server of one thread without a rule: a line to each of four links and a line
+# from each (tools/bench-tcp/limit.c). Both are played with the same four players a table, which answer at once
 # (tools/bench-tcp/players.c), in pairs, one after the other, so that what else the machine does falls on both.
 #
 # usage: bench-tcp.sh [PROGRAM [PAIRS]]
@@ -94,6 +94,6 @@ for tables in 1 8; do
     done
     least=$(median < "$folder/limit.$tables")
     ours=$(median < "$folder/server.$tables")
-    echo "tables $tables: $ours microseconds a deed, the least $least, ratio $(awk "BEGIN { printf \"%.2f\", $ours / $least }")"
+    echo "tables $tables: $ours microseconds a deed, without rules $least, ratio $(awk "BEGIN { printf \"%.2f\", $ours / $least }")"
     if command -v strace > /dev/null; then count_calls "$tables"; fi
 done
