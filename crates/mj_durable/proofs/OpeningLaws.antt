@@ -1,16 +1,30 @@
 -- How the journals of games are opened one after the other, and closed.
-use Rattle.std.proofs.Common.{◌≡◌, ℕ, List, [], ◌∷◌, ◌++◌, length, map, sym, ap, ◌∙◌, subst}
-use Rattle.std.specs.Prelude.{All, Option, Some, slice_get}
-use Rattle.std.proofs.lemmas.List.{length-map}
+use Rattle.std.proofs.Common.{◌≡◌, ℕ, List, [], ◌∷◌, ◌++◌, length, map, sym, ap, ap₂, ◌∙◌, subst}
+use Rattle.std.specs.Prelude.{All, Option, Some, Result, Ok, Err, IfOk, IfErr, slice_get}
+use Rattle.std.specs.Option.{option_to_list}
+use Rattle.std.proofs.lemmas.List.{length-map, map-append}
 use Rattle.mj_wall.specs.declared.setting.Setting.{Setting}
 use Rattle.mj_history.specs.Legal.{Game}
 use Rattle.mj_journal.specs.declared.not_opened.NotOpened.{NotOpened}
 use Rattle.mj_ticker.specs.Beside.{Beside}
-use Rattle.mj_ticker.proofs.Besides.{all_at, unmapped, snoc_left, snoc_last, beside_more, beside_snoc}
+use Rattle.mj_ticker.proofs.Besides.{popped, all_at, unmapped, snoc_left, snoc_last, beside_more, beside_snoc}
 use Rattle.mj_written.specs.Writing.{Journaled}
 use Rattle.mj_durable.specs.Journals.{LosesNothing}
 use Rattle.mj_durable.specs.Inner.Steps.{IsKept, IsOpening, AreOpening, IsRight, IsBack, AreBack}
 use Rattle.mj_durable.proofs.JournalLaws.{loses_nothing, faults_stay}
+
+-- what is known of an answer
+pub of_ok : {A E : Type 0} (P : A → Type 0) (r : Result A E) (a : A) → IfOk r P → r ≡ Ok a → P a
+of_ok {A} {E} P r a h is = subst (λ (x : Result A E). IfOk x P) is h
+
+pub of_err : {A E : Type 0} (P : E → Type 0) (r : Result A E) (e : E) → IfErr r P → r ≡ Err e → P e
+of_err {A} {E} P r e h is = subst (λ (x : Result A E). IfErr x P) is h
+
+-- one more is put back behind the others
+pub put_back : {X Y : Type 0} (f : X → Y) (all rest : List X) (r : Option X) (x : X) (olds news : List Y) (y : Y) → all ≡ rest ++ option_to_list r → r ≡ Some x → olds ≡ map f rest → y ≡ f x
+    → news ≡ olds ++ y ∷ [] → news ≡ map f all
+put_back {X} {Y} f all rest r x olds news y items this closed is pushed =
+    pushed ∙ ap₂ (λ (l : List Y) (z : Y). l ++ z ∷ []) closed is ∙ sym (map-append f rest (x ∷ [])) ∙ sym (ap (λ (l : List X). map f l) (popped all rest r x items this))
 
 module _ {D : Type 0} (told : D → Option (List ℕ)) (may_leave : D → List ℕ → Type 0) (moment : D → ℕ) (left_since secured_since : D → ℕ → List ℕ → Type 0) (disk_faults : D → ℕ) (authors : ℕ) where
   -- one game more is open

@@ -1,36 +1,44 @@
-use Rattle.std.proofs.Common.{◌≡◌, List, sym, subst₂, rules}
-use Rattle.std.specs.Prelude.{Some}
+use Rattle.std.proofs.Common.{List, [], ◌∷◌, sym, subst, subst₂, ◌∙◌}
+use Rattle.std.specs.Prelude.{All}
+use Rattle.std.proofs.lemmas.List.Elements.{All-head}
 use Rattle.std.proofs.lemmas.Result.{IfOk-weaker, IfErr-weaker}
 use Rattle.mj_history.specs.Legal.{Game}
-use Rattle.mj_ticker.proofs.Besides.{popped}
-use Rattle.mj_durable.specs.Inner.Steps.{AreOpening, AreBack}
-use Rattle.mj_durable.proofs.OpeningLaws.{back_more}
-use Rattle.mj_durable.proofs.JournalLaws.{untouched}
+use Rattle.mj_ticker.proofs.Besides.{popped, all_after}
+use Rattle.mj_durable.specs.Inner.Steps.{IsUnplayed, AreOpening, AreBack}
 use Rattle.mj_durable.proofs.opening.+open_all.Goals as goal
 
-pub returns-in-Ok-clause-opened : goal.returns-in-Ok-clause-opened
-returns-in-Ok-clause-opened g t c =
-    let this : c.pop-2.result ≡ Some c.unwrap-disk.result = search rules in
-    IfOk-weaker c.open_next.result _ _
+pub open_behind-requires-clause-new : goal.open_behind-requires-clause-new
+open_behind-requires-clause-new g t c κs within =
+    All-head IsUnplayed c.in-Some.core []
+    (all_after IsUnplayed c.pop.new.self.items (c.in-Some.core ∷ []) (subst (All IsUnplayed) (popped _ _ _ _ c.pop.ensures.items c.in-Some.is) c.requires.new))
+
+pub open_behind-requires-clause-empty : goal.open_behind-requires-clause-empty
+open_behind-requires-clause-empty g t c κs within = c.open_all-before.ensures.moved
+
+pub returns-clause-opened : goal.returns-clause-opened
+returns-clause-opened g t c =
+    IfOk-weaker c.open_behind.result _ _
     (λ gs h. subst₂ (λ (cores : List Game)
     (were : List _). AreOpening g.D.Disk.told g.D.Disk.may_leave g.D.Disk.moment g.D.Disk.left_since g.D.Disk.secured_since g.D.Disk.disk_faults c.args.authors cores were gs.items)
-    (sym (popped _ _ _ _ c.pop.ensures.items c.in-Some.is)) (sym (popped _ _ _ _ c.pop-2.ensures.items this)) h)
-    (c.open_next.ensures.opened c.pop.new.self.items c.pop-2.new.self.items c.in-Ok.ensures.opened)
+    (sym (popped _ _ _ _ c.pop.ensures.items c.in-Some.is)) (sym (popped _ _ _ _ c.pop-2.ensures.items c.unwrap-disk.ensures)) h)
+    (c.open_behind.ensures.opened c.pop.new.self.items c.pop-2.new.self.items c.open_all-before.ensures.opened)
 
-pub returns-in-Ok-clause-back : goal.returns-in-Ok-clause-back
-returns-in-Ok-clause-back g t c =
-    let this : c.pop-2.result ≡ Some c.unwrap-disk.result = search rules in
-    IfErr-weaker c.open_next.result _ _
+pub returns-clause-back : goal.returns-clause-back
+returns-clause-back g t c =
+    IfErr-weaker c.open_behind.result _ _
     (λ why h. subst₂ (λ (cores : List Game)
     (were : List _). AreBack g.D.Disk.told g.D.Disk.may_leave g.D.Disk.moment g.D.Disk.left_since g.D.Disk.secured_since g.D.Disk.disk_faults c.args.authors why cores were
-    c.open_next.new.disks.items) (sym (popped _ _ _ _ c.pop.ensures.items c.in-Some.is)) (sym (popped _ _ _ _ c.pop-2.ensures.items this)) h)
-    (c.open_next.ensures.back c.pop.new.self.items c.pop-2.new.self.items c.in-Ok.ensures.opened)
+    c.open_behind.new.disks.items) (sym (popped _ _ _ _ c.pop.ensures.items c.in-Some.is)) (sym (popped _ _ _ _ c.pop-2.ensures.items c.unwrap-disk.ensures)) h)
+    (c.open_behind.ensures.back c.pop.new.self.items c.pop-2.new.self.items c.open_all-before.ensures.opened c.open_all-before.ensures.back)
 
-pub returns-in-Err-clause-back : goal.returns-in-Err-clause-back
-returns-in-Err-clause-back g t c =
-    let this : c.pop-2.result ≡ Some c.unwrap-disk.result = search rules in
-    back_more g.D.Disk.told g.D.Disk.may_leave g.D.Disk.moment g.D.Disk.left_since g.D.Disk.secured_since g.D.Disk.disk_faults c.args.authors c.pop.new.self.items _ c.pop-2.new.self.items _
-    c.open_all.new.disks.items c.push_reserved.new.self.items c.in-Some.core c.unwrap-disk.result c.in-Err.why
-    (popped _ _ _ _ c.pop.ensures.items c.in-Some.is) (popped _ _ _ _ c.pop-2.ensures.items this) c.push_reserved.ensures.items c.in-Err.ensures.back
-    (untouched g.D.Disk.told g.D.Disk.may_leave g.D.Disk.moment g.D.Disk.left_since g.D.Disk.secured_since g.D.Disk.disk_faults c.in-Some.core.setting c.unwrap-disk.result
-    ((g.met.D.Disk g.world.𝓛 g.world.𝓜 g.world.𝓡 ((λ s x. x), (λ x. x), (λ x. x), λ x. x)).only_now c.unwrap-disk.result))
+pub returns-clause-room : goal.returns-clause-room
+returns-clause-room g t c = c.open_behind.ensures.room _ c.open_all-before.ensures.room
+
+pub returns-clause-moved : goal.returns-clause-moved
+returns-clause-moved g t c = c.open_behind.ensures.moved
+
+pub returns-clause-places : goal.returns-clause-places
+returns-clause-places g t c = (
+  c.open_behind.ensures.places.0 ∙ (c.open_all-before.ensures.places.0 ∙ c.pop.ensures.capacity),
+  c.open_behind.ensures.places.1 ∙ (c.open_all-before.ensures.places.1 ∙ c.pop-2.ensures.capacity),
+)

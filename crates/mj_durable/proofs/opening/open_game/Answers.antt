@@ -1,7 +1,4 @@
-use Rattle.std.proofs.Common.{◌++◌, ◌∙◌, ap, List, ℕ}
-use Rattle.mj_core.specs.Calls.{record_of}
 use Rattle.mj_durable.proofs.JournalLaws.{opens_one, comes_back, is_right, untouched}
-use Rattle.mj_durable.proofs.TagLaws.{tag_is}
 use Rattle.mj_durable.proofs.opening.open_game.Goals as goal
 
 pub returns-in-Err-clause-back : goal.returns-in-Err-clause-back
@@ -11,21 +8,21 @@ returns-in-Err-clause-back g c =
 
 pub returns-in-Ok-clause-opened : goal.returns-in-Ok-clause-opened
 returns-in-Ok-clause-opened g c =
-    opens_one g.D.Disk.told g.D.Disk.may_leave g.D.Disk.moment g.D.Disk.left_since g.D.Disk.secured_since g.D.Disk.disk_faults c.args.authors c.args.core.setting c.record.new.into.items
-    (c.in-Ok.ensures.ok.is ∙ ap (λ (l : List ℕ). l ++ record_of c.args.core) c.new-tag.ensures.items ∙ tag_is c.args.core c.requires.none) c.args.disk c.open.result
+    opens_one g.D.Disk.told g.D.Disk.may_leave g.D.Disk.moment g.D.Disk.left_since g.D.Disk.secured_since g.D.Disk.disk_faults c.args.authors c.args.core.setting c.in-Ok.tag.items
+    c.in-Ok.ensures c.args.disk c.open.result
     c.open.ensures.setting c.open.ensures.front c.open.ensures.opened c.open.ensures.authors c.open.ensures.on c.open.ensures.looks c.open.ensures.any_moment c.open.ensures.syncs
     c.open.ensures.faults (g.met.D.Disk g.world.𝓛 g.world.𝓜 g.world.𝓡 ((λ s x. x), (λ x. x), (λ x. x), λ x. x)).counts_now
 
 pub returns-in-Ok-clause-back : goal.returns-in-Ok-clause-back
 returns-in-Ok-clause-back g c =
-    comes_back g.D.Disk.told g.D.Disk.may_leave g.D.Disk.moment g.D.Disk.left_since g.D.Disk.secured_since g.D.Disk.disk_faults c.args.authors c.args.core.setting c.record.new.into.items
-    (c.in-Ok.ensures.ok.is ∙ ap (λ (l : List ℕ). l ++ record_of c.args.core) c.new-tag.ensures.items ∙ tag_is c.args.core c.requires.none) c.args.disk c.open.result
+    comes_back g.D.Disk.told g.D.Disk.may_leave g.D.Disk.moment g.D.Disk.left_since g.D.Disk.secured_since g.D.Disk.disk_faults c.args.authors c.args.core.setting c.in-Ok.tag.items
+    c.in-Ok.ensures c.args.disk c.open.result
     c.open.ensures.setting c.open.ensures.front c.open.ensures.opened c.open.ensures.authors c.open.ensures.on c.open.ensures.looks c.open.ensures.any_moment c.open.ensures.syncs
     c.open.ensures.faults (g.met.D.Disk g.world.𝓛 g.world.𝓜 g.world.𝓡 ((λ s x. x), (λ x. x), (λ x. x), λ x. x)).counts_now
 
 pub returns-in-Ok-clause-right : goal.returns-in-Ok-clause-right
 returns-in-Ok-clause-right g c =
-    is_right g.D.Disk.told g.D.Disk.may_leave g.D.Disk.moment g.D.Disk.left_since g.D.Disk.secured_since g.D.Disk.disk_faults c.args.authors c.args.core.setting c.record.new.into.items
-    (c.in-Ok.ensures.ok.is ∙ ap (λ (l : List ℕ). l ++ record_of c.args.core) c.new-tag.ensures.items ∙ tag_is c.args.core c.requires.none) c.args.disk c.open.result
+    is_right g.D.Disk.told g.D.Disk.may_leave g.D.Disk.moment g.D.Disk.left_since g.D.Disk.secured_since g.D.Disk.disk_faults c.args.authors c.args.core.setting c.in-Ok.tag.items
+    c.in-Ok.ensures c.args.disk c.open.result
     c.open.ensures.setting c.open.ensures.front c.open.ensures.opened c.open.ensures.authors c.open.ensures.on c.open.ensures.looks c.open.ensures.any_moment c.open.ensures.syncs
     c.open.ensures.faults (g.met.D.Disk g.world.𝓛 g.world.𝓜 g.world.𝓡 ((λ s x. x), (λ x. x), (λ x. x), λ x. x)).counts_now
