@@ -6,7 +6,7 @@ use Rattle.mj_history.specs.Told.{Summary}
 use Rattle.mj_history.specs.Records.{IsRecord, IsNoRecord}
 use Rattle.mj_selfplay.specs.Text.{result_text}
 use Rattle.mj_replay.specs.Checks.{fault_of}
-use Rattle.mj_replay.specs.declared.checking.Cause.{Cause}
+use Rattle.mj_runs.specs.declared.cause.Cause.{Cause}
 use Rattle.mj_checking.specs.declared.replay.ReplayEnd.{ReplayEnd}
 use Rattle.mj_checking.specs.declared.replay.ReplayEnd.TheVariants as ends
 use Rattle.mj_runs.specs.Inputs.{IsRead, IsCutOff, IsTooLong}

@@ -2,8 +2,8 @@
 -- text on standard error.
 use Rattle.std.specs.Prelude.{ℕ, List, [], ◌++◌, codes}
 use Rattle.mj_bytes.specs.Numbers.{number_text}
-use Rattle.mj_replay.specs.declared.checking.Cause.{Cause}
-use Rattle.mj_replay.specs.declared.checking.Cause.TheVariants as causes
+use Rattle.mj_runs.specs.declared.cause.Cause.{Cause}
+use Rattle.mj_runs.specs.declared.cause.Cause.TheVariants as causes
 use Rattle.mj_front.specs.declared.hand.HandLinesEnd.{HandLinesEnd}
 use Rattle.mj_front.specs.declared.hand.HandLinesEnd.TheVariants as hands
 use Rattle.mj_front.specs.declared.self_game.SelfPlayEnd.{SelfPlayEnd}

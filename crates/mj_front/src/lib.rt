@@ -10,6 +10,5 @@ mod self_game;
 mod status;
 
 pub use commands::{is_for_waiting, run, run_alone};
-pub use mj_replay::Cause;
-pub use mj_runs::Status;
+pub use mj_runs::{Cause, Status};
 pub use status::{exit_code, status_text};

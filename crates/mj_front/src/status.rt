@@ -7,8 +7,7 @@ ghost use Rattle.mj_front.specs.Statuses.{hand_status, self_play_status, code_of
 use crate::hand::HandLinesEnd;
 use crate::self_game::SelfPlayEnd;
 use mj_bytes::{push_all, push_number};
-use mj_replay::Cause;
-use mj_runs::Status;
+use mj_runs::{Cause, Status};
 use std::alloc::{AllocError, Global};
 
 /// The status that the end of the command `hand` gives.

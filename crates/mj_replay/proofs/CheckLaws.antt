@@ -26,8 +26,8 @@ use Rattle.mj_forms.specs.Lines.{line}
 use Rattle.mj_forms.specs.Headers.{header_line, wall_line}
 use Rattle.mj_history.specs.Records.{are_rules, are_walls, are_first_walls, Fault, WallFault, CutFault, Before, Nothing, Lines, AreLines, needs_wall, IsNextWall, BreaksByWall, LineBreaks, EndBreaks, Breaks, IsNoRecord}
 use Rattle.mj_forms.specs.RecordTexts.{record_text}
-use Rattle.mj_replay.specs.declared.checking.Cause.{Cause}
-use Rattle.mj_replay.specs.declared.checking.Cause.TheVariants as causes
+use Rattle.mj_runs.specs.declared.cause.Cause.{Cause}
+use Rattle.mj_runs.specs.declared.cause.Cause.TheVariants as causes
 use Rattle.mj_replay.specs.declared.checking.Checked.{Checked}
 use Rattle.mj_replay.specs.declared.checking.Checked.TheVariants.{Good, Bad, NoMemory}
 use Rattle.mj_replay.specs.declared.checking.Summary.{Summary as Said}

@@ -3,8 +3,8 @@ use Rattle.std.specs.Prelude.{◌≡◌, ℕ, List}
 use Rattle.mj_deeds.specs.declared.deed.Deed.{Deed}
 use Rattle.mj_history.specs.Told.{Summary}
 use Rattle.mj_history.specs.Records.{Fault, HeaderFault, WallFault, LineFault, NextFault, CutFault, IsRecord, IsNoRecord}
-use Rattle.mj_replay.specs.declared.checking.Cause.{Cause}
-use Rattle.mj_replay.specs.declared.checking.Cause.TheVariants as causes
+use Rattle.mj_runs.specs.declared.cause.Cause.{Cause}
+use Rattle.mj_runs.specs.declared.cause.Cause.TheVariants as causes
 use Rattle.mj_replay.specs.declared.checking.Summary.{Summary as Said}
 use Rattle.mj_replay.specs.declared.checking.Checked.{Checked}
 use Rattle.mj_replay.specs.declared.checking.Checked.TheVariants.{Good, Bad, NoMemory}

@@ -16,6 +16,7 @@ use crate::following::follow;
 use mj_bytes::{split_line, strip};
 use mj_deeds::Deed;
 use mj_records::{Act, act_first, header_of, wall_of};
+use mj_runs::Cause;
 use mj_table::Table;
 use mj_wall::{Rules, Wall};
 use std::alloc::{AllocError, Global};
@@ -26,21 +27,6 @@ pub struct Summary {
     pub deeds: u32,
     pub points: [i32; 4],
     pub deposits: u32,
-}
-
-/// What is wrong with the first line that breaks the form of a record.
-#[derive(Clone, Copy, Debug, PartialEq, Eq)]
-pub enum Cause {
-    /// It is the first and no header.
-    Header,
-    /// It stands where a wall must, and is none.
-    Wall,
-    /// It is the line of no deed.
-    Line,
-    /// It is the line of a deed that no four lawful answers give there.
-    Next,
-    /// It has no newline.
-    Cut,
 }
 
 /// What a text is as a record.

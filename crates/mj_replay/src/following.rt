@@ -14,12 +14,12 @@ ghost use Rattle.mj_records.specs.Deeds.{deed_in};
 ghost use Rattle.mj_records.specs.Usual.{deed_of};
 ghost use Rattle.mj_replay.specs.Inner.Steps.{FollowsOr, FollowsIf, FollowsBy, IsLineIf, IsOfAct, has_different_names};
 
-use crate::checking::Cause;
 use crate::told::{act_told, four_passes, told};
 use mj_deeds::{Answer, Deed, Four, Viewer};
 use mj_judge::is_lawful;
 use mj_machine::next;
 use mj_records::{Act, begins_hand, deed_in, has_line_of};
+use mj_runs::Cause;
 use mj_table::Table;
 use mj_wall::Wall;
 use mjai_lines::{Steps, write};

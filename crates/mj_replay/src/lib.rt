@@ -7,6 +7,7 @@ mod laws;
 mod played;
 mod told;
 
-pub use checking::{Cause, Checked, Summary, check};
+pub use checking::{Checked, Summary, check};
 pub use laws::answers_are_exact;
+pub use mj_runs::Cause;
 pub use played::{Deeds, Played, read_played};

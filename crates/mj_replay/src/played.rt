@@ -3,8 +3,9 @@
 ghost use Rattle.std.specs.Prelude.{◌≡◌, ◌≤◌, length, slice_get, option_copied};
 ghost use Rattle.mj_replay.specs.Checks.{TellsPlayed};
 
-use crate::checking::{Cause, Checked, walk};
+use crate::checking::{Checked, walk};
 use mj_deeds::Deed;
+use mj_runs::Cause;
 use std::alloc::Global;
 use std::marker::Model;
 

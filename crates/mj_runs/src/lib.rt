@@ -2,8 +2,10 @@
 //! and disk its end tells of.
 #![tactic(auto)]
 
+mod cause;
 mod input;
 mod status;
 
+pub use cause::Cause;
 pub use input::{LONGEST, with_room};
 pub use status::Status;

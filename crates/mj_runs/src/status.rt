@@ -1,6 +1,6 @@
 //! How a run ended.
 
-use mj_replay::Cause;
+use crate::cause::Cause;
 
 /// How a run ended. Where several fit, the first of this order answers: `Words`; `ReadFault` or `TooLong`, whichever is met
 /// first; `BadRecord`; `DiskFault`, `OtherGame` or `BadJournal`; `WriteFault`; `BadArrival` or `HostFault`; `Done`.

@@ -13,8 +13,8 @@ use Rattle.mj_table.specs.Plays.{Play}
 use Rattle.mj_forms.specs.Lines.{line}
 use Rattle.mj_history.specs.Told.{Summary}
 use Rattle.mj_history.specs.Records.{IsLineOf, IsOfNoNext, IsRecord, IsNoRecord, needs_wall}
-use Rattle.mj_replay.specs.declared.checking.Cause.{Cause}
-use Rattle.mj_replay.specs.declared.checking.Cause.TheVariants as causes
+use Rattle.mj_runs.specs.declared.cause.Cause.{Cause}
+use Rattle.mj_runs.specs.declared.cause.Cause.TheVariants as causes
 use Rattle.mj_replay.specs.declared.checking.Checked.{Checked}
 use Rattle.mj_replay.specs.declared.checking.Checked.TheVariants.{Good, Bad, NoMemory}
 use Rattle.mj_replay.specs.Checks.{summary_said, fault_of}
