@@ -16,6 +16,7 @@ pub mod BeforeWins
 pub mod TilesLess
 pub mod MaskedView
 pub mod Playing
+pub mod SameWalls
 pub mod Balance
 pub mod Lengths
 pub mod Winners

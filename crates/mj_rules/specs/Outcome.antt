@@ -1,5 +1,5 @@
 -- The course of a hand: the one deed that follows a closed window.
-use Rattle.std.specs.Prelude.{ℕ, ◌+◌, ◌-◌, ◌%◌, ◌==◌, Bool, true, false, if◌then◌else◌, List, [], ◌∷◌, ◌++◌, Option, Some, None, option_and_then, option_to_list, length, slice_get, unwrap_or}
+use Rattle.std.specs.Prelude.{ℕ, ◌≡◌, ◌≤◌, ◌+◌, ◌-◌, ◌%◌, ◌==◌, Bool, true, false, if◌then◌else◌, List, [], ◌∷◌, ◌++◌, Option, Some, None, option_and_then, option_to_list, length, slice_get, unwrap_or}
 use Rattle.std.specs.Option.{option_map_or}
 use Rattle.std.specs.List.{slice_index_or}
 use Rattle.mj_tiles.specs.Faces.{in_tile_order}
@@ -38,6 +38,10 @@ use Rattle.mj_window.specs.Decided.{decision_by}
 -- The wall of a hand, counted from 0: the walls are taken in turn.
 abbrev pub wall_of : List (List ℕ) → ℕ → List ℕ
 wall_of walls hand = slice_index_or walls (hand % length walls) []
+
+-- Up to the hand of that number, counted from 0, each hand has the same wall from both lists.
+abbrev pub AreSame : List (List ℕ) → List (List ℕ) → ℕ → Type 0
+AreSame walls others last = (number : ℕ) → number ≤ last → wall_of walls number ≡ wall_of others number
 
 -- The thirteen tiles that a seat is dealt, in tile order: the dealer is the first that is dealt to.
 abbrev pub hand_dealt : List ℕ → ℕ → ℕ → List ℕ
