@@ -1,3 +1,4 @@
+mod Amounts
 pub mod Lawful
 pub mod One
 pub mod Played

@@ -16,16 +16,17 @@ use Rattle.mj_deeds.specs.Points.{is_win}
 use Rattle.mj_table.specs.Plays.{Play}
 use Rattle.mj_wall.specs.declared.setting.Rules.{Rules}
 use Rattle.mj_wall.specs.Places.{is_wall}
-use Rattle.mj_rules.specs.Outcome.{goes_on}
+use Rattle.mj_rules.specs.Outcome.{AreSame, goes_on}
 use Rattle.mj_rules.specs.Played.{IsPlayed, is_game_start}
 use Rattle.mj_rules.proofs.Playing.{each_is_wall}
 use Rattle.mj_rules.proofs.Lengths.{few_deeds}
 use Rattle.mj_selfplay.specs.declared.tally.Tally.{Tally}
 use Rattle.mj_selfplay.specs.declared.tally.Summary.{Summary}
 use Rattle.mj_selfplay.specs.SelfGame.{IsChosen, IsChosenBehind, AllChosen, IsWholeGame, IsSummary, is_end, is_drawn_hand, self_rules, self_start, summary_of}
-use Rattle.mj_selfplay.specs.Inner.Supplies.{AreSame, game_walls, AreAtHand, AreEnough}
+use Rattle.mj_selfplay.specs.Inner.Supplies.{game_walls, AreAtHand, AreEnough}
 use Rattle.mj_selfplay.specs.Inner.Tallies.{tally_of, with_one}
-use Rattle.mj_selfplay.proofs.Walls.{turned, chosen_same, played_same, next_played_same}
+use Rattle.mj_selfplay.proofs.Walls.{chosen_same}
+use Rattle.mj_rules.proofs.SameWalls.{turned, played_same, next_played_same}
 
 -- one deed more
 

@@ -1,4 +1,4 @@
-ghost use Rattle.std.specs.Prelude.{◌≡◌, ◌≤◌, ◌∷◌, ◌++◌, [], false, IfOk, IsTrue, length};
+ghost use Rattle.std.specs.Prelude.{◌≡◌, ◌≤◌, ◌∷◌, ◌++◌, [], false, IfOk, OnOk, IsTrue, length};
 ghost use Rattle.std.specs.List.{list_all};
 ghost use Rattle.mj_deeds.specs.Facts.{newest};
 ghost use Rattle.mj_wall.specs.Places.{is_wall};
@@ -63,15 +63,24 @@ fn play_on(alloc: Global, seed: [u8; 32], table: &mut Table) -> Result<Summary, 
 }
 
 // A table on which the game has started.
-#[tactic(auto, unfolding(crate::specs::SelfGame::self_rules))]
 fn started(alloc: Global) -> Result<Table, AllocError>
     ensures { IfOk result (λ table. table
         ≡ record { rules = self_rules; deeds = self_start ∷ [] }) }
 {
     let mut table = Table::new(rules())?;
+    push_start(alloc, &mut table)?;
+    Ok(table)
+}
+
+// Pushes the start of the game on its table.
+#[inline(always)]
+fn push_start(alloc: Global, table: &mut Table) -> Result<(), AllocError>
+    requires { table.old ≡ record { rules = self_rules; deeds = [] } }
+    ensures { OnOk result (table.new ≡ record { rules = self_rules; deeds = self_start ∷ [] }) }
+{
     let begun = start(alloc)?;
     table.push(&begun)?;
-    Ok(table)
+    Ok(())
 }
 
 // The deed that the choices of the four seats give, which is pushed on the table.

@@ -3,11 +3,7 @@ use Rattle.std.specs.Prelude.{ℕ, ◌+◌, ◌≡◌, ◌≤◌, true, false, L
 use Rattle.std.specs.List.{list_all}
 use Rattle.mj_wall.specs.Places.{is_wall}
 use Rattle.mj_wall.specs.Shuffle.{shuffled_walls}
-use Rattle.mj_rules.specs.Outcome.{wall_of}
-
--- Up to the hand of that number, counted from 0, each hand has the same wall from both lists.
-abbrev pub AreSame : List (List ℕ) → List (List ℕ) → ℕ → Type 0
-AreSame walls others last = (number : ℕ) → number ≤ last → wall_of walls number ≡ wall_of others number
+use Rattle.mj_rules.specs.Outcome.{AreSame}
 
 -- All walls of the game of a seed.
 abbrev pub game_walls : List ℕ → List (List ℕ)
