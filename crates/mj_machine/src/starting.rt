@@ -1,4 +1,4 @@
-ghost use Rattle.std.specs.Prelude.{◌≡◌, ◌≤◌, IfOk, length};
+ghost use Rattle.std.specs.Prelude.{◌≡◌, ◌≤◌, ◌+◌, IfOk, length};
 ghost use Rattle.mj_deeds.specs.Four.{for_each_seat};
 ghost use Rattle.mj_deeds.specs.Ends.{standing_after};
 ghost use Rattle.mj_deeds.specs.Hand.{hand};
@@ -63,12 +63,27 @@ fn hands_dealt(alloc: Global, wall: &Wall, dealer: u8) -> Result<Hands, AllocErr
     requires { dealer ≤ 3 }
     ensures { IfOk result (λ h. h ≡ for_each_seat (hand_dealt wall.now dealer)) }
 {
+    let (first, second) = two_dealt(alloc, wall, dealer, 0)?;
+    let (third, fourth) = two_dealt(alloc, wall, dealer, 2)?;
     Ok(Hands::from_four(Four {
-        first: hand_dealt(alloc, wall, dealer, 0)?,
-        second: hand_dealt(alloc, wall, dealer, 1)?,
-        third: hand_dealt(alloc, wall, dealer, 2)?,
-        fourth: hand_dealt(alloc, wall, dealer, 3)?,
+        first,
+        second,
+        third,
+        fourth,
     }))
+}
+
+// The thirteen tiles of a seat, 0 to 2, and of the one after it.
+#[inline(always)]
+fn two_dealt(alloc: Global, wall: &Wall, dealer: u8, seat: u8) -> Result<(Tiles, Tiles), AllocError>
+    requires dealer { dealer ≤ 3 }
+    requires seat { seat ≤ 2 }
+    ensures { IfOk result (λ two. two
+        ≡ (hand_dealt wall.now dealer seat, hand_dealt wall.now dealer (seat + 1))) }
+{
+    let lower = hand_dealt(alloc, wall, dealer, seat)?;
+    let upper = hand_dealt(alloc, wall, dealer, seat + 1)?;
+    Ok((lower, upper))
 }
 
 // The thirteen tiles of a seat, 0 to 3, in tile order: the dealer is the first that is dealt to.
