@@ -1,5 +1,5 @@
 -- Calls and kans for which too few tiles of their kind are held.
-use Rattle.std.proofs.Common.{◌≡◌, ℕ, suc, ◌+◌, ◌<◌, ◌≤◌, ◌⊎◌, inl, inr, Bool, true, false, cond, eqb, ltb, List, [], ◌∷◌, ◌++◌, length, map, refl, sym, ap, subst, ◌∙◌, arith}
+use Rattle.std.proofs.Common.{◌≡◌, ℕ, suc, ◌+◌, ◌<◌, ◌≤◌, ◌⊎◌, inl, inr, Bool, true, false, ◌&&◌, cond, eqb, ltb, List, [], ◌∷◌, ◌++◌, length, map, refl, sym, ap, subst, ◌∙◌, arith}
 use Rattle.std.specs.Prelude.{Option, Some, None, nat_lt, All, flat_map, option_to_list, min}
 use Rattle.std.specs.List.{list_any, list_all}
 use Rattle.std.proofs.lemmas.Bool.{false_from_ne_true, and_parts, or_parts, cases_eq, cases_lt, eq-eqb, ne_eqb, ltb-false, ltb-true}
@@ -152,6 +152,16 @@ few_closed_kan rules seat view kind red a b c d few first second third = false_f
     (All-cons (Counts kind red) b (c ∷ d ∷ []) first (All-cons (Counts kind red) c (d ∷ []) second (All-cons (Counts kind red) d [] third (All-nil (Counts kind red))))) few
     (lawful_clear rules seat view (ClosedKan seat (Known a) (Known b) (Known c) (Known d)) lawful).1.1.1.1.1.1.0)
 
+-- Fewer than four, the first tile too.
+few_four : (rules : Rules) (seat : ℕ) (view : SeatView) (kind : ℕ) (red : Option ℕ) (a b c d : ℕ) → held_with view kind red < 4 →
+    Counts kind red a → Counts kind red b → Counts kind red c → Counts kind red d →
+    Fails rules seat view (ClosedKan seat (Known a) (Known b) (Known c) (Known d))
+few_four rules seat view kind red a b c d few own first second third = false_from_ne_true (is_lawful rules seat view (ClosedKan seat (Known a) (Known b) (Known c) (Known d)))
+    (λ lawful. too_few view kind red (a ∷ b ∷ c ∷ d ∷ [])
+    (All-cons (Counts kind red) a (b ∷ c ∷ d ∷ []) own (All-cons (Counts kind red) b (c ∷ d ∷ []) first
+    (All-cons (Counts kind red) c (d ∷ []) second (All-cons (Counts kind red) d [] third (All-nil (Counts kind red)))))) few
+    (lawful_clear rules seat view (ClosedKan seat (Known a) (Known b) (Known c) (Known d)) lawful).1.1.1.1.1.1.0)
+
 -- Lists over faces that each are so.
 all_joined_of : (P : Answer → Type 0) (Q : ℕ → Type 0) (f : ℕ → List Answer) (faces : List ℕ) → All Q faces → ((a : ℕ) → Q a → All P (f a)) → All P (flat_map f faces)
 all_joined_of P Q f faces all each = All-flat_map P f faces (λ k d inside. each _ (all k d inside))
@@ -180,16 +190,17 @@ no_open_kans rules ds seat who tile kind red faces all few =
     (λ b second. all_mapped_of (Fails rules seat view) (Counts kind red) (λ c. OpenKan seat who (Known tile) (Known a) (Known b) (Known c)) faces all
     (λ c third. few_open_kan rules seat view who tile kind red a b c few first second third))))
 
-no_closed_kans_with : (rules : Rules) (ds : List Deed) (seat a kind : ℕ) (red : Option ℕ) (faces : List ℕ) → All (Counts kind red) faces → held_with (view_of ds seat) kind red < 3 →
+no_closed_kans_with : (rules : Rules) (ds : List Deed) (seat a kind : ℕ) (red : Option ℕ) (faces : List ℕ) → All (Counts kind red) faces →
+    ((b c d : ℕ) → Counts kind red b → Counts kind red c → Counts kind red d → Fails rules seat (view_of ds seat) (ClosedKan seat (Known a) (Known b) (Known c) (Known d))) →
     lawful_among rules ds seat (closed_kans_of seat a faces) ≡ []
 unfolding lawful_among
-no_closed_kans_with rules ds seat a kind red faces all few =
+no_closed_kans_with rules ds seat a kind red faces all fails =
     let view = view_of ds seat in
     none_pass (is_lawful rules seat view) (closed_kans_of seat a faces)
     (all_joined_of (Fails rules seat view) (Counts kind red) (λ b. flat_map (λ c. map (λ d. ClosedKan seat (Known a) (Known b) (Known c) (Known d)) faces) faces) faces all
     (λ b first. all_joined_of (Fails rules seat view) (Counts kind red) (λ c. map (λ d. ClosedKan seat (Known a) (Known b) (Known c) (Known d)) faces) faces all
     (λ c second. all_mapped_of (Fails rules seat view) (Counts kind red) (λ d. ClosedKan seat (Known a) (Known b) (Known c) (Known d)) faces all
-    (λ d third. few_closed_kan rules seat view kind red a b c d few first second third))))
+    (λ d third. fails b c d first second third))))
 
 -- The faces of a kind are its plain tile and its red five.
 kind_counts_all : (kind : ℕ) → kind < 34 → All (Counts kind (red_of kind)) (faces_of kind)
@@ -218,7 +229,8 @@ pub no_four : (rules : Rules) (ds : List Deed) (seat a kind counted : ℕ) → k
     counted ≡ min (held_count (view_of ds seat) kind) 4 + min (red_held (view_of ds seat) (red_of kind)) 4 → counted < 3 →
     lawful_among rules ds seat (closed_kans_of seat a (faces_of (kind_of a))) ≡ []
 no_four rules ds seat a kind counted low same is few =
-    no_closed_kans_with rules ds seat a (kind_of a) (red_of (kind_of a)) (faces_of (kind_of a)) (kind_counts_all (kind_of a) low) held
+    no_closed_kans_with rules ds seat a (kind_of a) (red_of (kind_of a)) (faces_of (kind_of a)) (kind_counts_all (kind_of a) low)
+    (λ b c d. few_closed_kan rules seat (view_of ds seat) (kind_of a) (red_of (kind_of a)) a b c d held)
   where
     held : held_with (view_of ds seat) (kind_of a) (red_of (kind_of a)) < 3
     held = subst (λ (k : ℕ). held_with (view_of ds seat) k (red_of k) < 3) same
@@ -236,15 +248,26 @@ none_joined rules ds seat f p (a ∷ faces) all each =
     ∙ ap (λ (xs : List Answer). xs ++ lawful_among rules ds seat (flat_map f faces)) (each a parts.0)
     ∙ none_joined rules ds seat f p faces parts.1 each
 
--- Each face is of one of the kinds.
-all_of_kinds : list_all (λ face. ltb (kind_of face) 34) tile_order ≡ true
-unfolding tile_order
+-- Each face is of one of the kinds, and counts as one of it.
+is_of_kind : ℕ → Bool
+is_of_kind face = ltb (kind_of face) 34 && ltb 0 (one_in (kind_of face) (red_of (kind_of face)) face)
+
+all_of_kinds : list_all is_of_kind tile_order ≡ true
+unfolding is_of_kind tile_order
 all_of_kinds = refl
 
--- Fewer than three of each kind: no kan of four concealed tiles at all.
-pub no_fours : (rules : Rules) (ds : List Deed) (seat : ℕ) →
-    ((kind : ℕ) → kind < 34 → min (held_count (view_of ds seat) kind) 4 + min (red_held (view_of ds seat) (red_of kind)) 4 < 3) → lawful_among rules ds seat (all_closed_kans seat) ≡ []
-unfolding all_closed_kans
-no_fours rules ds seat few =
-    none_joined rules ds seat (λ a. closed_kans_of seat a (faces_of (kind_of a))) (λ face. ltb (kind_of face) 34) tile_order all_of_kinds
-    (λ a low. no_four rules ds seat a (kind_of a) _ (ltb-true (kind_of a) 34 low) refl refl (few (kind_of a) (ltb-true (kind_of a) 34 low)))
+-- Fewer than four of each kind: no kan of four concealed tiles at all.
+pub no_fours : (rules : Rules) (ds : List Deed) (seat : ℕ) → ((kind : ℕ) → kind < 34 → held_with (view_of ds seat) kind (red_of kind) < 4) → lawful_among rules ds seat (all_closed_kans seat) ≡ []
+unfolding all_closed_kans is_of_kind
+no_fours rules ds seat few = none_joined rules ds seat (λ a. closed_kans_of seat a (faces_of (kind_of a))) is_of_kind tile_order all_of_kinds each
+  where
+    each : (a : ℕ) → is_of_kind a ≡ true → lawful_among rules ds seat (closed_kans_of seat a (faces_of (kind_of a))) ≡ []
+    each a h =
+        let parts = and_parts (ltb (kind_of a) 34) (ltb 0 (one_in (kind_of a) (red_of (kind_of a)) a)) h in
+        let low : kind_of a < 34 = ltb-true (kind_of a) 34 parts.0 in
+        no_closed_kans_with rules ds seat a (kind_of a) (red_of (kind_of a)) (faces_of (kind_of a)) (kind_counts_all (kind_of a) low)
+        (λ b c d. few_four rules seat (view_of ds seat) (kind_of a) (red_of (kind_of a)) a b c d (few (kind_of a) low)
+        (some _ (ltb-true 0 (one_in (kind_of a) (red_of (kind_of a)) a) parts.1)))
+      where
+        some : (n : ℕ) → 0 < n → 1 ≤ n
+        some n h = omega (arith, h)

@@ -1,11 +1,15 @@
+pub mod Alone
 pub mod Calls
+pub mod Counted
 pub mod Discards
 pub mod Drawn
 pub mod FarHands
 pub mod FewHeld
+pub mod FirstDiscards
 pub mod Measured
 pub mod Missed
 pub mod Near
+pub mod NoUse
 pub mod Outer
 pub mod Places
 pub mod Pons

@@ -21,7 +21,7 @@ use Rattle.mj_deeds.specs.declared.rule.Rule.TheVariants.{NotNow, Locked}
 use Rattle.mj_deeds.specs.Facts.{is_pon}
 use Rattle.mj_wall.specs.declared.setting.Rules.{Rules}
 use Rattle.mj_rules.specs.View.{WindowTurn, Drew, Discarded, Added, Reached, Called, Nobodys, SeatView, view_of, held_count}
-use Rattle.mj_rules.specs.Broken.{is_open, is_before, is_wrongly_marked, questions, first_broken, broken_by}
+use Rattle.mj_rules.specs.Broken.{is_open, is_before, is_wrongly_marked, is_not_nine, questions, first_broken, broken_by}
 use Rattle.mj_rules.specs.Possible.{is_lawful, faces_of, discards_of, all_discards, chis_with, all_chis, all_calls, closed_kans_of, all_closed_kans, added_kans_of, all_added_kans, triplets, all_wins, possible_by, possible}
 use Rattle.mj_rules.proofs.Listed.{lawful_clear}
 use Rattle.mj_rules.proofs.ListedOrder.{of_all, all_mapped, all_joined}
@@ -39,7 +39,7 @@ none_pass p [] fail = refl
 none_pass p (x ∷ xs) fail =
     ap (λ b. cond b (x ∷ filter p xs) (filter p xs)) (All-head (λ y. p y ≡ false) x xs fail) ∙ none_pass p xs (All-tail (λ y. p y ≡ false) x xs fail)
 
-one_fails : (rules : Rules) (ds : List Deed) (seat : ℕ) (answer : Answer) → Fails rules seat (view_of ds seat) answer → lawful_among rules ds seat (answer ∷ []) ≡ []
+pub one_fails : (rules : Rules) (ds : List Deed) (seat : ℕ) (answer : Answer) → Fails rules seat (view_of ds seat) answer → lawful_among rules ds seat (answer ∷ []) ≡ []
 unfolding lawful_among
 one_fails rules ds seat answer fails = none_pass (is_lawful rules seat (view_of ds seat)) (answer ∷ []) (All-cons (Fails rules seat (view_of ds seat))
     answer [] fails (All-nil (Fails rules seat (view_of ds seat))))
@@ -111,6 +111,13 @@ no_nine_kinds rules ds seat shut =
     one_fails rules ds seat (NineKinds seat) (not_open rules seat view (NineKinds seat) (nine_shut rules seat view.turn view.accepted shut))
 
 -- A win is on the own draw, or on the tile of another.
+pub not_nine : (rules : Rules) (ds : List Deed) (seat : ℕ) → is_not_nine (view_of ds seat) (NineKinds seat) ≡ true → lawful_among rules ds seat (NineKinds seat ∷ []) ≡ []
+not_nine rules ds seat refused =
+    let view = view_of ds seat in
+    one_fails rules ds seat (NineKinds seat)
+    (false_from_ne_true (is_lawful rules seat view (NineKinds seat))
+    (λ lawful. both_ways (is_not_nine view (NineKinds seat)) (lawful_clear rules seat view (NineKinds seat) lawful).1.1.1.1.1.1.1.1.1.1.1.1.1.1.1.1.1.1.1.1.1.1.1.0 refused))
+
 pub no_wins : (rules : Rules) (ds : List Deed) (seat : ℕ) → is_winning seat (view_of ds seat).turn ≡ false → lawful_among rules ds seat (all_wins seat (view_of ds seat).turn) ≡ []
 unfolding lawful_among
 no_wins rules ds seat shut = by_turn (view_of ds seat).turn refl shut
@@ -305,18 +312,18 @@ not_held-discard rules seat view face drawn none = false_from_ne_true (is_lawful
     (λ lawful. short (held_count view face) (number_in (face ∷ []) face) none (one_of face [])
     (or_parts (nat_lt (held_count view face) (number_in (face ∷ []) face)) _ (lawful_clear rules seat view (Discard seat (Known face) drawn) lawful).1.1.1.1.1.1.0).0)
 
-not_held-chi : (rules : Rules) (seat : ℕ) (view : SeatView) (who tile a b : ℕ) → held_count view a ≡ 0 → Fails rules seat view (Chi seat who (Known tile) (Known a) (Known b))
+pub not_held-chi : (rules : Rules) (seat : ℕ) (view : SeatView) (who tile a b : ℕ) → held_count view a ≡ 0 → Fails rules seat view (Chi seat who (Known tile) (Known a) (Known b))
 not_held-chi rules seat view who tile a b none = false_from_ne_true (is_lawful rules seat view (Chi seat who (Known tile) (Known a) (Known b)))
     (λ lawful. short (held_count view a) (number_in (a ∷ b ∷ []) a) none (one_of a (b ∷ []))
     (or_parts (nat_lt (held_count view a) (number_in (a ∷ b ∷ []) a)) _ (lawful_clear rules seat view (Chi seat who (Known tile) (Known a) (Known b)) lawful).1.1.1.1.1.1.0).0)
 
-other_not_held-chi : (rules : Rules) (seat : ℕ) (view : SeatView) (who tile a b : ℕ) → held_count view b ≡ 0 → Fails rules seat view (Chi seat who (Known tile) (Known a) (Known b))
+pub other_not_held-chi : (rules : Rules) (seat : ℕ) (view : SeatView) (who tile a b : ℕ) → held_count view b ≡ 0 → Fails rules seat view (Chi seat who (Known tile) (Known a) (Known b))
 other_not_held-chi rules seat view who tile a b none = false_from_ne_true (is_lawful rules seat view (Chi seat who (Known tile) (Known a) (Known b)))
     (λ lawful. short (held_count view b) (number_in (a ∷ b ∷ []) b) none (second_of b a [])
     (or_parts (nat_lt (held_count view b) (number_in (a ∷ b ∷ []) b)) _
     (or_parts (nat_lt (held_count view a) (number_in (a ∷ b ∷ []) a)) _ (lawful_clear rules seat view (Chi seat who (Known tile) (Known a) (Known b)) lawful).1.1.1.1.1.1.0).1).0)
 
-not_run-chi : (rules : Rules) (seat : ℕ) (view : SeatView) (who tile a b : ℕ) → makes_run tile a b ≡ false → Fails rules seat view (Chi seat who (Known tile) (Known a) (Known b))
+pub not_run-chi : (rules : Rules) (seat : ℕ) (view : SeatView) (who tile a b : ℕ) → makes_run tile a b ≡ false → Fails rules seat view (Chi seat who (Known tile) (Known a) (Known b))
 not_run-chi rules seat view who tile a b none = false_from_ne_true (is_lawful rules seat view (Chi seat who (Known tile) (Known a) (Known b)))
     (λ lawful. both_ways (makes_run tile a b) none
     (not-false (makes_run tile a b) (lawful_clear rules seat view (Chi seat who (Known tile) (Known a) (Known b)) lawful).1.1.1.1.1.1.1.1.1.0))

@@ -6,7 +6,9 @@ ghost use Rattle.mj_rules.specs.View.{view_of, turn_by, turn_in};
 ghost use Rattle.mj_rules.specs.Possible.{possible, is_lawful, all_discards, all_calls, all_closed_kans, all_added_kans, triplets, all_wins};
 ghost use Rattle.mj_judge.specs.Inner.Tried.{lawful_among, is_winning};
 
+use crate::apart::is_of_no_use;
 use crate::calling::push_calls;
+use crate::nine::is_not_nine;
 use crate::riichi::{is_reach_late, is_reach_open, is_reach_poor, is_reach_unready};
 use crate::turning::{
     is_discarding, is_own_draw, may_pass, may_win, push_added_kans, push_closed_kans, push_discards,
@@ -45,7 +47,7 @@ pub fn possible_over(
     ensures ok { OnOk result (list.new ≡ possible table.now.rules table.now.deeds seat) }
     ensures err { OnErr result (list.new ≡ list.old) }
 {
-    if !is_discarding(table, seat) && !may_win(table, seat) {
+    if passes_alone(table, seat) {
         set_pass_alone(alloc, list);
         return Ok(());
     }
@@ -59,6 +61,17 @@ pub fn possible_over(
     push_nine_kinds(table, seat, &mut items)?;
     set_after_pass(table, seat, items, list)?;
     Ok(())
+}
+
+// The turn is another's and offers the seat no win, or it is about a discard that is of no use to the seat: then it passes.
+fn passes_alone(table: &Table, seat: u8) -> bool
+    requires { seat ≤ 3 }
+    ensures { result ≡ true → answers.Pass None ∷ [] ≡ possible table.now.rules table.now.deeds seat }
+{
+    if !is_discarding(table, seat) && !may_win(table, seat) {
+        return true;
+    }
+    is_of_no_use(table, seat)
 }
 
 // Lists a pass alone; the memory of another list is kept for the next one.
@@ -157,7 +170,7 @@ fn keeps_reach_rules(table: &Table, seat: u8) -> bool
         && !is_reach_unready(table, seat, &reach)
 }
 
-// Adds nine kinds where they are lawful: at the own draw alone.
+// Adds nine kinds where they are lawful: at the own draw alone, of a hand that has them.
 fn push_nine_kinds(table: &Table, seat: u8, items: &mut Vec<Answer>) -> Result<(), AllocError>
     requires { seat ≤ 3 }
     ensures { OnOk result (items.new.items ≡ items.old.items
@@ -166,7 +179,11 @@ fn push_nine_kinds(table: &Table, seat: u8, items: &mut Vec<Answer>) -> Result<(
     if !is_own_draw(table, seat) {
         return Ok(());
     }
-    push_lawful(table, seat, &[Answer::NineKinds { actor: seat }], items)?;
+    let nine = Answer::NineKinds { actor: seat };
+    if is_not_nine(table, seat, &nine) {
+        return Ok(());
+    }
+    push_lawful(table, seat, &[nine], items)?;
     Ok(())
 }
 

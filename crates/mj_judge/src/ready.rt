@@ -5,13 +5,14 @@ ghost use Rattle.mj_judge.specs.Inner.Ready.{leaves_ready};
 
 use crate::counting::without;
 use crate::measure::is_measured;
+use crate::scattered::is_scattered;
 use mj_readings::is_far;
 use mj_shanten::Suits;
 use mj_tiles::{Counts, KINDS, Kind, Meld};
 use mj_waits::ready;
 
-// Whether some discard leaves the hand ready: told by its sums, or by how many tiles are missing of the nearest complete
-// hand, and else tried kind by kind.
+// Whether some discard leaves the hand ready: told by kinds that stand alone, by its sums, or by how many tiles are missing of
+// the nearest complete hand, and else tried kind by kind.
 pub(crate) fn leaves_some_ready(counts: &Counts, room: &Counts, melds: &[Meld]) -> bool
     requires { length melds.now ≤ 4 }
     ensures no { result ≡ false → (kind : ℕ) → kind < 34
@@ -19,6 +20,9 @@ pub(crate) fn leaves_some_ready(counts: &Counts, room: &Counts, melds: &[Meld]) 
     ensures yes { result ≡ true → (kind : ℕ)
         × ((kind < 34) × (leaves_ready counts.now room.now (length melds.now) kind ≡ true)) }
 {
+    if is_scattered(counts) {
+        return false;
+    }
     if is_far(counts, melds.len() as u8) {
         return false;
     }

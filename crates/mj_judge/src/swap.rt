@@ -123,5 +123,9 @@ fn is_used_up(table: &Table, seat: u8, used: &[Pai], bans: Kinds, tile: Tile) ->
     ensures { result ≡ is_used_up (tiles_gained (hand table.now.deeds) seat)
         (tiles_lost (hand table.now.deeds) seat) (flat_map face_in used.now) bans tile }
 {
-    table.held_count(seat, tile) <= number_among(used, tile) || bans.has(tile.kind())
+    let held = table.held_count(seat, tile);
+    if held == 0 {
+        return true;
+    }
+    held <= number_among(used, tile) || bans.has(tile.kind())
 }

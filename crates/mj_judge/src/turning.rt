@@ -1,12 +1,12 @@
-ghost use Rattle.std.specs.Prelude.{◌≡◌, ◌≤◌, ◌<◌, ◌+◌, ◌++◌, ◌∷◌, [], ℕ, false, min, None, OnOk, filter, option_map};
+ghost use Rattle.std.specs.Prelude.{◌≡◌, ◌≤◌, ◌<◌, ◌++◌, ◌∷◌, [], ℕ, false, None, OnOk, filter, length, option_map, slice_index};
 ghost use Rattle.std.specs.List.{list_any};
 ghost use Rattle.mj_tiles.specs.Faces.{kind_of};
 ghost use Rattle.mj_deeds.specs.declared.answer.Answer.TheVariants as answers;
 ghost use Rattle.mj_deeds.specs.declared.answer.Pai.TheVariants.{Known};
 ghost use Rattle.mj_deeds.specs.Facts.{newest, is_pon};
-ghost use Rattle.mj_rules.specs.View.{view_of, held_count, turn_by, turn_in};
+ghost use Rattle.mj_rules.specs.View.{view_of, turn_by, turn_in};
 ghost use Rattle.mj_rules.specs.Possible.{is_lawful, faces_of, discards_of, all_discards, closed_kans_of, all_closed_kans, added_kans_of, all_added_kans, triplets};
-ghost use Rattle.mj_judge.specs.Inner.Tried.{lawful_among, is_own_draw, is_discarding, is_winning, red_of, red_held};
+ghost use Rattle.mj_judge.specs.Inner.Tried.{lawful_among, is_own_draw, is_discarding, is_winning, red_of, held_with};
 
 use crate::calling::{held_of, plain_of, red_of};
 use crate::drawing::push_drawn_discards;
@@ -14,7 +14,7 @@ use crate::holding::is_wrongly_marked;
 use crate::listing::push_lawful;
 use mj_deeds::{Answer, Deed, Pai, ordered};
 use mj_table::Table;
-use mj_tiles::{FACES, Form, KINDS, Kind, Meld, Tile};
+use mj_tiles::{FACES, Form, Meld, Tile};
 use std::alloc::AllocError;
 
 // Adds the lawful discards, of each tile that is held.
@@ -76,7 +76,7 @@ pub(crate) fn push_closed_kans(
     if !is_own_draw(table, seat) {
         return Ok(());
     }
-    if !holds_three(table, seat) {
+    if !holds_four(table, seat) {
         return Ok(());
     }
     for place in 0..FACES {
@@ -85,19 +85,25 @@ pub(crate) fn push_closed_kans(
     Ok(())
 }
 
-// Of some kind three tiles or more are held.
-fn holds_three(table: &Table, seat: u8) -> bool
+// Of some kind four tiles are held.
+#[tactic(auto, unfolding(mj_rules::specs::View::view_of))]
+fn holds_four(table: &Table, seat: u8) -> bool
     requires { seat ≤ 3 }
-    ensures { result ≡ false → (kind : ℕ) → kind < 34 → min
-        (held_count (view_of table.now.deeds seat) kind) 4 + min
-        (red_held (view_of table.now.deeds seat) (red_of kind)) 4 < 3 }
+    ensures { result ≡ false → (kind : ℕ) → kind < 34 → held_with
+        (view_of table.now.deeds seat) kind (red_of kind) < 4 }
 {
-    for number in 0..KINDS as u8 {
-        if held_of(table, seat, Kind::at(number)) >= 3 {
-            return true;
-        }
+    most(table.holds(seat).numbers()) > 3
+}
+
+// The most of these numbers.
+fn most(numbers: &[u8]) -> u8
+    ensures { (place : ℕ) → place < length numbers.now → slice_index numbers.now place ≤ result }
+{
+    let mut most = 0;
+    for number in numbers {
+        most = most.max(*number);
     }
-    false
+    most
 }
 
 // The kans of four concealed tiles whose first has this face.
@@ -309,8 +315,8 @@ pub(crate) fn is_discarding(table: &Table, seat: u8) -> bool
     }
 }
 
-// A pass is open to the seat, and so breaks no rule, in each window in which it has not to discard.
-pub(crate) fn may_pass(table: &Table, seat: u8) -> bool
+/// Whether a seat may pass in the window on the newest deed: it has not to discard, as after its own draw, reach, chi or pon.
+pub fn may_pass(table: &Table, seat: u8) -> bool
     ensures { result ≡ is_lawful table.now.rules seat (view_of table.now.deeds seat)
         (answers.Pass None) }
 {

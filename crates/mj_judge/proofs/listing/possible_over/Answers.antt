@@ -1,16 +1,12 @@
-use Rattle.std.proofs.Common.{◌≡◌, false, rules, sym, ◌∙◌}
+use Rattle.std.proofs.Common.{◌≡◌, true, rules, ◌∙◌}
 use Rattle.mj_rules.specs.View.{view_of}
-use Rattle.mj_judge.proofs.Calls.{passes_alone}
 use Rattle.mj_judge.proofs.Tried.{all_tried}
 use Rattle.mj_judge.proofs.listing.possible_over.Goals as goal
 
-pub returns-then-not-may_win-clause-ok : goal.returns-then-not-may_win-clause-ok
-unfolding view_of
-returns-then-not-may_win-clause-ok c =
-    let shut : c.is_discarding.result ≡ false = search rules in
-    let dull : c.may_win.result ≡ false = search rules in
-    c.set_pass_alone.ensures
-    ∙ passes_alone c.args.table.now.rules c.args.table.now.deeds c.args.seat (sym c.is_discarding.ensures ∙ shut) (sym c.may_win.ensures ∙ dull)
+pub returns-then-passes_alone-clause-ok : goal.returns-then-passes_alone-clause-ok
+returns-then-passes_alone-clause-ok c =
+    let alone : c.passes_alone.result ≡ true = search rules in
+    c.set_pass_alone.ensures ∙ c.passes_alone.ensures alone
 
 pub returns-clause-ok : goal.returns-clause-ok
 unfolding view_of

@@ -9,6 +9,13 @@ returns-then-is_far c = record {
   yes = λ some. absurd (true≢false (sym some));
 }
 
+pub returns-then-is_scattered : goal.returns-then-is_scattered
+returns-then-is_scattered c = record {
+  no = λ none kind low. far_unready c.args.counts.now c.args.room.now (length c.args.melds.now) kind
+      (λ given exchanged inside is other within. c.is_scattered.ensures c.if-is_scattered.true given exchanged inside is other within (length c.args.melds.now)) low;
+  yes = λ some. absurd (true≢false (sym some));
+}
+
 pub returns-then-is_two_away : goal.returns-then-is_two_away
 returns-then-is_two_away c = record {
   no = λ none. c.is_two_away.ensures.far c.if-is_two_away.true;

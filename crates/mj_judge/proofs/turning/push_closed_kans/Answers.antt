@@ -13,11 +13,11 @@ returns-then-not-is_own_draw c =
     none_added c.args.table.now.rules c.args.table.now.deeds c.args.seat (all_closed_kans c.args.seat) _
     (no_closed_kans c.args.table.now.rules c.args.table.now.deeds c.args.seat (sym c.is_own_draw.ensures ∙ shut))
 
-pub returns-then-not-holds_three : goal.returns-then-not-holds_three
-returns-then-not-holds_three c =
-    let few : c.holds_three.result ≡ false = search rules in
+pub returns-then-not-holds_four : goal.returns-then-not-holds_four
+returns-then-not-holds_four c =
+    let few : c.holds_four.result ≡ false = search rules in
     none_added c.args.table.now.rules c.args.table.now.deeds c.args.seat (all_closed_kans c.args.seat) _
-    (no_fours c.args.table.now.rules c.args.table.now.deeds c.args.seat (c.holds_three.ensures few))
+    (no_fours c.args.table.now.rules c.args.table.now.deeds c.args.seat (c.holds_four.ensures few))
 
 pub loop-place-init : goal.loop-place-init
 loop-place-init c = faces_start c.args.table.now.rules c.args.table.now.deeds c.args.seat (λ a. closed_kans_of c.args.seat a (faces_of (kind_of a))) _ _ refl
