@@ -13,3 +13,4 @@ pub mod Foreseen
 pub mod KeptLines
 pub mod ByEntries
 pub mod NearLaws
+mod Supplies

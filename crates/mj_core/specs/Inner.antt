@@ -6,4 +6,6 @@ pub mod States
 pub mod Streamed
 pub mod Near
 pub mod Kept
+pub mod Firsts
+pub mod Supplies
 pub mod Entries

@@ -1,25 +1,26 @@
-ghost use Rattle.std.specs.Prelude.{◌≡◌, ◌≤◌, ◌<◌, ◌==◌, ◌-◌, ◌&&◌, [], ℕ, slice_get, slice_set, true, is_some, Some, None, OnOk, OnErr, IfOk, option_copied, option_map, if◌then◌else◌};
+ghost use Rattle.std.specs.Prelude.{◌≡◌, ◌≤◌, ◌<◌, ◌==◌, ◌-◌, ◌++◌, ◌∷◌, ◌&&◌, [], ℕ, length, slice_get, slice_set, true, is_some, Some, None, OnOk, OnErr, IfOk, option_copied, option_map, if◌then◌else◌};
 ghost use Rattle.mj_ports.specs.declared.entry.Entry.TheVariants.{Sat, Back, Gone, Expired};
 ghost use Rattle.mj_seating.specs.Sitting.{is_present_at};
 ghost use Rattle.mj_wall.specs.declared.setting.Setting.{Setting};
 ghost use Rattle.mj_window.specs.Slots.{closes, is_waited_for, put_at};
+ghost use Rattle.mj_deeds.specs.declared.deed.Deed.TheVariants.{StartGame};
 ghost use Rattle.mj_deeds.specs.Four.{at_seat};
 ghost use Rattle.mj_rules.specs.Outcome.{goes_on};
 ghost use Rattle.mj_deeds.specs.Facts.{newest};
-ghost use Rattle.mj_history.specs.After.{due_on_return};
+ghost use Rattle.mj_history.specs.After.{due_on_return, slots_after};
 ghost use Rattle.mj_history.specs.Legal.{is_over};
 ghost use Rattle.mj_core.specs.Calls.{open_window};
 ghost use Rattle.mj_core.specs.Inner.States.{Steps, Hears, Advances, Settles, CanTakeSeat, CanTakeBack, CanHear, CanLeave, CanExpire, CanSettle, HasWalls, MayAdd, changed, now_of, nobody, desk_after, player_in, placed_in, presence_at, desk_name, desk_names};
 ghost use Rattle.mj_core.specs.Inner.Verdicts.{verdict_given};
 
 use crate::chair::Chair;
+use crate::supply::Supply;
 use crate::telling::Telling;
 use crate::verdict::Verdict;
 use crate::window::answers_in;
 use mj_deeds::{Answer, Deed, Four, Names};
 use mj_ports::{JoinLine, Name};
 use mj_seating::{Desk, Placed};
-use mj_wall::Setting;
 use mj_window::Window;
 use std::alloc::{AllocError, Global};
 use std::marker::Model;
@@ -138,15 +139,11 @@ impl<T: Telling> State<T> {
             (Sat author join.now.name join.now.key)) }
         ensures err { OnErr result (self.new ≡ self.old) }
     {
-        self.deeds.reserve(1)?;
         self.chairs.reserve(1)?;
         let mut desk = self.desk;
         desk.sit(join);
         if desk.held() == 4 {
-            let seated = Names::of(alloc, names(&desk))?;
-            let deed = Deed::StartGame { names: seated };
-            self.told.push(alloc, &deed)?;
-            self.deeds.push_reserved(deed);
+            start_game(alloc, &mut self.told, &mut self.deeds, &desk)?;
             self.chairs.push_reserved(Chair::new(author));
             self.desk = desk;
             self.window.clear_all();
@@ -161,13 +158,14 @@ impl<T: Telling> State<T> {
     pub fn take_back(
         &mut self,
         alloc: Global,
-        setting: &Setting,
+        setting: &mut Supply,
         author: u8,
         seat: u8,
         join: &JoinLine,
     ) -> Result<(), AllocError>
-        requires { CanTakeBack setting.now self.old seat join.now }
-        ensures ok { OnOk result (Steps setting.now self.old self.new (Back author seat)) }
+        requires { CanTakeBack setting.old self.old seat join.now }
+        ensures setting { setting.new ≡ setting.old }
+        ensures ok { OnOk result (Steps setting.old self.old self.new (Back author seat)) }
         ensures err { OnErr result (self.new ≡ self.old) }
     {
         let mut desk = self.desk;
@@ -193,34 +191,28 @@ impl<T: Telling> State<T> {
     pub fn hear(
         &mut self,
         alloc: Global,
-        setting: &Setting,
+        setting: &mut Supply,
         seat: u8,
         answer: &Answer,
     ) -> Result<Verdict, AllocError>
-        requires { CanHear setting.now self.old seat answer.now }
-        ensures ok { IfOk result (λ verdict. Hears setting.now self.old self.new seat answer.now
+        requires { CanHear setting.old self.old seat answer.now }
+        ensures setting { setting.new ≡ setting.old }
+        ensures ok { IfOk result (λ verdict. Hears setting.old self.old self.new seat answer.now
             (verdict_given verdict)) }
         ensures err { OnErr result (self.new ≡ self.old) }
     {
         let mut chair = self.chairs[usize::from(seat)];
         let verdict = chair.verdict(self.told.table(), self.deeds.len(), seat, answer);
         chair.go_on(&verdict);
-        if verdict.is_taken() {
-            self.settle_filled(alloc, setting, seat, answer, chair)?;
-            return Ok(verdict);
-        }
-        if !verdict.is_closing() {
-            self.settle_here(alloc, setting, seat, chair)?;
-            return Ok(verdict);
-        }
-        self.settle_closing(alloc, setting, seat, &verdict, chair)?;
+        self.settle_heard(alloc, setting, seat, answer, &verdict, chair)?;
         Ok(verdict)
     }
 
     // A present seat leaves.
-    pub fn leave(&mut self, alloc: Global, setting: &Setting, seat: u8) -> Result<(), AllocError>
-        requires { CanLeave setting.now self.old seat }
-        ensures ok { OnOk result ((author : ℕ) → Steps setting.now self.old self.new
+    pub fn leave(&mut self, alloc: Global, setting: &mut Supply, seat: u8) -> Result<(), AllocError>
+        requires { CanLeave setting.old self.old seat }
+        ensures setting { setting.new ≡ setting.old }
+        ensures ok { OnOk result ((author : ℕ) → Steps setting.old self.old self.new
             (Gone author seat)) }
         ensures err { OnErr result (self.new ≡ self.old) }
     {
@@ -232,9 +224,10 @@ impl<T: Telling> State<T> {
     }
 
     // The time of the open window has run out.
-    pub fn expire(&mut self, alloc: Global, setting: &Setting) -> Result<(), AllocError>
-        requires { CanExpire setting.now self.old }
-        ensures ok { OnOk result ((author window t1 t2 : ℕ) → Steps setting.now self.old self.new
+    pub fn expire(&mut self, alloc: Global, setting: &mut Supply) -> Result<(), AllocError>
+        requires { CanExpire setting.old self.old }
+        ensures setting { setting.new ≡ setting.old }
+        ensures ok { OnOk result ((author window t1 t2 : ℕ) → Steps setting.old self.old self.new
             (Expired author window t1 t2)) }
         ensures err { OnErr result (self.new ≡ self.old) }
     {
@@ -245,13 +238,14 @@ impl<T: Telling> State<T> {
     fn settle(
         &mut self,
         alloc: Global,
-        setting: &Setting,
+        setting: &mut Supply,
         seat: u8,
         desk: &Desk,
         chair: Chair,
     ) -> Result<(), AllocError>
-        requires { CanSettle setting.now self.old seat desk.now chair self.old.slots }
-        ensures ok { OnOk result (Settles setting.now
+        requires { CanSettle setting.old self.old seat desk.now chair self.old.slots }
+        ensures setting { setting.new ≡ setting.old }
+        ensures ok { OnOk result (Settles setting.old
             (changed self.old desk.now (slice_set self.old.players seat chair) self.old.slots)
             self.new) }
         ensures err { OnErr result (self.new ≡ self.old) }
@@ -267,19 +261,52 @@ impl<T: Telling> State<T> {
         Ok(())
     }
 
+    // A seat changes by the verdict on its answer.
+    #[inline(always)]
+    fn settle_heard(
+        &mut self,
+        alloc: Global,
+        setting: &mut Supply,
+        seat: u8,
+        answer: &Answer,
+        verdict: &Verdict,
+        chair: Chair,
+    ) -> Result<(), AllocError>
+        requires empty { at_seat self.old.slots seat ≡ None }
+        requires present { is_present_at self.old.desk seat ≡ true }
+        requires can { CanSettle setting.old self.old seat
+            (desk_after (verdict_given verdict.now) self.old.desk seat) chair
+            (slots_after (verdict_given verdict.now) self.old.slots seat answer.now) }
+        ensures setting { setting.new ≡ setting.old }
+        ensures ok { OnOk result (Settles setting.old
+            (changed self.old (desk_after (verdict_given verdict.now) self.old.desk seat)
+            (slice_set self.old.players seat chair)
+            (slots_after (verdict_given verdict.now) self.old.slots seat answer.now)) self.new) }
+        ensures err { OnErr result (self.new ≡ self.old) }
+    {
+        if verdict.is_taken() {
+            return self.settle_filled(alloc, setting, seat, answer, chair);
+        }
+        if verdict.is_closing() {
+            return self.settle_closing(alloc, setting, seat, verdict, chair);
+        }
+        self.settle_here(alloc, setting, seat, chair)
+    }
+
     // A seat whose answer is refused for good changes, and leaves the desk.
     fn settle_closing(
         &mut self,
         alloc: Global,
-        setting: &Setting,
+        setting: &mut Supply,
         seat: u8,
         verdict: &Verdict,
         chair: Chair,
     ) -> Result<(), AllocError>
         requires present { is_present_at self.old.desk seat ≡ true }
-        requires can { CanSettle setting.now self.old seat
+        requires can { CanSettle setting.old self.old seat
             (desk_after (verdict_given verdict.now) self.old.desk seat) chair self.old.slots }
-        ensures ok { OnOk result (Settles setting.now
+        ensures setting { setting.new ≡ setting.old }
+        ensures ok { OnOk result (Settles setting.old
             (changed self.old (desk_after (verdict_given verdict.now) self.old.desk seat)
             (slice_set self.old.players seat chair) self.old.slots) self.new) }
         ensures err { OnErr result (self.new ≡ self.old) }
@@ -293,12 +320,13 @@ impl<T: Telling> State<T> {
     fn settle_here(
         &mut self,
         alloc: Global,
-        setting: &Setting,
+        setting: &mut Supply,
         seat: u8,
         chair: Chair,
     ) -> Result<(), AllocError>
-        requires { CanSettle setting.now self.old seat self.old.desk chair self.old.slots }
-        ensures ok { OnOk result (Settles setting.now
+        requires { CanSettle setting.old self.old seat self.old.desk chair self.old.slots }
+        ensures setting { setting.new ≡ setting.old }
+        ensures ok { OnOk result (Settles setting.old
             (changed self.old self.old.desk (slice_set self.old.players seat chair) self.old.slots)
             self.new) }
         ensures err { OnErr result (self.new ≡ self.old) }
@@ -316,15 +344,16 @@ impl<T: Telling> State<T> {
     fn settle_filled(
         &mut self,
         alloc: Global,
-        setting: &Setting,
+        setting: &mut Supply,
         seat: u8,
         answer: &Answer,
         chair: Chair,
     ) -> Result<(), AllocError>
         requires empty { at_seat self.old.slots seat ≡ None }
-        requires can { CanSettle setting.now self.old seat self.old.desk chair
+        requires can { CanSettle setting.old self.old seat self.old.desk chair
             (put_at self.old.slots seat answer.now) }
-        ensures ok { OnOk result (Settles setting.now
+        ensures setting { setting.new ≡ setting.old }
+        ensures ok { OnOk result (Settles setting.old
             (changed self.old self.old.desk (slice_set self.old.players seat chair)
             (put_at self.old.slots seat answer.now)) self.new) }
         ensures err { OnErr result (self.new ≡ self.old) }
@@ -358,20 +387,55 @@ impl<T: Telling> State<T> {
     }
 
     // The deed that follows by the answers in the window is added, and its window opens.
-    fn advance(&mut self, alloc: Global, setting: &Setting) -> Result<(), AllocError>
-        requires ground { HasWalls setting.now self.old }
+    fn advance(&mut self, alloc: Global, setting: &mut Supply) -> Result<(), AllocError>
+        requires ground { HasWalls setting.old self.old }
         requires on { goes_on (newest self.old.deeds) ≡ true }
-        requires may { MayAdd setting.now self.old.deeds self.old.slots }
-        ensures ok { OnOk result (Advances setting.now self.old self.new) }
+        requires may { MayAdd setting.old self.old.deeds self.old.slots }
+        ensures setting { setting.new ≡ setting.old }
+        ensures ok { OnOk result (Advances setting.old self.old self.new) }
         ensures err { OnErr result (self.new ≡ self.old) }
     {
         self.deeds.reserve(1)?;
         let answers = answers_in(self.told.table(), &self.window);
-        let deed = self.told.next(alloc, setting.walls.as_slice(), &answers)?;
+        let deed = setting.next(alloc, &mut self.told, &answers)?;
         self.deeds.push_reserved(deed);
         self.window.clear_all();
         Ok(())
     }
+}
+
+// The game starts with the names at a desk: its first deed is told and added.
+#[inline(always)]
+fn start_game<T: Telling>(
+    alloc: Global,
+    told: &mut T,
+    deeds: &mut Vec<Deed>,
+    desk: &Desk,
+) -> Result<(), AllocError>
+    requires { (length (T.play told.old).deeds == 0) ≡ true }
+    ensures told { OnOk result (T.play told.new ≡ record {
+      rules = (T.play told.old).rules;
+      deeds = (T.play told.old).deeds ++ StartGame (desk_names desk.now) ∷ [];
+    }) }
+    ensures added { OnOk result (deeds.new.items
+        ≡ deeds.old.items ++ StartGame (desk_names desk.now) ∷ []) }
+    ensures untold { OnErr result (T.play told.new ≡ T.play told.old) }
+    ensures same { OnErr result (deeds.new.items ≡ deeds.old.items) }
+{
+    deeds.reserve(1)?;
+    let deed = start(alloc, desk)?;
+    told.push(alloc, &deed)?;
+    deeds.push_reserved(deed);
+    Ok(())
+}
+
+// The start of a game with the names at a desk.
+fn start(alloc: Global, desk: &Desk) -> Result<Deed, AllocError>
+    ensures { IfOk result (λ deed. deed ≡ StartGame (desk_names desk.now)) }
+{
+    Ok(Deed::StartGame {
+        names: Names::of(alloc, names(desk))?,
+    })
 }
 
 // The desk once an answer of a seat has this verdict: one that is refused for good makes the seat leave.

@@ -4,7 +4,7 @@ ghost use Rattle.mj_deeds.specs.Facts.{newest};
 ghost use Rattle.mj_streams.specs.Streams.{with_deed};
 ghost use Rattle.mj_core.specs.Inner.Streamed.{CanCatchUp, possible_of_all};
 
-use crate::telling::Telling;
+use crate::telling::{Telling, new_table};
 use mj_deeds::{Answer, Answers, Deed, Four};
 use mj_judge::possible_over;
 use mj_machine::next;
@@ -15,9 +15,10 @@ use std::alloc::{AllocError, Global};
 use std::marker::Model;
 use std::mem;
 
-// A table with the lines that its four seats are told of its deeds. A second table stands by: a deed is added to it, made the
-// same as the first, and they change places once the deed is told, since that may want memory. So it then lacks the newest deed
-// alone, and becomes the same by that one.
+/// A table with the lines that its four seats are told of its deeds.
+//
+// A second table stands by: a deed is added to it, made the same as the first, and they change places once the deed is told, since
+// that may want memory. So it then lacks the newest deed alone, and becomes the same by that one.
 #[derive(Drop)]
 pub struct Streamed {
     table: Box<Table>,
@@ -41,23 +42,20 @@ impl Model for Streamed {
 }
 
 impl Streamed {
-    // The table of a game without a deed.
+    /// The table of a game without a deed.
     pub fn new(alloc: Global, rules: Rules) -> Result<Streamed, AllocError>
         ensures { IfOk result (λ t. t ≡ record { rules = rules; deeds = [] }) }
     {
-        let streams = Streams::new(alloc)?;
-        let table = Box::new(alloc, Table::new(rules)?)?;
-        let spare = Box::new(alloc, Table::new(rules)?)?;
         Ok(Streamed {
-            table,
-            spare,
+            table: new_table(alloc, rules)?,
+            spare: new_table(alloc, rules)?,
             is_behind: false,
-            streams,
+            streams: Streams::new(alloc)?,
             lists: passes(),
         })
     }
 
-    // Line k of a seat, 0 to 3; None exactly where there is no deed k yet.
+    /// Line k of a seat, 0 to 3; None exactly where there is no deed k yet.
     pub fn line(&self, seat: u8, k: u32) -> Option<&[u8]>
         requires { seat < 4 }
         ensures { option_copied result ≡ slice_get (lines_for self.now.rules seat self.now.deeds) k }
@@ -92,14 +90,8 @@ impl Telling for Streamed {
         let is_behind = self.is_behind;
         self.is_behind = false;
         catch_up(&self.table, &mut self.spare, is_behind)?;
-        let deed = next(alloc, &mut self.spare, walls, answers)?;
-        tell(
-            alloc,
-            &self.spare,
-            &deed,
-            &mut self.lists,
-            &mut self.streams,
-        )?;
+        let next = next(alloc, &mut self.spare, walls, answers)?;
+        let deed = told(alloc, &self.spare, next, &mut self.lists, &mut self.streams)?;
         mem::swap(&mut self.table, &mut self.spare);
         self.is_behind = true;
         Ok(deed)
@@ -125,6 +117,24 @@ fn catch_up(table: &Table, spare: &mut Table, is_behind: bool) -> Result<(), All
         Some(deed) if is_behind => spare.push(deed),
         _ => table.copy_over(spare),
     }
+}
+
+// Tells the four seats the newest deed of a table, as `tell` does, and gives it back.
+#[inline(always)]
+fn told(
+    alloc: Global,
+    table: &Table,
+    deed: Deed,
+    lists: &mut Four<Answers>,
+    streams: &mut Streams,
+) -> Result<Deed, AllocError>
+    ensures deed { IfOk result (λ told. told ≡ deed) }
+    ensures ok { OnOk result (streams.new ≡ with_deed streams.old deed
+        (possible_of_all table.now.rules table.now.deeds)) }
+    ensures err { OnErr result (streams.new ≡ streams.old) }
+{
+    tell(alloc, table, &deed, lists, streams)?;
+    Ok(deed)
 }
 
 // Tells the four seats the newest deed of a table, in place of the lists of the deed before.

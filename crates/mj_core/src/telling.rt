@@ -73,8 +73,9 @@ impl Untold {
     pub fn new(alloc: Global, rules: Rules) -> Result<Untold, AllocError>
         ensures { IfOk result (λ t. t ≡ record { rules = rules; deeds = [] }) }
     {
-        let table = Box::new(alloc, Table::new(rules)?)?;
-        Ok(Untold { table })
+        Ok(Untold {
+            table: new_table(alloc, rules)?,
+        })
     }
 }
 
@@ -97,4 +98,11 @@ impl Telling for Untold {
     ) -> Result<Deed, AllocError> {
         next(alloc, &mut self.table, walls, answers)
     }
+}
+
+// A table without a deed, in a box.
+pub(crate) fn new_table(alloc: Global, rules: Rules) -> Result<Box<Table>, AllocError>
+    ensures { IfOk result (λ table. table.value ≡ record { rules = rules; deeds = [] }) }
+{
+    Ok(Box::new(alloc, Table::new(rules)?)?)
 }

@@ -4,6 +4,7 @@ ghost use Rattle.mj_bytes.specs.Adds.{Adds};
 ghost use Rattle.mj_ports.specs.Names.{is_name};
 ghost use Rattle.mj_wall.specs.Places.{is_wall};
 ghost use Rattle.mj_deeds.specs.Answers.{is_in_form};
+ghost use Rattle.mj_deeds.specs.Fits.{all_fit};
 ghost use Rattle.mj_forms.specs.AnswerForms.{answer_of, join_of};
 ghost use Rattle.mj_history.specs.Legal.{IsLegal, can_say, is_over};
 ghost use Rattle.mj_history.specs.Shown.{sit_answer, sits_of, expires_of};
@@ -15,15 +16,16 @@ ghost use Rattle.mj_core.specs.Inner.Verdicts.{heard_by};
 use crate::answers::{Expiry, Heard, Left, SitAnswer};
 use crate::entered::Entered;
 use crate::state::State;
+use crate::supply::Supply;
 use crate::telling::Telling;
 use crate::verdict::Verdict;
-use mj_deeds::Answer;
+use mj_deeds::{Answer, Deed};
 use mj_ports::{JoinLine, SitRefused};
 use mj_seating::Placed;
 use mj_table::Table;
-use mj_wall::{Rules, Setting, Walls};
+use mj_wall::{Rules, Walls};
 use mjai_answers::{read_answer, read_join};
-use mjai_lines::{Steps, write_record};
+use mjai_lines::Steps;
 use std::alloc::{AllocError, Global};
 use std::marker::{Brand, Model};
 use std::sync::ledger::{Blank, Ledger};
@@ -34,7 +36,7 @@ const ENTRIES: usize = 8_192;
 /// The rules of one game: what it is played with, and all that was entered so far, on a table that tells its deeds or doesn't.
 #[derive(Drop)]
 pub struct Umpire<T: Telling> {
-    setting: Setting,
+    setting: Supply,
     entries: Vec<Entered>,
     state: State<T>,
 }
@@ -63,8 +65,21 @@ impl<T: Telling> Umpire<T> {
         ensures { IfOk result (λ umpire. umpire
             ≡ record { setting = record { walls = walls; rules = rules }; entries = [] }) }
     {
+        Umpire::with_supply(alloc, Supply::given(walls, rules), told)
+    }
+
+    /// A game before its first entry, as `new` makes it, with a supply of walls.
+    pub fn with_supply(alloc: Global, setting: Supply, told: T) -> Result<Umpire<T>, AllocError>
+        requires some { 1 ≤ length setting.walls }
+        requires few { length setting.walls ≤ 200 }
+        requires whole { IsTrue (list_all (is_wall setting.rules.red) setting.walls) }
+        requires shortest { 1 ≤ setting.rules.limit }
+        requires longest { setting.rules.limit ≤ 3600000 }
+        requires fresh { T.play told ≡ record { rules = setting.rules; deeds = [] } }
+        ensures { IfOk result (λ umpire. umpire ≡ record { setting = setting; entries = [] }) }
+    {
         Ok(Umpire {
-            setting: Setting { walls, rules },
+            setting,
             entries: Vec::with_capacity(alloc, ENTRIES)?,
             state: State::new(alloc, told)?,
         })
@@ -149,7 +164,7 @@ impl<T: Telling> Umpire<T> {
         }
         match self
             .state
-            .take_back(alloc, &self.setting, author, seat, join)
+            .take_back(alloc, &mut self.setting, author, seat, join)
         {
             Ok(()) => {
                 self.entries.push_reserved(Entered::back(author, seat));
@@ -181,7 +196,7 @@ impl<T: Telling> Umpire<T> {
         if self.entries.reserve(1).is_err() {
             return Heard::NoMemory;
         }
-        match self.state.hear(alloc, &self.setting, seat, answer) {
+        match self.state.hear(alloc, &mut self.setting, seat, answer) {
             Ok(verdict) => {
                 self.entries
                     .push_reserved(Entered::said(author, seat, answer));
@@ -199,7 +214,7 @@ impl<T: Telling> Umpire<T> {
         if self.entries.reserve(1).is_err() {
             return Left::NoMemory;
         }
-        match self.state.leave(alloc, &self.setting, seat) {
+        match self.state.leave(alloc, &mut self.setting, seat) {
             Ok(()) => {
                 self.entries.push_reserved(Entered::gone(author, seat));
                 Left::Gone
@@ -228,7 +243,8 @@ impl<T: Telling> Umpire<T> {
         if self.open() != Some(window) {
             return Expiry::Stale;
         }
-        if t2 < t1 || t2 - t1 < self.setting.rules.limit {
+        let limit = self.setting.rules().limit;
+        if t2 < t1 || t2 - t1 < limit {
             return Expiry::Early;
         }
         Expiry::Closed
@@ -245,7 +261,7 @@ impl<T: Telling> Umpire<T> {
         let Ok(entered) = Entered::expired(alloc, author, window, t1, t2) else {
             return Expiry::NoMemory;
         };
-        match self.state.expire(alloc, &self.setting) {
+        match self.state.expire(alloc, &mut self.setting) {
             Ok(()) => {
                 self.entries.push_reserved(entered);
                 Expiry::Closed
@@ -286,6 +302,14 @@ impl<T: Telling> Umpire<T> {
         ensures { result ≡ length (after_of self.now).deeds }
     {
         self.state.deeds().len() as u32
+    }
+
+    /// The deeds so far, the oldest first, each of which fits after those before it.
+    pub fn played(&self) -> &[Deed]
+        ensures deeds { result.now ≡ (after_of self.now).deeds }
+        ensures fit { all_fit self.now.setting.rules.red [] (after_of self.now).deeds ≡ true }
+    {
+        self.state.deeds()
     }
 
     /// The table that stands for the deeds so far, with what is told of them.
@@ -383,14 +407,8 @@ impl<T: Telling> Umpire<T> {
         ensures err { OnErr result (into.new.items ≡ into.old.items) }
     {
         let mut steps = Steps::<L>::new(blank);
-        write_record(
-            alloc,
-            self.setting.rules,
-            self.setting.walls.as_slice(),
-            self.state.deeds(),
-            into,
-            &mut steps,
-        )
+        self.setting
+            .write_record(alloc, self.state.deeds(), into, &mut steps)
     }
 }
 

@@ -12,6 +12,6 @@ catch_up-requires c =
 pub invariant_of-self-2 : goal.invariant_of-self-2
 invariant_of-self-2 c =
     let caught = c.deref_mut-2.ensures.value ∙ c.in_ok-catch_up.ensures ∙ c.deref.ensures in
-    told_and_turned c.self.inside.table.value _ _ _ c.in_ok-deed.deed _ _ c.self.invariant.lines
-    (c.in_ok-deed.ensures.pushed ∙ ap (λ (p : Play). record { rules = p.rules; deeds = p.deeds ++ c.in_ok-deed.deed ∷ [] }) caught)
-    (rw c.deref-2.ensures at c.in_ok-tell.ensures.ok) (ap (λ b. b.value) c.swap.ensures.x_after) (ap (λ b. b.value) c.swap.ensures.y_after)
+    told_and_turned c.self.inside.table.value _ _ _ c.in_ok-next.next _ _ c.self.invariant.lines
+    (c.in_ok-next.ensures.pushed ∙ ap (λ (p : Play). record { rules = p.rules; deeds = p.deeds ++ c.in_ok-next.next ∷ [] }) caught)
+    (rw c.deref-2.ensures at c.in_ok-deed.ensures.ok) (ap (λ b. b.value) c.swap.ensures.x_after) (ap (λ b. b.value) c.swap.ensures.y_after)

@@ -7,12 +7,13 @@ take_back-requires-after_bounds g c κs within = back-can _ _ c.self.inside.stat
 
 pub invariant_of-self-in-Ok : goal.invariant_of-self-in-Ok
 invariant_of-self-in-Ok g c =
-    kept-more _ c.self.inside.entries.items _ c.self.inside.state _ (Back c.args.author c.args.seat) c.self.invariant
+    rw c.take_back.ensures.setting
+    (kept-more _ c.self.inside.entries.items _ c.self.inside.state _ (Back c.args.author c.args.seat) c.self.invariant
     (back-may _ _ c.self.inside.state c.args.author c.args.seat c.args.join.now c.self.invariant c.requires.name (rw (← c.self.view_is) at c.requires.placing))
-    c.in-Ok.ensures.ok (rw (c.reserve.ensures.items, c.back.ensures) at c.push_reserved.ensures.items)
+    c.in-Ok.ensures.ok (rw (c.reserve.ensures.items, c.back.ensures) at c.push_reserved.ensures.items))
 
 pub returns-in-Ok : goal.returns-in-Ok
 returns-in-Ok g c =
-    rw (← c.self.view_is)
+    rw (c.take_back.ensures.setting, ← c.self.view_is)
     (back-entered _ c.self.inside.entries.items _ c.args.author c.args.seat c.args.join.now (rw (← c.self.view_is) at c.requires.placing)
     (rw (c.reserve.ensures.items, c.back.ensures) at c.push_reserved.ensures.items))

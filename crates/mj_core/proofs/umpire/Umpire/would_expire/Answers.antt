@@ -15,10 +15,10 @@ returns-then-t2-t1 g c =
     foreseen-early c.args.self.now _ _ _ (opened _ (after_of c.args.self.now).deeds _ c.if-ne.ensures c.open.ensures)
     (rw (← c.self.view_is) (elim c.then-t2-t1.branch [
       | then-t2-t1-via-then-t2-t1 w ↦ too-early _ _ _ _ _ w.if-t2-t1.true
-      | then-t2-t1-via-else-t2-t1+then-t2-t1-2 w ↦ too-short _ _ _ _ _ w.if-t2-t1-2.true
+      | then-t2-t1-via-else-t2-t1+then-t2-t1-2 w ↦ too-short _ _ _ _ _ (rw c.rules-limit.ensures at w.if-t2-t1-2.true)
     ]))
 
 pub returns : goal.returns
 returns g c =
     let open_is : is_open (after_of c.args.self.now).deeds c.args.window ≡ true = opened _ (after_of c.args.self.now).deeds _ c.if-ne.ensures c.open.ensures in
-    foreseen-closed c.args.self.now _ _ _ (rw (← c.self.view_is) (run-out _ _ _ _ _ (rw (← c.self.view_is) at open_is) c.if-t2-t1.false c.if-t2-t1-2.false))
+    foreseen-closed c.args.self.now _ _ _ (rw (← c.self.view_is) (run-out _ _ _ _ _ (rw (← c.self.view_is) at open_is) c.if-t2-t1.false (rw c.rules-limit.ensures at c.if-t2-t1-2.false)))
