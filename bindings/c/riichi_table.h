@@ -48,7 +48,7 @@ enum {
     RIICHI_TOO_LONG = 24,     /* sit, say: the line has more than 4,095 bytes */
     RIICHI_NO_ROOM = 25,      /* the bytes don't fit; *length says how many there are, and none is written */
     RIICHI_NO_CHOICE = 26,    /* choose: the seat has no answer of that number */
-    /* turn, choose: so many seats have passed, a million, that turn has to be called again. */
+    /* turn, choose: a million looks at a seat were not enough: turn has to be called again. */
     RIICHI_GO_ON = 27,
     /* every call: a pointer is NULL; the library isn't called. */
     RIICHI_NULL = 28,
@@ -149,8 +149,8 @@ uint32_t riichi_table_state(riichi_table *table, riichi_state *state);
 /* What stands at a seat: DONE, NO_SEAT or NO_GAME. */
 uint32_t riichi_table_seat(riichi_table *table, uint32_t seat, riichi_seat *into);
 
-/* Line k of a seat, 0 to the number of deeds less one, with its newline, as it was made when its deed was added: DONE, NO_ROOM, NO_LINE,
- * NO_SEAT or NO_GAME. */
+/* Line k of a seat, 0 to the number of deeds less one, with its newline. Lines are rendered, each once, when one is first asked for: DONE,
+ * NO_ROOM, NO_LINE, NO_SEAT, NO_GAME or NO_MEMORY. */
 uint32_t riichi_table_line(riichi_table *table, uint32_t seat, uint32_t k, uint8_t *room, size_t room_length, uint64_t *length);
 
 /* What is still to be told to a seat: the line of its due deed once that exists, unless an answer to it was refused; nothing where the seat

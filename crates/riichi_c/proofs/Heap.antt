@@ -10,8 +10,8 @@ use Rattle.std.proofs.alloc.Calls.{Al}
 use Rattle.std.specs.contracts.alloc.Global as heap
 use Rattle.std.proofs.alloc.Global.TheLaws as heap_laws
 use Rattle.std.specs.contracts.impls.GlobalAllocator.TheImpl.{ghosts, dict}
-use Rattle.mj_core.specs.contracts.game.Core as core
-use Rattle.mj_core.proofs.game.Core.TheLaws as core_laws
+use Rattle.mj_stepped.specs.contracts.stepped.Stepped as stepped
+use Rattle.mj_stepped.proofs.stepped.Stepped.TheLaws as stepped_laws
 
 abbrev pub Heap : RattleType
 Heap = arg (bare (layout heap.the_row)) no heap.the_row
@@ -20,10 +20,10 @@ abbrev pub heap_is : Laws Heap
 heap_is = arg_laws (bare (layout heap.the_row)) no heap.the_row heap_laws.the_row_laws refl
 
 abbrev pub Game : RattleType
-Game = arg (bare (layout core.the_row)) no core.the_row
+Game = arg (bare (layout stepped.the_row)) no stepped.the_row
 
 abbrev pub game_is : Laws Game
-game_is = arg_laws (bare (layout core.the_row)) no core.the_row core_laws.the_row_laws refl
+game_is = arg_laws (bare (layout stepped.the_row)) no stepped.the_row stepped_laws.the_row_laws refl
 
 abbrev pub undropped : Dict
 undropped = impl ("riichi_c::Destruct++none::drop" ∷ []) (tcons (layout Heap) tnil) dnil

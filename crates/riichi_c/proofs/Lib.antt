@@ -1,7 +1,9 @@
 mod Heap
 pub mod Limits
+pub mod Listed
 pub mod OnGames
-pub mod OneAnswer
+pub mod PassLines
+pub mod Passing
 pub mod Rules
 mod Values
 pub mod WallLines

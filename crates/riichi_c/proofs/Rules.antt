@@ -1,10 +1,14 @@
--- The number of a rule is its place.
-use Rattle.std.proofs.Common.{◌≡◌, ◌+◌, refl}
+-- The number of a rule is its place, and is told of an answer that breaks it.
+use Rattle.std.proofs.Common.{◌≡◌, ℕ, ◌+◌, refl, sym, subst}
 use denote.Enum.Declared.{tag_of}
+use Rattle.mj_ports.specs.declared.answers.Heard.{Heard}
+use Rattle.mj_ports.specs.declared.answers.Heard.TheVariants as heard
 use Rattle.mj_deeds.specs.declared.rule.Rule.{Rule}
 use Rattle.mj_deeds.specs.declared.rule.Rule.TheVariants as rules
 use Rattle.mj_deeds.specs.contracts.rule.Rule.{the_type}
 use Rattle.mj_forms.specs.Lines.{rule_number}
+use Rattle.riichi_c.specs.Answers.{refused, closing}
+use Rattle.riichi_c.specs.Calls.{Tells}
 
 pub tag_is : (rule : Rule) → tag_of the_type rule + 1 ≡ rule_number rule
 tag_is rules.Unreadable = refl
@@ -31,3 +35,9 @@ tag_is rules.NotComplete = refl
 tag_is rules.Furiten = refl
 tag_is rules.NoYaku = refl
 tag_is rules.NotNine = refl
+
+pub refused_told : (what : Heard Rule) (broken : Rule) (old_rule rule : ℕ) → what ≡ heard.Refused broken → rule ≡ rule_number broken → Tells what old_rule rule refused
+refused_told what broken old_rule rule is e = subst (λ (w : Heard Rule). Tells w old_rule rule refused) (sym is) (refl, e)
+
+pub closing_told : (what : Heard Rule) (broken : Rule) (old_rule rule : ℕ) → what ≡ heard.Closing broken → rule ≡ rule_number broken → Tells what old_rule rule closing
+closing_told what broken old_rule rule is e = subst (λ (w : Heard Rule). Tells w old_rule rule closing) (sym is) (refl, e)

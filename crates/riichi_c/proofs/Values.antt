@@ -18,7 +18,7 @@ use Rattle.libc.specs.Heap.{chunk}
 use Rattle.riichi_c.specs.Owned.{held_owns, loose_owns}
 use Rattle.riichi_c.specs.contracts.handle.Held as held
 use Rattle.riichi_c.specs.contracts.handle.Loose as loose
-use Rattle.mj_core.specs.contracts.game.Core.{the_row}
+use Rattle.mj_stepped.specs.contracts.stepped.Stepped.{the_row}
 
 abbrev pub word : Ptr → Val
 word p = vstruct (vcons (ptr_val p) vnil)

@@ -1,10 +1,12 @@
 -- What the calls of a table do to its game, by what the calls of the game do that they make.
 use Rattle.std.specs.Prelude.{ℕ, ◌≡◌, ◌<◌, ◌≤◌, Bool, true, false, List, ◌++◌, drop, length, Option, Some, None, nat_le, nat_lt, is_some, unwrap_or}
 use Rattle.mj_ports.specs.declared.answers.SitAnswer.TheVariants as sits
+use Rattle.mj_ports.specs.declared.answers.Heard.{Heard}
 use Rattle.mj_ports.specs.declared.answers.Heard.TheVariants as heard
 use Rattle.mj_ports.specs.declared.answers.Left.TheVariants as left
 use Rattle.mj_ports.specs.declared.answers.Expiry.TheVariants as expiry
 use Rattle.mj_ports.specs.declared.sitting.SitRefused.{SitRefused}
+use Rattle.mj_deeds.specs.declared.answer.Answer.{Answer}
 use Rattle.mj_deeds.specs.declared.rule.Rule.{Rule}
 use Rattle.mj_deeds.specs.Points.{points_of}
 use Rattle.mj_forms.specs.AnswerForms.{answer_of, join_of}
@@ -38,26 +40,27 @@ SitsBy false line old_seat seat old new answer = SitsWithin line old_seat seat o
 abbrev pub Sits : List ℕ → ℕ → ℕ → Game → Game → ℕ → Type 0
 Sits line old_seat seat old new answer = SitsBy (nat_lt 4095 (length line)) line old_seat seat old new answer
 
--- What a seat says in at most 4,095 bytes: it isn't present, or its due deed doesn't exist, and then nothing changes; else the answer of the game.
-pub data SaysWithin (seat : ℕ) (line : List ℕ) (old_rule rule : ℕ) (old new : Game) (answer : ℕ) : Type 0 where
-  SayNotPresent : answer ≡ not_present → author_of_seat old seat ≡ None → new ≡ old → rule ≡ old_rule → SaysWithin seat line old_rule rule old new answer
-  SayNotDue : answer ≡ not_due → (author : ℕ) → author_of_seat old seat ≡ Some author → may_say_at old seat ≡ false → new ≡ old → rule ≡ old_rule
-      → SaysWithin seat line old_rule rule old new answer
-  Taken : answer ≡ done → (author : ℕ) → author_of_seat old seat ≡ Some author → IsHeard heard.Taken old new author seat (answer_of line) → rule ≡ old_rule
-      → SaysWithin seat line old_rule rule old new answer
-  Late : answer ≡ late → (author : ℕ) → author_of_seat old seat ≡ Some author → IsHeard heard.Late old new author seat (answer_of line) → rule ≡ old_rule
-      → SaysWithin seat line old_rule rule old new answer
-  Refused : answer ≡ refused → (author : ℕ) (broken : Rule) → author_of_seat old seat ≡ Some author → IsHeard (heard.Refused broken) old new author seat (answer_of line)
-      → rule ≡ rule_number broken → SaysWithin seat line old_rule rule old new answer
-  Closing : answer ≡ closing → (author : ℕ) (broken : Rule) → author_of_seat old seat ≡ Some author → IsHeard (heard.Closing broken) old new author seat (answer_of line)
-      → rule ≡ rule_number broken → SaysWithin seat line old_rule rule old new answer
-  SayNoMemory : answer ≡ no_memory → new ≡ old → rule ≡ old_rule → SaysWithin seat line old_rule rule old new answer
+-- What is answered to what became of an answer, and the number of the rule that it breaks.
+abbrev pub Tells : Heard Rule → ℕ → ℕ → ℕ → Type 0
+Tells heard.Taken old_rule rule answer = (answer ≡ done) × (rule ≡ old_rule)
+Tells heard.Late old_rule rule answer = (answer ≡ late) × (rule ≡ old_rule)
+Tells (heard.Refused broken) old_rule rule answer = (answer ≡ refused) × (rule ≡ rule_number broken)
+Tells (heard.Closing broken) old_rule rule answer = (answer ≡ closing) × (rule ≡ rule_number broken)
+Tells heard.NoMemory old_rule rule answer = (answer ≡ no_memory) × (rule ≡ old_rule)
 
--- First it is looked whether the seat is one of the four, and then whether the line is too long.
+-- One of the four seats gives an answer: it isn't present, or its due deed doesn't exist, and then nothing changes; else what the game makes of it.
+pub data Gives (seat : ℕ) (given : Answer) (old_rule rule : ℕ) (old new : Game) (answer : ℕ) : Type 0 where
+  NotPresent : answer ≡ not_present → author_of_seat old seat ≡ None → new ≡ old → rule ≡ old_rule → Gives seat given old_rule rule old new answer
+  NotDue : answer ≡ not_due → (author : ℕ) → author_of_seat old seat ≡ Some author → may_say_at old seat ≡ false → new ≡ old → rule ≡ old_rule
+      → Gives seat given old_rule rule old new answer
+  Given : (author : ℕ) (what : Heard Rule) → author_of_seat old seat ≡ Some author → IsHeard what old new author seat given → Tells what old_rule rule answer
+      → Gives seat given old_rule rule old new answer
+
+-- What a seat says is an answer: first it is looked whether the seat is one of the four, and then whether the line is too long.
 abbrev pub SaysBy : Bool → Bool → ℕ → List ℕ → ℕ → ℕ → Game → Game → ℕ → Type 0
 SaysBy true long seat line old_rule rule old new answer = (answer ≡ no_seat) × (new ≡ old) × (rule ≡ old_rule)
 SaysBy false true seat line old_rule rule old new answer = (answer ≡ too_long) × (new ≡ old) × (rule ≡ old_rule)
-SaysBy false false seat line old_rule rule old new answer = SaysWithin seat line old_rule rule old new answer
+SaysBy false false seat line old_rule rule old new answer = Gives seat (answer_of line) old_rule rule old new answer
 
 abbrev pub Says : ℕ → List ℕ → ℕ → ℕ → Game → Game → ℕ → Type 0
 Says seat line old_rule rule old new answer = SaysBy (nat_lt 3 seat) (nat_lt 4095 (length line)) seat line old_rule rule old new answer
@@ -113,10 +116,12 @@ pub data ReadsSeat (seat : ℕ) (old_at at : Seat) (old new : Game) (answer : �
   ReadNoSeat : answer ≡ no_seat → 3 < seat → new ≡ old → at ≡ old_at → ReadsSeat seat old_at at old new answer
   ReadSeated : answer ≡ done → seat ≤ 3 → new ≡ old → IsSeat at old seat → ReadsSeat seat old_at at old new answer
 
--- A line of a seat.
+-- A line of a seat, which may have to be rendered first.
 pub data ReadsLine (seat k : ℕ) (old_room room : List ℕ) (many : ℕ) (old new : Game) (answer : ℕ) : Type 0 where
   LineNoSeat : 3 < seat → new ≡ old → answer ≡ no_seat → many ≡ 0 → room ≡ old_room → ReadsLine seat k old_room room many old new answer
   NoLine : seat ≤ 3 → length (after_of old).deeds ≤ k → new ≡ old → answer ≡ no_line → many ≡ 0 → room ≡ old_room → ReadsLine seat k old_room room many old new answer
+  LineNoMemory : seat ≤ 3 → k < length (after_of old).deeds → new ≡ old → answer ≡ no_memory → many ≡ 0 → room ≡ old_room
+      → ReadsLine seat k old_room room many old new answer
   Line : seat ≤ 3 → k < length (after_of old).deeds → new ≡ old → Writes (line_at old.setting.rules (after_of old).deeds seat k) answer old_room room many
       → ReadsLine seat k old_room room many old new answer
 

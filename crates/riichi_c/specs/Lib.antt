@@ -4,3 +4,4 @@ pub mod Calls
 pub mod Opens
 pub mod Runs
 pub mod Turns
+pub mod Inner

@@ -32,10 +32,6 @@ counted walls = if not (length walls == 0) && nat_le (length walls) 200 then Som
 abbrev pub some_walls : Bool → List ℕ → Option (List (List ℕ))
 some_walls red text = if length (unfinished text) == 0 then option_and_then counted (walls_in red (whole_lines text)) else None
 
--- A game is put on the table, unless memory is wanting.
-abbrev pub PutsGame : Game → Option Game → ℕ → Type 0
-PutsGame game new answer = ((answer ≡ done) × (new ≡ Some game)) ⊎ ((answer ≡ no_memory) × (new ≡ None))
-
 -- The setting that lines say: a header, and walls.
 abbrev pub setting_in : List (List ℕ) → Option Setting
 setting_in [] = None

@@ -2,44 +2,36 @@
 use Rattle.std.specs.Prelude.{ℕ, ◌≡◌, ◌≤◌, ◌<◌, ◌⊎◌, ◌&&◌, ◌==◌, not, Bool, true, false, nat_lt, List, length, codes, Some, None, slice_get}
 use Rattle.std.specs.List.{ends_with}
 use Rattle.mj_deeds.specs.declared.answer.Answer.{Answer}
-use Rattle.mj_rules.specs.Possible.{possible}
-use Rattle.mj_forms.specs.Choices.{answer_text}
+use Rattle.mj_deeds.specs.declared.answer.Answer.TheVariants.{Pass}
 use Rattle.mj_history.specs.Legal.{Game, is_over}
 use Rattle.mj_history.specs.Shown.{line_at}
 use Rattle.mj_core.specs.Calls.{after_of, due_of, may_say_at}
+use Rattle.mj_stepped.specs.Choices.{choices_of}
 use Rattle.riichi_c.specs.declared.turns.Turn.{Turn}
 use Rattle.riichi_c.specs.Answers.{done, late, no_memory, no_seat, no_choice, go_on}
-use Rattle.riichi_c.specs.Calls.{Says}
+use Rattle.riichi_c.specs.Calls.{Gives}
 
--- The answers that a seat may give to the newest deed.
-abbrev pub choices_of : Game → ℕ → List Answer
-choices_of game seat = possible game.setting.rules (after_of game).deeds seat
-
--- A seat says a line, unless memory is wanting for it.
-pub data SaysChoice (seat : ℕ) (line : List ℕ) (old_rule rule : ℕ) (old new : Game) (answer : ℕ) : Type 0 where
-  LineNoMemory : answer ≡ no_memory → new ≡ old → rule ≡ old_rule → SaysChoice seat line old_rule rule old new answer
-  Line : Says seat line old_rule rule old new answer → SaysChoice seat line old_rule rule old new answer
-
--- A seat gives the answer of this number by its line.
+-- A seat gives the answer of this number.
 pub data Chooses (seat k old_rule rule : ℕ) (old new : Game) (answer : ℕ) : Type 0 where
   ChooseNoSeat : answer ≡ no_seat → 3 < seat → new ≡ old → rule ≡ old_rule → Chooses seat k old_rule rule old new answer
   NoChoice : answer ≡ no_choice → seat ≤ 3 → slice_get (choices_of old seat) k ≡ None → new ≡ old → rule ≡ old_rule → Chooses seat k old_rule rule old new answer
   ChooseNoMemory : answer ≡ no_memory → new ≡ old → rule ≡ old_rule → Chooses seat k old_rule rule old new answer
-  Chosen : (choice : Answer) → seat ≤ 3 → slice_get (choices_of old seat) k ≡ Some choice → SaysChoice seat (answer_text choice) old_rule rule old new answer
+  Chosen : (choice : Answer) → seat ≤ 3 → slice_get (choices_of old seat) k ≡ Some choice → Gives seat choice old_rule rule old new answer
       → Chooses seat k old_rule rule old new answer
 
--- How the line of a deed ends whose list is a pass alone, and a pass as a line.
+-- How the line of a deed ends whose list is a pass alone.
 abbrev pub pass_list : List ℕ
 pass_list = codes ",\"possible_actions\":[{\"type\":\"none\"}]}\n"
 
-abbrev pub pass_line : List ℕ
-pass_line = codes "{\"type\":\"none\"}"
+-- A line ends so.
+abbrev pub shows_pass : List ℕ → Bool
+shows_pass text = ends_with (λ a b. a == b) text pass_list
 
 -- A seat may say a line, and its due deed's line lists a pass alone.
 abbrev pub can_only_pass : Game → ℕ → Bool
 can_only_pass game seat =
     may_say_at game seat && (nat_lt (due_of game seat) (length (after_of game).deeds)
-    && ends_with (λ a b. a == b) (line_at game.setting.rules (after_of game).deeds seat (due_of game seat)) pass_list)
+    && shows_pass (line_at game.setting.rules (after_of game).deeds seat (due_of game seat)))
 
 -- No seat can only pass.
 abbrev pub is_at_rest : Game → Bool
@@ -48,18 +40,20 @@ is_at_rest game = not (can_only_pass game 0) && (not (can_only_pass game 1) && (
 -- A seat passes.
 pub record Passed (seat : ℕ) (old new : Game) (answer : ℕ) : Type 0 where
   pub rule : ℕ
-  pub says : Says seat pass_line 0 rule old new answer
+  pub gives : Gives seat (Pass None) 0 rule old new answer
 
--- Seats that can only pass have passed, one after another, each by its line.
+-- Seats that can only pass have passed, one after another.
 pub data HavePassed (old : Game) : Game → Type 0 where
   Stays : HavePassed old old
   Passes : (mid new : Game) (seat answer : ℕ) → HavePassed old mid → can_only_pass mid seat ≡ true → Passed seat mid new answer → HavePassed old new
 
--- They pass until none is left that can only pass, unless a pass isn't taken, as where memory is wanting, or the call has to be made again.
+-- They pass until none is left that can only pass, unless memory is wanting to look what a seat may answer, a pass isn't taken, as where
+-- memory is wanting too, or the call has to be made again.
 pub data PassesOn (old new : Game) (answer : ℕ) : Type 0 where
   Rests : answer ≡ done → HavePassed old new → is_at_rest new ≡ true → PassesOn old new answer
   NotPassed : (mid : Game) (seat : ℕ) → HavePassed old mid → can_only_pass mid seat ≡ true → Passed seat mid new answer → (answer ≡ done → ⊥) → (answer ≡ late → ⊥)
       → PassesOn old new answer
+  NotListed : answer ≡ no_memory → HavePassed old new → PassesOn old new answer
   GoesOn : answer ≡ go_on → HavePassed old new → PassesOn old new answer
 
 -- Whose turn it is: the first seat that may say a line, or 4.

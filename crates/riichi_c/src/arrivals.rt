@@ -1,16 +1,20 @@
 //! The arrivals of a table, one call for each.
 
-ghost use Rattle.std.specs.Prelude.{◌≡◌, None};
+ghost use Rattle.std.specs.Prelude.{◌≡◌, true, None};
 ghost use Rattle.riichi_c.specs.Answers.{not_seated};
-ghost use Rattle.riichi_c.specs.Calls.{OnGame, Sits, SitsWithin, Says, SaysWithin, Leaves, LeavesOne, Expires};
+ghost use Rattle.mj_deeds.specs.Answers.{is_in_form};
+ghost use Rattle.mj_forms.specs.AnswerForms.{answer_of};
+ghost use Rattle.riichi_c.specs.Calls.{OnGame, Sits, SitsWithin, Says, Gives, Tells, Leaves, LeavesOne, Expires};
 
 use crate::answer::{
     BACK, CLOSING, DONE, EARLY, LATE, NO_GAME, NO_MEMORY, NO_SEAT, NOT_DUE, NOT_PRESENT,
     NOT_SEATED, REFUSED, STALE, TOO_LONG,
 };
 use crate::handle::Table;
-use mj_core::{Core, Expiry, Heard, Left, SitAnswer};
+use mj_core::{Expiry, Heard, Left, SitAnswer};
+use mj_deeds::Answer;
 use mj_ports::SitRefused;
+use mj_stepped::Stepped;
 use std::alloc::Global;
 
 /// The most bytes that the line of a player may have.
@@ -33,28 +37,28 @@ pub extern "C" fn riichi_table_sit(
     ensures told { OnGame (Sits line.now seat.old seat.new) table.old.held.game table.new.held.game result }
     ensures without { table.old.held.game ≡ None → seat.new ≡ seat.old }
 {
-    let Some(mut core) = table.take(alloc) else {
+    let Some(mut game) = table.take(alloc) else {
         return NO_GAME;
     };
-    let answer = sit(alloc, &mut core, line, seat);
-    table.put(core);
+    let answer = sit(alloc, &mut game, line, seat);
+    table.put(game);
     answer
 }
 
-fn sit(alloc: Global, core: &mut Core, line: &[u8], seat: &mut u32) -> u32
-    ensures { Sits line.now seat.old seat.new core.old core.new result }
+fn sit(alloc: Global, game: &mut Stepped, line: &[u8], seat: &mut u32) -> u32
+    ensures { Sits line.now seat.old seat.new game.old game.new result }
 {
     if line.len() > LINE_LIMIT {
         return TOO_LONG;
     }
-    sit_within(alloc, core, line, seat)
+    sit_within(alloc, game, line, seat)
 }
 
 // Somebody wants a seat by a line that isn't too long.
-fn sit_within(alloc: Global, core: &mut Core, line: &[u8], seat: &mut u32) -> u32
-    ensures { SitsWithin line.now seat.old seat.new core.old core.new result }
+fn sit_within(alloc: Global, game: &mut Stepped, line: &[u8], seat: &mut u32) -> u32
+    ensures { SitsWithin line.now seat.old seat.new game.old game.new result }
 {
-    match core.sit(alloc, JOINER, line) {
+    match game.sit(alloc, JOINER, line) {
         SitAnswer::Sat(taken) => {
             *seat = u32::from(taken);
             DONE
@@ -98,16 +102,16 @@ pub extern "C" fn riichi_table_say(
     ensures told { OnGame (Says seat line.now rule.old rule.new) table.old.held.game table.new.held.game result }
     ensures without { table.old.held.game ≡ None → rule.new ≡ rule.old }
 {
-    let Some(mut core) = table.take(alloc) else {
+    let Some(mut game) = table.take(alloc) else {
         return NO_GAME;
     };
-    let answer = say(alloc, &mut core, seat, line, rule);
-    table.put(core);
+    let answer = say(alloc, &mut game, seat, line, rule);
+    table.put(game);
     answer
 }
 
-pub(crate) fn say(alloc: Global, core: &mut Core, seat: u32, line: &[u8], rule: &mut u32) -> u32
-    ensures { Says seat line.now rule.old rule.new core.old core.new result }
+fn say(alloc: Global, game: &mut Stepped, seat: u32, line: &[u8], rule: &mut u32) -> u32
+    ensures { Says seat line.now rule.old rule.new game.old game.new result }
 {
     if seat > 3 {
         return NO_SEAT;
@@ -115,29 +119,58 @@ pub(crate) fn say(alloc: Global, core: &mut Core, seat: u32, line: &[u8], rule: 
     if line.len() > LINE_LIMIT {
         return TOO_LONG;
     }
-    say_within(alloc, core, seat as u8, line, rule)
+    say_within(alloc, game, seat as u8, line, rule)
 }
 
 // One of the four seats says a line that isn't too long.
-#[tactic(auto, using(crate::proofs::Rules::tag_is))]
-fn say_within(alloc: Global, core: &mut Core, seat: u8, line: &[u8], rule: &mut u32) -> u32
-    ensures { SaysWithin seat line.now rule.old rule.new core.old core.new result }
+fn say_within(alloc: Global, game: &mut Stepped, seat: u8, line: &[u8], rule: &mut u32) -> u32
+    ensures { Gives seat (answer_of line.now) rule.old rule.new game.old game.new result }
 {
-    let Some(author) = core.author(seat) else {
+    let Some(author) = game.author(seat) else {
         return NOT_PRESENT;
     };
-    if !core.may_say(seat) {
+    if !game.may_say(seat) {
         return NOT_DUE;
     }
-    match core.said(alloc, author, seat, line) {
+    let heard = game.said(alloc, author, seat, line);
+    tell(&heard, rule)
+}
+
+/// One of the four seats gives an answer in form, as by a line that reads as it.
+pub(crate) fn give(
+    alloc: Global,
+    game: &mut Stepped,
+    seat: u8,
+    answer: &Answer,
+    rule: &mut u32,
+) -> u32
+    requires { is_in_form answer.now ≡ true }
+    ensures { Gives seat answer.now rule.old rule.new game.old game.new result }
+{
+    let Some(author) = game.author(seat) else {
+        return NOT_PRESENT;
+    };
+    if !game.may_say(seat) {
+        return NOT_DUE;
+    }
+    let heard = game.hear(alloc, author, seat, answer);
+    tell(&heard, rule)
+}
+
+// What is answered to what became of an answer, and by which rule it was refused.
+#[tactic(auto, using(crate::proofs::Rules::tag_is))]
+fn tell(heard: &Heard, rule: &mut u32) -> u32
+    ensures { Tells heard.now rule.old rule.new result }
+{
+    match heard {
         Heard::Taken => DONE,
         Heard::Late => LATE,
         Heard::Refused(broken) => {
-            *rule = broken as u32;
+            *rule = *broken as u32;
             REFUSED
         }
         Heard::Closing(broken) => {
-            *rule = broken as u32;
+            *rule = *broken as u32;
             CLOSING
         }
         Heard::NoMemory => NO_MEMORY,
@@ -149,31 +182,31 @@ fn say_within(alloc: Global, core: &mut Core, seat: u8, line: &[u8], rule: &mut 
 pub extern "C" fn riichi_table_gone(alloc: Global, table: &mut Table, seat: u32) -> u32
     ensures { OnGame (Leaves seat) table.old.held.game table.new.held.game result }
 {
-    let Some(mut core) = table.take(alloc) else {
+    let Some(mut game) = table.take(alloc) else {
         return NO_GAME;
     };
-    let answer = leave(alloc, &mut core, seat);
-    table.put(core);
+    let answer = leave(alloc, &mut game, seat);
+    table.put(game);
     answer
 }
 
-fn leave(alloc: Global, core: &mut Core, seat: u32) -> u32
-    ensures { Leaves seat core.old core.new result }
+fn leave(alloc: Global, game: &mut Stepped, seat: u32) -> u32
+    ensures { Leaves seat game.old game.new result }
 {
     if seat > 3 {
         return NO_SEAT;
     }
-    leave_one(alloc, core, seat as u8)
+    leave_one(alloc, game, seat as u8)
 }
 
 // One of the four seats leaves.
-fn leave_one(alloc: Global, core: &mut Core, seat: u8) -> u32
-    ensures { LeavesOne seat core.old core.new result }
+fn leave_one(alloc: Global, game: &mut Stepped, seat: u8) -> u32
+    ensures { LeavesOne seat game.old game.new result }
 {
-    let Some(author) = core.author(seat) else {
+    let Some(author) = game.author(seat) else {
         return NOT_PRESENT;
     };
-    match core.gone(alloc, author, seat) {
+    match game.gone(alloc, author, seat) {
         Left::Gone => DONE,
         Left::NoMemory => NO_MEMORY,
     }
@@ -191,18 +224,18 @@ pub extern "C" fn riichi_table_expire(
 ) -> u32
     ensures { OnGame (Expires window t1 t2) table.old.held.game table.new.held.game result }
 {
-    let Some(mut core) = table.take(alloc) else {
+    let Some(mut game) = table.take(alloc) else {
         return NO_GAME;
     };
-    let answer = expire(alloc, &mut core, window, t1, t2);
-    table.put(core);
+    let answer = expire(alloc, &mut game, window, t1, t2);
+    table.put(game);
     answer
 }
 
-fn expire(alloc: Global, core: &mut Core, window: u32, t1: u64, t2: u64) -> u32
-    ensures { Expires window t1 t2 core.old core.new result }
+fn expire(alloc: Global, game: &mut Stepped, window: u32, t1: u64, t2: u64) -> u32
+    ensures { Expires window t1 t2 game.old game.new result }
 {
-    match core.expire(alloc, CLOCK, window, t1, t2) {
+    match game.expire(alloc, CLOCK, window, t1, t2) {
         Expiry::Closed => DONE,
         Expiry::Stale => STALE,
         Expiry::Early => EARLY,

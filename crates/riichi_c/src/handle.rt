@@ -1,11 +1,11 @@
 //! What a program in another language holds of a table.
 
 ghost use Rattle.std.specs.Prelude.{◌≡◌, true, Option, Some, None, is_some, IsTrue, MatchOption};
-ghost use Rattle.mj_core.specs.contracts.game.Core.{the_row};
+ghost use Rattle.mj_stepped.specs.contracts.stepped.Stepped.{the_row};
 ghost use Rattle.mj_history.specs.Legal.{Game};
 ghost use Rattle.riichi_c.specs.Owned.{held_owns, loose_owns};
 
-use mj_core::Core;
+use mj_stepped::Stepped;
 use std::alloc::Global;
 use std::marker::Model;
 use std::mem::replace;
@@ -44,7 +44,7 @@ impl<T: Drop> Loose<T> {
 }
 
 impl Held {
-    fn of(game: Loose<Core>) -> Held
+    fn of(game: Loose<Stepped>) -> Held
         ensures { result.game ≡ Some game.value }
     {
         let Loose { at } = game;
@@ -59,12 +59,12 @@ impl Held {
         Held { at: null_mut() }
     }
 
-    fn into_box(self, alloc: Global) -> Box<Core>
+    fn into_box(self, alloc: Global) -> Box<Stepped>
         requires { IsTrue (is_some self.game) }
         ensures { Some result.value ≡ self.game }
     {
         let Held { at } = self;
-        unsafe { Box::from_raw(alloc, at.cast::<Core>()) }
+        unsafe { Box::from_raw(alloc, at.cast::<Stepped>()) }
     }
 }
 
@@ -79,7 +79,7 @@ pub struct Table {
 
 impl Table {
     /// The game of the table is taken away; none exactly where it has none.
-    pub(crate) fn take(&mut self, alloc: Global) -> Option<Box<Core>>
+    pub(crate) fn take(&mut self, alloc: Global) -> Option<Box<Stepped>>
         ensures game { MatchOption result (self.old.held.game ≡ None)
             (λ core. self.old.held.game ≡ Some core.value) }
         ensures left { self.new.held.game ≡ None }
@@ -92,7 +92,7 @@ impl Table {
     }
 
     /// A game is put on the table, which has none.
-    pub(crate) fn put(&mut self, game: Box<Core>)
+    pub(crate) fn put(&mut self, game: Box<Stepped>)
         requires { self.old.held.game ≡ None }
         ensures { self.new.held.game ≡ Some game.value }
     {

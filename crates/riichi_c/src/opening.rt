@@ -1,15 +1,15 @@
 //! How a game is put on a table, and taken off.
 
-ghost use Rattle.std.specs.Prelude.{◌≡◌, None, IfOk, IfSome, codes, option_and_then, option_map};
+ghost use Rattle.std.specs.Prelude.{◌≡◌, Ok, IfOk, IfSome, codes, option_and_then, option_map};
 ghost use Rattle.mj_bytes.specs.Parts.{fields, behind};
 ghost use Rattle.mj_forms.specs.Headers.{rules_of};
 ghost use Rattle.mjai_answers.specs.Settings.{IsLimited};
-ghost use Rattle.riichi_c.specs.Opens.{Opens, OpensSeed, Closes, PutsGame, setting_of, new_game, seeded, wall_in, some_walls};
+ghost use Rattle.riichi_c.specs.Opens.{Opens, OpensSeed, Closes, setting_of, new_game, seeded, wall_in, some_walls};
 
 use crate::answer::{BAD_SETTING, DONE, IN_PLAY, NO_GAME, NO_MEMORY};
 use crate::handle::Table;
 use mj_bytes::{split_line, strip};
-use mj_core::Core;
+use mj_stepped::Stepped;
 use mj_wall::{Rules, Wall, Walls};
 use mjai_answers::{read_rules, read_tiles};
 use std::alloc::{AllocError, Global};
@@ -28,7 +28,10 @@ pub extern "C" fn riichi_table_open(alloc: Global, table: &mut Table, setting: &
         return IN_PLAY;
     }
     match game_of(alloc, setting) {
-        Ok(Some(core)) => put_new(alloc, table, core),
+        Ok(Some(game)) => {
+            table.put(game);
+            DONE
+        }
         Ok(None) => BAD_SETTING,
         Err(_) => NO_MEMORY,
     }
@@ -56,7 +59,10 @@ pub extern "C" fn riichi_table_open_seed(
         return IN_PLAY;
     }
     match seeded(alloc, seed, first, walls, Rules { limit, draws, red }) {
-        Ok(Some(core)) => put_new(alloc, table, core),
+        Ok(Some(game)) => {
+            table.put(game);
+            DONE
+        }
         Ok(None) => BAD_SETTING,
         Err(_) => NO_MEMORY,
     }
@@ -73,23 +79,9 @@ pub extern "C" fn riichi_table_close(alloc: Global, table: &mut Table) -> u32
     }
 }
 
-// The game is put on the table.
-fn put_new(alloc: Global, table: &mut Table, core: Core) -> u32
-    requires { table.old.held.game ≡ None }
-    ensures { PutsGame core table.new.held.game result }
-{
-    match Box::new(alloc, core) {
-        Ok(game) => {
-            table.put(game);
-            DONE
-        }
-        Err(_) => NO_MEMORY,
-    }
-}
-
 // The game of a setting before its first entry; none where the text is no setting.
-fn game_of(alloc: Global, setting: &[u8]) -> Result<Option<Core>, AllocError>
-    ensures { IfOk result (λ core. core ≡ option_map new_game (setting_of setting.now)) }
+fn game_of(alloc: Global, setting: &[u8]) -> Result<Option<Box<Stepped>>, AllocError>
+    ensures { IfOk result (λ game. option_map (λ g. g.value) game ≡ option_map new_game (setting_of setting.now)) }
 {
     let Some((line, rest)) = split_line(setting) else {
         return Ok(None);
@@ -98,9 +90,19 @@ fn game_of(alloc: Global, setting: &[u8]) -> Result<Option<Core>, AllocError>
         return Ok(None);
     };
     match walls_of(alloc, rest, rules.red)? {
-        Some(walls) => Ok(Some(Core::new(alloc, walls, rules)?)),
+        Some(walls) => Ok(Some(on_heap(
+            alloc,
+            Stepped::new(alloc, Walls::from_vec(walls), rules),
+        )?)),
         None => Ok(None),
     }
+}
+
+// A value that was made, on the heap.
+fn on_heap<T: Drop>(alloc: Global, made: Result<T, AllocError>) -> Result<Box<T>, AllocError>
+    ensures { IfOk result (λ held. made ≡ Ok held.value) }
+{
+    Ok(Box::new(alloc, made?)?)
 }
 
 // The rules of a header.
@@ -153,8 +155,8 @@ fn seeded(
     first: u64,
     walls: u32,
     rules: Rules,
-) -> Result<Option<Core>, AllocError>
-    ensures { IfOk result (λ core. core ≡ option_map new_game (seeded seed.now first walls rules)) }
+) -> Result<Option<Box<Stepped>>, AllocError>
+    ensures { IfOk result (λ game. option_map (λ g. g.value) game ≡ option_map new_game (seeded seed.now first walls rules)) }
 {
     let Ok(seed) = <[u8; 32]>::try_from(seed) else {
         return Ok(None);
@@ -166,6 +168,5 @@ fn seeded(
     if rules.limit == 0 || rules.limit > 3_600_000 {
         return Ok(None);
     }
-    let walls = Walls::shuffled_from(alloc, seed, first, number, rules.red)?;
-    Ok(Some(Core::with_walls(alloc, walls, rules)?))
+    Ok(Some(on_heap(alloc, Stepped::seeded(alloc, seed, first, number, rules))?))
 }

@@ -1,13 +1,13 @@
 //! What is read of a table.
 
-ghost use Rattle.std.specs.Prelude.{◌≡◌, None, IfOk};
-ghost use Rattle.mj_core.specs.Calls.{pending_at, record_of};
+ghost use Rattle.std.specs.Prelude.{◌≡◌, ◌<◌, None, IfOk};
+ghost use Rattle.mj_core.specs.Calls.{line_of, pending_at, record_of};
 ghost use Rattle.riichi_c.specs.Calls.{OnGame, IsState, ReadsLine, ReadsPending, ReadsRecord, ReadsState, ReadsSeat};
 
 use crate::answer::{DONE, NO_GAME, NO_LINE, NO_MEMORY, NO_SEAT};
 use crate::handle::Table;
 use crate::out::write_out;
-use mj_core::Core;
+use mj_stepped::Stepped;
 use std::alloc::{AllocError, Global};
 
 /// What stands on a table.
@@ -44,22 +44,22 @@ pub extern "C" fn riichi_table_state(alloc: Global, table: &mut Table, state: &m
     ensures told { OnGame (ReadsState state.new) table.old.held.game table.new.held.game result }
     ensures without { table.old.held.game ≡ None → state.new ≡ state.old }
 {
-    let Some(core) = table.take(alloc) else {
+    let Some(game) = table.take(alloc) else {
         return NO_GAME;
     };
-    *state = state_of(&core);
-    table.put(core);
+    *state = state_of(&game);
+    table.put(game);
     DONE
 }
 
-fn state_of(core: &Core) -> State
-    ensures { IsState result core.now }
+fn state_of(game: &Stepped) -> State
+    ensures { IsState result game.now }
 {
     State {
-        deeds: core.deeds(),
-        window: core.open().unwrap_or(u32::MAX),
-        entries: core.entries(),
-        is_over: core.over(),
+        deeds: game.deeds(),
+        window: game.open().unwrap_or(u32::MAX),
+        entries: game.entries(),
+        is_over: game.over(),
     }
 }
 
@@ -74,33 +74,33 @@ pub extern "C" fn riichi_table_seat(
     ensures told { OnGame (ReadsSeat seat into.old into.new) table.old.held.game table.new.held.game result }
     ensures without { table.old.held.game ≡ None → into.new ≡ into.old }
 {
-    let Some(core) = table.take(alloc) else {
+    let Some(game) = table.take(alloc) else {
         return NO_GAME;
     };
-    let answer = read_seat(&core, seat, into);
-    table.put(core);
+    let answer = read_seat(&game, seat, into);
+    table.put(game);
     answer
 }
 
-fn read_seat(core: &Core, seat: u32, into: &mut Seat) -> u32
-    ensures { ReadsSeat seat into.old into.new core.now core.now result }
+fn read_seat(game: &Stepped, seat: u32, into: &mut Seat) -> u32
+    ensures { ReadsSeat seat into.old into.new game.now game.now result }
 {
     if seat > 3 {
         return NO_SEAT;
     }
-    let points = core.table().points();
+    let points = game.table().points();
     let number = seat as u8;
     *into = Seat {
-        due: core.due(number),
+        due: game.due(number),
         points: points[seat as usize],
-        is_present: core.present(number),
-        may_say: core.may_say(number),
+        is_present: game.present(number),
+        may_say: game.may_say(number),
     };
     DONE
 }
 
-/// Line `k` of a seat, with its newline: DONE, NO_ROOM where it doesn't fit in `room`, or NO_LINE, NO_SEAT or NO_GAME, and then
-/// the length is 0.
+/// Line `k` of a seat, with its newline: DONE, NO_ROOM where it doesn't fit in `room`, or NO_LINE, NO_SEAT, NO_GAME or NO_MEMORY, and
+/// then the length is 0. Lines that were not asked for before are rendered first.
 #[unsafe(no_mangle)]
 pub extern "C" fn riichi_table_line(
     alloc: Global,
@@ -115,25 +115,50 @@ pub extern "C" fn riichi_table_line(
     ensures empty { table.old.held.game ≡ None → length.new ≡ 0 }
 {
     *length = 0;
-    let Some(core) = table.take(alloc) else {
+    let Some(mut game) = table.take(alloc) else {
         return NO_GAME;
     };
-    let answer = read_line(&core, seat, k, room, length);
-    table.put(core);
+    let answer = read_line(alloc, &mut game, seat, k, room, length);
+    table.put(game);
     answer
 }
 
-fn read_line(core: &Core, seat: u32, k: u32, room: &mut [u8], length: &mut u64) -> u32
+fn read_line(
+    alloc: Global,
+    game: &mut Stepped,
+    seat: u32,
+    k: u32,
+    room: &mut [u8],
+    length: &mut u64,
+) -> u32
     requires { length.old ≡ 0 }
-    ensures { ReadsLine seat k room.old room.new length.new core.now core.now result }
+    ensures { ReadsLine seat k room.old room.new length.new game.old game.new result }
 {
     if seat > 3 {
         return NO_SEAT;
     }
-    match core.line(seat as u8, k) {
-        Some(line) => write_out(line, room, length),
-        None => NO_LINE,
+    if k >= game.deeds() {
+        return NO_LINE;
     }
+    match line_of(alloc, game, seat as u8, k) {
+        Ok(text) => write_out(text.as_slice(), room, length),
+        Err(_) => NO_MEMORY,
+    }
+}
+
+pub(crate) fn line_of(
+    alloc: Global,
+    game: &mut Stepped,
+    seat: u8,
+    k: u32,
+) -> Result<Vec<u8>, AllocError>
+    requires { seat < 4 }
+    ensures game { game.new ≡ game.old }
+    ensures text { IfOk result (λ text. text.items ≡ line_of game.old seat k) }
+{
+    let mut text = Vec::new(alloc);
+    game.line(alloc, seat, k, &mut text)?;
+    Ok(text)
 }
 
 /// What is still to be told to a seat: the line of its due deed as soon as that deed exists, unless an answer to it was refused; nothing
@@ -151,32 +176,39 @@ pub extern "C" fn riichi_table_pending(
     ensures empty { table.old.held.game ≡ None → length.new ≡ 0 }
 {
     *length = 0;
-    let Some(core) = table.take(alloc) else {
+    let Some(mut game) = table.take(alloc) else {
         return NO_GAME;
     };
-    let answer = read_pending(alloc, &core, seat, room, length);
-    table.put(core);
+    let answer = read_pending(alloc, &mut game, seat, room, length);
+    table.put(game);
     answer
 }
 
-fn read_pending(alloc: Global, core: &Core, seat: u32, room: &mut [u8], length: &mut u64) -> u32
+fn read_pending(
+    alloc: Global,
+    game: &mut Stepped,
+    seat: u32,
+    room: &mut [u8],
+    length: &mut u64,
+) -> u32
     requires { length.old ≡ 0 }
-    ensures { ReadsPending seat room.old room.new length.new core.now core.now result }
+    ensures { ReadsPending seat room.old room.new length.new game.old game.new result }
 {
     if seat > 3 {
         return NO_SEAT;
     }
-    match pending_of(alloc, core, seat as u8) {
+    match pending_of(alloc, game, seat as u8) {
         Ok(text) => write_out(text.as_slice(), room, length),
         Err(_) => NO_MEMORY,
     }
 }
 
-fn pending_of(alloc: Global, core: &Core, seat: u8) -> Result<Vec<u8>, AllocError>
-    ensures { IfOk result (λ text. text.items ≡ pending_at core.now seat) }
+fn pending_of(alloc: Global, game: &mut Stepped, seat: u8) -> Result<Vec<u8>, AllocError>
+    ensures game { game.new ≡ game.old }
+    ensures text { IfOk result (λ text. text.items ≡ pending_at game.old seat) }
 {
     let mut text = Vec::new(alloc);
-    core.pending(seat, &mut text)?;
+    game.pending(alloc, seat, &mut text)?;
     Ok(text)
 }
 
@@ -193,21 +225,21 @@ pub extern "C" fn riichi_table_record(
     ensures empty { table.old.held.game ≡ None → length.new ≡ 0 }
 {
     *length = 0;
-    let Some(core) = table.take(alloc) else {
+    let Some(game) = table.take(alloc) else {
         return NO_GAME;
     };
-    let answer = match record_of(alloc, &core) {
+    let answer = match record_of(alloc, &game) {
         Ok(text) => write_out(text.as_slice(), room, length),
         Err(_) => NO_MEMORY,
     };
-    table.put(core);
+    table.put(game);
     answer
 }
 
-fn record_of(alloc: Global, core: &Core) -> Result<Vec<u8>, AllocError>
-    ensures { IfOk result (λ text. text.items ≡ record_of core.now) }
+fn record_of(alloc: Global, game: &Stepped) -> Result<Vec<u8>, AllocError>
+    ensures { IfOk result (λ text. text.items ≡ record_of game.now) }
 {
     let mut text = Vec::new(alloc);
-    core.record(alloc, &mut text)?;
+    game.record(alloc, &mut text)?;
     Ok(text)
 }

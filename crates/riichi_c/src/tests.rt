@@ -11,26 +11,9 @@ use crate::{
 };
 use std::alloc::Global;
 
-// What the calls answer whose places are numbers.
-fn answers_with_numbers(alloc: Global, table: &mut Table) -> [u32; 8] {
-    let (mut number, mut count) = (0, 0);
-    let mut state = State {
-        deeds: 0,
-        window: 0,
-        entries: 0,
-        is_over: false,
-    };
-    let mut at = Seat {
-        due: 0,
-        points: 0,
-        is_present: false,
-        may_say: false,
-    };
-    let mut turn = Turn {
-        seat: 0,
-        deeds: 0,
-        is_over: false,
-    };
+// What a join, a line, and a window that may have run out are answered.
+fn answers_of_arrivals(alloc: Global, table: &mut Table) -> [u32; 3] {
+    let mut number = 0;
     [
         riichi_table_sit(
             alloc,
@@ -40,12 +23,42 @@ fn answers_with_numbers(alloc: Global, table: &mut Table) -> [u32; 8] {
         ),
         riichi_table_say(alloc, table, 0, b"{\"type\":\"none\"}", &mut number),
         riichi_table_expire(alloc, table, 0, 0, 0),
+    ]
+}
+
+// What the calls about turns answer.
+fn answers_of_turns(alloc: Global, table: &mut Table) -> [u32; 3] {
+    let (mut number, mut count) = (0, 0);
+    let mut turn = Turn {
+        seat: 0,
+        deeds: 0,
+        is_over: false,
+    };
+    [
         riichi_table_turn(alloc, table, &mut turn),
         riichi_table_choices(alloc, table, 4, &mut count),
         riichi_table_choose(alloc, table, 0, 200, &mut number, &mut turn),
-        riichi_table_state(alloc, table, &mut state),
-        riichi_table_seat(alloc, table, 0, &mut at),
     ]
+}
+
+fn answer_of_state(alloc: Global, table: &mut Table) -> u32 {
+    let mut state = State {
+        deeds: 0,
+        window: 0,
+        entries: 0,
+        is_over: false,
+    };
+    riichi_table_state(alloc, table, &mut state)
+}
+
+fn answer_of_seat(alloc: Global, table: &mut Table) -> u32 {
+    let mut seat = Seat {
+        due: 0,
+        points: 0,
+        is_present: false,
+        may_say: false,
+    };
+    riichi_table_seat(alloc, table, 0, &mut seat)
 }
 
 // What the others answer, the last of which takes the game off the table.
@@ -60,61 +73,115 @@ fn answers_with_rooms(alloc: Global, table: &mut Table) -> [u32; 5] {
     ]
 }
 
+// Whether each call says that there is no game.
+fn has_no_game(alloc: Global, table: &mut Table) -> bool {
+    answers_of_arrivals(alloc, table) == [16; 3]
+        && answers_of_turns(alloc, table) == [16; 3]
+        && answer_of_state(alloc, table) == 16
+        && answer_of_seat(alloc, table) == 16
+        && answers_with_rooms(alloc, table) == [16; 5]
+}
+
 #[test]
 fn a_table_without_a_game_says_so(rt: HostRuntime) {
-    let mut table = Table::empty();
-    assert!(rt; answers_with_numbers(rt.alloc(), &mut table) == [16; 8]);
-    assert!(rt; answers_with_rooms(rt.alloc(), &mut table) == [16; 5]);
+    assert!(rt; has_no_game(rt.alloc(), &mut Table::empty()));
+}
+
+// Whether a game begins on a seed.
+fn opens(alloc: Global, table: &mut Table) -> bool {
+    riichi_table_open_seed(alloc, table, &[7; 32], 0, 1, 10, true, true) == 0
+}
+
+// Whether what is no game begins none, before a game and beside it.
+fn begins(alloc: Global, table: &mut Table) -> bool {
+    riichi_table_open(alloc, table, b"no game") == 19
+        && opens(alloc, table)
+        && riichi_table_open(alloc, table, b"no game") == 17
+}
+
+// Whether a game goes on and ends: a seat is taken, no deed is due, no window is open, nobody is asked, there is no seat 4, and
+// no answer 200; there is no line yet, nothing is to be told, and a record has more than 8 bytes.
+fn goes_on(alloc: Global, table: &mut Table) -> bool {
+    answers_of_arrivals(alloc, table) == [0, 22, 5]
+        && answers_of_turns(alloc, table) == [0, 20, 26]
+        && answer_of_state(alloc, table) == 0
+        && answer_of_seat(alloc, table) == 0
+        && answers_with_rooms(alloc, table) == [23, 0, 25, 0, 0]
+}
+
+fn begins_and_ends(alloc: Global, table: &mut Table) -> bool {
+    begins(alloc, table) && goes_on(alloc, table)
 }
 
 #[test]
 fn a_game_begins_and_ends(rt: HostRuntime) {
-    let alloc = rt.alloc();
-    let mut table = Table::empty();
-    assert!(rt; riichi_table_open(alloc, &mut table, b"no game") == 19);
-    assert!(rt; riichi_table_open_seed(alloc, &mut table, &[7; 32], 0, 1, 10, true, true) == 0);
-    assert!(rt; riichi_table_open(alloc, &mut table, b"no game") == 17);
-    // (a seat is taken, no deed is due, no window is open, nobody is asked, there is no seat 4, and no answer 200)
-    assert!(rt; answers_with_numbers(alloc, &mut table) == [0, 22, 5, 0, 20, 26, 0, 0]);
-    // (there is no line yet, nothing is to be told, and a record has more than 8 bytes)
-    assert!(rt; answers_with_rooms(alloc, &mut table) == [23, 0, 25, 0, 0]);
+    assert!(rt; begins_and_ends(rt.alloc(), &mut Table::empty()));
+}
+
+const JOINS: [&[u8]; 4] = [
+    b"{\"type\":\"join\",\"name\":\"a\"}",
+    b"{\"type\":\"join\",\"name\":\"b\"}",
+    b"{\"type\":\"join\",\"name\":\"c\"}",
+    b"{\"type\":\"join\",\"name\":\"d\"}",
+];
+
+fn four_sit(alloc: Global, table: &mut Table) -> bool {
+    let mut seat = 0;
+    let mut all = true;
+    for line in &JOINS {
+        all = all && riichi_table_sit(alloc, table, line, &mut seat) == 0;
+    }
+    all
+}
+
+// Whether a room of 9 bytes stays as it was, and is told how many it lacks.
+fn lacks_room(alloc: Global, table: &mut Table) -> bool {
+    let (mut room, mut length) = ([0; 9], 0);
+    riichi_table_line(alloc, table, 3, 0, &mut room, &mut length) == 25
+        && length > 9
+        && length < 512
+        && room == [0; 9]
+}
+
+// Whether the first line of seat 3 fits into a larger one, and there is no seat 4.
+fn is_read(alloc: Global, table: &mut Table) -> bool {
+    let (mut room, mut length) = ([0; 512], 0);
+    riichi_table_line(alloc, table, 3, 0, &mut room, &mut length) == 0
+        && room.starts_with(b"{\"type\":\"start_game\",\"id\":3,")
+        && riichi_table_line(alloc, table, 4, 0, &mut room, &mut length) == 20
+}
+
+fn is_read_where_it_fits(alloc: Global, table: &mut Table) -> bool {
+    opens(alloc, table)
+        && four_sit(alloc, table)
+        && lacks_room(alloc, table)
+        && is_read(alloc, table)
+        && riichi_table_close(alloc, table) == 0
 }
 
 #[test]
 fn a_line_is_read_where_it_fits(rt: HostRuntime) {
-    let alloc = rt.alloc();
-    let mut table = Table::empty();
-    let (mut room, mut length, mut seat) = ([0; 512], 0, 0);
-    assert!(rt; riichi_table_open_seed(alloc, &mut table, &[7; 32], 0, 1, 10, true, true) == 0);
-    let lines: [&[u8]; 4] = [
-        b"{\"type\":\"join\",\"name\":\"a\"}",
-        b"{\"type\":\"join\",\"name\":\"b\"}",
-        b"{\"type\":\"join\",\"name\":\"c\"}",
-        b"{\"type\":\"join\",\"name\":\"d\"}",
-    ];
-    for line in lines {
-        assert!(rt; riichi_table_sit(alloc, &mut table, line, &mut seat) == 0);
-    }
-    assert!(rt; riichi_table_line(alloc, &mut table, 3, 0, &mut room[..9], &mut length) == 25);
-    assert!(rt; length > 9 && length < 512 && room[0] == 0);
-    assert!(rt; riichi_table_line(alloc, &mut table, 3, 0, &mut room, &mut length) == 0);
-    assert!(rt; room.starts_with(b"{\"type\":\"start_game\",\"id\":3,"));
-    assert!(rt; riichi_table_line(alloc, &mut table, 4, 0, &mut room, &mut length) == 20);
-    assert!(rt; riichi_table_close(alloc, &mut table) == 0);
+    assert!(rt; is_read_where_it_fits(rt.alloc(), &mut Table::empty()));
 }
 
-#[test]
-fn words_that_ask_for_no_command_are_faulty(rt: HostRuntime) {
+fn are_faulty(alloc: Global, words: &[u8]) -> bool {
     let (mut room, mut length) = ([0; 8], 9);
     let (mut told, mut told_length) = ([0; 8], 9);
-    let code = riichi_run(
-        rt.alloc(),
-        b"keep\n",
+    riichi_run(
+        alloc,
+        words,
         b"",
         &mut room,
         &mut length,
         &mut told,
         &mut told_length,
-    );
-    assert!(rt; code == 2 && length == 0 && told_length > 8 && told == [0; 8]);
+    ) == 2
+        && length == 0
+        && told_length > 8
+        && told == [0; 8]
+}
+
+#[test]
+fn words_that_ask_for_no_command_are_faulty(rt: HostRuntime) {
+    assert!(rt; are_faulty(rt.alloc(), b"keep\n"));
 }

@@ -1,23 +1,21 @@
 //! Answers by their numbers, and seats that pass where they can do nothing else.
 
-ghost use Rattle.std.specs.Prelude.{◌≡◌, ◌≤◌, ◌<◌, true, None, IfOk, MatchOption, slice_get, [], ◌∷◌};
-ghost use Rattle.mj_forms.specs.Choices.{answer_text, line_with};
+ghost use Rattle.std.specs.Prelude.{◌≡◌, ◌≤◌, ◌<◌, true, length, None, IfOk, MatchOption};
+ghost use Rattle.mj_core.specs.Calls.{after_of, line_of};
 ghost use Rattle.riichi_c.specs.Calls.{OnGame};
-ghost use Rattle.mj_deeds.specs.declared.answer.Answer.{Answer};
-ghost use Rattle.riichi_c.specs.Turns.{Chooses, SaysChoice, Counts, Passed, PassesOn, Plays, Turns, IsTurn, asked_seat, can_only_pass, choices_of, is_at_rest};
+ghost use Rattle.riichi_c.specs.Turns.{Chooses, Counts, Passed, PassesOn, Plays, Turns, IsTurn, asked_seat, can_only_pass, shows_pass};
+ghost use Rattle.riichi_c.specs.Inner.Looks.{LooksAt, HasPassed};
 
 use crate::answer::{DONE, GO_ON, LATE, NO_CHOICE, NO_GAME, NO_MEMORY, NO_SEAT};
-use crate::arrivals::say;
+use crate::arrivals::give;
 use crate::handle::Table;
-use mj_bytes::strip;
-use mj_core::Core;
-use mj_deeds::{Answer, Answers};
-use mj_judge::possible;
-use mjai_lines::write_listed;
+use crate::reads::line_of;
+use mj_deeds::{Answer, next_seat};
+use mj_stepped::Stepped;
 use std::alloc::{AllocError, Global};
 
-// How many seats pass in one call at most.
-const PASSES: u32 = 1_000_000;
+// How often it is looked in one call at most whether a seat can only pass.
+const LOOKS: u32 = 1_000_000;
 
 /// Whose turn it is.
 #[repr(C)]
@@ -32,25 +30,26 @@ pub struct Turn {
 }
 
 /// Each seat passes whose line lists a pass alone, until there is none, and then `turn` says whose turn it is. DONE; NO_GAME, and
-/// then `turn` stays as it was; NO_MEMORY, and then some may have passed; or GO_ON after a million passes.
+/// then `turn` stays as it was; NO_MEMORY, and then some may have passed; or GO_ON where a
+/// million looks at a seat were not enough.
 #[unsafe(no_mangle)]
 pub extern "C" fn riichi_table_turn(alloc: Global, table: &mut Table, turn: &mut Turn) -> u32
     ensures told { OnGame (Turns turn.new) table.old.held.game table.new.held.game result }
     ensures without { table.old.held.game ≡ None → turn.new ≡ turn.old }
 {
-    let Some(mut core) = table.take(alloc) else {
+    let Some(mut game) = table.take(alloc) else {
         return NO_GAME;
     };
-    let answer = go_on(alloc, &mut core, turn);
-    table.put(core);
+    let answer = go_on(alloc, &mut game, turn);
+    table.put(game);
     answer
 }
 
-fn go_on(alloc: Global, core: &mut Core, turn: &mut Turn) -> u32
-    ensures { Turns turn.new core.old core.new result }
+fn go_on(alloc: Global, game: &mut Stepped, turn: &mut Turn) -> u32
+    ensures { Turns turn.new game.old game.new result }
 {
-    let answer = pass_on(alloc, core);
-    *turn = turn_of(core);
+    let answer = pass_on(alloc, game);
+    *turn = turn_of(game);
     answer
 }
 
@@ -70,75 +69,42 @@ pub extern "C" fn riichi_table_choose(
     ensures without { table.old.held.game ≡ None → turn.new ≡ turn.old }
     ensures unbroken { table.old.held.game ≡ None → rule.new ≡ rule.old }
 {
-    let Some(mut core) = table.take(alloc) else {
+    let Some(mut game) = table.take(alloc) else {
         return NO_GAME;
     };
-    let answer = play(alloc, &mut core, seat, k, rule, turn);
-    table.put(core);
+    let answer = play(alloc, &mut game, seat, k, rule, turn);
+    table.put(game);
     answer
 }
 
-fn play(alloc: Global, core: &mut Core, seat: u32, k: u32, rule: &mut u32, turn: &mut Turn) -> u32
-    ensures { Plays seat k rule.old rule.new turn.old turn.new core.old core.new result }
+fn play(
+    alloc: Global,
+    game: &mut Stepped,
+    seat: u32,
+    k: u32,
+    rule: &mut u32,
+    turn: &mut Turn,
+) -> u32
+    ensures { Plays seat k rule.old rule.new turn.old turn.new game.old game.new result }
 {
-    let chosen = choose(alloc, core, seat, k, rule);
+    let chosen = choose(alloc, game, seat, k, rule);
     if chosen != DONE && chosen != LATE {
         return chosen;
     }
-    go_on(alloc, core, turn)
+    go_on(alloc, game, turn)
 }
 
 // A seat gives the answer of a number.
-fn choose(alloc: Global, core: &mut Core, seat: u32, k: u32, rule: &mut u32) -> u32
-    ensures { Chooses seat k rule.old rule.new core.old core.new result }
+fn choose(alloc: Global, game: &mut Stepped, seat: u32, k: u32, rule: &mut u32) -> u32
+    ensures { Chooses seat k rule.old rule.new game.old game.new result }
 {
     if seat > 3 {
         return NO_SEAT;
     }
-    match choice_of(alloc, core, seat as u8, k) {
-        Ok(Some(choice)) => say_choice(alloc, core, seat, &choice, rule),
+    match game.choice(alloc, seat as u8, k) {
+        Ok(Some(choice)) => give(alloc, game, seat as u8, &choice, rule),
         Ok(None) => NO_CHOICE,
         Err(_) => NO_MEMORY,
-    }
-}
-
-// A seat says the line of an answer, unless memory is wanting for that line.
-fn say_choice(alloc: Global, core: &mut Core, seat: u32, choice: &Answer, rule: &mut u32) -> u32
-    ensures { SaysChoice seat (answer_text choice.now) rule.old rule.new core.old core.new result }
-{
-    match list_of(alloc, choice) {
-        Ok(list) => say(alloc, core, seat, only_item(list.as_slice()), rule),
-        Err(_) => NO_MEMORY,
-    }
-}
-
-// The answer of a number.
-fn choice_of(alloc: Global, core: &Core, seat: u8, k: u32) -> Result<Option<Answer>, AllocError>
-    requires { seat ≤ 3 }
-    ensures { IfOk result (λ choice. choice ≡ slice_get (choices_of core.now seat) k) }
-{
-    let list = possible(alloc, core.table(), seat)?;
-    Ok(list.as_slice().get(k as usize).copied())
-}
-
-// The list of one answer, as it stands at the end of a line.
-fn list_of(alloc: Global, choice: &Answer) -> Result<Vec<u8>, AllocError>
-    ensures { IfOk result (λ text. text.items ≡ line_with (choice.now ∷ []) []) }
-{
-    let list = Answers::from_vec(Vec::from_slice(alloc, &[*choice])?);
-    let mut text = Vec::new(alloc);
-    write_listed(alloc, b"", &list, &mut text)?;
-    Ok(text)
-}
-
-// What stands between the brackets of such a list.
-#[tactic(auto, using(crate::proofs::OneAnswer::one_is_left, crate::proofs::OneAnswer::some_is_left))]
-fn only_item(list: &[u8]) -> &[u8]
-    ensures { (choice : Answer) → list.now ≡ line_with (choice ∷ []) [] → result.now ≡ answer_text choice }
-{
-    match strip(list, b",\"possible_actions\":[") {
-        Some(rest) => &rest[..rest.len().saturating_sub(3)],
-        None => b"",
     }
 }
 
@@ -153,110 +119,150 @@ pub extern "C" fn riichi_table_choices(
     ensures told { OnGame (Counts seat count.old count.new) table.old.held.game table.new.held.game result }
     ensures without { table.old.held.game ≡ None → count.new ≡ count.old }
 {
-    let Some(core) = table.take(alloc) else {
+    let Some(mut game) = table.take(alloc) else {
         return NO_GAME;
     };
-    let answer = count_choices(alloc, &core, seat, count);
-    table.put(core);
+    let answer = count_choices(alloc, &mut game, seat, count);
+    table.put(game);
     answer
 }
 
-fn count_choices(alloc: Global, core: &Core, seat: u32, count: &mut u64) -> u32
-    ensures { Counts seat count.old count.new core.now core.now result }
+fn count_choices(alloc: Global, game: &mut Stepped, seat: u32, count: &mut u64) -> u32
+    ensures { Counts seat count.old count.new game.old game.new result }
 {
     if seat > 3 {
         return NO_SEAT;
     }
-    match possible(alloc, core.table(), seat as u8) {
-        Ok(list) => {
-            *count = list.as_slice().len() as u64;
+    match game.choices(alloc, seat as u8) {
+        Ok(many) => {
+            *count = many as u64;
             DONE
         }
         Err(_) => NO_MEMORY,
     }
 }
 
-// Each seat passes that can only pass, until there is none.
-fn pass_on(alloc: Global, core: &mut Core) -> u32
-    ensures { PassesOn core.old core.new result }
+// The four seats are looked at in turn, and each passes that can only pass, until four in a row can do something else.
+fn pass_on(alloc: Global, game: &mut Stepped) -> u32
+    ensures { PassesOn game.old game.new result }
 {
-    for _ in 0..PASSES {
-        let Some(seat) = next_to_pass(core) else {
-            return DONE;
-        };
-        let answer = pass(alloc, core, seat);
-        if answer != DONE && answer != LATE {
-            return answer;
+    let mut seat = 0;
+    let mut still = 0;
+    for _ in 0..LOOKS {
+        match look_at(alloc, game, seat, still) {
+            Ok(number) => {
+                if number == 4 {
+                    return DONE;
+                }
+                still = number;
+                seat = next_seat(seat);
+            }
+            Err(answer) => return answer,
         }
     }
     GO_ON
 }
 
-// A seat passes.
-fn pass(alloc: Global, core: &mut Core, seat: u32) -> u32
-    ensures { Passed seat core.old core.new result }
+// A seat, 0 to 3, passes that can only pass. So many seats in a row can do something else: it and those before it, or none; or
+// why the call ends.
+fn look_at(alloc: Global, game: &mut Stepped, seat: u8, still: u8) -> Result<u8, u32>
+    requires seat { seat ≤ 3 }
+    requires few { still ≤ 3 }
+    ensures { LooksAt seat still game.old game.new result }
 {
-    let mut rule = 0;
-    say(alloc, core, seat, b"{\"type\":\"none\"}", &mut rule)
+    match can_only_pass(alloc, game, seat) {
+        Ok(true) => pass(alloc, game, seat),
+        Ok(false) => Ok(still + 1),
+        Err(_) => Err(NO_MEMORY),
+    }
 }
 
-// The first seat that can only pass.
-fn next_to_pass(core: &Core) -> Option<u32>
-    ensures { MatchOption result (is_at_rest core.now ≡ true) (λ seat. can_only_pass core.now seat ≡ true) }
+// A seat that can only pass passes; what is answered where the pass isn't taken.
+fn pass(alloc: Global, game: &mut Stepped, seat: u8) -> Result<u8, u32>
+    requires { can_only_pass game.old seat ≡ true }
+    ensures { HasPassed game.old game.new result }
 {
-    if can_only_pass(core, 0) {
-        return Some(0);
+    let mut rule = 0;
+    let answer = give(alloc, game, seat, &Answer::Pass { actor: None }, &mut rule);
+    if answer != DONE && answer != LATE {
+        return Err(answer);
     }
-    if can_only_pass(core, 1) {
-        return Some(1);
-    }
-    if can_only_pass(core, 2) {
-        return Some(2);
-    }
-    if can_only_pass(core, 3) {
-        return Some(3);
-    }
-    None
+    Ok(0)
 }
 
 // A seat, 0 to 3, may say a line, and its due deed's line lists a pass alone.
-fn can_only_pass(core: &Core, seat: u8) -> bool
-    requires { seat < 4 }
-    ensures { result ≡ can_only_pass core.now seat }
+#[tactic(auto, using(crate::proofs::Passing::passes_by))]
+fn can_only_pass(alloc: Global, game: &mut Stepped, seat: u8) -> Result<bool, AllocError>
+    requires { seat ≤ 3 }
+    ensures game { game.new ≡ game.old }
+    ensures passes { IfOk result (λ passes. passes ≡ can_only_pass game.old seat) }
 {
-    if !core.may_say(seat) {
-        return false;
+    if !game.may_say(seat) {
+        return Ok(false);
     }
-    match core.line(seat, core.due(seat)) {
-        Some(line) => line.ends_with(b",\"possible_actions\":[{\"type\":\"none\"}]}\n"),
-        None => false,
+    let due = game.due(seat);
+    if due >= game.deeds() {
+        return Ok(false);
     }
+    lists_pass_alone(alloc, game, seat, due)
 }
 
-fn turn_of(core: &Core) -> Turn
-    ensures { IsTurn result core.now }
+// The line of a deed lists a pass alone for a seat, 0 to 3. What is listed for the newest deed is kept, so its line isn't rendered.
+#[tactic(auto, using(crate::proofs::PassLines::kept_list))]
+fn lists_pass_alone(alloc: Global, game: &mut Stepped, seat: u8, k: u32) -> Result<bool, AllocError>
+    requires seat { seat ≤ 3 }
+    requires deed { k < length (after_of game.old).deeds }
+    ensures game { game.new ≡ game.old }
+    ensures lists { IfOk result (λ lists. lists ≡ shows_pass (line_of game.old seat k)) }
+{
+    let deeds = game.deeds();
+    if k + 1 == deeds {
+        return game.passes_alone(alloc, seat);
+    }
+    line_lists_pass_alone(alloc, game, seat, k)
+}
+
+fn line_lists_pass_alone(
+    alloc: Global,
+    game: &mut Stepped,
+    seat: u8,
+    k: u32,
+) -> Result<bool, AllocError>
+    requires { seat ≤ 3 }
+    ensures game { game.new ≡ game.old }
+    ensures lists { IfOk result (λ lists. lists ≡ shows_pass (line_of game.old seat k)) }
+{
+    let line = line_of(alloc, game, seat, k)?;
+    Ok(
+        line.as_slice()
+            .ends_with(b",\"possible_actions\":[{\"type\":\"none\"}]}\n"),
+    )
+}
+
+fn turn_of(game: &Stepped) -> Turn
+    ensures { IsTurn result game.now }
 {
     Turn {
-        seat: asked_seat(core),
-        deeds: core.deeds(),
-        is_over: core.over(),
+        seat: asked_seat(game),
+        deeds: game.deeds(),
+        is_over: game.over(),
     }
 }
 
 // The first seat that may say a line, or 4.
-fn asked_seat(core: &Core) -> u32
-    ensures { result ≡ asked_seat core.now }
+fn asked_seat(game: &Stepped) -> u32
+    ensures { result ≡ asked_seat game.now }
 {
-    if core.may_say(0) {
+    if game.may_say(0) {
         return 0;
     }
-    if core.may_say(1) {
+    if game.may_say(1) {
         return 1;
     }
-    if core.may_say(2) {
+    if game.may_say(2) {
         return 2;
     }
-    if core.may_say(3) {
+    if game.may_say(3) {
         return 3;
     }
     4

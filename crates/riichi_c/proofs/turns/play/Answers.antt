@@ -7,7 +7,7 @@ pub returns-then-chosen-ne-LATE : goal.returns-then-chosen-ne-LATE
 returns-then-chosen-ne-LATE c = NotPlayed c.choose-chosen.ensures refl c.if-chosen-ne-DONE.true c.if-chosen-ne-LATE.true
 
 pub returns : goal.returns
-returns c = Played c.choose-chosen.new.core c.choose-chosen.result c.choose-chosen.ensures
+returns c = Played c.choose-chosen.new.game c.choose-chosen.result c.choose-chosen.ensures
     (elim c.else-chosen-ne-DONE.branch
     [ else-chosen-ne-DONE-via-then-chosen-ne-DONE+else-chosen-ne-LATE w ↦ inr w.if-chosen-ne-LATE.false | else-chosen-ne-DONE-via-else-chosen-ne-DONE w ↦ inl w.if-chosen-ne-DONE.false ])
     c.go_on.ensures

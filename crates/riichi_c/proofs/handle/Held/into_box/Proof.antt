@@ -41,7 +41,7 @@ use Rattle.riichi_c.proofs.Heap.{Heap, heap_is, heap_al, Game, game_is, undroppe
 use Rattle.riichi_c.proofs.Values.{word, held_out, held_lies}
 use Rattle.riichi_c.proofs.handle.Held.into_box.Statement.{statement}
 use Rattle.riichi_c.proofs.handle.Held.into_box.Code as code
-use Rattle.mj_core.specs.contracts.game.Core.{the_row as Core}
+use Rattle.mj_stepped.specs.contracts.stepped.Stepped.{the_row as Stepped}
 
 abbrev stayed : Stays f.ended.signature.params f.ended.kept
 stayed = (stay_dropped (plain (λ _. Held)) yes, (stay_dropped (plain (λ _. heap.the_row)) yes, tt))
@@ -62,7 +62,7 @@ module _ {M : Type 1} where
       let d = z.0.3.0 in let a = z.0.3.1.0 in let inGame = [] ⊑ Game.lives in let inHeap = [] ⊑ Heap.lives in
       qed 𝓛 ((‵ ftrue ⊛ ‵ (owns (types_at f.signature.params z.0.0) z.0.3 z.0.4)) ∷ raw (fact 𝓤 (IsTrue (is_some d.game))) ∷ []) ∵ move ! (1 ∷ []) $ heard ! (IsTrue (is_some d.game))
       (λ full. split ! $ drop ! $ fsplit ! $
-      held_out ! d z.0.4.0 (λ is. held_lies ! Core d.at d.game full (λ b o x e same. move ! (1 ∷ []) $ fsplit ! $
+      held_out ! d z.0.4.0 (λ is. held_lies ! Stepped d.at d.game full (λ b o x e same. move ! (1 ∷ []) $ fsplit ! $
       handle_tells heap_al ! a z.0.4.1.0 (λ hv isHeap fits.
       -- [the handle; nothing; what the pointer owns]
       regoal ! (λ (us : List Val). prop (WpFn 𝓤 H 𝓣.C 𝓣.Λ fn (us ++ (z.0.4.1.0 ++ [])) (W.post z))) (subst (λ p. z.0.4.0 ≡ word p ∷ []) e is) refl $

@@ -20,7 +20,7 @@ use denote.Triple.Walked.{Stays, stay_dropped, walk_of}
 use Rattle.std.proofs.alloc.Calls.{Goes-blank}
 use Rattle.std.proofs.raw_atomic.Walks.{proved_at, leaves}
 use Rattle.riichi_c.proofs.Values.{word, held_in, loose_out}
-use Rattle.mj_core.specs.contracts.game.Core.{the_row as Core}
+use Rattle.mj_stepped.specs.contracts.stepped.Stepped.{the_row as Stepped}
 use Rattle.riichi_c.specs.contracts.handle.Held.{the_row as Held}
 use Rattle.riichi_c.specs.contracts.handle.Loose as loose
 use Rattle.riichi_c.specs.contracts.handle.Held.of as f
@@ -28,14 +28,14 @@ use Rattle.riichi_c.proofs.handle.Held.of.Statement.{statement}
 use Rattle.riichi_c.proofs.handle.Held.of.Code as code
 
 abbrev stayed : Stays f.ended.signature.params f.ended.kept
-stayed = (stay_dropped (plain (λ _. loose.the_row Core)) yes, tt)
+stayed = (stay_dropped (plain (λ _. loose.the_row Stepped)) yes, tt)
 
 pub of_spec : {M : Type 1} → statement M
 of_spec 𝓤 𝓛 𝓜 𝓡 wired =
     let c = f.clauses 𝓛 𝓜.mem 𝓡.returns in let 𝓣 = tables 𝓤 𝓛.H 𝓜 𝓡 𝓡.env in let W = walk_of 𝓛 f.ended stayed c in
-    proved_at 𝓛 f.ended stayed c 𝓜 𝓡 (Goes-blank 𝓛 0 (plain (λ _. loose.the_row Core)) yes (λ κs x g. tt), tt) f.Key.name code.function (code.unfolded 𝓤 𝓛.H 𝓜 𝓡 wired) (λ z are.
+    proved_at 𝓛 f.ended stayed c 𝓜 𝓡 (Goes-blank 𝓛 0 (plain (λ _. loose.the_row Stepped)) yes (λ κs x g. tt), tt) f.Key.name code.function (code.unfolded 𝓤 𝓛.H 𝓜 𝓡 wired) (λ z are.
     let d = z.0.3.0 in
-    qed 𝓛 ((‵ ftrue ⊛ ‵ (owns (types_at f.signature.params z.0.0) z.0.3 z.0.4)) ∷ ‵ ftrue ∷ []) ∵ split ! $ drop ! $ fsplit ! $ loose_out Core ! d z.0.4.0 (λ b o e is. keep ! (0 ∷ []) $
+    qed 𝓛 ((‵ ftrue ⊛ ‵ (owns (types_at f.signature.params z.0.0) z.0.3 z.0.4)) ∷ ‵ ftrue ∷ []) ∵ split ! $ drop ! $ fsplit ! $ loose_out Stepped ! d z.0.4.0 (λ b o e is. keep ! (0 ∷ []) $
     regoal ! (λ (us : List Val). prop (WpFn 𝓤 𝓛.H 𝓣.C 𝓣.Λ code.function (us ++ []) (W.post z))) is refl $
     let made : Held.Denot = record { at = block_ptr b o; game = Some d.value } in
     enter ! _ _ _ _ _ $ alloc_all ! (λ l. pass_all ! refl ((tt, (tt, tt)), tt) $ sets ! (of_opd ! (get_in ! (fld ! refl (stop !)) (sub ! 0 refl (whole !)))) refl (tt, tt) $
