@@ -93,21 +93,22 @@ pub fn disk_of(alloc: Global, image: &[u8], fails: u64) -> Result<MemDisk, Alloc
     MemDisk::new(image, [fails].to_vec(alloc)?)
 }
 
-/// Hosts a game on a disk.
+/// Hosts a game on a disk; what the run came to is on the heap, so that the functions that ask of it own a pointer alone.
 pub fn host_one<R: Threads + Wait + time::Clock + Sync>(
     rt: &R,
     alloc: Global,
     guests: Guests,
     disk: MemDisk,
-) -> Result<Ran, AllocError> {
+) -> Result<Box<Ran>, AllocError> {
     let board = Board::new(alloc, guests.players)?;
     let (end, record, disk) = host_over(rt, alloc, serving(1000), &board, guests, disk)?;
-    Ok(Ran {
+    let ran = Ran {
         end,
         record,
         disk,
         board,
-    })
+    };
+    Ok(Box::new(alloc, ran)?)
 }
 
 /// Hosts a game on a disk, and tells its players on a board; how it ended, what it wrote, and the disk.

@@ -1,9 +1,10 @@
 //! A hosted game that is stopped at one call of its disk after the other, and goes on each time from what the stop has left.
 
-use crate::board::Board;
 use crate::guests::Guests;
 use crate::images::{front_of, left_by, records};
-use crate::running::{BRIEF, LEAVING, NOTHING, disk_of, host_one, is_kept, is_whole, tells_again};
+use crate::running::{
+    BRIEF, LEAVING, NOTHING, Ran, disk_of, host_one, is_kept, is_whole, tells_again,
+};
 use mj_durable::HostEnd;
 use std::alloc::{AllocError, Global};
 use std::sync::Wait;
@@ -11,11 +12,11 @@ use std::test::Fail;
 use std::thread::Threads;
 use std::time;
 
-/// A game that was stopped again and again: what a stop has left of its disk, and what was told in each run.
+/// A game that was stopped again and again: what a stop has left of its disk, and its runs.
 #[derive(Drop)]
 struct Course {
     image: Vec<u8>,
-    told: Vec<Board>,
+    runs: Vec<Box<Ran>>,
 }
 
 impl Course {
@@ -40,7 +41,7 @@ impl Course {
             stopped
         };
         self.image = left_by(alloc, self.image.as_slice(), &ran.disk, call % 4)?;
-        self.told.push(ran.board)?;
+        self.runs.push(ran)?;
         Ok(right)
     }
 
@@ -54,8 +55,8 @@ impl Course {
         let image = self.image.as_slice();
         let ran = host_one(rt, alloc, guests, disk_of(alloc, image, 0)?)?;
         let mut right = is_whole(alloc, &ran) && is_kept(alloc, image, ran.record.as_slice());
-        for told in &self.told {
-            right = right && tells_again(&ran.board, told);
+        for before in &self.runs {
+            right = right && tells_again(&ran.board, &before.board);
         }
         Ok(right)
     }
@@ -83,7 +84,7 @@ fn seated<R: Threads + Wait + time::Clock + Sync>(
     let ran = host_one(rt, alloc, BRIEF, disk_of(alloc, NOTHING, 0)?)?;
     Ok(Course {
         image: front_of(alloc, ran.disk.bytes(), 5, NOTHING)?,
-        told: Vec::new(alloc),
+        runs: Vec::new(alloc),
     })
 }
 

@@ -18,7 +18,7 @@ fn play<R: Threads + Wait + time::Clock + Sync>(
     alloc: Global,
     image: &[u8],
     fails: u64,
-) -> Result<Ran, AllocError> {
+) -> Result<Box<Ran>, AllocError> {
     host_one(rt, alloc, SCRIPTED, disk_of(alloc, image, fails)?)
 }
 

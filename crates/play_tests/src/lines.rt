@@ -222,13 +222,13 @@ impl Question for Join {
 }
 
 fn is_named(join: &JoinLine, told: &str) -> bool {
-    match (&join.key, told.split_once('|')) {
-        (Some(key), Some((name, text))) => {
-            join.name.as_slice() == name.as_bytes() && key.as_slice() == text.as_bytes()
-        }
-        (None, None) => join.name.as_slice() == told.as_bytes(),
-        _ => false,
-    }
+    let (name, text) = parted(told, '|');
+    let has_key = name.len() < told.len();
+    let is_keyed = match &join.key {
+        Some(key) => has_key && key.as_slice() == text.as_bytes(),
+        None => !has_key,
+    };
+    is_keyed && join.name.as_slice() == name.as_bytes()
 }
 
 #[test]
@@ -258,11 +258,17 @@ impl Question for Picks {
     fn holds(alloc: Global, line: &str) -> bool {
         let (line, told) = parted(line, '=');
         match read_room(alloc, line.as_bytes(), 3) {
-            Ok(Picked::BadName) => told == "no name",
-            Ok(Picked::NoRoom) => told == "no room",
-            Ok(Picked::Table(table)) => number_or_none(told) == Some(table),
+            Ok(picked) => is_picked(picked, told),
             Err(_) => false,
         }
+    }
+}
+
+fn is_picked(picked: Picked, told: &str) -> bool {
+    match picked {
+        Picked::BadName => told == "no name",
+        Picked::NoRoom => told == "no room",
+        Picked::Table(table) => number_or_none(told) == Some(table),
     }
 }
 

@@ -57,21 +57,37 @@ pub(crate) fn rules(game: &str) -> Rules {
 
 /// Adds the deed of a line, or asks its question.
 pub(crate) fn follow(alloc: Global, table: &mut Table, line: &str) -> bool {
-    if let Some((question, told)) = line.split_once('?') {
+    let (question, told) = parted(line, '?');
+    if let Some(line) = question.strip_prefix("fits ") {
+        return takes(table, deed(alloc, line), Some(yes(told.trim())));
+    }
+    if line.contains('?') {
         return tells(alloc, table, question, told.trim());
     }
     if let Some(times) = line.strip_prefix("draws ") {
         return draws(table, number(times));
     }
-    match deed(alloc, line) {
-        Some(deed) => add(table, deed),
-        None => false,
-    }
+    takes(table, deed(alloc, line), None)
 }
 
 /// Adds a deed, and tells whether it fits.
 pub(crate) fn add(table: &mut Table, deed: Deed) -> bool {
-    table.fits(&deed) && table.push(&deed).is_ok()
+    takes(table, Some(deed), None)
+}
+
+/// Adds a deed that fits, or tells whether it fits or not as told.
+fn takes(table: &mut Table, deed: Option<Deed>, told: Option<bool>) -> bool {
+    takes_lent(table, deed.as_ref(), told)
+}
+
+fn takes_lent(table: &mut Table, deed: Option<&Deed>, told: Option<bool>) -> bool {
+    let Some(deed) = deed else {
+        return false;
+    };
+    match told {
+        Some(told) => table.fits(deed) == told,
+        None => table.fits(deed) && table.push(deed).is_ok(),
+    }
 }
 
 /// Seat 3 draws so many tiles: each of the circles and bamboos four times.
@@ -99,9 +115,6 @@ fn adds_draw(table: &mut Table, face: u8) -> bool {
 
 /// Whether a table tells this to a question.
 fn tells(alloc: Global, table: &Table, question: &str, told: &str) -> bool {
-    if let Some(line) = question.strip_prefix("fits ") {
-        return fits(table, deed(alloc, line), yes(told));
-    }
     if let Some(line) = question.strip_prefix("judge ") {
         return judges(table, line, told);
     }
@@ -114,6 +127,13 @@ fn tells(alloc: Global, table: &Table, question: &str, told: &str) -> bool {
         "reason" => reason(table) == told,
         "points" => table.points() == points(told),
         "winner" | "dealer_won" => truth_told(table, asked) == yes(told),
+        _ => tells_of_hand(alloc, table, question, told),
+    }
+}
+
+/// Whether a table tells this to a question about the end of its hand, its kans, or a seat.
+fn tells_of_hand(alloc: Global, table: &Table, question: &str, told: &str) -> bool {
+    match word(question, 0) {
         "ended" => table.hand_end() == end(told),
         "standing" => Some(table.standing()) == standing(told),
         "kan_seat" => table.kan_seat() == number_or_none(told),
@@ -138,14 +158,6 @@ fn truth_told(table: &Table, word: &str) -> bool {
     match word {
         "winner" => table.has_winner(),
         _ => table.dealer_won(),
-    }
-}
-
-/// Whether a deed fits, or doesn't, as told.
-fn fits(table: &Table, deed: Option<Deed>, told: bool) -> bool {
-    match deed {
-        Some(deed) => table.fits(&deed) == told,
-        None => false,
     }
 }
 

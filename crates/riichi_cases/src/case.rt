@@ -4,7 +4,7 @@
 //! the run doesn't end well; under it stands what the run on the newest input writes.
 
 use crate::compare::push_difference;
-use crate::outcome::outcome_of;
+use crate::outcome::{Outcome, outcome_of};
 use bstr::ByteSlice;
 use std::alloc::{AllocError, Global};
 
@@ -78,9 +78,20 @@ fn push_fault(
 ) -> Result<bool, AllocError> {
     let (words, ending) = head.split_once_str(b"=> ").unwrap_or((head, b"0"));
     let words = words.trim();
-    let came = outcome_of(alloc, words, bytes_of(alloc, input)?)?;
     let wanted = bytes_of(alloc, lines)?;
-    if push_difference(words, came.bytes.as_slice(), wanted.as_slice(), into)? {
+    let came = outcome_of(alloc, words, bytes_of(alloc, input)?)?;
+    push_either(words, &came, wanted.as_slice(), ending, into)
+}
+
+// Whether a run comes to other bytes or ends otherwise, which is then written.
+fn push_either(
+    words: &[u8],
+    came: &Outcome,
+    wanted: &[u8],
+    ending: &[u8],
+    into: &mut Vec<u8>,
+) -> Result<bool, AllocError> {
+    if push_difference(words, came.bytes.as_slice(), wanted, into)? {
         return Ok(true);
     }
     push_difference(words, came.ending.as_slice(), ending, into)

@@ -17,18 +17,37 @@ pub struct Outcome {
 /// are refused.
 pub fn outcome_of(alloc: Global, words: &[u8], input: Vec<u8>) -> Result<Outcome, AllocError> {
     let words = words_of(alloc, words)?;
-    let mut source = MemSource::new(input, Vec::new(alloc));
+    let disk = MemDisk::new(b"", Vec::new(alloc))?;
+    let source = MemSource::new(input, Vec::new(alloc));
+    run_on(alloc, words.as_slice(), source, disk)
+}
+
+fn run_on(
+    alloc: Global,
+    words: &[String],
+    mut source: MemSource,
+    mut disk: MemDisk,
+) -> Result<Outcome, AllocError> {
     let mut sink = MemSink::new(Vec::new(alloc));
-    let status = if is_for_waiting(words.as_slice()) {
-        Status::Words
-    } else {
-        let mut disk = MemDisk::new(b"", Vec::new(alloc))?;
-        run_alone(alloc, words.as_slice(), &mut source, &mut sink, &mut disk)
-    };
+    let status = status_of(alloc, words, &mut source, &mut sink, &mut disk);
+    let ending = ending_of(alloc, status)?;
     Ok(Outcome {
         bytes: Vec::from_slice(alloc, sink.written())?,
-        ending: ending_of(alloc, status)?,
+        ending,
     })
+}
+
+fn status_of(
+    alloc: Global,
+    words: &[String],
+    source: &mut MemSource,
+    sink: &mut MemSink,
+    disk: &mut MemDisk,
+) -> Status {
+    if is_for_waiting(words) {
+        return Status::Words;
+    }
+    run_alone(alloc, words, source, sink, disk)
 }
 
 fn words_of(alloc: Global, line: &[u8]) -> Result<Vec<String>, AllocError> {
@@ -42,12 +61,19 @@ fn words_of(alloc: Global, line: &[u8]) -> Result<Vec<String>, AllocError> {
 }
 
 fn ending_of(alloc: Global, status: Status) -> Result<Vec<u8>, AllocError> {
-    let text = status_text(alloc, &status)?;
     let mut ending = Vec::new(alloc);
     push_number(&mut ending, u64::from(exit_code(&status)))?;
-    if let Some(line) = text.as_slice().strip_suffix(b"\n") {
-        ending.push(b' ')?;
-        ending.extend_from_slice(line)?;
-    }
+    push_text(&mut ending, status_text(alloc, &status)?.as_slice())?;
     Ok(ending)
+}
+
+// The text of a status without its newline, after a space; nothing where it has none.
+fn push_text(ending: &mut Vec<u8>, text: &[u8]) -> Result<(), AllocError> {
+    match text.strip_suffix(b"\n") {
+        Some(line) => {
+            ending.push(b' ')?;
+            ending.extend_from_slice(line)
+        }
+        None => Ok(()),
+    }
 }

@@ -1,5 +1,6 @@
 ghost use Rattle.std.specs.Prelude.{◌≡◌, [], IfSome};
 
+use crate::lent::with;
 use crate::record_tests::{all_refused, number_of_lines};
 use mj_core::{Core, Expiry, Heard, Left, SitAnswer};
 use mj_deeds::Rule;
@@ -183,10 +184,7 @@ fn follows(core: &mut Core, alloc: Global, steps: &[Step]) -> bool {
 
 // Whether all steps come as they say.
 fn all_hold(alloc: Global, steps: &[Step]) -> bool {
-    match before_all(alloc) {
-        Some(mut core) => follows(&mut core, alloc, steps),
-        None => false,
-    }
+    with(before_all(alloc), |core| follows(core, alloc, steps))
 }
 
 const A: &str = "{\"type\":\"join\",\"name\":\"a\",\"key\":\"k\"}";

@@ -1,4 +1,4 @@
-ghost use Rattle.std.specs.Prelude.{IfOk};
+ghost use Rattle.std.specs.Prelude.{◌≡◌, Ok, IfOk};
 ghost use Rattle.mj_journal.specs.Journals.{IsAtRest};
 ghost use Rattle.mj_journal.specs.Keeping.{game_of, end_of, IfKept};
 
@@ -18,12 +18,22 @@ const JOIN: &[u8] = b"{\"type\":\"join\",\"name\":\"a\"}";
 const BYTES_OF_JOIN: usize = 44;
 
 // A game whose journal stands on a disk; None where it isn't opened, with the cause.
-fn opened<D: Disk>(alloc: Global, disk: &mut D) -> Result<Kept<Core>, NotOpened>
-    ensures { IfOk result (λ kept. IsAtRest (D.told disk.new) (D.may_leave disk.new) (end_of kept)) }
+fn opened<D: Disk>(alloc: Global, disk: &mut D) -> Result<Box<Kept<Core>>, NotOpened>
+    ensures { IfOk result (λ kept. IsAtRest (D.told disk.new) (D.may_leave disk.new) (end_of kept.value)) }
 {
     match before_all(alloc) {
-        Some(core) => Kept::open(alloc, core, TAG, disk),
+        Some(core) => on_heap(alloc, Kept::open(alloc, core, TAG, disk)),
         None => Err(NotOpened::NoMemory),
+    }
+}
+
+// A value that was opened, on the heap, so that the functions that ask of it own a pointer alone.
+fn on_heap<T: Drop>(alloc: Global, made: Result<T, NotOpened>) -> Result<Box<T>, NotOpened>
+    ensures { IfOk result (λ held. made ≡ Ok held.value) }
+{
+    match Box::new(alloc, made?) {
+        Ok(held) => Ok(held),
+        Err(_) => Err(NotOpened::NoMemory),
     }
 }
 

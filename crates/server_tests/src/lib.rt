@@ -15,6 +15,8 @@ mod keep_tests;
 #[cfg(test)]
 mod kept_record_tests;
 #[cfg(test)]
+mod lent;
+#[cfg(test)]
 mod links_tests;
 #[cfg(test)]
 mod record_tests;

@@ -1,5 +1,6 @@
 //! Lines that are kept.
 
+use crate::lent::with;
 use mj_deeds::{Answers, Deed, Four, SeatList, Tiles, YakuList};
 use mj_streams::Streams;
 use mj_tiles::Tile;
@@ -29,7 +30,13 @@ fn push_reach(alloc: Global, streams: &mut Streams, seat: u8) -> bool {
 
 // Whether a deed is added to which each seat may only pass.
 fn push(alloc: Global, streams: &mut Streams, deed: Deed) -> bool {
-    streams.push_alone(alloc, &deed, &passes()).is_ok()
+    with(Some(deed), |deed| push_lent(alloc, streams, deed))
+}
+
+fn push_lent(alloc: Global, streams: &mut Streams, deed: &Deed) -> bool {
+    with(Some(passes()), |possible| {
+        streams.push_alone(alloc, deed, possible).is_ok()
+    })
 }
 
 fn passes() -> Four<Answers> {
@@ -89,16 +96,16 @@ fn few_are_kept(alloc: Global, streams: &mut Streams) -> bool {
     push_draw(alloc, streams) && push_reach(alloc, streams, 2) && have(streams, &FEW)
 }
 
-fn keep_few(alloc: Global, streams: Result<Streams, AllocError>) -> bool {
-    match streams {
-        Ok(mut streams) => few_are_kept(alloc, &mut streams),
-        Err(_) => false,
-    }
+fn keep_few(alloc: Global) -> bool {
+    with(
+        Streams::new(alloc).ok(),
+        |streams| few_are_kept(alloc, streams),
+    )
 }
 
 #[test]
 fn each_seat_has_its_line_of_each_deed_and_none_behind_the_last(rt: HostRuntime) {
-    assert!(rt; keep_few(rt.alloc(), Streams::new(rt.alloc())));
+    assert!(rt; keep_few(rt.alloc()));
 }
 
 // Whether a win is added that shows so many tiles.
@@ -165,15 +172,15 @@ fn many_are_kept(alloc: Global, streams: &mut Streams) -> bool {
         }
 }
 
-fn keep_many(alloc: Global, streams: Result<Streams, AllocError>) -> bool {
-    match streams {
-        Ok(mut streams) => many_are_kept(alloc, &mut streams),
-        Err(_) => false,
-    }
+fn keep_many(alloc: Global) -> bool {
+    with(
+        Streams::new(alloc).ok(),
+        |streams| many_are_kept(alloc, streams),
+    )
 }
 
 // A page has 65,536 bytes, so it takes 1,024 lines of a reach, and the win has a page of its own.
 #[test]
 fn lines_stay_as_they_are_at_the_end_of_a_page_and_beside_one_longer_than_a_page(rt: HostRuntime) {
-    assert!(rt; keep_many(rt.alloc(), Streams::new(rt.alloc())));
+    assert!(rt; keep_many(rt.alloc()));
 }
