@@ -68,13 +68,14 @@ class Parsed(Sequence[Action]):
 
 
 class Observation:
-    """What a seat is told next: the lines since it was asked last, and what it may answer to the last of them, in the order of their numbers.
-    `texts` are the lines as they are sent; they are parsed when `lines` or `actions` is looked at."""
+    """What a seat is told next: the lines since it was asked last, and what it may answer to the newest of them, in the order of their numbers.
+    `texts` are the lines as they are sent; they are parsed when `lines` or `actions` is looked at. `asked` is the line that lists the answers."""
 
-    def __init__(self, texts: Sequence[bytes] = (), is_asked: bool = False) -> None:
+    def __init__(self, texts: Sequence[bytes] = (), asked: bytes | None = None) -> None:
         self.texts = texts
+        self.asked = asked
         self.lines = Parsed(self._lines)
-        self.actions = Parsed(self._actions if is_asked else list)
+        self.actions = Parsed(self._actions)
 
     def _lines(self) -> list[Action]:
         lines: list[Action] = json.loads(b"[" + b",".join(self.texts) + b"]")
@@ -83,7 +84,7 @@ class Observation:
         return lines
 
     def _actions(self) -> list[Action]:
-        actions: list[Action] = json.loads(self.texts[-1])["possible_actions"]
+        actions: list[Action] = [] if self.asked is None else json.loads(self.asked)["possible_actions"]
         return actions
 
 
@@ -152,12 +153,12 @@ class Table:
     def observe(self, seat: int) -> Observation:
         """What a seat is told since it was asked last, and what it may answer now. Each line is told once."""
         due = self.due(seat)
+        asked = self.line(seat, due) if self._seat.may_say else None
         texts = [self.line(seat, number) for number in range(self._told[seat], due)]
-        self._told[seat] = max(due, self._told[seat])
-        if not self._seat.may_say:
-            return Observation(texts)
-        texts.append(self.line(seat, due))
-        return Observation(texts, True)
+        if asked is not None and self._told[seat] <= due:
+            texts.append(asked)
+        self._told[seat] = max(due if asked is None else due + 1, self._told[seat])
+        return Observation(texts, asked)
 
     def step(self, seat: int, action: Action) -> bool:
         """A seat gives an answer; Refused where it breaks a rule, and then the seat is asked again. False where it came too late."""

@@ -225,6 +225,21 @@ class Tables(unittest.TestCase):
         self.assertEqual(sum(points) % 1000, 0)
         self.assertIn("end", replay(record) + "end")
 
+    def test_each_line_is_told_once(self) -> None:
+        """What a seat was told in all are its lines; who is asked again is told none, and may answer the same."""
+        choose = random.Random(5)
+        told: list[list[bytes]] = [[], [], [], []]
+        with Table(12, walls=30) as table:
+            while not table.over:
+                for seat in table.awaited():
+                    seen, again = table.observe(seat), table.observe(seat)
+                    told[seat] += seen.texts
+                    self.assertEqual((again.texts, again.actions.items), ([], seen.actions.items))
+                    table.step(seat, choose.choice(seen.actions))
+            for seat in range(4):
+                told[seat] += table.observe(seat).texts
+                self.assertEqual(told[seat], [table.line(seat, number) for number in range(table.deeds)])
+
     def test_only_those_who_have_a_choice_are_asked(self) -> None:
         """Answers by their numbers give the game that the same answers give as lines, where all others pass."""
         with Table(11, walls=30) as table, Table(11, walls=30) as other:
