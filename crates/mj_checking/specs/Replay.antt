@@ -4,12 +4,12 @@ use Rattle.std.specs.Io.KnownBytes.{Appends, Keeps}
 use Rattle.mj_links.specs.Sinks.{WritesPrefix}
 use Rattle.mj_history.specs.Told.{Summary}
 use Rattle.mj_history.specs.Records.{IsRecord, IsNoRecord}
-use Rattle.mj_selfplay.specs.Text.{result_text}
 use Rattle.mj_replay.specs.Checks.{fault_of}
 use Rattle.mj_runs.specs.declared.cause.Cause.{Cause}
 use Rattle.mj_checking.specs.declared.replay.ReplayEnd.{ReplayEnd}
 use Rattle.mj_checking.specs.declared.replay.ReplayEnd.TheVariants as ends
 use Rattle.mj_runs.specs.Inputs.{IsRead, IsCutOff, IsTooLong}
+use Rattle.mj_runs.specs.Results.{result_text}
 
 -- The three lines of a summary: the deeds, the points of the four seats, and the deposits.
 abbrev pub replay_text : Summary → List ℕ

@@ -8,8 +8,7 @@ ghost use Rattle.mj_runs.specs.Faults.{CountsReadFaults, CountsWriteFaults};
 
 use mj_links::{ReadAll, Sink, Source, WriteAll, read_all, write_all};
 use mj_replay::{Cause, Checked, Summary, check};
-use mj_runs::{LONGEST, with_room};
-use mj_selfplay::result_lines;
+use mj_runs::{LONGEST, result_lines, with_room};
 use std::alloc::Global;
 
 /// How a command ends that reads a record: `replay` and `observe`.

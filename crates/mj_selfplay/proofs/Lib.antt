@@ -1,4 +1,3 @@
-mod Amounts
 pub mod Lawful
 pub mod One
 pub mod Played

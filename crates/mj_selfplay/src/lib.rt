@@ -10,7 +10,7 @@ mod text;
 
 pub use game::self_play;
 pub use tally::Summary;
-pub use text::{result_lines, summary_lines};
+pub use text::summary_lines;
 
 /// There is one whole game for some walls: two in which every window is answered by the choices of the four seats are the same
 /// deeds, for each choice is one, and nothing follows the end of the game.

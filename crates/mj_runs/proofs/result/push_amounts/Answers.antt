@@ -1,6 +1,6 @@
 use Rattle.std.proofs.Common.{rules}
-use Rattle.mj_selfplay.proofs.Amounts.{one_more}
-use Rattle.mj_selfplay.proofs.text.push_amounts.Goals as goal
+use Rattle.mj_runs.proofs.Amounts.{one_more}
+use Rattle.mj_runs.proofs.result.push_amounts.Goals as goal
 
 pub loop-amount-preserved : goal.loop-amount-preserved
 loop-amount-preserved c =

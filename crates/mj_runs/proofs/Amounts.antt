@@ -5,7 +5,7 @@ use Rattle.std.proofs.lemmas.List.{take_more}
 use Rattle.mj_bytes.specs.Adds.{Adds}
 use Rattle.mj_bytes.specs.Numbers.{signed_text}
 use Rattle.mj_bytes.proofs.AddLaws.{adds_more}
-use Rattle.mj_selfplay.specs.Text.{amounts_text}
+use Rattle.mj_runs.specs.Results.{amounts_text}
 
 pub one_more : (amounts : List ℤ) (amount : ℤ) (i : ℕ) (a b c : List ℕ) → i < length amounts → amount ≡ get_or amounts i amount →
     Adds a b (amounts_text (take i amounts)) → Adds b c (32 ∷ signed_text amount) → Adds a c (amounts_text (take (i + 1) amounts))
