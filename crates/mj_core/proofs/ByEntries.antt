@@ -31,9 +31,9 @@ use Rattle.mj_history.specs.Sitting.{placing, held_of, author_at}
 use Rattle.mj_history.specs.Shown.{due_at, sit_answer, sits_of, heard_of, hears_of, expires_of}
 use Rattle.mj_forms.specs.AnswerForms.{join_of}
 use Rattle.mj_history.proofs.Entered.{seats-are}
-use Rattle.mj_core.specs.Calls.{after_of, IsSitAnswer, IsHeard, IsLeft, IsExpiry, is_here}
-use Rattle.mj_core.proofs.Games.{placing-sat}
-use Rattle.mj_core.proofs.Foreseen.{foreseen-stale, foreseen-early, foreseen-closed}
+use Rattle.mj_umpire.specs.Calls.{after_of, IsSitAnswer, IsHeard, IsLeft, IsExpiry, is_here}
+use Rattle.mj_umpire.proofs.Games.{placing-sat}
+use Rattle.mj_umpire.proofs.Foreseen.{foreseen-stale, foreseen-early, foreseen-closed}
 
 -- A held seat is never the next one.
 not-next : {A : Type 0} (seat : ℕ) (held : Occupant) (said : Option (List ℕ)) (given : ℕ) → at_held seat held said ≡ places.Sat given → A

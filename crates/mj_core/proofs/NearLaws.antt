@@ -30,7 +30,7 @@ use Rattle.mj_history.specs.SeatLines.{lines_for}
 use Rattle.mj_history.specs.Shown.{line_at}
 use Rattle.mj_history.proofs.Arriving.{one_deed_an_entry}
 use Rattle.mj_history.proofs.LinesGrow.{lines_for-more, length-lines, line_kept}
-use Rattle.mj_core.specs.Calls.{after_of, Enters, TakesSeat, IsSitAnswer, IsHeard, IsLeft, IsExpiry}
+use Rattle.mj_umpire.specs.Calls.{after_of, Enters, TakesSeat, IsSitAnswer, IsHeard, IsLeft, IsExpiry}
 use Rattle.mj_core.specs.Inner.Near.{LackNewest, AreWhole, AreNear}
 
 -- An entry more has one deed more at most.

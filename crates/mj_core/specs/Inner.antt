@@ -1,11 +1,4 @@
--- What a core and its state keep, with the definitions that only they and their proofs need. No definition outside the crate
+-- What is kept of the lines of a game, with the definitions that only that and its proofs need. No definition outside the crate
 -- names them, and no public clause.
-pub mod Untold
-pub mod Verdicts
-pub mod States
 pub mod Streamed
 pub mod Near
-pub mod Kept
-pub mod Firsts
-pub mod Supplies
-pub mod Entries

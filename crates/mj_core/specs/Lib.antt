@@ -1,2 +1,2 @@
-pub mod Calls
+pub use Rattle.mj_umpire.specs.Calls
 pub mod Inner

@@ -5,16 +5,14 @@ ghost use Rattle.mj_wall.specs.Places.{is_wall};
 ghost use Rattle.mj_forms.specs.AnswerForms.{answer_of, join_of};
 ghost use Rattle.mj_history.specs.Legal.{IsLegal, can_say, is_over};
 ghost use Rattle.mj_history.specs.Shown.{control_line, line_at, sits_of, expires_of};
-ghost use Rattle.mj_core.specs.Calls.{IsSitAnswer, Foresees, IsHeard, IsLeft, IsExpiry, after_of, is_here, author_of_seat, due_of, open_window, may_say_at, pending_at, line_of, record_of};
+ghost use Rattle.mj_umpire.specs.Calls.{IsSitAnswer, Foresees, IsHeard, IsLeft, IsExpiry, after_of, is_here, author_of_seat, due_of, open_window, may_say_at, pending_at, line_of, record_of};
 
-use crate::answers::{Expiry, Heard, Left, SitAnswer};
-use crate::control::write_control;
 use crate::streamed::Streamed;
-use crate::umpire::Umpire;
 use mj_bytes::push_all;
 use mj_deeds::Rule;
 use mj_ports::Control;
 use mj_table::Table;
+use mj_umpire::{Expiry, Heard, Left, SitAnswer, Umpire, write_control};
 use mj_wall::{Rules, Setting, Wall, Walls};
 use std::alloc::{AllocError, Global};
 use std::marker::Model;

@@ -5,16 +5,13 @@ ghost use Rattle.mj_deeds.specs.Answers.{is_in_form};
 ghost use Rattle.mj_wall.specs.Places.{is_wall};
 ghost use Rattle.mj_forms.specs.AnswerForms.{answer_of, join_of};
 ghost use Rattle.mj_history.specs.Legal.{can_say};
-ghost use Rattle.mj_core.specs.Calls.{IsSitAnswer, IsHeard, IsLeft, IsExpiry, after_of, is_here, pending_at, line_of};
+ghost use Rattle.mj_umpire.specs.Calls.{IsSitAnswer, IsHeard, IsLeft, IsExpiry, after_of, is_here, pending_at, line_of};
 ghost use Rattle.mj_core.specs.Inner.Near.{AreNear, AreWhole};
 
-use crate::answers::{Expiry, Heard, Left, SitAnswer};
-use crate::telling::Untold;
-use crate::umpire::Umpire;
 use mj_bytes::push_all;
 use mj_deeds::{Answer, Answers};
-use mj_judge::possible_over;
 use mj_streams::SeatLines;
+use mj_umpire::{Expiry, Heard, Left, SitAnswer, Umpire, Untold, possible_over};
 use mj_wall::{Rules, Wall, Walls};
 use mjai_answers::read_answer;
 use std::alloc::{AllocError, Global};
@@ -33,7 +30,7 @@ pub struct SeatGame {
 }
 
 impl Model for SeatGame {
-    ghost use Rattle.mj_core.specs.Calls.{ToldGame};
+    ghost use Rattle.mj_umpire.specs.Calls.{ToldGame};
     ghost use Rattle.mj_core.specs.Inner.Near.{AreNear};
 
     ghost Value = { ToldGame };

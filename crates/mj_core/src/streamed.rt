@@ -4,12 +4,10 @@ ghost use Rattle.mj_deeds.specs.Facts.{newest};
 ghost use Rattle.mj_streams.specs.Streams.{with_deed};
 ghost use Rattle.mj_core.specs.Inner.Streamed.{CanCatchUp, possible_of_all};
 
-use crate::telling::{Telling, new_table};
 use mj_deeds::{Answer, Answers, Deed, Four};
-use mj_judge::possible_over;
-use mj_machine::next;
 use mj_streams::Streams;
 use mj_table::Table;
+use mj_umpire::{Telling, new_table, next, possible_over};
 use mj_wall::{Rules, Wall};
 use std::alloc::{AllocError, Global};
 use std::marker::Model;

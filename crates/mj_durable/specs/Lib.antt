@@ -1,3 +1,4 @@
+pub use Rattle.mj_hosting.specs.Rooms
 pub mod Words
 pub mod Journals
 pub mod Host

@@ -15,5 +15,6 @@ mod status;
 pub use asked::{hosted_of, is_for_host};
 pub use hosted::Hosted;
 pub use hosting::{HostEnd, host_games};
+pub use mj_hosting::Rooms;
 pub use seat_log::SeatLog;
 pub use status::status_of_host;

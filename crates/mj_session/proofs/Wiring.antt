@@ -52,7 +52,8 @@ pub took_nothing : (x y : WireState) → ReadingStays x.read y.read x.left y.lef
 took_nothing x y s h = record { passes = passes_same x.left y.left x.read y.read x.held y.held s.left s.read h; whole = All-nil IsLine; risen = omega (arith, s.faults) }
 
 -- nothing is read meanwhile
-pub took_on : (x y z : WireState) (lines : List (List ℕ)) (rest : List ℕ) → Took x y lines rest → ReadingStays y.read z.read y.left z.left y.read_faults z.read_faults → z.held ≡ y.held → Took x z lines rest
+pub took_on : (x y z : WireState) (lines : List (List ℕ)) (rest : List ℕ) → Took x y lines rest → ReadingStays y.read z.read y.left z.left y.read_faults z.read_faults → z.held ≡ y.held
+    → Took x z lines rest
 took_on x y z lines rest t s h =
     let front = with_newlines lines ++ rest in
     record {

@@ -75,7 +75,8 @@ told-same : (old new : Game) (told : Play) (number : ℕ) (asked : Asked) → ne
 told-same old new told number asked e t = subst (λ (game : Game). IsKept game told number asked) (sym e) t
 
 -- So after each call.
-told-taken : (author : ℕ) (old new : Game) (join : Option JoinLine) (told : Play) (number : ℕ) (asked : Asked) → TakesSeat join old new author → IsKept old told number asked → IsKept new told number asked
+told-taken : (author : ℕ) (old new : Game) (join : Option JoinLine) (told : Play) (number : ℕ) (asked : Asked) → TakesSeat join old new author → IsKept old told number asked
+    → IsKept new told number asked
 told-taken author old new None told number asked h t = absurd h
 told-taken author old new (Some join) told number asked h t = told-more old new _ told number asked h t
 
@@ -94,7 +95,8 @@ told-hearing (heard.Refused rule) author seat old new said told number asked h t
 told-hearing (heard.Closing rule) author seat old new said told number asked h t = told-more old new _ told number asked h.1 t
 told-hearing heard.NoMemory author seat old new said told number asked h t = told-same old new told number asked h t
 
-pub told-leaving : (answer : Left) (author seat : ℕ) (old new : Game) (told : Play) (number : ℕ) (asked : Asked) → IsLeft answer old new author seat → IsKept old told number asked → IsKept new told number asked
+pub told-leaving : (answer : Left) (author seat : ℕ) (old new : Game) (told : Play) (number : ℕ) (asked : Asked) → IsLeft answer old new author seat → IsKept old told number asked
+    → IsKept new told number asked
 told-leaving left.Gone author seat old new told number asked h t = told-more old new _ told number asked h t
 told-leaving left.NoMemory author seat old new told number asked h t = told-same old new told number asked h t
 

@@ -12,15 +12,14 @@
 #![tactic(auto)]
 
 ghost use Rattle.std.specs.Prelude.{◌≡◌, IfOk, length};
-ghost use Rattle.mj_hosting.specs.Rooms.{AreWithin, count_of};
+ghost use Rattle.mj_durable.specs.Rooms.{AreWithin, count_of};
 
 mod announced;
 mod stderr_log;
 
 use announced::Announced;
-use mj_durable::{Hosted, host_games, hosted_of, is_for_host, status_of_host};
+use mj_durable::{Hosted, Rooms, host_games, hosted_of, is_for_host, status_of_host};
 use mj_front::{Status, exit_code, run, status_text};
-use mj_hosting::Rooms;
 use mj_journal::FileDisk;
 use mj_links::{MachineClock, ReaderSource, TcpHost, WriterSink};
 use mj_record::{is_for_record, run_record};

@@ -1,7 +1,6 @@
 //! A log of seats that is standard error.
 
-use mj_durable::SeatLog;
-use mj_hosting::Rooms;
+use mj_durable::{Rooms, SeatLog};
 use mjai_answers::read_join;
 use std::alloc::{AllocError, Global};
 use std::io::Write;

@@ -5,7 +5,7 @@ use Rattle.mj_deeds.specs.declared.deed.Deed.{Deed}
 use Rattle.mj_wall.specs.declared.setting.Rules.{Rules}
 use Rattle.mj_history.specs.Legal.{Game}
 use Rattle.mj_history.specs.SeatLines.{lines_for}
-use Rattle.mj_core.specs.Calls.{after_of}
+use Rattle.mj_umpire.specs.Calls.{after_of}
 
 -- All deeds but the newest.
 pub record LackNewest (rules : Rules) (seat : ℕ) (deeds : List Deed) (lines : List (List ℕ)) : Type 0 where

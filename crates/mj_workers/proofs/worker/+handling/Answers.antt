@@ -50,7 +50,8 @@ take_column-passes-requires-clause-some g t c =
 
 pub join-back-requires-after_bounds : goal.join-back-requires-after_bounds
 join-back-requires-after_bounds g t c κs within =
-    let less : length c.args.staff.hands.items ≡ length c.pop.new.self.items + 1 = one_less c.args.staff.hands.items c.pop.new.self.items c.pop.result c.in-Some.hand c.pop.ensures.items c.in-Some.is in
+    let less : length c.args.staff.hands.items ≡ length c.pop.new.self.items + 1 =
+    one_less c.args.staff.hands.items c.pop.new.self.items c.pop.result c.in-Some.hand c.pop.ensures.items c.in-Some.is in
     let new = taken_last g.T.Noted.setting g.T.Seated.history c.args.turns.now.items (length c.pop.new.self.items) (length c.args.staff.hands.items) (items_of c.args.staff.rows.items)
     (items_of c.take_column-passes.new.rows.items) c.take_column-passes.result.items less
     c.take_column-passes.ensures.taken c.requires.rows in

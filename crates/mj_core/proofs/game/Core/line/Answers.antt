@@ -1,4 +1,4 @@
-use Rattle.mj_core.specs.Calls.{after_of}
+use Rattle.mj_umpire.specs.Calls.{after_of}
 use Rattle.mj_core.proofs.KeptLines.{kept-line}
 use Rattle.mj_core.proofs.game.Core.line.Goals as goal
 

@@ -1,4 +1,4 @@
-use Rattle.mj_core.proofs.Readers.{adds-none, adds-same}
+use Rattle.mj_umpire.proofs.Readers.{adds-none, adds-same}
 use Rattle.mj_core.proofs.game.Core.pending.Goals as goal
 
 pub returns-in-Some-clause-ok : goal.returns-in-Some-clause-ok

@@ -1,9 +1,9 @@
 use Rattle.std.proofs.Common.{◌≤◌, sym, arith}
 use Rattle.std.proofs.lemmas.Result.{on_ok_weaker}
-use Rattle.mj_core.specs.Calls.{after_of}
+use Rattle.mj_umpire.specs.Calls.{after_of}
 use Rattle.mj_core.proofs.KeptLines.{no_line}
 use Rattle.mj_core.proofs.NearLaws.{near-line}
-use Rattle.mj_core.proofs.Readers.{adds-same}
+use Rattle.mj_umpire.proofs.Readers.{adds-same}
 use Rattle.mj_core.proofs.seat_game.SeatGame.push_line.Goals as goal
 
 pub returns-in-Some-clause-ok : goal.returns-in-Some-clause-ok

@@ -1,4 +1,4 @@
-use Rattle.mj_core.proofs.Games.{heard-form}
+use Rattle.mj_umpire.proofs.Games.{heard-form}
 use Rattle.mj_core.proofs.seat_game.SeatGame.said.Goals as goal
 
 pub hear-requires-clause-form : goal.hear-requires-clause-form

@@ -1,6 +1,0 @@
-use Rattle.std.proofs.lemmas.Result.{on_ok_weaker}
-use Rattle.mj_core.proofs.Turns.{expired}
-use Rattle.mj_core.proofs.state.State.expire.Goals as goal
-
-pub returns-clause-ok : goal.returns-clause-ok
-returns-clause-ok g c = on_ok_weaker c.advance.result (expired c.args.setting.now _ _ c.requires) c.advance.ensures.ok

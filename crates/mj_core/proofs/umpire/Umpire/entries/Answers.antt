@@ -1,4 +1,0 @@
-use Rattle.mj_core.proofs.umpire.Umpire.entries.Goals as goal
-
-pub returns-clause-legal : goal.returns-clause-legal
-returns-clause-legal g c = rw (← c.self.view_is) c.self.invariant.legal

@@ -1,0 +1,11 @@
+pub mod Laws
+pub mod Seats
+pub mod Same
+pub mod Ended
+pub mod Steps
+pub mod Order
+pub mod Games
+pub mod Pieces
+pub mod Turns
+pub mod Readers
+pub mod Foreseen
