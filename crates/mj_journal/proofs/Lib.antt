@@ -1,11 +1,14 @@
 pub mod Appends
+pub mod Finished
 pub mod FreshLaws
+pub mod FreshLooks
 pub mod Moments
 pub mod Notes
 pub mod Opened
 pub mod Records
 pub mod Steps
 pub mod Tears
+pub mod Throughs
 pub mod Walks
 pub mod AtPlace
 pub mod CallTexts
