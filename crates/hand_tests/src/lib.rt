@@ -9,6 +9,8 @@ mod fu;
 #[cfg(test)]
 mod hand;
 #[cfg(test)]
+mod page;
+#[cfg(test)]
 mod pay;
 #[cfg(test)]
 mod readings;

@@ -1,9 +1,0 @@
-use Rattle.std.proofs.Common.{refl, sym}
-use Rattle.riichi_c.specs.Calls.{NotDue, Given}
-use Rattle.riichi_c.proofs.arrivals.give.Goals as goal
-
-pub returns-then-not-may_say : goal.returns-then-not-may_say
-returns-then-not-may_say c = NotDue refl c.in-Some.author (sym c.in-Some.ensures) (sym c.if-not-may_say.ensures.asked) refl refl
-
-pub returns : goal.returns
-returns c = Given c.in-Some.author c.hear-heard.result (sym c.in-Some.ensures) c.hear-heard.ensures c.tell.ensures

@@ -1,6 +1,0 @@
-use Rattle.riichi_c.proofs.Limits.{sits_short}
-use Rattle.riichi_c.proofs.arrivals.sit.Goals as goal
-
-pub returns : goal.returns
-returns c = sits_short c.args.line.now c.args.seat.now c.sit_within.new.seat c.args.game.now c.sit_within.new.game c.sit_within.result
-    c.if-line-gt-LINE_LIMIT.false c.sit_within.ensures

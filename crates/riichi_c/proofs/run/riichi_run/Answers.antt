@@ -1,5 +1,0 @@
-use Rattle.std.proofs.Common.{◌∙◌}
-use Rattle.riichi_c.proofs.run.riichi_run.Goals as goal
-
-pub returns : goal.returns
-returns c = record { status = c.run_words-status.result; code_is = c.from.ensures ∙ c.exit_code.ensures; does = c.run_words-status.ensures; tells = c.tell_status.ensures }

@@ -1,6 +1,0 @@
-use Rattle.std.proofs.Common.{true}
-use Rattle.riichi_page.proofs.Bits.{Gathered}
-use Rattle.riichi_page.proofs.sets.every_kind.Given as goal
-
-abbrev pub invariant-loop-number : goal.invariant-loop-number
-invariant-loop-number l = Gathered l.kinds (λ kind. true) l.number
