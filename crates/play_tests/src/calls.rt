@@ -1,4 +1,5 @@
-use crate::deed_words::{OfDeed, deed, deed_is_as};
+use crate::deed_words::ask_deeds;
+use crate::lent::Of;
 use crate::words::{Question, ask, counts, field, kind, kinds, tile, yes};
 use mj_calls::{banned, chi_shape, riichi_kan, same_kind};
 use mj_deeds::Deed;
@@ -7,49 +8,40 @@ use std::alloc::Global;
 
 /// A deed, and the kinds that may not be discarded right after it.
 const BANS: &str = "\
-chi 1 0 3m 4m 5m|36m
-chi 1 0 3m 4m 5mr|36m
-chi 1 0 3m 1m 2m|3m
-chi 1 0 4m 2m 3m|14m
-chi 1 0 8s 7s 9s|8s
-chi 1 0 2s 3s 4s|25s
-chi 1 0 6s 7s 8s|69s
-chi 1 0 6m 7m 8m|69m
-chi 1 0 2m 3m 4m|25m
-chi 1 0 3m 2m 4m|3m
-chi 1 0 7m 8m 9m|7m
-chi 1 0 9m 7m 8m|69m
-chi 1 0 1p 2p 3p|14p
-chi 1 0 5pr 3p 4p|25p
-chi 1 0 3m 5m 4m|36m
-chi 1 0 5pr 4p 3p|25p
-chi 1 0 3m 4m 2m|3m
-chi 1 0 7m 9m 8m|7m
-pon 2 0 P P P|P
-pon 2 0 5sr 5s 5s|5s
-open 2 0 5m 5m 5m 5m|
-draw 0 4m|";
+chi 1 0 3m 4m 5m=36m
+chi 1 0 3m 4m 5mr=36m
+chi 1 0 3m 1m 2m=3m
+chi 1 0 4m 2m 3m=14m
+chi 1 0 8s 7s 9s=8s
+chi 1 0 2s 3s 4s=25s
+chi 1 0 6s 7s 8s=69s
+chi 1 0 6m 7m 8m=69m
+chi 1 0 2m 3m 4m=25m
+chi 1 0 3m 2m 4m=3m
+chi 1 0 7m 8m 9m=7m
+chi 1 0 9m 7m 8m=69m
+chi 1 0 1p 2p 3p=14p
+chi 1 0 5pr 3p 4p=25p
+chi 1 0 3m 5m 4m=36m
+chi 1 0 5pr 4p 3p=25p
+chi 1 0 3m 4m 2m=3m
+chi 1 0 7m 9m 8m=7m
+pon 2 0 P P P=P
+pon 2 0 5sr 5s 5s=5s
+open 2 0 5m 5m 5m 5m=
+draw 0 4m=";
 
 struct Ban;
 
-impl Question for Ban {
-    fn holds(alloc: Global, line: &str) -> bool {
-        deed_is_as::<Ban>(alloc, deed(alloc, field(line, 0)), line)
-    }
-}
-
-impl OfDeed for Ban {
-    fn is_as(_alloc: Global, deed: Option<&Deed>, line: &str) -> bool {
-        match deed {
-            Some(deed) => banned(deed) == kinds(field(line, 1)),
-            None => false,
-        }
+impl Of<Deed> for Ban {
+    fn is_as(_alloc: Global, deed: &Deed, told: &str) -> bool {
+        banned(deed) == kinds(told)
     }
 }
 
 #[test]
 fn a_call_bans_its_tile_and_what_makes_its_run_anew(rt: HostRuntime) {
-    ask::<HostRuntime, Ban>(&rt, rt.alloc(), BANS);
+    ask_deeds::<HostRuntime, Ban>(&rt, rt.alloc(), BANS);
 }
 
 /// Three tiles, and whether they make a run; two tiles, and whether they are alike; the concealed tiles before a draw, `1p` where a

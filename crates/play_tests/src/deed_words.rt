@@ -7,23 +7,31 @@
 //! after it where there is another, the tiles of the dealer, and of how many tiles the other hands are; `end`;
 //! `over|30000 30000 30000 30000|0`.
 
-use crate::words::{field, kind, number, number_or_none, points, tile, tiles, truths, word};
+ghost use Rattle.std.specs.Prelude.{◌≤◌};
+
+use crate::lent::{Of, is_as};
+use crate::words::{
+    field, kind, number, number_or_none, parted, points, tile, tiles, truths, word,
+};
 use mj_deeds::{
     Answer, Bid, Deed, Four, Hands, Names, Pai, Reason, SeatList, ShownHands, Tiles, YakuList,
 };
 use mj_ports::Name;
 use mj_tiles::Tile;
 use std::alloc::Global;
+use std::process::Abort;
 
-/// What a test asks of a deed.
-pub(crate) trait OfDeed {
-    /// Whether a deed, or none, is as a line says.
-    fn is_as(alloc: Global, deed: Option<&Deed>, line: &str) -> bool;
+/// Asserts that the deed of each line of a table is as the line says: the deed, `=`, and what is told of it.
+pub(crate) fn ask_deeds<R: Abort, Q: Of<Deed>>(rt: &R, alloc: Global, lines: &str) {
+    for line in lines.lines() {
+        assert!(rt; deed_is_as::<Q>(alloc, line), "{line}");
+    }
 }
 
-/// Whether a deed, or none, is as a line says.
-pub(crate) fn deed_is_as<Q: OfDeed>(alloc: Global, deed: Option<Deed>, line: &str) -> bool {
-    Q::is_as(alloc, deed.as_ref(), line)
+/// Whether the deed of a line is as the line says.
+fn deed_is_as<Q: Of<Deed>>(alloc: Global, line: &str) -> bool {
+    let (text, told) = parted(line, '=');
+    is_as::<Deed, Q>(alloc, deed(alloc, text), told)
 }
 
 /// The deed of a line.
@@ -39,28 +47,21 @@ pub(crate) fn deed(alloc: Global, line: &str) -> Option<Deed> {
 }
 
 fn deed_of_fields(alloc: Global, line: &str) -> Option<Deed> {
-    match field(line, 0) {
-        "hand" => start_hand(alloc, line),
-        "deal" => start_later(alloc, line),
+    let (name, rest) = parted(line, '|');
+    match name {
+        "hand" => start_hand(alloc, "E 0 0 0", rest),
+        "deal" => start_later(alloc, rest),
         "win" => win(alloc, line),
         "drawn" => drawn_hand(alloc, line),
-        "accepted" => Some(accepted(line)),
-        _ => Some(game_end(line)),
-    }
-}
-
-fn accepted(line: &str) -> Deed {
-    Deed::ReachAccepted {
-        seat: number(field(line, 1)),
-        points: points(field(line, 2)),
-        then: bid(field(line, 3)),
-    }
-}
-
-fn game_end(line: &str) -> Deed {
-    Deed::EndGame {
-        points: points(field(line, 1)),
-        deposits: u32::from(number(field(line, 2))),
+        "accepted" => Some(Deed::ReachAccepted {
+            seat: number(field(line, 1)),
+            points: points(field(line, 2)),
+            then: bid(field(line, 3)),
+        }),
+        _ => Some(Deed::EndGame {
+            points: points(field(line, 1)),
+            deposits: u32::from(number(field(line, 2))),
+        }),
     }
 }
 
@@ -161,44 +162,41 @@ pub(crate) fn reason(text: &str) -> Reason {
     }
 }
 
-fn start_game(alloc: Global) -> Option<Deed> {
-    let four = Four {
+/// The names of the four seats.
+pub(crate) fn names() -> Four<Name> {
+    Four {
         first: Name::of(b"a"),
         second: Name::of(b"b"),
         third: Name::of(b"c"),
         fourth: Name::of(b"d"),
-    };
-    match Names::of(alloc, four) {
+    }
+}
+
+fn start_game(alloc: Global) -> Option<Deed> {
+    match Names::of(alloc, names()) {
         Ok(names) => Some(Deed::StartGame { names }),
         Err(_) => None,
     }
 }
 
-fn start_hand(alloc: Global, line: &str) -> Option<Deed> {
-    let hands = hands(
-        alloc,
-        [
-            field(line, 2),
-            field(line, 3),
-            field(line, 4),
-            field(line, 5),
-        ],
-    )?;
-    Some(start("E 0 0 0", tile(field(line, 1)), hands))
-}
-
 /// A hand of another standing: its round, the number of its dealer, the honba and the deposits.
 fn start_later(alloc: Global, line: &str) -> Option<Deed> {
-    let hands = hands(
-        alloc,
-        [
-            field(line, 3),
-            field(line, 4),
-            field(line, 5),
-            field(line, 6),
-        ],
-    )?;
-    Some(start(field(line, 1), tile(field(line, 2)), hands))
+    let (standing, rest) = parted(line, '|');
+    start_hand(alloc, standing, rest)
+}
+
+/// A hand of a standing, the indicator and the tiles of the four seats.
+fn start_hand(alloc: Global, standing: &str, line: &str) -> Option<Deed> {
+    let texts = [
+        field(line, 1),
+        field(line, 2),
+        field(line, 3),
+        field(line, 4),
+    ];
+    match hands(alloc, texts) {
+        Some(hands) => Some(start(standing, tile(field(line, 0)), hands)),
+        None => None,
+    }
 }
 
 fn start(standing: &str, indicator: Tile, hands: Hands) -> Deed {
@@ -235,84 +233,100 @@ pub(crate) fn hands(alloc: Global, texts: [&str; 4]) -> Option<Hands> {
 
 /// What a seat does by itself in a line's words, or another deed without fields.
 fn deed_by_itself(line: &str) -> Option<Deed> {
+    let seat = number(word(line, 1));
+    let Four {
+        first,
+        second,
+        third,
+        fourth,
+    } = tiles_from(line, 2);
     match word(line, 0) {
-        "draw" => Some(draw(line, false)),
-        "replace" => Some(draw(line, true)),
-        "discard" => Some(discard(line, false)),
-        "cut" => Some(discard(line, true)),
-        "closed" => Some(closed_kan(line)),
-        "added" => Some(added_kan(line)),
+        "draw" => Some(Deed::Draw {
+            seat,
+            tile: first,
+            replacement: false,
+        }),
+        "replace" => Some(Deed::Draw {
+            seat,
+            tile: first,
+            replacement: true,
+        }),
+        "discard" => Some(Deed::Discard {
+            seat,
+            tile: first,
+            drawn: false,
+        }),
+        "cut" => Some(Deed::Discard {
+            seat,
+            tile: first,
+            drawn: true,
+        }),
+        "closed" => Some(Deed::ClosedKan {
+            seat,
+            a: first,
+            b: second,
+            c: third,
+            d: fourth,
+        }),
+        "added" => Some(Deed::AddedKan {
+            seat,
+            tile: first,
+            a: second,
+            b: third,
+            c: fourth,
+        }),
         "dora" => Some(Deed::Dora {
             tile: tile(word(line, 1)),
         }),
-        "reach" => Some(Deed::Reach {
-            seat: number(word(line, 1)),
-        }),
+        "reach" => Some(Deed::Reach { seat }),
         "end" => Some(Deed::EndHand),
         _ => None,
     }
 }
 
-fn draw(line: &str, replacement: bool) -> Deed {
-    Deed::Draw {
-        seat: number(word(line, 1)),
-        tile: tile(word(line, 2)),
-        replacement,
-    }
-}
-
-fn discard(line: &str, drawn: bool) -> Deed {
-    Deed::Discard {
-        seat: number(word(line, 1)),
-        tile: tile(word(line, 2)),
-        drawn,
-    }
-}
-
-fn closed_kan(line: &str) -> Deed {
-    Deed::ClosedKan {
-        seat: number(word(line, 1)),
-        a: tile(word(line, 2)),
-        b: tile(word(line, 3)),
-        c: tile(word(line, 4)),
-        d: tile(word(line, 5)),
-    }
-}
-
-fn added_kan(line: &str) -> Deed {
-    Deed::AddedKan {
-        seat: number(word(line, 1)),
-        tile: tile(word(line, 2)),
-        a: tile(word(line, 3)),
-        b: tile(word(line, 4)),
-        c: tile(word(line, 5)),
+/// The tiles of four words of a line, from a place on.
+fn tiles_from(line: &str, place: usize) -> Four<Tile>
+    requires { place ≤ 3 }
+{
+    Four {
+        first: tile(word(line, place)),
+        second: tile(word(line, place + 1)),
+        third: tile(word(line, place + 2)),
+        fourth: tile(word(line, place + 3)),
     }
 }
 
 /// The bid of a line: a chi, a pon or an open kan, or none.
 pub(crate) fn bid(line: &str) -> Bid {
+    let (seat, target) = (number(word(line, 1)), number(word(line, 2)));
+    let Four {
+        first: tile,
+        second: a,
+        third: b,
+        fourth: c,
+    } = tiles_from(line, 3);
     match word(line, 0) {
         "chi" => Bid::Chi {
-            seat: number(word(line, 1)),
-            target: number(word(line, 2)),
-            tile: tile(word(line, 3)),
-            a: tile(word(line, 4)),
-            b: tile(word(line, 5)),
+            seat,
+            target,
+            tile,
+            a,
+            b,
         },
         "pon" => Bid::Pon {
-            seat: number(word(line, 1)),
-            target: number(word(line, 2)),
-            tile: tile(word(line, 3)),
-            a: tile(word(line, 4)),
-            b: tile(word(line, 5)),
+            seat,
+            target,
+            tile,
+            a,
+            b,
         },
         "open" => Bid::OpenKan {
-            seat: number(word(line, 1)),
-            target: number(word(line, 2)),
-            tile: tile(word(line, 3)),
-            a: tile(word(line, 4)),
-            b: tile(word(line, 5)),
-            c: tile(word(line, 6)),
+            seat,
+            target,
+            tile,
+            a,
+            b,
+            c,
         },
         _ => Bid::NoBid,
     }
@@ -321,23 +335,20 @@ pub(crate) fn bid(line: &str) -> Bid {
 /// The answer of a line, which stands as a deed's, or is `pass`, or `pass 0` with its actor, `ron 1 0` or `ron 1 0 5p` by seat 1
 /// on a tile of seat 0, or `nine 0`; `unread` and another word are an unread one. A hidden tile is `*`.
 pub(crate) fn answer(line: &str) -> Answer {
+    let actor = number(word(line, 1));
     match word(line, 0) {
         "pass" => Answer::Pass {
             actor: number_or_none(word(line, 1)),
         },
-        "reach" => Answer::Reach {
-            actor: number(word(line, 1)),
-        },
+        "reach" => Answer::Reach { actor },
         "ron" => Answer::Win {
-            actor: number(word(line, 1)),
+            actor,
             target: number(word(line, 2)),
             tile: pai_or_none(word(line, 3)),
         },
-        "nine" => Answer::NineKinds {
-            actor: number(word(line, 1)),
-        },
-        "chi" | "pon" | "open" => answer_by_call(line),
-        _ => answer_by_itself(line),
+        "nine" => Answer::NineKinds { actor },
+        "chi" | "pon" | "open" => answer_by_call(line, actor),
+        _ => answer_by_itself(line, actor),
     }
 }
 
@@ -358,59 +369,84 @@ fn pai_or_none(text: &str) -> Option<Pai> {
     }
 }
 
-fn answer_by_itself(line: &str) -> Answer {
+/// The tiles of four words of a line, from a place on, known or hidden.
+fn pais_from(line: &str, place: usize) -> Four<Pai>
+    requires { place ≤ 3 }
+{
+    Four {
+        first: pai(word(line, place)),
+        second: pai(word(line, place + 1)),
+        third: pai(word(line, place + 2)),
+        fourth: pai(word(line, place + 3)),
+    }
+}
+
+fn answer_by_itself(line: &str, actor: u8) -> Answer {
+    let Four {
+        first,
+        second,
+        third,
+        fourth,
+    } = pais_from(line, 2);
     match word(line, 0) {
-        "discard" => discarded(line, false),
-        "cut" => discarded(line, true),
+        "discard" => Answer::Discard {
+            actor,
+            tile: first,
+            drawn: false,
+        },
+        "cut" => Answer::Discard {
+            actor,
+            tile: first,
+            drawn: true,
+        },
         "closed" => Answer::ClosedKan {
-            actor: number(word(line, 1)),
-            a: pai(word(line, 2)),
-            b: pai(word(line, 3)),
-            c: pai(word(line, 4)),
-            d: pai(word(line, 5)),
+            actor,
+            a: first,
+            b: second,
+            c: third,
+            d: fourth,
         },
         "added" => Answer::AddedKan {
-            actor: number(word(line, 1)),
-            tile: pai(word(line, 2)),
-            a: pai(word(line, 3)),
-            b: pai(word(line, 4)),
-            c: pai(word(line, 5)),
+            actor,
+            tile: first,
+            a: second,
+            b: third,
+            c: fourth,
         },
         _ => Answer::Unread,
     }
 }
 
-fn discarded(line: &str, drawn: bool) -> Answer {
-    Answer::Discard {
-        actor: number(word(line, 1)),
-        tile: pai(word(line, 2)),
-        drawn,
-    }
-}
-
-fn answer_by_call(line: &str) -> Answer {
+fn answer_by_call(line: &str, actor: u8) -> Answer {
+    let target = number(word(line, 2));
+    let Four {
+        first: tile,
+        second: a,
+        third: b,
+        fourth: c,
+    } = pais_from(line, 3);
     match word(line, 0) {
         "chi" => Answer::Chi {
-            actor: number(word(line, 1)),
-            target: number(word(line, 2)),
-            tile: pai(word(line, 3)),
-            a: pai(word(line, 4)),
-            b: pai(word(line, 5)),
+            actor,
+            target,
+            tile,
+            a,
+            b,
         },
         "pon" => Answer::Pon {
-            actor: number(word(line, 1)),
-            target: number(word(line, 2)),
-            tile: pai(word(line, 3)),
-            a: pai(word(line, 4)),
-            b: pai(word(line, 5)),
+            actor,
+            target,
+            tile,
+            a,
+            b,
         },
         _ => Answer::OpenKan {
-            actor: number(word(line, 1)),
-            target: number(word(line, 2)),
-            tile: pai(word(line, 3)),
-            a: pai(word(line, 4)),
-            b: pai(word(line, 5)),
-            c: pai(word(line, 6)),
+            actor,
+            target,
+            tile,
+            a,
+            b,
+            c,
         },
     }
 }

@@ -1,8 +1,7 @@
-use crate::deed_words::{OfDeed, deed, deed_is_as, hands};
+use crate::deed_words::{ask_deeds, deed, hands, names};
+use crate::lent::{Of, is_as, is_put};
 use crate::play::meld;
-use crate::words::{
-    Question, are, ask, none_is_wrong, number, number_or_none, parted, tile, tiles, word, yes,
-};
+use crate::words::{are, none_is_wrong, number, number_or_none, tile, word, yes};
 use mj_deeds::{
     Deed, Four, Hands, Names, Pai, ShownHands, Tiles, YakuList, concealed, is_call, is_hand_start,
     is_kan, melds, next_seat, ordered, river, seat_of_kan,
@@ -19,7 +18,7 @@ discard 0 1m
 draw 1 C
 cut 1 C
 draw 2 3s
-concealed 0? 1250m
+concealed 0? 1m 2m 5m 5mr
 river 1? C
 river 2?
 pon 2 0 1m 1m 1m
@@ -32,7 +31,7 @@ meld 0 0? chi 2p 3p 5pr
 meld 0 1? pon 5m 5m 5mr
 meld 0 2? none
 meld 3 0? none
-concealed 0? 120m";
+concealed 0? 1m 2m 5mr";
 
 /// The first line with a wrong answer or no deed; empty where there is none.
 fn wrong_line<'a>(alloc: Global, game: &'a str) -> &'a str {
@@ -49,14 +48,7 @@ fn follow(alloc: Global, deeds: &mut Vec<Deed>, line: &str) -> bool {
     if let Some((question, told)) = line.split_once('?') {
         return tells(alloc, deeds.as_slice(), question, told.trim());
     }
-    match deed(alloc, line) {
-        Some(deed) => add(deeds, deed),
-        None => false,
-    }
-}
-
-fn add(deeds: &mut Vec<Deed>, deed: Deed) -> bool {
-    deeds.push(deed).is_ok()
+    is_put(deeds, deed(alloc, line))
 }
 
 /// Whether deeds tell this to a question.
@@ -93,15 +85,8 @@ fn stands_at(melds: &[Meld], place: u8, told: &str) -> bool {
 }
 
 fn has_concealed(alloc: Global, deeds: &[Deed], seat: u8, told: &str) -> bool {
-    match tiles(alloc, told) {
-        Some(told) => are_concealed(alloc, deeds, seat, told.as_slice()),
-        None => false,
-    }
-}
-
-fn are_concealed(alloc: Global, deeds: &[Deed], seat: u8, told: &[Tile]) -> bool {
     match concealed(alloc, deeds, seat) {
-        Ok(found) => found.as_slice() == told,
+        Ok(found) => are(found.as_slice(), told),
         Err(_) => false,
     }
 }
@@ -176,23 +161,21 @@ fn stand_at_their_seats(hands: &Hands, texts: [&str; 4]) -> bool {
         && are(hands.at(3), texts[3])
 }
 
-/// Whether four hands stand at their seats, and so do copies of them.
-fn keep_their_seats(alloc: Global, texts: [&str; 4]) -> bool {
-    match hands(alloc, texts) {
-        Some(four) => stay_at_their_seats(&four, texts),
-        None => false,
+/// Four hands stand at their seats, and so do copies of them.
+struct AtTheirSeats;
+
+impl Of<Hands> for AtTheirSeats {
+    fn is_as(alloc: Global, four: &Hands, told: &str) -> bool {
+        stand_at_their_seats(four, TEXTS)
+            && is_as::<Hands, CopyAtTheirSeats>(alloc, four.copy().ok(), told)
     }
 }
 
-fn stay_at_their_seats(four: &Hands, texts: [&str; 4]) -> bool {
-    stand_at_their_seats(four, texts) && are_made(four.copy(), texts)
-}
+struct CopyAtTheirSeats;
 
-/// Whether hands were made, and stand at their seats.
-fn are_made(made: Result<Hands, AllocError>, texts: [&str; 4]) -> bool {
-    match made {
-        Ok(made) => stand_at_their_seats(&made, texts),
-        Err(_) => false,
+impl Of<Hands> for CopyAtTheirSeats {
+    fn is_as(_alloc: Global, four: &Hands, _told: &str) -> bool {
+        stand_at_their_seats(four, TEXTS)
     }
 }
 
@@ -211,31 +194,50 @@ fn are_shown(shown: &ShownHands, texts: [&str; 4]) -> bool {
         && are(shown.at(3), texts[3])
 }
 
-/// Whether hands are shown or hidden so, and so are copies of them.
-fn stay_shown(alloc: Global, texts: [&str; 4]) -> bool {
-    match hands(alloc, texts) {
-        Some(four) => stay_shown_of(alloc, four, texts) == Ok(true),
-        None => false,
+fn keep_their_seats(alloc: Global) -> bool {
+    is_as::<Hands, AtTheirSeats>(alloc, hands(alloc, TEXTS), "")
+}
+
+/// Hands are shown or hidden so, and so are copies of them.
+struct AreShown;
+
+impl Of<ShownHands> for AreShown {
+    fn is_as(alloc: Global, shown: &ShownHands, told: &str) -> bool {
+        are_shown(shown, TEXTS) && is_as::<ShownHands, CopyAreShown>(alloc, shown.copy().ok(), told)
     }
 }
 
-fn stay_shown_of(alloc: Global, four: Hands, texts: [&str; 4]) -> Result<bool, AllocError> {
+struct CopyAreShown;
+
+impl Of<ShownHands> for CopyAreShown {
+    fn is_as(_alloc: Global, shown: &ShownHands, _told: &str) -> bool {
+        are_shown(shown, TEXTS)
+    }
+}
+
+/// Hands of which the first and the last are shown.
+fn shown(alloc: Global, four: Option<Hands>) -> Option<ShownHands> {
     let hidden = Four {
         first: None,
         second: Some(13),
         third: Some(0),
         fourth: None,
     };
-    let shown = ShownHands::of(alloc, four, hidden)?;
-    let copied = shown.copy()?;
-    Ok(are_shown(&shown, texts) && are_shown(&copied, texts))
+    match four {
+        Some(four) => ShownHands::of(alloc, four, hidden).ok(),
+        None => None,
+    }
+}
+
+fn stay_shown(alloc: Global) -> bool {
+    is_as::<ShownHands, AreShown>(alloc, shown(alloc, hands(alloc, TEXTS)), "")
 }
 
 const TEXTS: [&str; 4] = ["1m 2m 3m", "5p 5p 6p", "", "E E S C"];
 
 #[test]
 fn each_seat_has_its_own_hand_shown_or_hidden(rt: HostRuntime) {
-    assert!(rt; keep_their_seats(rt.alloc(), TEXTS) && stay_shown(rt.alloc(), TEXTS));
+    assert!(rt; keep_their_seats(rt.alloc()) && stay_shown(rt.alloc()));
 }
 
 /// Whether each seat has its name.
@@ -273,13 +275,7 @@ fn seats_are_four() -> bool {
 
 #[test]
 fn each_seat_has_its_own_name(rt: HostRuntime) {
-    let four = Four {
-        first: Name::of(b"a"),
-        second: Name::of(b"b"),
-        third: Name::of(b"c"),
-        fourth: Name::of(b"d"),
-    };
-    assert!(rt; stay_named(rt.alloc(), four) && seats_are_four());
+    assert!(rt; stay_named(rt.alloc(), names()) && seats_are_four());
 }
 
 /// A deed, and whether it is a call, the seat that makes a kan by it, `-` for none, and whether it starts a hand.
@@ -295,42 +291,26 @@ hand|P|1m|1m|1m|1m=no - yes";
 
 struct IsNamed;
 
-impl Question for IsNamed {
-    fn holds(alloc: Global, line: &str) -> bool {
-        deed_is_as::<IsNamed>(alloc, deed(alloc, parted(line, '=').0), line)
-    }
-}
-
-impl OfDeed for IsNamed {
-    fn is_as(alloc: Global, deed: Option<&Deed>, line: &str) -> bool {
-        match deed {
-            Some(deed) => deed_is_as::<CopyIsNamed>(alloc, deed.copy().ok(), line),
-            None => false,
-        }
+impl Of<Deed> for IsNamed {
+    fn is_as(alloc: Global, deed: &Deed, named: &str) -> bool {
+        is_as::<Deed, CopyIsNamed>(alloc, deed.copy().ok(), named)
     }
 }
 
 struct CopyIsNamed;
 
-impl OfDeed for CopyIsNamed {
-    fn is_as(_alloc: Global, deed: Option<&Deed>, line: &str) -> bool {
-        match deed {
-            Some(deed) => is_so(deed, parted(line, '=').1),
-            None => false,
-        }
+impl Of<Deed> for CopyIsNamed {
+    fn is_as(_alloc: Global, deed: &Deed, named: &str) -> bool {
+        let kan = number_or_none(word(named, 1));
+        seat_of_kan(deed) == kan
+            && [is_call(deed), is_kan(deed), is_hand_start(deed)]
+                == [yes(word(named, 0)), kan.is_some(), yes(word(named, 2))]
     }
-}
-
-fn is_so(deed: &Deed, named: &str) -> bool {
-    let kan = number_or_none(word(named, 1));
-    seat_of_kan(deed) == kan
-        && [is_call(deed), is_kan(deed), is_hand_start(deed)]
-            == [yes(word(named, 0)), kan.is_some(), yes(word(named, 2))]
 }
 
 #[test]
 fn a_kan_is_a_call_of_its_seat(rt: HostRuntime) {
-    ask::<HostRuntime, IsNamed>(&rt, rt.alloc(), NAMED);
+    ask_deeds::<HostRuntime, IsNamed>(&rt, rt.alloc(), NAMED);
 }
 
 #[test]

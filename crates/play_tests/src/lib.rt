@@ -15,6 +15,8 @@ mod deeds;
 #[cfg(test)]
 mod judge;
 #[cfg(test)]
+mod lent;
+#[cfg(test)]
 mod lines;
 #[cfg(test)]
 mod play;

@@ -2,7 +2,8 @@
 
 ghost use Rattle.std.specs.Prelude.{◌≡◌, ◌<◌};
 
-use crate::deed_words::{OfDeed, answer, deed, deed_is_as};
+use crate::deed_words::{answer, ask_deeds};
+use crate::lent::{Of, is_as};
 use crate::views::seen_by;
 use crate::words::{Question, ask, number_or_none, parted};
 use mj_deeds::{Answer, Deed, Rule, Viewer};
@@ -13,78 +14,62 @@ use std::alloc::Global;
 use std::marker::Brand;
 use std::sync::ledger::{Blank, Ledger};
 
-/// A viewer, a seat or the record, a deed, and its line. A start of a hand shows a seat its own tiles alone and the record
+/// A deed, a viewer, which is a seat or the record, and its line. A start of a hand shows a seat its own tiles alone and the record
 /// all, a draw hides its tile from others, and the record alone is told the call that is kept and the winners that follow.
 const DEEDS: &str = "\
-2 game={\"type\":\"start_game\",\"id\":2,\"names\":[\"a\",\"b\",\"c\",\"d\"]}
-record game={\"type\":\"start_game\",\"id\":0,\"names\":[\"a\",\"b\",\"c\",\"d\"]}
-1 deal|S 2 1 2|F|1111222233334m|4445550666677m|7788889999m 111p|1222233334444p={\"type\":\"start_kyoku\",\"bakaze\":\"S\",\"kyoku\":3,\"honba\":1,\"kyotaku\":2,\"oya\":2,\"dora_marker\":\"F\",\"tehais\":[[\"?\",\"?\",\"?\",\"?\",\"?\",\"?\",\"?\",\"?\",\"?\",\"?\",\"?\",\"?\",\"?\"],[\"4m\",\"4m\",\"4m\",\"5m\",\"5m\",\"5m\",\"5mr\",\"6m\",\"6m\",\"6m\",\"6m\",\"7m\",\"7m\"],[\"?\",\"?\",\"?\",\"?\",\"?\",\"?\",\"?\",\"?\",\"?\",\"?\",\"?\",\"?\",\"?\"],[\"?\",\"?\",\"?\",\"?\",\"?\",\"?\",\"?\",\"?\",\"?\",\"?\",\"?\",\"?\",\"?\"]]}
-record deal|S 2 1 2|F|1111222233334m|4445550666677m|7788889999m 111p|1222233334444p={\"type\":\"start_kyoku\",\"bakaze\":\"S\",\"kyoku\":3,\"honba\":1,\"kyotaku\":2,\"oya\":2,\"dora_marker\":\"F\",\"tehais\":[[\"1m\",\"1m\",\"1m\",\"1m\",\"2m\",\"2m\",\"2m\",\"2m\",\"3m\",\"3m\",\"3m\",\"3m\",\"4m\"],[\"4m\",\"4m\",\"4m\",\"5m\",\"5m\",\"5m\",\"5mr\",\"6m\",\"6m\",\"6m\",\"6m\",\"7m\",\"7m\"],[\"7m\",\"7m\",\"8m\",\"8m\",\"8m\",\"8m\",\"9m\",\"9m\",\"9m\",\"9m\",\"1p\",\"1p\",\"1p\"],[\"1p\",\"2p\",\"2p\",\"2p\",\"2p\",\"3p\",\"3p\",\"3p\",\"3p\",\"4p\",\"4p\",\"4p\",\"4p\"]]}
-0 hand|F|1111222233334m|4445555666677m|7788889999m 111p|1222233334444p={\"type\":\"start_kyoku\",\"bakaze\":\"E\",\"kyoku\":1,\"honba\":0,\"kyotaku\":0,\"oya\":0,\"dora_marker\":\"F\",\"tehais\":[[\"1m\",\"1m\",\"1m\",\"1m\",\"2m\",\"2m\",\"2m\",\"2m\",\"3m\",\"3m\",\"3m\",\"3m\",\"4m\"],[\"?\",\"?\",\"?\",\"?\",\"?\",\"?\",\"?\",\"?\",\"?\",\"?\",\"?\",\"?\",\"?\"],[\"?\",\"?\",\"?\",\"?\",\"?\",\"?\",\"?\",\"?\",\"?\",\"?\",\"?\",\"?\",\"?\"],[\"?\",\"?\",\"?\",\"?\",\"?\",\"?\",\"?\",\"?\",\"?\",\"?\",\"?\",\"?\",\"?\"]]}
-0 hand|F|1111222233334m|4455556666777m|4788889999m 111p|1222233334444p={\"type\":\"start_kyoku\",\"bakaze\":\"E\",\"kyoku\":1,\"honba\":0,\"kyotaku\":0,\"oya\":0,\"dora_marker\":\"F\",\"tehais\":[[\"1m\",\"1m\",\"1m\",\"1m\",\"2m\",\"2m\",\"2m\",\"2m\",\"3m\",\"3m\",\"3m\",\"3m\",\"4m\"],[\"?\",\"?\",\"?\",\"?\",\"?\",\"?\",\"?\",\"?\",\"?\",\"?\",\"?\",\"?\",\"?\"],[\"?\",\"?\",\"?\",\"?\",\"?\",\"?\",\"?\",\"?\",\"?\",\"?\",\"?\",\"?\",\"?\"],[\"?\",\"?\",\"?\",\"?\",\"?\",\"?\",\"?\",\"?\",\"?\",\"?\",\"?\",\"?\",\"?\"]]}
-3 replace 3 5p={\"type\":\"tsumo\",\"actor\":3,\"pai\":\"5p\"}
-1 replace 3 5p={\"type\":\"tsumo\",\"actor\":3,\"pai\":\"?\"}
-record replace 3 5p={\"type\":\"tsumo\",\"actor\":3,\"pai\":\"5p\"}
-3 discard 0 5p={\"type\":\"dahai\",\"actor\":0,\"pai\":\"5p\",\"tsumogiri\":false}
-1 discard 0 5p={\"type\":\"dahai\",\"actor\":0,\"pai\":\"5p\",\"tsumogiri\":false}
-record discard 0 5p={\"type\":\"dahai\",\"actor\":0,\"pai\":\"5p\",\"tsumogiri\":false}
-3 chi 1 0 7m 5m 6m={\"type\":\"chi\",\"actor\":1,\"target\":0,\"pai\":\"7m\",\"consumed\":[\"5m\",\"6m\"]}
-record pon 2 0 7m 7m 7m={\"type\":\"pon\",\"actor\":2,\"target\":0,\"pai\":\"7m\",\"consumed\":[\"7m\",\"7m\"]}
-3 open 2 0 7m 7m 7m 7m={\"type\":\"daiminkan\",\"actor\":2,\"target\":0,\"pai\":\"7m\",\"consumed\":[\"7m\",\"7m\",\"7m\"]}
-3 closed 1 N N N N={\"type\":\"ankan\",\"actor\":1,\"consumed\":[\"N\",\"N\",\"N\",\"N\"]}
-3 added 1 6m 6m 6m 6m={\"type\":\"kakan\",\"actor\":1,\"pai\":\"6m\",\"consumed\":[\"6m\",\"6m\",\"6m\"]}
-0 dora 8p={\"type\":\"dora\",\"dora_marker\":\"8p\"}
-0 reach 1={\"type\":\"reach\",\"actor\":1}
-2 accepted|1|30000 29000 30000 -200|pon 2 1 5mr 5m 5m={\"type\":\"reach_accepted\",\"actor\":1,\"deltas\":[0,-1000,0,0],\"scores\":[30000,29000,30000,-200]}
-record accepted|1|30000 29000 30000 -200={\"type\":\"reach_accepted\",\"actor\":1,\"deltas\":[0,-1000,0,0],\"scores\":[30000,29000,30000,-200],\"then\":null}
-record accepted|1|30000 29000 30000 -200|pon 2 1 5mr 5m 5m={\"type\":\"reach_accepted\",\"actor\":1,\"deltas\":[0,-1000,0,0],\"scores\":[30000,29000,30000,-200],\"then\":{\"type\":\"pon\",\"actor\":2,\"target\":1,\"pai\":\"5mr\",\"consumed\":[\"5m\",\"5m\"]}}
-0 win|1|1|7m|-1300 2700 -700 -700|28700 32700 29300 29300|2 0|23456m 456p 33678s={\"type\":\"hora\",\"actor\":1,\"target\":1,\"pai\":\"7m\",\"uradora_markers\":[],\"hora_tehais\":[\"2m\",\"3m\",\"4m\",\"5m\",\"6m\",\"4p\",\"5p\",\"6p\",\"3s\",\"3s\",\"6s\",\"7s\",\"8s\"],\"yakus\":[[\"menzen_tsumo\",1],[\"pinfu\",1],[\"tanyao\",1]],\"fu\":20,\"fan\":3,\"hora_points\":2700,\"deltas\":[-1300,2700,-700,-700],\"scores\":[28700,32700,29300,29300]}
-record win|1|1|7m|-1300 2700 -700 -700|28700 32700 29300 29300||23456m 456p 33678s={\"type\":\"hora\",\"actor\":1,\"target\":1,\"pai\":\"7m\",\"uradora_markers\":[],\"hora_tehais\":[\"2m\",\"3m\",\"4m\",\"5m\",\"6m\",\"4p\",\"5p\",\"6p\",\"3s\",\"3s\",\"6s\",\"7s\",\"8s\"],\"yakus\":[[\"menzen_tsumo\",1],[\"pinfu\",1],[\"tanyao\",1]],\"fu\":20,\"fan\":3,\"hora_points\":2700,\"deltas\":[-1300,2700,-700,-700],\"scores\":[28700,32700,29300,29300],\"rest\":[]}
-record win|1|1|7m|-1300 2700 -700 -700|28700 32700 29300 29300|0|23456m 456p 33678s={\"type\":\"hora\",\"actor\":1,\"target\":1,\"pai\":\"7m\",\"uradora_markers\":[],\"hora_tehais\":[\"2m\",\"3m\",\"4m\",\"5m\",\"6m\",\"4p\",\"5p\",\"6p\",\"3s\",\"3s\",\"6s\",\"7s\",\"8s\"],\"yakus\":[[\"menzen_tsumo\",1],[\"pinfu\",1],[\"tanyao\",1]],\"fu\":20,\"fan\":3,\"hora_points\":2700,\"deltas\":[-1300,2700,-700,-700],\"scores\":[28700,32700,29300,29300],\"rest\":[0]}
-record win|1|1|7m|-1300 2700 -700 -700|28700 32700 29300 29300|2 0|23456m 456p 33678s={\"type\":\"hora\",\"actor\":1,\"target\":1,\"pai\":\"7m\",\"uradora_markers\":[],\"hora_tehais\":[\"2m\",\"3m\",\"4m\",\"5m\",\"6m\",\"4p\",\"5p\",\"6p\",\"3s\",\"3s\",\"6s\",\"7s\",\"8s\"],\"yakus\":[[\"menzen_tsumo\",1],[\"pinfu\",1],[\"tanyao\",1]],\"fu\":20,\"fan\":3,\"hora_points\":2700,\"deltas\":[-1300,2700,-700,-700],\"scores\":[28700,32700,29300,29300],\"rest\":[2,0]}
-3 drawn|yes no no no|3000 -1000 -1000 -1000|33000 29000 29000 29000|fanpai|12m E|0 1 3={\"type\":\"ryukyoku\",\"reason\":\"fanpai\",\"tehais\":[[\"1m\",\"2m\",\"E\"],[],[\"?\"],[\"?\",\"?\",\"?\"]],\"tenpais\":[true,false,false,false],\"deltas\":[3000,-1000,-1000,-1000],\"scores\":[33000,29000,29000,29000]}
-3 end={\"type\":\"end_kyoku\"}
-3 over|30000 30000 31000 28000|1={\"type\":\"end_game\",\"scores\":[30000,30000,31000,28000],\"kyotaku\":1}
-record drawn|yes no no no|3000 -1000 -1000 -1000|33000 29000 29000 29000|fanpai|12m E|0 1 3={\"type\":\"ryukyoku\",\"reason\":\"fanpai\",\"tehais\":[[\"1m\",\"2m\",\"E\"],[],[\"?\"],[\"?\",\"?\",\"?\"]],\"tenpais\":[true,false,false,false],\"deltas\":[3000,-1000,-1000,-1000],\"scores\":[33000,29000,29000,29000]}
-record end={\"type\":\"end_kyoku\"}
-record over|30000 30000 31000 28000|1={\"type\":\"end_game\",\"scores\":[30000,30000,31000,28000],\"kyotaku\":1}";
+game=2 {\"type\":\"start_game\",\"id\":2,\"names\":[\"a\",\"b\",\"c\",\"d\"]}
+game=record {\"type\":\"start_game\",\"id\":0,\"names\":[\"a\",\"b\",\"c\",\"d\"]}
+deal|S 2 1 2|F|1111222233334m|4445550666677m|7788889999m 111p|1222233334444p=1 {\"type\":\"start_kyoku\",\"bakaze\":\"S\",\"kyoku\":3,\"honba\":1,\"kyotaku\":2,\"oya\":2,\"dora_marker\":\"F\",\"tehais\":[[\"?\",\"?\",\"?\",\"?\",\"?\",\"?\",\"?\",\"?\",\"?\",\"?\",\"?\",\"?\",\"?\"],[\"4m\",\"4m\",\"4m\",\"5m\",\"5m\",\"5m\",\"5mr\",\"6m\",\"6m\",\"6m\",\"6m\",\"7m\",\"7m\"],[\"?\",\"?\",\"?\",\"?\",\"?\",\"?\",\"?\",\"?\",\"?\",\"?\",\"?\",\"?\",\"?\"],[\"?\",\"?\",\"?\",\"?\",\"?\",\"?\",\"?\",\"?\",\"?\",\"?\",\"?\",\"?\",\"?\"]]}
+deal|S 2 1 2|F|1111222233334m|4445550666677m|7788889999m 111p|1222233334444p=record {\"type\":\"start_kyoku\",\"bakaze\":\"S\",\"kyoku\":3,\"honba\":1,\"kyotaku\":2,\"oya\":2,\"dora_marker\":\"F\",\"tehais\":[[\"1m\",\"1m\",\"1m\",\"1m\",\"2m\",\"2m\",\"2m\",\"2m\",\"3m\",\"3m\",\"3m\",\"3m\",\"4m\"],[\"4m\",\"4m\",\"4m\",\"5m\",\"5m\",\"5m\",\"5mr\",\"6m\",\"6m\",\"6m\",\"6m\",\"7m\",\"7m\"],[\"7m\",\"7m\",\"8m\",\"8m\",\"8m\",\"8m\",\"9m\",\"9m\",\"9m\",\"9m\",\"1p\",\"1p\",\"1p\"],[\"1p\",\"2p\",\"2p\",\"2p\",\"2p\",\"3p\",\"3p\",\"3p\",\"3p\",\"4p\",\"4p\",\"4p\",\"4p\"]]}
+hand|F|1111222233334m|4445555666677m|7788889999m 111p|1222233334444p=0 {\"type\":\"start_kyoku\",\"bakaze\":\"E\",\"kyoku\":1,\"honba\":0,\"kyotaku\":0,\"oya\":0,\"dora_marker\":\"F\",\"tehais\":[[\"1m\",\"1m\",\"1m\",\"1m\",\"2m\",\"2m\",\"2m\",\"2m\",\"3m\",\"3m\",\"3m\",\"3m\",\"4m\"],[\"?\",\"?\",\"?\",\"?\",\"?\",\"?\",\"?\",\"?\",\"?\",\"?\",\"?\",\"?\",\"?\"],[\"?\",\"?\",\"?\",\"?\",\"?\",\"?\",\"?\",\"?\",\"?\",\"?\",\"?\",\"?\",\"?\"],[\"?\",\"?\",\"?\",\"?\",\"?\",\"?\",\"?\",\"?\",\"?\",\"?\",\"?\",\"?\",\"?\"]]}
+hand|F|1111222233334m|4455556666777m|4788889999m 111p|1222233334444p=0 {\"type\":\"start_kyoku\",\"bakaze\":\"E\",\"kyoku\":1,\"honba\":0,\"kyotaku\":0,\"oya\":0,\"dora_marker\":\"F\",\"tehais\":[[\"1m\",\"1m\",\"1m\",\"1m\",\"2m\",\"2m\",\"2m\",\"2m\",\"3m\",\"3m\",\"3m\",\"3m\",\"4m\"],[\"?\",\"?\",\"?\",\"?\",\"?\",\"?\",\"?\",\"?\",\"?\",\"?\",\"?\",\"?\",\"?\"],[\"?\",\"?\",\"?\",\"?\",\"?\",\"?\",\"?\",\"?\",\"?\",\"?\",\"?\",\"?\",\"?\"],[\"?\",\"?\",\"?\",\"?\",\"?\",\"?\",\"?\",\"?\",\"?\",\"?\",\"?\",\"?\",\"?\"]]}
+replace 3 5p=3 {\"type\":\"tsumo\",\"actor\":3,\"pai\":\"5p\"}
+replace 3 5p=1 {\"type\":\"tsumo\",\"actor\":3,\"pai\":\"?\"}
+replace 3 5p=record {\"type\":\"tsumo\",\"actor\":3,\"pai\":\"5p\"}
+discard 0 5p=3 {\"type\":\"dahai\",\"actor\":0,\"pai\":\"5p\",\"tsumogiri\":false}
+discard 0 5p=1 {\"type\":\"dahai\",\"actor\":0,\"pai\":\"5p\",\"tsumogiri\":false}
+discard 0 5p=record {\"type\":\"dahai\",\"actor\":0,\"pai\":\"5p\",\"tsumogiri\":false}
+chi 1 0 7m 5m 6m=3 {\"type\":\"chi\",\"actor\":1,\"target\":0,\"pai\":\"7m\",\"consumed\":[\"5m\",\"6m\"]}
+pon 2 0 7m 7m 7m=record {\"type\":\"pon\",\"actor\":2,\"target\":0,\"pai\":\"7m\",\"consumed\":[\"7m\",\"7m\"]}
+open 2 0 7m 7m 7m 7m=3 {\"type\":\"daiminkan\",\"actor\":2,\"target\":0,\"pai\":\"7m\",\"consumed\":[\"7m\",\"7m\",\"7m\"]}
+closed 1 N N N N=3 {\"type\":\"ankan\",\"actor\":1,\"consumed\":[\"N\",\"N\",\"N\",\"N\"]}
+added 1 6m 6m 6m 6m=3 {\"type\":\"kakan\",\"actor\":1,\"pai\":\"6m\",\"consumed\":[\"6m\",\"6m\",\"6m\"]}
+dora 8p=0 {\"type\":\"dora\",\"dora_marker\":\"8p\"}
+reach 1=0 {\"type\":\"reach\",\"actor\":1}
+accepted|1|30000 29000 30000 -200|pon 2 1 5mr 5m 5m=2 {\"type\":\"reach_accepted\",\"actor\":1,\"deltas\":[0,-1000,0,0],\"scores\":[30000,29000,30000,-200]}
+accepted|1|30000 29000 30000 -200=record {\"type\":\"reach_accepted\",\"actor\":1,\"deltas\":[0,-1000,0,0],\"scores\":[30000,29000,30000,-200],\"then\":null}
+accepted|1|30000 29000 30000 -200|pon 2 1 5mr 5m 5m=record {\"type\":\"reach_accepted\",\"actor\":1,\"deltas\":[0,-1000,0,0],\"scores\":[30000,29000,30000,-200],\"then\":{\"type\":\"pon\",\"actor\":2,\"target\":1,\"pai\":\"5mr\",\"consumed\":[\"5m\",\"5m\"]}}
+win|1|1|7m|-1300 2700 -700 -700|28700 32700 29300 29300|2 0|23456m 456p 33678s=0 {\"type\":\"hora\",\"actor\":1,\"target\":1,\"pai\":\"7m\",\"uradora_markers\":[],\"hora_tehais\":[\"2m\",\"3m\",\"4m\",\"5m\",\"6m\",\"4p\",\"5p\",\"6p\",\"3s\",\"3s\",\"6s\",\"7s\",\"8s\"],\"yakus\":[[\"menzen_tsumo\",1],[\"pinfu\",1],[\"tanyao\",1]],\"fu\":20,\"fan\":3,\"hora_points\":2700,\"deltas\":[-1300,2700,-700,-700],\"scores\":[28700,32700,29300,29300]}
+win|1|1|7m|-1300 2700 -700 -700|28700 32700 29300 29300||23456m 456p 33678s=record {\"type\":\"hora\",\"actor\":1,\"target\":1,\"pai\":\"7m\",\"uradora_markers\":[],\"hora_tehais\":[\"2m\",\"3m\",\"4m\",\"5m\",\"6m\",\"4p\",\"5p\",\"6p\",\"3s\",\"3s\",\"6s\",\"7s\",\"8s\"],\"yakus\":[[\"menzen_tsumo\",1],[\"pinfu\",1],[\"tanyao\",1]],\"fu\":20,\"fan\":3,\"hora_points\":2700,\"deltas\":[-1300,2700,-700,-700],\"scores\":[28700,32700,29300,29300],\"rest\":[]}
+win|1|1|7m|-1300 2700 -700 -700|28700 32700 29300 29300|0|23456m 456p 33678s=record {\"type\":\"hora\",\"actor\":1,\"target\":1,\"pai\":\"7m\",\"uradora_markers\":[],\"hora_tehais\":[\"2m\",\"3m\",\"4m\",\"5m\",\"6m\",\"4p\",\"5p\",\"6p\",\"3s\",\"3s\",\"6s\",\"7s\",\"8s\"],\"yakus\":[[\"menzen_tsumo\",1],[\"pinfu\",1],[\"tanyao\",1]],\"fu\":20,\"fan\":3,\"hora_points\":2700,\"deltas\":[-1300,2700,-700,-700],\"scores\":[28700,32700,29300,29300],\"rest\":[0]}
+win|1|1|7m|-1300 2700 -700 -700|28700 32700 29300 29300|2 0|23456m 456p 33678s=record {\"type\":\"hora\",\"actor\":1,\"target\":1,\"pai\":\"7m\",\"uradora_markers\":[],\"hora_tehais\":[\"2m\",\"3m\",\"4m\",\"5m\",\"6m\",\"4p\",\"5p\",\"6p\",\"3s\",\"3s\",\"6s\",\"7s\",\"8s\"],\"yakus\":[[\"menzen_tsumo\",1],[\"pinfu\",1],[\"tanyao\",1]],\"fu\":20,\"fan\":3,\"hora_points\":2700,\"deltas\":[-1300,2700,-700,-700],\"scores\":[28700,32700,29300,29300],\"rest\":[2,0]}
+drawn|yes no no no|3000 -1000 -1000 -1000|33000 29000 29000 29000|fanpai|12m E|0 1 3=3 {\"type\":\"ryukyoku\",\"reason\":\"fanpai\",\"tehais\":[[\"1m\",\"2m\",\"E\"],[],[\"?\"],[\"?\",\"?\",\"?\"]],\"tenpais\":[true,false,false,false],\"deltas\":[3000,-1000,-1000,-1000],\"scores\":[33000,29000,29000,29000]}
+end=3 {\"type\":\"end_kyoku\"}
+over|30000 30000 31000 28000|1=3 {\"type\":\"end_game\",\"scores\":[30000,30000,31000,28000],\"kyotaku\":1}
+drawn|yes no no no|3000 -1000 -1000 -1000|33000 29000 29000 29000|fanpai|12m E|0 1 3=record {\"type\":\"ryukyoku\",\"reason\":\"fanpai\",\"tehais\":[[\"1m\",\"2m\",\"E\"],[],[\"?\"],[\"?\",\"?\",\"?\"]],\"tenpais\":[true,false,false,false],\"deltas\":[3000,-1000,-1000,-1000],\"scores\":[33000,29000,29000,29000]}
+end=record {\"type\":\"end_kyoku\"}
+over|30000 30000 31000 28000|1=record {\"type\":\"end_game\",\"scores\":[30000,30000,31000,28000],\"kyotaku\":1}";
 
 /// A deed and its copy are written so.
 struct Written;
 
-impl Question for Written {
-    fn holds(alloc: Global, line: &str) -> bool {
-        let (_, told, _) = seen_by(line);
-        deed_is_as::<Written>(alloc, deed(alloc, told), line)
-    }
-}
-
-impl OfDeed for Written {
-    fn is_as(alloc: Global, deed: Option<&Deed>, line: &str) -> bool {
-        match deed {
-            Some(deed) => {
-                writes(alloc, deed, line)
-                    && deed_is_as::<WrittenCopy>(alloc, deed.copy().ok(), line)
-            }
-            None => false,
-        }
+impl Of<Deed> for Written {
+    fn is_as(alloc: Global, deed: &Deed, told: &str) -> bool {
+        writes(alloc, deed, told) && is_as::<Deed, WrittenCopy>(alloc, deed.copy().ok(), told)
     }
 }
 
 struct WrittenCopy;
 
-impl OfDeed for WrittenCopy {
-    fn is_as(alloc: Global, deed: Option<&Deed>, line: &str) -> bool {
-        match deed {
-            Some(deed) => writes(alloc, deed, line),
-            None => false,
-        }
+impl Of<Deed> for WrittenCopy {
+    fn is_as(alloc: Global, deed: &Deed, told: &str) -> bool {
+        writes(alloc, deed, told)
     }
 }
 
-fn writes(alloc: Global, deed: &Deed, line: &str) -> bool {
-    let (viewer, _, written) = seen_by(line);
-    writes_on::<Brand>(alloc, viewer, deed, written.as_bytes(), Blank::new(1))
+fn writes(alloc: Global, deed: &Deed, told: &str) -> bool {
+    let (viewer, line) = seen_by(told);
+    writes_on::<Brand>(alloc, viewer, deed, line.as_bytes(), Blank::new(1))
 }
 
 fn writes_on<L: Ledger>(
@@ -106,7 +91,7 @@ fn writes_on<L: Ledger>(
 
 #[test]
 fn a_deed_has_its_line_for_each_viewer(rt: HostRuntime) {
-    ask::<HostRuntime, Written>(&rt, rt.alloc(), DEEDS);
+    ask_deeds::<HostRuntime, Written>(&rt, rt.alloc(), DEEDS);
 }
 
 const RULES: [Rule; 3] = [Rule::NotHeld, Rule::Unreadable, Rule::NotNine];

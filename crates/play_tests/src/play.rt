@@ -4,6 +4,7 @@
 ghost use Rattle.std.specs.Prelude.{◌≤◌};
 
 use crate::deed_words::{answer, deed};
+use crate::lent::{Takes, is_taken};
 use crate::rounds::{end, standing};
 use crate::safety::why;
 use crate::words::{
@@ -16,7 +17,7 @@ use mj_judge::{case_of, default, is_lawful, judge, possible};
 use mj_memory::Memory;
 use mj_readings::Riichi;
 use mj_table::Table;
-use mj_tiles::{Form, Kind, Kinds, Meld, Tile};
+use mj_tiles::{Form, Kinds, Meld, Tile};
 use mj_wall::Rules;
 use std::alloc::Global;
 use std::process::Abort;
@@ -59,7 +60,7 @@ pub(crate) fn rules(game: &str) -> Rules {
 pub(crate) fn follow(alloc: Global, table: &mut Table, line: &str) -> bool {
     let (question, told) = parted(line, '?');
     if let Some(line) = question.strip_prefix("fits ") {
-        return takes(table, deed(alloc, line), Some(yes(told.trim())));
+        return is_taken(table, deed(alloc, line), Some(yes(told.trim())));
     }
     if line.contains('?') {
         return tells(alloc, table, question, told.trim());
@@ -67,27 +68,21 @@ pub(crate) fn follow(alloc: Global, table: &mut Table, line: &str) -> bool {
     if let Some(times) = line.strip_prefix("draws ") {
         return draws(table, number(times));
     }
-    takes(table, deed(alloc, line), None)
+    is_taken(table, deed(alloc, line), None)
+}
+
+impl Takes<Deed> for Table {
+    fn takes(&mut self, deed: &Deed, told: Option<bool>) -> bool {
+        match told {
+            Some(told) => self.fits(deed) == told,
+            None => self.fits(deed) && self.push(deed).is_ok(),
+        }
+    }
 }
 
 /// Adds a deed, and tells whether it fits.
 pub(crate) fn add(table: &mut Table, deed: Deed) -> bool {
-    takes(table, Some(deed), None)
-}
-
-/// Adds a deed that fits, or tells whether it fits or not as told.
-fn takes(table: &mut Table, deed: Option<Deed>, told: Option<bool>) -> bool {
-    takes_lent(table, deed.as_ref(), told)
-}
-
-fn takes_lent(table: &mut Table, deed: Option<&Deed>, told: Option<bool>) -> bool {
-    let Some(deed) = deed else {
-        return false;
-    };
-    match told {
-        Some(told) => table.fits(deed) == told,
-        None => table.fits(deed) && table.push(deed).is_ok(),
-    }
+    is_taken(table, Some(deed), None)
 }
 
 /// Seat 3 draws so many tiles: each of the circles and bamboos four times.
@@ -207,25 +202,25 @@ fn tells_of_seat(table: &Table, who: u8, question: &str, told: &str) -> bool
 fn tells_of_tiles(table: &Table, who: u8, question: &str, told: &str) -> bool
     requires { who ≤ 3 }
 {
-    let asked = word(question, 0);
-    match asked {
-        "melds" => table.melds(who).as_slice().len() == usize::from(number(told)),
+    match word(question, 0) {
         "meld" => meld_at(table, who, number(word(question, 2))) == Some(meld(told)),
-        "held" => { table.held_count(who, tile(word(question, 2))) == usize::from(number(told)) }
-        "room" | "sees" => number_of(table, who, asked, kind(word(question, 2))) == number(told),
         "safe" => why(table, who, seat(word(question, 2)), kind(word(question, 3))) == told,
         "triplet" => has_triplet(table, who, question) == yes(told),
-        _ => false,
+        _ => number_of(table, who, question) == Some(usize::from(number(told))),
     }
 }
 
-/// How many of a kind a seat has room for or sees.
-fn number_of(table: &Table, seat: u8, word: &str, kind: Kind) -> u8
+/// How many melds a seat has, how many of a tile it holds, or how many of a kind it has room for or sees.
+fn number_of(table: &Table, seat: u8, question: &str) -> Option<usize>
     requires { seat ≤ 3 }
 {
-    match word {
-        "room" => table.room(seat).get(kind),
-        _ => table.seen(seat).get(kind),
+    let asked = tile(word(question, 2));
+    match word(question, 0) {
+        "melds" => Some(table.melds(seat).as_slice().len()),
+        "held" => Some(table.held_count(seat, asked)),
+        "room" => Some(usize::from(table.room(seat).get(asked.kind()))),
+        "sees" => Some(usize::from(table.seen(seat).get(asked.kind()))),
+        _ => None,
     }
 }
 
@@ -331,7 +326,12 @@ fn has_marks(table: &Table, seat: u8, told: &str) -> bool
 }
 
 fn has_word(text: &str, word: &str) -> bool {
-    text.split_whitespace().any(|other| other == word)
+    for other in text.split_whitespace() {
+        if other == word {
+            return true;
+        }
+    }
+    false
 }
 
 /// Whether a win of a seat would have these circumstances: its wind, that of the round, and what else holds.

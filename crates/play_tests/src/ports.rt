@@ -18,26 +18,34 @@ fn names_and_keys_keep_their_bytes(rt: HostRuntime) {
     }
 }
 
-/// The author and the name of a seat that was taken.
-fn taken(entry: Entry<u8>) -> Option<(u8, Name)> {
+/// Whether author 1 took a seat by an entry, with the name `b`.
+fn is_taken(entry: Entry<u8>) -> bool {
     match entry {
-        Entry::Sat { author, name, .. } => Some((author, name)),
-        _ => None,
+        Entry::Sat { author, name, .. } => author == 1 && name == Name::of(b"b"),
+        _ => false,
     }
 }
 
-#[test]
-fn an_entry_is_copied_whole(rt: HostRuntime) {
+/// The entry of a join by author 1.
+fn taken() -> Entry<u8> {
     let join = JoinLine {
         name: Name::of(b"b"),
         key: Some(Key::of(b"k")),
     };
-    let entry: Entry<u8> = Entry::Sat {
+    Entry::Sat {
         author: 1,
         name: join.name,
         key: join.key,
-    };
+    }
+}
+
+/// Whether an entry and its copy are whole.
+fn is_whole(entry: Entry<u8>) -> bool {
     let copied = entry;
-    assert!(rt; taken(copied) == Some((1, Name::of(b"b"))));
-    assert!(rt; taken(entry) == Some((1, Name::of(b"b"))));
+    is_taken(copied) && is_taken(entry)
+}
+
+#[test]
+fn an_entry_is_copied_whole(rt: HostRuntime) {
+    assert!(rt; is_whole(taken()));
 }

@@ -1,44 +1,42 @@
-use crate::deed_words::{OfDeed, bid, deed, deed_is_as, seats};
-use crate::words::{
-    Question, are, ask, field, number, number_or_none, parted, tile, tile_or_none, word, yes,
-};
-use mj_deeds::{Deed, Four, Reason, ShownHands, Tiles, Token, Viewer};
+use crate::deed_words::{ask_deeds, bid, seats};
+use crate::lent::{Of, is_as};
+use crate::words::{are, field, number, number_or_none, parted, tile, tile_or_none, word, yes};
+use mj_deeds::{Bid, Deed, Four, Reason, SeatList, ShownHands, Tiles, Token, Viewer};
 use mj_ports::Name;
 use mj_tiles::Tile;
 use mj_view::{Masked, SeenHands, mask, token};
 use std::alloc::Global;
 
-/// A seat, a deed, and what the token of it says: a start of a game the names; a draw its seat and its tile or
+/// A deed, a seat, and what the token of it says: a start of a game the names; a draw its seat and its tile or
 /// `none`; a discard its seat and its tile, and whether it was drawn; a start of a hand the indicator and the own tiles; a win
 /// its seat, its target and its tile; a drawn hand the tiles of the dealer, and of how many tiles the other hands are. Two
 /// hands are told alike until the others' tiles are shown.
 const TOKENS: &str = "\
-0 draw 0 1m=0 1m
-1 draw 0 1m=0 none
-2 replace 2 5pr=2 5pr
-0 draw 3 E=3 none
-0 hand|C|13m|2p 5s|EE|=C|1m 3m
-1 hand|C|13m|2p 5s|EE|=C|2p 5s
-2 hand|C|13m|2p 5s|EE|=C|E E
-3 hand|C|13m|2p 5s|EE|=C|
-0 game=a b c d
-0 hand|F|1111222233334m|4445555666677m|7788889999m 111p|1222233334444p=F|1m 1m 1m 1m 2m 2m 2m 2m 3m 3m 3m 3m 4m
-0 hand|F|1111222233334m|4455556666777m|4788889999m 111p|1222233334444p=F|1m 1m 1m 1m 2m 2m 2m 2m 3m 3m 3m 3m 4m
-1 hand|F|1111222233334m|4445555666677m|7788889999m 111p|1222233334444p=F|4m 4m 4m 5m 5m 5m 5m 6m 6m 6m 6m 7m 7m
-1 hand|F|1111222233334m|4455556666777m|4788889999m 111p|1222233334444p=F|4m 4m 5m 5m 5m 5m 6m 6m 6m 6m 7m 7m 7m
-0 draw 1 5p=1 none
-0 draw 1 6p=1 none
-0 cut 1 5p=1 5p yes
-0 drawn|yes no no no|3000 -1000 -1000 -1000|33000 29000 29000 29000|fanpai|12m E|0 1 3=1m 2m E|0 1 3
-0 drawn|yes no no no|3000 -1000 -1000 -1000|33000 29000 29000 29000|fanpai|13m E|0 1 3=1m 3m E|0 1 3
-0 win|1|0|5p|-1000 1000 0 0|29000 31000 30000 30000|2=1 0 5p
-1 win|1|0|5p|-1000 1000 0 0|29000 31000 30000 30000|=1 0 5p";
+draw 0 1m=0 0 1m
+draw 0 1m=1 0 none
+replace 2 5pr=2 2 5pr
+draw 3 E=0 3 none
+hand|C|13m|2p 5s|EE|=0 C|1m 3m
+hand|C|13m|2p 5s|EE|=1 C|2p 5s
+hand|C|13m|2p 5s|EE|=2 C|E E
+hand|C|13m|2p 5s|EE|=3 C|
+game=0 a b c d
+hand|F|1111222233334m|4445555666677m|7788889999m 111p|1222233334444p=0 F|1m 1m 1m 1m 2m 2m 2m 2m 3m 3m 3m 3m 4m
+hand|F|1111222233334m|4455556666777m|4788889999m 111p|1222233334444p=0 F|1m 1m 1m 1m 2m 2m 2m 2m 3m 3m 3m 3m 4m
+hand|F|1111222233334m|4445555666677m|7788889999m 111p|1222233334444p=1 F|4m 4m 4m 5m 5m 5m 5m 6m 6m 6m 6m 7m 7m
+hand|F|1111222233334m|4455556666777m|4788889999m 111p|1222233334444p=1 F|4m 4m 5m 5m 5m 5m 6m 6m 6m 6m 7m 7m 7m
+draw 1 5p=0 1 none
+draw 1 6p=0 1 none
+cut 1 5p=0 1 5p yes
+drawn|yes no no no|3000 -1000 -1000 -1000|33000 29000 29000 29000|fanpai|12m E|0 1 3=0 1m 2m E|0 1 3
+drawn|yes no no no|3000 -1000 -1000 -1000|33000 29000 29000 29000|fanpai|13m E|0 1 3=0 1m 3m E|0 1 3
+win|1|0|5p|-1000 1000 0 0|29000 31000 30000 30000|2=0 1 0 5p
+win|1|0|5p|-1000 1000 0 0|29000 31000 30000 30000|=1 1 0 5p";
 
-/// The viewer, the deed and what is told of it, in a line.
-pub(crate) fn seen_by(line: &str) -> (Viewer, &str, &str) {
-    let (deed, told) = parted(line, '=');
-    let (viewer, deed) = parted(deed, ' ');
-    (viewer_of(viewer), deed, told)
+/// The viewer that a line of a table names, and what is told to it.
+pub(crate) fn seen_by(told: &str) -> (Viewer, &str) {
+    let (viewer, told) = parted(told, ' ');
+    (viewer_of(viewer), told)
 }
 
 /// The seat of a number, or the record.
@@ -51,48 +49,36 @@ fn viewer_of(text: &str) -> Viewer {
 
 struct HasToken;
 
-impl Question for HasToken {
-    fn holds(alloc: Global, line: &str) -> bool {
-        let (_, told, _) = seen_by(line);
-        deed_is_as::<HasToken>(alloc, deed(alloc, told), line)
-    }
-}
-
-impl OfDeed for HasToken {
-    fn is_as(alloc: Global, deed: Option<&Deed>, line: &str) -> bool {
-        let (viewer, _, wanted) = seen_by(line);
-        match deed {
-            Some(deed) => is_told(alloc, viewer, deed, wanted),
-            None => false,
+impl Of<Deed> for HasToken {
+    fn is_as(alloc: Global, deed: &Deed, told: &str) -> bool {
+        match seen_by(told) {
+            (Viewer::Seat(seat), told) => {
+                is_as::<Token, IsToken>(alloc, token(alloc, seat, deed).ok(), told)
+            }
+            _ => false,
         }
     }
 }
 
-fn is_told(alloc: Global, viewer: Viewer, deed: &Deed, wanted: &str) -> bool {
-    let Viewer::Seat(seat) = viewer else {
-        return false;
-    };
-    match token(alloc, seat, deed) {
-        Ok(found) => is_token(&found, wanted),
-        Err(_) => false,
-    }
-}
+struct IsToken;
 
-fn is_token(found: &Token, wanted: &str) -> bool {
-    match found {
-        Token::StartGame { names } => are_names(names, wanted),
-        Token::Draw { seat, tile } => is_draw(*seat, *tile, wanted),
-        Token::Discard { seat, tile, drawn } => is_discard(*seat, *tile, *drawn, wanted),
-        Token::DrawnHand { reason, hands } => is_drawn_hand(*reason, hands, wanted),
-        Token::StartHand { indicator, hand } => is_start(*indicator, hand, wanted),
-        Token::Win {
-            seat,
-            target,
-            tile,
-            unders,
-            hand,
-        } => is_win(*seat, *target, *tile, wanted) && are_none(unders) && are_none(hand),
-        _ => false,
+impl Of<Token> for IsToken {
+    fn is_as(_alloc: Global, found: &Token, wanted: &str) -> bool {
+        match found {
+            Token::StartGame { names } => are_names(names, wanted),
+            Token::Draw { seat, tile } => is_draw(*seat, *tile, wanted),
+            Token::Discard { seat, tile, drawn } => is_discard(*seat, *tile, *drawn, wanted),
+            Token::DrawnHand { reason, hands } => is_drawn_hand(*reason, hands, wanted),
+            Token::StartHand { indicator, hand } => is_start(*indicator, hand, wanted),
+            Token::Win {
+                seat,
+                target,
+                tile,
+                unders,
+                hand,
+            } => is_win(*seat, *target, *tile, wanted) && are_none(unders) && are_none(hand),
+            _ => false,
+        }
     }
 }
 
@@ -146,59 +132,60 @@ fn are_none(tiles: &Tiles) -> bool {
 
 #[test]
 fn a_token_has_the_own_tiles_alone(rt: HostRuntime) {
-    ask::<HostRuntime, HasToken>(&rt, rt.alloc(), TOKENS);
+    ask_deeds::<HostRuntime, HasToken>(&rt, rt.alloc(), TOKENS);
 }
 
-/// A seat or the record, a deed, and what it sees of it: of a draw its seat and its tile or `none`; of a start of a hand
+/// A deed, a seat or the record, and what it sees of it: of a draw its seat and its tile or `none`; of a start of a hand
 /// the tiles of each seat, or `hidden` and their number; of an accepted reach the call that is kept, and of a win the
 /// seats that win next, or `none`.
 const MASKS: &str = "\
-0 draw 0 1m=0 1m
-1 draw 0 1m=0 none
-record draw 0 1m=0 1m
-0 hand|C|13m|2p 5s|E|=1m 3m|hidden 2|hidden 1|hidden 0
-2 hand|C|13m|2p 5s|E|=hidden 2|hidden 2|E|hidden 0
-record hand|C|13m|2p 5s|E|=1m 3m|2p 5s|E|
-1 accepted|0|29000 30000 30000 30000|pon 1 0 E E E=none
-record accepted|0|29000 30000 30000 30000|pon 1 0 E E E=pon 1 0 E E E
-2 win|1|0|5p|-1000 1000 0 0|29000 31000 30000 30000|2=none
-record win|1|0|5p|-1000 1000 0 0|29000 31000 30000 30000|2=2";
+draw 0 1m=0 0 1m
+draw 0 1m=1 0 none
+draw 0 1m=record 0 1m
+hand|C|13m|2p 5s|E|=0 1m 3m|hidden 2|hidden 1|hidden 0
+hand|C|13m|2p 5s|E|=2 hidden 2|hidden 2|E|hidden 0
+hand|C|13m|2p 5s|E|=record 1m 3m|2p 5s|E|
+accepted|0|29000 30000 30000 30000|pon 1 0 E E E=1 none
+accepted|0|29000 30000 30000 30000|pon 1 0 E E E=record pon 1 0 E E E
+win|1|0|5p|-1000 1000 0 0|29000 31000 30000 30000|2=2 none
+win|1|0|5p|-1000 1000 0 0|29000 31000 30000 30000|2=record 2";
 
 struct HasMask;
 
-impl Question for HasMask {
-    fn holds(alloc: Global, line: &str) -> bool {
-        let (_, told, _) = seen_by(line);
-        deed_is_as::<HasMask>(alloc, deed(alloc, told), line)
+impl Of<Deed> for HasMask {
+    fn is_as(alloc: Global, deed: &Deed, told: &str) -> bool {
+        let (viewer, told) = seen_by(told);
+        is_as::<Masked, IsMask>(alloc, mask(alloc, viewer, deed).ok(), told)
     }
 }
 
-impl OfDeed for HasMask {
-    fn is_as(alloc: Global, deed: Option<&Deed>, line: &str) -> bool {
-        let (viewer, _, wanted) = seen_by(line);
-        match deed {
-            Some(deed) => is_masked(alloc, viewer, deed, wanted),
-            None => false,
+struct IsMask;
+
+impl Of<Masked> for IsMask {
+    fn is_as(_alloc: Global, found: &Masked, wanted: &str) -> bool {
+        match found {
+            Masked::Draw { seat, tile, .. } => is_draw(*seat, *tile, wanted),
+            Masked::StartHand { hands, .. } => are_hands(hands, wanted),
+            Masked::ReachAccepted { then, .. } => *then == seen_bid(wanted),
+            Masked::Win { rest, .. } => *rest == seen_seats(wanted),
+            _ => false,
         }
     }
 }
 
-fn is_masked(alloc: Global, viewer: Viewer, deed: &Deed, wanted: &str) -> bool {
-    match mask(alloc, viewer, deed) {
-        Ok(found) => is_mask(&found, wanted),
-        Err(_) => false,
+/// The call that is seen, or `none`.
+fn seen_bid(text: &str) -> Option<Bid> {
+    match text {
+        "none" => None,
+        _ => Some(bid(text)),
     }
 }
 
-fn is_mask(found: &Masked, wanted: &str) -> bool {
-    match found {
-        Masked::Draw { seat, tile, .. } => is_draw(*seat, *tile, wanted),
-        Masked::StartHand { hands, .. } => are_hands(hands, wanted),
-        Masked::ReachAccepted { then, .. } if wanted == "none" => then.is_none(),
-        Masked::ReachAccepted { then, .. } => *then == Some(bid(wanted)),
-        Masked::Win { rest, .. } if wanted == "none" => rest.is_none(),
-        Masked::Win { rest, .. } => *rest == Some(seats(wanted)),
-        _ => false,
+/// The seats that are seen, or `none`.
+fn seen_seats(text: &str) -> Option<SeatList> {
+    match text {
+        "none" => None,
+        _ => Some(seats(text)),
     }
 }
 
@@ -218,5 +205,5 @@ fn is_hand(seen: &[Tile], hidden: Option<usize>, wanted: &str) -> bool {
 
 #[test]
 fn a_seat_sees_its_own_tiles_and_the_record_all(rt: HostRuntime) {
-    ask::<HostRuntime, HasMask>(&rt, rt.alloc(), MASKS);
+    ask_deeds::<HostRuntime, HasMask>(&rt, rt.alloc(), MASKS);
 }

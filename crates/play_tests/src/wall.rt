@@ -119,8 +119,9 @@ const SHUFFLED: &str = "\
 fn has_tiles(wall: &Wall, text: &str) -> bool {
     let mut words = text.split(' ');
     for tile in wall.tiles() {
-        if words.next().map(str::as_bytes) != Some(tile.text()) {
-            return false;
+        match words.next() {
+            Some(word) if word.as_bytes() == tile.text() => {}
+            _ => return false,
         }
     }
     words.next().is_none()

@@ -1,4 +1,5 @@
-use crate::deed_words::{OfDeed, answer, bid, deed, deed_is_as};
+use crate::deed_words::{answer, ask_deeds, bid};
+use crate::lent::{Of, is_as, is_none};
 use crate::play::name;
 use crate::words::{Question, ask, field, number, number_or_none, parted, word};
 use mj_deeds::{Answer, Deed, Four};
@@ -7,28 +8,28 @@ use std::alloc::Global;
 
 /// The newest deed, the answers of the four seats (nothing for a pass), and what they decide.
 const DECISIONS: &str = "\
-cut 0 7m|||||pass
-cut 0 7m|||pon 2 0 * * *||pass
-cut 0 7m||chi 1 0 7m 5m 6m|||call chi 1 0 7m 5m 6m
-cut 0 7m||chi 1 0 7m 5m 6m|pon 2 0 7m 7m 7m||call pon 2 0 7m 7m 7m
-cut 0 7m||chi 1 0 7m 5m 6m||open 3 0 7m 7m 7m 7m|call open 3 0 7m 7m 7m 7m
-cut 0 7m|||pon 2 0 7m 7m 7m||call pon 2 0 7m 7m 7m
-cut 0 7m||chi 1 0 7m 5m *|||pass
-draw 2 1p||cut 1 9m|cut 2 1p||act cut 2 1p
-draw 2 1p|||closed 2 1p 1p 1p 1p||act closed 2 1p 1p 1p 1p
-pon 2 0 7m 7m 7m||cut 1 9m|discard 2 1p||act discard 2 1p
-chi 1 0 7m 5m 6m||discard 1 9m|||act discard 1 9m
-reach 3|cut 0 7m|||cut 3 7m|act cut 3 7m
-cut 3 7m||ron 1 3|pon 2 3 7m 7m 7m||rons 1
-cut 3 7m|ron 0 3|ron 1 3|ron 2 3||rons 0 1 2
-cut 0 7m||ron 1 0||ron 3 0 7m|rons 1 3
-cut 0 7m||chi 1 0 7m 5m 6m||ron 3 0|rons 3
-cut 1 7m|ron 0 1||||rons 0
-added 2 7m 7m 7m 7m|ron 0 2|ron 1 2||ron 3 2|rons 3 0 1
-added 2 7m 7m 7m 7m||ron 1 2|||rons 1
-added 2 7m 7m 7m 7m|||||pass
-draw 2 1p|ron 0 2||ron 2 2|cut 3 1p|act ron 2 2
-dora 1p||cut 1 1p|||pass";
+cut 0 7m=||||pass
+cut 0 7m=||pon 2 0 * * *||pass
+cut 0 7m=|chi 1 0 7m 5m 6m|||call chi 1 0 7m 5m 6m
+cut 0 7m=|chi 1 0 7m 5m 6m|pon 2 0 7m 7m 7m||call pon 2 0 7m 7m 7m
+cut 0 7m=|chi 1 0 7m 5m 6m||open 3 0 7m 7m 7m 7m|call open 3 0 7m 7m 7m 7m
+cut 0 7m=||pon 2 0 7m 7m 7m||call pon 2 0 7m 7m 7m
+cut 0 7m=|chi 1 0 7m 5m *|||pass
+draw 2 1p=|cut 1 9m|cut 2 1p||act cut 2 1p
+draw 2 1p=||closed 2 1p 1p 1p 1p||act closed 2 1p 1p 1p 1p
+pon 2 0 7m 7m 7m=|cut 1 9m|discard 2 1p||act discard 2 1p
+chi 1 0 7m 5m 6m=|discard 1 9m|||act discard 1 9m
+reach 3=cut 0 7m|||cut 3 7m|act cut 3 7m
+cut 3 7m=|ron 1 3|pon 2 3 7m 7m 7m||rons 1
+cut 3 7m=ron 0 3|ron 1 3|ron 2 3||rons 0 1 2
+cut 0 7m=|ron 1 0||ron 3 0 7m|rons 1 3
+cut 0 7m=|chi 1 0 7m 5m 6m||ron 3 0|rons 3
+cut 1 7m=ron 0 1||||rons 0
+added 2 7m 7m 7m 7m=ron 0 2|ron 1 2||ron 3 2|rons 3 0 1
+added 2 7m 7m 7m 7m=|ron 1 2|||rons 1
+added 2 7m 7m 7m 7m=||||pass
+draw 2 1p=ron 0 2||ron 2 2|cut 3 1p|act ron 2 2
+dora 1p=|cut 1 1p|||pass";
 
 fn said(field: &str) -> Answer {
     if field.is_empty() {
@@ -40,10 +41,11 @@ fn said(field: &str) -> Answer {
 
 /// A decision: `pass`, a call, the winners, or the act of the seat that its answer names.
 fn decision(text: &str) -> Decision {
-    match parted(text, ' ') {
-        ("call", line) => Decision::Call(bid(line)),
-        ("rons", seats) => Decision::Rons(winners(seats)),
-        ("act", line) => Decision::Act(number(word(line, 1)), answer(line)),
+    let (name, line) = parted(text, ' ');
+    match name {
+        "call" => Decision::Call(bid(line)),
+        "rons" => Decision::Rons(winners(line)),
+        "act" => Decision::Act(number(word(line, 1)), answer(line)),
         _ => Decision::Pass,
     }
 }
@@ -59,34 +61,21 @@ fn winners(text: &str) -> Seats {
 
 struct Decided;
 
-impl Question for Decided {
-    fn holds(alloc: Global, line: &str) -> bool {
-        deed_is_as::<Decided>(alloc, deed(alloc, field(line, 0)), line)
+impl Of<Deed> for Decided {
+    fn is_as(_alloc: Global, last: &Deed, told: &str) -> bool {
+        let answers = Four {
+            first: said(field(told, 0)),
+            second: said(field(told, 1)),
+            third: said(field(told, 2)),
+            fourth: said(field(told, 3)),
+        };
+        decide(last, &answers) == decision(field(told, 4))
     }
-}
-
-impl OfDeed for Decided {
-    fn is_as(_alloc: Global, deed: Option<&Deed>, line: &str) -> bool {
-        match deed {
-            Some(last) => decides(last, line),
-            None => false,
-        }
-    }
-}
-
-fn decides(last: &Deed, line: &str) -> bool {
-    let answers = Four {
-        first: said(field(line, 1)),
-        second: said(field(line, 2)),
-        third: said(field(line, 3)),
-        fourth: said(field(line, 4)),
-    };
-    decide(last, &answers) == decision(field(line, 5))
 }
 
 #[test]
 fn a_pon_or_a_kan_comes_before_a_chi_and_who_drew_acts(rt: HostRuntime) {
-    ask::<HostRuntime, Decided>(&rt, rt.alloc(), DECISIONS);
+    ask_deeds::<HostRuntime, Decided>(&rt, rt.alloc(), DECISIONS);
 }
 
 const BIDS: &str = "\
@@ -100,13 +89,16 @@ struct Becomes;
 
 impl Question for Becomes {
     fn holds(alloc: Global, line: &str) -> bool {
-        deed_is_as::<Becomes>(alloc, bid(line).deed(), line)
+        match line {
+            "none" => is_none(bid(line).deed()),
+            _ => is_as::<Deed, Becomes>(alloc, bid(line).deed(), word(line, 0)),
+        }
     }
 }
 
-impl OfDeed for Becomes {
-    fn is_as(_alloc: Global, deed: Option<&Deed>, line: &str) -> bool {
-        name(deed) == word(line, 0)
+impl Of<Deed> for Becomes {
+    fn is_as(_alloc: Global, deed: &Deed, told: &str) -> bool {
+        name(Some(deed)) == told
     }
 }
 

@@ -148,13 +148,13 @@ fn push_tiles(items: &mut Vec<Tile>, text: &str) -> Result<(), AllocError> {
 
 /// How often each kind stands among such tiles; none does where one stands more than four times.
 pub(crate) fn counts(text: &str) -> Counts {
-    let mut numbers = [0; 34];
+    let mut numbers = [0u8; 34];
     let mut suit = 0;
     for byte in text.as_bytes().iter().rev() {
         suit = suit_after(*byte, suit);
         if let Some(tile) = tile_in(*byte, suit) {
             let place = tile.kind().number() as usize;
-            numbers[place] = more(numbers[place]);
+            numbers[place] = numbers[place].saturating_add(1);
         }
     }
     match Counts::of(numbers) {
@@ -166,10 +166,6 @@ pub(crate) fn counts(text: &str) -> Counts {
 /// The counts of no tile.
 fn none_held() -> Counts {
     Counts::from_numbers([0; 34])
-}
-
-fn more(number: u8) -> u8 {
-    number.saturating_add(1)
 }
 
 /// The kinds among such tiles.

@@ -2,7 +2,7 @@
 
 ghost use Rattle.std.specs.Prelude.{◌<◌, max};
 
-use mj_tiles::{Counts, Kind};
+use mj_tiles::Kind;
 use rand_core::utils::NextWord;
 use rand_pcg::Pcg32;
 
@@ -12,12 +12,11 @@ pub struct Hands {
     words: Pcg32,
 }
 
-/// A hand with an open triplet of a dragon: the kind of the dragon, and how often each kind stands among the
-/// concealed tiles.
+/// A hand: how often each kind stands among its concealed tiles, and the dragon of its open triplet where it has one.
 #[derive(Clone, Copy)]
-pub struct OpenHand {
-    pub dragon: u8,
+pub struct Hand {
     pub numbers: [u8; 34],
+    pub dragon: Option<Kind>,
 }
 
 /// Four tiles of each kind.
@@ -38,8 +37,8 @@ impl Hands {
         self.words.next_word() % bound.max(1)
     }
 
-    /// How often each kind stands among so many tiles of a shuffled wall.
-    pub fn numbers(&mut self, tiles: u32) -> [u8; 34] {
+    /// So many tiles of a shuffled wall.
+    pub fn tiles(&mut self, tiles: u32) -> Hand {
         let mut wall = [0u8; 136];
         for place in 0..136u8 {
             wall[usize::from(place)] = place / 4;
@@ -48,58 +47,55 @@ impl Hands {
         for taken in 0..tiles.min(136) {
             let other = taken + self.below(136 - taken);
             wall.swap(taken as usize, other as usize);
-            add(&mut numbers, wall[taken as usize]);
+            add(&mut numbers, wall[taken as usize], 1);
         }
-        numbers
+        Hand {
+            numbers,
+            dragon: None,
+        }
     }
 
-    /// How often each kind stands in a hand that lacks one tile to be complete.
-    pub fn ready_numbers(&mut self) -> [u8; 34] {
-        without_first(&self.complete_numbers())
-    }
-
-    /// How often each kind stands among thirteen tiles of a shuffled wall, and each sixteenth time in a ready hand.
-    pub fn mixed_numbers(&mut self) -> [u8; 34] {
+    /// Thirteen tiles of a shuffled wall, and each sixteenth time a ready hand.
+    pub fn mixed(&mut self) -> Hand {
         if self.below(16) == 0 {
-            return self.ready_numbers();
+            return without_first(self.complete());
         }
-        self.numbers(13)
+        self.tiles(13)
     }
 
-    /// How often each kind stands in a complete hand of four sets and a pair.
-    pub fn complete_numbers(&mut self) -> [u8; 34] {
-        self.sets_and_pair(4, &[0; 34])
+    /// A complete hand of four sets and a pair.
+    pub fn complete(&mut self) -> Hand {
+        Hand {
+            numbers: self.sets_and_pair(4, &ROOM),
+            dragon: None,
+        }
     }
 
     /// A complete hand with an open triplet of a dragon.
-    pub fn open_hand(&mut self) -> OpenHand {
-        let dragon = 31 + self.below(3) as u8;
-        let mut melded = [0u8; 34];
-        for _ in 0..3 {
-            add(&mut melded, dragon);
-        }
-        OpenHand {
-            dragon,
-            numbers: self.sets_and_pair(3, &melded),
+    pub fn open(&mut self) -> Hand {
+        let dragon = Kind::at(31 + self.below(3) as u8);
+        Hand {
+            numbers: self.sets_and_pair(3, &room_beside(Some(dragon))),
+            dragon: Some(dragon),
         }
     }
 
-    // How often each kind stands in so many sets and a pair beside melded tiles.
-    fn sets_and_pair(&mut self, sets: u8, melded: &[u8; 34]) -> [u8; 34] {
+    // How often each kind stands in so many sets and a pair for which there is room.
+    fn sets_and_pair(&mut self, sets: u8, room: &[u8; 34]) -> [u8; 34] {
         for _ in 0..100 {
             let mut numbers = [0u8; 34];
             for _ in 0..sets {
                 let low = self.below(34) as u8;
-                let run = low < 27 && low % 9 < 7 && self.below(2) == 0;
-                let steps = if run { [0, 1, 2] } else { [0, 0, 0] };
-                for step in steps {
-                    add(&mut numbers, low.saturating_add(step));
+                if low < 27 && low % 9 < 7 && self.below(2) == 0 {
+                    add(&mut numbers, low, 1);
+                    add(&mut numbers, low + 1, 1);
+                    add(&mut numbers, low + 2, 1);
+                } else {
+                    add(&mut numbers, low, 3);
                 }
             }
-            let pair = self.below(34) as u8;
-            add(&mut numbers, pair);
-            add(&mut numbers, pair);
-            if fit_beside(&numbers, melded) {
+            add(&mut numbers, self.below(34) as u8, 2);
+            if are_within(&numbers, room) {
                 return numbers;
             }
         }
@@ -107,10 +103,10 @@ impl Hands {
     }
 }
 
-/// The numbers with one tile less of the first kind that stands among them.
-pub fn without_first(numbers: &[u8; 34]) -> [u8; 34] {
-    let mut fewer = *numbers;
-    for number in fewer.iter_mut() {
+/// The hand with one tile less of the first kind that stands among its tiles.
+pub fn without_first(hand: Hand) -> Hand {
+    let mut fewer = hand;
+    for number in fewer.numbers.iter_mut() {
         if *number > 0 {
             *number -= 1;
             break;
@@ -119,31 +115,28 @@ pub fn without_first(numbers: &[u8; 34]) -> [u8; 34] {
     fewer
 }
 
-// Whether no kind stands more than four times among the tiles and the melded ones.
-fn fit_beside(numbers: &[u8; 34], melded: &[u8; 34]) -> bool {
-    for (number, taken) in numbers.iter().zip(melded) {
-        if number.saturating_add(*taken) > 4 {
+/// How many tiles of each kind an open triplet of a dragon leaves.
+pub fn room_beside(dragon: Option<Kind>) -> [u8; 34] {
+    let mut room = ROOM;
+    if let Some(kind) = dragon {
+        room[kind.number() as usize] = 1;
+    }
+    room
+}
+
+// Whether no kind stands more often among the tiles than there is room for it.
+fn are_within(numbers: &[u8; 34], room: &[u8; 34]) -> bool {
+    for kind in 0..34 {
+        if numbers[kind] > room[kind] {
             return false;
         }
     }
     true
 }
 
-// One tile more of a kind.
-fn add(numbers: &mut [u8; 34], kind: u8) {
+// So many tiles more of a kind.
+fn add(numbers: &mut [u8; 34], kind: u8, tiles: u8) {
     if let Some(number) = numbers.get_mut(usize::from(kind)) {
-        *number = number.saturating_add(1);
+        *number = number.saturating_add(tiles);
     }
-}
-
-/// The first kind that stands among the tiles, for a winning tile.
-pub fn first_kind(counts: &Counts) -> Option<Kind> {
-    for number in 0..34 {
-        if let Some(kind) = Kind::of(number) {
-            if counts.get(kind) > 0 {
-                return Some(kind);
-            }
-        }
-    }
-    None
 }

@@ -5,11 +5,9 @@
 mod hands;
 mod jobs;
 
-use anyhow::Result;
-use hands::Hands;
 use jobs::{JOBS, Job};
-use std::env;
 use std::time::CpuClock;
+use std::{env, io};
 
 /// How many hands a job goes through for its checksum.
 const FEW: u32 = 2_000;
@@ -17,33 +15,36 @@ const FEW: u32 = 2_000;
 /// How many it goes through when it is timed.
 const MANY: u32 = 200_000;
 
-fn main(rt: HostRuntime) -> Result<()> {
-    let timed = match env::args(&rt)?.nth(1) {
-        Some(word) => word.as_str() == "time",
-        None => false,
-    };
-    for job in &JOBS {
+fn main(rt: HostRuntime) -> io::Result<()> {
+    let timed = is_timed(&rt)?;
+    for (job, name) in &JOBS {
         if timed {
-            time_job(&rt, *job)?;
+            time_job(&rt, *job, name)?;
         } else {
-            let sum = job.run(rt.alloc(), &mut Hands::new(), FEW)?;
-            let name = job.name();
+            let sum = job.run(rt.alloc(), FEW, true)?;
             println!(rt; "{name}: checksum {sum}")?;
         }
     }
     Ok(())
 }
 
-fn time_job(rt: &HostRuntime, job: Job) -> Result<()> {
+// Whether the first word is `time`.
+fn is_timed(rt: &HostRuntime) -> io::Result<bool> {
+    match env::args(rt)?.nth(1) {
+        Some(word) => Ok(word.as_str() == "time"),
+        None => Ok(false),
+    }
+}
+
+fn time_job(rt: &HostRuntime, job: Job, name: &str) -> io::Result<()> {
     let before = rt.process_cpu_time()?;
-    let sum = job.run(rt.alloc(), &mut Hands::new(), MANY)?;
+    let sum = job.run(rt.alloc(), MANY, true)?;
     let after = rt.process_cpu_time()?;
-    let _ = jobs::make_only(job, &mut Hands::new(), MANY);
+    let _ = job.run(rt.alloc(), MANY, false)?;
     let made = rt.process_cpu_time()?;
     let all = after.as_nanos().saturating_sub(before.as_nanos());
     let making = made.as_nanos().saturating_sub(after.as_nanos());
     let each = all.saturating_sub(making) / u128::from(MANY);
-    let name = job.name();
     let rate = 1_000_000_000 / each.max(1);
     println!(rt; "{name}: {each} ns a call, {rate} calls a second (checksum {sum})")?;
     Ok(())

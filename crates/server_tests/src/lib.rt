@@ -5,6 +5,8 @@
 #[cfg(test)]
 mod core_tests;
 #[cfg(test)]
+mod embedded_tests;
+#[cfg(test)]
 mod front_tests;
 #[cfg(test)]
 mod host_tests;

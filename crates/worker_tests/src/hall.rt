@@ -1,21 +1,25 @@
 //! Games in a room, before their first entry.
 
-ghost use Rattle.std.specs.Prelude.{◌≡◌, [], true, false, IfOk};
+ghost use Rattle.std.specs.Prelude.{◌≡◌, [], true, false, IfOk, IfSome};
 ghost use Rattle.mj_wall.specs.Places.{is_wall};
+ghost use Rattle.turn_lock.specs.Turns.{IsIdle};
 
+use crate::guests::{Crowd, host_of};
 use mj_core::Core;
-use mj_links::{Came, Host, MemFault, MemHost};
+use mj_links::{Came, Host, MemFault, Numbered};
+use mj_ports::Seated;
 use mj_seats::{Lost, Room};
 use mj_tiles::Tile;
 use mj_wall::{Rules, Wall};
 use std::alloc::{AllocError, Global};
+use turn_lock::{Noted, Pass, Turn};
 
-/// A room with the core of a game.
-pub type Hall = Room<Core, MemFault>;
+// A room with the core of a game.
+type Hall = Room<Core, MemFault>;
 
 /// So many places, with a fault of each of these numbers.
 pub fn lost(alloc: Global, places: u8, numbers: &[u8]) -> Result<Lost<MemFault>, AllocError> {
-    let host = faulty_host(alloc)?;
+    let host = host_of(alloc, Crowd(&[], false, &[1, 2, 3, 4, 5, 6, 7, 8]))?;
     let mut lost = Lost::new(alloc, places)?;
     for number in numbers {
         if let Came::Failed(fault) = host.accept(*number) {
@@ -23,12 +27,6 @@ pub fn lost(alloc: Global, places: u8, numbers: &[u8]) -> Result<Lost<MemFault>,
         }
     }
     Ok(lost)
-}
-
-// A host whose first eight accepts fail.
-fn faulty_host(alloc: Global) -> Result<MemHost, AllocError> {
-    let accepts = [1, 2, 3, 4, 5, 6, 7, 8].to_vec(alloc)?;
-    Ok(MemHost::new(Vec::new(alloc), false, accepts))
 }
 
 // A room with a game on a wall, before its first entry, with a limit of 1000.
@@ -69,24 +67,65 @@ fn sorted_wall() -> Result<Wall, AllocError>
     }
 }
 
-/// A game on a shuffled wall, which default answers end after some hands.
-pub fn shuffled_game(alloc: Global) -> Result<Core, AllocError>
-    ensures { IfOk result (λ game. game.entries ≡ []) }
-{
-    game_on(alloc, Wall::shuffled([7; 32], 0, false))
-}
-
-/// A room with a game on the wall in tile order, which default answers go on with for very long.
-pub fn sorted_hall(alloc: Global) -> Result<Hall, AllocError>
+// A room with a game on the wall in tile order, which default answers go on with for very long.
+fn sorted_hall(alloc: Global) -> Result<Hall, AllocError>
     ensures { IfOk result (λ hall. hall.game.entries ≡ []) }
 {
     let wall = sorted_wall()?;
     hall_on(alloc, wall, Lost::new(alloc, 8)?)
 }
 
-/// A room with a game on a shuffled wall, and with these faults.
-pub fn shuffled_hall(alloc: Global, lost: Lost<MemFault>) -> Result<Hall, AllocError>
+// A room with a game on a shuffled wall, which default answers end after some hands, and with faults of these numbers.
+fn shuffled_hall(alloc: Global, numbers: &[u8]) -> Result<Hall, AllocError>
     ensures { IfOk result (λ hall. hall.game.entries ≡ []) }
 {
+    let lost = lost(alloc, 8, numbers)?;
     hall_on(alloc, Wall::shuffled([7; 32], 0, false), lost)
+}
+
+/// A turn of a room, and its two passes.
+#[derive(Drop)]
+pub struct Two<G: Seated, F: Numbered> {
+    pub turn: Turn<Room<G, F>>,
+    pub first: Pass<Room<G, F>>,
+    pub second: Pass<Room<G, F>>,
+}
+
+fn two_in<G: Seated, F: Numbered>(alloc: Global, room: Room<G, F>) -> Option<Two<G, F>>
+    requires { G.history room.game ≡ [] }
+    ensures { IfSome result (λ two. IsIdle ⟦<Room<G, F> as Noted>⟧.setting two.turn two.first
+        × IsIdle ⟦<Room<G, F> as Noted>⟧.setting two.turn two.second) }
+{
+    let Ok((turn, mut passes)) = Turn::new(alloc, room, 2) else {
+        return None;
+    };
+    let second = passes.pop().unwrap();
+    let first = passes.pop().unwrap();
+    Some(Two {
+        turn,
+        first,
+        second,
+    })
+}
+
+/// A turn of a room with a game on the wall in tile order.
+pub fn sorted_two(alloc: Global) -> Option<Two<Core, MemFault>>
+    ensures { IfSome result (λ two. IsIdle ⟦<Room<Core, MemFault> as Noted>⟧.setting two.turn two.first
+        × IsIdle ⟦<Room<Core, MemFault> as Noted>⟧.setting two.turn two.second) }
+{
+    match sorted_hall(alloc) {
+        Ok(hall) => two_in(alloc, hall),
+        Err(_) => None,
+    }
+}
+
+/// A turn of a room with a game on a shuffled wall, and with faults of these numbers.
+pub fn shuffled_two(alloc: Global, numbers: &[u8]) -> Option<Two<Core, MemFault>>
+    ensures { IfSome result (λ two. IsIdle ⟦<Room<Core, MemFault> as Noted>⟧.setting two.turn two.first
+        × IsIdle ⟦<Room<Core, MemFault> as Noted>⟧.setting two.turn two.second) }
+{
+    match shuffled_hall(alloc, numbers) {
+        Ok(hall) => two_in(alloc, hall),
+        Err(_) => None,
+    }
 }

@@ -1,36 +1,19 @@
 //! The taking of links from a host.
 
-ghost use Rattle.std.specs.Prelude.{◌≡◌, [], IfOk};
-ghost use Rattle.mj_links.specs.FreshLinks.{IsFreshLink};
+ghost use Rattle.std.specs.Prelude.{◌≡◌, []};
 ghost use Rattle.turn_lock.specs.Turns.{IsIdle};
 
-use crate::hall::{Hall, shuffled_hall, sorted_hall};
+use crate::guests::{Crowd, Guest, JOIN_A, JOIN_D, JOIN_KEY, host_of};
+use crate::hall::{shuffled_two, sorted_two};
 use crate::lines::{HELLO, Part, START, are_made_of};
-use crate::player::{A, D, GONE, KEY, Shown, Step, THREE, act_all, look};
+use crate::player::{GONE, Shown, Step, THREE, act_all, look};
+use crate::tick_tests::tell_time;
 use mj_links::{MemClock, MemFault, MemHost, MemLink, Numbered};
 use mj_ports::Seated;
-use mj_seats::{HandlerEnd, Lost, Room, Session, Ticked, handler, tick};
-use std::alloc::{AllocError, Global};
+use mj_seats::{HandlerEnd, Room, Session, Ticked, handler};
+use std::alloc::Global;
 use std::sync::Wait;
 use turn_lock::{Noted, Pass, Turn};
-
-// A link from which a line is read, and no more.
-fn link(alloc: Global, line: &str) -> Result<MemLink, AllocError>
-    ensures { IfOk result IsFreshLink }
-{
-    let mut bytes = line.as_bytes().to_vec(alloc)?;
-    bytes.push(b'\n')?;
-    Ok(MemLink::new(bytes, Vec::new(alloc), Vec::new(alloc)))
-}
-
-// A host of links from each of which a line is read, whose accept of this number fails.
-pub fn host(alloc: Global, lines: &[&str], fails: u64) -> Result<MemHost, AllocError> {
-    let mut links = Vec::new(alloc);
-    for line in lines {
-        links.push(link(alloc, *line)?)?;
-    }
-    Ok(MemHost::new(links, false, [fails].to_vec(alloc)?))
-}
 
 // Whether the other pass has done all that it was to do, how a handler ended, what others see then, and the sessions that it
 // kept.
@@ -44,29 +27,26 @@ struct Handled {
 
 // Handles the links of a host by pass 1, once pass 0 has done all this.
 fn handle<G: Seated, R: Wait>(
+    turn: &Turn<Room<G, MemFault>>,
     rt: &R,
     alloc: Global,
-    room: Room<G, MemFault>,
+    first: &mut Pass<Room<G, MemFault>>,
+    second: &mut Pass<Room<G, MemFault>>,
     before: &[Step],
     host: &MemHost,
-) -> Option<Handled>
-    requires { G.history room.game ≡ [] }
+) -> Handled
+    requires first { IsIdle ⟦<Room<G, MemFault> as Noted>⟧.setting turn.now first.old }
+    requires second { IsIdle ⟦<Room<G, MemFault> as Noted>⟧.setting turn.now second.old }
 {
-    let Ok((turn, mut passes)) = Turn::new(alloc, room, 2) else {
-        return None;
-    };
-    let mut pass = passes.pop().unwrap();
-    let mut player = passes.pop().unwrap();
-    let done = act_all(&turn, rt, alloc, &mut player, before);
+    let done = act_all(turn, rt, alloc, first, before);
     let mut sessions = Vec::new(alloc);
-    let end = take_links(&turn, rt, &mut pass, host, &mut sessions);
-    let shown = look(&turn, rt, &mut player);
-    Some(Handled {
+    let end = take_links(turn, rt, second, host, &mut sessions);
+    Handled {
         done,
         end,
-        shown,
+        shown: look(turn, rt, first),
         sessions,
-    })
+    }
 }
 
 // Takes the links of a host by a pass, as a handler does.
@@ -83,10 +63,10 @@ fn take_links<G: Seated, R: Wait>(
     handler(turn, rt, pass, host, sessions)
 }
 
-// Links that come from a host whose accept of this number fails, and the sessions that are kept of them.
+// Guests that come to a host whose accept of this number fails, and the sessions that are kept of them.
 #[derive(Clone, Copy)]
 struct Case {
-    lines: &'static [&'static str],
+    guests: &'static [Guest<'static>],
     fails: u64,
     entries: u64,
     kept: &'static [Kept],
@@ -122,17 +102,20 @@ fn is_as_wanted(handled: Handled, case: &Case) -> bool {
 }
 
 fn holds<R: Wait>(rt: &R, alloc: Global, host: &MemHost, case: &Case) -> bool {
-    match sorted_hall(alloc) {
-        Ok(hall) => match handle(rt, alloc, hall, &THREE, host) {
-            Some(handled) => is_as_wanted(handled, case),
-            None => false,
-        },
-        Err(_) => false,
+    match sorted_two(alloc) {
+        Some(mut two) => {
+            let (first, second) = (&mut two.first, &mut two.second);
+            is_as_wanted(
+                handle(&two.turn, rt, alloc, first, second, &THREE, host),
+                case,
+            )
+        }
+        None => false,
     }
 }
 
 fn case_holds<R: Wait>(rt: &R, alloc: Global, case: &Case) -> bool {
-    match host(alloc, case.lines, case.fails) {
+    match host_of(alloc, Crowd(case.guests, false, &[case.fails])) {
         Ok(host) => holds(rt, alloc, &host, case),
         Err(_) => false,
     }
@@ -142,25 +125,25 @@ const TOLD: Kept = Kept(3, &[Part(HELLO, 1), Part(START, 1)]);
 
 const CASES: [Case; 4] = [
     Case {
-        lines: &[],
+        guests: &[],
         fails: 1,
         entries: 3,
         kept: &[],
     },
     Case {
-        lines: &[D, D],
+        guests: &[JOIN_D, JOIN_D],
         fails: 2,
         entries: 5,
         kept: &[TOLD],
     },
     Case {
-        lines: &[A, "x", D],
+        guests: &[JOIN_A, NO_JOIN, JOIN_D],
         fails: 5,
         entries: 5,
         kept: &[TOLD],
     },
     Case {
-        lines: &[KEY, A, KEY],
+        guests: &[JOIN_KEY, JOIN_A, JOIN_KEY],
         fails: 4,
         entries: 7,
         kept: &[
@@ -169,6 +152,8 @@ const CASES: [Case; 4] = [
         ],
     },
 ];
+
+const NO_JOIN: Guest<'static> = Guest(&[Part("x\n", 1)], &[], &[]);
 
 const NONE_AGAIN: &str = "{\"type\":\"replay\",\"count\":0}\n";
 
@@ -181,54 +166,42 @@ fn links_that_had_a_seat_are_kept_until_the_host_fails(rt: HostRuntime) {
 
 // Whether a handler ends at once that comes to a game which is over, at a host whose first accept fails.
 fn handle_late<G: Seated, R: Wait>(
-    rt: &R,
-    alloc: Global,
-    room: Room<G, MemFault>,
-    host: &MemHost,
-) -> bool
-    requires { G.history room.game ≡ [] }
-{
-    let Ok((turn, mut passes)) = Turn::new(alloc, room, 2) else {
-        return false;
-    };
-    let mut pass = passes.pop().unwrap();
-    let mut player = passes.pop().unwrap();
-    let done = act_all(&turn, rt, alloc, &mut player, &GONE);
-    let ticked = tell_time(&turn, rt, alloc, &mut player);
-    let mut sessions = Vec::new(alloc);
-    let end = take_links(&turn, rt, &mut pass, host, &mut sessions);
-    done && ticked == Ticked::Over && matches!(&end, HandlerEnd::Over)
-}
-
-// Tells the time by a pass until the game is over.
-fn tell_time<G: Seated, R: Wait>(
     turn: &Turn<Room<G, MemFault>>,
     rt: &R,
     alloc: Global,
-    pass: &mut Pass<Room<G, MemFault>>,
-) -> Ticked
-    requires { IsIdle ⟦<Room<G, MemFault> as Noted>⟧.setting turn.now pass.old }
+    first: &mut Pass<Room<G, MemFault>>,
+    second: &mut Pass<Room<G, MemFault>>,
+    host: &MemHost,
+) -> bool
+    requires first { IsIdle ⟦<Room<G, MemFault> as Noted>⟧.setting turn.now first.old }
+    requires second { IsIdle ⟦<Room<G, MemFault> as Noted>⟧.setting turn.now second.old }
 {
-    tick(turn, rt, alloc, pass, &mut MemClock::new(0, 1000))
+    let done = act_all(turn, rt, alloc, first, &GONE);
+    let mut clock = MemClock::new(0, 1000);
+    let ticked = tell_time(turn, rt, alloc, first, &mut clock);
+    let mut sessions = Vec::new(alloc);
+    let end = take_links(turn, rt, second, host, &mut sessions);
+    done && ticked == Ticked::Over && matches!(&end, HandlerEnd::Over)
 }
 
-fn late_hall(alloc: Global) -> Result<Hall, AllocError>
-    ensures { IfOk result (λ hall. hall.game.entries ≡ []) }
-{
-    shuffled_hall(alloc, Lost::new(alloc, 8)?)
+fn ends_late<R: Wait>(rt: &R, alloc: Global, host: &MemHost) -> bool {
+    match shuffled_two(alloc, &[]) {
+        Some(mut two) => {
+            let (first, second) = (&mut two.first, &mut two.second);
+            handle_late(&two.turn, rt, alloc, first, second, host)
+        }
+        None => false,
+    }
 }
 
-fn ends_late<R: Wait>(rt: &R, alloc: Global, host: Result<MemHost, AllocError>) -> bool {
-    let Ok(host) = host else {
-        return false;
-    };
-    match late_hall(alloc) {
-        Ok(hall) => handle_late(rt, alloc, hall, &host),
+fn ends_late_over<R: Wait>(rt: &R, alloc: Global) -> bool {
+    match host_of(alloc, Crowd(&[], false, &[1])) {
+        Ok(host) => ends_late(rt, alloc, &host),
         Err(_) => false,
     }
 }
 
 #[test]
 fn a_handler_asks_its_host_no_more_once_the_game_is_over(rt: HostRuntime) {
-    assert!(rt; ends_late(&rt, rt.alloc(), host(rt.alloc(), &[], 1)));
+    assert!(rt; ends_late_over(&rt, rt.alloc()));
 }

@@ -3,7 +3,7 @@
 #![tactic(auto)]
 
 #[cfg(test)]
-mod game_tests;
+mod guests;
 #[cfg(test)]
 mod hall;
 #[cfg(test)]
@@ -13,23 +13,15 @@ mod lines;
 #[cfg(test)]
 mod lost_tests;
 #[cfg(test)]
-mod meeting;
-#[cfg(test)]
 mod pass_tests;
 #[cfg(test)]
 mod past_tests;
-#[cfg(test)]
-mod patient;
 #[cfg(test)]
 mod player;
 #[cfg(test)]
 mod seat_tests;
 #[cfg(test)]
-mod serving_tests;
-#[cfg(test)]
 mod slow;
-#[cfg(test)]
-mod table_tests;
 #[cfg(test)]
 mod tick_tests;
 #[cfg(test)]

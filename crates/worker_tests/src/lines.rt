@@ -4,14 +4,8 @@ use std::alloc::{AllocError, Global};
 
 pub const HELLO: &str = "{\"type\":\"hello\",\"protocol\":\"mjsonp\",\"protocol_version\":3}\n";
 
-/// What is told to a join that names a room of which there is none.
-pub const NO_ROOM: &str = "{\"type\":\"error\",\"sit\":8,\"message\":\"NoRoom\"}\n";
-
 /// What comes after the hello line for a seat that came back once the first deed was answered.
 pub const HEAD: &str = "{\"type\":\"replay\",\"count\":1}\n";
-
-/// How the line of a deed ends where a seat may only pass.
-pub const MAY_PASS: &str = ",\"possible_actions\":[{\"type\":\"none\"}]}\n";
 
 /// The first deed as seat 3 is told it.
 pub const START: &str =
@@ -20,6 +14,9 @@ pub const START: &str =
 /// A text, so many times.
 #[derive(Clone, Copy)]
 pub struct Part(pub &'static str, pub u32);
+
+/// The end of a line.
+pub const LINE_END: Part = Part("\n", 1);
 
 /// The bytes of some parts, one after the other.
 pub fn bytes_of(alloc: Global, parts: &[Part]) -> Result<Vec<u8>, AllocError> {

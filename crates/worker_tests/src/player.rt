@@ -25,9 +25,6 @@ pub const KEY: &str = "{\"type\":\"join\",\"name\":\"d\",\"key\":\"k\"}";
 /// Three seats are taken.
 pub const THREE: [Step; 3] = [Step::Sits(A), Step::Sits(B), Step::Sits(C)];
 
-/// Four seats are taken.
-pub const FOUR: [Step; 4] = [Step::Sits(A), Step::Sits(B), Step::Sits(C), Step::Sits(D)];
-
 /// Four seats are taken, and left again.
 pub const GONE: [Step; 8] = [
     Step::Sits(A),

@@ -1,16 +1,16 @@
 //! Links that are served.
 
-ghost use Rattle.std.specs.Prelude.{◌≡◌, []};
 ghost use Rattle.turn_lock.specs.Turns.{IsIdle};
 
-use crate::hall::sorted_hall;
-use crate::lines::{HEAD, HELLO, Part, START, are_made_of, bytes_of};
+use crate::guests::{Guest, link_of};
+use crate::hall::sorted_two;
+use crate::lines::{HEAD, HELLO, LINE_END, Part, START, are_made_of, bytes_of};
 use crate::player::{A, B, C, D, KEY, PASS, Shown, Step, THREE, act, act_all, act_often, look};
 use crate::slow::SlowLink;
-use mj_links::{Link, MemLink, Numbered, Wire};
+use mj_links::{Link, Numbered, Wire};
 use mj_ports::{Seated, SitRefused};
 use mj_seats::{Ended, Room, Served, serve_seat};
-use std::alloc::{AllocError, Global};
+use std::alloc::Global;
 use std::sync::Wait;
 use turn_lock::{Noted, Pass, Turn};
 
@@ -51,8 +51,6 @@ const OTHER_KEY: &str = "{\"type\":\"join\",\"name\":\"d\",\"key\":\"x\"}";
 // The beginning of a join.
 const NAMED: &str = "{\"type\":\"join\",\"name\":\"";
 
-const LINE_END: &str = "\n";
-
 // What comes after the hello line for a seat that came back before the first deed was answered.
 const AGAIN: &str = "{\"type\":\"replay\",\"count\":0}\n";
 
@@ -79,62 +77,47 @@ struct Case {
     before: &'static [Step],
     // How often then seat 3 is taken back by its key and left.
     returns: u32,
-    read: &'static [Part],
-    // The numbers of the reads and of the writes that fail.
-    reads: &'static [u64],
-    writes: &'static [u64],
+    guest: Guest<'static>,
     ended: Ended,
     place: Option<u64>,
     written: &'static [Part],
     entries: u64,
 }
 
-fn link(alloc: Global, case: &Case) -> Result<MemLink, AllocError> {
-    let bytes = bytes_of(alloc, case.read)?;
-    let reads = case.reads.to_vec(alloc)?;
-    Ok(MemLink::new(bytes, reads, case.writes.to_vec(alloc)?))
-}
-
-// Whether the other player has done all that it was to do, how the session of a link ended, what is written on the link, what
-// others see then, and whether the seat is taken by its key after it.
-#[derive(Drop)]
-struct Outcome<L> {
+// Whether the other player has done all that it was to do, how the session of a link ended, what others see then, and whether
+// the seat is taken by its key after it.
+#[derive(Clone, Copy)]
+struct Outcome {
     done: bool,
     served: Served,
-    link: L,
     shown: Shown,
     taken: bool,
 }
 
-// Serves a link by one pass, once another one has done all this.
-fn serve<G: Seated, F: Numbered, L: Link + Drop, R: Wait>(
+// Serves a link by the first pass, once the second one has done all this.
+fn serve<G: Seated, F: Numbered, L: Link, R: Wait>(
+    turn: &Turn<Room<G, F>>,
     rt: &R,
     alloc: Global,
-    room: Room<G, F>,
+    first: &mut Pass<Room<G, F>>,
+    second: &mut Pass<Room<G, F>>,
     before: &[Step],
     returns: u32,
-    link: L,
-) -> Option<Outcome<L>>
-    requires { G.history room.game ≡ [] }
+    wire: &mut Wire<L>,
+) -> Outcome
+    requires first { IsIdle ⟦<Room<G, F> as Noted>⟧.setting turn.now first.old }
+    requires second { IsIdle ⟦<Room<G, F> as Noted>⟧.setting turn.now second.old }
 {
-    let Ok((turn, mut passes)) = Turn::new(alloc, room, 2) else {
-        return None;
-    };
-    let mut player = passes.pop().unwrap();
-    let mut pass = passes.pop().unwrap();
-    let done = act_all(&turn, rt, alloc, &mut player, before)
-        && act_often(&turn, rt, alloc, &mut player, &ONCE_MORE, returns);
-    let mut wire = Wire::new(link);
-    let served = serve_wire(&turn, rt, alloc, &mut pass, &mut wire);
-    let shown = look(&turn, rt, &mut player);
-    let taken = act(&turn, rt, alloc, &mut player, Step::Sits(KEY));
-    Some(Outcome {
+    let done = act_all(turn, rt, alloc, second, before)
+        && act_often(turn, rt, alloc, second, &ONCE_MORE, returns);
+    let served = serve_wire(turn, rt, alloc, first, wire);
+    let shown = look(turn, rt, second);
+    Outcome {
         done,
         served,
-        link: wire.into_link(),
         shown,
-        taken,
-    })
+        taken: act(turn, rt, alloc, second, Step::Sits(KEY)),
+    }
 }
 
 fn serve_wire<G: Seated, F: Numbered, L: Link, R: Wait>(
@@ -150,40 +133,46 @@ fn serve_wire<G: Seated, F: Numbered, L: Link, R: Wait>(
 }
 
 // Serves a link at a new game.
-fn serve_anew<L: Link + Drop, R: Wait>(
+fn serve_anew<L: Link, R: Wait>(
     rt: &R,
     alloc: Global,
     before: &[Step],
     returns: u32,
-    link: L,
-) -> Option<Outcome<L>> {
-    match sorted_hall(alloc) {
-        Ok(hall) => serve(rt, alloc, hall, before, returns, link),
-        Err(_) => None,
+    wire: &mut Wire<L>,
+) -> Option<Outcome> {
+    match sorted_two(alloc) {
+        Some(mut two) => {
+            let (first, second) = (&mut two.first, &mut two.second);
+            Some(serve(&two.turn, rt, alloc, first, second, before, returns, wire))
+        }
+        None => None,
     }
 }
 
 // Whether all came as the case says, and the seat of the link is gone.
-fn is_as_wanted(served: Served, written: &[u8], shown: Shown, case: &Case) -> bool {
-    served.ended == case.ended
-        && served.place == case.place
+fn is_as_wanted(it: Outcome, written: &[u8], case: &Case) -> bool {
+    it.done
+        && it.served.ended == case.ended
+        && it.served.place == case.place
         && are_made_of(written, case.written)
-        && shown.entries == case.entries
-        && !shown.present[3]
+        && it.shown.entries == case.entries
+        && !it.shown.present[3]
 }
 
-fn holds<R: Wait>(rt: &R, alloc: Global, link: MemLink, case: &Case) -> bool {
-    match serve_anew(rt, alloc, case.before, case.returns, link) {
-        Some(it) => it.done && is_as_wanted(it.served, it.link.written(), it.shown, case),
+fn holds<R: Wait>(rt: &R, alloc: Global, mut wire: Wire<SlowLink>, case: &Case) -> bool {
+    let outcome = serve_anew(rt, alloc, case.before, case.returns, &mut wire);
+    let link = wire.into_link();
+    match outcome {
+        Some(it) => is_as_wanted(it, link.0.written(), case),
         None => false,
     }
 }
 
-// Whether a case holds with a link that gives a byte a read.
-fn holds_slowly<R: Wait>(rt: &R, alloc: Global, link: MemLink, case: &Case) -> bool {
-    match serve_anew(rt, alloc, case.before, case.returns, SlowLink(link)) {
-        Some(it) => it.done && is_as_wanted(it.served, it.link.0.written(), it.shown, case),
-        None => false,
+// Whether a case holds with a link that may give a byte a read.
+fn case_holds<R: Wait>(rt: &R, alloc: Global, case: &Case, slowly: bool) -> bool {
+    match link_of(alloc, case.guest) {
+        Ok(link) => holds(rt, alloc, Wire::new(SlowLink(link, slowly)), case),
+        Err(_) => false,
     }
 }
 
@@ -191,26 +180,12 @@ fn holds_slowly<R: Wait>(rt: &R, alloc: Global, link: MemLink, case: &Case) -> b
 fn all_hold<R: Wait>(rt: &R, alloc: Global, cases: &[Case], slowly: bool) -> bool {
     let mut all = true;
     for case in cases {
-        all = all && case_holds(rt, alloc, case);
-        if slowly && case.reads.is_empty() {
-            all = all && case_holds_slowly(rt, alloc, case);
+        all = all && case_holds(rt, alloc, case, false);
+        if slowly && case.guest.1.is_empty() {
+            all = all && case_holds(rt, alloc, case, true);
         }
     }
     all
-}
-
-fn case_holds<R: Wait>(rt: &R, alloc: Global, case: &Case) -> bool {
-    match link(alloc, case) {
-        Ok(link) => holds(rt, alloc, link, case),
-        Err(_) => false,
-    }
-}
-
-fn case_holds_slowly<R: Wait>(rt: &R, alloc: Global, case: &Case) -> bool {
-    match link(alloc, case) {
-        Ok(link) => holds_slowly(rt, alloc, link, case),
-        Err(_) => false,
-    }
 }
 
 // A session without a seat enters nothing.
@@ -218,9 +193,7 @@ const UNSEATED: [Case; 15] = [
     Case {
         before: &FOUR,
         returns: 0,
-        read: &[Part(E, 1), Part(LINE_END, 1)],
-        reads: &[],
-        writes: &[],
+        guest: Guest(&[Part(E, 1), LINE_END], &[], &[]),
         ended: Ended::NotSeated(SitRefused::Full),
         place: None,
         written: &[Part(HELLO, 1), Part(FULL, 1)],
@@ -229,9 +202,7 @@ const UNSEATED: [Case; 15] = [
     Case {
         before: &FOUR,
         returns: 0,
-        read: &[Part(OTHER_KEY, 1), Part(LINE_END, 1)],
-        reads: &[],
-        writes: &[],
+        guest: Guest(&[Part(OTHER_KEY, 1), LINE_END], &[], &[]),
         ended: Ended::NotSeated(SitRefused::WrongKey),
         place: None,
         written: &[Part(HELLO, 1), Part(WRONG_KEY, 1)],
@@ -240,9 +211,7 @@ const UNSEATED: [Case; 15] = [
     Case {
         before: &FOUR,
         returns: 0,
-        read: &[Part(D, 1), Part(LINE_END, 1)],
-        reads: &[],
-        writes: &[],
+        guest: Guest(&[Part(D, 1), LINE_END], &[], &[]),
         ended: Ended::NotSeated(SitRefused::WrongKey),
         place: None,
         written: &[Part(HELLO, 1), Part(WRONG_KEY, 1)],
@@ -251,9 +220,7 @@ const UNSEATED: [Case; 15] = [
     Case {
         before: &KEYLESS,
         returns: 0,
-        read: &[Part(A, 1), Part(LINE_END, 1)],
-        reads: &[],
-        writes: &[],
+        guest: Guest(&[Part(A, 1), LINE_END], &[], &[]),
         ended: Ended::NotSeated(SitRefused::NoKey),
         place: None,
         written: &[Part(HELLO, 1), Part(NO_KEY, 1)],
@@ -262,9 +229,7 @@ const UNSEATED: [Case; 15] = [
     Case {
         before: &FOUR,
         returns: 64,
-        read: &[Part(KEY, 1), Part(LINE_END, 1)],
-        reads: &[],
-        writes: &[],
+        guest: Guest(&[Part(KEY, 1), LINE_END], &[], &[]),
         ended: Ended::NotSeated(SitRefused::TooOften),
         place: None,
         written: &[Part(HELLO, 1), Part(TOO_OFTEN, 1)],
@@ -273,9 +238,11 @@ const UNSEATED: [Case; 15] = [
     Case {
         before: &THREE,
         returns: 0,
-        read: &[Part("{\"type\":\"join\",\"name\":\"\\\"\"}\n", 1)],
-        reads: &[],
-        writes: &[],
+        guest: Guest(
+            &[Part("{\"type\":\"join\",\"name\":\"\\\"\"}\n", 1)],
+            &[],
+            &[],
+        ),
         ended: Ended::NotSeated(SitRefused::BadName),
         place: None,
         written: &[Part(HELLO, 1), Part(NO_NAME, 1)],
@@ -284,9 +251,7 @@ const UNSEATED: [Case; 15] = [
     Case {
         before: &THREE,
         returns: 0,
-        read: &[Part(NAMED, 1), Part("n", 65), Part("\"}\n", 1)],
-        reads: &[],
-        writes: &[],
+        guest: Guest(&[Part(NAMED, 1), Part("n", 65), Part("\"}\n", 1)], &[], &[]),
         ended: Ended::NotSeated(SitRefused::BadName),
         place: None,
         written: &[Part(HELLO, 1), Part(NO_NAME, 1)],
@@ -295,9 +260,7 @@ const UNSEATED: [Case; 15] = [
     Case {
         before: &THREE,
         returns: 0,
-        read: &[],
-        reads: &[],
-        writes: &[],
+        guest: Guest(&[], &[], &[]),
         ended: Ended::PeerEnded,
         place: None,
         written: &[Part(HELLO, 1)],
@@ -306,9 +269,7 @@ const UNSEATED: [Case; 15] = [
     Case {
         before: &THREE,
         returns: 0,
-        read: &[Part(D, 1)],
-        reads: &[],
-        writes: &[],
+        guest: Guest(&[Part(D, 1)], &[], &[]),
         ended: Ended::PeerEnded,
         place: None,
         written: &[Part(HELLO, 1)],
@@ -317,9 +278,7 @@ const UNSEATED: [Case; 15] = [
     Case {
         before: &THREE,
         returns: 0,
-        read: &[Part(D, 1), Part(LINE_END, 1)],
-        reads: &[1],
-        writes: &[],
+        guest: Guest(&[Part(D, 1), LINE_END], &[1], &[]),
         ended: Ended::LinkFault,
         place: None,
         written: &[Part(HELLO, 1)],
@@ -328,9 +287,7 @@ const UNSEATED: [Case; 15] = [
     Case {
         before: &THREE,
         returns: 0,
-        read: &[Part(D, 1), Part(LINE_END, 1)],
-        reads: &[],
-        writes: &[1],
+        guest: Guest(&[Part(D, 1), LINE_END], &[], &[1]),
         ended: Ended::LinkFault,
         place: None,
         written: &[],
@@ -339,9 +296,7 @@ const UNSEATED: [Case; 15] = [
     Case {
         before: &THREE,
         returns: 0,
-        read: &[Part(" ", 4096)],
-        reads: &[],
-        writes: &[],
+        guest: Guest(&[Part(" ", 4096)], &[], &[]),
         ended: Ended::LineTooLong,
         place: None,
         written: &[Part(HELLO, 1)],
@@ -350,9 +305,7 @@ const UNSEATED: [Case; 15] = [
     Case {
         before: &THREE,
         returns: 0,
-        read: &[Part("x\n", 1)],
-        reads: &[],
-        writes: &[],
+        guest: Guest(&[Part("x\n", 1)], &[], &[]),
         ended: Ended::NotSeated(SitRefused::BadName),
         place: None,
         written: &[Part(HELLO, 1), Part(NO_NAME, 1)],
@@ -361,9 +314,7 @@ const UNSEATED: [Case; 15] = [
     Case {
         before: &THREE,
         returns: 0,
-        read: &[Part(A, 1), Part(LINE_END, 1)],
-        reads: &[],
-        writes: &[],
+        guest: Guest(&[Part(A, 1), LINE_END], &[], &[]),
         ended: Ended::NotSeated(SitRefused::NameTaken),
         place: None,
         written: &[Part(HELLO, 1), Part(TAKEN, 1)],
@@ -372,9 +323,7 @@ const UNSEATED: [Case; 15] = [
     Case {
         before: &THREE,
         returns: 0,
-        read: &[Part(A, 1), Part(LINE_END, 1)],
-        reads: &[],
-        writes: &[2],
+        guest: Guest(&[Part(A, 1), LINE_END], &[], &[2]),
         ended: Ended::NotSeated(SitRefused::NameTaken),
         place: None,
         written: &[Part(HELLO, 1)],
@@ -387,15 +336,17 @@ const SEATED: [Case; 9] = [
     Case {
         before: &ALONE,
         returns: 0,
-        read: &[
-            Part(KEY, 1),
-            Part(LINE_END, 1),
-            Part("x\n", 15),
-            Part(PASS, 1),
-            Part(LINE_END, 1),
-        ],
-        reads: &[],
-        writes: &[],
+        guest: Guest(
+            &[
+                Part(KEY, 1),
+                LINE_END,
+                Part("x\n", 15),
+                Part(PASS, 1),
+                LINE_END,
+            ],
+            &[],
+            &[],
+        ),
         ended: Ended::PeerEnded,
         place: Some(8),
         written: &[
@@ -410,9 +361,7 @@ const SEATED: [Case; 9] = [
     Case {
         before: &ALONE,
         returns: 63,
-        read: &[Part(KEY, 1), Part(LINE_END, 1)],
-        reads: &[],
-        writes: &[],
+        guest: Guest(&[Part(KEY, 1), LINE_END], &[], &[]),
         ended: Ended::PeerEnded,
         place: Some(134),
         written: &[Part(HELLO, 1), Part(AGAIN, 1), Part(START, 1)],
@@ -421,9 +370,7 @@ const SEATED: [Case; 9] = [
     Case {
         before: &THREE,
         returns: 0,
-        read: &[Part(D, 1), Part(LINE_END, 1)],
-        reads: &[],
-        writes: &[],
+        guest: Guest(&[Part(D, 1), LINE_END], &[], &[]),
         ended: Ended::PeerEnded,
         place: Some(3),
         written: &[Part(HELLO, 1), Part(START, 1)],
@@ -432,14 +379,11 @@ const SEATED: [Case; 9] = [
     Case {
         before: &THREE,
         returns: 0,
-        read: &[
-            Part(D, 1),
-            Part(" ", 4069),
-            Part(LINE_END, 1),
-            Part("x\n", 1),
-        ],
-        reads: &[3],
-        writes: &[],
+        guest: Guest(
+            &[Part(D, 1), Part(" ", 4069), LINE_END, Part("x\n", 1)],
+            &[3],
+            &[],
+        ),
         ended: Ended::LinkFault,
         place: Some(3),
         written: &[Part(HELLO, 1), Part(START, 1), Part(UNREADABLE, 1)],
@@ -448,9 +392,7 @@ const SEATED: [Case; 9] = [
     Case {
         before: &THREE,
         returns: 0,
-        read: &[Part(D, 1), Part(LINE_END, 1)],
-        reads: &[],
-        writes: &[2],
+        guest: Guest(&[Part(D, 1), LINE_END], &[], &[2]),
         ended: Ended::LinkFault,
         place: Some(3),
         written: &[Part(HELLO, 1)],
@@ -459,9 +401,7 @@ const SEATED: [Case; 9] = [
     Case {
         before: &THREE,
         returns: 0,
-        read: &[Part(D, 1), Part(LINE_END, 1), Part("x\n", 1)],
-        reads: &[],
-        writes: &[3],
+        guest: Guest(&[Part(D, 1), LINE_END, Part("x\n", 1)], &[], &[3]),
         ended: Ended::LinkFault,
         place: Some(3),
         written: &[Part(HELLO, 1), Part(START, 1)],
@@ -470,9 +410,7 @@ const SEATED: [Case; 9] = [
     Case {
         before: &THREE,
         returns: 0,
-        read: &[Part(D, 1), Part(LINE_END, 1), Part("x", 4096)],
-        reads: &[],
-        writes: &[],
+        guest: Guest(&[Part(D, 1), LINE_END, Part("x", 4096)], &[], &[]),
         ended: Ended::LineTooLong,
         place: Some(3),
         written: &[Part(HELLO, 1), Part(START, 1)],
@@ -481,9 +419,7 @@ const SEATED: [Case; 9] = [
     Case {
         before: &THREE,
         returns: 0,
-        read: &[Part(D, 1), Part(LINE_END, 1), Part("x\n", 17)],
-        reads: &[],
-        writes: &[],
+        guest: Guest(&[Part(D, 1), LINE_END, Part("x\n", 17)], &[], &[]),
         ended: Ended::TooManyRefusals,
         place: Some(3),
         written: &[Part(HELLO, 1), Part(START, 1), Part(UNREADABLE, 16)],
@@ -492,9 +428,7 @@ const SEATED: [Case; 9] = [
     Case {
         before: &FOUR,
         returns: 0,
-        read: &[Part(KEY, 1), Part(LINE_END, 1)],
-        reads: &[],
-        writes: &[],
+        guest: Guest(&[Part(KEY, 1), LINE_END], &[], &[]),
         ended: Ended::PeerEnded,
         place: Some(9),
         written: &[Part(HELLO, 1), Part(HEAD, 1), Part(START, 1), Part(DEAL, 1)],
@@ -514,21 +448,33 @@ fn a_seat_is_gone_once_its_link_has_ended_the_session(rt: HostRuntime) {
 }
 
 // What a link of many reads gives: the first one the join, and each later one a line that is refused.
-fn long_text(alloc: Global) -> Result<Vec<u8>, AllocError> {
-    let mut text = bytes_of(alloc, &[Part(KEY, 1), Part(" ", 4059), Part(LINE_END, 1)])?;
-    for _ in 0..11u32 {
-        let line = bytes_of(alloc, &[Part("x", 4095), Part(LINE_END, 1)])?;
-        text.extend_from_slice(line.as_slice())?;
-    }
-    Ok(text)
-}
-
-// A link of which these reads and writes fail.
-fn frail(alloc: Global, reads: &[u64], writes: &[u64]) -> Result<MemLink, AllocError> {
-    let text = long_text(alloc)?;
-    let reads = reads.to_vec(alloc)?;
-    Ok(MemLink::new(text, reads, writes.to_vec(alloc)?))
-}
+const LONG: [Part; 25] = [
+    Part(KEY, 1),
+    Part(" ", 4059),
+    LINE_END,
+    Part("x", 4095),
+    LINE_END,
+    Part("x", 4095),
+    LINE_END,
+    Part("x", 4095),
+    LINE_END,
+    Part("x", 4095),
+    LINE_END,
+    Part("x", 4095),
+    LINE_END,
+    Part("x", 4095),
+    LINE_END,
+    Part("x", 4095),
+    LINE_END,
+    Part("x", 4095),
+    LINE_END,
+    Part("x", 4095),
+    LINE_END,
+    Part("x", 4095),
+    LINE_END,
+    Part("x", 4095),
+    LINE_END,
+];
 
 // Whether bytes are a prefix of what a link is told whose reads and writes don't fail.
 fn is_front(alloc: Global, written: &[u8]) -> bool {
@@ -543,13 +489,15 @@ fn is_front(alloc: Global, written: &[u8]) -> bool {
 
 // Whether a link ends its session by its fault, with a prefix of what it is told; and whether a seat that it had is taken back by
 // its key.
-fn breaks<R: Wait>(rt: &R, alloc: Global, link: MemLink, seated: bool) -> bool {
-    match serve_anew(rt, alloc, &THREE, 0, link) {
+fn breaks<R: Wait>(rt: &R, alloc: Global, mut wire: Wire<SlowLink>, seated: bool) -> bool {
+    let outcome = serve_anew(rt, alloc, &THREE, 0, &mut wire);
+    let link = wire.into_link();
+    match outcome {
         Some(it) => {
             it.done
                 && it.served.ended == Ended::LinkFault
                 && it.served.place.is_some() == seated
-                && is_front(alloc, it.link.written())
+                && is_front(alloc, link.0.written())
                 && it.taken
         }
         None => false,
@@ -557,8 +505,8 @@ fn breaks<R: Wait>(rt: &R, alloc: Global, link: MemLink, seated: bool) -> bool {
 }
 
 fn breaks_at<R: Wait>(rt: &R, alloc: Global, reads: &[u64], writes: &[u64], seated: bool) -> bool {
-    match frail(alloc, reads, writes) {
-        Ok(link) => breaks(rt, alloc, link, seated),
+    match link_of(alloc, Guest(&LONG, reads, writes)) {
+        Ok(link) => breaks(rt, alloc, Wire::new(SlowLink(link, false)), seated),
         Err(_) => false,
     }
 }

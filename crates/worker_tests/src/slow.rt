@@ -1,10 +1,10 @@
-//! A link that gives one byte a read.
+//! A link that may give one byte a read.
 
 use mj_links::{Got, Link, MemLink, Put, Sink, Source};
 
-/// Gives one byte a read of what a link in memory gives.
+/// Gives one byte a read of what a link in memory gives, or all that it gives.
 #[derive(Drop)]
-pub struct SlowLink(pub MemLink);
+pub struct SlowLink(pub MemLink, pub bool);
 
 impl Source for SlowLink {
     ghost left = { λ s. ⟦<MemLink as Source>⟧.left s.0 };
@@ -14,7 +14,8 @@ impl Source for SlowLink {
     ghost also_reads = { λ got into old new. ⟦<MemLink as Source>⟧.also_reads got into old.0 new.0 };
 
     fn read(&mut self, into: &mut [u8]) -> Got {
-        self.0.read(&mut into[..1])
+        let room = if self.1 { 1 } else { into.len() };
+        self.0.read(&mut into[..room])
     }
 }
 

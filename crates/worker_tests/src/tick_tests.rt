@@ -1,15 +1,15 @@
 //! The telling of the time.
 
-ghost use Rattle.std.specs.Prelude.{◌≡◌, []};
+ghost use Rattle.turn_lock.specs.Turns.{IsIdle};
 
-use crate::hall::{lost, shuffled_hall};
+use crate::hall::shuffled_two;
 use crate::player::{GONE, Shown, Step, act_all, look};
-use mj_links::{Clock, MemClock, MemFault, Numbered};
+use mj_links::{Clock, MemClock, Numbered};
 use mj_ports::Seated;
-use mj_seats::{Lost, Room, Ticked, tick};
+use mj_seats::{Room, Ticked, tick};
 use std::alloc::Global;
 use std::sync::Wait;
-use turn_lock::Turn;
+use turn_lock::{Noted, Pass, Turn};
 
 // Whether the other pass has done all that it was to do, how the telling of the time ended, what others see then, and the next
 // reading of the clock.
@@ -21,44 +21,56 @@ struct Told {
     next: u64,
 }
 
-// Tells the time by one pass, once another one has done all this.
+// Tells the time by the second pass, once the first one has done all this.
 fn tell<G: Seated, F: Numbered, R: Wait>(
+    turn: &Turn<Room<G, F>>,
     rt: &R,
     alloc: Global,
-    room: Room<G, F>,
+    first: &mut Pass<Room<G, F>>,
+    second: &mut Pass<Room<G, F>>,
     before: &[Step],
-    mut clock: MemClock,
-) -> Option<Told>
-    requires { G.history room.game ≡ [] }
+    step: u64,
+) -> Told
+    requires first { IsIdle ⟦<Room<G, F> as Noted>⟧.setting turn.now first.old }
+    requires second { IsIdle ⟦<Room<G, F> as Noted>⟧.setting turn.now second.old }
 {
-    let Ok((turn, mut passes)) = Turn::new(alloc, room, 2) else {
-        return None;
-    };
-    let mut pass = passes.pop().unwrap();
-    let mut player = passes.pop().unwrap();
-    let done = act_all(&turn, rt, alloc, &mut player, before);
-    let ticked = tick(&turn, rt, alloc, &mut pass, &mut clock);
-    Some(Told {
+    let done = act_all(turn, rt, alloc, first, before);
+    let mut clock = MemClock::new(0, step);
+    let ticked = tell_time(turn, rt, alloc, second, &mut clock);
+    Told {
         done,
         ticked,
-        shown: look(&turn, rt, &mut player),
+        shown: look(turn, rt, first),
         next: clock.now(),
-    })
-}
-
-// What comes of a clock that goes on by this step, at a game whose seats are all gone, beside faults that are kept.
-fn told_by<R: Wait>(rt: &R, alloc: Global, lost: Lost<MemFault>, step: u64) -> Option<Told> {
-    match shuffled_hall(alloc, lost) {
-        Ok(hall) => tell(rt, alloc, hall, &GONE, MemClock::new(0, step)),
-        Err(_) => None,
     }
 }
 
-// That beside faults of these numbers.
+/// Tells the time by a pass until the game is over or all have lost their host.
+pub fn tell_time<G: Seated, F: Numbered, R: Wait>(
+    turn: &Turn<Room<G, F>>,
+    rt: &R,
+    alloc: Global,
+    pass: &mut Pass<Room<G, F>>,
+    clock: &mut MemClock,
+) -> Ticked
+    requires { IsIdle ⟦<Room<G, F> as Noted>⟧.setting turn.now pass.old }
+{
+    tick(turn, rt, alloc, pass, clock)
+}
+
+// What comes of a clock that goes on by this step, at a game whose seats are all gone, beside faults of these numbers.
 fn told_beside<R: Wait>(rt: &R, alloc: Global, numbers: &[u8], step: u64) -> Option<Told> {
-    match lost(alloc, 8, numbers) {
-        Ok(lost) => told_by(rt, alloc, lost, step),
-        Err(_) => None,
+    match shuffled_two(alloc, numbers) {
+        Some(mut two) => Some(tell(
+            &two.turn,
+            rt,
+            alloc,
+            &mut two.first,
+            &mut two.second,
+            &GONE,
+            step,
+        )),
+        None => None,
     }
 }
 

@@ -1,9 +1,8 @@
 //! What a pass is told of the turns of another.
 
-ghost use Rattle.std.specs.Prelude.{◌≡◌, []};
 ghost use Rattle.turn_lock.specs.Turns.{IsIdle};
 
-use crate::hall::sorted_hall;
+use crate::hall::sorted_two;
 use mj_links::Numbered;
 use mj_ports::Seated;
 use mj_seats::Room;
@@ -35,32 +34,29 @@ fn turn_once<G: Seated, F: Numbered, R: Wait>(
 
 // What two passes are told, one turn after the other.
 fn told<G: Seated, F: Numbered, R: Wait>(
+    turn: &Turn<Room<G, F>>,
     rt: &R,
-    alloc: Global,
-    room: Room<G, F>,
-) -> Option<[(bool, bool); 4]>
-    requires { G.history room.game ≡ [] }
+    first: &mut Pass<Room<G, F>>,
+    second: &mut Pass<Room<G, F>>,
+) -> [(bool, bool); 4]
+    requires first { IsIdle ⟦<Room<G, F> as Noted>⟧.setting turn.now first.old }
+    requires second { IsIdle ⟦<Room<G, F> as Noted>⟧.setting turn.now second.old }
 {
-    let Ok((turn, mut passes)) = Turn::new(alloc, room, 2) else {
-        return None;
-    };
-    let mut second = passes.pop().unwrap();
-    let mut first = passes.pop().unwrap();
-    let new = (turn.has_changed(&first), turn.has_changed(&second));
-    turn_once(&turn, rt, &mut second, true);
-    let changed = (turn.has_changed(&first), turn.has_changed(&second));
-    turn_once(&turn, rt, &mut first, false);
-    let seen = (turn.has_changed(&first), turn.has_changed(&second));
-    turn_once(&turn, rt, &mut second, true);
-    turn_once(&turn, rt, &mut second, false);
-    let again = (turn.has_changed(&first), turn.has_changed(&second));
-    Some([new, changed, seen, again])
+    let new = (turn.has_changed(first), turn.has_changed(second));
+    turn_once(turn, rt, second, true);
+    let changed = (turn.has_changed(first), turn.has_changed(second));
+    turn_once(turn, rt, first, false);
+    let seen = (turn.has_changed(first), turn.has_changed(second));
+    turn_once(turn, rt, second, true);
+    turn_once(turn, rt, second, false);
+    let again = (turn.has_changed(first), turn.has_changed(second));
+    [new, changed, seen, again]
 }
 
 fn are_told<R: Wait>(rt: &R, alloc: Global) -> bool {
-    match sorted_hall(alloc) {
-        Ok(hall) => told(rt, alloc, hall) == Some(WANTED),
-        Err(_) => false,
+    match sorted_two(alloc) {
+        Some(mut two) => told(&two.turn, rt, &mut two.first, &mut two.second) == WANTED,
+        None => false,
     }
 }
 

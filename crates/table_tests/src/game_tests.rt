@@ -2,24 +2,17 @@
 
 ghost use Rattle.std.specs.Prelude.{◌≡◌, []};
 
-use crate::hall::shuffled_game;
-use crate::handler_tests::host;
+use crate::games::shuffled_game;
+use crate::guests::{Crowd, Guest, host_of};
+use crate::lines::{A, B, C, D, LINE_END, PASS, Part};
 use crate::meeting::{AskingClock, Meeting, MeetingHost, Sign};
 use mj_links::{Clock, Host, MemHost};
 use mj_ports::Seated;
 use mj_seats::run_workers;
-use std::alloc::{AllocError, Global};
+use std::alloc::Global;
 use std::sync::Wait;
 use std::thread::Threads;
 use std::time;
-
-const A_AND_PASS: &str = "{\"type\":\"join\",\"name\":\"a\"}\n{\"type\":\"none\"}";
-
-const B_AND_PASS: &str = "{\"type\":\"join\",\"name\":\"b\"}\n{\"type\":\"none\"}";
-
-const C_AND_PASS: &str = "{\"type\":\"join\",\"name\":\"c\"}\n{\"type\":\"none\"}";
-
-const D_AND_PASS: &str = "{\"type\":\"join\",\"name\":\"d\"}\n{\"type\":\"none\"}";
 
 // What is left of a game that workers played.
 #[derive(Clone, Copy)]
@@ -55,15 +48,19 @@ fn are_pairs(deeds: u32, readings: u32) -> bool {
 }
 
 // Whether workers play a game over a host of four links, by two readings for each window but the first, and at most three before.
-fn plays<R: Threads + Wait + time::Clock + Sync>(
+fn plays<R: Threads + Wait + time::Clock + Sync>(rt: &R, alloc: Global, busy: u32) -> bool {
+    match host_of(alloc, Crowd(&PASSES, false, &[])) {
+        Ok(links) => plays_over(rt, alloc, links, busy),
+        Err(_) => false,
+    }
+}
+
+fn plays_over<R: Threads + Wait + time::Clock + Sync>(
     rt: &R,
     alloc: Global,
-    links: Result<MemHost, AllocError>,
+    links: MemHost,
     busy: u32,
 ) -> bool {
-    let Ok(links) = links else {
-        return false;
-    };
     let meeting = Meeting::new(4, 27);
     let host = MeetingHost::new(rt, &meeting, Sign::Asked, links);
     let mut clock = AskingClock::new(rt, &meeting, busy);
@@ -91,12 +88,18 @@ fn is_played(left: Option<Leftover>, readings: u32) -> bool {
     }
 }
 
-const LINES: [&str; 4] = [A_AND_PASS, B_AND_PASS, C_AND_PASS, D_AND_PASS];
+// What those say who take a seat and pass once.
+const PASSES: [Guest<'static>; 4] = [
+    Guest(&[Part(A, 1), LINE_END, Part(PASS, 1), LINE_END], &[], &[]),
+    Guest(&[Part(B, 1), LINE_END, Part(PASS, 1), LINE_END], &[], &[]),
+    Guest(&[Part(C, 1), LINE_END, Part(PASS, 1), LINE_END], &[], &[]),
+    Guest(&[Part(D, 1), LINE_END, Part(PASS, 1), LINE_END], &[], &[]),
+];
 
 // Each window but the first is closed by two readings, and the first one by answers while a reading is made.
 #[test]
 fn the_first_reading_for_a_window_is_made_once_it_was_seen_open(rt: HostRuntime) {
     for busy in [1, 2] {
-        assert!(rt; plays(&rt, rt.alloc(), host(rt.alloc(), &LINES, 0), busy));
+        assert!(rt; plays(&rt, rt.alloc(), busy));
     }
 }

@@ -3,7 +3,7 @@
 ghost use Rattle.std.specs.Prelude.{◌≡◌, None};
 ghost use Rattle.mj_links.specs.Links.{ReadingStays, WritingStays};
 
-use crate::lines::{HELLO, NO_ROOM, Part, are_made_of};
+use crate::lines::{HELLO, NO_ROOM};
 use mj_links::{
     Came, Clock, FaultCount, Given, Got, Host, Link, MemHost, MemLink, Numbered, Opened, Put, Sink,
     Source,
@@ -79,7 +79,7 @@ impl Meeting {
         if piece.starts_with(b"{\"type\":\"start_kyoku\"") {
             self.dealt.fetch_add(1, Ordering::SeqCst);
         }
-        if are_made_of(written, &[Part(HELLO, 1), Part(NO_ROOM, 1)]) {
+        if written.strip_prefix(HELLO.as_bytes()) == Some(NO_ROOM.as_bytes()) {
             self.refused.fetch_add(1, Ordering::SeqCst);
         }
     }
