@@ -5,6 +5,7 @@ It wants the environment's RIICHI_TABLE, the path of the program.
 from __future__ import annotations
 
 import collections
+import contextlib
 import fcntl
 import json
 import pathlib
@@ -39,7 +40,7 @@ def record_of(journal: pathlib.Path) -> str:
 
 @unittest.skipUnless(PROGRAM, "no program: set RIICHI_TABLE to its path")
 class Killed(unittest.TestCase):
-    """A league that is killed in its first block, begun again, and checked."""
+    """A league that is killed in the middle, begun again, and checked."""
     league: Folder
     out: pathlib.Path
     first: str
@@ -50,15 +51,26 @@ class Killed(unittest.TestCase):
 
     @classmethod
     def setUpClass(cls) -> None:
-        # carl's sixth start is always in the run after the kill: at most four come before it
+        # carl's ninth start is always in the run after the kill: at most eight come before it, and a game at least is begun twice
         cls.league = Folder(cls, [
             {"name": "anna", "command": CALLER},
             {"name": "bert", "command": [sys.executable, str(BOT), "batch", "bert.read"], "style": "batch"},
-            {"name": "carl", "command": faulty("carl", "crash", "60", "6")},
+            {"name": "carl", "command": faulty("carl", "crash", "60", "9")},
             {"name": "dora", "command": faulty("dora", "hang", "300"), "think": 200, "start": 1000},
         ])
         cls.out = cls.league.out
         cls.first, cls.second = cls.played()
+
+    @classmethod
+    def is_in_the_middle(cls) -> bool:
+        """Whether a game was kept, and another has come some way and has long to go."""
+        kept = {path.stem for path in cls.out.glob("games/*.json")}
+        events = []
+        for path in cls.out.glob("games/*/riichi.journal"):
+            # (it goes as soon as its game is kept)
+            with contextlib.suppress(FileNotFoundError):
+                events.append(0 if path.parent.name in kept else record_of(path).count("\n{"))
+        return bool(kept) and any(100 < count < 500 for count in events)
 
     @classmethod
     def played(cls) -> tuple[str, Said]:
@@ -66,7 +78,7 @@ class Killed(unittest.TestCase):
         with open(cls.league.path / "first", "w+", encoding="utf-8") as output:
             first = subprocess.Popen(cls.league.words(GAMES, "--jobs", "4"), stdout=output, stderr=subprocess.STDOUT)
             deadline = time.monotonic() + 600
-            while not list(cls.out.glob("games/*.json")) and time.monotonic() < deadline and first.poll() is None:
+            while not cls.is_in_the_middle() and time.monotonic() < deadline and first.poll() is None:
                 time.sleep(0.05)
             first.send_signal(signal.SIGKILL)
             first.wait()
