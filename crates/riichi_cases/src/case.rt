@@ -3,99 +3,96 @@
 //! off. Any other head is the words of a command, after which `=> ` and the exit code and text of the status follow where
 //! the run doesn't end well; under it stands what the run on the newest input writes.
 
-use crate::compare::{push_difference, push_pieces};
-use crate::outcome::{push_ending, status_of};
-use mj_bytes::push_all;
-use mj_front::Status;
-use mj_links::MemSink;
+use crate::compare::push_difference;
+use crate::outcome::{Outcome, outcome_of};
+use bstr::ByteSlice;
 use std::alloc::{AllocError, Global};
 
 const MARK: &[u8] = b"\n-- ";
-
-const COLON: &[u8] = b": ";
 
 const INPUT: &[u8] = b"input";
 
 const CUT_INPUT: &[u8] = b"input without its last newline";
 
-/// Runs a case, and writes a line behind its name: that it holds, or where it first differs.
-pub fn push_verdict(
-    alloc: Global,
-    name: &[u8],
-    case: &[u8],
-    into: &mut Vec<u8>,
-) -> Result<(), AllocError> {
-    push_pieces(into, &[name, COLON])?;
-    let (_, mut rest) = part_and_rest(case);
-    let mut input: &[u8] = b"";
+// The lines under a head: a text and the newline at its end, which may be missing.
+#[derive(Clone, Copy)]
+struct Lines<'a> {
+    text: &'a [u8],
+    end: &'a [u8],
+}
+
+/// Runs a case, and writes that it holds or where it first differs.
+pub fn push_verdict(alloc: Global, case: &[u8], into: &mut Vec<u8>) -> Result<(), AllocError> {
+    let case = case.strip_suffix(b"\n").unwrap_or(case);
+    let mut input = Lines {
+        text: b"",
+        end: b"",
+    };
     let mut runs = 0u64;
-    for _ in 0..case.len() {
-        if rest.is_empty() {
-            break;
-        }
-        let (part, behind) = part_and_rest(rest);
-        rest = behind;
-        let (head, lines) = split_once(part, b"\n").unwrap_or((part, b""));
+    for part in case.split_str(MARK).skip(1) {
+        let (head, lines) = head_and_lines(part);
         if head == INPUT {
             input = lines;
         } else if head == CUT_INPUT {
-            input = lines.strip_suffix(b"\n").unwrap_or(lines);
+            input = Lines {
+                text: lines.text,
+                end: b"",
+            };
         } else if push_fault(alloc, head, lines, input, into)? {
-            return push_all(into, b"\n");
+            return Ok(());
         } else {
             runs = runs.saturating_add(1);
         }
     }
-    push_all(into, if runs > 0 { b"ok\n" } else { b"no run\n" })
+    into.extend_from_slice(if runs > 0 { b"ok" } else { b"no run" })
 }
 
-// What stands before the next head, with the newline at its end, and what stands behind the mark of that head.
-fn part_and_rest(text: &[u8]) -> (&[u8], &[u8]) {
-    for place in 0..text.len() {
-        if let Some(rest) = text[place..].strip_prefix(MARK) {
-            return (&text[..place + 1], rest);
-        }
+// The head of a part and the lines under it.
+fn head_and_lines(part: &[u8]) -> (&[u8], Lines<'_>) {
+    match part.split_once_str(b"\n") {
+        Some((head, text)) => (head, Lines { text, end: b"\n" }),
+        None => (
+            part,
+            Lines {
+                text: b"",
+                end: b"",
+            },
+        ),
     }
-    (text, b"")
 }
 
-// What stands before and behind a mark, where it first stands.
-fn split_once<'a>(text: &'a [u8], mark: &[u8]) -> Option<(&'a [u8], &'a [u8])> {
-    for place in 0..text.len() {
-        if let Some(rest) = text[place..].strip_prefix(mark) {
-            return Some((&text[..place], rest));
-        }
-    }
-    None
+// The bytes of lines.
+fn bytes_of(alloc: Global, lines: Lines<'_>) -> Result<Vec<u8>, AllocError> {
+    let mut bytes = Vec::from_slice(alloc, lines.text)?;
+    bytes.extend_from_slice(lines.end)?;
+    Ok(bytes)
 }
 
 // Whether a run gives something else than stands under its head, which is then written.
 fn push_fault(
     alloc: Global,
     head: &[u8],
-    lines: &[u8],
-    input: &[u8],
+    lines: Lines<'_>,
+    input: Lines<'_>,
     into: &mut Vec<u8>,
 ) -> Result<bool, AllocError> {
-    let (words, ending) = split_once(head, b"=> ").unwrap_or((head, b"0"));
-    let words = words.strip_suffix(b" ").unwrap_or(words);
-    let mut sink = MemSink::new(Vec::new(alloc));
-    let status = status_of(alloc, words, input, &mut sink)?;
-    if push_difference(words, sink.written(), lines, into)? {
-        return Ok(true);
-    }
-    push_other_ending(alloc, words, status, ending, into)
+    let (words, ending) = head.split_once_str(b"=> ").unwrap_or((head, b"0"));
+    let words = words.trim();
+    let wanted = bytes_of(alloc, lines)?;
+    let came = outcome_of(alloc, words, bytes_of(alloc, input)?)?;
+    push_either(words, &came, wanted.as_slice(), ending, into)
 }
 
-// Whether a run ended otherwise, which is then written.
-fn push_other_ending(
-    alloc: Global,
+// Whether a run comes to other bytes or ends otherwise, which is then written.
+fn push_either(
     words: &[u8],
-    status: Status,
+    came: &Outcome,
+    wanted: &[u8],
     ending: &[u8],
     into: &mut Vec<u8>,
 ) -> Result<bool, AllocError> {
-    let mut came = Vec::new(alloc);
-    push_ending(alloc, status, &mut came)?;
-    push_difference(words, came.as_slice(), ending, into)
+    if push_difference(words, came.bytes.as_slice(), wanted, into)? {
+        return Ok(true);
+    }
+    push_difference(words, came.ending.as_slice(), ending, into)
 }

@@ -3,12 +3,6 @@
 use mj_bytes::{push_all, push_number};
 use std::alloc::AllocError;
 
-const LINE: &[u8] = b": line ";
-
-const IS: &[u8] = b" is ";
-
-const AND_NOT: &[u8] = b" and not ";
-
 /// Whether what came is another text than what is wanted; the first line that differs is then written.
 pub fn push_difference(
     words: &[u8],
@@ -19,18 +13,14 @@ pub fn push_difference(
     let Some((number, line, other)) = first_difference(came, wanted) else {
         return Ok(false);
     };
-    push_pieces(into, &[words, LINE])?;
+    push_all(into, words)?;
+    push_all(into, b": line ")?;
     push_number(into, number)?;
-    push_pieces(into, &[IS, line, AND_NOT, other])?;
+    push_all(into, b" is ")?;
+    push_all(into, line)?;
+    push_all(into, b" and not ")?;
+    push_all(into, other)?;
     Ok(true)
-}
-
-/// Writes pieces one behind the other.
-pub fn push_pieces(into: &mut Vec<u8>, pieces: &[&[u8]]) -> Result<(), AllocError> {
-    for piece in pieces {
-        push_all(into, piece)?;
-    }
-    Ok(())
 }
 
 // The first line that differs: its number, counted from 1, and how it stands in either text.

@@ -6,19 +6,25 @@ mod case;
 mod compare;
 mod outcome;
 
+use anyhow::Result;
+use std::alloc::Global;
 use std::io::Write;
-use std::{env, fs, io};
+use std::{env, fs};
 
-fn main(rt: HostRuntime) -> io::Result<()> {
+fn main(rt: HostRuntime) -> Result<()> {
     for name in env::args(&rt)?.skip(1) {
-        print_verdict(&rt, name.as_str())?;
+        let text = fs::read(&rt, name.as_str())?;
+        let line = line_of(rt.alloc(), name.as_str(), text.as_slice())?;
+        rt.stdout().write_all(line.as_slice())?;
     }
     Ok(())
 }
 
-fn print_verdict(rt: &HostRuntime, name: &str) -> io::Result<()> {
-    let text = fs::read(rt, name)?;
-    let mut line = Vec::new(rt.alloc());
-    case::push_verdict(rt.alloc(), name.as_bytes(), text.as_slice(), &mut line)?;
-    rt.stdout().write_all(line.as_slice())
+// What is printed of a case.
+fn line_of(alloc: Global, name: &str, text: &[u8]) -> Result<Vec<u8>> {
+    let mut line = Vec::from_slice(alloc, name.as_bytes())?;
+    line.extend_from_slice(b": ")?;
+    case::push_verdict(alloc, text, &mut line)?;
+    line.push(b'\n')?;
+    Ok(line)
 }

@@ -6,54 +6,74 @@ use mj_journal::MemDisk;
 use mj_links::{MemSink, MemSource};
 use std::alloc::{AllocError, Global};
 
-/// Runs these words, which white space parts, on this input, and answers how that ends. Words of a command that waits for others
-/// are refused.
-pub fn status_of(
-    alloc: Global,
-    line: &[u8],
-    input: &[u8],
-    sink: &mut MemSink,
-) -> Result<Status, AllocError> {
-    let mut words = Vec::new(alloc);
-    push_words(alloc, line, &mut words)?;
-    run_on(alloc, words.as_slice(), input, sink)
+/// What a run comes to: what it writes, and its exit code, with the text of its status after a space where there is one.
+#[derive(Drop)]
+pub struct Outcome {
+    pub bytes: Vec<u8>,
+    pub ending: Vec<u8>,
 }
 
-fn push_words(alloc: Global, line: &[u8], words: &mut Vec<String>) -> Result<(), AllocError> {
+/// What a run on these words, which white space parts, and on this input comes to. Words of a command that waits for others
+/// are refused.
+pub fn outcome_of(alloc: Global, words: &[u8], input: Vec<u8>) -> Result<Outcome, AllocError> {
+    let words = words_of(alloc, words)?;
+    let disk = MemDisk::new(b"", Vec::new(alloc))?;
+    let source = MemSource::new(input, Vec::new(alloc));
+    run_on(alloc, words.as_slice(), source, disk)
+}
+
+fn run_on(
+    alloc: Global,
+    words: &[String],
+    mut source: MemSource,
+    mut disk: MemDisk,
+) -> Result<Outcome, AllocError> {
+    let mut sink = MemSink::new(Vec::new(alloc));
+    let status = status_of(alloc, words, &mut source, &mut sink, &mut disk);
+    let ending = ending_of(alloc, status)?;
+    Ok(Outcome {
+        bytes: Vec::from_slice(alloc, sink.written())?,
+        ending,
+    })
+}
+
+fn status_of(
+    alloc: Global,
+    words: &[String],
+    source: &mut MemSource,
+    sink: &mut MemSink,
+    disk: &mut MemDisk,
+) -> Status {
+    if is_for_waiting(words) {
+        return Status::Words;
+    }
+    run_alone(alloc, words, source, sink, disk)
+}
+
+fn words_of(alloc: Global, line: &[u8]) -> Result<Vec<String>, AllocError> {
+    let mut words = Vec::new(alloc);
     if let Ok(text) = str::from_utf8(line) {
         for word in text.split_whitespace() {
             words.push(String::from_str(alloc, word)?)?;
         }
     }
-    Ok(())
+    Ok(words)
 }
 
-// Runs words on this input, beside an empty disk.
-fn run_on(
-    alloc: Global,
-    words: &[String],
-    input: &[u8],
-    sink: &mut MemSink,
-) -> Result<Status, AllocError> {
-    if is_for_waiting(words) {
-        return Ok(Status::Words);
-    }
-    let mut disk = MemDisk::new(b"", Vec::new(alloc))?;
-    let mut source = MemSource::new(Vec::from_slice(alloc, input)?, Vec::new(alloc));
-    Ok(run_alone(alloc, words, &mut source, sink, &mut disk))
+fn ending_of(alloc: Global, status: Status) -> Result<Vec<u8>, AllocError> {
+    let mut ending = Vec::new(alloc);
+    push_number(&mut ending, u64::from(exit_code(&status)))?;
+    push_text(&mut ending, status_text(alloc, &status)?.as_slice())?;
+    Ok(ending)
 }
 
-/// Writes the exit code of a run, and the text of its status after a space where there is one.
-pub fn push_ending(alloc: Global, status: Status, into: &mut Vec<u8>) -> Result<(), AllocError> {
-    push_number(into, u64::from(exit_code(&status)))?;
-    let text = status_text(alloc, &status)?;
-    match text.as_slice().strip_suffix(b"\n") {
-        Some(line) => push_behind_space(line, into),
+// The text of a status without its newline, after a space; nothing where it has none.
+fn push_text(ending: &mut Vec<u8>, text: &[u8]) -> Result<(), AllocError> {
+    match text.strip_suffix(b"\n") {
+        Some(line) => {
+            ending.push(b' ')?;
+            ending.extend_from_slice(line)
+        }
         None => Ok(()),
     }
-}
-
-fn push_behind_space(line: &[u8], into: &mut Vec<u8>) -> Result<(), AllocError> {
-    into.push(b' ')?;
-    into.extend_from_slice(line)
 }
